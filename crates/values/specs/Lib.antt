@@ -1,0 +1,12 @@
+pub mod Value
+pub mod Word
+pub mod WordLaws
+pub mod Row
+pub mod Bag
+pub mod Perm
+pub mod Signed
+pub mod Window
+pub mod Condition
+pub mod Relation
+pub mod Answers
+pub mod Examples

@@ -1,15 +1,18 @@
 -- Batches: signed rows in columns.
 use Rattle.std.proofs.Common.{ℕ, ℤ, List, [], ◌∷◌, ◌++◌, ◌≡◌, ◌<◌, ◌≤◌, ◌+◌, ◌-◌, length, map, filter, refl, sym, ◌∙◌, ap, arith, Bool, true, false, not, None, Option, zero, suc, slice_range, take, drop, All, inl, inr, cond, ◌==◌}
 use Rattle.std.specs.List.{range_with_len}
-use Rattle.std.proofs.Math.ListN.{get_or}
-use Rattle.std.proofs.lemmas.List.{get_or-drop, get_or-take, get_or-map, length-take-le, length-drop, length-map, map-append, take_more, take_all, ext_get_or}
+use Rattle.std.proofs.Math.ListN.{get_or, get_or-append}
+use Rattle.std.proofs.lemmas.Bool.{cases_order}
+use Rattle.std.proofs.lemmas.List.{get_or-drop, get_or-take, get_or-map, length-take-le, length-drop, length-map, map-append, take_more, take_all, ext_get_or, length-append, get_or-append_right}
 use Rattle.std.proofs.lemmas.List.FromFn.{length-map-range_with_len, get_or-map-range_with_len, map-range_with_len_more, length-range_with_len, get_or-range_with_len}
 use Rattle.std.proofs.lemmas.List.Elements.{filter-append, All-filter}
 use Rattle.std.proofs.lemmas.List.Filters.{length-filter_both}
 use Rattle.std.proofs.lemmas.Bool.Decides.{Decides-eqb}
 use Rattle.values.specs.Row.{Row, value_at}
 use Rattle.column.specs.Bits.{at_places, chosen, true_places}
-use Rattle.column.specs.Rows.{IsBatch, IsLaidOut, IsTable, column_of, row_at, signed, signed_rows, width}
+use Rattle.column.specs.Rows.{IsBatch, IsLaidOut, IsTable, beside, column_of, of_side, row_at, signed, signed_rows, width}
+use Rattle.column.specs.declared.batch.Side.{Side}
+use Rattle.column.specs.declared.batch.Side.TheVariants.{Left, Right}
 use Rattle.column.specs.declared.batch.SignedRow.{SignedRow}
 
 pub length-signed_rows : (columns : List (List (Option ℤ))) (leaving : List Bool) → length (signed_rows columns leaving) ≡ length leaving
@@ -224,3 +227,135 @@ width_first (x ∷ raw) r h = refl
 pub empty_list : {X : Type 0} (xs : List X) (n : ℕ) {b : Bool} → n ≡ length xs → b ≡ (n == 0) → b ≡ true → xs ≡ []
 empty_list [] n l e t = refl
 empty_list (x ∷ xs) n l e t = let z : n ≡ 0 = (Decides-eqb n 0).0 (sym e ∙ t) in absurd (omega (arith, l, z))
+
+-- ---- a column, the signs
+pub column_again : (columns : List (List (Option ℤ))) (leaving : List Bool) (rows : List (Bool × Row)) (k : ℕ) → IsLaidOut columns leaving → signed_rows columns leaving ≡ rows → k < width rows
+    → get_or columns k [] ≡ column_of rows k
+column_again columns leaving rows k laid seen h =
+    let l : k < length columns = omega (arith, h, width-seen columns leaving rows laid seen) in
+    let n : length (get_or columns k []) ≡ length leaving = laid.same k [] l in
+    let m : length leaving ≡ length rows = length-batch columns leaving rows seen in
+    ext_get_or None _ _ (n ∙ m ∙ sym (length-map rows (λ r. value_at r.1 k)))
+    (λ i j. let w : i < length rows = omega (arith, j, n, m) in
+    sym (get_or-map (λ c. get_or c i None) columns k [] None l)
+    ∙ ap (λ r. value_at r.1 k) (row_at-batch columns leaving rows i (true, []) seen w)
+    ∙ sym (get_or-map (λ r. value_at r.1 k) rows i (true, []) None w))
+
+pub signs_again : (columns : List (List (Option ℤ))) (leaving : List Bool) (rows : List (Bool × Row)) → signed_rows columns leaving ≡ rows → leaving ≡ map (λ r. not r.0) rows
+signs_again columns leaving rows seen =
+    let m : length leaving ≡ length rows = length-batch columns leaving rows seen in
+    ext_get_or false _ _ (m ∙ sym (length-map rows (λ r. not r.0)))
+    (λ i h. let w : i < length rows = omega (arith, h, m) in
+    sym (not_not (get_or leaving i false)) ∙ ap (λ r. not r.0) (row_at-batch columns leaving rows i (true, []) seen w) ∙ sym (get_or-map (λ r. not r.0) rows i (true, []) false w))
+
+-- ---- chosen columns
+value_in : (columns : List (List (Option ℤ))) (k i : ℕ) → get_or (get_or columns k []) i None ≡ get_or (row_at columns i) k None
+value_in [] k i = refl
+value_in (c ∷ cs) zero i = refl
+value_in (c ∷ cs) (suc k) i = value_in cs k i
+
+row_at-places : (columns : List (List (Option ℤ))) (ks : List ℕ) (i : ℕ) → row_at (at_places [] ks columns) i ≡ at_places None ks (row_at columns i)
+row_at-places columns [] i = refl
+row_at-places columns (k ∷ ks) i = λ t. value_in columns k i t ∷ row_at-places columns ks i t
+
+pub columns_chosen : (columns : List (List (Option ℤ))) (leaving : List Bool) (rows : List (Bool × Row)) (ks : List ℕ) (columns' : List (List (Option ℤ))) (leaving' : List Bool)
+    → IsLaidOut columns leaving → signed_rows columns leaving ≡ rows → length ks ≤ 16 → All (λ k. k < width rows) ks → columns' ≡ at_places [] ks columns → leaving' ≡ leaving
+    → IsRemade columns' leaving' (map (λ r. (r.0, at_places None ks r.1)) rows)
+columns_chosen columns leaving rows ks columns' leaving' laid seen narrow within made signs =
+    let m : length leaving ≡ length rows = length-batch columns leaving rows seen in
+    rw (made, signs) (record {
+      laid = record {
+        some = laid.some;
+        few = laid.few;
+        narrow = omega (arith, narrow, length-at_places [] ks columns);
+        same = λ k d h.
+            let l : k < length ks = omega (arith, h, length-at_places [] ks columns) in
+            ap length (get_or-map (λ j. get_or columns j []) ks k 0 d l) ∙ laid.same (get_or ks k 0) [] (omega (arith, within k 0 l, width-seen columns leaving rows laid seen));
+      };
+      seen = same_rows_by (at_places [] ks columns) leaving (map (λ r. (r.0, at_places None ks r.1)) rows) (m ∙ sym (length-map rows (λ r. (r.0, at_places None ks r.1)))) (λ i h.
+          let w : i < length rows = omega (arith, h, m) in
+          (λ t. (not (get_or leaving i false), row_at-places columns ks i t))
+          ∙ ap (λ r. (r.0, at_places None ks r.1)) (row_at-batch columns leaving rows i (true, []) seen w)
+          ∙ sym (get_or-map (λ r. (r.0, at_places None ks r.1)) rows i (true, []) (true, []) w));
+    })
+
+-- ---- rows beside rows
+length-beside : (side : Side) (ls rs : List (Bool × Row)) → length rs ≡ length ls → length (beside side ls rs) ≡ length ls
+length-beside side [] rs h = refl
+length-beside side (l ∷ ls) [] h = absurd (omega arith)
+length-beside side (l ∷ ls) (r ∷ rs) h = ap suc (length-beside side ls rs (omega arith))
+
+get_or-beside : (side : Side) (ls rs : List (Bool × Row)) (i : ℕ) (d : Bool × Row) → length rs ≡ length ls → i < length ls
+    → get_or (beside side ls rs) i d ≡ (of_side side (get_or ls i d).0 (get_or rs i d).0, (get_or ls i d).1 ++ (get_or rs i d).1)
+get_or-beside side [] rs i d h j = absurd (omega arith)
+get_or-beside side (l ∷ ls) [] i d h j = absurd (omega arith)
+get_or-beside side (l ∷ ls) (r ∷ rs) zero d h j = refl
+get_or-beside side (l ∷ ls) (r ∷ rs) (suc i) d h j = get_or-beside side ls rs i d (omega arith) (omega arith)
+
+sign_there : (side : Side) (l r : List Bool) (i : ℕ) → not (get_or (of_side side l r) i false) ≡ of_side side (not (get_or l i false)) (not (get_or r i false))
+sign_there Left l r i = refl
+sign_there Right l r i = refl
+
+length-of_side : (side : Side) (l r : List Bool) → length r ≡ length l → length (of_side side l r) ≡ length l
+length-of_side Left l r h = refl
+length-of_side Right l r h = h
+
+right_long : (cl cr : List (List (Option ℤ))) (n : ℕ) (k : ℕ) (d : List (Option ℤ)) → All (λ c. length c ≡ n) cr → length cl ≤ k → k < length cl + length cr → length (get_or (cl ++ cr) k d) ≡ n
+right_long cl cr n k d right l h = ap length (get_or-append_right cl cr (length cl) k d refl l) ∙ right (k - length cl) d (omega arith)
+
+long : (cl cr : List (List (Option ℤ))) (n : ℕ) (k : ℕ) (d : List (Option ℤ)) → All (λ c. length c ≡ n) cl → All (λ c. length c ≡ n) cr → k < length cl + length cr → length (get_or (cl ++ cr) k d) ≡ n
+long cl cr n k d left right h = elim (cases_order k (length cl)) [
+  | inl e ↦ right_long cl cr n k d right (omega (arith, e)) h
+  | inr q ↦ elim q [ inl p ↦ ap length (get_or-append cl cr d k p) ∙ left k d p | inr p ↦ right_long cl cr n k d right (omega (arith, p)) h ]
+]
+
+pub beside_made : (side : Side) (cl cr : List (List (Option ℤ))) (sl sr : List Bool) (ls rs : List (Bool × Row)) (columns' : List (List (Option ℤ))) (leaving' : List Bool)
+    → IsLaidOut cl sl → signed_rows cl sl ≡ ls → IsLaidOut cr sr → signed_rows cr sr ≡ rs → length rs ≡ length ls → width ls + width rs ≤ 16
+    → columns' ≡ cl ++ cr → leaving' ≡ of_side side sl sr → IsRemade columns' leaving' (beside side ls rs)
+beside_made side cl cr sl sr ls rs columns' leaving' ll el lr er same narrow made signs =
+    let ml : length sl ≡ length ls = length-batch cl sl ls el in
+    let mr : length sr ≡ length rs = length-batch cr sr rs er in
+    let wl : width ls ≡ length cl = width-seen cl sl ls ll el in
+    let wr : width rs ≡ length cr = width-seen cr sr rs lr er in
+    let m : length (of_side side sl sr) ≡ length sl = length-of_side side sl sr (omega (arith, ml, mr, same)) in
+    rw (made, signs) (record {
+      laid = record {
+        some = omega (arith, ll.some, m);
+        few = omega (arith, ll.few, m);
+        narrow = omega (arith, narrow, wl, wr, length-append cl cr);
+        same = λ k d h. long cl cr (length sl) k d ll.same (λ j e l. lr.same j e l ∙ omega (arith, ml, mr, same)) (omega (arith, h, length-append cl cr)) ∙ sym m;
+      };
+      seen = same_rows_by (cl ++ cr) (of_side side sl sr) (beside side ls rs) (omega (arith, m, ml, length-beside side ls rs same)) (λ i h.
+          let il : i < length ls = omega (arith, h, m, ml) in
+          (λ t. (sign_there side sl sr i t, map-append (λ c. get_or c i None) cl cr t))
+          ∙ (λ t. (
+            of_side side (row_at-batch cl sl ls i (true, []) el il t).0 (row_at-batch cr sr rs i (true, []) er (omega (arith, il, same)) t).0,
+            (row_at-batch cl sl ls i (true, []) el il t).1 ++ (row_at-batch cr sr rs i (true, []) er (omega (arith, il, same)) t).1,
+          ))
+          ∙ sym (get_or-beside side ls rs i (true, []) same il));
+    })
+
+-- ---- a whole column again
+pub whole_part : {X : Type 0} (xs : List X) → length xs ≤ 1024 → slice_range xs 0 1024 ≡ xs
+whole_part xs h = take_all 1024 xs h
+
+pub chosen_more : (columns : List (List (Option ℤ))) (ps : List ℕ) (k : ℕ) (item : List (Option ℤ)) → k < length ps → get_or columns (get_or ps k 0) [] ≡ item
+    → at_places [] (take (k + 1) ps) columns ≡ at_places [] (take k ps) columns ++ item ∷ []
+chosen_more columns ps k item h e =
+    ap (λ l. at_places [] l columns) (take_more ps k 0 h) ∙ map-append (λ i. get_or columns i []) (take k ps) (get_or ps k 0 ∷ []) ∙ ap (λ x. at_places [] (take k ps) columns ++ x ∷ []) e
+
+get_or_same : (xs : List (List (Option ℤ))) (i : ℕ) (a b : List (Option ℤ)) → i < length xs → get_or xs i a ≡ get_or xs i b
+get_or_same [] i a b h = absurd (omega arith)
+get_or_same (x ∷ xs) zero a b h = refl
+get_or_same (x ∷ xs) (suc i) a b h = get_or_same xs i a b (omega arith)
+
+pub copied_column : (columns : List (List (Option ℤ))) (leaving : List Bool) (k : ℕ) (item copy : List (Option ℤ)) → IsLaidOut columns leaving → k < length columns → item ≡ get_or columns k item
+    → copy ≡ slice_range item 0 1024 → get_or columns k [] ≡ copy
+copied_column columns leaving k item copy laid h is part =
+    let same : length item ≡ length leaving = ap length is ∙ laid.same k item h in
+    get_or_same columns k [] item h ∙ sym is ∙ sym (whole_part item (omega (arith, same, laid.few))) ∙ sym part
+
+pub lent_column : (columns : List (List (Option ℤ))) (leaving : List Bool) (rows : List (Bool × Row)) (k : ℕ) (item : List (Option ℤ)) → IsLaidOut columns leaving → signed_rows columns leaving ≡ rows → k < width rows
+    → item ≡ get_or columns k item → item ≡ column_of rows k
+lent_column columns leaving rows k item laid seen h is =
+    is ∙ get_or_same columns k item [] (omega (arith, h, width-seen columns leaving rows laid seen)) ∙ column_again columns leaving rows k laid seen h

@@ -1,11 +1,11 @@
 -- Columns: numbers beside validities, one more, one read.
-use Rattle.std.proofs.Common.{ℕ, ℤ, pos, negsuc, List, [], ◌∷◌, ◌++◌, ◌≡◌, ◌<◌, ◌+◌, cond, length, refl, sym, ◌∙◌, ap, arith, Bool, true, false, Some, None, Option, zero, suc, neg_ℤ, ◌≤ℤ◌, FitsSigned, w64, to_z, of_z, IfSome, unwrap_or, is_some}
+use Rattle.std.proofs.Common.{ℕ, ℤ, pos, negsuc, List, [], ◌∷◌, ◌++◌, ◌≡◌, ◌<◌, cond, length, refl, sym, ◌∙◌, ap, arith, Bool, true, false, Some, None, Option, zero, suc, neg_ℤ, ◌≤ℤ◌, FitsSigned, w64, to_z, of_z, IfSome, unwrap_or, is_some, map, All, subst}
 use Rattle.std.proofs.Math.ListN.{get_or}
 use Rattle.std.proofs.lemmas.Int.{ints, int_max_is, int_min_is, to_z-of_z}
-use Rattle.std.specs.Int.{int_max, int_min}
+use Rattle.std.specs.Int.{int_min}
 use mir.Syntax.{w128}
-use Rattle.values.specs.Value.{IsAnswerNumber, clamp_answer, answer_max}
-use Rattle.column.specs.Columns.{IsColumn, IsCell, values_of}
+use Rattle.values.specs.Value.{IsAnswerNumber, IsStreamNumber, clamp_answer, answer_max}
+use Rattle.column.specs.Columns.{IsColumn, IsCell, IsStreamValue, numbers_of, values_of}
 
 pub same_length : (numbers : List ℤ) (valid : List Bool) → IsColumn numbers valid → length numbers ≡ length valid
 same_length [] [] c = refl
@@ -106,3 +106,58 @@ pushed numbers valid v n numbers' valid' c h e g f =
       column = IsColumn-push numbers valid (unwrap_or v (pos 0)) (is_some v) c cell;
       seen = values_of-push numbers valid (unwrap_or v (pos 0)) (is_some v) c ∙ ap (λ w. values_of numbers valid ++ w ∷ []) (value_back v);
     })
+
+-- ---- what lies in memory
+number_again : (n : ℤ) (v : Bool) → IsCell n v → unwrap_or (cond v (Some n) None) (pos 0) ≡ n
+number_again n true c = refl
+number_again n false c = sym (c.zero refl)
+
+valid_again : (n : ℤ) (v : Bool) → is_some (cond v (Some n) None) ≡ v
+valid_again n true = refl
+valid_again n false = refl
+
+pub numbers_again : (numbers : List ℤ) (valid : List Bool) → IsColumn numbers valid → numbers_of (values_of numbers valid) ≡ numbers
+numbers_again [] [] c = refl
+numbers_again [] (v ∷ vs) c = absurd c
+numbers_again (n ∷ ns) [] c = absurd c
+numbers_again (n ∷ ns) (v ∷ vs) c = λ t. number_again n v c.0 t ∷ numbers_again ns vs c.1 t
+
+pub valids_again : (numbers : List ℤ) (valid : List Bool) → IsColumn numbers valid → map is_some (values_of numbers valid) ≡ valid
+valids_again [] [] c = refl
+valids_again [] (v ∷ vs) c = absurd c
+valids_again (n ∷ ns) [] c = absurd c
+valids_again (n ∷ ns) (v ∷ vs) c = λ t. valid_again n v t ∷ valids_again ns vs c.1 t
+
+-- ---- the stream range
+stream_cell : (n : ℤ) (v : Bool) → IsCell n v → IsStreamNumber n → IsStreamValue (cond v (Some n) None)
+stream_cell n true c h = h
+stream_cell n false c h = tt
+
+stream_number : (n : ℤ) (v : Bool) → IsCell n v → IsStreamValue (cond v (Some n) None) → IsStreamNumber n
+stream_number n true c h = h
+stream_number n false c h = let P : ℤ → Type 0 = λ z. IsStreamNumber z in subst P (sym (c.zero refl)) (omega (arith, ints), omega (arith, ints))
+
+get_or_any_value : (xs : List (Option ℤ)) (i : ℕ) (a b : Option ℤ) → i < length xs → get_or xs i a ≡ get_or xs i b
+get_or_any_value [] i a b h = absurd (omega arith)
+get_or_any_value (x ∷ xs) zero a b h = refl
+get_or_any_value (x ∷ xs) (suc i) a b h = get_or_any_value xs i a b (omega arith)
+
+pub stream_values : (numbers : List ℤ) (valid : List Bool) → IsColumn numbers valid → All IsStreamNumber numbers → All IsStreamValue (values_of numbers valid)
+stream_values numbers valid c h k d l =
+    let i : k < length valid = omega (arith, l, length-values_of numbers valid c) in
+    let P : Option ℤ → Type 0 = λ v. IsStreamValue v in
+    subst P (sym (get_or-values_of numbers valid k c i) ∙ get_or_any_value (values_of numbers valid) k None d l)
+    (stream_cell _ _ (cell_at numbers valid k c i) (h k (pos 0) (omega (arith, i, same_length numbers valid c))))
+
+pub stream_numbers : (numbers : List ℤ) (valid : List Bool) → IsColumn numbers valid → All IsStreamValue (values_of numbers valid) → All IsStreamNumber numbers
+stream_numbers numbers valid c h k d l =
+    let i : k < length valid = omega (arith, l, same_length numbers valid c) in
+    let P : ℤ → Type 0 = λ z. IsStreamNumber z in
+    let Q : Option ℤ → Type 0 = λ v. IsStreamValue v in
+    subst P (get_or_any numbers k (pos 0) d l) (stream_number _ _ (cell_at numbers valid k c i) (subst Q (get_or-values_of numbers valid k c i) (h k None (omega (arith, i, length-values_of numbers valid c)))))
+
+pub answer_numbers : (numbers : List ℤ) (valid : List Bool) → IsColumn numbers valid → All IsAnswerNumber numbers
+answer_numbers numbers valid c k d l =
+    let i : k < length valid = omega (arith, l, same_length numbers valid c) in
+    let P : ℤ → Type 0 = λ z. IsAnswerNumber z in
+    subst P (get_or_any numbers k (pos 0) d l) (cell_at numbers valid k c i).range

@@ -1,5 +1,5 @@
 -- Ranges of a list.
-use Rattle.std.proofs.Common.{ℕ, List, [], ◌∷◌, ◌++◌, ◌≡◌, ◌<◌, ◌≤◌, ◌+◌, ◌-◌, length, refl, sym, ◌∙◌, ap, arith, slice_range, min, take, drop, inl, inr}
+use Rattle.std.proofs.Common.{ℕ, List, [], ◌∷◌, ◌++◌, ◌≡◌, ◌<◌, ◌≤◌, ◌+◌, ◌-◌, length, sym, ◌∙◌, ap, arith, slice_range, min, take, drop, inl, inr}
 use Rattle.std.proofs.Math.ListN.{get_or}
 use Rattle.std.proofs.lemmas.List.{take_more, get_or-drop, length-drop, take_all}
 use Rattle.std.proofs.lemmas.Bool.{cases_order}

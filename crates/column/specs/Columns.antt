@@ -1,5 +1,5 @@
 -- Columns: numbers beside the truths that say which of them are no nulls.
-use Rattle.std.specs.Prelude.{ℕ, ℤ, pos, Bool, true, false, Option, Some, None, List, [], ◌∷◌, ◌≡◌, ◌≤ℤ◌, neg_ℤ, cond}
+use Rattle.std.specs.Prelude.{ℤ, pos, Bool, false, Option, Some, None, List, [], ◌∷◌, ◌≡◌, cond, map, unwrap_or}
 use Rattle.values.specs.Value.{IsAnswerNumber, IsStreamNumber}
 
 -- the values: the number where it is valid, else null
@@ -24,3 +24,7 @@ IsColumn (n ∷ ns) (v ∷ vs) = IsCell n v × IsColumn ns vs
 abbrev pub IsStreamValue : Option ℤ → Type 0
 IsStreamValue None = Unit {0}
 IsStreamValue (Some z) = IsStreamNumber z
+
+-- the numbers as they lie in memory, 0 at a null
+abbrev pub numbers_of : List (Option ℤ) → List ℤ
+numbers_of vs = map (λ v. unwrap_or v (pos 0)) vs

@@ -1,8 +1,10 @@
 -- Batches: signed rows laid out in columns.
-use Rattle.std.specs.Prelude.{ℕ, ℤ, Bool, true, false, not, Option, None, List, [], ◌∷◌, ◌++◌, ◌≡◌, ◌≤◌, map, length, get_or, All}
+use Rattle.std.specs.Prelude.{ℕ, ℤ, Bool, false, not, Option, None, List, [], ◌∷◌, ◌++◌, ◌≡◌, ◌≤◌, map, length, get_or, All}
 use Rattle.std.specs.List.{range_with_len}
 use Rattle.values.specs.Row.{Row, value_at}
 use Rattle.column.specs.declared.batch.SignedRow.{SignedRow}
+use Rattle.column.specs.declared.batch.Side.{Side}
+use Rattle.column.specs.declared.batch.Side.TheVariants.{Left, Right}
 
 -- a signed row: true where it enters, and its values
 abbrev pub signed : SignedRow → Bool × Row
@@ -43,6 +45,13 @@ pub record IsLaidOut (columns : List (List (Option ℤ))) (leaving : List Bool) 
   pub narrow : length columns ≤ 16
   pub same : All (λ c. length c ≡ length leaving) columns
 
--- a row of the left side beside one of the right, with the sign of its side
-abbrev pub beside : List (Bool × Row) → List (Bool × Row) → (ℕ × ℕ) → Row
-beside lefts rights p = (get_or lefts p.0 (true, [])).1 ++ (get_or rights p.1 (true, [])).1
+-- the one of two that belongs to a side
+abbrev pub of_side : {X : Type 0} → Side → X → X → X
+of_side Left x y = x
+of_side Right x y = y
+
+-- each row of the left side beside the row at its place of the right side
+abbrev pub beside : Side → List (Bool × Row) → List (Bool × Row) → List (Bool × Row)
+beside side [] rs = []
+beside side (l ∷ ls) [] = []
+beside side (l ∷ ls) (r ∷ rs) = (of_side side l.0 r.0, l.1 ++ r.1) ∷ beside side ls rs

@@ -1,14 +1,15 @@
 //! Columns of values.
 
-ghost use Rattle.std.specs.Prelude.{◌≡◌, ◌<◌, ◌≤◌, ◌+◌, ◌++◌, ◌∷◌, ◌==◌, [], ℕ, ℤ, pos, List, Option, None, Some, IfOk, IfSome, OnOk, OnErr, IsTrue, All, length, slice_index_or, slice_range};
+ghost use Rattle.std.specs.Prelude.{◌≡◌, ◌<◌, ◌≤◌, ◌+◌, ◌++◌, ◌∷◌, ◌==◌, [], ℕ, ℤ, pos, List, Option, None, Some, IfOk, IfSome, OnOk, OnErr, IsTrue, All, length, slice_index_or, slice_range, map, is_some, ◌↔◌};
 ghost use Rattle.column.specs.Bits.{IsClear, at_places, bits};
-ghost use Rattle.column.specs.Columns.{IsColumn, IsStreamValue, values_of};
+ghost use Rattle.column.specs.Columns.{IsColumn, IsStreamValue, numbers_of, values_of};
+ghost use Rattle.values.specs.Value.{IsAnswerNumber, IsStreamNumber};
 
 use super::MAX_ROWS;
 use super::mask::Mask;
 use std::alloc::{AllocError, Global};
 use std::marker::Model;
-use values::Value;
+use values::{STREAM_MAX, Value};
 
 /// At most `MAX_ROWS` values: their numbers, 0 at a null, and which of them are no nulls.
 #[derive(Drop)]
@@ -114,4 +115,35 @@ impl Column {
         }
         Ok(column)
     }
+
+    /// The numbers, for the lanes: 0 at a null.
+    pub fn numbers(&self) -> &[i64]
+        ensures value { result.now ≡ numbers_of self.now }
+        ensures range { All IsAnswerNumber result.now }
+    {
+        self.numbers.as_slice()
+    }
+
+    /// The validity words, for the lanes: a bit is 1 where the value is a number.
+    pub fn valid_words(&self) -> &[u64]
+        ensures value { bits (length self.now) result.now ≡ map is_some self.now }
+        ensures clear { IsClear (length self.now) result.now }
+    {
+        self.valid.words()
+    }
+
+    /// Whether every number lies in the range of a stream.
+    pub fn is_in_stream_range(&self) -> bool
+        ensures { IsTrue result ↔ All IsStreamValue self.now }
+    {
+        all_in_stream_range(&self.numbers)
+    }
+}
+
+fn all_in_stream_range(numbers: &[i64]) -> bool
+    ensures { IsTrue result ↔ All IsStreamNumber numbers.now }
+{
+    numbers
+        .iter()
+        .all(|number| -STREAM_MAX <= *number && *number <= STREAM_MAX)
 }

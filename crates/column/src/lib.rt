@@ -8,7 +8,7 @@ mod batch;
 mod column;
 mod mask;
 
-pub use batch::{Batch, SignedRow};
+pub use batch::{Batch, Side, SignedRow};
 pub use column::Column;
 pub use mask::Mask;
 

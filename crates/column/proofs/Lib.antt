@@ -1,0 +1,4 @@
+pub mod BitLemmas
+pub mod ColumnLemmas
+pub mod Slices
+pub mod BatchLemmas

@@ -1,0 +1,57 @@
+-- Batches: signed rows laid out in columns.
+use Rattle.std.specs.Prelude.{ℕ, ℤ, Bool, false, not, Option, None, List, [], ◌∷◌, ◌++◌, ◌≡◌, ◌≤◌, map, length, get_or, All}
+use Rattle.std.specs.List.{range_with_len}
+use Rattle.values.specs.Row.{Row, value_at}
+use Rattle.column.specs.declared.batch.SignedRow.{SignedRow}
+use Rattle.column.specs.declared.batch.Side.{Side}
+use Rattle.column.specs.declared.batch.Side.TheVariants.{Left, Right}
+
+-- a signed row: true where it enters, and its values
+abbrev pub signed : SignedRow → Bool × Row
+signed s = (s.enters, s.row.items)
+
+-- row i of some columns
+abbrev pub row_at : List (List (Option ℤ)) → ℕ → Row
+row_at columns i = map (λ c. get_or c i None) columns
+
+-- the signed rows of some columns, and of the truths that say which rows leave
+abbrev pub signed_rows : List (List (Option ℤ)) → List Bool → List (Bool × Row)
+signed_rows columns leaving = map (λ i. (not (get_or leaving i false), row_at columns i)) (range_with_len 0 (length leaving))
+
+-- how many columns the rows have
+abbrev pub width : List (Bool × Row) → ℕ
+width [] = 0
+width (r ∷ rs) = length r.1
+
+-- a column of the rows
+abbrev pub column_of : List (Bool × Row) → ℕ → List (Option ℤ)
+column_of rows k = map (λ r. value_at r.1 k) rows
+
+-- every row has this many values
+abbrev pub IsTable : ℕ → List (Bool × Row) → Type 0
+IsTable n rows = All (λ r. length r.1 ≡ n) rows
+
+-- 1 to 1,024 rows of one width, which is at most 16
+pub record IsBatch (rows : List (Bool × Row)) : Type 0 where
+  pub some : 1 ≤ length rows
+  pub few : length rows ≤ 1024
+  pub narrow : width rows ≤ 16
+  pub one_width : IsTable (width rows) rows
+
+-- the same of columns
+pub record IsLaidOut (columns : List (List (Option ℤ))) (leaving : List Bool) : Type 0 where
+  pub some : 1 ≤ length leaving
+  pub few : length leaving ≤ 1024
+  pub narrow : length columns ≤ 16
+  pub same : All (λ c. length c ≡ length leaving) columns
+
+-- the one of two that belongs to a side
+abbrev pub of_side : {X : Type 0} → Side → X → X → X
+of_side Left x y = x
+of_side Right x y = y
+
+-- each row of the left side beside the row at its place of the right side
+abbrev pub beside : Side → List (Bool × Row) → List (Bool × Row) → List (Bool × Row)
+beside side [] rs = []
+beside side (l ∷ ls) [] = []
+beside side (l ∷ ls) (r ∷ rs) = (of_side side l.0 r.0, l.1 ++ r.1) ∷ beside side ls rs

@@ -1,0 +1,149 @@
+//! Columns of values.
+
+ghost use Rattle.std.specs.Prelude.{◌≡◌, ◌<◌, ◌≤◌, ◌+◌, ◌++◌, ◌∷◌, ◌==◌, [], ℕ, ℤ, pos, List, Option, None, Some, IfOk, IfSome, OnOk, OnErr, IsTrue, All, length, slice_index_or, slice_range, map, is_some, ◌↔◌};
+ghost use Rattle.column.specs.Bits.{IsClear, at_places, bits};
+ghost use Rattle.column.specs.Columns.{IsColumn, IsStreamValue, numbers_of, values_of};
+ghost use Rattle.values.specs.Value.{IsAnswerNumber, IsStreamNumber};
+
+use super::MAX_ROWS;
+use super::mask::Mask;
+use std::alloc::{AllocError, Global};
+use std::marker::Model;
+use values::{STREAM_MAX, Value};
+
+/// At most `MAX_ROWS` values: their numbers, 0 at a null, and which of them are no nulls.
+#[derive(Drop)]
+pub struct Column {
+    numbers: Vec<i64>,
+    valid: Mask,
+}
+
+impl Model for Column {
+    ghost use Rattle.std.specs.Prelude.{List, Option, ℤ};
+    ghost use Rattle.column.specs.Columns.{IsColumn, values_of};
+
+    ghost Value = { List (Option ℤ) };
+
+    ghost view = { λ c. values_of c.numbers.items c.valid };
+
+    ghost invariant = { λ c. IsColumn c.numbers.items c.valid };
+}
+
+impl Column {
+    /// No values, with room for this many.
+    pub fn with_capacity(alloc: Global, count: usize) -> Result<Column, AllocError>
+        ensures { IfOk result (λ c. c ≡ []) }
+    {
+        let numbers = Vec::with_capacity(alloc, count)?;
+        let valid = Mask::with_capacity(alloc, count)?;
+        Ok(Column { numbers, valid })
+    }
+
+    /// A column of these values.
+    pub fn from_values(alloc: Global, values: &[Value]) -> Result<Column, AllocError>
+        requires { length values.now ≤ MAX_ROWS }
+        ensures { IfOk result (λ c. c ≡ values.now) }
+    {
+        let mut column = Column::with_capacity(alloc, values.len())?;
+        for value in values {
+            column.push(*value)?;
+        }
+        Ok(column)
+    }
+
+    /// One value more.
+    pub fn push(&mut self, value: Value) -> Result<(), AllocError>
+        requires { length self.old < MAX_ROWS }
+        ensures ok { OnOk result (self.new ≡ self.old ++ value ∷ []) }
+        ensures err { OnErr result (self.new ≡ self.old) }
+    {
+        let number = value.number();
+        self.numbers.reserve(1)?;
+        self.valid.push(number.is_some())?;
+        self.numbers.push_reserved(number.unwrap_or(0));
+        Ok(())
+    }
+
+    /// How many values.
+    pub fn len(&self) -> usize
+        ensures value { result ≡ length self.now }
+        ensures few { result ≤ MAX_ROWS }
+    {
+        self.valid.len()
+    }
+
+    /// Whether there is none.
+    pub fn is_empty(&self) -> bool
+        ensures { result ≡ (length self.now == 0) }
+    {
+        self.valid.is_empty()
+    }
+
+    /// The value at a place.
+    pub fn get(&self, i: usize) -> Value
+        requires { i < length self.now }
+        ensures { result ≡ slice_index_or self.now i None }
+    {
+        if self.valid.get(i) {
+            Value::clamped(self.numbers[i] as i128)
+        } else {
+            Value::null()
+        }
+    }
+
+    /// A copy of the values from the place `from` to below the place `to`, as far as there are any.
+    pub fn part(&self, alloc: Global, from: usize, to: usize) -> Result<Column, AllocError>
+        ensures { IfOk result (λ c. c ≡ slice_range self.now from to) }
+    {
+        let end = to.min(self.len());
+        let mut column = Column::with_capacity(alloc, end.saturating_sub(from))?;
+        for i in from..end {
+            column.push(self.get(i))?;
+        }
+        Ok(column)
+    }
+
+    /// The values at these places, in their order.
+    pub fn picked(&self, alloc: Global, places: &[usize]) -> Result<Column, AllocError>
+        requires few { length places.now ≤ MAX_ROWS }
+        requires within { All (λ i. i < length self.now) places.now }
+        ensures { IfOk result (λ c. c ≡ at_places None places.now self.now) }
+    {
+        let mut column = Column::with_capacity(alloc, places.len())?;
+        for place in places {
+            column.push(self.get(*place))?;
+        }
+        Ok(column)
+    }
+
+    /// The numbers, for the lanes: 0 at a null.
+    pub fn numbers(&self) -> &[i64]
+        ensures value { result.now ≡ numbers_of self.now }
+        ensures range { All IsAnswerNumber result.now }
+    {
+        self.numbers.as_slice()
+    }
+
+    /// The validity words, for the lanes: a bit is 1 where the value is a number.
+    pub fn valid_words(&self) -> &[u64]
+        ensures value { bits (length self.now) result.now ≡ map is_some self.now }
+        ensures clear { IsClear (length self.now) result.now }
+    {
+        self.valid.words()
+    }
+
+    /// Whether every number lies in the range of a stream.
+    pub fn is_in_stream_range(&self) -> bool
+        ensures { IsTrue result ↔ All IsStreamValue self.now }
+    {
+        all_in_stream_range(&self.numbers)
+    }
+}
+
+fn all_in_stream_range(numbers: &[i64]) -> bool
+    ensures { IsTrue result ↔ All IsStreamNumber numbers.now }
+{
+    numbers
+        .iter()
+        .all(|number| -STREAM_MAX <= *number && *number <= STREAM_MAX)
+}

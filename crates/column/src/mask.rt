@@ -1,0 +1,165 @@
+//! Lists of truths, 64 in a word.
+
+ghost use Rattle.std.specs.Prelude.{◌≡◌, ◌≢◌, ◌<◌, ◌≤◌, ◌+◌, ◌++◌, ◌∷◌, ◌==◌, ◌/◌, [], ℕ, List, IfOk, OnOk, OnErr, IfErr, length, slice_index_or, slice_range, vec_len, false, All};
+ghost use Rattle.column.specs.Bits.{IsClear, at_places, bits, place, true_places, word_count};
+
+use super::MAX_ROWS;
+use std::alloc::{AllocError, Global};
+use std::marker::Model;
+
+/// At most `MAX_ROWS` truths, a bit each; the bits past the last are 0.
+#[derive(Drop)]
+pub struct Mask {
+    words: Vec<u64>,
+    len: usize,
+}
+
+impl Model for Mask {
+    ghost use Rattle.std.specs.Prelude.{List, Bool, ◌≤◌};
+    ghost use Rattle.column.specs.Bits.{IsClear, bits};
+
+    ghost Value = { List Bool };
+
+    ghost view = { λ m. bits m.len m.words.items };
+
+    ghost invariant = { λ m. IsClear m.len m.words.items × (m.len ≤ 1024) };
+}
+
+impl Mask {
+    /// No truths, with room for this many.
+    pub fn with_capacity(alloc: Global, count: usize) -> Result<Mask, AllocError>
+        ensures { IfOk result (λ m. m ≡ []) }
+    {
+        let words = Vec::with_capacity(alloc, count / 64 + 1)?;
+        Ok(Mask { words, len: 0 })
+    }
+
+    /// The first `len` bits of these words.
+    pub fn from_words(alloc: Global, words: &[u64], len: usize) -> Result<Mask, AllocError>
+        requires few { len ≤ MAX_ROWS }
+        requires clear { IsClear len words.now }
+        ensures { IfOk result (λ m. m ≡ bits len words.now) }
+    {
+        let words = Vec::from_slice(alloc, words)?;
+        Ok(Mask { words, len })
+    }
+
+    /// One truth more.
+    pub fn push(&mut self, truth: bool) -> Result<(), AllocError>
+        requires { length self.old < MAX_ROWS }
+        ensures ok { OnOk result (self.new ≡ self.old ++ truth ∷ []) }
+        ensures err { OnErr result (self.new ≡ self.old) }
+    {
+        push_bit(&mut self.words, self.len, truth)?;
+        self.len += 1;
+        Ok(())
+    }
+
+    /// How many truths.
+    pub fn len(&self) -> usize
+        ensures value { result ≡ length self.now }
+        ensures few { result ≤ MAX_ROWS }
+    {
+        self.len
+    }
+
+    /// Whether there is none.
+    pub fn is_empty(&self) -> bool
+        ensures { result ≡ (length self.now == 0) }
+    {
+        self.len == 0
+    }
+
+    /// The truth at a place.
+    pub fn get(&self, i: usize) -> bool
+        requires { i < length self.now }
+        ensures { result ≡ slice_index_or self.now i false }
+    {
+        self.words[i / 64] >> (i % 64) & 1 == 1
+    }
+
+    /// A copy of the truths from the place `from` to below the place `to`, as far as there are any.
+    pub fn part(&self, alloc: Global, from: usize, to: usize) -> Result<Mask, AllocError>
+        ensures { IfOk result (λ m. m ≡ slice_range self.now from to) }
+    {
+        let end = to.min(self.len());
+        let mut mask = Mask::with_capacity(alloc, end.saturating_sub(from))?;
+        for i in from..end {
+            mask.push(self.get(i))?;
+        }
+        Ok(mask)
+    }
+
+    /// The truths at these places, in their order.
+    pub fn picked(&self, alloc: Global, places: &[usize]) -> Result<Mask, AllocError>
+        requires few { length places.now ≤ MAX_ROWS }
+        requires within { All (λ i. i < length self.now) places.now }
+        ensures { IfOk result (λ m. m ≡ at_places false places.now self.now) }
+    {
+        let mut mask = Mask::with_capacity(alloc, places.len())?;
+        for place in places {
+            mask.push(self.get(*place))?;
+        }
+        Ok(mask)
+    }
+
+    /// The places that are true, in order.
+    pub fn places(&self, alloc: Global) -> Result<Vec<usize>, AllocError>
+        ensures value { IfOk result (λ ps. ps.items ≡ true_places self.now) }
+        ensures few { IfOk result (λ ps. length ps.items ≤ MAX_ROWS) }
+        ensures within { IfOk result (λ ps. All (λ i. i < length self.now) ps.items) }
+    {
+        let mut places = Vec::new(alloc);
+        for i in 0..self.len() {
+            if self.get(i) {
+                places.push(i)?;
+            }
+        }
+        Ok(places)
+    }
+
+    /// The words, for the lanes.
+    pub fn words(&self) -> &[u64]
+        ensures value { bits (length self.now) result.now ≡ self.now }
+        ensures clear { IsClear (length self.now) result.now }
+    {
+        self.words.as_slice()
+    }
+}
+
+/// Appends a bit to the first `at`.
+fn push_bit(words: &mut Vec<u64>, at: usize, truth: bool) -> Result<(), AllocError>
+    requires few { at < MAX_ROWS }
+    requires clear { IsClear at words.old.items }
+    ensures clear { OnOk result (IsClear (at + 1) words.new.items) }
+    ensures value { OnOk result (bits (at + 1) words.new.items ≡ bits at words.old.items ++ truth ∷ []) }
+    ensures err { OnErr result (words.new.items ≡ words.old.items) }
+{
+    make_room(words, at)?;
+    if truth {
+        set_bit(words, at);
+    }
+    Ok(())
+}
+
+/// A word for the bit `at`, where it has none.
+fn make_room(words: &mut Vec<u64>, at: usize) -> Result<(), AllocError>
+    requires { vec_len words.old ≡ word_count at }
+    ensures room { OnOk result (vec_len words.new ≡ word_count (at + 1)) }
+    ensures same { OnOk result ((i : ℕ) → place words.new.items i ≡ place words.old.items i) }
+    ensures err { OnErr result (words.new.items ≡ words.old.items) }
+{
+    if at % 64 == 0 {
+        words.push(0)?;
+    }
+    Ok(())
+}
+
+fn set_bit(words: &mut Vec<u64>, at: usize)
+    requires { at / 64 < vec_len words.old }
+    ensures len { vec_len words.new ≡ vec_len words.old }
+    ensures set { place words.new.items at ≡ 1 }
+    ensures same { (i : ℕ) → i ≢ at → place words.new.items i ≡ place words.old.items i }
+{
+    words[at / 64] |= 1 << (at % 64);
+}

@@ -1,0 +1,95 @@
+-- What the reader answers: the query that a text names, or the first fault from the left.
+use Rattle.std.specs.Prelude.{◌≡◌, ℕ, ◌<◌, ◌≤◌, Bool, true, false, ◌&&◌, ◌⊎◌, List, [], ◌∷◌, ◌++◌, length, cond, nat_lt, Result, Ok, Err}
+use Rattle.cql_reader.specs.Tokens.{Token, Tokens, NoToken, end_of, scan_from}
+use Rattle.cql_reader.specs.Query.{Query, query_of}
+use Rattle.cql_reader.specs.Grammar.{Draft, Level, Shape, Ranged, Strict, IsQuery, Begins, Fails, finished}
+use Rattle.cql_reader.specs.Fault.{Fault, TextTooLong, NotAscii, BadToken, Unexpected, NumberRange}
+use Rattle.cql_reader.specs.Prediction.{parsed}
+use Rattle.cql_reader.specs.declared.Query.{Query as CodedQuery}
+use Rattle.cql_reader.specs.declared.ReadFault.{ReadFault}
+use Rattle.cql_reader.specs.declared.ReadFault.TheVariants as coded
+
+-- each byte is at most 127
+unfoldable pub is_ascii : List ℕ → Bool
+is_ascii [] = true
+is_ascii (b ∷ bs) = nat_lt b 128 && is_ascii bs
+
+-- a text that is judged token by token
+pub record Fine (text : List ℕ) : Type 0 where
+  pub short : length text ≤ 4096
+  pub ascii : is_ascii text ≡ true
+
+-- the tokens are those of the whole text
+abbrev pub IsText : List ℕ → List Token → Type 0
+IsText text tokens = Tokens text 0 tokens (length text)
+
+-- the tokens of the text are derived, with numbers in range, and the derivation builds the query
+pub record Names (text : List ℕ) (query : Query) : Type 0 where
+  pub tokens : List Token
+  pub draft : Draft
+  pub spelled : IsText text tokens
+  pub derived : IsQuery Strict tokens draft
+  pub built : query ≡ finished draft
+
+-- no token begins at this byte, and the tokens before it begin a query
+pub record OddByte (text : List ℕ) (place : ℕ) : Type 0 where
+  pub tokens : List Token
+  pub spelled : Tokens text 0 tokens place
+  pub none : NoToken text place
+  pub before : Begins Strict tokens
+
+-- the tokens before the one at this place begin a query, and with it they begin none
+pub record OddToken (text : List ℕ) (place : ℕ) : Type 0 where
+  pub tokens : List Token
+  pub t : Token
+  pub spelled : Tokens text 0 (tokens ++ t ∷ []) (end_of t)
+  pub here : place ≡ t.place
+  pub before : Begins Strict tokens
+  pub fault : Fails Shape (tokens ++ t ∷ [])
+
+-- the text begins a query and is none
+pub record TooShort (text : List ℕ) (place : ℕ) : Type 0 where
+  pub tokens : List Token
+  pub spelled : IsText text tokens
+  pub here : place ≡ length text
+  pub before : Begins Strict tokens
+  pub fault : (d : Draft) → IsQuery Shape tokens d → ⊥
+
+-- the tokens before the one at this place begin a query, and with it they still begin one by `fine`, and none by `bad`
+pub record Outside (fine bad : Level) (text : List ℕ) (place : ℕ) : Type 0 where
+  pub tokens : List Token
+  pub t : Token
+  pub spelled : Tokens text 0 (tokens ++ t ∷ []) (end_of t)
+  pub here : place ≡ t.place
+  pub before : Begins Strict tokens
+  pub still : Begins fine (tokens ++ t ∷ [])
+  pub fault : Fails bad (tokens ++ t ∷ [])
+
+-- the answer is right for the text
+abbrev pub IsAnswer : List ℕ → Result Query Fault → Type 0
+IsAnswer text (Ok query) = Fine text × Names text query
+IsAnswer text (Err TextTooLong) = 4096 < length text
+IsAnswer text (Err NotAscii) = (length text ≤ 4096) × (is_ascii text ≡ false)
+IsAnswer text (Err (BadToken place)) = Fine text × OddByte text place
+IsAnswer text (Err (Unexpected place)) = Fine text × (OddToken text place ⊎ TooShort text place)
+IsAnswer text (Err (NumberRange place)) = Fine text × Outside Shape Ranged text place
+
+abbrev pub judged : Result Draft Fault → Result Query Fault
+judged (Ok draft) = Ok (finished draft)
+judged (Err fault) = Err fault
+
+-- the one right answer
+unfoldable pub reading : List ℕ → Result Query Fault
+reading text =
+    cond (nat_lt 4096 (length text)) (Err TextTooLong) (
+    cond (is_ascii text) (judged (parsed (scan_from text 0))) (Err NotAscii))
+
+-- the program's result says the answer, but for want of memory
+abbrev pub Reads : Result Query Fault → Result CodedQuery ReadFault → Type 0
+Reads answer (Ok query) = answer ≡ Ok (query_of query)
+Reads answer (Err coded.OutOfMemory) = Unit {0}
+Reads answer (Err coded.TextTooLong) = answer ≡ Err TextTooLong
+Reads answer (Err coded.NotAscii) = answer ≡ Err NotAscii
+Reads answer (Err (coded.BadToken place)) = answer ≡ Err (BadToken place)
+Reads answer (Err (coded.Unexpected place)) = answer ≡ Err (Unexpected place)
+Reads answer (Err (coded.NumberRange place)) = answer ≡ Err (NumberRange place)

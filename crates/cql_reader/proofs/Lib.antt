@@ -1,0 +1,11 @@
+pub mod Ascii
+pub mod Checked
+pub mod Decimals
+pub mod Drafts
+pub mod Ranges
+pub mod Readings
+pub mod Runs
+pub mod Scans
+pub mod Steps
+pub mod Theory
+pub mod WordFacts

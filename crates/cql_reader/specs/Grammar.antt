@@ -61,14 +61,14 @@ start = record { operator = Istream; sources = []; source = record { stream = []
 abbrev pub finished : Draft → Query
 finished d = record { operator = d.operator; sources = d.sources }
 
--- what a token of this role says
-unfoldable pub took : Role → Token → Draft → Draft
-took (r.Fixed kind) t d = d
-took (r.Operator operator) t d = record d { operator = operator_of operator }
-took r.Stream t d = record d { source = record { stream = t.bytes; window = Now; alias = None } }
-took r.Alias t d = record d { source = record { stream = d.source.stream; window = d.source.window; alias = Some t.bytes } }
-took r.Now t d = record d { source = record { stream = d.source.stream; window = Now; alias = d.source.alias } }
-took r.Range t d = record d { source = record { stream = d.source.stream; window = Range (nat_abs (number_of t.bytes)); alias = d.source.alias } }
+-- what a token of this role and these bytes says
+unfoldable pub took : Role → List ℕ → Draft → Draft
+took (r.Fixed kind) bytes d = d
+took (r.Operator operator) bytes d = record d { operator = operator_of operator }
+took r.Stream bytes d = record d { source = record { stream = bytes; window = Now; alias = None } }
+took r.Alias bytes d = record d { source = record { stream = d.source.stream; window = d.source.window; alias = Some bytes } }
+took r.Now bytes d = record d { source = record { stream = d.source.stream; window = Now; alias = d.source.alias } }
+took r.Range bytes d = record d { source = record { stream = d.source.stream; window = Range (nat_abs (number_of bytes)); alias = d.source.alias } }
 
 -- what is done between tokens
 unfoldable pub did : Mark → Draft → Draft
@@ -119,7 +119,7 @@ Among a (b ∷ bs) = (a ≡ b) ⊎ Among a bs
 -- the symbols stand for the tokens, which lead from the draft d to d'
 pub data Derives (level : Level) : List Symbol → Draft → List Token → Draft → Type 0 where
   nothing : {d : Draft} → Derives level [] d [] d
-  read : {role : Role} {xs : List Symbol} {d : Draft} {t : Token} {ts : List Token} {d' : Draft} → t.kind ≡ kind_of role → allowed level role d t ≡ true → Derives level xs (took role t d) ts d' → Derives level (Read role ∷ xs) d (t ∷ ts) d'
+  read : {role : Role} {xs : List Symbol} {d : Draft} {t : Token} {ts : List Token} {d' : Draft} → t.kind ≡ kind_of role → allowed level role d t ≡ true → Derives level xs (took role t.bytes d) ts d' → Derives level (Read role ∷ xs) d (t ∷ ts) d'
   emit : {mark : Mark} {xs : List Symbol} {d : Draft} {ts : List Token} {d' : Draft} → Derives level xs (did mark d) ts d' → Derives level (Emit mark ∷ xs) d ts d'
   rule : {part : Part} {xs : List Symbol} {d : Draft} {ts : List Token} {d' : Draft} (ys : List Symbol) → Among ys (alternatives part) → Derives level (ys ++ xs) d ts d' → Derives level (Rule part ∷ xs) d ts d'
 

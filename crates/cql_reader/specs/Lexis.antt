@@ -1,5 +1,5 @@
 -- The kinds of bytes and of words.
-use Rattle.std.specs.Prelude.{◌≡◌, ℕ, ◌+◌, ◌-◌, ◌*◌, Bool, true, false, not, ◌&&◌, ◌||◌, List, [], ◌∷◌, Option, Some, None, cond, nat_le, nat_eq, map, length, codes, take, drop, ℤ, pos, neg_ℤ}
+use Rattle.std.specs.Prelude.{◌≡◌, ℕ, ◌+◌, ◌-◌, ◌*◌, Bool, true, false, not, ◌&&◌, ◌||◌, List, [], ◌∷◌, Option, Some, None, cond, is_some, nat_le, nat_lt, nat_eq, map, length, min, codes, take, drop, ℤ, pos, negsuc, neg_ℤ}
 use Rattle.std.specs.List.{prefix_len}
 use Rattle.std.specs.Char.{to_ascii_lowercase}
 use Rattle.cql_reader.specs.declared.tokens.Kind.{Kind}
@@ -44,13 +44,9 @@ unfoldable pub kind_in : List (List ℕ × Kind) → List ℕ → Option Kind
 kind_in [] word = None
 kind_in (entry ∷ entries) word = cond (same_letters entry.0 word) (Some entry.1) (kind_in entries word)
 
-abbrev pub is_none : Option Kind → Bool
-is_none None = true
-is_none (Some kind) = false
-
 -- a reserved word, in any case of letters
 abbrev pub is_reserved : List ℕ → Bool
-is_reserved word = not (is_none (kind_in reserved word))
+is_reserved word = is_some (kind_in reserved word)
 
 abbrev pub or_name : Option Kind → ℕ → Kind
 or_name (Some kind) len = kind
@@ -113,3 +109,13 @@ decimal n (d ∷ ds) = decimal (10 * n + (d - 48)) ds
 -- the number that digits write, which may stand behind a minus
 unfoldable pub number_of : List ℕ → ℤ
 number_of bytes = cond (nat_eq (first_byte bytes) 45) (neg_ℤ (pos (decimal 0 (drop 1 bytes)))) (pos (decimal 0 bytes))
+
+-- the number, cut off where it is outside each range
+unfoldable pub capped : ℤ → ℤ
+capped (pos n) = pos (min n 2199023255552)
+capped (negsuc n) = negsuc (min n 2199023255551)
+
+-- each byte is at most 127
+unfoldable pub all_ascii : List ℕ → Bool
+all_ascii [] = true
+all_ascii (b ∷ bs) = nat_lt b 128 && all_ascii bs

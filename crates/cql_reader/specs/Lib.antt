@@ -4,5 +4,6 @@ pub mod Query
 pub mod Grammar
 pub mod Fault
 pub mod Prediction
+pub mod Coded
 pub mod Reading
 pub mod Examples

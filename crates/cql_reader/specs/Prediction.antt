@@ -117,7 +117,7 @@ run (suc n) (Emit mark ∷ xs) d rest = run n xs (did mark d) rest
 run (suc n) (Read role ∷ xs) d (End place) = Err (Unexpected place)
 run (suc n) (Read role ∷ xs) d (Bad place) = Err (BadToken place)
 run (suc n) (Read role ∷ xs) d (Then t more) =
-    taken (same_kind t.kind (kind_of role)) (in_range role (number_of t.bytes)) t.place (run n xs (took role t d) more)
+    taken (same_kind t.kind (kind_of role)) (in_range role (number_of t.bytes)) t.place (run n xs (took role t.bytes d) more)
 run (suc n) (Rule part ∷ xs) d rest = along (chosen part (ahead rest)) rest (λ ys. run n (ys ++ xs) d rest)
 
 -- a bound on the steps that a symbol takes without reading a token

@@ -1,9 +1,9 @@
 -- The query that a text names.
-use Rattle.std.specs.Prelude.{ℕ, List, [], ◌∷◌, map, Option, Some, None}
+use Rattle.std.specs.Prelude.{ℕ, List, [], ◌∷◌, map, take, Option, Some, None}
 use Rattle.values.specs.Answers.{Operator, Istream, Dstream, Rstream}
-use Rattle.arrayvec.specs.ArrayString.{ArrayString}
 use Rattle.cql_reader.specs.declared.Operator.{Operator as CodedOperator}
 use Rattle.cql_reader.specs.declared.Operator.TheVariants as operators
+use Rattle.cql_reader.specs.declared.Name.{Name}
 use Rattle.cql_reader.specs.declared.Window.{Window as CodedWindow}
 use Rattle.cql_reader.specs.declared.Window.TheVariants as windows
 use Rattle.cql_reader.specs.declared.Source.{Source as CodedSource}
@@ -35,12 +35,15 @@ abbrev pub window_of : CodedWindow → Window
 window_of windows.Now = Now
 window_of (windows.Range instants) = Range instants
 
-abbrev pub alias_of : Option ArrayString → Option (List ℕ)
+abbrev pub name_of : Name → List ℕ
+name_of name = take name.len name.bytes
+
+abbrev pub alias_of : Option Name → Option (List ℕ)
 alias_of None = None
-alias_of (Some name) = Some name.bytes
+alias_of (Some name) = Some (name_of name)
 
 abbrev pub source_of : CodedSource → Source
-source_of s = record { stream = s.stream.bytes; window = window_of s.window; alias = alias_of s.alias }
+source_of s = record { stream = name_of s.stream; window = window_of s.window; alias = alias_of s.alias }
 
 abbrev pub query_of : CodedQuery → Query
 query_of q = record { operator = operator_of q.operator; sources = map source_of q.sources.items }

@@ -1,23 +1,20 @@
 -- What the reader answers: the query that a text names, or the first fault from the left.
-use Rattle.std.specs.Prelude.{◌≡◌, ℕ, ◌<◌, ◌≤◌, Bool, true, false, ◌&&◌, ◌⊎◌, List, [], ◌∷◌, ◌++◌, length, cond, nat_lt, Result, Ok, Err}
+use Rattle.std.specs.Prelude.{◌≡◌, ℕ, ◌<◌, ◌≤◌, ◌⊎◌, List, [], ◌∷◌, ◌++◌, length, cond, nat_lt, Result, Ok, Err}
+use Rattle.std.specs.Str.{IsAscii, IsNotAscii}
+use Rattle.cql_reader.specs.Lexis.{all_ascii}
 use Rattle.cql_reader.specs.Tokens.{Token, Tokens, NoToken, end_of, scan_from}
 use Rattle.cql_reader.specs.Query.{Query, query_of}
+use Rattle.cql_reader.specs.Coded.{Tells}
+use Rattle.cql_reader.specs.declared.Query.{Query as CodedQuery}
+use Rattle.cql_reader.specs.declared.ReadFault.{ReadFault}
 use Rattle.cql_reader.specs.Grammar.{Draft, Level, Shape, Ranged, Strict, IsQuery, Begins, Fails, finished}
 use Rattle.cql_reader.specs.Fault.{Fault, TextTooLong, NotAscii, BadToken, Unexpected, NumberRange}
 use Rattle.cql_reader.specs.Prediction.{parsed}
-use Rattle.cql_reader.specs.declared.Query.{Query as CodedQuery}
-use Rattle.cql_reader.specs.declared.ReadFault.{ReadFault}
-use Rattle.cql_reader.specs.declared.ReadFault.TheVariants as coded
-
--- each byte is at most 127
-unfoldable pub is_ascii : List ℕ → Bool
-is_ascii [] = true
-is_ascii (b ∷ bs) = nat_lt b 128 && is_ascii bs
 
 -- a text that is judged token by token
 pub record Fine (text : List ℕ) : Type 0 where
   pub short : length text ≤ 4096
-  pub ascii : is_ascii text ≡ true
+  pub ascii : IsAscii text
 
 -- the tokens are those of the whole text
 abbrev pub IsText : List ℕ → List Token → Type 0
@@ -69,7 +66,7 @@ pub record Outside (fine bad : Level) (text : List ℕ) (place : ℕ) : Type 0 w
 abbrev pub IsAnswer : List ℕ → Result Query Fault → Type 0
 IsAnswer text (Ok query) = Fine text × Names text query
 IsAnswer text (Err TextTooLong) = 4096 < length text
-IsAnswer text (Err NotAscii) = (length text ≤ 4096) × (is_ascii text ≡ false)
+IsAnswer text (Err NotAscii) = (length text ≤ 4096) × IsNotAscii text
 IsAnswer text (Err (BadToken place)) = Fine text × OddByte text place
 IsAnswer text (Err (Unexpected place)) = Fine text × (OddToken text place ⊎ TooShort text place)
 IsAnswer text (Err (NumberRange place)) = Fine text × Outside Shape Ranged text place
@@ -82,14 +79,9 @@ judged (Err fault) = Err fault
 unfoldable pub reading : List ℕ → Result Query Fault
 reading text =
     cond (nat_lt 4096 (length text)) (Err TextTooLong) (
-    cond (is_ascii text) (judged (parsed (scan_from text 0))) (Err NotAscii))
+    cond (all_ascii text) (judged (parsed (scan_from text 0))) (Err NotAscii))
 
--- the program's result says the answer, but for want of memory
+-- the query, or the fault, is that of the answer, but for want of memory
 abbrev pub Reads : Result Query Fault → Result CodedQuery ReadFault → Type 0
 Reads answer (Ok query) = answer ≡ Ok (query_of query)
-Reads answer (Err coded.OutOfMemory) = Unit {0}
-Reads answer (Err coded.TextTooLong) = answer ≡ Err TextTooLong
-Reads answer (Err coded.NotAscii) = answer ≡ Err NotAscii
-Reads answer (Err (coded.BadToken place)) = answer ≡ Err (BadToken place)
-Reads answer (Err (coded.Unexpected place)) = answer ≡ Err (Unexpected place)
-Reads answer (Err (coded.NumberRange place)) = answer ≡ Err (NumberRange place)
+Reads answer (Err fault) = Tells answer fault

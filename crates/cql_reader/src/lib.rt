@@ -6,14 +6,24 @@
 //! that table, and one theory shows, for any table that one token of lookahead decides, that the machine is right.
 #![tactic(auto)]
 
-ghost use Rattle.std.specs.Prelude.{◌≡◌};
+ghost use Rattle.std.specs.Prelude.{◌≡◌, ◌≤◌, length};
 
-use arrayvec::ArrayString;
 use std::alloc::{AllocError, AllocFailed};
 use std::fmt;
 
+mod build;
+mod bytes;
+mod choice;
+mod machine;
+mod numbers;
+mod scan;
 mod symbols;
+mod tables;
 mod tokens;
+mod words;
+
+pub use machine::read;
+pub use words::is_name;
 
 /// The most bytes that a query text has.
 pub const MAX_TEXT: usize = 4096;
@@ -22,7 +32,38 @@ pub const MAX_TEXT: usize = 4096;
 pub const MAX_NAME: usize = 32;
 
 /// The name of a stream, or the alias of a source.
-pub type Name = ArrayString<MAX_NAME>;
+#[derive(Clone, Copy, Debug)]
+pub struct Name {
+    /// The bytes, and then what is left of the room.
+    pub bytes: [u8; MAX_NAME],
+    /// How many bytes the name has.
+    pub len: usize,
+    ghost fits: { len ≤ 32 },
+}
+
+impl Name {
+    ghost use Rattle.cql_reader.specs.Query.{name_of};
+
+    /// The name of these bytes.
+    pub fn new(bytes: &[u8]) -> Name
+        requires { length bytes.now ≤ 32 }
+        ensures { name_of result ≡ bytes.now }
+    {
+        let mut room = [0; MAX_NAME];
+        room[..bytes.len()].copy_from_slice(bytes);
+        Name {
+            bytes: room,
+            len: bytes.len(),
+        }
+    }
+
+    /// The bytes of the name.
+    pub fn as_bytes(&self) -> &[u8]
+        ensures { result.now ≡ name_of self.now }
+    {
+        &self.bytes[..self.len]
+    }
+}
 
 /// A query as it is written, before its names are looked up.
 #[derive(Debug, Drop)]

@@ -44,16 +44,16 @@ runs_emit mark xs d rest result r =
     let e : run (suc k.0) (Emit mark ∷ xs) d rest ≡ result = subst (λ (n : ℕ). run n (Emit mark ∷ xs) d rest ≡ result) k.1 r.same in
     record { fuel = k.0; enough = omega (arith, k.2, effort_emit mark xs); same = e }
 
-taken_fits : (a b : Bool) (place : ℕ) (after : Result Draft Fault) → a ≡ true → b ≡ true → taken a b place after ≡ after
+pub taken_fits : (a b : Bool) (place : ℕ) (after : Result Draft Fault) → a ≡ true → b ≡ true → taken a b place after ≡ after
 taken_fits true true place after e f = refl
 taken_fits false b place after e f = cc
 taken_fits true false place after e f = cc
 
-taken_odd : (a b : Bool) (place : ℕ) (after : Result Draft Fault) → a ≡ false → taken a b place after ≡ Err (Unexpected place)
+pub taken_odd : (a b : Bool) (place : ℕ) (after : Result Draft Fault) → a ≡ false → taken a b place after ≡ Err (Unexpected place)
 taken_odd false b place after e = refl
 taken_odd true b place after e = cc
 
-taken_outside : (a b : Bool) (place : ℕ) (after : Result Draft Fault) → a ≡ true → b ≡ false → taken a b place after ≡ Err (NumberRange place)
+pub taken_outside : (a b : Bool) (place : ℕ) (after : Result Draft Fault) → a ≡ true → b ≡ false → taken a b place after ≡ Err (NumberRange place)
 taken_outside true false place after e f = refl
 taken_outside false b place after e f = cc
 taken_outside true true place after e f = cc

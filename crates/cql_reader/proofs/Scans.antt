@@ -20,7 +20,7 @@ unfolding scan
 scan_blank place b bs h =
     ap (λ (v : Bool). scanned v (token_at (b ∷ bs)) place (b ∷ bs) (scan (place + 1) (width v (token_at (b ∷ bs)) - 1) bs)) h
 
-scan_blanks : (place : ℕ) (bs : List ℕ) → scan place 0 bs ≡ scan (place + prefix_len is_blank bs) 0 (drop (prefix_len is_blank bs) bs)
+pub scan_blanks : (place : ℕ) (bs : List ℕ) → scan place 0 bs ≡ scan (place + prefix_len is_blank bs) 0 (drop (prefix_len is_blank bs) bs)
 scan_blanks place [] = let e : place ≡ place + 0 = omega arith in ap (λ (v : ℕ). scan v 0 []) e
 scan_blanks place (b ∷ bs) = elim (cases_Bool (is_blank b)) [
   | inl h ↦ (let p = prefix_len is_blank bs in
@@ -36,7 +36,7 @@ scan_blanks place (b ∷ bs) = elim (cases_Bool (is_blank b)) [
 ]
 
 -- no blank stands behind the blanks
-ink_behind : (bs : List ℕ) → prefix_len is_blank bs < length bs → is_blank (first_byte (drop (prefix_len is_blank bs) bs)) ≡ false
+pub ink_behind : (bs : List ℕ) → prefix_len is_blank bs < length bs → is_blank (first_byte (drop (prefix_len is_blank bs) bs)) ≡ false
 ink_behind [] h = absurd (omega arith)
 ink_behind (b ∷ bs) h = elim (cases_Bool (is_blank b)) [
   | inl t ↦ (let p = prefix_len is_blank bs in

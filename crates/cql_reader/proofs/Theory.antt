@@ -136,7 +136,7 @@ sample_allowed Ranged role s h = one_in_range role
 sample_allowed Strict role s h =
     and_from (in_range role (number_of (49 ∷ []))) (may_open role s.depth) (one_in_range role) (cond-false (deepens role) (nat_lt s.depth 32) true (not_true (deepens role) h))
 
-allowed_strict : (level : Level) (role : Role) (s : Draft) (t : Token) → allowed Strict role s t ≡ true → allowed level role s t ≡ true
+pub allowed_strict : (level : Level) (role : Role) (s : Draft) (t : Token) → allowed Strict role s t ≡ true → allowed level role s t ≡ true
 unfolding allowed
 allowed_strict Shape role s t h = refl
 allowed_strict Ranged role s t h = (and_parts (in_range role (number_of t.bytes)) (may_open role s.depth) h).0

@@ -14,6 +14,7 @@ use std::fmt;
 mod build;
 mod bytes;
 mod choice;
+mod laws;
 mod machine;
 mod numbers;
 mod scan;
@@ -22,6 +23,7 @@ mod tables;
 mod tokens;
 mod words;
 
+pub use laws::every_text_has_one_answer;
 pub use machine::read;
 pub use words::is_name;
 

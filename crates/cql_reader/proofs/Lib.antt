@@ -1,0 +1,14 @@
+pub mod Ascii
+pub mod Checked
+pub mod Decimals
+pub mod Drafts
+pub mod OneAnswer
+pub mod Outcomes
+pub mod Ranges
+pub mod Readings
+pub mod Runs
+pub mod Scans
+pub mod Steps
+pub mod Texts
+pub mod Theory
+pub mod WordFacts

@@ -1,0 +1,16 @@
+use Rattle.std.proofs.Common.{◌≡◌, ◌∙◌, sym, true, false}
+use Rattle.std.proofs.lemmas.Bool.{cond-true, cond-false}
+use Rattle.cql_reader.specs.Prediction.{ends, firsts, pick}
+use Rattle.cql_reader.proofs.Steps.{pick_step, pick_end}
+use Rattle.cql_reader.proofs.choice.ending.Goals as goal
+
+pub returns-then-may_be_empty : goal.returns-then-may_be_empty
+returns-then-may_be_empty c =
+    sym c.loop-symbols.invariant ∙ pick_step (λ symbols. symbols.now) ends c.args.alternatives.now c.loop-symbols.symbols-index _ c.loop-symbols-test.true ∙ cond-true _ _ _ (sym c.if-may_be_empty.ensures)
+
+pub loop-symbols-preserved : goal.loop-symbols-preserved
+loop-symbols-preserved c =
+    sym (pick_step (λ symbols. symbols.now) ends c.args.alternatives.now c.loop-symbols.symbols-index _ c.loop-symbols-test.true ∙ cond-false _ _ _ (sym c.if-may_be_empty.ensures)) ∙ c.loop-symbols.invariant
+
+pub returns : goal.returns
+returns c = sym c.loop-symbols.invariant ∙ pick_end (λ symbols. symbols.now) ends c.args.alternatives.now c.loop-symbols.symbols-index c.loop-symbols-test.false

@@ -1,0 +1,9 @@
+pub mod Lexis
+pub mod Tokens
+pub mod Query
+pub mod Grammar
+pub mod Fault
+pub mod Prediction
+pub mod Coded
+pub mod Reading
+pub mod Examples

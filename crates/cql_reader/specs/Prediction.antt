@@ -1,0 +1,152 @@
+-- The tables by which the next token chooses an alternative, and the query that they find.
+use Rattle.std.specs.Prelude.{◌≡◌, ℕ, zero, suc, ◌+◌, ◌*◌, Bool, true, false, ◌&&◌, ◌||◌, List, [], ◌∷◌, ◌++◌, cond, Option, Some, None, Result, Ok, Err}
+use denote.Enum.Bare.{sameb}
+use Rattle.cql_reader.specs.contracts.tokens.Kind.{the_type}
+use Rattle.cql_reader.specs.declared.tokens.Kind.{Kind}
+use Rattle.cql_reader.specs.declared.tokens.Kind.TheVariants as k
+use Rattle.cql_reader.specs.declared.symbols.Part.{Part}
+use Rattle.cql_reader.specs.declared.symbols.Part.TheVariants as p
+use Rattle.cql_reader.specs.declared.symbols.Role.{Role}
+use Rattle.cql_reader.specs.declared.symbols.Symbol.{Symbol}
+use Rattle.cql_reader.specs.declared.symbols.Symbol.TheVariants.{Read, Rule, Emit}
+use Rattle.cql_reader.specs.Lexis.{number_of}
+use Rattle.cql_reader.specs.Tokens.{Token, Scan, End, Bad, Then}
+use Rattle.cql_reader.specs.Query.{Query}
+use Rattle.cql_reader.specs.Grammar.{alternatives, kind_of, in_range, Draft, took, did, finished, start, whole}
+use Rattle.cql_reader.specs.Fault.{Fault, BadToken, Unexpected, NumberRange}
+
+abbrev pub same_kind : Kind → Kind → Bool
+same_kind a b = sameb the_type a b
+
+unfoldable pub has : List Kind → Kind → Bool
+has [] kind = false
+has (x ∷ xs) kind = same_kind x kind || has xs kind
+
+-- the kinds that a part can begin with
+unfoldable pub first : Part → List Kind
+first p.Query = k.Select ∷ []
+first p.Form = k.Select ∷ []
+first p.Op = k.Istream ∷ k.Dstream ∷ k.Rstream ∷ []
+first p.Body = k.Star ∷ []
+first p.Rest = k.From ∷ []
+first p.Source = k.Name ∷ []
+first p.SourceTail = k.As ∷ k.Name ∷ k.Left ∷ []
+first p.OptAlias = k.As ∷ k.Name ∷ []
+first p.Alias = k.As ∷ k.Name ∷ []
+first p.Window = k.Left ∷ []
+first p.Frame = k.Range ∷ k.Now ∷ []
+first p.End = k.Semicolon ∷ []
+
+-- a part that may be missing
+unfoldable pub nullable : Part → Bool
+nullable p.Query = false
+nullable p.Form = false
+nullable p.Op = false
+nullable p.Body = false
+nullable p.Rest = false
+nullable p.Source = false
+nullable p.SourceTail = false
+nullable p.OptAlias = true
+nullable p.Alias = false
+nullable p.Window = false
+nullable p.Frame = false
+nullable p.End = true
+
+-- whether the symbols can begin with a token of this kind
+unfoldable pub firsts : List Symbol → Kind → Bool
+firsts [] kind = false
+firsts (Read role ∷ xs) kind = same_kind (kind_of role) kind
+firsts (Rule part ∷ xs) kind = has (first part) kind || (nullable part && firsts xs kind)
+firsts (Emit mark ∷ xs) kind = firsts xs kind
+
+-- whether the symbols can stand for no token
+unfoldable pub ends : List Symbol → Bool
+ends [] = true
+ends (Read role ∷ xs) = false
+ends (Rule part ∷ xs) = nullable part && ends xs
+ends (Emit mark ∷ xs) = ends xs
+
+-- the first of the alternatives that passes
+unfoldable pub pick : (List Symbol → Bool) → List (List Symbol) → Option (List Symbol)
+pick f [] = None
+pick f (ys ∷ yss) = cond (f ys) (Some ys) (pick f yss)
+
+abbrev pub or_else : Option (List Symbol) → Option (List Symbol) → Option (List Symbol)
+or_else None b = b
+or_else (Some a) b = Some a
+
+-- the alternative that a part has at this next kind of token, or at the end of the text
+unfoldable pub chosen : Part → Option Kind → Option (List Symbol)
+chosen part None = pick ends (alternatives part)
+chosen part (Some kind) = or_else (pick (λ ys. firsts ys kind) (alternatives part)) (pick ends (alternatives part))
+
+-- the kind of the next token
+abbrev pub ahead : Scan → Option Kind
+ahead (End place) = None
+ahead (Bad place) = None
+ahead (Then t more) = Some t.kind
+
+-- the fault where no query goes on so
+abbrev pub stopped : Scan → Fault
+stopped (End place) = Unexpected place
+stopped (Bad place) = BadToken place
+stopped (Then t more) = Unexpected t.place
+
+-- the whole query, where no symbol is left
+abbrev pub closed : Draft → Scan → Result Draft Fault
+closed d (End place) = Ok d
+closed d (Bad place) = Err (BadToken place)
+closed d (Then t more) = Err (Unexpected t.place)
+
+-- the draft after a token of this kind and number, or the fault at it
+abbrev pub taken : Bool → Bool → ℕ → Result Draft Fault → Result Draft Fault
+taken false fits place after = Err (Unexpected place)
+taken true false place after = Err (NumberRange place)
+taken true true place after = after
+
+-- goes on by the alternative, where there is one
+abbrev pub along : Option (List Symbol) → Scan → (List Symbol → Result Draft Fault) → Result Draft Fault
+along None rest go = Err (stopped rest)
+along (Some ys) rest go = go ys
+
+-- the draft that the symbols leave of the tokens, in so many steps: each part by the alternative that the next token chooses
+unfoldable pub run : ℕ → List Symbol → Draft → Scan → Result Draft Fault
+run zero xs d rest = Err (stopped rest)
+run (suc n) [] d rest = closed d rest
+run (suc n) (Emit mark ∷ xs) d rest = run n xs (did mark d) rest
+run (suc n) (Read role ∷ xs) d (End place) = Err (Unexpected place)
+run (suc n) (Read role ∷ xs) d (Bad place) = Err (BadToken place)
+run (suc n) (Read role ∷ xs) d (Then t more) =
+    taken (same_kind t.kind (kind_of role)) (in_range role (number_of t.bytes)) t.place (run n xs (took role t.bytes d) more)
+run (suc n) (Rule part ∷ xs) d rest = along (chosen part (ahead rest)) rest (λ ys. run n (ys ++ xs) d rest)
+
+-- a bound on the steps that a symbol takes without reading a token
+unfoldable pub weight : Part → ℕ
+weight p.Query = 24
+weight p.Form = 22
+weight p.Op = 2
+weight p.Body = 2
+weight p.Rest = 14
+weight p.Source = 12
+weight p.SourceTail = 9
+weight p.OptAlias = 3
+weight p.Alias = 2
+weight p.Window = 5
+weight p.Frame = 2
+weight p.End = 1
+
+unfoldable pub weights : List Symbol → ℕ
+weights [] = 0
+weights (Read role ∷ xs) = 1 + weights xs
+weights (Emit mark ∷ xs) = 1 + weights xs
+weights (Rule part ∷ xs) = weight part + weights xs
+
+-- how many tokens there are
+unfoldable pub count : Scan → ℕ
+count (End place) = 0
+count (Bad place) = 0
+count (Then t more) = 1 + count more
+
+-- the query of these tokens, or the first fault
+unfoldable pub parsed : Scan → Result Draft Fault
+parsed tokens = run (64 * (count tokens + 2)) whole start tokens

@@ -1,0 +1,67 @@
+-- The tokens of a text.
+use Rattle.std.specs.Prelude.{◌≡◌, ℕ, zero, suc, ◌+◌, ◌-◌, ◌<◌, ◌≤◌, Bool, true, false, List, [], ◌∷◌, Option, Some, None, cond, length, take, drop, slice_index}
+use Rattle.cql_reader.specs.declared.tokens.Kind.{Kind}
+use Rattle.cql_reader.specs.Lexis.{is_blank, token_at}
+
+-- a token: its kind, its bytes, and how many bytes of the text stand before it
+pub record Token : Type 0 where
+  pub kind : Kind
+  pub bytes : List ℕ
+  pub place : ℕ
+
+-- the place behind a token
+abbrev pub end_of : Token → ℕ
+end_of t = t.place + length t.bytes
+
+-- only blanks stand from a place up to another
+pub record Blank (text : List ℕ) (at end : ℕ) : Type 0 where
+  pub order : at ≤ end
+  pub each : (i : ℕ) → at ≤ i → i < end → is_blank (slice_index text i) ≡ true
+
+-- the token stands in the text, and no longer one begins there
+pub record Stands (text : List ℕ) (t : Token) : Type 0 where
+  pub longest : token_at (drop t.place text) ≡ Some (t.kind, length t.bytes)
+  pub spelled : t.bytes ≡ take (length t.bytes) (drop t.place text)
+  pub forward : 0 < length t.bytes
+  pub within : end_of t ≤ length text
+
+-- the tokens stand in the text in order, with only blanks between, before and behind them
+abbrev pub Tokens : List ℕ → ℕ → List Token → ℕ → Type 0
+Tokens text at [] end = Blank text at end
+Tokens text at (t ∷ ts) end = Blank text at t.place × Stands text t × Tokens text (end_of t) ts end
+
+-- no token begins at that byte
+pub record NoToken (text : List ℕ) (at : ℕ) : Type 0 where
+  pub within : at < length text
+  pub ink : is_blank (slice_index text at) ≡ false
+  pub none : token_at (drop at text) ≡ None
+
+-- the tokens of a text in order, up to its end or to a byte at which none begins
+pub data Scan : Type 0 where
+  End : (place : ℕ) → Scan
+  Bad : (place : ℕ) → Scan
+  Then : (t : Token) → (more : Scan) → Scan
+
+-- how many of the bytes belong to what begins them
+abbrev pub width : Bool → Option (Kind × ℕ) → ℕ
+width true found = 1
+width false None = 1
+width false (Some found) = found.1
+
+-- what begins the bytes, then the rest
+abbrev pub scanned : Bool → Option (Kind × ℕ) → ℕ → List ℕ → Scan → Scan
+scanned true found place bytes rest = rest
+scanned false None place bytes rest = Bad place
+scanned false (Some found) place bytes rest = Then (record { kind = found.0; bytes = take found.1 bytes; place = place }) rest
+
+-- the tokens of the bytes from a place on, of which the first `passed` belong to the token before
+unfoldable pub scan : ℕ → ℕ → List ℕ → Scan
+scan place passed [] = End place
+scan place (suc passed) (b ∷ bs) = scan (place + 1) passed bs
+scan place zero (b ∷ bs) =
+    scanned (is_blank b) (token_at (b ∷ bs)) place (b ∷ bs)
+    (scan (place + 1) (width (is_blank b) (token_at (b ∷ bs)) - 1) bs)
+
+-- the tokens of a text from a place on
+abbrev pub scan_from : List ℕ → ℕ → Scan
+scan_from text place = scan place 0 (drop place text)

@@ -1,0 +1,136 @@
+// The machine: a stack of symbols, of which the top tells what to do with the next token.
+
+ghost use Rattle.std.specs.Prelude.{◌≡◌, ◌≤◌, ◌<◌, ◌++◌, true, false, length, reverse, OnOk, slice_range};
+ghost use Rattle.cql_reader.specs.Lexis.{number_of};
+ghost use Rattle.cql_reader.specs.Grammar.{in_range, in_span, kind_of, alternatives};
+ghost use Rattle.cql_reader.specs.Prediction.{ahead, stopped, parsed};
+ghost use Rattle.cql_reader.specs.Tokens.{scan_from};
+ghost use Rattle.cql_reader.specs.Coded.{ReadsDraft, IsInside, IsRead, rest_of, told};
+ghost use Rattle.cql_reader.specs.Reading.{Reads, reading};
+
+use crate::build::Draft;
+use crate::bytes::is_ascii;
+use crate::choice::{choose, kind_of_role};
+use crate::numbers::number_in;
+use crate::scan::next_token;
+use crate::symbols::{Part, Role, Symbol};
+use crate::tokens::{Kind, Token};
+use crate::{MAX_TEXT, Query, ReadFault};
+use std::alloc::{AllocError, Global};
+
+// Whether the number of a token is one of a range's.
+fn is_span(bytes: &[u8]) -> bool
+    ensures { result ≡ in_span (number_of bytes.now) }
+{
+    let number = number_in(bytes);
+    !(number < 0) && number < 1_099_511_627_777
+}
+
+// Whether the number of a token is in the range of its place.
+#[tactic(auto, unfolding(crate::specs::Grammar::in_range))]
+fn is_in_range(role: Role, bytes: &[u8]) -> bool
+    ensures { result ≡ in_range role (number_of bytes.now) }
+{
+    match role {
+        Role::Fixed(_) => true,
+        Role::Operator(_) => true,
+        Role::Stream => true,
+        Role::Alias => true,
+        Role::Now => true,
+        Role::Range => is_span(bytes),
+    }
+}
+
+// The symbols go onto the stack, the first on top.
+fn push_all(stack: &mut Vec<Symbol>, symbols: &[Symbol]) -> Result<(), AllocError>
+    ensures { OnOk result (reverse stack.new.items ≡ symbols.now ++ reverse stack.old.items) }
+{
+    for i in 0..symbols.len() {
+        stack.push(symbols[symbols.len() - 1 - i])?;
+    }
+    Ok(())
+}
+
+fn kind_ahead(text: &[u8], next: Option<Token>) -> Option<Kind>
+    ensures { result ≡ ahead (rest_of text.now next) }
+{
+    match next {
+        None => None,
+        Some(token) => Some(token.kind),
+    }
+}
+
+// The fault where no query goes on with the next token.
+fn unexpected(text: &[u8], next: Option<Token>) -> ReadFault
+    ensures { result ≡ told (stopped (rest_of text.now next)) }
+{
+    match next {
+        None => ReadFault::Unexpected(text.len()),
+        Some(token) => ReadFault::Unexpected(token.from),
+    }
+}
+
+// The next token, which is to be of this role.
+fn expected(text: &[u8], next: Option<Token>, role: Role) -> Result<Token, ReadFault>
+    requires { IsInside text.now next }
+    ensures { IsRead text.now next role result }
+{
+    match next {
+        None => Err(ReadFault::Unexpected(text.len())),
+        Some(token) => {
+            if token.kind != kind_of_role(role) {
+                return Err(ReadFault::Unexpected(token.from));
+            }
+            if !is_in_range(role, &text[token.from..token.to]) {
+                return Err(ReadFault::NumberRange(token.from));
+            }
+            Ok(token)
+        }
+    }
+}
+
+// The draft of the query that a text names, or the first fault.
+fn parse(alloc: Global, text: &[u8]) -> Result<Draft, ReadFault>
+    ensures { ReadsDraft (parsed (scan_from text.now 0)) result }
+{
+    let mut stack = Vec::new(alloc);
+    stack.push(Symbol::Rule(Part::Query))?;
+    let mut draft = Draft::new(alloc);
+    let mut next = next_token(text, 0)?;
+    while let Some(symbol) = stack.pop() {
+        match symbol {
+            Symbol::Emit(mark) => draft.finish(mark)?,
+            Symbol::Read(role) => {
+                let token = expected(text, next, role)?;
+                draft.take(role, &text[token.from..token.to]);
+                next = next_token(text, token.to)?;
+            }
+            Symbol::Rule(part) => match choose(part, kind_ahead(text, next)) {
+                None => return Err(unexpected(text, next)),
+                Some(symbols) => push_all(&mut stack, symbols)?,
+            },
+        }
+    }
+    match next {
+        Some(token) => Err(ReadFault::Unexpected(token.from)),
+        None => Ok(draft),
+    }
+}
+
+/// Reads the text of a query.
+///
+/// The answer is the query that the text names, or the first fault: a text over `MAX_TEXT` bytes is `TextTooLong`, one with a
+/// byte above 127 is `NotAscii`, and else the text is judged token by token from the left. The cost is linear in the text.
+/// `OutOfMemory` may stand in place of any answer.
+pub fn read(alloc: Global, text: &[u8]) -> Result<Query, ReadFault>
+    ensures { Reads (reading text.now) result }
+{
+    if text.len() > MAX_TEXT {
+        return Err(ReadFault::TextTooLong);
+    }
+    if !is_ascii(text) {
+        return Err(ReadFault::NotAscii);
+    }
+    let draft = parse(alloc, text)?;
+    Ok(draft.into_query())
+}

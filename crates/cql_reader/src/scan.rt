@@ -1,0 +1,109 @@
+// The next token of a text.
+
+ghost use Rattle.std.specs.Prelude.{◌≡◌, ◌+◌, ◌<◌, ◌≤◌, length, IfSome};
+ghost use Rattle.cql_reader.specs.Lexis.{token_at, symbol};
+ghost use Rattle.cql_reader.specs.Tokens.{scan_from};
+ghost use Rattle.cql_reader.specs.Coded.{IsNext};
+ghost use Rattle.cql_reader.specs.declared.tokens.Kind.TheVariants as kinds;
+
+use crate::ReadFault;
+use crate::bytes::{blanks, digit, digits, first_of, letter, second_of, word_len};
+use crate::tokens::{Kind, Token};
+use crate::words::kind_of_word;
+
+// The symbol that two bytes begin, and how many bytes it takes.
+fn symbol_of(first: u8, second: u8) -> Option<(Kind, usize)>
+    ensures symbol { result ≡ symbol first second }
+    ensures forward { IfSome result (λ found. 0 < found.1) }
+    ensures one { IfSome result (λ found. second ≡ 0 → found.1 ≤ 1) }
+    ensures two { IfSome result (λ found. found.1 ≤ 2) }
+    ensures mark { IfSome result (λ found. found.0 ≡ kinds.Name → found.1 ≤ 32) }
+{
+    if first == b'(' {
+        Some((Kind::Open, 1))
+    } else if first == b')' {
+        Some((Kind::Close, 1))
+    } else if first == b'[' {
+        Some((Kind::Left, 1))
+    } else if first == b']' {
+        Some((Kind::Right, 1))
+    } else if first == b',' {
+        Some((Kind::Comma, 1))
+    } else if first == b'.' {
+        Some((Kind::Dot, 1))
+    } else if first == b';' {
+        Some((Kind::Semicolon, 1))
+    } else if first == b'*' {
+        Some((Kind::Star, 1))
+    } else if first == b'=' {
+        Some((Kind::Equal, 1))
+    } else if first == b'<' {
+        if second == b'=' {
+            Some((Kind::AtMost, 2))
+        } else if second == b'>' {
+            Some((Kind::Unequal, 2))
+        } else {
+            Some((Kind::Less, 1))
+        }
+    } else if first == b'>' {
+        if second == b'=' {
+            Some((Kind::AtLeast, 2))
+        } else {
+            Some((Kind::Greater, 1))
+        }
+    } else if first == b'!' {
+        if second == b'=' {
+            Some((Kind::Unequal, 2))
+        } else {
+            None
+        }
+    } else {
+        None
+    }
+}
+
+// The token that begins the bytes, and how many bytes it takes.
+#[tactic(auto, unfolding(crate::specs::Lexis::token_at))]
+fn token_of(bytes: &[u8]) -> Option<(Kind, usize)>
+    requires { 0 < length bytes.now }
+    ensures token { result ≡ token_at bytes.now }
+    ensures forward { IfSome result (λ found. 0 < found.1) }
+    ensures within { IfSome result (λ found. found.1 ≤ length bytes.now) }
+    ensures short { IfSome result (λ found. found.0 ≡ kinds.Name → found.1 ≤ 32) }
+{
+    let first = first_of(bytes);
+    if letter(first) {
+        let len = word_len(bytes);
+        Some((kind_of_word(&bytes[..len]), len))
+    } else if digit(first) {
+        Some((Kind::Number, digits(bytes)))
+    } else if first == b'-' {
+        let len = digits(&bytes[1..]);
+        if len == 0 {
+            None
+        } else {
+            Some((Kind::Number, 1 + len))
+        }
+    } else {
+        symbol_of(first, second_of(bytes))
+    }
+}
+
+/// The next token of a text from a place on, or none at its end.
+pub fn next_token(text: &[u8], place: usize) -> Result<Option<Token>, ReadFault>
+    requires { place ≤ length text.now }
+    ensures { IsNext text.now (scan_from text.now place) result }
+{
+    let from = place + blanks(&text[place..]);
+    if from == text.len() {
+        return Ok(None);
+    }
+    match token_of(&text[from..]) {
+        None => Err(ReadFault::BadToken(from)),
+        Some((kind, len)) => Ok(Some(Token {
+            kind,
+            from,
+            to: from + len,
+        })),
+    }
+}

@@ -1,0 +1,59 @@
+// Tokens.
+
+ghost use Rattle.std.specs.Prelude.{◌≡◌, ◌+◌, ◌≤◌};
+
+use crate::MAX_NAME;
+
+/// The kinds of tokens.
+#[derive(Clone, Copy, Debug, PartialEq, Eq)]
+pub enum Kind {
+    Select,
+    Distinct,
+    Istream,
+    Dstream,
+    Rstream,
+    From,
+    As,
+    Where,
+    Group,
+    By,
+    And,
+    Or,
+    Not,
+    Range,
+    Rows,
+    Partition,
+    Now,
+    Unbounded,
+    Slide,
+    Count,
+    Sum,
+    Min,
+    Max,
+    Name,
+    // a word that is too long for a name
+    Word,
+    Number,
+    Open,
+    Close,
+    Left,
+    Right,
+    Comma,
+    Dot,
+    Semicolon,
+    Star,
+    Equal,
+    Unequal,
+    Less,
+    AtMost,
+    Greater,
+    AtLeast,
+}
+
+/// A token, and from where to where it stands in the text.
+#[derive(Clone, Copy, Debug)]
+pub struct Token {
+    pub kind: Kind,
+    pub from: usize,
+    pub to: usize,
+}

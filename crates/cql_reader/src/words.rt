@@ -1,0 +1,89 @@
+// Words: reserved ones, and names.
+
+ghost use Rattle.std.specs.Prelude.{◌≡◌, ◌≤◌, map, length, IfSome};
+ghost use Rattle.cql_reader.specs.Lexis.{reserved, kind_in, word_kind, is_name as names, is_reserved as reserves};
+ghost use Rattle.cql_reader.specs.declared.tokens.Kind.TheVariants as kinds;
+
+use crate::MAX_NAME;
+use crate::bytes::{first_of, is_one_word, letter};
+use crate::tokens::Kind;
+
+/// The reserved words.
+#[tactic(auto, unfolding(crate::specs::Lexis::reserved))]
+fn reserved_words() -> &'static [(&'static [u8], Kind)]
+    ensures { map (λ entry. (entry.0.now, entry.1)) result.now ≡ reserved }
+{
+    &[
+        (b"select", Kind::Select),
+        (b"distinct", Kind::Distinct),
+        (b"istream", Kind::Istream),
+        (b"dstream", Kind::Dstream),
+        (b"rstream", Kind::Rstream),
+        (b"from", Kind::From),
+        (b"as", Kind::As),
+        (b"where", Kind::Where),
+        (b"group", Kind::Group),
+        (b"by", Kind::By),
+        (b"and", Kind::And),
+        (b"or", Kind::Or),
+        (b"not", Kind::Not),
+        (b"range", Kind::Range),
+        (b"rows", Kind::Rows),
+        (b"partition", Kind::Partition),
+        (b"now", Kind::Now),
+        (b"unbounded", Kind::Unbounded),
+        (b"slide", Kind::Slide),
+        (b"count", Kind::Count),
+        (b"sum", Kind::Sum),
+        (b"min", Kind::Min),
+        (b"max", Kind::Max),
+    ]
+}
+
+// The kind that a list of words gives a word, in any case of letters.
+fn find(entries: &[(&'static [u8], Kind)], word: &[u8]) -> Option<Kind>
+    ensures { result ≡ kind_in (map (λ entry. (entry.0.now, entry.1)) entries.now) word.now }
+{
+    for (text, kind) in entries {
+        if text.eq_ignore_ascii_case(word) {
+            return Some(*kind);
+        }
+    }
+    None
+}
+
+// Whether a word is reserved.
+fn is_reserved(word: &[u8]) -> bool
+    ensures { result ≡ reserves word.now }
+{
+    find(reserved_words(), word).is_some()
+}
+
+/// The kind of a word.
+pub fn kind_of_word(word: &[u8]) -> Kind
+    ensures kind { result ≡ word_kind word.now }
+    ensures short { result ≡ kinds.Name → length word.now ≤ 32 }
+{
+    match find(reserved_words(), word) {
+        Some(kind) => kind,
+        None => {
+            if word.len() <= MAX_NAME {
+                Kind::Name
+            } else {
+                Kind::Word
+            }
+        }
+    }
+}
+
+/// Whether a text is a name: a letter or an underscore, then letters, digits and underscores, `MAX_NAME` in all at most,
+/// and no reserved word in any case of letters.
+///
+/// Streams, their columns, and queries are named so.
+#[tactic(auto, unfolding(crate::specs::Lexis::is_name))]
+pub fn is_name(text: &str) -> bool
+    ensures { result ≡ names text.now }
+{
+    let bytes = text.as_bytes();
+    letter(first_of(bytes)) && is_one_word(bytes) && bytes.len() <= MAX_NAME && !is_reserved(bytes)
+}

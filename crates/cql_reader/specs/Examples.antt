@@ -1,5 +1,5 @@
 -- The definitions at worked texts.
-use Rattle.std.specs.Prelude.{◌≡◌, ℕ, List, [], ◌∷◌, Option, Some, None, Result, Ok, Err, codes, refl, true, false, Bool}
+use Rattle.std.specs.Prelude.{◌≡◌, ℕ, List, [], ◌∷◌, Option, Some, None, Result, Ok, Err, codes, refl, true, false}
 use Rattle.values.specs.Answers.{Operator, Istream, Dstream, Rstream}
 use Rattle.cql_reader.specs.Lexis.{is_name, reserved, same_bytes, same_letters, kind_in, word_kind, all_word, all_ascii, token_at, decimal, number_of}
 use Rattle.cql_reader.specs.Tokens.{scan}

@@ -1,7 +1,7 @@
 -- Bytes of ASCII.
-use Rattle.std.proofs.Common.{◌≡◌, ℕ, zero, suc, ◌+◌, ◌<◌, ◌≤◌, Bool, true, false, ◌&&◌, List, [], ◌∷◌, refl, sym, ap, ◌∙◌, drop, take, get_or, length, arith, slice_index, slice_range, ◌-◌, nat_lt, subst, inl, inr}
+use Rattle.std.proofs.Common.{◌≡◌, ℕ, zero, suc, ◌+◌, ◌<◌, ◌≤◌, Bool, true, false, ◌&&◌, List, [], ◌∷◌, sym, drop, get_or, length, arith, nat_lt, inl, inr}
 use Rattle.std.proofs.lemmas.List.{at_drop_more, at_drop_all}
-use Rattle.std.proofs.lemmas.Bool.{and_parts, and_from, and_cases, ltb-true, ltb-false, false≢true, cases_Bool}
+use Rattle.std.proofs.lemmas.Bool.{and_parts, ltb-true, ltb-false, false≢true, cases_Bool}
 use Rattle.std.specs.Str.{IsAscii, IsNotAscii}
 use Rattle.cql_reader.specs.Lexis.{all_ascii, all_word, is_word}
 

@@ -1,11 +1,11 @@
 -- What the program's draft says after a token.
-use Rattle.std.proofs.Common.{◌≡◌, ℕ, List, refl, sym, ap, ◌∙◌, nat_abs, map}
+use Rattle.std.proofs.Common.{◌≡◌, ℕ, List, sym, ap, ◌∙◌, nat_abs}
 use Rattle.cql_reader.specs.declared.symbols.Role.{Role}
 use Rattle.cql_reader.specs.declared.symbols.Role.TheVariants as r
 use Rattle.cql_reader.specs.declared.Window.TheVariants as windows
 use Rattle.cql_reader.specs.declared.build.Draft.{Draft as CodedDraft}
 use Rattle.cql_reader.specs.Lexis.{number_of}
-use Rattle.cql_reader.specs.Query.{Source, Range, source_of, operator_of, name_of, alias_of}
+use Rattle.cql_reader.specs.Query.{Range}
 use Rattle.cql_reader.specs.Grammar.{Draft, took}
 use Rattle.cql_reader.specs.Coded.{draft_of}
 

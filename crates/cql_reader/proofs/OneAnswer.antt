@@ -1,17 +1,16 @@
 -- A text has one right answer.
-use Rattle.std.proofs.Common.{◌≡◌, ℕ, zero, suc, ◌+◌, ◌-◌, ◌<◌, ◌≤◌, Bool, true, false, ◌||◌, List, [], ◌∷◌, ◌++◌, Option, Some, None, Result, Ok, Err, refl, sym, ap, ◌∙◌, ◌⊎◌, inl, inr, subst, arith, length, drop, take, slice_index, nat_eq, nat_lt, reverse, append_assoc, append-nil, length-append}
+use Rattle.std.proofs.Common.{◌≡◌, ℕ, zero, suc, ◌+◌, ◌<◌, ◌≤◌, true, false, List, [], ◌∷◌, ◌++◌, Some, None, Result, Ok, Err, refl, sym, ap, ◌∙◌, ◌⊎◌, inl, inr, subst, arith, length, drop, take, slice_index, nat_eq, reverse, append_assoc, append-nil, length-append}
 use Rattle.std.proofs.lemmas.List.{reverse-append}
-use Rattle.std.proofs.lemmas.Bool.{or_cases, eqb-true, false≢true, cases_order, cases_Bool, cases_lt, and_parts}
-use Rattle.std.specs.Str.{IsAscii, IsNotAscii}
+use Rattle.std.proofs.lemmas.Bool.{or_cases, eqb-true, false≢true, cases_order, cases_Bool, cases_lt}
 use Rattle.cql_reader.specs.declared.tokens.Kind.{Kind}
 use Rattle.cql_reader.specs.declared.symbols.Symbol.{Symbol}
-use Rattle.cql_reader.specs.Lexis.{is_blank, first_byte, token_at, all_ascii}
+use Rattle.cql_reader.specs.Lexis.{is_blank, token_at, all_ascii}
 use Rattle.cql_reader.specs.Tokens.{Token, end_of, Blank, Stands, Tokens, NoToken, scan_from}
 use Rattle.cql_reader.specs.Query.{Query}
 use Rattle.cql_reader.specs.Fault.{Fault, TextTooLong, NotAscii, BadToken, Unexpected, NumberRange}
-use Rattle.cql_reader.specs.Grammar.{Draft, Level, Shape, Ranged, Strict, Derives, nothing, read, emit, rule, whole, start, IsQuery, Begins, Fails, finished}
+use Rattle.cql_reader.specs.Grammar.{Draft, Level, Shape, Ranged, Strict, Derives, nothing, read, emit, rule, IsQuery, Begins, Fails, finished}
 use Rattle.cql_reader.specs.Prediction.{parsed}
-use Rattle.cql_reader.specs.Reading.{Fine, IsText, Names, OddByte, OddToken, TooShort, Outside, IsAnswer, judged, reading}
+use Rattle.cql_reader.specs.Reading.{Fine, Names, OddByte, OddToken, TooShort, Outside, IsAnswer, judged, reading}
 use Rattle.cql_reader.proofs.Ascii.{each_ascii, some_not_ascii}
 use Rattle.cql_reader.proofs.Readings.{reading_long, reading_not_ascii, reading_fine}
 use Rattle.cql_reader.proofs.Theory.{allowed_strict}

@@ -1,19 +1,17 @@
 -- What the machine's result says of the text.
-use Rattle.std.proofs.Common.{◌≡◌, ℕ, zero, suc, ◌+◌, ◌*◌, ◌<◌, ◌≤◌, Bool, true, false, ◌&&◌, List, [], ◌∷◌, ◌++◌, Option, Some, None, Result, Ok, Err, refl, sym, ap, ◌∙◌, ◌⊎◌, inl, inr, subst, arith, length, cond, nat_lt, slice_index}
+use Rattle.std.proofs.Common.{◌≡◌, ℕ, zero, suc, ◌+◌, ◌*◌, ◌<◌, true, false, List, [], ◌∷◌, ◌++◌, Option, Some, None, Result, Ok, Err, refl, sym, ap, ◌∙◌, ◌⊎◌, inl, inr, subst, arith, nat_lt}
 use Rattle.std.proofs.lemmas.Bool.{cases_Bool, cases_lt, cond-false, and_from, false≢true}
 use denote.Enum.Bare.{true_same, same_true}
 use Rattle.cql_reader.specs.contracts.tokens.Kind.{the_type}
-use Rattle.cql_reader.specs.declared.tokens.Kind.{Kind}
 use Rattle.cql_reader.specs.declared.symbols.Part.{Part}
 use Rattle.cql_reader.specs.declared.symbols.Role.{Role}
 use Rattle.cql_reader.specs.declared.symbols.Role.TheVariants as r
-use Rattle.cql_reader.specs.declared.symbols.Mark.{Mark}
 use Rattle.cql_reader.specs.declared.symbols.Symbol.{Symbol}
 use Rattle.cql_reader.specs.declared.symbols.Symbol.TheVariants.{Read, Rule, Emit}
-use Rattle.cql_reader.specs.Lexis.{number_of, is_blank}
-use Rattle.cql_reader.specs.Tokens.{Token, end_of, Blank, Stands, Tokens, NoToken, Scan, End, Bad, Then, scan_from}
+use Rattle.cql_reader.specs.Lexis.{number_of}
+use Rattle.cql_reader.specs.Tokens.{Token, end_of, Blank, Stands, Tokens, Scan, End, Bad, Then, scan_from}
 use Rattle.cql_reader.specs.Fault.{Fault, TextTooLong, NotAscii, BadToken, Unexpected, NumberRange}
-use Rattle.cql_reader.specs.Grammar.{Draft, Level, Shape, Ranged, Strict, allowed, kind_of, in_range, deepens, may_open, took, did, whole, start, IsQuery, Begins}
+use Rattle.cql_reader.specs.Grammar.{Draft, Shape, Ranged, Strict, allowed, kind_of, in_range, deepens, may_open, took, did, whole, start, IsQuery, Begins}
 use Rattle.cql_reader.specs.Prediction.{same_kind, chosen, ahead, stopped, closed, taken, along, run, weight, weights, count, parsed}
 use Rattle.cql_reader.specs.Reading.{IsText, OddByte, OddToken, TooShort, Outside}
 use Rattle.cql_reader.proofs.Theory.{Going, going_start, going_emit, going_rule, going_read, no_rule, no_read, no_more, short_rule, short_read, begins_at, not_at, is_query, one_query, next_of, effort_emit, effort_read, effort_rule}

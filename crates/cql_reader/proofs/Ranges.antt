@@ -1,6 +1,6 @@
 -- A number that is cut off outside each range is in the same ranges.
-use Rattle.std.proofs.Common.{◌≡◌, ℕ, zero, suc, ◌+◌, ◌<◌, ◌≤◌, Bool, true, false, not, ◌&&◌, ℤ, pos, negsuc, neg_ℤ, int_lt, nat_lt, nat_abs, min, refl, sym, ap, ◌∙◌, arith, ◌⊎◌, inl, inr, ◌≤ℤ◌}
-use Rattle.std.proofs.lemmas.Bool.{cases_lt, ltb-true, le-ltb, false≢true, and_parts}
+use Rattle.std.proofs.Common.{◌≡◌, ℕ, zero, suc, ◌<◌, Bool, true, false, not, ◌&&◌, ℤ, pos, negsuc, neg_ℤ, int_lt, nat_lt, min, refl, sym, ap, ◌∙◌, arith, inl, inr}
+use Rattle.std.proofs.lemmas.Bool.{cases_lt, ltb-true, le-ltb, false≢true}
 use Rattle.cql_reader.specs.declared.symbols.Role.{Role}
 use Rattle.cql_reader.specs.declared.symbols.Role.TheVariants as r
 use Rattle.cql_reader.specs.Lexis.{capped}

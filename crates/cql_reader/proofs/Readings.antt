@@ -1,17 +1,16 @@
 -- What the machine tells at each step.
-use Rattle.std.proofs.Common.{◌≡◌, ◌≢◌, ℕ, zero, suc, ◌+◌, ◌*◌, ◌<◌, ◌≤◌, Bool, true, false, List, [], ◌∷◌, ◌++◌, Option, Some, None, Result, Ok, Err, refl, sym, ap, ◌∙◌, subst, arith, length, nat_lt, cond}
+use Rattle.std.proofs.Common.{◌≡◌, ℕ, ◌+◌, ◌<◌, ◌≤◌, true, false, List, ◌∷◌, Option, Some, None, Result, Ok, Err, sym, ap, ◌∙◌, subst, arith, length, nat_lt, cond}
 use Rattle.std.proofs.lemmas.Bool.{cond-true, cond-false, lt-ltb, le-ltb}
 use Rattle.cql_reader.specs.declared.symbols.Role.{Role}
 use Rattle.cql_reader.specs.declared.symbols.Symbol.{Symbol}
-use Rattle.cql_reader.specs.declared.symbols.Symbol.TheVariants.{Read, Rule, Emit}
+use Rattle.cql_reader.specs.declared.symbols.Symbol.TheVariants.{Read}
 use Rattle.cql_reader.specs.declared.tokens.Token.{Token as CodedToken}
 use Rattle.cql_reader.specs.declared.ReadFault.{ReadFault}
 use Rattle.cql_reader.specs.declared.ReadFault.TheVariants as faults
 use Rattle.cql_reader.specs.Lexis.{all_ascii}
-use Rattle.cql_reader.specs.Tokens.{Token, Scan, End, Bad, Then, scan_from}
+use Rattle.cql_reader.specs.Tokens.{Scan, scan_from}
 use Rattle.cql_reader.specs.Fault.{Fault, TextTooLong, NotAscii, BadToken, Unexpected, NumberRange}
-use Rattle.cql_reader.specs.Query.{Query}
-use Rattle.cql_reader.specs.Grammar.{Draft, kind_of, took}
+use Rattle.cql_reader.specs.Grammar.{Draft, took}
 use Rattle.cql_reader.specs.Prediction.{count, parsed}
 use Rattle.cql_reader.specs.Coded.{token_of, Tells, told, IsNext, IsRead, rest_of}
 use Rattle.cql_reader.specs.Reading.{judged, reading}

@@ -1,12 +1,11 @@
 -- The steps of the machine.
-use Rattle.std.proofs.Common.{◌≡◌, ◌≢◌, ℕ, zero, suc, ◌+◌, ◌-◌, ◌*◌, ◌<◌, ◌≤◌, Bool, true, false, List, [], ◌∷◌, ◌++◌, Option, Some, None, Result, Ok, Err, refl, sym, ap, ◌∙◌, subst, arith, reverse, length}
+use Rattle.std.proofs.Common.{◌≡◌, ℕ, zero, suc, ◌+◌, ◌*◌, ◌<◌, ◌≤◌, Bool, true, false, List, [], ◌∷◌, ◌++◌, Option, Some, None, Result, Err, refl, sym, ap, ◌∙◌, subst, arith, reverse, length}
 use Rattle.std.proofs.lemmas.List.{reverse-append}
 use Rattle.std.proofs.lemmas.Bool.{false_from_ne_true}
-use denote.Enum.Bare.{sameb, true_same, same_true}
+use denote.Enum.Bare.{true_same, same_true}
 use Rattle.cql_reader.specs.contracts.tokens.Kind.{the_type}
 use Rattle.cql_reader.specs.declared.tokens.Kind.{Kind}
 use Rattle.cql_reader.specs.declared.symbols.Part.{Part}
-use Rattle.cql_reader.specs.declared.symbols.Part.TheVariants as p
 use Rattle.cql_reader.specs.declared.symbols.Role.{Role}
 use Rattle.cql_reader.specs.declared.symbols.Mark.{Mark}
 use Rattle.cql_reader.specs.declared.symbols.Symbol.{Symbol}

@@ -1,8 +1,8 @@
 -- The tokens of a text from a place on, step by step.
-use Rattle.std.proofs.Common.{◌≡◌, ℕ, zero, suc, ◌+◌, ◌-◌, ◌<◌, ◌≤◌, Bool, true, false, List, [], ◌∷◌, ◌++◌, Option, Some, None, refl, sym, ap, ◌∙◌, cond, drop, take, get_or, length, arith, subst, slice_range, length-drop, inl, inr}
+use Rattle.std.proofs.Common.{◌≡◌, ℕ, zero, suc, ◌+◌, ◌-◌, ◌<◌, ◌≤◌, Bool, true, false, List, [], ◌∷◌, Option, Some, None, sym, ap, ◌∙◌, drop, take, length, arith, subst, slice_range, length-drop, inl, inr}
 use Rattle.std.proofs.lemmas.List.{take_all, drop_all, drop-drop}
 use Rattle.std.specs.List.{prefix_len}
-use Rattle.std.proofs.lemmas.Bool.{cases_Bool, cond-true, cond-false, false≢true}
+use Rattle.std.proofs.lemmas.Bool.{cases_Bool, cond-true, cond-false}
 use Rattle.cql_reader.specs.declared.tokens.Kind.{Kind}
 use Rattle.cql_reader.specs.Lexis.{is_blank, first_byte, token_at}
 use Rattle.cql_reader.specs.Tokens.{Token, Scan, End, Bad, Then, width, scanned, scan, scan_from}

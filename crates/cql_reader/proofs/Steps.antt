@@ -1,5 +1,5 @@
 -- One step of each of the tests that go over a list.
-use Rattle.std.proofs.Common.{◌≡◌, true, false, sym, refl, ap, ◌∙◌, ◌||◌, ◌&&◌, Bool, List, [], ◌∷◌, drop, get_or, length, map, Option, Some, None, cond, ◌<◌, ◌≤◌, ◌+◌, arith, ℕ}
+use Rattle.std.proofs.Common.{◌≡◌, true, false, sym, refl, ap, ◌∙◌, ◌||◌, ◌&&◌, Bool, List, ◌∷◌, drop, get_or, length, map, Option, Some, None, cond, ◌<◌, ◌≤◌, ◌+◌, ℕ}
 use Rattle.std.proofs.lemmas.List.{at_drop_more, at_drop_all}
 use Rattle.cql_reader.specs.declared.tokens.Kind.{Kind}
 use Rattle.cql_reader.specs.declared.symbols.Role.{Role}

@@ -1,13 +1,13 @@
 -- The tokens that the scan gives are those of the text.
-use Rattle.std.proofs.Common.{◌≡◌, ℕ, zero, suc, ◌+◌, ◌-◌, ◌<◌, ◌≤◌, Bool, true, false, ◌||◌, List, [], ◌∷◌, ◌++◌, Option, Some, None, refl, sym, ap, ◌∙◌, ◌⊎◌, inl, inr, cond, drop, take, get_or, length, arith, subst, slice_index, length-drop, length-take-le, nat_eq}
+use Rattle.std.proofs.Common.{◌≡◌, ℕ, zero, suc, ◌+◌, ◌-◌, ◌<◌, ◌≤◌, Bool, true, false, List, [], ◌∷◌, Option, Some, None, refl, sym, ap, ◌∙◌, inl, inr, cond, drop, take, length, arith, subst, slice_index, length-drop, length-take-le, nat_eq}
 use Rattle.std.proofs.lemmas.List.{drop-drop, drop_all}
 use Rattle.std.proofs.lemmas.List.Sums.{prefix_len-le-length}
 use Rattle.std.specs.List.{prefix_len}
 use Rattle.std.proofs.lemmas.Bool.{cases_Bool, cases_lt, cond-true, cond-false, or_left, eqb-true, false≢true}
 use Rattle.cql_reader.specs.declared.tokens.Kind.{Kind}
 use Rattle.cql_reader.specs.declared.tokens.Kind.TheVariants as k
-use Rattle.cql_reader.specs.Lexis.{is_blank, is_letter, is_digit, is_word, first_byte, second_byte, symbol, word_kind, token_at}
-use Rattle.cql_reader.specs.Tokens.{Token, end_of, Blank, Stands, Tokens, NoToken, Scan, End, Bad, Then, scan, scan_from}
+use Rattle.cql_reader.specs.Lexis.{is_blank, is_letter, is_digit, is_word, first_byte, second_byte, symbol, token_at}
+use Rattle.cql_reader.specs.Tokens.{Token, end_of, Blank, Stands, NoToken, Scan, End, Bad, Then, scan, scan_from}
 use Rattle.cql_reader.proofs.Scans.{scan_blanks, ink_behind, scan_bad, scan_token}
 
 -- How many bytes a token takes.

@@ -1,21 +1,20 @@
 -- The machine reads exactly what the grammar derives, and stops at the first token after which nothing does.
-use Rattle.std.proofs.Common.{◌≡◌, ◌≢◌, ℕ, zero, suc, ◌+◌, ◌<◌, ◌≤◌, Bool, true, false, not, nat_lt, ◌&&◌, ◌||◌, List, [], ◌∷◌, ◌++◌, Option, Some, None, refl, ap, sym, ◌∙◌, ◌⊎◌, inl, inr, subst, cond, ltb, arith, ◌↔◌, append_assoc, append-nil, eq-eqb}
-use Rattle.std.proofs.lemmas.Bool.{and_parts, or_cases, or_left, or_right, and_from, false≢true, cases_Bool, cond-false, ltb-true}
+use Rattle.std.proofs.Common.{◌≡◌, ℕ, zero, suc, ◌+◌, ◌<◌, ◌≤◌, Bool, true, false, not, nat_lt, ◌&&◌, ◌||◌, List, [], ◌∷◌, ◌++◌, Option, Some, None, refl, ap, sym, ◌∙◌, ◌⊎◌, inl, inr, subst, ltb, arith, ◌↔◌, append_assoc, append-nil}
+use Rattle.std.proofs.lemmas.Bool.{and_parts, or_cases, or_left, or_right, and_from, false≢true, cond-false, ltb-true}
 use denote.Enum.Bare.{true_same}
 use Rattle.cql_reader.specs.contracts.tokens.Kind.{the_type}
 use Rattle.cql_reader.specs.declared.tokens.Kind.{Kind}
 use Rattle.cql_reader.specs.declared.symbols.Role.{Role}
 use Rattle.cql_reader.specs.declared.symbols.Role.TheVariants as r
 use Rattle.cql_reader.specs.declared.symbols.Part.{Part}
-use Rattle.cql_reader.specs.declared.symbols.Part.TheVariants as p
 use Rattle.cql_reader.specs.declared.symbols.Mark.{Mark}
 use Rattle.cql_reader.specs.Lexis.{number_of, decimal}
 use Rattle.cql_reader.specs.Tokens.{Token}
 use Rattle.cql_reader.specs.declared.symbols.Symbol.{Symbol}
 use Rattle.cql_reader.specs.declared.symbols.Symbol.TheVariants.{Read, Rule, Emit}
-use Rattle.cql_reader.specs.Grammar.{alternatives, Among, Draft, Level, Shape, Ranged, Strict, allowed, kind_of, in_range, deepens, may_open, took, did, Derives, nothing, read, emit, rule, whole, start, Begins, IsQuery}
+use Rattle.cql_reader.specs.Grammar.{alternatives, Among, Draft, Level, Shape, Ranged, Strict, allowed, kind_of, in_range, deepens, may_open, took, did, Derives, nothing, read, emit, rule, whole, start, Begins}
 use Rattle.cql_reader.specs.Prediction.{has, first, nullable, firsts, ends, chosen, weight, weights}
-use Rattle.cql_reader.proofs.Checked.{follow, CanStand, firsts_covered, ends_covered, fits, fits_at, choose, chosen_among, plain, plain_behind, plain_behind_at, least, least_at, light, light_at, kinds, each_at, at_each_kind, implied, implies, each}
+use Rattle.cql_reader.proofs.Checked.{follow, CanStand, firsts_covered, ends_covered, fits, fits_at, choose, chosen_among, plain, plain_behind, plain_behind_at, least, least_at, light, light_at, kinds, at_each_kind, implied, implies, each}
 
 -- What a derivation begins with.
 

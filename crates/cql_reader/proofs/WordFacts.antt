@@ -1,4 +1,4 @@
-use Rattle.std.proofs.Common.{◌≡◌, ℕ, ◌+◌, ◌<◌, ◌≤◌, Bool, true, false, not, ◌⊎◌, inl, inr, ◌&&◌, List, [], ◌∷◌, Option, Some, None, refl, sym, ap, ◌∙◌, cond, map, drop, get_or, length, arith, subst}
+use Rattle.std.proofs.Common.{◌≡◌, ℕ, ◌+◌, ◌<◌, ◌≤◌, Bool, true, false, not, inl, inr, ◌&&◌, List, [], ◌∷◌, Option, Some, None, refl, sym, ap, ◌∙◌, map, drop, get_or, length, subst}
 use Rattle.std.proofs.lemmas.List.{at_drop_more, at_drop_all}
 use Rattle.std.proofs.lemmas.Bool.{and_parts, and_from, eqb-true, eq-eqb, false≢true, false_from_ne_true, cond-true, cond-false, cases_Bool}
 use denote.Enum.Bare.{sameb, true_same}
@@ -7,7 +7,6 @@ use Rattle.cql_reader.specs.declared.tokens.Kind.TheVariants as k
 use Rattle.std.specs.Char.{to_ascii_lowercase}
 use Rattle.cql_reader.specs.declared.tokens.Kind.{Kind}
 use Rattle.cql_reader.specs.Lexis.{same_bytes, same_letters, kind_in, reserved, word_kind, or_name}
-use Rattle.std.proofs.Common.{nat_le}
 
 same_bytes_is : (a b : List ℕ) → same_bytes a b ≡ true → a ≡ b
 unfolding same_bytes

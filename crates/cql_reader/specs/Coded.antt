@@ -1,15 +1,14 @@
 -- What the values of the program say.
-use Rattle.std.specs.Prelude.{◌≡◌, ℕ, ◌+◌, ◌<◌, ◌≤◌, true, false, map, length, slice_range, List, [], ◌∷◌, Option, Some, None, Result, Ok, Err}
+use Rattle.std.specs.Prelude.{◌≡◌, ℕ, ◌+◌, ◌<◌, ◌≤◌, true, false, map, length, slice_range, List, Option, Some, None, Result, Ok, Err}
 use Rattle.cql_reader.specs.declared.tokens.Kind.TheVariants as k
 use Rattle.cql_reader.specs.declared.tokens.Token.{Token as CodedToken}
 use Rattle.cql_reader.specs.declared.symbols.Role.{Role}
 use Rattle.cql_reader.specs.declared.build.Draft.{Draft as CodedDraft}
-use Rattle.cql_reader.specs.declared.Query.{Query as CodedQuery}
 use Rattle.cql_reader.specs.declared.ReadFault.{ReadFault}
 use Rattle.cql_reader.specs.declared.ReadFault.TheVariants as faults
 use Rattle.cql_reader.specs.Lexis.{number_of}
 use Rattle.cql_reader.specs.Tokens.{Token, Scan, End, Bad, Then, scan_from}
-use Rattle.cql_reader.specs.Query.{Query, operator_of, source_of, query_of}
+use Rattle.cql_reader.specs.Query.{operator_of, source_of}
 use Rattle.cql_reader.specs.Grammar.{Draft, kind_of, in_range}
 use Rattle.cql_reader.specs.Fault.{Fault, TextTooLong, NotAscii, BadToken, Unexpected, NumberRange}
 

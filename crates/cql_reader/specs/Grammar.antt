@@ -1,5 +1,5 @@
 -- The grammar of query texts, and the query that a derivation builds.
-use Rattle.std.specs.Prelude.{◌≡◌, ℕ, ◌+◌, ◌-◌, ◌≤◌, Bool, true, false, ◌&&◌, not, ◌⊎◌, List, [], ◌∷◌, ◌++◌, Option, Some, None, cond, nat_lt, ℤ, pos, int_lt, nat_abs}
+use Rattle.std.specs.Prelude.{◌≡◌, ℕ, Bool, true, false, ◌&&◌, not, ◌⊎◌, List, [], ◌∷◌, ◌++◌, Some, None, cond, nat_lt, ℤ, pos, int_lt, nat_abs}
 use Rattle.values.specs.Answers.{Operator, Istream}
 use Rattle.cql_reader.specs.declared.Operator.TheVariants as o
 use Rattle.cql_reader.specs.declared.tokens.Kind.{Kind}
@@ -14,7 +14,7 @@ use Rattle.cql_reader.specs.declared.symbols.Symbol.{Symbol}
 use Rattle.cql_reader.specs.declared.symbols.Symbol.TheVariants.{Read, Rule, Emit}
 use Rattle.cql_reader.specs.Lexis.{number_of}
 use Rattle.cql_reader.specs.Tokens.{Token}
-use Rattle.cql_reader.specs.Query.{Query, Source, Window, Now, Range, operator_of}
+use Rattle.cql_reader.specs.Query.{Query, Source, Now, Range, operator_of}
 
 -- a token of this kind, which says nothing more
 abbrev pub token : Kind → Symbol

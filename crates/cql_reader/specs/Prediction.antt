@@ -1,18 +1,16 @@
 -- The tables by which the next token chooses an alternative, and the query that they find.
-use Rattle.std.specs.Prelude.{◌≡◌, ℕ, zero, suc, ◌+◌, ◌*◌, Bool, true, false, ◌&&◌, ◌||◌, List, [], ◌∷◌, ◌++◌, cond, Option, Some, None, Result, Ok, Err}
+use Rattle.std.specs.Prelude.{ℕ, zero, suc, ◌+◌, ◌*◌, Bool, true, false, ◌&&◌, ◌||◌, List, [], ◌∷◌, ◌++◌, cond, Option, Some, None, Result, Ok, Err}
 use denote.Enum.Bare.{sameb}
 use Rattle.cql_reader.specs.contracts.tokens.Kind.{the_type}
 use Rattle.cql_reader.specs.declared.tokens.Kind.{Kind}
 use Rattle.cql_reader.specs.declared.tokens.Kind.TheVariants as k
 use Rattle.cql_reader.specs.declared.symbols.Part.{Part}
 use Rattle.cql_reader.specs.declared.symbols.Part.TheVariants as p
-use Rattle.cql_reader.specs.declared.symbols.Role.{Role}
 use Rattle.cql_reader.specs.declared.symbols.Symbol.{Symbol}
 use Rattle.cql_reader.specs.declared.symbols.Symbol.TheVariants.{Read, Rule, Emit}
 use Rattle.cql_reader.specs.Lexis.{number_of}
-use Rattle.cql_reader.specs.Tokens.{Token, Scan, End, Bad, Then}
-use Rattle.cql_reader.specs.Query.{Query}
-use Rattle.cql_reader.specs.Grammar.{alternatives, kind_of, in_range, Draft, took, did, finished, start, whole}
+use Rattle.cql_reader.specs.Tokens.{Scan, End, Bad, Then}
+use Rattle.cql_reader.specs.Grammar.{alternatives, kind_of, in_range, Draft, took, did, start, whole}
 use Rattle.cql_reader.specs.Fault.{Fault, BadToken, Unexpected, NumberRange}
 
 abbrev pub same_kind : Kind → Kind → Bool

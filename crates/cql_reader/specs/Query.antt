@@ -1,5 +1,5 @@
 -- The query that a text names.
-use Rattle.std.specs.Prelude.{ℕ, List, [], ◌∷◌, map, take, Option, Some, None}
+use Rattle.std.specs.Prelude.{ℕ, List, map, take, Option, Some, None}
 use Rattle.values.specs.Answers.{Operator, Istream, Dstream, Rstream}
 use Rattle.cql_reader.specs.declared.Operator.{Operator as CodedOperator}
 use Rattle.cql_reader.specs.declared.Operator.TheVariants as operators

@@ -1,6 +1,6 @@
 // The query as far as it is read.
 
-ghost use Rattle.std.specs.Prelude.{◌≡◌, ◌≤◌, true, length, OnOk, IfOk};
+ghost use Rattle.std.specs.Prelude.{◌≡◌, ◌≤◌, true, length, OnOk};
 ghost use Rattle.cql_reader.specs.Lexis.{number_of};
 ghost use Rattle.cql_reader.specs.declared.tokens.Kind.TheVariants as kinds;
 ghost use Rattle.cql_reader.specs.Grammar.{kind_of, in_range, took, did, start, finished};

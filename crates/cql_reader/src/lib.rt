@@ -20,6 +20,8 @@ mod numbers;
 mod scan;
 mod symbols;
 mod tables;
+#[cfg(test)]
+mod tests;
 mod tokens;
 mod words;
 

@@ -1,8 +1,8 @@
 // The machine: a stack of symbols, of which the top tells what to do with the next token.
 
-ghost use Rattle.std.specs.Prelude.{◌≡◌, ◌≤◌, ◌<◌, ◌++◌, true, false, length, reverse, OnOk, slice_range};
+ghost use Rattle.std.specs.Prelude.{◌≡◌, ◌<◌, ◌++◌, true, reverse, OnOk};
 ghost use Rattle.cql_reader.specs.Lexis.{number_of};
-ghost use Rattle.cql_reader.specs.Grammar.{in_range, in_span, kind_of, alternatives};
+ghost use Rattle.cql_reader.specs.Grammar.{in_range, in_span};
 ghost use Rattle.cql_reader.specs.Prediction.{ahead, stopped, parsed};
 ghost use Rattle.cql_reader.specs.Tokens.{scan_from};
 ghost use Rattle.cql_reader.specs.Coded.{ReadsDraft, IsInside, IsRead, rest_of, told};

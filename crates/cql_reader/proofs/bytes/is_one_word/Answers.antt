@@ -1,4 +1,4 @@
-use Rattle.std.proofs.Common.{◌≡◌, Bool, true, false, sym, ap, ◌∙◌, arith, ◌&&◌, get_or, drop, ◌+◌}
+use Rattle.std.proofs.Common.{Bool, sym, ap, ◌∙◌, ◌&&◌, get_or, drop, ◌+◌}
 use Rattle.cql_reader.specs.Lexis.{all_word, is_word}
 use Rattle.cql_reader.proofs.Ascii.{words_step, words_end}
 use Rattle.cql_reader.proofs.Steps.{true_and}

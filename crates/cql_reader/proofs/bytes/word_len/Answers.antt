@@ -1,4 +1,4 @@
-use Rattle.std.proofs.Common.{◌≡◌, sym, arith}
+use Rattle.std.proofs.Common.{sym, arith}
 use Rattle.std.proofs.lemmas.List.Sums.{prefix_len_is}
 use Rattle.cql_reader.specs.Lexis.{is_word}
 use Rattle.cql_reader.proofs.bytes.word_len.Goals as goal

@@ -1,5 +1,5 @@
 use Rattle.std.proofs.Common.{◌≡◌, drop, map}
-use Rattle.cql_reader.specs.Prediction.{ends, firsts, pick}
+use Rattle.cql_reader.specs.Prediction.{firsts, pick}
 use Rattle.cql_reader.proofs.choice.beginning.Given as goal
 
 abbrev pub invariant-loop-symbols : goal.invariant-loop-symbols

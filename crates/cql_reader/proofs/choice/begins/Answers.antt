@@ -1,7 +1,7 @@
-use Rattle.std.proofs.Common.{◌≡◌, true, false, sym, ap, ◌∙◌, arith, ◌||◌}
+use Rattle.std.proofs.Common.{◌≡◌, true, false, sym, ap, ◌∙◌}
 use Rattle.std.proofs.lemmas.Bool.{and_left, or_left, or_from}
 use Rattle.cql_reader.proofs.Steps.{firsts_at_read, firsts_at_rule, firsts_at_emit, firsts_end, true_and, false_or}
-use Rattle.cql_reader.specs.Prediction.{firsts, has, first, nullable, same_kind}
+use Rattle.cql_reader.specs.Prediction.{has, first, nullable, same_kind}
 use Rattle.cql_reader.specs.declared.tokens.Kind.{Kind}
 use Rattle.cql_reader.proofs.choice.begins.Goals as goal
 use Rattle.cql_reader.proofs.choice.begins.Goals.{in-Rule+else-has_kind+else-not-may_be_missing, in-Emit}

@@ -1,7 +1,7 @@
 use Rattle.std.proofs.Common.{◌≡◌, ◌∙◌, sym, ap, refl, subst, MatchOption, Option, Some, None, List}
 use Rattle.cql_reader.specs.declared.symbols.Symbol.{Symbol}
 use Rattle.cql_reader.specs.declared.tokens.Kind.{Kind}
-use Rattle.cql_reader.specs.Prediction.{ends, firsts, pick, chosen}
+use Rattle.cql_reader.specs.Prediction.{chosen}
 use Rattle.cql_reader.proofs.Steps.{chosen_some, chosen_else, chosen_end}
 use Rattle.cql_reader.proofs.choice.choose.Goals as goal
 

@@ -1,6 +1,6 @@
-use Rattle.std.proofs.Common.{◌≡◌, ◌∙◌, sym, true, false}
+use Rattle.std.proofs.Common.{◌∙◌, sym}
 use Rattle.std.proofs.lemmas.Bool.{cond-true, cond-false}
-use Rattle.cql_reader.specs.Prediction.{ends, firsts, pick}
+use Rattle.cql_reader.specs.Prediction.{ends}
 use Rattle.cql_reader.proofs.Steps.{pick_step, pick_end}
 use Rattle.cql_reader.proofs.choice.ending.Goals as goal
 

@@ -1,7 +1,6 @@
-use Rattle.std.proofs.Common.{◌≡◌, true, false, sym, ◌∙◌, arith, ◌||◌}
+use Rattle.std.proofs.Common.{sym, ◌∙◌}
 use Rattle.std.proofs.lemmas.Bool.{or_left}
 use Rattle.cql_reader.proofs.Steps.{has_step, has_end, false_or}
-use Rattle.cql_reader.specs.Prediction.{has, same_kind}
 use Rattle.cql_reader.proofs.choice.has_kind.Goals as goal
 
 pub returns-then-eq : goal.returns-then-eq

@@ -1,7 +1,6 @@
-use Rattle.std.proofs.Common.{◌≡◌, true, false, sym, ap, ◌∙◌, arith, ◌||◌}
+use Rattle.std.proofs.Common.{sym, ◌∙◌}
 use Rattle.std.proofs.lemmas.Bool.{and_left}
 use Rattle.cql_reader.proofs.Steps.{ends_at_read, ends_at_rule, ends_at_emit, ends_end, true_and}
-use Rattle.cql_reader.specs.Prediction.{ends}
 use Rattle.cql_reader.proofs.choice.may_be_empty.Goals as goal
 use Rattle.cql_reader.proofs.choice.may_be_empty.Goals.{in-Rule+else-not-may_be_missing, in-Emit}
 

@@ -1,16 +1,15 @@
-use Rattle.std.proofs.Common.{◌≡◌, ℕ, ◌+◌, ◌*◌, ◌<◌, ◌++◌, List, [], ◌∷◌, Option, Some, None, Result, Ok, Err, refl, ap, sym, ◌∙◌, subst, arith, length, reverse, rules}
+use Rattle.std.proofs.Common.{◌≡◌, ◌++◌, List, [], Option, None, refl, ap, sym, ◌∙◌, subst, arith, reverse}
 use Rattle.std.proofs.lemmas.Result.{err_from_is_err_and}
 use Rattle.cql_reader.specs.declared.symbols.Symbol.{Symbol}
-use Rattle.cql_reader.specs.declared.symbols.Symbol.TheVariants.{Read, Rule, Emit}
 use Rattle.cql_reader.specs.declared.tokens.Kind.{Kind}
 use Rattle.cql_reader.specs.declared.tokens.Token.{Token as CodedToken}
 use Rattle.cql_reader.specs.declared.ReadFault.{ReadFault}
 use Rattle.cql_reader.specs.Tokens.{scan_from}
-use Rattle.cql_reader.specs.Grammar.{Draft, whole, start}
+use Rattle.cql_reader.specs.Grammar.{whole, start}
 use Rattle.cql_reader.specs.Prediction.{ahead, chosen, parsed, stopped}
-use Rattle.cql_reader.specs.Coded.{Tells, told, draft_of, rest_of}
+use Rattle.cql_reader.specs.Coded.{Tells, draft_of, rest_of}
 use Rattle.cql_reader.proofs.Theory.{effort, effort_emit, effort_rule}
-use Rattle.cql_reader.proofs.Runs.{Runs, runs_start, runs_emit, runs_rule, stops_rule, stops_closed, popped, emptied}
+use Rattle.cql_reader.proofs.Runs.{runs_start, runs_emit, runs_rule, stops_rule, stops_closed, popped, emptied}
 use Rattle.cql_reader.proofs.Readings.{told_tells, runs_same, bad_told, read_told, read_runs, read_falls}
 use Rattle.cql_reader.proofs.machine.parse.Goals as goal
 

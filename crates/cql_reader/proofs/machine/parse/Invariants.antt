@@ -1,9 +1,8 @@
-use Rattle.std.proofs.Common.{◌≡◌, ℕ, ◌+◌, ◌*◌, reverse}
+use Rattle.std.proofs.Common.{reverse}
 use Rattle.cql_reader.specs.Coded.{IsInside, rest_of}
-use Rattle.cql_reader.specs.Prediction.{parsed, count}
+use Rattle.cql_reader.specs.Prediction.{parsed}
 use Rattle.cql_reader.specs.Tokens.{scan_from}
 use Rattle.cql_reader.specs.Coded.{draft_of}
-use Rattle.cql_reader.proofs.Theory.{effort}
 use Rattle.cql_reader.proofs.Runs.{Runs, left}
 use Rattle.cql_reader.proofs.machine.parse.Given as goal
 

@@ -1,4 +1,4 @@
-use Rattle.std.proofs.Common.{◌≡◌, ◌∙◌, ◌≤◌, sym, ap, refl, arith, min, drop, ℕ, ◌+◌, ◌-◌, ◌*◌, get_or}
+use Rattle.std.proofs.Common.{◌≡◌, ◌∙◌, ◌≤◌, sym, ap, arith, min, drop, ℕ, ◌+◌, ◌-◌, ◌*◌, get_or}
 use Rattle.cql_reader.specs.Lexis.{decimal}
 use Rattle.cql_reader.proofs.Decimals.{decimal_step, decimal_end}
 use Rattle.cql_reader.proofs.numbers.magnitude_of.Goals as goal

@@ -1,4 +1,4 @@
-use Rattle.std.proofs.Common.{◌≡◌, sym, ap, ◌∙◌, refl, arith, subst, ℕ, ℤ, pos, neg_ℤ, List, min, length, drop, take, ◌≤◌, length-drop, ◌-◌, nat_eq, w64, to_z, of_z, ◌-ℤ◌}
+use Rattle.std.proofs.Common.{◌≡◌, sym, ap, ◌∙◌, arith, ℕ, pos, neg_ℤ, List, min, length, drop, take, ◌≤◌, length-drop, ◌-◌, nat_eq, w64, to_z, of_z, ◌-ℤ◌}
 use Rattle.std.proofs.lemmas.Int.{ints}
 use Rattle.std.proofs.lemmas.List.{take_all}
 use Rattle.std.proofs.lemmas.Bool.{cond-true, cond-false}

@@ -1,4 +1,4 @@
-use Rattle.std.proofs.Common.{◌≡◌, ◌<◌, ◌+◌, length, sym, ◌∙◌, arith}
+use Rattle.std.proofs.Common.{◌<◌, ◌+◌, length, sym, ◌∙◌, arith}
 use Rattle.cql_reader.proofs.Scans.{next_end, next_bad, next_found, behind_within, end_within}
 use Rattle.cql_reader.proofs.scan.next_token.Goals as goal
 

@@ -1,6 +1,5 @@
-use Rattle.std.proofs.Common.{◌≡◌, ◌∙◌, sym, refl, arith}
+use Rattle.std.proofs.Common.{◌∙◌, sym, refl}
 use Rattle.std.proofs.lemmas.Bool.{false≢true}
-use Rattle.cql_reader.specs.Lexis.{kind_in}
 use Rattle.cql_reader.proofs.WordFacts.{kind_in_yes, kind_in_no, kind_in_end}
 use Rattle.cql_reader.proofs.words.find.Goals as goal
 

@@ -1,7 +1,7 @@
-use Rattle.std.proofs.Common.{◌≡◌, ◌∙◌, ◌≤◌, sym, ap, refl, arith, length, Option, Some, None, cond, true, false}
+use Rattle.std.proofs.Common.{◌∙◌, sym, ap, length, Option, Some}
 use Rattle.std.proofs.lemmas.Bool.{le-leb, lt-leb, cond-true, cond-false}
 use Rattle.cql_reader.specs.declared.tokens.Kind.{Kind}
-use Rattle.cql_reader.specs.Lexis.{word_kind, or_name}
+use Rattle.cql_reader.specs.Lexis.{or_name}
 use Rattle.cql_reader.proofs.WordFacts.{word_kind_is, not_name}
 use Rattle.cql_reader.proofs.words.kind_of_word.Goals as goal
 

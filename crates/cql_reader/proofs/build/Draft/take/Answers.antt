@@ -1,9 +1,9 @@
-use Rattle.std.proofs.Common.{◌≡◌, sym, ap, ◌∙◌, refl, arith, subst, true, ℕ, ℤ, pos, nat_abs, w64, to_z, of_z}
+use Rattle.std.proofs.Common.{◌≡◌, sym, ap, ◌∙◌, arith, subst, true, pos, nat_abs, w64, to_z, of_z}
 use Rattle.std.proofs.lemmas.Int.{ints}
 use Rattle.cql_reader.specs.declared.symbols.Role.{Role}
 use Rattle.cql_reader.specs.declared.symbols.Role.TheVariants as r
-use Rattle.cql_reader.specs.Lexis.{decimal, number_of, capped}
-use Rattle.cql_reader.specs.Grammar.{in_range, took}
+use Rattle.cql_reader.specs.Lexis.{number_of}
+use Rattle.cql_reader.specs.Grammar.{in_range}
 use Rattle.cql_reader.proofs.Ranges.{range_kept, range_is}
 use Rattle.cql_reader.proofs.Drafts.{take_range}
 use Rattle.cql_reader.proofs.build.Draft.take.Goals as goal

@@ -1,0 +1,4 @@
+pub mod PieceLemmas
+pub mod RunLemmas
+pub mod FrontLemmas
+pub mod DropLemmas

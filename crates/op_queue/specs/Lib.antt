@@ -2,3 +2,6 @@ pub mod Entries
 pub mod Queues
 pub mod Items
 pub mod Pieces
+pub mod Logs
+pub mod Tables
+pub mod Cursors

@@ -8,8 +8,12 @@
 //! to the bag that its producer has put out.
 #![tactic(auto)]
 
+mod cursor;
 mod item;
+mod log;
 mod queue;
 
+pub use cursor::Cursor;
 pub use item::Item;
+pub use log::{Arrival, Log};
 pub use queue::{Front, Queue};

@@ -1,5 +1,5 @@
 -- The place that a search in a rising part of a list finds.
-use Rattle.std.proofs.Common.{◌≡◌, ℕ, ◌+◌, ◌-◌, ◌<◌, ◌≤◌, Bool, true, false, ltb, ltb-true, List, length, take, drop, min, slice_range, get_or, ⊎_elim, ap, sym, ◌∙◌, arith, length-take, length-drop, get_or-take}
+use Rattle.std.proofs.Common.{◌≡◌, ℕ, ◌+◌, ◌-◌, ◌<◌, ◌≤◌, true, false, ltb, ltb-true, List, length, take, drop, min, slice_range, get_or, ⊎_elim, ap, sym, ◌∙◌, arith, length-take, length-drop, get_or-take}
 use Rattle.std.specs.List.Sorted.{IsNonDecreasingBy, IsPartitionPoint}
 use Rattle.std.proofs.lemmas.List.{drop-drop, drop-take, drop_all, get_or-drop, get_or_default, take-take}
 use Rattle.std.proofs.lemmas.Bool.{cases_lt, ltb-false}

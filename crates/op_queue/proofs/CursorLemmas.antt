@@ -1,5 +1,5 @@
 -- Cursors over a log: what stands at the front, what leaves, how much waits.
-use Rattle.std.proofs.Common.{◌≡◌, ℕ, suc, ◌+◌, ◌-◌, ◌<◌, ◌≤◌, Bool, true, false, cond, nat_lt, Option, Some, None, List, [], ◌∷◌, ◌++◌, length, map, min, take, drop, slice_range, refl, ap, sym, ◌∙◌, arith, append_assoc, length-append, length-drop, length-take, ⊎_elim}
+use Rattle.std.proofs.Common.{◌≡◌, ℕ, suc, ◌+◌, ◌-◌, ◌<◌, ◌≤◌, Bool, true, false, cond, nat_lt, Some, List, [], ◌∷◌, ◌++◌, length, map, take, drop, slice_range, refl, ap, sym, ◌∙◌, arith, append_assoc, length-append, length-drop, length-take, ⊎_elim}
 use Rattle.std.specs.List.{flat_map, filter, range_with_len, All, drop-map}
 use Rattle.std.proofs.lemmas.Bool.{cases_lt}
 use Rattle.std.proofs.lemmas.Bool.Decides.{nat_tests}
@@ -9,11 +9,10 @@ use Rattle.values.specs.Row.{Row}
 use Rattle.values.specs.Window.{Element}
 use Rattle.op_queue.specs.Cursors.{IsWithin, cursor_entries}
 use Rattle.op_queue.specs.Entries.{Entry, RowAt, TickAt}
-use Rattle.op_queue.specs.Items.{IsFrontPart, entries_of, front_of}
+use Rattle.op_queue.specs.Items.{IsFrontPart, front_of}
 use Rattle.op_queue.specs.Logs.{Closed, entering, instant_entries, is_shown, is_waiting, log_entries, row_entries, shown, span_entries}
 use Rattle.op_queue.specs.declared.cursor.Cursor.{Cursor}
 use Rattle.op_queue.specs.declared.item.Item.TheVariants.{Rows, Tick}
-use Rattle.op_queue.specs.declared.queue.Front.{Front}
 use Rattle.op_queue.specs.declared.queue.Front.TheVariants as front
 use Rattle.op_queue.proofs.BoundLemmas.{length-slice_range, slice_range-front}
 use Rattle.op_queue.proofs.SpanLemmas.{length-span}

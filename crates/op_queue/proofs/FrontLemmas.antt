@@ -1,8 +1,7 @@
 -- What stands first in a piece stands first in the queue.
-use Rattle.std.proofs.Common.{◌≡◌, ℕ, suc, ◌+◌, ◌-◌, ◌<◌, ◌≤◌, Bool, Option, None, Some, List, [], ◌∷◌, ◌++◌, length, map, take, drop, slice_range, get_or, min, refl, ap, sym, ◌∙◌, arith, subst, length-append, length-drop, length-take}
+use Rattle.std.proofs.Common.{◌≡◌, ℕ, suc, ◌+◌, ◌-◌, ◌<◌, Bool, None, Some, List, [], ◌∷◌, ◌++◌, length, map, take, drop, slice_range, get_or, min, refl, ap, sym, ◌∙◌, arith, length-drop, length-take}
 use Prim.Native.Nat.{zero}
-use Rattle.std.specs.List.{flat_map, range_with_len}
-use Rattle.std.proofs.lemmas.Grind.{common_steps}
+use Rattle.std.specs.List.{flat_map}
 use Rattle.std.proofs.lemmas.List.{drop_more, drop-map, take-map, take-append-le, drop-append-le, length-map}
 use Rattle.std.proofs.lemmas.List.Elements.{All-head}
 use Rattle.std.proofs.lemmas.List.FromFn.{get_or-map-range_with_len, length-map-range_with_len}
@@ -10,8 +9,8 @@ use Rattle.values.specs.Row.{Row}
 use Rattle.op_queue.specs.declared.item.Item.{Item}
 use Rattle.op_queue.specs.declared.item.Item.TheVariants.{Rows, Tick}
 use Rattle.op_queue.specs.Items.{entries_of, ticks, front_of, IsFrontPart}
-use Rattle.op_queue.specs.Entries.{Entry, RowAt, TickAt, IsForward}
-use Rattle.op_queue.specs.Pieces.{piece_size, piece_entries, queue_entries, IsPiece, IsTaken, IsQueue}
+use Rattle.op_queue.specs.Entries.{Entry, RowAt, TickAt}
+use Rattle.op_queue.specs.Pieces.{piece_size, piece_entries, queue_entries, IsPiece, IsQueue}
 use Rattle.op_queue.specs.declared.queue.Front.{Front}
 use Rattle.op_queue.specs.declared.queue.Front.TheVariants as front
 use Rattle.op_queue.specs.declared.queue.Piece.{Piece}

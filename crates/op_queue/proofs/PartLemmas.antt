@@ -1,5 +1,5 @@
 -- A part of a log's columns as a batch.
-use Rattle.std.proofs.Common.{◌≡◌, ℕ, ℤ, suc, ◌+◌, ◌-◌, ◌<◌, ◌≤◌, Bool, true, false, not, Option, None, List, [], ◌∷◌, ◌++◌, length, map, replicate, slice_range, get_or, refl, ap, sym, ◌∙◌, arith, ⊎_elim}
+use Rattle.std.proofs.Common.{◌≡◌, ℕ, ℤ, suc, ◌+◌, ◌-◌, ◌<◌, ◌≤◌, Bool, true, false, not, Option, None, List, [], ◌∷◌, length, map, replicate, slice_range, get_or, refl, ap, sym, ◌∙◌, arith}
 use Prim.Native.Nat.{zero}
 use Rattle.std.specs.List.{All, range_with_len}
 use Rattle.std.proofs.lemmas.List.{length-map, length-replicate}
@@ -8,7 +8,7 @@ use Rattle.column.specs.Rows.{IsLaidOut, row_at, signed_rows}
 use Rattle.values.specs.Row.{Row}
 use Rattle.values.specs.Window.{Element}
 use Rattle.op_queue.specs.Logs.{entering}
-use Rattle.op_queue.specs.Tables.{IsTableOf, element_at, elements_in}
+use Rattle.op_queue.specs.Tables.{element_at, elements_in}
 use Rattle.op_queue.proofs.BoundLemmas.{get_or-slice_range, length-slice_range}
 use Rattle.op_queue.proofs.PlaceLemmas.{slice-map-range}
 

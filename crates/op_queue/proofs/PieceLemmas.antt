@@ -1,7 +1,6 @@
 -- Lemmas on the pieces of a queue.
-use Rattle.std.proofs.Common.{◌≡◌, ℕ, ◌+◌, ◌-◌, ◌*◌, ◌^◌, ◌<◌, ◌≤◌, Bool, List, [], ◌∷◌, ◌++◌, length, map, take, drop, refl, ap, sym, ◌∙◌, arith, subst, append-nil, length-append, length-drop, get_or}
-use Rattle.std.specs.List.{range_with_len, flat_map, All}
-use Rattle.std.proofs.lemmas.Grind.{common_steps}
+use Rattle.std.proofs.Common.{◌≡◌, ℕ, ◌+◌, ◌-◌, ◌*◌, ◌^◌, ◌<◌, ◌≤◌, Bool, List, [], ◌∷◌, ◌++◌, length, drop, ap, sym, ◌∙◌, arith, subst, append-nil, length-append, length-drop}
+use Rattle.std.specs.List.{flat_map, All}
 use Rattle.std.proofs.lemmas.List.Concat.{flat_map-append}
 use Rattle.std.proofs.lemmas.List.{length-map, drop-append-le, get_or-drop}
 use Rattle.std.proofs.lemmas.List.FromFn.{length-map-range_with_len}

@@ -1,5 +1,5 @@
 -- Where the elements of an instant stand in a log.
-use Rattle.std.proofs.Common.{◌≡◌, ℕ, ℤ, suc, ◌+◌, ◌-◌, ◌<◌, ◌≤◌, ◌&&◌, ◌==◌, nat_le, Bool, true, false, cond, Option, List, [], ◌∷◌, ◌++◌, length, map, take, drop, slice_range, get_or, refl, ap, sym, ◌∙◌, arith, append-nil, length-append, length-drop, ⊎_elim}
+use Rattle.std.proofs.Common.{◌≡◌, ℕ, ℤ, suc, ◌+◌, ◌-◌, ◌<◌, ◌≤◌, nat_le, Bool, true, false, Option, List, [], ◌∷◌, ◌++◌, length, map, take, drop, slice_range, get_or, refl, ap, sym, ◌∙◌, arith, append-nil, ⊎_elim}
 use Prim.Native.Nat.{zero}
 use Rattle.std.specs.List.{range_with_len, filter}
 use Rattle.std.proofs.lemmas.Bool.{cases_lt}

@@ -1,18 +1,17 @@
 -- A run of ticks that grows at the back of a queue.
-use Rattle.std.proofs.Common.{◌≡◌, ℕ, suc, ◌+◌, ◌-◌, ◌*◌, ◌^◌, ◌<◌, ◌≤◌, Bool, List, [], ◌∷◌, ◌++◌, length, map, take, drop, get_or, set, refl, ap, sym, ◌∙◌, arith, subst, append_assoc, append-nil, length-append, add-one, add-zero, zero-add}
+use Rattle.std.proofs.Common.{◌≡◌, ℕ, suc, ◌+◌, ◌-◌, ◌*◌, ◌^◌, ◌<◌, ◌≤◌, List, [], ◌∷◌, ◌++◌, length, map, take, drop, get_or, set, ap, sym, ◌∙◌, arith, subst, append_assoc, length-append, add-zero, zero-add}
 use Prim.Native.Nat.{zero}
 use Rattle.std.specs.List.{flat_map, range_with_len, All}
 use Rattle.std.proofs.lemmas.List.{set_split, take_more, take_all, drop_all, map-append, drop-append-le}
-use Rattle.std.proofs.lemmas.List.Concat.{flat_map-append}
 use Rattle.std.proofs.lemmas.List.Elements.{All-push, All-nil, All-head, All-tail, All-cons}
 use Rattle.values.specs.Row.{Row}
-use Rattle.op_queue.specs.Entries.{Entry, RowAt, TickAt, IsForward}
+use Rattle.op_queue.specs.Entries.{Entry, TickAt, IsForward}
 use Rattle.op_queue.specs.Items.{ticks}
 use Rattle.op_queue.specs.Queues.{Waiting}
-use Rattle.op_queue.specs.Pieces.{piece_size, piece_entries, queue_entries, waiting_in, IsPiece, IsTaken, IsQueue, IsLongerRun}
+use Rattle.op_queue.specs.Pieces.{piece_entries, queue_entries, waiting_in, IsPiece, IsTaken, IsQueue, IsLongerRun}
 use Rattle.op_queue.specs.declared.queue.Piece.{Piece}
-use Rattle.op_queue.specs.declared.queue.Piece.TheVariants.{Rows, Ticks}
-use Rattle.op_queue.proofs.PieceLemmas.{length-piece_entries, length-pieces, piece_size-le, flat_map-pieces_push}
+use Rattle.op_queue.specs.declared.queue.Piece.TheVariants.{Ticks}
+use Rattle.op_queue.proofs.PieceLemmas.{length-piece_entries, length-pieces, flat_map-pieces_push}
 
 pub IsLongerRun-set : (ps : List Piece) (n first last from to : ℕ) (p : Piece) → n + 1 ≡ length ps → p ≡ get_or ps n p → p ≡ Ticks from to → to + 1 ≡ first → IsLongerRun first last ps (set ps n (Ticks from last))
 IsLongerRun-set ps n first last from to p len at is next =

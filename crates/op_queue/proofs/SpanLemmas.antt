@@ -1,5 +1,5 @@
 -- The entries of a span of instants over the elements of a log.
-use Rattle.std.proofs.Common.{◌≡◌, ℕ, suc, ◌+◌, ◌-◌, ◌<◌, ◌≤◌, Bool, true, false, cond, ◌&&◌, ◌==◌, nat_le, List, [], ◌∷◌, ◌++◌, length, map, max, refl, ap, sym, ◌∙◌, arith, append-nil, length-append, ⊎_elim}
+use Rattle.std.proofs.Common.{◌≡◌, ℕ, suc, ◌+◌, ◌-◌, ◌<◌, ◌≤◌, Bool, true, false, cond, List, [], ◌∷◌, ◌++◌, length, map, max, refl, ap, sym, ◌∙◌, arith, append-nil, length-append, ⊎_elim}
 use Prim.Native.Nat.{zero}
 use Rattle.std.specs.List.{flat_map, range_with_len, filter, All}
 use Rattle.std.proofs.lemmas.Bool.{cases_eq, cases_lt}

@@ -1,5 +1,5 @@
 -- How a log's lists hold its elements, and how they grow.
-use Rattle.std.proofs.Common.{◌≡◌, ◌≢◌, set, length-set, zero-add, ℕ, ℤ, suc, ◌+◌, ◌-◌, ◌<◌, ◌≤◌, Bool, true, false, Option, None, List, [], ◌∷◌, ◌++◌, length, map, take, drop, get_or, refl, ap, sym, ◌∙◌, arith, subst, length-append, length-take, get_or-take, ⊎_elim}
+use Rattle.std.proofs.Common.{◌≡◌, ◌≢◌, set, length-set, zero-add, ℕ, ℤ, suc, ◌+◌, ◌-◌, ◌<◌, ◌≤◌, Option, None, List, [], ◌∷◌, ◌++◌, length, map, take, get_or, refl, ap, sym, ◌∙◌, arith, subst, length-append, length-take, get_or-take, ⊎_elim}
 use Prim.Native.Nat.{zero}
 use Rattle.std.specs.Global.{Vec}
 use Rattle.std.specs.List.{All, range_with_len}

@@ -3,7 +3,7 @@ use Rattle.std.specs.Prelude.{◌≡◌, ℕ, ◌+◌, ◌-◌, ◌^◌, ◌<◌
 use Rattle.std.specs.List.{flat_map, All}
 use Rattle.values.specs.Row.{Row}
 use Rattle.column.specs.Rows.{IsBatch}
-use Rattle.op_queue.specs.Entries.{Entry, RowAt, TickAt, IsForward}
+use Rattle.op_queue.specs.Entries.{Entry, RowAt, IsForward}
 use Rattle.op_queue.specs.Items.{ticks}
 use Rattle.op_queue.specs.Queues.{Waiting}
 use Rattle.op_queue.specs.declared.queue.Piece.{Piece}

@@ -1,5 +1,4 @@
-use Rattle.std.proofs.Common.{◌≡◌, ltb, true, false, slice_range, rules}
-use Rattle.std.specs.List.Sorted.{IsPartitionPoint}
+use Rattle.std.proofs.Common.{ltb, rules}
 use Rattle.std.proofs.lemmas.List.Sorted.{IsPartitionPoint-from_clause, IsPartitionedBy-ltb}
 use Rattle.op_queue.proofs.BoundLemmas.{IsNonDecreasing-rising, below_point, above_point}
 use Rattle.op_queue.proofs.log.lower_bound.Goals as goal

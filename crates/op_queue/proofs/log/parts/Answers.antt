@@ -1,4 +1,3 @@
-use Rattle.std.proofs.Common.{arith}
 use Rattle.op_queue.proofs.TableLemmas.{column_long}
 use Rattle.op_queue.proofs.log.parts.Goals as goal
 

@@ -1,5 +1,5 @@
 use Rattle.std.proofs.Common.{sym, arith}
-use Rattle.op_queue.proofs.CursorLemmas.{entries-shut, front-row, front-tick}
+use Rattle.op_queue.proofs.CursorLemmas.{front-row}
 use Rattle.op_queue.proofs.cursor.Cursor.front.Goals as goal
 
 pub returns-then-from-to : goal.returns-then-from-to

@@ -1,6 +1,5 @@
-use Rattle.std.proofs.Common.{ℕ, ◌≡◌, ◌+◌, ◌<◌, ◌++◌, ◌∙◌, ap, arith, length, map, refl, subst}
+use Rattle.std.proofs.Common.{◌≡◌, ◌+◌, ◌<◌, ◌++◌, ◌∙◌, ap, arith, length, map, refl, subst}
 use Rattle.std.specs.List.{All}
-use Rattle.values.specs.Window.{Element}
 use Rattle.op_queue.specs.Logs.{Closed}
 use Rattle.op_queue.specs.Tables.{closed_in, element, elements_in, lists}
 use Rattle.op_queue.proofs.GrowthLemmas.{gains-closed}

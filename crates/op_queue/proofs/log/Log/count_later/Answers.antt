@@ -1,4 +1,4 @@
-use Rattle.std.proofs.Common.{◌≡◌, ◌+◌, ap, arith, length, nat_le, slice_range, subst, sym, ◌∙◌}
+use Rattle.std.proofs.Common.{◌+◌, ap, length, nat_le, slice_range, sym, ◌∙◌}
 use Rattle.std.specs.List.{filter}
 use Rattle.op_queue.specs.Logs.{Closed, is_waiting}
 use Rattle.op_queue.specs.Tables.{lists}

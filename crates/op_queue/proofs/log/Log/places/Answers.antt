@@ -1,4 +1,4 @@
-use Rattle.std.proofs.Common.{◌≡◌, ℕ, ◌+◌, ◌<◌, ◌≤◌, ap, arith, get_or, length, slice_range, subst}
+use Rattle.std.proofs.Common.{◌≡◌, ap, arith, length, slice_range, subst}
 use Rattle.op_queue.specs.Logs.{Closed, shown}
 use Rattle.op_queue.specs.Tables.{lists}
 use Rattle.op_queue.proofs.PlaceLemmas.{IsRising-instants, IsRising-numbers, shown-places}

@@ -1,4 +1,4 @@
-use Rattle.std.proofs.Common.{arith, ◌<◌, ◌≡◌, length}
+use Rattle.std.proofs.Common.{arith, ◌<◌, length}
 use Rattle.std.proofs.lemmas.Grind.{common_steps}
 use Rattle.op_queue.proofs.DropLemmas.{IsDropping-pop, IsDropping-end, dropped_all}
 use Rattle.op_queue.proofs.queue.Queue.drop_front.Goals as goal

@@ -9,3 +9,5 @@ pub mod CursorLemmas
 pub mod TableLemmas
 pub mod GrowthLemmas
 pub mod PartLemmas
+pub mod SignedLemmas
+pub mod PathLemmas

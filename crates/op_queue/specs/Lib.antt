@@ -5,3 +5,5 @@ pub mod Pieces
 pub mod Logs
 pub mod Tables
 pub mod Cursors
+pub mod Signed
+pub mod Paths

@@ -1,15 +1,15 @@
 -- Cursors over a log: what stands at the front, what leaves, how much waits.
-use Rattle.std.proofs.Common.{◌≡◌, ℕ, suc, ◌+◌, ◌-◌, ◌<◌, ◌≤◌, Bool, true, false, cond, nat_lt, Some, List, [], ◌∷◌, ◌++◌, length, map, take, drop, slice_range, refl, ap, sym, ◌∙◌, arith, append_assoc, length-append, length-drop, length-take, ⊎_elim}
+use Rattle.std.proofs.Common.{◌≡◌, ℕ, suc, ◌+◌, ◌-◌, ◌<◌, ◌≤◌, Bool, true, false, cond, nat_lt, Some, List, [], ◌∷◌, ◌++◌, length, map, min, take, drop, slice_range, refl, ap, sym, ◌∙◌, arith, append_assoc, length-append, length-drop, length-take, ⊎_elim}
 use Rattle.std.specs.List.{flat_map, filter, range_with_len, All, drop-map}
 use Rattle.std.proofs.lemmas.Bool.{cases_lt}
 use Rattle.std.proofs.lemmas.Bool.Decides.{nat_tests}
-use Rattle.std.proofs.lemmas.List.{drop-drop, drop_at, drop-append-le, length-map, take-append-le, take-map}
+use Rattle.std.proofs.lemmas.List.{drop-drop, drop_at, drop-append-le, length-map, take-append-le, take-map, take_all}
 use Rattle.std.proofs.lemmas.List.Elements.{All-weaker}
 use Rattle.values.specs.Row.{Row}
 use Rattle.values.specs.Window.{Element}
 use Rattle.op_queue.specs.Cursors.{IsWithin, cursor_entries}
 use Rattle.op_queue.specs.Entries.{Entry, RowAt, TickAt}
-use Rattle.op_queue.specs.Items.{IsFrontPart, front_of}
+use Rattle.op_queue.specs.Items.{IsFrontPart, entries_of, front_of, front_part, front_rows}
 use Rattle.op_queue.specs.Logs.{Closed, entering, instant_entries, is_shown, is_waiting, log_entries, row_entries, shown, span_entries}
 use Rattle.op_queue.specs.declared.cursor.Cursor.{Cursor}
 use Rattle.op_queue.specs.declared.item.Item.TheVariants.{Rows, Tick}
@@ -158,6 +158,44 @@ IsFrontPart-rows c log from to rows count b lt is end some few enough cut =
     let k = ap length x ∙ length-map (take rows (rest_of c log)) entering ∙ length-take rows (rest_of c log) in
     let whole : length (map f b) ≡ rows = omega arith in
     record { some = omega arith; few = omega arith; first = y ∙ ap (λ i. take i (cursor_entries c log)) (sym whole) }
+
+front_rows-rows : (t : ℕ) (es : List Element) (tail : List (Entry Row)) → front_rows (row_entries t es ++ TickAt t ∷ tail) ≡ row_entries t es
+front_rows-rows t [] tail = refl
+front_rows-rows t (e ∷ es) tail = ap (λ xs. RowAt t (entering e) ∷ xs) (front_rows-rows t es tail)
+
+front_part-rows : (k t : ℕ) (es : List Element) (tail : List (Entry Row)) → 0 < length es → front_part k (row_entries t es ++ TickAt t ∷ tail) ≡ take k (row_entries t es)
+front_part-rows k t [] tail some = absurd (omega arith)
+front_part-rows k t (e ∷ es) tail some = ap (take k) (front_rows-rows t (e ∷ es) tail)
+
+take-min : {X : Type 0} (k : ℕ) (xs : List X) → take (min k (length xs)) xs ≡ take k xs
+take-min k xs =
+    ⊎_elim
+        (λ (lt : k < length xs). let e : min k (length xs) ≡ k = omega arith in ap (λ i. take i xs) e)
+        (λ (ge : length xs ≤ k).
+            let e : min k (length xs) ≡ length xs = omega arith in
+            ap (λ i. take i xs) e ∙ take_all (length xs) xs (omega arith) ∙ sym (take_all k xs ge))
+        (cases_lt k (length xs))
+
+-- the most rows that the front has, up to k
+pub rows-front_part : (c : Cursor) (log : Closed) (from to rows k : ℕ) (b : List (Bool × Row)) → c.at < log.until → rest_of c log ≡ slice_range log.elements from to → to ≤ length log.elements → from < to → rows ≡ min k (to - from) → b ≡ map entering (slice_range log.elements from (from + rows)) → map (RowAt c.at) b ≡ front_part k (cursor_entries c log)
+rows-front_part c log from to rows k b lt is end some most cut =
+    let f : Bool × Row → Entry Row = RowAt c.at in
+    let g : Element → Entry Row = λ e. RowAt c.at (entering e) in
+    let tail = log_entries c.place (c.at + 1) log in
+    let n = ap length is ∙ length-slice_range log.elements from to end in
+    let m = length-row_entries c.at (rest_of c log) in
+    let x : b ≡ map entering (take rows (rest_of c log)) = cut ∙ ap (map entering) (slice_range-front log.elements from to rows (omega arith) ∙ ap (take rows) (sym is)) in
+    let least : rows ≡ min k (length (row_entries c.at (rest_of c log))) = omega arith in
+    ap (map f) x
+        ∙ map-map f entering (take rows (rest_of c log))
+        ∙ sym (take-map g rows (rest_of c log))
+        ∙ ap (λ i. take i (row_entries c.at (rest_of c log))) least
+        ∙ take-min k (row_entries c.at (rest_of c log))
+        ∙ sym (front_part-rows k c.at (rest_of c log) tail (omega arith))
+        ∙ ap (front_part k) (sym (entries-open c log lt))
+
+pub tick-front_part : (c : Cursor) (log : Closed) (from to k : ℕ) → c.at < log.until → rest_of c log ≡ slice_range log.elements from to → to ≤ from → TickAt c.at ∷ [] ≡ front_part k (cursor_entries c log)
+tick-front_part c log from to k lt is none = sym (ap (front_part k) (entries-tick c log from to lt is none))
 
 pub length-entries : (c : Cursor) (log : Closed) (from to : ℕ) → c.at < log.until → All (λ e. e.instant < log.until) log.elements → rest_of c log ≡ slice_range log.elements from to → to ≤ length log.elements → length (cursor_entries c log) ≡ (to - from) + length (filter (is_waiting c.place (c.at + 1)) log.elements) + (log.until - c.at)
 length-entries c log from to lt all is end =

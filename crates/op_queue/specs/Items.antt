@@ -22,6 +22,18 @@ front_of [] = None
 front_of (RowAt t s ∷ es) = Some (front.Row t)
 front_of (TickAt t ∷ es) = Some (front.Tick t)
 
+-- the rows before the first tick
+abbrev pub front_rows : List (Entry Row) → List (Entry Row)
+front_rows [] = []
+front_rows (RowAt t s ∷ es) = RowAt t s ∷ front_rows es
+front_rows (TickAt t ∷ es) = []
+
+-- the tick at the front, or the first k of the rows before the first tick
+abbrev pub front_part : ℕ → List (Entry Row) → List (Entry Row)
+front_part k [] = []
+front_part k (RowAt t s ∷ es) = take k (front_rows (RowAt t s ∷ es))
+front_part k (TickAt t ∷ es) = TickAt t ∷ []
+
 -- the item's entries stand first in the list, and are at most k
 pub record IsFrontPart (k : ℕ) (es : List (Entry Row)) (i : Item) : Type 0 where
   pub some : 0 < length (entries_of i)

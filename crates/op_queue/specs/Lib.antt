@@ -7,3 +7,4 @@ pub mod Tables
 pub mod Cursors
 pub mod Signed
 pub mod Paths
+pub mod Examples

@@ -1,7 +1,7 @@
 //! Cursors.
-ghost use Rattle.std.specs.Prelude.{◌≡◌, ◌<◌, ◌≤◌, length, drop, slice_range, IfOk};
+ghost use Rattle.std.specs.Prelude.{◌≡◌, ◌<◌, ◌≤◌, length, drop, min, slice_range, IfOk};
 ghost use Rattle.op_queue.specs.Cursors.{IsWithin, cursor_entries};
-ghost use Rattle.op_queue.specs.Items.{IsFrontPart, front_of};
+ghost use Rattle.op_queue.specs.Items.{IsFrontPart, entries_of, front_of, front_part};
 ghost use Rattle.op_queue.specs.Logs.{Closed, log_entries, shown};
 
 use crate::item::Item;
@@ -51,11 +51,12 @@ impl Cursor {
         }
     }
 
-    /// A copy of the front: a tick, or rows of one instant, at most `count` of them.
+    /// A copy of the front: a tick, or the rows that are left of its instant, at most `count` of them and at most `MAX_ROWS`.
     pub fn front_cut(&self, alloc: Global, log: &Log, count: usize) -> Result<Item, AllocError>
         requires waits { 0 < length (cursor_entries self.now log.now) }
         requires some { 0 < count }
-        ensures { IfOk result (IsFrontPart count (cursor_entries self.now log.now)) }
+        ensures part { IfOk result (IsFrontPart count (cursor_entries self.now log.now)) }
+        ensures value { IfOk result (λ item. entries_of item ≡ front_part (min count MAX_ROWS) (cursor_entries self.now log.now)) }
     {
         let _until = log.until();
         let (from, to) = self.left(log);

@@ -1,0 +1,13 @@
+pub mod PieceLemmas
+pub mod RunLemmas
+pub mod FrontLemmas
+pub mod DropLemmas
+pub mod SpanLemmas
+pub mod PlaceLemmas
+pub mod BoundLemmas
+pub mod CursorLemmas
+pub mod TableLemmas
+pub mod GrowthLemmas
+pub mod PartLemmas
+pub mod SignedLemmas
+pub mod PathLemmas

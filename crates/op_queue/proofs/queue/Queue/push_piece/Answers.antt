@@ -1,0 +1,12 @@
+use Rattle.std.proofs.Common.{arith}
+use Rattle.op_queue.proofs.PieceLemmas.{length-queue_push, IsQueue-push}
+use Rattle.op_queue.proofs.queue.Queue.push_piece.Goals as goal
+
+pub overflow_add-self : goal.overflow_add-self
+overflow_add-self c =
+    omega (arith, length-queue_push c.self.inside.pieces.items c.args.piece c.self.invariant c.requires.shaped)
+
+pub invariant_of-self-2 : goal.invariant_of-self-2
+invariant_of-self-2 c =
+    rw c.in_ok-push_back.ensures.items
+        (IsQueue-push c.self.inside.pieces.items c.args.piece c.size-size.result _ c.self.view_is c.size-size.ensures.value c.size-size.ensures.some c.self.invariant c.requires.shaped c.requires.forward)

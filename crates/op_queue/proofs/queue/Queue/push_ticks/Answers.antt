@@ -1,0 +1,22 @@
+use Rattle.std.proofs.Common.{arith, ap, ◌∙◌, ◌++◌}
+use Rattle.op_queue.specs.Items.{ticks}
+use Rattle.op_queue.specs.Queues.{Waiting}
+use Rattle.op_queue.proofs.RunLemmas.{IsQueue-longer, length-queue_longer, queue_entries-longer, pieces-longer}
+use Rattle.op_queue.proofs.queue.Queue.push_ticks.Goals as goal
+
+pub overflow_add-self : goal.overflow_add-self
+overflow_add-self c =
+    omega (arith, length-queue_longer c.args.first c.args.last c.self.inside.pieces.items c.extend_run.new.pieces.items c.self.invariant c.requires.some (omega arith) c.if-extend_run.ensures.longer)
+
+pub invariant_of-self : goal.invariant_of-self
+invariant_of-self c =
+    IsQueue-longer c.args.first c.args.last c.self.inside.pieces.items c.extend_run.new.pieces.items _ c.self.view_is c.self.invariant c.requires.some (omega arith) c.requires.forward c.if-extend_run.ensures.longer
+
+pub returns-then-extend_run-clause-entries : goal.returns-then-extend_run-clause-entries
+returns-then-extend_run-clause-entries c =
+    queue_entries-longer c.args.first c.args.last c.self.inside.pieces.items c.extend_run.new.pieces.items c.self.invariant c.requires.some c.if-extend_run.ensures.longer
+        ∙ ap (λ (w : Waiting). w.entries ++ ticks c.args.first c.args.last) c.self.view_is
+
+pub returns-then-extend_run-clause-pieces : goal.returns-then-extend_run-clause-pieces
+returns-then-extend_run-clause-pieces c =
+    omega (arith, pieces-longer c.args.first c.args.last c.self.inside.pieces.items c.extend_run.new.pieces.items c.if-extend_run.ensures.longer, ap (λ (w : Waiting). w.pieces) c.self.view_is)

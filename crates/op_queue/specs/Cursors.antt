@@ -1,0 +1,21 @@
+-- The queue that a cursor stands for over its log.
+use Rattle.std.specs.Prelude.{◌≡◌, ℕ, ◌+◌, ◌≤◌, cond, max, nat_lt, List, [], ◌∷◌, ◌++◌, drop, length}
+use Rattle.values.specs.Row.{Row}
+use Rattle.values.specs.Window.{Element}
+use Rattle.op_queue.specs.Entries.{Entry, TickAt}
+use Rattle.op_queue.specs.Logs.{Closed, shown, row_entries, log_entries, span_entries}
+use Rattle.op_queue.specs.declared.cursor.Cursor.{Cursor}
+
+-- what is left of the cursor's instant, and then the later instants
+abbrev pub cursor_entries : Cursor → Closed → List (Entry Row)
+cursor_entries c log =
+    cond (nat_lt c.at log.until) (row_entries c.at (drop c.passed (shown c.place c.at log.elements)) ++ TickAt c.at ∷ log_entries c.place (c.at + 1) log) []
+
+-- the cursor has passed no more rows of its instant than the log has
+abbrev pub IsWithin : Cursor → Closed → Type 0
+IsWithin c log = c.passed ≤ length (shown c.place c.at log.elements)
+
+-- the queue of every cursor gains the rows and ticks of the instants that the log closed, and nothing else
+pub record GainsClosed (old : Closed) (es : List Element) (until : ℕ) (new : Closed) : Type 0 where
+  pub gains : (c : Cursor) → IsWithin c old → cursor_entries c new ≡ cursor_entries c old ++ span_entries c.place es (max c.at old.until) until
+  pub within : (c : Cursor) → IsWithin c old → IsWithin c new

@@ -1,0 +1,16 @@
+-- What a queue holds, one by one: a signed row of an instant, or the tick that closes an instant.
+use Rattle.std.specs.Prelude.{ℕ, Bool, List}
+use Rattle.std.specs.List.Sorted.{IsNonDecreasingBy}
+
+-- a signed row is a pair: true where the row enters, false where it leaves
+pub data Entry (X : Type 0) : Type 0 where
+  RowAt : ℕ → Bool × X → Entry X
+  TickAt : ℕ → Entry X
+
+abbrev pub instant_of : {X : Type 0} → Entry X → ℕ
+instant_of (RowAt t s) = t
+instant_of (TickAt t) = t
+
+-- instants never go back
+abbrev pub IsForward : {X : Type 0} → List (Entry X) → Type 0
+IsForward es = IsNonDecreasingBy instant_of es

@@ -1,0 +1,42 @@
+-- The definitions at worked examples.
+use Rattle.std.specs.Prelude.{◌≡◌, ℕ, true, Some, pos, [], ◌∷◌, refl}
+use Rattle.values.specs.Row.{Row}
+use Rattle.values.specs.Window.{Element}
+use Rattle.op_queue.specs.Cursors.{cursor_entries}
+use Rattle.op_queue.specs.Entries.{RowAt, TickAt}
+use Rattle.op_queue.specs.Items.{front_of, ticks}
+use Rattle.op_queue.specs.Logs.{Closed, log_entries}
+use Rattle.op_queue.specs.declared.queue.Front.TheVariants as front
+
+-- a row of one number
+abbrev row : ℕ → Row
+row n = Some (pos n) ∷ []
+
+abbrev element : ℕ → ℕ → ℕ → Element
+element arrival instant n = record { arrival = arrival; instant = instant; row = row n }
+
+run_of_ticks : ticks 3 5 ≡ TickAt 3 ∷ TickAt 4 ∷ TickAt 5 ∷ []
+run_of_ticks = refl
+
+row_in_front : front_of (RowAt 2 (true, row 7) ∷ TickAt 2 ∷ []) ≡ Some (front.Row 2)
+row_in_front = refl
+
+-- the instants 0 to 3 are closed; the third row came last, at an instant in between
+abbrev log : Closed
+log = record { width = 1; elements = element 0 1 5 ∷ element 2 1 6 ∷ element 1 3 7 ∷ []; until = 4 }
+
+-- a query that was registered before all of them, at the base -1
+first_query : log_entries 0 0 log ≡ TickAt 0 ∷ RowAt 1 (true, row 5) ∷ RowAt 1 (true, row 6) ∷ TickAt 1 ∷ TickAt 2 ∷ RowAt 3 (true, row 7) ∷ TickAt 3 ∷ []
+first_query = refl
+
+-- one that was registered after the first row, at the base 0
+after_the_first_row : log_entries 1 1 log ≡ RowAt 1 (true, row 6) ∷ TickAt 1 ∷ TickAt 2 ∷ RowAt 3 (true, row 7) ∷ TickAt 3 ∷ []
+after_the_first_row = refl
+
+-- a row at the base does not show
+above_the_base : log_entries 0 2 log ≡ TickAt 2 ∷ RowAt 3 (true, row 7) ∷ TickAt 3 ∷ []
+above_the_base = refl
+
+-- one row of the first query's second instant has left
+a_row_has_left : cursor_entries (record { place = 0; at = 1; passed = 1 }) log ≡ RowAt 1 (true, row 6) ∷ TickAt 1 ∷ TickAt 2 ∷ RowAt 3 (true, row 7) ∷ TickAt 3 ∷ []
+a_row_has_left = refl

@@ -1,0 +1,10 @@
+pub mod Entries
+pub mod Queues
+pub mod Items
+pub mod Pieces
+pub mod Logs
+pub mod Tables
+pub mod Cursors
+pub mod Signed
+pub mod Paths
+pub mod Examples

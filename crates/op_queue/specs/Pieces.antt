@@ -1,0 +1,45 @@
+-- How a queue is kept: pieces, of the first of which some rows or ticks have left.
+use Rattle.std.specs.Prelude.{◌≡◌, ℕ, ◌+◌, ◌-◌, ◌^◌, ◌<◌, ◌≤◌, List, [], ◌∷◌, ◌++◌, map, length, drop}
+use Rattle.std.specs.List.{flat_map, All}
+use Rattle.values.specs.Row.{Row}
+use Rattle.column.specs.Rows.{IsBatch}
+use Rattle.op_queue.specs.Entries.{Entry, RowAt, IsForward}
+use Rattle.op_queue.specs.Items.{ticks}
+use Rattle.op_queue.specs.Queues.{Waiting}
+use Rattle.op_queue.specs.declared.queue.Piece.{Piece}
+use Rattle.op_queue.specs.declared.queue.Piece.TheVariants.{Rows, Ticks}
+
+abbrev pub piece_size : Piece → ℕ
+piece_size (Rows t b) = length b
+piece_size (Ticks first last) = last + 1 - first
+
+abbrev pub piece_entries : Piece → List (Entry Row)
+piece_entries (Rows t b) = map (RowAt t) b
+piece_entries (Ticks first last) = ticks first last
+
+abbrev pub queue_entries : ℕ → List Piece → List (Entry Row)
+queue_entries taken ps = drop taken (flat_map piece_entries ps)
+
+abbrev pub waiting_in : ℕ → List Piece → Waiting
+waiting_in taken ps = record { entries = queue_entries taken ps; pieces = length ps }
+
+-- a piece has something, and no more than there are instants
+abbrev pub IsPiece : Piece → Type 0
+IsPiece (Rows t b) = IsBatch b
+IsPiece (Ticks first last) = (first ≤ last) × (last < 2 ^ 64)
+
+-- fewer have left the front piece than it has
+abbrev pub IsTaken : ℕ → List Piece → Type 0
+IsTaken taken [] = taken ≡ 0
+IsTaken taken (p ∷ ps) = taken < piece_size p
+
+pub record IsQueue (taken waiting : ℕ) (ps : List Piece) : Type 0 where
+  pub shaped : All IsPiece ps
+  pub counted : taken + waiting ≡ length (flat_map piece_entries ps)
+  pub started : IsTaken taken ps
+  pub forward : IsForward (queue_entries taken ps)
+
+-- the last piece is a run that ends just before `first`, and then ends at `last`
+abbrev pub IsLongerRun : ℕ → ℕ → List Piece → List Piece → Type 0
+IsLongerRun first last ps qs =
+    (init : List Piece) × (start : ℕ) × (end : ℕ) × (ps ≡ init ++ Ticks start end ∷ []) × (qs ≡ init ++ Ticks start last ∷ []) × (end + 1 ≡ first)

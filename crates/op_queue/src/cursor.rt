@@ -1,0 +1,118 @@
+//! Cursors.
+ghost use Rattle.std.specs.Prelude.{◌≡◌, ◌<◌, ◌≤◌, length, drop, min, slice_range, IfOk};
+ghost use Rattle.op_queue.specs.Cursors.{IsWithin, cursor_entries};
+ghost use Rattle.op_queue.specs.Items.{IsFrontPart, entries_of, front_of, front_part};
+ghost use Rattle.op_queue.specs.Logs.{Closed, log_entries, shown};
+
+use crate::item::Item;
+use crate::log::Log;
+use crate::queue::Front;
+use column::MAX_ROWS;
+use std::alloc::{AllocError, Global};
+
+/// A query's queue of what a stream has closed: numbers alone, over the stream's log.
+///
+/// It shows the rows that arrived at its place or later, of the instants from its first one on, and each closed instant's tick.
+#[derive(Clone, Copy, Debug)]
+pub struct Cursor {
+    place: u64,
+    // the instant at the front
+    at: u64,
+    // how many of that instant's rows have left
+    passed: u64,
+}
+
+impl Cursor {
+    /// The queue of a query that was registered when the stream was `place` long, and whose first instant is `start`: one
+    /// above its base.
+    pub fn new(place: u64, start: u64) -> Cursor
+        ensures entries { (log : Closed) → cursor_entries result log ≡ log_entries place start log }
+        ensures within { (log : Closed) → IsWithin result log }
+    {
+        Cursor {
+            place,
+            at: start,
+            passed: 0,
+        }
+    }
+
+    /// What stands at the front, if anything waits.
+    pub fn front(&self, log: &Log) -> Option<Front>
+        ensures { result ≡ front_of (cursor_entries self.now log.now) }
+    {
+        if log.until() <= self.at {
+            return None;
+        }
+        let (from, to) = self.left(log);
+        if from < to {
+            Some(Front::Row(self.at))
+        } else {
+            Some(Front::Tick(self.at))
+        }
+    }
+
+    /// A copy of the front: a tick, or the rows that are left of its instant, at most `count` of them and at most `MAX_ROWS`.
+    pub fn front_cut(&self, alloc: Global, log: &Log, count: usize) -> Result<Item, AllocError>
+        requires waits { 0 < length (cursor_entries self.now log.now) }
+        requires some { 0 < count }
+        ensures part { IfOk result (IsFrontPart count (cursor_entries self.now log.now)) }
+        ensures value { IfOk result (λ item. entries_of item ≡ front_part (min count MAX_ROWS) (cursor_entries self.now log.now)) }
+    {
+        let _until = log.until();
+        let (from, to) = self.left(log);
+        if from == to {
+            return Ok(Item::Tick(self.at));
+        }
+        let rows = count.min(MAX_ROWS).min(to - from);
+        let batch = log.batch(alloc, from, from + rows)?;
+        Ok(Item::Rows(self.at, batch))
+    }
+
+    /// The first `count` rows and ticks leave.
+    pub fn drop_front(&mut self, log: &Log, count: usize)
+        requires waits { count ≤ length (cursor_entries self.old log.now) }
+        requires within { IsWithin self.old log.now }
+        ensures entries { cursor_entries self.new log.now ≡ drop count (cursor_entries self.old log.now) }
+        ensures within { IsWithin self.new log.now }
+    {
+        let _until = log.until();
+        let _len = log.len();
+        let mut left = count;
+        while left > 0 {
+            let (from, to) = self.left(log);
+            if left <= to - from {
+                self.passed += left as u64;
+                left = 0;
+            } else {
+                left -= to - from + 1;
+                self.at += 1;
+                self.passed = 0;
+            }
+        }
+    }
+
+    /// How many rows and ticks wait; it costs the rows that wait.
+    pub fn len(&self, log: &Log) -> u128
+        ensures { result ≡ length (cursor_entries self.now log.now) }
+    {
+        let until = log.until();
+        if until <= self.at {
+            return 0;
+        }
+        let (from, to) = self.left(log);
+        let later = log.count_later(self.place, self.at);
+        (to - from) as u128 + later as u128 + (until - self.at) as u128
+    }
+
+    /// Between which places of the log the rows stand that are left of the instant at the front.
+    fn left(&self, log: &Log) -> (usize, usize)
+        requires { self.now.at < log.now.until }
+        ensures some { result.0 ≤ result.1 }
+        ensures within { result.1 ≤ length log.now.elements }
+        ensures left { drop self.now.passed (shown self.now.place self.now.at log.now.elements) ≡ slice_range log.now.elements result.0 result.1 }
+    {
+        let (first, end) = log.places(self.place, self.at);
+        let passed = ((end - first) as u64).min(self.passed);
+        (first + passed as usize, end)
+    }
+}

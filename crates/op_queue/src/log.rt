@@ -1,0 +1,263 @@
+//! Logs.
+ghost use Rattle.std.specs.Prelude.{◌≡◌, replicate, ℕ, ◌+◌, ◌-◌, ◌<◌, ◌≤◌, ◌++◌, [], All, false, length, take, map, slice_range, get_or, nat_le, IfOk, OnOk, OnErr};
+ghost use Rattle.std.specs.List.{filter};
+ghost use Rattle.op_queue.specs.Cursors.{GainsClosed};
+ghost use Rattle.op_queue.specs.Logs.{IsClosing, IsInOrder, entering, is_waiting, shown};
+ghost use Rattle.op_queue.specs.Tables.{IsLonger, IsRising, KeepsFirst, IsTableOf, element, elements_in, lists};
+ghost use Rattle.values.specs.Row.{value_at};
+
+use column::{Batch, Column, MAX_ROWS, Mask};
+use std::alloc::{AllocError, Global};
+use std::marker::Model;
+use values::{MAX_COLUMNS, Row, Value, value_at};
+
+/// A row that came to a stream, with its instant and its number in the order of arrival.
+#[derive(Drop)]
+pub struct Arrival {
+    pub number: u64,
+    pub instant: u64,
+    pub row: Row,
+}
+
+/// The closed rows of a stream by instant, then arrival, and the stream's first open instant.
+///
+/// Rows are kept in columns, eight bytes a value. Queries keep a `Cursor` each, so that closing costs the rows that are closed
+/// and nothing for a query.
+#[derive(Drop)]
+pub struct Log {
+    // the first `len` of each list count; what a refused growth left behind them goes before more comes
+    instants: Vec<u64>,
+    numbers: Vec<u64>,
+    columns: Vec<Vec<Value>>,
+    len: usize,
+    until: u64,
+}
+
+impl Model for Log {
+    ghost use Rattle.op_queue.specs.Logs.{Closed};
+
+    ghost Value = { Closed };
+
+    ghost use Rattle.op_queue.specs.Tables.{IsLog, closed_in, lists};
+
+    ghost view = { λ l. closed_in l.len l.instants.items l.numbers.items (lists l.columns.items) l.until };
+
+    ghost invariant = { λ l. IsLog l.len l.instants.items l.numbers.items (lists l.columns.items) l.until };
+}
+
+impl Log {
+    /// A log of a stream with so many columns, whose instants from `until` on are open.
+    pub fn new(alloc: Global, width: usize, until: u64) -> Result<Log, AllocError>
+        requires { width ≤ MAX_COLUMNS }
+        ensures width { IfOk result (λ log. log.width ≡ width) }
+        ensures elements { IfOk result (λ log. log.elements ≡ []) }
+        ensures until { IfOk result (λ log. log.until ≡ until) }
+    {
+        let mut columns = Vec::with_capacity(alloc, width)?;
+        for _ in 0..width {
+            columns.push(Vec::new(alloc))?;
+        }
+        Ok(Log {
+            instants: Vec::new(alloc),
+            numbers: Vec::new(alloc),
+            columns,
+            len: 0,
+            until,
+        })
+    }
+
+    /// Closes the instants below `until`, which have these rows.
+    pub fn close(&mut self, rows: &[Arrival], until: u64) -> Result<(), AllocError>
+        requires { IsClosing self.old (map element rows.now) until }
+        ensures elements { OnOk result (self.new.elements ≡ self.old.elements ++ map element rows.now) }
+        ensures until { OnOk result (self.new.until ≡ until) }
+        ensures width { self.new.width ≡ self.old.width }
+        ensures queues { OnOk result (GainsClosed self.old (map element rows.now) until self.new) }
+        ensures err { OnErr result (self.new ≡ self.old) }
+    {
+        append(&mut self.instants, &mut self.numbers, &mut self.columns, self.len, rows)?;
+        self.len = self.instants.len();
+        self.until = until;
+        Ok(())
+    }
+
+    /// The first open instant.
+    pub fn until(&self) -> u64
+        ensures value { result ≡ self.now.until }
+        ensures closed { All (λ e. e.instant < self.now.until) self.now.elements }
+        ensures ordered { IsInOrder self.now.elements }
+    {
+        self.until
+    }
+
+    /// How many rows are closed.
+    pub fn len(&self) -> usize
+        ensures { result ≡ length self.now.elements }
+    {
+        self.len
+    }
+
+    /// Between which places the rows of a closed instant stand that arrived at `place` or later.
+    pub(crate) fn places(&self, place: u64, at: u64) -> (usize, usize)
+        requires { at < self.now.until }
+        ensures some { result.0 ≤ result.1 }
+        ensures within { result.1 ≤ length self.now.elements }
+        ensures shown { shown place at self.now.elements ≡ slice_range self.now.elements result.0 result.1 }
+    {
+        let _until = self.until;
+        let first = lower_bound(&self.instants, 0, self.len, at);
+        let end = lower_bound(&self.instants, first, self.len, at + 1);
+        let from = lower_bound(&self.numbers, first, end, place);
+        (from, end)
+    }
+
+    /// How many rows of later instants arrived at `place` or later.
+    pub(crate) fn count_later(&self, place: u64, at: u64) -> usize
+        requires { at < self.now.until }
+        ensures { result ≡ length (filter (is_waiting place (at + 1)) self.now.elements) }
+    {
+        let _until = self.until;
+        let first = lower_bound(&self.instants, 0, self.len, at + 1);
+        count_from(&self.numbers[first..self.len], place)
+    }
+
+    /// A copy of the rows from the place `from` to below the place `to`.
+    pub(crate) fn batch(&self, alloc: Global, from: usize, to: usize) -> Result<Batch, AllocError>
+        requires some { from < to }
+        requires few { to ≤ from + MAX_ROWS }
+        requires within { to ≤ length self.now.elements }
+        ensures { IfOk result (λ b. b ≡ map entering (slice_range self.now.elements from to)) }
+    {
+        let columns = parts(alloc, &self.columns, from, to)?;
+        let leaving = none_leave(alloc, to - from)?;
+        Ok(Batch::from_columns(columns, leaving))
+    }
+}
+
+/// The first place of a rising part of a list whose number is not below the least.
+fn lower_bound(numbers: &[u64], from: usize, to: usize, least: u64) -> usize
+    requires some { from ≤ to }
+    requires within { to ≤ length numbers.now }
+    requires rising { IsRising numbers.now from to }
+    ensures from { from ≤ result }
+    ensures to { result ≤ to }
+    ensures below { (i : ℕ) → from ≤ i → i < result → get_or numbers.now i 0 < least }
+    ensures above { (i : ℕ) → result ≤ i → i < to → least ≤ get_or numbers.now i 0 }
+{
+    let part = &numbers[from..to];
+    from + part.partition_point(|number| *number < least)
+}
+
+/// How many of the numbers are not below the least.
+fn count_from(numbers: &[u64], least: u64) -> usize
+    ensures { result ≡ length (filter (λ number. nat_le least number) numbers.now) }
+{
+    numbers.iter().filter(|number| least <= **number).count()
+}
+
+/// Writes the rows behind the first `len` of each list.
+fn append(
+    instants: &mut Vec<u64>,
+    numbers: &mut Vec<u64>,
+    columns: &mut Vec<Vec<Value>>,
+    len: usize,
+    rows: &[Arrival],
+) -> Result<(), AllocError>
+    requires table { IsTableOf len instants.old.items numbers.old.items (lists columns.old.items) }
+    requires wide { All (λ e. length e.row ≡ length columns.old.items) (map element rows.now) }
+    ensures len { OnOk result (length instants.new.items ≡ len + length rows.now) }
+    ensures width { length columns.new.items ≡ length columns.old.items }
+    ensures table { IsTableOf len instants.new.items numbers.new.items (lists columns.new.items) }
+    ensures whole { OnOk result (IsTableOf (len + length rows.now) instants.new.items numbers.new.items (lists columns.new.items)) }
+    ensures same { elements_in len instants.new.items numbers.new.items (lists columns.new.items) ≡ elements_in len instants.old.items numbers.old.items (lists columns.old.items) }
+    ensures more { OnOk result (elements_in (len + length rows.now) instants.new.items numbers.new.items (lists columns.new.items) ≡ elements_in len instants.old.items numbers.old.items (lists columns.old.items) ++ map element rows.now) }
+{
+    append_values(columns, len, rows)?;
+    append_numbers(numbers, len, rows)?;
+    append_instants(instants, len, rows)?;
+    Ok(())
+}
+
+fn append_instants(instants: &mut Vec<u64>, len: usize, rows: &[Arrival]) -> Result<(), AllocError>
+    requires { len ≤ length instants.old.items }
+    ensures same { take len instants.new.items ≡ take len instants.old.items }
+    ensures more { OnOk result (instants.new.items ≡ take len instants.old.items ++ map (λ e. e.instant) (map element rows.now)) }
+{
+    instants.truncate(len);
+    for row in rows {
+        instants.push(row.instant)?;
+    }
+    Ok(())
+}
+
+fn append_numbers(numbers: &mut Vec<u64>, len: usize, rows: &[Arrival]) -> Result<(), AllocError>
+    requires { len ≤ length numbers.old.items }
+    ensures same { take len numbers.new.items ≡ take len numbers.old.items }
+    ensures more { OnOk result (numbers.new.items ≡ take len numbers.old.items ++ map (λ e. e.arrival) (map element rows.now)) }
+{
+    numbers.truncate(len);
+    for row in rows {
+        numbers.push(row.number)?;
+    }
+    Ok(())
+}
+
+fn append_values(columns: &mut Vec<Vec<Value>>, len: usize, rows: &[Arrival]) -> Result<(), AllocError>
+    requires { All (λ c. len ≤ length c) (lists columns.old.items) }
+    ensures same { KeepsFirst len (lists columns.old.items) (lists columns.new.items) }
+    ensures more { OnOk result (IsLonger len (map element rows.now) (lists columns.old.items) (lists columns.new.items)) }
+{
+    for k in 0..columns.len() {
+        append_column(&mut columns[k], len, rows, k)?;
+    }
+    Ok(())
+}
+
+/// Writes the rows' values of column `k` behind the first `len`.
+fn append_column(column: &mut Vec<Value>, len: usize, rows: &[Arrival], k: usize) -> Result<(), AllocError>
+    requires { len ≤ length column.old.items }
+    ensures same { take len column.new.items ≡ take len column.old.items }
+    ensures more { OnOk result (column.new.items ≡ take len column.old.items ++ map (λ e. value_at e.row k) (map element rows.now)) }
+{
+    column.truncate(len);
+    for row in rows {
+        column.push(value_at(&row.row, k))?;
+    }
+    Ok(())
+}
+
+/// The values of each column from the place `from` to below the place `to`.
+fn parts(alloc: Global, columns: &[Vec<Value>], from: usize, to: usize) -> Result<Vec<Column>, AllocError>
+    requires some { from < to }
+    requires few { to ≤ from + MAX_ROWS }
+    requires within { All (λ c. to ≤ length c) (lists columns.now) }
+    ensures { IfOk result (λ parts. parts.items ≡ map (λ c. slice_range c from to) (lists columns.now)) }
+{
+    let mut parts = Vec::with_capacity(alloc, columns.len())?;
+    for column in columns {
+        parts.push(part(alloc, column, from, to)?)?;
+    }
+    Ok(parts)
+}
+
+fn part(alloc: Global, values: &[Value], from: usize, to: usize) -> Result<Column, AllocError>
+    requires some { from < to }
+    requires few { to ≤ from + MAX_ROWS }
+    requires within { to ≤ length values.now }
+    ensures { IfOk result (λ part. part ≡ slice_range values.now from to) }
+{
+    let part = Column::from_values(alloc, &values[from..to])?;
+    Ok(part)
+}
+
+/// So many rows of which none leaves.
+fn none_leave(alloc: Global, count: usize) -> Result<Mask, AllocError>
+    requires { count ≤ MAX_ROWS }
+    ensures { IfOk result (λ mask. mask ≡ replicate count false) }
+{
+    let mut leaving = Mask::with_capacity(alloc, count)?;
+    for _ in 0..count {
+        leaving.push(false)?;
+    }
+    Ok(leaving)
+}

@@ -1,0 +1,242 @@
+//! Queues.
+ghost use Rattle.std.specs.Prelude.{◌≡◌, ◌↔◌, IsTrue, Some, ◌+◌, ◌-◌, ◌^◌, ◌<◌, ◌≤◌, ◌++◌, [], length, take, drop, IfOk, OnOk, OnErr};
+ghost use Rattle.std.specs.Bool.{OnTrue, OnFalse};
+ghost use Rattle.op_queue.specs.Entries.{IsForward};
+ghost use Rattle.op_queue.specs.Items.{entries_of, front_of, ticks, IsFrontPart};
+ghost use Rattle.op_queue.specs.Pieces.{piece_entries, piece_size, IsLongerRun, IsPiece};
+
+use crate::item::Item;
+use column::Batch;
+use std::alloc::{AllocError, Global};
+use std::collections::VecDeque;
+use std::marker::Model;
+
+/// What a queue keeps together: a batch of one instant, or a run of ticks from the first to the last.
+#[derive(Drop)]
+pub(crate) enum Piece {
+    Rows(u64, Batch),
+    Ticks(u64, u64),
+}
+
+/// What stands at the front of a queue, with its instant.
+#[derive(Clone, Copy, PartialEq, Eq, Debug)]
+pub enum Front {
+    Row(u64),
+    Tick(u64),
+}
+
+/// Signed rows and ticks that wait for an operator.
+///
+/// Rows stand in the batches in which they came, ticks of instants that follow one another as one run. Dropping rows of a
+/// batch moves an offset and copies nothing.
+#[derive(Drop)]
+pub struct Queue {
+    pieces: VecDeque<Piece>,
+    // how many rows or ticks of the front piece have left
+    taken: u64,
+    // how many rows and ticks wait
+    waiting: u128,
+}
+
+impl Model for Queue {
+    ghost use Rattle.op_queue.specs.Queues.{Waiting};
+
+    ghost Value = { Waiting };
+
+    ghost use Rattle.op_queue.specs.Pieces.{waiting_in, IsQueue};
+
+    ghost view = { λ q. waiting_in q.taken q.pieces.items };
+
+    ghost invariant = { λ q. IsQueue q.taken q.waiting q.pieces.items };
+}
+
+impl Queue {
+    /// The empty queue.
+    pub fn new(alloc: Global) -> Queue
+        ensures entries { result.entries ≡ [] }
+        ensures pieces { result.pieces ≡ 0 }
+    {
+        Queue {
+            pieces: VecDeque::new(alloc),
+            taken: 0,
+            waiting: 0,
+        }
+    }
+
+    /// How many rows and ticks wait.
+    pub fn len(&self) -> u128
+        ensures value { result ≡ length self.now.entries }
+        ensures forward { IsForward self.now.entries }
+    {
+        self.waiting
+    }
+
+    /// Whether nothing waits.
+    pub fn is_empty(&self) -> bool
+        ensures { IsTrue result ↔ (self.now.entries ≡ []) }
+    {
+        self.waiting == 0
+    }
+
+    /// In how many pieces rows and ticks are kept: one for each batch and each run of ticks.
+    pub fn pieces(&self) -> usize
+        ensures value { result ≡ self.now.pieces }
+        ensures few { result ≤ length self.now.entries }
+    {
+        self.pieces.len()
+    }
+
+    /// Adds an item at the back.
+    pub fn push(&mut self, item: Item) -> Result<(), AllocError>
+        requires { IsForward (self.old.entries ++ entries_of item) }
+        ensures entries { OnOk result (self.new.entries ≡ self.old.entries ++ entries_of item) }
+        ensures pieces { OnOk result (self.new.pieces ≤ self.old.pieces + 1) }
+        ensures err { OnErr result (self.new ≡ self.old) }
+    {
+        match item {
+            Item::Rows(at, batch) => {
+                let _count = batch.len();
+                self.push_piece(Piece::Rows(at, batch))
+            }
+            Item::Tick(at) => self.push_ticks(at, at),
+        }
+    }
+
+    /// Adds the ticks from the first to the last at the back, as a part of one piece.
+    pub fn push_ticks(&mut self, first: u64, last: u64) -> Result<(), AllocError>
+        requires some { first ≤ last }
+        requires forward { IsForward (self.old.entries ++ ticks first last) }
+        ensures entries { OnOk result (self.new.entries ≡ self.old.entries ++ ticks first last) }
+        ensures pieces { OnOk result (self.new.pieces ≤ self.old.pieces + 1) }
+        ensures err { OnErr result (self.new ≡ self.old) }
+    {
+        let size = last as u128 + 1 - first as u128;
+        if extend_run(&mut self.pieces, first, last) {
+            let _count = self.pieces.len();
+            self.waiting += size;
+            Ok(())
+        } else {
+            self.push_piece(Piece::Ticks(first, last))
+        }
+    }
+
+    /// What stands at the front, if anything waits; found in constant time.
+    pub fn front(&self) -> Option<Front>
+        ensures { result ≡ front_of self.now.entries }
+    {
+        let piece = self.pieces.front()?;
+        Some(piece.front(self.taken))
+    }
+
+    /// A copy of the front: a tick, or rows of one instant, at most `count` of them.
+    pub fn front_cut(&self, alloc: Global, count: usize) -> Result<Item, AllocError>
+        requires waits { 0 < length self.now.entries }
+        requires some { 0 < count }
+        ensures { IfOk result (IsFrontPart count self.now.entries) }
+    {
+        let piece = &self.pieces[0];
+        piece.cut(alloc, self.taken, count)
+    }
+
+    /// The first `count` rows and ticks leave.
+    pub fn drop_front(&mut self, count: usize)
+        requires { count ≤ length self.old.entries }
+        ensures entries { self.new.entries ≡ drop count self.old.entries }
+        ensures pieces { self.new.pieces ≤ self.old.pieces }
+    {
+        let mut left = count as u64;
+        while left > 0 && let Some(piece) = self.pieces.front() {
+            let here = piece.size() - self.taken as u128;
+            if (left as u128) < here {
+                self.taken += left;
+                left = 0;
+            } else {
+                self.pieces.pop_front();
+                self.taken = 0;
+                left -= here as u64;
+            }
+        }
+        self.waiting -= count as u128;
+    }
+
+    fn push_piece(&mut self, piece: Piece) -> Result<(), AllocError>
+        requires forward { IsForward (self.old.entries ++ piece_entries piece) }
+        requires shaped { IsPiece piece }
+        ensures entries { OnOk result (self.new.entries ≡ self.old.entries ++ piece_entries piece) }
+        ensures pieces { OnOk result (self.new.pieces ≤ self.old.pieces + 1) }
+        ensures err { OnErr result (self.new ≡ self.old) }
+    {
+        let size = piece.size();
+        self.pieces.push_back(piece)?;
+        let _count = self.pieces.len();
+        self.waiting += size;
+        Ok(())
+    }
+}
+
+impl Piece {
+    /// How many rows or ticks.
+    fn size(&self) -> u128
+        requires { IsPiece self.now }
+        ensures value { result ≡ piece_size self.now }
+        ensures some { 0 < result }
+        ensures few { result ≤ 2 ^ 64 }
+    {
+        match self {
+            Piece::Rows(_, batch) => batch.len() as u128,
+            Piece::Ticks(first, last) => *last as u128 + 1 - *first as u128,
+        }
+    }
+
+    /// What stands first after `taken` of its rows or ticks.
+    fn front(&self, taken: u64) -> Front
+        requires shaped { IsPiece self.now }
+        requires part { taken < piece_size self.now }
+        ensures { Some result ≡ front_of (drop taken (piece_entries self.now)) }
+    {
+        match self {
+            Piece::Rows(at, _) => Front::Row(*at),
+            Piece::Ticks(first, _) => Front::Tick(*first + taken),
+        }
+    }
+
+    /// A copy of what stands first after `taken` of its rows or ticks, of at most `count` rows.
+    fn cut(&self, alloc: Global, taken: u64, count: usize) -> Result<Item, AllocError>
+        requires shaped { IsPiece self.now }
+        requires part { taken < piece_size self.now }
+        requires some { 0 < count }
+        ensures { IfOk result (IsFrontPart count (drop taken (piece_entries self.now))) }
+    {
+        match self {
+            Piece::Rows(at, batch) => {
+                let from = taken as usize;
+                let rows = count.min(batch.len() - from);
+                let at = *at;
+                let part = batch.part(alloc, from, from + rows)?;
+                Ok(Item::Rows(at, part))
+            }
+            Piece::Ticks(first, _) => Ok(Item::Tick(*first + taken)),
+        }
+    }
+}
+
+/// Lengthens a run of ticks at the back that ends just before `first`, if there is one.
+fn extend_run(pieces: &mut VecDeque<Piece>, first: u64, last: u64) -> bool
+    ensures longer { OnTrue result (IsLongerRun first last pieces.old.items pieces.new.items) }
+    ensures same { OnFalse result (pieces.new.items ≡ pieces.old.items) }
+{
+    let count = pieces.len();
+    if count == 0 {
+        return false;
+    }
+    let (from, to) = match &pieces[count - 1] {
+        Piece::Ticks(from, to) => (*from, *to),
+        Piece::Rows(_, _) => return false,
+    };
+    if to < first && first - to == 1 {
+        pieces[count - 1] = Piece::Ticks(from, last);
+        true
+    } else {
+        false
+    }
+}

@@ -1,0 +1,6 @@
+pub mod LaneLemmas
+pub mod TruthLemmas
+pub mod SumLemmas
+pub mod TotalLemmas
+pub mod WordLemmas
+pub mod CountLemmas

@@ -1,0 +1,9 @@
+use Rattle.std.proofs.Common.{arith}
+use Rattle.lane_kernels.proofs.TruthLemmas.{or_places}
+use Rattle.lane_kernels.proofs.logic.or3.Goals as goal
+
+pub returns-clause-places : goal.returns-clause-places
+returns-clause-places c i = (or_places _ _ _ _ _ _ c.requires.is_a c.requires.is_b c.requires.same_a c.requires.same_b c.requires.same_b_known (omega arith) (omega arith) (λ k h. c.loop-w.invariant k (omega arith)) i).0
+
+pub returns-clause-well_formed : goal.returns-clause-well_formed
+returns-clause-well_formed c i = (or_places _ _ _ _ _ _ c.requires.is_a c.requires.is_b c.requires.same_a c.requires.same_b c.requires.same_b_known (omega arith) (omega arith) (λ k h. c.loop-w.invariant k (omega arith)) i).1

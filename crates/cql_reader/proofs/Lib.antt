@@ -3,6 +3,7 @@ pub mod Checked
 pub mod Decimals
 pub mod Drafts
 pub mod OneAnswer
+pub mod Sources
 pub mod Outcomes
 pub mod Ranges
 pub mod Readings

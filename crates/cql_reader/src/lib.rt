@@ -25,7 +25,7 @@ mod tests;
 mod tokens;
 mod words;
 
-pub use laws::every_text_has_one_answer;
+pub use laws::{a_query_has_one_source, every_text_has_one_answer};
 pub use machine::read;
 pub use words::is_name;
 

@@ -1,6 +1,6 @@
 // The machine: a stack of symbols, of which the top tells what to do with the next token.
 
-ghost use Rattle.std.specs.Prelude.{◌≡◌, ◌<◌, ◌++◌, true, reverse, OnOk};
+ghost use Rattle.std.specs.Prelude.{◌≡◌, ◌<◌, ◌++◌, true, reverse, length, IfOk, OnOk};
 ghost use Rattle.cql_reader.specs.Lexis.{number_of};
 ghost use Rattle.cql_reader.specs.Grammar.{in_range, in_span};
 ghost use Rattle.cql_reader.specs.Prediction.{ahead, stopped, parsed};
@@ -123,7 +123,8 @@ fn parse(alloc: Global, text: &[u8]) -> Result<Draft, ReadFault>
 /// byte above 127 is `NotAscii`, and else the text is judged token by token from the left. The cost is linear in the text.
 /// `OutOfMemory` may stand in place of any answer.
 pub fn read(alloc: Global, text: &[u8]) -> Result<Query, ReadFault>
-    ensures { Reads (reading text.now) result }
+    ensures reading { Reads (reading text.now) result }
+    ensures one_source { IfOk result (λ query. length query.sources.items ≡ 1) }
 {
     if text.len() > MAX_TEXT {
         return Err(ReadFault::TextTooLong);

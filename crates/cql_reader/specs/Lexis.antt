@@ -77,6 +77,14 @@ unfoldable pub is_name : List ℕ → Bool
 is_name bytes =
     is_letter (first_byte bytes) && all_word bytes && nat_le (length bytes) 32 && not (is_reserved bytes)
 
+-- a symbol that compares, by its first two bytes, and how many bytes it takes
+abbrev pub comparison : ℕ → ℕ → Option (Kind × ℕ)
+comparison a b =
+    cond (nat_eq a 61) (Some (k.Equal, 1)) (
+    cond (nat_eq a 60) (cond (nat_eq b 61) (Some (k.AtMost, 2)) (cond (nat_eq b 62) (Some (k.Unequal, 2)) (Some (k.Less, 1)))) (
+    cond (nat_eq a 62) (cond (nat_eq b 61) (Some (k.AtLeast, 2)) (Some (k.Greater, 1))) (
+    cond (nat_eq a 33) (cond (nat_eq b 61) (Some (k.Unequal, 2)) None) None)))
+
 -- a symbol by its first two bytes, and how many bytes it takes
 abbrev pub symbol : ℕ → ℕ → Option (Kind × ℕ)
 symbol a b =
@@ -87,11 +95,7 @@ symbol a b =
     cond (nat_eq a 44) (Some (k.Comma, 1)) (
     cond (nat_eq a 46) (Some (k.Dot, 1)) (
     cond (nat_eq a 59) (Some (k.Semicolon, 1)) (
-    cond (nat_eq a 42) (Some (k.Star, 1)) (
-    cond (nat_eq a 61) (Some (k.Equal, 1)) (
-    cond (nat_eq a 60) (cond (nat_eq b 61) (Some (k.AtMost, 2)) (cond (nat_eq b 62) (Some (k.Unequal, 2)) (Some (k.Less, 1)))) (
-    cond (nat_eq a 62) (cond (nat_eq b 61) (Some (k.AtLeast, 2)) (Some (k.Greater, 1))) (
-    cond (nat_eq a 33) (cond (nat_eq b 61) (Some (k.Unequal, 2)) None) None)))))))))))
+    cond (nat_eq a 42) (Some (k.Star, 1)) (comparison a b))))))))
 
 -- the token that begins the bytes, and how many bytes it takes: the longest word, the longest number, or a symbol
 unfoldable pub token_at : List ℕ → Option (Kind × ℕ)

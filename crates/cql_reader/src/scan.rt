@@ -1,7 +1,7 @@
 // The next token of a text.
 
 ghost use Rattle.std.specs.Prelude.{◌≡◌, ◌+◌, ◌<◌, ◌≤◌, length, IfSome};
-ghost use Rattle.cql_reader.specs.Lexis.{token_at, symbol};
+ghost use Rattle.cql_reader.specs.Lexis.{token_at, symbol, comparison};
 ghost use Rattle.cql_reader.specs.Tokens.{scan_from};
 ghost use Rattle.cql_reader.specs.Coded.{IsNext};
 ghost use Rattle.cql_reader.specs.declared.tokens.Kind.TheVariants as kinds;
@@ -10,6 +10,41 @@ use crate::ReadFault;
 use crate::bytes::{blanks, digit, digits, first_of, letter, second_of, word_len};
 use crate::tokens::{Kind, Token};
 use crate::words::kind_of_word;
+
+// The symbol that compares which two bytes begin, and how many bytes it takes.
+fn comparison_of(first: u8, second: u8) -> Option<(Kind, usize)>
+    ensures symbol { result ≡ comparison first second }
+    ensures forward { IfSome result (λ found. 0 < found.1) }
+    ensures one { IfSome result (λ found. second ≡ 0 → found.1 ≤ 1) }
+    ensures two { IfSome result (λ found. found.1 ≤ 2) }
+    ensures mark { IfSome result (λ found. found.0 ≡ kinds.Name → found.1 ≤ 32) }
+{
+    if first == b'=' {
+        Some((Kind::Equal, 1))
+    } else if first == b'<' {
+        if second == b'=' {
+            Some((Kind::AtMost, 2))
+        } else if second == b'>' {
+            Some((Kind::Unequal, 2))
+        } else {
+            Some((Kind::Less, 1))
+        }
+    } else if first == b'>' {
+        if second == b'=' {
+            Some((Kind::AtLeast, 2))
+        } else {
+            Some((Kind::Greater, 1))
+        }
+    } else if first == b'!' {
+        if second == b'=' {
+            Some((Kind::Unequal, 2))
+        } else {
+            None
+        }
+    } else {
+        None
+    }
+}
 
 // The symbol that two bytes begin, and how many bytes it takes.
 fn symbol_of(first: u8, second: u8) -> Option<(Kind, usize)>
@@ -35,30 +70,8 @@ fn symbol_of(first: u8, second: u8) -> Option<(Kind, usize)>
         Some((Kind::Semicolon, 1))
     } else if first == b'*' {
         Some((Kind::Star, 1))
-    } else if first == b'=' {
-        Some((Kind::Equal, 1))
-    } else if first == b'<' {
-        if second == b'=' {
-            Some((Kind::AtMost, 2))
-        } else if second == b'>' {
-            Some((Kind::Unequal, 2))
-        } else {
-            Some((Kind::Less, 1))
-        }
-    } else if first == b'>' {
-        if second == b'=' {
-            Some((Kind::AtLeast, 2))
-        } else {
-            Some((Kind::Greater, 1))
-        }
-    } else if first == b'!' {
-        if second == b'=' {
-            Some((Kind::Unequal, 2))
-        } else {
-            None
-        }
     } else {
-        None
+        comparison_of(first, second)
     }
 }
 

@@ -1,51 +1,36 @@
 // Texts and their answers.
 
-use crate::{Operator, ReadFault, Window, every_text_has_one_answer, is_name, read};
-
-// The place in the table's texts of `From`'s source.
-const BEFORE_SOURCE: usize = 23;
+use crate::Operator::{Dstream, Istream, Rstream};
+use crate::ReadFault::{self, BadToken, NumberRange, Unexpected};
+use crate::Window::{Now, Range};
+use crate::{every_text_has_one_answer, is_name, read};
 
 #[test]
 fn first_fault_and_its_place_are_told(rt: HostRuntime) {
     let table = [
-        ("", ReadFault::Unexpected(0)),
-        ("Select * From S", ReadFault::Unexpected(7)),
-        ("Select Istream(a) From S [Now]", ReadFault::Unexpected(15)),
-        ("Select Istream(*) From S", ReadFault::Unexpected(24)),
-        (
-            "Select Istream(*) From Range [Now]",
-            ReadFault::Unexpected(BEFORE_SOURCE),
-        ),
+        ("", Unexpected(0)),
+        ("Select * From S", Unexpected(7)),
+        ("Select Istream(a) From S [Now]", Unexpected(15)),
+        ("Select Istream(*) From S", Unexpected(24)),
+        ("Select Istream(*) From Range [Now]", Unexpected(23)),
         (
             "Select Istream(*) From abcdefghijklmnopqrstuvwxyz_234567 [Now]",
-            ReadFault::Unexpected(BEFORE_SOURCE),
+            Unexpected(23),
         ),
-        (
-            "Select Istream(*) From S [Rows 1]",
-            ReadFault::Unexpected(26),
-        ),
-        (
-            "Select Istream(*) From S [Range5]",
-            ReadFault::Unexpected(26),
-        ),
-        ("Select Istream(*) From S [Now", ReadFault::Unexpected(29)),
-        (
-            "Select Istream(*) From S [Now];;",
-            ReadFault::Unexpected(31),
-        ),
-        (
-            "Select Istream(*) From S [Range -1]",
-            ReadFault::NumberRange(32),
-        ),
+        ("Select Istream(*) From S [Rows 1]", Unexpected(26)),
+        ("Select Istream(*) From S [Range5]", Unexpected(26)),
+        ("Select Istream(*) From S [Now", Unexpected(29)),
+        ("Select Istream(*) From S [Now];;", Unexpected(31)),
+        ("Select Istream(*) From S [Range -1]", NumberRange(32)),
         (
             "Select Istream(*) From S [Range 1099511627777]",
-            ReadFault::NumberRange(32),
+            NumberRange(32),
         ),
         (
             "Select Istream(*) From S [Range 1000000000000000000000000000000000000007]",
-            ReadFault::NumberRange(32),
+            NumberRange(32),
         ),
-        ("Select Istream(*) From S [Now] $", ReadFault::BadToken(31)),
+        ("Select Istream(*) From S [Now] $", BadToken(31)),
     ];
     for (text, want) in table {
         match read(rt.alloc(), text.as_bytes()) {
@@ -59,64 +44,34 @@ fn first_fault_and_its_place_are_told(rt: HostRuntime) {
 fn long_texts_and_other_bytes_are_refused(rt: HostRuntime) {
     let long = [b' '; 4097];
     assert!(rt; matches!(read(rt.alloc(), &long), Err(ReadFault::TextTooLong)));
-    assert!(rt;
-        matches!(
-            read(rt.alloc(), &long[1..]),
-            Err(ReadFault::Unexpected(4096))
-        )
-    );
+    assert!(rt; matches!(read(rt.alloc(), &long[1..]), Err(Unexpected(4096))));
     assert!(rt; matches!(read(rt.alloc(), b"Select \xc3"), Err(ReadFault::NotAscii)));
 }
 
 #[test]
 fn queries_are_read(rt: HostRuntime) {
     let table = [
-        (
-            "Select Istream(*) From S [Now]",
-            Operator::Istream,
-            Window::Now,
-            "",
-        ),
-        (
-            "Select Istream(*) From S [Now] ;\r\n",
-            Operator::Istream,
-            Window::Now,
-            "",
-        ),
+        ("Select Istream(*) From S [Now]", Istream, Now, ""),
+        ("Select Istream(*) From S [Now] ;\r\n", Istream, Now, ""),
         (
             "sELECT dSTREAM(*) fROM S [rANGE 0012]",
-            Operator::Dstream,
-            Window::Range(12),
+            Dstream,
+            Range(12),
             "",
         ),
         (
             "Select Istream(*) From S [Range -0] x",
-            Operator::Istream,
-            Window::Range(0),
+            Istream,
+            Range(0),
             "x",
         ),
-        (
-            "Select Rstream(*) From S As x [Now];",
-            Operator::Rstream,
-            Window::Now,
-            "x",
-        ),
-        (
-            "Select Rstream(*)From S x[Now]",
-            Operator::Rstream,
-            Window::Now,
-            "x",
-        ),
-        (
-            "Select Istream(*)From S[Now]x",
-            Operator::Istream,
-            Window::Now,
-            "x",
-        ),
+        ("Select Rstream(*) From S As x [Now];", Rstream, Now, "x"),
+        ("Select Rstream(*)From S x[Now]", Rstream, Now, "x"),
+        ("Select Istream(*)From S[Now]x", Istream, Now, "x"),
         (
             "Select Istream(*) From S [Range 1099511627776]",
-            Operator::Istream,
-            Window::Range(1_099_511_627_776),
+            Istream,
+            Range(1_099_511_627_776),
             "",
         ),
     ];

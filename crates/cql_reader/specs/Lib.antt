@@ -1,0 +1,4 @@
+pub mod Query
+pub mod Views
+pub mod Reading
+pub mod Names

@@ -1,0 +1,17 @@
+//! The plain engine: it keeps what it was told and evaluates the definition of CQL's answers (Arasu, Babu and Widom, "The
+//! CQL continuous query language", 2006), instant by instant. Slow, and the measure of every engine above it: each is an
+//! `Answering` over the same machine.
+#![tactic(auto)]
+
+mod answering;
+mod fault;
+mod limits;
+mod new_rows;
+
+pub use answering::Answering;
+pub use fault::{Fault, QueryFault};
+pub use new_rows::NewRows;
+pub use limits::{
+    MAX_APPENDED, MAX_INSTANT, MAX_LEAP, MAX_QUERIES, MAX_REGISTRATIONS, MAX_STREAM_COLUMNS,
+    MAX_STREAM_ROWS, MAX_STREAMS, MAX_TAKE, MAX_TURN,
+};

@@ -48,7 +48,7 @@ impl NewRows {
     pub fn is_empty(&self) -> bool
         ensures { IsTrue result ↔ (self.now ≡ []) }
     {
-        self.instants.is_empty()
+        self.len() == 0
     }
 
     /// Puts a row behind the others. On Err they are as they were.

@@ -1,0 +1,4 @@
+pub mod Views
+pub mod Conditions
+pub mod Resolved
+pub mod Totals

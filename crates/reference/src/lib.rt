@@ -1,0 +1,24 @@
+//! The plain engine: it keeps what it was told and evaluates the definition of CQL's answers (Arasu, Babu and Widom, "The
+//! CQL continuous query language", 2006), instant by instant. Slow, and the measure of every engine above it: each is an
+//! `Answering` over the same machine.
+#![tactic(auto)]
+
+mod answering;
+pub mod evaluate;
+mod fault;
+mod limits;
+mod new_rows;
+mod place;
+mod plain;
+mod resolve;
+mod standing;
+mod stream;
+
+pub use answering::Answering;
+pub use fault::{Fault, QueryFault};
+pub use limits::{
+    MAX_APPENDED, MAX_INSTANT, MAX_LEAP, MAX_QUERIES, MAX_REGISTRATIONS, MAX_STREAM_COLUMNS,
+    MAX_STREAM_ROWS, MAX_STREAMS, MAX_TAKE, MAX_TURN,
+};
+pub use new_rows::NewRows;
+pub use plain::Plain;

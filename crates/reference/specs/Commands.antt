@@ -2,7 +2,6 @@
 use Rattle.std.specs.Prelude.{ℕ, zero, suc, ◌+◌, ◌+ℤ◌, Bool, true, false, not, ◌&&◌, ◌||◌, ◌==◌, nat_lt, nat_le, List, [], ◌∷◌, ◌++◌, length, map, count_by, Option, Some, None, Result, Ok, Err, ℤ, pos, neg_ℤ, int_le, int_lt, nat_abs, slice_get, is_some, option_and_then}
 use Rattle.std.specs.List.{list_all, list_any, range_with_len}
 use Rattle.std.specs.Option.{option_map, option_map_or}
-
 use Rattle.std.specs.Str.{bytes_eq}
 use Rattle.values.specs.Value.{stream_max}
 use Rattle.values.specs.Row.{Row}

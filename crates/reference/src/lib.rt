@@ -10,8 +10,8 @@ mod new_rows;
 
 pub use answering::Answering;
 pub use fault::{Fault, QueryFault};
-pub use new_rows::NewRows;
 pub use limits::{
     MAX_APPENDED, MAX_INSTANT, MAX_LEAP, MAX_QUERIES, MAX_REGISTRATIONS, MAX_STREAM_COLUMNS,
     MAX_STREAM_ROWS, MAX_STREAMS, MAX_TAKE, MAX_TURN,
 };
+pub use new_rows::NewRows;

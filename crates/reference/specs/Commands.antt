@@ -4,10 +4,9 @@ use Rattle.std.specs.List.{list_all, list_any, range_with_len}
 use Rattle.std.specs.Option.{option_map, option_map_or}
 use Rattle.std.specs.Str.{bytes_eq}
 use Rattle.values.specs.Value.{stream_max}
-use Rattle.values.specs.Row.{Row}
 use Rattle.values.specs.Window.{Element, numbered, Window, Range}
 use Rattle.values.specs.Condition.{Column}
-use Rattle.values.specs.Relation.{Shape, Listed}
+use Rattle.values.specs.Relation.{Listed}
 use Rattle.values.specs.Answers.{Resolved}
 use Rattle.cql_reader.specs.Query as syntax
 use Rattle.cql_reader.specs.Reading as text

@@ -2,4 +2,8 @@ pub mod Machine
 pub mod Commands
 pub mod World
 pub mod NewRows
+pub mod CallViews
 pub mod Views
+pub mod Conditions
+pub mod Resolved
+pub mod Totals

@@ -1,5 +1,5 @@
 -- What an engine has been told: its streams and its queries.
-use Rattle.std.specs.Prelude.{ℕ, Bool, not, ◌&&◌, cond, List, [], ◌∷◌, map, min, max, Option, Some, None, slice_get, position, unwrap_or, option_and_then}
+use Rattle.std.specs.Prelude.{ℕ, Bool, not, ◌&&◌, cond, List, [], map, min, max, Option, Some, None, slice_get, position, unwrap_or, option_and_then}
 use Rattle.std.specs.List.{reduce}
 use Rattle.std.specs.Option.{option_map_or}
 use Rattle.std.specs.Str.{bytes_eq}

@@ -1,12 +1,12 @@
 -- A machine with the answers that wait, over which every call is a function.
-use Rattle.std.specs.Prelude.{◌≡◌, ℕ, Bool, cond, not, ◌&&◌, nat_le, List, [], ◌∷◌, ◌++◌, length, map, min, take, drop, Option, Some, None, Result, Ok, Err, ℤ, pos, nat_abs, slice_get, get_or, ⊤}
+use Rattle.std.specs.Prelude.{◌≡◌, ℕ, cond, not, ◌&&◌, nat_le, List, [], ◌∷◌, ◌++◌, length, map, min, take, drop, Option, Some, None, Result, Ok, Err, ℤ, pos, nat_abs, get_or, ⊤}
 use Rattle.values.specs.Row.{Row}
 use Rattle.reference.specs.declared.fault.Fault.{Fault}
 use Rattle.reference.specs.declared.fault.Fault.TheVariants.{Query, BadLimit, OutOfMemory}
 use Rattle.reference.specs.declared.limits.TheConstants.{MAX_TURN}
 use Rattle.reference.specs.Machine.{Machine, Registered, closed_answers}
 use Rattle.reference.specs.Machine as machine
-use Rattle.reference.specs.Commands.{Command, Declare, Register, Append, Heartbeat, Take, Drop, first_fault, first_of, after, change}
+use Rattle.reference.specs.Commands.{Declare, Register, Append, Heartbeat, Take, Drop, first_fault, first_of, after, change}
 
 -- the machine, and the answers of each query that wait for a take
 pub record World : Type 0 where

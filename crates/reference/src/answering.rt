@@ -1,6 +1,6 @@
 //! What every engine answers.
 ghost use Rattle.std.specs.Prelude.{◌≡◌, ℕ};
-ghost use Rattle.reference.specs.Views.{texts_of, handed_of};
+ghost use Rattle.reference.specs.CallViews.{texts_of, handed_of};
 ghost use Rattle.reference.specs.World.{World, Does, Drains, declare_step, register_step, append_step, heartbeat_step, take_step, drop_step, drain_step, stream_named, query_named};
 
 use crate::fault::Fault;

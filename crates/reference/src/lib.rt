@@ -4,6 +4,7 @@
 #![tactic(auto)]
 
 mod answering;
+pub mod evaluate;
 mod fault;
 mod limits;
 mod new_rows;

@@ -1,5 +1,5 @@
 //! Rows on their way into a stream.
-ghost use Rattle.std.specs.Prelude.{◌≡◌, ◌++◌, ◌∷◌, [], OnOk, OnErr};
+ghost use Rattle.std.specs.Prelude.{◌≡◌, ◌↔◌, ◌++◌, ◌∷◌, [], IsTrue, OnOk, OnErr, length};
 
 use std::alloc::{AllocError, Global};
 use std::marker::Model;
@@ -37,11 +37,30 @@ impl NewRows {
         }
     }
 
+    /// How many rows there are.
+    pub fn len(&self) -> usize
+        ensures { result ≡ length self.now }
+    {
+        self.instants.len()
+    }
+
+    /// Whether there are no rows.
+    pub fn is_empty(&self) -> bool
+        ensures { IsTrue result ↔ (self.now ≡ []) }
+    {
+        self.len() == 0
+    }
+
     /// Puts a row behind the others. On Err they are as they were.
     pub fn push_row(&mut self, instant: i64, values: &[Option<i64>]) -> Result<(), AllocError>
         ensures ok { OnOk result (self.new ≡ self.old ++ (instant, values.now) ∷ []) }
         ensures err { OnErr result (self.new ≡ self.old) }
     {
-        Err(AllocError)
+        self.instants.reserve(1)?;
+        self.widths.reserve(1)?;
+        self.values.extend_from_slice(values)?;
+        self.instants.push_reserved(instant);
+        self.widths.push_reserved(values.len());
+        Ok(())
     }
 }

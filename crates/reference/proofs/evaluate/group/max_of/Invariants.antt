@@ -1,0 +1,10 @@
+use Rattle.std.proofs.Common.{◌≡◌, take}
+use Rattle.std.specs.List.{reduce}
+use Rattle.std.specs.Int.{int_max}
+use Rattle.values.specs.Relation as relations
+use Rattle.reference.specs.Views.{tables_of}
+use Rattle.reference.specs.Conditions.{column_of}
+use Rattle.reference.proofs.evaluate.group.max_of.Given as goal
+
+abbrev pub invariant-loop-rows : goal.invariant-loop-rows
+invariant-loop-rows l = l.greatest ≡ reduce int_max (relations.numbers (column_of l.column) (tables_of (take l.rows-index l.group)))

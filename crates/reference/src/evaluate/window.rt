@@ -1,0 +1,100 @@
+//! What a window shows at an instant.
+ghost use Rattle.std.specs.Prelude.{◌≡◌, ◌<◌, IfOk, length, get_or, count_by, ◌&&◌, nat_le};
+ghost use Rattle.values.specs.Window as spec;
+ghost use Rattle.reference.specs.Views.{window_of, elements_of, element_at, rows_of, CanSlide};
+
+use crate::evaluate::bag::copy_row;
+use std::alloc::{AllocError, Global};
+use values::{Row, value_at};
+
+/// A window of a source.
+#[derive(Drop)]
+pub enum Window {
+    /// The rows of the last instants, as many as the number says, and of this one.
+    Range(u64),
+    /// The same at the greatest multiple of the second number that is not above the instant.
+    RangeSlide(u64, u64),
+    /// All rows so far.
+    Unbounded,
+    /// The last rows of each partition.
+    LastRows(Vec<usize>, u64),
+}
+
+/// Whether the element at `j` came later than the one at `i`: by instant, then by arrival.
+pub(crate) fn is_later(input: &[(u64, Row)], i: usize, j: usize) -> bool
+    requires i_in { i < length input.now }
+    requires j_in { j < length input.now }
+    ensures { result ≡ spec.is_later (element_at input.now i) (element_at input.now j) }
+{
+    input[i].0 < input[j].0 || (input[i].0 == input[j].0 && i < j)
+}
+
+/// Whether the rows are equal in the columns.
+pub(crate) fn same_partition(columns: &[usize], a: &Row, b: &Row) -> bool
+    ensures { result ≡ spec.same_in columns.now a.now.items b.now.items }
+{
+    columns.iter().all(|column| value_at(a, *column).cmp(&value_at(b, *column)).is_eq())
+}
+
+/// Whether the element at `j`, not above `at` and in the partition of the element at `i`, came later than that.
+pub(crate) fn counts(columns: &[usize], at: u64, input: &[(u64, Row)], i: usize, j: usize) -> bool
+    requires i_in { i < length input.now }
+    requires j_in { j < length input.now }
+    ensures { result ≡ spec.counts columns.now at (element_at input.now i) (element_at input.now j) }
+{
+    input[j].0 <= at && is_later(input, i, j) && same_partition(columns, &input[i].1, &input[j].1)
+}
+
+/// How many elements up to `at` of the partition of the element at `i` came later.
+pub(crate) fn count_later(columns: &[usize], at: u64, input: &[(u64, Row)], i: usize) -> usize
+    requires { i < length input.now }
+    ensures { result ≡ spec.count_later columns.now at (elements_of input.now) (element_at input.now i) }
+{
+    let mut count = 0;
+    for j in 0..input.len() {
+        if counts(columns, at, input, i, j) {
+            count += 1;
+        }
+    }
+    count
+}
+
+/// Whether the window shows the element at `i` at the instant.
+pub(crate) fn shows(from: u64, window: &Window, at: u64, input: &[(u64, Row)], i: usize) -> bool
+    requires i_in { i < length input.now }
+    requires slides { CanSlide window.now }
+    ensures { result ≡ spec.shows from (window_of window.now) at (elements_of input.now) (element_at input.now i) }
+{
+    let instant = input[i].0;
+    match window {
+        Window::Range(back) => at.saturating_sub(*back) <= instant && instant <= at,
+        Window::RangeSlide(back, step) => {
+            let last = at / *step * *step;
+            from <= last && last.saturating_sub(*back) <= instant && instant <= last
+        }
+        Window::Unbounded => instant <= at,
+        Window::LastRows(columns, most) => {
+            instant <= at && (count_later(columns, at, input, i) as u64) < *most
+        }
+    }
+}
+
+/// The rows that the window shows at the instant, by arrival.
+pub(crate) fn window_rows(
+    alloc: Global,
+    from: u64,
+    window: &Window,
+    at: u64,
+    input: &[(u64, Row)],
+) -> Result<Vec<Row>, AllocError>
+    requires { CanSlide window.now }
+    ensures { IfOk result (λ v. rows_of v.items ≡ spec.window_rows from (window_of window.now) at (elements_of input.now)) }
+{
+    let mut rows = Vec::new(alloc);
+    for i in 0..input.len() {
+        if shows(from, window, at, input, i) {
+            rows.push(copy_row(&input[i].1)?)?;
+        }
+    }
+    Ok(rows)
+}

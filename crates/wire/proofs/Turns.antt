@@ -1,6 +1,6 @@
 -- The rows of a drain's turns change nothing.
-use Rattle.std.proofs.Common.{◌≡◌, ◌≤◌, ◌<◌, ℕ, Bool, true, false, cond, refl, ap, sym, ◌∙◌, arith, [], ◌∷◌, Result, Ok, Err, map}
-use Rattle.std.specs.Prelude.{not, ◌&&◌, nat_le, Option, None, ⊤}
+use Rattle.std.proofs.Common.{◌≡◌, ◌≤◌, ◌<◌, ℕ, Bool, true, false, ap, sym, ◌∙◌, [], ◌∷◌, Result, Ok, Err, map}
+use Rattle.std.specs.Prelude.{not, ◌&&◌, nat_le, None, ⊤}
 use Rattle.std.proofs.lemmas.Bool.{le-leb}
 use Rattle.reference.specs.World.{World, Step, Drains, drain_step, drain_fault, unless, untaken}
 use Rattle.reference.specs.Commands.{first_of}

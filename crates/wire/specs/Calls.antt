@@ -1,6 +1,6 @@
 -- The call of an engine that a request asks for, with streams and queries by name.
 use Rattle.std.specs.Prelude.{ℕ, ℤ, List, Option, string_bytes}
-use Rattle.reference.specs.Views.{texts_of}
+use Rattle.reference.specs.CallViews.{texts_of}
 use Rattle.wire.specs.declared.request.Request.{Request}
 use Rattle.wire.specs.declared.request.Request.TheVariants.{Stream, Query, Append, Heartbeat, Drain, Take, Drop}
 

@@ -2,7 +2,7 @@
 use Rattle.std.specs.Prelude.{ℕ, ℤ, List, [], ◌∷◌, ◌++◌, Option, Some, None, codes, flat_map, decimal}
 use Rattle.std.specs.Fmt.{signed_decimal}
 use Rattle.values.specs.Row.{Row}
-use Rattle.reference.specs.Views.{handed_of}
+use Rattle.reference.specs.CallViews.{handed_of}
 use Rattle.reference.specs.declared.fault.Fault.{Fault}
 use Rattle.reference.specs.declared.fault.Fault.TheVariants.{Query, BadName, NameTaken, BadColumns, TooMany, UnknownStream, UnknownQuery, BadWidth, ValueRange, InstantRange, Late, Backward, Leap, StreamFull, BadLimit, OutOfMemory}
 use Rattle.reference.specs.declared.fault.QueryFault.{QueryFault}

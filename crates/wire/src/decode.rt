@@ -2,7 +2,7 @@
 ghost use Rattle.std.specs.Prelude.{◌≡◌, IfOk, Some, None, cond, option_map, option_and_then, map};
 ghost use Rattle.serde_json.specs.View.{view, items_view};
 ghost use Rattle.serde_json.specs.Find.{as_str, as_array};
-ghost use Rattle.reference.specs.Views.{texts_of};
+ghost use Rattle.reference.specs.CallViews.{texts_of};
 ghost use Rattle.wire.specs.Calls.{call_of};
 ghost use Rattle.wire.specs.Asked.{text_at, integer_at, list_at, each, value_of, integer_of, row_from, row_in, declare_in, register_in, append_in, heartbeat_in, take_in, discard_in, asked_by, asked};
 

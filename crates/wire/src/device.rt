@@ -211,7 +211,9 @@ impl<W: Write> Sink for WriterSink<W> {
 }
 
 /// Writes all of these bytes, in one write where the sink takes them so.
-pub(crate) fn put<K: Sink>(sink: &mut K, bytes: &[u8]) -> Result<(), DeviceFailed>
+///
+/// `DeviceFailed` where a write failed: then the sink has taken a front of them.
+pub fn put<K: Sink>(sink: &mut K, bytes: &[u8]) -> Result<(), DeviceFailed>
     ensures { Puts (K.taken sink.old) (K.taken sink.new) (K.failures sink.old) (K.failures sink.new)
         result bytes.now }
 {

@@ -18,7 +18,7 @@ mod script;
 mod tests;
 
 pub use device::{
-    DeviceFailed, MemorySink, MemorySource, ReaderSource, Sink, Source, WriterSink,
+    DeviceFailed, MemorySink, MemorySource, ReaderSource, Sink, Source, WriterSink, put,
 };
 pub use fault::ScriptFault;
 pub use lines::Lines;

@@ -1,7 +1,7 @@
 //! Replies, and their lines.
 ghost use Rattle.std.specs.Prelude.{◌≡◌, ◌++◌, List, ℕ, true, codes, IfErr};
 ghost use Rattle.std.specs.Fmt.{signed_decimal};
-ghost use Rattle.reference.specs.Views.{handed_of};
+ghost use Rattle.reference.specs.CallViews.{handed_of};
 ghost use Rattle.wire.specs.Devices.{Puts};
 ghost use Rattle.wire.specs.Paged.{Writes};
 ghost use Rattle.wire.specs.Printed.{value_text, after_commas, row_text, rows_text, query_fault_name, query_fault_place, fault_name, fault_place, fault_text, place_text, wire_fault_text, line_of, answer_of, error_line};

@@ -11,17 +11,31 @@ pub enum Request {
         from: i64,
     },
     /// Registers a query.
-    Query { name: String, text: String },
+    Query {
+        name: String,
+        text: String,
+    },
     /// Appends rows to a stream.
-    Append { stream: String, rows: NewRows },
+    Append {
+        stream: String,
+        rows: NewRows,
+    },
     /// Closes the instants of a stream up to `at`.
-    Heartbeat { stream: String, at: i64 },
+    Heartbeat {
+        stream: String,
+        at: i64,
+    },
     /// Makes all closed answers wait for a take.
     Drain,
     /// Takes at most `limit` answers of a query.
-    Take { query: String, limit: i64 },
+    Take {
+        query: String,
+        limit: i64,
+    },
     /// Drops a query.
-    Drop { query: String },
+    Drop {
+        query: String,
+    },
 }
 
 /// Why a line is no request, or why it could not be read.

@@ -1,7 +1,7 @@
 use Rattle.std.proofs.Common.{◌≡◌, drop}
 use Rattle.serde_json.specs.View.{items_view}
 use Rattle.serde_json.specs.Find.{as_str}
-use Rattle.reference.specs.Views.{texts_of}
+use Rattle.reference.specs.CallViews.{texts_of}
 use Rattle.wire.specs.Asked.{each}
 use Rattle.wire.proofs.Each.{onto}
 use Rattle.wire.proofs.decode.texts_from.Given as goal

@@ -1,5 +1,5 @@
 use Rattle.std.proofs.Common.{take}
-use Rattle.reference.specs.Views.{handed_of}
+use Rattle.reference.specs.CallViews.{handed_of}
 use Rattle.wire.specs.Paged.{Writes}
 use Rattle.wire.specs.Printed.{after_commas, row_text}
 use Rattle.wire.proofs.reply.add_more_rows.Given as goal

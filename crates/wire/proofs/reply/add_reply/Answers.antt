@@ -1,5 +1,5 @@
 use Rattle.std.proofs.Common.{◌++◌, ◌∙◌, ap, sym, codes}
-use Rattle.reference.specs.Views.{handed_of}
+use Rattle.reference.specs.CallViews.{handed_of}
 use Rattle.wire.specs.Printed.{line_of, answer_of, rows, fault_text, error_line, place_text, fault_name}
 use Rattle.wire.proofs.Printing.{writes_both, write_text}
 use Rattle.wire.proofs.reply.add_reply.Goals as goal

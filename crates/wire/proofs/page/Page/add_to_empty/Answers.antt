@@ -1,4 +1,4 @@
-use Rattle.std.proofs.Common.{◌≡◌, ◌∙◌, ap, ◌++◌, [], rules}
+use Rattle.std.proofs.Common.{◌≡◌, ◌∙◌, ap, ◌++◌, rules}
 use Rattle.wire.proofs.Printing.{writes_put}
 use Rattle.wire.proofs.page.Page.add_to_empty.Goals as goal
 

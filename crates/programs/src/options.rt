@@ -1,0 +1,32 @@
+//! Command lines.
+ghost use Rattle.std.specs.Prelude.{◌≡◌, map};
+ghost use Rattle.clap.specs.Words.{FailsBy, fault_of};
+ghost use Rattle.programs.specs.CommandLine.{cqlrun};
+
+use clap::{Arg, ArgAction, Command, Error};
+use std::alloc::Global;
+
+/// What the words of `cqlrun` ask for.
+#[derive(Clone, Copy, Debug, PartialEq, Eq)]
+pub struct RunOptions {
+    /// Whether the plain engine is to run.
+    pub is_plain: bool,
+}
+
+/// Reads the words of `cqlrun`, of which the first is the program's own name.
+///
+/// An error is a request for help, a wrong command line, or want of memory: `kind` tells which, and what is printed is
+/// clap's text.
+pub fn run_options<'a, S: AsStr>(alloc: Global, words: &'a [S]) -> Result<RunOptions, Error>
+    ensures { FailsBy (fault_of cqlrun (map S.text words.entry.now)) result }
+{
+    let plain = Arg::new(alloc, "plain")
+        .long("plain")
+        .action(ArgAction::SetTrue)
+        .help("Run the plain engine, which evaluates the definition");
+    let command = Command::new(alloc, "cqlrun").arg(plain)?;
+    let matches = command.try_get_matches_from(words)?;
+    Ok(RunOptions {
+        is_plain: matches.get_flag("plain"),
+    })
+}

@@ -1,7 +1,7 @@
 -- The command lines, as clap's own definition of a parse sees them.
-use Rattle.std.specs.Prelude.{Some, codes}
-use Rattle.clap.specs.Words.{App, Rule, new_app, new_rule, with_rule}
-use Rattle.clap.specs.declared.builder.ArgAction.TheVariants.{SetTrue}
+use Rattle.std.specs.Prelude.{◌≡◌, ◌≢◌, ℕ, List, [], ◌∷◌, Some, codes}
+use Rattle.clap.specs.Words.{App, Rule, Text, Kinds, new_app, new_rule, with_rule, fault_of}
+use Rattle.clap.specs.declared.builder.action.ArgAction.TheVariants.{SetTrue}
 
 -- the flag `--plain`
 abbrev pub plain : Rule
@@ -10,3 +10,7 @@ plain = record (new_rule (codes "plain")) { long = Some (codes "plain"); action 
 -- `cqlrun [--plain]`
 abbrev pub cqlrun : App
 cqlrun = with_rule (new_app (codes "cqlrun")) plain
+
+-- why the words of `cqlrun` are refused, the program's own name first; nothing where they ask for a run
+unfoldable pub refusals : List Text → Kinds
+refusals words = fault_of cqlrun words

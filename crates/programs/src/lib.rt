@@ -5,4 +5,4 @@ mod options;
 mod run;
 
 pub use options::{RunOptions, run_options};
-pub use run::{run_over};
+pub use run::run_over;

@@ -1,10 +1,11 @@
 //! Command lines.
 ghost use Rattle.std.specs.Prelude.{◌≡◌, map};
-ghost use Rattle.clap.specs.Words.{FailsBy, fault_of};
-ghost use Rattle.programs.specs.CommandLine.{cqlrun};
+ghost use Rattle.clap.specs.Words.{FailsBy};
+ghost use Rattle.programs.specs.CommandLine.{refusals};
 
 use clap::{Arg, ArgAction, Command, Error};
 use std::alloc::Global;
+use std::convert::AsStr;
 
 /// What the words of `cqlrun` ask for.
 #[derive(Clone, Copy, Debug, PartialEq, Eq)]
@@ -18,15 +19,17 @@ pub struct RunOptions {
 /// An error is a request for help, a wrong command line, or want of memory: `kind` tells which, and what is printed is
 /// clap's text.
 pub fn run_options<'a, S: AsStr>(alloc: Global, words: &'a [S]) -> Result<RunOptions, Error>
-    ensures { FailsBy (fault_of cqlrun (map S.text words.entry.now)) result }
+    ensures { FailsBy (refusals (map S.text words.entry.now)) result }
 {
     let plain = Arg::new(alloc, "plain")
         .long("plain")
         .action(ArgAction::SetTrue)
         .help("Run the plain engine, which evaluates the definition");
     let command = Command::new(alloc, "cqlrun").arg(plain)?;
-    let matches = command.try_get_matches_from(words)?;
-    Ok(RunOptions {
-        is_plain: matches.get_flag("plain"),
-    })
+    match command.try_get_matches_from(words) {
+        Ok(matches) => Ok(RunOptions {
+            is_plain: matches.get_flag("plain"),
+        }),
+        Err(error) => Err(error),
+    }
 }

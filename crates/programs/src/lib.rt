@@ -5,4 +5,5 @@ mod options;
 mod run;
 
 pub use options::{RunOptions, run_options};
-pub use run::run_over;
+pub use run::{lack_memory, run_over};
+pub use wire::{ReaderSource, WriterSink};

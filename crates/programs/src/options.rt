@@ -1,7 +1,7 @@
 //! Command lines.
-ghost use Rattle.std.specs.Prelude.{◌≡◌, map};
+ghost use Rattle.std.specs.Prelude.{◌≡◌, IfOk, Some, true, false, codes, map};
 ghost use Rattle.clap.specs.Words.{FailsBy};
-ghost use Rattle.programs.specs.CommandLine.{refusals};
+ghost use Rattle.programs.specs.CommandLine.{refusals, plain_text};
 
 use clap::{Arg, ArgAction, Command, Error};
 use std::alloc::Global;
@@ -19,7 +19,9 @@ pub struct RunOptions {
 /// An error is a request for help, a wrong command line, or want of memory: `kind` tells which, and what is printed is
 /// clap's text.
 pub fn run_options<'a, S: AsStr>(alloc: Global, words: &'a [S]) -> Result<RunOptions, Error>
-    ensures { FailsBy (refusals (map S.text words.entry.now)) result }
+    ensures refusals { FailsBy (refusals (map S.text words.entry.now)) result }
+    ensures plain { IfOk result (λ o. plain_text (map S.text words.entry.now) ≡ Some (codes "true") → o.is_plain ≡ true) }
+    ensures default { IfOk result (λ o. plain_text (map S.text words.entry.now) ≡ Some (codes "false") → o.is_plain ≡ false) }
 {
     let plain = Arg::new(alloc, "plain")
         .long("plain")

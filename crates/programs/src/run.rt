@@ -42,6 +42,13 @@ fn fail<E: Sink>(errors: &mut E, fault: &ScriptFault) -> u8
     status_of(fault)
 }
 
+/// Says that memory was refused at the start, and gives the program's status.
+pub fn lack_memory<E: Sink>(errors: &mut E) -> u8
+    ensures { result ≡ 3 }
+{
+    fail(errors, &ScriptFault::Memory)
+}
+
 // Answers words that ask for no run.
 fn refuse<O: Sink, E: Sink>(alloc: Global, error: &Error, sink: &mut O, errors: &mut E) -> u8
     ensures memory { kind_of error.now ≡ ErrorKind.OutOfMemory → (result ≡ 3) × (O.taken sink.new ≡ O.taken sink.old) }

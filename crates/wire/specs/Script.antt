@@ -39,11 +39,15 @@ answered w drain = done_step (drain_step w 1)
 answered w (take_rows query limit) = if_named w in_engine.UnknownQuery (λ n. rows_step (take_step w n limit)) (query_named w query)
 answered w (discard query) = if_named w in_engine.UnknownQuery (λ n. done_step (drop_step w n)) (query_named w query)
 
+-- what a request is answered, and the world after it; a line that is no request changes nothing
+abbrev pub served : World → Result Call WireFault → Answer × World
+served w (Err fault) = (unread fault, w)
+served w (Ok call) = answered w call
+
 -- the reply lines of requests
 abbrev pub replies : World → List (Result Call WireFault) → List (List ℕ)
 replies w [] = []
-replies w (Err fault ∷ more) = line_of (unread fault) ∷ replies w more
-replies w (Ok call ∷ more) = line_of (answered w call).0 ∷ replies (answered w call).1 more
+replies w (request ∷ more) = line_of (served w request).0 ∷ replies (served w request).1 more
 
 -- the reply lines of a text
 abbrev pub script : World → List ℕ → List (List ℕ)
@@ -65,11 +69,6 @@ is_scarce_answer (unread _) = false
 abbrev pub Replies : Answer × World → Answer → World → Type 0
 Replies defined answer new = is_scarce_answer answer ≡ false → defined ≡ (answer, new)
 
--- The request's reply line is the answer's, unless memory was scarce.
-abbrev pub Serves : World → Result Call WireFault → Answer → World → Type 0
-Serves w defined answer new =
-    is_scarce_answer answer ≡ false → (more : List (Result Call WireFault)) → replies w (defined ∷ more) ≡ line_of answer ∷ replies new more
-
 -- The written text is these lines, up to one that says that memory was scarce.
 abbrev pub Says : List (List ℕ) → List ℕ → Type 0
 Says [] written = written ≡ []
@@ -80,6 +79,20 @@ Says (line ∷ lines) written =
 -- The written text begins as such a text.
 abbrev pub Begins : List (List ℕ) → List ℕ → Type 0
 Begins lines written = (more : List ℕ) × Says lines (written ++ more)
+
+-- From the world `first` on these requests were answered by the written text, and this is the world after them; up to a
+-- reply that says that memory was scarce.
+abbrev pub Runs : World → List (Result Call WireFault) → List ℕ → World → Type 0
+Runs first [] written now = (written ≡ []) × (now ≡ first)
+Runs first (request ∷ more) written now =
+    ((rest : List ℕ) × (written ≡ line_of (served first request).0 ++ rest) × Runs (served first request).1 more rest now)
+    ⊎ ((answer : Answer) × (rest : List ℕ) × (is_scarce_answer answer ≡ true) × (written ≡ line_of answer ++ rest))
+
+-- The first of these requests were carried out, and stand: the written text begins what they are answered.
+abbrev pub Stands : World → List (Result Call WireFault) → List ℕ → World → Type 0
+Stands first requests written now =
+    (carried : List (Result Call WireFault)) × (rest : List (Result Call WireFault)) × (more : List ℕ)
+    × (requests ≡ carried ++ rest) × Runs first carried (written ++ more) now
 
 -- What a sink took is a text that P holds of, where source and sink tell their bytes.
 abbrev pub Scripts : (List ℕ → List ℕ → Type 0) → Option (List ℕ) → Option (List ℕ) → Option (List ℕ) → Type 0

@@ -3,8 +3,8 @@ ghost use Rattle.std.specs.Prelude.{◌≡◌, ◌<◌, ◌≤◌, ℕ, List, Re
 ghost use Rattle.wire.specs.Devices.{Puts, Rises};
 ghost use Rattle.wire.specs.Calls.{Call, append, heartbeat, take_rows, discard, call_of};
 ghost use Rattle.wire.specs.Printed.{Answer, answer_of, line_of};
-ghost use Rattle.wire.specs.Requests.{Reads};
-ghost use Rattle.wire.specs.Script.{answered, done_of, script, Says, Begins, Scripts, Replies, Serves};
+ghost use Rattle.wire.specs.Requests.{Reads, requests_of};
+ghost use Rattle.wire.specs.Script.{answered, done_of, script, Says, Begins, Runs, Scripts, Stands, Replies, served};
 ghost use Rattle.wire.specs.declared.request.WireFault.{WireFault};
 
 use crate::device::{Sink, Source};
@@ -100,7 +100,7 @@ fn serve<E: Answering>(engine: &mut E, read: Result<Request, WireFault>, rows: u
     requires rows { 0 < rows × rows ≤ 1024 }
     requires alone { E.is_alone engine.old }
     ensures serves { (defined : Result Call WireFault) → Reads defined read
-        → Serves (E.world engine.old) defined (answer_of result) (E.world engine.new) }
+        → Replies (served (E.world engine.old) defined) (answer_of result) (E.world engine.new) }
     ensures alone { E.is_alone engine.new }
 {
     match read {
@@ -119,7 +119,7 @@ fn respond<K: Sink, E: Answering>(
     requires rows { 0 < rows × rows ≤ 1024 }
     requires alone { E.is_alone engine.old }
     ensures written { (answer : Answer)
-        × ((defined : Result Call WireFault) → Reads defined read → Serves (E.world engine.old) defined answer (E.world engine.new))
+        × ((defined : Result Call WireFault) → Reads defined read → Replies (served (E.world engine.old) defined) answer (E.world engine.new))
         × Puts (K.taken sink.old) (K.taken sink.new) (K.failures sink.old) (K.failures sink.new) result (line_of answer) }
     ensures fault { IfErr result (λ e. e ≡ ScriptFault.Write) }
     ensures alone { E.is_alone engine.new }
@@ -133,7 +133,7 @@ fn respond<K: Sink, E: Answering>(
 ///
 /// What is written is the script's text of what the source gave, up to the first reply that says want of memory, from which
 /// on it rests with the engine. `ScriptFault::Read` and `ScriptFault::Write` where that device failed: then what is written
-/// is a beginning of that text, and the calls carried out stand. `ScriptFault::Memory` where the line's buffers were
+/// is a beginning of that text, and the calls carried out stand: the engine is as they left it. `ScriptFault::Memory` where the line's buffers were
 /// refused, before anything was read.
 pub fn run_script<S: Source, K: Sink, E: Answering>(
     alloc: Global,
@@ -147,6 +147,10 @@ pub fn run_script<S: Source, K: Sink, E: Answering>(
     ensures text { OnOk result (Scripts (λ text written. Says (script (E.world engine.old) text) written)
         (S.left source.old) (K.taken sink.old) (K.taken sink.new)) }
     ensures begun { OnErr result (Scripts (λ text written. Begins (script (E.world engine.old) text) written)
+        (S.left source.old) (K.taken sink.old) (K.taken sink.new)) }
+    ensures ran { OnOk result (Scripts (λ text written. Runs (E.world engine.old) (requests_of text) written (E.world engine.new))
+        (S.left source.old) (K.taken sink.old) (K.taken sink.new)) }
+    ensures stands { OnErr result (Scripts (λ text written. Stands (E.world engine.old) (requests_of text) written (E.world engine.new))
         (S.left source.old) (K.taken sink.old) (K.taken sink.new)) }
     ensures read { IfErr result (λ e. e ≡ ScriptFault.Read
         → Rises (S.failures source.old) (S.failures source.new) × (K.failures sink.new ≡ K.failures sink.old)) }

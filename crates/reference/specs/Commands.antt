@@ -18,6 +18,7 @@ use Rattle.reference.specs.declared.fault.QueryFault.{QueryFault}
 use Rattle.reference.specs.declared.fault.QueryFault.TheVariants.{TextTooLong, NotAscii, BadToken, Unexpected, NumberRange}
 use Rattle.reference.specs.declared.fault.QueryFault.TheVariants as in_query
 use Rattle.reference.specs.declared.limits.TheConstants.{MAX_STREAMS, MAX_QUERIES, MAX_REGISTRATIONS, MAX_STREAM_COLUMNS, MAX_APPENDED, MAX_STREAM_ROWS, MAX_INSTANT, MAX_LEAP, MAX_TAKE}
+use Rattle.reference.specs.Names.{Catalog, numbers_in, meaning_in}
 use Rattle.reference.specs.Machine.{Stream, Place, Registered, Machine, stream_named, query_named, query_at, first_for}
 
 pub data Command : Type 0 where
@@ -73,50 +74,26 @@ fault_of_text (text.BadToken at) = BadToken at
 fault_of_text (text.Unexpected at) = Unexpected at
 fault_of_text (text.NumberRange at) = NumberRange at
 
-abbrev pub window_of : syntax.Window → Window
-window_of syntax.Now = Range 0
-window_of (syntax.Range span) = Range span
-
 -- a query with its names resolved: the numbers of its sources' streams, and what it means
 pub record Found : Type 0 where
   pub streams : List ℕ
   pub meaning : Resolved
 
--- the numbers of the streams that the sources name, if each names one
-abbrev pub numbers_of : Machine → List syntax.Source → Option (List ℕ)
-numbers_of m [] = Some []
-numbers_of m (source ∷ sources) = option_and_then (λ n. option_map (λ ns. n ∷ ns) (numbers_of m sources)) (stream_named m source.stream)
+-- the names that are declared
+abbrev pub catalog_of : List Stream → Catalog
+catalog_of streams = map (λ s. record { name = s.name; columns = s.columns }) streams
 
--- how many columns the stream of a number has
-abbrev pub width_at : Machine → ℕ → ℕ
-width_at m n = option_map_or (λ s. length s.columns) (slice_get m.streams n) 0
+abbrev pub found_in : Catalog → syntax.Query → Option (List ℕ) → Result Found QueryFault
+found_in catalog q None = Err in_query.UnknownStream
+found_in catalog q (Some ns) = Ok (record { streams = ns; meaning = meaning_in catalog q ns })
 
--- all columns of sources of these widths, numbered from k on
-abbrev pub columns_from : ℕ → List ℕ → List Column
-columns_from k [] = []
-columns_from k (width ∷ widths) = map (λ c. record { source = k; column = c }) (range_with_len 0 width) ++ columns_from (suc k) widths
-
--- what a query means whose sources are the streams of these numbers
-abbrev pub meaning_of : Machine → syntax.Query → List ℕ → Resolved
-meaning_of m q ns = record {
-  windows = map (λ s. window_of s.window) q.sources;
-  condition = None;
-  shape = Listed (columns_from 0 (map (width_at m) ns));
-  is_distinct = false;
-  operator = q.operator;
-}
-
-abbrev pub found_in : Machine → syntax.Query → Option (List ℕ) → Result Found QueryFault
-found_in m q None = Err in_query.UnknownStream
-found_in m q (Some ns) = Ok (record { streams = ns; meaning = meaning_of m q ns })
-
-abbrev pub found_of : Machine → Result syntax.Query text.Fault → Result Found QueryFault
-found_of m (Ok q) = found_in m q (numbers_of m q.sources)
-found_of m (Err fault) = Err (fault_of_text fault)
+abbrev pub found_of : Catalog → Result syntax.Query text.Fault → Result Found QueryFault
+found_of catalog (Ok q) = found_in catalog q (numbers_in catalog q.sources)
+found_of catalog (Err fault) = Err (fault_of_text fault)
 
 -- what the text of a query means, or the first fault of it
 abbrev pub found : Machine → List ℕ → Result Found QueryFault
-found m source = found_of m (reading source)
+found m source = found_of (catalog_of m.streams) (reading source)
 
 abbrev pub query_tests : Result Found QueryFault → List (Bool × Fault)
 query_tests (Ok f) = []
@@ -125,12 +102,16 @@ query_tests (Err fault) = (true, Query fault) ∷ []
 abbrev pub count_undropped : Machine → ℕ
 count_undropped m = count_by (λ q. not q.is_dropped) m.queries
 
-abbrev pub register_fault : Machine → List ℕ → List ℕ → Option Fault
-register_fault m name source = first_of (
+-- the tests before that of the text
+abbrev pub register_tests : Machine → List ℕ → List (Bool × Fault)
+register_tests m name =
     (not (is_name name), BadName)
     ∷ (is_some (query_named m name), NameTaken)
     ∷ (nat_le MAX_QUERIES (count_undropped m) || nat_le MAX_REGISTRATIONS (length m.queries), TooMany)
-    ∷ query_tests (found m source))
+    ∷ []
+
+abbrev pub register_fault : Machine → List ℕ → List ℕ → Option Fault
+register_fault m name source = first_of (register_tests m name ++ query_tests (found m source))
 
 abbrev pub append_tests : Stream → List (ℤ × List (Option ℤ)) → List (Bool × Fault)
 append_tests s rows =

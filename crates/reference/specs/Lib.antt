@@ -1,3 +1,4 @@
+pub mod Names
 pub mod Machine
 pub mod Commands
 pub mod World
@@ -7,3 +8,11 @@ pub mod Views
 pub mod Conditions
 pub mod Resolved
 pub mod Totals
+pub mod Appended
+pub mod Inputs
+pub mod Standing
+pub mod Places
+pub mod Sound
+pub mod PlainViews
+pub mod Told
+pub mod Finds

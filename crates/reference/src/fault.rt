@@ -1,4 +1,8 @@
 //! What a call is refused for.
+ghost use Rattle.std.specs.Prelude.{◌≡◌};
+ghost use Rattle.reference.specs.declared.fault.Fault.TheVariants.{OutOfMemory};
+
+use std::alloc::AllocError;
 use std::fmt;
 
 /// What is wrong with the text of a query, or with what it names. A place is the number of bytes before the token.
@@ -88,5 +92,13 @@ impl fmt::Display for Fault {
             Fault::BadLimit => write!(f, "E14 BadLimit"),
             Fault::OutOfMemory => write!(f, "E20 OutOfMemory"),
         }
+    }
+}
+
+impl From<AllocError> for Fault {
+    ghost from_gives = { λ _ e. e ≡ OutOfMemory };
+
+    fn from(_error: AllocError) -> Fault {
+        Fault::OutOfMemory
     }
 }

@@ -8,6 +8,11 @@ pub mod evaluate;
 mod fault;
 mod limits;
 mod new_rows;
+mod place;
+mod plain;
+mod resolve;
+mod standing;
+mod stream;
 
 pub use answering::Answering;
 pub use fault::{Fault, QueryFault};
@@ -16,3 +21,4 @@ pub use limits::{
     MAX_STREAM_ROWS, MAX_STREAMS, MAX_TAKE, MAX_TURN,
 };
 pub use new_rows::NewRows;
+pub use plain::Plain;

@@ -1,8 +1,15 @@
 //! Rows on their way into a stream.
-ghost use Rattle.std.specs.Prelude.{◌≡◌, ◌↔◌, ◌++◌, ◌∷◌, [], IsTrue, OnOk, OnErr, length};
+ghost use Rattle.std.specs.Prelude.{◌≡◌, ◌↔◌, ◌+◌, ◌≤◌, ◌++◌, ◌∷◌, [], IsTrue, OnOk, OnErr, length, pos, true, sum, not, ◌==◌, int_lt, vec_len, vec_capacity};
+ghost use Rattle.std.specs.List.{list_any, list_all};
+ghost use Rattle.reference.specs.NewRows.{rows_in};
+ghost use Rattle.reference.specs.Commands.{is_stream_value, is_instant};
+ghost use Rattle.reference.specs.Appended.{can_be_kept, kept_of};
+ghost use Rattle.reference.specs.Views.{pairs_of};
 
+use crate::limits::MAX_INSTANT;
 use std::alloc::{AllocError, Global};
 use std::marker::Model;
+use values::{Row, STREAM_MAX, Value};
 
 /// Rows that are to be appended, each an instant and its values, of any number of values.
 ///
@@ -62,5 +69,120 @@ impl NewRows {
         self.instants.push_reserved(instant);
         self.widths.push_reserved(values.len());
         Ok(())
+    }
+
+    /// Whether a row has another number of values.
+    pub(crate) fn has_other_width(&self, width: usize) -> bool
+        ensures { result ≡ list_any (λ r. not (length r.1 == width)) self.now }
+    {
+        any_differs(&self.widths, width)
+    }
+
+    /// Whether a value lies outside the range of streams.
+    pub(crate) fn has_other_value(&self) -> bool
+        ensures { result ≡ list_any (λ r. not (list_all is_stream_value r.1)) self.now }
+    {
+        !all_stream_values(&self.values)
+    }
+
+    /// Whether an instant lies outside the range of instants.
+    pub(crate) fn has_other_instant(&self) -> bool
+        ensures { result ≡ list_any (λ r. not (is_instant r.0)) self.now }
+    {
+        any_no_instant(&self.instants)
+    }
+
+    /// Whether a row is below the first open instant.
+    pub(crate) fn has_late_row(&self, first_open: i64) -> bool
+        ensures { result ≡ list_any (λ r. int_lt r.0 first_open) self.now }
+    {
+        any_below(&self.instants, first_open)
+    }
+
+    /// Puts the rows behind the elements, which have room for them.
+    pub(crate) fn copy_to(&self, elements: &mut Vec<(u64, Row)>)
+        requires good { list_all can_be_kept self.now ≡ true }
+        requires room { vec_len elements.old + length self.now ≤ vec_capacity elements.old }
+        ensures { pairs_of elements.new.items ≡ pairs_of elements.old.items ++ kept_of self.now }
+    {
+        copy_rows(&self.instants, &self.widths, &self.values, elements)
+    }
+}
+
+fn any_differs(widths: &[usize], width: usize) -> bool
+    ensures { result ≡ list_any (λ w. not (w == width)) widths.now }
+{
+    widths.iter().any(|w| *w != width)
+}
+
+fn any_no_instant(instants: &[i64]) -> bool
+    ensures { result ≡ list_any (λ at. not (is_instant at)) instants.now }
+{
+    instants.iter().any(|at| *at < 0 || MAX_INSTANT < *at)
+}
+
+fn any_below(instants: &[i64], first_open: i64) -> bool
+    ensures { result ≡ list_any (λ at. int_lt at first_open) instants.now }
+{
+    instants.iter().any(|at| *at < first_open)
+}
+
+fn is_stream_value(value: Option<i64>) -> bool
+    ensures { result ≡ is_stream_value value }
+{
+    match value {
+        None => true,
+        Some(number) => -STREAM_MAX <= number && number <= STREAM_MAX,
+    }
+}
+
+fn all_stream_values(values: &[Option<i64>]) -> bool
+    ensures { result ≡ list_all is_stream_value values.now }
+{
+    values.iter().all(|value| is_stream_value(*value))
+}
+
+fn value_of(value: Option<i64>) -> Value
+    requires { is_stream_value value ≡ true }
+    ensures { result ≡ value }
+{
+    match value {
+        None => Value::null(),
+        Some(number) => match Value::new(number) {
+            Some(value) => value,
+            None => unreachable!(),
+        },
+    }
+}
+
+fn row_of(values: &[Option<i64>]) -> Row
+    requires few { length values.now ≤ 16 }
+    requires in_range { list_all is_stream_value values.now ≡ true }
+    ensures { result.items ≡ values.now }
+{
+    let mut row = Row::new();
+    for value in values {
+        row.push(value_of(*value));
+    }
+    row
+}
+
+fn copy_rows(
+    instants: &[i64],
+    widths: &[usize],
+    values: &[Option<i64>],
+    elements: &mut Vec<(u64, Row)>,
+)
+    requires lengths { length widths.now ≡ length instants.now }
+    requires all { sum widths.now ≡ length values.now }
+    requires good { list_all can_be_kept (rows_in instants.now widths.now values.now) ≡ true }
+    requires room { vec_len elements.old + length instants.now ≤ vec_capacity elements.old }
+    ensures { pairs_of elements.new.items ≡ pairs_of elements.old.items ++ kept_of (rows_in instants.now widths.now values.now) }
+{
+    let mut rest = values;
+    for i in 0..instants.len() {
+        let (row, after) = rest.split_at(widths[i]);
+        elements.push_reserved((instants[i] as u64, row_of(row)));
+        rest = after;
     }
 }

@@ -1,0 +1,96 @@
+-- What the tests of an append let through, and what it makes of a stream.
+use Rattle.std.proofs.Common.{◌≡◌, ◌≤◌, ◌+◌, ℕ, ℤ, Bool, true, false, not, ◌&&◌, ◌||◌, ◌==◌, nat_le, Option, Some, None, List, [], ◌∷◌, ◌++◌, length, map, refl, sym, ap, ◌∙◌, arith, pos, int_le, int_lt, nat_lt, nat_abs, length-append}
+use Rattle.std.specs.List.{list_any, list_all}
+use Rattle.std.proofs.lemmas.List.{map-append, length-map}
+use Rattle.std.proofs.lemmas.Bool.{le-leb, eqb-true}
+use Rattle.arrayvec.specs.ArrayVec.{ArrayVec}
+use Rattle.values.specs.Row.{Row}
+use Rattle.values.specs.Window.{numbered}
+use Rattle.values.proofs.Closed.{numbered-append}
+use Rattle.reference.specs.declared.fault.Fault.{Fault}
+use Rattle.reference.specs.declared.limits.TheConstants.{MAX_INSTANT, MAX_APPENDED, MAX_STREAM_ROWS}
+use Rattle.reference.specs.declared.fault.Fault.TheVariants.{TooMany, BadWidth, ValueRange, InstantRange, Late, StreamFull}
+use Rattle.reference.specs.Machine.{Stream}
+use Rattle.reference.specs.Commands.{first_of, append_tests, is_stream_value, is_instant, elements_from}
+use Rattle.reference.specs.Views.{pairs_of, elements_of}
+use Rattle.reference.specs.Appended.{can_be_kept, kept_of}
+
+-- where no test fails, the first does not, and none of the others
+pub none_first : (b : Bool) (fault : Fault) (tests : List (Bool × Fault)) → first_of ((b, fault) ∷ tests) ≡ None → b ≡ false
+none_first true fault tests h = cc
+none_first false fault tests h = refl
+
+pub none_later : (b : Bool) (fault : Fault) (tests : List (Bool × Fault)) → first_of ((b, fault) ∷ tests) ≡ None → first_of tests ≡ None
+none_later true fault tests h = cc
+none_later false fault tests h = h
+
+or_left : (a b : Bool) → (a || b) ≡ false → a ≡ false
+or_left true b h = h
+or_left false b h = refl
+
+or_right : (a b : Bool) → (a || b) ≡ false → b ≡ false
+or_right true b h = cc
+or_right false b h = h
+
+not_false : (b : Bool) → not b ≡ false → b ≡ true
+not_false true h = refl
+not_false false h = cc
+
+and_left : (a b : Bool) → (a && b) ≡ true → a ≡ true
+and_left true b h = refl
+and_left false b h = h
+
+all_true : (a b c : Bool) → a ≡ true → b ≡ true → c ≡ true → (a && (b && c)) ≡ true
+all_true a b c p q r = rw (p, q, r) refl
+
+kept : (width : ℕ) → width ≤ 8 → (rows : List (ℤ × List (Option ℤ)))
+    → list_any (λ r. not (length r.1 == width)) rows ≡ false
+    → list_any (λ r. not (list_all is_stream_value r.1)) rows ≡ false
+    → list_any (λ r. not (is_instant r.0)) rows ≡ false
+    → list_all can_be_kept rows ≡ true
+kept width few [] h v i = refl
+kept width few (r ∷ rows) h v i =
+    let here : length r.1 ≡ width = eqb-true (length r.1) width (not_false _ (or_left _ _ h)) in
+    let narrow : nat_le (length r.1) 16 ≡ true = le-leb (length r.1) 16 (omega arith) in
+    let good : list_all is_stream_value r.1 ≡ true = not_false _ (or_left _ _ v) in
+    let late : int_le (pos 0) r.0 ≡ true = and_left _ (int_le r.0 MAX_INSTANT) (not_false _ (or_left _ _ i)) in
+    let rest : list_all can_be_kept rows ≡ true = kept width few rows (or_right _ _ h) (or_right _ _ v) (or_right _ _ i) in
+    rw (narrow, good, late, rest) refl
+
+middle : (a b c d e f : Bool) (one two three four five six : Fault)
+    → first_of ((a, one) ∷ (b, two) ∷ (c, three) ∷ (d, four) ∷ (e, five) ∷ (f, six) ∷ []) ≡ None → (b ≡ false) × (c ≡ false) × (d ≡ false)
+middle a b c d e f one two three four five six h =
+    let rest = none_later a one ((b, two) ∷ (c, three) ∷ (d, four) ∷ (e, five) ∷ (f, six) ∷ []) h in
+    let more = none_later b two ((c, three) ∷ (d, four) ∷ (e, five) ∷ (f, six) ∷ []) rest in
+    let last = none_later c three ((d, four) ∷ (e, five) ∷ (f, six) ∷ []) more in (
+      none_first b two ((c, three) ∷ (d, four) ∷ (e, five) ∷ (f, six) ∷ []) rest,
+      none_first c three ((d, four) ∷ (e, five) ∷ (f, six) ∷ []) more,
+      none_first d four ((e, five) ∷ (f, six) ∷ []) last,
+    )
+
+pub accepted_rows : (s : Stream) (rows : List (ℤ × List (Option ℤ))) → length s.columns ≤ 8 → first_of (append_tests s rows) ≡ None
+    → list_all can_be_kept rows ≡ true
+accepted_rows s rows few h =
+    let tests = middle (nat_lt MAX_APPENDED (length rows)) (list_any (λ r. not (length r.1 == length s.columns)) rows)
+    (list_any (λ r. not (list_all is_stream_value r.1)) rows) (list_any (λ r. not (is_instant r.0)) rows)
+    (list_any (λ r. int_lt r.0 (pos s.first_open)) rows) (nat_lt MAX_STREAM_ROWS (s.arrivals + length rows))
+    TooMany BadWidth ValueRange InstantRange Late StreamFull h in
+    kept (length s.columns) few rows tests.0 tests.1 tests.2
+
+length-pairs_of : (es : List (ℕ × ArrayVec (Option ℤ))) → length (pairs_of es) ≡ length es
+length-pairs_of es = length-map es (λ (e : ℕ × ArrayVec (Option ℤ)). (e.0, e.1.items))
+
+length-kept_of : (rows : List (ℤ × List (Option ℤ))) → length (kept_of rows) ≡ length rows
+length-kept_of rows = length-map rows (λ (r : ℤ × List (Option ℤ)). (nat_abs r.0, r.1))
+
+pub kept-arrivals : (new old : List (ℕ × ArrayVec (Option ℤ))) (rows : List (ℤ × List (Option ℤ))) → pairs_of new ≡ pairs_of old ++ kept_of rows
+    → length new ≡ length old + length rows
+kept-arrivals new old rows h =
+    let e = ap length h in
+    omega (arith, simp length-append at e, length-pairs_of new, length-pairs_of old, length-kept_of rows)
+
+pub kept-elements : (new old : List (ℕ × ArrayVec (Option ℤ))) (rows : List (ℤ × List (Option ℤ))) → pairs_of new ≡ pairs_of old ++ kept_of rows
+    → elements_of new ≡ elements_of old ++ elements_from (length old) rows
+kept-elements new old rows h =
+    let n : 0 + length (pairs_of old) ≡ length old = omega (arith, length-pairs_of old) in
+    ap (numbered 0) h ∙ numbered-append 0 (pairs_of old) (kept_of rows) ∙ ap (λ k. elements_of old ++ numbered k (kept_of rows)) n

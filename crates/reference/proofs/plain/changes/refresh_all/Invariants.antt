@@ -1,0 +1,11 @@
+use Rattle.std.proofs.Common.{◌≡◌, take, map}
+use Rattle.reference.specs.World.{untaken}
+use Rattle.reference.specs.Places.{machine_of}
+use Rattle.reference.specs.Standing.{query_of, waiting_of}
+use Rattle.reference.proofs.plain.changes.refresh_all.Given as goal
+
+abbrev pub invariant-loop-i : goal.invariant-loop-i
+invariant-loop-i l = record {
+  queries : map query_of l.queries ≡ map query_of l.initial.queries;
+  waiting : map waiting_of (take l.i l.queries) ≡ map (untaken (machine_of l.streams)) (map query_of (take l.i l.queries));
+}

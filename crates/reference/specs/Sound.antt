@@ -1,0 +1,22 @@
+-- What is true of the meaning of each registered query, as tests.
+use Rattle.std.specs.Prelude.{ℕ, Bool, true, ◌&&◌, nat_le, nat_lt, List, length}
+use Rattle.std.specs.List.{list_all}
+use Rattle.reference.specs.declared.evaluate.resolved.Shape.{Shape}
+use Rattle.reference.specs.declared.evaluate.resolved.Shape.TheVariants.{Listed, Grouped}
+use Rattle.reference.specs.declared.evaluate.window.Window.{Window}
+use Rattle.reference.specs.declared.evaluate.window.Window.TheVariants.{Range, RangeSlide, Unbounded, LastRows}
+
+-- its rows have at most 16 values
+abbrev pub has_narrow_rows : Shape → Bool
+has_narrow_rows (Listed columns) = nat_le (length columns.items) 16
+has_narrow_rows (Grouped by items) = nat_le (length by.items) 16 && nat_le (length items.items) 16
+
+-- a window slides by one instant or more
+abbrev pub can_slide : Window → Bool
+can_slide (Range n) = true
+can_slide (RangeSlide n l) = nat_lt 0 l
+can_slide Unbounded = true
+can_slide (LastRows columns n) = true
+
+abbrev pub all_slide : List Window → Bool
+all_slide windows = list_all can_slide windows

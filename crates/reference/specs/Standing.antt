@@ -1,0 +1,27 @@
+-- A registered query of the code as one of the machine.
+use Rattle.std.specs.Prelude.{ℕ, List, [], map, string_bytes}
+use Rattle.values.specs.Row.{Row}
+use Rattle.reference.specs.Views.{pairs_of}
+use Rattle.reference.specs.Resolved.{resolved_of}
+use Rattle.reference.specs.Machine as machine
+use Rattle.reference.specs.Commands as commands
+use Rattle.reference.specs.Places.{place_of}
+use Rattle.reference.specs.declared.standing.StandingQuery.{StandingQuery}
+use Rattle.reference.specs.declared.resolve.Found.{Found}
+
+abbrev pub query_of : StandingQuery → machine.Registered
+query_of q = record {
+  name = string_bytes q.name;
+  meaning = resolved_of q.meaning;
+  places = map place_of q.places.items;
+  first = q.first;
+  taken = q.taken;
+  is_dropped = q.is_dropped;
+}
+
+-- the answers that wait at it
+abbrev pub waiting_of : StandingQuery → List (ℕ × Row)
+waiting_of q = pairs_of q.waiting.items
+
+abbrev pub found_of : Found → commands.Found
+found_of f = record { streams = f.streams.items; meaning = resolved_of f.meaning }

@@ -1,0 +1,121 @@
+//! The sources of a registered query.
+ghost use Rattle.std.specs.Prelude.{◌≡◌, ◌≤◌, IfOk, length, map, slice_get};
+ghost use Rattle.std.specs.Option.{option_map_or};
+ghost use Rattle.reference.specs.Machine.{input_at, first_for, until_for};
+ghost use Rattle.reference.specs.Commands.{place_at};
+ghost use Rattle.reference.specs.Inputs.{EachShowsSame, ShowsSame};
+ghost use Rattle.reference.specs.Places.{place_of, machine_of};
+ghost use Rattle.reference.specs.Views.{elements_of, inputs_of};
+
+use crate::stream::Stream;
+use std::alloc::{AllocError, Global};
+use values::Row;
+
+/// A source of a registered query: the stream's number, and how many rows had come to it before the registration.
+#[derive(Clone, Copy)]
+pub(crate) struct Place {
+    stream: usize,
+    arrivals: u64,
+}
+
+fn first_open_at(streams: &[Stream], place: Place) -> u64
+    ensures open { result ≡ option_map_or (λ s. s.first_open) (slice_get streams.now place.stream) 0 }
+    ensures range { result ≤ 1099511627777 }
+{
+    match streams.get(place.stream) {
+        Some(stream) => stream.first_open(),
+        None => 0,
+    }
+}
+
+/// The greatest of the sources' first open instants.
+pub(crate) fn first_for(streams: &[Stream], places: &[Place]) -> u64
+    ensures { result ≡ first_for streams.now (map place_of places.now) }
+{
+    let mut greatest: Option<u64> = None;
+    for place in places {
+        let open = first_open_at(streams, *place);
+        greatest = Some(match greatest {
+            None => open,
+            Some(so_far) => so_far.max(open),
+        });
+    }
+    greatest.unwrap_or(0)
+}
+
+/// The least of the sources' first open instants.
+pub(crate) fn until_for(streams: &[Stream], places: &[Place]) -> u64
+    ensures least { result ≡ until_for streams.now (map place_of places.now) }
+    ensures range { result ≤ 1099511627777 }
+{
+    let mut least: Option<u64> = None;
+    for place in places {
+        let open = first_open_at(streams, *place);
+        least = Some(match least {
+            None => open,
+            Some(so_far) => so_far.min(open),
+        });
+    }
+    least.unwrap_or(0)
+}
+
+fn input_at(
+    alloc: Global,
+    streams: &[Stream],
+    first: u64,
+    place: Place,
+) -> Result<Vec<(u64, Row)>, AllocError>
+    ensures { IfOk result (λ v. ShowsSame (input_at streams.now first (place_of place)) (elements_of v.items)) }
+{
+    match streams.get(place.stream) {
+        Some(stream) => stream.input(alloc, place.arrivals, first),
+        None => Ok(Vec::new(alloc)),
+    }
+}
+
+/// What counts of each source's stream.
+pub(crate) fn inputs_at(
+    alloc: Global,
+    streams: &[Stream],
+    first: u64,
+    places: &[Place],
+) -> Result<Vec<Vec<(u64, Row)>>, AllocError>
+    ensures inputs { IfOk result (λ v. EachShowsSame (map (input_at streams.now first) (map place_of places.now)) (inputs_of v.items)) }
+    ensures len { IfOk result (λ v. length v.items ≡ length places.now) }
+{
+    let mut inputs = Vec::new(alloc);
+    for place in places {
+        inputs.push(input_at(alloc, streams, first, *place)?)?;
+    }
+    Ok(inputs)
+}
+
+/// A source that is registered now.
+fn place_at(streams: &[Stream], number: usize) -> Place
+    ensures { place_of result ≡ place_at (machine_of streams.now) number }
+{
+    let arrivals = match streams.get(number) {
+        Some(stream) => stream.arrivals(),
+        None => 0,
+    };
+    Place {
+        stream: number,
+        arrivals,
+    }
+}
+
+/// The sources that are registered now.
+pub(crate) fn places_of(
+    alloc: Global,
+    streams: &[Stream],
+    numbers: &[usize],
+) -> Result<Vec<Place>, AllocError>
+    ensures places { IfOk result (λ v. map place_of v.items ≡ map (place_at (machine_of streams.now)) numbers.now) }
+    ensures len { IfOk result (λ v. length v.items ≡ length numbers.now) }
+{
+    let mut places = Vec::new(alloc);
+    for number in numbers {
+        places.push(place_at(streams, *number))?;
+    }
+    Ok(places)
+}

@@ -1,0 +1,89 @@
+//! What the plain engine answers.
+ghost use Rattle.std.specs.Prelude.{⊤};
+ghost use Rattle.reference.specs.PlainViews.{world_of};
+
+use crate::answering::Answering;
+use crate::fault::Fault;
+use crate::new_rows::NewRows;
+use crate::plain::Plain;
+use crate::plain::faults::turn_fault;
+use crate::plain::names::query_called;
+use crate::resolve::number_of;
+use values::Row;
+
+impl Answering for Plain {
+    ghost world = { world_of };
+
+    ghost is_alone = { λ _. ⊤ };
+
+    #[tactic(auto, unfolding(crate::specs::World::declare_step))]
+    fn stream(&mut self, name: &str, columns: &[String], from: i64) -> Result<u64, Fault> {
+        match self.declare_fault(name, columns, from) {
+            Some(fault) => Err(fault),
+            None => Ok(self.declare(name, columns, from)?),
+        }
+    }
+
+    #[tactic(auto, unfolding(crate::specs::World::register_step))]
+    fn query(&mut self, name: &str, text: &str) -> Result<u64, Fault> {
+        if let Some(fault) = self.register_fault(name) {
+            return Err(fault);
+        }
+        match self.find(text) {
+            Err(fault) => Err(fault),
+            Ok(found) => Ok(self.register(name, found)?),
+        }
+    }
+
+    #[tactic(auto, unfolding(crate::specs::World::append_step))]
+    fn append(&mut self, stream: u64, rows: &NewRows) -> Result<(), Fault> {
+        match self.append_fault(stream, rows) {
+            Some(fault) => Err(fault),
+            None => Ok(self.append_rows(stream, rows)?),
+        }
+    }
+
+    #[tactic(auto, unfolding(crate::specs::World::heartbeat_step))]
+    fn heartbeat(&mut self, stream: u64, at: i64) -> Result<(), Fault> {
+        if let Some(fault) = self.heartbeat_fault(stream, at) {
+            return Err(fault);
+        }
+        self.close(stream, at);
+        Ok(())
+    }
+
+    #[tactic(auto, unfolding(crate::specs::World::drain_step))]
+    fn drain(&mut self, rows: u32) -> Result<(), Fault> {
+        if let Some(fault) = turn_fault(rows) {
+            return Err(fault);
+        }
+        Ok(self.evaluate_all()?)
+    }
+
+    #[tactic(auto, unfolding(crate::specs::World::take_step))]
+    fn take(&mut self, query: u64, limit: i64) -> Result<Vec<(i64, Row)>, Fault> {
+        match self.take_fault(query, limit) {
+            Some(fault) => Err(fault),
+            None => Ok(self.hand_out(query, limit)?),
+        }
+    }
+
+    #[tactic(auto, unfolding(crate::specs::World::drop_step))]
+    fn drop_query(&mut self, query: u64) -> Result<(), Fault> {
+        if let Some(fault) = self.drop_fault(query) {
+            return Err(fault);
+        }
+        self.drop_out(query);
+        Ok(())
+    }
+
+    #[tactic(auto, unfolding(crate::specs::World::stream_named))]
+    fn stream_named(&self, name: &str) -> Option<u64> {
+        number_of(&self.streams, name).map(|number| number as u64)
+    }
+
+    #[tactic(auto, unfolding(crate::specs::World::query_named))]
+    fn query_named(&self, name: &str) -> Option<u64> {
+        query_called(&self.queries, name).map(|number| number as u64)
+    }
+}

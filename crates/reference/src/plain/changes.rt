@@ -1,0 +1,129 @@
+//! What an accepted call changes.
+ghost use Rattle.std.specs.Prelude.{◌≡◌, IfOk, OnOk, OnErr, None, length, min, true, [], ◌∷◌, ◌++◌, nat_abs, drop, take, map};
+ghost use Rattle.reference.specs.Commands.{first_fault, after, change, registered_as, Declare, Append, Heartbeat, Take, Drop};
+ghost use Rattle.reference.specs.CallViews.{texts_of, handed_of};
+ghost use Rattle.reference.specs.World.{handed, waiting_at, untaken};
+ghost use Rattle.reference.specs.PlainViews.{machine_in, world_of};
+ghost use Rattle.reference.specs.Standing.{found_of, query_of, waiting_of};
+ghost use Rattle.reference.specs.Places.{machine_of};
+ghost use Rattle.reference.specs.Sound.{has_narrow_rows, all_slide};
+
+use crate::new_rows::NewRows;
+use crate::plain::Plain;
+use crate::resolve::Found;
+use crate::standing::StandingQuery;
+use crate::stream::Stream;
+use std::alloc::{AllocError, Global};
+use values::Row;
+
+/// The names once more.
+fn copy_names(alloc: Global, names: &[String]) -> Result<Vec<String>, AllocError>
+    ensures names { IfOk result (λ v. texts_of v.items ≡ texts_of names.now) }
+    ensures len { IfOk result (λ v. length v.items ≡ length names.now) }
+{
+    let mut copy = Vec::new(alloc);
+    for name in names {
+        copy.push(name.clone()?)?;
+    }
+    Ok(copy)
+}
+
+impl Plain {
+    /// Adds a stream and answers its number. On Err all is as it was.
+    pub(crate) fn declare(
+        &mut self,
+        name: &str,
+        columns: &[String],
+        from: i64,
+    ) -> Result<u64, AllocError>
+        requires { first_fault (machine_in self.old) (Declare name.now (texts_of columns.now) from) ≡ None }
+        ensures number { IfOk result (λ n. n ≡ length self.old.streams.items) }
+        ensures ok { OnOk result (world_of self.new ≡ record (world_of self.old) { machine = after (machine_in self.old) (Declare name.now (texts_of columns.now) from) 0 }) }
+        ensures err { OnErr result (world_of self.new ≡ world_of self.old) }
+    {
+        let name = String::from_str(self.alloc, name)?;
+        let columns = copy_names(self.alloc, columns)?;
+        self.streams.reserve(1)?;
+        let number = self.streams.len() as u64;
+        self.streams
+            .push_reserved(Stream::new(self.alloc, name, columns, from as u64));
+        Ok(number)
+    }
+
+    /// Adds a query and answers its number. On Err all is as it was.
+    pub(crate) fn register(&mut self, name: &str, found: Found) -> Result<u64, AllocError>
+        requires fits { has_narrow_rows found.meaning.shape ≡ true }
+        requires sources { length found.meaning.windows.items ≡ length found.streams.items }
+        requires slides { all_slide found.meaning.windows.items ≡ true }
+        ensures number { IfOk result (λ n. n ≡ length self.old.queries.items) }
+        ensures ok { OnOk result (world_of self.new ≡ record { machine = record (machine_in self.old) { queries = (machine_in self.old).queries ++ registered_as (machine_in self.old) name.now (found_of found) ∷ [] }; waiting = (world_of self.old).waiting ++ [] ∷ [] }) }
+        ensures err { OnErr result (world_of self.new ≡ world_of self.old) }
+    {
+        let name = String::from_str(self.alloc, name)?;
+        let query = StandingQuery::new(self.alloc, &self.streams, name, found)?;
+        self.queries.reserve(1)?;
+        let number = self.queries.len() as u64;
+        self.queries.push_reserved(query);
+        Ok(number)
+    }
+
+    /// Appends the rows. On Err all is as it was.
+    pub(crate) fn append_rows(&mut self, stream: u64, rows: &NewRows) -> Result<(), AllocError>
+        requires { first_fault (machine_in self.old) (Append stream rows.now) ≡ None }
+        ensures ok { OnOk result (world_of self.new ≡ record (world_of self.old) { machine = after (machine_in self.old) (Append stream rows.now) 0 }) }
+        ensures err { OnErr result (world_of self.new ≡ world_of self.old) }
+    {
+        self.streams[stream as usize].append(rows)
+    }
+
+    /// Closes all instants of the stream up to `at`.
+    pub(crate) fn close(&mut self, stream: u64, at: i64)
+        requires { first_fault (machine_in self.old) (Heartbeat stream at) ≡ None }
+        ensures { world_of self.new ≡ record (world_of self.old) { machine = after (machine_in self.old) (Heartbeat stream at) 0 } }
+    {
+        self.streams[stream as usize].close(at);
+    }
+
+    /// Hands out the first answers that wait. On Err all is as it was.
+    pub(crate) fn hand_out(&mut self, query: u64, limit: i64) -> Result<Vec<(i64, Row)>, AllocError>
+        requires { first_fault (machine_in self.old) (Take query limit) ≡ None }
+        ensures rows { IfOk result (λ v. handed_of v.items ≡ handed (take (min (nat_abs limit) (length (waiting_at (world_of self.old) query))) (waiting_at (world_of self.old) query))) }
+        ensures machine { OnOk result (machine_in self.new ≡ after (machine_in self.old) (Take query limit) (min (nat_abs limit) (length (waiting_at (world_of self.old) query)))) }
+        ensures waiting { OnOk result ((world_of self.new).waiting ≡ change query (drop (min (nat_abs limit) (length (waiting_at (world_of self.old) query)))) (world_of self.old).waiting) }
+        ensures err { OnErr result (world_of self.new ≡ world_of self.old) }
+    {
+        self.queries[query as usize].take(self.alloc, limit as usize)
+    }
+
+    /// Makes the untaken answers of each query wait.
+    pub(crate) fn evaluate_all(&mut self) -> Result<(), AllocError>
+        ensures machine { machine_in self.new ≡ machine_in self.old }
+        ensures waiting { OnOk result (world_of self.new ≡ record (world_of self.old) { waiting = map (untaken (machine_in self.old)) (machine_in self.old).queries }) }
+    {
+        refresh_all(&mut self.queries, self.alloc, &self.streams)
+    }
+
+    /// Drops the query. Takes no memory.
+    pub(crate) fn drop_out(&mut self, query: u64)
+        requires { first_fault (machine_in self.old) (Drop query) ≡ None }
+        ensures machine { machine_in self.new ≡ after (machine_in self.old) (Drop query) 0 }
+        ensures waiting { (world_of self.new).waiting ≡ change query (λ rows. []) (world_of self.old).waiting }
+    {
+        self.queries[query as usize].drop_out();
+    }
+}
+
+/// Makes the untaken answers of each query wait.
+fn refresh_all(
+    queries: &mut [StandingQuery],
+    alloc: Global,
+    streams: &[Stream],
+) -> Result<(), AllocError>
+    ensures queries { map query_of queries.new ≡ map query_of queries.old }
+    ensures waiting { OnOk result (map waiting_of queries.new ≡ map (untaken (machine_of streams.now)) (map query_of queries.new)) }
+{
+    for i in 0..queries.len() {
+        queries[i].refresh(alloc, streams)?;
+    }
+    Ok(())
+}

@@ -1,0 +1,75 @@
+//! The answers of a registered query.
+ghost use Rattle.std.specs.Prelude.{◌≡◌, ◌<◌, ◌+◌, ◌^◌, IfOk, OnOk, drop, true};
+ghost use Rattle.reference.specs.Inputs.{are_signed};
+ghost use Rattle.std.specs.VecDeque.{deque_len};
+ghost use Rattle.reference.specs.Machine.{closed_answers};
+ghost use Rattle.reference.specs.World.{untaken};
+ghost use Rattle.reference.specs.Places.{machine_of};
+ghost use Rattle.reference.specs.Standing.{query_of, waiting_of};
+ghost use Rattle.reference.specs.Views.{pairs_of, timed_of};
+
+use crate::evaluate::evaluate;
+use crate::place::{inputs_at, until_for};
+use crate::standing::StandingQuery;
+use crate::stream::Stream;
+use std::alloc::{AllocError, Global};
+use std::collections::VecDeque;
+use values::Row;
+
+impl StandingQuery {
+    /// All its answers for the instants that are closed.
+    fn closed_answers(
+        &self,
+        alloc: Global,
+        streams: &[Stream],
+    ) -> Result<Vec<(u64, Row)>, AllocError>
+        ensures answers { IfOk result (λ v. timed_of v.items ≡ closed_answers (machine_of streams.now) (query_of self.now)) }
+        ensures instants { IfOk result (λ v. are_signed (pairs_of v.items) ≡ true) }
+    {
+        let inputs = inputs_at(alloc, streams, self.first, &self.places)?;
+        let until = until_for(streams, &self.places);
+        evaluate(alloc, &self.meaning, self.first, until, &inputs)
+    }
+
+    /// Its answers that are closed and not yet taken.
+    pub(crate) fn untaken(
+        &self,
+        alloc: Global,
+        streams: &[Stream],
+    ) -> Result<VecDeque<(u64, Row)>, AllocError>
+        ensures answers { IfOk result (λ v. pairs_of v.items ≡ untaken (machine_of streams.now) (query_of self.now)) }
+        ensures counts { IfOk result (λ v. (query_of self.now).taken + deque_len v < 2 ^ 64) }
+        ensures instants { IfOk result (λ v. are_signed (pairs_of v.items) ≡ true) }
+    {
+        if self.is_dropped {
+            return Ok(VecDeque::new(alloc));
+        }
+        let answers = self.closed_answers(alloc, streams)?;
+        Ok(without_front(answers, self.taken))
+    }
+
+    /// Makes its untaken answers wait. On Err it is as it was.
+    pub(crate) fn refresh(&mut self, alloc: Global, streams: &[Stream]) -> Result<(), AllocError>
+        ensures query { query_of self.new ≡ query_of self.old }
+        ensures waiting { OnOk result (waiting_of self.new ≡ untaken (machine_of streams.now) (query_of self.old)) }
+    {
+        let waiting = self.untaken(alloc, streams)?;
+        self.put(waiting);
+        Ok(())
+    }
+}
+
+/// The answers without the first `count`.
+fn without_front(answers: Vec<(u64, Row)>, count: u64) -> VecDeque<(u64, Row)>
+    requires { are_signed (pairs_of answers.items) ≡ true }
+    ensures items { pairs_of result.items ≡ drop count (pairs_of answers.items) }
+    ensures instants { are_signed (pairs_of result.items) ≡ true }
+    ensures counts { count + deque_len result < 2 ^ 64 }
+{
+    let mut waiting = VecDeque::from_vec(answers);
+    let known = (waiting.len() as u64).min(count);
+    for _ in 0..known {
+        let _ = waiting.pop_front();
+    }
+    waiting
+}

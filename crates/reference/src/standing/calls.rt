@@ -1,0 +1,118 @@
+//! What is done with a registered query.
+ghost use Rattle.std.specs.Prelude.{◌≡◌, ◌≤◌, ◌<◌, ◌+◌, ◌^◌, ◌++◌, [], IfOk, OnOk, OnErr, length, min, take, drop, vec_len, vec_capacity, string_bytes, true};
+ghost use Rattle.reference.specs.Inputs.{are_signed};
+ghost use Rattle.std.specs.VecDeque.{deque_len};
+ghost use Rattle.reference.specs.Machine as machine;
+ghost use Rattle.reference.specs.Commands as commands;
+ghost use Rattle.reference.specs.Commands.{registered_as, took};
+ghost use Rattle.reference.specs.World.{handed};
+ghost use Rattle.reference.specs.CallViews.{handed_of};
+ghost use Rattle.reference.specs.Sound.{has_narrow_rows, all_slide};
+ghost use Rattle.reference.specs.Places.{machine_of};
+ghost use Rattle.reference.specs.Standing.{query_of, waiting_of, found_of};
+ghost use Rattle.reference.specs.Views.{pairs_of};
+
+use crate::place::{first_for, places_of};
+use crate::resolve::Found;
+use crate::standing::StandingQuery;
+use crate::stream::Stream;
+use std::alloc::{AllocError, Global};
+use std::collections::VecDeque;
+use values::Row;
+
+impl StandingQuery {
+    /// A query that is registered now.
+    pub(crate) fn new(
+        alloc: Global,
+        streams: &[Stream],
+        name: String,
+        found: Found,
+    ) -> Result<StandingQuery, AllocError>
+        requires fits { has_narrow_rows found.meaning.shape ≡ true }
+        requires sources { length found.meaning.windows.items ≡ length found.streams.items }
+        requires slides { all_slide found.meaning.windows.items ≡ true }
+        ensures query { IfOk result (λ q. query_of q ≡ registered_as (machine_of streams.now) (string_bytes name) (found_of found)) }
+        ensures waiting { IfOk result (λ q. waiting_of q ≡ []) }
+    {
+        let places = places_of(alloc, streams, &found.streams)?;
+        let first = first_for(streams, &places);
+        Ok(StandingQuery {
+            name,
+            meaning: found.meaning,
+            places,
+            first,
+            taken: 0,
+            is_dropped: false,
+            waiting: VecDeque::new(alloc),
+        })
+    }
+
+    /// Whether it has the name and was not dropped.
+    pub(crate) fn is_called(&self, name: &str) -> bool
+        ensures { result ≡ machine.is_called name.now (query_of self.now) }
+    {
+        !self.is_dropped && self.name.as_str() == name
+    }
+
+    /// Whether it was dropped.
+    pub(crate) fn is_dropped(&self) -> bool
+        ensures { result ≡ (query_of self.now).is_dropped }
+    {
+        self.is_dropped
+    }
+
+    /// Makes these answers wait.
+    pub(crate) fn put(&mut self, waiting: VecDeque<(u64, Row)>)
+        requires counts { (query_of self.old).taken + deque_len waiting < 2 ^ 64 }
+        requires instants { are_signed (pairs_of waiting.items) ≡ true }
+        ensures query { query_of self.new ≡ query_of self.old }
+        ensures waiting { waiting_of self.new ≡ pairs_of waiting.items }
+    {
+        self.waiting = waiting;
+    }
+
+    /// Hands out the first answers that wait, at most `limit`. On Err it is as it was.
+    pub(crate) fn take(
+        &mut self,
+        alloc: Global,
+        limit: usize,
+    ) -> Result<Vec<(i64, Row)>, AllocError>
+        ensures handed { IfOk result (λ v. handed_of v.items ≡ handed (take (min limit (length (waiting_of self.old))) (waiting_of self.old))) }
+        ensures query { OnOk result (query_of self.new ≡ took (min limit (length (waiting_of self.old))) (query_of self.old)) }
+        ensures waiting { OnOk result (waiting_of self.new ≡ drop (min limit (length (waiting_of self.old))) (waiting_of self.old)) }
+        ensures err { OnErr result (self.new ≡ self.old) }
+    {
+        let count = limit.min(self.waiting.len());
+        let mut rows = Vec::with_capacity(alloc, count)?;
+        move_front(&mut self.waiting, &mut rows, count);
+        self.taken += count as u64;
+        Ok(rows)
+    }
+
+    /// Drops it, and what waits at it. Takes no memory.
+    pub(crate) fn drop_out(&mut self)
+        ensures query { query_of self.new ≡ commands.dropped (query_of self.old) }
+        ensures waiting { waiting_of self.new ≡ [] }
+    {
+        self.is_dropped = true;
+        self.waiting.clear();
+    }
+}
+
+/// Moves the first `count` answers behind the rows, which have room for them.
+fn move_front(waiting: &mut VecDeque<(u64, Row)>, rows: &mut Vec<(i64, Row)>, count: usize)
+    requires enough { count ≤ deque_len waiting.old }
+    requires room { vec_len rows.old + count ≤ vec_capacity rows.old }
+    requires instants { are_signed (pairs_of waiting.old.items) ≡ true }
+    ensures rows { handed_of rows.new.items ≡ handed_of rows.old.items ++ handed (take count (pairs_of waiting.old.items)) }
+    ensures waiting { pairs_of waiting.new.items ≡ drop count (pairs_of waiting.old.items) }
+    ensures len { deque_len waiting.new + count ≡ deque_len waiting.old }
+    ensures instants_stay { are_signed (pairs_of waiting.new.items) ≡ true }
+{
+    for _ in 0..count {
+        match waiting.pop_front() {
+            Some((at, row)) => rows.push_reserved((at as i64, row)),
+            None => unreachable!(),
+        }
+    }
+}

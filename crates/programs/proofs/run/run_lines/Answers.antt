@@ -1,0 +1,6 @@
+use Rattle.programs.proofs.Outcomes.{says_begins}
+use Rattle.programs.proofs.run.run_lines.Goals as goal
+
+pub returns-in-Ok-clause-answers : goal.returns-in-Ok-clause-answers
+returns-in-Ok-clause-answers g c =
+    (λ is. c.in-Ok.ensures.text, says_begins (g.N.Answering.world c.args.engine.now) (g.I.Source.left c.args.source.now) (g.O.Sink.taken c.args.sink.now) (g.O.Sink.taken c.run_script.new.sink) c.in-Ok.ensures.text)

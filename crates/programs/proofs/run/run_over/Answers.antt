@@ -1,0 +1,19 @@
+use Rattle.std.proofs.Common.{inl, inr}
+use Rattle.programs.proofs.Outcomes.{answers_nothing, lacks_memory, asks_no_help, asks_no_version, asks_help}
+use Rattle.programs.proofs.run.run_over.Goals as goal
+
+pub returns-in-Err-clause-answers : goal.returns-in-Err-clause-answers
+returns-in-Err-clause-answers g c runs =
+    let met = c.refuse.ensures.memory (lacks_memory _ c.in-Err.error c.in-Err.ensures.refusals runs) in
+    answers_nothing (g.N.Answering.world c.args.engine.now) c.refuse.result (g.I.Source.left c.args.source.now) (g.O.Sink.taken c.args.sink.now) (g.O.Sink.taken c.refuse.new.sink) met.0 met.1
+
+pub returns-in-Err-clause-wrong : goal.returns-in-Err-clause-wrong
+returns-in-Err-clause-wrong g c wrong =
+    c.refuse.ensures.wrong (asks_no_help _ c.in-Err.error c.in-Err.ensures.refusals wrong) (asks_no_version _ c.in-Err.error c.in-Err.ensures.refusals wrong)
+
+pub returns-in-Err-clause-help : goal.returns-in-Err-clause-help
+returns-in-Err-clause-help g c is =
+    elim (asks_help _ c.in-Err.error c.in-Err.ensures.refusals is) [
+      | inl memory ↦ inr (inr (c.refuse.ensures.memory memory).0)
+      | inr help ↦ c.refuse.ensures.help help
+    ]

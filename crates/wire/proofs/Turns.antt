@@ -1,0 +1,45 @@
+-- The rows of a drain's turns change nothing.
+use Rattle.std.proofs.Common.{◌≡◌, ◌≤◌, ◌<◌, ℕ, Bool, true, false, ap, sym, ◌∙◌, [], ◌∷◌, Result, Ok, Err, map}
+use Rattle.std.specs.Prelude.{not, ◌&&◌, nat_le, None, ⊤}
+use Rattle.std.proofs.lemmas.Bool.{le-leb}
+use Rattle.reference.specs.World.{World, Step, Drains, drain_step, drain_fault, unless, untaken}
+use Rattle.reference.specs.Commands.{first_of}
+use Rattle.reference.specs.declared.limits.TheConstants.{MAX_TURN}
+use Rattle.reference.specs.declared.fault.Fault.{Fault}
+use Rattle.reference.specs.declared.fault.Fault.TheVariants.{Query, BadName, NameTaken, BadColumns, TooMany, UnknownStream, UnknownQuery, BadWidth, ValueRange, InstantRange, Late, Backward, Leap, StreamFull, BadLimit, OutOfMemory}
+use Rattle.wire.specs.Calls.{drain}
+use Rattle.wire.specs.Script.{answered, done_of, done_step, is_scarce, Replies}
+
+legal : (rows : ℕ) → 0 < rows → rows ≤ 1024 → (nat_le 1 rows && nat_le rows MAX_TURN) ≡ true
+legal rows low high = ap (λ b. b && nat_le rows MAX_TURN) (le-leb 1 rows low) ∙ le-leb rows MAX_TURN high
+
+no_fault : (rows : ℕ) → 0 < rows → rows ≤ 1024 → drain_fault rows ≡ None
+no_fault rows low high = ap (λ (t : Bool). first_of ((not t, BadLimit) ∷ [])) (legal rows low high)
+
+same_drain : (w : World) (rows : ℕ) → 0 < rows → rows ≤ 1024 → drain_step w rows ≡ drain_step w 1
+unfolding drain_step
+same_drain w rows low high = ap (λ f. unless f w tt (record w { waiting = map (untaken w.machine) w.machine.queries })) (no_fault rows low high)
+
+refused_drain : (old new : World) (step : Step ⊤) (fault : Fault) → Drains old step (Err fault) new → is_scarce fault ≡ false → step ≡ (Err fault, new)
+refused_drain old new step (Query f) d plenty = d
+refused_drain old new step BadName d plenty = d
+refused_drain old new step NameTaken d plenty = d
+refused_drain old new step BadColumns d plenty = d
+refused_drain old new step TooMany d plenty = d
+refused_drain old new step UnknownStream d plenty = d
+refused_drain old new step UnknownQuery d plenty = d
+refused_drain old new step BadWidth d plenty = d
+refused_drain old new step ValueRange d plenty = d
+refused_drain old new step InstantRange d plenty = d
+refused_drain old new step Late d plenty = d
+refused_drain old new step Backward d plenty = d
+refused_drain old new step Leap d plenty = d
+refused_drain old new step StreamFull d plenty = d
+refused_drain old new step BadLimit d plenty = d
+refused_drain old new step OutOfMemory d plenty = cc
+
+pub drained : (old new : World) (rows : ℕ) → 0 < rows → rows ≤ 1024 → (result : Result ⊤ Fault) → Drains old (drain_step old rows) result new
+    → Replies (answered old drain) (done_of result) new
+drained old new rows low high (Ok a) d plenty = ap done_step (sym (same_drain old rows low high) ∙ d)
+drained old new rows low high (Err fault) d plenty =
+    ap done_step (sym (same_drain old rows low high) ∙ refused_drain old new (drain_step old rows) fault d plenty)

@@ -1,0 +1,85 @@
+-- Which call a JSON value asks for, and none where it asks for none.
+use Rattle.std.specs.Prelude.{ℕ, ℤ, List, [], ◌∷◌, Option, Some, None, option_map, option_and_then, codes, if◌then◌else◌, bytes_eq}
+use Rattle.serde_json.specs.Data.{Data, null, boolean, number, string, array, object, Items, no_items, item}
+use Rattle.serde_json.specs.Find.{get, as_str, as_number, as_array, as_i64}
+use Rattle.wire.specs.Calls.{NewRow, Call, declare, register, append, heartbeat, drain, take_rows, discard}
+
+-- ---- the kinds of value
+
+abbrev pub integer_of : Data → Option ℤ
+integer_of d = option_and_then as_i64 (as_number d)
+
+-- null or a number
+abbrev pub value_of : Data → Option (Option ℤ)
+value_of null = Some None
+value_of (boolean b) = None
+value_of (number n) = option_map Some (as_i64 n)
+value_of (string s) = None
+value_of (array ds) = None
+value_of (object ms) = None
+
+-- what f gives for each item, if it gives something for each
+abbrev pub each : {A : Type 0} → (Data → Option A) → Items → Option (List A)
+each f no_items = Some []
+each f (item d ds) = option_and_then (λ a. option_map (λ rest. a ∷ rest) (each f ds)) (f d)
+
+-- a row of an append: its instant, then its values
+abbrev pub row_from : Items → Option NewRow
+row_from no_items = None
+row_from (item d ds) = option_and_then (λ at. option_map (λ values. (at, values)) (each value_of ds)) (integer_of d)
+
+abbrev pub row_in : Data → Option NewRow
+row_in d = option_and_then row_from (as_array d)
+
+-- ---- the values of keys
+
+abbrev pub text_at : List ℕ → Data → Option (List ℕ)
+text_at key d = option_and_then as_str (get key d)
+
+abbrev pub integer_at : List ℕ → Data → Option ℤ
+integer_at key d = option_and_then integer_of (get key d)
+
+abbrev pub list_at : List ℕ → Data → Option Items
+list_at key d = option_and_then as_array (get key d)
+
+abbrev pub each_at : {A : Type 0} → (Data → Option A) → List ℕ → Data → Option (List A)
+each_at f key d = option_and_then (each f) (list_at key d)
+
+-- ---- the requests, each with the keys of its own operation; other keys are ignored
+
+unfoldable pub declare_in : Data → Option Call
+declare_in d = option_and_then (λ name. option_and_then (λ columns. option_map (λ start. declare name columns start)
+    (integer_at (codes "from") d)) (each_at as_str (codes "columns") d)) (text_at (codes "name") d)
+
+unfoldable pub register_in : Data → Option Call
+register_in d = option_and_then (λ name. option_map (λ text. register name text)
+    (text_at (codes "text") d)) (text_at (codes "name") d)
+
+unfoldable pub append_in : Data → Option Call
+append_in d = option_and_then (λ stream. option_map (λ rows. append stream rows)
+    (each_at row_in (codes "rows") d)) (text_at (codes "stream") d)
+
+unfoldable pub heartbeat_in : Data → Option Call
+heartbeat_in d = option_and_then (λ stream. option_map (λ at. heartbeat stream at)
+    (integer_at (codes "at") d)) (text_at (codes "stream") d)
+
+unfoldable pub take_in : Data → Option Call
+take_in d = option_and_then (λ query. option_map (λ limit. take_rows query limit)
+    (integer_at (codes "limit") d)) (text_at (codes "query") d)
+
+unfoldable pub discard_in : Data → Option Call
+discard_in d = option_map discard (text_at (codes "query") d)
+
+unfoldable pub asked_by : List ℕ → Data → Option Call
+asked_by op d =
+    if bytes_eq op (codes "stream") then declare_in d else (
+    if bytes_eq op (codes "query") then register_in d else (
+    if bytes_eq op (codes "append") then append_in d else (
+    if bytes_eq op (codes "heartbeat") then heartbeat_in d else (
+    if bytes_eq op (codes "drain") then Some drain else (
+    if bytes_eq op (codes "take") then take_in d else (
+    if bytes_eq op (codes "drop") then discard_in d else None))))))
+
+-- the call, or none where the value is no request
+unfoldable pub asked : Data → Option Call
+asked d = option_and_then (λ op. asked_by op d) (text_at (codes "op") d)

@@ -1,0 +1,32 @@
+-- Worked lines.
+use Rattle.std.specs.Prelude.{◌≡◌, ℕ, List, [], ◌∷◌, ◌++◌, Some, None, Ok, Err, true, codes, pos, negsuc, refl}
+use Rattle.std.specs.Fmt.{digits}
+use Rattle.reference.specs.declared.fault.Fault.TheVariants.{Query, Late}
+use Rattle.reference.specs.declared.fault.QueryFault.TheVariants.{Unexpected}
+use Rattle.wire.specs.Lines.{lines_of}
+use Rattle.wire.specs.Requests.{is_blank}
+use Rattle.wire.specs.Printed.{rows, refused, line_of, rows_text, row_text, value_text, fault_text}
+
+-- a text of two lines and the beginning of a third, the second of which is blank
+lines : lines_of (codes "[]\n\t\r\n{") ≡ codes "[]" ∷ codes "\t\r" ∷ codes "{" ∷ []
+lines = refl
+
+blank : is_blank (codes "\t\r ") ≡ true
+blank = refl
+
+-- two answers, the second of which has a null
+take : line_of (rows ((pos 1, Some (pos 5) ∷ Some (negsuc 6) ∷ []) ∷ (pos 30, None ∷ []) ∷ [])) ≡ codes "{\"ok\":true,\"rows\":[[1,5,-7],[30,null]]}\n"
+unfolding line_of rows_text row_text value_text digits
+take = refl
+
+none : line_of (rows []) ≡ codes "{\"ok\":true,\"rows\":[]}\n"
+unfolding line_of rows_text
+none = refl
+
+late : line_of (refused Late) ≡ codes "{\"error\":\"E10 Late\"}\n"
+unfolding line_of fault_text
+late = refl
+
+misread : line_of (refused (Query (Unexpected 17))) ≡ codes "{\"error\":\"Q4 Unexpected at 17\"}\n"
+unfolding line_of fault_text digits
+misread = refl

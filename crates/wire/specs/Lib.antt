@@ -1,0 +1,10 @@
+pub mod Calls
+pub mod Asked
+pub mod Devices
+pub mod Lines
+pub mod Held
+pub mod Requests
+pub mod Printed
+pub mod Paged
+pub mod Script
+pub mod Examples

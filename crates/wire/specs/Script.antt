@@ -1,0 +1,100 @@
+-- The text that a script of requests is answered.
+use Rattle.std.specs.Prelude.{◌≡◌, ℕ, ℤ, Bool, true, false, List, [], ◌∷◌, ◌++◌, Option, Some, None, Result, Ok, Err, ◌⊎◌}
+use Rattle.values.specs.Row.{Row}
+use Rattle.reference.specs.World.{World, Step, stream_named, query_named, declare_step, register_step, append_step, heartbeat_step, drain_step, take_step, drop_step}
+use Rattle.reference.specs.declared.fault.Fault.{Fault}
+use Rattle.reference.specs.declared.fault.Fault.TheVariants as in_engine
+use Rattle.wire.specs.Calls.{Call, declare, register, append, heartbeat, drain, take_rows, discard}
+use Rattle.wire.specs.Printed.{Answer, done, rows, refused, unread, line_of}
+use Rattle.wire.specs.Requests.{requests_of}
+use Rattle.wire.specs.declared.request.WireFault.{WireFault}
+use Rattle.wire.specs.declared.request.WireFault.TheVariants.{OutOfMemory}
+
+abbrev pub done_of : {A : Type 0} → Result A Fault → Answer
+done_of (Ok a) = done
+done_of (Err f) = refused f
+
+abbrev pub rows_of : Result (List (ℤ × Row)) Fault → Answer
+rows_of (Ok taken) = rows taken
+rows_of (Err f) = refused f
+
+abbrev pub done_step : {A : Type 0} → Step A → Answer × World
+done_step step = (done_of step.0, step.1)
+
+abbrev pub rows_step : Step (List (ℤ × Row)) → Answer × World
+rows_step step = (rows_of step.0, step.1)
+
+-- a call that names a stream or a query
+abbrev pub if_named : World → Fault → (ℕ → Answer × World) → Option ℕ → Answer × World
+if_named w fault step None = (refused fault, w)
+if_named w fault step (Some n) = step n
+
+-- what a call is answered, and the world after it; the rows of a drain's turns change nothing
+abbrev pub answered : World → Call → Answer × World
+answered w (declare name columns start) = done_step (declare_step w name columns start)
+answered w (register name text) = done_step (register_step w name text)
+answered w (append stream more) = if_named w in_engine.UnknownStream (λ n. done_step (append_step w n more)) (stream_named w stream)
+answered w (heartbeat stream at) = if_named w in_engine.UnknownStream (λ n. done_step (heartbeat_step w n at)) (stream_named w stream)
+answered w drain = done_step (drain_step w 1)
+answered w (take_rows query limit) = if_named w in_engine.UnknownQuery (λ n. rows_step (take_step w n limit)) (query_named w query)
+answered w (discard query) = if_named w in_engine.UnknownQuery (λ n. done_step (drop_step w n)) (query_named w query)
+
+-- what a request is answered, and the world after it; a line that is no request changes nothing
+abbrev pub served : World → Result Call WireFault → Answer × World
+served w (Err fault) = (unread fault, w)
+served w (Ok call) = answered w call
+
+-- the reply lines of requests
+abbrev pub replies : World → List (Result Call WireFault) → List (List ℕ)
+replies w [] = []
+replies w (request ∷ more) = line_of (served w request).0 ∷ replies (served w request).1 more
+
+-- the reply lines of a text
+abbrev pub script : World → List ℕ → List (List ℕ)
+script w text = replies w (requests_of text)
+
+-- want of memory
+abbrev pub is_scarce : Fault → Bool
+is_scarce in_engine.OutOfMemory = true
+is_scarce _ = false
+
+abbrev pub is_scarce_answer : Answer → Bool
+is_scarce_answer done = false
+is_scarce_answer (rows taken) = false
+is_scarce_answer (refused fault) = is_scarce fault
+is_scarce_answer (unread OutOfMemory) = true
+is_scarce_answer (unread _) = false
+
+-- The reply and the world after it are the defined ones, unless memory was scarce.
+abbrev pub Replies : Answer × World → Answer → World → Type 0
+Replies defined answer new = is_scarce_answer answer ≡ false → defined ≡ (answer, new)
+
+-- The written text is these lines, up to one that says that memory was scarce.
+abbrev pub Says : List (List ℕ) → List ℕ → Type 0
+Says [] written = written ≡ []
+Says (line ∷ lines) written =
+    ((rest : List ℕ) × (written ≡ line ++ rest) × Says lines rest)
+    ⊎ ((answer : Answer) × (rest : List ℕ) × (is_scarce_answer answer ≡ true) × (written ≡ line_of answer ++ rest))
+
+-- The written text begins as such a text.
+abbrev pub Begins : List (List ℕ) → List ℕ → Type 0
+Begins lines written = (more : List ℕ) × Says lines (written ++ more)
+
+-- From the world `first` on these requests were answered by the written text, and this is the world after them; up to a
+-- reply that says that memory was scarce.
+abbrev pub Runs : World → List (Result Call WireFault) → List ℕ → World → Type 0
+Runs first [] written now = (written ≡ []) × (now ≡ first)
+Runs first (request ∷ more) written now =
+    ((rest : List ℕ) × (written ≡ line_of (served first request).0 ++ rest) × Runs (served first request).1 more rest now)
+    ⊎ ((answer : Answer) × (rest : List ℕ) × (is_scarce_answer answer ≡ true) × (written ≡ line_of answer ++ rest))
+
+-- The first of these requests were carried out, and stand: the written text begins what they are answered.
+abbrev pub Stands : World → List (Result Call WireFault) → List ℕ → World → Type 0
+Stands first requests written now =
+    (carried : List (Result Call WireFault)) × (rest : List (Result Call WireFault)) × (more : List ℕ)
+    × (requests ≡ carried ++ rest) × Runs first carried (written ++ more) now
+
+-- What a sink took is a text that P holds of, where source and sink tell their bytes.
+abbrev pub Scripts : (List ℕ → List ℕ → Type 0) → Option (List ℕ) → Option (List ℕ) → Option (List ℕ) → Type 0
+Scripts P source old new =
+    (text : List ℕ) (held : List ℕ) → source ≡ Some text → old ≡ Some held → (written : List ℕ) × (new ≡ Some (held ++ written)) × P text written

@@ -1,0 +1,227 @@
+//! Where request bytes come from, and where reply bytes go.
+ghost use Rattle.std.specs.Prelude.{◌≡◌, ◌<◌, ◌≤◌, [], ◌+◌, ◌-◌, ◌^◌, ℕ, List, Option, Some, None, IfOk, OnOk, OnErr, length, take, nat_lt, if◌then◌else◌};
+ghost use Rattle.std.specs.Io.KnownBytes.{Appends, Consumes, IsAtEnd, Keeps};
+ghost use Rattle.wire.specs.Devices.{AppendsFront, Rises, Puts};
+
+use std::alloc::Global;
+use std::io::{ErrorKind, Read, Write};
+
+/// A read or a write failed, or a write took no byte.
+#[derive(Clone, Copy, Debug, PartialEq, Eq)]
+pub struct DeviceFailed;
+
+/// Where request bytes come from.
+///
+/// A source may tell its bytes to contracts, as one over memory does. One over standard input or a connection does not.
+pub trait Source {
+    // The bytes that it gives up to its end, where it tells them.
+    ghost left: { Self → Option (List ℕ) };
+
+    // No more reads than these give bytes.
+    ghost turns: { Self → ℕ };
+
+    // How many reads have failed. The count stops where 64 bits are full.
+    ghost failures: { Self → ℕ };
+
+    /// Reads some bytes into the front of the buffer, and gives their number, which is 0 only at the end.
+    ///
+    /// `DeviceFailed` where the read failed.
+    fn read(&mut self, buffer: &mut [u8]) -> Result<usize, DeviceFailed>
+        requires room { 0 < length buffer.old }
+        ensures count { IfOk result (λ n. n ≤ length buffer.new) }
+        ensures bytes { IfOk result (λ n. Consumes (left self.old) (left self.new) (take n buffer.new)) }
+        ensures end { IfOk result (λ n. n ≡ 0 → IsAtEnd (left self.old)) }
+        ensures fewer { IfOk result (λ n. 0 < n → turns self.new < turns self.old) }
+        ensures no_more { OnOk result (turns self.new ≤ turns self.old) }
+        ensures ok { OnOk result (failures self.new ≡ failures self.old) }
+        ensures failed { OnErr result (Rises (failures self.old) (failures self.new)) };
+}
+
+/// Where reply bytes go. Like a source it may tell contracts the bytes that it took.
+pub trait Sink {
+    // The bytes that it has taken, where it tells them.
+    ghost taken: { Self → Option (List ℕ) };
+
+    // How many writes have failed. The count stops where 64 bits are full.
+    ghost failures: { Self → ℕ };
+
+    /// Takes some bytes from the front of these, at least one, and gives their number.
+    ///
+    /// `DeviceFailed` where the write failed; then none was taken.
+    fn write(&mut self, bytes: &[u8]) -> Result<usize, DeviceFailed>
+        requires some { 0 < length bytes.now }
+        ensures count { IfOk result (λ n. n ≤ length bytes.now) }
+        ensures progress { IfOk result (λ n. 0 < n) }
+        ensures bytes { IfOk result (λ n. Appends (taken self.old) (taken self.new) (take n bytes.now)) }
+        ensures ok { OnOk result (failures self.new ≡ failures self.old) }
+        ensures failed { OnErr result (Rises (failures self.old) (failures self.new)) }
+        ensures kept { OnErr result (Keeps (taken self.old) (taken self.new)) };
+}
+
+/// Bytes in memory, as a source: those that are not yet read.
+#[derive(Drop)]
+pub struct MemorySource<'a> {
+    pub bytes: &'a [u8],
+}
+
+impl<'a> MemorySource<'a> {
+    /// A source of these bytes.
+    pub fn new(bytes: &'a [u8]) -> MemorySource<'a>
+        ensures { result.bytes.now ≡ bytes.now }
+    {
+        MemorySource { bytes }
+    }
+}
+
+impl Source for MemorySource<'_> {
+    ghost left = { λ s. Some s.bytes.now };
+
+    ghost turns = { λ s. length s.bytes.now };
+
+    ghost failures = { λ _. 0 };
+
+    fn read(&mut self, buffer: &mut [u8]) -> Result<usize, DeviceFailed> {
+        let count = self.bytes.len().min(buffer.len());
+        let (given, rest) = self.bytes.split_at(count);
+        buffer[..count].copy_from_slice(given);
+        self.bytes = rest;
+        Ok(count)
+    }
+}
+
+/// A list in memory, as a sink: the bytes that it took. Want of memory is a failure.
+#[derive(Drop)]
+pub struct MemorySink {
+    pub bytes: Vec<u8>,
+    pub failures: u64,
+}
+
+impl MemorySink {
+    /// A sink that has taken nothing. Takes no memory yet.
+    pub fn new(alloc: Global) -> MemorySink
+        ensures empty { result.bytes.items ≡ [] }
+        ensures sound { result.failures ≡ 0 }
+    {
+        MemorySink {
+            bytes: Vec::new(alloc),
+            failures: 0,
+        }
+    }
+}
+
+impl Sink for MemorySink {
+    ghost taken = { λ s. Some s.bytes.items };
+
+    ghost failures = { λ s. s.failures };
+
+    fn write(&mut self, bytes: &[u8]) -> Result<usize, DeviceFailed> {
+        if self.bytes.extend_from_slice(bytes).is_err() {
+            self.failures = self.failures.saturating_add(1);
+            return Err(DeviceFailed);
+        }
+        Ok(bytes.len())
+    }
+}
+
+/// A reader of the system, as standard input or a `&TcpStream`, as a source that does not tell its bytes.
+#[derive(Drop)]
+pub struct ReaderSource<R> {
+    reader: R,
+    turns: u64,
+    pub failures: u64,
+}
+
+impl<R: Read> ReaderSource<R> {
+    /// A source of what the reader reads.
+    pub fn new(reader: R) -> ReaderSource<R>
+        ensures { result.failures ≡ 0 }
+    {
+        ReaderSource {
+            reader,
+            turns: u64::MAX,
+            failures: 0,
+        }
+    }
+}
+
+impl<R: Read> Source for ReaderSource<R> {
+    ghost left = { λ _. None };
+
+    ghost turns = { λ s. s.turns };
+
+    ghost failures = { λ s. s.failures };
+
+    // A read that a signal interrupted is tried again. After 2^64 - 1 reads the source is at its end.
+    fn read(&mut self, buffer: &mut [u8]) -> Result<usize, DeviceFailed> {
+        while self.turns > 0 {
+            self.turns -= 1;
+            match self.reader.read(buffer) {
+                Ok(count) => return Ok(count),
+                Err(error) => {
+                    if error.kind() != ErrorKind::Interrupted {
+                        self.failures = self.failures.saturating_add(1);
+                        return Err(DeviceFailed);
+                    }
+                }
+            }
+        }
+        Ok(0)
+    }
+}
+
+/// A writer of the system, as standard output or a `&TcpStream`, as a sink that does not tell its bytes.
+#[derive(Drop)]
+pub struct WriterSink<W> {
+    writer: W,
+    pub failures: u64,
+}
+
+impl<W: Write> WriterSink<W> {
+    /// A sink that hands its bytes to the writer.
+    pub fn new(writer: W) -> WriterSink<W>
+        ensures { result.failures ≡ 0 }
+    {
+        WriterSink {
+            writer,
+            failures: 0,
+        }
+    }
+}
+
+impl<W: Write> Sink for WriterSink<W> {
+    ghost taken = { λ _. None };
+
+    ghost failures = { λ s. s.failures };
+
+    fn write(&mut self, bytes: &[u8]) -> Result<usize, DeviceFailed> {
+        for _ in 0..u64::MAX {
+            match self.writer.write(bytes) {
+                Ok(0) => break,
+                Ok(count) => return Ok(count),
+                Err(error) => {
+                    if error.kind() != ErrorKind::Interrupted {
+                        break;
+                    }
+                }
+            }
+        }
+        self.failures = self.failures.saturating_add(1);
+        Err(DeviceFailed)
+    }
+}
+
+/// Writes all of these bytes, in one write where the sink takes them so.
+///
+/// `DeviceFailed` where a write failed: then the sink has taken a front of them.
+pub fn put<K: Sink>(sink: &mut K, bytes: &[u8]) -> Result<(), DeviceFailed>
+    ensures { Puts (K.taken sink.old) (K.taken sink.new) (K.failures sink.old) (K.failures sink.new)
+        result bytes.now }
+{
+    let mut rest = bytes;
+    while !rest.is_empty() {
+        let count = sink.write(rest)?;
+        let (_, more) = rest.split_at(count);
+        rest = more;
+    }
+    Ok(())
+}

@@ -1,0 +1,28 @@
+//! Requests and replies as lines of JSON.
+//!
+//! A script is a text of request lines. It is read from a [`Source`], each request is run on an engine, and its reply is
+//! written to a [`Sink`] as one line. What is written is a function of what was read: `script` of `specs/Script.antt`, over
+//! any source and sink that tell their bytes, however they cut them.
+#![tactic(auto)]
+
+mod decode;
+mod device;
+mod fault;
+mod lines;
+mod page;
+mod read;
+mod reply;
+mod request;
+mod script;
+#[cfg(test)]
+mod tests;
+
+pub use device::{
+    DeviceFailed, MemorySink, MemorySource, ReaderSource, Sink, Source, WriterSink, put,
+};
+pub use fault::ScriptFault;
+pub use lines::Lines;
+pub use read::{next_request, read_request};
+pub use reply::{Reply, write_reply};
+pub use request::{Request, WireFault};
+pub use script::run_script;

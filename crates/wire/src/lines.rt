@@ -1,0 +1,176 @@
+//! Lines out of a source that gives some bytes at a time.
+ghost use Rattle.std.specs.Prelude.{◌≡◌, ◌≢◌, ◌<◌, ◌≤◌, ◌+◌, ◌-◌, ℕ, List, [], ◌∷◌, ◌++◌, IfOk, IfErr, OnOk, OnErr, IfSome, MatchOption, Bool, true, false, length, take, drop, slice_index, slice_range, vec_len, vec_capacity};
+ghost use Rattle.std.specs.Io.KnownBytes.{IsAtEnd, Consumes, Keeps as Same};
+ghost use Rattle.wire.specs.Devices.{Rises};
+ghost use Rattle.wire.specs.Lines.{EachOther, NoFeed, Keeps, longest_line, BeginsWithLine};
+
+use crate::device::{DeviceFailed, Source};
+use std::alloc::{AllocError, Global};
+
+const CHUNK: usize = 4096;
+
+const LONGEST_LINE: usize = 65_536;
+
+/// The buffers of a reader of lines: the bytes that it has read ahead, and the line that it read last.
+#[derive(Drop)]
+pub struct Lines {
+    chunk: Vec<u8>,
+    start: usize,
+    end: usize,
+    line: Vec<u8>,
+    ghost ordered: { start ≤ end },
+    ghost within: { end ≤ vec_len chunk },
+    ghost size: { vec_len chunk ≡ 4096 },
+    ghost room: { longest_line ≤ vec_capacity line },
+}
+
+/// The place of the first line feed.
+fn feed_at(bytes: &[u8]) -> Option<usize>
+    ensures { MatchOption result (EachOther bytes.now (length bytes.now))
+        (λ at. (at < length bytes.now) × (slice_index bytes.now at ≡ 10) × EachOther bytes.now at) }
+{
+    for (at, byte) in bytes.iter().enumerate() {
+        if *byte == b'\n' {
+            return Some(at);
+        }
+    }
+    None
+}
+
+/// Adds a piece to what is kept of a line, and gives whether all of the line is kept.
+fn keep(line: &mut Vec<u8>, fits: bool, piece: &[u8]) -> bool
+    requires { longest_line ≤ vec_capacity line.old }
+    ensures room { longest_line ≤ vec_capacity line.new }
+    ensures kept { (seen : List ℕ) → Keeps fits line.old.items seen
+        → Keeps result line.new.items (seen ++ piece.now) }
+{
+    if !fits || piece.len() > LONGEST_LINE - line.len().min(LONGEST_LINE) {
+        return false;
+    }
+    if line.extend_from_slice(piece).is_err() {
+        unreachable!();
+    }
+    true
+}
+
+#[derive(Drop)]
+struct Moved {
+    ended: bool,
+    fits: bool,
+}
+
+impl Lines {
+    ghost use Rattle.wire.specs.Held.{pending, ahead, work, Moves, feed_len};
+
+    /// Takes the buffers, after which reading lines takes no memory. `AllocError` where they were refused.
+    pub fn new(alloc: Global) -> Result<Lines, AllocError>
+        ensures { IfOk result (λ lines. pending lines ≡ []) }
+    {
+        let chunk = vec![in alloc; 0u8; CHUNK]?;
+        let line = Vec::with_capacity(alloc, LONGEST_LINE)?;
+        Ok(Lines {
+            chunk,
+            start: 0,
+            end: 0,
+            line,
+        })
+    }
+
+    /// The line that was read last, where it was no longer than 65,536 bytes.
+    pub(crate) fn line(&self) -> &[u8]
+        ensures { result.now ≡ self.now.line.items }
+    {
+        self.line.as_slice()
+    }
+
+    // Moves the pending bytes into the line, up to a line feed.
+    fn move_piece(&mut self, fits: bool) -> Moved
+        ensures piece { (piece : List ℕ) × NoFeed piece
+            × Moves result.ended (pending self.old) (pending self.new) piece
+            × (length piece + feed_len result.ended + (self.new.end - self.new.start) ≡ self.old.end - self.old.start)
+            × ((seen : List ℕ) → Keeps fits self.old.line.items seen
+            → Keeps result.fits self.new.line.items (seen ++ piece)) }
+        ensures emptied { result.ended ≡ false → self.new.start ≡ self.new.end }
+    {
+        let piece = &self.chunk[self.start..self.end];
+        match feed_at(piece) {
+            Some(at) => {
+                let fits = keep(&mut self.line, fits, &piece[..at]);
+                self.start += at + 1;
+                Moved { ended: true, fits }
+            }
+            None => {
+                let fits = keep(&mut self.line, fits, piece);
+                self.start = self.end;
+                Moved { ended: false, fits }
+            }
+        }
+    }
+
+    // Reads more bytes, and gives whether there are any.
+    fn fill<S: Source>(&mut self, source: &mut S) -> Result<bool, DeviceFailed>
+        requires { self.old.start ≡ self.old.end }
+        ensures bytes { OnOk result (Consumes (S.left source.old) (S.left source.new) (pending self.new)) }
+        ensures end { IfOk result (λ more. more ≡ false → IsAtEnd (S.left source.old) × (self.new.start ≡ self.new.end)) }
+        ensures some { IfOk result (λ more. more ≡ true → self.new.start < self.new.end) }
+        ensures fewer { OnOk result (work self.new (S.turns source.new) ≤ work self.old (S.turns source.old)) }
+        ensures kept { OnOk result (self.new.line ≡ self.old.line) }
+        ensures ok { OnOk result (S.failures source.new ≡ S.failures source.old) }
+        ensures failed { OnErr result (Rises (S.failures source.old) (S.failures source.new)) }
+    {
+        let count = source.read(&mut self.chunk)?;
+        self.start = 0;
+        self.end = count;
+        Ok(count != 0)
+    }
+
+    // Sees that bytes are pending, and gives whether there are any.
+    fn ready<S: Source>(&mut self, source: &mut S) -> Result<bool, DeviceFailed>
+        ensures same { OnOk result (Same (ahead self.old (S.left source.old)) (ahead self.new (S.left source.new))) }
+        ensures end { IfOk result (λ more. more ≡ false → IsAtEnd (ahead self.old (S.left source.old))) }
+        ensures some { IfOk result (λ more. more ≡ true → self.new.start < self.new.end) }
+        ensures fewer { OnOk result (work self.new (S.turns source.new) ≤ work self.old (S.turns source.old)) }
+        ensures kept { OnOk result (self.new.line ≡ self.old.line) }
+        ensures ok { OnOk result (S.failures source.new ≡ S.failures source.old) }
+        ensures failed { OnErr result (Rises (S.failures source.old) (S.failures source.new)) }
+    {
+        if self.start < self.end {
+            return Ok(true);
+        }
+        let more = self.fill(source)?;
+        Ok(more)
+    }
+
+    /// Reads the next line of up to 65,536 bytes, whose bytes `line` then gives: whether it is no longer, or none at the end.
+    pub(crate) fn next_line<S: Source>(
+        &mut self,
+        source: &mut S,
+    ) -> Result<Option<bool>, DeviceFailed>
+        ensures line { IfOk result (λ o. MatchOption o
+            (IsAtEnd (ahead self.old (S.left source.old)))
+            (λ fits. BeginsWithLine (ahead self.old (S.left source.old)) (ahead self.new (S.left source.new)) fits self.new.line.items)) }
+        ensures fewer { IfOk result (λ o. IfSome o
+            (λ _. work self.new (S.turns source.new) < work self.old (S.turns source.old))) }
+        ensures ok { OnOk result (S.failures source.new ≡ S.failures source.old) }
+        ensures failed { OnErr result (Rises (S.failures source.old) (S.failures source.new)) }
+    {
+        self.line.clear();
+        let mut fits = true;
+        'pieces: loop {
+            if !self.ready(source)? {
+                if !fits {
+                    return Ok(Some(false));
+                }
+                if self.line.is_empty() {
+                    return Ok(None);
+                }
+                return Ok(Some(true));
+            }
+            let moved = self.move_piece(fits);
+            fits = moved.fits;
+            if moved.ended {
+                return Ok(Some(fits));
+            }
+        }
+    }
+}

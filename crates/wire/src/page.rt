@@ -1,0 +1,97 @@
+//! A line on its way to a sink.
+ghost use Rattle.std.specs.Prelude.{◌≡◌, [], ◌∷◌, true, decimal};
+ghost use Rattle.std.specs.Fmt.{signed_decimal};
+ghost use Rattle.wire.specs.Paged.{Writes};
+
+use crate::device::{Sink, put};
+use arrayvec::ArrayVec;
+
+/// The most bytes that a page holds.
+const PAGE: usize = 4096;
+
+/// The bytes of a line that the sink has not been given yet, and whether no write of the line has failed.
+///
+/// It lies on the stack, so that a reply takes no memory. What fits in is given to the sink by one write.
+#[derive(Drop)]
+pub(crate) struct Page {
+    pub(crate) bytes: ArrayVec<u8, PAGE>,
+    pub(crate) going: bool,
+}
+
+impl Page {
+    pub(crate) fn new() -> Page
+        ensures empty { result.bytes.items ≡ [] }
+        ensures going { result.going ≡ true }
+    {
+        Page {
+            bytes: ArrayVec::new(),
+            going: true,
+        }
+    }
+
+    /// Gives the sink what is held.
+    pub(crate) fn turn<K: Sink>(&mut self, sink: &mut K)
+        ensures writes { Writes (K.taken sink.old) (K.failures sink.old) self.old (K.taken sink.new) (K.failures sink.new) self.new [] }
+        ensures empty { self.new.bytes.items ≡ [] }
+    {
+        if !self.going {
+            self.bytes.clear();
+            return;
+        }
+        self.going = put(sink, self.bytes.as_slice()).is_ok();
+        self.bytes.clear();
+    }
+
+    // Adds bytes that do not fit behind those that were held.
+    fn add_to_empty<K: Sink>(&mut self, sink: &mut K, bytes: &[u8])
+        requires { self.old.bytes.items ≡ [] }
+        ensures { Writes (K.taken sink.old) (K.failures sink.old) self.old (K.taken sink.new) (K.failures sink.new) self.new bytes.now }
+    {
+        if !self.going {
+            return;
+        }
+        if self.bytes.try_extend_from_slice(bytes).is_ok() {
+            return;
+        }
+        self.going = put(sink, bytes).is_ok();
+    }
+
+    /// Adds bytes to the line. Nothing more is written once a write has failed.
+    pub(crate) fn add<K: Sink>(&mut self, sink: &mut K, bytes: &[u8])
+        ensures { Writes (K.taken sink.old) (K.failures sink.old) self.old (K.taken sink.new) (K.failures sink.new) self.new bytes.now }
+    {
+        if self.bytes.try_extend_from_slice(bytes).is_ok() {
+            return;
+        }
+        self.turn(sink);
+        self.add_to_empty(sink, bytes);
+    }
+
+    fn add_digits<K: Sink>(&mut self, sink: &mut K, number: u64)
+        ensures { Writes (K.taken sink.old) (K.failures sink.old) self.old (K.taken sink.new) (K.failures sink.new) self.new (decimal number) }
+    {
+        if number < 10 {
+            self.add(sink, &[b'0' + number as u8]);
+            return;
+        }
+        self.add_digits(sink, number / 10);
+        self.add(sink, &[b'0' + (number % 10) as u8]);
+    }
+
+    /// Adds the decimal digits of a place.
+    pub(crate) fn add_place<K: Sink>(&mut self, sink: &mut K, place: usize)
+        ensures { Writes (K.taken sink.old) (K.failures sink.old) self.old (K.taken sink.new) (K.failures sink.new) self.new (decimal place) }
+    {
+        self.add_digits(sink, place as u64);
+    }
+
+    /// Adds a number in decimal.
+    pub(crate) fn add_number<K: Sink>(&mut self, sink: &mut K, number: i64)
+        ensures { Writes (K.taken sink.old) (K.failures sink.old) self.old (K.taken sink.new) (K.failures sink.new) self.new (signed_decimal number) }
+    {
+        if number < 0 {
+            self.add(sink, b"-");
+        }
+        self.add_digits(sink, number.unsigned_abs());
+    }
+}

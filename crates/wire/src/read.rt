@@ -1,0 +1,90 @@
+//! From lines to requests.
+ghost use Rattle.std.specs.Prelude.{◌≡◌, ◌<◌, ◌≤◌, IfOk, IfErr, IfSome, OnOk, OnErr, MatchOption, length};
+ghost use Rattle.std.specs.List.{list_all};
+ghost use Rattle.wire.specs.Devices.{Rises};
+ghost use Rattle.wire.specs.Lines.{longest_line};
+ghost use Rattle.wire.specs.Held.{ahead, work};
+ghost use Rattle.wire.specs.Requests.{is_blank_byte, asked_in, call_in, json_of, Reads, BeginsWithRequest, HasNoRequest};
+
+use crate::decode::request_of;
+use crate::device::Source;
+use crate::fault::ScriptFault;
+use crate::lines::Lines;
+use crate::request::{Request, WireFault};
+use serde_json::Value;
+use std::alloc::Global;
+
+fn is_blank(line: &[u8]) -> bool
+    ensures { result ≡ list_all is_blank_byte line.now }
+{
+    line.iter()
+        .all(|b| *b == b' ' || *b == b'\t' || *b == b'\r')
+}
+
+/// The request that a line of at most 65,536 bytes is.
+fn short_request(alloc: Global, line: &[u8]) -> Result<Request, WireFault>
+    ensures { Reads (call_in (json_of line.now)) result }
+{
+    let value = match Value::from_slice(alloc, line) {
+        Ok(value) => value,
+        Err(error) => {
+            if error.is_memory() {
+                return Err(WireFault::OutOfMemory);
+            }
+            return Err(WireFault::NotJson);
+        }
+    };
+    match request_of(alloc, &value) {
+        Ok(Some(request)) => Ok(request),
+        Ok(None) => Err(WireFault::BadRequest),
+        Err(_) => Err(WireFault::OutOfMemory),
+    }
+}
+
+/// The request that a line is, without its line feed.
+///
+/// `LineTooLong` where it has over 65,536 bytes, `NotJson` where it is no JSON text, `BadRequest` where its value is no
+/// request, and `OutOfMemory` where memory was refused, which says nothing about the line.
+pub fn read_request(alloc: Global, line: &[u8]) -> Result<Request, WireFault>
+    ensures { Reads (asked_in line.now) result }
+{
+    if line.len() > 65_536 {
+        return Err(WireFault::LineTooLong);
+    }
+    short_request(alloc, line)
+}
+
+/// The next request of the source or what is wrong with its line, or none at the end. Blank lines are skipped.
+///
+/// A line that is no request is used up, as is one for which memory was refused: the next call goes on behind it.
+/// `ScriptFault::Read` where the source failed.
+pub fn next_request<S: Source>(
+    alloc: Global,
+    lines: &mut Lines,
+    source: &mut S,
+) -> Result<Option<Result<Request, WireFault>>, ScriptFault>
+    ensures request { IfOk result (λ o. MatchOption o
+        (HasNoRequest (ahead lines.old (S.left source.old)))
+        (λ read. BeginsWithRequest (ahead lines.old (S.left source.old)) (ahead lines.new (S.left source.new)) read)) }
+    ensures fewer { IfOk result (λ o. IfSome o
+        (λ _. work lines.new (S.turns source.new) < work lines.old (S.turns source.old))) }
+    ensures ok { OnOk result (S.failures source.new ≡ S.failures source.old) }
+    ensures failed { OnErr result (Rises (S.failures source.old) (S.failures source.new)) }
+    ensures fault { IfErr result (λ e. e ≡ ScriptFault.Read) }
+{
+    'blanks: loop {
+        let Ok(next) = lines.next_line(source) else {
+            return Err(ScriptFault::Read);
+        };
+        let Some(fits) = next else {
+            return Ok(None);
+        };
+        if !fits {
+            return Ok(Some(Err(WireFault::LineTooLong)));
+        }
+        let line = lines.line();
+        if !is_blank(line) {
+            return Ok(Some(short_request(alloc, line)));
+        }
+    }
+}

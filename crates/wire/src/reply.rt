@@ -1,0 +1,203 @@
+//! Replies, and their lines.
+ghost use Rattle.std.specs.Prelude.{◌≡◌, ◌++◌, List, ℕ, true, codes, IfErr};
+ghost use Rattle.std.specs.Fmt.{signed_decimal};
+ghost use Rattle.reference.specs.CallViews.{handed_of};
+ghost use Rattle.wire.specs.Devices.{Puts};
+ghost use Rattle.wire.specs.Paged.{Writes};
+ghost use Rattle.wire.specs.Printed.{value_text, after_commas, row_text, rows_text, query_fault_name, query_fault_place, fault_name, fault_place, fault_text, place_text, wire_fault_text, line_of, answer_of, error_line};
+
+use crate::device::Sink;
+use crate::fault::ScriptFault;
+use crate::page::Page;
+use crate::request::WireFault;
+use reference::{Fault, QueryFault};
+use values::{Row, Value};
+
+/// What a request is answered.
+#[derive(Drop)]
+pub enum Reply {
+    /// The call was accepted.
+    Done,
+    /// A take's answers, each with its instant.
+    Rows(Vec<(i64, Row)>),
+    /// The engine refused the call.
+    Refused(Fault),
+    /// The line is no request.
+    Unread(WireFault),
+}
+
+#[tactic(auto, unfolding(crate::specs::Printed::value_text))]
+fn add_value<K: Sink>(sink: &mut K, page: &mut Page, value: Value)
+    ensures { Writes (K.taken sink.old) (K.failures sink.old) page.old
+        (K.taken sink.new) (K.failures sink.new) page.new (value_text value) }
+{
+    match value.number() {
+        Some(number) => page.add_number(sink, number),
+        None => page.add(sink, b"null"),
+    }
+}
+
+fn add_values<K: Sink>(sink: &mut K, page: &mut Page, values: &[Value])
+    ensures { Writes (K.taken sink.old) (K.failures sink.old) page.old
+        (K.taken sink.new) (K.failures sink.new) page.new (after_commas value_text values.now) }
+{
+    for value in values {
+        page.add(sink, b",");
+        add_value(sink, page, *value);
+    }
+}
+
+#[tactic(auto, using(crate::proofs::Printing::writes_both), unfolding(crate::specs::Printed::row_text))]
+fn add_row<K: Sink>(sink: &mut K, page: &mut Page, at: i64, row: &Row)
+    ensures { Writes (K.taken sink.old) (K.failures sink.old) page.old
+        (K.taken sink.new) (K.failures sink.new) page.new (row_text (at, row.now.items)) }
+{
+    page.add(sink, b"[");
+    page.add_number(sink, at);
+    add_values(sink, page, row.as_slice());
+    page.add(sink, b"]");
+}
+
+#[tactic(auto, using(crate::proofs::Printing::writes_both))]
+fn add_more_rows<K: Sink>(sink: &mut K, page: &mut Page, rows: &[(i64, Row)])
+    ensures { Writes (K.taken sink.old) (K.failures sink.old) page.old
+        (K.taken sink.new) (K.failures sink.new) page.new (after_commas row_text (handed_of rows.now)) }
+{
+    for (at, row) in rows {
+        page.add(sink, b",");
+        add_row(sink, page, *at, row);
+    }
+}
+
+#[tactic(auto, using(crate::proofs::Printing::writes_both), unfolding(crate::specs::Printed::rows_text))]
+fn add_rows<K: Sink>(sink: &mut K, page: &mut Page, rows: &[(i64, Row)])
+    ensures { Writes (K.taken sink.old) (K.failures sink.old) page.old
+        (K.taken sink.new) (K.failures sink.new) page.new (rows_text (handed_of rows.now)) }
+{
+    if let Some(((at, row), more)) = rows.split_first() {
+        add_row(sink, page, *at, row);
+        add_more_rows(sink, page, more);
+    }
+}
+
+fn query_fault_name(fault: &QueryFault) -> &'static str
+    ensures { result.now ≡ query_fault_name fault.now }
+{
+    match fault {
+        QueryFault::TextTooLong => "Q1 TextTooLong",
+        QueryFault::NotAscii => "Q2 NotAscii",
+        QueryFault::BadToken(_) => "Q3 BadToken at ",
+        QueryFault::Unexpected(_) => "Q4 Unexpected at ",
+        QueryFault::NumberRange(_) => "Q5 NumberRange at ",
+        QueryFault::UnknownStream => "Q7 UnknownStream",
+    }
+}
+
+fn fault_name(fault: &Fault) -> &'static str
+    ensures { result.now ≡ fault_name fault.now }
+{
+    match fault {
+        Fault::Query(fault) => query_fault_name(fault),
+        Fault::BadName => "E1 BadName",
+        Fault::NameTaken => "E2 NameTaken",
+        Fault::BadColumns => "E3 BadColumns",
+        Fault::TooMany => "E4 TooMany",
+        Fault::UnknownStream => "E5 UnknownStream",
+        Fault::UnknownQuery => "E6 UnknownQuery",
+        Fault::BadWidth => "E7 BadWidth",
+        Fault::ValueRange => "E8 ValueRange",
+        Fault::InstantRange => "E9 InstantRange",
+        Fault::Late => "E10 Late",
+        Fault::Backward => "E11 Backward",
+        Fault::Leap => "E12 Leap",
+        Fault::StreamFull => "E13 StreamFull",
+        Fault::BadLimit => "E14 BadLimit",
+        Fault::OutOfMemory => "E20 OutOfMemory",
+    }
+}
+
+fn query_fault_place(fault: &QueryFault) -> Option<usize>
+    ensures { result ≡ query_fault_place fault.now }
+{
+    match fault {
+        QueryFault::BadToken(place)
+        | QueryFault::Unexpected(place)
+        | QueryFault::NumberRange(place) => Some(*place),
+        QueryFault::TextTooLong | QueryFault::NotAscii | QueryFault::UnknownStream => None,
+    }
+}
+
+fn fault_place(fault: &Fault) -> Option<usize>
+    ensures { result ≡ fault_place fault.now }
+{
+    match fault {
+        Fault::Query(fault) => query_fault_place(fault),
+        _ => None,
+    }
+}
+
+fn wire_fault_text(fault: &WireFault) -> &'static str
+    ensures { result.now ≡ wire_fault_text fault.now }
+{
+    match fault {
+        WireFault::NotJson => "N1 NotJson",
+        WireFault::BadRequest => "N2 BadRequest",
+        WireFault::LineTooLong => "N3 LineTooLong",
+        WireFault::OutOfMemory => "E20 OutOfMemory",
+    }
+}
+
+fn add_place<K: Sink>(sink: &mut K, page: &mut Page, place: Option<usize>)
+    ensures { Writes (K.taken sink.old) (K.failures sink.old) page.old
+        (K.taken sink.new) (K.failures sink.new) page.new (place_text place) }
+{
+    if let Some(place) = place {
+        page.add_place(sink, place);
+    }
+}
+
+#[tactic(auto, using(crate::proofs::Printing::writes_both))]
+fn add_error<K: Sink>(sink: &mut K, page: &mut Page, name: &str, place: Option<usize>)
+    ensures { Writes (K.taken sink.old) (K.failures sink.old) page.old
+        (K.taken sink.new) (K.failures sink.new) page.new (error_line (name.now ++ place_text place)) }
+{
+    page.add(sink, b"{\"error\":\"");
+    page.add(sink, name.as_bytes());
+    add_place(sink, page, place);
+    page.add(sink, b"\"}\n");
+}
+
+#[tactic(auto, using(crate::proofs::Printing::writes_both), unfolding(crate::specs::Printed::line_of))]
+fn add_reply<K: Sink>(sink: &mut K, page: &mut Page, reply: &Reply)
+    ensures { Writes (K.taken sink.old) (K.failures sink.old) page.old
+        (K.taken sink.new) (K.failures sink.new) page.new (line_of (answer_of reply.now)) }
+{
+    match reply {
+        Reply::Done => page.add(sink, b"{\"ok\":true}\n"),
+        Reply::Rows(rows) => {
+            page.add(sink, b"{\"ok\":true,\"rows\":[");
+            add_rows(sink, page, rows);
+            page.add(sink, b"]}\n");
+        }
+        Reply::Refused(fault) => add_error(sink, page, fault_name(fault), fault_place(fault)),
+        Reply::Unread(fault) => add_error(sink, page, wire_fault_text(fault), None),
+    }
+}
+
+/// Writes a reply's line, in one write where it has at most 4,096 bytes and the sink takes it so. Takes no memory.
+///
+/// `ScriptFault::Write` where the sink failed, which then has taken a front of the line.
+pub fn write_reply<K: Sink>(sink: &mut K, reply: &Reply) -> Result<(), ScriptFault>
+    ensures written { Puts (K.taken sink.old) (K.taken sink.new) (K.failures sink.old)
+        (K.failures sink.new) result (line_of (answer_of reply.now)) }
+    ensures fault { IfErr result (λ e. e ≡ ScriptFault.Write) }
+{
+    let mut page = Page::new();
+    add_reply(sink, &mut page, reply);
+    page.turn(sink);
+    if page.going {
+        Ok(())
+    } else {
+        Err(ScriptFault::Write)
+    }
+}

@@ -1,0 +1,176 @@
+//! Scripts of requests.
+ghost use Rattle.std.specs.Prelude.{◌≡◌, ◌<◌, ◌≤◌, ℕ, List, Result, IfErr, OnOk, OnErr};
+ghost use Rattle.wire.specs.Devices.{Puts, Rises};
+ghost use Rattle.wire.specs.Calls.{Call, append, heartbeat, take_rows, discard, call_of};
+ghost use Rattle.wire.specs.Printed.{Answer, answer_of, line_of};
+ghost use Rattle.wire.specs.Requests.{Reads, requests_of};
+ghost use Rattle.wire.specs.Script.{answered, done_of, script, Says, Begins, Runs, Scripts, Stands, Replies, served};
+ghost use Rattle.wire.specs.declared.request.WireFault.{WireFault};
+
+use crate::device::{Sink, Source};
+use crate::fault::ScriptFault;
+use crate::lines::Lines;
+use crate::read::next_request;
+use crate::reply::{Reply, write_reply};
+use crate::request::{Request, WireFault};
+use reference::{Answering, Fault, NewRows};
+use std::alloc::Global;
+
+// What a call that answers no rows is answered.
+fn done<T: Drop>(answer: Result<T, Fault>) -> Reply
+    ensures { answer_of result ≡ done_of answer }
+{
+    match answer {
+        Ok(_) => Reply::Done,
+        Err(fault) => Reply::Refused(fault),
+    }
+}
+
+fn append<E: Answering>(engine: &mut E, stream: &str, rows: &NewRows) -> Reply
+    requires { E.is_alone engine.old }
+    ensures replies { Replies (answered (E.world engine.old) (append stream.now rows.now)) (answer_of result) (E.world engine.new) }
+    ensures alone { E.is_alone engine.new }
+{
+    match engine.stream_named(stream) {
+        Some(number) => done(engine.append(number, rows)),
+        None => Reply::Refused(Fault::UnknownStream),
+    }
+}
+
+fn heartbeat<E: Answering>(engine: &mut E, stream: &str, at: i64) -> Reply
+    requires { E.is_alone engine.old }
+    ensures replies { Replies (answered (E.world engine.old) (heartbeat stream.now at)) (answer_of result) (E.world engine.new) }
+    ensures alone { E.is_alone engine.new }
+{
+    match engine.stream_named(stream) {
+        Some(number) => done(engine.heartbeat(number, at)),
+        None => Reply::Refused(Fault::UnknownStream),
+    }
+}
+
+fn take<E: Answering>(engine: &mut E, query: &str, limit: i64) -> Reply
+    requires { E.is_alone engine.old }
+    ensures replies { Replies (answered (E.world engine.old) (take_rows query.now limit)) (answer_of result) (E.world engine.new) }
+    ensures alone { E.is_alone engine.new }
+{
+    let Some(number) = engine.query_named(query) else {
+        return Reply::Refused(Fault::UnknownQuery);
+    };
+    match engine.take(number, limit) {
+        Ok(rows) => Reply::Rows(rows),
+        Err(fault) => Reply::Refused(fault),
+    }
+}
+
+fn discard<E: Answering>(engine: &mut E, query: &str) -> Reply
+    requires { E.is_alone engine.old }
+    ensures replies { Replies (answered (E.world engine.old) (discard query.now)) (answer_of result) (E.world engine.new) }
+    ensures alone { E.is_alone engine.new }
+{
+    match engine.query_named(query) {
+        Some(number) => done(engine.drop_query(number)),
+        None => Reply::Refused(Fault::UnknownQuery),
+    }
+}
+
+/// Runs a request, where a turn has at most so many rows.
+fn answer<E: Answering>(engine: &mut E, request: &Request, rows: u32) -> Reply
+    requires rows { 0 < rows × rows ≤ 1024 }
+    requires alone { E.is_alone engine.old }
+    ensures replies { Replies (answered (E.world engine.old) (call_of request.now)) (answer_of result) (E.world engine.new) }
+    ensures alone { E.is_alone engine.new }
+{
+    match request {
+        Request::Stream {
+            name,
+            columns,
+            from,
+        } => done(engine.stream(name.as_str(), columns, *from)),
+        Request::Query { name, text } => done(engine.query(name.as_str(), text.as_str())),
+        Request::Append { stream, rows: more } => append(engine, stream.as_str(), more),
+        Request::Heartbeat { stream, at } => heartbeat(engine, stream.as_str(), *at),
+        Request::Drain => done(engine.drain(rows)),
+        Request::Take { query, limit } => take(engine, query.as_str(), *limit),
+        Request::Drop { query } => discard(engine, query.as_str()),
+    }
+}
+
+/// Answers what was read of a line.
+fn serve<E: Answering>(engine: &mut E, read: Result<Request, WireFault>, rows: u32) -> Reply
+    requires rows { 0 < rows × rows ≤ 1024 }
+    requires alone { E.is_alone engine.old }
+    ensures serves { (defined : Result Call WireFault) → Reads defined read
+        → Replies (served (E.world engine.old) defined) (answer_of result) (E.world engine.new) }
+    ensures alone { E.is_alone engine.new }
+{
+    match read {
+        Ok(request) => answer(engine, &request, rows),
+        Err(fault) => Reply::Unread(fault),
+    }
+}
+
+/// Answers what was read of a line by one line.
+fn respond<K: Sink, E: Answering>(
+    sink: &mut K,
+    engine: &mut E,
+    read: Result<Request, WireFault>,
+    rows: u32,
+) -> Result<(), ScriptFault>
+    requires rows { 0 < rows × rows ≤ 1024 }
+    requires alone { E.is_alone engine.old }
+    ensures written { (answer : Answer)
+        × ((defined : Result Call WireFault) → Reads defined read → Replies (served (E.world engine.old) defined) answer (E.world engine.new))
+        × Puts (K.taken sink.old) (K.taken sink.new) (K.failures sink.old) (K.failures sink.new) result (line_of answer) }
+    ensures fault { IfErr result (λ e. e ≡ ScriptFault.Write) }
+    ensures alone { E.is_alone engine.new }
+{
+    let reply = serve(engine, read, rows);
+    write_reply(sink, &reply)
+}
+
+/// Answers each request of the source by one line, up to the end of the source. A drain's turns have at most `rows` rows,
+/// 1 to 1,024, which changes no reply.
+///
+/// What is written is the script's text of what the source gave, up to the first reply that says want of memory, from which
+/// on it rests with the engine. `ScriptFault::Read` and `ScriptFault::Write` where that device failed: then what is written
+/// is a beginning of that text, and the calls carried out stand: the engine is as they left it. `ScriptFault::Memory` where the line's buffers were
+/// refused, before anything was read.
+pub fn run_script<S: Source, K: Sink, E: Answering>(
+    alloc: Global,
+    source: &mut S,
+    sink: &mut K,
+    engine: &mut E,
+    rows: u32,
+) -> Result<(), ScriptFault>
+    requires rows { 0 < rows × rows ≤ 1024 }
+    requires alone { E.is_alone engine.old }
+    ensures text { OnOk result (Scripts (λ text written. Says (script (E.world engine.old) text) written)
+        (S.left source.old) (K.taken sink.old) (K.taken sink.new)) }
+    ensures begun { OnErr result (Scripts (λ text written. Begins (script (E.world engine.old) text) written)
+        (S.left source.old) (K.taken sink.old) (K.taken sink.new)) }
+    ensures ran { OnOk result (Scripts (λ text written. Runs (E.world engine.old) (requests_of text) written (E.world engine.new))
+        (S.left source.old) (K.taken sink.old) (K.taken sink.new)) }
+    ensures stands { OnErr result (Scripts (λ text written. Stands (E.world engine.old) (requests_of text) written (E.world engine.new))
+        (S.left source.old) (K.taken sink.old) (K.taken sink.new)) }
+    ensures read { IfErr result (λ e. e ≡ ScriptFault.Read
+        → Rises (S.failures source.old) (S.failures source.new) × (K.failures sink.new ≡ K.failures sink.old)) }
+    ensures write { IfErr result (λ e. e ≡ ScriptFault.Write
+        → Rises (K.failures sink.old) (K.failures sink.new) × (S.failures source.new ≡ S.failures source.old)) }
+    ensures memory { IfErr result (λ e. e ≡ ScriptFault.Memory
+        → (K.taken sink.new ≡ K.taken sink.old) × (E.world engine.new ≡ E.world engine.old)) }
+{
+    let Ok(mut lines) = Lines::new(alloc) else {
+        return Err(ScriptFault::Memory);
+    };
+    'requests: loop {
+        let Ok(next) = next_request(alloc, &mut lines, source) else {
+            return Err(ScriptFault::Read);
+        };
+        let Some(read) = next else {
+            return Ok(());
+        };
+        let Ok(()) = respond(sink, engine, read, rows) else {
+            return Err(ScriptFault::Write);
+        };
+    }
+}

@@ -7,8 +7,8 @@ use Rattle.std.proofs.lemmas.List.FromFn.{length-map-range_with_len, map-range_w
 use Rattle.std.proofs.lemmas.Bool.{le-leb}
 use Rattle.std.proofs.lemmas.List.Sums.{sum_by-cons}
 use Rattle.values.specs.Condition as spec
-use Rattle.cql_reader.specs.Views.{source_of}
-use Rattle.cql_reader.specs.declared.query.Source.{Source}
+use Rattle.cql_reader.specs.Query.{source_of, name_of}
+use Rattle.cql_reader.specs.declared.Source.{Source}
 use Rattle.std.specs.Str.{bytes_eq}
 use Rattle.reference.specs.Machine.{Stream}
 use Rattle.reference.specs.Commands.{catalog_of}
@@ -42,10 +42,10 @@ module _ (catalog : Catalog) (sources : List Source) (i : ℕ) (source : Source)
   opened : whole ≡ option_map (λ ns. found ++ ns) (numbers_in catalog (source_of source ∷ map source_of (drop (i + 1) sources)))
   opened = before ∙ ap (λ rest. option_map (λ ns. found ++ ns) (numbers_in catalog (map source_of rest))) (rest-cons sources i source lt is)
 
-  pub numbers-none : number_in catalog source.stream.bytes ≡ None → whole ≡ None
+  pub numbers-none : number_in catalog (name_of source.stream) ≡ None → whole ≡ None
   numbers-none h = rw h at opened
 
-  pub numbers-some : (n : ℕ) → number_in catalog source.stream.bytes ≡ Some n
+  pub numbers-some : (n : ℕ) → number_in catalog (name_of source.stream) ≡ Some n
       → whole ≡ option_map (λ ns. (found ++ n ∷ []) ++ ns) (numbers_in catalog (map source_of (drop (i + 1) sources)))
   numbers-some n h = (rw h at opened) ∙ with_found found n (numbers_in catalog (map source_of (drop (i + 1) sources)))
 

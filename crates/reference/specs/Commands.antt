@@ -9,9 +9,9 @@ use Rattle.values.specs.Condition.{Column}
 use Rattle.values.specs.Relation.{Listed}
 use Rattle.values.specs.Answers.{Resolved}
 use Rattle.cql_reader.specs.Query as syntax
-use Rattle.cql_reader.specs.Reading as text
+use Rattle.cql_reader.specs.Fault as text
 use Rattle.cql_reader.specs.Reading.{reading}
-use Rattle.cql_reader.specs.Names.{is_name}
+use Rattle.cql_reader.specs.Lexis.{is_name}
 use Rattle.reference.specs.declared.fault.Fault.{Fault}
 use Rattle.reference.specs.declared.fault.Fault.TheVariants.{Query, BadName, NameTaken, BadColumns, TooMany, UnknownStream, UnknownQuery, BadWidth, ValueRange, InstantRange, Late, Backward, Leap, StreamFull, BadLimit}
 use Rattle.reference.specs.declared.fault.QueryFault.{QueryFault}

@@ -3,8 +3,8 @@ ghost use Rattle.std.specs.Prelude.{◌≡◌, ◌≤◌, ◌*◌, ◌++◌, IfO
 ghost use Rattle.std.specs.List.{range_with_len};
 ghost use Rattle.std.specs.Str.{bytes_eq};
 ghost use Rattle.values.specs.Condition as conditions;
-ghost use Rattle.cql_reader.specs.Views.{source_of, query_of};
-ghost use Rattle.cql_reader.specs.Views as syntax;
+ghost use Rattle.cql_reader.specs.Query.{source_of, query_of};
+ghost use Rattle.cql_reader.specs.Query as syntax;
 ghost use Rattle.reference.specs.Names as names;
 ghost use Rattle.reference.specs.Names.{width_in, numbers_in, columns_from, meaning_by};
 ghost use Rattle.reference.specs.Commands.{catalog_of};
@@ -26,10 +26,10 @@ pub(crate) struct Found {
 }
 
 /// The number of the stream of a name.
-pub(crate) fn number_of(streams: &[Stream], name: &str) -> Option<usize>
+pub(crate) fn number_of(streams: &[Stream], name: &[u8]) -> Option<usize>
     ensures { result ≡ position (λ s. bytes_eq s.name name.now) streams.now }
 {
-    streams.iter().position(|stream| stream.name() == name)
+    streams.iter().position(|stream| stream.name().as_bytes() == name)
 }
 
 /// How many columns the stream of a number has.
@@ -54,7 +54,7 @@ pub(crate) fn numbers_of(
 {
     let mut numbers = Vec::new(alloc);
     for source in sources {
-        match number_of(streams, source.stream.as_str()) {
+        match number_of(streams, source.stream.as_bytes()) {
             Some(number) => numbers.push(number)?,
             None => return Ok(None),
         }

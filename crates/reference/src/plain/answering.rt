@@ -79,7 +79,7 @@ impl Answering for Plain {
 
     #[tactic(auto, unfolding(crate::specs::World::stream_named))]
     fn stream_named(&self, name: &str) -> Option<u64> {
-        number_of(&self.streams, name).map(|number| number as u64)
+        number_of(&self.streams, name.as_bytes()).map(|number| number as u64)
     }
 
     #[tactic(auto, unfolding(crate::specs::World::query_named))]

@@ -25,7 +25,7 @@ impl Plain {
         if !is_name(name) {
             return Some(Fault::BadName);
         }
-        if number_of(&self.streams, name).is_some() {
+        if number_of(&self.streams, name.as_bytes()).is_some() {
             return Some(Fault::NameTaken);
         }
         if !are_columns(columns) {

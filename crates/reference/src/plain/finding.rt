@@ -1,6 +1,6 @@
 //! What the text of a query means.
 ghost use Rattle.std.specs.Prelude.{◌≡◌, ◌≤◌, IfOk, length, true, sum, Ok};
-ghost use Rattle.cql_reader.specs.Views as syntax;
+ghost use Rattle.cql_reader.specs.Query as syntax;
 ghost use Rattle.reference.specs.Commands.{catalog_of, found, found_of};
 ghost use Rattle.reference.specs.Finds.{Finds};
 ghost use Rattle.reference.specs.PlainViews.{machine_in};

@@ -2,7 +2,7 @@
 ghost use Rattle.std.specs.Prelude.{◌≡◌, map, position};
 ghost use Rattle.std.specs.List.{list_any, list_all};
 ghost use Rattle.std.specs.Str.{bytes_eq};
-ghost use Rattle.cql_reader.specs.Names as words;
+ghost use Rattle.cql_reader.specs.Lexis as words;
 ghost use Rattle.reference.specs.Commands as commands;
 ghost use Rattle.reference.specs.Machine as machine;
 ghost use Rattle.reference.specs.CallViews.{texts_of};

@@ -1,5 +1,5 @@
 use Rattle.std.proofs.Common.{◌≡◌, ◌++◌, drop, map, option_map, length}
-use Rattle.cql_reader.specs.Views.{source_of}
+use Rattle.cql_reader.specs.Query.{source_of}
 use Rattle.reference.specs.Names.{numbers_in}
 use Rattle.reference.specs.Commands.{catalog_of}
 use Rattle.reference.proofs.resolve.numbers_of.Given as goal

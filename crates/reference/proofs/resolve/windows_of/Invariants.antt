@@ -1,5 +1,5 @@
 use Rattle.std.proofs.Common.{◌≡◌, take, map, length, true}
-use Rattle.cql_reader.specs.Views.{source_of}
+use Rattle.cql_reader.specs.Query.{source_of}
 use Rattle.reference.specs.Names as names
 use Rattle.reference.specs.Views.{window_of}
 use Rattle.reference.specs.Sound.{all_slide}

@@ -1,6 +1,6 @@
 use Rattle.std.proofs.Common.{◌≡◌, drop}
 use Rattle.std.specs.List.{list_all}
-use Rattle.cql_reader.specs.Names.{is_name}
+use Rattle.cql_reader.specs.Lexis.{is_name}
 use Rattle.reference.specs.CallViews.{texts_of}
 use Rattle.reference.proofs.plain.names.are_names.Given as goal
 

@@ -16,3 +16,4 @@ pub mod Sound
 pub mod PlainViews
 pub mod Told
 pub mod Finds
+pub mod MachineExamples

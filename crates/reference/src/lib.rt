@@ -6,6 +6,7 @@
 mod answering;
 pub mod evaluate;
 mod fault;
+mod laws;
 mod limits;
 mod new_rows;
 mod place;
@@ -16,6 +17,9 @@ mod stream;
 
 pub use answering::Answering;
 pub use fault::{Fault, QueryFault};
+pub use laws::{
+    answers_only_grow, equal_window_bags_have_equal_answers, later_elements_change_no_closed_answer,
+};
 pub use limits::{
     MAX_APPENDED, MAX_INSTANT, MAX_LEAP, MAX_QUERIES, MAX_REGISTRATIONS, MAX_STREAM_COLUMNS,
     MAX_STREAM_ROWS, MAX_STREAMS, MAX_TAKE, MAX_TURN,

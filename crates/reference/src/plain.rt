@@ -1,5 +1,5 @@
 //! The plain engine.
-ghost use Rattle.std.specs.Prelude.{◌≡◌, IfOk};
+ghost use Rattle.std.specs.Prelude.{◌≡◌, IfOk, IsOk};
 ghost use Rattle.reference.specs.World as world;
 ghost use Rattle.reference.specs.PlainViews.{world_of};
 
@@ -25,7 +25,8 @@ pub struct Plain {
 impl Plain {
     /// An engine with no stream and no query. Takes no memory.
     pub fn new(alloc: Global) -> Result<Plain, Fault>
-        ensures { IfOk result (λ p. world_of p ≡ world.empty) }
+        ensures empty { IfOk result (λ p. world_of p ≡ world.empty) }
+        ensures succeeds { IsOk result }
     {
         Ok(Plain {
             alloc,

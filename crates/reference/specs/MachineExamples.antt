@@ -1,0 +1,101 @@
+-- The machine at worked examples.
+use Rattle.std.specs.Prelude.{◌≡◌, ℕ, true, false, List, [], ◌∷◌, map, Option, Some, None, Ok, Err, ℤ, pos, refl}
+use Rattle.values.specs.Row.{Row}
+use Rattle.values.specs.Window.{numbered, Range}
+use Rattle.values.specs.Condition.{Column}
+use Rattle.values.specs.Relation.{Listed}
+use Rattle.values.specs.Answers.{Resolved, Istream}
+use Rattle.reference.specs.declared.fault.Fault.TheVariants.{UnknownStream, UnknownQuery, TooMany, BadWidth, ValueRange, InstantRange, Late, Backward, Leap, BadLimit}
+use Rattle.reference.specs.Machine as machine
+use Rattle.reference.specs.Machine.{Machine, Stream, Registered}
+use Rattle.reference.specs.Commands.{Append, Heartbeat, Take, Drop, first_fault, after}
+use Rattle.reference.specs.World.{World, append_step, heartbeat_step, take_step, drop_step, drain_step}
+
+-- a value, and the column a of the source S
+abbrev num : ℕ → Option ℤ
+num n = Some (pos n)
+
+abbrev a : Column
+a = record { source = 0; column = 0 }
+
+-- a stream S(a) with all open
+abbrev fresh : Stream
+fresh = record { name = 83 ∷ []; columns = (97 ∷ []) ∷ []; elements = []; arrivals = 0; first_open = 0 }
+
+abbrev told : Machine
+told = record { streams = fresh ∷ []; queries = [] }
+
+-- a heartbeat closes at most 65,536 instants
+widest_leap : first_fault told (Heartbeat 0 (pos 65535)) ≡ None
+widest_leap = refl
+
+leap_of_one_more : first_fault told (Heartbeat 0 (pos 65536)) ≡ Some Leap
+leap_of_one_more = refl
+
+heartbeat_below : first_fault (after told (Heartbeat 0 (pos 3)) 0) (Heartbeat 0 (pos 3)) ≡ Some Backward
+heartbeat_below = refl
+
+heartbeat_of_none : first_fault told (Heartbeat 1 (pos 0)) ≡ Some UnknownStream
+heartbeat_of_none = refl
+
+-- a row at a closed instant comes late
+late_row : first_fault (after told (Heartbeat 0 (pos 3)) 0) (Append 0 ((pos 3, num 1 ∷ []) ∷ [])) ≡ Some Late
+late_row = refl
+
+row_in_time : first_fault (after told (Heartbeat 0 (pos 3)) 0) (Append 0 ((pos 4, num 1 ∷ []) ∷ [])) ≡ None
+row_in_time = refl
+
+-- the width is tested before the values, and all rows' widths before all rows' values
+wide_row_first : first_fault told (Append 0 ((pos 0, num 1099511627776 ∷ []) ∷ (pos 0, []) ∷ [])) ≡ Some BadWidth
+wide_row_first = refl
+
+value_before_instant : first_fault told (Append 0 ((pos 1099511627777, num 1099511627776 ∷ []) ∷ [])) ≡ Some ValueRange
+value_before_instant = refl
+
+-- a query on S: Select Istream(*) From S [Now]
+abbrev lists_a : Resolved
+lists_a = record { windows = Range 0 ∷ []; condition = None; shape = Listed (a ∷ []); is_distinct = false; operator = Istream }
+
+abbrev query : Registered
+query = record { name = 113 ∷ []; meaning = lists_a; places = record { stream = 0; arrivals = 0 } ∷ []; first = 0; taken = 0; is_dropped = false }
+
+abbrev asked : World
+asked = record { machine = record { streams = fresh ∷ []; queries = query ∷ [] }; waiting = [] ∷ [] }
+
+limit_of_none : first_fault asked.machine (Take 0 (pos 0)) ≡ Some BadLimit
+limit_of_none = refl
+
+no_query : first_fault asked.machine (Take 1 (pos 0)) ≡ Some UnknownQuery
+no_query = refl
+
+dropped_query : first_fault (after asked.machine (Drop 0) 0) (Take 0 (pos 1)) ≡ Some UnknownQuery
+dropped_query = refl
+
+-- rows of instants 3, 1 and 3 come, all up to 3 is closed, and a drain makes the answers wait
+abbrev came : Machine
+came = after (after asked.machine (Append 0 ((pos 3, num 7 ∷ []) ∷ (pos 1, num 5 ∷ []) ∷ (pos 3, num 6 ∷ []) ∷ [])) 0) (Heartbeat 0 (pos 3)) 0
+
+abbrev waits : World
+waits = record { machine = came; waiting = ((1, num 5 ∷ []) ∷ (3, num 6 ∷ []) ∷ (3, num 7 ∷ []) ∷ []) ∷ [] }
+
+drained : drain_step (record { machine = came; waiting = [] ∷ [] }) 1 ≡ (Ok tt, waits)
+unfolding drain_step
+drained = refl
+
+-- takes of at most 2 hand out 2 answers, then the last, then none
+first_take : (take_step waits 0 (pos 2)).0 ≡ Ok ((pos 1, num 5 ∷ []) ∷ (pos 3, num 6 ∷ []) ∷ [])
+unfolding take_step
+first_take = refl
+
+second_take : (take_step (take_step waits 0 (pos 2)).1 0 (pos 2)).0 ≡ Ok ((pos 3, num 7 ∷ []) ∷ [])
+unfolding take_step
+second_take = refl
+
+third_take : (take_step (take_step (take_step waits 0 (pos 2)).1 0 (pos 2)).1 0 (pos 2)).0 ≡ Ok []
+unfolding take_step
+third_take = refl
+
+-- what was taken does not wait again
+drained_again : drain_step (take_step waits 0 (pos 2)).1 1 ≡ (Ok tt, (take_step waits 0 (pos 2)).1)
+unfolding drain_step take_step
+drained_again = refl

@@ -1,0 +1,22 @@
+//! Laws of answers that hold for every query and every input.
+ghost use Rattle.std.specs.Prelude.{◌≡◌, ◌≤◌, ◌<◌, ℕ, List, ◌++◌};
+ghost use Rattle.values.specs.Row.{Row};
+ghost use Rattle.values.specs.Window.{Element};
+ghost use Rattle.values.specs.Answers.{Resolved, answers, shown_at};
+ghost use Rattle.values.proofs.Worlds.{SameTables};
+ghost use Rattle.values.proofs.Closed.{Longer};
+
+/// Answers only grow: those of a shorter run are the beginning of those of a longer one.
+pub fn answers_only_grow()
+    ensures { (q : Resolved) (start : ℕ) (until : ℕ) (later : ℕ) (inputs : List (List Element)) → start ≤ until → until ≤ later → (rest : List (ℕ × Row)) × (answers q start later inputs ≡ answers q start until inputs ++ rest) }
+{}
+
+/// The law of two worlds: inputs whose windows show the same bags at every instant have the same answers.
+pub fn equal_window_bags_have_equal_answers()
+    ensures { (q : Resolved) (start : ℕ) (until : ℕ) (inputs : List (List Element)) (others : List (List Element)) → ((t : ℕ) → start ≤ t → t < until → SameTables (shown_at start q.windows t inputs) (shown_at start q.windows t others)) → answers q start until inputs ≡ answers q start until others }
+{}
+
+/// Elements that come later, at instants that are not closed yet, change no answer of a closed instant.
+pub fn later_elements_change_no_closed_answer()
+    ensures { (q : Resolved) (start : ℕ) (until : ℕ) (inputs : List (List Element)) (longer : List (List Element)) → Longer until inputs longer → answers q start until inputs ≡ answers q start until longer }
+{}

@@ -29,7 +29,9 @@ pub(crate) struct Found {
 pub(crate) fn number_of(streams: &[Stream], name: &[u8]) -> Option<usize>
     ensures { result ≡ position (λ s. bytes_eq s.name name.now) streams.now }
 {
-    streams.iter().position(|stream| stream.name().as_bytes() == name)
+    streams
+        .iter()
+        .position(|stream| stream.name().as_bytes() == name)
 }
 
 /// How many columns the stream of a number has.

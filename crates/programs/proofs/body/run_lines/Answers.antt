@@ -1,5 +1,5 @@
 use Rattle.programs.proofs.Outcomes.{says_begins}
-use Rattle.programs.proofs.run.run_lines.Goals as goal
+use Rattle.programs.proofs.body.run_lines.Goals as goal
 
 pub returns-in-Ok-clause-answers : goal.returns-in-Ok-clause-answers
 returns-in-Ok-clause-answers g c =

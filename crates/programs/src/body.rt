@@ -1,6 +1,7 @@
 //! The body of `cqlrun`.
 ghost use Rattle.std.specs.Prelude.{◌≡◌, ◌≢◌, ◌⊎◌, ◌∷◌, [], map};
 ghost use Rattle.clap.specs.Words.{kind_of};
+ghost use Rattle.reference.specs.World as world;
 ghost use Rattle.wire.specs.Devices.{Rises};
 ghost use Rattle.programs.specs.CommandLine.{refusals};
 ghost use Rattle.programs.specs.Run.{Answers, IsWrong, status_of};
@@ -9,7 +10,7 @@ use crate::options::run_options;
 use arrayvec::ArrayString;
 use clap::Error;
 use clap::error::ErrorKind;
-use reference::Answering;
+use reference::{Answering, Plain};
 use std::alloc::Global;
 use std::convert::AsStr;
 use std::fmt::Write;
@@ -116,4 +117,25 @@ pub fn run_over<'a, S: AsStr, N: Answering, I: Source, O: Sink, E: Sink>(
         Ok(_) => run_lines(alloc, engine, source, sink, errors),
         Err(error) => refuse(alloc, &error, sink, errors),
     }
+}
+
+/// The body of `cqlrun`: `run_over` an engine that has been told nothing.
+pub fn run<'a, S: AsStr, I: Source, O: Sink, E: Sink>(
+    alloc: Global,
+    words: &'a [S],
+    source: &mut I,
+    sink: &mut O,
+    errors: &mut E,
+) -> u8
+    ensures answers { refusals (map S.text words.entry.now) ≡ []
+        → Answers world.empty result (I.left source.old) (O.taken sink.old) (O.taken sink.new) }
+    ensures status { refusals (map S.text words.entry.now) ≡ [] → (result ≡ 0) ⊎ (result ≡ 1) ⊎ (result ≡ 3) }
+    ensures failed { result ≡ 1 → Rises (I.failures source.old) (I.failures source.new) ⊎ Rises (O.failures sink.old) (O.failures sink.new) }
+    ensures help { refusals (map S.text words.entry.now) ≡ ErrorKind.DisplayHelp ∷ [] → (result ≡ 0) ⊎ (result ≡ 1) ⊎ (result ≡ 3) }
+    ensures wrong { IsWrong (refusals (map S.text words.entry.now)) → ((result ≡ 2) ⊎ (result ≡ 3)) × (O.taken sink.new ≡ O.taken sink.old) }
+{
+    let Ok(mut engine) = Plain::new(alloc) else {
+        return lack_memory(errors);
+    };
+    run_over(alloc, words, &mut engine, source, sink, errors)
 }

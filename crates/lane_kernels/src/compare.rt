@@ -6,7 +6,8 @@ ghost use Rattle.std.specs.Int.{w64};
 ghost use Rattle.values.specs.Condition.{compared};
 ghost use Rattle.column.specs.Bits.{word_count};
 ghost use Rattle.lane_kernels.specs.How.{compare_of};
-ghost use Rattle.lane_kernels.specs.Lanes.{IsClearFrom, value_at, test3, test_of};
+ghost use Rattle.lane_kernels.specs.Lanes.{value_at, test3, test_of};
+ghost use Rattle.lane_kernels.specs.Truth.{IsClearFrom};
 ghost use Rattle.lane_kernels.specs.Truth.{IsTruth, truth_at, truths};
 
 use super::comparison::*;

@@ -16,3 +16,6 @@ pub use comparison::Comparison;
 pub use count::count_set;
 pub use logic::{and3, not3, or3};
 pub use sum::sum_signed;
+
+#[cfg(test)]
+mod tests;

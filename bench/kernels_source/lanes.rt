@@ -30,66 +30,82 @@ fn report(rt: &(impl Print + Clock), name: &str, start: Instant) -> io::Result<(
     println!(rt; "{name} {}", passed.as_nanos() / 20)
 }
 
+/// The lent words of a measurement.
+#[derive(Drop)]
+struct Words {
+    truth: Vec<u64>,
+    known: Vec<u64>,
+}
+
+fn lent_words(alloc: Global) -> Result<Words, AllocError>
+    ensures truth { IfOk result (λ w. length w.truth.items ≡ 16) }
+    ensures known { IfOk result (λ w. length w.known.items ≡ 16) }
+{
+    let truth = Vec::from_slice(alloc, &[0; 16])?;
+    let known = Vec::from_slice(alloc, &[0; 16])?;
+    Ok(Words { truth, known })
+}
+
+fn measure_const(rt: &(impl Print + Clock), column: &Column, truth: &mut [u64], known: &mut [u64]) -> io::Result<()>
+    requires long { length column.now ≡ 1024 }
+    requires truth_fits { length truth.old ≡ 16 }
+    requires known_fits { length known.old ≡ 16 }
+{
+    let start = Instant::now(rt)?;
+    for i in 0..CALLS {
+        compare_const(column, Comparison::Greater, (i % 2001) as i64, truth, known);
+    }
+    report(rt, "compare_const", start)
+}
+
+fn measure_columns(rt: &(impl Print + Clock), left: &Column, right: &Column, truth: &mut [u64], known: &mut [u64]) -> io::Result<()>
+    requires long { length left.now ≡ 1024 }
+    requires same { length right.now ≡ 1024 }
+    requires truth_fits { length truth.old ≡ 16 }
+    requires known_fits { length known.old ≡ 16 }
+{
+    let start = Instant::now(rt)?;
+    for _ in 0..CALLS {
+        compare_columns(left, Comparison::Less, right, truth, known);
+    }
+    report(rt, "compare_columns", start)
+}
+
+fn measure_sum(rt: &(impl Print + Clock), column: &Column, minus: &[u64]) -> io::Result<()>
+    requires long { length column.now ≡ 1024 }
+    requires fits { length minus.now ≡ 16 }
+{
+    if !column.is_in_stream_range() {
+        return Ok(());
+    }
+    let start = Instant::now(rt)?;
+    let mut above = 0u64;
+    for i in 0..CALLS {
+        if sum_signed(column, minus) > 0 {
+            above = i;
+        }
+    }
+    println!(rt; "# {above}")?;
+    report(rt, "sum_signed", start)
+}
+
+fn measure_count(rt: &(impl Print + Clock), words: &[u64]) -> io::Result<()>
+    requires { length words.now ≡ 16 }
+{
+    let start = Instant::now(rt)?;
+    let mut most = 0;
+    for _ in 0..CALLS {
+        most = count_set(words).max(most);
+    }
+    println!(rt; "# {most}")?;
+    report(rt, "count_set", start)
+}
+
 fn main(rt: HostRuntime) -> io::Result<()> {
     let (a, b) = (numbers(rt.alloc(), 7919)?, numbers(rt.alloc(), 104_729)?);
-    let (mut truth, mut known) = ([0u64; 16], [0u64; 16]);
-    let (mut other, mut known_other) = ([0u64; 16], [0u64; 16]);
-    let minus = [0x5555_aaaa_0f0f_3333u64; 16];
-    let mut seen = 0u64;
-    compare_const(&a, Comparison::Greater, 1000, &mut truth, &mut known);
-    compare_columns(&a, Comparison::Less, &b, &mut other, &mut known_other);
-    let (mut found, mut known_found) = ([0u64; 16], [0u64; 16]);
-
-    let start = Instant::now(&rt)?;
-    for i in 0..CALLS {
-        compare_const(&a, Comparison::Greater, (i % 2001) as i64, &mut found, &mut known_found);
-        seen ^= found[3];
-    }
-    report(&rt, "compare_const", start)?;
-
-    let start = Instant::now(&rt)?;
-    for _ in 0..CALLS {
-        compare_columns(&a, Comparison::Less, &b, &mut found, &mut known_found);
-        seen ^= found[3];
-    }
-    report(&rt, "compare_columns", start)?;
-
-    if a.is_in_stream_range() {
-        let start = Instant::now(&rt)?;
-        for _ in 0..CALLS {
-            if sum_signed(&a, &minus) > 0 {
-                seen ^= 1;
-            }
-        }
-        report(&rt, "sum_signed", start)?;
-    }
-
-    let (mut both, mut known_both) = ([0u64; 16], [0u64; 16]);
-    let start = Instant::now(&rt)?;
-    for _ in 0..CALLS {
-        not3(&truth, &known, &mut both, &mut known_both);
-        seen ^= both[3];
-    }
-    report(&rt, "not3", start)?;
-
-    let start = Instant::now(&rt)?;
-    for _ in 0..CALLS {
-        and3(&truth, &known, &other, &known_other, &mut both, &mut known_both);
-        seen ^= both[3];
-    }
-    report(&rt, "and3", start)?;
-
-    let start = Instant::now(&rt)?;
-    for _ in 0..CALLS {
-        or3(&truth, &known, &other, &known_other, &mut both, &mut known_both);
-        seen ^= both[3];
-    }
-    report(&rt, "or3", start)?;
-
-    let start = Instant::now(&rt)?;
-    for _ in 0..CALLS {
-        seen ^= count_set(&other) as u64;
-    }
-    report(&rt, "count_set", start)?;
-    println!(rt; "# {seen}")
+    let mut words = lent_words(rt.alloc())?;
+    measure_const(&rt, &a, &mut words.truth, &mut words.known)?;
+    measure_columns(&rt, &a, &b, &mut words.truth, &mut words.known)?;
+    measure_sum(&rt, &a, &words.truth)?;
+    measure_count(&rt, &words.known)
 }

@@ -38,3 +38,22 @@ fn cut_keeps_nulls_and_signs(rt: HostRuntime) -> Result<(), Fail> {
     assert!(rt; cut.column(0).is_in_stream_range());
     Ok(())
 }
+
+#[test]
+fn rows_gathered_and_put_beside_rows(rt: HostRuntime) -> Result<(), Fail> {
+    let alloc = rt.alloc();
+    let batch = three(alloc)?;
+    let mut mask = Mask::with_capacity(alloc, 3)?;
+    mask.push(false)?;
+    mask.push(true)?;
+    mask.push(true)?;
+    let chosen = batch.gather(alloc, &mask)?.ok_or("no row")?;
+    assert_eq!(rt; (chosen.len(), chosen.width()), (2, 2));
+    assert_eq!(rt; chosen.column(1).numbers(), [0, 30].as_slice());
+    let names = chosen.project(alloc, &[1])?;
+    assert_eq!(rt; (names.len(), names.width()), (2, 1));
+    let both = chosen.beside(names, Side::Left)?;
+    assert_eq!(rt; (both.len(), both.width()), (2, 3));
+    assert_eq!(rt; both.column(2).valid_words(), [2].as_slice());
+    Ok(())
+}

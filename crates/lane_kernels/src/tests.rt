@@ -32,9 +32,21 @@ fn bit(words: &[u64], i: usize) -> bool
 #[test]
 fn nine_values_compared_and_negated(rt: HostRuntime) -> Result<(), Fail> {
     let (mut truth, mut known) = ([0], [0]);
-    compare_const(&counted(rt.alloc(), 9, 9)?, Comparison::Greater, 5, &mut truth, &mut known);
+    compare_const(
+        &counted(rt.alloc(), 9, 9)?,
+        Comparison::Greater,
+        5,
+        &mut truth,
+        &mut known,
+    );
     assert_eq!(rt; (truth[0], known[0]), (480, 511));
-    compare_const(&counted(rt.alloc(), 9, 8)?, Comparison::Greater, 5, &mut truth, &mut known);
+    compare_const(
+        &counted(rt.alloc(), 9, 8)?,
+        Comparison::Greater,
+        5,
+        &mut truth,
+        &mut known,
+    );
     assert_eq!(rt; (truth[0], known[0]), (224, 255));
     let (mut not_truth, mut not_known) = ([0], [0]);
     not3(&truth, &known, &mut not_truth, &mut not_known);

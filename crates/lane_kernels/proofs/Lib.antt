@@ -4,3 +4,4 @@ pub mod SumLemmas
 pub mod TotalLemmas
 pub mod WordLemmas
 pub mod CountLemmas
+pub mod ConditionLemmas

@@ -6,7 +6,7 @@ use Rattle.std.proofs.lemmas.Bool.{cases_lt}
 use Rattle.std.proofs.Math.ListN.{get_or}
 use Rattle.std.proofs.Math.Facts.{Fits-lt-pow}
 use Rattle.column.specs.Bits.{place}
-use Rattle.lane_kernels.specs.Truth.{truth_at, IsKnownTruth}
+use Rattle.lane_kernels.specs.Truth.{truth_at, IsKnownTruth, IsClearFrom}
 use Rattle.values.specs.Condition.{not3, and3, or3}
 
 -- the words of one place of two lists
@@ -103,3 +103,20 @@ or_places a b c d truth known p q lb lc ld lt lk each i =
     (λ h. (bit_at_or _ _ _, simp (bit_at_or, bit_at_and)))
     (λ h. let z : place a i ≡ 0 = past_is_zero a i (omega (arith, h)) in let y : place b i ≡ 0 = past_is_zero b i (omega (arith, lb, h)) in let x : place c i ≡ 0 = past_is_zero c i (omega (arith, lc, h)) in (omega (arith, z, x), omega (arith, y, z, x))))
     (or_bits (place a i) (place b i) (place c i) (place d i) (bit_at-lt _ _) (p i) (bit_at-lt _ _) (q i))
+
+-- ---- past the length
+unknown_bit : (b : ℕ) (v : Bool) → b < 2 → cond (b == 1) (Some v) None ≡ None → b ≡ 0
+unknown_bit zero v h e = refl
+unknown_bit (suc zero) v h e = cc
+unknown_bit (suc (suc b)) v h e = absurd (omega arith)
+
+unknown_at : (truth known : List ℕ) (i : ℕ) → place known i ≡ 0 → truth_at truth known i ≡ None
+unknown_at truth known i h = ap (λ b. cond (b == 1) (Some (place truth i == 1)) None) h
+
+pub past_one : (a b truth known : List ℕ) (n : ℕ) → ((i : ℕ) → truth_at truth known i ≡ not3 (truth_at a b i)) → IsClearFrom n b → IsClearFrom n known
+past_one a b truth known n each clear i h = unknown_bit (place known i) _ (bit_at-lt _ _) (each i ∙ ap not3 (unknown_at a b i (clear i h)))
+
+pub past_two : (op : Option Bool → Option Bool → Option Bool) (a b c d truth known : List ℕ) (n : ℕ) → op None None ≡ None → ((i : ℕ) → truth_at truth known i ≡ op (truth_at a b i) (truth_at c d i))
+    → IsClearFrom n b → IsClearFrom n d → IsClearFrom n known
+past_two op a b c d truth known n none each clear_b clear_d i h =
+    unknown_bit (place known i) _ (bit_at-lt _ _) (each i ∙ (λ t. op (unknown_at a b i (clear_b i h) t) (unknown_at c d i (clear_d i h) t)) ∙ none)

@@ -22,7 +22,8 @@ use Rattle.lane_kernels.proofs.LaneLemmas.{take-zip2, drop-zip2}
 use mir.Val.{SFits}
 use mir.Syntax.{w64}
 use Rattle.column.specs.Bits.{place, word_count}
-use Rattle.lane_kernels.specs.Lanes.{value_at, test3, IsClearFrom}
+use Rattle.lane_kernels.specs.Lanes.{value_at, test3}
+use Rattle.lane_kernels.specs.Truth.{IsClearFrom}
 use Rattle.lane_kernels.specs.Truth.{truth_at, IsTruth}
 
 -- word k as a comparison writes it

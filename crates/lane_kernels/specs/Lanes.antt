@@ -1,5 +1,5 @@
 -- Words for the steps of the kernels: eight lanes, single tests, signs as bits.
-use Rattle.std.specs.Prelude.{ℕ, ℤ, pos, ◌+ℤ◌, neg_ℤ, ◌≤ℤ◌, Bool, List, [], ◌∷◌, map, ◌≡◌, ◌≤◌, ◌^◌, cond, ◌==◌, length, Option, Some, None, get_or}
+use Rattle.std.specs.Prelude.{ℕ, ℤ, pos, ◌+ℤ◌, neg_ℤ, ◌≤ℤ◌, Bool, List, [], ◌∷◌, map, ◌≡◌, ◌^◌, cond, ◌==◌, length, Option, Some, None, get_or}
 use Rattle.std.specs.List.{range_with_len}
 use Rattle.std.specs.Ordering.{int_cmp}
 use Rattle.values.specs.Condition.{Compare, passes}
@@ -27,10 +27,6 @@ abbrev pub test3 : (ℤ → ℤ → Bool) → Option ℤ → Option ℤ → Opti
 test3 t None y = None
 test3 t (Some x) None = None
 test3 t (Some x) (Some y) = Some (t x y)
-
--- no bit from n on is set
-abbrev pub IsClearFrom : ℕ → List ℕ → Type 0
-IsClearFrom n words = (i : ℕ) → n ≤ i → place words i ≡ 0
 
 -- between -n and n
 pub record IsWithin (n : ℕ) (x : ℤ) : Type 0 where

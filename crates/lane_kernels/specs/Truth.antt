@@ -15,6 +15,10 @@ truths n truth known = map (truth_at truth known) (range_with_len 0 n)
 abbrev pub IsKnownTruth : List ℕ → List ℕ → Type 0
 IsKnownTruth truth known = (i : ℕ) → place truth i ≤ place known i
 
+-- no bit from n on is set
+abbrev pub IsClearFrom : ℕ → List ℕ → Type 0
+IsClearFrom n words = (i : ℕ) → n ≤ i → place words i ≡ 0
+
 -- a true place is a known one, and no place from n on is known
 pub record IsTruth (n : ℕ) (truth known : List ℕ) : Type 0 where
   pub true_is_known : (i : ℕ) → place truth i ≤ place known i

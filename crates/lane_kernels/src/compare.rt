@@ -6,7 +6,8 @@ ghost use Rattle.std.specs.Int.{w64};
 ghost use Rattle.values.specs.Condition.{compared};
 ghost use Rattle.column.specs.Bits.{word_count};
 ghost use Rattle.lane_kernels.specs.How.{compare_of};
-ghost use Rattle.lane_kernels.specs.Lanes.{IsClearFrom, value_at, test3, test_of};
+ghost use Rattle.lane_kernels.specs.Lanes.{value_at, test3, test_of};
+ghost use Rattle.lane_kernels.specs.Truth.{IsClearFrom};
 ghost use Rattle.lane_kernels.specs.Truth.{IsTruth, truth_at, truths};
 
 use super::comparison::*;
@@ -65,7 +66,7 @@ pub fn compare_columns(
 }
 
 /// One bit for each number of at most 64, whether it passes the test with `c`.
-fn word_const<T: Test>(numbers: &[i64], c: i64) -> u64
+pub fn word_const<T: Test>(numbers: &[i64], c: i64) -> u64
     requires short { length numbers.now ≤ 64 }
     requires fit { Each1 (FitsSigned w64) numbers.now }
     ensures { result ≡ mask_l (map (λ x. test_of T.how x c) numbers.now) }
@@ -85,7 +86,7 @@ fn word_const<T: Test>(numbers: &[i64], c: i64) -> u64
 }
 
 /// One bit for each pair of at most 64, whether it passes the test.
-fn word_columns<T: Test>(xs: &[i64], ys: &[i64]) -> u64
+pub fn word_columns<T: Test>(xs: &[i64], ys: &[i64]) -> u64
     requires short { length xs.now ≤ 64 }
     requires same { length ys.now ≡ length xs.now }
     requires fit_x { Each1 (FitsSigned w64) xs.now }

@@ -7,12 +7,17 @@
 
 mod compare;
 mod comparison;
+mod condition;
 mod count;
 mod logic;
 mod sum;
 
 pub use compare::{compare_columns, compare_const};
 pub use comparison::Comparison;
+pub use condition::{MAX_TRUTHS, Step, run_condition};
 pub use count::count_set;
 pub use logic::{and3, not3, or3};
 pub use sum::sum_signed;
+
+#[cfg(test)]
+mod tests;

@@ -2,9 +2,11 @@
 
 ghost use Rattle.std.specs.Prelude.{◌≡◌, ◌≤◌, ℕ, length};
 ghost use Rattle.values.specs.Condition.{not3, and3, or3};
-ghost use Rattle.lane_kernels.specs.Truth.{IsKnownTruth, truth_at};
+ghost use Rattle.lane_kernels.specs.Truth.{IsClearFrom, IsKnownTruth, truth_at};
 
 /// The negation of a truth, place by place.
+///
+/// All words lent are as many; bits from a place on that are 0 in the one are 0 in the other.
 pub fn not3(a_truth: &[u64], a_known: &[u64], truth: &mut [u64], known: &mut [u64])
     requires same_a { length a_known.now ≡ length a_truth.now }
     requires same_truth { length truth.old ≡ length a_truth.now }
@@ -12,6 +14,7 @@ pub fn not3(a_truth: &[u64], a_known: &[u64], truth: &mut [u64], known: &mut [u6
     requires is_a { IsKnownTruth a_truth.now a_known.now }
     ensures places { (i : ℕ) → truth_at truth.new known.new i ≡ not3 (truth_at a_truth.now a_known.now i) }
     ensures well_formed { IsKnownTruth truth.new known.new }
+    ensures past { (n : ℕ) → IsClearFrom n a_known.now → IsClearFrom n known.new }
 {
     for w in 0..a_truth.len() {
         let (t, k) = (a_truth[w], a_known[w]);
@@ -20,7 +23,7 @@ pub fn not3(a_truth: &[u64], a_known: &[u64], truth: &mut [u64], known: &mut [u6
     }
 }
 
-/// And3 of two truths, place by place.
+/// Whether both hold, place by place, as `not3` does.
 pub fn and3(
     a_truth: &[u64],
     a_known: &[u64],
@@ -38,6 +41,7 @@ pub fn and3(
     requires is_b { IsKnownTruth b_truth.now b_known.now }
     ensures places { (i : ℕ) → truth_at truth.new known.new i ≡ and3 (truth_at a_truth.now a_known.now i) (truth_at b_truth.now b_known.now i) }
     ensures well_formed { IsKnownTruth truth.new known.new }
+    ensures past { (n : ℕ) → IsClearFrom n a_known.now → IsClearFrom n b_known.now → IsClearFrom n known.new }
 {
     for w in 0..a_truth.len() {
         let (t, k, u, l) = (a_truth[w], a_known[w], b_truth[w], b_known[w]);
@@ -46,7 +50,7 @@ pub fn and3(
     }
 }
 
-/// Or3 of two truths, place by place.
+/// Whether one of two holds, place by place, as `not3` does.
 pub fn or3(
     a_truth: &[u64],
     a_known: &[u64],
@@ -64,6 +68,7 @@ pub fn or3(
     requires is_b { IsKnownTruth b_truth.now b_known.now }
     ensures places { (i : ℕ) → truth_at truth.new known.new i ≡ or3 (truth_at a_truth.now a_known.now i) (truth_at b_truth.now b_known.now i) }
     ensures well_formed { IsKnownTruth truth.new known.new }
+    ensures past { (n : ℕ) → IsClearFrom n a_known.now → IsClearFrom n b_known.now → IsClearFrom n known.new }
 {
     for w in 0..a_truth.len() {
         let (t, k, u, l) = (a_truth[w], a_known[w], b_truth[w], b_known[w]);

@@ -1,0 +1,95 @@
+// The plain loops that the kernels are measured against, over 1,024 numbers a call.
+use std::hint::black_box;
+use std::time::Instant;
+
+const CALLS: u32 = 20_000;
+
+#[inline(never)]
+fn compare_const(numbers: &[i64], valid: &[u64], c: i64, truth: &mut [u64], known: &mut [u64]) {
+    for w in 0..valid.len() {
+        let mut word = 0u64;
+        for (k, &number) in numbers[w * 64..w * 64 + 64].iter().enumerate() {
+            word |= ((number > c) as u64) << k;
+        }
+        truth[w] = word & valid[w];
+        known[w] = valid[w];
+    }
+}
+
+#[inline(never)]
+fn compare_columns(xs: &[i64], xv: &[u64], ys: &[i64], yv: &[u64], truth: &mut [u64], known: &mut [u64]) {
+    for w in 0..xv.len() {
+        let mut word = 0u64;
+        for k in 0..64 {
+            word |= ((xs[w * 64 + k] < ys[w * 64 + k]) as u64) << k;
+        }
+        truth[w] = word & xv[w] & yv[w];
+        known[w] = xv[w] & yv[w];
+    }
+}
+
+#[inline(never)]
+fn not3(a: &[u64], b: &[u64], truth: &mut [u64], known: &mut [u64]) {
+    for w in 0..a.len() {
+        truth[w] = b[w] & !a[w];
+        known[w] = b[w];
+    }
+}
+
+#[inline(never)]
+fn and3(a: &[u64], b: &[u64], c: &[u64], d: &[u64], truth: &mut [u64], known: &mut [u64]) {
+    for w in 0..a.len() {
+        truth[w] = a[w] & c[w];
+        known[w] = (b[w] & d[w]) | (b[w] & !a[w]) | (d[w] & !c[w]);
+    }
+}
+
+#[inline(never)]
+fn or3(a: &[u64], b: &[u64], c: &[u64], d: &[u64], truth: &mut [u64], known: &mut [u64]) {
+    for w in 0..a.len() {
+        truth[w] = a[w] | c[w];
+        known[w] = (b[w] & d[w]) | a[w] | c[w];
+    }
+}
+
+#[inline(never)]
+fn sum_signed(numbers: &[i64], minus: &[u64]) -> i64 {
+    let mut total = 0;
+    for (i, &number) in numbers.iter().enumerate() {
+        total += if minus[i / 64] >> (i % 64) & 1 == 1 { -number } else { number };
+    }
+    total
+}
+
+#[inline(never)]
+fn count_set(words: &[u64]) -> u32 {
+    words.iter().map(|word| word.count_ones()).sum()
+}
+
+fn report(name: &str, mut call: impl FnMut(u32)) {
+    let start = Instant::now();
+    for i in 0..CALLS {
+        call(i);
+    }
+    println!("{name} {}", start.elapsed().as_nanos() as u64 / (CALLS as u64 / 1000));
+}
+
+fn main() {
+    let a: Vec<i64> = (0..1024).map(|i| i * 7919 % 2001).collect();
+    let b: Vec<i64> = (0..1024).map(|i| i * 104_729 % 2001).collect();
+    let (valid, minus) = (vec![u64::MAX; 16], vec![0x5555_aaaa_0f0f_3333u64; 16]);
+    let (mut truth, mut known) = (vec![0u64; 16], vec![0u64; 16]);
+    let (mut other, mut known_other) = (vec![0u64; 16], vec![0u64; 16]);
+    report("compare_const", |i| compare_const(black_box(&a), &valid, i as i64 % 2001, black_box(&mut truth), &mut known));
+    report("compare_columns", |_| compare_columns(black_box(&a), &valid, &b, &valid, black_box(&mut other), &mut known_other));
+    let (t, k, u, l) = (truth.clone(), known.clone(), other.clone(), known_other.clone());
+    report("not3", |_| not3(black_box(&t), &k, black_box(&mut truth), &mut known));
+    report("and3", |_| and3(black_box(&t), &k, &u, &l, black_box(&mut truth), &mut known));
+    report("or3", |_| or3(black_box(&t), &k, &u, &l, black_box(&mut truth), &mut known));
+    report("sum_signed", |_| {
+        black_box(sum_signed(black_box(&a), &minus));
+    });
+    report("count_set", |_| {
+        black_box(count_set(black_box(&t)));
+    });
+}

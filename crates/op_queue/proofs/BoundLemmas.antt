@@ -39,20 +39,20 @@ above_point ns from to least result u h i a b =
 pub drop-slice_range : {X : Type 0} (xs : List X) (a b k : ℕ) → a ≤ b → b ≤ length xs → drop k (slice_range xs a b) ≡ slice_range xs (a + min (b - a) k) b
 drop-slice_range xs a b k l u =
     ⊎_elim
-        (λ (lt : k < b - a).
-            let n : b - a ≡ k + (b - a - k) = omega arith in
-            let m : a + min (b - a) k ≡ a + k = omega arith in
-            let o : b - a - k ≡ b - (a + k) = omega arith in
-            ap (λ i. drop k (take i (drop a xs))) n
-                ∙ drop-take k (b - a - k) (drop a xs)
-                ∙ ap (take (b - a - k)) (drop-drop k a xs)
-                ∙ ap (λ i. take i (drop (a + k) xs)) o
-                ∙ ap (λ i. slice_range xs i b) (sym m))
-        (λ (ge : b - a ≤ k).
-            let len = length-slice_range xs a b u in
-            let m : b - (a + min (b - a) k) ≡ 0 = omega arith in
-            drop_all k (slice_range xs a b) (omega arith) ∙ sym (ap (λ i. take i (drop (a + min (b - a) k) xs)) m))
-        (cases_lt k (b - a))
+    (λ (lt : k < b - a).
+    let n : b - a ≡ k + (b - a - k) = omega arith in
+    let m : a + min (b - a) k ≡ a + k = omega arith in
+    let o : b - a - k ≡ b - (a + k) = omega arith in
+    ap (λ i. drop k (take i (drop a xs))) n
+    ∙ drop-take k (b - a - k) (drop a xs)
+    ∙ ap (take (b - a - k)) (drop-drop k a xs)
+    ∙ ap (λ i. take i (drop (a + k) xs)) o
+    ∙ ap (λ i. slice_range xs i b) (sym m))
+    (λ (ge : b - a ≤ k).
+    let len = length-slice_range xs a b u in
+    let m : b - (a + min (b - a) k) ≡ 0 = omega arith in
+    drop_all k (slice_range xs a b) (omega arith) ∙ sym (ap (λ i. take i (drop (a + min (b - a) k) xs)) m))
+    (cases_lt k (b - a))
 
 -- the first rows of a range
 pub slice_range-front : {X : Type 0} (xs : List X) (a b n : ℕ) → n ≤ b - a → slice_range xs a (a + n) ≡ take n (slice_range xs a b)

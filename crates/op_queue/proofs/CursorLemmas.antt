@@ -50,12 +50,12 @@ span-none p es start until ge =
 pub entries-fresh : (c : Cursor) (log : Closed) → c.passed ≡ 0 → cursor_entries c log ≡ log_entries c.place c.at log
 entries-fresh c log none =
     ⊎_elim
-        (λ (lt : c.at < log.until).
-            entries-open c log lt
-                ∙ ap (λ k. row_entries c.at (drop k (shown c.place c.at log.elements)) ++ TickAt c.at ∷ log_entries c.place (c.at + 1) log) none
-                ∙ sym (span-first c.place log.elements c.at log.until lt))
-        (λ (ge : log.until ≤ c.at). entries-shut c log ge ∙ sym (span-none c.place log.elements c.at log.until ge))
-        (cases_lt c.at log.until)
+    (λ (lt : c.at < log.until).
+    entries-open c log lt
+    ∙ ap (λ k. row_entries c.at (drop k (shown c.place c.at log.elements)) ++ TickAt c.at ∷ log_entries c.place (c.at + 1) log) none
+    ∙ sym (span-first c.place log.elements c.at log.until lt))
+    (λ (ge : log.until ≤ c.at). entries-shut c log ge ∙ sym (span-none c.place log.elements c.at log.until ge))
+    (cases_lt c.at log.until)
 
 length-row_entries : (t : ℕ) (es : List Element) → length (row_entries t es) ≡ length es
 length-row_entries t es = let f : Element → Entry Row = λ e. RowAt t (entering e) in length-map es f
@@ -79,11 +79,11 @@ IsPassing-rows {old} {count} {left} c log from to is end h some few =
     let n = ap length is ∙ length-slice_range log.elements from to end in
     let m = length-row_entries c.at (rest_of c log) in
     let after : drop left (cursor_entries c log) ≡ cursor_entries d log =
-        ap (drop left) (entries-open c log lt)
-            ∙ drop-append-le left (row_entries c.at (rest_of c log)) tail (omega arith)
-            ∙ ap (λ xs. xs ++ tail) (drop-map g left (rest_of c log))
-            ∙ ap (λ xs. row_entries c.at xs ++ tail) (drop-drop left c.passed (shown c.place c.at log.elements))
-            ∙ sym (entries-open d log lt) in
+    ap (drop left) (entries-open c log lt)
+    ∙ drop-append-le left (row_entries c.at (rest_of c log)) tail (omega arith)
+    ∙ ap (λ xs. xs ++ tail) (drop-map g left (rest_of c log))
+    ∙ ap (λ xs. row_entries c.at xs ++ tail) (drop-drop left c.passed (shown c.place c.at log.elements))
+    ∙ sym (entries-open d log lt) in
     record {
       rest = sym after ∙ h.rest;
       enough = omega arith;
@@ -102,14 +102,14 @@ IsPassing-instant {old} {count} {left} c log from to is end h much =
     let whole : cursor_entries c log ≡ (rows ++ TickAt c.at ∷ []) ++ tail = entries-open c log lt ∙ sym (append_assoc rows (TickAt c.at ∷ []) tail) in
     let l = length-append rows (TickAt c.at ∷ []) in
     let next : drop (to - from + 1) (cursor_entries c log) ≡ cursor_entries d log =
-        ap (drop (to - from + 1)) whole ∙ drop_at (rows ++ TickAt c.at ∷ []) tail (to - from + 1) (omega arith) ∙ sym (entries-fresh d log refl) in
+    ap (drop (to - from + 1)) whole ∙ drop_at (rows ++ TickAt c.at ∷ []) tail (to - from + 1) (omega arith) ∙ sym (entries-fresh d log refl) in
     let k : (to - from + 1) + (left - (to - from + 1)) ≡ left = omega arith in
     record {
       rest =
           ap (drop (left - (to - from + 1))) (sym next)
-              ∙ drop-drop (left - (to - from + 1)) (to - from + 1) (cursor_entries c log)
-              ∙ ap (λ i. drop i (cursor_entries c log)) k
-              ∙ h.rest;
+          ∙ drop-drop (left - (to - from + 1)) (to - from + 1) (cursor_entries c log)
+          ∙ ap (λ i. drop i (cursor_entries c log)) k
+          ∙ h.rest;
       enough = omega (arith, h.enough, ap length next, length-drop (to - from + 1) (cursor_entries c log));
       within = omega arith;
     }
@@ -149,11 +149,11 @@ IsFrontPart-rows c log from to rows count b lt is end some few enough cut =
     let m = length-row_entries c.at (rest_of c log) in
     let x : b ≡ map entering (take rows (rest_of c log)) = cut ∙ ap (map entering) (slice_range-front log.elements from to rows few ∙ ap (take rows) (sym is)) in
     let y : map f b ≡ take rows (cursor_entries c log) =
-        ap (map f) x
-            ∙ map-map f entering (take rows (rest_of c log))
-            ∙ sym (take-map g rows (rest_of c log))
-            ∙ sym (take-append-le rows (row_entries c.at (rest_of c log)) tail (omega arith))
-            ∙ ap (take rows) (sym (entries-open c log lt)) in
+    ap (map f) x
+    ∙ map-map f entering (take rows (rest_of c log))
+    ∙ sym (take-map g rows (rest_of c log))
+    ∙ sym (take-append-le rows (row_entries c.at (rest_of c log)) tail (omega arith))
+    ∙ ap (take rows) (sym (entries-open c log lt)) in
     let l = length-map b f in
     let k = ap length x ∙ length-map (take rows (rest_of c log)) entering ∙ length-take rows (rest_of c log) in
     let whole : length (map f b) ≡ rows = omega arith in
@@ -170,11 +170,11 @@ front_part-rows k t (e ∷ es) tail some = ap (take k) (front_rows-rows t (e ∷
 take-min : {X : Type 0} (k : ℕ) (xs : List X) → take (min k (length xs)) xs ≡ take k xs
 take-min k xs =
     ⊎_elim
-        (λ (lt : k < length xs). let e : min k (length xs) ≡ k = omega arith in ap (λ i. take i xs) e)
-        (λ (ge : length xs ≤ k).
-            let e : min k (length xs) ≡ length xs = omega arith in
-            ap (λ i. take i xs) e ∙ take_all (length xs) xs (omega arith) ∙ sym (take_all k xs ge))
-        (cases_lt k (length xs))
+    (λ (lt : k < length xs). let e : min k (length xs) ≡ k = omega arith in ap (λ i. take i xs) e)
+    (λ (ge : length xs ≤ k).
+    let e : min k (length xs) ≡ length xs = omega arith in
+    ap (λ i. take i xs) e ∙ take_all (length xs) xs (omega arith) ∙ sym (take_all k xs ge))
+    (cases_lt k (length xs))
 
 -- the most rows that the front has, up to k
 pub rows-front_part : (c : Cursor) (log : Closed) (from to rows k : ℕ) (b : List (Bool × Row)) → c.at < log.until → rest_of c log ≡ slice_range log.elements from to → to ≤ length log.elements → from < to → rows ≡ min k (to - from) → b ≡ map entering (slice_range log.elements from (from + rows)) → map (RowAt c.at) b ≡ front_part k (cursor_entries c log)
@@ -187,12 +187,12 @@ rows-front_part c log from to rows k b lt is end some most cut =
     let x : b ≡ map entering (take rows (rest_of c log)) = cut ∙ ap (map entering) (slice_range-front log.elements from to rows (omega arith) ∙ ap (take rows) (sym is)) in
     let least : rows ≡ min k (length (row_entries c.at (rest_of c log))) = omega arith in
     ap (map f) x
-        ∙ map-map f entering (take rows (rest_of c log))
-        ∙ sym (take-map g rows (rest_of c log))
-        ∙ ap (λ i. take i (row_entries c.at (rest_of c log))) least
-        ∙ take-min k (row_entries c.at (rest_of c log))
-        ∙ sym (front_part-rows k c.at (rest_of c log) tail (omega arith))
-        ∙ ap (front_part k) (sym (entries-open c log lt))
+    ∙ map-map f entering (take rows (rest_of c log))
+    ∙ sym (take-map g rows (rest_of c log))
+    ∙ ap (λ i. take i (row_entries c.at (rest_of c log))) least
+    ∙ take-min k (row_entries c.at (rest_of c log))
+    ∙ sym (front_part-rows k c.at (rest_of c log) tail (omega arith))
+    ∙ ap (front_part k) (sym (entries-open c log lt))
 
 pub tick-front_part : (c : Cursor) (log : Closed) (from to k : ℕ) → c.at < log.until → rest_of c log ≡ slice_range log.elements from to → to ≤ from → TickAt c.at ∷ [] ≡ front_part k (cursor_entries c log)
 tick-front_part c log from to k lt is none = sym (ap (front_part k) (entries-tick c log from to lt is none))

@@ -59,10 +59,10 @@ IsDropping-piece {left = left} {taken = taken} ps qs p is h much =
       fewer = omega (arith, g.fewer);
       rest =
           ap (drop (left - (piece_size p - taken))) (sym (drop_at (piece_entries p) (flat_map piece_entries qs) (piece_size p) b))
-              ∙ drop-drop (left - (piece_size p - taken)) (piece_size p) (piece_entries p ++ flat_map piece_entries qs)
-              ∙ ap (λ n. drop n (piece_entries p ++ flat_map piece_entries qs)) size
-              ∙ sym (drop-drop left taken (piece_entries p ++ flat_map piece_entries qs))
-              ∙ g.rest;
+          ∙ drop-drop (left - (piece_size p - taken)) (piece_size p) (piece_entries p ++ flat_map piece_entries qs)
+          ∙ ap (λ n. drop n (piece_entries p ++ flat_map piece_entries qs)) size
+          ∙ sym (drop-drop left taken (piece_entries p ++ flat_map piece_entries qs))
+          ∙ g.rest;
     }
 
 pub IsDropping-end : {taken0 len0 : ℕ} {most count left taken len : ℕ} (ps0 ps : List Piece) → IsQueue taken0 len0 ps0 → IsDropping (queue_entries taken0 ps0) most count left taken len ps → left ≡ 0 → IsQueue taken (len - count) ps

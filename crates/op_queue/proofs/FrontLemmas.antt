@@ -22,7 +22,7 @@ drop-ticks first last taken h =
     let n = length-map-range_with_len f first (last + 1 - first) in
     let k : taken < length (ticks first last) = omega arith in
     drop_more (ticks first last) taken (TickAt 0) k
-        ∙ ap (λ e. e ∷ drop (taken + 1) (ticks first last)) (get_or-map-range_with_len f first (last + 1 - first) taken (first + taken) (TickAt 0) h refl)
+    ∙ ap (λ e. e ∷ drop (taken + 1) (ticks first last)) (get_or-map-range_with_len f first (last + 1 - first) taken (first + taken) (TickAt 0) h refl)
 
 pub IsFrontPart-rows : (t : ℕ) (b part : List (Bool × Row)) (taken rows count : ℕ) → taken < length b → rows ≡ min count (length b - taken) → 0 < count → part ≡ slice_range b taken (taken + rows) → IsFrontPart count (drop taken (map (RowAt t) b)) (Rows t part)
 IsFrontPart-rows t b part taken rows count some least positive cut =

@@ -11,3 +11,4 @@ pub mod GrowthLemmas
 pub mod PartLemmas
 pub mod SignedLemmas
 pub mod PathLemmas
+pub mod ForwardLemmas

@@ -19,8 +19,8 @@ length-parts : (columns : List (List (Option ℤ))) (from to : ℕ) → from ≤
 length-parts [] from to le h = All-nil (λ c. length c ≡ length (replicate (to - from) false))
 length-parts (c ∷ cs) from to le h =
     All-cons (λ c. length c ≡ length (replicate (to - from) false)) (slice_range c from to) (parts_of from to cs)
-        (length-slice_range c from to (All-head (λ c. to ≤ length c) c cs h) ∙ sym (length-replicate (to - from) false))
-        (length-parts cs from to le (All-tail (λ c. to ≤ length c) c cs h))
+    (length-slice_range c from to (All-head (λ c. to ≤ length c) c cs h) ∙ sym (length-replicate (to - from) false))
+    (length-parts cs from to le (All-tail (λ c. to ≤ length c) c cs h))
 
 pub IsLaidOut-parts : (columns : List (List (Option ℤ))) (from to : ℕ) → from < to → to ≤ from + 1024 → length columns ≤ 16 → All (λ c. to ≤ length c) columns → IsLaidOut (parts_of from to columns) (replicate (to - from) false)
 IsLaidOut-parts columns from to some few narrow h =
@@ -49,12 +49,12 @@ map-range-shift f g a b (suc n) h =
     let y : a ≡ a + 0 = omega arith in
     let z : b + 0 ≡ b = omega arith in
     ap (λ x. x ∷ map f (range_with_len (a + 1) n)) (ap f y ∙ h 0 (omega arith) ∙ ap g z)
-        ∙ ap (λ xs. g b ∷ xs)
-            (map-range-shift f g (a + 1) (b + 1) n
-                (λ i lt.
-                    let u : a + 1 + i ≡ a + suc i = omega arith in
-                    let v : b + suc i ≡ b + 1 + i = omega arith in
-                    ap f u ∙ h (suc i) (omega arith) ∙ ap g v))
+    ∙ ap (λ xs. g b ∷ xs)
+    (map-range-shift f g (a + 1) (b + 1) n
+    (λ i lt.
+    let u : a + 1 + i ≡ a + suc i = omega arith in
+    let v : b + suc i ≡ b + 1 + i = omega arith in
+    ap f u ∙ h (suc i) (omega arith) ∙ ap g v))
 
 map-map : {A B C : Type 0} (f : B → C) (g : A → B) (xs : List A) → map f (map g xs) ≡ map (λ x. f (g x)) xs
 map-map f g [] = refl
@@ -66,9 +66,9 @@ signed_rows-parts n instants numbers columns from to le within =
     let f : ℕ → Bool × Row = λ i. (not (get_or (replicate (to - from) false) i false), row_at (parts_of from to columns) i) in
     let g : ℕ → Bool × Row = λ i. entering (at i) in
     ap (λ k. map f (range_with_len 0 k)) (length-replicate (to - from) false)
-        ∙ map-range-shift f g 0 from (to - from)
-            (λ i lt.
-                let z : 0 + i ≡ i = omega arith in
-                ap f z ∙ ap (λ (b : Bool). (not b, row_at (parts_of from to columns) i)) (get_or-none (to - from) i) ∙ ap (λ (r : Row). (true, r)) (row_at-parts columns from to i lt))
-        ∙ sym (map-map entering at (range_with_len from (to - from)))
-        ∙ ap (map entering) (sym (slice-map-range at n from to le within))
+    ∙ map-range-shift f g 0 from (to - from)
+    (λ i lt.
+    let z : 0 + i ≡ i = omega arith in
+    ap f z ∙ ap (λ (b : Bool). (not b, row_at (parts_of from to columns) i)) (get_or-none (to - from) i) ∙ ap (λ (r : Row). (true, r)) (row_at-parts columns from to i lt))
+    ∙ sym (map-map entering at (range_with_len from (to - from)))
+    ∙ ap (map entering) (sym (slice-map-range at n from to le within))

@@ -28,27 +28,27 @@ map-range-split f a b n l u =
     let e : n ≡ (b - a) + (a + n - b) = omega arith in
     let g : a + (b - a) ≡ b = omega arith in
     ap (λ k. map f (range_with_len a k)) e
-        ∙ ap (map f) (range_with_len-add a (b - a) (a + n - b))
-        ∙ map-append f (range_with_len a (b - a)) (range_with_len (a + (b - a)) (a + n - b))
-        ∙ ap (λ k. map f (range_with_len a (b - a)) ++ map f (range_with_len k (a + n - b))) g
+    ∙ ap (map f) (range_with_len-add a (b - a) (a + n - b))
+    ∙ map-append f (range_with_len a (b - a)) (range_with_len (a + (b - a)) (a + n - b))
+    ∙ ap (λ k. map f (range_with_len a (b - a)) ++ map f (range_with_len k (a + n - b))) g
 
 pub slice-map-range : {X : Type 0} (f : ℕ → X) (n from end : ℕ) → from ≤ end → end ≤ n → slice_range (map f (range_with_len 0 n)) from end ≡ map f (range_with_len from (end - from))
 slice-map-range f n from end l u =
     ap (λ xs. take (end - from) (drop from xs)) (map-range-split f 0 from n (omega arith) (omega arith))
-        ∙ ap (take (end - from)) (drop_at (map f (range_with_len 0 (from - 0))) (map f (range_with_len from (0 + n - from))) from (length-map-range_with_len f 0 (from - 0) ∙ omega arith))
-        ∙ take-map-range_with_len f from (0 + n - from) (end - from) (omega arith)
+    ∙ ap (take (end - from)) (drop_at (map f (range_with_len 0 (from - 0))) (map f (range_with_len from (0 + n - from))) from (length-map-range_with_len f 0 (from - 0) ∙ omega arith))
+    ∙ take-map-range_with_len f from (0 + n - from) (end - from) (omega arith)
 
 pub filter-slice : {X : Type 0} (p : X → Bool) (f : ℕ → X) (n from end : ℕ) → from ≤ end → end ≤ n → ((i : ℕ) → i < from → p (f i) ≡ false) → ((i : ℕ) → from ≤ i → i < end → p (f i) ≡ true) → ((i : ℕ) → end ≤ i → i < n → p (f i) ≡ false) → filter p (map f (range_with_len 0 n)) ≡ slice_range (map f (range_with_len 0 n)) from end
 filter-slice p f n from end l u low mid high =
     ap (filter p) (map-range-split f 0 from n (omega arith) (omega arith))
-        ∙ filter-append p (map f (range_with_len 0 (from - 0))) (map f (range_with_len from (0 + n - from)))
-        ∙ ap (λ xs. xs ++ filter p (map f (range_with_len from (0 + n - from)))) (filter-range_none p f 0 (from - 0) (λ i a b. low i (omega arith)))
-        ∙ ap (filter p) (map-range-split f from end (0 + n - from) l (omega arith))
-        ∙ filter-append p (map f (range_with_len from (end - from))) (map f (range_with_len end (from + (0 + n - from) - end)))
-        ∙ ap (λ xs. filter p (map f (range_with_len from (end - from))) ++ xs) (filter-range_none p f end (from + (0 + n - from) - end) (λ i a b. high i a (omega arith)))
-        ∙ append-nil (filter p (map f (range_with_len from (end - from))))
-        ∙ filter-range_all p f from (end - from) (λ i a b. mid i a (omega arith))
-        ∙ sym (slice-map-range f n from end l u)
+    ∙ filter-append p (map f (range_with_len 0 (from - 0))) (map f (range_with_len from (0 + n - from)))
+    ∙ ap (λ xs. xs ++ filter p (map f (range_with_len from (0 + n - from)))) (filter-range_none p f 0 (from - 0) (λ i a b. low i (omega arith)))
+    ∙ ap (filter p) (map-range-split f from end (0 + n - from) l (omega arith))
+    ∙ filter-append p (map f (range_with_len from (end - from))) (map f (range_with_len end (from + (0 + n - from) - end)))
+    ∙ ap (λ xs. filter p (map f (range_with_len from (end - from))) ++ xs) (filter-range_none p f end (from + (0 + n - from) - end) (λ i a b. high i a (omega arith)))
+    ∙ append-nil (filter p (map f (range_with_len from (end - from))))
+    ∙ filter-range_all p f from (end - from) (λ i a b. mid i a (omega arith))
+    ∙ sym (slice-map-range f n from end l u)
 
 module _ (instants numbers : List ℕ) (columns : List (List (Option ℤ))) where
   not_shown-other : (place t i : ℕ) → (get_or instants i 0 < t) → is_shown place t (element_at instants numbers columns i) ≡ false
@@ -66,13 +66,13 @@ module _ (instants numbers : List ℕ) (columns : List (List (Option ℤ))) wher
   pub shown-places : (n first from end place t : ℕ) → first ≤ from → from ≤ end → end ≤ n → ((i : ℕ) → 0 ≤ i → i < first → get_or instants i 0 < t) → ((i : ℕ) → first ≤ i → i < n → t ≤ get_or instants i 0) → ((i : ℕ) → first ≤ i → i < end → get_or instants i 0 < t + 1) → ((i : ℕ) → end ≤ i → i < n → t + 1 ≤ get_or instants i 0) → ((i : ℕ) → first ≤ i → i < from → get_or numbers i 0 < place) → ((i : ℕ) → from ≤ i → i < end → place ≤ get_or numbers i 0) → shown place t (elements_in n instants numbers columns) ≡ slice_range (elements_in n instants numbers columns) from end
   shown-places n first from end place t a b c before here here2 after early late =
       filter-slice (is_shown place t) (element_at instants numbers columns) n from end b c
-          (λ i lt.
-              ⊎_elim
-                  (λ (k : i < first). not_shown-other place t i (before i (omega arith) k))
-                  (λ (k : first ≤ i). not_shown-early place t i (early i k lt))
-                  (cases_lt i first))
-          (λ i l u. shown-here place t i (here i (omega arith) (omega arith)) (here2 i (omega arith) u) (late i l u))
-          (λ i l u. not_shown-later place t i (after i l u))
+      (λ i lt.
+      ⊎_elim
+      (λ (k : i < first). not_shown-other place t i (before i (omega arith) k))
+      (λ (k : first ≤ i). not_shown-early place t i (early i k lt))
+      (cases_lt i first))
+      (λ i l u. shown-here place t i (here i (omega arith) (omega arith)) (here2 i (omega arith) u) (late i l u))
+      (λ i l u. not_shown-later place t i (after i l u))
 
   pub IsRising-instants : (n start : ℕ) → IsInOrder (elements_in n instants numbers columns) → IsRising instants start n
   IsRising-instants n start h i j a b c =
@@ -112,15 +112,15 @@ module _ (instants numbers : List ℕ) (columns : List (List (Option ℤ))) wher
       let d : take (suc n) (drop a numbers) ≡ get_or numbers a 0 ∷ take n (drop (a + 1) numbers) = ap (take (suc n)) (drop_more numbers a 0 (omega arith)) in
       let q : ℕ → Bool = λ m. nat_le place m in
       ⊎_elim
-          (λ (lt : get_or numbers a 0 < place).
-              let w : is_waiting place start (f a) ≡ false = grind (arith, nat_tests) in
-              let v : q (get_or numbers a 0) ≡ false = grind (arith, nat_tests) in
-              ap length (filter-no (is_waiting place start) (f a) (map f (range_with_len (a + 1) n)) w) ∙ e ∙ sym (ap (λ ms. length (filter q ms)) d ∙ ap length (filter-no q (get_or numbers a 0) (take n (drop (a + 1) numbers)) v)))
-          (λ (le : place ≤ get_or numbers a 0).
-              let w : is_waiting place start (f a) ≡ true = grind (arith, nat_tests) in
-              let v : q (get_or numbers a 0) ≡ true = grind (arith, nat_tests) in
-              ap length (filter-yes (is_waiting place start) (f a) (map f (range_with_len (a + 1) n)) w) ∙ ap suc e ∙ sym (ap (λ ms. length (filter q ms)) d ∙ ap length (filter-yes q (get_or numbers a 0) (take n (drop (a + 1) numbers)) v)))
-          (cases_lt (get_or numbers a 0) place)
+      (λ (lt : get_or numbers a 0 < place).
+      let w : is_waiting place start (f a) ≡ false = grind (arith, nat_tests) in
+      let v : q (get_or numbers a 0) ≡ false = grind (arith, nat_tests) in
+      ap length (filter-no (is_waiting place start) (f a) (map f (range_with_len (a + 1) n)) w) ∙ e ∙ sym (ap (λ ms. length (filter q ms)) d ∙ ap length (filter-no q (get_or numbers a 0) (take n (drop (a + 1) numbers)) v)))
+      (λ (le : place ≤ get_or numbers a 0).
+      let w : is_waiting place start (f a) ≡ true = grind (arith, nat_tests) in
+      let v : q (get_or numbers a 0) ≡ true = grind (arith, nat_tests) in
+      ap length (filter-yes (is_waiting place start) (f a) (map f (range_with_len (a + 1) n)) w) ∙ ap suc e ∙ sym (ap (λ ms. length (filter q ms)) d ∙ ap length (filter-yes q (get_or numbers a 0) (take n (drop (a + 1) numbers)) v)))
+      (cases_lt (get_or numbers a 0) place)
 
   not_waiting : (place start i : ℕ) → (get_or instants i 0 < start) → is_waiting place start (element_at instants numbers columns i) ≡ false
   not_waiting place start i lt = grind (arith, nat_tests)
@@ -131,8 +131,8 @@ module _ (instants numbers : List ℕ) (columns : List (List (Option ℤ))) wher
       let p : Element → Bool = is_waiting place start in
       let e : 0 + n - first ≡ n - first = omega arith in
       ap length
-          (ap (filter p) (map-range-split f 0 first n (omega arith) (omega arith))
-              ∙ filter-append p (map f (range_with_len 0 (first - 0))) (map f (range_with_len first (0 + n - first)))
-              ∙ ap (λ xs. xs ++ filter p (map f (range_with_len first (0 + n - first)))) (filter-range_none p f 0 (first - 0) (λ i a b. not_waiting place start i (before i a (omega arith)))))
-          ∙ ap (λ k. length (filter p (map f (range_with_len first k)))) e
-          ∙ length-filter-numbers place start first (n - first) (omega arith) (λ i a b. after i a (omega arith))
+      (ap (filter p) (map-range-split f 0 first n (omega arith) (omega arith))
+      ∙ filter-append p (map f (range_with_len 0 (first - 0))) (map f (range_with_len first (0 + n - first)))
+      ∙ ap (λ xs. xs ++ filter p (map f (range_with_len first (0 + n - first)))) (filter-range_none p f 0 (first - 0) (λ i a b. not_waiting place start i (before i a (omega arith)))))
+      ∙ ap (λ k. length (filter p (map f (range_with_len first k)))) e
+      ∙ length-filter-numbers place start first (n - first) (omega arith) (λ i a b. after i a (omega arith))

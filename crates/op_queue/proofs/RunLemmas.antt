@@ -34,8 +34,8 @@ ticks-join from to first last up next some =
     let n : last + 1 - from ≡ (to + 1 - from) + (last + 1 - first) = omega arith in
     let k : from + (to + 1 - from) ≡ first = omega arith in
     ap (λ m. map f (range_with_len from m)) n
-        ∙ ap (map f) (range_with_len-add from (to + 1 - from) (last + 1 - first) ∙ ap (λ m. range_with_len from (to + 1 - from) ++ range_with_len m (last + 1 - first)) k)
-        ∙ map-append f (range_with_len from (to + 1 - from)) (range_with_len first (last + 1 - first))
+    ∙ ap (map f) (range_with_len-add from (to + 1 - from) (last + 1 - first) ∙ ap (λ m. range_with_len from (to + 1 - from) ++ range_with_len m (last + 1 - first)) k)
+    ∙ map-append f (range_with_len from (to + 1 - from)) (range_with_len first (last + 1 - first))
 
 last-shaped : (init : List Piece) (p : Piece) → All IsPiece (init ++ p ∷ []) → All IsPiece init × IsPiece p
 last-shaped [] p h = (All-nil IsPiece, All-head IsPiece p [] h)
@@ -47,10 +47,10 @@ pub flat_map-longer : (first last : ℕ) (ps qs : List Piece) → All IsPiece ps
 flat_map-longer first last ps qs shaped some (init, from, to, was, is, next) =
     let s = last-shaped init (Ticks from to) (rw was at shaped) in
     ap (flat_map piece_entries) is
-        ∙ flat_map-pieces_push init (Ticks from last)
-        ∙ ap (λ r. flat_map piece_entries init ++ r) (ticks-join from to first last s.1.0 next some)
-        ∙ sym (append_assoc (flat_map piece_entries init) (ticks from to) (ticks first last))
-        ∙ ap (λ r. r ++ ticks first last) (sym (flat_map-pieces_push init (Ticks from to)) ∙ ap (flat_map piece_entries) (sym was))
+    ∙ flat_map-pieces_push init (Ticks from last)
+    ∙ ap (λ r. flat_map piece_entries init ++ r) (ticks-join from to first last s.1.0 next some)
+    ∙ sym (append_assoc (flat_map piece_entries init) (ticks from to) (ticks first last))
+    ∙ ap (λ r. r ++ ticks first last) (sym (flat_map-pieces_push init (Ticks from to)) ∙ ap (flat_map piece_entries) (sym was))
 
 pub queue_entries-longer : {taken len : ℕ} (first last : ℕ) (ps qs : List Piece) → IsQueue taken len ps → first ≤ last → IsLongerRun first last ps qs → queue_entries taken qs ≡ queue_entries taken ps ++ ticks first last
 queue_entries-longer {taken} first last ps qs h some longer =

@@ -65,7 +65,7 @@ pub filter-none : (p t : ℕ) (rows : List Element) → All (λ r. t < r.instant
 filter-none p t [] h = refl
 filter-none p t (r ∷ rows) h =
     filter-no (is_shown p t) r rows (is_shown-later p t r (All-head (λ r. t < r.instant) r rows h))
-        ∙ filter-none p t rows (All-tail (λ r. t < r.instant) r rows h)
+    ∙ filter-none p t rows (All-tail (λ r. t < r.instant) r rows h)
 
 -- where all rows come later, the tick comes first
 pub span-tick : (p : ℕ) (rows : List Element) (a n : ℕ) → All (λ r. a < r.instant) rows → span p rows a (suc n) ≡ TickAt a ∷ span p rows (a + 1) n
@@ -76,19 +76,18 @@ length-span_row : (p : ℕ) (r : Element) (rows : List Element) (a n : ℕ) → 
 length-span_row p r rows a zero low high le = absurd (omega arith)
 length-span_row p r rows a (suc n) low high le =
     ⊎_elim
-        (λ e. ap length (span-row p r rows a (suc n) e le (omega arith)))
-        (λ ne.
-            let e = ap length (instant-no p a r rows (is_shown-later p a r (omega arith))) in
-            let f = length-span_row p r rows (a + 1) n (omega arith) (omega arith) le in
-            let g = length-append (instant_entries p rows a) (span p rows (a + 1) n) in
-            let h = length-append (instant_entries p (r ∷ rows) a) (span p (r ∷ rows) (a + 1) n) in
-            omega arith)
-        (cases_eq r.instant a)
+    (λ e. ap length (span-row p r rows a (suc n) e le (omega arith)))
+    (λ ne.
+    let e = ap length (instant-no p a r rows (is_shown-later p a r (omega arith))) in
+    let f = length-span_row p r rows (a + 1) n (omega arith) (omega arith) le in
+    let g = length-append (instant_entries p rows a) (span p rows (a + 1) n) in
+    let h = length-append (instant_entries p (r ∷ rows) a) (span p (r ∷ rows) (a + 1) n) in
+    omega arith)
+    (cases_eq r.instant a)
 
 length-span_none : (p a n : ℕ) → length (span p [] a n) ≡ n
 length-span_none p a zero = refl
 length-span_none p a (suc n) = ap suc (length-span_none p (a + 1) n)
-
 
 -- how many rows and ticks a span has
 pub length-span : (p a n : ℕ) (rows : List Element) → All (λ r. r.instant < a + n) rows → length (span p rows a n) ≡ length (filter (is_waiting p a) rows) + n
@@ -97,31 +96,31 @@ length-span p a n (r ∷ rows) h =
     let e = length-span p a n rows (All-tail (λ r. r.instant < a + n) r rows h) in
     let high = All-head (λ r. r.instant < a + n) r rows h in
     ⊎_elim
-        (λ (lt : r.instant < a).
-            let f = ap length (span-before p r rows a n lt) in
-            let w : is_waiting p a r ≡ false = grind (arith, nat_tests) in
-            let g = ap length (filter-no (is_waiting p a) r rows w) in
-            omega arith)
-        (λ (le : a ≤ r.instant).
-            ⊎_elim
-                (λ (lt : r.arrival < p).
-                    let f = ap length (span-early p r rows a n lt) in
-                    let w : is_waiting p a r ≡ false = grind (arith, nat_tests) in
-                    let g = ap length (filter-no (is_waiting p a) r rows w) in
-                    omega arith)
-                (λ (ok : p ≤ r.arrival).
-                    let f = length-span_row p r rows a n le high ok in
-                    let w : is_waiting p a r ≡ true = grind (arith, nat_tests) in
-                    let g = ap length (filter-yes (is_waiting p a) r rows w) in
-                    omega arith)
-                (cases_lt r.arrival p))
-        (cases_lt r.instant a)
+    (λ (lt : r.instant < a).
+    let f = ap length (span-before p r rows a n lt) in
+    let w : is_waiting p a r ≡ false = grind (arith, nat_tests) in
+    let g = ap length (filter-no (is_waiting p a) r rows w) in
+    omega arith)
+    (λ (le : a ≤ r.instant).
+    ⊎_elim
+    (λ (lt : r.arrival < p).
+    let f = ap length (span-early p r rows a n lt) in
+    let w : is_waiting p a r ≡ false = grind (arith, nat_tests) in
+    let g = ap length (filter-no (is_waiting p a) r rows w) in
+    omega arith)
+    (λ (ok : p ≤ r.arrival).
+    let f = length-span_row p r rows a n le high ok in
+    let w : is_waiting p a r ≡ true = grind (arith, nat_tests) in
+    let g = ap length (filter-yes (is_waiting p a) r rows w) in
+    omega arith)
+    (cases_lt r.arrival p))
+    (cases_lt r.instant a)
 
 pub filter-past : (p t : ℕ) (rows : List Element) → All (λ r. r.instant < t) rows → filter (is_shown p t) rows ≡ []
 filter-past p t [] h = refl
 filter-past p t (r ∷ rows) h =
     filter-no (is_shown p t) r rows (is_shown-other p t r (All-head (λ r. r.instant < t) r rows h))
-        ∙ filter-past p t rows (All-tail (λ r. r.instant < t) r rows h)
+    ∙ filter-past p t rows (All-tail (λ r. r.instant < t) r rows h)
 
 instant-same : (p t : ℕ) (rows more : List Element) → filter (is_shown p t) rows ≡ filter (is_shown p t) more → instant_entries p rows t ≡ instant_entries p more t
 instant-same p t rows more e = ap (λ (xs : List Element). map (λ r. RowAt t (entering r)) xs ++ TickAt t ∷ []) e
@@ -150,21 +149,20 @@ span-add p rows a n m = ap (flat_map (instant_entries p rows)) (range_with_len-a
 pub span_entries-close : (p at until until' : ℕ) (rows more : List Element) → until ≤ until' → All (λ r. r.instant < until) rows → All (λ r. until ≤ r.instant) more → span_entries p (rows ++ more) at until' ≡ span_entries p rows at until ++ span_entries p more (max at until) until'
 span_entries-close p at until until' rows more le low high =
     ⊎_elim
-        (λ (lt : at < until).
-            let n : until' - at ≡ (until - at) + (until' - until) = omega arith in
-            let k : at + (until - at) ≡ until = omega arith in
-            let m : max at until ≡ until = omega arith in
-            ap (span p (rows ++ more) at) n
-                ∙ span-add p (rows ++ more) at (until - at) (until' - until)
-                ∙ ap (λ es. es ++ span p (rows ++ more) (at + (until - at)) (until' - until)) (span-front p until rows more at (until - at) (omega arith) high)
-                ∙ ap (λ b. span p rows at (until - at) ++ span p (rows ++ more) b (until' - until)) k
-                ∙ ap (λ es. span p rows at (until - at) ++ es) (span-back p until rows more until (until' - until) (omega arith) low)
-                ∙ ap (λ b. span p rows at (until - at) ++ span p more b (until' - b)) (sym m))
-        (λ (ge : until ≤ at).
-            let none : until - at ≡ 0 = omega arith in
-            let m : max at until ≡ at = omega arith in
-            span-back p until rows more at (until' - at) ge low
-                ∙ ap (λ b. span p more b (until' - b)) (sym m)
-                ∙ ap (λ n. span p rows at n ++ span p more (max at until) (until' - max at until)) (sym none))
-        (cases_lt at until)
-
+    (λ (lt : at < until).
+    let n : until' - at ≡ (until - at) + (until' - until) = omega arith in
+    let k : at + (until - at) ≡ until = omega arith in
+    let m : max at until ≡ until = omega arith in
+    ap (span p (rows ++ more) at) n
+    ∙ span-add p (rows ++ more) at (until - at) (until' - until)
+    ∙ ap (λ es. es ++ span p (rows ++ more) (at + (until - at)) (until' - until)) (span-front p until rows more at (until - at) (omega arith) high)
+    ∙ ap (λ b. span p rows at (until - at) ++ span p (rows ++ more) b (until' - until)) k
+    ∙ ap (λ es. span p rows at (until - at) ++ es) (span-back p until rows more until (until' - until) (omega arith) low)
+    ∙ ap (λ b. span p rows at (until - at) ++ span p more b (until' - b)) (sym m))
+    (λ (ge : until ≤ at).
+    let none : until - at ≡ 0 = omega arith in
+    let m : max at until ≡ at = omega arith in
+    span-back p until rows more at (until' - at) ge low
+    ∙ ap (λ b. span p more b (until' - b)) (sym m)
+    ∙ ap (λ n. span p rows at n ++ span p more (max at until) (until' - max at until)) (sym none))
+    (cases_lt at until)

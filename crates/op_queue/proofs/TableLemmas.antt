@@ -40,9 +40,9 @@ KeepsFirst-set n k old new c lt h e = record {
   width = length-set new k c ∙ h.width;
   same = λ j.
       ⊎_elim
-          (λ (is : j ≡ k). ap (take n) (get_or-set_at new k j c [] is lt) ∙ e ∙ ap (λ i. take n (get_or new i [])) (sym is) ∙ h.same j)
-          (λ (no : j ≢ k). ap (take n) (get_or-set_other new k j c [] no) ∙ h.same j)
-          (cases_eq j k);
+      (λ (is : j ≡ k). ap (take n) (get_or-set_at new k j c [] is lt) ∙ e ∙ ap (λ i. take n (get_or new i [])) (sym is) ∙ h.same j)
+      (λ (no : j ≢ k). ap (take n) (get_or-set_other new k j c [] no) ∙ h.same j)
+      (cases_eq j k);
 }
 
 pub IsLongerTo-set : (n k : ℕ) (es : List Element) (old new : List (List (Option ℤ))) (c : List (Option ℤ)) → k < length new → IsLongerTo n es k old new → take n c ≡ take n (get_or new k []) → c ≡ take n (get_or new k []) ++ map (λ e. value_at e.row k) es → IsLongerTo n es (k + 1) old (set new k c)
@@ -50,13 +50,13 @@ IsLongerTo-set n k es old new c lt h e more = record {
   kept = KeepsFirst-set n k old new c lt h.kept e;
   written = λ j below within.
       ⊎_elim
-          (λ (is : j ≡ k).
-              get_or-set_at new k j c [] is lt
-                  ∙ more
-                  ∙ ap (λ i. take n (get_or new i []) ++ map (λ e. value_at e.row i) es) (sym is)
-                  ∙ ap (λ vs. take n vs ++ map (λ e. value_at e.row j) es) (h.rest j (omega arith)))
-          (λ (no : j ≢ k). get_or-set_other new k j c [] no ∙ h.written j (omega arith) within)
-          (cases_eq j k);
+      (λ (is : j ≡ k).
+      get_or-set_at new k j c [] is lt
+      ∙ more
+      ∙ ap (λ i. take n (get_or new i []) ++ map (λ e. value_at e.row i) es) (sym is)
+      ∙ ap (λ vs. take n vs ++ map (λ e. value_at e.row j) es) (h.rest j (omega arith)))
+      (λ (no : j ≢ k). get_or-set_other new k j c [] no ∙ h.written j (omega arith) within)
+      (cases_eq j k);
   rest = λ j le. get_or-set_other new k j c [] (λ is. absurd (omega arith)) ∙ h.rest j (omega arith);
 }
 
@@ -68,7 +68,7 @@ IsLongerTo-column n k es old columns was is lt at h e more =
     let l = length-map columns f in
     let P : List (List (Option ℤ)) → Type 0 = λ cs. IsLongerTo n es (k + 1) old cs in
     subst P (sym (map-set f columns k is))
-        (IsLongerTo-set n k es old (lists columns) is.items (omega arith) h (e ∙ ap (take n) (sym g)) (more ∙ ap (λ vs. take n vs ++ map (λ e. value_at e.row k) es) (sym g)))
+    (IsLongerTo-set n k es old (lists columns) is.items (omega arith) h (e ∙ ap (take n) (sym g)) (more ∙ ap (λ vs. take n vs ++ map (λ e. value_at e.row k) es) (sym g)))
 
 pub KeepsFirst-column : (n k : ℕ) (old : List (List (Option ℤ))) (columns : List (Vec (Option ℤ))) (was is : Vec (Option ℤ)) → k < length columns → was ≡ get_or columns k was → KeepsFirst n old (lists columns) → take n is.items ≡ take n was.items → KeepsFirst n old (lists (set columns k is))
 KeepsFirst-column n k old columns was is lt at h e =
@@ -97,10 +97,10 @@ row_at-kept n old new i lt h =
     let l = length-map new f in
     let m = length-map old f in
     ext_get_or None (row_at new i) (row_at old i) (l ∙ h.width ∙ sym m)
-        (λ k within.
-            get_or-map f new k [] None (omega arith)
-                ∙ get_or-kept n (get_or old k []) (get_or new k []) i None lt (h.same k)
-                ∙ sym (get_or-map f old k [] None (omega (arith, h.width))))
+    (λ k within.
+    get_or-map f new k [] None (omega arith)
+    ∙ get_or-kept n (get_or old k []) (get_or new k []) i None lt (h.same k)
+    ∙ sym (get_or-map f old k [] None (omega (arith, h.width))))
 
 map-range-same : {X : Type 0} (f g : ℕ → X) (a n : ℕ) → ((i : ℕ) → a ≤ i → i < a + n → f i ≡ g i) → map f (range_with_len a n) ≡ map g (range_with_len a n)
 map-range-same f g a zero h = refl
@@ -110,12 +110,12 @@ map-range-same f g a (suc n) h =
 pub elements_in-kept : (n : ℕ) (instants instants' numbers numbers' : List ℕ) (columns columns' : List (List (Option ℤ))) → take n instants' ≡ take n instants → take n numbers' ≡ take n numbers → KeepsFirst n columns columns' → elements_in n instants' numbers' columns' ≡ elements_in n instants numbers columns
 elements_in-kept n instants instants' numbers numbers' columns columns' e f g =
     map-range-same (element_at instants' numbers' columns') (element_at instants numbers columns) 0 n
-        (λ i l u.
-            let a = get_or-kept n instants instants' i 0 (omega arith) e in
-            let b = get_or-kept n numbers numbers' i 0 (omega arith) f in
-            let c = row_at-kept n columns columns' i (omega arith) g in
-            let h : element_at instants' numbers' columns' i ≡ element_at instants numbers columns i = cc in
-            h)
+    (λ i l u.
+    let a = get_or-kept n instants instants' i 0 (omega arith) e in
+    let b = get_or-kept n numbers numbers' i 0 (omega arith) f in
+    let c = row_at-kept n columns columns' i (omega arith) g in
+    let h : element_at instants' numbers' columns' i ≡ element_at instants numbers columns i = cc in
+    h)
 
 long-kept : {X : Type 0} (n : ℕ) (old new : List X) → take n new ≡ take n old → n ≤ length old → n ≤ length new
 long-kept n old new e le = omega (arith, length-take n new, length-take n old, ap length e)
@@ -126,7 +126,7 @@ IsTableOf-kept n instants instants' numbers numbers' columns columns' e f g h = 
   has_numbers = long-kept n numbers numbers' f h.has_numbers;
   has_values =
       All-from_get_or (λ c. n ≤ length c) columns' []
-          (λ k lt. long-kept n (get_or columns k []) (get_or columns' k []) (g.same k) (h.has_values k [] (omega (arith, g.width))));
+      (λ k lt. long-kept n (get_or columns k []) (get_or columns' k []) (g.same k) (h.has_values k [] (omega (arith, g.width))));
   narrow = omega (arith, g.width, h.narrow);
 }
 
@@ -136,11 +136,11 @@ range-is f a [] h = refl
 range-is f a (x ∷ xs) h =
     let z : a ≡ a + 0 = omega arith in
     ap (λ y. y ∷ map f (range_with_len (a + 1) (length xs))) (ap f z ∙ h 0 x (omega arith))
-        ∙ ap (λ ys. x ∷ ys)
-            (range-is f (a + 1) xs
-                (λ j d lt.
-                    let s : a + 1 + j ≡ a + suc j = omega arith in
-                    ap f s ∙ h (suc j) d (omega arith)))
+    ∙ ap (λ ys. x ∷ ys)
+    (range-is f (a + 1) xs
+    (λ j d lt.
+    let s : a + 1 + j ≡ a + suc j = omega arith in
+    ap f s ∙ h (suc j) d (omega arith)))
 
 behind : {X Y : Type 0} (n : ℕ) (front : List Y) (f : X → Y) (xs : List X) (j : ℕ) (d : X) (e : Y) → n ≤ length front → j < length xs → get_or (take n front ++ map f xs) (n + j) e ≡ f (get_or xs j d)
 behind n front f xs j d e le lt =
@@ -153,11 +153,11 @@ row_at-behind n old new es j d lt long width h wide =
     let f : List (Option ℤ) → Option ℤ = λ c. get_or c (n + j) None in
     let l = length-map new f in
     ext_get_or None (row_at new (n + j)) (get_or es j d).row (omega arith)
-        (λ k within.
-            let g : Element → Option ℤ = λ e. value_at e.row k in
-            get_or-map f new k [] None (omega arith)
-                ∙ ap (λ (vs : List (Option ℤ)). get_or vs (n + j) None) (h.more k (omega arith))
-                ∙ behind n (get_or old k []) g es j d None (long k [] (omega arith)) lt)
+    (λ k within.
+    let g : Element → Option ℤ = λ e. value_at e.row k in
+    get_or-map f new k [] None (omega arith)
+    ∙ ap (λ (vs : List (Option ℤ)). get_or vs (n + j) None) (h.more k (omega arith))
+    ∙ behind n (get_or old k []) g es j d None (long k [] (omega arith)) lt)
 
 element_is : {a t : ℕ} {r : Row} (e : Element) → a ≡ e.arrival → t ≡ e.instant → r ≡ e.row → record { arrival = a; instant = t; row = r } ≡ e
 element_is {a} {t} {r} e p q s =
@@ -168,19 +168,19 @@ pub elements_in-more : (n : ℕ) (es : List Element) (instants instants' numbers
 elements_in-more n es instants instants' numbers numbers' columns columns' table wide is was e f g h =
     let at : ℕ → Element = element_at instants' numbers' columns' in
     let more : map at (range_with_len n (length es)) ≡ es =
-        range-is at n es
-            (λ j d lt.
-                let one : Element → ℕ = λ e. e.instant in
-                let two : Element → ℕ = λ e. e.arrival in
-                let a = ap (λ ns. get_or ns (n + j) 0) is ∙ behind n instants one es j d 0 table.has_instants lt in
-                let b = ap (λ ns. get_or ns (n + j) 0) was ∙ behind n numbers two es j d 0 table.has_numbers lt in
-                let c = row_at-behind n columns columns' es j d lt table.has_values g.width h (wide j d lt) in
-                element_is (get_or es j d) b a c) in
+    range-is at n es
+    (λ j d lt.
+    let one : Element → ℕ = λ e. e.instant in
+    let two : Element → ℕ = λ e. e.arrival in
+    let a = ap (λ ns. get_or ns (n + j) 0) is ∙ behind n instants one es j d 0 table.has_instants lt in
+    let b = ap (λ ns. get_or ns (n + j) 0) was ∙ behind n numbers two es j d 0 table.has_numbers lt in
+    let c = row_at-behind n columns columns' es j d lt table.has_values g.width h (wide j d lt) in
+    element_is (get_or es j d) b a c) in
     ap (map at) (range_with_len-add 0 n (length es))
-        ∙ map-append at (range_with_len 0 n) (range_with_len (0 + n) (length es))
-        ∙ ap (λ xs. xs ++ map at (range_with_len (0 + n) (length es))) (elements_in-kept n instants instants' numbers numbers' columns columns' e f g)
-        ∙ ap (λ k. elements_in n instants numbers columns ++ map at (range_with_len k (length es))) (zero-add n)
-        ∙ ap (λ xs. elements_in n instants numbers columns ++ xs) more
+    ∙ map-append at (range_with_len 0 n) (range_with_len (0 + n) (length es))
+    ∙ ap (λ xs. xs ++ map at (range_with_len (0 + n) (length es))) (elements_in-kept n instants instants' numbers numbers' columns columns' e f g)
+    ∙ ap (λ k. elements_in n instants numbers columns ++ map at (range_with_len k (length es))) (zero-add n)
+    ∙ ap (λ xs. elements_in n instants numbers columns ++ xs) more
 
 length-behind : {X Y : Type 0} (n : ℕ) (front : List Y) (f : X → Y) (xs : List X) → n ≤ length front → length (take n front ++ map f xs) ≡ n + length xs
 length-behind n front f xs le = omega (arith, length-append (take n front) (map f xs), length-take n front, length-map xs f)
@@ -194,9 +194,9 @@ IsTableOf-more n es instants instants' numbers numbers' columns columns' table i
       has_numbers = omega (arith, ap length was, length-behind n numbers two es table.has_numbers);
       has_values =
           All-from_get_or (λ c. n + length es ≤ length c) columns' []
-              (λ k lt.
-                  let f : Element → Option ℤ = λ e. value_at e.row k in
-                  omega (arith, ap length (h.more k (omega (arith, g.width))), length-behind n (get_or columns k []) f es (table.has_values k [] (omega (arith, g.width)))));
+          (λ k lt.
+          let f : Element → Option ℤ = λ e. value_at e.row k in
+          omega (arith, ap length (h.more k (omega (arith, g.width))), length-behind n (get_or columns k []) f es (table.has_values k [] (omega (arith, g.width)))));
       narrow = omega (arith, g.width, table.narrow);
     }
 

@@ -12,6 +12,10 @@ abbrev pub entries_of : Item → List (Entry Row)
 entries_of (Rows t b) = map (RowAt t) b
 entries_of (Tick t) = TickAt t ∷ []
 
+abbrev pub item_instant : Item → ℕ
+item_instant (Rows t b) = t
+item_instant (Tick t) = t
+
 -- the ticks from the first to the last
 abbrev pub ticks : ℕ → ℕ → List (Entry Row)
 ticks first last = map TickAt (range_with_len first (last + 1 - first))

@@ -12,6 +12,8 @@ mod cursor;
 mod item;
 mod log;
 mod queue;
+#[cfg(test)]
+mod tests;
 
 pub use cursor::Cursor;
 pub use item::Item;

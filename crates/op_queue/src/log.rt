@@ -75,7 +75,13 @@ impl Log {
         ensures queues { OnOk result (GainsClosed self.old (map element rows.now) until self.new) }
         ensures err { OnErr result (self.new ≡ self.old) }
     {
-        append(&mut self.instants, &mut self.numbers, &mut self.columns, self.len, rows)?;
+        append(
+            &mut self.instants,
+            &mut self.numbers,
+            &mut self.columns,
+            self.len,
+            rows,
+        )?;
         self.len = self.instants.len();
         self.until = until;
         Ok(())
@@ -202,7 +208,11 @@ fn append_numbers(numbers: &mut Vec<u64>, len: usize, rows: &[Arrival]) -> Resul
     Ok(())
 }
 
-fn append_values(columns: &mut Vec<Vec<Value>>, len: usize, rows: &[Arrival]) -> Result<(), AllocError>
+fn append_values(
+    columns: &mut Vec<Vec<Value>>,
+    len: usize,
+    rows: &[Arrival],
+) -> Result<(), AllocError>
     requires { All (λ c. len ≤ length c) (lists columns.old.items) }
     ensures same { KeepsFirst len (lists columns.old.items) (lists columns.new.items) }
     ensures more { OnOk result (IsLonger len (map element rows.now) (lists columns.old.items) (lists columns.new.items)) }
@@ -214,7 +224,12 @@ fn append_values(columns: &mut Vec<Vec<Value>>, len: usize, rows: &[Arrival]) ->
 }
 
 /// Writes the rows' values of column `k` behind the first `len`.
-fn append_column(column: &mut Vec<Value>, len: usize, rows: &[Arrival], k: usize) -> Result<(), AllocError>
+fn append_column(
+    column: &mut Vec<Value>,
+    len: usize,
+    rows: &[Arrival],
+    k: usize,
+) -> Result<(), AllocError>
     requires { len ≤ length column.old.items }
     ensures same { take len column.new.items ≡ take len column.old.items }
     ensures more { OnOk result (column.new.items ≡ take len column.old.items ++ map (λ e. value_at e.row k) (map element rows.now)) }
@@ -227,7 +242,12 @@ fn append_column(column: &mut Vec<Value>, len: usize, rows: &[Arrival], k: usize
 }
 
 /// The values of each column from the place `from` to below the place `to`.
-fn parts(alloc: Global, columns: &[Vec<Value>], from: usize, to: usize) -> Result<Vec<Column>, AllocError>
+fn parts(
+    alloc: Global,
+    columns: &[Vec<Value>],
+    from: usize,
+    to: usize,
+) -> Result<Vec<Column>, AllocError>
     requires some { from < to }
     requires few { to ≤ from + MAX_ROWS }
     requires within { All (λ c. to ≤ length c) (lists columns.now) }

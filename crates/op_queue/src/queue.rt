@@ -145,7 +145,9 @@ impl Queue {
         ensures pieces { self.new.pieces ≤ self.old.pieces }
     {
         let mut left = count as u64;
-        while left > 0 && let Some(piece) = self.pieces.front() {
+        while left > 0
+            && let Some(piece) = self.pieces.front()
+        {
             let here = piece.size() - self.taken as u128;
             if (left as u128) < here {
                 self.taken += left;

@@ -45,11 +45,11 @@ returns-clause-more c =
     let before = elements_in c.args.len c.args.instants.now.items c.args.numbers.now.items (lists c.args.columns.now.items) in
     let P : ℕ → Type 0 = λ m. elements_in (c.args.len + m) c.append_instants.new.instants.items c.append_numbers.new.numbers.items (lists c.append_values.new.columns.items) ≡ before ++ es in
     subst P (length-map c.args.rows.now f)
-        (elements_in-more c.args.len es c.args.instants.now.items c.append_instants.new.instants.items c.args.numbers.now.items c.append_numbers.new.numbers.items (lists c.args.columns.now.items) (lists c.append_values.new.columns.items) c.requires.table
-            (rw length-lists c.requires.wide)
-            c.in_ok-append_instants.ensures.more
-            c.in_ok-append_numbers.ensures.more
-            c.append_instants.ensures.same
-            c.append_numbers.ensures.same
-            c.append_values.ensures.same
-            c.in_ok-append_values.ensures.more)
+    (elements_in-more c.args.len es c.args.instants.now.items c.append_instants.new.instants.items c.args.numbers.now.items c.append_numbers.new.numbers.items (lists c.args.columns.now.items) (lists c.append_values.new.columns.items) c.requires.table
+    (rw length-lists c.requires.wide)
+    c.in_ok-append_instants.ensures.more
+    c.in_ok-append_numbers.ensures.more
+    c.append_instants.ensures.same
+    c.append_numbers.ensures.same
+    c.append_values.ensures.same
+    c.in_ok-append_values.ensures.more)

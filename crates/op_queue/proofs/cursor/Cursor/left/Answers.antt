@@ -9,5 +9,5 @@ returns-clause-left c =
     let end = c.places-first.result.1 in
     let passed = c.args.self.now.passed in
     ap (drop passed) c.places-first.ensures.shown
-        ∙ drop-slice_range es first end passed c.places-first.ensures.some c.places-first.ensures.within
-        ∙ ap (λ k. slice_range es (first + k) end) (sym c.min-passed.ensures)
+    ∙ drop-slice_range es first end passed c.places-first.ensures.some c.places-first.ensures.within
+    ∙ ap (λ k. slice_range es (first + k) end) (sym c.min-passed.ensures)

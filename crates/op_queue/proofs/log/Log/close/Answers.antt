@@ -15,5 +15,5 @@ returns-clause-queues c =
     let m : n ≡ c.self.inside.len + length c.args.rows.now = omega (arith, c.in_ok-append.ensures.len) in
     let P : Closed → Type 0 = λ l. All (λ e. e.instant < l.until) l.elements in
     let grown : elements_in n instants numbers columns ≡ c.args.self.now.elements ++ es =
-        ap (λ k. elements_in k instants numbers columns) m ∙ c.in_ok-append.ensures.more ∙ ap (λ (l : Closed). l.elements ++ es) c.self.view_is in
+    ap (λ k. elements_in k instants numbers columns) m ∙ c.in_ok-append.ensures.more ∙ ap (λ (l : Closed). l.elements ++ es) c.self.view_is in
     gains-closed c.args.self.now (closed_in n instants numbers columns c.args.until) es c.args.until c.requires (subst P c.self.view_is c.self.invariant.closed) grown refl

@@ -16,10 +16,10 @@ returns c =
     let first = c.lower_bound-first.result in
     let start = c.args.at + 1 in
     let e =
-        length-waiting log.instants.items log.numbers.items (lists log.columns.items) log.len first c.args.place start c.lower_bound-first.ensures.to c.self.invariant.table.has_numbers
-            (rw c.deref.ensures.value at c.lower_bound-first.ensures.below)
-            (rw c.deref.ensures.value at c.lower_bound-first.ensures.above) in
+    length-waiting log.instants.items log.numbers.items (lists log.columns.items) log.len first c.args.place start c.lower_bound-first.ensures.to c.self.invariant.table.has_numbers
+    (rw c.deref.ensures.value at c.lower_bound-first.ensures.below)
+    (rw c.deref.ensures.value at c.lower_bound-first.ensures.above) in
     c.count_from.ensures
-        ∙ ap (λ ns. length (filter (λ m. nat_le c.args.place m) (slice_range ns first log.len))) c.deref-2.ensures.value
-        ∙ sym e
-        ∙ ap (λ (l : Closed). length (filter (is_waiting c.args.place start) l.elements)) c.self.view_is
+    ∙ ap (λ ns. length (filter (λ m. nat_le c.args.place m) (slice_range ns first log.len))) c.deref-2.ensures.value
+    ∙ sym e
+    ∙ ap (λ (l : Closed). length (filter (is_waiting c.args.place start) l.elements)) c.self.view_is

@@ -19,9 +19,9 @@ pub lower_bound-from-requires-clause-rising : goal.lower_bound-from-requires-cla
 lower_bound-from-requires-clause-rising c =
     let log = c.self.inside in
     rw c.deref-3.ensures.value
-        (IsRising-numbers log.instants.items log.numbers.items (lists log.columns.items) log.len c.lower_bound-first.result c.lower_bound-end.result c.args.at c.lower_bound-end.ensures.to c.self.invariant.ordered
-            (rw c.deref.ensures.value at c.lower_bound-first.ensures.above)
-            (rw c.deref-2.ensures.value at c.lower_bound-end.ensures.below))
+    (IsRising-numbers log.instants.items log.numbers.items (lists log.columns.items) log.len c.lower_bound-first.result c.lower_bound-end.result c.args.at c.lower_bound-end.ensures.to c.self.invariant.ordered
+    (rw c.deref.ensures.value at c.lower_bound-first.ensures.above)
+    (rw c.deref-2.ensures.value at c.lower_bound-end.ensures.below))
 
 pub returns-clause-within : goal.returns-clause-within
 returns-clause-within c =
@@ -35,10 +35,10 @@ returns-clause-shown c =
     let end = c.lower_bound-end.result in
     let P : Closed → Type 0 = λ l. shown c.args.place c.args.at l.elements ≡ slice_range l.elements from end in
     subst P c.self.view_is
-        (shown-places log.instants.items log.numbers.items (lists log.columns.items) log.len c.lower_bound-first.result from end c.args.place c.args.at c.lower_bound-from.ensures.from c.lower_bound-from.ensures.to c.lower_bound-end.ensures.to
-            (rw c.deref.ensures.value at c.lower_bound-first.ensures.below)
-            (rw c.deref.ensures.value at c.lower_bound-first.ensures.above)
-            (rw c.deref-2.ensures.value at c.lower_bound-end.ensures.below)
-            (rw c.deref-2.ensures.value at c.lower_bound-end.ensures.above)
-            (rw c.deref-3.ensures.value at c.lower_bound-from.ensures.below)
-            (rw c.deref-3.ensures.value at c.lower_bound-from.ensures.above))
+    (shown-places log.instants.items log.numbers.items (lists log.columns.items) log.len c.lower_bound-first.result from end c.args.place c.args.at c.lower_bound-from.ensures.from c.lower_bound-from.ensures.to c.lower_bound-end.ensures.to
+    (rw c.deref.ensures.value at c.lower_bound-first.ensures.below)
+    (rw c.deref.ensures.value at c.lower_bound-first.ensures.above)
+    (rw c.deref-2.ensures.value at c.lower_bound-end.ensures.below)
+    (rw c.deref-2.ensures.value at c.lower_bound-end.ensures.above)
+    (rw c.deref-3.ensures.value at c.lower_bound-from.ensures.below)
+    (rw c.deref-3.ensures.value at c.lower_bound-from.ensures.above))

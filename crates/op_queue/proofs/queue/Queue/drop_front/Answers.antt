@@ -14,6 +14,6 @@ pub invariant_of-self : goal.invariant_of-self
 invariant_of-self c =
     let end = IsDropping-end c.self.inside.pieces.items c.loop-left.self-inside.pieces.items c.self.invariant c.loop-left.invariant in
     elim c.loop-left-test.branch [
-        else-loop-left-test w ↦ end (omega arith)
-        | then-loop-left-test+in-None-1 w ↦ end (dropped_all c.loop-left.self-inside.pieces.items c.loop-left.invariant (grind (arith, common_steps)))
+      | else-loop-left-test w ↦ end (omega arith)
+      | then-loop-left-test+in-None-1 w ↦ end (dropped_all c.loop-left.self-inside.pieces.items c.loop-left.invariant (grind (arith, common_steps)))
     ]

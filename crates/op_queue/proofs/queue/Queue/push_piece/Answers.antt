@@ -9,4 +9,4 @@ overflow_add-self c =
 pub invariant_of-self-2 : goal.invariant_of-self-2
 invariant_of-self-2 c =
     rw c.in_ok-push_back.ensures.items
-        (IsQueue-push c.self.inside.pieces.items c.args.piece c.size-size.result _ c.self.view_is c.size-size.ensures.value c.size-size.ensures.some c.self.invariant c.requires.shaped c.requires.forward)
+    (IsQueue-push c.self.inside.pieces.items c.args.piece c.size-size.result _ c.self.view_is c.size-size.ensures.value c.size-size.ensures.some c.self.invariant c.requires.shaped c.requires.forward)

@@ -15,7 +15,7 @@ invariant_of-self c =
 pub returns-then-extend_run-clause-entries : goal.returns-then-extend_run-clause-entries
 returns-then-extend_run-clause-entries c =
     queue_entries-longer c.args.first c.args.last c.self.inside.pieces.items c.extend_run.new.pieces.items c.self.invariant c.requires.some c.if-extend_run.ensures.longer
-        ∙ ap (λ (w : Waiting). w.entries ++ ticks c.args.first c.args.last) c.self.view_is
+    ∙ ap (λ (w : Waiting). w.entries ++ ticks c.args.first c.args.last) c.self.view_is
 
 pub returns-then-extend_run-clause-pieces : goal.returns-then-extend_run-clause-pieces
 returns-then-extend_run-clause-pieces c =

@@ -180,13 +180,28 @@ fn expect_run(
 fn scripts_are_answered_by_their_text(rt: HostRuntime) -> Result<(), Fail> {
     let alloc = rt.alloc();
     expect_run(&rt, alloc, "--plain", b"", 0, b"");
-    expect_run(&rt, alloc, "--plain", FIRST.as_bytes(), 0, FIRST_REPLIES.as_bytes());
+    expect_run(
+        &rt,
+        alloc,
+        "--plain",
+        FIRST.as_bytes(),
+        0,
+        FIRST_REPLIES.as_bytes(),
+    );
     for case in &CASES {
         let input = format!(in alloc;
             "{{\"op\":\"stream\",\"name\":\"S\",\"columns\":[\"a\"],\"from\":0}}\n{{\"op\":\"query\",\"name\":\"q\",\"text\":\"{}\"}}\n{}",
-            case.query, case.lines)?;
+            case.query, case.lines
+        )?;
         let replies = format!(in alloc; "{{\"ok\":true}}\n{{\"ok\":true}}\n{}", case.replies)?;
-        expect_run(&rt, alloc, "--plain", input.as_str().as_bytes(), 0, replies.as_str().as_bytes());
+        expect_run(
+            &rt,
+            alloc,
+            "--plain",
+            input.as_str().as_bytes(),
+            0,
+            replies.as_str().as_bytes(),
+        );
     }
     Ok(())
 }
@@ -206,7 +221,14 @@ fn query_text_has_at_most_4096_bytes(rt: HostRuntime) -> Result<(), Fail> {
             line.push_str(" ")?;
         }
         line.push_str("\"}")?;
-        expect_run(&rt, alloc, "--plain", line.as_str().as_bytes(), 0, want.as_bytes());
+        expect_run(
+            &rt,
+            alloc,
+            "--plain",
+            line.as_str().as_bytes(),
+            0,
+            want.as_bytes(),
+        );
     }
     Ok(())
 }
@@ -222,7 +244,13 @@ fn help_is_no_error(rt: HostRuntime) {
     let mut source = MemorySource::new(FIRST.as_bytes());
     let mut sink = MemorySink::new(rt.alloc());
     let mut errors = MemorySink::new(rt.alloc());
-    let ended = run(rt.alloc(), words.as_slice(), &mut source, &mut sink, &mut errors);
+    let ended = run(
+        rt.alloc(),
+        words.as_slice(),
+        &mut source,
+        &mut sink,
+        &mut errors,
+    );
     assert_eq!(rt; ended, 0);
     assert!(rt; sink.bytes.len() > 0 && errors.bytes.is_empty());
 }
@@ -275,7 +303,11 @@ impl Sink for Failing<'_> {
 }
 
 // Memory that fails after so many calls, over these bytes as a source.
-fn device_failing_after(alloc: Global, bytes: &'static [u8], until_failure: u64) -> Failing<'static> {
+fn device_failing_after(
+    alloc: Global,
+    bytes: &'static [u8],
+    until_failure: u64,
+) -> Failing<'static> {
     Failing {
         source: MemorySource::new(bytes),
         sink: MemorySink::new(alloc),
@@ -291,9 +323,18 @@ fn a_failing_source_ends_the_run_after_a_front_of_the_replies(rt: HostRuntime) {
         let mut source = device_failing_after(rt.alloc(), FIRST.as_bytes(), calls);
         let mut sink = MemorySink::new(rt.alloc());
         let mut errors = MemorySink::new(rt.alloc());
-        let ended = run(rt.alloc(), words.as_slice(), &mut source, &mut sink, &mut errors);
+        let ended = run(
+            rt.alloc(),
+            words.as_slice(),
+            &mut source,
+            &mut sink,
+            &mut errors,
+        );
         assert_eq!(rt; ended, 1);
-        assert_eq!(rt; errors.bytes.as_slice(), b"cqlrun: read failed\n".as_slice());
+        assert_eq!(rt;
+            errors.bytes.as_slice(),
+            b"cqlrun: read failed\n".as_slice()
+        );
         assert!(rt; FIRST_REPLIES.as_bytes().starts_with(sink.bytes.as_slice()));
     }
 }
@@ -305,9 +346,22 @@ fn a_failing_sink_ends_the_run_after_a_front_of_the_replies(rt: HostRuntime) {
         let mut source = MemorySource::new(FIRST.as_bytes());
         let mut sink = device_failing_after(rt.alloc(), b"", calls);
         let mut errors = MemorySink::new(rt.alloc());
-        let ended = run(rt.alloc(), words.as_slice(), &mut source, &mut sink, &mut errors);
+        let ended = run(
+            rt.alloc(),
+            words.as_slice(),
+            &mut source,
+            &mut sink,
+            &mut errors,
+        );
         assert_eq!(rt; ended, 1);
-        assert_eq!(rt; errors.bytes.as_slice(), b"cqlrun: write failed\n".as_slice());
-        assert!(rt; FIRST_REPLIES.as_bytes().starts_with(sink.sink.bytes.as_slice()));
+        assert_eq!(rt;
+            errors.bytes.as_slice(),
+            b"cqlrun: write failed\n".as_slice()
+        );
+        assert!(rt;
+            FIRST_REPLIES
+                .as_bytes()
+                .starts_with(sink.sink.bytes.as_slice())
+        );
     }
 }

@@ -10,4 +10,4 @@ returns-in_default-clause-answers g c runs =
 
 pub returns-clause-answers : goal.returns-clause-answers
 returns-clause-answers g c runs =
-    subst (λ (w : World). Answers w c.run_over.result (g.I.Source.left c.args.source.now) (g.O.Sink.taken c.args.sink.now) (g.O.Sink.taken c.run_over.new.sink)) c.in-Ok.ensures (c.run_over.ensures.answers runs)
+    subst (λ (w : World). Answers w c.run_over.result (g.I.Source.left c.args.source.now) (g.O.Sink.taken c.args.sink.now) (g.O.Sink.taken c.run_over.new.sink)) c.in-Ok.ensures.empty (c.run_over.ensures.answers runs)

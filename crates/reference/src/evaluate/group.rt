@@ -35,7 +35,8 @@ pub(crate) fn members<'a>(
 ) -> Result<Vec<Vec<&'a Row>>, AllocError>
     requires { length by.now ≤ MAX_COLUMNS }
     ensures { IfOk result
-        (λ v. tables_of v.items ≡ filter (λ rows. same_row key.now.items (relations.key_of (columns_of by.now) rows)) (tables_of all.now)) }
+        (λ v. tables_of v.items
+        ≡ filter (λ rows. same_row key.now.items (relations.key_of (columns_of by.now) rows)) (tables_of all.now)) }
 {
     let mut chosen = Vec::new(alloc);
     for combination in all {
@@ -74,7 +75,8 @@ pub(crate) fn shown_sum(total: Option<i128>) -> Value
 /// The sum of the numbers in the column, null where there is none.
 pub(crate) fn sum_of(column: Column, group: &[Vec<&Row>]) -> Value
     requires { length group.now < 2 ^ 63 }
-    ensures { result ≡ option_map clamp_answer (reduce ◌+ℤ◌ (relations.numbers (column_of column) (tables_of group.now))) }
+    ensures { result
+        ≡ option_map clamp_answer (reduce ◌+ℤ◌ (relations.numbers (column_of column) (tables_of group.now))) }
 {
     let mut total = None;
     for rows in group {
@@ -199,7 +201,8 @@ pub(crate) fn group_rows(
     requires few_columns { length by.now ≤ MAX_COLUMNS }
     requires few_items { length items.now ≤ MAX_COLUMNS }
     ensures { IfOk result
-        (λ v. rows_of v.items ≡ map (relations.group_row (columns_of by.now) (items_of items.now) (tables_of all.now)) (rows_of keys.now)) }
+        (λ v. rows_of v.items
+        ≡ map (relations.group_row (columns_of by.now) (items_of items.now) (tables_of all.now)) (rows_of keys.now)) }
 {
     let mut rows = Vec::new(alloc);
     for key in keys {
@@ -219,7 +222,8 @@ pub(crate) fn grouped(
     requires few_columns { length by.now ≤ MAX_COLUMNS }
     requires few_items { length items.now ≤ MAX_COLUMNS }
     ensures { IfOk result
-        (λ v. rows_of v.items ≡ relations.shaped (relations.Grouped (columns_of by.now) (items_of items.now)) (tables_of all.now)) }
+        (λ v. rows_of v.items
+        ≡ relations.shaped (relations.Grouped (columns_of by.now) (items_of items.now)) (tables_of all.now)) }
 {
     let keys = keys_of(alloc, by, all)?;
     group_rows(alloc, by, items, all, &keys)

@@ -17,3 +17,6 @@ pub use answers::evaluate;
 pub use condition::{Column, Compare, Condition, Operand};
 pub use resolved::{Item, Operator, Resolved, Shape};
 pub use window::Window;
+
+#[cfg(test)]
+mod tests;

@@ -1,134 +1,53 @@
-//! Groups and their aggregates.
-ghost use Rattle.std.specs.Prelude.{◌≡◌, ℕ, ◌+◌, ◌≤◌, ◌<◌, ◌^◌, IfOk, length, map, pos, ◌+ℤ◌};
-ghost use Rattle.std.specs.List.{filter, reduce, list_any};
+//! Groups and their aggregates: nulls are one group, aggregates skip them, and without Group By all is one group.
+ghost use Rattle.std.specs.Prelude.{◌≡◌, ℕ, ◌+◌, ◌≤◌, ◌<◌, ◌^◌, IfOk, length, map, ◌+ℤ◌};
+ghost use Rattle.std.specs.List.{filter, reduce};
 ghost use Rattle.std.specs.Option.{option_map};
 ghost use Rattle.std.specs.Int.{int_min, int_max};
-ghost use Rattle.values.specs.Row.{row_cmp, same_row};
-ghost use Rattle.values.specs.Bag.{is_same};
-ghost use Rattle.values.specs.Bag as bags;
+ghost use Rattle.values.specs.Row.{same_row};
 ghost use Rattle.values.specs.Value.{clamp_answer};
 ghost use Rattle.values.specs.Relation as relations;
-ghost use Rattle.values.specs.Condition as conditions;
-ghost use Rattle.reference.specs.Views.{rows_of, tables_of};
-ghost use Rattle.reference.specs.Conditions.{column_of, columns_of, where_of};
-ghost use Rattle.reference.specs.Resolved.{item_of};
+ghost use Rattle.reference.specs.Views.{rows_of, lent_of, tables_of};
+ghost use Rattle.reference.specs.Conditions.{column_of, columns_of};
+ghost use Rattle.reference.specs.Resolved.{item_of, items_of};
 ghost use Rattle.reference.specs.Totals.{joined, IsWithin};
 
-use crate::evaluate::bag::copy_row;
-use crate::evaluate::condition::{Column, Condition, field, keeps};
+use crate::evaluate::bag::distinct;
+use crate::evaluate::combine::{listed, listed_row};
+use crate::evaluate::condition::{Column, field};
 use crate::evaluate::resolved::Item;
 use std::alloc::{AllocError, Global};
-use values::{Row, Value, same_rows, value_at};
-
-/// The values of the columns, which are at most 16.
-pub(crate) fn listed_row(columns: &[Column], rows: &[Row]) -> Row
-    requires { length columns.now ≤ 16 }
-    ensures { result.items ≡ map (conditions.field (rows_of rows.now)) (columns_of columns.now) }
-{
-    let mut row = Row::new();
-    for column in columns {
-        row.push(field(rows, *column));
-    }
-    row
-}
-
-/// A row of the listed columns for each combination.
-pub(crate) fn listed(
-    alloc: Global,
-    columns: &[Column],
-    kept: &[Vec<Row>],
-) -> Result<Vec<Row>, AllocError>
-    requires { length columns.now ≤ 16 }
-    ensures { IfOk result (λ v. rows_of v.items ≡ map (λ rows. map (conditions.field rows) (columns_of columns.now)) (tables_of kept.now)) }
-{
-    let mut rows = Vec::new(alloc);
-    for combination in kept {
-        rows.push(listed_row(columns, combination))?;
-    }
-    Ok(rows)
-}
-
-/// Whether the row is among the others.
-pub(crate) fn is_among(row: &Row, others: &[Row]) -> bool
-    ensures { result ≡ list_any (is_same row_cmp row.now.items) (rows_of others.now) }
-{
-    for other in others {
-        if same_rows(row, other) {
-            return true;
-        }
-    }
-    false
-}
-
-/// Each row once.
-pub(crate) fn distinct(alloc: Global, rows: &[Row]) -> Result<Vec<Row>, AllocError>
-    ensures { IfOk result (λ v. rows_of v.items ≡ bags.distinct row_cmp (rows_of rows.now)) }
-{
-    let mut all = Vec::new(alloc);
-    for i in 0..rows.len() {
-        if !is_among(&rows[i], &rows[i + 1..]) {
-            all.push(copy_row(&rows[i])?)?;
-        }
-    }
-    Ok(all)
-}
-
-/// The rows once more.
-pub(crate) fn copy_rows(alloc: Global, rows: &[Row]) -> Result<Vec<Row>, AllocError>
-    ensures { IfOk result (λ v. rows_of v.items ≡ rows_of rows.now) }
-{
-    let mut copies = Vec::new(alloc);
-    for row in rows {
-        copies.push(copy_row(row)?)?;
-    }
-    Ok(copies)
-}
-
-/// The combinations that the condition keeps.
-pub(crate) fn kept(
-    alloc: Global,
-    condition: &Option<Condition>,
-    all: &[Vec<Row>],
-) -> Result<Vec<Vec<Row>>, AllocError>
-    ensures { IfOk result (λ v. tables_of v.items ≡ filter (conditions.keeps (where_of condition.now)) (tables_of all.now)) }
-{
-    let mut chosen = Vec::new(alloc);
-    for combination in all {
-        if keeps(condition, combination) {
-            chosen.push(copy_rows(alloc, combination)?)?;
-        }
-    }
-    Ok(chosen)
-}
+use values::{MAX_COLUMNS, Row, Value, same_rows, value_at};
 
 /// Whether the combination has the key.
-pub(crate) fn has_key(by: &[Column], key: &Row, rows: &[Row]) -> bool
-    requires { length by.now ≤ 16 }
-    ensures { result ≡ same_row key.now.items (relations.key_of (columns_of by.now) (rows_of rows.now)) }
+pub(crate) fn has_key(by: &[Column], key: &Row, rows: &[&Row]) -> bool
+    requires { length by.now ≤ MAX_COLUMNS }
+    ensures { result ≡ same_row key.now.items (relations.key_of (columns_of by.now) (lent_of rows.now)) }
 {
     same_rows(key, &listed_row(by, rows))
 }
 
 /// The combinations of a group.
-pub(crate) fn members(
+pub(crate) fn members<'a>(
     alloc: Global,
     by: &[Column],
     key: &Row,
-    all: &[Vec<Row>],
-) -> Result<Vec<Vec<Row>>, AllocError>
-    requires { length by.now ≤ 16 }
-    ensures { IfOk result (λ v. tables_of v.items ≡ filter (λ rows. same_row key.now.items (relations.key_of (columns_of by.now) rows)) (tables_of all.now)) }
+    all: &[Vec<&'a Row>],
+) -> Result<Vec<Vec<&'a Row>>, AllocError>
+    requires { length by.now ≤ MAX_COLUMNS }
+    ensures { IfOk result
+        (λ v. tables_of v.items
+        ≡ filter (λ rows. same_row key.now.items (relations.key_of (columns_of by.now) rows)) (tables_of all.now)) }
 {
     let mut chosen = Vec::new(alloc);
     for combination in all {
         if has_key(by, key, combination) {
-            chosen.push(copy_rows(alloc, combination)?)?;
+            chosen.push(Vec::from_slice(alloc, combination)?)?;
         }
     }
     Ok(chosen)
 }
 
-/// A running sum with one more value.
+/// A running sum with one more value, exact in 128 bits; null is passed over, and before the first number there is none.
 pub(crate) fn add(total: Option<i128>, value: Value) -> Option<i128>
     requires { IsWithin (2 ^ 126) total }
     ensures sum { result ≡ joined ◌+ℤ◌ total value }
@@ -143,19 +62,27 @@ pub(crate) fn add(total: Option<i128>, value: Value) -> Option<i128>
     }
 }
 
+/// What a sum shows: its nearest number of the answer range, and null where there was no number.
+pub(crate) fn shown_sum(total: Option<i128>) -> Value
+    ensures { result ≡ option_map clamp_answer total }
+{
+    match total {
+        None => Value::null(),
+        Some(sum) => Value::clamped(sum),
+    }
+}
+
 /// The sum of the numbers in the column, null where there is none.
-pub(crate) fn sum_of(column: Column, group: &[Vec<Row>]) -> Value
+pub(crate) fn sum_of(column: Column, group: &[Vec<&Row>]) -> Value
     requires { length group.now < 2 ^ 63 }
-    ensures { result ≡ option_map clamp_answer (reduce ◌+ℤ◌ (relations.numbers (column_of column) (tables_of group.now))) }
+    ensures { result
+        ≡ option_map clamp_answer (reduce ◌+ℤ◌ (relations.numbers (column_of column) (tables_of group.now))) }
 {
     let mut total = None;
     for rows in group {
         total = add(total, field(rows, column));
     }
-    match total {
-        None => Value::null(),
-        Some(sum) => Value::clamped(sum),
-    }
+    shown_sum(total)
 }
 
 /// The lesser of two values, passing over null.
@@ -180,7 +107,8 @@ pub(crate) fn greater(greatest: Value, value: Value) -> Value
     }
 }
 
-pub(crate) fn min_of(column: Column, group: &[Vec<Row>]) -> Value
+/// The least number of the column, null where there is none.
+pub(crate) fn min_of(column: Column, group: &[Vec<&Row>]) -> Value
     ensures { result ≡ reduce int_min (relations.numbers (column_of column) (tables_of group.now)) }
 {
     let mut least = Value::null();
@@ -190,7 +118,8 @@ pub(crate) fn min_of(column: Column, group: &[Vec<Row>]) -> Value
     least
 }
 
-pub(crate) fn max_of(column: Column, group: &[Vec<Row>]) -> Value
+/// The greatest number of the column, null where there is none.
+pub(crate) fn max_of(column: Column, group: &[Vec<&Row>]) -> Value
     ensures { result ≡ reduce int_max (relations.numbers (column_of column) (tables_of group.now)) }
 {
     let mut greatest = Value::null();
@@ -201,7 +130,7 @@ pub(crate) fn max_of(column: Column, group: &[Vec<Row>]) -> Value
 }
 
 /// How many numbers the column has.
-pub(crate) fn count_of(column: Column, group: &[Vec<Row>]) -> usize
+pub(crate) fn count_of(column: Column, group: &[Vec<&Row>]) -> usize
     ensures value { result ≡ length (relations.numbers (column_of column) (tables_of group.now)) }
     ensures bound { result ≤ length group.now }
 {
@@ -214,8 +143,8 @@ pub(crate) fn count_of(column: Column, group: &[Vec<Row>]) -> usize
     count
 }
 
-/// The value of an item for a group.
-pub(crate) fn item_value(item: Item, key: &Row, group: &[Vec<Row>]) -> Value
+/// The value of an item of the list for a group.
+pub(crate) fn item_value(item: Item, key: &Row, group: &[Vec<&Row>]) -> Value
     requires { length group.now < 2 ^ 63 }
     ensures { result ≡ relations.item_value key.now.items (tables_of group.now) (item_of item) }
 {
@@ -227,4 +156,75 @@ pub(crate) fn item_value(item: Item, key: &Row, group: &[Vec<Row>]) -> Value
         Item::Min(column) => min_of(column, group),
         Item::Max(column) => max_of(column, group),
     }
+}
+
+/// The row of the list for a group.
+pub(crate) fn group_row(items: &[Item], key: &Row, group: &[Vec<&Row>]) -> Row
+    requires few { length items.now ≤ MAX_COLUMNS }
+    requires fits { length group.now < 2 ^ 63 }
+    ensures { result.items ≡ map (relations.item_value key.now.items (tables_of group.now)) (items_of items.now) }
+{
+    let mut row = Row::new();
+    for item in items {
+        row.push(item_value(*item, key, group));
+    }
+    row
+}
+
+/// One key for each group: without Group By the one key of no values, also where there is no combination.
+pub(crate) fn keys_of(
+    alloc: Global,
+    by: &[Column],
+    all: &[Vec<&Row>],
+) -> Result<Vec<Row>, AllocError>
+    requires { length by.now ≤ MAX_COLUMNS }
+    ensures { IfOk result (λ v. rows_of v.items ≡ relations.keys_of (columns_of by.now) (tables_of all.now)) }
+{
+    if by.is_empty() {
+        let mut keys = Vec::new(alloc);
+        keys.push(Row::new())?;
+        Ok(keys)
+    } else {
+        let keys = listed(alloc, by, all)?;
+        distinct(alloc, &keys)
+    }
+}
+
+/// The row of the list for the group of each key.
+pub(crate) fn group_rows(
+    alloc: Global,
+    by: &[Column],
+    items: &[Item],
+    all: &[Vec<&Row>],
+    keys: &[Row],
+) -> Result<Vec<Row>, AllocError>
+    requires few_columns { length by.now ≤ MAX_COLUMNS }
+    requires few_items { length items.now ≤ MAX_COLUMNS }
+    ensures { IfOk result
+        (λ v. rows_of v.items
+        ≡ map (relations.group_row (columns_of by.now) (items_of items.now) (tables_of all.now)) (rows_of keys.now)) }
+{
+    let mut rows = Vec::new(alloc);
+    for key in keys {
+        let group = members(alloc, by, key, all)?;
+        rows.push(group_row(items, key, &group))?;
+    }
+    Ok(rows)
+}
+
+/// The rows of a grouped query.
+pub(crate) fn grouped(
+    alloc: Global,
+    by: &[Column],
+    items: &[Item],
+    all: &[Vec<&Row>],
+) -> Result<Vec<Row>, AllocError>
+    requires few_columns { length by.now ≤ MAX_COLUMNS }
+    requires few_items { length items.now ≤ MAX_COLUMNS }
+    ensures { IfOk result
+        (λ v. rows_of v.items
+        ≡ relations.shaped (relations.Grouped (columns_of by.now) (items_of items.now)) (tables_of all.now)) }
+{
+    let keys = keys_of(alloc, by, all)?;
+    group_rows(alloc, by, items, all, &keys)
 }

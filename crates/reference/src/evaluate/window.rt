@@ -1,22 +1,23 @@
-//! What a window shows at an instant.
+//! What a window shows of its input at an instant.
 ghost use Rattle.std.specs.Prelude.{◌≡◌, ◌<◌, IfOk, length, get_or, count_by, ◌&&◌, nat_le};
-ghost use Rattle.values.specs.Window as spec;
-ghost use Rattle.reference.specs.Views.{window_of, elements_of, element_at, rows_of, CanSlide};
+ghost use Rattle.values.specs.Window as windows;
+ghost use Rattle.reference.specs.Views.{window_of, elements_of, element_at, lent_of, CanSlide};
 
-use crate::evaluate::bag::copy_row;
 use std::alloc::{AllocError, Global};
 use values::{Row, value_at};
 
 /// A window of a source.
 #[derive(Drop)]
 pub enum Window {
-    /// The rows of the last instants, as many as the number says, and of this one.
+    /// The rows of this instant and of as many before it as the number says: 0 is Now.
     Range(u64),
-    /// The same at the greatest multiple of the second number that is not above the instant.
+    /// The same at the greatest multiple of the second number, which is not 0, that is not above the instant; no rows
+    /// where that multiple is not above the query's base.
     RangeSlide(u64, u64),
     /// All rows so far.
     Unbounded,
-    /// The last rows of each partition.
+    /// The last rows, as many as the number says, of each partition: of the rows that are equal in the columns, nulls being
+    /// equal to each other. With no column all rows are one partition. Of two rows of an instant the later arrival is last.
     LastRows(Vec<usize>, u64),
 }
 
@@ -24,14 +25,14 @@ pub enum Window {
 pub(crate) fn is_later(input: &[(u64, Row)], i: usize, j: usize) -> bool
     requires i_in { i < length input.now }
     requires j_in { j < length input.now }
-    ensures { result ≡ spec.is_later (element_at input.now i) (element_at input.now j) }
+    ensures { result ≡ windows.is_later (element_at input.now i) (element_at input.now j) }
 {
     input[i].0 < input[j].0 || (input[i].0 == input[j].0 && i < j)
 }
 
-/// Whether the rows are equal in the columns.
+/// Whether the rows are equal in the columns, nulls being equal to each other.
 pub(crate) fn same_partition(columns: &[usize], a: &Row, b: &Row) -> bool
-    ensures { result ≡ spec.same_in columns.now a.now.items b.now.items }
+    ensures { result ≡ windows.same_in columns.now a.now.items b.now.items }
 {
     columns.iter().all(|column| value_at(a, *column).cmp(&value_at(b, *column)).is_eq())
 }
@@ -40,7 +41,7 @@ pub(crate) fn same_partition(columns: &[usize], a: &Row, b: &Row) -> bool
 pub(crate) fn counts(columns: &[usize], at: u64, input: &[(u64, Row)], i: usize, j: usize) -> bool
     requires i_in { i < length input.now }
     requires j_in { j < length input.now }
-    ensures { result ≡ spec.counts columns.now at (element_at input.now i) (element_at input.now j) }
+    ensures { result ≡ windows.counts columns.now at (element_at input.now i) (element_at input.now j) }
 {
     input[j].0 <= at && is_later(input, i, j) && same_partition(columns, &input[i].1, &input[j].1)
 }
@@ -48,7 +49,7 @@ pub(crate) fn counts(columns: &[usize], at: u64, input: &[(u64, Row)], i: usize,
 /// How many elements up to `at` of the partition of the element at `i` came later.
 pub(crate) fn count_later(columns: &[usize], at: u64, input: &[(u64, Row)], i: usize) -> usize
     requires { i < length input.now }
-    ensures { result ≡ spec.count_later columns.now at (elements_of input.now) (element_at input.now i) }
+    ensures { result ≡ windows.count_later columns.now at (elements_of input.now) (element_at input.now i) }
 {
     let mut count = 0;
     for j in 0..input.len() {
@@ -63,7 +64,8 @@ pub(crate) fn count_later(columns: &[usize], at: u64, input: &[(u64, Row)], i: u
 pub(crate) fn shows(from: u64, window: &Window, at: u64, input: &[(u64, Row)], i: usize) -> bool
     requires i_in { i < length input.now }
     requires slides { CanSlide window.now }
-    ensures { result ≡ spec.shows from (window_of window.now) at (elements_of input.now) (element_at input.now i) }
+    ensures { result
+        ≡ windows.shows from (window_of window.now) at (elements_of input.now) (element_at input.now i) }
 {
     let instant = input[i].0;
     match window {
@@ -79,21 +81,22 @@ pub(crate) fn shows(from: u64, window: &Window, at: u64, input: &[(u64, Row)], i
     }
 }
 
-/// The rows that the window shows at the instant, by arrival.
-pub(crate) fn window_rows(
+/// The rows that the window shows at the instant, by arrival. They are lent.
+pub(crate) fn window_rows<'a>(
     alloc: Global,
     from: u64,
     window: &Window,
     at: u64,
-    input: &[(u64, Row)],
-) -> Result<Vec<Row>, AllocError>
+    input: &'a [(u64, Row)],
+) -> Result<Vec<&'a Row>, AllocError>
     requires { CanSlide window.now }
-    ensures { IfOk result (λ v. rows_of v.items ≡ spec.window_rows from (window_of window.now) at (elements_of input.now)) }
+    ensures { IfOk result
+        (λ v. lent_of v.items ≡ windows.window_rows from (window_of window.now) at (elements_of input.now)) }
 {
     let mut rows = Vec::new(alloc);
     for i in 0..input.len() {
         if shows(from, window, at, input, i) {
-            rows.push(copy_row(&input[i].1)?)?;
+            rows.push(&input[i].1)?;
         }
     }
     Ok(rows)

@@ -3,10 +3,10 @@ use Rattle.std.specs.List.{reduce}
 use Rattle.std.specs.Int.{int_min}
 use Rattle.values.specs.Condition as conditions
 use Rattle.values.specs.Relation as relations
-use Rattle.reference.specs.Views.{rows_of, tables_of}
+use Rattle.reference.specs.Views.{lent_of, tables_of}
 use Rattle.reference.specs.Conditions.{column_of}
 use Rattle.reference.specs.Totals.{joined}
-use Rattle.reference.proofs.RowLemmas.{CodeRow}
+use Rattle.reference.proofs.RowLemmas.{LentRow}
 use Rattle.reference.proofs.TotalLemmas.{reduce_done}
 use Rattle.reference.proofs.evaluate.group.min_of.Goals as goal
 
@@ -15,5 +15,5 @@ loop-rows-preserved c =
     c.lesser-least.ensures
     ∙ ap (λ a. joined int_min a c.field.result) c.loop-rows.invariant
     ∙ ap (joined int_min (reduce int_min (relations.numbers (column_of c.args.column) (tables_of (take c.loop-rows.rows-index c.args.group.now)))))
-    (c.field.ensures ∙ ap (λ (v : List CodeRow). conditions.field (rows_of v) (column_of c.args.column)) c.deref.ensures.value)
+    (c.field.ensures ∙ ap (λ (v : List LentRow). conditions.field (lent_of v) (column_of c.args.column)) c.deref.ensures.value)
     ∙ sym (reduce_done int_min (column_of c.args.column) c.args.group.now c.loop-rows.rows-index c.rows-item.result c.loop-rows-test.true c.rows-item.is)

@@ -3,7 +3,7 @@ use Rattle.std.specs.List.{list_any}
 use Rattle.values.specs.Row.{row_cmp}
 use Rattle.values.specs.Bag.{is_same}
 use Rattle.reference.specs.Views.{rows_of}
-use Rattle.reference.proofs.evaluate.group.is_among.Given as goal
+use Rattle.reference.proofs.evaluate.bag.is_among.Given as goal
 
 abbrev pub invariant-loop-other : goal.invariant-loop-other
 invariant-loop-other l =

@@ -2,7 +2,7 @@ use Rattle.std.proofs.Common.{◌≡◌, ◌++◌, drop}
 use Rattle.values.specs.Row.{row_cmp}
 use Rattle.values.specs.Bag as bags
 use Rattle.reference.specs.Views.{rows_of}
-use Rattle.reference.proofs.evaluate.group.distinct.Given as goal
+use Rattle.reference.proofs.evaluate.bag.distinct.Given as goal
 
 abbrev pub invariant-loop-i : goal.invariant-loop-i
 invariant-loop-i l =

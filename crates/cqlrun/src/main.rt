@@ -17,6 +17,12 @@ fn main(rt: HostRuntime) -> ExitCode {
     let Ok(words) = words else {
         return ExitCode::from(lack_memory(&mut errors));
     };
-    let status = run(rt.alloc(), words.as_slice(), &mut source, &mut sink, &mut errors);
+    let status = run(
+        rt.alloc(),
+        words.as_slice(),
+        &mut source,
+        &mut sink,
+        &mut errors,
+    );
     ExitCode::from(status)
 }

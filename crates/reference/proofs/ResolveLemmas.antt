@@ -13,8 +13,8 @@ use Rattle.std.specs.Str.{bytes_eq}
 use Rattle.reference.specs.Machine.{Stream}
 use Rattle.reference.specs.Commands.{catalog_of}
 use Rattle.reference.specs.Names.{Catalog, Declared, number_in, numbers_in, columns_from}
-use Rattle.reference.specs.Conditions.{column_of, columns_of}
-use Rattle.reference.specs.declared.evaluate.condition.Column.{Column}
+use Rattle.values.specs.Resolved.{column_of, columns_of}
+use Rattle.values.specs.declared.resolved.Column.{Column}
 
 place-map : {X Y : Type 0} (p : Y → Bool) (f : X → Y) (xs : List X) → position_or_len p (map f xs) ≡ position_or_len (λ x. p (f x)) xs
 place-map p f [] = refl

@@ -1,12 +1,12 @@
 -- The tests of a meaning, and what they say.
 use Rattle.std.proofs.Common.{◌≡◌, ◌≤◌, ◌<◌, ◌&&◌, ℕ, zero, suc, Bool, true, false, nat_le, nat_lt, List, [], ◌∷◌, length, get_or, All, arith, refl}
 use Rattle.std.proofs.lemmas.Bool.{leb-true, le-leb, ltb-true}
-use Rattle.reference.specs.declared.evaluate.resolved.Shape.{Shape}
-use Rattle.reference.specs.declared.evaluate.resolved.Shape.TheVariants.{Listed, Grouped}
-use Rattle.reference.specs.declared.evaluate.window.Window.{Window}
-use Rattle.reference.specs.declared.evaluate.window.Window.TheVariants.{Range, RangeSlide, Unbounded, LastRows}
-use Rattle.reference.specs.Resolved.{FitsRows}
-use Rattle.reference.specs.Views.{CanSlide}
+use Rattle.values.specs.declared.resolved.Shape.{Shape}
+use Rattle.values.specs.declared.resolved.Shape.TheVariants.{Listed, Grouped}
+use Rattle.values.specs.declared.resolved.Window.{Window}
+use Rattle.values.specs.declared.resolved.Window.TheVariants.{Range, RangeSlide, Unbounded, LastRows}
+use Rattle.values.specs.Resolved.{FitsRows}
+use Rattle.values.specs.Resolved.{CanSlide}
 use Rattle.reference.specs.Sound.{has_narrow_rows, can_slide, all_slide}
 
 left : (a b : Bool) → (a && b) ≡ true → a ≡ true

@@ -5,8 +5,6 @@ pub mod World
 pub mod NewRows
 pub mod CallViews
 pub mod Views
-pub mod Conditions
-pub mod Resolved
 pub mod Totals
 pub mod Appended
 pub mod Inputs

@@ -1,10 +1,10 @@
 -- What is true of the meaning of each registered query, as tests.
 use Rattle.std.specs.Prelude.{ℕ, Bool, true, ◌&&◌, nat_le, nat_lt, List, length}
 use Rattle.std.specs.List.{list_all}
-use Rattle.reference.specs.declared.evaluate.resolved.Shape.{Shape}
-use Rattle.reference.specs.declared.evaluate.resolved.Shape.TheVariants.{Listed, Grouped}
-use Rattle.reference.specs.declared.evaluate.window.Window.{Window}
-use Rattle.reference.specs.declared.evaluate.window.Window.TheVariants.{Range, RangeSlide, Unbounded, LastRows}
+use Rattle.values.specs.declared.resolved.Shape.{Shape}
+use Rattle.values.specs.declared.resolved.Shape.TheVariants.{Listed, Grouped}
+use Rattle.values.specs.declared.resolved.Window.{Window}
+use Rattle.values.specs.declared.resolved.Window.TheVariants.{Range, RangeSlide, Unbounded, LastRows}
 
 -- its rows have at most 16 values
 abbrev pub has_narrow_rows : Shape → Bool

@@ -2,7 +2,7 @@
 use Rattle.std.specs.Prelude.{ℕ, List, [], map, string_bytes}
 use Rattle.values.specs.Row.{Row}
 use Rattle.reference.specs.Views.{pairs_of}
-use Rattle.reference.specs.Resolved.{resolved_of}
+use Rattle.values.specs.Resolved.{resolved_of}
 use Rattle.reference.specs.Machine as machine
 use Rattle.reference.specs.Commands as commands
 use Rattle.reference.specs.Places.{place_of}

@@ -10,13 +10,9 @@ mod bag;
 mod combine;
 mod condition;
 mod group;
-mod resolved;
 mod window;
 
 pub use answers::evaluate;
-pub use condition::{Column, Compare, Condition, Operand};
-pub use resolved::{Item, Operator, Resolved, Shape};
-pub use window::Window;
 
 #[cfg(test)]
 mod tests;

@@ -8,15 +8,15 @@ ghost use Rattle.cql_reader.specs.Query as syntax;
 ghost use Rattle.reference.specs.Names as names;
 ghost use Rattle.reference.specs.Names.{width_in, numbers_in, columns_from, meaning_by};
 ghost use Rattle.reference.specs.Commands.{catalog_of};
-ghost use Rattle.reference.specs.Views.{window_of};
-ghost use Rattle.reference.specs.Conditions.{columns_of};
-ghost use Rattle.reference.specs.Resolved.{operator_of, resolved_of};
+ghost use Rattle.values.specs.Resolved.{window_of};
+ghost use Rattle.values.specs.Resolved.{columns_of};
+ghost use Rattle.values.specs.Resolved.{operator_of, resolved_of};
 ghost use Rattle.reference.specs.Sound.{has_narrow_rows, can_slide, all_slide};
 
-use crate::evaluate::{Column, Operator, Resolved, Shape, Window};
 use crate::stream::Stream;
 use cql_reader::{Query, Source};
 use std::alloc::{AllocError, Global};
+use values::{Column, Operator, Resolved, Shape, Window};
 
 /// A query with its names resolved: the numbers of its sources' streams, and what it means.
 #[derive(Drop)]

@@ -8,10 +8,9 @@ ghost use Rattle.reference.specs.Inputs.{are_signed};
 mod answers;
 mod calls;
 
-use crate::evaluate::Resolved;
 use crate::place::Place;
 use std::collections::VecDeque;
-use values::Row;
+use values::{Resolved, Row};
 
 /// A registered query: its name, what its text means, the places of its sources, the first instant above its base, how
 /// many answers were taken, whether it was dropped, and the answers that wait for a take.

@@ -9,4 +9,5 @@ pub mod Window
 pub mod Condition
 pub mod Relation
 pub mod Answers
+pub mod Resolved
 pub mod Examples

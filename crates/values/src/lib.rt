@@ -14,7 +14,10 @@ ghost use Rattle.std.specs.Ordering.{int_cmp, int_eq, as_partial_cmp};
 ghost use Rattle.values.specs.Row.{row_cmp, same_row, value_at};
 ghost use Rattle.values.specs.Value.{IsStreamNumber, IsAnswerNumber, clamp_answer};
 
+mod resolved;
+
 use arrayvec::ArrayVec;
+pub use resolved::{Column, Compare, Condition, Item, Operand, Operator, Resolved, Shape, Window};
 use std::cmp::Ordering;
 use std::fmt;
 use std::marker::Model;

@@ -7,16 +7,15 @@ ghost use Rattle.values.specs.Row.{same_row};
 ghost use Rattle.values.specs.Value.{clamp_answer};
 ghost use Rattle.values.specs.Relation as relations;
 ghost use Rattle.reference.specs.Views.{rows_of, lent_of, tables_of};
-ghost use Rattle.reference.specs.Conditions.{column_of, columns_of};
-ghost use Rattle.reference.specs.Resolved.{item_of, items_of};
+ghost use Rattle.values.specs.Resolved.{column_of, columns_of};
+ghost use Rattle.values.specs.Resolved.{item_of, items_of};
 ghost use Rattle.reference.specs.Totals.{joined, IsWithin};
 
 use crate::evaluate::bag::distinct;
 use crate::evaluate::combine::{listed, listed_row};
-use crate::evaluate::condition::{Column, field};
-use crate::evaluate::resolved::Item;
+use crate::evaluate::condition::field;
 use std::alloc::{AllocError, Global};
-use values::{MAX_COLUMNS, Row, Value, same_rows, value_at};
+use values::{Column, Item, MAX_COLUMNS, Row, Value, same_rows, value_at};
 
 /// Whether the combination has the key.
 pub(crate) fn has_key(by: &[Column], key: &Row, rows: &[&Row]) -> bool

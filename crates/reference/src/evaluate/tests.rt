@@ -1,14 +1,15 @@
 ghost use Rattle.std.specs.Prelude.{◌≡◌, All, length};
-ghost use Rattle.reference.specs.Views.{CanSlide};
-ghost use Rattle.reference.specs.Resolved.{FitsRows};
+ghost use Rattle.values.specs.Resolved.{CanSlide};
+ghost use Rattle.values.specs.Resolved.{FitsRows};
 
+use crate::evaluate::evaluate;
 use crate::evaluate::group::{add, shown_sum};
-use crate::evaluate::{
-    Column, Compare, Condition, Item, Operand, Operator, Resolved, Shape, Window, evaluate,
-};
 use std::alloc::{AllocError, Global};
 use std::fmt::Write;
-use values::{ANSWER_MAX, Row, STREAM_MAX, Value};
+use values::{
+    ANSWER_MAX, Column, Compare, Condition, Item, Operand, Operator, Resolved, Row, STREAM_MAX,
+    Shape, Value, Window,
+};
 
 /// A row of the numbers, -1 standing for null.
 fn row(numbers: &[i64]) -> Row {

@@ -1,25 +1,11 @@
 //! What a window shows of its input at an instant.
 ghost use Rattle.std.specs.Prelude.{◌≡◌, ◌<◌, IfOk, length, get_or, count_by, ◌&&◌, nat_le};
 ghost use Rattle.values.specs.Window as windows;
-ghost use Rattle.reference.specs.Views.{window_of, elements_of, element_at, lent_of, CanSlide};
+ghost use Rattle.values.specs.Resolved.{window_of, CanSlide};
+ghost use Rattle.reference.specs.Views.{elements_of, element_at, lent_of};
 
 use std::alloc::{AllocError, Global};
-use values::{Row, value_at};
-
-/// A window of a source.
-#[derive(Drop)]
-pub enum Window {
-    /// The rows of this instant and of as many before it as the number says: 0 is Now.
-    Range(u64),
-    /// The same at the greatest multiple of the second number, which is not 0, that is not above the instant; no rows
-    /// where that multiple is not above the query's base.
-    RangeSlide(u64, u64),
-    /// All rows so far.
-    Unbounded,
-    /// The last rows, as many as the number says, of each partition: of the rows that are equal in the columns, nulls being
-    /// equal to each other. With no column all rows are one partition. Of two rows of an instant the later arrival is last.
-    LastRows(Vec<usize>, u64),
-}
+use values::{Row, Window, value_at};
 
 /// Whether the element at `j` came later than the one at `i`: by instant, then by arrival.
 pub(crate) fn is_later(input: &[(u64, Row)], i: usize, j: usize) -> bool

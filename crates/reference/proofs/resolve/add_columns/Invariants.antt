@@ -1,6 +1,6 @@
 use Rattle.std.proofs.Common.{◌≡◌, ◌++◌, map}
 use Rattle.std.specs.List.{range_with_len}
-use Rattle.reference.specs.Conditions.{columns_of}
+use Rattle.values.specs.Resolved.{columns_of}
 use Rattle.reference.proofs.resolve.add_columns.Given as goal
 
 abbrev pub invariant-loop-column : goal.invariant-loop-column

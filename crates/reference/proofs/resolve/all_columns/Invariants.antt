@@ -1,6 +1,6 @@
 use Rattle.std.proofs.Common.{◌≡◌, ◌++◌, drop}
 use Rattle.reference.specs.Names.{columns_from}
-use Rattle.reference.specs.Conditions.{columns_of}
+use Rattle.values.specs.Resolved.{columns_of}
 use Rattle.reference.proofs.resolve.all_columns.Given as goal
 
 abbrev pub invariant-loop-source : goal.invariant-loop-source

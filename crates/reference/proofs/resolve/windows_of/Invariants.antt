@@ -1,7 +1,7 @@
 use Rattle.std.proofs.Common.{◌≡◌, take, map, length, true}
 use Rattle.cql_reader.specs.Query.{source_of}
 use Rattle.reference.specs.Names as names
-use Rattle.reference.specs.Views.{window_of}
+use Rattle.values.specs.Resolved.{window_of}
 use Rattle.reference.specs.Sound.{all_slide}
 use Rattle.reference.proofs.resolve.windows_of.Given as goal
 

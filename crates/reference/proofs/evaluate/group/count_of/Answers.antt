@@ -1,7 +1,7 @@
 use Rattle.std.proofs.Common.{◌≡◌, ◌+◌, List, ℤ, Option, is_some, sym, ◌∙◌, ap, arith}
 use Rattle.values.specs.Condition as conditions
 use Rattle.reference.specs.Views.{lent_of}
-use Rattle.reference.specs.Conditions.{column_of}
+use Rattle.values.specs.Resolved.{column_of}
 use Rattle.reference.proofs.RowLemmas.{LentRow}
 use Rattle.reference.proofs.TotalLemmas.{count_done}
 use Rattle.reference.proofs.evaluate.group.count_of.Goals as goal

@@ -1,7 +1,7 @@
 use Rattle.std.proofs.Common.{◌≡◌, ◌≤◌, take, length}
 use Rattle.values.specs.Relation as relations
 use Rattle.reference.specs.Views.{tables_of}
-use Rattle.reference.specs.Conditions.{column_of}
+use Rattle.values.specs.Resolved.{column_of}
 use Rattle.reference.proofs.evaluate.group.count_of.Given as goal
 
 abbrev pub invariant-loop-rows : goal.invariant-loop-rows

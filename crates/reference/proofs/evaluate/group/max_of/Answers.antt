@@ -4,7 +4,7 @@ use Rattle.std.specs.Int.{int_max}
 use Rattle.values.specs.Condition as conditions
 use Rattle.values.specs.Relation as relations
 use Rattle.reference.specs.Views.{lent_of, tables_of}
-use Rattle.reference.specs.Conditions.{column_of}
+use Rattle.values.specs.Resolved.{column_of}
 use Rattle.reference.specs.Totals.{joined}
 use Rattle.reference.proofs.RowLemmas.{LentRow}
 use Rattle.reference.proofs.TotalLemmas.{reduce_done}

@@ -3,7 +3,7 @@ use Rattle.std.specs.List.{reduce}
 use Rattle.std.specs.Int.{int_max}
 use Rattle.values.specs.Relation as relations
 use Rattle.reference.specs.Views.{tables_of}
-use Rattle.reference.specs.Conditions.{column_of}
+use Rattle.values.specs.Resolved.{column_of}
 use Rattle.reference.proofs.evaluate.group.max_of.Given as goal
 
 abbrev pub invariant-loop-rows : goal.invariant-loop-rows

@@ -2,7 +2,7 @@ use Rattle.std.proofs.Common.{◌≡◌, Bool, List, sym, ◌∙◌, ap}
 use Rattle.values.specs.Row.{Row, same_row}
 use Rattle.values.specs.Relation as relations
 use Rattle.reference.specs.Views.{lent_of}
-use Rattle.reference.specs.Conditions.{columns_of}
+use Rattle.values.specs.Resolved.{columns_of}
 use Rattle.reference.proofs.RowLemmas.{LentRow}
 use Rattle.reference.proofs.TotalLemmas.{filter_done_yes, filter_done_no}
 use Rattle.reference.proofs.evaluate.group.members.Goals as goal

@@ -2,7 +2,7 @@ use Rattle.std.proofs.Common.{◌≡◌, take, filter}
 use Rattle.values.specs.Row.{same_row}
 use Rattle.values.specs.Relation as relations
 use Rattle.reference.specs.Views.{tables_of}
-use Rattle.reference.specs.Conditions.{columns_of}
+use Rattle.values.specs.Resolved.{columns_of}
 use Rattle.reference.proofs.evaluate.group.members.Given as goal
 
 abbrev pub invariant-loop-combination : goal.invariant-loop-combination

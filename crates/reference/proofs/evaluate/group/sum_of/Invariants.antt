@@ -2,7 +2,7 @@ use Rattle.std.proofs.Common.{◌≡◌, ◌*◌, ◌^◌, take, ◌+ℤ◌}
 use Rattle.std.specs.List.{reduce}
 use Rattle.values.specs.Relation as relations
 use Rattle.reference.specs.Views.{tables_of}
-use Rattle.reference.specs.Conditions.{column_of}
+use Rattle.values.specs.Resolved.{column_of}
 use Rattle.reference.specs.Totals.{IsWithin}
 use Rattle.reference.proofs.evaluate.group.sum_of.Given as goal
 

@@ -1,6 +1,7 @@
 use Rattle.std.proofs.Common.{refl, sym, ap, ◌∙◌, Bool}
 use Rattle.values.specs.Window as spec
-use Rattle.reference.specs.Views.{window_of, elements_of}
+use Rattle.values.specs.Resolved.{window_of}
+use Rattle.reference.specs.Views.{elements_of}
 use Rattle.reference.proofs.ElementLemmas.{rows_where, rows-pushed, rows-step_no, take-elements_of}
 use Rattle.reference.proofs.evaluate.window.window_rows.Goals as goal
 use Rattle.reference.proofs.evaluate.window.window_rows.Goals.{then-shows+in_ok-push, else-shows}

@@ -1,6 +1,7 @@
 use Rattle.std.proofs.Common.{◌≡◌, take}
 use Rattle.values.specs.Window as spec
-use Rattle.reference.specs.Views.{window_of, elements_of, lent_of}
+use Rattle.values.specs.Resolved.{window_of}
+use Rattle.reference.specs.Views.{elements_of, lent_of}
 use Rattle.reference.proofs.ElementLemmas.{rows_where}
 use Rattle.reference.proofs.evaluate.window.window_rows.Given as goal
 

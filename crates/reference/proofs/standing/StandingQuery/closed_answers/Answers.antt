@@ -2,7 +2,7 @@ use Rattle.std.proofs.Common.{sym, ◌∙◌, ap, map}
 use Rattle.values.specs.Answers.{answers}
 use Rattle.reference.specs.Machine.{input_at, until_for}
 use Rattle.reference.specs.Places.{place_of}
-use Rattle.reference.specs.Resolved.{resolved_of}
+use Rattle.values.specs.Resolved.{resolved_of}
 use Rattle.reference.specs.Views.{inputs_of}
 use Rattle.reference.proofs.InputLemmas.{if_ok, answers-same, answers-signed}
 use Rattle.reference.proofs.standing.StandingQuery.closed_answers.Goals as goal

@@ -1,12 +1,12 @@
 -- What a call answers, by the first test that it fails.
-use Rattle.std.proofs.Common.{◌≡◌, Bool, true, false, Option, Some, None, IfSome, List, [], ◌∷◌, ◌++◌, Result, Ok, Err, refl, sym, ap, subst, ◌∙◌, set, ◌≤◌, get_or, length, ◌<◌, ℕ, zero, suc, ◌+◌, map, arith, OnOk, take, min}
+use Rattle.std.proofs.Common.{◌≡◌, Bool, true, false, Option, Some, None, IfSome, List, [], ◌∷◌, ◌++◌, Result, Ok, Err, refl, sym, ap, subst, ◌∙◌, set, ◌≤◌, get_or, length, ◌<◌, ℕ, zero, suc, ◌+◌, map, arith, OnOk, OnErr, take, drop, min}
 use Rattle.std.proofs.lemmas.List.{map-append}
 use Rattle.std.proofs.lemmas.Grind.{take-set_at}
 use Rattle.values.specs.Row.{Row}
 use Rattle.std.specs.Prelude.{slice_get, option_and_then}
 use Rattle.reference.specs.Machine.{Stream, Registered, unless_dropped}
 use Rattle.reference.specs.declared.standing.StandingQuery.{StandingQuery}
-use Rattle.reference.specs.Standing.{query_of, waiting_of}
+use Rattle.reference.specs.Standing.{query_of, waiting_of, fresh_of}
 use Rattle.reference.specs.declared.fault.Fault.{Fault}
 use Rattle.reference.specs.declared.fault.Fault.TheVariants.{Query, BadName, NameTaken, BadColumns, TooMany, UnknownStream, UnknownQuery, BadWidth, ValueRange, InstantRange, Late, Backward, Leap, StreamFull, BadLimit, OutOfMemory}
 use Rattle.reference.specs.declared.fault.QueryFault.{QueryFault}
@@ -129,24 +129,42 @@ pub on_ok : {A E P Q : Type 0} → (r : Result A E) → (P → Q) → OnOk r P �
 on_ok (Ok v) f h = f h
 on_ok (Err e) f h = tt
 
+pub on_err : {A E P Q : Type 0} → (r : Result A E) → (P → Q) → OnErr r P → OnErr r Q
+on_err (Ok v) f h = tt
+on_err (Err e) f h = f h
+
 pub get_or-map : {X Y : Type 0} (v : X → Y) (xs : List X) (n : ℕ) (d : X) (e : Y) → n < length xs → get_or (map v xs) n e ≡ v (get_or xs n d)
 get_or-map v [] n d e lt = absurd (omega arith)
 get_or-map v (x ∷ xs) zero d e lt = refl
 get_or-map v (x ∷ xs) (suc n) d e lt = get_or-map v xs n d e (omega arith)
 
--- one query more was refreshed
-pub refreshed : (u : Registered → List (ℕ × Row)) (qs : List StandingQuery) (i : ℕ) (x d : StandingQuery) → i < length qs
-    → query_of x ≡ query_of (get_or qs i d) → waiting_of x ≡ u (query_of (get_or qs i d))
-    → map waiting_of (take i qs) ≡ map u (map query_of (take i qs))
-    → map waiting_of (take (i + 1) (set qs i x)) ≡ map u (map query_of (take (i + 1) (set qs i x)))
-refreshed u qs i x d lt same shown before =
+-- one query more was evaluated
+pub evaluated : (u : Registered → List (ℕ × Row)) (qs : List StandingQuery) (i : ℕ) (x d : StandingQuery) → i < length qs
+    → query_of x ≡ query_of (get_or qs i d) → fresh_of x ≡ u (query_of (get_or qs i d))
+    → map fresh_of (take i qs) ≡ map u (map query_of (take i qs))
+    → map fresh_of (take (i + 1) (set qs i x)) ≡ map u (map query_of (take (i + 1) (set qs i x)))
+evaluated u qs i x d lt same shown before =
     let taken : take (i + 1) (set qs i x) ≡ take i qs ++ x ∷ [] = take-set_at qs i (i + 1) x refl lt in
-    let now : waiting_of x ≡ u (query_of x) = shown ∙ ap u (sym same) in
+    let now : fresh_of x ≡ u (query_of x) = shown ∙ ap u (sym same) in
     rw taken
-    (map-append waiting_of (take i qs) (x ∷ [])
-    ∙ ap (λ rows. rows ++ waiting_of x ∷ []) before
+    (map-append fresh_of (take i qs) (x ∷ [])
+    ∙ ap (λ rows. rows ++ fresh_of x ∷ []) before
     ∙ ap (λ rows. map u (map query_of (take i qs)) ++ rows ∷ []) now
     ∙ sym (ap (map u) (map-append query_of (take i qs) (x ∷ [])) ∙ map-append u (map query_of (take i qs)) (query_of x ∷ [])))
+
+-- one query more was refreshed, of which the first are, and the others stand as they stood
+pub refreshed : (qs old : List StandingQuery) (i : ℕ) (x d : StandingQuery) → i < length qs → waiting_of x ≡ fresh_of (get_or qs i d)
+    → map waiting_of (take i qs) ≡ map fresh_of (take i old) → drop i qs ≡ drop i old
+    → (map waiting_of (take (suc i) (set qs i x)) ≡ map fresh_of (take (suc i) old)) × (drop (suc i) (set qs i x) ≡ drop (suc i) old)
+refreshed [] old i x d lt now before rest = absurd (omega arith)
+refreshed (q ∷ qs) [] zero x d lt now before rest = cc
+refreshed (q ∷ qs) (p ∷ old) zero x d lt now before rest = (cc, cc)
+refreshed (q ∷ qs) [] (suc i) x d lt now before rest = cc
+refreshed (q ∷ qs) (p ∷ old) (suc i) x d lt now before rest =
+    let tails : map waiting_of (take i qs) ≡ map fresh_of (take i old) = cc in
+    let more = refreshed qs old i x d (omega arith) now tails rest in
+    let head : waiting_of q ≡ fresh_of p = cc in
+    (ap (λ r. r ∷ map waiting_of (take (suc i) (set qs i x))) head ∙ ap (λ rs. fresh_of p ∷ rs) more.0, more.1)
 
 -- how many answers a take hands out
 pub handed_count : (qs : List StandingQuery) (n limit : ℕ) (d : StandingQuery) → n < length qs

@@ -1,3 +1,4 @@
+pub mod FaultTexts
 pub mod Names
 pub mod Machine
 pub mod Commands

@@ -23,5 +23,9 @@ query_of q = record {
 abbrev pub waiting_of : StandingQuery → List (ℕ × Row)
 waiting_of q = pairs_of q.waiting.items
 
+-- the answers that a drain under way found
+abbrev pub fresh_of : StandingQuery → List (ℕ × Row)
+fresh_of q = pairs_of q.fresh.items
+
 abbrev pub found_of : Found → commands.Found
 found_of f = record { streams = f.streams.items; meaning = resolved_of f.meaning }

@@ -59,38 +59,79 @@ pub enum Fault {
     OutOfMemory,
 }
 
-impl fmt::Display for QueryFault {
-    fn fmt<W: fmt::Write>(&self, f: &mut fmt::Formatter<W>) -> fmt::Result {
+impl QueryFault {
+    ghost use Rattle.reference.specs.FaultTexts as texts;
+
+    /// Its number and name, as replies give them.
+    pub fn name(&self) -> &'static str
+        ensures { result.now ≡ texts.query_fault_name self.now }
+    {
         match self {
-            QueryFault::TextTooLong => write!(f, "Q1 TextTooLong"),
-            QueryFault::NotAscii => write!(f, "Q2 NotAscii"),
-            QueryFault::BadToken(place) => write!(f, "Q3 BadToken at {place}"),
-            QueryFault::Unexpected(place) => write!(f, "Q4 Unexpected at {place}"),
-            QueryFault::NumberRange(place) => write!(f, "Q5 NumberRange at {place}"),
-            QueryFault::UnknownStream => write!(f, "Q7 UnknownStream"),
+            QueryFault::TextTooLong => "Q1 TextTooLong",
+            QueryFault::NotAscii => "Q2 NotAscii",
+            QueryFault::BadToken(_) => "Q3 BadToken",
+            QueryFault::Unexpected(_) => "Q4 Unexpected",
+            QueryFault::NumberRange(_) => "Q5 NumberRange",
+            QueryFault::UnknownStream => "Q7 UnknownStream",
+        }
+    }
+
+    /// The number of bytes before the token that is at fault, for the faults that have a place.
+    pub fn place(&self) -> Option<usize>
+        ensures { result ≡ texts.query_fault_place self.now }
+    {
+        match self {
+            QueryFault::BadToken(place)
+            | QueryFault::Unexpected(place)
+            | QueryFault::NumberRange(place) => Some(*place),
+            QueryFault::TextTooLong | QueryFault::NotAscii | QueryFault::UnknownStream => None,
+        }
+    }
+}
+
+impl Fault {
+    ghost use Rattle.reference.specs.FaultTexts as texts;
+
+    /// Its number and name, as replies give them. Where the fault has a place, ` at ` and the place follow there.
+    pub fn name(&self) -> &'static str
+        ensures { result.now ≡ texts.fault_name self.now }
+    {
+        match self {
+            Fault::Query(fault) => fault.name(),
+            Fault::BadName => "E1 BadName",
+            Fault::NameTaken => "E2 NameTaken",
+            Fault::BadColumns => "E3 BadColumns",
+            Fault::TooMany => "E4 TooMany",
+            Fault::UnknownStream => "E5 UnknownStream",
+            Fault::UnknownQuery => "E6 UnknownQuery",
+            Fault::BadWidth => "E7 BadWidth",
+            Fault::ValueRange => "E8 ValueRange",
+            Fault::InstantRange => "E9 InstantRange",
+            Fault::Late => "E10 Late",
+            Fault::Backward => "E11 Backward",
+            Fault::Leap => "E12 Leap",
+            Fault::StreamFull => "E13 StreamFull",
+            Fault::BadLimit => "E14 BadLimit",
+            Fault::OutOfMemory => "E20 OutOfMemory",
+        }
+    }
+
+    /// The number of bytes of the query's text before the token that is at fault, for the faults that have a place.
+    pub fn place(&self) -> Option<usize>
+        ensures { result ≡ texts.fault_place self.now }
+    {
+        match self {
+            Fault::Query(fault) => fault.place(),
+            _ => None,
         }
     }
 }
 
 impl fmt::Display for Fault {
     fn fmt<W: fmt::Write>(&self, f: &mut fmt::Formatter<W>) -> fmt::Result {
-        match self {
-            Fault::Query(fault) => write!(f, "{fault}"),
-            Fault::BadName => write!(f, "E1 BadName"),
-            Fault::NameTaken => write!(f, "E2 NameTaken"),
-            Fault::BadColumns => write!(f, "E3 BadColumns"),
-            Fault::TooMany => write!(f, "E4 TooMany"),
-            Fault::UnknownStream => write!(f, "E5 UnknownStream"),
-            Fault::UnknownQuery => write!(f, "E6 UnknownQuery"),
-            Fault::BadWidth => write!(f, "E7 BadWidth"),
-            Fault::ValueRange => write!(f, "E8 ValueRange"),
-            Fault::InstantRange => write!(f, "E9 InstantRange"),
-            Fault::Late => write!(f, "E10 Late"),
-            Fault::Backward => write!(f, "E11 Backward"),
-            Fault::Leap => write!(f, "E12 Leap"),
-            Fault::StreamFull => write!(f, "E13 StreamFull"),
-            Fault::BadLimit => write!(f, "E14 BadLimit"),
-            Fault::OutOfMemory => write!(f, "E20 OutOfMemory"),
+        match self.place() {
+            Some(place) => write!(f, "{} at {place}", self.name()),
+            None => write!(f, "{}", self.name()),
         }
     }
 }

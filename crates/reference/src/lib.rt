@@ -14,6 +14,8 @@ mod plain;
 mod resolve;
 mod standing;
 mod stream;
+#[cfg(test)]
+mod tests;
 
 pub use answering::Answering;
 pub use fault::{Fault, QueryFault};

@@ -13,7 +13,7 @@ use std::collections::VecDeque;
 use values::{Resolved, Row};
 
 /// A registered query: its name, what its text means, the places of its sources, the first instant above its base, how
-/// many answers were taken, whether it was dropped, and the answers that wait for a take.
+/// many answers were taken, whether it was dropped, the answers that wait for a take, and those that a drain under way found.
 #[derive(Drop)]
 pub(crate) struct StandingQuery {
     name: String,
@@ -23,9 +23,12 @@ pub(crate) struct StandingQuery {
     taken: u64,
     is_dropped: bool,
     waiting: VecDeque<(u64, Row)>,
+    fresh: VecDeque<(u64, Row)>,
     ghost fits: { has_narrow_rows meaning.shape ≡ true },
     ghost sources: { length meaning.windows.items ≡ length places.items },
     ghost slides: { all_slide meaning.windows.items ≡ true },
     ghost counts: { taken + deque_len waiting < 2 ^ 64 },
     ghost instants: { are_signed (pairs_of waiting.items) ≡ true },
+    ghost fresh_counts: { taken + deque_len fresh < 2 ^ 64 },
+    ghost fresh_instants: { are_signed (pairs_of fresh.items) ≡ true },
 }

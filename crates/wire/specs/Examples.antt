@@ -1,11 +1,12 @@
 -- Worked lines.
 use Rattle.std.specs.Prelude.{◌≡◌, ℕ, List, [], ◌∷◌, ◌++◌, Some, None, Ok, Err, true, codes, pos, negsuc, refl}
 use Rattle.std.specs.Fmt.{digits}
+use Rattle.reference.specs.FaultTexts.{fault_text}
 use Rattle.reference.specs.declared.fault.Fault.TheVariants.{Query, Late}
 use Rattle.reference.specs.declared.fault.QueryFault.TheVariants.{Unexpected}
 use Rattle.wire.specs.Lines.{lines_of}
 use Rattle.wire.specs.Requests.{is_blank}
-use Rattle.wire.specs.Printed.{rows, refused, line_of, rows_text, row_text, value_text, fault_text}
+use Rattle.wire.specs.Printed.{rows, refused, line_of, rows_text, row_text, value_text}
 
 -- a text of two lines and the beginning of a third, the second of which is blank
 lines : lines_of (codes "[]\n\t\r\n{") ≡ codes "[]" ∷ codes "\t\r" ∷ codes "{" ∷ []

@@ -2,15 +2,16 @@
 ghost use Rattle.std.specs.Prelude.{◌≡◌, ◌++◌, List, ℕ, true, codes, IfErr};
 ghost use Rattle.std.specs.Fmt.{signed_decimal};
 ghost use Rattle.reference.specs.CallViews.{handed_of};
+ghost use Rattle.reference.specs.FaultTexts.{place_text};
 ghost use Rattle.wire.specs.Devices.{Puts};
 ghost use Rattle.wire.specs.Paged.{Writes};
-ghost use Rattle.wire.specs.Printed.{value_text, after_commas, row_text, rows_text, query_fault_name, query_fault_place, fault_name, fault_place, fault_text, place_text, wire_fault_text, line_of, answer_of, error_line};
+ghost use Rattle.wire.specs.Printed.{value_text, after_commas, row_text, rows_text, wire_fault_text, line_of, answer_of, error_line};
 
 use crate::device::Sink;
 use crate::fault::ScriptFault;
 use crate::page::Page;
 use crate::request::WireFault;
-use reference::{Fault, QueryFault};
+use reference::Fault;
 use values::{Row, Value};
 
 /// What a request is answered.
@@ -80,62 +81,6 @@ fn add_rows<K: Sink>(sink: &mut K, page: &mut Page, rows: &[(i64, Row)])
     }
 }
 
-fn query_fault_name(fault: &QueryFault) -> &'static str
-    ensures { result.now ≡ query_fault_name fault.now }
-{
-    match fault {
-        QueryFault::TextTooLong => "Q1 TextTooLong",
-        QueryFault::NotAscii => "Q2 NotAscii",
-        QueryFault::BadToken(_) => "Q3 BadToken at ",
-        QueryFault::Unexpected(_) => "Q4 Unexpected at ",
-        QueryFault::NumberRange(_) => "Q5 NumberRange at ",
-        QueryFault::UnknownStream => "Q7 UnknownStream",
-    }
-}
-
-fn fault_name(fault: &Fault) -> &'static str
-    ensures { result.now ≡ fault_name fault.now }
-{
-    match fault {
-        Fault::Query(fault) => query_fault_name(fault),
-        Fault::BadName => "E1 BadName",
-        Fault::NameTaken => "E2 NameTaken",
-        Fault::BadColumns => "E3 BadColumns",
-        Fault::TooMany => "E4 TooMany",
-        Fault::UnknownStream => "E5 UnknownStream",
-        Fault::UnknownQuery => "E6 UnknownQuery",
-        Fault::BadWidth => "E7 BadWidth",
-        Fault::ValueRange => "E8 ValueRange",
-        Fault::InstantRange => "E9 InstantRange",
-        Fault::Late => "E10 Late",
-        Fault::Backward => "E11 Backward",
-        Fault::Leap => "E12 Leap",
-        Fault::StreamFull => "E13 StreamFull",
-        Fault::BadLimit => "E14 BadLimit",
-        Fault::OutOfMemory => "E20 OutOfMemory",
-    }
-}
-
-fn query_fault_place(fault: &QueryFault) -> Option<usize>
-    ensures { result ≡ query_fault_place fault.now }
-{
-    match fault {
-        QueryFault::BadToken(place)
-        | QueryFault::Unexpected(place)
-        | QueryFault::NumberRange(place) => Some(*place),
-        QueryFault::TextTooLong | QueryFault::NotAscii | QueryFault::UnknownStream => None,
-    }
-}
-
-fn fault_place(fault: &Fault) -> Option<usize>
-    ensures { result ≡ fault_place fault.now }
-{
-    match fault {
-        Fault::Query(fault) => query_fault_place(fault),
-        _ => None,
-    }
-}
-
 fn wire_fault_text(fault: &WireFault) -> &'static str
     ensures { result.now ≡ wire_fault_text fault.now }
 {
@@ -152,6 +97,7 @@ fn add_place<K: Sink>(sink: &mut K, page: &mut Page, place: Option<usize>)
         (K.taken sink.new) (K.failures sink.new) page.new (place_text place) }
 {
     if let Some(place) = place {
+        page.add(sink, b" at ");
         page.add_place(sink, place);
     }
 }
@@ -179,7 +125,7 @@ fn add_reply<K: Sink>(sink: &mut K, page: &mut Page, reply: &Reply)
             add_rows(sink, page, rows);
             page.add(sink, b"]}\n");
         }
-        Reply::Refused(fault) => add_error(sink, page, fault_name(fault), fault_place(fault)),
+        Reply::Refused(fault) => add_error(sink, page, fault.name(), fault.place()),
         Reply::Unread(fault) => add_error(sink, page, wire_fault_text(fault), None),
     }
 }

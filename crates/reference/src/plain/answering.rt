@@ -1,5 +1,6 @@
 //! What the plain engine answers.
 ghost use Rattle.std.specs.Prelude.{⊤};
+ghost use Rattle.reference.specs.World.{Does, drain_step};
 ghost use Rattle.reference.specs.PlainViews.{world_of};
 
 use crate::answering::Answering;
@@ -53,7 +54,9 @@ impl Answering for Plain {
     }
 
     #[tactic(auto, unfolding(crate::specs::World::drain_step))]
-    fn drain(&mut self, rows: u32) -> Result<(), Fault> {
+    fn drain(&mut self, rows: u32) -> Result<(), Fault>
+        ensures does { Does (λ u. u) (world_of self.old) (drain_step (world_of self.old) rows) result (world_of self.new) }
+    {
         if let Some(fault) = turn_fault(rows) {
             return Err(fault);
         }

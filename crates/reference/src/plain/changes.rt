@@ -4,7 +4,7 @@ ghost use Rattle.reference.specs.Commands.{first_fault, after, change, registere
 ghost use Rattle.reference.specs.CallViews.{texts_of, handed_of};
 ghost use Rattle.reference.specs.World.{handed, waiting_at, untaken};
 ghost use Rattle.reference.specs.PlainViews.{machine_in, world_of};
-ghost use Rattle.reference.specs.Standing.{found_of, query_of, waiting_of};
+ghost use Rattle.reference.specs.Standing.{found_of, query_of, waiting_of, fresh_of};
 ghost use Rattle.reference.specs.Places.{machine_of};
 ghost use Rattle.reference.specs.Sound.{has_narrow_rows, all_slide};
 
@@ -95,10 +95,10 @@ impl Plain {
         self.queries[query as usize].take(self.alloc, limit as usize)
     }
 
-    /// Makes the untaken answers of each query wait.
+    /// Makes the untaken answers of each query wait. On Err all is as it was.
     pub(crate) fn evaluate_all(&mut self) -> Result<(), AllocError>
-        ensures machine { machine_in self.new ≡ machine_in self.old }
-        ensures waiting { OnOk result (world_of self.new ≡ record (world_of self.old) { waiting = map (untaken (machine_in self.old)) (machine_in self.old).queries }) }
+        ensures ok { OnOk result (world_of self.new ≡ record (world_of self.old) { waiting = map (untaken (machine_in self.old)) (machine_in self.old).queries }) }
+        ensures err { OnErr result (world_of self.new ≡ world_of self.old) }
     {
         refresh_all(&mut self.queries, self.alloc, &self.streams)
     }
@@ -113,7 +113,43 @@ impl Plain {
     }
 }
 
-/// Makes the untaken answers of each query wait.
+/// Evaluates each query, and leaves what waits.
+fn evaluate_each(
+    queries: &mut [StandingQuery],
+    alloc: Global,
+    streams: &[Stream],
+) -> Result<(), AllocError>
+    ensures queries { map query_of queries.new ≡ map query_of queries.old }
+    ensures waiting { map waiting_of queries.new ≡ map waiting_of queries.old }
+    ensures fresh { OnOk result (map fresh_of queries.new ≡ map (untaken (machine_of streams.now)) (map query_of queries.new)) }
+{
+    for i in 0..queries.len() {
+        queries[i].evaluate(alloc, streams)?;
+    }
+    Ok(())
+}
+
+/// Makes the fresh answers of each query wait. Takes no memory.
+fn refresh_each(queries: &mut [StandingQuery], alloc: Global)
+    ensures queries { map query_of queries.new ≡ map query_of queries.old }
+    ensures waiting { map waiting_of queries.new ≡ map fresh_of queries.old }
+{
+    for i in 0..queries.len() {
+        queries[i].refresh(alloc);
+    }
+}
+
+/// Gives up the fresh answers of each query. Takes no memory.
+fn forget_each(queries: &mut [StandingQuery], alloc: Global)
+    ensures queries { map query_of queries.new ≡ map query_of queries.old }
+    ensures waiting { map waiting_of queries.new ≡ map waiting_of queries.old }
+{
+    for i in 0..queries.len() {
+        queries[i].forget_fresh(alloc);
+    }
+}
+
+/// Makes the untaken answers of each query wait. On Err the same answers wait as before.
 fn refresh_all(
     queries: &mut [StandingQuery],
     alloc: Global,
@@ -121,9 +157,16 @@ fn refresh_all(
 ) -> Result<(), AllocError>
     ensures queries { map query_of queries.new ≡ map query_of queries.old }
     ensures waiting { OnOk result (map waiting_of queries.new ≡ map (untaken (machine_of streams.now)) (map query_of queries.new)) }
+    ensures err { OnErr result (map waiting_of queries.new ≡ map waiting_of queries.old) }
 {
-    for i in 0..queries.len() {
-        queries[i].refresh(alloc, streams)?;
+    match evaluate_each(queries, alloc, streams) {
+        Ok(()) => {
+            refresh_each(queries, alloc);
+            Ok(())
+        }
+        Err(error) => {
+            forget_each(queries, alloc);
+            Err(error)
+        }
     }
-    Ok(())
 }

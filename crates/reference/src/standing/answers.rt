@@ -5,7 +5,7 @@ ghost use Rattle.std.specs.VecDeque.{deque_len};
 ghost use Rattle.reference.specs.Machine.{closed_answers};
 ghost use Rattle.reference.specs.World.{untaken};
 ghost use Rattle.reference.specs.Places.{machine_of};
-ghost use Rattle.reference.specs.Standing.{query_of, waiting_of};
+ghost use Rattle.reference.specs.Standing.{query_of, waiting_of, fresh_of};
 ghost use Rattle.reference.specs.Views.{pairs_of, timed_of};
 
 use crate::evaluate::evaluate;
@@ -14,6 +14,7 @@ use crate::standing::StandingQuery;
 use crate::stream::Stream;
 use std::alloc::{AllocError, Global};
 use std::collections::VecDeque;
+use std::mem::replace;
 use values::Row;
 
 impl StandingQuery {
@@ -48,14 +49,30 @@ impl StandingQuery {
         Ok(without_front(answers, self.taken))
     }
 
-    /// Makes its untaken answers wait. On Err it is as it was.
-    pub(crate) fn refresh(&mut self, alloc: Global, streams: &[Stream]) -> Result<(), AllocError>
+    /// Finds its untaken answers, and leaves what waits.
+    pub(crate) fn evaluate(&mut self, alloc: Global, streams: &[Stream]) -> Result<(), AllocError>
         ensures query { query_of self.new ≡ query_of self.old }
-        ensures waiting { OnOk result (waiting_of self.new ≡ untaken (machine_of streams.now) (query_of self.old)) }
+        ensures waiting { waiting_of self.new ≡ waiting_of self.old }
+        ensures fresh { OnOk result (fresh_of self.new ≡ untaken (machine_of streams.now) (query_of self.old)) }
     {
-        let waiting = self.untaken(alloc, streams)?;
-        self.put(waiting);
+        self.fresh = self.untaken(alloc, streams)?;
         Ok(())
+    }
+
+    /// Makes the fresh answers wait, in place of those that waited. Takes no memory.
+    pub(crate) fn refresh(&mut self, alloc: Global)
+        ensures query { query_of self.new ≡ query_of self.old }
+        ensures waiting { waiting_of self.new ≡ fresh_of self.old }
+    {
+        self.waiting = replace(&mut self.fresh, VecDeque::new(alloc));
+    }
+
+    /// Gives up the fresh answers. Takes no memory.
+    pub(crate) fn forget_fresh(&mut self, alloc: Global)
+        ensures query { query_of self.new ≡ query_of self.old }
+        ensures waiting { waiting_of self.new ≡ waiting_of self.old }
+    {
+        self.fresh = VecDeque::new(alloc);
     }
 }
 

@@ -44,6 +44,7 @@ impl StandingQuery {
             taken: 0,
             is_dropped: false,
             waiting: VecDeque::new(alloc),
+            fresh: VecDeque::new(alloc),
         })
     }
 
@@ -61,16 +62,6 @@ impl StandingQuery {
         self.is_dropped
     }
 
-    /// Makes these answers wait.
-    pub(crate) fn put(&mut self, waiting: VecDeque<(u64, Row)>)
-        requires counts { (query_of self.old).taken + deque_len waiting < 2 ^ 64 }
-        requires instants { are_signed (pairs_of waiting.items) ≡ true }
-        ensures query { query_of self.new ≡ query_of self.old }
-        ensures waiting { waiting_of self.new ≡ pairs_of waiting.items }
-    {
-        self.waiting = waiting;
-    }
-
     /// Hands out the first answers that wait, at most `limit`. On Err it is as it was.
     pub(crate) fn take(
         &mut self,
@@ -85,6 +76,8 @@ impl StandingQuery {
         let count = limit.min(self.waiting.len());
         let mut rows = Vec::with_capacity(alloc, count)?;
         move_front(&mut self.waiting, &mut rows, count);
+        // no drain is under way
+        self.fresh.clear();
         self.taken += count as u64;
         Ok(rows)
     }

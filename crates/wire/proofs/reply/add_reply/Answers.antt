@@ -1,6 +1,7 @@
 use Rattle.std.proofs.Common.{◌++◌, ◌∙◌, ap, sym, codes}
 use Rattle.reference.specs.CallViews.{handed_of}
-use Rattle.wire.specs.Printed.{line_of, answer_of, rows, fault_text, error_line, place_text, fault_name}
+use Rattle.reference.specs.FaultTexts.{fault_text, fault_name, place_text}
+use Rattle.wire.specs.Printed.{line_of, answer_of, rows, error_line}
 use Rattle.wire.proofs.Printing.{writes_both, write_text}
 use Rattle.wire.proofs.reply.add_reply.Goals as goal
 
@@ -19,5 +20,5 @@ pub returns-in-Refused : goal.returns-in-Refused
 unfolding line_of fault_text
 returns-in-Refused g c =
     write_text (line_of (answer_of c.args.reply.now))
-    (ap (λ n. error_line (n ++ place_text c.fault_place.result)) c.fault_name.ensures ∙ ap (λ p. error_line (fault_name c.in-Refused.fault ++ place_text p)) c.fault_place.ensures ∙ sym (ap (λ r. line_of (answer_of r)) c.in-Refused.is))
+    (ap (λ n. error_line (n ++ place_text c.place.result)) c.name.ensures ∙ ap (λ p. error_line (fault_name c.in-Refused.fault ++ place_text p)) c.place.ensures ∙ sym (ap (λ r. line_of (answer_of r)) c.in-Refused.is))
     c.add_error.ensures

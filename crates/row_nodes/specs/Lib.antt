@@ -1,0 +1,4 @@
+pub mod Steps
+pub mod Select
+pub mod Project
+pub mod Laws

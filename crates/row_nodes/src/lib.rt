@@ -1,0 +1,19 @@
+//! The operators of a plan that look at one row at a time: Select keeps the rows at which a condition is true, Project keeps some
+//! columns. Neither has a state, and each puts out what it makes of an item at once.
+#![tactic(auto)]
+
+mod laws;
+mod outputs;
+mod postfix;
+mod projection;
+mod selection;
+
+pub use laws::{
+    nested_conditions_fit, project_keeps_its_value, select_keeps_its_value, ticks_pass,
+};
+pub use postfix::steps;
+pub use projection::project;
+pub use selection::select;
+
+#[cfg(test)]
+mod tests;

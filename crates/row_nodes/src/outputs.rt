@@ -1,0 +1,16 @@
+//! What a turn puts out.
+ghost use Rattle.std.specs.Prelude.{◌≡◌, IfOk};
+ghost use Rattle.std.specs.List.{flat_map};
+ghost use Rattle.op_queue.specs.Items.{entries_of};
+
+use op_queue::Item;
+use std::alloc::{AllocError, Global};
+
+/// One item.
+pub(crate) fn one(alloc: Global, item: Item) -> Result<Vec<Item>, AllocError>
+    ensures { IfOk result (λ outs. flat_map entries_of outs.items ≡ entries_of item) }
+{
+    let mut outs = Vec::new(alloc);
+    outs.push(item)?;
+    Ok(outs)
+}

@@ -1,0 +1,32 @@
+//! Some columns of each row.
+ghost use Rattle.std.specs.Prelude.{◌≡◌, ◌≤◌, IfOk, length};
+ghost use Rattle.std.specs.List.{flat_map};
+ghost use Rattle.op_queue.specs.Items.{entries_of};
+ghost use Rattle.row_nodes.specs.Project.{AreColumns, projected};
+
+use crate::outputs::one;
+use op_queue::Item;
+use std::alloc::{AllocError, Global};
+use values::MAX_COLUMNS;
+
+/// What Project puts out at an item: each row with these columns alone, in this order, and ticks as they are.
+///
+/// Columns are copied whole.
+pub fn project(alloc: Global, columns: &[usize], item: &Item) -> Result<Vec<Item>, AllocError>
+    requires narrow { length columns.now ≤ MAX_COLUMNS }
+    requires within { AreColumns columns.now item.now }
+    ensures { IfOk result (λ outs. flat_map entries_of outs.items ≡ projected columns.now item.now) }
+{
+    match item {
+        Item::Rows(at, batch) => {
+            let at = *at;
+            let rows = batch.project(alloc, columns)?;
+            let outs = one(alloc, Item::Rows(at, rows))?;
+            Ok(outs)
+        }
+        Item::Tick(at) => {
+            let outs = one(alloc, Item::Tick(*at))?;
+            Ok(outs)
+        }
+    }
+}

@@ -1,0 +1,80 @@
+//! The rows at which a condition is true.
+ghost use Rattle.std.specs.Prelude.{◌≡◌, IfOk, length, map};
+ghost use Rattle.std.specs.List.{flat_map};
+ghost use Rattle.column.specs.Bits.{word_count};
+ghost use Rattle.column.specs.Rows.{width};
+ghost use Rattle.lane_kernels.specs.Steps.{StepsFit};
+ghost use Rattle.op_queue.specs.Items.{entries_of};
+ghost use Rattle.row_nodes.specs.Select.{FitItem, is_kept, selected};
+
+use crate::outputs::one;
+use column::{Batch, Mask};
+use lane_kernels::{Step, run_condition};
+use op_queue::Item;
+use std::alloc::{AllocError, Global};
+
+// as many words of 64 bits as a batch of `MAX_ROWS` rows needs
+const MAX_WORDS: usize = 16;
+
+/// What Select puts out at an item: the rows at which the condition of these steps is true, in order and with their signs, and
+/// ticks as they are. Rows at which it is false or unknown are left out; where all are, nothing is put out.
+///
+/// The whole condition goes over the batch in one pass, 64 rows at a time.
+pub fn select(alloc: Global, steps: &[Step], item: &Item) -> Result<Vec<Item>, AllocError>
+    requires fits { FitItem steps.now item.now }
+    ensures { IfOk result (λ outs. flat_map entries_of outs.items ≡ selected steps.now item.now) }
+{
+    match item {
+        Item::Rows(at, batch) => {
+            let at = *at;
+            let mask = kept(alloc, steps, batch)?;
+            match batch.gather(alloc, &mask)? {
+                Some(rows) => {
+                    let outs = one(alloc, Item::Rows(at, rows))?;
+                    Ok(outs)
+                }
+                None => Ok(Vec::new(alloc)),
+            }
+        }
+        Item::Tick(at) => {
+            let outs = one(alloc, Item::Tick(*at))?;
+            Ok(outs)
+        }
+    }
+}
+
+/// Which rows are kept.
+fn kept(alloc: Global, steps: &[Step], batch: &Batch) -> Result<Mask, AllocError>
+    requires { StepsFit (width batch.now) 0 steps.now }
+    ensures { IfOk result (λ m. m ≡ map (is_kept steps.now) batch.now) }
+{
+    let words = batch.len().div_ceil(64);
+    let mut truth = [0; MAX_WORDS];
+    let mut known = [0; MAX_WORDS];
+    let mask = kept_by(
+        alloc,
+        steps,
+        batch,
+        &mut truth[..words],
+        &mut known[..words],
+    )?;
+    Ok(mask)
+}
+
+/// The same, by words that are lent.
+fn kept_by(
+    alloc: Global,
+    steps: &[Step],
+    batch: &Batch,
+    truth: &mut [u64],
+    known: &mut [u64],
+) -> Result<Mask, AllocError>
+    requires fits { StepsFit (width batch.now) 0 steps.now }
+    requires truth_fits { length truth.old ≡ word_count (length batch.now) }
+    requires known_fits { length known.old ≡ word_count (length batch.now) }
+    ensures { IfOk result (λ m. m ≡ map (is_kept steps.now) batch.now) }
+{
+    run_condition(steps, batch, truth, known);
+    let mask = Mask::from_words(alloc, truth, batch.len())?;
+    Ok(mask)
+}

@@ -1,3 +1,4 @@
 pub mod Bits
 pub mod Columns
 pub mod Rows
+pub mod Examples

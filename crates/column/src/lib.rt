@@ -14,6 +14,3 @@ pub use mask::Mask;
 
 /// The most rows of a batch, and so the most places of a column or a mask.
 pub const MAX_ROWS: usize = 1024;
-
-#[cfg(test)]
-mod tests;

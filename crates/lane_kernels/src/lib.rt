@@ -18,6 +18,3 @@ pub use condition::{MAX_TRUTHS, Step, run_condition};
 pub use count::count_set;
 pub use logic::{and3, not3, or3};
 pub use sum::sum_signed;
-
-#[cfg(test)]
-mod tests;

@@ -1,24 +1,26 @@
 -- A queue while rows and ticks leave its front.
-use Rattle.std.proofs.Common.{◌≡◌, ℕ, ◌+◌, ◌-◌, ◌<◌, ◌≤◌, List, [], ◌∷◌, ◌++◌, length, drop, get_or, refl, ap, sym, ◌∙◌, arith, length-append}
+use Rattle.std.proofs.Common.{◌≡◌, ℕ, ◌+◌, ◌-◌, ◌<◌, ◌≤◌, Bool, List, [], ◌∷◌, ◌++◌, length, drop, get_or, refl, ap, sym, ◌∙◌, arith, length-append}
 use Rattle.std.specs.List.{flat_map, All}
 use Rattle.std.proofs.lemmas.List.{drop-drop, drop_at}
 use Rattle.std.proofs.lemmas.List.Elements.{All-head, All-tail}
 use Rattle.values.specs.Row.{Row}
 use Rattle.op_queue.specs.Entries.{Entry}
-use Rattle.op_queue.specs.Pieces.{piece_size, piece_entries, queue_entries, IsPiece, IsTaken, IsQueue}
+use Rattle.op_queue.specs.Pieces.{piece_begins, piece_size, piece_entries, queue_begins, queue_entries, IsPiece, IsTaken, IsQueue}
 use Rattle.op_queue.specs.declared.queue.Piece.{Piece}
+use Rattle.op_queue.proofs.BeginLemmas.{length-piece_begins}
 use Rattle.op_queue.proofs.PieceLemmas.{length-piece_entries, piece_size-some, IsForward-drop}
 
--- `left` of the `count` entries of `old` are still to leave, and there are at most so many pieces
-pub record IsDropping (old : List (Entry Row)) (most count left taken len : ℕ) (ps : List Piece) : Type 0 where
+-- `left` of the `count` entries of `old`, and of what they begin, are still to leave, and there are at most so many pieces
+pub record IsDropping (old : List (Entry Row)) (begun : List Bool) (most count left taken len : ℕ) (ps : List Piece) : Type 0 where
   pub shaped : All IsPiece ps
   pub started : IsTaken taken ps
   pub counted : taken + len + left ≡ length (flat_map piece_entries ps) + count
   pub within : left + taken ≤ length (flat_map piece_entries ps)
   pub fewer : length ps ≤ most
   pub rest : drop left (queue_entries taken ps) ≡ drop count old
+  pub rest_begins : drop left (queue_begins taken ps) ≡ drop count begun
 
-pub IsDropping-start : {taken len : ℕ} (ps : List Piece) (count : ℕ) → IsQueue taken len ps → count ≤ len → IsDropping (queue_entries taken ps) (length ps) count count taken len ps
+pub IsDropping-start : {taken len : ℕ} (ps : List Piece) (count : ℕ) → IsQueue taken len ps → count ≤ len → IsDropping (queue_entries taken ps) (queue_begins taken ps) (length ps) count count taken len ps
 IsDropping-start ps count h few = record {
   shaped = h.shaped;
   started = h.started;
@@ -26,10 +28,11 @@ IsDropping-start ps count h few = record {
   within = omega (arith, h.counted);
   fewer = omega arith;
   rest = refl;
+  rest_begins = refl;
 }
 
 -- a part of the front piece leaves
-pub IsDropping-part : {old : List (Entry Row)} {most count left taken len : ℕ} (ps : List Piece) (p : Piece) → 0 < length ps → p ≡ get_or ps 0 p → IsDropping old most count left taken len ps → taken + left < piece_size p → IsDropping old most count 0 (taken + left) len ps
+pub IsDropping-part : {old : List (Entry Row)} {begun : List Bool} {most count left taken len : ℕ} (ps : List Piece) (p : Piece) → 0 < length ps → p ≡ get_or ps 0 p → IsDropping old begun most count left taken len ps → taken + left < piece_size p → IsDropping old begun most count 0 (taken + left) len ps
 IsDropping-part [] p some is h few = absurd (omega arith)
 IsDropping-part {left = left} {taken = taken} (q ∷ ps) p some is h few = record {
   shaped = h.shaped;
@@ -38,14 +41,22 @@ IsDropping-part {left = left} {taken = taken} (q ∷ ps) p some is h few = recor
   within = omega (arith, h.within);
   fewer = h.fewer;
   rest = sym (drop-drop left taken (flat_map piece_entries (q ∷ ps))) ∙ h.rest;
+  rest_begins = sym (drop-drop left taken (flat_map piece_begins (q ∷ ps))) ∙ h.rest_begins;
 }
 
 IsTaken-none : (ps : List Piece) → All IsPiece ps → IsTaken 0 ps
 IsTaken-none [] h = refl
 IsTaken-none (p ∷ ps) h = piece_size-some p (All-head IsPiece p ps h)
 
+drop-piece : {X : Type 0} (xs ys : List X) (size taken left : ℕ) → length xs ≡ size → size + (left - (size - taken)) ≡ taken + left → drop (left - (size - taken)) ys ≡ drop left (drop taken (xs ++ ys))
+drop-piece xs ys size taken left long is =
+    ap (drop (left - (size - taken))) (sym (drop_at xs ys size long))
+    ∙ drop-drop (left - (size - taken)) size (xs ++ ys)
+    ∙ ap (λ n. drop n (xs ++ ys)) is
+    ∙ sym (drop-drop left taken (xs ++ ys))
+
 -- all that is left of the front piece leaves
-pub IsDropping-piece : {old : List (Entry Row)} {most count left taken len : ℕ} (ps qs : List Piece) (p : Piece) → ps ≡ p ∷ qs → IsDropping old most count left taken len ps → piece_size p ≤ taken + left → IsDropping old most count (left - (piece_size p - taken)) 0 len qs
+pub IsDropping-piece : {old : List (Entry Row)} {begun : List Bool} {most count left taken len : ℕ} (ps qs : List Piece) (p : Piece) → ps ≡ p ∷ qs → IsDropping old begun most count left taken len ps → piece_size p ≤ taken + left → IsDropping old begun most count (left - (piece_size p - taken)) 0 len qs
 IsDropping-piece {left = left} {taken = taken} ps qs p is h much =
     let g = rw is at h in
     let a = length-append (piece_entries p) (flat_map piece_entries qs) in
@@ -57,15 +68,11 @@ IsDropping-piece {left = left} {taken = taken} ps qs p is h much =
       counted = omega (arith, g.counted, g.started);
       within = omega (arith, g.within, g.started);
       fewer = omega (arith, g.fewer);
-      rest =
-          ap (drop (left - (piece_size p - taken))) (sym (drop_at (piece_entries p) (flat_map piece_entries qs) (piece_size p) b))
-          ∙ drop-drop (left - (piece_size p - taken)) (piece_size p) (piece_entries p ++ flat_map piece_entries qs)
-          ∙ ap (λ n. drop n (piece_entries p ++ flat_map piece_entries qs)) size
-          ∙ sym (drop-drop left taken (piece_entries p ++ flat_map piece_entries qs))
-          ∙ g.rest;
+      rest = drop-piece (piece_entries p) (flat_map piece_entries qs) (piece_size p) taken left b size ∙ g.rest;
+      rest_begins = drop-piece (piece_begins p) (flat_map piece_begins qs) (piece_size p) taken left (length-piece_begins p ∙ b) size ∙ g.rest_begins;
     }
 
-pub IsDropping-end : {taken0 len0 : ℕ} {most count left taken len : ℕ} (ps0 ps : List Piece) → IsQueue taken0 len0 ps0 → IsDropping (queue_entries taken0 ps0) most count left taken len ps → left ≡ 0 → IsQueue taken (len - count) ps
+pub IsDropping-end : {taken0 len0 : ℕ} {most count left taken len : ℕ} (ps0 ps : List Piece) → IsQueue taken0 len0 ps0 → IsDropping (queue_entries taken0 ps0) (queue_begins taken0 ps0) most count left taken len ps → left ≡ 0 → IsQueue taken (len - count) ps
 IsDropping-end {taken0 = taken0} {count = count} {taken = taken} ps0 ps before h none = record {
   shaped = h.shaped;
   counted = omega (arith, h.counted, h.within);
@@ -75,12 +82,12 @@ IsDropping-end {taken0 = taken0} {count = count} {taken = taken} ps0 ps before h
       rw e (IsForward-drop count (queue_entries taken0 ps0) before.forward);
 }
 
-pub IsDropping-pop : {old : List (Entry Row)} {most count left taken len : ℕ} (ps qs : List Piece) (p : Piece) (size : ℕ) → 0 < length ps → p ≡ get_or ps 0 p → size ≡ piece_size p → qs ≡ drop 1 ps → IsDropping old most count left taken len ps → size - taken ≤ left → IsDropping old most count (left - (size - taken)) 0 len qs
+pub IsDropping-pop : {old : List (Entry Row)} {begun : List Bool} {most count left taken len : ℕ} (ps qs : List Piece) (p : Piece) (size : ℕ) → 0 < length ps → p ≡ get_or ps 0 p → size ≡ piece_size p → qs ≡ drop 1 ps → IsDropping old begun most count left taken len ps → size - taken ≤ left → IsDropping old begun most count (left - (size - taken)) 0 len qs
 IsDropping-pop [] qs p size some first is rest h much = absurd (omega arith)
 IsDropping-pop (q ∷ ps) qs p size some first is rest h much =
     let e = ap piece_size first in
     rw (is, e) (IsDropping-piece (q ∷ ps) qs q (ap (λ t. q ∷ t) (sym rest)) h (omega arith))
 
-pub dropped_all : {old : List (Entry Row)} {most count left taken len : ℕ} (ps : List Piece) → IsDropping old most count left taken len ps → length ps ≡ 0 → left ≡ 0
+pub dropped_all : {old : List (Entry Row)} {begun : List Bool} {most count left taken len : ℕ} (ps : List Piece) → IsDropping old begun most count left taken len ps → length ps ≡ 0 → left ≡ 0
 dropped_all [] h none = omega (arith, h.within)
 dropped_all (p ∷ ps) h none = absurd (omega arith)

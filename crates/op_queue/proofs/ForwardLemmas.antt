@@ -1,15 +1,16 @@
 -- Instants that never go back: what pushing asks.
-use Rattle.std.proofs.Common.{◌≡◌, ℕ, suc, ◌+◌, ◌-◌, ◌<◌, ◌≤◌, Bool, List, [], ◌∷◌, ◌++◌, length, map, get_or, refl, ap, sym, subst, arith, length-append, ⊎_elim}
+use Rattle.std.proofs.Common.{◌≡◌, ℕ, suc, ◌+◌, ◌-◌, ◌<◌, ◌≤◌, Bool, List, [], ◌∷◌, ◌++◌, length, drop, map, get_or, refl, ap, sym, subst, arith, length-append, length-drop, ⊎_elim}
 use Prim.Native.Nat.{zero}
 use Rattle.std.specs.List.{All, range_with_len}
 use Rattle.std.specs.List.Sorted.{IsNonDecreasingBy}
 use Rattle.std.proofs.lemmas.Bool.{cases_lt}
-use Rattle.std.proofs.lemmas.List.{get_or-append_right, get_or-map, get_or_append_left, get_or_default, length-map}
+use Rattle.std.proofs.lemmas.List.{get_or-append_right, get_or-map, get_or_append_left, get_or_default, get_or-drop, length-map}
 use Rattle.std.proofs.lemmas.List.Elements.{All-append}
 use Rattle.std.proofs.lemmas.List.FromFn.{get_or-map-range_with_len, length-map-range_with_len}
 use Rattle.values.specs.Row.{Row}
-use Rattle.op_queue.specs.Entries.{Entry, IsForward, RowAt, TickAt, instant_of}
+use Rattle.op_queue.specs.Entries.{Entry, IsForward, IsUpTo, RowAt, TickAt, instant_of}
 use Rattle.op_queue.specs.Items.{entries_of, item_instant, ticks}
+use Rattle.op_queue.proofs.PieceLemmas.{IsForward-drop}
 use Rattle.op_queue.specs.declared.item.Item.{Item}
 use Rattle.op_queue.specs.declared.item.Item.TheVariants.{Rows, Tick}
 
@@ -69,11 +70,7 @@ IsForward-push_ticks es first last h below =
     (λ j k d le lt. omega (arith, instant-ticks first last j d (omega arith), instant-ticks first last k d (omega arith)))
     (λ k d lt. omega (arith, instant-ticks first last k d (omega arith)))
 
--- a queue whose instants never go back, and never lie above t: what one push after another keeps
-pub record IsUpTo (t : ℕ) (es : List (Entry Row)) : Type 0 where
-  pub forward : IsForward es
-  pub below : All (λ e. instant_of e ≤ t) es
-
+-- ---- a queue whose instants never go back, and never lie above t
 pub IsUpTo-none : (es : List (Entry Row)) → es ≡ [] → IsUpTo 0 es
 IsUpTo-none es none = let n = ap length none in record { forward = λ i j d le lt. absurd (omega arith); below = λ i d lt. absurd (omega arith) }
 
@@ -93,4 +90,14 @@ IsUpTo-push_ticks {t} es fs first last is h le some =
     (record {
       forward = IsForward-push_ticks es first last h.forward (λ k d lt. let u = h.below k d lt in omega arith);
       below = All-append (λ e. instant_of e ≤ last) es (ticks first last) (λ k d lt. let u = h.below k d lt in omega arith) (λ k d lt. omega (arith, instant-ticks first last k d (omega arith)));
+    })
+
+-- what is left of it, once some have left
+pub IsUpTo-drop : {t : ℕ} (n : ℕ) (es fs : List (Entry Row)) → fs ≡ drop n es → IsUpTo t es → IsUpTo t fs
+IsUpTo-drop {t} n es fs is h =
+    let l = length-drop n es in
+    subst (IsUpTo t) (sym is)
+    (record {
+      forward = IsForward-drop n es h.forward;
+      below = λ i d lt. rw (get_or-drop n es i d) (h.below (n + i) d (omega arith));
     })

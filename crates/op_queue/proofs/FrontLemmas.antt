@@ -36,6 +36,18 @@ IsFrontPart-rows t b part taken rows count some least positive cut =
     let e : map f part ≡ take (length (map f part)) (drop taken (map f b)) = ap (map f) is ∙ sym (take-map f rows (drop taken b)) ∙ ap (take rows) (sym (drop-map f taken b)) ∙ ap (λ n. take n (drop taken (map f b))) (whole ∙ sym m) in
     record { some = omega arith; few = omega arith; first = e }
 
+pub cut-rows : (t : ℕ) (b part : List (Bool × Row)) (taken rows count : ℕ) → taken < length b → rows ≡ min count (length b - taken) → part ≡ slice_range b taken (taken + rows) → entries_of (Rows t part) ≡ take (min count (length b - taken)) (drop taken (map (RowAt t) b))
+cut-rows t b part taken rows count some least cut =
+    let f : Bool × Row → Entry Row = RowAt t in
+    let n : taken + rows - taken ≡ rows = omega arith in
+    let is : part ≡ take rows (drop taken b) = cut ∙ ap (λ k. take k (drop taken b)) n in
+    ap (map f) is ∙ sym (take-map f rows (drop taken b)) ∙ ap (take rows) (sym (drop-map f taken b)) ∙ ap (λ n. take n (drop taken (map f b))) least
+
+pub cut-tick : (first last taken count : ℕ) → taken < last + 1 - first → 0 < count → entries_of (Tick (first + taken)) ≡ take (min count 1) (drop taken (ticks first last))
+cut-tick first last taken count some positive =
+    let n : 1 ≡ min count 1 = omega arith in
+    sym (ap (take 1) (drop-ticks first last taken some)) ∙ ap (λ k. take k (drop taken (ticks first last))) n
+
 pub IsFrontPart-tick : (first last taken count : ℕ) → taken < last + 1 - first → 0 < count → IsFrontPart count (drop taken (ticks first last)) (Tick (first + taken))
 IsFrontPart-tick first last taken count some positive = record { some = omega arith; few = omega arith; first = sym (ap (take 1) (drop-ticks first last taken some)) }
 

@@ -12,3 +12,4 @@ pub mod PartLemmas
 pub mod SignedLemmas
 pub mod PathLemmas
 pub mod ForwardLemmas
+pub mod BeginLemmas

@@ -28,7 +28,7 @@ range_with_len-add a (suc m) n =
     let q : a + 1 + m ≡ a + suc m = omega arith in
     ap (range_with_len a) p ∙ ap (λ r. a ∷ r) (e ∙ ap (λ k. range_with_len (a + 1) m ++ range_with_len k n) q)
 
-ticks-join : (from to first last : ℕ) → from ≤ to → to + 1 ≡ first → first ≤ last → ticks from last ≡ ticks from to ++ ticks first last
+pub ticks-join : (from to first last : ℕ) → from ≤ to → to + 1 ≡ first → first ≤ last → ticks from last ≡ ticks from to ++ ticks first last
 ticks-join from to first last up next some =
     let f : ℕ → Entry Row = TickAt in
     let n : last + 1 - from ≡ (to + 1 - from) + (last + 1 - first) = omega arith in
@@ -37,7 +37,7 @@ ticks-join from to first last up next some =
     ∙ ap (map f) (range_with_len-add from (to + 1 - from) (last + 1 - first) ∙ ap (λ m. range_with_len from (to + 1 - from) ++ range_with_len m (last + 1 - first)) k)
     ∙ map-append f (range_with_len from (to + 1 - from)) (range_with_len first (last + 1 - first))
 
-last-shaped : (init : List Piece) (p : Piece) → All IsPiece (init ++ p ∷ []) → All IsPiece init × IsPiece p
+pub last-shaped : (init : List Piece) (p : Piece) → All IsPiece (init ++ p ∷ []) → All IsPiece init × IsPiece p
 last-shaped [] p h = (All-nil IsPiece, All-head IsPiece p [] h)
 last-shaped (q ∷ init) p h =
     let t = last-shaped init p (All-tail IsPiece q (init ++ p ∷ []) h) in

@@ -1,11 +1,13 @@
 -- The definitions at worked examples.
-use Rattle.std.specs.Prelude.{◌≡◌, ℕ, true, Some, pos, [], ◌∷◌, refl}
+use Rattle.std.specs.Prelude.{◌≡◌, ℕ, Bool, true, false, Some, pos, List, [], ◌∷◌, ◌++◌, drop, refl}
 use Rattle.values.specs.Row.{Row}
 use Rattle.values.specs.Window.{Element}
 use Rattle.op_queue.specs.Cursors.{cursor_entries}
 use Rattle.op_queue.specs.Entries.{RowAt, TickAt}
-use Rattle.op_queue.specs.Items.{front_of, ticks}
+use Rattle.op_queue.specs.Items.{entries_of, front_of, ticks}
 use Rattle.op_queue.specs.Logs.{Closed, log_entries}
+use Rattle.op_queue.specs.Queues.{at_once, each_begins, first_begins}
+use Rattle.op_queue.specs.declared.item.Item.TheVariants.{Rows}
 use Rattle.op_queue.specs.declared.queue.Front.TheVariants as front
 
 -- a row of one number
@@ -40,3 +42,19 @@ above_the_base = refl
 -- one row of the first query's second instant has left
 a_row_has_left : cursor_entries (record { place = 0; at = 1; passed = 1 }) log ≡ RowAt 1 (true, row 6) ∷ TickAt 1 ∷ TickAt 2 ∷ RowAt 3 (true, row 7) ∷ TickAt 3 ∷ []
 a_row_has_left = refl
+
+-- a tick, three rows of a batch, and two rows of another
+abbrev marks : List Bool
+marks = true ∷ true ∷ false ∷ false ∷ true ∷ false ∷ []
+
+a_tick_comes_out : at_once marks ≡ 1
+a_tick_comes_out = refl
+
+a_batch_comes_out : at_once (drop 1 marks) ≡ 3
+a_batch_comes_out = refl
+
+the_rest_of_a_batch_comes_out : at_once (drop 3 marks) ≡ 1
+the_rest_of_a_batch_comes_out = refl
+
+a_batch_and_two_ticks : first_begins (entries_of (Rows 2 ((true, row 5) ∷ (false, row 6) ∷ []))) ++ each_begins (ticks 2 3) ≡ true ∷ false ∷ true ∷ true ∷ []
+a_batch_and_two_ticks = refl

@@ -1,11 +1,11 @@
 -- How a queue is kept: pieces, of the first of which some rows or ticks have left.
-use Rattle.std.specs.Prelude.{◌≡◌, ℕ, ◌+◌, ◌-◌, ◌^◌, ◌<◌, ◌≤◌, List, [], ◌∷◌, ◌++◌, map, length, drop}
+use Rattle.std.specs.Prelude.{◌≡◌, ℕ, Bool, ◌+◌, ◌-◌, ◌^◌, ◌<◌, ◌≤◌, List, [], ◌∷◌, ◌++◌, map, length, drop}
 use Rattle.std.specs.List.{flat_map, All}
 use Rattle.values.specs.Row.{Row}
 use Rattle.column.specs.Rows.{IsBatch}
 use Rattle.op_queue.specs.Entries.{Entry, RowAt, IsForward}
 use Rattle.op_queue.specs.Items.{ticks}
-use Rattle.op_queue.specs.Queues.{Waiting}
+use Rattle.op_queue.specs.Queues.{Waiting, first_begins, each_begins}
 use Rattle.op_queue.specs.declared.queue.Piece.{Piece}
 use Rattle.op_queue.specs.declared.queue.Piece.TheVariants.{Rows, Ticks}
 
@@ -17,11 +17,19 @@ abbrev pub piece_entries : Piece → List (Entry Row)
 piece_entries (Rows t b) = map (RowAt t) b
 piece_entries (Ticks first last) = ticks first last
 
+-- a batch comes out at once, a run tick by tick
+abbrev pub piece_begins : Piece → List Bool
+piece_begins (Rows t b) = first_begins (piece_entries (Rows t b))
+piece_begins (Ticks first last) = each_begins (piece_entries (Ticks first last))
+
 abbrev pub queue_entries : ℕ → List Piece → List (Entry Row)
 queue_entries taken ps = drop taken (flat_map piece_entries ps)
 
+abbrev pub queue_begins : ℕ → List Piece → List Bool
+queue_begins taken ps = drop taken (flat_map piece_begins ps)
+
 abbrev pub waiting_in : ℕ → List Piece → Waiting
-waiting_in taken ps = record { entries = queue_entries taken ps; pieces = length ps }
+waiting_in taken ps = record { entries = queue_entries taken ps; begins = queue_begins taken ps; pieces = length ps }
 
 -- a piece has something, and no more than there are instants
 abbrev pub IsPiece : Piece → Type 0

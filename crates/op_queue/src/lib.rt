@@ -12,8 +12,6 @@ mod cursor;
 mod item;
 mod log;
 mod queue;
-#[cfg(test)]
-mod tests;
 
 pub use cursor::Cursor;
 pub use item::Item;

@@ -1,9 +1,10 @@
 //! Queues.
-ghost use Rattle.std.specs.Prelude.{◌≡◌, ◌↔◌, IsTrue, Some, ◌+◌, ◌-◌, ◌^◌, ◌<◌, ◌≤◌, ◌++◌, [], length, take, drop, IfOk, OnOk, OnErr};
+ghost use Rattle.std.specs.Prelude.{◌≡◌, ◌↔◌, IsTrue, Some, ◌+◌, ◌-◌, ◌^◌, ◌<◌, ◌≤◌, ◌++◌, [], length, take, drop, IfOk, OnOk, OnErr, min};
 ghost use Rattle.std.specs.Bool.{OnTrue, OnFalse};
 ghost use Rattle.op_queue.specs.Entries.{IsForward};
 ghost use Rattle.op_queue.specs.Items.{entries_of, front_of, ticks, IsFrontPart};
-ghost use Rattle.op_queue.specs.Pieces.{piece_entries, piece_size, IsLongerRun, IsPiece};
+ghost use Rattle.op_queue.specs.Queues.{at_once, each_begins, first_begins};
+ghost use Rattle.op_queue.specs.Pieces.{piece_begins, piece_entries, piece_size, IsLongerRun, IsPiece};
 
 use crate::item::Item;
 use column::Batch;
@@ -54,6 +55,7 @@ impl Queue {
     /// The empty queue.
     pub fn new(alloc: Global) -> Queue
         ensures entries { result.entries ≡ [] }
+        ensures begins { result.begins ≡ [] }
         ensures pieces { result.pieces ≡ 0 }
     {
         Queue {
@@ -67,6 +69,7 @@ impl Queue {
     pub fn len(&self) -> u128
         ensures value { result ≡ length self.now.entries }
         ensures forward { IsForward self.now.entries }
+        ensures begins { length self.now.begins ≡ length self.now.entries }
     {
         self.waiting
     }
@@ -90,6 +93,7 @@ impl Queue {
     pub fn push(&mut self, item: Item) -> Result<(), AllocError>
         requires { IsForward (self.old.entries ++ entries_of item) }
         ensures entries { OnOk result (self.new.entries ≡ self.old.entries ++ entries_of item) }
+        ensures begins { OnOk result (self.new.begins ≡ self.old.begins ++ first_begins (entries_of item)) }
         ensures pieces { OnOk result (self.new.pieces ≤ self.old.pieces + 1) }
         ensures err { OnErr result (self.new ≡ self.old) }
     {
@@ -107,6 +111,7 @@ impl Queue {
         requires some { first ≤ last }
         requires forward { IsForward (self.old.entries ++ ticks first last) }
         ensures entries { OnOk result (self.new.entries ≡ self.old.entries ++ ticks first last) }
+        ensures begins { OnOk result (self.new.begins ≡ self.old.begins ++ each_begins (ticks first last)) }
         ensures pieces { OnOk result (self.new.pieces ≤ self.old.pieces + 1) }
         ensures err { OnErr result (self.new ≡ self.old) }
     {
@@ -128,20 +133,23 @@ impl Queue {
         Some(piece.front(self.taken))
     }
 
-    /// A copy of the front: a tick, or rows of one instant, at most `count` of them.
+    /// A copy of the front: a tick, or what is left of a batch, at most `count` rows of it.
     pub fn front_cut(&self, alloc: Global, count: usize) -> Result<Item, AllocError>
         requires waits { 0 < length self.now.entries }
         requires some { 0 < count }
-        ensures { IfOk result (IsFrontPart count self.now.entries) }
+        ensures part { IfOk result (IsFrontPart count self.now.entries) }
+        ensures value { IfOk result (λ item. entries_of item ≡ take (min count (at_once self.now.begins)) self.now.entries) }
     {
         let piece = &self.pieces[0];
-        piece.cut(alloc, self.taken, count)
+        let item = piece.cut(alloc, self.taken, count)?;
+        Ok(item)
     }
 
     /// The first `count` rows and ticks leave.
     pub fn drop_front(&mut self, count: usize)
         requires { count ≤ length self.old.entries }
         ensures entries { self.new.entries ≡ drop count self.old.entries }
+        ensures begins { self.new.begins ≡ drop count self.old.begins }
         ensures pieces { self.new.pieces ≤ self.old.pieces }
     {
         let mut left = count as u64;
@@ -165,6 +173,7 @@ impl Queue {
         requires forward { IsForward (self.old.entries ++ piece_entries piece) }
         requires shaped { IsPiece piece }
         ensures entries { OnOk result (self.new.entries ≡ self.old.entries ++ piece_entries piece) }
+        ensures begins { OnOk result (self.new.begins ≡ self.old.begins ++ piece_begins piece) }
         ensures pieces { OnOk result (self.new.pieces ≤ self.old.pieces + 1) }
         ensures err { OnErr result (self.new ≡ self.old) }
     {
@@ -207,7 +216,8 @@ impl Piece {
         requires shaped { IsPiece self.now }
         requires part { taken < piece_size self.now }
         requires some { 0 < count }
-        ensures { IfOk result (IsFrontPart count (drop taken (piece_entries self.now))) }
+        ensures part { IfOk result (IsFrontPart count (drop taken (piece_entries self.now))) }
+        ensures value { IfOk result (λ item. entries_of item ≡ take (min count (at_once (drop taken (piece_begins self.now)))) (drop taken (piece_entries self.now))) }
     {
         match self {
             Piece::Rows(at, batch) => {

@@ -1,6 +1,7 @@
 use Rattle.std.proofs.Common.{arith, ap, ◌∙◌, ◌++◌}
 use Rattle.op_queue.specs.Items.{ticks}
-use Rattle.op_queue.specs.Queues.{Waiting}
+use Rattle.op_queue.specs.Queues.{Waiting, each_begins}
+use Rattle.op_queue.proofs.BeginLemmas.{queue_begins-longer}
 use Rattle.op_queue.proofs.RunLemmas.{IsQueue-longer, length-queue_longer, queue_entries-longer, pieces-longer}
 use Rattle.op_queue.proofs.queue.Queue.push_ticks.Goals as goal
 
@@ -20,3 +21,8 @@ returns-then-extend_run-clause-entries c =
 pub returns-then-extend_run-clause-pieces : goal.returns-then-extend_run-clause-pieces
 returns-then-extend_run-clause-pieces c =
     omega (arith, pieces-longer c.args.first c.args.last c.self.inside.pieces.items c.extend_run.new.pieces.items c.if-extend_run.ensures.longer, ap (λ (w : Waiting). w.pieces) c.self.view_is)
+
+pub returns-then-extend_run-clause-begins : goal.returns-then-extend_run-clause-begins
+returns-then-extend_run-clause-begins c =
+    queue_begins-longer c.args.first c.args.last c.self.inside.pieces.items c.extend_run.new.pieces.items c.self.invariant c.requires.some c.if-extend_run.ensures.longer
+    ∙ ap (λ (w : Waiting). w.begins ++ each_begins (ticks c.args.first c.args.last)) c.self.view_is

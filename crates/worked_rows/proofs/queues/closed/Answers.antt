@@ -1,6 +1,6 @@
 use Rattle.std.proofs.Common.{arith}
 use Rattle.op_queue.proofs.GrowthLemmas.{IsClosing-one}
-use Rattle.op_queue.proofs.tests.closed.Goals as goal
+use Rattle.worked_rows.proofs.queues.closed.Goals as goal
 
 pub close-requires : goal.close-requires
 close-requires c =

@@ -1,0 +1,138 @@
+//! The vectors of nine values, and whole conditions against their plain definition.
+ghost use Rattle.std.specs.Prelude.{◌≡◌, ◌≤◌, IfOk, length};
+ghost use Rattle.column.specs.Rows.{width};
+ghost use Rattle.lane_kernels.specs.Steps.{StepsFit};
+
+use crate::plain;
+use crate::samples::*;
+use column::{Batch, Column, Mask};
+use lane_kernels::*;
+use std::alloc::{AllocError, Global};
+use std::test::Fail;
+use values::Value;
+
+/// So many rows of two columns, which all enter.
+fn batch_of(alloc: Global, a: Column, b: Column) -> Result<Batch, AllocError>
+    requires some { 1 ≤ length a }
+    requires few { length a ≤ 1024 }
+    requires same { length b ≡ length a }
+{
+    let leaving = none_leaves(alloc, a.len())?;
+    let mut columns = Vec::with_capacity(alloc, 2)?;
+    columns.push(a)?;
+    columns.push(b)?;
+    Ok(Batch::from_columns(columns, leaving))
+}
+
+fn none_leaves(alloc: Global, count: usize) -> Result<Mask, AllocError>
+    requires { count ≤ 1024 }
+    ensures { IfOk result (λ m. length m ≡ count) }
+{
+    let mut leaving = Mask::with_capacity(alloc, count)?;
+    for i in 0..count {
+        leaving.push(false)?;
+    }
+    Ok(leaving)
+}
+
+/// 5 at the places 0 to 7, and null at 8.
+fn fives(alloc: Global) -> Result<Column, AllocError>
+    ensures { IfOk result (λ c. length c ≡ 9) }
+{
+    let mut column = Column::with_capacity(alloc, 9)?;
+    for i in 0..8usize {
+        column.push(Value::clamped(5))?;
+    }
+    column.push(Value::null())?;
+    Ok(column)
+}
+
+fn first_word(steps: &[Step], batch: &Batch) -> (u64, u64)
+    requires rows { length batch.now ≡ 9 }
+    requires fits { StepsFit (width batch.now) 0 steps.now }
+{
+    let (mut truth, mut known) = ([0], [0]);
+    run_condition(steps, batch, &mut truth, &mut known);
+    (truth[0], known[0])
+}
+
+const ABOVE_FIVE: Step = Step::Number(0, Comparison::Greater, 5);
+
+const BELOW_SIX: Step = Step::Number(1, Comparison::Less, 6);
+
+/// `Not (a > 5) Or b < 6`.
+fn not_or(batch: &Batch) -> (u64, u64)
+    requires rows { length batch.now ≡ 9 }
+    requires wide { width batch.now ≡ 2 }
+{
+    first_word(&[ABOVE_FIVE, Step::Not, BELOW_SIX, Step::Or], batch)
+}
+
+/// `a > 5 And b < 6`, or `a > 9 And b < 6`.
+fn both(batch: &Batch, above: i64) -> (u64, u64)
+    requires rows { length batch.now ≡ 9 }
+    requires wide { width batch.now ≡ 2 }
+{
+    let above = Step::Number(0, Comparison::Greater, above);
+    first_word(&[above, BELOW_SIX, Step::And], batch)
+}
+
+#[test]
+fn conditions_over_nine_rows(rt: HostRuntime) -> Result<(), Fail> {
+    let (a, b) = (counted(rt.alloc(), 9, 9)?, fives(rt.alloc())?);
+    let batch = batch_of(rt.alloc(), a, b)?;
+    assert_eq!(rt; (batch.len(), batch.width()), (9, 2));
+    let words = [not_or(&batch), both(&batch, 5), both(&batch, 9)];
+    assert_eq!(rt; words, [(255, 255), (224, 255), (0, 511)]);
+    Ok(())
+}
+
+/// `Not a > 3 And a < b Or b = 0 Or false`.
+const STEPS: [Step; 8] = [
+    Step::Number(0, Comparison::Greater, 3),
+    Step::Not,
+    Step::Columns(0, Comparison::Less, 1),
+    Step::And,
+    Step::Number(1, Comparison::Equal, 0),
+    Step::Or,
+    Step::Known(false),
+    Step::Or,
+];
+
+fn plain_condition(a: Value, b: Value) -> Option<bool> {
+    let above = plain::compared(a, Comparison::Greater, Value::clamped(3));
+    let less = plain::compared(a, Comparison::Less, b);
+    let is_nought = plain::compared(b, Comparison::Equal, Value::clamped(0));
+    plain::or(plain::and(plain::not(above), less), is_nought)
+}
+
+fn condition_agrees(batch: &Batch, count: usize) -> bool
+    requires few { count ≤ 1024 }
+    requires rows { length batch.now ≡ count }
+    requires wide { width batch.now ≡ 2 }
+{
+    let (mut truth, mut known) = ([0; 16], [0; 16]);
+    let words = (count + 63) / 64;
+    run_condition(&STEPS, batch, &mut truth[..words], &mut known[..words]);
+    for i in 0..count {
+        if truth_at(&truth, &known, i) != plain_condition(sample(i, 7), sample(i, 11)) {
+            return false;
+        }
+    }
+    is_well_formed(&truth, &known, count)
+}
+
+#[test]
+fn conditions_of_any_length(rt: HostRuntime) -> Result<(), Fail> {
+    for count in LENGTHS {
+        let count = count.clamp(1, 1024);
+        let batch = batch_of(
+            rt.alloc(),
+            samples(rt.alloc(), count, 7)?,
+            samples(rt.alloc(), count, 11)?,
+        )?;
+        assert_eq!(rt; (batch.len(), batch.width()), (count, 2));
+        assert!(rt; condition_agrees(&batch, count), "at {count}");
+    }
+    Ok(())
+}

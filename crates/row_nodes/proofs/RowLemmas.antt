@@ -1,17 +1,16 @@
 -- The laws of operators that make at most one row of a row.
-use Rattle.std.proofs.Common.{ℕ, zero, suc, ◌+◌, ◌≤◌, ◌≡◌, List, [], ◌∷◌, map, filter, take, Bool, true, false, Option, Some, cond, refl, sym, ap, ◌∙◌, subst, arith}
+use Rattle.std.proofs.Common.{ℕ, zero, suc, ◌+◌, ◌≡◌, List, [], ◌∷◌, map, filter, take, Bool, true, false, cond, refl, sym, ap, ◌∙◌, subst, arith}
 use Rattle.values.specs.Row.{Row}
-use Rattle.values.specs.Condition.{Condition, keeps, truth, is_known_true}
-use Rattle.lane_kernels.specs.Steps.{steps_truth}
+use Rattle.values.specs.Condition.{Condition, truth, is_known_true}
 use Rattle.lane_kernels.specs.declared.condition.Step.{Step}
 use Rattle.op_queue.specs.Entries.{RowAt}
 use Rattle.op_queue.specs.Paths.{rows_in}
 use Rattle.op_queue.specs.Signed.{weigh, gain, loss, up, down, Same, Adds, Legal, Turns}
 use Rattle.op_queue.proofs.PathLemmas.{rows_in-batch}
 use Rattle.op_queue.proofs.SignedLemmas.{weigh-map, Same-refl, Same-sym, Turns-same}
-use Rattle.row_nodes.specs.Laws.{RowsLaw, IsLawful, Mean, select_value, project_value}
-use Rattle.row_nodes.specs.Project.{projected, projected_row, columns_in}
-use Rattle.row_nodes.specs.Select.{selected, is_kept}
+use Rattle.row_nodes.specs.Laws.{RowsLaw, Mean, select_value, project_value}
+use Rattle.row_nodes.specs.Project.{projected_row, columns_in}
+use Rattle.row_nodes.specs.Select.{is_kept}
 
 -- the weight of the rows that pass
 abbrev of_kept : {X : Type 0} → (X → Bool) → (X → ℕ) → X → ℕ

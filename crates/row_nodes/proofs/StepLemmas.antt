@@ -1,17 +1,17 @@
 -- What a condition's steps mean, that they fit, and how many truths they need.
-use Rattle.std.proofs.Common.{ℕ, suc, ◌+◌, ◌-◌, ◌*◌, ◌≤◌, ◌<◌, ◌≡◌, max, ℤ, List, [], ◌∷◌, ◌++◌, Bool, Option, Some, None, get_or, refl, sym, ap, ap₂, ◌∙◌, subst, arith, append_assoc, append-nil}
+use Rattle.std.proofs.Common.{ℕ, ◌+◌, ◌-◌, ◌*◌, ◌≤◌, ◌≡◌, ℤ, List, [], ◌∷◌, ◌++◌, Bool, Option, Some, None, get_or, refl, sym, ap, ap₂, ◌∙◌, subst, arith, append_assoc, append-nil}
 use Rattle.std.specs.declared.cmp.Ordering.{Ordering}
 use Rattle.std.specs.declared.cmp.Ordering.TheVariants.{Less, Equal, Greater}
 use Rattle.std.specs.Ordering.{int_cmp, ordering_reverse}
 use Rattle.std.proofs.lemmas.Cmp.{int_cmp_total}
 use Rattle.values.specs.Row.{Row, value_at}
-use Rattle.values.specs.Condition.{Condition, Compared, Not, And, Or, Compare, Equals, Differs, Below, AtMost, Above, AtLeast, Operand, Field, Number, Column, passes, compared, field, operand, truth, not3, and3, or3}
+use Rattle.values.specs.Condition.{Condition, Compared, Not, And, Or, Compare, Equals, Differs, Below, AtMost, Above, AtLeast, Operand, Field, Number, Column, passes, compared, field, operand, truth}
 use Rattle.lane_kernels.specs.How.{compare_of}
-use Rattle.lane_kernels.specs.Steps.{StepFits, StepsFit, after, after_all, height_after, steps_truth}
+use Rattle.lane_kernels.specs.Steps.{StepsFit, after, after_all}
 use Rattle.lane_kernels.specs.declared.condition.Step.{Step}
 use Rattle.lane_kernels.specs.declared.condition.Step.TheVariants as step
 use Rattle.lane_kernels.proofs.ConditionLemmas.{after_all-append}
-use Rattle.row_nodes.specs.Steps.{comparison, turned, comparison_step, steps_of, truths_needed, OperandIsOver, IsOver, OperandIsOfOne, IsOfOneSource, Place, Whole, InOr, InAnd, open_at_once}
+use Rattle.row_nodes.specs.Steps.{comparison, turned, comparison_step, steps_of, truths_needed, OperandIsOver, IsOver, OperandIsOfOne, IsOfOneSource, Whole, InOr, InAnd, open_at_once}
 
 -- ---- meaning
 pub comparison_means : (how : Compare) → compare_of (comparison how) ≡ how

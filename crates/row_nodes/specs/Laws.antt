@@ -1,5 +1,5 @@
 -- The law of one step of the operators that look at one row at a time.
-use Rattle.std.specs.Prelude.{ℕ, ◌≡◌, Bool, Option, Some, List, [], ◌∷◌, map, filter}
+use Rattle.std.specs.Prelude.{ℕ, ◌≡◌, Bool, Some, List, [], ◌∷◌, map, filter}
 use Rattle.values.specs.Row.{Row}
 use Rattle.values.specs.Condition.{Condition, keeps, truth}
 use Rattle.lane_kernels.specs.Steps.{steps_truth}

@@ -1,5 +1,5 @@
 -- What Project puts out.
-use Rattle.std.specs.Prelude.{ℕ, ◌<◌, Bool, None, List, [], ◌∷◌, map, All}
+use Rattle.std.specs.Prelude.{ℕ, ◌<◌, Bool, List, [], ◌∷◌, map, All}
 use Rattle.values.specs.Row.{Row, value_at}
 use Rattle.column.specs.Rows.{width}
 use Rattle.op_queue.specs.Entries.{Entry, RowAt, TickAt}

@@ -1,5 +1,5 @@
 -- What Select puts out.
-use Rattle.std.specs.Prelude.{ℕ, Bool, List, [], ◌∷◌, map, filter}
+use Rattle.std.specs.Prelude.{Bool, List, [], ◌∷◌, map, filter}
 use Rattle.values.specs.Row.{Row}
 use Rattle.values.specs.Condition.{is_known_true}
 use Rattle.column.specs.Rows.{width}

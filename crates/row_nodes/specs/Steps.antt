@@ -1,5 +1,5 @@
 -- A condition over the rows of one source, as steps in postfix order.
-use Rattle.std.specs.Prelude.{ℕ, suc, ◌+◌, ◌<◌, ◌≡◌, max, ℤ, Bool, List, [], ◌∷◌, ◌++◌}
+use Rattle.std.specs.Prelude.{ℕ, suc, ◌+◌, ◌<◌, ◌≡◌, max, List, [], ◌∷◌, ◌++◌}
 use Rattle.std.specs.Ordering.{int_cmp}
 use Rattle.values.specs.Condition.{Condition, Compared, Not, And, Or, Compare, Equals, Differs, Below, AtMost, Above, AtLeast, Operand, Field, Number, passes}
 use Rattle.lane_kernels.specs.declared.comparison.Comparison.{Comparison}

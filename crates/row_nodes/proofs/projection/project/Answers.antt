@@ -1,6 +1,5 @@
-use Rattle.std.proofs.Common.{ap, ◌∙◌, sym, map}
+use Rattle.std.proofs.Common.{ap, ◌∙◌, map}
 use Rattle.op_queue.specs.Entries.{RowAt}
-use Rattle.row_nodes.specs.Project.{projected}
 use Rattle.row_nodes.proofs.projection.project.Goals as goal
 
 pub returns-in_ok-outs-in-Rows : goal.returns-in_ok-outs-in-Rows

@@ -1,4 +1,4 @@
-use Rattle.std.proofs.Common.{ap, ◌∙◌, sym, map}
+use Rattle.std.proofs.Common.{ap, ◌∙◌}
 use Rattle.std.specs.List.{flat_map}
 use Rattle.op_queue.specs.Items.{entries_of}
 use Rattle.row_nodes.proofs.SelectLemmas.{kept_rows, kept_none}

@@ -1,0 +1,4 @@
+pub mod Widths
+pub mod Range
+pub mod Latest
+pub mod Laws

@@ -1,0 +1,13 @@
+//! The states of windows: what a window holds of its stream, and what its turns put out.
+//!
+//! `RangeWindow` holds the rows of the last instants, or all; `LatestWindow` the last rows of each partition.
+#![tactic(auto)]
+
+mod held;
+mod latest;
+mod outputs;
+mod partitions;
+mod range;
+
+pub use latest::{LatestWindow, latest_work};
+pub use range::{RangeWindow, range_work};

@@ -1,12 +1,12 @@
 -- The law of one step: a bag in order after signed rows is, in order, the bag that they turn it into.
-use Rattle.std.proofs.Common.{◌≡◌, ℕ, zero, suc, ◌+◌, ◌-◌, ◌<◌, ◌≤◌, Bool, true, false, cond, List, [], ◌∷◌, take, refl, ap, sym, ◌∙◌, arith}
+use Rattle.std.proofs.Common.{◌≡◌, ℕ, suc, ◌<◌, Bool, true, false, cond, List, [], ◌∷◌, ap, ◌∙◌, arith}
 use Rattle.values.specs.Row.{Row, row_cmp}
-use Rattle.values.specs.Bag.{copies, without, insert_in_order, in_order}
+use Rattle.values.specs.Bag.{copies, without, in_order}
 use Rattle.values.proofs.Bags.{same_itself}
 use Rattle.values.proofs.Order.{row_order}
-use Rattle.op_queue.specs.Signed.{weigh, gain, loss, up, down, Same, Adds, Legal}
+use Rattle.op_queue.specs.Signed.{weigh, Adds, Legal}
 use Rattle.op_queue.proofs.SignedLemmas.{Same-from_none}
-use Rattle.row_bags.specs.Bags.{one_after, bag_after}
+use Rattle.row_bags.specs.Bags.{bag_after}
 use Rattle.row_bags.proofs.OrderLemmas.{is_copy, copies-weigh, in_order-of_same, weigh-without, without-in_order}
 
 -- THE FIRST OF SOME SIGNED ROWS

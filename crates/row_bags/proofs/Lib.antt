@@ -5,3 +5,4 @@ pub mod FrontLemmas
 pub mod OrderLemmas
 pub mod BagLaws
 pub mod NetLaws
+pub mod EndLemmas

@@ -1,13 +1,13 @@
 -- The law of one step: what entered and left since a bag stood are the two differences of bags, in order.
-use Rattle.std.proofs.Common.{◌≡◌, ℕ, zero, suc, ◌+◌, ◌-◌, ◌<◌, ◌≤◌, Bool, true, false, cond, List, [], ◌∷◌, refl, ap, sym, ◌∙◌, subst, arith}
+use Rattle.std.proofs.Common.{◌≡◌, ℕ, suc, ◌+◌, ◌-◌, ◌<◌, ◌≤◌, Bool, true, false, cond, List, [], ◌∷◌, ap, sym, ◌∙◌, subst, arith}
 use Rattle.values.specs.Row.{Row, row_cmp}
 use Rattle.values.specs.Bag.{is_same, copies, without, bag_minus, insert_in_order, in_order}
-use Rattle.values.proofs.Bags.{same_is, same_itself, in_order-same, copies-without, copies-bag_minus}
+use Rattle.values.proofs.Bags.{same_is, in_order-same, copies-without, copies-bag_minus}
 use Rattle.values.proofs.Order.{row_order}
 use Rattle.op_queue.specs.Signed.{Same, Adds, Legal}
 use Rattle.op_queue.proofs.SignedLemmas.{Same-refl, Same-from_none}
 use Rattle.row_bags.specs.Bags.{is_in}
-use Rattle.row_bags.specs.Nets.{Netted, cancelled, net_after, nets_after}
+use Rattle.row_bags.specs.Nets.{Netted, net_of, net_between, cancelled, net_after, nets_after}
 use Rattle.row_bags.proofs.SpreadLemmas.{by_bool}
 use Rattle.row_bags.proofs.OrderLemmas.{copies-same, is_in-in_order, out-in_order, without-in_order}
 use Rattle.row_bags.proofs.BagLaws.{adds-entered, legal-entered, there, adds-left, legal-left}
@@ -17,10 +17,6 @@ minus = bag_minus row_cmp
 
 abbrev count : Row → List Row → ℕ
 count = copies row_cmp
-
--- what entered and what left from the bag `before` to the bag `now`
-abbrev pub net_between : List Row → List Row → Netted
-net_between before now = record { entered = in_order row_cmp (bag_minus row_cmp now before); left = in_order row_cmp (bag_minus row_cmp before now) }
 
 -- lists in order are one where their counts are
 by_counts : (xs ys : List Row) → ((q : Row) → count q xs ≡ count q ys) → in_order row_cmp xs ≡ in_order row_cmp ys
@@ -40,9 +36,6 @@ at_each r P one none q =
     by_bool (is_same row_cmp q r)
     (λ t. let e : q ≡ r = same_is row_cmp row_order q r t in subst (λ n. P q n) (sym (ap {B = ℕ} (λ b. cond b 1 0) t)) (subst (λ x. P x 1) (sym e) one))
     (λ f. subst (λ n. P q n) (sym (ap {B = ℕ} (λ b. cond b 1 0) f)) (none q))
-
-abbrev pub net_of : List Row → List Row → Netted
-net_of xs ys = record { entered = xs; left = ys }
 
 both : {a b c d : List Row} → a ≡ c → b ≡ d → net_of a b ≡ net_of c d
 both {b = b} {c = c} e f = ap (λ x. net_of x b) e ∙ ap (net_of c) f

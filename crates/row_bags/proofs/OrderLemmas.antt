@@ -1,5 +1,5 @@
 -- Bags in order: their sums and their counts, and one item more or less.
-use Rattle.std.proofs.Common.{◌≡◌, ℕ, zero, suc, ◌+◌, ◌-◌, ◌<◌, ◌≤◌, Bool, true, false, cond, ◌||◌, List, [], ◌∷◌, length, refl, ap, sym, ◌∙◌, arith}
+use Rattle.std.proofs.Common.{◌≡◌, ℕ, zero, suc, ◌+◌, ◌<◌, ◌≤◌, Bool, true, false, cond, ◌||◌, List, [], ◌∷◌, length, refl, ap, sym, ◌∙◌, arith}
 use Rattle.std.specs.declared.cmp.Ordering.{Ordering}
 use Rattle.std.specs.declared.cmp.Ordering.TheVariants.{Less, Equal, Greater}
 use Rattle.std.specs.Ordering.{is_eq, is_gt}
@@ -7,7 +7,6 @@ use Rattle.values.specs.Bag.{IsExactOrder, is_same, is_above, copies, without, b
 use Rattle.values.proofs.Bags.{same_is, same_itself, copies-without_none, in_order_with, in_order-same}
 use Rattle.op_queue.specs.Signed.{weigh, Same}
 use Rattle.row_bags.specs.Bags.{is_in}
-use Rattle.row_bags.proofs.SpreadLemmas.{by_bool}
 
 above_differs : (o : Ordering) → is_gt o ≡ true → is_eq o ≡ false
 above_differs Less h = cc

@@ -1,10 +1,9 @@
 -- The order of the arrays that hold rows, and bags of them, in the words of rows.
-use Rattle.std.proofs.Common.{◌≡◌, ℤ, Bool, true, false, cond, ◌||◌, Option, List, [], ◌∷◌, map, refl, ap, sym, ◌∙◌}
-use Rattle.std.specs.declared.cmp.Ordering.{Ordering}
+use Rattle.std.proofs.Common.{◌≡◌, ℤ, Bool, true, false, cond, ◌||◌, Option, List, [], ◌∷◌, refl, ap}
 use Rattle.std.specs.Ordering.{is_eq, is_gt}
 use Rattle.std.proofs.lemmas.Cmp.{on_total}
 use Rattle.arrayvec.specs.ArrayVec.{ArrayVec}
-use Rattle.values.specs.Row.{Row, row_cmp}
+use Rattle.values.specs.Row.{row_cmp}
 use Rattle.values.specs.Bag.{IsExactOrder, insert_in_order, without}
 use Rattle.values.proofs.Order.{row_order}
 use Rattle.values.proofs.Bags.{without-map}

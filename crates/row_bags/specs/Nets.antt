@@ -1,13 +1,20 @@
 -- What entered and what left, each cut by the other.
-use Rattle.std.specs.Prelude.{Bool, cond, List, [], ◌∷◌, fold}
+use Rattle.std.specs.Prelude.{Bool, cond, List, fold}
 use Rattle.values.specs.Row.{Row, row_cmp}
-use Rattle.values.specs.Bag.{insert_in_order, without}
+use Rattle.values.specs.Bag.{bag_minus, in_order, insert_in_order, without}
 use Rattle.row_bags.specs.Bags.{is_in}
 
 -- two bags in order
 pub record Netted : Type 0 where
   pub entered : List Row
   pub left : List Row
+
+abbrev pub net_of : List Row → List Row → Netted
+net_of xs ys = record { entered = xs; left = ys }
+
+-- what entered and what left from the bag `before` to the bag `now`
+abbrev pub net_between : List Row → List Row → Netted
+net_between before now = record { entered = in_order row_cmp (bag_minus row_cmp now before); left = in_order row_cmp (bag_minus row_cmp before now) }
 
 -- the row is taken from the first bag where it stands there, else it comes to the second
 abbrev pub cancelled : List Row → List Row → Row → List Row × List Row

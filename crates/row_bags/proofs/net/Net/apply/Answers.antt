@@ -1,4 +1,4 @@
-use Rattle.std.proofs.Common.{◌∙◌, ◌+◌, sym, ap, List, length, take, true, [], arith}
+use Rattle.std.proofs.Common.{◌∙◌, ◌+◌, sym, ap, length, take, true, [], arith}
 use Rattle.std.proofs.lemmas.List.Sums.{fold_more}
 use Rattle.column.specs.Rows.{signed}
 use Rattle.row_bags.specs.Nets.{Netted, net_after, nets_after}

@@ -10,6 +10,8 @@ ghost use Rattle.row_bags.specs.Bags.{rows_of};
 ghost use Rattle.to_stream.specs.Turns.{State, shown, near, out, taken, next, HasRoom, HasRoomFor, answers_of};
 ghost use Rattle.to_stream.specs.Law.{Stands, StepLaw};
 
+#[cfg(test)]
+mod tests;
 
 use column::Batch;
 use op_queue::Item;

@@ -1,0 +1,16 @@
+//! Bags of rows, kept in order by the count of each row.
+//!
+//! A `RowBag` is seen as the list of its rows in order, with their repeats. A `Net` is what entered and what left since it was
+//! new, each cut by the other. What enters, leaves or is looked up costs a logarithm of the number of rows that differ.
+//!
+//! The theory of `proofs/BagLaws.antt` and `proofs/NetLaws.antt` says what these lists are of the bags that signed rows turn
+//! into one another.
+#![tactic(auto)]
+
+mod net;
+mod row_bag;
+#[cfg(test)]
+mod tests;
+
+pub use net::Net;
+pub use row_bag::{RowBag, begins_with, copy_row};

@@ -1,0 +1,29 @@
+-- What a root's state stands for, and the law of one step.
+use Rattle.std.specs.Prelude.{◌≡◌, List, map}
+use Rattle.values.specs.Row.{Row, row_cmp}
+use Rattle.values.specs.Bag.{in_order}
+use Rattle.values.specs.Answers.{streamed}
+use Rattle.values.specs.Resolved.{operator_of}
+use Rattle.values.specs.declared.resolved.Operator.{Operator}
+use Rattle.values.specs.declared.resolved.Operator.TheVariants.{Istream, Dstream, Rstream}
+use Rattle.op_queue.specs.Signed.{Adds, Legal}
+use Rattle.op_queue.specs.declared.item.Item.{Item}
+use Rattle.op_queue.specs.declared.item.Item.TheVariants.{Rows, Tick}
+use Rattle.row_bags.specs.Nets.{net_between}
+use Rattle.to_stream.specs.Turns.{State, near, out}
+
+-- `before` is the relation that was taken at the last tick, `now` the one that is taken
+abbrev pub StandsAs : Operator → State → List Row → List Row → Type 0
+StandsAs Istream s before now = s.net ≡ net_between before now
+StandsAs Dstream s before now = s.net ≡ net_between before now
+StandsAs Rstream s before now = s.whole ≡ in_order row_cmp now
+
+pub record Stands (s : State) (before now : List Row) : Type 0 where
+  pub stands : StandsAs s.operator s before now
+
+-- after rows the state stands for the relation with them; at a tick the answers are those of the definition, and the relation now is that of the instant before
+abbrev pub StepLaw : State → Item → State → Type 0
+StepLaw s (Rows t b) new = (before now after : List Row) → Stands s before now → Legal now b → Adds now b after → Stands new before after
+StepLaw s (Tick t) new =
+    (before now : List Row) → Stands s before now
+    → (out (Tick t) (near s (Tick t)) ≡ map (λ r. (t, r)) (in_order row_cmp (streamed (operator_of s.operator) before now))) × Stands new now now

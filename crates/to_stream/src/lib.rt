@@ -1,0 +1,142 @@
+//! The roots of queries: the operators Istream, Dstream and Rstream, which make a stream of a relation.
+//!
+//! A root takes the signed rows of its relation, and at the tick of an instant answers with rows in order, each with the
+//! instant: with what the relation has beyond that of the instant before (Istream), with what it has lost of it (Dstream), or
+//! with the whole (Rstream). What a turn needs of the state is `near`, what it puts out is `work`, and `apply` is the change.
+#![tactic(auto)]
+
+ghost use Rattle.std.specs.Prelude.{◌≡◌, [], map, IfOk, OnOk};
+ghost use Rattle.row_bags.specs.Bags.{rows_of};
+ghost use Rattle.to_stream.specs.Turns.{State, shown, near, out, taken, next, HasRoom, HasRoomFor, answers_of};
+ghost use Rattle.to_stream.specs.Law.{Stands, StepLaw};
+
+#[cfg(test)]
+mod tests;
+
+use column::Batch;
+use op_queue::Item;
+use row_bags::{Net, RowBag, copy_row};
+use std::alloc::{AllocError, Global};
+use std::marker::Model;
+use values::{Operator, Row};
+
+/// The state of a root: what entered and left since the last tick (Istream and Dstream), or the whole relation (Rstream).
+#[derive(Drop)]
+pub struct ToStream {
+    operator: Operator,
+    net: Net,
+    whole: RowBag,
+    alloc: Global,
+}
+
+impl Model for ToStream {
+    ghost use Rattle.to_stream.specs.Turns.{State as RootState};
+
+    ghost Value = { RootState };
+
+    ghost view = { λ r. record { operator = r.operator; net = r.net; whole = r.whole } };
+}
+
+impl ToStream {
+    /// A root that has taken nothing.
+    pub fn new(alloc: Global, operator: Operator) -> ToStream
+        ensures state { result ≡ record { operator = operator; net = record { entered = []; left = [] }; whole = [] } }
+        ensures stands { Stands result [] [] }
+    {
+        ToStream {
+            operator,
+            net: Net::new(alloc),
+            whole: RowBag::new(alloc),
+            alloc,
+        }
+    }
+
+    /// What a turn needs of the state: at a tick the rows that answer, in order. It costs as much as these.
+    pub fn near(&self, alloc: Global, item: &Item) -> Result<Vec<Row>, AllocError>
+        ensures { IfOk result (λ rows. rows_of rows.items ≡ near self.now item.now) }
+    {
+        match item {
+            Item::Rows(_, _) => Ok(Vec::new(alloc)),
+            Item::Tick(_) => {
+                let rows = self.shown(alloc)?;
+                Ok(rows)
+            }
+        }
+    }
+
+    /// The state after the item. After an error it can only be dropped: some of the rows may have been taken in.
+    pub fn apply(&mut self, item: &Item) -> Result<(), AllocError>
+        requires { HasRoom self.old item.now }
+        ensures state { OnOk result (self.new ≡ next self.old item.now) }
+        ensures law { OnOk result (StepLaw self.old item.now self.new) }
+    {
+        self.step(item)?;
+        Ok(())
+    }
+
+    /// The rows that answer at a tick, in order.
+    fn shown(&self, alloc: Global) -> Result<Vec<Row>, AllocError>
+        ensures { IfOk result (λ rows. rows_of rows.items ≡ shown self.now.operator self.now) }
+    {
+        match self.operator {
+            Operator::Istream => {
+                let rows = self.net.entered(alloc)?;
+                Ok(rows)
+            }
+            Operator::Dstream => {
+                let rows = self.net.left(alloc)?;
+                Ok(rows)
+            }
+            Operator::Rstream => {
+                let rows = self.whole.rows(alloc)?;
+                Ok(rows)
+            }
+        }
+    }
+
+    fn step(&mut self, item: &Item) -> Result<(), AllocError>
+        requires { HasRoom self.old item.now }
+        ensures { OnOk result (self.new ≡ next self.old item.now) }
+    {
+        match item {
+            Item::Rows(_, batch) => self.take(batch)?,
+            Item::Tick(_) => self.net = Net::new(self.alloc),
+        }
+        Ok(())
+    }
+
+    fn take(&mut self, batch: &Batch) -> Result<(), AllocError>
+        requires { HasRoomFor self.old batch.now }
+        ensures { OnOk result (self.new ≡ taken self.old.operator self.old batch.now) }
+    {
+        match self.operator {
+            Operator::Istream => self.net.apply(batch)?,
+            Operator::Dstream => self.net.apply(batch)?,
+            Operator::Rstream => self.whole.apply(batch)?,
+        }
+        Ok(())
+    }
+}
+
+/// The answers of a turn, each a row with the item's instant; they wait from then on. Rows alone answer nothing.
+pub fn work(alloc: Global, item: &Item, near: &[Row]) -> Result<Vec<(u64, Row)>, AllocError>
+    ensures { IfOk result (λ answers. answers_of answers.items ≡ out item.now (rows_of near.now)) }
+{
+    match item {
+        Item::Rows(_, _) => Ok(Vec::new(alloc)),
+        Item::Tick(at) => {
+            let answers = at_instant(alloc, *at, near)?;
+            Ok(answers)
+        }
+    }
+}
+
+fn at_instant(alloc: Global, at: u64, rows: &[Row]) -> Result<Vec<(u64, Row)>, AllocError>
+    ensures { IfOk result (λ answers. answers_of answers.items ≡ map (λ r. (at, r)) (rows_of rows.now)) }
+{
+    let mut answers = Vec::new(alloc);
+    for row in rows {
+        answers.push((at, copy_row(row)))?;
+    }
+    Ok(answers)
+}

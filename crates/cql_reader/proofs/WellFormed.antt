@@ -1,5 +1,5 @@
 -- A query that is read is well formed.
-use Rattle.std.proofs.Common.{◌≡◌, refl, ℕ, zero, suc, ◌<◌, ◌≤◌, Bool, true, not, ◌&&◌, nat_lt, int_lt, ℤ, pos, negsuc, nat_abs, List, [], ◌∷◌, ◌++◌, length, Option, Some, None, Result, Ok, sym, ap, ◌∙◌, inl, inr, subst, arith, All as Each'}
+use Rattle.std.proofs.Common.{◌≡◌, refl, ℕ, zero, suc, ◌<◌, ◌≤◌, Bool, true, not, ◌&&◌, nat_lt, int_lt, ℤ, pos, negsuc, nat_abs, List, [], ◌∷◌, ◌++◌, Result, Ok, sym, ap, ◌∙◌, inl, inr, subst, arith, All as Each'}
 use Rattle.std.proofs.lemmas.Bool.{and_parts, ltb-true, lt-ltb, cases_lt, false≢true}
 use Rattle.std.proofs.lemmas.Int.{ints}
 use Rattle.values.specs.Value.{IsStreamNumber}
@@ -12,7 +12,7 @@ use Rattle.cql_reader.specs.Lexis.{number_of}
 use Rattle.cql_reader.specs.Tokens.{Token}
 use Rattle.cql_reader.specs.Fault.{Fault}
 use Rattle.cql_reader.specs.Query.{Query, Source, Entry, Reference, Window, Condition}
-use Rattle.cql_reader.specs.Grammar.{Draft, Strict, in_span, in_rows, in_stream, in_range, may_open, allowed, took, did, listed, last_standing, partitioned, negated, conjoined, disjoined, Derives, nothing, read, emit, rule, finished}
+use Rattle.cql_reader.specs.Grammar.{Draft, Strict, in_span, in_rows, in_stream, in_range, may_open, allowed, took, did, listed, last_standing, partitioned, negated, conjoined, disjoined, Derives, nothing, read, emit, rule}
 use Rattle.cql_reader.specs.Reading.{IsAnswer, reading}
 use Rattle.cql_reader.specs.WellFormed.{HasItems, IsRowCount, IsGoodWindow, IsGoodOperand, IsGoodCondition, IsGoodWhere, IsWellFormed}
 use Rattle.cql_reader.proofs.OneAnswer.{reading_right}

@@ -53,12 +53,12 @@ unfolding reading all_ascii parsed scan token_at word_kind kind_in reserved same
 partitioned_by = refl
 
 a_list : reading (codes "Select Istream(Distinct k As j, Count(*), Sum(S.v)) From S Group By k, v") ≡ Ok (record {
-    operator = Istream;
-    is_distinct = true;
-    entries = Each (Column (named (codes "k")) ∷ CountAll ∷ Sum (of (codes "S") (codes "v")) ∷ []);
-    sources = from_S Unbounded None ∷ [];
-    condition = None;
-    group = named (codes "k") ∷ named (codes "v") ∷ [];
+  operator = Istream;
+  is_distinct = true;
+  entries = Each (Column (named (codes "k")) ∷ CountAll ∷ Sum (of (codes "S") (codes "v")) ∷ []);
+  sources = from_S Unbounded None ∷ [];
+  condition = None;
+  group = named (codes "k") ∷ named (codes "v") ∷ [];
 })
 unfolding reading all_ascii parsed scan token_at word_kind kind_in reserved same_letters same_bytes run count chosen pick firsts ends has first nullable alternatives kind_of in_range deepens took did decimal number_of
 a_list = refl
@@ -92,12 +92,12 @@ unfolding reading all_ascii parsed scan token_at word_kind kind_in reserved same
 a_third_source = refl
 
 room_for_more : reading (codes "Select Istream(a) From S Where ((((((((((((((((((((((((((((((((a > 0))))))))))))))))))))))))))))))))") ≡ Ok (record {
-    operator = Istream;
-    is_distinct = false;
-    entries = Each (Column (named (codes "a")) ∷ []);
-    sources = from_S Unbounded None ∷ [];
-    condition = Some (test (codes "a") Above (Number (pos 0)));
-    group = [];
+  operator = Istream;
+  is_distinct = false;
+  entries = Each (Column (named (codes "a")) ∷ []);
+  sources = from_S Unbounded None ∷ [];
+  condition = Some (test (codes "a") Above (Number (pos 0)));
+  group = [];
 })
 unfolding reading all_ascii parsed scan token_at word_kind kind_in reserved same_letters same_bytes run count chosen pick firsts ends has first nullable alternatives kind_of in_range deepens took did decimal number_of
 room_for_more = refl

@@ -1,7 +1,7 @@
 -- What holds for each query that is read.
-use Rattle.std.specs.Prelude.{ℕ, ◌<◌, ◌≤◌, Option, Some, None, List, length, All as Each'}
+use Rattle.std.specs.Prelude.{ℕ, ◌<◌, ◌≤◌, Option, Some, None, length, All as Each'}
 use Rattle.values.specs.Value.{IsStreamNumber}
-use Rattle.cql_reader.specs.Query.{Query, Source, Entries, All, Each, Window, Now, Range, Unbounded, Rows, Partition, Operand, Named, Number, Condition, Compared, Not, And, Or}
+use Rattle.cql_reader.specs.Query.{Query, Entries, All, Each, Window, Now, Range, Unbounded, Rows, Partition, Operand, Named, Number, Condition, Compared, Not, And, Or}
 use Rattle.cql_reader.specs.declared.TheConstants.{MAX_SOURCES}
 
 -- a list that is given item by item has one

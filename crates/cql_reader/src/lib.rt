@@ -2,8 +2,9 @@
 //!
 //! `read` answers with a query exactly for the texts of the grammar, and otherwise with the first fault from the left and
 //! the byte at which it stands. The language is that of CQL (Arasu, Babu and Widom, "The CQL continuous query language",
-//! 2006): `Select Istream(*) From S [Range 10]`. The grammar is a table, `specs/Grammar.antt`; a stack machine is driven by
-//! that table, and one theory shows, for any table that one token of lookahead decides, that the machine is right.
+//! 2006): `Select Istream(k, Count(*)) From S [Range 10] Where v > 3 Group By k`. The grammar is a table,
+//! `specs/Grammar.antt`; a stack machine is driven by that table, and one theory shows, for any table that one token of
+//! lookahead decides, that the machine is right.
 #![tactic(auto)]
 
 ghost use Rattle.std.specs.Prelude.{◌≡◌};
@@ -37,6 +38,9 @@ pub use words::is_name;
 /// The most bytes that a query text has.
 pub const MAX_TEXT: usize = 4096;
 
+/// The most `(` and `Not` of a condition that are open at once.
+pub const MAX_DEPTH: usize = 32;
+
 /// The most sources that a query has.
 pub const MAX_SOURCES: usize = 2;
 
@@ -55,7 +59,7 @@ pub enum ReadFault {
     Unexpected(usize),
     /// The number is outside the range of its place.
     NumberRange(usize),
-    /// The `(` or `Not` of the condition is the 33rd that is open.
+    /// The `(` or `Not` of the condition is one more than `MAX_DEPTH` that are open.
     TooDeep(usize),
 }
 

@@ -5,7 +5,7 @@ ghost use Rattle.cql_reader.specs.Lexis.{number_of};
 ghost use Rattle.cql_reader.specs.Grammar.{in_range, in_span, in_rows, in_stream, may_open};
 ghost use Rattle.cql_reader.specs.Prediction.{ahead, stopped, parsed};
 ghost use Rattle.cql_reader.specs.Tokens.{scan_from};
-ghost use Rattle.cql_reader.specs.Coded.{ReadsDraft, IsInside, IsRead, rest_of, told};
+ghost use Rattle.cql_reader.specs.Coded.{ReadsDraft, Inside, IsInside, IsAdmitted, IsRead, rest_of, told};
 ghost use Rattle.cql_reader.specs.Reading.{Reads, reading};
 ghost use Rattle.cql_reader.specs.Views.{query_of};
 ghost use Rattle.cql_reader.specs.WellFormed.{IsWellFormed};
@@ -14,11 +14,11 @@ use crate::build::Draft;
 use crate::bytes::is_ascii;
 use crate::choice::{choose, kind_of_role};
 use crate::numbers::number_in;
+use crate::query::Query;
 use crate::scan::next_token;
 use crate::symbols::{Part, Role, Symbol};
 use crate::tokens::{Kind, Token};
-use crate::query::Query;
-use crate::{MAX_TEXT, ReadFault};
+use crate::{MAX_DEPTH, MAX_TEXT, ReadFault};
 use std::alloc::{AllocError, Global};
 
 // Whether the number of a token is one of a range's.
@@ -65,7 +65,7 @@ fn is_shallow(role: Role, depth: usize) -> bool
     ensures { result ≡ may_open role depth }
 {
     match role {
-        Role::Deeper(_) => depth < 32,
+        Role::Deeper(_) => depth < MAX_DEPTH,
         _ => true,
     }
 }
@@ -99,7 +99,24 @@ fn unexpected(text: &[u8], next: Option<Token>) -> ReadFault
     }
 }
 
-// The next token, which is to be of this role where so many `(` and `Not` are open.
+// A token that is to be of this role where so many `(` and `Not` are open.
+fn admitted(text: &[u8], token: Token, role: Role, depth: usize) -> Result<(), ReadFault>
+    requires { Inside text.now token }
+    ensures { IsAdmitted text.now token role depth result }
+{
+    if token.kind != kind_of_role(role) {
+        return Err(ReadFault::Unexpected(token.from));
+    }
+    if !is_in_range(role, &text[token.from..token.to]) {
+        return Err(ReadFault::NumberRange(token.from));
+    }
+    if !is_shallow(role, depth) {
+        return Err(ReadFault::TooDeep(token.from));
+    }
+    Ok(())
+}
+
+// The next token, which is to be of this role.
 fn expected(text: &[u8], next: Option<Token>, role: Role, depth: usize) -> Result<Token, ReadFault>
     requires { IsInside text.now next }
     ensures { IsRead text.now next role depth result }
@@ -107,15 +124,7 @@ fn expected(text: &[u8], next: Option<Token>, role: Role, depth: usize) -> Resul
     match next {
         None => Err(ReadFault::Unexpected(text.len())),
         Some(token) => {
-            if token.kind != kind_of_role(role) {
-                return Err(ReadFault::Unexpected(token.from));
-            }
-            if !is_in_range(role, &text[token.from..token.to]) {
-                return Err(ReadFault::NumberRange(token.from));
-            }
-            if !is_shallow(role, depth) {
-                return Err(ReadFault::TooDeep(token.from));
-            }
+            admitted(text, token, role, depth)?;
             Ok(token)
         }
     }

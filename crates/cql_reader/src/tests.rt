@@ -224,7 +224,8 @@ fn is_item(entry: &Entry, kind: &str, source: &str, name: &str) -> bool {
 
 #[test]
 fn lists_and_groups_are_read(rt: HostRuntime) {
-    let text = "Rstream(Select Distinct k As j, S.k, Count(*), Count(k), Sum(v) As k, Min(S.v), Max(v) From S Group By k, S.v)";
+    let text =
+        "Rstream(Select Distinct k As j, S.k, Count(*), Count(k), Sum(v) As k, Min(S.v), Max(v) From S Group By k, S.v)";
     let items = [
         ("", "", "k"),
         ("", "S", "k"),
@@ -283,7 +284,8 @@ fn conditions_are_read(rt: HostRuntime) {
 
 #[test]
 fn parentheses_and_not_are_read(rt: HostRuntime) {
-    let text = "Istream(Select * From S Where a < 1 And b <= 2 And Not (c > 1099511627775 Or d >= -1099511627775))";
+    let text =
+        "Istream(Select * From S Where a < 1 And b <= 2 And Not (c > 1099511627775 Or d >= -1099511627775))";
     let query = read(rt.alloc(), text.as_bytes()).expect(&rt, text);
     match &query.condition {
         Some(Condition::And(front, last)) => {

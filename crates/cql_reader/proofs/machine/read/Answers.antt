@@ -1,4 +1,4 @@
-use Rattle.std.proofs.Common.{◌≡◌, ◌∙◌, ℕ, length, sym, ap, subst, arith, Result, Ok}
+use Rattle.std.proofs.Common.{◌∙◌, sym, ap, subst, arith, Result, Ok}
 use Rattle.std.proofs.lemmas.Result.{err_from_is_err_and}
 use Rattle.cql_reader.specs.Fault.{Fault}
 use Rattle.cql_reader.specs.Query.{Query}

@@ -1,4 +1,4 @@
-use Rattle.std.proofs.Common.{◌≡◌, ◌<◌, sym, ap, ◌∙◌, arith, subst, true, nat_lt, w64, to_z, of_z}
+use Rattle.std.proofs.Common.{◌≡◌, ◌<◌, ◌∙◌, arith, subst, true, w64, to_z, of_z}
 use Rattle.std.proofs.lemmas.Int.{ints}
 use Rattle.std.proofs.lemmas.Bool.{ltb-true}
 use Rattle.cql_reader.specs.declared.symbols.Role.{Role}

@@ -89,20 +89,14 @@ IsNext text rest (Err (faults.Unexpected place)) = ⊥
 IsNext text rest (Err (faults.NumberRange place)) = ⊥
 IsNext text rest (Err (faults.TooDeep place)) = ⊥
 
--- what is told where a token is asked to be of a role, and so many ( and Not are open
-abbrev pub IsAdmitted : List ℕ → CodedToken → Role → ℕ → Result (Unit {0}) ReadFault → Type 0
-IsAdmitted text t role depth (Ok done) =
-    (t.kind ≡ kind_of role) × (in_range role (number_of (token_of text t).bytes) ≡ true) × (may_open role depth ≡ true)
-IsAdmitted text t role depth (Err (faults.Unexpected place)) = (place ≡ t.«from») × (t.kind ≡ kind_of role → ⊥)
-IsAdmitted text t role depth (Err (faults.NumberRange place)) =
-    (place ≡ t.«from») × (t.kind ≡ kind_of role) × (in_range role (number_of (token_of text t).bytes) ≡ false)
-IsAdmitted text t role depth (Err (faults.TooDeep place)) =
-    (place ≡ t.«from») × (t.kind ≡ kind_of role) × (in_range role (number_of (token_of text t).bytes) ≡ true) × (may_open role depth ≡ false)
-IsAdmitted text t role depth (Err fault) = ⊥
-
--- what is told where the next token is asked to be of it
+-- what is told where the next token is asked to be of a role, and so many ( and Not are open
 abbrev pub IsRead : List ℕ → Option CodedToken → Role → ℕ → Result CodedToken ReadFault → Type 0
-IsRead text None role depth (Ok t) = ⊥
-IsRead text None role depth (Err fault) = fault ≡ faults.Unexpected (length text)
-IsRead text (Some next) role depth (Ok t) = (next ≡ t) × IsAdmitted text t role depth (Ok tt)
-IsRead text (Some next) role depth (Err fault) = IsAdmitted text next role depth (Err fault)
+IsRead text next role depth (Ok t) =
+    (next ≡ Some t) × (t.kind ≡ kind_of role) × (in_range role (number_of (token_of text t).bytes) ≡ true) × (may_open role depth ≡ true)
+IsRead text None role depth (Err (faults.Unexpected place)) = place ≡ length text
+IsRead text (Some t) role depth (Err (faults.Unexpected place)) = (place ≡ t.«from») × (t.kind ≡ kind_of role → ⊥)
+IsRead text (Some t) role depth (Err (faults.NumberRange place)) =
+    (place ≡ t.«from») × (t.kind ≡ kind_of role) × (in_range role (number_of (token_of text t).bytes) ≡ false)
+IsRead text (Some t) role depth (Err (faults.TooDeep place)) =
+    (place ≡ t.«from») × (t.kind ≡ kind_of role) × (in_range role (number_of (token_of text t).bytes) ≡ true) × (may_open role depth ≡ false)
+IsRead text next role depth (Err fault) = ⊥

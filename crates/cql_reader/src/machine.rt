@@ -1,11 +1,11 @@
 // The machine: a stack of symbols, of which the top tells what to do with the next token.
 
-ghost use Rattle.std.specs.Prelude.{◌≡◌, ◌<◌, ◌++◌, true, reverse, length, IfOk, OnOk};
+ghost use Rattle.std.specs.Prelude.{◌≡◌, ◌<◌, ◌++◌, ◌↔◌, true, reverse, IfOk, IsTrue, OnOk};
 ghost use Rattle.cql_reader.specs.Lexis.{number_of};
-ghost use Rattle.cql_reader.specs.Grammar.{in_range, in_span, in_rows, in_stream, may_open};
+ghost use Rattle.cql_reader.specs.Grammar.{kind_of, in_range, in_span, in_rows, in_stream, may_open};
 ghost use Rattle.cql_reader.specs.Prediction.{ahead, stopped, parsed};
 ghost use Rattle.cql_reader.specs.Tokens.{scan_from};
-ghost use Rattle.cql_reader.specs.Coded.{ReadsDraft, Inside, IsInside, IsAdmitted, IsRead, rest_of, told};
+ghost use Rattle.cql_reader.specs.Coded.{ReadsDraft, IsInside, IsRead, rest_of, told};
 ghost use Rattle.cql_reader.specs.Reading.{Reads, reading};
 ghost use Rattle.cql_reader.specs.Views.{query_of};
 ghost use Rattle.cql_reader.specs.WellFormed.{IsWellFormed};
@@ -99,24 +99,14 @@ fn unexpected(text: &[u8], next: Option<Token>) -> ReadFault
     }
 }
 
-// A token that is to be of this role where so many `(` and `Not` are open.
-fn admitted(text: &[u8], token: Token, role: Role, depth: usize) -> Result<(), ReadFault>
-    requires { Inside text.now token }
-    ensures { IsAdmitted text.now token role depth result }
+// Whether a token of this kind may have the role.
+fn is_of(kind: Kind, role: Role) -> bool
+    ensures { IsTrue result ↔ kind ≡ kind_of role }
 {
-    if token.kind != kind_of_role(role) {
-        return Err(ReadFault::Unexpected(token.from));
-    }
-    if !is_in_range(role, &text[token.from..token.to]) {
-        return Err(ReadFault::NumberRange(token.from));
-    }
-    if !is_shallow(role, depth) {
-        return Err(ReadFault::TooDeep(token.from));
-    }
-    Ok(())
+    kind == kind_of_role(role)
 }
 
-// The next token, which is to be of this role.
+// The next token, which is to be of this role where so many `(` and `Not` are open.
 fn expected(text: &[u8], next: Option<Token>, role: Role, depth: usize) -> Result<Token, ReadFault>
     requires { IsInside text.now next }
     ensures { IsRead text.now next role depth result }
@@ -124,7 +114,15 @@ fn expected(text: &[u8], next: Option<Token>, role: Role, depth: usize) -> Resul
     match next {
         None => Err(ReadFault::Unexpected(text.len())),
         Some(token) => {
-            admitted(text, token, role, depth)?;
+            if !is_of(token.kind, role) {
+                return Err(ReadFault::Unexpected(token.from));
+            }
+            if !is_in_range(role, &text[token.from..token.to]) {
+                return Err(ReadFault::NumberRange(token.from));
+            }
+            if !is_shallow(role, depth) {
+                return Err(ReadFault::TooDeep(token.from));
+            }
             Ok(token)
         }
     }

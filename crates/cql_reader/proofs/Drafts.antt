@@ -1,17 +1,16 @@
 -- What the program's draft says after a token.
-use Rattle.std.proofs.Common.{◌≡◌, ℕ, List, sym, ap, ◌∙◌, nat_abs}
+use Rattle.std.proofs.Common.{◌≡◌, ℕ, ℤ, List, sym, ap, ◌∙◌}
 use Rattle.cql_reader.specs.declared.symbols.Role.{Role}
 use Rattle.cql_reader.specs.declared.symbols.Role.TheVariants as r
-use Rattle.cql_reader.specs.declared.Window.TheVariants as windows
-use Rattle.cql_reader.specs.declared.build.Draft.{Draft as CodedDraft}
 use Rattle.cql_reader.specs.Lexis.{number_of}
-use Rattle.cql_reader.specs.Query.{Range}
-use Rattle.cql_reader.specs.Grammar.{Draft, took}
-use Rattle.cql_reader.specs.Coded.{draft_of}
+use Rattle.cql_reader.specs.Query.{Number}
+use Rattle.cql_reader.specs.Grammar.{Draft, Terms, sided, took}
 
-pub take_range : (d : CodedDraft) (role : Role) (bytes : List ℕ) (n : ℕ) → role ≡ r.Range → n ≡ nat_abs (number_of bytes) → draft_of (record { operator = d.operator; sources = d.sources; source = record { stream = d.source.stream; window = windows.Range n; alias = d.source.alias } }) ≡ took role bytes (draft_of d)
+-- the draft with these terms
+abbrev pub termed : Draft → Terms → Draft
+termed d t = record d { terms = t }
+
+pub take_number : (d : Draft) (t : Terms) (role : Role) (bytes : List ℕ) (z : ℤ) → role ≡ r.Number → z ≡ number_of bytes → t ≡ sided (Number z) d.terms → termed d t ≡ took role bytes d
 unfolding took
-take_range d role bytes n e h =
-    let D : Draft = draft_of d in
-    let f : ℕ → Draft = λ v. record { operator = D.operator; sources = D.sources; source = record { stream = D.source.stream; window = Range v; alias = D.source.alias }; depth = 0 } in
-    ap f h ∙ sym (ap (λ (v : Role). took v bytes D) e)
+take_number d t role bytes z e h q =
+    ap (termed d) (q ∙ ap (λ (v : ℤ). sided (Number v) d.terms) h) ∙ sym (ap (λ (v : Role). took v bytes d) e)

@@ -12,4 +12,5 @@ pub mod Scans
 pub mod Steps
 pub mod Texts
 pub mod Theory
+pub mod WellFormed
 pub mod WordFacts

@@ -7,8 +7,8 @@ use Rattle.cql_reader.specs.declared.symbols.Symbol.{Symbol}
 use Rattle.cql_reader.specs.Lexis.{is_blank, token_at, all_ascii}
 use Rattle.cql_reader.specs.Tokens.{Token, end_of, Blank, Stands, Tokens, NoToken, scan_from}
 use Rattle.cql_reader.specs.Query.{Query}
-use Rattle.cql_reader.specs.Fault.{Fault, TextTooLong, NotAscii, BadToken, Unexpected, NumberRange}
-use Rattle.cql_reader.specs.Grammar.{Draft, Level, Shape, Ranged, Strict, Derives, nothing, read, emit, rule, IsQuery, Begins, Fails, finished}
+use Rattle.cql_reader.specs.Fault.{Fault, TextTooLong, NotAscii, BadToken, Unexpected, NumberRange, TooDeep}
+use Rattle.cql_reader.specs.Grammar.{Draft, Level, Shape, Ranged, Strict, allowed, Derives, nothing, read, emit, rule, IsQuery, Begins, Fails, finished}
 use Rattle.cql_reader.specs.Prediction.{parsed}
 use Rattle.cql_reader.specs.Reading.{Fine, Names, OddByte, OddToken, TooShort, Outside, IsAnswer, judged, reading}
 use Rattle.cql_reader.proofs.Ascii.{each_ascii, some_not_ascii}
@@ -182,6 +182,16 @@ weaken level (read {role = role} {d = d} {t = t} e a q) = read e (allowed_strict
 weaken level (emit q) = emit (weaken level q)
 weaken level (rule ys a q) = rule ys a (weaken level q)
 
+to_shape : {level : Level} {xs : List Symbol} {d : Draft} {ts : List Token} {d' : Draft} → Derives level xs d ts d' → Derives Shape xs d ts d'
+unfolding allowed
+to_shape nothing = nothing
+to_shape (read e a q) = read e refl (to_shape q)
+to_shape (emit q) = emit (to_shape q)
+to_shape (rule ys a q) = rule ys a (to_shape q)
+
+begins_shape : (level : Level) (ts : List Token) → Begins level ts → Begins Shape ts
+begins_shape level ts b = (b.0, (b.1.0, to_shape b.1.1))
+
 begins_front : (level : Level) (ts us : List Token) → Front ts us → Begins Strict us → Begins level ts
 begins_front level ts us f b =
     (f.more ++ b.0, (b.1.0, weaken level (subst (λ (v : List Token). IsQuery Strict v b.1.0) (ap (λ (v : List Token). v ++ b.0) f.same ∙ append_assoc ts f.more b.0) b.1.1)))
@@ -244,8 +254,8 @@ stop_short text place o = record { spelled = o.spelled; stops = inl refl; before
 barrier_token : (text : List ℕ) (place : ℕ) (o : OddToken text place) → Barrier Shape text o.tokens o.t
 barrier_token text place o = record { spelled = o.spelled; before = o.before; fault = o.fault }
 
-barrier_outside : (text : List ℕ) (place : ℕ) (o : Outside Shape Ranged text place) → Barrier Ranged text o.tokens o.t
-barrier_outside text place o = record { spelled = o.spelled; before = o.before; fault = o.fault }
+barrier_outside : (fine bad : Level) (text : List ℕ) (place : ℕ) (o : Outside fine bad text place) → Barrier bad text o.tokens o.t
+barrier_outside fine bad text place o = record { spelled = o.spelled; before = o.before; fault = o.fault }
 
 -- a byte at which no token begins is not the end
 not_end : (text : List ℕ) (place : ℕ) → NoToken text place → place ≡ length text → ⊥
@@ -254,10 +264,24 @@ not_end text place n e = let w = n.within in omega arith
 short_of_none : (text : List ℕ) (place : ℕ) (d : Draft) (ts : List Token) (s : TooShort text place) → ts ≡ s.tokens → IsQuery Strict ts d → ⊥
 short_of_none text place d ts s e q = s.fault d (subst (λ (v : List Token). IsQuery Shape v d) e (weaken Shape q))
 
-still_or_fault : (text : List ℕ) (place place' : ℕ) (x : OddToken text place) (y : Outside Shape Ranged text place') → ⊥
-still_or_fault text place place' x y =
-    let e = same_barrier Shape Ranged text x.tokens y.tokens x.t y.t (barrier_token text place x) (barrier_outside text place' y) in
-    x.fault (subst (λ (v : List Token). Begins Shape v) (sym e) y.still)
+still_or_fault : (fine bad : Level) (text : List ℕ) (place place' : ℕ) (x : OddToken text place) (y : Outside fine bad text place') → ⊥
+still_or_fault fine bad text place place' x y =
+    let e = same_barrier Shape bad text x.tokens y.tokens x.t y.t (barrier_token text place x) (barrier_outside fine bad text place' y) in
+    x.fault (subst (λ (v : List Token). Begins Shape v) (sym e) (begins_shape fine (y.tokens ++ y.t ∷ []) y.still))
+
+range_or_depth : (text : List ℕ) (place place' : ℕ) (x : Outside Shape Ranged text place) (y : Outside Ranged Strict text place') → ⊥
+range_or_depth text place place' x y =
+    let e = same_barrier Ranged Strict text x.tokens y.tokens x.t y.t (barrier_outside Shape Ranged text place x) (barrier_outside Ranged Strict text place' y) in
+    x.fault (subst (λ (v : List Token). Begins Ranged v) (sym e) y.still)
+
+same_outside : (fine bad : Level) (text : List ℕ) (place place' : ℕ) (x : Outside fine bad text place) (y : Outside fine bad text place') → place ≡ place'
+same_outside fine bad text place place' x y =
+    let e = same_barrier bad bad text x.tokens y.tokens x.t y.t (barrier_outside fine bad text place x) (barrier_outside fine bad text place' y) in
+    same_place x.tokens y.tokens x.t y.t place place' e x.here y.here
+
+-- a token outside is no byte at which none begins, no end of a query, and no end of the text
+stop_or_outside : (fine bad : Level) (text : List ℕ) (ts : List Token) (a place : ℕ) → Stop text ts a → Outside fine bad text place → ⊥
+stop_or_outside fine bad text ts a place p y = stop_or_barrier bad text ts y.tokens a y.t p (barrier_outside fine bad text place y)
 
 -- an answer that is right is the one that is found
 one_final : (text : List ℕ) (a : Result Query Fault) (o : Result Draft Fault) → Fine text → IsAnswer text a → Final text o → a ≡ judged o
@@ -278,8 +302,6 @@ one_final text (Ok query) (Err (Unexpected place)) fine x (inl y) =
 one_final text (Ok query) (Err (Unexpected place)) fine x (inr y) =
     let s = same_stop text x.1.tokens y.tokens (length text) (length text) (stop_names text query x.1) (stop_short text place y) in
     absurd (short_of_none text place x.1.draft x.1.tokens y s.0 x.1.derived)
-one_final text (Ok query) (Err (NumberRange place)) fine x y =
-    absurd (stop_or_barrier Ranged text x.1.tokens y.tokens (length text) y.t (stop_names text query x.1) (barrier_outside text place y))
 one_final text (Err (BadToken p)) (Ok d) fine x y =
     let s = same_stop text x.1.tokens y.tokens p (length text) (stop_byte text p x.1) (stop_complete text d y) in
     absurd (not_end text p x.1.none s.1)
@@ -291,8 +313,6 @@ one_final text (Err (BadToken p)) (Err (Unexpected place)) fine x (inl y) =
 one_final text (Err (BadToken p)) (Err (Unexpected place)) fine x (inr y) =
     let s = same_stop text x.1.tokens y.tokens p (length text) (stop_byte text p x.1) (stop_short text place y) in
     absurd (not_end text p x.1.none s.1)
-one_final text (Err (BadToken p)) (Err (NumberRange place)) fine x y =
-    absurd (stop_or_barrier Ranged text x.1.tokens y.tokens p y.t (stop_byte text p x.1) (barrier_outside text place y))
 one_final text (Err (Unexpected p)) (Ok d) fine (f, inl x) y =
     absurd (stop_or_barrier Shape text y.tokens x.tokens (length text) x.t (stop_complete text d y) (barrier_token text p x))
 one_final text (Err (Unexpected p)) (Err (BadToken place)) fine (f, inl x) y =
@@ -302,7 +322,6 @@ one_final text (Err (Unexpected p)) (Err (Unexpected place)) fine (f, inl x) (in
     ap (λ (v : ℕ). Err (Unexpected v)) (same_place x.tokens y.tokens x.t y.t p place e x.here y.here)
 one_final text (Err (Unexpected p)) (Err (Unexpected place)) fine (f, inl x) (inr y) =
     absurd (stop_or_barrier Shape text y.tokens x.tokens (length text) x.t (stop_short text place y) (barrier_token text p x))
-one_final text (Err (Unexpected p)) (Err (NumberRange place)) fine (f, inl x) y = absurd (still_or_fault text p place x y)
 one_final text (Err (Unexpected p)) (Ok d) fine (f, inr x) y =
     let s = same_stop text y.tokens x.tokens (length text) (length text) (stop_complete text d y) (stop_short text p x) in
     absurd (short_of_none text p d y.tokens x s.0 y.derived)
@@ -313,18 +332,38 @@ one_final text (Err (Unexpected p)) (Err (Unexpected place)) fine (f, inr x) (in
     absurd (stop_or_barrier Shape text x.tokens y.tokens (length text) y.t (stop_short text p x) (barrier_token text place y))
 one_final text (Err (Unexpected p)) (Err (Unexpected place)) fine (f, inr x) (inr y) =
     ap (λ (v : ℕ). Err (Unexpected v)) (x.here ∙ sym y.here)
+one_final text (Ok query) (Err (NumberRange place)) fine x y =
+    absurd (stop_or_outside Shape Ranged text x.1.tokens (length text) place (stop_names text query x.1) y)
+one_final text (Err (BadToken p)) (Err (NumberRange place)) fine x y =
+    absurd (stop_or_outside Shape Ranged text x.1.tokens p place (stop_byte text p x.1) y)
+one_final text (Err (Unexpected p)) (Err (NumberRange place)) fine (f, inl x) y = absurd (still_or_fault Shape Ranged text p place x y)
 one_final text (Err (Unexpected p)) (Err (NumberRange place)) fine (f, inr x) y =
-    absurd (stop_or_barrier Ranged text x.tokens y.tokens (length text) y.t (stop_short text p x) (barrier_outside text place y))
+    absurd (stop_or_outside Shape Ranged text x.tokens (length text) place (stop_short text p x) y)
 one_final text (Err (NumberRange p)) (Ok d) fine x y =
-    absurd (stop_or_barrier Ranged text y.tokens x.1.tokens (length text) x.1.t (stop_complete text d y) (barrier_outside text p x.1))
+    absurd (stop_or_outside Shape Ranged text y.tokens (length text) p (stop_complete text d y) x.1)
 one_final text (Err (NumberRange p)) (Err (BadToken place)) fine x y =
-    absurd (stop_or_barrier Ranged text y.tokens x.1.tokens place x.1.t (stop_byte text place y) (barrier_outside text p x.1))
-one_final text (Err (NumberRange p)) (Err (Unexpected place)) fine x (inl y) = absurd (still_or_fault text place p y x.1)
+    absurd (stop_or_outside Shape Ranged text y.tokens place p (stop_byte text place y) x.1)
+one_final text (Err (NumberRange p)) (Err (Unexpected place)) fine x (inl y) = absurd (still_or_fault Shape Ranged text place p y x.1)
 one_final text (Err (NumberRange p)) (Err (Unexpected place)) fine x (inr y) =
-    absurd (stop_or_barrier Ranged text y.tokens x.1.tokens (length text) x.1.t (stop_short text place y) (barrier_outside text p x.1))
-one_final text (Err (NumberRange p)) (Err (NumberRange place)) fine x y =
-    let e = same_barrier Ranged Ranged text x.1.tokens y.tokens x.1.t y.t (barrier_outside text p x.1) (barrier_outside text place y) in
-    ap (λ (v : ℕ). Err (NumberRange v)) (same_place x.1.tokens y.tokens x.1.t y.t p place e x.1.here y.here)
+    absurd (stop_or_outside Shape Ranged text y.tokens (length text) p (stop_short text place y) x.1)
+one_final text (Err (NumberRange p)) (Err (NumberRange place)) fine x y = ap (λ (v : ℕ). Err (NumberRange v)) (same_outside Shape Ranged text p place x.1 y)
+one_final text (Ok query) (Err (TooDeep place)) fine x y =
+    absurd (stop_or_outside Ranged Strict text x.1.tokens (length text) place (stop_names text query x.1) y)
+one_final text (Err (BadToken p)) (Err (TooDeep place)) fine x y =
+    absurd (stop_or_outside Ranged Strict text x.1.tokens p place (stop_byte text p x.1) y)
+one_final text (Err (Unexpected p)) (Err (TooDeep place)) fine (f, inl x) y = absurd (still_or_fault Ranged Strict text p place x y)
+one_final text (Err (Unexpected p)) (Err (TooDeep place)) fine (f, inr x) y =
+    absurd (stop_or_outside Ranged Strict text x.tokens (length text) place (stop_short text p x) y)
+one_final text (Err (TooDeep p)) (Ok d) fine x y =
+    absurd (stop_or_outside Ranged Strict text y.tokens (length text) p (stop_complete text d y) x.1)
+one_final text (Err (TooDeep p)) (Err (BadToken place)) fine x y =
+    absurd (stop_or_outside Ranged Strict text y.tokens place p (stop_byte text place y) x.1)
+one_final text (Err (TooDeep p)) (Err (Unexpected place)) fine x (inl y) = absurd (still_or_fault Ranged Strict text place p y x.1)
+one_final text (Err (TooDeep p)) (Err (Unexpected place)) fine x (inr y) =
+    absurd (stop_or_outside Ranged Strict text y.tokens (length text) p (stop_short text place y) x.1)
+one_final text (Err (TooDeep p)) (Err (TooDeep place)) fine x y = ap (λ (v : ℕ). Err (TooDeep v)) (same_outside Ranged Strict text p place x.1 y)
+one_final text (Err (NumberRange p)) (Err (TooDeep place)) fine x y = absurd (range_or_depth text p place x.1 y)
+one_final text (Err (TooDeep p)) (Err (NumberRange place)) fine x y = absurd (range_or_depth text place p y x.1)
 
 final_right : (text : List ℕ) (o : Result Draft Fault) → Fine text → Final text o → IsAnswer text (judged o)
 final_right text (Ok d) fine y = (fine, record { tokens = y.tokens; draft = d; spelled = y.spelled; derived = y.derived; built = refl })
@@ -333,6 +372,7 @@ final_right text (Err NotAscii) fine y = absurd y
 final_right text (Err (BadToken place)) fine y = (fine, y)
 final_right text (Err (Unexpected place)) fine y = (fine, y)
 final_right text (Err (NumberRange place)) fine y = (fine, y)
+final_right text (Err (TooDeep place)) fine y = (fine, y)
 
 -- a text is too long, or not of ASCII, or judged token by token
 judge : (text : List ℕ) → (4096 < length text) ⊎ (((length text ≤ 4096) × (all_ascii text ≡ false)) ⊎ ((length text ≤ 4096) × (all_ascii text ≡ true)))
@@ -358,6 +398,7 @@ too_long_is text (Err NotAscii) h x = let w = x.0 in absurd (omega arith)
 too_long_is text (Err (BadToken p)) h x = let w = x.0.short in absurd (omega arith)
 too_long_is text (Err (Unexpected p)) h x = let w = x.0.short in absurd (omega arith)
 too_long_is text (Err (NumberRange p)) h x = let w = x.0.short in absurd (omega arith)
+too_long_is text (Err (TooDeep p)) h x = let w = x.0.short in absurd (omega arith)
 
 not_fine : (text : List ℕ) → all_ascii text ≡ false → Fine text → ⊥
 not_fine text e fine = let n = some_not_ascii text e in let w = fine.ascii n.0 in let v = n.1 in omega arith
@@ -369,6 +410,7 @@ not_ascii_is text (Err NotAscii) h e x = refl
 not_ascii_is text (Err (BadToken p)) h e x = absurd (not_fine text e x.0)
 not_ascii_is text (Err (Unexpected p)) h e x = absurd (not_fine text e x.0)
 not_ascii_is text (Err (NumberRange p)) h e x = absurd (not_fine text e x.0)
+not_ascii_is text (Err (TooDeep p)) h e x = absurd (not_fine text e x.0)
 
 pub reading_only : (text : List ℕ) (a : Result Query Fault) → IsAnswer text a → a ≡ reading text
 reading_only text a x = elim (judge text) [

@@ -1,21 +1,20 @@
 -- What the machine's result says of the text.
-use Rattle.std.proofs.Common.{◌≡◌, ℕ, zero, suc, ◌+◌, ◌*◌, ◌<◌, true, false, List, [], ◌∷◌, ◌++◌, Option, Some, None, Result, Ok, Err, refl, sym, ap, ◌∙◌, ◌⊎◌, inl, inr, subst, arith, nat_lt}
-use Rattle.std.proofs.lemmas.Bool.{cases_Bool, cases_lt, cond-false, and_from, false≢true}
+use Rattle.std.proofs.Common.{◌≡◌, ℕ, zero, suc, ◌+◌, ◌*◌, ◌<◌, Bool, true, false, ◌&&◌, List, [], ◌∷◌, ◌++◌, Option, Some, None, Result, Ok, Err, refl, sym, ap, ◌∙◌, ◌⊎◌, inl, inr, subst, arith}
+use Rattle.std.proofs.lemmas.Bool.{cases_Bool, cases_lt, and_from, false≢true}
 use denote.Enum.Bare.{true_same, same_true}
 use Rattle.cql_reader.specs.contracts.tokens.Kind.{the_type}
 use Rattle.cql_reader.specs.declared.symbols.Part.{Part}
 use Rattle.cql_reader.specs.declared.symbols.Role.{Role}
-use Rattle.cql_reader.specs.declared.symbols.Role.TheVariants as r
 use Rattle.cql_reader.specs.declared.symbols.Symbol.{Symbol}
 use Rattle.cql_reader.specs.declared.symbols.Symbol.TheVariants.{Read, Rule, Emit}
 use Rattle.cql_reader.specs.Lexis.{number_of}
 use Rattle.cql_reader.specs.Tokens.{Token, end_of, Blank, Stands, Tokens, Scan, End, Bad, Then, scan_from}
-use Rattle.cql_reader.specs.Fault.{Fault, TextTooLong, NotAscii, BadToken, Unexpected, NumberRange}
-use Rattle.cql_reader.specs.Grammar.{Draft, Shape, Ranged, Strict, allowed, kind_of, in_range, deepens, may_open, took, did, whole, start, IsQuery, Begins}
+use Rattle.cql_reader.specs.Fault.{Fault, TextTooLong, NotAscii, BadToken, Unexpected, NumberRange, TooDeep}
+use Rattle.cql_reader.specs.Grammar.{Draft, Level, Shape, Ranged, Strict, allowed, kind_of, in_range, may_open, took, did, whole, start, IsQuery, Begins}
 use Rattle.cql_reader.specs.Prediction.{same_kind, chosen, ahead, stopped, closed, taken, along, run, weight, weights, count, parsed}
 use Rattle.cql_reader.specs.Reading.{IsText, OddByte, OddToken, TooShort, Outside}
 use Rattle.cql_reader.proofs.Theory.{Going, going_start, going_emit, going_rule, going_read, no_rule, no_read, no_more, short_rule, short_read, begins_at, not_at, is_query, one_query, next_of, effort_emit, effort_read, effort_rule}
-use Rattle.cql_reader.proofs.Runs.{left, taken_fits, taken_odd, taken_outside}
+use Rattle.cql_reader.proofs.Runs.{left, taken_fits, taken_odd, taken_outside, taken_deep}
 use Rattle.cql_reader.proofs.Texts.{Scanned, scanned_text}
 
 abbrev pub listed : Scan → List Token
@@ -38,6 +37,7 @@ Final text (Err NotAscii) = ⊥
 Final text (Err (BadToken place)) = OddByte text place
 Final text (Err (Unexpected place)) = OddToken text place ⊎ TooShort text place
 Final text (Err (NumberRange place)) = Outside Shape Ranged text place
+Final text (Err (TooDeep place)) = Outside Ranged Strict text place
 
 join_blanks : (text : List ℕ) (a b c : ℕ) → Blank text a b → Blank text b c → Blank text a c
 join_blanks text a b c p q = record {
@@ -53,18 +53,21 @@ pub reach_token : (text : List ℕ) (at : ℕ) (ts : List Token) (t : Token) →
 reach_token text at [] t p s = (p, s, record { order = omega arith; each = λ i a b. absurd (omega arith) })
 reach_token text at (u ∷ us) t p s = (p.0, p.1, reach_token text (end_of u) us t p.2 s)
 
-none_deepens : (role : Role) → deepens role ≡ false
-unfolding deepens
-none_deepens (r.Fixed kind) = refl
-none_deepens (r.Operator operator) = refl
-none_deepens r.Stream = refl
-none_deepens r.Alias = refl
-none_deepens r.Now = refl
-none_deepens r.Range = refl
-
-fits_strictly : (role : Role) (d : Draft) (t : Token) → in_range role (number_of t.bytes) ≡ true → allowed Strict role d t ≡ true
+fits_strictly : (role : Role) (d : Draft) (t : Token) → in_range role (number_of t.bytes) ≡ true → may_open role d.depth ≡ true → allowed Strict role d t ≡ true
 unfolding allowed
-fits_strictly role d t h = and_from (in_range role (number_of t.bytes)) (may_open role d.depth) h (cond-false (deepens role) (nat_lt d.depth 32) true (none_deepens role))
+fits_strictly role d t h m = and_from (in_range role (number_of t.bytes)) (may_open role d.depth) h m
+
+fits_ranged : (role : Role) (d : Draft) (t : Token) → in_range role (number_of t.bytes) ≡ true → allowed Ranged role d t ≡ true
+unfolding allowed
+fits_ranged role d t h = h
+
+and_false : (a b : Bool) → b ≡ false → (a && b) ≡ false
+and_false true b h = h
+and_false false b h = refl
+
+too_deep : (role : Role) (d : Draft) (t : Token) → may_open role d.depth ≡ false → allowed Strict role d t ≡ false
+unfolding allowed
+too_deep role d t h = and_false (in_range role (number_of t.bytes)) (may_open role d.depth) h
 
 outside_range : (role : Role) (d : Draft) (t : Token) → in_range role (number_of t.bytes) ≡ false → allowed Ranged role d t ≡ false
 unfolding allowed
@@ -119,32 +122,44 @@ final_closed text front at (Bad place) d a = odd_byte text front at place [] d a
 final_closed text front at (Then t more) d a = inl (odd_token text front at t more [] d a (no_more front (listed more) t d a.going))
 
 -- behind a token that fits
-along_read : (text : List ℕ) (front : List Token) (at : ℕ) (t : Token) (more : Scan) (role : Role) (xs : List Symbol) (d : Draft) → t.kind ≡ kind_of role → in_range role (number_of t.bytes) ≡ true → Along text front at (Then t more) (Read role ∷ xs) d → Along text (front ++ t ∷ []) (end_of t) more xs (took role t.bytes d)
-along_read text front at t more role xs d e f a = record {
+along_read : (text : List ℕ) (front : List Token) (at : ℕ) (t : Token) (more : Scan) (role : Role) (xs : List Symbol) (d : Draft) → t.kind ≡ kind_of role → in_range role (number_of t.bytes) ≡ true → may_open role d.depth ≡ true → Along text front at (Then t more) (Read role ∷ xs) d → Along text (front ++ t ∷ []) (end_of t) more xs (took role t.bytes d)
+along_read text front at t more role xs d e f m a = record {
   passed = reach_token text 0 front t (reach text 0 front at t.place a.passed a.to_come.0) a.to_come.1;
   to_come = a.to_come.2;
-  going = going_read front (listed more) t role xs d e (fits_strictly role d t f) a.going;
+  going = going_read front (listed more) t role xs d e (fits_strictly role d t f m) a.going;
 }
 
-final_read : (text : List ℕ) (front : List Token) (at : ℕ) (t : Token) (more : Scan) (role : Role) (xs : List Symbol) (d : Draft) (after : Result Draft Fault) → Along text front at (Then t more) (Read role ∷ xs) d → (t.kind ≡ kind_of role → in_range role (number_of t.bytes) ≡ true → Final text after) → Final text (taken (same_kind t.kind (kind_of role)) (in_range role (number_of t.bytes)) t.place after)
+-- a token that may stand there by one level, and may not by the next
+outside : (fine bad : Level) (text : List ℕ) (front : List Token) (at : ℕ) (t : Token) (more : Scan) (role : Role) (xs : List Symbol) (d : Draft) → t.kind ≡ kind_of role → allowed fine role d t ≡ true → allowed bad role d t ≡ false → Along text front at (Then t more) (Read role ∷ xs) d → Outside fine bad text t.place
+outside fine bad text front at t more role xs d e f g a = record {
+  tokens = front;
+  t = t;
+  spelled = reach_token text 0 front t (reach text 0 front at t.place a.passed a.to_come.0) a.to_come.1;
+  here = refl;
+  before = a.going.begins;
+  still = begins_at fine front (listed more) t role xs d e f a.going;
+  fault = not_at bad front (listed more) t role xs d g a.going;
+}
+
+final_read : (text : List ℕ) (front : List Token) (at : ℕ) (t : Token) (more : Scan) (role : Role) (xs : List Symbol) (d : Draft) (after : Result Draft Fault) → Along text front at (Then t more) (Read role ∷ xs) d
+    → (t.kind ≡ kind_of role → in_range role (number_of t.bytes) ≡ true → may_open role d.depth ≡ true → Final text after)
+    → Final text (taken (same_kind t.kind (kind_of role)) (in_range role (number_of t.bytes)) (may_open role d.depth) t.place after)
 final_read text front at t more role xs d after a go =
     let same = same_kind t.kind (kind_of role) in
     let fits = in_range role (number_of t.bytes) in
+    let opens = may_open role d.depth in
     elim (cases_Bool same) [
-      | inr h ↦ subst (Final text) (sym (taken_odd same fits t.place after h))
+      | inr h ↦ subst (Final text) (sym (taken_odd same fits opens t.place after h))
           (inl (odd_token text front at t more (Read role ∷ xs) d a
           (no_read front (listed more) t role xs d (λ e. false≢true (sym h ∙ true_same the_type t.kind (kind_of role) e)) a.going)))
       | inl h ↦ (let e : t.kind ≡ kind_of role = same_true the_type tt t.kind (kind_of role) h in elim (cases_Bool fits) [
-        | inl f ↦ subst (Final text) (sym (taken_fits same fits t.place after h f)) (go e f)
-        | inr f ↦ subst (Final text) (sym (taken_outside same fits t.place after h f)) (record {
-          tokens = front;
-          t = t;
-          spelled = reach_token text 0 front t (reach text 0 front at t.place a.passed a.to_come.0) a.to_come.1;
-          here = refl;
-          before = a.going.begins;
-          still = begins_at Shape front (listed more) t role xs d e (fits_shape role d t) a.going;
-          fault = not_at Ranged front (listed more) t role xs d (outside_range role d t f) a.going;
-        })
+        | inr f ↦ subst (Final text) (sym (taken_outside same fits opens t.place after h f))
+            (outside Shape Ranged text front at t more role xs d e (fits_shape role d t) (outside_range role d t f) a)
+        | inl f ↦ elim (cases_Bool opens) [
+          | inl m ↦ subst (Final text) (sym (taken_fits same fits opens t.place after h f m)) (go e f m)
+          | inr m ↦ subst (Final text) (sym (taken_deep same fits opens t.place after h f m))
+              (outside Ranged Strict text front at t more role xs d e (fits_ranged role d t f) (too_deep role d t m) a)
+        ]
       ])
     ]
 
@@ -171,8 +186,8 @@ final_run (suc n) text front at (End place) (Read role ∷ xs) d h a =
     inr (too_short text front at place (Read role ∷ xs) d a (λ d' q. short_read front role xs d d' a.going q))
 final_run (suc n) text front at (Bad place) (Read role ∷ xs) d h a = odd_byte text front at place (Read role ∷ xs) d a
 final_run (suc n) text front at (Then t more) (Read role ∷ xs) d h a =
-    final_read text front at t more role xs d _ a (λ e f.
-    final_run n text (front ++ t ∷ []) (end_of t) more xs (took role t.bytes d) (omega (arith, effort_read role xs)) (along_read text front at t more role xs d e f a))
+    final_read text front at t more role xs d _ a (λ e f m.
+    final_run n text (front ++ t ∷ []) (end_of t) more xs (took role t.bytes d) (omega (arith, effort_read role xs)) (along_read text front at t more role xs d e f m a))
 final_run (suc n) text front at rest (Rule part ∷ xs) d h a =
     final_along text (chosen part (ahead rest)) rest (λ ys. run n (ys ++ xs) d rest)
     (λ e. final_stopped text front at rest part xs d e a)

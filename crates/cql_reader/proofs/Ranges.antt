@@ -1,10 +1,8 @@
 -- A number that is cut off outside each range is in the same ranges.
-use Rattle.std.proofs.Common.{◌≡◌, ℕ, zero, suc, ◌<◌, Bool, true, false, not, ◌&&◌, ℤ, pos, negsuc, neg_ℤ, int_lt, nat_lt, min, refl, sym, ap, ◌∙◌, arith, inl, inr}
-use Rattle.std.proofs.lemmas.Bool.{cases_lt, ltb-true, le-ltb, false≢true}
-use Rattle.cql_reader.specs.declared.symbols.Role.{Role}
-use Rattle.cql_reader.specs.declared.symbols.Role.TheVariants as r
+use Rattle.std.proofs.Common.{◌≡◌, ℕ, zero, suc, ◌<◌, ◌≤◌, Bool, true, false, not, ◌&&◌, ℤ, pos, negsuc, neg_ℤ, int_lt, nat_lt, nat_abs, min, refl, sym, ap, ◌∙◌, arith, inl, inr}
+use Rattle.std.proofs.lemmas.Bool.{cases_lt, ltb-true, lt-ltb, le-ltb, and_parts, false≢true}
 use Rattle.cql_reader.specs.Lexis.{capped}
-use Rattle.cql_reader.specs.Grammar.{in_span, in_range}
+use Rattle.cql_reader.specs.Grammar.{in_span, in_rows, in_stream}
 
 pub capped_negative : (n : ℕ) → neg_ℤ (pos (min n 2199023255552)) ≡ capped (neg_ℤ (pos n))
 unfolding capped
@@ -16,48 +14,59 @@ pub capped_positive : (n : ℕ) → pos (min n 2199023255552) ≡ capped (pos n)
 unfolding capped
 capped_positive n = refl
 
-in_span_positive : (n : ℕ) → in_span (pos n) ≡ nat_lt n 1099511627777
-in_span_positive n = ap (λ (b : Bool). not b && nat_lt n 1099511627777) (le-ltb n 0 (omega arith))
+pub abs_negative : (n : ℕ) → nat_abs (neg_ℤ (pos n)) ≡ n
+abs_negative zero = refl
+abs_negative (suc n) = refl
 
-span_capped : (z : ℤ) → in_span (capped z) ≡ in_span z
-unfolding capped
-span_capped (pos n) = elim (cases_lt n 1099511627777) [
-  | inl l ↦ (let e : min n 2199023255552 ≡ n = omega arith in ap (λ (v : ℕ). in_span (pos v)) e)
-  | inr g ↦ in_span_positive (min n 2199023255552) ∙ le-ltb (min n 2199023255552) 1099511627777 (omega arith)
-      ∙ sym (in_span_positive n ∙ le-ltb n 1099511627777 g)
+and_false : (a b : Bool) → b ≡ false → (a && b) ≡ false
+and_false true b h = h
+and_false false b h = refl
+
+-- a range of numbers
+abbrev between : ℤ → ℤ → ℤ → Bool
+between low high z = not (int_lt z low) && int_lt z high
+
+-- the upper end is below the cut
+above_cut : (low : ℤ) (high n : ℕ) → high ≤ 2199023255552 → between low (pos high) (pos (min n 2199023255552)) ≡ between low (pos high) (pos n)
+above_cut low high n h = elim (cases_lt n 2199023255552) [
+  | inl l ↦ (let e : min n 2199023255552 ≡ n = omega arith in ap (λ (v : ℕ). between low (pos high) (pos v)) e)
+  | inr g ↦ and_false (not (int_lt (pos (min n 2199023255552)) low)) (nat_lt (min n 2199023255552) high) (le-ltb (min n 2199023255552) high (omega arith))
+      ∙ sym (and_false (not (int_lt (pos n) low)) (nat_lt n high) (le-ltb n high (omega arith)))
 ]
+
+pub span_capped : (z : ℤ) → in_span (capped z) ≡ in_span z
+unfolding capped
+span_capped (pos n) = above_cut (pos 0) 1099511627777 n (omega arith)
 span_capped (negsuc n) = refl
 
-span_kept : (z : ℤ) → in_span z ≡ true → capped z ≡ z
+pub rows_capped : (z : ℤ) → in_rows (capped z) ≡ in_rows z
 unfolding capped
-span_kept (pos n) h = let l : n < 1099511627777 = ltb-true n 1099511627777 (sym (in_span_positive n) ∙ h) in let e : min n 2199023255552 ≡ n = omega arith in ap pos e
-span_kept (negsuc n) h = absurd (false≢true h)
+rows_capped (pos n) = above_cut (pos 1) 65537 n (omega arith)
+rows_capped (negsuc n) = refl
 
-span_is : (z : ℤ) → in_span z ≡ true → (n : ℕ) × (z ≡ pos n) × (n < 1099511627777)
-span_is (pos n) h = (n, refl, ltb-true n 1099511627777 (sym (in_span_positive n) ∙ h))
-span_is (negsuc n) h = absurd (false≢true h)
+pub stream_capped : (z : ℤ) → in_stream (capped z) ≡ in_stream z
+unfolding capped
+stream_capped (pos n) = above_cut (negsuc 1099511627774) 1099511627776 n (omega arith)
+stream_capped (negsuc n) = elim (cases_lt n 2199023255551) [
+  | inl l ↦ (let e : min n 2199023255551 ≡ n = omega arith in ap (λ (v : ℕ). in_stream (negsuc v)) e)
+  | inr g ↦ ap (λ (b : Bool). not b && true) (lt-ltb 1099511627774 (min n 2199023255551) (omega arith))
+      ∙ sym (ap (λ (b : Bool). not b && true) (lt-ltb 1099511627774 n (omega arith)))
+]
 
-pub in_range_capped : (role : Role) (z : ℤ) → in_range role (capped z) ≡ in_range role z
-unfolding in_range
-in_range_capped (r.Fixed kind) z = refl
-in_range_capped (r.Operator operator) z = refl
-in_range_capped r.Stream z = refl
-in_range_capped r.Alias z = refl
-in_range_capped r.Now z = refl
-in_range_capped r.Range z = span_capped z
+pub stream_kept : (z : ℤ) → in_stream z ≡ true → capped z ≡ z
+unfolding capped
+stream_kept (pos n) h =
+    let l : n < 1099511627776 = ltb-true n 1099511627776 (and_parts (not (int_lt (pos n) (negsuc 1099511627774))) (nat_lt n 1099511627776) h).1 in
+    let e : min n 2199023255552 ≡ n = omega arith in
+    ap pos e
+stream_kept (negsuc n) h = elim (cases_lt 1099511627774 n) [
+  | inl l ↦ absurd (false≢true (sym (ap (λ (b : Bool). not b && true) (lt-ltb 1099511627774 n l)) ∙ h))
+  | inr g ↦ (let e : min n 2199023255551 ≡ n = omega arith in ap negsuc e)
+]
 
-pub range_kept : (z : ℤ) → in_range r.Range z ≡ true → capped z ≡ z
-unfolding in_range
-range_kept z h = span_kept z h
+-- a test of the lower end, then one of the upper
+pub tested_above : (low high m z : ℤ) → m ≡ capped z → between low high (capped z) ≡ between low high z → int_lt m low ≡ false → int_lt m high ≡ between low high z
+tested_above low high m z e k h = sym (ap (λ (b : Bool). not b && int_lt m high) h) ∙ ap (λ (v : ℤ). between low high v) e ∙ k
 
-pub range_is : (z : ℤ) → in_range r.Range z ≡ true → (n : ℕ) × (z ≡ pos n) × (n < 1099511627777)
-unfolding in_range
-range_is z h = span_is z h
-
-pub spans_above : (m z : ℤ) → m ≡ capped z → int_lt m (pos 0) ≡ false → int_lt m (pos 1099511627777) ≡ in_span z
-spans_above m z e h =
-    sym (ap (λ (b : Bool). not b && int_lt m (pos 1099511627777)) h) ∙ ap in_span e ∙ span_capped z
-
-pub spans_below : (m z : ℤ) → m ≡ capped z → int_lt m (pos 0) ≡ true → not (int_lt m (pos 0)) ≡ in_span z
-spans_below m z e h =
-    ap not h ∙ sym (ap (λ (b : Bool). not b && int_lt m (pos 1099511627777)) h) ∙ ap in_span e ∙ span_capped z
+pub tested_below : (low high m z : ℤ) → m ≡ capped z → between low high (capped z) ≡ between low high z → int_lt m low ≡ true → not (int_lt m low) ≡ between low high z
+tested_below low high m z e k h = ap not h ∙ sym (ap (λ (b : Bool). not b && int_lt m high) h) ∙ ap (λ (v : ℤ). between low high v) e ∙ k

@@ -12,8 +12,8 @@ use Rattle.cql_reader.specs.declared.symbols.Symbol.{Symbol}
 use Rattle.cql_reader.specs.declared.symbols.Symbol.TheVariants.{Read, Rule, Emit}
 use Rattle.cql_reader.specs.Lexis.{number_of}
 use Rattle.cql_reader.specs.Tokens.{Token, Scan, End, Bad, Then}
-use Rattle.cql_reader.specs.Fault.{Fault, BadToken, Unexpected, NumberRange}
-use Rattle.cql_reader.specs.Grammar.{Draft, kind_of, in_range, took, did, whole, start}
+use Rattle.cql_reader.specs.Fault.{Fault, BadToken, Unexpected, NumberRange, TooDeep}
+use Rattle.cql_reader.specs.Grammar.{Draft, kind_of, in_range, may_open, took, did, whole, start}
 use Rattle.cql_reader.specs.Prediction.{same_kind, chosen, ahead, stopped, closed, taken, along, run, weight, weights, count, parsed}
 use Rattle.cql_reader.proofs.Theory.{effort, effort_emit, effort_read, effort_rule}
 
@@ -43,29 +43,36 @@ runs_emit mark xs d rest result r =
     let e : run (suc k.0) (Emit mark ∷ xs) d rest ≡ result = subst (λ (n : ℕ). run n (Emit mark ∷ xs) d rest ≡ result) k.1 r.same in
     record { fuel = k.0; enough = omega (arith, k.2, effort_emit mark xs); same = e }
 
-pub taken_fits : (a b : Bool) (place : ℕ) (after : Result Draft Fault) → a ≡ true → b ≡ true → taken a b place after ≡ after
-taken_fits true true place after e f = refl
-taken_fits false b place after e f = cc
-taken_fits true false place after e f = cc
+pub taken_fits : (a b c : Bool) (place : ℕ) (after : Result Draft Fault) → a ≡ true → b ≡ true → c ≡ true → taken a b c place after ≡ after
+taken_fits true true true place after e f g = refl
+taken_fits false b c place after e f g = cc
+taken_fits true false c place after e f g = cc
+taken_fits true true false place after e f g = cc
 
-pub taken_odd : (a b : Bool) (place : ℕ) (after : Result Draft Fault) → a ≡ false → taken a b place after ≡ Err (Unexpected place)
-taken_odd false b place after e = refl
-taken_odd true b place after e = cc
+pub taken_odd : (a b c : Bool) (place : ℕ) (after : Result Draft Fault) → a ≡ false → taken a b c place after ≡ Err (Unexpected place)
+taken_odd false b c place after e = refl
+taken_odd true b c place after e = cc
 
-pub taken_outside : (a b : Bool) (place : ℕ) (after : Result Draft Fault) → a ≡ true → b ≡ false → taken a b place after ≡ Err (NumberRange place)
-taken_outside true false place after e f = refl
-taken_outside false b place after e f = cc
-taken_outside true true place after e f = cc
+pub taken_outside : (a b c : Bool) (place : ℕ) (after : Result Draft Fault) → a ≡ true → b ≡ false → taken a b c place after ≡ Err (NumberRange place)
+taken_outside true false c place after e f = refl
+taken_outside false b c place after e f = cc
+taken_outside true true c place after e f = cc
 
-pub runs_read : (role : Role) (xs : List Symbol) (d : Draft) (t : Token) (more : Scan) (result : Result Draft Fault) → t.kind ≡ kind_of role → in_range role (number_of t.bytes) ≡ true → Runs (Read role ∷ xs) d (Then t more) result → Runs xs (took role t.bytes d) more result
+pub taken_deep : (a b c : Bool) (place : ℕ) (after : Result Draft Fault) → a ≡ true → b ≡ true → c ≡ false → taken a b c place after ≡ Err (TooDeep place)
+taken_deep true true false place after e f g = refl
+taken_deep false b c place after e f g = cc
+taken_deep true false c place after e f g = cc
+taken_deep true true true place after e f g = cc
+
+pub runs_read : (role : Role) (xs : List Symbol) (d : Draft) (t : Token) (more : Scan) (result : Result Draft Fault) → t.kind ≡ kind_of role → in_range role (number_of t.bytes) ≡ true → may_open role d.depth ≡ true → Runs (Read role ∷ xs) d (Then t more) result → Runs xs (took role t.bytes d) more result
 unfolding run count
-runs_read role xs d t more result f g r =
+runs_read role xs d t more result f g h r =
     let k = step r.fuel (left (Read role ∷ xs) (Then t more)) r.enough in
     let e : run (suc k.0) (Read role ∷ xs) d (Then t more) ≡ result = subst (λ (n : ℕ). run n (Read role ∷ xs) d (Then t more) ≡ result) k.1 r.same in
     record {
       fuel = k.0;
       enough = omega (arith, k.2, effort_read role xs);
-      same = sym (taken_fits (same_kind t.kind (kind_of role)) (in_range role (number_of t.bytes)) t.place (run k.0 xs (took role t.bytes d) more) (true_same the_type t.kind (kind_of role) f) g) ∙ e;
+      same = sym (taken_fits (same_kind t.kind (kind_of role)) (in_range role (number_of t.bytes)) (may_open role d.depth) t.place (run k.0 xs (took role t.bytes d) more) (true_same the_type t.kind (kind_of role) f) g h) ∙ e;
     }
 
 pub runs_rule : (part : Part) (ys xs : List Symbol) (d : Draft) (rest : Scan) (result : Result Draft Fault) → chosen part (ahead rest) ≡ Some ys → Runs (Rule part ∷ xs) d rest result → Runs (ys ++ xs) d rest result
@@ -101,14 +108,21 @@ unfolding run
 stops_odd role xs d t more result f r =
     let k = step r.fuel (left (Read role ∷ xs) (Then t more)) r.enough in
     let e : run (suc k.0) (Read role ∷ xs) d (Then t more) ≡ result = subst (λ (n : ℕ). run n (Read role ∷ xs) d (Then t more) ≡ result) k.1 r.same in
-    sym e ∙ taken_odd (same_kind t.kind (kind_of role)) (in_range role (number_of t.bytes)) t.place (run k.0 xs (took role t.bytes d) more) (not_same t.kind (kind_of role) f)
+    sym e ∙ taken_odd (same_kind t.kind (kind_of role)) (in_range role (number_of t.bytes)) (may_open role d.depth) t.place (run k.0 xs (took role t.bytes d) more) (not_same t.kind (kind_of role) f)
 
 pub stops_outside : (role : Role) (xs : List Symbol) (d : Draft) (t : Token) (more : Scan) (result : Result Draft Fault) → t.kind ≡ kind_of role → in_range role (number_of t.bytes) ≡ false → Runs (Read role ∷ xs) d (Then t more) result → result ≡ Err (NumberRange t.place)
 unfolding run
 stops_outside role xs d t more result f g r =
     let k = step r.fuel (left (Read role ∷ xs) (Then t more)) r.enough in
     let e : run (suc k.0) (Read role ∷ xs) d (Then t more) ≡ result = subst (λ (n : ℕ). run n (Read role ∷ xs) d (Then t more) ≡ result) k.1 r.same in
-    sym e ∙ taken_outside (same_kind t.kind (kind_of role)) (in_range role (number_of t.bytes)) t.place (run k.0 xs (took role t.bytes d) more) (true_same the_type t.kind (kind_of role) f) g
+    sym e ∙ taken_outside (same_kind t.kind (kind_of role)) (in_range role (number_of t.bytes)) (may_open role d.depth) t.place (run k.0 xs (took role t.bytes d) more) (true_same the_type t.kind (kind_of role) f) g
+
+pub stops_deep : (role : Role) (xs : List Symbol) (d : Draft) (t : Token) (more : Scan) (result : Result Draft Fault) → t.kind ≡ kind_of role → in_range role (number_of t.bytes) ≡ true → may_open role d.depth ≡ false → Runs (Read role ∷ xs) d (Then t more) result → result ≡ Err (TooDeep t.place)
+unfolding run
+stops_deep role xs d t more result f g h r =
+    let k = step r.fuel (left (Read role ∷ xs) (Then t more)) r.enough in
+    let e : run (suc k.0) (Read role ∷ xs) d (Then t more) ≡ result = subst (λ (n : ℕ). run n (Read role ∷ xs) d (Then t more) ≡ result) k.1 r.same in
+    sym e ∙ taken_deep (same_kind t.kind (kind_of role)) (in_range role (number_of t.bytes)) (may_open role d.depth) t.place (run k.0 xs (took role t.bytes d) more) (true_same the_type t.kind (kind_of role) f) g h
 
 pub stops_closed : (d : Draft) (rest : Scan) (result : Result Draft Fault) → Runs [] d rest result → result ≡ closed d rest
 unfolding run

@@ -119,10 +119,19 @@ one_in_range : (role : Role) → in_range role (number_of (49 ∷ [])) ≡ true
 unfolding in_range number_of decimal
 one_in_range (r.Fixed kind) = refl
 one_in_range (r.Operator operator) = refl
+one_in_range r.Distinct = refl
+one_in_range r.Column = refl
+one_in_range r.Qualified = refl
 one_in_range r.Stream = refl
 one_in_range r.Alias = refl
 one_in_range r.Now = refl
 one_in_range r.Range = refl
+one_in_range r.Unbounded = refl
+one_in_range r.Rows = refl
+one_in_range r.Partition = refl
+one_in_range r.Number = refl
+one_in_range (r.Compare how) = refl
+one_in_range (r.Deeper kind) = refl
 
 not_true : (b : Bool) → not b ≡ true → b ≡ false
 not_true true h = absurd (false≢true h)

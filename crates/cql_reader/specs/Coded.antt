@@ -1,22 +1,44 @@
 -- What the values of the program say.
-use Rattle.std.specs.Prelude.{◌≡◌, ℕ, ◌+◌, ◌<◌, ◌≤◌, true, false, map, length, slice_range, List, Option, Some, None, Result, Ok, Err}
+use Rattle.std.specs.Prelude.{◌≡◌, ℕ, ◌+◌, ◌<◌, ◌≤◌, true, false, map, reverse, length, slice_range, List, Option, Some, None, Result, Ok, Err}
 use Rattle.cql_reader.specs.declared.tokens.Kind.TheVariants as k
 use Rattle.cql_reader.specs.declared.tokens.Token.{Token as CodedToken}
 use Rattle.cql_reader.specs.declared.symbols.Role.{Role}
+use Rattle.cql_reader.specs.declared.stack.Terms.{Terms as CodedTerms}
 use Rattle.cql_reader.specs.declared.build.Draft.{Draft as CodedDraft}
 use Rattle.cql_reader.specs.declared.ReadFault.{ReadFault}
 use Rattle.cql_reader.specs.declared.ReadFault.TheVariants as faults
 use Rattle.cql_reader.specs.Lexis.{number_of}
 use Rattle.cql_reader.specs.Tokens.{Token, Scan, End, Bad, Then, scan_from}
-use Rattle.cql_reader.specs.Query.{operator_of, source_of}
-use Rattle.cql_reader.specs.Grammar.{Draft, kind_of, in_range}
-use Rattle.cql_reader.specs.Fault.{Fault, TextTooLong, NotAscii, BadToken, Unexpected, NumberRange}
+use Rattle.values.specs.Resolved.{operator_of, compare_of}
+use Rattle.cql_reader.specs.Query.{Condition}
+use Rattle.cql_reader.specs.Views.{reference_of, references_of, entry_of, source_of, sources_of, operand_of, condition_of}
+use Rattle.cql_reader.specs.declared.query.Condition.{Condition as CodedCondition}
+use Rattle.cql_reader.specs.Grammar.{Draft, Terms, kind_of, in_range, may_open}
+use Rattle.cql_reader.specs.Fault.{Fault, TextTooLong, NotAscii, BadToken, Unexpected, NumberRange, TooDeep}
 
 abbrev pub token_of : List ℕ → CodedToken → Token
 token_of text t = record { kind = t.kind; bytes = slice_range text t.«from» t.to; place = t.«from» }
 
+-- the conditions of a stack, the last first
+abbrev pub standing_of : List CodedCondition → List Condition
+standing_of conditions = reverse (map condition_of conditions)
+
+abbrev pub terms_of : CodedTerms → Terms
+terms_of t = record { left = operand_of t.left; right = operand_of t.right; how = compare_of t.how; standing = standing_of t.standing.items }
+
 abbrev pub draft_of : CodedDraft → Draft
-draft_of d = record { operator = operator_of d.operator; sources = map source_of d.sources.items; source = source_of d.source; depth = 0 }
+draft_of d = record {
+  operator = operator_of d.operator;
+  is_distinct = d.is_distinct;
+  entries = map entry_of d.entries.items;
+  reference = reference_of d.reference;
+  columns = references_of d.columns.items;
+  source = source_of d.source;
+  sources = sources_of d.sources.items;
+  terms = terms_of d.terms;
+  group = references_of d.group.items;
+  depth = d.depth;
+}
 
 -- the fault is that of the answer, or want of memory
 abbrev pub Tells : {A : Type 0} → Result A Fault → ReadFault → Type 0
@@ -26,6 +48,7 @@ Tells answer faults.NotAscii = answer ≡ Err NotAscii
 Tells answer (faults.BadToken place) = answer ≡ Err (BadToken place)
 Tells answer (faults.Unexpected place) = answer ≡ Err (Unexpected place)
 Tells answer (faults.NumberRange place) = answer ≡ Err (NumberRange place)
+Tells answer (faults.TooDeep place) = answer ≡ Err (TooDeep place)
 
 abbrev pub told : Fault → ReadFault
 told TextTooLong = faults.TextTooLong
@@ -33,6 +56,7 @@ told NotAscii = faults.NotAscii
 told (BadToken place) = faults.BadToken place
 told (Unexpected place) = faults.Unexpected place
 told (NumberRange place) = faults.NumberRange place
+told (TooDeep place) = faults.TooDeep place
 
 -- the draft, or the fault, is that of the answer, but for want of memory
 abbrev pub ReadsDraft : Result Draft Fault → Result CodedDraft ReadFault → Type 0
@@ -63,13 +87,16 @@ IsNext text rest (Err faults.TextTooLong) = ⊥
 IsNext text rest (Err faults.NotAscii) = ⊥
 IsNext text rest (Err (faults.Unexpected place)) = ⊥
 IsNext text rest (Err (faults.NumberRange place)) = ⊥
+IsNext text rest (Err (faults.TooDeep place)) = ⊥
 
--- what is told where the next token is asked to be of a role
-abbrev pub IsRead : List ℕ → Option CodedToken → Role → Result CodedToken ReadFault → Type 0
-IsRead text next role (Ok t) =
-    (next ≡ Some t) × (t.kind ≡ kind_of role) × (in_range role (number_of (token_of text t).bytes) ≡ true)
-IsRead text None role (Err (faults.Unexpected place)) = place ≡ length text
-IsRead text (Some t) role (Err (faults.Unexpected place)) = (place ≡ t.«from») × (t.kind ≡ kind_of role → ⊥)
-IsRead text (Some t) role (Err (faults.NumberRange place)) =
+-- what is told where the next token is asked to be of a role, and so many ( and Not are open
+abbrev pub IsRead : List ℕ → Option CodedToken → Role → ℕ → Result CodedToken ReadFault → Type 0
+IsRead text next role depth (Ok t) =
+    (next ≡ Some t) × (t.kind ≡ kind_of role) × (in_range role (number_of (token_of text t).bytes) ≡ true) × (may_open role depth ≡ true)
+IsRead text None role depth (Err (faults.Unexpected place)) = place ≡ length text
+IsRead text (Some t) role depth (Err (faults.Unexpected place)) = (place ≡ t.«from») × (t.kind ≡ kind_of role → ⊥)
+IsRead text (Some t) role depth (Err (faults.NumberRange place)) =
     (place ≡ t.«from») × (t.kind ≡ kind_of role) × (in_range role (number_of (token_of text t).bytes) ≡ false)
-IsRead text next role (Err fault) = ⊥
+IsRead text (Some t) role depth (Err (faults.TooDeep place)) =
+    (place ≡ t.«from») × (t.kind ≡ kind_of role) × (in_range role (number_of (token_of text t).bytes) ≡ true) × (may_open role depth ≡ false)
+IsRead text next role depth (Err fault) = ⊥

@@ -8,3 +8,4 @@ pub data Fault : Type 0 where
   BadToken : (place : ℕ) → Fault
   Unexpected : (place : ℕ) → Fault
   NumberRange : (place : ℕ) → Fault
+  TooDeep : (place : ℕ) → Fault

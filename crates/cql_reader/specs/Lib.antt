@@ -1,9 +1,11 @@
 pub mod Lexis
 pub mod Tokens
 pub mod Query
+pub mod Views
 pub mod Grammar
 pub mod Fault
 pub mod Prediction
 pub mod Coded
 pub mod Reading
+pub mod WellFormed
 pub mod Examples

@@ -1,18 +1,34 @@
--- The query that a text names.
-use Rattle.std.specs.Prelude.{ℕ, List, map, take, Option, Some, None}
-use Rattle.values.specs.Answers.{Operator, Istream, Dstream, Rstream}
-use Rattle.cql_reader.specs.declared.Operator.{Operator as CodedOperator}
-use Rattle.cql_reader.specs.declared.Operator.TheVariants as operators
-use Rattle.cql_reader.specs.declared.Name.{Name}
-use Rattle.cql_reader.specs.declared.Window.{Window as CodedWindow}
-use Rattle.cql_reader.specs.declared.Window.TheVariants as windows
-use Rattle.cql_reader.specs.declared.Source.{Source as CodedSource}
-use Rattle.cql_reader.specs.declared.Query.{Query as CodedQuery}
+-- The query that a text names, before its names are looked up.
+use Rattle.std.specs.Prelude.{ℕ, ℤ, Bool, List, Option}
+use Rattle.values.specs.Answers.{Operator}
+use Rattle.values.specs.Condition.{Compare}
 
--- the window on a stream: the rows of the instant itself, or of the last instants
+-- a column as the text names it: the bytes of its source's name, where they stand, and of its own
+pub record Reference : Type 0 where
+  pub qualifier : Option (List ℕ)
+  pub name : List ℕ
+
+-- an item of the list
+pub data Entry : Type 0 where
+  Column : Reference → Entry
+  CountAll : Entry
+  Count : Reference → Entry
+  Sum : Reference → Entry
+  Min : Reference → Entry
+  Max : Reference → Entry
+
+pub data Entries : Type 0 where
+  -- `*`
+  All : Entries
+  Each : List Entry → Entries
+
+-- the window on a stream; no window is Unbounded
 pub data Window : Type 0 where
   Now : Window
-  Range : (instants : ℕ) → Window
+  Range : ℕ → Window
+  Unbounded : Window
+  Rows : ℕ → Window
+  Partition : List Reference → ℕ → Window
 
 -- a source: the bytes of its stream's name, its window, and the bytes of its own name in the query
 pub record Source : Type 0 where
@@ -20,30 +36,22 @@ pub record Source : Type 0 where
   pub window : Window
   pub alias : Option (List ℕ)
 
+pub data Operand : Type 0 where
+  Named : Reference → Operand
+  Number : ℤ → Operand
+
+pub data Condition : Type 0 where
+  Compared : Operand → Compare → Operand → Condition
+  Not : Condition → Condition
+  And : Condition → Condition → Condition
+  Or : Condition → Condition → Condition
+
 pub record Query : Type 0 where
   pub operator : Operator
+  pub is_distinct : Bool
+  pub entries : Entries
   pub sources : List Source
-
--- What the values of the program say.
-
-abbrev pub operator_of : CodedOperator → Operator
-operator_of operators.Istream = Istream
-operator_of operators.Dstream = Dstream
-operator_of operators.Rstream = Rstream
-
-abbrev pub window_of : CodedWindow → Window
-window_of windows.Now = Now
-window_of (windows.Range instants) = Range instants
-
-abbrev pub name_of : Name → List ℕ
-name_of name = take name.len name.bytes
-
-abbrev pub alias_of : Option Name → Option (List ℕ)
-alias_of None = None
-alias_of (Some name) = Some (name_of name)
-
-abbrev pub source_of : CodedSource → Source
-source_of s = record { stream = name_of s.stream; window = window_of s.window; alias = alias_of s.alias }
-
-abbrev pub query_of : CodedQuery → Query
-query_of q = record { operator = operator_of q.operator; sources = map source_of q.sources.items }
+  -- Where, if the text has it
+  pub condition : Option Condition
+  -- Group By's columns, none where it is missing
+  pub group : List Reference

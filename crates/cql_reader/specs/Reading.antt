@@ -3,12 +3,13 @@ use Rattle.std.specs.Prelude.{◌≡◌, ℕ, ◌<◌, ◌≤◌, ◌⊎◌, Lis
 use Rattle.std.specs.Str.{IsAscii, IsNotAscii}
 use Rattle.cql_reader.specs.Lexis.{all_ascii}
 use Rattle.cql_reader.specs.Tokens.{Token, Tokens, NoToken, end_of, scan_from}
-use Rattle.cql_reader.specs.Query.{Query, query_of}
+use Rattle.cql_reader.specs.Query.{Query}
+use Rattle.cql_reader.specs.Views.{query_of}
 use Rattle.cql_reader.specs.Coded.{Tells}
-use Rattle.cql_reader.specs.declared.Query.{Query as CodedQuery}
+use Rattle.cql_reader.specs.declared.query.Query.{Query as CodedQuery}
 use Rattle.cql_reader.specs.declared.ReadFault.{ReadFault}
 use Rattle.cql_reader.specs.Grammar.{Draft, Level, Shape, Ranged, Strict, IsQuery, Begins, Fails, finished}
-use Rattle.cql_reader.specs.Fault.{Fault, TextTooLong, NotAscii, BadToken, Unexpected, NumberRange}
+use Rattle.cql_reader.specs.Fault.{Fault, TextTooLong, NotAscii, BadToken, Unexpected, NumberRange, TooDeep}
 use Rattle.cql_reader.specs.Prediction.{parsed}
 
 -- a text that is judged token by token
@@ -70,6 +71,7 @@ IsAnswer text (Err NotAscii) = (length text ≤ 4096) × IsNotAscii text
 IsAnswer text (Err (BadToken place)) = Fine text × OddByte text place
 IsAnswer text (Err (Unexpected place)) = Fine text × (OddToken text place ⊎ TooShort text place)
 IsAnswer text (Err (NumberRange place)) = Fine text × Outside Shape Ranged text place
+IsAnswer text (Err (TooDeep place)) = Fine text × Outside Ranged Strict text place
 
 abbrev pub judged : Result Draft Fault → Result Query Fault
 judged (Ok draft) = Ok (finished draft)

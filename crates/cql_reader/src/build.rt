@@ -1,23 +1,38 @@
 // The query as far as it is read.
 
-ghost use Rattle.std.specs.Prelude.{◌≡◌, ◌≤◌, true, length, OnOk};
+ghost use Rattle.std.specs.Prelude.{◌≡◌, ◌≤◌, true, length, map, OnOk};
 ghost use Rattle.cql_reader.specs.Lexis.{number_of};
 ghost use Rattle.cql_reader.specs.declared.tokens.Kind.TheVariants as kinds;
-ghost use Rattle.cql_reader.specs.Grammar.{kind_of, in_range, took, did, start, finished};
-ghost use Rattle.cql_reader.specs.Query.{query_of};
+ghost use Rattle.cql_reader.specs.declared.symbols.Mark.TheVariants as marks;
+ghost use Rattle.cql_reader.specs.Grammar.{kind_of, in_range, may_open, took, did, entered, parted, listed, start, finished, no_source};
+ghost use Rattle.cql_reader.specs.Views.{query_of, entries_of, entry_of, source_of};
 ghost use Rattle.cql_reader.specs.Coded.{draft_of};
 
-use crate::numbers::number_in;
+use crate::name::Name;
+use crate::numbers::{natural_in, number_in};
+use crate::query::{Entries, Entry, Operand, Query, Reference, Source, Window};
+use crate::stack::Terms;
 use crate::symbols::{Mark, Role};
-use crate::{Name, Operator, Query, Source, Window};
 use std::alloc::{AllocError, Global};
+use std::mem;
+use values::Operator;
 
-/// What is complete of a query, and the source at work.
+/// What is complete of a query, and what is at work.
 #[derive(Drop)]
 pub struct Draft {
     pub operator: Operator,
-    pub sources: Vec<Source>,
+    pub is_distinct: bool,
+    pub entries: Vec<Entry>,
+    // the column that is read, and the list of columns
+    pub reference: Reference,
+    pub columns: Vec<Reference>,
+    // the source that is read, and those that are complete
     pub source: Source,
+    pub sources: Vec<Source>,
+    pub terms: Terms,
+    pub group: Vec<Reference>,
+    // how many ( and Not of the condition are open
+    pub depth: usize,
 }
 
 impl Draft {
@@ -27,53 +42,132 @@ impl Draft {
     {
         Draft {
             operator: Operator::Istream,
-            sources: Vec::new(alloc),
-            source: Source {
-                stream: Name::new(b""),
-                window: Window::Now,
-                alias: None,
+            is_distinct: false,
+            entries: Vec::new(alloc),
+            reference: Reference {
+                qualifier: None,
+                name: Name::new(b""),
             },
+            columns: Vec::new(alloc),
+            source: empty_source(),
+            sources: Vec::new(alloc),
+            terms: Terms::new(alloc),
+            group: Vec::new(alloc),
+            depth: 0,
         }
     }
 
     /// Takes a token of this role, of which these are the bytes.
     #[tactic(auto, unfolding(crate::specs::Grammar::took, crate::specs::Grammar::kind_of, crate::specs::Grammar::in_range))]
-    pub fn take(&mut self, role: Role, bytes: &[u8])
+    pub fn take(&mut self, alloc: Global, role: Role, bytes: &[u8])
         requires name { kind_of role ≡ kinds.Name → length bytes.now ≤ 32 }
         requires range { in_range role (number_of bytes.now) ≡ true }
+        requires depth { may_open role self.now.depth ≡ true }
         ensures { draft_of self.new ≡ took role bytes.now (draft_of self.old) }
     {
         match role {
             Role::Fixed(_) => {}
             Role::Operator(operator) => self.operator = operator,
+            Role::Distinct => self.is_distinct = true,
+            Role::Column => {
+                self.reference = Reference {
+                    qualifier: None,
+                    name: Name::new(bytes),
+                }
+            }
+            Role::Qualified => {
+                self.reference = Reference {
+                    qualifier: Some(self.reference.name),
+                    name: Name::new(bytes),
+                }
+            }
             Role::Stream => {
                 self.source = Source {
                     stream: Name::new(bytes),
-                    window: Window::Now,
+                    window: Window::Unbounded,
                     alias: None,
                 }
             }
             Role::Alias => self.source.alias = Some(Name::new(bytes)),
             Role::Now => self.source.window = Window::Now,
-            Role::Range => self.source.window = Window::Range(number_in(bytes) as u64),
+            Role::Range => self.source.window = Window::Range(natural_in(bytes)),
+            Role::Unbounded => self.source.window = Window::Unbounded,
+            Role::Rows => self.source.window = Window::Rows(natural_in(bytes)),
+            Role::Partition => self.partition(alloc, natural_in(bytes)),
+            Role::Number => self.terms.push(Operand::Number(number_in(bytes))),
+            Role::Compare(compare) => self.terms.how = compare,
+            Role::Deeper(_) => self.depth += 1,
         }
     }
 
+    // The window on the source is the last rows for each value of the columns.
+    fn partition(&mut self, alloc: Global, rows: u64)
+        ensures { draft_of self.new ≡ parted rows (draft_of self.old) }
+    {
+        if self.columns.is_empty() {
+            return;
+        }
+        let columns = mem::replace(&mut self.columns, Vec::new(alloc));
+        self.source.window = Window::Partition(columns, rows);
+    }
+
     /// Does what stands between tokens.
-    pub fn finish(&mut self, mark: Mark) -> Result<(), AllocError>
+    #[tactic(auto, unfolding(crate::specs::Grammar::did))]
+    pub fn finish(&mut self, alloc: Global, mark: Mark) -> Result<(), AllocError>
         ensures { OnOk result (draft_of self.new ≡ did mark (draft_of self.old)) }
     {
+        let reference = self.reference;
         match mark {
+            Mark::Column => self.enter(Entry::Column(reference)),
+            Mark::CountAll => self.enter(Entry::CountAll),
+            Mark::Count => self.enter(Entry::Count(reference)),
+            Mark::Sum => self.enter(Entry::Sum(reference)),
+            Mark::Min => self.enter(Entry::Min(reference)),
+            Mark::Max => self.enter(Entry::Max(reference)),
+            Mark::Listed => self.list(),
+            Mark::Grouped => {
+                self.group = mem::replace(&mut self.columns, Vec::new(alloc));
+                Ok(())
+            }
             Mark::Source => self.add_source(),
+            Mark::Named => {
+                self.terms.push(Operand::Column(reference));
+                Ok(())
+            }
+            Mark::Compared => self.terms.compare(),
+            Mark::Negate => self.terms.negate(alloc),
+            Mark::Conjoin => self.terms.conjoin(alloc),
+            Mark::Disjoin => self.terms.disjoin(alloc),
+            Mark::Leave => {
+                self.depth = self.depth.saturating_sub(1);
+                Ok(())
+            }
         }
+    }
+
+    // One more item.
+    fn enter(&mut self, entry: Entry) -> Result<(), AllocError>
+        ensures { OnOk result (draft_of self.new ≡ entered (entry_of entry) (draft_of self.old)) }
+    {
+        self.entries.push(entry)?;
+        Ok(())
+    }
+
+    // The column is one of the list.
+    #[tactic(auto, unfolding(crate::specs::Grammar::did))]
+    fn list(&mut self) -> Result<(), AllocError>
+        ensures { OnOk result (draft_of self.new ≡ did marks.Listed (draft_of self.old)) }
+    {
+        self.columns.push(self.reference)?;
+        Ok(())
     }
 
     // Adds the source at work to those that are complete.
     #[tactic(auto, unfolding(crate::specs::Grammar::did))]
     fn add_source(&mut self) -> Result<(), AllocError>
-        ensures { OnOk result (draft_of self.new ≡ did Mark.Source (draft_of self.old)) }
+        ensures { OnOk result (draft_of self.new ≡ did marks.Source (draft_of self.old)) }
     {
-        let source = self.source;
+        let source = mem::replace(&mut self.source, empty_source());
         self.sources.push(source)?;
         Ok(())
     }
@@ -82,9 +176,36 @@ impl Draft {
     pub fn into_query(self) -> Query
         ensures { query_of result ≡ finished (draft_of self) }
     {
+        let Terms { mut standing, .. } = self.terms;
         Query {
             operator: self.operator,
+            is_distinct: self.is_distinct,
+            entries: list_of(self.entries),
             sources: self.sources,
+            condition: standing.pop(),
+            group: self.group,
         }
+    }
+}
+
+// The list of these items, which is `*` where there is none.
+fn list_of(items: Vec<Entry>) -> Entries
+    ensures { entries_of result ≡ listed (map entry_of items.items) }
+{
+    if items.is_empty() {
+        Entries::All
+    } else {
+        Entries::Each(items)
+    }
+}
+
+// A source of which nothing is read.
+fn empty_source() -> Source
+    ensures { source_of result ≡ no_source }
+{
+    Source {
+        stream: Name::new(b""),
+        window: Window::Unbounded,
+        alias: None,
     }
 }

@@ -4,10 +4,10 @@ ghost use Rattle.std.specs.Prelude.{◌≡◌, MatchOption, map};
 ghost use Rattle.cql_reader.specs.Grammar.{kind_of};
 ghost use Rattle.cql_reader.specs.Prediction.{chosen, ends, firsts, has, nullable, pick};
 
-use crate::Operator;
 use crate::symbols::{Part, Role, Symbol};
 use crate::tables::{alternatives_of, first_of};
 use crate::tokens::Kind;
+use values::{Compare, Operator};
 
 /// The alternative that a part has before this kind of token, or at the end of the text.
 pub fn choose(part: Part, next: Option<Kind>) -> Option<&'static [Symbol]>
@@ -108,13 +108,37 @@ fn may_be_missing(part: Part) -> bool
         Part::Form => false,
         Part::Op => false,
         Part::Body => false,
+        Part::OptDistinct => true,
+        Part::List => false,
+        Part::ItemTail => true,
+        Part::Item => false,
+        Part::Value => false,
+        Part::Counted => false,
+        Part::OptAs => true,
+        Part::Column => false,
+        Part::ColumnTail => true,
         Part::Rest => false,
+        Part::OptSource => true,
         Part::Source => false,
-        Part::SourceTail => false,
+        Part::SourceTail => true,
         Part::OptAlias => true,
         Part::Alias => false,
+        Part::OptWindow => true,
         Part::Window => false,
         Part::Frame => false,
+        Part::Span => false,
+        Part::Last => false,
+        Part::Columns => false,
+        Part::ColumnsTail => true,
+        Part::OptWhere => true,
+        Part::Or => false,
+        Part::OrTail => true,
+        Part::And => false,
+        Part::AndTail => true,
+        Part::Not => false,
+        Part::Operand => false,
+        Part::Compare => false,
+        Part::OptGroup => true,
         Part::End => true,
     }
 }
@@ -129,9 +153,23 @@ pub fn kind_of_role(role: Role) -> Kind
         Role::Operator(Operator::Istream) => Kind::Istream,
         Role::Operator(Operator::Dstream) => Kind::Dstream,
         Role::Operator(Operator::Rstream) => Kind::Rstream,
+        Role::Distinct => Kind::Distinct,
+        Role::Column => Kind::Name,
+        Role::Qualified => Kind::Name,
         Role::Stream => Kind::Name,
         Role::Alias => Kind::Name,
         Role::Now => Kind::Now,
         Role::Range => Kind::Number,
+        Role::Unbounded => Kind::Unbounded,
+        Role::Rows => Kind::Number,
+        Role::Partition => Kind::Number,
+        Role::Number => Kind::Number,
+        Role::Compare(Compare::Equals) => Kind::Equal,
+        Role::Compare(Compare::Differs) => Kind::Unequal,
+        Role::Compare(Compare::Below) => Kind::Less,
+        Role::Compare(Compare::AtMost) => Kind::AtMost,
+        Role::Compare(Compare::Above) => Kind::Greater,
+        Role::Compare(Compare::AtLeast) => Kind::AtLeast,
+        Role::Deeper(kind) => kind,
     }
 }

@@ -1,9 +1,10 @@
 // Laws of the definitions.
 
-ghost use Rattle.std.specs.Prelude.{◌≡◌, List, ℕ, Result, Ok, length};
+ghost use Rattle.std.specs.Prelude.{◌≡◌, List, ℕ, Result, Ok};
 ghost use Rattle.cql_reader.specs.Fault.{Fault};
 ghost use Rattle.cql_reader.specs.Query.{Query};
 ghost use Rattle.cql_reader.specs.Reading.{IsAnswer, reading};
+ghost use Rattle.cql_reader.specs.WellFormed.{IsWellFormed};
 
 /// Each text has one right answer, the one that `read` gives.
 ///
@@ -14,7 +15,8 @@ pub fn every_text_has_one_answer()
     ensures only { (text : List ℕ) (answer : Result Query Fault) → IsAnswer text answer → answer ≡ reading text }
 {}
 
-/// A query has one source.
-pub fn a_query_has_one_source()
-    ensures { (text : List ℕ) (query : Query) → reading text ≡ Ok query → length query.sources ≡ 1 }
+/// A query that is read is well formed: it has one source or two, a list that is not `*` has an item, and windows and numbers
+/// are within their ranges.
+pub fn every_query_is_well_formed()
+    ensures { (text : List ℕ) (query : Query) → reading text ≡ Ok query → IsWellFormed query }
 {}

@@ -1,21 +1,24 @@
 // The machine: a stack of symbols, of which the top tells what to do with the next token.
 
-ghost use Rattle.std.specs.Prelude.{◌≡◌, ◌<◌, ◌++◌, true, reverse, length, IfOk, OnOk};
+ghost use Rattle.std.specs.Prelude.{◌≡◌, ◌<◌, ◌++◌, ◌↔◌, true, reverse, IfOk, IsTrue, OnOk};
 ghost use Rattle.cql_reader.specs.Lexis.{number_of};
-ghost use Rattle.cql_reader.specs.Grammar.{in_range, in_span};
+ghost use Rattle.cql_reader.specs.Grammar.{kind_of, in_range, in_span, in_rows, in_stream, may_open};
 ghost use Rattle.cql_reader.specs.Prediction.{ahead, stopped, parsed};
 ghost use Rattle.cql_reader.specs.Tokens.{scan_from};
 ghost use Rattle.cql_reader.specs.Coded.{ReadsDraft, IsInside, IsRead, rest_of, told};
 ghost use Rattle.cql_reader.specs.Reading.{Reads, reading};
+ghost use Rattle.cql_reader.specs.Views.{query_of};
+ghost use Rattle.cql_reader.specs.WellFormed.{IsWellFormed};
 
 use crate::build::Draft;
 use crate::bytes::is_ascii;
 use crate::choice::{choose, kind_of_role};
 use crate::numbers::number_in;
+use crate::query::Query;
 use crate::scan::next_token;
 use crate::symbols::{Part, Role, Symbol};
 use crate::tokens::{Kind, Token};
-use crate::{MAX_TEXT, Query, ReadFault};
+use crate::{MAX_DEPTH, MAX_TEXT, ReadFault};
 use std::alloc::{AllocError, Global};
 
 // Whether the number of a token is one of a range's.
@@ -26,18 +29,44 @@ fn is_span(bytes: &[u8]) -> bool
     !(number < 0) && number < 1_099_511_627_777
 }
 
+// Whether it is one of rows'.
+fn is_rows(bytes: &[u8]) -> bool
+    ensures { result ≡ in_rows (number_of bytes.now) }
+{
+    let number = number_in(bytes);
+    !(number < 1) && number < 65_537
+}
+
+// Whether it is one of a stream.
+fn is_stream(bytes: &[u8]) -> bool
+    ensures { result ≡ in_stream (number_of bytes.now) }
+{
+    let number = number_in(bytes);
+    !(number < -1_099_511_627_775) && number < 1_099_511_627_776
+}
+
 // Whether the number of a token is in the range of its place.
 #[tactic(auto, unfolding(crate::specs::Grammar::in_range))]
 fn is_in_range(role: Role, bytes: &[u8]) -> bool
     ensures { result ≡ in_range role (number_of bytes.now) }
 {
     match role {
-        Role::Fixed(_) => true,
-        Role::Operator(_) => true,
-        Role::Stream => true,
-        Role::Alias => true,
-        Role::Now => true,
         Role::Range => is_span(bytes),
+        Role::Rows => is_rows(bytes),
+        Role::Partition => is_rows(bytes),
+        Role::Number => is_stream(bytes),
+        _ => true,
+    }
+}
+
+// Whether one more `(` or `Not` may be open, where the role is that of one.
+#[tactic(auto, unfolding(crate::specs::Grammar::deepens))]
+fn is_shallow(role: Role, depth: usize) -> bool
+    ensures { result ≡ may_open role depth }
+{
+    match role {
+        Role::Deeper(_) => depth < MAX_DEPTH,
+        _ => true,
     }
 }
 
@@ -70,19 +99,29 @@ fn unexpected(text: &[u8], next: Option<Token>) -> ReadFault
     }
 }
 
-// The next token, which is to be of this role.
-fn expected(text: &[u8], next: Option<Token>, role: Role) -> Result<Token, ReadFault>
+// Whether a token of this kind may have the role.
+fn is_of(kind: Kind, role: Role) -> bool
+    ensures { IsTrue result ↔ kind ≡ kind_of role }
+{
+    kind == kind_of_role(role)
+}
+
+// The next token, which is to be of this role where so many `(` and `Not` are open.
+fn expected(text: &[u8], next: Option<Token>, role: Role, depth: usize) -> Result<Token, ReadFault>
     requires { IsInside text.now next }
-    ensures { IsRead text.now next role result }
+    ensures { IsRead text.now next role depth result }
 {
     match next {
         None => Err(ReadFault::Unexpected(text.len())),
         Some(token) => {
-            if token.kind != kind_of_role(role) {
+            if !is_of(token.kind, role) {
                 return Err(ReadFault::Unexpected(token.from));
             }
             if !is_in_range(role, &text[token.from..token.to]) {
                 return Err(ReadFault::NumberRange(token.from));
+            }
+            if !is_shallow(role, depth) {
+                return Err(ReadFault::TooDeep(token.from));
             }
             Ok(token)
         }
@@ -99,10 +138,10 @@ fn parse(alloc: Global, text: &[u8]) -> Result<Draft, ReadFault>
     let mut next = next_token(text, 0)?;
     while let Some(symbol) = stack.pop() {
         match symbol {
-            Symbol::Emit(mark) => draft.finish(mark)?,
+            Symbol::Emit(mark) => draft.finish(alloc, mark)?,
             Symbol::Read(role) => {
-                let token = expected(text, next, role)?;
-                draft.take(role, &text[token.from..token.to]);
+                let token = expected(text, next, role, draft.depth)?;
+                draft.take(alloc, role, &text[token.from..token.to]);
                 next = next_token(text, token.to)?;
             }
             Symbol::Rule(part) => match choose(part, kind_ahead(text, next)) {
@@ -124,7 +163,7 @@ fn parse(alloc: Global, text: &[u8]) -> Result<Draft, ReadFault>
 /// `OutOfMemory` may stand in place of any answer.
 pub fn read(alloc: Global, text: &[u8]) -> Result<Query, ReadFault>
     ensures reading { Reads (reading text.now) result }
-    ensures one_source { IfOk result (λ query. length query.sources.items ≡ 1) }
+    ensures well_formed { IfOk result (λ query. IsWellFormed (query_of query)) }
 {
     if text.len() > MAX_TEXT {
         return Err(ReadFault::TextTooLong);

@@ -1,6 +1,6 @@
 // Numbers.
 
-ghost use Rattle.std.specs.Prelude.{◌≡◌, ◌<◌, length, min, nat_eq, IsTrue};
+ghost use Rattle.std.specs.Prelude.{◌≡◌, ◌<◌, length, min, nat_abs, nat_eq, IsTrue};
 ghost use Rattle.cql_reader.specs.Lexis.{decimal, first_byte, number_of, capped};
 
 // Outside the range of each place.
@@ -37,5 +37,16 @@ pub fn number_in(bytes: &[u8]) -> i64
         -(magnitude_of(&bytes[1..]) as i64)
     } else {
         magnitude_of(bytes) as i64
+    }
+}
+
+/// The number that the bytes of a token write without their minus, cut off at the limit.
+pub fn natural_in(bytes: &[u8]) -> u64
+    ensures { result ≡ min (nat_abs (number_of bytes.now)) 2199023255552 }
+{
+    if is_signed(bytes) {
+        magnitude_of(&bytes[1..])
+    } else {
+        magnitude_of(bytes)
     }
 }

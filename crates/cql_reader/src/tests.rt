@@ -1,36 +1,60 @@
 // Texts and their answers.
 
-use crate::Operator::{Dstream, Istream, Rstream};
-use crate::ReadFault::{self, BadToken, NumberRange, Unexpected};
-use crate::Window::{Now, Range};
-use crate::{every_text_has_one_answer, is_name, read};
+use crate::ReadFault::{self, BadToken, NumberRange, TooDeep, Unexpected};
+use crate::{
+    Condition, Entries, Entry, Operand, Reference, Window, every_query_is_well_formed,
+    every_text_has_one_answer, is_name, read,
+};
+use values::Compare::{Above, AtLeast, AtMost, Below, Differs, Equals};
+use values::Operator::{Dstream, Istream, Rstream};
+use values::{Compare, Operator};
 
 #[test]
 fn first_fault_and_its_place_are_told(rt: HostRuntime) {
     let table = [
         ("", Unexpected(0)),
         ("Select * From S", Unexpected(7)),
-        ("Select Istream(a) From S [Now]", Unexpected(15)),
-        ("Select Istream(*) From S", Unexpected(24)),
+        ("Istream(Select a From S [Now]", Unexpected(29)),
+        ("Select Istream(a) From S [Now])", Unexpected(30)),
+        ("Select Istream(Count(Distinct a)) From S", Unexpected(21)),
+        ("Select Istream(Sum(*)) From S", Unexpected(19)),
+        ("Select Istream(a, *) From S", Unexpected(18)),
         ("Select Istream(*) From Range [Now]", Unexpected(23)),
         (
             "Select Istream(*) From abcdefghijklmnopqrstuvwxyz_234567 [Now]",
             Unexpected(23),
         ),
-        ("Select Istream(*) From S [Rows 1]", Unexpected(26)),
+        ("Select Istream(*) From S [Range 1 Slide 1]", Unexpected(34)),
         ("Select Istream(*) From S [Range5]", Unexpected(26)),
-        ("Select Istream(*) From S [Now", Unexpected(29)),
-        ("Select Istream(*) From S [Now];;", Unexpected(31)),
+        ("Select Istream(*) From S, T, U", Unexpected(27)),
+        ("Select Istream(*) From S x y", Unexpected(27)),
+        ("Select Istream(*) From S [Now] x [Now]", Unexpected(33)),
+        ("Select Istream(*) From S Where a", Unexpected(32)),
+        ("Select Istream(*) From S Where (a) = 1", Unexpected(33)),
+        ("Select Istream(*) From S Group By 1", Unexpected(34)),
+        ("Select Istream(*) From S;;", Unexpected(25)),
         ("Select Istream(*) From S [Range -1]", NumberRange(32)),
         (
             "Select Istream(*) From S [Range 1099511627777]",
             NumberRange(32),
         ),
+        ("Select Istream(*) From S [Rows 0]", NumberRange(31)),
+        ("Select Istream(*) From S [Rows 65537]", NumberRange(31)),
         (
-            "Select Istream(*) From S [Range 1000000000000000000000000000000000000007]",
-            NumberRange(32),
+            "Select Istream(*) From S [Partition By a Rows 0]",
+            NumberRange(46),
+        ),
+        (
+            "Select Istream(*) From S Where a = 1099511627776",
+            NumberRange(35),
+        ),
+        (
+            "Select Istream(*) From S Where -1000000000000000000000000000000007 < a",
+            NumberRange(31),
         ),
         ("Select Istream(*) From S [Now] $", BadToken(31)),
+        ("Select Istream(*) From S Where a ! = 1", BadToken(33)),
+        ("Select Istream(*) From S Where a = - 1", BadToken(35)),
     ];
     for (text, want) in table {
         match read(rt.alloc(), text.as_bytes()) {
@@ -49,44 +73,241 @@ fn long_texts_and_other_bytes_are_refused(rt: HostRuntime) {
 }
 
 #[test]
-fn queries_are_read(rt: HostRuntime) {
+fn a_condition_is_thirty_two_deep(rt: HostRuntime) {
     let table = [
-        ("Select Istream(*) From S [Now]", Istream, Now, ""),
-        ("Select Istream(*) From S [Now] ;\r\n", Istream, Now, ""),
+        (
+            "Select Istream(a) From S Where ((((((((((((((((((((((((((((((((a > 0))))))))))))))))))))))))))))))))",
+            None,
+        ),
+        (
+            "Select Istream(a) From S Where (((((((((((((((((((((((((((((((((a > 0)))))))))))))))))))))))))))))))))",
+            Some(TooDeep(63)),
+        ),
+        (
+            "Select Istream(a) From S Where Not((((((((((((((((((((((((((((((((a > 0))))))))))))))))))))))))))))))))",
+            Some(TooDeep(65)),
+        ),
+        (
+            "Select Istream(a) From S Where ((((((((((((((((((((((((((((((((a > 0)))))))))))))))))))))))))))))))) Or Not a > 0",
+            None,
+        ),
+    ];
+    for (text, want) in table {
+        match read(rt.alloc(), text.as_bytes()) {
+            Err(fault) => assert_eq!(rt; Some(fault), want, "{text}"),
+            Ok(_) => assert_eq!(rt; None, want, "{text}"),
+        }
+    }
+}
+
+// Whether the window is of this kind and number.
+fn is_window(window: &Window, kind: &str, number: u64) -> bool {
+    match window {
+        Window::Now => kind == "Now",
+        Window::Range(instants) => kind == "Range" && *instants == number,
+        Window::Unbounded => kind == "Unbounded",
+        Window::Rows(rows) => kind == "Rows" && *rows == number,
+        Window::Partition(by, rows) => kind == "Partition" && by.len() == 2 && *rows == number,
+    }
+}
+
+#[test]
+fn sources_are_read(rt: HostRuntime) {
+    let table = [
+        ("Select Istream(*) From S", Istream, "Unbounded", 0, ""),
+        (
+            "Select Istream(*) From S [Now] ;\r\n",
+            Istream,
+            "Now",
+            0,
+            "",
+        ),
         (
             "sELECT dSTREAM(*) fROM S [rANGE 0012]",
             Dstream,
-            Range(12),
+            "Range",
+            12,
             "",
         ),
         (
-            "Select Istream(*) From S [Range -0] x",
+            "Istream(Select * From S [Range -0] x)",
             Istream,
-            Range(0),
+            "Range",
+            0,
             "x",
         ),
-        ("Select Rstream(*) From S As x [Now];", Rstream, Now, "x"),
-        ("Select Rstream(*)From S x[Now]", Rstream, Now, "x"),
-        ("Select Istream(*)From S[Now]x", Istream, Now, "x"),
+        (
+            "Rstream(Select * From S As x [Rows 1]);",
+            Rstream,
+            "Rows",
+            1,
+            "x",
+        ),
+        (
+            "Select Rstream(*)From S x[Range Unbounded]",
+            Rstream,
+            "Unbounded",
+            0,
+            "x",
+        ),
+        (
+            "Select Istream(*)From S[Rows Unbounded]As x",
+            Istream,
+            "Unbounded",
+            0,
+            "x",
+        ),
+        ("Select Istream(*) From S x", Istream, "Unbounded", 0, "x"),
         (
             "Select Istream(*) From S [Range 1099511627776]",
             Istream,
-            Range(1_099_511_627_776),
+            "Range",
+            1_099_511_627_776,
+            "",
+        ),
+        (
+            "Select Istream(*) From S [Partition By a, S.b Rows 65536]",
+            Istream,
+            "Partition",
+            65_536,
             "",
         ),
     ];
-    for (text, operator, window, alias) in table {
+    for (text, operator, window, number, alias) in table {
         let query = read(rt.alloc(), text.as_bytes()).expect(&rt, text);
         assert_eq!(rt; query.operator, operator, "{text}");
         assert_eq!(rt; query.sources.len(), 1, "{text}");
         for source in query.sources.iter() {
             assert_eq!(rt; source.stream.as_bytes(), b"S".as_slice(), "{text}");
-            assert_eq!(rt; source.window, window, "{text}");
+            assert!(rt; is_window(&source.window, window, number), "{text}");
             match &source.alias {
                 None => assert_eq!(rt; alias, "", "{text}"),
                 Some(name) => assert_eq!(rt; name.as_bytes(), alias.as_bytes(), "{text}"),
             }
         }
+    }
+}
+
+#[test]
+fn both_sources_are_read_in_order(rt: HostRuntime) {
+    let text = "Select Istream(A.k, B.v) From A [Rows 2], B [Range 1] Where A.k = B.k And B.v > 5";
+    let query = read(rt.alloc(), text.as_bytes()).expect(&rt, text);
+    assert_eq!(rt; query.sources.len(), 2);
+    let table = [("A", "Rows", 2), ("B", "Range", 1)];
+    for (source, (stream, window, number)) in query.sources.iter().zip(table) {
+        assert_eq!(rt; source.stream.as_bytes(), stream.as_bytes());
+        assert!(rt; is_window(&source.window, window, number));
+        assert!(rt; source.alias.is_none());
+    }
+}
+
+// Whether the reference is of this column, of a source of this name.
+fn is_column(reference: &Reference, source: &str, name: &str) -> bool {
+    let qualifier = match &reference.qualifier {
+        None => b"",
+        Some(qualifier) => qualifier.as_bytes(),
+    };
+    qualifier == source.as_bytes() && reference.name.as_bytes() == name.as_bytes()
+}
+
+// Whether the item is of this kind and column.
+fn is_item(entry: &Entry, kind: &str, source: &str, name: &str) -> bool {
+    match entry {
+        Entry::Column(column) => kind == "" && is_column(column, source, name),
+        Entry::CountAll => kind == "CountAll",
+        Entry::Count(column) => kind == "Count" && is_column(column, source, name),
+        Entry::Sum(column) => kind == "Sum" && is_column(column, source, name),
+        Entry::Min(column) => kind == "Min" && is_column(column, source, name),
+        Entry::Max(column) => kind == "Max" && is_column(column, source, name),
+    }
+}
+
+#[test]
+fn lists_and_groups_are_read(rt: HostRuntime) {
+    let text =
+        "Rstream(Select Distinct k As j, S.k, Count(*), Count(k), Sum(v) As k, Min(S.v), Max(v) From S Group By k, S.v)";
+    let items = [
+        ("", "", "k"),
+        ("", "S", "k"),
+        ("CountAll", "", ""),
+        ("Count", "", "k"),
+        ("Sum", "", "v"),
+        ("Min", "S", "v"),
+        ("Max", "", "v"),
+    ];
+    let query = read(rt.alloc(), text.as_bytes()).expect(&rt, text);
+    assert!(rt; query.is_distinct);
+    assert!(rt; query.condition.is_none());
+    match &query.entries {
+        Entries::All => assert!(rt; false),
+        Entries::Each(entries) => {
+            assert_eq!(rt; entries.len(), items.len());
+            for (entry, (kind, source, name)) in entries.iter().zip(items) {
+                assert!(rt; is_item(entry, kind, source, name), "{kind} {name}");
+            }
+        }
+    }
+    assert_eq!(rt; query.group.len(), 2);
+    for (column, (source, name)) in query.group.iter().zip([("", "k"), ("S", "v")]) {
+        assert!(rt; is_column(column, source, name));
+    }
+}
+
+// Whether the condition compares this column with this number.
+fn is_test(condition: &Condition, name: &str, how: Compare, number: i64) -> bool {
+    match condition {
+        Condition::Compared(Operand::Column(column), own, Operand::Number(right)) => {
+            is_column(column, "", name) && *own == how && *right == number
+        }
+        _ => false,
+    }
+}
+
+#[test]
+fn conditions_are_read(rt: HostRuntime) {
+    let text = "Select Istream(*) From S Where a = 1 Or b <> -2 And c != 3";
+    let query = read(rt.alloc(), text.as_bytes()).expect(&rt, text);
+    match &query.condition {
+        Some(Condition::Or(first, second)) => {
+            assert!(rt; is_test(first, "a", Equals, 1));
+            match &**second {
+                Condition::And(second, third) => {
+                    assert!(rt; is_test(second, "b", Differs, -2));
+                    assert!(rt; is_test(third, "c", Differs, 3));
+                }
+                _ => assert!(rt; false),
+            }
+        }
+        _ => assert!(rt; false),
+    }
+}
+
+#[test]
+fn parentheses_and_not_are_read(rt: HostRuntime) {
+    let text =
+        "Istream(Select * From S Where a < 1 And b <= 2 And Not (c > 1099511627775 Or d >= -1099511627775))";
+    let query = read(rt.alloc(), text.as_bytes()).expect(&rt, text);
+    match &query.condition {
+        Some(Condition::And(front, last)) => {
+            match &**front {
+                Condition::And(first, second) => {
+                    assert!(rt; is_test(first, "a", Below, 1));
+                    assert!(rt; is_test(second, "b", AtMost, 2));
+                }
+                _ => assert!(rt; false),
+            }
+            match &**last {
+                Condition::Not(inner) => match &**inner {
+                    Condition::Or(third, fourth) => {
+                        assert!(rt; is_test(third, "c", Above, 1_099_511_627_775));
+                        assert!(rt; is_test(fourth, "d", AtLeast, -1_099_511_627_775));
+                    }
+                    _ => assert!(rt; false),
+                },
+                _ => assert!(rt; false),
+            }
+        }
+        _ => assert!(rt; false),
     }
 }
 
@@ -99,6 +320,7 @@ fn faults_are_printed(rt: HostRuntime) {
         (ReadFault::BadToken(31), "Q3 BadToken at 31"),
         (ReadFault::Unexpected(0), "Q4 Unexpected at 0"),
         (ReadFault::NumberRange(4095), "Q5 NumberRange at 4095"),
+        (ReadFault::TooDeep(63), "Q6 TooDeep at 63"),
     ];
     for (fault, want) in table {
         let text = format!(in rt.alloc(); "{fault}").expect(&rt, want);
@@ -109,6 +331,7 @@ fn faults_are_printed(rt: HostRuntime) {
 #[test]
 fn names_are_words_that_are_not_reserved(rt: HostRuntime) {
     every_text_has_one_answer();
+    every_query_is_well_formed();
     for name in [
         "a",
         "_",

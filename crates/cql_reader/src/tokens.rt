@@ -1,7 +1,7 @@
 // Tokens.
 
 /// The kinds of tokens.
-#[derive(Clone, Copy, Debug, PartialEq, Eq)]
+#[derive(Clone, Copy, PartialEq, Eq)]
 pub enum Kind {
     Select,
     Distinct,
@@ -47,7 +47,7 @@ pub enum Kind {
 }
 
 /// A token, and from where to where it stands in the text.
-#[derive(Clone, Copy, Debug)]
+#[derive(Clone, Copy)]
 pub struct Token {
     pub kind: Kind,
     pub from: usize,

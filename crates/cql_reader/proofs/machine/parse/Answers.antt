@@ -74,7 +74,7 @@ pub loop-symbol-smaller-in-Read : goal.loop-symbol-smaller-in-Read
 loop-symbol-smaller-in-Read c =
     let text = c.args.text.now in
     let e = popped _ _ _ _ c.in-Some.ensures.items c.in-Read.is in
-    read_falls text c.loop-symbol.next _ c.in-Read.role _ _ _ c.in_ok-token-in-Read.ensures c.in_ok-next-in-Read.ensures.0 e
+    read_falls text c.loop-symbol.next _ c.in-Read.role _ _ _ _ c.in_ok-token-in-Read.ensures c.in_ok-next-in-Read.ensures.0 e
 
 pub loop-symbol-preserved-in-Read : goal.loop-symbol-preserved-in-Read
 loop-symbol-preserved-in-Read c =

@@ -1,10 +1,8 @@
-use Rattle.std.proofs.Common.{◌≡◌, ◌∙◌, ℕ, List, length, sym, ap, subst, arith, Result, Ok}
-use Rattle.std.proofs.lemmas.List.{length-map}
+use Rattle.std.proofs.Common.{◌∙◌, sym, ap, subst, arith, Result, Ok}
 use Rattle.std.proofs.lemmas.Result.{err_from_is_err_and}
 use Rattle.cql_reader.specs.Fault.{Fault}
-use Rattle.cql_reader.specs.Query.{Query, source_of, query_of}
-use Rattle.cql_reader.specs.declared.Query.{Query as CodedQuery}
-use Rattle.cql_reader.proofs.Sources.{one_source}
+use Rattle.cql_reader.specs.Query.{Query}
+use Rattle.cql_reader.proofs.WellFormed.{well_formed}
 use Rattle.cql_reader.specs.Tokens.{scan_from}
 use Rattle.cql_reader.specs.Prediction.{parsed}
 use Rattle.cql_reader.specs.Coded.{Tells}
@@ -27,17 +25,13 @@ returns-in_err-draft-clause-reading c =
     let p = err_from_is_err_and c.from_residual.result c.from_residual.ensures.1 in
     rw (p.1, p.2) f
 
--- the draft is the query that is read
-right : (text : List ℕ) (query : CodedQuery) → reading text ≡ Ok (query_of query) → length query.sources.items ≡ 1
-right text query e = sym (length-map query.sources.items source_of) ∙ one_source text (query_of query) e
-
 pub returns-clause-reading : goal.returns-clause-reading
 returns-clause-reading c =
     let text = c.args.text.now in
     reading_fine text (omega arith) (sym c.if-not-is_ascii.ensures) ∙ ap judged c.in_ok-draft.ensures ∙ ap Ok (sym c.into_query.ensures)
 
-pub returns-clause-one_source : goal.returns-clause-one_source
-returns-clause-one_source c =
+pub returns-clause-well_formed : goal.returns-clause-well_formed
+returns-clause-well_formed c =
     let text = c.args.text.now in
-    right text c.into_query.result
+    well_formed text _
     (reading_fine text (omega arith) (sym c.if-not-is_ascii.ensures) ∙ ap judged c.in_ok-draft.ensures ∙ ap Ok (sym c.into_query.ensures))

@@ -1,0 +1,126 @@
+// The condition as far as it is read.
+
+ghost use Rattle.std.specs.Prelude.{◌≡◌, OnOk};
+ghost use Rattle.values.specs.Resolved.{compare_of};
+ghost use Rattle.cql_reader.specs.Views.{operand_of};
+ghost use Rattle.cql_reader.specs.Grammar.{no_terms, sided, compared, negated, conjoined, disjoined, standing_by};
+ghost use Rattle.cql_reader.specs.Coded.{terms_of, standing_of};
+
+use crate::query::{Condition, Operand};
+use std::alloc::{AllocError, Global};
+use values::Compare;
+
+/// The last two operands, the last comparison, and the conditions that stand, the last on top.
+#[derive(Drop)]
+pub struct Terms {
+    pub left: Operand,
+    pub right: Operand,
+    pub how: Compare,
+    pub standing: Vec<Condition>,
+}
+
+impl Terms {
+    /// Before the first term.
+    pub fn new(alloc: Global) -> Terms
+        ensures { terms_of result ≡ no_terms }
+    {
+        Terms {
+            left: Operand::Number(0),
+            right: Operand::Number(0),
+            how: Compare::Equals,
+            standing: Vec::new(alloc),
+        }
+    }
+
+    /// One more operand.
+    pub fn push(&mut self, operand: Operand)
+        ensures { terms_of self.new ≡ sided (operand_of operand) (terms_of self.old) }
+    {
+        self.left = self.right;
+        self.right = operand;
+    }
+
+    /// The last two operands stand compared.
+    pub fn compare(&mut self) -> Result<(), AllocError>
+        ensures { OnOk result (terms_of self.new ≡ compared (terms_of self.old)) }
+    {
+        self.standing
+            .push(Condition::Compared(self.left, self.how, self.right))?;
+        Ok(())
+    }
+
+    /// The last condition is negated.
+    pub fn negate(&mut self, alloc: Global) -> Result<(), AllocError>
+        ensures { OnOk result (terms_of self.new ≡ standing_by negated (terms_of self.old)) }
+    {
+        negate(alloc, &mut self.standing)
+    }
+
+    /// The last two conditions are joined: both are asked for.
+    pub fn conjoin(&mut self, alloc: Global) -> Result<(), AllocError>
+        ensures { OnOk result (terms_of self.new ≡ standing_by conjoined (terms_of self.old)) }
+    {
+        conjoin(alloc, &mut self.standing)
+    }
+
+    /// The last two conditions are joined: one of them is asked for.
+    pub fn disjoin(&mut self, alloc: Global) -> Result<(), AllocError>
+        ensures { OnOk result (terms_of self.new ≡ standing_by disjoined (terms_of self.old)) }
+    {
+        disjoin(alloc, &mut self.standing)
+    }
+}
+
+fn negate(alloc: Global, standing: &mut Vec<Condition>) -> Result<(), AllocError>
+    ensures { OnOk result (standing_of standing.new.items ≡ negated (standing_of standing.old.items)) }
+{
+    match standing.pop() {
+        None => Ok(()),
+        Some(last) => {
+            let last = Box::new(alloc, last)?;
+            standing.push(Condition::Not(last))?;
+            Ok(())
+        }
+    }
+}
+
+// The last two conditions, in order, or what there is.
+fn conjoin(alloc: Global, standing: &mut Vec<Condition>) -> Result<(), AllocError>
+    ensures { OnOk result (standing_of standing.new.items ≡ conjoined (standing_of standing.old.items)) }
+{
+    match standing.pop() {
+        None => Ok(()),
+        Some(last) => match standing.pop() {
+            None => {
+                standing.push(last)?;
+                Ok(())
+            }
+            Some(before) => {
+                let left = Box::new(alloc, before)?;
+                let right = Box::new(alloc, last)?;
+                standing.push(Condition::And(left, right))?;
+                Ok(())
+            }
+        },
+    }
+}
+
+fn disjoin(alloc: Global, standing: &mut Vec<Condition>) -> Result<(), AllocError>
+    ensures { OnOk result (standing_of standing.new.items ≡ disjoined (standing_of standing.old.items)) }
+{
+    match standing.pop() {
+        None => Ok(()),
+        Some(last) => match standing.pop() {
+            None => {
+                standing.push(last)?;
+                Ok(())
+            }
+            Some(before) => {
+                let left = Box::new(alloc, before)?;
+                let right = Box::new(alloc, last)?;
+                standing.push(Condition::Or(left, right))?;
+                Ok(())
+            }
+        },
+    }
+}

@@ -1,0 +1,13 @@
+use Rattle.std.proofs.Common.{◌≡◌, ◌++◌, ◌-◌, take, drop, map, length, flat_map}
+use Rattle.std.specs.List.{range_with_len}
+use Rattle.values.specs.Resolved.{columns_of, items_of}
+use Rattle.cql_reader.specs.Views as syntax
+use Rattle.names.specs.Matches as matches
+use Rattle.names.specs.Resolved as spec
+use Rattle.names.specs.Views.{tables_of}
+use Rattle.names.proofs.entries.add_columns.Given as goal
+
+abbrev pub invariant-loop-column : goal.invariant-loop-column
+invariant-loop-column l =
+    columns_of l.columns.items
+    ≡ columns_of l.initial.columns.items ++ map (λ k. record { source = l.source; column = k }) (range_with_len 0 l.column)

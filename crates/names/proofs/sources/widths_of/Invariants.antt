@@ -1,0 +1,7 @@
+use Rattle.std.proofs.Common.{◌≡◌, ◌++◌, ◌-◌, take, drop, map, length, flat_map}
+use Rattle.std.specs.List.{range_with_len}
+use Rattle.names.specs.Views.{tables_of}
+use Rattle.names.proofs.sources.widths_of.Given as goal
+
+abbrev pub invariant-loop-table : goal.invariant-loop-table
+invariant-loop-table l = l.widths.items ≡ map (λ t. length t.columns) (tables_of (take l.table-index l.tables))

@@ -1,0 +1,12 @@
+use Rattle.std.proofs.Common.{◌≡◌, ◌++◌, ◌-◌, take, drop, map, length, flat_map}
+use Rattle.std.specs.List.{range_with_len}
+use Rattle.names.specs.Matches as spec
+use Rattle.cql_reader.specs.Views as syntax
+use Rattle.names.specs.Resolved.{named_by}
+use Rattle.names.specs.Views.{table_of, tables_of, verdict_of, verdict_on, both_verdicts, partitions_in}
+use Rattle.names.proofs.verdict.judge_entries.Given as goal
+
+abbrev pub invariant-loop-entry : goal.invariant-loop-entry
+invariant-loop-entry l =
+    both_verdicts l.verdict (verdict_on (tables_of l.tables) (flat_map named_by (map syntax.entry_of (drop l.entry-index l.entries))))
+    ≡ verdict_on (tables_of l.tables) (flat_map named_by (map syntax.entry_of l.entries))

@@ -1,2 +1,4 @@
 pub mod Lists
 pub mod Founds
+pub mod Columns
+pub mod Verdicts

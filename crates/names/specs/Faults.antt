@@ -78,10 +78,13 @@ is_outside ts by (syntax.Sum r) = false
 is_outside ts by (syntax.Min r) = false
 is_outside ts by (syntax.Max r) = false
 
+-- a list is `*`, or has a column that is none of these of Group By
+abbrev pub has_outside : List Table → List Column → syntax.Entries → Bool
+has_outside ts by entries = is_all entries || list_any (is_outside ts by) (entry_list entries)
+
 -- a grouped query lists `*`, or a column that Group By does not have
 abbrev pub is_ungrouped : List Table → syntax.Query → Bool
-is_ungrouped ts q =
-    is_grouped q && (is_all q.entries || list_any (is_outside ts (map (column_of ts) q.group)) (entry_list q.entries))
+is_ungrouped ts q = is_grouped q && has_outside ts (map (column_of ts) q.group) q.entries
 
 -- the most items, Group By columns, and Partition By columns
 abbrev pub most : ℕ

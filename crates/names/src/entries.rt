@@ -1,5 +1,5 @@
 //! The list of a query and its Group By.
-ghost use Rattle.std.specs.Prelude.{◌≡◌, ◌++◌, ◌||◌, IfOk, OnOk, length, map, nat_lt};
+ghost use Rattle.std.specs.Prelude.{◌≡◌, ◌++◌, ◌||◌, IfOk, OnOk, length, map, nat_lt, position};
 ghost use Rattle.std.specs.List.{list_any, flat_map, range_with_len};
 ghost use Rattle.values.specs.Resolved.{column_of, columns_of, item_of, items_of, shape_of};
 ghost use Rattle.cql_reader.specs.Views as syntax;
@@ -100,13 +100,25 @@ fn same_column(a: Column, b: Column) -> bool
     a.source == b.source && a.column == b.column
 }
 
+/// The first place of a column among columns.
+fn place_among(column: Column, columns: &[Column]) -> Option<usize>
+    ensures { result ≡ position (λ k. spec.same_column (column_of k) (column_of column)) columns.now }
+{
+    columns.iter().position(|key| same_column(*key, column))
+}
+
+/// Whether a column is among columns.
+fn is_among(column: Column, columns: &[Column]) -> bool
+    ensures { result ≡ list_any (λ k. spec.same_column (column_of k) (column_of column)) columns.now }
+{
+    columns.iter().any(|key| same_column(*key, column))
+}
+
 /// The place of a column in Group By; 0 where it is none of them.
 fn key_place(column: Column, by: &[Column]) -> usize
     ensures { result ≡ spec.key_place (column_of column) (columns_of by.now) }
 {
-    by.iter()
-        .position(|key| same_column(*key, column))
-        .unwrap_or(0)
+    place_among(column, by).unwrap_or(0)
 }
 
 /// An item of the list of a grouped query.
@@ -158,11 +170,28 @@ fn is_aggregate(entry: &Entry) -> bool
     }
 }
 
+/// Whether an item is an aggregate.
+fn has_aggregate(entries: &[Entry]) -> bool
+    ensures { result ≡ list_any (λ e. spec.is_aggregate (syntax.entry_of e)) entries.now }
+{
+    entries.iter().any(|entry| is_aggregate(entry))
+}
+
+/// Whether there is a reference.
+fn is_some_reference(references: &[Reference]) -> bool
+    ensures { result ≡ spec.is_some_reference (syntax.references_of references.now) }
+{
+    match references {
+        [] => false,
+        [_, ..] => true,
+    }
+}
+
 /// Whether the query has Group By or an aggregate.
 fn is_grouped(query: &Query) -> bool
     ensures { result ≡ spec.is_grouped (syntax.query_of query.now) }
 {
-    !query.group.is_empty() || entry_list(&query.entries).iter().any(is_aggregate)
+    is_some_reference(&query.group) || has_aggregate(entry_list(&query.entries))
 }
 
 /// What is listed, where Group By's columns are these.
@@ -188,21 +217,25 @@ fn is_outside(tables: &[Table], by: &[Column], entry: &Entry) -> bool
     ensures { result ≡ faults.is_outside (tables_of tables.now) (columns_of by.now) (syntax.entry_of entry.now) }
 {
     match entry {
-        Entry::Column(reference) => {
-            let column = named_column(tables, reference);
-            !by.iter().any(|key| same_column(*key, column))
-        }
+        Entry::Column(reference) => !is_among(named_column(tables, reference), by),
         _ => false,
     }
 }
 
-/// Whether an item is a column that Group By does not have.
+/// Whether some item is a column that Group By does not have.
+fn is_some_outside(tables: &[Table], by: &[Column], entries: &[Entry]) -> bool
+    ensures { result ≡ list_any (λ e. faults.is_outside (tables_of tables.now) (columns_of by.now) (syntax.entry_of e)) entries.now }
+{
+    entries.iter().any(|entry| is_outside(tables, by, entry))
+}
+
+/// Whether a list is `*`, or has a column that Group By does not have.
 fn has_outside(tables: &[Table], by: &[Column], entries: &Entries) -> bool
-    ensures { result ≡ (faults.is_all (syntax.entries_of entries.now) || list_any (faults.is_outside (tables_of tables.now) (columns_of by.now)) (spec.entry_list (syntax.entries_of entries.now))) }
+    ensures { result ≡ faults.has_outside (tables_of tables.now) (columns_of by.now) (syntax.entries_of entries.now) }
 {
     match entries {
         Entries::All => true,
-        Entries::Each(entries) => entries.iter().any(|entry| is_outside(tables, by, entry)),
+        Entries::Each(entries) => is_some_outside(tables, by, entries),
     }
 }
 
@@ -224,11 +257,29 @@ fn is_wide_source(source: &Source) -> bool
     }
 }
 
+/// Whether a Partition By has more than 16 columns.
+fn has_wide_source(sources: &[Source]) -> bool
+    ensures { result ≡ list_any (λ s. nat_lt 16 (length (faults.partition_of (syntax.source_of s).window))) sources.now }
+{
+    sources.iter().any(|source| is_wide_source(source))
+}
+
+/// How many items a list has; `*` has none of its own.
+fn item_count(entries: &Entries) -> usize
+    ensures { result ≡ length (spec.entry_list (syntax.entries_of entries.now)) }
+{
+    entry_list(entries).len()
+}
+
 /// Whether there are more than 16 items, Group By columns or Partition By columns.
 pub(crate) fn is_wide(query: &Query) -> bool
     ensures { result ≡ faults.is_wide (syntax.query_of query.now) }
 {
-    entry_list(&query.entries).len() > MAX_COLUMNS
-        || query.group.len() > MAX_COLUMNS
-        || query.sources.iter().any(is_wide_source)
+    if item_count(&query.entries) > MAX_COLUMNS {
+        return true;
+    }
+    if query.group.len() > MAX_COLUMNS {
+        return true;
+    }
+    has_wide_source(&query.sources)
 }

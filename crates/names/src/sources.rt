@@ -73,7 +73,7 @@ pub(crate) fn widths_of(alloc: Global, tables: &[Table]) -> Result<Vec<usize>, A
 
 /// Whether a source names no declared stream.
 pub(crate) fn has_unknown_stream(catalog: &Catalog, sources: &[Source]) -> bool
-    ensures { result ≡ list_any (λ s. is_none (number_in catalog.now s.stream)) (syntax.sources_of sources.now) }
+    ensures { result ≡ list_any (λ s. is_none (number_in catalog.now (syntax.source_of s).stream)) sources.now }
 {
     sources.iter().any(|source| catalog.number_of(source.stream.as_bytes()).is_none())
 }
@@ -139,12 +139,19 @@ pub(crate) fn has_repeat(sources: &[Source]) -> bool
     }
 }
 
+/// Whether a source has the name.
+fn is_name_among(name: &[u8], sources: &[Source]) -> bool
+    ensures { result ≡ list_any (λ s. bytes_eq name.now (spec.name_of (syntax.source_of s))) sources.now }
+{
+    sources
+        .iter()
+        .any(|source| name == name_of(source).as_bytes())
+}
+
 /// Whether one of the others has the name of the source.
 fn has_namesake(source: &Source, others: &[Source]) -> bool
     ensures { result ≡ list_any (bytes_eq (spec.name_of (syntax.source_of source.now))) (map spec.name_of (syntax.sources_of others.now)) }
 {
     let name = name_of(source);
-    others
-        .iter()
-        .any(|other| name.as_bytes() == name_of(other).as_bytes())
+    is_name_among(name.as_bytes(), others)
 }

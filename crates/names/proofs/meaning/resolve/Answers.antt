@@ -1,0 +1,4 @@
+use Rattle.names.proofs.meaning.resolve.Goals as goal
+
+pub returns : goal.returns
+returns c = ?

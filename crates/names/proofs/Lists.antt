@@ -1,10 +1,11 @@
 -- Lists that are mapped, appended and searched.
-use Rattle.std.proofs.Common.{◌≡◌, ℕ, zero, suc, ◌+◌, ◌<◌, Bool, true, false, not, ◌&&◌, ◌||◌, Option, List, [], ◌∷◌, ◌++◌, map, filter, length, drop, get_or, position, refl, sym, ap, ◌∙◌, arith}
+use Rattle.std.proofs.Common.{◌≡◌, ℕ, zero, suc, ◌+◌, ◌<◌, ◌≤◌, nat_lt, Bool, true, false, not, ◌&&◌, ◌||◌, Option, List, [], ◌∷◌, ◌++◌, map, filter, length, drop, get_or, position, refl, sym, ap, ◌∙◌, arith}
 use Rattle.std.specs.List.{list_any, position_or_len}
 use Rattle.std.specs.List.{range_with_len}
 use Rattle.std.proofs.lemmas.List.{length-map, map-append}
 use Rattle.std.proofs.lemmas.List.FromFn.{map-range_with_len_more}
 use Rattle.std.proofs.Math.Seq.{drop-cons}
+use Rattle.std.proofs.lemmas.Bool.Decides.{nat_tests}
 
 place-map : {X Y : Type 0} (p : Y → Bool) (f : X → Y) (xs : List X) → position_or_len p (map f xs) ≡ position_or_len (λ x. p (f x)) xs
 place-map p f [] = refl
@@ -48,3 +49,10 @@ pub range_more : {X Y : Type 0} (view : X → Y) (f : ℕ → Y) (a n : ℕ) (ol
 range_more view f a n old new x j e pushed is h =
     ap (map view) pushed ∙ map-append view old (x ∷ []) ∙ ap (λ ys. ys ++ view x ∷ []) h ∙ ap (λ y. map f (range_with_len a n) ++ y ∷ []) is
     ∙ sym (map-range_with_len_more f a n j e)
+
+over : (n : ℕ) → n ≤ 16 → nat_lt 16 n ≡ false
+over n h = grind (arith, nat_tests)
+
+-- neither of two numbers is over the most
+pub none_over : (m n : ℕ) (w : Bool) → m ≤ 16 → n ≤ 16 → w ≡ (nat_lt 16 m || (nat_lt 16 n || w))
+none_over m n w h k = rw (over m h) (rw (over n k) refl)

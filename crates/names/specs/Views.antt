@@ -3,7 +3,9 @@ use Rattle.std.specs.Prelude.{ℕ, Bool, true, false, ◌==◌, ◌||◌, Option
 use Rattle.std.specs.List.{list_all, list_any}
 use Rattle.std.specs.declared.alloc.Global.{Global}
 use Rattle.values.specs.Condition as conditions
+use Rattle.std.specs.Option.{option_map}
 use Rattle.values.specs.Window as windows
+use Rattle.values.specs.Answers as answers
 use Rattle.values.specs.declared.resolved.Column.{Column}
 use Rattle.values.specs.declared.resolved.Condition.{Condition}
 use Rattle.values.specs.Resolved.{column_of, condition_of}
@@ -109,3 +111,13 @@ some_of cs = split.is_some_column cs
 
 abbrev pub all_of : ℕ → List conditions.Column → Bool
 all_of s cs = list_all (λ k. k.source == s) cs
+
+-- what a query means whose sources are the tables
+abbrev pub resolved_in : List spec.Table → syntax.Query → answers.Resolved
+resolved_in ts q = record {
+  windows = windows_in ts q.sources;
+  condition = option_map (meaning.condition_of ts) q.condition;
+  shape = meaning.shape_of ts q;
+  is_distinct = q.is_distinct;
+  operator = q.operator;
+}

@@ -65,9 +65,9 @@ pub fn resolve(alloc: Global, query: &Query, catalog: &Catalog) -> Result<Named,
     ensures counts { IfOk result (λ n. length n.meaning.windows.items ≡ length query.now.sources.items) }
     ensures streams_count { IfOk result (λ n. length n.streams.items ≡ length query.now.sources.items) }
     ensures widths_count { IfOk result (λ n. length n.widths.items ≡ length query.now.sources.items) }
-    ensures narrow { sum (spec.widths (query_of query.now) catalog.now) ≤ 16 → IfOk result (λ n. has_narrow_rows n.meaning.shape ≡ true) }
-    ensures few { (most : ℕ) → AllByRecursion (λ s. length s.columns ≤ most) catalog.now
-        → sum (spec.widths (query_of query.now) catalog.now) ≤ most * length query.now.sources.items }
+    ensures narrow { IfOk result (λ n. sum n.widths.items ≤ 16 → has_narrow_rows n.meaning.shape ≡ true) }
+    ensures few { IfOk result (λ n. (most : ℕ) → AllByRecursion (λ s. length s.columns ≤ most) catalog.now
+        → sum n.widths.items ≤ most * length query.now.sources.items) }
     ensures slides { IfOk result (λ n. all_slide n.meaning.windows.items ≡ true) }
     ensures within { IfOk result (λ n. all_within n.meaning.windows.items n.widths.items ≡ true) }
     ensures known { IfOk result (λ n. AllByRecursion (λ s. s < length catalog.now) n.streams.items) }

@@ -1,5 +1,5 @@
 -- What is true of a query without a fault.
-use Rattle.std.proofs.Common.{◌≡◌, ℕ, zero, suc, ◌+◌, ◌*◌, ◌<◌, ◌≤◌, Bool, true, false, cond, ◌&&◌, ◌||◌, nat_lt, nat_le, Option, Some, None, List, [], ◌∷◌, ◌++◌, map, flat_map, length, sum, position, slice_get, option_and_then, refl, sym, ap, ◌∙◌, arith, length-append}
+use Rattle.std.proofs.Common.{◌≡◌, ℕ, zero, suc, ◌+◌, ◌*◌, ◌<◌, ◌≤◌, Bool, true, false, cond, ◌&&◌, ◌||◌, nat_lt, nat_le, Option, Some, None, List, [], ◌∷◌, ◌++◌, map, flat_map, length, sum, slice_get, option_and_then, refl, sym, ap, ◌∙◌, arith, length-append}
 use Rattle.std.specs.List.{list_any, list_all, range_with_len, position_or_len, AllByRecursion}
 use Rattle.std.specs.Option.{is_none, unwrap_or, option_map_or}
 use Rattle.std.specs.Str.{bytes_eq}
@@ -10,7 +10,6 @@ use Rattle.std.proofs.lemmas.Bool.{le-leb, lt-ltb, ltb-false}
 use Rattle.std.proofs.lemmas.Bool.Decides.{nat_tests}
 use Rattle.std.proofs.Math.Nat.{mul-suc}
 use Rattle.values.specs.Condition as conditions
-use Rattle.values.specs.Window as windows
 use Rattle.values.specs.Relation as relations
 use Rattle.values.specs.Resolved.{column_of, columns_of, item_of, items_of, window_of, shape_of}
 use Rattle.values.specs.declared.resolved.Shape.{Shape}
@@ -23,7 +22,7 @@ use Rattle.names.specs.Matches as matches
 use Rattle.names.specs.Matches.{Table, table_of, tables, allows, places, columns_at, matches_in, first_column, place_in}
 use Rattle.names.specs.Resolved as spec
 use Rattle.names.specs.Resolved.{all_columns, named_by, entry_list, is_grouped, listed_columns, windows_of, streams, widths}
-use Rattle.names.specs.Faults.{Fault, partition_of, partition_matches, all_matches, references_of_where, is_missing, is_many, has_repeat, lacks_key, is_ungrouped, is_wide, first_fault}
+use Rattle.names.specs.Faults.{partition_of, partition_matches, all_matches, references_of_where, is_missing, is_many, has_repeat, lacks_key, is_ungrouped, is_wide, first_fault}
 use Rattle.names.specs.Split.{all_conjuncts}
 use Rattle.names.specs.Sound.{has_narrow_rows, can_slide, all_slide, is_within, all_within}
 use Rattle.names.proofs.Lists.{any_append}
@@ -57,8 +56,8 @@ accepted q catalog h =
     let after : List (List conditions.Column) = map (matches.matches 0 (tables catalog q.sources)) (flat_map named_by (entry_list q.entries) ++ (references_of_where q.condition ++ q.group)) in
     let long : Bool = list_any (λ s. nat_lt 16 (length (partition_of s.window))) q.sources in
     let none = none_of_seven (list_any (λ s. is_none (number_in catalog s.stream)) q.sources) (list_any is_missing (all_matches q catalog))
-        (list_any is_many (all_matches q catalog)) (has_repeat (map matches.name_of q.sources))
-        (lacks_key (length q.sources) (all_conjuncts (spec.resolved q catalog).condition)) (is_ungrouped (tables catalog q.sources) q) (is_wide q) h in
+    (list_any is_many (all_matches q catalog)) (has_repeat (map matches.name_of q.sources))
+    (lacks_key (length q.sources) (all_conjuncts (spec.resolved q catalog).condition)) (is_ungrouped (tables catalog q.sources) q) (is_wide q) h in
     let wide = or_false (nat_lt 16 (length (entry_list q.entries))) (nat_lt 16 (length q.group) || long) none.6 in
     let group = or_false (nat_lt 16 (length q.group)) long wide.1 in
     record {
@@ -116,11 +115,16 @@ narrow (Listed columns) ts q e items group w =
     le-leb (length columns.items) 16 (omega (arith, ap length is, length-map columns.items column_of, listed_few ts q.entries items w))
 narrow (Grouped by listed) ts q e items group w =
     let is = grouped_is (is_grouped q) (columns_of by.items) (map (matches.column_of ts) q.group) (listed_columns ts q.entries)
-        (items_of listed.items) (map (spec.item_of ts (map (matches.column_of ts) q.group)) (entry_list q.entries)) e in
+    (items_of listed.items) (map (spec.item_of ts (map (matches.column_of ts) q.group)) (entry_list q.entries)) e in
     both_true (nat_le (length by.items) 16) (nat_le (length listed.items) 16)
     (le-leb (length by.items) 16 (omega (arith, ap length is.0, length-map by.items column_of, length-map q.group (matches.column_of ts), group)))
-    (le-leb (length listed.items) 16 (omega (arith, ap length is.1, length-map listed.items item_of,
-    length-map (entry_list q.entries) (spec.item_of ts (map (matches.column_of ts) q.group)), items)))
+    (le-leb (length listed.items) 16 (omega (
+      arith,
+      ap length is.1,
+      length-map listed.items item_of,
+      length-map (entry_list q.entries) (spec.item_of ts (map (matches.column_of ts) q.group)),
+      items,
+    )))
 
 -- WINDOWS
 
@@ -160,6 +164,7 @@ place_here t r h = allowed (allows r.qualifier t.name) h
   where
     ks : List ℕ
     ks = places 0 r.name t.columns
+
     allowed : (b : Bool) → is_missing (cond b (columns_at 0 (places 0 r.name t.columns)) []) ≡ false
         → (first_column (cond b (columns_at 0 (places 0 r.name t.columns)) [])).column < length t.columns
     allowed true n = first_in 0 (places 0 r.name t.columns) (length t.columns) (places_in 0 (length t.columns) r.name t.columns (omega arith)) n
@@ -237,5 +242,10 @@ pub few : (most : ℕ) (catalog : List Stream) → AllByRecursion (λ s. length 
 few most catalog h [] = omega arith
 few most catalog h (s ∷ ss) =
     let here : length (columns_in catalog s.stream) ≤ most = columns_few most catalog (number_in catalog s.stream) h in
-    omega (arith, here, few most catalog h ss, mul-suc most (length ss),
-    sum_by-cons (λ n. n) (length (columns_in catalog s.stream)) (map (λ t. length t.columns) (tables catalog ss)))
+    omega (
+      arith,
+      here,
+      few most catalog h ss,
+      mul-suc most (length ss),
+      sum_by-cons (λ n. n) (length (columns_in catalog s.stream)) (map (λ t. length t.columns) (tables catalog ss)),
+    )

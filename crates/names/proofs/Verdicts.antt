@@ -1,8 +1,6 @@
 -- What is said of sources one after the other.
-use Rattle.std.proofs.Common.{◌≡◌, ℕ, ◌+◌, ◌<◌, Bool, true, false, ◌||◌, List, [], ◌∷◌, ◌++◌, map, length, get_or, drop, refl, sym, ap, ◌∙◌, arith}
-use Rattle.std.specs.List.{list_any}
+use Rattle.std.proofs.Common.{◌≡◌, ℕ, ◌+◌, ◌<◌, List, ◌++◌, map, length, get_or, drop, refl, sym, ap, ◌∙◌}
 use Rattle.values.specs.Condition as conditions
-use Rattle.cql_reader.specs.Query as syntax
 use Rattle.cql_reader.specs.Views.{source_of, sources_of}
 use Rattle.cql_reader.specs.declared.query.Source.{Source}
 use Rattle.names.specs.Matches.{matches_in}

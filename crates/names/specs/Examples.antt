@@ -1,11 +1,11 @@
 -- The definitions at worked rows.
-use Rattle.std.specs.Prelude.{◌≡◌, ℕ, true, false, Option, Some, None, pos, List, [], ◌∷◌, refl}
+use Rattle.std.specs.Prelude.{◌≡◌, ℕ, false, Option, Some, None, pos, List, [], ◌∷◌, refl}
 use Rattle.values.specs.Condition as conditions
 use Rattle.values.specs.Condition.{Field, Equals, Above}
 use Rattle.values.specs.Window as windows
 use Rattle.values.specs.Relation as relations
 use Rattle.values.specs.Answers.{Istream}
-use Rattle.cql_reader.specs.Query.{Reference, Entry, Column, CountAll, Sum, Entries, All, Each, Window, Now, Unbounded, Partition, Source, Operand, Named, Number, Condition, Compared, And, Or, Query}
+use Rattle.cql_reader.specs.Query.{Reference, Entry, Column, CountAll, Sum, Entries, All, Each, Now, Partition, Source, Named, Number, Condition, Compared, And, Or, Query}
 use Rattle.names.specs.Catalog.{Stream}
 use Rattle.names.specs.Resolved.{resolved, streams, widths}
 use Rattle.names.specs.Split.{all_conjuncts, own_of, join_keys_of, remaining}

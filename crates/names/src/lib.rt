@@ -17,3 +17,6 @@ pub use fault::ResolveFault;
 pub use meaning::{Named, resolve};
 pub use split::Key;
 pub use streams::Catalog;
+
+#[cfg(test)]
+mod tests;

@@ -1,9 +1,7 @@
-use Rattle.std.proofs.Common.{◌≡◌, ◌++◌, ◌-◌, take, drop, map, length, flat_map}
-use Rattle.std.specs.List.{range_with_len}
-use Rattle.values.specs.Resolved.{columns_of, items_of}
+use Rattle.std.proofs.Common.{◌≡◌, take, map}
+use Rattle.values.specs.Resolved.{columns_of}
 use Rattle.cql_reader.specs.Views as syntax
 use Rattle.names.specs.Matches as matches
-use Rattle.names.specs.Resolved as spec
 use Rattle.names.specs.Views.{tables_of}
 use Rattle.names.proofs.entries.columns_of.Given as goal
 

@@ -1,6 +1,5 @@
-use Rattle.std.proofs.Common.{◌≡◌, ◌++◌, ◌-◌, take, drop, map, length, flat_map}
-use Rattle.std.specs.List.{range_with_len}
-use Rattle.values.specs.Resolved.{columns_of, items_of}
+use Rattle.std.proofs.Common.{◌≡◌, ◌++◌, drop, map, flat_map}
+use Rattle.values.specs.Resolved.{columns_of}
 use Rattle.cql_reader.specs.Views as syntax
 use Rattle.names.specs.Matches as matches
 use Rattle.names.specs.Resolved as spec

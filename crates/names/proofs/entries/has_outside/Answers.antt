@@ -1,4 +1,4 @@
-use Rattle.std.proofs.Common.{◌≡◌, ◌∙◌, ◌||◌, List, sym, ap}
+use Rattle.std.proofs.Common.{◌∙◌, List, sym, ap}
 use Rattle.std.specs.List.{list_any}
 use Rattle.values.specs.Resolved.{columns_of}
 use Rattle.cql_reader.specs.Views.{entry_of}

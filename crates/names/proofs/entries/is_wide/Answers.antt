@@ -1,7 +1,6 @@
-use Rattle.std.proofs.Common.{◌≡◌, ◌∙◌, ◌≤◌, ℕ, Bool, List, ◌||◌, nat_lt, length, sym, ap, arith}
+use Rattle.std.proofs.Common.{◌∙◌, ◌≤◌, List, nat_lt, length, sym, ap, arith}
 use Rattle.std.specs.List.{list_any}
 use Rattle.std.proofs.lemmas.List.{length-map}
-use Rattle.cql_reader.specs.Query as syntax
 use Rattle.cql_reader.specs.Views.{query_of, source_of, reference_of}
 use Rattle.cql_reader.specs.declared.query.Source.{Source}
 use Rattle.names.specs.Resolved.{entry_list}

@@ -1,5 +1,4 @@
-use Rattle.std.proofs.Common.{◌≡◌, ◌++◌, ◌-◌, take, drop, map, length, flat_map}
-use Rattle.std.specs.List.{range_with_len}
+use Rattle.std.proofs.Common.{◌≡◌, drop, map}
 use Rattle.names.specs.Matches as spec
 use Rattle.cql_reader.specs.Views as syntax
 use Rattle.names.specs.Views.{found_of, merged}

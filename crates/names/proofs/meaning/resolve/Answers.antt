@@ -1,14 +1,12 @@
 use Rattle.std.proofs.Common.{◌≡◌, ◌∙◌, ◌≤◌, ◌<◌, ◌*◌, ℕ, None, List, map, length, sum, sym, ap, subst}
 use Rattle.std.specs.List.{AllByRecursion}
 use Rattle.std.proofs.lemmas.List.{length-map}
-use Rattle.values.specs.Window as windows
-use Rattle.values.specs.Relation as relations
 use Rattle.values.specs.Answers as answers
-use Rattle.values.specs.Resolved.{resolved_of, window_of, shape_of}
+use Rattle.values.specs.Resolved.{resolved_of, window_of}
 use Rattle.cql_reader.specs.Views.{query_of, source_of, sources_of}
 use Rattle.cql_reader.specs.declared.query.Source.{Source}
 use Rattle.names.specs.declared.matching.Table as code
-use Rattle.names.specs.Matches.{Table, table_of, tables}
+use Rattle.names.specs.Matches.{Table, tables}
 use Rattle.names.specs.Faults.{first_fault}
 use Rattle.names.specs.Resolved as spec
 use Rattle.names.specs.Views as views

@@ -1,5 +1,4 @@
-use Rattle.std.proofs.Common.{◌≡◌, ◌++◌, ◌-◌, take, drop, map, length, flat_map}
-use Rattle.std.specs.List.{range_with_len}
+use Rattle.std.proofs.Common.{◌≡◌, take, map}
 use Rattle.std.specs.Option.{unwrap_or}
 use Rattle.names.specs.Catalog.{number_in}
 use Rattle.cql_reader.specs.Views as syntax

@@ -1,5 +1,4 @@
-use Rattle.std.proofs.Common.{◌≡◌, ◌++◌, ◌-◌, take, drop, map, length, flat_map}
-use Rattle.std.specs.List.{range_with_len}
+use Rattle.std.proofs.Common.{◌≡◌, take, map, length}
 use Rattle.names.specs.Views.{tables_of}
 use Rattle.names.proofs.sources.widths_of.Given as goal
 

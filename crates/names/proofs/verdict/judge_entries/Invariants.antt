@@ -1,9 +1,7 @@
-use Rattle.std.proofs.Common.{◌≡◌, ◌++◌, ◌-◌, take, drop, map, length, flat_map}
-use Rattle.std.specs.List.{range_with_len}
-use Rattle.names.specs.Matches as spec
+use Rattle.std.proofs.Common.{◌≡◌, drop, map, flat_map}
 use Rattle.cql_reader.specs.Views as syntax
 use Rattle.names.specs.Resolved.{named_by}
-use Rattle.names.specs.Views.{table_of, tables_of, verdict_of, verdict_on, both_verdicts, partitions_in}
+use Rattle.names.specs.Views.{tables_of, verdict_on, both_verdicts}
 use Rattle.names.proofs.verdict.judge_entries.Given as goal
 
 abbrev pub invariant-loop-entry : goal.invariant-loop-entry

@@ -1,4 +1,4 @@
-use Rattle.std.proofs.Common.{◌∙◌, ◌≡◌, List, sym, ap, position}
+use Rattle.std.proofs.Common.{◌∙◌, List, sym, ap, position}
 use Rattle.std.specs.Str.{bytes_eq}
 use Rattle.cql_reader.specs.Views.{name_of}
 use Rattle.names.specs.Catalog.{Stream, number_in}

@@ -1,0 +1,6 @@
+pub mod Lists
+pub mod Founds
+pub mod Columns
+pub mod Verdicts
+pub mod Tables
+pub mod Accepted

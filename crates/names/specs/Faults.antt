@@ -1,0 +1,115 @@
+-- The faults of a query's names, and the first of them.
+use Rattle.std.specs.Prelude.{ℕ, ◌-◌, ◌==◌, Bool, true, false, cond, not, ◌&&◌, ◌||◌, nat_lt, Option, Some, None, List, [], ◌∷◌, ◌++◌, map, length}
+use Rattle.std.specs.List.{list_any, flat_map, range_with_len}
+use Rattle.std.specs.Option.{is_none}
+use Rattle.std.specs.Str.{bytes_eq}
+use Rattle.values.specs.Condition.{Column, Condition}
+use Rattle.cql_reader.specs.Query as syntax
+use Rattle.names.specs.Catalog.{Stream, number_in}
+use Rattle.names.specs.Matches.{Table, name_of, table_of, tables, matches_in, matches, column_of}
+use Rattle.names.specs.Split.{all_conjuncts, is_key}
+use Rattle.names.specs.Resolved.{same_column, named_by, entry_list, is_grouped, resolved}
+
+pub data Fault : Type 0 where
+  UnknownStream : Fault
+  UnknownColumn : Fault
+  AmbiguousColumn : Fault
+  DuplicateAlias : Fault
+  NoJoinKey : Fault
+  NotGrouped : Fault
+  TooWide : Fault
+
+-- the references of a condition
+abbrev pub references_of_operand : syntax.Operand → List syntax.Reference
+references_of_operand (syntax.Named r) = r ∷ []
+references_of_operand (syntax.Number z) = []
+
+abbrev pub references_of_condition : syntax.Condition → List syntax.Reference
+references_of_condition (syntax.Compared a how b) = references_of_operand a ++ references_of_operand b
+references_of_condition (syntax.Not c) = references_of_condition c
+references_of_condition (syntax.And c d) = references_of_condition c ++ references_of_condition d
+references_of_condition (syntax.Or c d) = references_of_condition c ++ references_of_condition d
+
+abbrev pub references_of_where : Option syntax.Condition → List syntax.Reference
+references_of_where None = []
+references_of_where (Some c) = references_of_condition c
+
+-- the columns of Partition By
+abbrev pub partition_of : syntax.Window → List syntax.Reference
+partition_of syntax.Now = []
+partition_of (syntax.Range instants) = []
+partition_of syntax.Unbounded = []
+partition_of (syntax.Rows rows) = []
+partition_of (syntax.Partition by rows) = by
+
+-- what each reference of the query matches; in Partition By only the columns of its own source count
+abbrev pub partition_matches : syntax.Query → List Stream → List (List Column)
+partition_matches q catalog = flat_map (λ s. map (λ r. matches_in 0 r (table_of catalog s)) (partition_of s.window)) q.sources
+
+abbrev pub all_matches : syntax.Query → List Stream → List (List Column)
+all_matches q catalog =
+    partition_matches q catalog
+    ++ map (matches 0 (tables catalog q.sources)) (flat_map named_by (entry_list q.entries) ++ (references_of_where q.condition ++ q.group))
+
+abbrev pub is_missing : List Column → Bool
+is_missing found = length found == 0
+
+abbrev pub is_many : List Column → Bool
+is_many found = nat_lt 1 (length found)
+
+abbrev pub has_repeat : List (List ℕ) → Bool
+has_repeat [] = false
+has_repeat (x ∷ xs) = list_any (bytes_eq x) xs || has_repeat xs
+
+-- a source after the first that no conjunct ties to one before it
+abbrev pub lacks_key : ℕ → List Condition → Bool
+lacks_key sources conjuncts = list_any (λ s. not (list_any (is_key s) conjuncts)) (range_with_len 1 (sources - 1))
+
+abbrev pub is_all : syntax.Entries → Bool
+is_all syntax.All = true
+is_all (syntax.Each entries) = false
+
+-- an item is a column that Group By does not have
+abbrev pub is_outside : List Table → List Column → syntax.Entry → Bool
+is_outside ts by (syntax.Column r) = not (list_any (λ k. same_column k (column_of ts r)) by)
+is_outside ts by syntax.CountAll = false
+is_outside ts by (syntax.Count r) = false
+is_outside ts by (syntax.Sum r) = false
+is_outside ts by (syntax.Min r) = false
+is_outside ts by (syntax.Max r) = false
+
+-- a list is `*`, or has a column that is none of these of Group By
+abbrev pub has_outside : List Table → List Column → syntax.Entries → Bool
+has_outside ts by entries = is_all entries || list_any (is_outside ts by) (entry_list entries)
+
+-- a grouped query lists `*`, or a column that Group By does not have
+abbrev pub is_ungrouped : List Table → syntax.Query → Bool
+is_ungrouped ts q = is_grouped q && has_outside ts (map (column_of ts) q.group) q.entries
+
+-- the most items, Group By columns, and Partition By columns
+abbrev pub most : ℕ
+most = 16
+
+abbrev pub is_wide : syntax.Query → Bool
+is_wide q =
+    nat_lt most (length (entry_list q.entries)) || (nat_lt most (length q.group) || list_any (λ s. nat_lt most (length (partition_of s.window))) q.sources)
+
+-- the tests, in their order
+abbrev pub fault_tests : syntax.Query → List Stream → List (Bool × Fault)
+fault_tests q catalog =
+    (list_any (λ s. is_none (number_in catalog s.stream)) q.sources, UnknownStream)
+    ∷ (list_any is_missing (all_matches q catalog), UnknownColumn)
+    ∷ (list_any is_many (all_matches q catalog), AmbiguousColumn)
+    ∷ (has_repeat (map name_of q.sources), DuplicateAlias)
+    ∷ (lacks_key (length q.sources) (all_conjuncts (resolved q catalog).condition), NoJoinKey)
+    ∷ (is_ungrouped (tables catalog q.sources) q, NotGrouped)
+    ∷ (is_wide q, TooWide) ∷ []
+
+-- the first of the tests that is met
+abbrev pub first_met : List (Bool × Fault) → Option Fault
+first_met [] = None
+first_met (t ∷ ts) = cond t.0 (Some t.1) (first_met ts)
+
+-- the first fault of a query over a catalog, each test being over the whole query
+abbrev pub first_fault : syntax.Query → List Stream → Option Fault
+first_fault q catalog = first_met (fault_tests q catalog)

@@ -1,0 +1,9 @@
+pub mod Catalog
+pub mod Matches
+pub mod Split
+pub mod Resolved
+pub mod Faults
+pub mod Sound
+pub mod Views
+pub mod Told
+pub mod Examples

@@ -1,0 +1,285 @@
+//! The list of a query and its Group By.
+ghost use Rattle.std.specs.Prelude.{◌≡◌, ◌++◌, ◌||◌, IfOk, OnOk, length, map, nat_lt, position};
+ghost use Rattle.std.specs.List.{list_any, flat_map, range_with_len};
+ghost use Rattle.values.specs.Resolved.{column_of, columns_of, item_of, items_of, shape_of};
+ghost use Rattle.cql_reader.specs.Views as syntax;
+ghost use Rattle.names.specs.Matches as matches;
+ghost use Rattle.names.specs.Resolved as spec;
+ghost use Rattle.names.specs.Faults as faults;
+ghost use Rattle.names.specs.Views.{tables_of};
+
+use crate::matching::{Table, named_column};
+use cql_reader::{Entries, Entry, Query, Reference, Source, Window};
+use std::alloc::{AllocError, Global};
+use values::{Column, Item, MAX_COLUMNS, Shape};
+
+/// The columns that the references name.
+pub(crate) fn columns_of(
+    alloc: Global,
+    tables: &[Table],
+    references: &[Reference],
+) -> Result<Vec<Column>, AllocError>
+    ensures { IfOk result (λ v. columns_of v.items ≡ map (matches.column_of (tables_of tables.now)) (syntax.references_of references.now)) }
+{
+    let mut columns = Vec::new(alloc);
+    for reference in references {
+        columns.push(named_column(tables, reference))?;
+    }
+    Ok(columns)
+}
+
+/// Adds the columns of a source.
+fn add_columns(columns: &mut Vec<Column>, source: usize, width: usize) -> Result<(), AllocError>
+    ensures { OnOk result (columns_of columns.new.items ≡ columns_of columns.old.items ++ map (λ k. record { source = source; column = k }) (range_with_len 0 width)) }
+{
+    for column in 0..width {
+        columns.push(Column { source, column })?;
+    }
+    Ok(())
+}
+
+/// All columns of the sources.
+fn all_columns(alloc: Global, tables: &[Table]) -> Result<Vec<Column>, AllocError>
+    ensures { IfOk result (λ v. columns_of v.items ≡ spec.all_columns 0 (tables_of tables.now)) }
+{
+    let mut columns = Vec::new(alloc);
+    for source in 0..tables.len() {
+        add_columns(&mut columns, source, tables[source].columns.len())?;
+    }
+    Ok(columns)
+}
+
+/// Adds the column of an item, where it has one.
+fn add_entry(columns: &mut Vec<Column>, tables: &[Table], entry: &Entry) -> Result<(), AllocError>
+    ensures { OnOk result (columns_of columns.new.items ≡ columns_of columns.old.items ++ map (matches.column_of (tables_of tables.now)) (spec.named_by (syntax.entry_of entry.now))) }
+{
+    match entry {
+        Entry::CountAll => {}
+        Entry::Column(reference) => columns.push(named_column(tables, reference))?,
+        Entry::Count(reference) => columns.push(named_column(tables, reference))?,
+        Entry::Sum(reference) => columns.push(named_column(tables, reference))?,
+        Entry::Min(reference) => columns.push(named_column(tables, reference))?,
+        Entry::Max(reference) => columns.push(named_column(tables, reference))?,
+    }
+    Ok(())
+}
+
+/// The columns of items.
+fn entry_columns(
+    alloc: Global,
+    tables: &[Table],
+    entries: &[Entry],
+) -> Result<Vec<Column>, AllocError>
+    ensures { IfOk result (λ v. columns_of v.items ≡ map (matches.column_of (tables_of tables.now)) (flat_map spec.named_by (map syntax.entry_of entries.now))) }
+{
+    let mut columns = Vec::new(alloc);
+    for entry in entries {
+        add_entry(&mut columns, tables, entry)?;
+    }
+    Ok(columns)
+}
+
+/// The columns of a list without groups.
+fn listed_columns(
+    alloc: Global,
+    tables: &[Table],
+    entries: &Entries,
+) -> Result<Vec<Column>, AllocError>
+    ensures { IfOk result (λ v. columns_of v.items ≡ spec.listed_columns (tables_of tables.now) (syntax.entries_of entries.now)) }
+{
+    match entries {
+        Entries::All => all_columns(alloc, tables),
+        Entries::Each(entries) => entry_columns(alloc, tables, entries),
+    }
+}
+
+/// Whether the columns are the same.
+fn same_column(a: Column, b: Column) -> bool
+    ensures { result ≡ spec.same_column (column_of a) (column_of b) }
+{
+    a.source == b.source && a.column == b.column
+}
+
+/// The first place of a column among columns.
+fn place_among(column: Column, columns: &[Column]) -> Option<usize>
+    ensures { result ≡ position (λ k. spec.same_column (column_of k) (column_of column)) columns.now }
+{
+    columns.iter().position(|key| same_column(*key, column))
+}
+
+/// Whether a column is among columns.
+fn is_among(column: Column, columns: &[Column]) -> bool
+    ensures { result ≡ list_any (λ k. spec.same_column (column_of k) (column_of column)) columns.now }
+{
+    columns.iter().any(|key| same_column(*key, column))
+}
+
+/// The place of a column in Group By; 0 where it is none of them.
+fn key_place(column: Column, by: &[Column]) -> usize
+    ensures { result ≡ spec.key_place (column_of column) (columns_of by.now) }
+{
+    place_among(column, by).unwrap_or(0)
+}
+
+/// An item of the list of a grouped query.
+fn item_of(tables: &[Table], by: &[Column], entry: &Entry) -> Item
+    ensures { item_of result ≡ spec.item_of (tables_of tables.now) (columns_of by.now) (syntax.entry_of entry.now) }
+{
+    match entry {
+        Entry::Column(reference) => Item::Key(key_place(named_column(tables, reference), by)),
+        Entry::CountAll => Item::CountAll,
+        Entry::Count(reference) => Item::Count(named_column(tables, reference)),
+        Entry::Sum(reference) => Item::Sum(named_column(tables, reference)),
+        Entry::Min(reference) => Item::Min(named_column(tables, reference)),
+        Entry::Max(reference) => Item::Max(named_column(tables, reference)),
+    }
+}
+
+/// The items of the list of a grouped query.
+fn items_of(
+    alloc: Global,
+    tables: &[Table],
+    by: &[Column],
+    entries: &[Entry],
+) -> Result<Vec<Item>, AllocError>
+    ensures { IfOk result (λ v. items_of v.items ≡ map (spec.item_of (tables_of tables.now) (columns_of by.now)) (map syntax.entry_of entries.now)) }
+{
+    let mut items = Vec::new(alloc);
+    for entry in entries {
+        items.push(item_of(tables, by, entry))?;
+    }
+    Ok(items)
+}
+
+/// The items of a list; `*` has none of its own.
+fn entry_list(entries: &Entries) -> &[Entry]
+    ensures { map syntax.entry_of result.now ≡ spec.entry_list (syntax.entries_of entries.now) }
+{
+    match entries {
+        Entries::All => &[],
+        Entries::Each(entries) => entries,
+    }
+}
+
+fn is_aggregate(entry: &Entry) -> bool
+    ensures { result ≡ spec.is_aggregate (syntax.entry_of entry.now) }
+{
+    match entry {
+        Entry::Column(_) => false,
+        _ => true,
+    }
+}
+
+/// Whether an item is an aggregate.
+fn has_aggregate(entries: &[Entry]) -> bool
+    ensures { result ≡ list_any (λ e. spec.is_aggregate (syntax.entry_of e)) entries.now }
+{
+    entries.iter().any(|entry| is_aggregate(entry))
+}
+
+/// Whether there is a reference.
+fn is_some_reference(references: &[Reference]) -> bool
+    ensures { result ≡ spec.is_some_reference (syntax.references_of references.now) }
+{
+    match references {
+        [] => false,
+        [_, ..] => true,
+    }
+}
+
+/// Whether the query has Group By or an aggregate.
+fn is_grouped(query: &Query) -> bool
+    ensures { result ≡ spec.is_grouped (syntax.query_of query.now) }
+{
+    is_some_reference(&query.group) || has_aggregate(entry_list(&query.entries))
+}
+
+/// What is listed, where Group By's columns are these.
+pub(crate) fn shape_of(
+    alloc: Global,
+    tables: &[Table],
+    by: Vec<Column>,
+    query: &Query,
+) -> Result<Shape, AllocError>
+    requires { columns_of by.items ≡ map (matches.column_of (tables_of tables.now)) (syntax.query_of query.now).group }
+    ensures { IfOk result (λ s. shape_of s ≡ spec.shape_of (tables_of tables.now) (syntax.query_of query.now)) }
+{
+    if is_grouped(query) {
+        let items = items_of(alloc, tables, &by, entry_list(&query.entries))?;
+        Ok(Shape::Grouped(by, items))
+    } else {
+        Ok(Shape::Listed(listed_columns(alloc, tables, &query.entries)?))
+    }
+}
+
+/// Whether an item is a column that Group By does not have.
+fn is_outside(tables: &[Table], by: &[Column], entry: &Entry) -> bool
+    ensures { result ≡ faults.is_outside (tables_of tables.now) (columns_of by.now) (syntax.entry_of entry.now) }
+{
+    match entry {
+        Entry::Column(reference) => !is_among(named_column(tables, reference), by),
+        _ => false,
+    }
+}
+
+/// Whether some item is a column that Group By does not have.
+fn is_some_outside(tables: &[Table], by: &[Column], entries: &[Entry]) -> bool
+    ensures { result ≡ list_any (λ e. faults.is_outside (tables_of tables.now) (columns_of by.now) (syntax.entry_of e)) entries.now }
+{
+    entries.iter().any(|entry| is_outside(tables, by, entry))
+}
+
+/// Whether a list is `*`, or has a column that Group By does not have.
+fn has_outside(tables: &[Table], by: &[Column], entries: &Entries) -> bool
+    ensures { result ≡ faults.has_outside (tables_of tables.now) (columns_of by.now) (syntax.entries_of entries.now) }
+{
+    match entries {
+        Entries::All => true,
+        Entries::Each(entries) => is_some_outside(tables, by, entries),
+    }
+}
+
+/// Whether a grouped query lists `*`, or a column that Group By, whose columns are these, does not have.
+pub(crate) fn is_ungrouped(tables: &[Table], by: &[Column], query: &Query) -> bool
+    requires { columns_of by.now ≡ map (matches.column_of (tables_of tables.now)) (syntax.query_of query.now).group }
+    ensures { result ≡ faults.is_ungrouped (tables_of tables.now) (syntax.query_of query.now) }
+{
+    is_grouped(query) && has_outside(tables, by, &query.entries)
+}
+
+/// Whether a source's Partition By has more than 16 columns.
+fn is_wide_source(source: &Source) -> bool
+    ensures { result ≡ nat_lt 16 (length (faults.partition_of (syntax.source_of source.now).window)) }
+{
+    match &source.window {
+        Window::Partition(by, _) => by.len() > MAX_COLUMNS,
+        _ => false,
+    }
+}
+
+/// Whether a Partition By has more than 16 columns.
+fn has_wide_source(sources: &[Source]) -> bool
+    ensures { result ≡ list_any (λ s. nat_lt 16 (length (faults.partition_of (syntax.source_of s).window))) sources.now }
+{
+    sources.iter().any(|source| is_wide_source(source))
+}
+
+/// How many items a list has; `*` has none of its own.
+fn item_count(entries: &Entries) -> usize
+    ensures { result ≡ length (spec.entry_list (syntax.entries_of entries.now)) }
+{
+    entry_list(entries).len()
+}
+
+/// Whether there are more than 16 items, Group By columns or Partition By columns.
+pub(crate) fn is_wide(query: &Query) -> bool
+    ensures { result ≡ faults.is_wide (syntax.query_of query.now) }
+{
+    if item_count(&query.entries) > MAX_COLUMNS {
+        return true;
+    }
+    if query.group.len() > MAX_COLUMNS {
+        return true;
+    }
+    has_wide_source(&query.sources)
+}

@@ -1,0 +1,93 @@
+//! The faults of names, in the order of their tests.
+ghost use Rattle.std.specs.Prelude.{◌≡◌};
+ghost use Rattle.names.specs.Faults as spec;
+ghost use Rattle.names.specs.Told.{Refuses, tests_of};
+
+use std::alloc::AllocError;
+use std::fmt;
+
+/// Why a query is not resolved.
+#[derive(Clone, Copy, Debug, PartialEq, Eq)]
+pub enum ResolveFault {
+    /// A growth was refused. It says nothing of the query.
+    OutOfMemory,
+    /// A source names no declared stream.
+    UnknownStream,
+    /// A reference matches no column.
+    UnknownColumn,
+    /// A reference matches more than one column.
+    AmbiguousColumn,
+    /// Two sources have the same name.
+    DuplicateAlias,
+    /// A source after the first has no join key.
+    NoJoinKey,
+    /// In a grouped query the list is `*`, or has a column that Group By does not have.
+    NotGrouped,
+    /// More than 16 items, Group By columns or Partition By columns.
+    TooWide,
+}
+
+impl From<AllocError> for ResolveFault {
+    ghost use Rattle.names.specs.declared.fault.ResolveFault.TheVariants.{OutOfMemory};
+
+    ghost from_gives = { λ _ e. e ≡ OutOfMemory };
+
+    fn from(_: AllocError) -> Self {
+        ResolveFault::OutOfMemory
+    }
+}
+
+impl fmt::Display for ResolveFault {
+    fn fmt<W: fmt::Write>(&self, f: &mut fmt::Formatter<W>) -> fmt::Result {
+        match self {
+            ResolveFault::OutOfMemory => write!(f, "OutOfMemory"),
+            ResolveFault::UnknownStream => write!(f, "Q7 UnknownStream"),
+            ResolveFault::UnknownColumn => write!(f, "Q8 UnknownColumn"),
+            ResolveFault::AmbiguousColumn => write!(f, "Q9 AmbiguousColumn"),
+            ResolveFault::DuplicateAlias => write!(f, "Q10 DuplicateAlias"),
+            ResolveFault::NoJoinKey => write!(f, "Q11 NoJoinKey"),
+            ResolveFault::NotGrouped => write!(f, "Q12 NotGrouped"),
+            ResolveFault::TooWide => write!(f, "Q13 TooWide"),
+        }
+    }
+}
+
+/// Which tests are met.
+#[derive(Clone, Copy)]
+pub(crate) struct Tests {
+    pub(crate) unknown_stream: bool,
+    pub(crate) unknown_column: bool,
+    pub(crate) ambiguous_column: bool,
+    pub(crate) duplicate_alias: bool,
+    pub(crate) no_join_key: bool,
+    pub(crate) not_grouped: bool,
+    pub(crate) too_wide: bool,
+}
+
+/// Refuses by the first test that is met.
+pub(crate) fn refuse(tests: Tests) -> Result<(), ResolveFault>
+    ensures { Refuses result (spec.first_met (tests_of tests)) }
+{
+    if tests.unknown_stream {
+        return Err(ResolveFault::UnknownStream);
+    }
+    if tests.unknown_column {
+        return Err(ResolveFault::UnknownColumn);
+    }
+    if tests.ambiguous_column {
+        return Err(ResolveFault::AmbiguousColumn);
+    }
+    if tests.duplicate_alias {
+        return Err(ResolveFault::DuplicateAlias);
+    }
+    if tests.no_join_key {
+        return Err(ResolveFault::NoJoinKey);
+    }
+    if tests.not_grouped {
+        return Err(ResolveFault::NotGrouped);
+    }
+    if tests.too_wide {
+        return Err(ResolveFault::TooWide);
+    }
+    Ok(())
+}

@@ -1,0 +1,124 @@
+//! The columns that references match.
+ghost use Rattle.std.specs.Prelude.{◌≡◌, [], ◌∷◌, map};
+ghost use Rattle.values.specs.Resolved.{column_of};
+ghost use Rattle.cql_reader.specs.Views as syntax;
+ghost use Rattle.names.specs.Matches as spec;
+ghost use Rattle.names.specs.Views.{first_found, found_of, table_of, tables_of, merged};
+
+use cql_reader::{Name, Reference};
+use values::Column;
+
+/// A source with its name in the query and the columns of its stream.
+#[derive(Clone, Copy)]
+pub(crate) struct Table<'a> {
+    pub(crate) name: Name,
+    pub(crate) columns: &'a [Name],
+}
+
+/// What a reference matches.
+#[derive(Clone, Copy)]
+pub(crate) enum Found {
+    Missing,
+    One(Column),
+    /// The first of them.
+    Many(Column),
+}
+
+impl Found {
+    /// What is found by two parts of a search.
+    fn merge(self, other: Found) -> Found
+        ensures { result ≡ merged self other }
+    {
+        match (self, other) {
+            (Found::Missing, found) => found,
+            (found, Found::Missing) => found,
+            (Found::One(column), _) => Found::Many(column),
+            (Found::Many(column), _) => Found::Many(column),
+        }
+    }
+
+    /// The first column that was found.
+    fn column(self) -> Column
+        ensures { column_of result ≡ first_found self }
+    {
+        match self {
+            Found::Missing => Column {
+                source: 0,
+                column: 0,
+            },
+            Found::One(column) => column,
+            Found::Many(column) => column,
+        }
+    }
+}
+
+/// What a name matches at one column of a source.
+fn find_there(source: usize, place: usize, name: &Name, column: &Name) -> Found
+    ensures { result ≡ found_of (spec.columns_at source (spec.places place (syntax.name_of name.now) (syntax.name_of column.now ∷ []))) }
+{
+    if column.as_bytes() == name.as_bytes() {
+        Found::One(Column {
+            source,
+            column: place,
+        })
+    } else {
+        Found::Missing
+    }
+}
+
+/// What a name matches in the columns of a source.
+fn find_in(source: usize, name: &Name, columns: &[Name]) -> Found
+    ensures { result ≡ found_of (spec.columns_at source (spec.places 0 (syntax.name_of name.now) (map syntax.name_of columns.now))) }
+{
+    let mut found = Found::Missing;
+    for i in 0..columns.len() {
+        found = found.merge(find_there(source, i, name, &columns[i]));
+    }
+    found
+}
+
+/// Whether the qualifier, where there is one, is the name of the source.
+fn allows(qualifier: &Option<Name>, name: &Name) -> bool
+    ensures { result ≡ spec.allows (syntax.alias_of qualifier.now) (syntax.name_of name.now) }
+{
+    match qualifier {
+        None => true,
+        Some(qualifier) => name.as_bytes() == qualifier.as_bytes(),
+    }
+}
+
+/// What the reference matches in one source.
+pub(crate) fn find_at(source: usize, table: &Table, reference: &Reference) -> Found
+    ensures { result ≡ found_of (spec.matches_in source (syntax.reference_of reference.now) (table_of table.now)) }
+{
+    if allows(&reference.qualifier, &table.name) {
+        find_in(source, &reference.name, table.columns)
+    } else {
+        Found::Missing
+    }
+}
+
+/// What the reference matches in the sources.
+pub(crate) fn find(tables: &[Table], reference: &Reference) -> Found
+    ensures { result ≡ found_of (spec.matches 0 (tables_of tables.now) (syntax.reference_of reference.now)) }
+{
+    let mut found = Found::Missing;
+    for i in 0..tables.len() {
+        found = found.merge(find_at(i, &tables[i], reference));
+    }
+    found
+}
+
+/// The column that the reference names.
+pub(crate) fn named_column(tables: &[Table], reference: &Reference) -> Column
+    ensures { column_of result ≡ spec.column_of (tables_of tables.now) (syntax.reference_of reference.now) }
+{
+    find(tables, reference).column()
+}
+
+/// The place of the column that the reference names in one source.
+pub(crate) fn place_in(table: &Table, reference: &Reference) -> usize
+    ensures { result ≡ spec.place_in (table_of table.now) (syntax.reference_of reference.now) }
+{
+    find_at(0, table, reference).column().column
+}

@@ -1,0 +1,204 @@
+use super::*;
+use cql_reader::{Condition, Entries, Entry, Name, Operand, Query, Reference, Source, Window};
+use std::alloc::{AllocError, Global};
+use std::test::Fail;
+use values::{Compare, Operator};
+
+/// A name of one letter.
+fn name(letter: u8) -> Name {
+    Name::new(&[letter])
+}
+
+fn plain(column: u8) -> Reference {
+    Reference {
+        qualifier: None,
+        name: name(column),
+    }
+}
+
+fn dotted(source: u8, column: u8) -> Reference {
+    Reference {
+        qualifier: Some(name(source)),
+        name: name(column),
+    }
+}
+
+/// The sources of the streams, each with its letter as its name in the query, or without one.
+fn sources(alloc: Global, named: &[(u8, Option<u8>)]) -> Result<Vec<Source>, AllocError> {
+    let mut sources = Vec::new(alloc);
+    for (stream, alias) in named {
+        sources.push(Source {
+            stream: name(*stream),
+            window: Window::Now,
+            alias: alias.map(|letter| name(letter)),
+        })?;
+    }
+    Ok(sources)
+}
+
+fn items(alloc: Global, entries: &[Entry]) -> Result<Entries, AllocError> {
+    Ok(Entries::Each(Vec::from_slice(alloc, entries)?))
+}
+
+fn equal(a: Reference, b: Reference) -> Option<Condition> {
+    Some(Condition::Compared(Operand::Column(a), Compare::Equals, Operand::Column(b)))
+}
+
+fn query(
+    alloc: Global,
+    entries: Entries,
+    sources: Vec<Source>,
+    condition: Option<Condition>,
+    group: &[Reference],
+) -> Result<Query, AllocError> {
+    Ok(Query {
+        operator: Operator::Istream,
+        is_distinct: false,
+        entries,
+        sources,
+        condition,
+        group: Vec::from_slice(alloc, group)?,
+    })
+}
+
+/// S(a), A(k), B(k, v).
+fn catalog(alloc: Global) -> Result<Catalog, AllocError> {
+    let mut catalog = Catalog::new(alloc);
+    catalog.declare(name(b'S'), Vec::from_slice(alloc, &[name(b'a')])?)?;
+    catalog.declare(name(b'A'), Vec::from_slice(alloc, &[name(b'k')])?)?;
+    catalog.declare(
+        name(b'B'),
+        Vec::from_slice(alloc, &[name(b'k'), name(b'v')])?,
+    )?;
+    Ok(catalog)
+}
+
+/// The fault of a query over the streams.
+fn told(alloc: Global, query: &Query) -> Result<Option<ResolveFault>, AllocError> {
+    match resolve(alloc, query, &catalog(alloc)?) {
+        Ok(_) => Ok(None),
+        Err(fault) => Ok(Some(fault)),
+    }
+}
+
+#[test]
+fn sources_are_known_and_of_different_names(rt: HostRuntime) -> Result<(), Fail> {
+    let alloc = rt.alloc();
+    let unknown = sources(alloc, &[(b'S', None), (b'Z', None)])?;
+    let unknown = query(
+        alloc,
+        items(alloc, &[Entry::Column(plain(b'q'))])?,
+        unknown,
+        None,
+        &[],
+    )?;
+    assert_eq!(rt; told(alloc, &unknown)?, Some(ResolveFault::UnknownStream));
+    let twice = sources(alloc, &[(b'S', None), (b'S', None)])?;
+    let twice = query(alloc, Entries::All, twice, None, &[])?;
+    assert_eq!(rt; told(alloc, &twice)?, Some(ResolveFault::DuplicateAlias));
+    Ok(())
+}
+
+#[test]
+fn columns_are_named_once(rt: HostRuntime) -> Result<(), Fail> {
+    let alloc = rt.alloc();
+    let missing = sources(alloc, &[(b'S', None)])?;
+    let missing = query(
+        alloc,
+        items(alloc, &[Entry::Column(plain(b'q'))])?,
+        missing,
+        None,
+        &[],
+    )?;
+    assert_eq!(rt; told(alloc, &missing)?, Some(ResolveFault::UnknownColumn));
+    let many = sources(alloc, &[(b'S', None), (b'S', None)])?;
+    let same = equal(dotted(b'S', b'a'), dotted(b'S', b'a'));
+    let many = query(alloc, Entries::All, many, same, &[])?;
+    assert_eq!(rt; told(alloc, &many)?, Some(ResolveFault::AmbiguousColumn));
+    Ok(())
+}
+
+#[test]
+fn grouped_lists_are_of_groups_and_lists_are_short(rt: HostRuntime) -> Result<(), Fail> {
+    let alloc = rt.alloc();
+    let item = Entry::Column(plain(b'v'));
+    let outside = sources(alloc, &[(b'B', None)])?;
+    let outside = query(alloc, items(alloc, &[item])?, outside, None, &[plain(b'k')])?;
+    assert_eq!(rt; told(alloc, &outside)?, Some(ResolveFault::NotGrouped));
+    let wide = sources(alloc, &[(b'B', None)])?;
+    let wide = query(alloc, items(alloc, &[item; 17])?, wide, None, &[])?;
+    assert_eq!(rt; told(alloc, &wide)?, Some(ResolveFault::TooWide));
+    Ok(())
+}
+
+/// x.a = y.a Or x.a = y.a, which is no conjunct that is a key.
+fn either(alloc: Global) -> Result<Option<Condition>, AllocError> {
+    let Some(left) = equal(dotted(b'x', b'a'), dotted(b'y', b'a')) else {
+        return Ok(None);
+    };
+    let Some(right) = equal(dotted(b'x', b'a'), dotted(b'y', b'a')) else {
+        return Ok(None);
+    };
+    Ok(Some(Condition::Or(Box::new(alloc, left)?, Box::new(alloc, right)?)))
+}
+
+#[test]
+fn two_sources_have_a_key(rt: HostRuntime) -> Result<(), Fail> {
+    let alloc = rt.alloc();
+    let list = [Entry::Column(dotted(b'x', b'a'))];
+    let below = sources(alloc, &[(b'S', Some(b'x')), (b'S', Some(b'y'))])?;
+    let below = query(alloc, items(alloc, &list)?, below, either(alloc)?, &[])?;
+    assert_eq!(rt; told(alloc, &below)?, Some(ResolveFault::NoJoinKey));
+    let tied = sources(alloc, &[(b'S', Some(b'x')), (b'S', Some(b'y'))])?;
+    let key = equal(dotted(b'x', b'a'), dotted(b'y', b'a'));
+    let tied = query(alloc, items(alloc, &list)?, tied, key, &[])?;
+    assert_eq!(rt; told(alloc, &tied)?, None);
+    Ok(())
+}
+
+#[test]
+fn resolved_query_has_its_streams_widths_and_keys(rt: HostRuntime) -> Result<(), Fail> {
+    let alloc = rt.alloc();
+    let joined = sources(alloc, &[(b'A', None), (b'B', None)])?;
+    let key = equal(dotted(b'B', b'k'), dotted(b'A', b'k'));
+    let joined = query(alloc, Entries::All, joined, key, &[])?;
+    let Ok(named) = resolve(alloc, &joined, &catalog(alloc)?) else {
+        return Err("refused".into());
+    };
+    assert_eq!(rt; named.streams.as_slice(), [1, 2].as_slice());
+    assert_eq!(rt; named.widths.as_slice(), [1, 2].as_slice());
+    assert_eq!(rt;
+        (named.own.len(), named.keys.len(), named.rest.len()),
+        (2, 1, 0)
+    );
+    Ok(())
+}
+
+#[test]
+fn catalog_finds_streams_by_name(rt: HostRuntime) -> Result<(), Fail> {
+    let catalog = catalog(rt.alloc())?;
+    assert_eq!(rt; (catalog.len(), catalog.is_empty()), (3, false));
+    assert_eq!(rt; catalog.number_of(b"B"), Some(2));
+    assert_eq!(rt; catalog.number_of(b"Z"), None);
+    assert_eq!(rt; catalog.columns_of(b"B").len(), 2);
+    assert_eq!(rt; catalog.columns_of(b"Z").len(), 0);
+    Ok(())
+}
+
+#[test]
+fn faults_have_their_texts(rt: HostRuntime) -> Result<(), Fail> {
+    let cases = [
+        (ResolveFault::UnknownStream, "Q7 UnknownStream"),
+        (ResolveFault::UnknownColumn, "Q8 UnknownColumn"),
+        (ResolveFault::AmbiguousColumn, "Q9 AmbiguousColumn"),
+        (ResolveFault::DuplicateAlias, "Q10 DuplicateAlias"),
+        (ResolveFault::NoJoinKey, "Q11 NoJoinKey"),
+        (ResolveFault::NotGrouped, "Q12 NotGrouped"),
+        (ResolveFault::TooWide, "Q13 TooWide"),
+    ];
+    for (fault, text) in cases {
+        let told = format!(in rt.alloc(); "{fault}")?;
+        assert_eq!(rt; told.as_str(), text);
+    }
+    Ok(())
+}

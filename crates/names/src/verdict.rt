@@ -1,0 +1,192 @@
+//! Whether each reference matches one column.
+ghost use Rattle.std.specs.Prelude.{◌≡◌, [], ◌∷◌, ◌++◌, map, length};
+ghost use Rattle.std.specs.List.{flat_map};
+ghost use Rattle.cql_reader.specs.Views as syntax;
+ghost use Rattle.names.specs.Matches as spec;
+ghost use Rattle.names.specs.Resolved.{named_by, entry_list};
+ghost use Rattle.names.specs.Faults.{references_of_operand, references_of_condition, references_of_where, partition_of};
+ghost use Rattle.names.specs.Views.{table_of, tables_of, verdict_of, verdict_on, both_verdicts, judged, partitions_in};
+
+use crate::matching::{Found, Table, find, find_at};
+use cql_reader::{Condition, Entries, Entry, Operand, Query, Reference, Source, Window};
+
+/// Whether some reference matches no column, and whether some matches more than one.
+#[derive(Clone, Copy)]
+pub(crate) struct Verdict {
+    pub(crate) is_missing: bool,
+    pub(crate) is_many: bool,
+}
+
+impl Verdict {
+    /// The verdict on no reference.
+    fn good() -> Verdict
+        ensures { result ≡ verdict_of [] }
+    {
+        Verdict {
+            is_missing: false,
+            is_many: false,
+        }
+    }
+
+    /// The verdict on the references of both.
+    fn and(self, other: Verdict) -> Verdict
+        ensures { result ≡ both_verdicts self other }
+    {
+        Verdict {
+            is_missing: self.is_missing || other.is_missing,
+            is_many: self.is_many || other.is_many,
+        }
+    }
+}
+
+/// The verdict on a reference that matches so.
+fn verdict_of(found: Found) -> Verdict
+    ensures { result ≡ judged found }
+{
+    match found {
+        Found::Missing => Verdict {
+            is_missing: true,
+            is_many: false,
+        },
+        Found::One(_) => Verdict::good(),
+        Found::Many(_) => Verdict {
+            is_missing: false,
+            is_many: true,
+        },
+    }
+}
+
+/// The verdict on a reference.
+fn judge(tables: &[Table], reference: &Reference) -> Verdict
+    ensures { result ≡ verdict_on (tables_of tables.now) (syntax.reference_of reference.now ∷ []) }
+{
+    verdict_of(find(tables, reference))
+}
+
+/// The verdict on references.
+fn judge_all(tables: &[Table], references: &[Reference]) -> Verdict
+    ensures { result ≡ verdict_on (tables_of tables.now) (syntax.references_of references.now) }
+{
+    let mut verdict = Verdict::good();
+    for reference in references {
+        verdict = verdict.and(judge(tables, reference));
+    }
+    verdict
+}
+
+/// The verdict on the reference of an item.
+fn judge_entry(tables: &[Table], entry: &Entry) -> Verdict
+    ensures { result ≡ verdict_on (tables_of tables.now) (named_by (syntax.entry_of entry.now)) }
+{
+    match entry {
+        Entry::CountAll => Verdict::good(),
+        Entry::Column(reference) => judge(tables, reference),
+        Entry::Count(reference) => judge(tables, reference),
+        Entry::Sum(reference) => judge(tables, reference),
+        Entry::Min(reference) => judge(tables, reference),
+        Entry::Max(reference) => judge(tables, reference),
+    }
+}
+
+/// The verdict on the references of items.
+fn judge_entries(tables: &[Table], entries: &[Entry]) -> Verdict
+    ensures { result ≡ verdict_on (tables_of tables.now) (flat_map named_by (map syntax.entry_of entries.now)) }
+{
+    let mut verdict = Verdict::good();
+    for entry in entries {
+        verdict = verdict.and(judge_entry(tables, entry));
+    }
+    verdict
+}
+
+/// The verdict on the references of a list.
+fn judge_list(tables: &[Table], entries: &Entries) -> Verdict
+    ensures { result ≡ verdict_on (tables_of tables.now) (flat_map named_by (entry_list (syntax.entries_of entries.now))) }
+{
+    match entries {
+        Entries::All => Verdict::good(),
+        Entries::Each(entries) => judge_entries(tables, entries),
+    }
+}
+
+/// The verdict on a side of a comparison.
+fn judge_operand(tables: &[Table], operand: &Operand) -> Verdict
+    ensures { result ≡ verdict_on (tables_of tables.now) (references_of_operand (syntax.operand_of operand.now)) }
+{
+    match operand {
+        Operand::Column(reference) => judge(tables, reference),
+        Operand::Number(_) => Verdict::good(),
+    }
+}
+
+/// The verdict on the references of a condition.
+fn judge_condition(tables: &[Table], condition: &Condition) -> Verdict
+    ensures { result ≡ verdict_on (tables_of tables.now) (references_of_condition (syntax.condition_of condition.now)) }
+{
+    match condition {
+        Condition::Compared(a, _, b) => judge_operand(tables, a).and(judge_operand(tables, b)),
+        Condition::Not(c) => judge_condition(tables, c),
+        Condition::And(c, d) => judge_condition(tables, c).and(judge_condition(tables, d)),
+        Condition::Or(c, d) => judge_condition(tables, c).and(judge_condition(tables, d)),
+    }
+}
+
+/// The verdict on the references of Where.
+fn judge_where(tables: &[Table], condition: &Option<Condition>) -> Verdict
+    ensures { result ≡ verdict_on (tables_of tables.now) (references_of_where (syntax.where_of condition.now)) }
+{
+    match condition {
+        None => Verdict::good(),
+        Some(condition) => judge_condition(tables, condition),
+    }
+}
+
+/// The verdict on references to columns of one source.
+fn judge_within(table: &Table, references: &[Reference]) -> Verdict
+    ensures { result ≡ verdict_of (map (λ r. spec.matches_in 0 r (table_of table.now)) (syntax.references_of references.now)) }
+{
+    let mut verdict = Verdict::good();
+    for reference in references {
+        verdict = verdict.and(verdict_of(find_at(0, table, reference)));
+    }
+    verdict
+}
+
+/// The verdict on the columns of Partition By.
+fn judge_window(table: &Table, window: &Window) -> Verdict
+    ensures { result ≡ verdict_of (map (λ r. spec.matches_in 0 r (table_of table.now)) (partition_of (syntax.window_of window.now))) }
+{
+    match window {
+        Window::Partition(by, _) => judge_within(table, by),
+        Window::Now => Verdict::good(),
+        Window::Range(_) => Verdict::good(),
+        Window::Unbounded => Verdict::good(),
+        Window::Rows(_) => Verdict::good(),
+    }
+}
+
+/// The verdict on the columns of each Partition By, of sources of which there are as many as tables.
+fn judge_windows(tables: &[Table], sources: &[Source]) -> Verdict
+    requires { length tables.now ≡ length sources.now }
+    ensures { result ≡ verdict_of (partitions_in (tables_of tables.now) (syntax.sources_of sources.now)) }
+{
+    let mut verdict = Verdict::good();
+    for i in 0..sources.len() {
+        verdict = verdict.and(judge_window(&tables[i], &sources[i].window));
+    }
+    verdict
+}
+
+/// The verdict on all references of a query, whose sources are the tables.
+pub(crate) fn judge_query(tables: &[Table], query: &Query) -> Verdict
+    requires { length tables.now ≡ length query.now.sources.items }
+    ensures { result ≡ verdict_of (partitions_in (tables_of tables.now) (syntax.query_of query.now).sources
+        ++ map (spec.matches 0 (tables_of tables.now)) (flat_map named_by (entry_list (syntax.query_of query.now).entries)
+        ++ (references_of_where (syntax.query_of query.now).condition ++ (syntax.query_of query.now).group))) }
+{
+    let windows = judge_windows(tables, &query.sources);
+    let list = judge_list(tables, &query.entries);
+    let condition = judge_where(tables, &query.condition);
+    let group = judge_all(tables, &query.group);
+    windows.and(list.and(condition.and(group)))
+}

@@ -1,0 +1,11 @@
+pub mod Lists
+pub mod Joins
+pub mod Moved
+pub mod Splits
+pub mod Owns
+pub mod Keys
+pub mod Values
+pub mod Ends
+pub mod Whole
+pub mod Numbers
+pub mod Accepted

@@ -1,0 +1,4 @@
+pub mod Nodes
+pub mod Build
+pub mod Scope
+pub mod Chart

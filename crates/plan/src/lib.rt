@@ -1,0 +1,2 @@
+//! The operators of a query.
+#![tactic(auto)]

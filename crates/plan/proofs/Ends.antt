@@ -7,7 +7,7 @@ use Rattle.values.specs.Relation.{Shape, Listed, Grouped}
 use Rattle.values.specs.Answers.{Operator}
 use Rattle.plan.specs.Nodes.{Key, Node, selected, shaped_rows, node_value, values_of, last_of, plan_value}
 use Rattle.plan.specs.Build.{source_nodes, tops, joins_of, top_of, rest_nodes, rest_top, shape_node, end_nodes, nodes_over}
-use Rattle.plan.specs.Scope.{Each}
+use Rattle.std.specs.List.{AllByRecursion}
 use Rattle.plan.proofs.Joins.{join_all}
 use Rattle.plan.proofs.Moved.{shape_moved}
 use Rattle.plan.proofs.Values.{values-append, values-length, at_end, last-push, reads, chosen_from, sources-value, tops-below, joins-value, all_selected}
@@ -17,7 +17,7 @@ abbrev pub join_tables : List (List Row) → List (List Key) → List Row
 join_tables [] each = []
 join_tables (t ∷ ts) each = join_all t ts each
 
-joins-all : (ws done : List (List Row)) (n : ℕ) (ts : List ℕ) (each : List (List Key)) → 0 < length ts → length done ≡ n → Each (λ t. t < n) ts
+joins-all : (ws done : List (List Row)) (n : ℕ) (ts : List ℕ) (each : List (List Key)) → 0 < length ts → length done ≡ n → AllByRecursion (λ t. t < n) ts
     → get_or (values_of ws done (joins_of n ts each)) (top_of n ts each) [] ≡ join_tables (reads done ts) each
 joins-all ws done n [] each l e h = absurd (omega (arith, l))
 joins-all ws done n (t ∷ ts) each l e h = joins-value ws done n t ts each e h.1

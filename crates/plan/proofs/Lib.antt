@@ -9,3 +9,8 @@ pub mod Ends
 pub mod Whole
 pub mod Numbers
 pub mod Accepted
+pub mod Offsets
+pub mod Growing
+pub mod Assembled
+pub mod Charts
+pub mod Scopes

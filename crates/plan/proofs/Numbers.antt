@@ -1,4 +1,4 @@
--- Each node's value is that of its inputs, which have smaller numbers.
+-- AllByRecursion node's value is that of its inputs, which have smaller numbers.
 use Rattle.std.proofs.Common.{◌≡◌, ℕ, zero, suc, ◌+◌, ◌<◌, ◌≤◌, Bool, true, false, List, [], ◌∷◌, ◌++◌, length, get_or, refl, sym, ap, ◌∙◌, arith, length-append}
 use Rattle.values.specs.Row.{Row, row_cmp}
 use Rattle.values.specs.Bag.{distinct}
@@ -7,7 +7,7 @@ use Rattle.values.specs.Relation.{Shape, Listed, Grouped}
 use Rattle.values.specs.Answers.{Operator}
 use Rattle.plan.specs.Nodes.{Key, Node, Window, Select, Join, Project, Group, Distinct, ToStream, selected, joined, shaped_rows, node_value, values_of}
 use Rattle.plan.specs.Build.{source_nodes, tops, join_nodes, joins_top, joins_of, top_of, rest_nodes, rest_top, shape_node, end_nodes, nodes_over}
-use Rattle.plan.specs.Scope.{Each}
+use Rattle.std.specs.List.{AllByRecursion}
 use Rattle.plan.proofs.Values.{values-stay, at_end, tops-below}
 
 -- the inputs of the node are below n
@@ -16,7 +16,7 @@ Below n (Window s) = Unit {0}
 Below n (Select i cs) = i < n
 Below n (Join i j ks) = (i < n) × (j < n)
 Below n (Project i columns) = i < n
-Below n (Group i shape) = i < n
+Below n (Group i by items) = i < n
 Below n (Distinct i) = i < n
 Below n (ToStream i op) = i < n
 
@@ -30,7 +30,7 @@ value-same ws done all n h (Window s) b = refl
 value-same ws done all n h (Select i cs) b = ap (selected cs) (sym (h i b))
 value-same ws done all n h (Join i j ks) b = ap (λ v. joined ks v (get_or done j [])) (sym (h i b.0)) ∙ ap (joined ks (get_or all i [])) (sym (h j b.1))
 value-same ws done all n h (Project i columns) b = ap (shaped_rows (Listed columns)) (sym (h i b))
-value-same ws done all n h (Group i shape) b = ap (shaped_rows shape) (sym (h i b))
+value-same ws done all n h (Group i by items) b = ap (shaped_rows (Grouped by items)) (sym (h i b))
 value-same ws done all n h (Distinct i) b = ap (distinct row_cmp) (sym (h i b))
 value-same ws done all n h (ToStream i op) b = sym (h i b)
 
@@ -58,11 +58,11 @@ sources-rise n s [] = tt
 sources-rise n s ([] ∷ each) = (tt, sources-rise (suc n) (suc s) each)
 sources-rise n s ((c ∷ cs) ∷ each) = (tt, (omega arith, sources-rise (suc (suc n)) (suc s) each))
 
-below_more : (n : ℕ) (ts : List ℕ) → Each (λ t. t < n) ts → Each (λ t. t < suc n) ts
+below_more : (n : ℕ) (ts : List ℕ) → AllByRecursion (λ t. t < n) ts → AllByRecursion (λ t. t < suc n) ts
 below_more n [] h = tt
 below_more n (t ∷ ts) h = (omega (arith, h.0), below_more n ts h.1)
 
-joins-rise : (n left : ℕ) (ts : List ℕ) (each : List (List Key)) → left < n → Each (λ t. t < n) ts → Rises n (join_nodes n left ts each)
+joins-rise : (n left : ℕ) (ts : List ℕ) (each : List (List Key)) → left < n → AllByRecursion (λ t. t < n) ts → Rises n (join_nodes n left ts each)
 joins-rise n left [] each l h = tt
 joins-rise n left (t ∷ ts) [] l h = tt
 joins-rise n left (t ∷ ts) (ks ∷ each) l h = ((l, h.0), joins-rise (suc n) n ts each (omega arith) (below_more n ts h.1))
@@ -72,11 +72,11 @@ top-below n left [] each m l h = omega (arith, l, h)
 top-below n left (t ∷ ts) [] m l h = omega (arith, l, h)
 top-below n left (t ∷ ts) (ks ∷ each) m l h = top-below (suc n) n ts each m (omega arith) (omega (arith, h))
 
-all_joins-rise : (n : ℕ) (ts : List ℕ) (each : List (List Key)) → Each (λ t. t < n) ts → Rises n (joins_of n ts each)
+all_joins-rise : (n : ℕ) (ts : List ℕ) (each : List (List Key)) → AllByRecursion (λ t. t < n) ts → Rises n (joins_of n ts each)
 all_joins-rise n [] each h = tt
 all_joins-rise n (t ∷ ts) each h = joins-rise n t ts each h.0 h.1
 
-all_top-below : (n : ℕ) (ts : List ℕ) (each : List (List Key)) (m : ℕ) → 0 < length ts → Each (λ t. t < n) ts → n + length (joins_of n ts each) ≤ m → top_of n ts each < m
+all_top-below : (n : ℕ) (ts : List ℕ) (each : List (List Key)) (m : ℕ) → 0 < length ts → AllByRecursion (λ t. t < n) ts → n + length (joins_of n ts each) ≤ m → top_of n ts each < m
 all_top-below n [] each m s h l = absurd (omega (arith, s))
 all_top-below n (t ∷ ts) each m s h l = top-below n t ts each m h.0 l
 
@@ -106,7 +106,7 @@ nodes-rise own keys rest b f shape op some =
     let selects : List Node = rest_nodes top rest in
     let m : ℕ = length (sources ++ joins) in
     let k : ℕ = length (sources ++ (joins ++ selects)) in
-    let below : Each (λ t. t < n) (tops 0 own) = tops-below 0 0 own n (omega arith) in
+    let below : AllByRecursion (λ t. t < n) (tops 0 own) = tops-below 0 0 own n (omega arith) in
     let under : top < m = all_top-below n (tops 0 own) keys m some below (omega (arith, length-append sources joins)) in
     let last : rest_top m top rest < k = rest-below m top rest k under (omega (arith, length-append sources joins, length-append sources (joins ++ selects), length-append joins selects)) in
     Rises-append 0 n sources _ (omega arith) (sources-rise 0 0 own)

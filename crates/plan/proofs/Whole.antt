@@ -10,8 +10,9 @@ use Rattle.values.specs.Answers.{Resolved, body}
 use Rattle.names.specs.Split.{JoinKey, all_conjuncts, columns_of, own, keys, remains, remaining, own_of, join_keys, join_keys_of}
 use Rattle.plan.specs.Nodes.{holds_all, selected, shaped_rows, plan_value}
 use Rattle.plan.specs.Build.{alone, placed, moved, tops, plan_of}
-use Rattle.plan.specs.Scope.{Each, InScope, ItemInScope, ShapeInScope, ConditionInScope, Scoped, Tables}
-use Rattle.plan.proofs.Lists.{Each-filter, filter_same, filter-both, map-filter}
+use Rattle.std.specs.List.{AllByRecursion}
+use Rattle.plan.specs.Scope.{InScope, ItemInScope, ShapeInScope, ConditionInScope, Scoped, Tables}
+use Rattle.plan.proofs.Lists.{each-filter, filter_same, filter-both, map-filter}
 use Rattle.plan.proofs.Joins.{flat, flat-field, KeysInScope, meets_all, all_placed, joins_whole}
 use Rattle.plan.proofs.Moved.{agree_all, holds_all-moved, shape_moved, ItemIn, ShapeIn, shaped-moved}
 use Rattle.plan.proofs.Splits.{keeps-split}
@@ -48,7 +49,7 @@ module _ (vs : List ℕ) where
       let many : length rows ≡ length vs = sym (length-map rows length) ∙ ap length fit in
       sym (rw (← e) (flat-field rows [] k.source k.column (omega (arith, h.source, many)) (rw e h.column)))
 
-  items_in : (is : List Item) → Each (ItemInScope vs) is → Each (ItemIn (placed vs) as_row (Fit vs) (InScope vs) agree) is
+  items_in : (is : List Item) → AllByRecursion (ItemInScope vs) is → AllByRecursion (ItemIn (placed vs) as_row (Fit vs) (InScope vs) agree) is
   items_in [] h = tt
   items_in (Key k ∷ is) h = (tt, items_in is h.1)
   items_in (CountAll ∷ is) h = (tt, items_in is h.1)
@@ -65,13 +66,13 @@ module _ (vs : List ℕ) where
   rows_twice [] = refl
   rows_twice (rows ∷ kept) = ap (λ v. as_row rows ∷ v) (rows_twice kept)
 
-  shaped-flat : (shape : Shape) → ShapeInScope vs shape → (kept : List (List Row)) → Each (Fit vs) kept
+  shaped-flat : (shape : Shape) → ShapeInScope vs shape → (kept : List (List Row)) → AllByRecursion (Fit vs) kept
       → shaped_rows (shape_moved (placed vs) shape) (map flat kept) ≡ shaped shape kept
   shaped-flat shape h kept k =
       ap (shaped (shape_moved (placed vs) shape)) (rows_twice kept)
       ∙ sym (shaped-moved (placed vs) as_row (Fit vs) (InScope vs) agree shape (shape_in shape h) kept k)
 
-  selected-flat : (cs : List Condition) → AllInScope vs cs → (kept : List (List Row)) → Each (Fit vs) kept
+  selected-flat : (cs : List Condition) → AllInScope vs cs → (kept : List (List Row)) → AllByRecursion (Fit vs) kept
       → selected (map (moved (placed vs)) cs) (map flat kept) ≡ map flat (filter (holds_all cs) kept)
   selected-flat cs h kept k =
       sym (map-filter (Fit vs) flat (holds_all cs) (λ r. holds_all (map (moved (placed vs)) cs) (r ∷ []))
@@ -117,7 +118,7 @@ plan-body vs q ws some scope t =
     let key_long : length jks ≡ length (chosen each ws) - 1 =
     length-map-range_with_len (join_keys cs) 1 (n - 1) ∙ omega (arith, scope.sources, tables-length vs (chosen each ws) ts) in
     let met : List (List Row) = filter (meets_all 1 jks) (combinations (chosen each ws)) in
-    let fit : Each (Fit vs) met = Each-filter (Fit vs) (meets_all 1 jks) (combinations (chosen each ws)) (combinations-fit vs (chosen each ws) ts) in
+    let fit : AllByRecursion (Fit vs) met = each-filter (Fit vs) (meets_all 1 jks) (combinations (chosen each ws)) (combinations-fit vs (chosen each ws) ts) in
     let kept : filter (keeps q.condition) (combinations ws) ≡ filter (holds_all rest) met = kept-split vs q.condition scope.condition n scope.sources ws t in
     nodes-value ws each (all_placed vs jks) (map (moved (placed vs)) rest) q.is_distinct (placed vs) q.shape q.operator
     (omega (arith, some, tops-length 0 each, own_long, scope.sources))
@@ -125,6 +126,6 @@ plan-body vs q ws some scope t =
     (ap (λ v. shaped_rows (shape_moved (placed vs) q.shape) (selected (map (moved (placed vs)) rest) v))
     (ap (λ v. join_tables v (all_placed vs jks)) (chosen-from each [] ws 0 refl long)
     ∙ tables-joined vs (chosen each ws) jks some ts (all_keys-scope vs cs h 1 (n - 1)) key_long)
-    ∙ ap (shaped_rows (shape_moved (placed vs) q.shape)) (selected-flat vs rest (Each-filter (λ c. Each (InScope vs) (columns_of c)) (remains n) cs h) met fit)
-    ∙ shaped-flat vs q.shape scope.shape (filter (holds_all rest) met) (Each-filter (Fit vs) (holds_all rest) met fit)
+    ∙ ap (shaped_rows (shape_moved (placed vs) q.shape)) (selected-flat vs rest (each-filter (λ c. AllByRecursion (InScope vs) (columns_of c)) (remains n) cs h) met fit)
+    ∙ shaped-flat vs q.shape scope.shape (filter (holds_all rest) met) (each-filter (Fit vs) (holds_all rest) met fit)
     ∙ ap (shaped q.shape) (sym kept))

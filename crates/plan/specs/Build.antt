@@ -46,6 +46,10 @@ item_moved f (Max c) = Max (f c)
 abbrev pub key_placed : List ℕ → JoinKey → Key
 key_placed vs k = record { left = offset vs k.earlier.source k.earlier.column; right = k.column }
 
+-- the conditions of each source, with their columns as places in its own row
+abbrev pub all_alone : List (List Condition) → List (List Condition)
+all_alone each = map (map (moved alone)) each
+
 -- the windows of the sources from s on, each with a Select where conditions are its own; n is the number of the first
 abbrev pub source_nodes : ℕ → ℕ → List (List Condition) → List Node
 source_nodes n s [] = []
@@ -89,7 +93,7 @@ rest_top n top (c ∷ cs) = n
 
 abbrev pub shape_node : (Column → Column) → ℕ → Shape → Node
 shape_node f top (Listed columns) = Project top (map f columns)
-shape_node f top (Grouped by items) = Group top (Grouped (map f by) (map (item_moved f) items))
+shape_node f top (Grouped by items) = Group top (map f by) (map (item_moved f) items)
 
 -- the operators above the relation of all sources
 abbrev pub end_nodes : Bool → Node → Operator → ℕ → List Node
@@ -110,5 +114,5 @@ abbrev pub plan_of : List ℕ → Resolved → List Node
 plan_of vs q =
     let n : ℕ = length q.windows in
     let cs : List Condition = all_conjuncts q.condition in
-    nodes_over (map (map (moved alone)) (own_of n cs)) (map (map (key_placed vs)) (join_keys_of n cs)) (map (moved (placed vs)) (remaining n cs)) q.is_distinct
+    nodes_over (all_alone (own_of n cs)) (map (map (key_placed vs)) (join_keys_of n cs)) (map (moved (placed vs)) (remaining n cs)) q.is_distinct
     (λ top. shape_node (placed vs) top q.shape) q.operator

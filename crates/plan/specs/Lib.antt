@@ -1,4 +1,10 @@
 pub mod Nodes
 pub mod Build
 pub mod Scope
+pub mod Kinds
+pub mod Views
 pub mod Chart
+pub mod Faults
+pub mod Told
+pub mod Measured
+pub mod Laws

@@ -14,3 +14,4 @@ pub mod Growing
 pub mod Assembled
 pub mod Charts
 pub mod Scopes
+pub mod Planned

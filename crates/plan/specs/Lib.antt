@@ -6,5 +6,4 @@ pub mod Views
 pub mod Chart
 pub mod Faults
 pub mod Told
-pub mod Measured
 pub mod Laws

@@ -1,8 +1,9 @@
 //! The cost and the size of each operator of a plan.
-ghost use Rattle.std.specs.Prelude.{◌≡◌, IfOk, IfErr, map, length, true, false};
+ghost use Rattle.std.specs.Prelude.{◌≡◌, IfOk, IfErr, None, map, length, false};
 ghost use Rattle.std.specs.Option.{option_copied};
 ghost use Rattle.plan.specs.Chart.{default_of, given_by, is_bad_chart, measures_of};
-ghost use Rattle.plan.specs.Measured.{Refused};
+ghost use Rattle.plan.specs.Faults.{after_names};
+ghost use Rattle.plan.specs.Told.{Told};
 ghost use Rattle.plan.specs.Views.{nodes_of};
 
 use crate::chart::{Chart, Measure};
@@ -18,7 +19,7 @@ pub fn measures(
 ) -> Result<Vec<Measure>, PlanFault>
     ensures good { IfOk result (λ measures. is_bad_chart (length nodes.now) (given_by (option_copied chart.entry)) ≡ false) }
     ensures ok { IfOk result (λ measures. measures.items ≡ measures_of (nodes_of nodes.now) (given_by (option_copied chart.entry))) }
-    ensures err { IfErr result (λ fault. Refused fault (is_bad_chart (length nodes.now) (given_by (option_copied chart.entry)))) }
+    ensures err { IfErr result (λ fault. Told fault (after_names None (is_bad_chart (length nodes.now) (given_by (option_copied chart.entry))))) }
 {
     match chart {
         None => Ok(default_measures(alloc, nodes)?),

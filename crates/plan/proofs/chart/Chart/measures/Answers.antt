@@ -4,4 +4,4 @@ use Rattle.plan.proofs.Charts.{all_at}
 use Rattle.plan.proofs.chart.Chart.measures.Goals as goal
 
 pub of-requires : goal.of-requires
-of-requires c = rw c.deref-given-items.ensures.value (all_at is_measure c.args.self.now.operators.items c.loop-given.given-index _ c.loop-given-test.true c.requires)
+of-requires c = all_at is_measure c.deref-given-items.result.now c.loop-given.given-index _ c.loop-given-test.true (rw c.deref-given-items.ensures.value c.requires)

@@ -112,7 +112,7 @@ module _ (ts : List Table) where
   items-scope by (e ∷ es) h =
       (item-scope by e (each-left Names (named_by e) (flat_map named_by es) h), items-scope by es (each-right Names (named_by e) (flat_map named_by es) h))
 
-range_in : (a m b : ℕ) → a + m ≤ b → AllByRecursion (λ k. k < b) (range_with_len a m)
+pub range_in : (a m b : ℕ) → a + m ≤ b → AllByRecursion (λ k. k < b) (range_with_len a m)
 range_in a zero b h = tt
 range_in a (suc m) b h = (omega (arith, h), range_in (a + 1) m b (omega (arith, h)))
 

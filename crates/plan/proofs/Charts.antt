@@ -10,7 +10,7 @@ all_at p [] i d l h = absurd (omega (arith, l))
 all_at p (x ∷ xs) zero d l h = (and_parts (p x) (list_all p xs) h).0
 all_at p (x ∷ xs) (suc i) d l h = all_at p xs i d (omega (arith, l)) (and_parts (p x) (list_all p xs) h).1
 
-three_false : (a b c : Bool) → (not a || (not b || not c)) ≡ false → (a ≡ true) × ((b ≡ true) × (c ≡ true))
+pub three_false : (a b c : Bool) → (not a || (not b || not c)) ≡ false → (a ≡ true) × ((b ≡ true) × (c ≡ true))
 three_false true true true h = (refl, (refl, refl))
 three_false true true false h = cc
 three_false true false c h = cc

@@ -15,3 +15,8 @@ pub mod Assembled
 pub mod Charts
 pub mod Scopes
 pub mod Planned
+pub mod Walks
+pub mod Ranges
+pub mod Timed
+pub mod Leads
+pub mod Charted

@@ -26,7 +26,7 @@ tables-length [] (w ∷ ws) h = absurd h
 tables-length (v ∷ vs) [] h = absurd h
 tables-length (v ∷ vs) (w ∷ ws) h = ap suc (tables-length vs ws h.1)
 
-tops-length : (n : ℕ) (each : List (List Condition)) → length (tops n each) ≡ length each
+pub tops-length : (n : ℕ) (each : List (List Condition)) → length (tops n each) ≡ length each
 tops-length n [] = refl
 tops-length n ([] ∷ each) = ap suc (tops-length (suc n) each)
 tops-length n ((c ∷ cs) ∷ each) = ap suc (tops-length (suc (suc n)) each)

@@ -7,3 +7,5 @@ pub mod Chart
 pub mod Faults
 pub mod Told
 pub mod Laws
+pub mod Paths
+pub mod PathExamples

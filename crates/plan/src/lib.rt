@@ -13,6 +13,7 @@ mod laws;
 mod measures;
 mod node;
 mod operators;
+mod paths;
 mod place;
 mod planner;
 
@@ -21,4 +22,5 @@ pub use fault::PlanFault;
 pub use laws::plans_are_right;
 pub use node::{Key, Kind, Node};
 pub use operators::Plan;
+pub use paths::slopes;
 pub use planner::plan;

@@ -1,6 +1,7 @@
 //! The operators of a plan.
 ghost use Rattle.std.specs.Prelude.{◌≡◌, Some};
 ghost use Rattle.plan.specs.Kinds.{kind_of, kind_name};
+ghost use Rattle.plan.specs.Paths.{is_window, takes};
 ghost use Rattle.plan.specs.Views.{node_of};
 
 use std::fmt;
@@ -59,6 +60,28 @@ impl Node {
             Node::Group(_, _, _) => Kind::Group,
             Node::Distinct(_) => Kind::Distinct,
             Node::ToStream(_, _) => Kind::ToStream,
+        }
+    }
+
+    /// Whether the operator is a window.
+    pub fn is_window(&self) -> bool
+        ensures { result ≡ is_window (node_of self.now) }
+    {
+        matches!(self, Node::Window(_))
+    }
+
+    /// Whether the operator takes the rows of the one with this number.
+    pub fn takes(&self, operator: usize) -> bool
+        ensures { result ≡ takes operator (node_of self.now) }
+    {
+        match self {
+            Node::Window(_) => false,
+            Node::Join(left, right, _) => *left == operator || *right == operator,
+            Node::Select(input, _)
+            | Node::Project(input, _)
+            | Node::Group(input, _, _)
+            | Node::Distinct(input)
+            | Node::ToStream(input, _) => *input == operator,
         }
     }
 }

@@ -1,4 +1,6 @@
 //! The operators of a query, and what each costs.
+ghost use Rattle.plan.specs.Paths.{HaveCharts};
+ghost use Rattle.plan.specs.Views.{nodes_of};
 
 use crate::chart::Measure;
 use crate::node::Node;
@@ -17,4 +19,5 @@ pub struct Plan {
     pub widths: Vec<usize>,
     /// What the query means.
     pub meaning: Resolved,
+    ghost charted: { HaveCharts (nodes_of nodes.items) measures.items },
 }

@@ -25,7 +25,7 @@ use std::alloc::Global;
 /// Plans a query over the declared streams, with a chart where one is given. The time goes with that of `resolve`, and with
 /// the operators.
 ///
-/// Its caller sees to it that the sources of the query have no more columns together than a row has values.
+/// Its caller sees to it that the query has no more sources, and these no more columns together, than a row has values.
 ///
 /// # Errors
 /// The first fault of the query in the order of `PlanFault`: that of its names, otherwise `BadChart`. `OutOfMemory` where a
@@ -36,6 +36,7 @@ pub fn plan(
     catalog: &Catalog,
     chart: Option<&Chart>,
 ) -> Result<Plan, PlanFault>
+    requires few { length query.now.sources.items ≤ MAX_COLUMNS }
     requires narrow { sum (widths (query_of query.now) catalog.now) ≤ MAX_COLUMNS }
     ensures accepted { IfOk result (λ plan. first_fault (query_of query.now) catalog.now (given_by (option_copied chart.entry)) ≡ None) }
     ensures nodes { IfOk result (λ plan. nodes_of plan.nodes.items
@@ -44,6 +45,10 @@ pub fn plan(
     ensures streams { IfOk result (λ plan. plan.streams.items ≡ streams (query_of query.now) catalog.now) }
     ensures widths { IfOk result (λ plan. plan.widths.items ≡ widths (query_of query.now) catalog.now) }
     ensures meaning { IfOk result (λ plan. resolved_of plan.meaning ≡ resolved (query_of query.now) catalog.now) }
+    ensures counts { IfOk result (λ plan. length plan.meaning.windows.items ≡ length query.now.sources.items) }
+    ensures rows { IfOk result (λ plan. has_narrow_rows plan.meaning.shape ≡ true) }
+    ensures slides { IfOk result (λ plan. all_slide plan.meaning.windows.items ≡ true) }
+    ensures within { IfOk result (λ plan. all_within plan.meaning.windows.items plan.widths.items ≡ true) }
     ensures err { IfErr result (λ fault. Told fault (first_fault (query_of query.now) catalog.now (given_by (option_copied chart.entry)))) }
 {
     let Named {

@@ -20,3 +20,4 @@ pub mod Ranges
 pub mod Timed
 pub mod Leads
 pub mod Charted
+pub mod Narrow

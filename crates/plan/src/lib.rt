@@ -9,6 +9,7 @@
 mod build;
 mod chart;
 mod fault;
+mod fits;
 mod laws;
 mod measures;
 mod node;
@@ -16,9 +17,12 @@ mod operators;
 mod paths;
 mod place;
 mod planner;
+#[cfg(test)]
+mod tests;
 
 pub use chart::{Chart, MAX_COST, MAX_SIZE, Measure};
 pub use fault::PlanFault;
+pub use fits::fits_a_row;
 pub use laws::plans_are_right;
 pub use node::{Key, Kind, Node};
 pub use operators::Plan;

@@ -46,6 +46,7 @@ pub fn plan(
     ensures widths { IfOk result (λ plan. plan.widths.items ≡ widths (query_of query.now) catalog.now) }
     ensures meaning { IfOk result (λ plan. resolved_of plan.meaning ≡ resolved (query_of query.now) catalog.now) }
     ensures counts { IfOk result (λ plan. length plan.meaning.windows.items ≡ length query.now.sources.items) }
+    ensures known { IfOk result (λ plan. AllByRecursion (λ s. s < length catalog.now) plan.streams.items) }
     ensures rows { IfOk result (λ plan. has_narrow_rows plan.meaning.shape ≡ true) }
     ensures slides { IfOk result (λ plan. all_slide plan.meaning.windows.items ≡ true) }
     ensures within { IfOk result (λ plan. all_within plan.meaning.windows.items plan.widths.items ≡ true) }

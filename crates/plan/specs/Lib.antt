@@ -1,0 +1,11 @@
+pub mod Nodes
+pub mod Build
+pub mod Scope
+pub mod Kinds
+pub mod Views
+pub mod Chart
+pub mod Faults
+pub mod Told
+pub mod Laws
+pub mod Paths
+pub mod PathExamples

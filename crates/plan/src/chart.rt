@@ -1,0 +1,133 @@
+//! Charts: what each operator costs, and what it leaves.
+ghost use Rattle.std.specs.Prelude.{◌≡◌};
+ghost use Rattle.std.specs.List.{list_all};
+ghost use Rattle.plan.specs.Chart.{is_measure};
+
+use crate::node::Node;
+use std::alloc::{AllocError, Global};
+
+/// The greatest cost of an operator; the least is 1.
+pub const MAX_COST: i64 = 1_000_000;
+
+/// The greatest size that an operator leaves, in millionths of what enters a path; the least is 0.
+pub const MAX_SIZE: i64 = 1_000_000;
+
+/// What an operator costs, and the size that it leaves.
+#[derive(Clone, Copy, Debug, PartialEq, Eq)]
+pub struct Measure {
+    /// In units of time, from 1 to `MAX_COST`.
+    pub cost: u64,
+    /// In millionths of what enters the path, from 0 to `MAX_SIZE`; 0 at the root.
+    pub size: u64,
+}
+
+/// A chart as it is given with a query: a cost and a size for each operator by its number, right or not.
+#[derive(Debug, Drop)]
+pub struct Chart {
+    pub operators: Vec<(i64, i64)>,
+}
+
+impl Measure {
+    ghost use Rattle.std.specs.Prelude.{◌≡◌, true};
+    ghost use Rattle.plan.specs.Chart.{default_of, is_measure, measure, measure_of};
+    ghost use Rattle.plan.specs.Views.{node_of};
+
+    /// What an operator costs and leaves where no chart is given.
+    pub(crate) fn default_of(node: &Node) -> Measure
+        ensures { result ≡ default_of (node_of node.now) }
+    {
+        match node {
+            Node::Window(_) => Measure::new(2, 1_000_000),
+            Node::Select(_, _) => Measure::new(1, 500_000),
+            Node::Join(_, _, _) => Measure::new(4, 800_000),
+            Node::Project(_, _) => Measure::new(1, 400_000),
+            Node::Group(_, _, _) => Measure::new(3, 200_000),
+            Node::Distinct(_) => Measure::new(2, 100_000),
+            Node::ToStream(_, _) => Measure::new(1, 0),
+        }
+    }
+
+    fn new(cost: u64, size: u64) -> Measure
+        ensures { result ≡ measure cost size }
+    {
+        Measure { cost, size }
+    }
+
+    /// Whether a cost and a size are in range.
+    fn is_in_range(given: (i64, i64)) -> bool
+        ensures { result ≡ is_measure given }
+    {
+        if given.0 < 1 {
+            return false;
+        }
+        if given.0 > MAX_COST {
+            return false;
+        }
+        if given.1 < 0 {
+            return false;
+        }
+        given.1 <= MAX_SIZE
+    }
+
+    /// A cost and a size that are in range.
+    fn of(given: (i64, i64)) -> Measure
+        requires { is_measure given ≡ true }
+        ensures { result ≡ measure_of given }
+    {
+        Measure::new(given.0 as u64, given.1 as u64)
+    }
+}
+
+impl Chart {
+    ghost use Rattle.std.specs.Prelude.{◌≡◌, true, Some, IfOk, map};
+    ghost use Rattle.std.specs.List.{list_all};
+    ghost use Rattle.plan.specs.Chart.{is_bad_chart, is_measure, root_size, measure_of};
+
+    /// Whether the chart is of another length than the plan of so many operators, has a cost or a size out of range, or
+    /// leaves a size at the root.
+    pub(crate) fn is_bad(&self, count: usize) -> bool
+        ensures { result ≡ is_bad_chart count (Some self.now.operators.items) }
+    {
+        if self.operators.len() != count {
+            return true;
+        }
+        if self.root_size() != 0 {
+            return true;
+        }
+        !are_measures(&self.operators)
+    }
+
+    /// The size that is given for the root.
+    fn root_size(&self) -> i64
+        ensures { result ≡ root_size self.now.operators.items }
+    {
+        if self.operators.is_empty() {
+            return 0;
+        }
+        self.operators[self.operators.len() - 1].1
+    }
+
+    /// What is given for each operator.
+    pub(crate) fn measures(&self, alloc: Global) -> Result<Vec<Measure>, AllocError>
+        requires { list_all is_measure self.now.operators.items ≡ true }
+        ensures { IfOk result (λ measures. measures.items ≡ map measure_of self.now.operators.items) }
+    {
+        let mut measures = Vec::with_capacity(alloc, self.operators.len())?;
+        for given in &self.operators {
+            measures.push(Measure::of(*given))?;
+        }
+        Ok(measures)
+    }
+}
+
+/// Whether each cost and each size is in range.
+fn are_measures(given: &[(i64, i64)]) -> bool
+    ensures { result ≡ list_all is_measure given.now }
+{
+    for measure in given {
+        if !Measure::is_in_range(*measure) {
+            return false;
+        }
+    }
+    true
+}

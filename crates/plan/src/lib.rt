@@ -1,0 +1,30 @@
+//! Plans: the operators that evaluate a query, how each is fed, and what each costs.
+//!
+//! `plan` looks up the names of a query, and answers its operators by their numbers: for each source its window, and a Select
+//! where conjuncts of the condition belong to it; a join for each source after the first; a Select where conjuncts remain;
+//! Group or Project; Distinct where it is said; and ToStream, the root. The law `plans_are_right` says that the value of
+//! the plan on any bags of the windows is the relation that the query's text means (CQL: Arasu, Babu and Widom, 2006).
+#![tactic(auto)]
+
+mod build;
+mod chart;
+mod fault;
+mod fits;
+mod laws;
+mod measures;
+mod node;
+mod operators;
+mod paths;
+mod place;
+mod planner;
+#[cfg(test)]
+mod tests;
+
+pub use chart::{Chart, MAX_COST, MAX_SIZE, Measure};
+pub use fault::PlanFault;
+pub use fits::fits_a_row;
+pub use laws::plans_are_right;
+pub use node::{Key, Kind, Node};
+pub use operators::Plan;
+pub use paths::slopes;
+pub use planner::plan;

@@ -1,0 +1,103 @@
+//! The operators of a plan.
+ghost use Rattle.std.specs.Prelude.{◌≡◌, Some};
+ghost use Rattle.plan.specs.Kinds.{kind_of, kind_name};
+ghost use Rattle.plan.specs.Paths.{is_window, takes};
+ghost use Rattle.plan.specs.Views.{node_of};
+
+use std::fmt;
+use values::{Condition, Item, Operator};
+
+/// A key of a join: a place in the left row, and one in the right.
+#[derive(Clone, Copy, Debug, PartialEq, Eq)]
+pub struct Key {
+    pub left: usize,
+    pub right: usize,
+}
+
+/// An operator. Its inputs are the numbers of operators before it, and its columns are places in the rows of its input.
+///
+/// In conditions and items the one row of the input stands as the source 0.
+#[derive(Drop)]
+pub enum Node {
+    /// The window of a source, by the source's number in the order of From.
+    Window(usize),
+    /// The rows of the input at which all conditions are true.
+    Select(usize, Vec<Condition>),
+    /// The rows of the left input beside those of the right one with equal keys, left columns first. Null equals nothing.
+    Join(usize, usize, Vec<Key>),
+    /// The listed columns.
+    Project(usize, Vec<usize>),
+    /// Group By's columns, none where it is missing, and the list, of each group.
+    Group(usize, Vec<usize>, Vec<Item>),
+    /// Each row once.
+    Distinct(usize),
+    /// The stream of the input's relation: the root.
+    ToStream(usize, Operator),
+}
+
+/// What an operator does. It is shown by its name, as `Window`.
+#[derive(Clone, Copy, Debug, PartialEq, Eq)]
+pub enum Kind {
+    Window,
+    Select,
+    Join,
+    Project,
+    Group,
+    Distinct,
+    ToStream,
+}
+
+impl Node {
+    /// What the operator does.
+    pub fn kind(&self) -> Kind
+        ensures { result ≡ kind_of (node_of self.now) }
+    {
+        match self {
+            Node::Window(_) => Kind::Window,
+            Node::Select(_, _) => Kind::Select,
+            Node::Join(_, _, _) => Kind::Join,
+            Node::Project(_, _) => Kind::Project,
+            Node::Group(_, _, _) => Kind::Group,
+            Node::Distinct(_) => Kind::Distinct,
+            Node::ToStream(_, _) => Kind::ToStream,
+        }
+    }
+
+    /// Whether the operator is a window.
+    pub fn is_window(&self) -> bool
+        ensures { result ≡ is_window (node_of self.now) }
+    {
+        matches!(self, Node::Window(_))
+    }
+
+    /// Whether the operator takes the rows of the one with this number.
+    pub fn takes(&self, operator: usize) -> bool
+        ensures { result ≡ takes operator (node_of self.now) }
+    {
+        match self {
+            Node::Window(_) => false,
+            Node::Join(left, right, _) => *left == operator || *right == operator,
+            Node::Select(input, _)
+            | Node::Project(input, _)
+            | Node::Group(input, _, _)
+            | Node::Distinct(input)
+            | Node::ToStream(input, _) => *input == operator,
+        }
+    }
+}
+
+impl fmt::Display for Kind {
+    ghost output = { λ kind. Some (kind_name kind) };
+
+    fn fmt<W: fmt::Write>(&self, f: &mut fmt::Formatter<W>) -> fmt::Result {
+        match self {
+            Kind::Window => write!(f, "Window"),
+            Kind::Select => write!(f, "Select"),
+            Kind::Join => write!(f, "Join"),
+            Kind::Project => write!(f, "Project"),
+            Kind::Group => write!(f, "Group"),
+            Kind::Distinct => write!(f, "Distinct"),
+            Kind::ToStream => write!(f, "ToStream"),
+        }
+    }
+}

@@ -3,3 +3,8 @@ pub mod PartLemmas
 pub mod LatestLemmas
 pub mod OutputLemmas
 pub mod EnterLemmas
+pub mod WindowLemmas
+pub mod MoveLemmas
+pub mod ShownLemmas
+pub mod LatestLaw
+pub mod RangeLaw

@@ -24,8 +24,6 @@ mod scan;
 mod stack;
 mod symbols;
 mod tables;
-#[cfg(test)]
-mod tests;
 mod tokens;
 mod words;
 

@@ -18,5 +18,3 @@ pub use meaning::{Named, resolve};
 pub use split::Key;
 pub use streams::Catalog;
 
-#[cfg(test)]
-mod tests;

@@ -17,8 +17,6 @@ mod operators;
 mod paths;
 mod place;
 mod planner;
-#[cfg(test)]
-mod tests;
 
 pub use chart::{Chart, MAX_COST, MAX_SIZE, Measure};
 pub use fault::PlanFault;

@@ -1,4 +1,4 @@
-use crate::{Chart, Plan, fits_a_row, plan, slopes};
+use plan::{Chart, Plan, fits_a_row, plan, slopes};
 use cql_reader::{Condition, Entries, Name, Operand, Query, Reference, Source, Window};
 use names::Catalog;
 use std::alloc::{AllocError, Global};

@@ -1,7 +1,7 @@
 // Texts and their answers.
 
-use crate::ReadFault::{self, BadToken, NumberRange, TooDeep, Unexpected};
-use crate::{
+use cql_reader::ReadFault::{self, BadToken, NumberRange, TooDeep, Unexpected};
+use cql_reader::{
     Condition, Entries, Entry, Operand, Reference, Window, every_query_is_well_formed,
     every_text_has_one_answer, is_name, read,
 };

@@ -1,0 +1,12 @@
+//! Worked rows of the query language, as tests: texts and what they name, names and what they stand for, plans with their slopes,
+//! the calls of the plain engine, and answers.
+//!
+//! They stand in a crate of their own because a crate's tests are proved with all of the crate once more.
+#![tactic(auto)]
+
+#[cfg(test)]
+mod plans;
+#[cfg(test)]
+mod references;
+#[cfg(test)]
+mod texts;

@@ -1,5 +1,5 @@
 use cql_reader::{Condition, Entries, Entry, Name, Operand, Query, Reference, Source, Window};
-use names::{Catalog, Key, Named, ResolveFault, resolve};
+use names::{Catalog, ResolveFault, resolve};
 use std::alloc::{AllocError, Global};
 use std::test::Fail;
 use values::{Compare, Operator};

@@ -4,3 +4,4 @@ pub mod Columns
 pub mod Verdicts
 pub mod Tables
 pub mod Accepted
+pub mod Bearing

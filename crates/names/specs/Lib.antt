@@ -5,5 +5,6 @@ pub mod Resolved
 pub mod Faults
 pub mod Sound
 pub mod Views
+pub mod Laws
 pub mod Told
 pub mod Examples

@@ -39,10 +39,10 @@ table_of t = record { name = name_of t.name; columns = names_of t.columns.now }
 abbrev pub tables_of : List Table → List spec.Table
 tables_of ts = map table_of ts
 
--- what a list of matches amounts to
 abbrev pub code_column : conditions.Column → Column
 code_column c = record { source = c.source; column = c.column }
 
+-- what a list of matches amounts to
 abbrev pub found_of : List conditions.Column → Found
 found_of [] = Missing
 found_of (c ∷ []) = One (code_column c)

@@ -6,6 +6,7 @@
 mod condition;
 mod entries;
 mod fault;
+mod laws;
 mod matching;
 mod meaning;
 mod sources;
@@ -14,6 +15,7 @@ mod streams;
 mod verdict;
 
 pub use fault::ResolveFault;
+pub use laws::matches_bear_the_name;
 pub use meaning::{Named, resolve};
 pub use split::Key;
 pub use streams::Catalog;

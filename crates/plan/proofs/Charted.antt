@@ -173,8 +173,16 @@ nodes-few own keys rest b shape op =
     let k : ℕ = length (sources ++ (joins ++ selects)) in
     let last : Node = shape (rest_top (length (sources ++ joins)) top rest) in
     let end : List Node = end_nodes b last op k in
-    omega (arith, length-append sources (joins ++ (selects ++ end)), length-append joins (selects ++ end), length-append selects end,
-    sources-length 0 0 own, joins-length (length sources) (tops 0 own) keys, rest-length top rest, (end-length b last op k).1)
+    omega (
+      arith,
+      length-append sources (joins ++ (selects ++ end)),
+      length-append joins (selects ++ end),
+      length-append selects end,
+      sources-length 0 0 own,
+      joins-length (length sources) (tops 0 own) keys,
+      rest-length top rest,
+      (end-length b last op k).1,
+    )
 
 measured_plan : (nodes : List Node) (given : Option (List (ℤ × ℤ))) → Measured (length nodes) (map default_of nodes) → is_bad_chart (length nodes) given ≡ false
     → Measured (length nodes) (measures_of nodes given)

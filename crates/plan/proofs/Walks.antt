@@ -45,7 +45,7 @@ path_next nodes i last next d b before after all l e h a n =
 pub points_more : (measures : List Measure) (path : List ℕ) (i t : ℕ) (before all : List Point) → i < length path
     → before ++ points_after t (measures_on measures (drop i path)) ≡ all
     → before ++ record { t = t + (get_or measures (get_or path i 0) (measure 0 0)).cost; s = (get_or measures (get_or path i 0) (measure 0 0)).size }
-        ∷ points_after (t + (get_or measures (get_or path i 0) (measure 0 0)).cost) (measures_on measures (drop (i + 1) path)) ≡ all
+    ∷ points_after (t + (get_or measures (get_or path i 0) (measure 0 0)).cost) (measures_on measures (drop (i + 1) path)) ≡ all
 points_more measures path i t before all l h = ap (λ xs. before ++ points_after t (measures_on measures xs)) (sym (drop_more path i 0 l)) ∙ h
 
 -- the time of a point that is not there yet

@@ -1,5 +1,5 @@
 -- The operators of sources, joins and what follows are those of the plan.
-use Rattle.std.proofs.Common.{◌≡◌, ℕ, Bool, List, [], ◌++◌, length, refl, sym, ap, ◌∙◌, append_assoc}
+use Rattle.std.proofs.Common.{◌≡◌, ℕ, Bool, List, ◌++◌, length, refl, sym, ap, ◌∙◌, append_assoc}
 use Rattle.std.proofs.lemmas.List.{length-map}
 use Rattle.values.specs.Condition.{Condition}
 use Rattle.values.specs.Answers.{Operator}

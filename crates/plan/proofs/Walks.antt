@@ -1,11 +1,11 @@
 -- Walks over the operators of a plan, one operator more.
-use Rattle.std.proofs.Common.{◌≡◌, ℕ, suc, ◌+◌, ◌<◌, ◌≤◌, Bool, true, false, cond, List, [], ◌∷◌, ◌++◌, map, drop, length, get_or, refl, sym, ap, ◌∙◌, arith, append-nil, append_assoc, length-append}
+use Rattle.std.proofs.Common.{◌≡◌, ℕ, suc, ◌+◌, ◌<◌, ◌≤◌, Bool, true, false, cond, List, [], ◌∷◌, ◌++◌, drop, length, get_or, refl, sym, ap, ◌∙◌, arith, append_assoc, length-append}
 use Rattle.std.proofs.lemmas.List.{drop_more}
 use Rattle.std.proofs.Math.Seq.{get_or-append_seam}
 use Rattle.envelope.specs.declared.chart.Point.{Point}
 use Rattle.envelope.specs.Chart.{IsChart, at, origin, greatest_time}
 use Rattle.plan.specs.Chart.{measure}
-use Rattle.plan.specs.Paths.{takes, is_window, onward, path_from, windows, points_after, measures_on, points_of}
+use Rattle.plan.specs.Paths.{takes, is_window, onward, windows, points_after, measures_on, points_of}
 use Rattle.plan.specs.Views.{node_of, nodes_of}
 use Rattle.plan.specs.declared.chart.Measure.{Measure}
 use Rattle.plan.specs.declared.node.Node.{Node}

@@ -11,7 +11,7 @@ use Rattle.std.specs.Str.{bytes_eq}
 use Rattle.names.specs.Catalog.{Stream}
 use Rattle.names.specs.Matches.{Table, table_of, tables, places, allows, matches_in, matches, first_column, column_of}
 use Rattle.names.specs.Resolved.{operand_of, condition_of, item_of, named_by, all_columns, entry_list, is_grouped, listed_columns, shape_of, resolved, widths}
-use Rattle.names.specs.Faults.{Fault, references_of_operand, references_of_condition, references_of_where, partition_of, partition_matches, all_matches, is_missing, first_met, fault_tests, first_fault}
+use Rattle.names.specs.Faults.{Fault, references_of_operand, references_of_condition, references_of_where, partition_matches, all_matches, is_missing, first_met, fault_tests, first_fault}
 use Rattle.std.specs.List.{AllByRecursion}
 use Rattle.plan.specs.Scope.{InScope, ItemInScope, ShapeInScope, ConditionInScope, Scoped}
 use Rattle.plan.specs.Scope.{Tables}

@@ -1,5 +1,5 @@
 -- The operators of sources, joins and what follows are those of the plan.
-use Rattle.std.proofs.Common.{◌≡◌, ℕ, Bool, List, [], ◌++◌, length, refl, sym, ap, ◌∙◌, append_assoc}
+use Rattle.std.proofs.Common.{◌≡◌, ℕ, Bool, List, ◌++◌, length, refl, sym, ap, ◌∙◌, append_assoc}
 use Rattle.std.proofs.lemmas.List.{length-map}
 use Rattle.values.specs.Condition.{Condition}
 use Rattle.values.specs.Answers.{Operator}
@@ -30,7 +30,7 @@ assembled own keys rest is_distinct shape op a b c d ts top last g t h u i v j =
     let lc : length c ≡ length (sources ++ (joins ++ selects)) = sym (length-map c node_of) ∙ ap length third in
     let last_same : last ≡ rest_top (length (sources ++ joins)) above rest = v ∙ rw (lb, top_same) refl in
     let ends : end_nodes is_distinct (shape last) op (length c)
-        ≡ end_nodes is_distinct (shape (rest_top (length (sources ++ joins)) above rest)) op (length (sources ++ (joins ++ selects))) = rw (last_same, lc) refl in
+    ≡ end_nodes is_distinct (shape (rest_top (length (sources ++ joins)) above rest)) op (length (sources ++ (joins ++ selects))) = rw (last_same, lc) refl in
     j ∙ ap (λ w. w ++ end_nodes is_distinct (shape last) op (length c)) third ∙ ap (λ w. (sources ++ (joins ++ selects)) ++ w) ends
     ∙ append_assoc sources (joins ++ selects) (end_nodes is_distinct (shape (rest_top (length (sources ++ joins)) above rest)) op (length (sources ++ (joins ++ selects))))
     ∙ ap (λ w. sources ++ w) (append_assoc joins selects (end_nodes is_distinct (shape (rest_top (length (sources ++ joins)) above rest)) op (length (sources ++ (joins ++ selects)))))

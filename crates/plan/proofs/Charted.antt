@@ -1,5 +1,5 @@
 -- Each path of a plan has a chart.
-use Rattle.std.proofs.Common.{◌≡◌, ℕ, zero, suc, ◌+◌, ◌-◌, ◌*◌, ◌<◌, ◌≤◌, ◌==◌, Bool, true, false, ◌&&◌, ℤ, pos, Option, Some, None, List, [], ◌∷◌, ◌++◌, map, length, get_or, slice_index_or, refl, sym, ap, subst, ◌∙◌, arith, append_assoc, length-append}
+use Rattle.std.proofs.Common.{◌≡◌, ℕ, zero, suc, ◌+◌, ◌-◌, ◌*◌, ◌<◌, ◌≤◌, ◌==◌, Bool, true, false, ◌&&◌, ℤ, pos, Option, Some, None, List, [], ◌∷◌, ◌++◌, map, length, get_or, refl, sym, ap, subst, ◌∙◌, arith, append_assoc, length-append}
 use Rattle.std.proofs.Math.IntN.{negsuc}
 use Rattle.std.specs.Prelude.{int_le, nat_abs}
 use Rattle.std.specs.List.{AllByRecursion, list_all}
@@ -8,18 +8,17 @@ use Rattle.std.proofs.lemmas.Bool.{and_parts, leb-true, eqb-true}
 use Rattle.std.proofs.lemmas.Bool.Decides.{Decides-int_eq}
 use Rattle.std.proofs.lemmas.List.{length-map, map-append, get_or-append-add}
 use Rattle.std.proofs.lemmas.List.FromFn.{length-map-range_with_len}
-use Rattle.values.specs.Condition.{Column, Condition}
-use Rattle.values.specs.Relation.{Shape, Listed, Grouped}
+use Rattle.values.specs.Condition.{Condition}
 use Rattle.values.specs.Answers.{Resolved, Operator}
 use Rattle.cql_reader.specs.Query as syntax
 use Rattle.names.specs.Catalog.{Stream}
 use Rattle.names.specs.Resolved.{resolved, widths}
 use Rattle.names.specs.Split.{all_conjuncts, own, own_of, join_keys, join_keys_of, remaining}
-use Rattle.envelope.specs.Chart.{full_size, IsChart}
+use Rattle.envelope.specs.Chart.{full_size}
 use Rattle.plan.specs.Nodes.{Key, Node, Window, Select, Join, Project, Group, Distinct, ToStream}
 use Rattle.plan.specs.Build.{source_nodes, tops, join_nodes, joins_of, top_of, rest_nodes, rest_top, shape_node, end_nodes, nodes_over, all_alone, key_placed, moved, placed, plan_of}
 use Rattle.plan.specs.Chart.{measure, default_of, is_measure, root_size, is_bad_chart, measure_of, measures_of}
-use Rattle.plan.specs.Paths.{onward, path_from, windows, points_of, measures_on, HaveCharts}
+use Rattle.plan.specs.Paths.{onward, path_from, windows, measures_on, HaveCharts}
 use Rattle.plan.specs.Views.{nodes_of}
 use Rattle.plan.specs.declared.chart.Measure.{Measure}
 use Rattle.plan.specs.declared.node.Node as code
@@ -173,8 +172,16 @@ nodes-few own keys rest b shape op =
     let k : ℕ = length (sources ++ (joins ++ selects)) in
     let last : Node = shape (rest_top (length (sources ++ joins)) top rest) in
     let end : List Node = end_nodes b last op k in
-    omega (arith, length-append sources (joins ++ (selects ++ end)), length-append joins (selects ++ end), length-append selects end,
-    sources-length 0 0 own, joins-length (length sources) (tops 0 own) keys, rest-length top rest, (end-length b last op k).1)
+    omega (
+      arith,
+      length-append sources (joins ++ (selects ++ end)),
+      length-append joins (selects ++ end),
+      length-append selects end,
+      sources-length 0 0 own,
+      joins-length (length sources) (tops 0 own) keys,
+      rest-length top rest,
+      (end-length b last op k).1,
+    )
 
 measured_plan : (nodes : List Node) (given : Option (List (ℤ × ℤ))) → Measured (length nodes) (map default_of nodes) → is_bad_chart (length nodes) given ≡ false
     → Measured (length nodes) (measures_of nodes given)

@@ -1,11 +1,11 @@
 -- Each window's path leads to the root.
-use Rattle.std.proofs.Common.{◌≡◌, ℕ, zero, suc, ◌+◌, ◌-◌, ◌<◌, ◌≤◌, ◌==◌, ◌||◌, Bool, true, false, cond, List, [], ◌∷◌, ◌++◌, length, get_or, refl, sym, ap, ◌∙◌, arith, append-nil, append_assoc, length-append}
+use Rattle.std.proofs.Common.{◌≡◌, ℕ, suc, ◌+◌, ◌-◌, ◌<◌, ◌≤◌, ◌==◌, ◌||◌, Bool, true, false, cond, List, [], ◌∷◌, ◌++◌, length, refl, sym, ap, ◌∙◌, arith, length-append}
 use Rattle.std.specs.List.{AllByRecursion}
-use Rattle.std.proofs.lemmas.Bool.{eqb-true, eqb-false, ne_eqb}
+use Rattle.std.proofs.lemmas.Bool.{eqb-false, ne_eqb}
 use Rattle.values.specs.Condition.{Column, Condition}
 use Rattle.values.specs.Relation.{Shape, Listed, Grouped}
 use Rattle.values.specs.Answers.{Operator}
-use Rattle.plan.specs.Nodes.{Key, Node, Window, Select, Join, Project, Group, Distinct, ToStream}
+use Rattle.plan.specs.Nodes.{Key, Node}
 use Rattle.plan.specs.Build.{source_nodes, tops, join_nodes, joins_top, joins_of, top_of, rest_nodes, rest_top, shape_node, end_nodes, nodes_over}
 use Rattle.plan.specs.Paths.{takes, is_window, onward, windows}
 use Rattle.plan.proofs.Lists.{by_test, each-weaken, each-append}
@@ -70,19 +70,21 @@ sources-lead : (P : ℕ → Type 0) (n s : ℕ) (each : List (List Condition)) �
 sources-lead P n s [] h = tt
 sources-lead P n s ([] ∷ each) h =
     let rest : List Node = source_nodes (suc n) (suc s) each in
-    let e : reached n (suc n) rest ≡ n = sources-pass n (suc n) (suc s) each (omega arith) in
-    ((omega arith, rw e h.0),
-    each-weaken (λ w. (suc n ≤ w) × P (reached w (suc n) rest)) (λ w. (n ≤ w) × P (reached w (suc n) rest)) (λ w k. (omega (arith, k.0), k.1)) (windows (suc n) rest)
-    (sources-lead P (suc n) (suc s) each h.1))
+    let e : reached n (suc n) rest ≡ n = sources-pass n (suc n) (suc s) each (omega arith) in (
+      (omega arith, rw e h.0),
+      each-weaken (λ w. (suc n ≤ w) × P (reached w (suc n) rest)) (λ w. (n ≤ w) × P (reached w (suc n) rest)) (λ w k. (omega (arith, k.0), k.1)) (windows (suc n) rest)
+          (sources-lead P (suc n) (suc s) each h.1),
+    )
 sources-lead P n s ((c ∷ cs) ∷ each) h =
     let rest : List Node = source_nodes (suc (suc n)) (suc s) each in
     let e : reached (suc n) (suc (suc n)) rest ≡ suc n = sources-pass (suc n) (suc (suc n)) (suc s) each (omega arith) in
-    let f : (n == n) ≡ true = equal_self n in
-    ((omega arith, rw (f, e) h.0),
-    each-weaken (λ w. (suc (suc n) ≤ w) × P (reached w (suc (suc n)) rest))
-    (λ w. (n ≤ w) × P (cond (n == w) (reached (suc n) (suc (suc n)) rest) (reached w (suc (suc n)) rest)))
-    (λ w k. let g : (n == w) ≡ false = ne_eqb n w (λ p. omega (arith, p, k.0)) in (omega (arith, k.0), rw g k.1)) (windows (suc (suc n)) rest)
-    (sources-lead P (suc (suc n)) (suc s) each h.1))
+    let f : (n == n) ≡ true = equal_self n in (
+      (omega arith, rw (f, e) h.0),
+      each-weaken (λ w. (suc (suc n) ≤ w) × P (reached w (suc (suc n)) rest))
+          (λ w. (n ≤ w) × P (cond (n == w) (reached (suc n) (suc (suc n)) rest) (reached w (suc (suc n)) rest)))
+          (λ w k. let g : (n == w) ≡ false = ne_eqb n w (λ p. omega (arith, p, k.0)) in (omega (arith, k.0), rw g k.1)) (windows (suc (suc n)) rest)
+          (sources-lead P (suc (suc n)) (suc s) each h.1),
+    )
 
 or-true : (b : Bool) → (b || true) ≡ true
 or-true true = refl
@@ -99,10 +101,14 @@ joins-lead n left (t ∷ ts) (ks ∷ each) e =
     let ih : (reached n (suc n) rest ≡ top) × AllByRecursion (λ p. reached p (suc n) rest ≡ top) ts = joins-lead (suc n) n ts each (omega (arith, e)) in
     let f : (left == left) ≡ true = equal_self left in
     let g : (t == t) ≡ true = equal_self t in
-    let i : ((left == t) || true) ≡ true = or-true (left == t) in
-    (rw f ih.0, (rw (g, i) ih.0,
-    each-weaken (λ p. reached p (suc n) rest ≡ top) (λ p. cond ((left == p) || (t == p)) (reached n (suc n) rest) (reached p (suc n) rest) ≡ top)
-    (λ p h. by_test ((left == p) || (t == p)) (λ y. rw y ih.0) (λ y. rw y h)) ts ih.1))
+    let i : ((left == t) || true) ≡ true = or-true (left == t) in (
+      rw f ih.0,
+      (
+        rw (g, i) ih.0,
+        each-weaken (λ p. reached p (suc n) rest ≡ top) (λ p. cond ((left == p) || (t == p)) (reached n (suc n) rest) (reached p (suc n) rest) ≡ top)
+            (λ p h. by_test ((left == p) || (t == p)) (λ y. rw y ih.0) (λ y. rw y h)) ts ih.1,
+      ),
+    )
 
 all_joins-lead : (n : ℕ) (ts : List ℕ) (each : List (List Key)) → length each ≡ length ts - 1 → AllByRecursion (λ p. reached p n (joins_of n ts each) ≡ top_of n ts each) ts
 all_joins-lead n [] each e = tt

@@ -1,13 +1,11 @@
 -- How many columns the sources of a query have together.
-use Rattle.std.proofs.Common.{◌≡◌, ℕ, ◌+◌, ◌-◌, ◌*◌, ◌<◌, ◌≤◌, List, [], ◌∷◌, map, drop, length, sum, get_or, refl, ap, ◌∙◌, arith}
-use Rattle.std.specs.List.{AllByRecursion}
+use Rattle.std.proofs.Common.{◌≡◌, ℕ, ◌+◌, ◌<◌, List, map, drop, length, sum, get_or, ap, ◌∙◌}
 use Rattle.std.proofs.lemmas.List.{drop_more}
 use Rattle.std.proofs.lemmas.List.Sums.{sum_by-cons}
-use Rattle.cql_reader.specs.Query as syntax
-use Rattle.cql_reader.specs.Views.{name_of, source_of, sources_of}
+use Rattle.cql_reader.specs.Views.{name_of, sources_of}
 use Rattle.cql_reader.specs.declared.query.Source.{Source}
 use Rattle.names.specs.Catalog.{Stream, columns_in}
-use Rattle.names.specs.Matches.{table_of, tables}
+use Rattle.names.specs.Matches.{tables}
 
 -- how many columns each of these sources has
 abbrev pub widths_of : List Stream → List Source → List ℕ

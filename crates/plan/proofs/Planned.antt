@@ -1,24 +1,21 @@
 -- What `plan` makes of a resolved query.
-use Rattle.std.proofs.Common.{◌≡◌, ℕ, Bool, true, false, ℤ, Option, Some, None, List, map, length, refl, sym, ap, ◌∙◌}
+use Rattle.std.proofs.Common.{◌≡◌, ℕ, false, ℤ, Option, None, List, map, length, refl, sym, ap, ◌∙◌}
 use Rattle.std.proofs.lemmas.List.{length-map}
 use Rattle.std.specs.Prelude.{Vec, Result, Ok, Err, IsErrAnd, IfErr}
 use Rattle.std.specs.declared.alloc.Global.{Global}
 use Rattle.std.specs.List.{AllByRecursion}
 use Rattle.values.specs.Condition as conditions
-use Rattle.values.specs.Relation.{Shape}
 use Rattle.values.specs.Answers as cql
 use Rattle.values.specs.Resolved.{column_of, condition_of, shape_of, resolved_of}
 use Rattle.values.specs.declared.resolved.Condition.{Condition}
 use Rattle.values.specs.declared.resolved.Resolved.{Resolved}
 use Rattle.cql_reader.specs.Query as syntax
 use Rattle.names.specs.Catalog.{Stream}
-use Rattle.names.specs.Matches.{table_of, tables}
-use Rattle.names.specs.Resolved.{resolved, widths, windows_of}
+use Rattle.names.specs.Resolved.{resolved, widths}
 use Rattle.names.specs.Split.{JoinKey, all_conjuncts, own_of, join_keys_of, remaining}
 use Rattle.names.specs.Faults as names
 use Rattle.names.specs.Views as views
 use Rattle.names.specs.declared.split.Key.{Key}
-use Rattle.plan.specs.Nodes as spec
 use Rattle.plan.specs.Build.{placed, moved, all_alone, key_placed, shape_node, nodes_over, plan_of}
 use Rattle.plan.specs.Chart.{is_bad_chart}
 use Rattle.plan.specs.Faults.{after_names, first_fault}

@@ -40,9 +40,10 @@ within (v ∷ vs) (suc s) k h = omega (arith, within vs s k h)
 
 each_known : (vs : List ℕ) (s : ℕ) (each : List (List JoinKey)) → KeysInScope vs s each → AllByRecursion (λ ks. AllByRecursion (λ k. InScope vs k.earlier) ks) each
 each_known vs s [] h = tt
-each_known vs s (ks ∷ each) h =
-    (each-weaken (KeyInScope vs s) (λ k. InScope vs k.earlier) (λ k i. record { source = within vs k.earlier.source k.earlier.column i.column; column = i.column }) ks h.0,
-    each_known vs (suc s) each h.1)
+each_known vs s (ks ∷ each) h = (
+  each-weaken (KeyInScope vs s) (λ k. InScope vs k.earlier) (λ k i. record { source = within vs k.earlier.source k.earlier.column i.column; column = i.column }) ks h.0,
+  each_known vs (suc s) each h.1,
+)
 
 pub keys_scope : (vs : List ℕ) (n : ℕ) (o : Option spec.Condition) (keys : List (Vec Key Global)) → ConditionInScope vs o → names.join_keys_of keys ≡ join_keys_of n (all_conjuncts o)
     → AllByRecursion (λ ks. AllByRecursion (λ k. InScope vs (column_of k.earlier)) ks.items) keys

@@ -1,8 +1,8 @@
 -- The points of measures that are in range are a chart.
-use Rattle.std.proofs.Common.{◌≡◌, ℕ, zero, suc, ◌+◌, ◌-◌, ◌*◌, ◌<◌, ◌≤◌, List, [], ◌∷◌, map, length, get_or, refl, ap, ◌∙◌, arith}
+use Rattle.std.proofs.Common.{◌≡◌, ℕ, zero, suc, ◌+◌, ◌-◌, ◌*◌, ◌<◌, ◌≤◌, List, [], ◌∷◌, length, refl, ap, ◌∙◌, arith}
 use Rattle.std.specs.List.{AllByRecursion}
 use Rattle.envelope.specs.declared.chart.Point.{Point}
-use Rattle.envelope.specs.Chart.{at, full_size, greatest_time, IsChart}
+use Rattle.envelope.specs.Chart.{at, full_size, IsChart}
 use Rattle.plan.specs.Paths.{points_after}
 use Rattle.plan.specs.declared.chart.Measure.{Measure}
 

@@ -1,11 +1,11 @@
 -- Walks over the operators of a plan, one operator more.
-use Rattle.std.proofs.Common.{◌≡◌, ℕ, suc, ◌+◌, ◌<◌, ◌≤◌, Bool, true, false, cond, List, [], ◌∷◌, ◌++◌, map, drop, length, get_or, refl, sym, ap, ◌∙◌, arith, append-nil, append_assoc, length-append}
+use Rattle.std.proofs.Common.{◌≡◌, ℕ, suc, ◌+◌, ◌<◌, ◌≤◌, Bool, true, false, cond, List, [], ◌∷◌, ◌++◌, drop, length, get_or, refl, sym, ap, ◌∙◌, arith, append_assoc, length-append}
 use Rattle.std.proofs.lemmas.List.{drop_more}
 use Rattle.std.proofs.Math.Seq.{get_or-append_seam}
 use Rattle.envelope.specs.declared.chart.Point.{Point}
 use Rattle.envelope.specs.Chart.{IsChart, at, origin, greatest_time}
 use Rattle.plan.specs.Chart.{measure}
-use Rattle.plan.specs.Paths.{takes, is_window, onward, path_from, windows, points_after, measures_on, points_of}
+use Rattle.plan.specs.Paths.{takes, is_window, onward, windows, points_after, measures_on, points_of}
 use Rattle.plan.specs.Views.{node_of, nodes_of}
 use Rattle.plan.specs.declared.chart.Measure.{Measure}
 use Rattle.plan.specs.declared.node.Node.{Node}
@@ -45,7 +45,7 @@ path_next nodes i last next d b before after all l e h a n =
 pub points_more : (measures : List Measure) (path : List ℕ) (i t : ℕ) (before all : List Point) → i < length path
     → before ++ points_after t (measures_on measures (drop i path)) ≡ all
     → before ++ record { t = t + (get_or measures (get_or path i 0) (measure 0 0)).cost; s = (get_or measures (get_or path i 0) (measure 0 0)).size }
-        ∷ points_after (t + (get_or measures (get_or path i 0) (measure 0 0)).cost) (measures_on measures (drop (i + 1) path)) ≡ all
+    ∷ points_after (t + (get_or measures (get_or path i 0) (measure 0 0)).cost) (measures_on measures (drop (i + 1) path)) ≡ all
 points_more measures path i t before all l h = ap (λ xs. before ++ points_after t (measures_on measures xs)) (sym (drop_more path i 0 l)) ∙ h
 
 -- the time of a point that is not there yet

@@ -184,11 +184,7 @@ fn step(
 }
 
 /// The points of a path.
-fn points_of(
-    alloc: Global,
-    measures: &[Measure],
-    path: &[usize],
-) -> Result<Vec<Point>, AllocError>
+fn points_of(alloc: Global, measures: &[Measure], path: &[usize]) -> Result<Vec<Point>, AllocError>
     requires { IsChart (spec.points_of measures.now path.now) }
     ensures { IfOk result (λ points. points.items ≡ spec.points_of measures.now path.now) }
 {

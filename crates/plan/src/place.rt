@@ -115,11 +115,7 @@ fn set_operand_place(operand: &mut Operand, widths: &[usize])
 }
 
 /// The places of columns in the joined row.
-pub fn places(
-    alloc: Global,
-    columns: &[Column],
-    widths: &[usize],
-) -> Result<Vec<usize>, AllocError>
+pub fn places(alloc: Global, columns: &[Column], widths: &[usize]) -> Result<Vec<usize>, AllocError>
     requires room { sum widths.now < 2 ^ 64 }
     requires scope { AllByRecursion (λ c. InScope widths.now (column_of c)) columns.now }
     ensures { IfOk result (λ places. columns_at places.items ≡ map (spec.placed widths.now) (columns_of columns.now)) }

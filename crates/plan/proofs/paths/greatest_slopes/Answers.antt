@@ -1,5 +1,4 @@
-use Rattle.std.proofs.Common.{◌≡◌, ◌∙◌, ap, slice_index_or, map, take, fold, length, ◌+◌, refl}
-use Rattle.std.specs.List.{range_with_len}
+use Rattle.std.proofs.Common.{◌∙◌, slice_index_or, map, take, fold, length, ◌+◌}
 use Rattle.envelope.specs.Formula.{greater}
 use Rattle.plan.specs.Paths.{nought, slope_from}
 use Rattle.plan.specs.Views.{nodes_of}

@@ -1,4 +1,4 @@
-use Rattle.std.proofs.Common.{◌≡◌, ◌∙◌, ap, slice_index_or}
+use Rattle.std.proofs.Common.{◌∙◌, ap, slice_index_or}
 use Rattle.envelope.specs.Formula.{greater}
 use Rattle.plan.specs.Paths.{nought, slope_on}
 use Rattle.plan.proofs.Ranges.{pushed_more}

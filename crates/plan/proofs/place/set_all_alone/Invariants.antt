@@ -1,4 +1,4 @@
-use Rattle.std.proofs.Common.{◌≡◌, take, drop, map, length}
+use Rattle.std.proofs.Common.{◌≡◌, take, drop, map}
 use Rattle.names.specs.Views.{conditions_of}
 use Rattle.plan.specs.Build as spec
 use Rattle.plan.proofs.place.set_all_alone.Given as goal

@@ -35,7 +35,7 @@ returns-in_err-measures-clause-err c =
     c.in_ok-nodes.ensures ∙ planned (query_of c.args.query.now) c.args.catalog.now (length c.args.query.now.sources.items) c.deref-2.result.now _ _ _ _
     (sym (length-map c.args.query.now.sources.items _)) (c.deref-2.ensures.value ∙ c.in_ok-meaning.ensures.widths) c.in_ok-meaning.ensures.meaning c.in_ok-meaning.ensures.own (ap join_keys_of c.deref.ensures.value ∙ c.in_ok-meaning.ensures.keys) c.in_ok-meaning.ensures.rest in
     let told : (fault : PlanFault) → Told fault (after_names None (is_bad_chart (length c.deref-3.result.now) (given_by (option_copied c.args.chart))))
-        → Told fault (first_fault (query_of c.args.query.now) c.args.catalog.now (given_by (option_copied c.args.chart))) =
+    → Told fault (first_fault (query_of c.args.query.now) c.args.catalog.now (given_by (option_copied c.args.chart))) =
     fault_told (query_of c.args.query.now) c.args.catalog.now c.in_ok-meaning.ensures.accepted (given_by (option_copied c.args.chart)) c.in_ok-nodes.nodes.items c.deref-3.result.now c.deref-3.ensures.value nodes in
     err_kept c.from_residual-in_err-measures.result c.in_err-measures.field-0.0 _ c.from_residual-in_err-measures.ensures.1 (told c.in_err-measures.field-0.0 c.in_err-measures.ensures.err)
 

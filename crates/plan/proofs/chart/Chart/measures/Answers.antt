@@ -1,4 +1,3 @@
-use Rattle.std.proofs.Common.{◌≡◌}
 use Rattle.plan.specs.Chart.{is_measure}
 use Rattle.plan.proofs.Charts.{all_at}
 use Rattle.plan.proofs.chart.Chart.measures.Goals as goal

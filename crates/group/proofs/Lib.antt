@@ -1,0 +1,3 @@
+pub mod TallyLemmas
+pub mod KeyLemmas
+pub mod RoomLemmas

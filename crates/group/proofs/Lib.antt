@@ -1,3 +1,9 @@
 pub mod TallyLemmas
 pub mod KeyLemmas
 pub mod RoomLemmas
+pub mod BagLemmas
+pub mod CountLemmas
+pub mod OutputLemmas
+pub mod FigureLemmas
+pub mod ValueLemmas
+pub mod StateLemmas

@@ -198,22 +198,36 @@ fn changes(
     Ok((rows, shown))
 }
 
+fn batch_of(
+    alloc: Global,
+    instant: u64,
+    rows: &[SignedRow],
+    width: usize,
+) -> Result<Item, AllocError>
+    requires some { 1 ≤ length rows.now }
+    requires few { length rows.now ≤ 1024 }
+    requires table { IsTable width (map signed rows.now) }
+    ensures { IfOk result (λ i. entries_of i ≡ map (RowAt instant) (map signed rows.now)) }
+{
+    let batch = Batch::from_rows(alloc, rows)?;
+    Ok(Item::Rows(instant, batch))
+}
+
 /// Adds signed rows of an instant in batches.
 fn push_batches(
     alloc: Global,
     items: &mut Vec<Item>,
-    at: u64,
+    instant: u64,
     rows: &[SignedRow],
     width: usize,
 ) -> Result<(), AllocError>
     requires { IsTable width (map signed rows.now) }
-    ensures { OnOk result (flat_map entries_of items.new.items ≡ flat_map entries_of items.old.items ++ map (RowAt at) (map signed rows.now)) }
+    ensures { OnOk result (flat_map entries_of items.new.items ≡ flat_map entries_of items.old.items ++ map (RowAt instant) (map signed rows.now)) }
 {
     let mut from = 0;
     while from < rows.len() {
         let to = rows.len().min(from + BATCH);
-        let batch = Batch::from_rows(alloc, &rows[from..to])?;
-        items.push(Item::Rows(at, batch))?;
+        items.push(batch_of(alloc, instant, &rows[from..to], width)?)?;
         from = to;
     }
     Ok(())

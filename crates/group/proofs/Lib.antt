@@ -7,3 +7,5 @@ pub mod OutputLemmas
 pub mod FigureLemmas
 pub mod ValueLemmas
 pub mod StateLemmas
+pub mod LawLemmas
+pub mod DistinctLemmas

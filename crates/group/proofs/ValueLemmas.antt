@@ -16,7 +16,7 @@ use Rattle.group.specs.Laws.{count, members, keys_at, row_at, is_key, row_of}
 use Rattle.group.proofs.BagLemmas.{perm-of_counts, distinct_once, any_count, count_any, count-distinct, row_itself}
 
 -- KEYS
-key-alone : (by : List Column) (r : Row) → key_of (columns_of by) (r ∷ []) ≡ key_in by r
+pub key-alone : (by : List Column) (r : Row) → key_of (columns_of by) (r ∷ []) ≡ key_in by r
 key-alone [] r = refl
 key-alone (c ∷ by) r = ap (λ (k : Row). field (r ∷ []) (column_of c) ∷ k) (key-alone by r)
 

@@ -1,19 +1,20 @@
 -- What a state of groups stands for: the bag of rows that it has taken in, and the bag of rows that it has put out.
 use Rattle.std.specs.Prelude.{ℕ, zero, suc, ◌+◌, ◌<◌, ◌≤◌, ◌≡◌, ◌^◌, ℤ, pos, negsuc, ◌-ℤ◌, Option, Some, None, List, [], ◌∷◌, map, filter, length, Bool, true, false, cond}
-use Rattle.std.specs.List.{list_any, flat_map}
+use Rattle.std.specs.List.{All, list_any, flat_map}
 use Rattle.std.specs.List.Sorted.{IsStrictlySortedBy}
 use Rattle.std.specs.Map.{lookup, keys_of}
 use Rattle.std.specs.BTreeMap.{is_at}
 use Rattle.std.specs.Ordering.{is_eq}
 use Rattle.values.specs.Row.{Row, row_cmp, same_row, value_cmp}
-use Rattle.values.specs.Bag.{is_same}
+use Rattle.values.specs.Bag.{is_same, distinct}
 use Rattle.values.specs.Relation.{keys_of as keys_in, group_row}
 use Rattle.values.specs.Resolved.{columns_of, items_of}
 use Rattle.values.specs.declared.resolved.Item.{Item}
-use Rattle.op_queue.specs.Signed.{weigh, Same}
-use Rattle.group.specs.Groups.{GroupBy, key_in, no_columns}
+use Rattle.op_queue.specs.Signed.{weigh, Same, Adds, Legal, Turns}
+use Rattle.op_queue.specs.declared.item.Item.TheVariants.{Rows, Tick}
+use Rattle.group.specs.Groups.{GroupBy, grouped, key_in, no_columns, once_each}
 use Rattle.group.specs.Cells.{Held, held, held_cmp, Values, TallyState, number_of, keeps, CellState}
-use Rattle.group.specs.Turns.{GroupState, cell_of}
+use Rattle.group.specs.Turns.{GroupState, cell_of, beginning, near, outputs, change, next}
 
 -- how often a row stands in a bag
 abbrev pub count : Row → List Row → ℕ
@@ -112,5 +113,26 @@ pub record Stands (s : GroupState) (o b : List Row) : Type 0 where
   -- a group that is not touched shows its row of b
   pub quiet : (k : Row) → count k (touched_keys s) ≡ 0 → shown_rows s k ≡ row_of s.group b k
   pub touched : (k : Row) → count k (touched_keys s) ≤ 1
+  pub ordered : IsStrictlySortedBy held_cmp s.touched
   pub whole : no_columns s.group.by ≡ true → (k : Row) → 0 < count k (touched_keys s) → k ≡ []
   pub sorted : IsStrictlySortedBy held_cmp (keys_of s.cells)
+
+-- THE LAW OF ONE STEP
+-- rows put out nothing: the state has taken them in too
+abbrev pub RowsLaw : GroupState → Type 0
+RowsLaw s = (o b d : List Row) (t : ℕ) (batch : List (Bool × Row)) → Stands s o b → Legal b batch → Adds b batch d → Stands (next s (Rows t batch) []) o d
+
+-- a tick's outputs turn what was put out into the groups of the bag, and may be cut anywhere; the state has put them out
+abbrev pub TickLaw : GroupState → ℕ → Type 0
+TickLaw s t = (o b : List Row) → Stands s o b → weigh (λ x. 1) b ≤ 2 ^ 62
+    → Turns o (outputs s.group (near s (Tick t))) (grouped s.group b) × Stands (next s (Tick t) (change s.group (Tick t) (near s (Tick t)))) (grouped s.group b) b
+
+-- each row once
+abbrev pub DistinctLaw : ℕ → Type 0
+DistinctLaw width = (b : List Row) → 0 < width → All (λ r. length r ≡ width) b → grouped (once_each width) b ≡ distinct row_cmp b
+
+pub record Laws : Type 0 where
+  pub beginning : (g : GroupBy) → Stands (beginning g) [] []
+  pub rows : (s : GroupState) → RowsLaw s
+  pub tick : (s : GroupState) (t : ℕ) → TickLaw s t
+  pub distinct : (width : ℕ) → DistinctLaw width

@@ -6,11 +6,13 @@
 #![tactic(auto)]
 
 mod cells;
+mod laws;
 mod rows;
 mod shape;
 mod state;
 mod turn;
 
+pub use laws::groups_keep_their_laws;
 pub use shape::GroupBy;
 pub use state::Group;
 pub use turn::{Change, Near, work};

@@ -1,0 +1,11 @@
+pub mod TallyLemmas
+pub mod KeyLemmas
+pub mod RoomLemmas
+pub mod BagLemmas
+pub mod CountLemmas
+pub mod OutputLemmas
+pub mod FigureLemmas
+pub mod ValueLemmas
+pub mod StateLemmas
+pub mod LawLemmas
+pub mod DistinctLemmas

@@ -1,0 +1,110 @@
+-- Each row takes a little of the room that counts and sums have.
+use Rattle.std.proofs.Common.{◌≡◌, ℕ, ℤ, zero, suc, ◌+◌, ◌-◌, ◌*◌, ◌^◌, ◌<◌, ◌≤◌, ◌+ℤ◌, ◌≤ℤ◌, neg_ℤ, pos, Bool, true, false, cond, nat_lt, Option, Some, None, unwrap_or, List, [], ◌∷◌, map, length, get_or, replicate, refl, sym, ap, subst, ◌∙◌, arith}
+use Rattle.std.specs.List.{All}
+use Rattle.std.specs.Option.{is_some, IfSome, IsSome}
+use Rattle.std.specs.Map.{lookup, set_value, remove_entry, values_of}
+use Rattle.std.specs.BTreeMap.{is_at, insert_entry}
+use Rattle.std.specs.Ordering.{is_eq}
+use Rattle.std.proofs.lemmas.Map.Views.{All-values-insert_entry, All-values-set_value, All-map-remove_entry, IfSome-lookup_from_All}
+use Rattle.std.proofs.lemmas.Int.{ints}
+use Rattle.lane_kernels.specs.Lanes.{IsWithin}
+use Rattle.lane_kernels.proofs.SumLemmas.{within_add, within_neg}
+use Rattle.values.specs.Row.{Row, value_cmp}
+use Rattle.values.specs.Value.{IsAnswerValue, IsAnswerNumber, answer_max}
+use Rattle.values.specs.declared.resolved.Item.{Item}
+use Rattle.values.specs.declared.resolved.Item.TheVariants.{Key}
+use Rattle.group.specs.Cells.{Held, held_cmp, Values, count_of, one_more, one_less, values_by, TallyState, tally_zero, tally_by, tally_after, partly, tallies_after, keeps, number_of, signed_by, CellState, cell_zero, cell_after, TallyRoom, CellRoom, ReadsInRange}
+use Rattle.group.specs.Turns.{GroupState, cell_of, taken_in, row_key, row_after, HasRoom}
+use Rattle.group.proofs.KeyLemmas.{cell-taken_in}
+use Rattle.group.proofs.TallyLemmas.{length-partly}
+
+-- COUNTS OF VALUES
+or_zero : (m : ℕ) (o : Option ℕ) → IfSome o (λ n. n ≤ m) → unwrap_or o 0 ≤ m
+or_zero m None h = omega arith
+or_zero m (Some n) h = h
+
+pub count_of-le : (m : ℕ) (v : Option ℤ) (es : Values) → All (λ n. n ≤ m) (values_of es) → count_of v es ≤ m
+count_of-le m v es h = or_zero m (lookup (is_at (value_cmp v)) es) (IfSome-lookup_from_All (λ n. n ≤ m) (is_at (value_cmp v)) es h)
+
+all_le : (m n : ℕ) (xs : List ℕ) → m ≤ n → All (λ x. x ≤ m) xs → All (λ x. x ≤ n) xs
+all_le m n xs h a = λ k d lt. omega (arith, h, a k d lt)
+
+values_room : (n : ℕ) (enters kept : Bool) (v : Option ℤ) (es : Values) → All (λ m. m ≤ 2 ^ 62 + n) (values_of es) → All (λ m. m ≤ 2 ^ 62 + (n + 1)) (values_of (cond kept (values_by enters v es) es))
+values_room n enters false v es h = all_le _ _ (values_of es) (omega arith) h
+values_room n true true v es h = All-values-insert_entry value_cmp v (count_of v es + 1) (λ m. m ≤ 2 ^ 62 + (n + 1)) es (all_le _ _ (values_of es) (omega arith) h) (omega (arith, count_of-le (2 ^ 62 + n) v es h))
+values_room n false true v es h = here (nat_lt 1 (count_of v es))
+  where
+    more : All (λ m. m ≤ 2 ^ 62 + (n + 1)) (values_of es)
+    more = all_le (2 ^ 62 + n) (2 ^ 62 + (n + 1)) (values_of es) (omega arith) h
+
+    here : (b : Bool) → All (λ m. m ≤ 2 ^ 62 + (n + 1)) (values_of (cond b (set_value (is_at (value_cmp v)) es (count_of v es - 1)) (remove_entry (is_at (value_cmp v)) es)))
+    here true = All-values-set_value (is_at (value_cmp v)) (λ m. m ≤ 2 ^ 62 + (n + 1)) es (count_of v es - 1) more (omega (arith, count_of-le (2 ^ 62 + n) v es h))
+    here false = All-map-remove_entry (is_at (value_cmp v)) (λ e. e.1) (λ m. m ≤ 2 ^ 62 + (n + 1)) es more
+
+-- A TALLY
+within_le : (m n : ℕ) (z : ℤ) → m ≤ n → IsWithin m z → IsWithin n z
+within_le m n z h w = let l : neg_ℤ (pos m) ≤ℤ z = w.low in let u : z ≤ℤ pos m = w.high in record { low = omega (arith, ints); high = omega (arith, ints) }
+
+signed_within : (n : ℕ) (enters : Bool) (z : ℤ) → IsWithin n z → IsWithin n (signed_by enters z)
+signed_within n true z w = w
+signed_within n false z w = within_neg n z w
+
+one_within : IsWithin 1 (pos 1)
+one_within = record { low = omega (arith, ints); high = omega (arith, ints) }
+
+answer_within : (z : ℤ) → IsAnswerNumber z → IsWithin (2 ^ 63) z
+answer_within z w = let l : neg_ℤ answer_max ≤ℤ z = w.0 in let u : z ≤ℤ answer_max = w.1 in record { low = omega (arith, ints); high = omega (arith, ints) }
+
+pub tally_room_le : (m n : ℕ) (t : TallyState) → m ≤ n → TallyRoom m t → TallyRoom n t
+tally_room_le m n t h r = record {
+  numbers = within_le (2 ^ 62 + m) (2 ^ 62 + n) t.numbers (omega arith) r.numbers;
+  total = within_le (2 ^ 125 + m * 2 ^ 63) (2 ^ 125 + n * 2 ^ 63) t.total (omega arith) r.total;
+  values = all_le (2 ^ 62 + m) (2 ^ 62 + n) (values_of t.values) (omega arith) r.values;
+}
+
+tally_room : (n : ℕ) (enters kept : Bool) (v : Option ℤ) (t : TallyState) → IsAnswerValue v → TallyRoom n t → TallyRoom (n + 1) (tally_by enters kept v t)
+tally_room n enters kept None t h r = tally_room_le n (n + 1) t (omega arith) r
+tally_room n enters kept (Some z) t h r = record {
+  numbers = within_le (2 ^ 62 + n + 1) (2 ^ 62 + (n + 1)) _ (omega arith) (within_add (2 ^ 62 + n) 1 t.numbers (signed_by enters (pos 1)) r.numbers (signed_within 1 enters (pos 1) one_within));
+  total = within_le (2 ^ 125 + n * 2 ^ 63 + 2 ^ 63) (2 ^ 125 + (n + 1) * 2 ^ 63) _ (omega arith) (within_add (2 ^ 125 + n * 2 ^ 63) (2 ^ 63) t.total (signed_by enters z) r.total (signed_within (2 ^ 63) enters z (answer_within z h)));
+  values = values_room n enters kept (Some z) t.values r.values;
+}
+
+-- A GROUP
+first_and : (P : TallyState → Type 0) (t : TallyState) (ts : List TallyState) → P t → All P ts → All P (t ∷ ts)
+first_and P t ts p a zero d lt = p
+first_and P t ts p a (suc k) d lt = a k d (omega (arith, lt))
+
+tallies_room : (n : ℕ) (s : Bool × Row) (is : List Item) (ts : List TallyState) → length ts ≡ length is → ReadsInRange is s → All (TallyRoom n) ts → All (TallyRoom (n + 1)) (tallies_after s is ts)
+tallies_room n s [] [] l h a = λ k d lt. absurd (omega (arith, lt))
+tallies_room n s [] (t ∷ ts) l h a = absurd (omega (arith, l))
+tallies_room n s (i ∷ is) [] l h a = λ k d lt. absurd (omega (arith, lt))
+tallies_room n s (i ∷ is) (t ∷ ts) l h a =
+    first_and (TallyRoom (n + 1)) (tally_after s i t) (tallies_after s is ts)
+    (tally_room n s.0 (keeps i) (number_of i s.1) t (h 0 (omega arith)) (a 0 t (omega arith)))
+    (tallies_room n s is ts (omega (arith, l)) (λ j lj. h (suc j) (omega (arith, lj))) (λ j e lj. a (suc j) e (omega (arith, lj))))
+
+pub cell_room_le : (m n : ℕ) (is : List Item) (c : CellState) → m ≤ n → CellRoom m is c → CellRoom n is c
+cell_room_le m n is c h r = record {
+  rows = within_le (2 ^ 62 + m) (2 ^ 62 + n) c.rows (omega arith) r.rows;
+  aligned = r.aligned;
+  tallies = λ k d lt. tally_room_le m n _ h (r.tallies k d lt);
+}
+
+cell_room : (n : ℕ) (is : List Item) (c : CellState) (s : Bool × Row) → ReadsInRange is s → CellRoom n is c → CellRoom (n + 1) is (cell_after is c s)
+cell_room n is c s h r = record {
+  rows = within_le (2 ^ 62 + n + 1) (2 ^ 62 + (n + 1)) _ (omega arith) (within_add (2 ^ 62 + n) 1 c.rows (signed_by s.0 (pos 1)) r.rows (signed_within 1 s.0 (pos 1) one_within));
+  aligned = length-partly s (length is) is c.tallies ∙ r.aligned;
+  tallies = tallies_room n s is c.tallies r.aligned h r.tallies;
+}
+
+-- after a row each group has room for one row less
+pub room_after : (n : ℕ) (s : GroupState) (r : Bool × Row) → ((k : Held) → CellRoom n s.group.items (cell_of (length s.group.items) k s.cells)) → ReadsInRange s.group.items r → (k : Held) → CellRoom (n + 1) s.group.items (cell_of (length s.group.items) k (row_after s r).cells)
+room_after n s r h range k =
+    let is = s.group.items in
+    let key = row_key s.group r in
+    subst (CellRoom (n + 1) is) (sym (cell-taken_in is key k r s.cells)) (here (is_eq (held_cmp key k)))
+  where
+    here : (b : Bool) → CellRoom (n + 1) s.group.items (cond b (cell_after s.group.items (cell_of (length s.group.items) (row_key s.group r) s.cells) r) (cell_of (length s.group.items) k s.cells))
+    here true = cell_room n s.group.items (cell_of (length s.group.items) (row_key s.group r) s.cells) r range (h (row_key s.group r))
+    here false = cell_room_le n (n + 1) s.group.items (cell_of (length s.group.items) k s.cells) (omega arith) (h k)

@@ -1,0 +1,48 @@
+-- The tallies of a group, one after the other.
+use Rattle.std.proofs.Common.{◌≡◌, ℕ, ℤ, zero, suc, ◌+◌, ◌<◌, ◌≤◌, List, [], ◌∷◌, ◌++◌, take, length, get_or, refl, ap, sym, ◌∙◌, arith, slice_set, replicate, Bool, true, false, nat_lt, ltb-true, ltb-false, subst, min}
+use Rattle.values.specs.Row.{Row}
+use Rattle.values.specs.declared.resolved.Item.{Item}
+use Rattle.group.specs.declared.cells.Figure.{Figure}
+use Rattle.group.specs.Cells.{TallyState, tally_after, partly, figure, figures}
+
+pub partly-at : (s : Bool × Row) (p : ℕ) (is : List Item) (ts : List TallyState) (d : TallyState) → get_or (partly s p is ts) p d ≡ get_or ts p d
+partly-at s zero is ts d = refl
+partly-at s (suc p) [] ts d = refl
+partly-at s (suc p) (i ∷ is) [] d = refl
+partly-at s (suc p) (i ∷ is) (t ∷ ts) d = partly-at s p is ts d
+
+pub partly-more : (s : Bool × Row) (p : ℕ) (is : List Item) (ts : List TallyState) (d : Item) (e : TallyState) → p < length is → length ts ≡ length is → slice_set (partly s p is ts) p (tally_after s (get_or is p d) (get_or ts p e)) ≡ partly s (suc p) is ts
+partly-more s p [] ts d e h l = absurd (omega arith)
+partly-more s p (i ∷ is) [] d e h l = absurd (omega arith)
+partly-more s zero (i ∷ is) (t ∷ ts) d e h l = refl
+partly-more s (suc p) (i ∷ is) (t ∷ ts) d e h l = ap (λ us. tally_after s i t ∷ us) (partly-more s p is ts d e (omega arith) (omega arith))
+
+pub length-partly : (s : Bool × Row) (p : ℕ) (is : List Item) (ts : List TallyState) → length (partly s p is ts) ≡ length ts
+length-partly s zero is ts = refl
+length-partly s (suc p) [] ts = refl
+length-partly s (suc p) (i ∷ is) [] = refl
+length-partly s (suc p) (i ∷ is) (t ∷ ts) = ap suc (length-partly s p is ts)
+
+-- the figures of the first p items and one more
+pub figures-more : (k : Row) (n : ℤ) (p : ℕ) (is : List Item) (ts : List TallyState) (d : Item) (e : TallyState) → p < length is → p < length ts → figures k n (take p is) ts ++ figure k n (get_or is p d) (get_or ts p e) ∷ [] ≡ figures k n (take (suc p) is) ts
+figures-more k n p [] ts d e h l = absurd (omega arith)
+figures-more k n p (i ∷ is) [] d e h l = absurd (omega arith)
+figures-more k n zero (i ∷ is) (t ∷ ts) d e h l = refl
+figures-more k n (suc p) (i ∷ is) (t ∷ ts) d e h l = ap (λ us. figure k n i t ∷ us) (figures-more k n p is ts d e (omega arith) (omega arith))
+
+-- the figures stop where the items or the tallies do
+pub figures-all : (k : Row) (n : ℤ) (p : ℕ) (is : List Item) (ts : List TallyState) → p ≡ min (length is) (length ts) → figures k n (take p is) ts ≡ figures k n is ts
+figures-all k n zero [] ts h = refl
+figures-all k n (suc p) [] ts h = refl
+figures-all k n zero (i ∷ is) [] h = refl
+figures-all k n (suc p) (i ∷ is) [] h = refl
+figures-all k n zero (i ∷ is) (t ∷ ts) h = absurd (omega (arith, h))
+figures-all k n (suc p) (i ∷ is) (t ∷ ts) h = ap (λ us. figure k n i t ∷ us) (figures-all k n p is ts (omega (arith, h)))
+
+-- what holds below p and at p holds below the next
+pub below_more : (P : ℕ → Type 0) (p : ℕ) → ((k : ℕ) → k < p → P k) → P p → (k : ℕ) → k < suc p → P k
+below_more P p h at k lt = here (nat_lt k p) refl
+  where
+    here : (b : Bool) → nat_lt k p ≡ b → P k
+    here true e = h k (ltb-true k p e)
+    here false e = let same : p ≡ k = omega (arith, lt, ltb-false k p e) in subst P same at

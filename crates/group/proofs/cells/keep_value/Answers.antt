@@ -1,0 +1,6 @@
+use Rattle.std.proofs.Common.{◌≤◌, ◌+◌, ◌^◌}
+use Rattle.group.proofs.RoomLemmas.{count_of-le}
+use Rattle.group.proofs.cells.keep_value.Goals as goal
+
+pub add_value-requires : goal.add_value-requires
+add_value-requires c = count_of-le (2 ^ 62 + 1024) c.args.value c.args.values.now.entries c.requires

@@ -1,0 +1,6 @@
+use Rattle.std.proofs.Common.{◌≡◌, fold, drop}
+use Rattle.group.specs.Turns.{shown_after}
+use Rattle.group.proofs.state.show_all.Given as goal
+
+abbrev pub invariant-loop-shown : goal.invariant-loop-shown
+invariant-loop-shown l = fold (shown_after l.count) l.cells.entries (drop l.shown-index l.all) ≡ fold (shown_after l.count) l.initial.cells.entries l.all

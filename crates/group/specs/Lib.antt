@@ -1,0 +1,4 @@
+pub mod Groups
+pub mod Cells
+pub mod Turns
+pub mod Laws

@@ -1,0 +1,371 @@
+//! What is kept of a group.
+
+ghost use Rattle.std.specs.Prelude.{◌≡◌, ◌+◌, ◌-◌, ◌^◌, ◌<◌, ◌≤◌, ◌∷◌, [], length, map, replicate, IfOk, OnOk, OnErr, IsSome, pos, ℤ, Option, Some, None, List, cond, nat_lt, false, ◌+ℤ◌, ◌*◌};
+ghost use Rattle.std.specs.BTreeMap.{is_at};
+ghost use Rattle.std.specs.BTreeMap as tree;
+ghost use Rattle.std.specs.Map.{set_value, values_of};
+ghost use Rattle.std.specs.List.{All};
+ghost use Rattle.values.specs.Row.{value_cmp, value_at};
+ghost use Rattle.values.specs.Value.{IsAnswerValue};
+ghost use Rattle.column.specs.Rows.{signed};
+ghost use Rattle.lane_kernels.specs.Lanes.{IsWithin};
+ghost use Rattle.group.specs.Cells.{count_of, one_more, one_less, values_by, number_of, keeps, signed_by, tally_zero, tally_by, partly, tallies_after, cell_zero, cell_after, showing, figure, figures, sum_figure, least, greatest, clamped_or, number_figure, value_figure, keeping, TallyRoom, CellRoom, ReadsInRange};
+
+use crate::rows::{copy_row, field_of};
+use column::SignedRow;
+use std::alloc::{AllocError, Global};
+use std::collections::BTreeMap;
+use std::marker::Model;
+use values::{Item, Row, Value, value_at};
+
+/// The number that an item reads in a row; null where it reads none.
+fn number_of(item: Item, row: &Row) -> Value
+    ensures { result ≡ number_of item row.now.items }
+{
+    match item {
+        Item::Key(_) => Value::null(),
+        Item::CountAll => Value::null(),
+        Item::Count(column) => field_of(row, column),
+        Item::Sum(column) => field_of(row, column),
+        Item::Min(column) => field_of(row, column),
+        Item::Max(column) => field_of(row, column),
+    }
+}
+
+/// Whether each number is kept: a least or greatest one may leave.
+fn keeps(item: Item) -> bool
+    ensures { result ≡ keeps item }
+{
+    match item {
+        Item::Min(_) => true,
+        Item::Max(_) => true,
+        _ => false,
+    }
+}
+
+/// One more of a value.
+fn add_value(values: &mut BTreeMap<Value, u64>, value: Value) -> Result<(), AllocError>
+    requires { count_of value values.old.entries ≤ 2 ^ 62 + 1024 }
+    ensures { OnOk result (values.new.entries ≡ one_more value values.old.entries) }
+{
+    let count = values.get(&value).copied().unwrap_or(0);
+    values.insert(value, count + 1)?;
+    Ok(())
+}
+
+/// Sets the count of a value that the map has.
+fn set_count(values: &mut BTreeMap<Value, u64>, value: Value, count: u64)
+    requires { IsSome (tree.get value_cmp values.old value) }
+    ensures { values.new.entries ≡ set_value (is_at (value_cmp value)) values.old.entries count }
+{
+    if let Some(slot) = values.get_mut(&value) {
+        *slot = count;
+    }
+}
+
+/// One less of a value.
+fn remove_value(values: &mut BTreeMap<Value, u64>, value: Value)
+    ensures { values.new.entries ≡ one_less value values.old.entries }
+{
+    let count = values.get(&value).copied().unwrap_or(0);
+    if count > 1 {
+        set_count(values, value, count - 1);
+        return;
+    }
+    values.remove(&value);
+}
+
+/// A value enters or leaves, where values are kept.
+fn keep_value(
+    values: &mut BTreeMap<Value, u64>,
+    keeps: bool,
+    enters: bool,
+    value: Value,
+) -> Result<(), AllocError>
+    requires { All (λ m. m ≤ 2 ^ 62 + 1024) (values_of values.old.entries) }
+    ensures { OnOk result (values.new.entries ≡ cond keeps (values_by enters value values.old.entries) values.old.entries) }
+{
+    if !keeps {
+        return Ok(());
+    }
+    if enters {
+        add_value(values, value)?;
+        return Ok(());
+    }
+    remove_value(values, value);
+    Ok(())
+}
+
+/// The count after one more or one less.
+fn counted(count: i64, enters: bool) -> i64
+    requires { IsWithin (2 ^ 62 + 1024) count }
+    ensures { result ≡ count +ℤ signed_by enters (pos 1) }
+{
+    if enters { count + 1 } else { count - 1 }
+}
+
+/// The sum after a number entered or left.
+fn summed(total: i128, enters: bool, number: i64) -> i128
+    requires { IsWithin (2 ^ 125 + 1024 * 2 ^ 63) total }
+    ensures { result ≡ total +ℤ signed_by enters number }
+{
+    if enters {
+        total + number as i128
+    } else {
+        total - number as i128
+    }
+}
+
+/// Of the numbers that an item reads in the rows of a group: how many there are, their exact sum, and where a least or a
+/// greatest is asked for, how often each stands there.
+#[derive(Drop)]
+pub(crate) struct Tally {
+    numbers: i64,
+    total: i128,
+    values: BTreeMap<Value, u64>,
+}
+
+impl Model for Tally {
+    ghost use Rattle.group.specs.Cells.{TallyState as State};
+
+    ghost Value = { State };
+
+    ghost view = { λ t. record { numbers = t.numbers; total = t.total; values = t.values.entries } };
+}
+
+impl Tally {
+    /// Of no rows.
+    fn new(alloc: Global) -> Tally
+        ensures { result ≡ tally_zero }
+    {
+        Tally {
+            numbers: 0,
+            total: 0,
+            values: BTreeMap::new(alloc),
+        }
+    }
+
+    /// A number enters or leaves: it is counted and summed.
+    fn count(&mut self, enters: bool, number: i64)
+        requires { TallyRoom 1024 self.old }
+        ensures { self.new ≡ tally_by enters false (Some number) self.old }
+    {
+        self.numbers = counted(self.numbers, enters);
+        self.total = summed(self.total, enters, number);
+    }
+
+    /// A value enters or leaves, where values are kept.
+    fn keep(&mut self, keeps: bool, enters: bool, value: Value) -> Result<(), AllocError>
+        requires { All (λ m. m ≤ 2 ^ 62 + 1024) (values_of self.old.values) }
+        ensures { OnOk result (self.new ≡ keeping self.old (cond keeps (values_by enters value self.old.values) self.old.values)) }
+    {
+        keep_value(&mut self.values, keeps, enters, value)?;
+        Ok(())
+    }
+
+    /// A row with this value enters or leaves.
+    fn take(&mut self, enters: bool, keeps: bool, value: Value) -> Result<(), AllocError>
+        requires { TallyRoom 1024 self.old }
+        ensures tally { OnOk result (self.new ≡ tally_by enters keeps value self.old) }
+        ensures range { OnOk result (IsAnswerValue value) }
+    {
+        match value.number() {
+            None => Ok(()),
+            Some(number) => {
+                self.count(enters, number);
+                self.keep(keeps, enters, value)?;
+                Ok(())
+            }
+        }
+    }
+
+    /// The exact figure of an item of the list, in a group with this key and so many rows.
+    fn figure(&self, item: Item, key: &Row, rows: i64) -> Figure
+        ensures { result ≡ figure key.now.items rows item self.now }
+    {
+        match item {
+            Item::Key(column) => value_figure(value_at(key, column)),
+            Item::CountAll => number_figure(rows as i128),
+            Item::Count(_) => number_figure(self.numbers as i128),
+            Item::Sum(_) => sum_figure(self.numbers, self.total),
+            Item::Min(_) => value_figure(least(&self.values)),
+            Item::Max(_) => value_figure(greatest(&self.values)),
+        }
+    }
+}
+
+/// The exact figure of an item of the list: a number that counts or sums, or else a value that stands in a row.
+#[derive(Clone, Copy, Drop)]
+pub(crate) struct Figure {
+    pub(crate) number: Option<i128>,
+    pub(crate) value: Value,
+}
+
+impl Figure {
+    /// A number is shown as the nearest one of the answer range.
+    pub(crate) fn shown(self) -> Value
+        ensures { result ≡ clamped_or self.value self.number }
+    {
+        match self.number {
+            Some(number) => Value::clamped(number),
+            None => self.value,
+        }
+    }
+}
+
+fn number_figure(number: i128) -> Figure
+    ensures { result ≡ number_figure number }
+{
+    Figure {
+        number: Some(number),
+        value: Value::null(),
+    }
+}
+
+fn value_figure(value: Value) -> Figure
+    ensures { result ≡ value_figure value }
+{
+    Figure {
+        number: None,
+        value,
+    }
+}
+
+/// A sum of no numbers is null.
+fn sum_figure(numbers: i64, total: i128) -> Figure
+    ensures { result ≡ sum_figure numbers total }
+{
+    if numbers == 0 {
+        value_figure(Value::null())
+    } else {
+        number_figure(total)
+    }
+}
+
+fn least(values: &BTreeMap<Value, u64>) -> Value
+    ensures { result ≡ least values.now.entries }
+{
+    match values.first_key_value() {
+        Some((value, _)) => *value,
+        None => Value::null(),
+    }
+}
+
+fn greatest(values: &BTreeMap<Value, u64>) -> Value
+    ensures { result ≡ greatest values.now.entries }
+{
+    match values.last_key_value() {
+        Some((value, _)) => *value,
+        None => Value::null(),
+    }
+}
+
+/// What is kept of a group: how many rows it has, a tally for each item of the list, and the row that was shown of it last.
+#[derive(Drop)]
+pub(crate) struct Cell {
+    rows: i64,
+    tallies: Vec<Tally>,
+    shown: Option<Row>,
+}
+
+impl Model for Cell {
+    ghost use Rattle.group.specs.Cells.{CellState as State};
+
+    ghost Value = { State };
+
+    ghost view = { λ c. record { rows = c.rows; tallies = c.tallies.items; shown = c.shown } };
+}
+
+/// A row enters or leaves: each tally takes it.
+fn take_tallies(tallies: &mut Vec<Tally>, items: &[Item], row: &SignedRow) -> Result<(), AllocError>
+    requires aligned { length tallies.old.items ≡ length items.now }
+    requires room { All (TallyRoom 1024) tallies.old.items }
+    ensures tallies { OnOk result (tallies.new.items ≡ tallies_after (signed row.now) items.now tallies.old.items) }
+    ensures range { OnOk result (ReadsInRange items.now (signed row.now)) }
+{
+    for place in 0..items.len() {
+        let item = items[place];
+        tallies[place].take(row.enters, keeps(item), number_of(item, &row.row))?;
+    }
+    Ok(())
+}
+
+/// The exact figures of a group, one for each item of the list.
+fn figures_of(
+    alloc: Global,
+    tallies: &[Tally],
+    items: &[Item],
+    key: &Row,
+    rows: i64,
+) -> Result<Vec<Figure>, AllocError>
+    ensures figures { IfOk result (λ fs. fs.items ≡ figures key.now.items rows items.now tallies.now) }
+    ensures few { IfOk result (λ fs. length fs.items ≤ length items.now) }
+{
+    let count = items.len().min(tallies.len());
+    let mut figures = Vec::with_capacity(alloc, count)?;
+    for place in 0..count {
+        figures.push(tallies[place].figure(items[place], key, rows))?;
+    }
+    Ok(figures)
+}
+
+impl Cell {
+    /// A group of no rows.
+    pub(crate) fn new(alloc: Global, count: usize) -> Result<Cell, AllocError>
+        ensures { IfOk result (λ c. c ≡ cell_zero count) }
+    {
+        let mut tallies = Vec::with_capacity(alloc, count)?;
+        for _ in 0..count {
+            tallies.push(Tally::new(alloc))?;
+        }
+        Ok(Cell {
+            rows: 0,
+            tallies,
+            shown: None,
+        })
+    }
+
+    /// A row of the group enters or leaves.
+    pub(crate) fn take(&mut self, items: &[Item], row: &SignedRow) -> Result<(), AllocError>
+        requires { CellRoom 1024 items.now self.old }
+        ensures cell { OnOk result (self.new ≡ cell_after items.now self.old (signed row.now)) }
+        ensures range { OnOk result (ReadsInRange items.now (signed row.now)) }
+    {
+        take_tallies(&mut self.tallies, items, row)?;
+        self.rows = counted(self.rows, row.enters);
+        Ok(())
+    }
+
+    /// This row is the one that was shown last.
+    pub(crate) fn show(&mut self, row: Row)
+        ensures { self.new ≡ showing self.old (Some row) }
+    {
+        self.shown = Some(row);
+    }
+
+    /// The exact figures, one for each item of the list.
+    pub(crate) fn figures(&self, alloc: Global, items: &[Item], key: &Row) -> Result<Vec<Figure>, AllocError>
+        ensures figures { IfOk result (λ fs. fs.items ≡ figures key.now.items self.now.rows items.now self.now.tallies) }
+        ensures few { IfOk result (λ fs. length fs.items ≤ length items.now) }
+    {
+        let figures = figures_of(alloc, &self.tallies, items, key, self.rows)?;
+        Ok(figures)
+    }
+
+    /// How many rows.
+    pub(crate) fn rows(&self) -> i64
+        ensures { result ≡ self.now.rows }
+    {
+        self.rows
+    }
+
+    /// A copy of the row that was shown last.
+    pub(crate) fn shown(&self) -> Option<Row>
+        ensures { result ≡ self.now.shown }
+    {
+        match &self.shown {
+            Some(row) => Some(copy_row(row)),
+            None => None,
+        }
+    }
+}

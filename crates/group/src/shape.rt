@@ -1,0 +1,87 @@
+//! What is grouped by, and what is listed of each group.
+
+ghost use Rattle.std.specs.Prelude.{◌≡◌, ◌≤◌, length, map, IfOk};
+ghost use Rattle.group.specs.Cells.{held};
+ghost use Rattle.group.specs.Groups.{once_each, key_in, no_columns};
+
+use crate::rows::field_of;
+use std::alloc::{AllocError, Global};
+use std::marker::Model;
+use values::{Column, Item, MAX_COLUMNS, Row};
+
+/// Group By's columns, none where it is missing, and the list of a grouped query. A row that goes between operators counts as
+/// the one row of a combination: its columns are those of source 0.
+#[derive(Drop)]
+pub struct GroupBy {
+    by: Vec<Column>,
+    items: Vec<Item>,
+}
+
+impl Model for GroupBy {
+    ghost use Rattle.std.specs.Prelude.{◌≤◌, length};
+    ghost use Rattle.group.specs.Groups.{GroupBy as Plain};
+
+    ghost Value = { Plain };
+
+    ghost view = { λ g. record { by = g.by.items; items = g.items.items } };
+
+    ghost invariant = { λ g. (length g.by.items ≤ 16) × (length g.items.items ≤ 16) };
+}
+
+impl GroupBy {
+    /// Groups by these columns, with this list.
+    pub fn new(by: Vec<Column>, items: Vec<Item>) -> GroupBy
+        requires by { length by.items ≤ MAX_COLUMNS }
+        requires items { length items.items ≤ MAX_COLUMNS }
+        ensures { result ≡ record { by = by.items; items = items.items } }
+    {
+        GroupBy { by, items }
+    }
+
+    /// Distinct over rows of this many columns: the groups of all columns, which list their key.
+    pub fn distinct(alloc: Global, width: usize) -> Result<GroupBy, AllocError>
+        requires { width ≤ MAX_COLUMNS }
+        ensures { IfOk result (λ g. g ≡ once_each width) }
+    {
+        let mut by = Vec::new(alloc);
+        let mut items = Vec::new(alloc);
+        for column in 0..width {
+            by.push(Column { source: 0, column })?;
+            items.push(Item::Key(column))?;
+        }
+        Ok(GroupBy { by, items })
+    }
+
+    /// The key of the group of a row.
+    pub(crate) fn key(&self, row: &Row) -> Row
+        ensures { result ≡ held (key_in self.now.by row.now.items) }
+    {
+        key_of(&self.by, row)
+    }
+
+    /// The list.
+    pub(crate) fn items(&self) -> &[Item]
+        ensures value { result.now ≡ self.now.items }
+        ensures few { length result.now ≤ MAX_COLUMNS }
+    {
+        &self.items
+    }
+
+    /// Whether there is no column of Group By: then there is one group, also over no rows.
+    pub(crate) fn is_whole(&self) -> bool
+        ensures { result ≡ no_columns self.now.by }
+    {
+        self.by.is_empty()
+    }
+}
+
+fn key_of(by: &[Column], row: &Row) -> Row
+    requires { length by.now ≤ MAX_COLUMNS }
+    ensures { result ≡ held (key_in by.now row.now.items) }
+{
+    let mut key = Row::new();
+    for column in by {
+        key.push(field_of(row, *column));
+    }
+    key
+}

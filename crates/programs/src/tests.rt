@@ -4,6 +4,8 @@ use std::process::Abort;
 use std::test::Fail;
 use wire::{DeviceFailed, MemorySink, MemorySource, Sink, Source};
 
+mod language;
+
 const FIRST: &str = r#"{"op":"stream","name":"S","columns":["a"],"from":0}
 {"op":"query","name":"q","text":"Select Istream(*) From S [Now]"}
 {"op":"append","stream":"S","rows":[[3,7],[1,5],[3,6]]}
@@ -158,7 +160,7 @@ const CASES: [Case; 9] = [
 ];
 
 // Runs `cqlrun` with a word over memory, and compares all that it does.
-fn expect_run(
+pub(crate) fn expect_run(
     rt: &impl Abort,
     alloc: Global,
     word: &str,

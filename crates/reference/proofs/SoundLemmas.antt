@@ -7,7 +7,7 @@ use Rattle.values.specs.declared.resolved.Window.{Window}
 use Rattle.values.specs.declared.resolved.Window.TheVariants.{Range, RangeSlide, Unbounded, LastRows}
 use Rattle.values.specs.Resolved.{FitsRows}
 use Rattle.values.specs.Resolved.{CanSlide}
-use Rattle.reference.specs.Sound.{has_narrow_rows, can_slide, all_slide}
+use Rattle.names.specs.Sound.{has_narrow_rows, can_slide, all_slide}
 
 left : (a b : Bool) → (a && b) ≡ true → a ≡ true
 left true b h = refl

@@ -4,28 +4,32 @@ use Rattle.std.specs.List.{list_all, list_any, range_with_len}
 use Rattle.std.specs.Option.{option_map, option_map_or}
 use Rattle.std.specs.Str.{bytes_eq}
 use Rattle.values.specs.Value.{stream_max}
-use Rattle.values.specs.Window.{Element, numbered, Window, Range}
-use Rattle.values.specs.Condition.{Column}
-use Rattle.values.specs.Relation.{Listed}
+use Rattle.values.specs.Window.{Element, numbered}
 use Rattle.values.specs.Answers.{Resolved}
 use Rattle.cql_reader.specs.Query as syntax
 use Rattle.cql_reader.specs.Fault as text
 use Rattle.cql_reader.specs.Reading.{reading}
 use Rattle.cql_reader.specs.Lexis.{is_name}
+use Rattle.names.specs.Catalog as catalogs
+use Rattle.names.specs.Faults as naming
+use Rattle.names.specs.Resolved.{resolved, streams, widths}
+use Rattle.plan.specs.Build.{plan_of}
+use Rattle.plan.specs.Chart.{measures_of}
+use Rattle.plan.specs.Faults as planning
+use Rattle.plan.specs.Nodes.{Node}
+use Rattle.plan.specs.declared.chart.Measure.{Measure}
 use Rattle.reference.specs.declared.fault.Fault.{Fault}
 use Rattle.reference.specs.declared.fault.Fault.TheVariants.{Query, BadName, NameTaken, BadColumns, TooMany, UnknownStream, UnknownQuery, BadWidth, ValueRange, InstantRange, Late, Backward, Leap, StreamFull, BadLimit}
 use Rattle.reference.specs.declared.fault.QueryFault.{QueryFault}
-use Rattle.reference.specs.declared.fault.QueryFault.TheVariants.{TextTooLong, NotAscii, BadToken, Unexpected, NumberRange}
 use Rattle.reference.specs.declared.fault.QueryFault.TheVariants as in_query
 use Rattle.reference.specs.declared.limits.TheConstants.{MAX_STREAMS, MAX_QUERIES, MAX_REGISTRATIONS, MAX_STREAM_COLUMNS, MAX_APPENDED, MAX_STREAM_ROWS, MAX_INSTANT, MAX_LEAP, MAX_TAKE}
-use Rattle.reference.specs.Names.{Catalog, numbers_in, meaning_in}
 use Rattle.reference.specs.Machine.{Stream, Place, Registered, Machine, stream_named, query_named, query_at, first_for}
 
 pub data Command : Type 0 where
   -- a stream of a name, its columns, and the first instant that is open
   Declare : List ℕ → List (List ℕ) → ℤ → Command
-  -- a query of a name and a text
-  Register : List ℕ → List ℕ → Command
+  -- a query of a name and a text, and what a chart gives for its operators
+  Register : List ℕ → List ℕ → Option (List (ℤ × ℤ)) → Command
   -- rows for the stream of a number, each an instant and its values
   Append : ℕ → List (ℤ × List (Option ℤ)) → Command
   -- the stream of a number is closed up to an instant
@@ -68,32 +72,63 @@ declare_fault m name columns start = first_of (
 
 -- a fault of a text as one of a query
 abbrev pub fault_of_text : text.Fault → QueryFault
-fault_of_text text.TextTooLong = TextTooLong
-fault_of_text text.NotAscii = NotAscii
-fault_of_text (text.BadToken at) = BadToken at
-fault_of_text (text.Unexpected at) = Unexpected at
-fault_of_text (text.NumberRange at) = NumberRange at
+fault_of_text text.TextTooLong = in_query.TextTooLong
+fault_of_text text.NotAscii = in_query.NotAscii
+fault_of_text (text.BadToken at) = in_query.BadToken at
+fault_of_text (text.Unexpected at) = in_query.Unexpected at
+fault_of_text (text.NumberRange at) = in_query.NumberRange at
+fault_of_text (text.TooDeep at) = in_query.TooDeep at
 
--- a query with its names resolved: the numbers of its sources' streams, and what it means
+-- a fault of what a query names as one of the query
+abbrev pub fault_of_name : naming.Fault → QueryFault
+fault_of_name naming.UnknownStream = in_query.UnknownStream
+fault_of_name naming.UnknownColumn = in_query.UnknownColumn
+fault_of_name naming.AmbiguousColumn = in_query.AmbiguousColumn
+fault_of_name naming.DuplicateAlias = in_query.DuplicateAlias
+fault_of_name naming.NoJoinKey = in_query.NoJoinKey
+fault_of_name naming.NotGrouped = in_query.NotGrouped
+fault_of_name naming.TooWide = in_query.TooWide
+
+abbrev pub fault_of_plan : planning.Fault → QueryFault
+fault_of_plan (planning.Unresolved fault) = fault_of_name fault
+fault_of_plan planning.BadChart = in_query.BadChart
+
+-- a query with its names resolved: the numbers of its sources' streams, what it means, its operators, and the cost and the
+-- size of each
 pub record Found : Type 0 where
   pub streams : List ℕ
   pub meaning : Resolved
+  pub nodes : List Node
+  pub measures : List Measure
 
 -- the names that are declared
-abbrev pub catalog_of : List Stream → Catalog
+abbrev pub catalog_of : List Stream → List catalogs.Stream
 catalog_of streams = map (λ s. record { name = s.name; columns = s.columns }) streams
 
-abbrev pub found_in : Catalog → syntax.Query → Option (List ℕ) → Result Found QueryFault
-found_in catalog q None = Err in_query.UnknownStream
-found_in catalog q (Some ns) = Ok (record { streams = ns; meaning = meaning_in catalog q ns })
+abbrev pub unless_faulty : Option planning.Fault → Found → Result Found QueryFault
+unless_faulty None f = Ok f
+unless_faulty (Some fault) f = Err (fault_of_plan fault)
 
-abbrev pub found_of : Catalog → Result syntax.Query text.Fault → Result Found QueryFault
-found_of catalog (Ok q) = found_in catalog q (numbers_in catalog q.sources)
-found_of catalog (Err fault) = Err (fault_of_text fault)
+-- the operators of a query over the declared names
+abbrev pub nodes_by : List catalogs.Stream → syntax.Query → List Node
+nodes_by catalog q = plan_of (widths q catalog) (resolved q catalog)
+
+-- what a query means over the declared names, or the first fault of what it names and of what its chart gives
+unfoldable pub found_by : List catalogs.Stream → Option (List (ℤ × ℤ)) → syntax.Query → Result Found QueryFault
+found_by catalog given q = unless_faulty (planning.first_fault q catalog given) (record {
+  streams = streams q catalog;
+  meaning = resolved q catalog;
+  nodes = nodes_by catalog q;
+  measures = measures_of (nodes_by catalog q) given;
+})
+
+abbrev pub found_of : List catalogs.Stream → Option (List (ℤ × ℤ)) → Result syntax.Query text.Fault → Result Found QueryFault
+found_of catalog given (Ok q) = found_by catalog given q
+found_of catalog given (Err fault) = Err (fault_of_text fault)
 
 -- what the text of a query means, or the first fault of it
-abbrev pub found : Machine → List ℕ → Result Found QueryFault
-found m source = found_of (catalog_of m.streams) (reading source)
+abbrev pub found : Machine → List ℕ → Option (List (ℤ × ℤ)) → Result Found QueryFault
+found m source given = found_of (catalog_of m.streams) given (reading source)
 
 abbrev pub query_tests : Result Found QueryFault → List (Bool × Fault)
 query_tests (Ok f) = []
@@ -110,8 +145,8 @@ register_tests m name =
     ∷ (nat_le MAX_QUERIES (count_undropped m) || nat_le MAX_REGISTRATIONS (length m.queries), TooMany)
     ∷ []
 
-abbrev pub register_fault : Machine → List ℕ → List ℕ → Option Fault
-register_fault m name source = first_of (register_tests m name ++ query_tests (found m source))
+abbrev pub register_fault : Machine → List ℕ → List ℕ → Option (List (ℤ × ℤ)) → Option Fault
+register_fault m name source given = first_of (register_tests m name ++ query_tests (found m source given))
 
 abbrev pub append_tests : Stream → List (ℤ × List (Option ℤ)) → List (Bool × Fault)
 append_tests s rows =
@@ -145,7 +180,7 @@ take_tests limit = (not (int_le (pos 1) limit && int_le limit MAX_TAKE), BadLimi
 -- the first test that a command fails; none where the machine accepts it
 abbrev pub first_fault : Machine → Command → Option Fault
 first_fault m (Declare name columns start) = declare_fault m name columns start
-first_fault m (Register name source) = register_fault m name source
+first_fault m (Register name source given) = register_fault m name source given
 first_fault m (Append n rows) = of_stream (λ s. append_tests s rows) (slice_get m.streams n)
 first_fault m (Heartbeat n at) = of_stream (λ s. heartbeat_tests s at) (slice_get m.streams n)
 first_fault m (Take n limit) = of_query (take_tests limit) (query_at m n)
@@ -170,6 +205,8 @@ abbrev pub registered_as : Machine → List ℕ → Found → Registered
 registered_as m name f = record {
   name = name;
   meaning = f.meaning;
+  nodes = f.nodes;
+  measures = f.measures;
   places = map (place_at m) f.streams;
   first = first_for m.streams (map (place_at m) f.streams);
   taken = 0;
@@ -199,7 +236,7 @@ dropped q = record q { is_dropped = true }
 -- the machine after an accepted command, of which a take has handed out so many answers
 abbrev pub after : Machine → Command → ℕ → Machine
 after m (Declare name columns start) count = declared m name columns start
-after m (Register name source) count = registered m name (found m source)
+after m (Register name source given) count = registered m name (found m source given)
 after m (Append n rows) count = record m { streams = change n (appended rows) m.streams }
 after m (Heartbeat n at) count = record m { streams = change n (closed_to at) m.streams }
 after m (Take n limit) count = record m { queries = change n (took count) m.queries }

@@ -11,13 +11,22 @@ query_fault_name in_query.NotAscii = codes "Q2 NotAscii"
 query_fault_name (in_query.BadToken place) = codes "Q3 BadToken"
 query_fault_name (in_query.Unexpected place) = codes "Q4 Unexpected"
 query_fault_name (in_query.NumberRange place) = codes "Q5 NumberRange"
+query_fault_name (in_query.TooDeep place) = codes "Q6 TooDeep"
 query_fault_name in_query.UnknownStream = codes "Q7 UnknownStream"
+query_fault_name in_query.UnknownColumn = codes "Q8 UnknownColumn"
+query_fault_name in_query.AmbiguousColumn = codes "Q9 AmbiguousColumn"
+query_fault_name in_query.DuplicateAlias = codes "Q10 DuplicateAlias"
+query_fault_name in_query.NoJoinKey = codes "Q11 NoJoinKey"
+query_fault_name in_query.NotGrouped = codes "Q12 NotGrouped"
+query_fault_name in_query.TooWide = codes "Q13 TooWide"
+query_fault_name in_query.BadChart = codes "Q14 BadChart"
 
 -- the number of bytes before the token that is at fault, for those that have a place
 abbrev pub query_fault_place : QueryFault → Option ℕ
 query_fault_place (in_query.BadToken place) = Some place
 query_fault_place (in_query.Unexpected place) = Some place
 query_fault_place (in_query.NumberRange place) = Some place
+query_fault_place (in_query.TooDeep place) = Some place
 query_fault_place _ = None
 
 abbrev pub fault_name : Fault → List ℕ

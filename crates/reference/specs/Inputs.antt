@@ -1,7 +1,8 @@
 -- Inputs that no window tells apart.
-use Rattle.std.specs.Prelude.{◌≡◌, ℕ, Bool, nat_lt, List, [], ◌∷◌}
+use Rattle.std.specs.Prelude.{◌≡◌, ℕ, ℤ, negsuc, int_le, Bool, true, ◌&&◌, nat_lt, List, [], ◌∷◌}
 use Rattle.std.specs.List.{list_all}
 use Rattle.values.specs.Row.{Row}
+use Rattle.reference.specs.declared.limits.TheConstants.{MAX_INSTANT}
 use Rattle.values.specs.Window.{Element, Window, window_rows}
 
 -- every window shows the same rows of both at every instant
@@ -17,3 +18,7 @@ EachShowsSame (es ∷ more) (gs ∷ rest) = ShowsSame es gs × EachShowsSame mor
 -- the instants of the answers fit a signed number of 64 bits
 abbrev pub are_signed : List (ℕ × Row) → Bool
 are_signed rows = list_all (λ a. nat_lt a.0 0x8000_0000_0000_0000) rows
+
+-- -1, or an instant
+abbrev pub IsClosed : ℤ → Type 0
+IsClosed z = (int_le (negsuc 0) z && int_le z MAX_INSTANT) ≡ true

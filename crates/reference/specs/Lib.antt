@@ -1,5 +1,4 @@
 pub mod FaultTexts
-pub mod Names
 pub mod Machine
 pub mod Commands
 pub mod World
@@ -11,7 +10,6 @@ pub mod Appended
 pub mod Inputs
 pub mod Standing
 pub mod Places
-pub mod Sound
 pub mod PlainViews
 pub mod Told
 pub mod Finds

@@ -6,6 +6,8 @@ use Rattle.std.specs.Str.{bytes_eq}
 use Rattle.values.specs.Row.{Row}
 use Rattle.values.specs.Window.{Element, input_of}
 use Rattle.values.specs.Answers.{Resolved, answers}
+use Rattle.plan.specs.Nodes.{Node}
+use Rattle.plan.specs.declared.chart.Measure.{Measure}
 
 -- a declared stream: its name, its columns' names, what came to it by arrival, how many rows that were, and the first
 -- instant that no heartbeat has closed
@@ -21,11 +23,13 @@ pub record Place : Type 0 where
   pub stream : ℕ
   pub arrivals : ℕ
 
--- a registered query: its name, what its text means, the places of its sources, the first instant above its base, how many
+-- a registered query: its name, what its text means, its operators, the cost and the size of each, the places of its sources, the first instant above its base, how many
 -- answers were taken, and whether it was dropped
 pub record Registered : Type 0 where
   pub name : List ℕ
   pub meaning : Resolved
+  pub nodes : List Node
+  pub measures : List Measure
   pub places : List Place
   pub first : ℕ
   pub taken : ℕ

@@ -6,6 +6,8 @@ use Rattle.values.specs.Condition.{Column}
 use Rattle.values.specs.Relation.{Listed}
 use Rattle.values.specs.Answers.{Resolved, Istream}
 use Rattle.reference.specs.declared.fault.Fault.TheVariants.{UnknownStream, UnknownQuery, TooMany, BadWidth, ValueRange, InstantRange, Late, Backward, Leap, BadLimit}
+use Rattle.plan.specs.Build.{plan_of}
+use Rattle.plan.specs.Chart.{measures_of}
 use Rattle.reference.specs.Machine as machine
 use Rattle.reference.specs.Machine.{Machine, Stream, Registered}
 use Rattle.reference.specs.Commands.{Append, Heartbeat, Take, Drop, first_fault, after}
@@ -57,7 +59,7 @@ abbrev lists_a : Resolved
 lists_a = record { windows = Range 0 ∷ []; condition = None; shape = Listed (a ∷ []); is_distinct = false; operator = Istream }
 
 abbrev query : Registered
-query = record { name = 113 ∷ []; meaning = lists_a; places = record { stream = 0; arrivals = 0 } ∷ []; first = 0; taken = 0; is_dropped = false }
+query = record { name = 113 ∷ []; meaning = lists_a; nodes = plan_of (1 ∷ []) lists_a; measures = measures_of (plan_of (1 ∷ []) lists_a) None; places = record { stream = 0; arrivals = 0 } ∷ []; first = 0; taken = 0; is_dropped = false }
 
 abbrev asked : World
 asked = record { machine = record { streams = fresh ∷ []; queries = query ∷ [] }; waiting = [] ∷ [] }

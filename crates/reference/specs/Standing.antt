@@ -7,12 +7,15 @@ use Rattle.reference.specs.Machine as machine
 use Rattle.reference.specs.Commands as commands
 use Rattle.reference.specs.Places.{place_of}
 use Rattle.reference.specs.declared.standing.StandingQuery.{StandingQuery}
-use Rattle.reference.specs.declared.resolve.Found.{Found}
+use Rattle.plan.specs.Views.{nodes_of}
+use Rattle.plan.specs.declared.operators.Plan.{Plan}
 
 abbrev pub query_of : StandingQuery → machine.Registered
 query_of q = record {
   name = string_bytes q.name;
-  meaning = resolved_of q.meaning;
+  meaning = resolved_of q.plan.meaning;
+  nodes = nodes_of q.plan.nodes.items;
+  measures = q.plan.measures.items;
   places = map place_of q.places.items;
   first = q.first;
   taken = q.taken;
@@ -27,5 +30,5 @@ waiting_of q = pairs_of q.waiting.items
 abbrev pub fresh_of : StandingQuery → List (ℕ × Row)
 fresh_of q = pairs_of q.fresh.items
 
-abbrev pub found_of : Found → commands.Found
-found_of f = record { streams = f.streams.items; meaning = resolved_of f.meaning }
+abbrev pub found_of : Plan → commands.Found
+found_of p = record { streams = p.streams.items; meaning = resolved_of p.meaning; nodes = nodes_of p.nodes.items; measures = p.measures.items }

@@ -1,10 +1,15 @@
 -- A machine with the answers that wait, over which every call is a function.
 use Rattle.std.specs.Prelude.{◌≡◌, ℕ, cond, not, ◌&&◌, nat_le, List, [], ◌∷◌, ◌++◌, length, map, min, take, drop, Option, Some, None, Result, Ok, Err, ℤ, pos, nat_abs, get_or, ⊤}
+use Rattle.std.specs.List.{zip}
 use Rattle.values.specs.Row.{Row}
+use Rattle.envelope.specs.Fraction.{Fraction}
+use Rattle.plan.specs.Kinds.{kind_of}
+use Rattle.plan.specs.Paths.{plan_slopes}
+use Rattle.plan.specs.declared.node.Kind.{Kind}
 use Rattle.reference.specs.declared.fault.Fault.{Fault}
-use Rattle.reference.specs.declared.fault.Fault.TheVariants.{Query, BadLimit, OutOfMemory}
+use Rattle.reference.specs.declared.fault.Fault.TheVariants.{Query, BadLimit, UnknownQuery, OutOfMemory}
 use Rattle.reference.specs.declared.limits.TheConstants.{MAX_TURN}
-use Rattle.reference.specs.Machine.{Machine, Registered, closed_answers}
+use Rattle.reference.specs.Machine.{Machine, Registered, query_at, closed_answers}
 use Rattle.reference.specs.Machine as machine
 use Rattle.reference.specs.Commands.{Declare, Register, Append, Heartbeat, Take, Drop, first_fault, first_of, after, change}
 
@@ -30,10 +35,10 @@ declare_step w name columns start =
     unless (first_fault w.machine (Declare name columns start)) w (length w.machine.streams)
     (record w { machine = after w.machine (Declare name columns start) 0 })
 
-unfoldable pub register_step : World → List ℕ → List ℕ → Step ℕ
-register_step w name source =
-    unless (first_fault w.machine (Register name source)) w (length w.machine.queries)
-    (record { machine = after w.machine (Register name source) 0; waiting = w.waiting ++ [] ∷ [] })
+unfoldable pub register_step : World → List ℕ → List ℕ → Option (List (ℤ × ℤ)) → Step ℕ
+register_step w name source given =
+    unless (first_fault w.machine (Register name source given)) w (length w.machine.queries)
+    (record { machine = after w.machine (Register name source given) 0; waiting = w.waiting ++ [] ∷ [] })
 
 unfoldable pub append_step : World → ℕ → List (ℤ × List (Option ℤ)) → Step ⊤
 append_step w n rows =
@@ -79,6 +84,17 @@ stream_named w name = machine.stream_named w.machine name
 unfoldable pub query_named : World → List ℕ → Option ℕ
 query_named w name = machine.query_named w.machine name
 
+-- what each operator of a query does, and its slope
+unfoldable pub operators_of : Registered → List (Kind × Fraction)
+operators_of q = zip (map kind_of q.nodes) (plan_slopes q.nodes q.measures)
+
+abbrev pub slopes_in : Option Registered → Result (List (Kind × Fraction)) Fault
+slopes_in None = Err UnknownQuery
+slopes_in (Some q) = Ok (operators_of q)
+
+unfoldable pub slopes_at : World → ℕ → Result (List (Kind × Fraction)) Fault
+slopes_at w n = slopes_in (query_at w.machine n)
+
 -- want of memory may stand in place of an acceptance, and of a query's fault, because reading a text takes memory
 abbrev pub MayLackMemory : {A : Type 0} → Result A Fault → Type 0
 MayLackMemory (Ok answer) = ⊤
@@ -96,3 +112,9 @@ abbrev pub Drains : World → Step ⊤ → Result ⊤ Fault → World → Type 0
 Drains old step (Ok answer) new = step ≡ (Ok answer, new)
 Drains old step (Err OutOfMemory) new = (new.machine ≡ old.machine) × MayLackMemory step.0
 Drains old step (Err fault) new = step ≡ (Err fault, new)
+
+-- The look found what it is defined to find; want of memory may stand in place of that.
+abbrev pub Looks : {A B : Type 0} → (A → B) → Result B Fault → Result A Fault → Type 0
+Looks view defined (Ok a) = defined ≡ Ok (view a)
+Looks view defined (Err OutOfMemory) = MayLackMemory defined
+Looks view defined (Err fault) = defined ≡ Err fault

@@ -1,10 +1,14 @@
 //! What every engine answers.
 ghost use Rattle.std.specs.Prelude.{◌≡◌, ℕ};
+ghost use Rattle.std.specs.Option.{option_copied};
+ghost use Rattle.plan.specs.Chart.{given_by};
 ghost use Rattle.reference.specs.CallViews.{texts_of, handed_of};
-ghost use Rattle.reference.specs.World.{World, Does, Drains, declare_step, register_step, append_step, heartbeat_step, take_step, drop_step, drain_step, stream_named, query_named};
+ghost use Rattle.reference.specs.World.{World, Does, Drains, Looks, declare_step, register_step, append_step, heartbeat_step, take_step, drop_step, drain_step, slopes_at, stream_named, query_named};
 
 use crate::fault::Fault;
 use crate::new_rows::NewRows;
+use envelope::Slope;
+use plan::{Chart, Kind};
 use values::Row;
 
 /// An engine as its clients see it: a machine with the answers that wait.
@@ -28,10 +32,12 @@ pub trait Answering {
 
     /// Registers a query and answers its number, from 0 on, which is never used again.
     ///
-    /// `BadName`, `NameTaken`, `TooMany`, and the first fault of the text.
-    fn query(&mut self, name: &str, text: &str) -> Result<u64, Fault>
+    /// A chart gives the cost and the size of each of its operators, by number.
+    ///
+    /// `BadName`, `NameTaken`, `TooMany`, and the first fault of the text and the chart.
+    fn query(&mut self, name: &str, text: &str, chart: Option<&Chart>) -> Result<u64, Fault>
         requires { is_alone self.old }
-        ensures does { Does (λ (n : ℕ). n) (world self.old) (register_step (world self.old) name.now text.now) result (world self.new) }
+        ensures does { Does (λ (n : ℕ). n) (world self.old) (register_step (world self.old) name.now text.now (given_by (option_copied chart.entry))) result (world self.new) }
         ensures alone { is_alone self.new };
 
     /// Appends rows to the stream of a number; where one row is refused, none is appended.
@@ -75,6 +81,12 @@ pub trait Answering {
         ensures does { result ≡ (drop_step (world self.old) query).0 }
         ensures world { world self.new ≡ (drop_step (world self.old) query).1 }
         ensures alone { is_alone self.new };
+
+    /// What each operator of the query of a number does, and its slope, by the operators' numbers.
+    ///
+    /// `UnknownQuery`.
+    fn slopes(&self, query: u64) -> Result<Vec<(Kind, Slope)>, Fault>
+        ensures { Looks (λ v. v.items) (slopes_at (world self.now) query) result };
 
     /// The number of the stream of a name. Takes no memory.
     fn stream_named(&self, name: &str) -> Option<u64>

@@ -18,8 +18,24 @@ pub enum QueryFault {
     Unexpected(usize),
     /// The number at the place lies outside the range of its place.
     NumberRange(usize),
+    /// The `(` or `Not` of the condition at the place is the 33rd that is open.
+    TooDeep(usize),
     /// A source names no declared stream.
     UnknownStream,
+    /// A reference matches no column.
+    UnknownColumn,
+    /// A reference matches more than one column.
+    AmbiguousColumn,
+    /// Two sources have the same name.
+    DuplicateAlias,
+    /// Two sources and no join key.
+    NoJoinKey,
+    /// In a grouped query the list is `*`, or has a column that Group By does not have.
+    NotGrouped,
+    /// More than 16 items, Group By columns or Partition By columns.
+    TooWide,
+    /// A chart of another length than the plan, a cost or size out of range, or a size of the root that is not 0.
+    BadChart,
 }
 
 /// Why a call was refused. After a refusal all is as it was.
@@ -72,7 +88,15 @@ impl QueryFault {
             QueryFault::BadToken(_) => "Q3 BadToken",
             QueryFault::Unexpected(_) => "Q4 Unexpected",
             QueryFault::NumberRange(_) => "Q5 NumberRange",
+            QueryFault::TooDeep(_) => "Q6 TooDeep",
             QueryFault::UnknownStream => "Q7 UnknownStream",
+            QueryFault::UnknownColumn => "Q8 UnknownColumn",
+            QueryFault::AmbiguousColumn => "Q9 AmbiguousColumn",
+            QueryFault::DuplicateAlias => "Q10 DuplicateAlias",
+            QueryFault::NoJoinKey => "Q11 NoJoinKey",
+            QueryFault::NotGrouped => "Q12 NotGrouped",
+            QueryFault::TooWide => "Q13 TooWide",
+            QueryFault::BadChart => "Q14 BadChart",
         }
     }
 
@@ -83,8 +107,9 @@ impl QueryFault {
         match self {
             QueryFault::BadToken(place)
             | QueryFault::Unexpected(place)
-            | QueryFault::NumberRange(place) => Some(*place),
-            QueryFault::TextTooLong | QueryFault::NotAscii | QueryFault::UnknownStream => None,
+            | QueryFault::NumberRange(place)
+            | QueryFault::TooDeep(place) => Some(*place),
+            _ => None,
         }
     }
 }

@@ -4,6 +4,7 @@
 #![tactic(auto)]
 
 mod answering;
+mod asked;
 pub mod evaluate;
 mod fault;
 mod laws;
@@ -11,13 +12,14 @@ mod limits;
 mod new_rows;
 mod place;
 mod plain;
-mod resolve;
 mod standing;
 mod stream;
 #[cfg(test)]
 mod tests;
 
 pub use answering::Answering;
+pub use asked::answers;
+pub use envelope::Slope;
 pub use fault::{Fault, QueryFault};
 pub use laws::{
     answers_only_grow, equal_window_bags_have_equal_answers, later_elements_change_no_closed_answer,
@@ -28,3 +30,4 @@ pub use limits::{
 };
 pub use new_rows::NewRows;
 pub use plain::Plain;
+pub use plan::{Chart, Kind};

@@ -7,7 +7,7 @@ mod answering;
 mod changes;
 mod faults;
 mod finding;
-mod names;
+mod lookup;
 
 use crate::fault::Fault;
 use crate::standing::StandingQuery;

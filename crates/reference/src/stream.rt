@@ -1,8 +1,9 @@
 //! A declared stream and what came to it.
-ghost use Rattle.std.specs.Prelude.{◌≡◌, ◌≤◌, [], None, OnOk, OnErr, IfOk, IfSome, length, string_bytes, ◌<◌, ◌&&◌, nat_le};
+ghost use Rattle.std.specs.Prelude.{◌≡◌, ◌≤◌, [], None, OnOk, OnErr, IfOk, IfSome, length, ◌∷◌, ◌++◌, ◌<◌, ◌&&◌, nat_le};
 ghost use Rattle.values.specs.Window.{input_of, plain};
-ghost use Rattle.reference.specs.Commands.{first_of, append_tests, heartbeat_tests, appended, closed_to};
-ghost use Rattle.reference.specs.CallViews.{texts_of};
+ghost use Rattle.reference.specs.Commands.{first_of, append_tests, heartbeat_tests, appended, closed_to, catalog_of};
+ghost use Rattle.names.specs.Views.{names_of};
+ghost use Rattle.cql_reader.specs.Views.{name_of};
 ghost use Rattle.reference.specs.Inputs.{ShowsSame};
 ghost use Rattle.reference.specs.Told.{IsTold};
 ghost use Rattle.reference.specs.Views.{pairs_of, elements_of, element_at};
@@ -10,6 +11,8 @@ ghost use Rattle.reference.specs.Views.{pairs_of, elements_of, element_at};
 use crate::fault::Fault;
 use crate::limits::{MAX_APPENDED, MAX_INSTANT, MAX_LEAP, MAX_STREAM_ROWS};
 use crate::new_rows::NewRows;
+use cql_reader::Name;
+use names::Catalog;
 use std::alloc::{AllocError, Global};
 use std::marker::Model;
 use values::Row;
@@ -18,31 +21,32 @@ use values::Row;
 /// closed.
 #[derive(Drop)]
 pub(crate) struct Stream {
-    name: String,
-    columns: Vec<String>,
+    name: Name,
+    columns: Vec<Name>,
     elements: Vec<(u64, Row)>,
     first_open: u64,
 }
 
 impl Model for Stream {
-    ghost use Rattle.std.specs.Prelude.{◌≤◌, length, string_bytes};
+    ghost use Rattle.std.specs.Prelude.{◌≤◌, length};
+    ghost use Rattle.cql_reader.specs.Views.{name_of};
+    ghost use Rattle.names.specs.Views.{names_of};
     ghost use Rattle.reference.specs.Machine as machine;
-    ghost use Rattle.reference.specs.CallViews.{texts_of};
     ghost use Rattle.reference.specs.Views.{elements_of};
 
     ghost Value = { machine.Stream };
 
-    ghost view = { λ s. record { name = string_bytes s.name; columns = texts_of s.columns.items; elements = elements_of s.elements.items; arrivals = length s.elements.items; first_open = s.first_open } };
+    ghost view = { λ s. record { name = name_of s.name; columns = names_of s.columns.items; elements = elements_of s.elements.items; arrivals = length s.elements.items; first_open = s.first_open } };
 
     ghost invariant = { λ s. (length s.columns.items ≤ 8) × (length s.elements.items ≤ 1073741824) × (s.first_open ≤ 1099511627777) };
 }
 
 impl Stream {
     /// A stream to which nothing came.
-    pub(crate) fn new(alloc: Global, name: String, columns: Vec<String>, first_open: u64) -> Stream
+    pub(crate) fn new(alloc: Global, name: Name, columns: Vec<Name>, first_open: u64) -> Stream
         requires few { length columns.items ≤ 8 }
         requires instant { first_open ≤ 1099511627776 }
-        ensures { result ≡ record { name = string_bytes name; columns = texts_of columns.items; elements = []; arrivals = 0; first_open = first_open } }
+        ensures { result ≡ record { name = name_of name; columns = names_of columns.items; elements = []; arrivals = 0; first_open = first_open } }
     {
         Stream {
             name,
@@ -53,18 +57,20 @@ impl Stream {
     }
 
     /// Its name.
-    pub(crate) fn name(&self) -> &str
+    pub(crate) fn name(&self) -> &[u8]
         ensures { result.now ≡ self.now.name }
     {
-        self.name.as_str()
+        self.name.as_bytes()
     }
 
-    /// How many columns it has.
-    pub(crate) fn width(&self) -> usize
-        ensures width { result ≡ length self.now.columns }
-        ensures few { result ≤ 8 }
+    /// Declares its names in a catalog.
+    pub(crate) fn declare_in(&self, alloc: Global, catalog: &mut Catalog) -> Result<(), AllocError>
+        ensures declared { OnOk result (catalog.new ≡ catalog.old ++ catalog_of (self.now ∷ [])) }
+        ensures few { length self.now.columns ≤ 8 }
     {
-        self.columns.len()
+        let mut columns = Vec::new(alloc);
+        columns.extend_from_slice(&self.columns)?;
+        catalog.declare(self.name, columns)
     }
 
     /// How many rows came.

@@ -35,7 +35,7 @@ fn engine(rt: &impl Abort, alloc: Global) -> Result<Plain, Fail> {
     let mut plain = Plain::new(alloc)?;
     let declared = plain.stream("S", columns(alloc, "a", "b")?.as_slice(), 0)?;
     assert_eq!(rt; declared, 0);
-    assert_eq!(rt; plain.query("q", ISTREAM)?, 0);
+    assert_eq!(rt; plain.query("q", ISTREAM, None)?, 0);
     Ok(plain)
 }
 
@@ -67,7 +67,7 @@ fn declarations_and_registrations_are_tested_in_order(rt: HostRuntime) -> Result
             Fault::Query(QueryFault::UnknownStream),
         ),
     ] {
-        assert_eq!(rt; fault_of(plain.query(name, text)), Some(fault));
+        assert_eq!(rt; fault_of(plain.query(name, text, None)), Some(fault));
     }
     assert_eq!(rt; plain.stream_named("T"), None);
     assert_eq!(rt; plain.stream_named("S"), Some(0));
@@ -77,7 +77,7 @@ fn declarations_and_registrations_are_tested_in_order(rt: HostRuntime) -> Result
     plain.drop_query(0)?;
     assert_eq!(rt; fault_of(plain.drop_query(0)), Some(Fault::UnknownQuery));
     assert_eq!(rt; plain.query_named("q"), None);
-    assert_eq!(rt; plain.query("q", ISTREAM)?, 1);
+    assert_eq!(rt; plain.query("q", ISTREAM, None)?, 1);
     Ok(())
 }
 
@@ -145,13 +145,13 @@ fn streams_and_queries_have_their_limits(rt: HostRuntime) -> Result<(), Fail> {
     }
     for number in 1..256u64 {
         let name = format!(in alloc; "q{number}")?;
-        assert_eq!(rt; plain.query(name.as_str(), ISTREAM)?, number);
+        assert_eq!(rt; plain.query(name.as_str(), ISTREAM, None)?, number);
     }
     let answer = plain.stream("T", columns(alloc, "a", "b")?.as_slice(), 0);
     assert_eq!(rt; fault_of(answer), Some(Fault::TooMany));
-    assert_eq!(rt; fault_of(plain.query("r", "")), Some(Fault::TooMany));
+    assert_eq!(rt; fault_of(plain.query("r", "", None)), Some(Fault::TooMany));
     plain.drop_query(7)?;
-    assert_eq!(rt; plain.query("r", ISTREAM)?, 256);
+    assert_eq!(rt; plain.query("r", ISTREAM, None)?, 256);
     Ok(())
 }
 

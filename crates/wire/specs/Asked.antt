@@ -2,7 +2,7 @@
 use Rattle.std.specs.Prelude.{ℕ, ℤ, List, [], ◌∷◌, Option, Some, None, option_map, option_and_then, codes, if◌then◌else◌, bytes_eq}
 use Rattle.serde_json.specs.Data.{Data, null, boolean, number, string, array, object, Items, no_items, item}
 use Rattle.serde_json.specs.Find.{get, as_str, as_number, as_array, as_i64}
-use Rattle.wire.specs.Calls.{NewRow, Call, declare, register, append, heartbeat, drain, take_rows, discard}
+use Rattle.wire.specs.Calls.{NewRow, Call, declare, register, append, heartbeat, drain, take_rows, discard, show_plan}
 
 -- ---- the kinds of value
 
@@ -31,6 +31,19 @@ row_from (item d ds) = option_and_then (λ at. option_map (λ values. (at, value
 abbrev pub row_in : Data → Option NewRow
 row_in d = option_and_then row_from (as_array d)
 
+-- a cost and a size
+abbrev pub pair_from : Items → Option (ℤ × ℤ)
+pair_from (item d (item e no_items)) = option_and_then (λ cost. option_map (λ size. (cost, size)) (integer_of e)) (integer_of d)
+pair_from _ = None
+
+abbrev pub pair_in : Data → Option (ℤ × ℤ)
+pair_in d = option_and_then pair_from (as_array d)
+
+-- what a chart gives for each operator; where the key is missing, nothing
+abbrev pub chart_from : Option Data → Option (Option (List (ℤ × ℤ)))
+chart_from None = Some None
+chart_from (Some d) = option_map Some (option_and_then (each pair_in) (as_array d))
+
 -- ---- the values of keys
 
 abbrev pub text_at : List ℕ → Data → Option (List ℕ)
@@ -52,8 +65,8 @@ declare_in d = option_and_then (λ name. option_and_then (λ columns. option_map
     (integer_at (codes "from") d)) (each_at as_str (codes "columns") d)) (text_at (codes "name") d)
 
 unfoldable pub register_in : Data → Option Call
-register_in d = option_and_then (λ name. option_map (λ text. register name text)
-    (text_at (codes "text") d)) (text_at (codes "name") d)
+register_in d = option_and_then (λ name. option_and_then (λ text. option_map (λ chart. register name text chart)
+    (chart_from (get (codes "chart") d))) (text_at (codes "text") d)) (text_at (codes "name") d)
 
 unfoldable pub append_in : Data → Option Call
 append_in d = option_and_then (λ stream. option_map (λ rows. append stream rows)
@@ -70,6 +83,9 @@ take_in d = option_and_then (λ query. option_map (λ limit. take_rows query lim
 unfoldable pub discard_in : Data → Option Call
 discard_in d = option_map discard (text_at (codes "query") d)
 
+unfoldable pub plan_in : Data → Option Call
+plan_in d = option_map show_plan (text_at (codes "query") d)
+
 unfoldable pub asked_by : List ℕ → Data → Option Call
 asked_by op d =
     if bytes_eq op (codes "stream") then declare_in d else (
@@ -78,7 +94,8 @@ asked_by op d =
     if bytes_eq op (codes "heartbeat") then heartbeat_in d else (
     if bytes_eq op (codes "drain") then Some drain else (
     if bytes_eq op (codes "take") then take_in d else (
-    if bytes_eq op (codes "drop") then discard_in d else None))))))
+    if bytes_eq op (codes "drop") then discard_in d else (
+    if bytes_eq op (codes "plan") then plan_in d else None)))))))
 
 -- the call, or none where the value is no request
 unfoldable pub asked : Data → Option Call

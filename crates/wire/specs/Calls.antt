@@ -1,8 +1,9 @@
 -- The call of an engine that a request asks for, with streams and queries by name.
 use Rattle.std.specs.Prelude.{ℕ, ℤ, List, Option, string_bytes}
+use Rattle.plan.specs.Chart.{given_by}
 use Rattle.reference.specs.CallViews.{texts_of}
 use Rattle.wire.specs.declared.request.Request.{Request}
-use Rattle.wire.specs.declared.request.Request.TheVariants.{Stream, Query, Append, Heartbeat, Drain, Take, Drop}
+use Rattle.wire.specs.declared.request.Request.TheVariants.{Stream, Query, Append, Heartbeat, Drain, Take, Drop, Plan}
 
 -- a row of an append: its instant, then its values
 abbrev pub NewRow : Type 0
@@ -11,8 +12,8 @@ NewRow = ℤ × List (Option ℤ)
 pub data Call : Type 0 where
   -- a stream of a name, its columns, and the first instant that is open
   declare : List ℕ → List (List ℕ) → ℤ → Call
-  -- a query of a name and a text
-  register : List ℕ → List ℕ → Call
+  -- a query of a name and a text, and what a chart gives for its operators
+  register : List ℕ → List ℕ → Option (List (ℤ × ℤ)) → Call
   -- rows for a stream
   append : List ℕ → List NewRow → Call
   -- a stream is closed up to an instant
@@ -23,12 +24,15 @@ pub data Call : Type 0 where
   take_rows : List ℕ → ℤ → Call
   -- a query is dropped
   discard : List ℕ → Call
+  -- the operators of a query are shown
+  show_plan : List ℕ → Call
 
 abbrev pub call_of : Request → Call
 call_of (Stream name columns start) = declare (string_bytes name) (texts_of columns.items) start
-call_of (Query name text) = register (string_bytes name) (string_bytes text)
+call_of (Query name text chart) = register (string_bytes name) (string_bytes text) (given_by chart)
 call_of (Append stream rows) = append (string_bytes stream) rows
 call_of (Heartbeat stream at) = heartbeat (string_bytes stream) at
 call_of Drain = drain
 call_of (Take query limit) = take_rows (string_bytes query) limit
 call_of (Drop query) = discard (string_bytes query)
+call_of (Plan query) = show_plan (string_bytes query)

@@ -1,12 +1,14 @@
 -- Worked lines.
 use Rattle.std.specs.Prelude.{◌≡◌, ℕ, List, [], ◌∷◌, ◌++◌, Some, None, Ok, Err, true, codes, pos, negsuc, refl}
 use Rattle.std.specs.Fmt.{digits}
+use Rattle.envelope.specs.Fraction.{fraction}
+use Rattle.plan.specs.declared.node.Kind.TheVariants.{Window, ToStream}
 use Rattle.reference.specs.FaultTexts.{fault_text}
 use Rattle.reference.specs.declared.fault.Fault.TheVariants.{Query, Late}
 use Rattle.reference.specs.declared.fault.QueryFault.TheVariants.{Unexpected}
 use Rattle.wire.specs.Lines.{lines_of}
 use Rattle.wire.specs.Requests.{is_blank}
-use Rattle.wire.specs.Printed.{rows, refused, line_of, rows_text, row_text, value_text}
+use Rattle.wire.specs.Printed.{rows, operators, refused, line_of, rows_text, row_text, value_text, operators_text, operator_text}
 
 -- a text of two lines and the beginning of a third, the second of which is blank
 lines : lines_of (codes "[]\n\t\r\n{") ≡ codes "[]" ∷ codes "\t\r" ∷ codes "{" ∷ []
@@ -23,6 +25,11 @@ take = refl
 none : line_of (rows []) ≡ codes "{\"ok\":true,\"rows\":[]}\n"
 unfolding line_of rows_text
 none = refl
+
+plan : line_of (operators ((Window, fraction 250000 1) ∷ (ToStream, fraction 0 1) ∷ []))
+    ≡ codes "{\"ok\":true,\"operators\":[[\"Window\",\"250000/1\"],[\"ToStream\",\"0/1\"]]}\n"
+unfolding line_of operators_text operator_text digits
+plan = refl
 
 late : line_of (refused Late) ≡ codes "{\"error\":\"E10 Late\"}\n"
 unfolding line_of fault_text

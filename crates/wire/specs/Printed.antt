@@ -2,19 +2,25 @@
 use Rattle.std.specs.Prelude.{ℕ, ℤ, List, [], ◌∷◌, ◌++◌, Option, Some, None, codes, flat_map}
 use Rattle.std.specs.Fmt.{signed_decimal}
 use Rattle.values.specs.Row.{Row}
+use Rattle.envelope.specs.Fraction.{Fraction}
+use Rattle.envelope.specs.LowestTerms.{shown}
+use Rattle.plan.specs.Kinds.{kind_name}
+use Rattle.plan.specs.declared.node.Kind.{Kind}
 use Rattle.reference.specs.CallViews.{handed_of}
 use Rattle.reference.specs.FaultTexts.{fault_text}
 use Rattle.reference.specs.declared.fault.Fault.{Fault}
 use Rattle.wire.specs.declared.request.WireFault.{WireFault}
 use Rattle.wire.specs.declared.request.WireFault.TheVariants as in_line
 use Rattle.wire.specs.declared.reply.Reply.{Reply}
-use Rattle.wire.specs.declared.reply.Reply.TheVariants.{Done, Rows, Refused, Unread}
+use Rattle.wire.specs.declared.reply.Reply.TheVariants.{Done, Rows, Operators, Refused, Unread}
 
 -- what a request is answered
 pub data Answer : Type 0 where
   done : Answer
   -- answers of a query, each with its instant
   rows : List (ℤ × Row) → Answer
+  -- what each operator of a query does, and its slope
+  operators : List (Kind × Fraction) → Answer
   -- the engine refused the call
   refused : Fault → Answer
   -- the line is no request
@@ -23,6 +29,7 @@ pub data Answer : Type 0 where
 abbrev pub answer_of : Reply → Answer
 answer_of Done = done
 answer_of (Rows taken) = rows (handed_of taken.items)
+answer_of (Operators found) = operators found.items
 answer_of (Refused fault) = refused fault
 answer_of (Unread fault) = unread fault
 
@@ -43,6 +50,15 @@ unfoldable pub rows_text : List (ℤ × Row) → List ℕ
 rows_text [] = []
 rows_text (row ∷ more) = row_text row ++ after_commas row_text more
 
+-- what the operator does, then its slope
+unfoldable pub operator_text : Kind × Fraction → List ℕ
+operator_text operator = codes "[\"" ++ kind_name operator.0 ++ codes "\",\"" ++ shown operator.1 ++ codes "\"]"
+
+-- commas between the operators
+unfoldable pub operators_text : List (Kind × Fraction) → List ℕ
+operators_text [] = []
+operators_text (operator ∷ more) = operator_text operator ++ after_commas operator_text more
+
 abbrev pub wire_fault_text : WireFault → List ℕ
 wire_fault_text in_line.NotJson = codes "N1 NotJson"
 wire_fault_text in_line.BadRequest = codes "N2 BadRequest"
@@ -56,5 +72,6 @@ error_line text = codes "{\"error\":\"" ++ text ++ codes "\"}\n"
 unfoldable pub line_of : Answer → List ℕ
 line_of done = codes "{\"ok\":true}\n"
 line_of (rows taken) = codes "{\"ok\":true,\"rows\":[" ++ rows_text taken ++ codes "]}\n"
+line_of (operators found) = codes "{\"ok\":true,\"operators\":[" ++ operators_text found ++ codes "]}\n"
 line_of (refused fault) = error_line (fault_text fault)
 line_of (unread fault) = error_line (wire_fault_text fault)

@@ -1,11 +1,13 @@
 -- The text that a script of requests is answered.
 use Rattle.std.specs.Prelude.{◌≡◌, ℕ, ℤ, Bool, true, false, List, [], ◌∷◌, ◌++◌, Option, Some, None, Result, Ok, Err, ◌⊎◌}
 use Rattle.values.specs.Row.{Row}
-use Rattle.reference.specs.World.{World, Step, stream_named, query_named, declare_step, register_step, append_step, heartbeat_step, drain_step, take_step, drop_step}
+use Rattle.envelope.specs.Fraction.{Fraction}
+use Rattle.plan.specs.declared.node.Kind.{Kind}
+use Rattle.reference.specs.World.{World, Step, stream_named, query_named, declare_step, register_step, append_step, heartbeat_step, drain_step, take_step, drop_step, slopes_at}
 use Rattle.reference.specs.declared.fault.Fault.{Fault}
 use Rattle.reference.specs.declared.fault.Fault.TheVariants as in_engine
-use Rattle.wire.specs.Calls.{Call, declare, register, append, heartbeat, drain, take_rows, discard}
-use Rattle.wire.specs.Printed.{Answer, done, rows, refused, unread, line_of}
+use Rattle.wire.specs.Calls.{Call, declare, register, append, heartbeat, drain, take_rows, discard, show_plan}
+use Rattle.wire.specs.Printed.{Answer, done, rows, operators, refused, unread, line_of}
 use Rattle.wire.specs.Requests.{requests_of}
 use Rattle.wire.specs.declared.request.WireFault.{WireFault}
 use Rattle.wire.specs.declared.request.WireFault.TheVariants.{OutOfMemory}
@@ -17,6 +19,10 @@ done_of (Err f) = refused f
 abbrev pub rows_of : Result (List (ℤ × Row)) Fault → Answer
 rows_of (Ok taken) = rows taken
 rows_of (Err f) = refused f
+
+abbrev pub operators_or : Result (List (Kind × Fraction)) Fault → Answer
+operators_or (Ok found) = operators found
+operators_or (Err f) = refused f
 
 abbrev pub done_step : {A : Type 0} → Step A → Answer × World
 done_step step = (done_of step.0, step.1)
@@ -32,11 +38,12 @@ if_named w fault step (Some n) = step n
 -- what a call is answered, and the world after it; the rows of a drain's turns change nothing
 abbrev pub answered : World → Call → Answer × World
 answered w (declare name columns start) = done_step (declare_step w name columns start)
-answered w (register name text) = done_step (register_step w name text)
+answered w (register name text chart) = done_step (register_step w name text chart)
 answered w (append stream more) = if_named w in_engine.UnknownStream (λ n. done_step (append_step w n more)) (stream_named w stream)
 answered w (heartbeat stream at) = if_named w in_engine.UnknownStream (λ n. done_step (heartbeat_step w n at)) (stream_named w stream)
 answered w drain = done_step (drain_step w 1)
 answered w (take_rows query limit) = if_named w in_engine.UnknownQuery (λ n. rows_step (take_step w n limit)) (query_named w query)
+answered w (show_plan query) = if_named w in_engine.UnknownQuery (λ n. (operators_or (slopes_at w n), w)) (query_named w query)
 answered w (discard query) = if_named w in_engine.UnknownQuery (λ n. done_step (drop_step w n)) (query_named w query)
 
 -- what a request is answered, and the world after it; a line that is no request changes nothing
@@ -61,6 +68,7 @@ is_scarce _ = false
 abbrev pub is_scarce_answer : Answer → Bool
 is_scarce_answer done = false
 is_scarce_answer (rows taken) = false
+is_scarce_answer (operators found) = false
 is_scarce_answer (refused fault) = is_scarce fault
 is_scarce_answer (unread OutOfMemory) = true
 is_scarce_answer (unread _) = false

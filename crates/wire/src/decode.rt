@@ -1,13 +1,14 @@
 //! From a JSON value to the request that it is.
-ghost use Rattle.std.specs.Prelude.{◌≡◌, IfOk, Some, None, cond, option_map, option_and_then, map};
+ghost use Rattle.std.specs.Prelude.{◌≡◌, IfOk, Some, None, cond, codes, option_map, option_and_then, map};
 ghost use Rattle.serde_json.specs.View.{view, items_view};
-ghost use Rattle.serde_json.specs.Find.{as_str, as_array};
+ghost use Rattle.serde_json.specs.Find.{get, as_str, as_array};
 ghost use Rattle.reference.specs.CallViews.{texts_of};
+ghost use Rattle.plan.specs.Chart.{given_by};
 ghost use Rattle.wire.specs.Calls.{call_of};
-ghost use Rattle.wire.specs.Asked.{text_at, integer_at, list_at, each, value_of, integer_of, row_from, row_in, declare_in, register_in, append_in, heartbeat_in, take_in, discard_in, asked_by, asked};
+ghost use Rattle.wire.specs.Asked.{text_at, integer_at, list_at, each, value_of, integer_of, row_from, row_in, pair_from, pair_in, chart_from as asked_chart, declare_in, register_in, append_in, heartbeat_in, take_in, discard_in, plan_in, asked_by, asked};
 
 use crate::request::Request;
-use reference::NewRows;
+use reference::{Chart, NewRows};
 use serde_json::Value;
 use std::alloc::{AllocError, Global};
 
@@ -119,6 +120,57 @@ fn rows_of(alloc: Global, items: &[Value]) -> Result<Option<NewRows>, AllocError
     Ok(Some(rows))
 }
 
+fn pair_from(items: &[Value]) -> Option<(i64, i64)>
+    ensures { result ≡ pair_from (items_view items.now) }
+{
+    let [cost, size] = items else {
+        return None;
+    };
+    match (cost.as_i64(), size.as_i64()) {
+        (Some(cost), Some(size)) => Some((cost, size)),
+        _ => None,
+    }
+}
+
+/// Reads a cost and a size.
+fn pair_in(value: &Value) -> Option<(i64, i64)>
+    ensures { result ≡ pair_in (view value.now) }
+{
+    match value.as_array() {
+        Some(items) => pair_from(items),
+        None => None,
+    }
+}
+
+fn chart_from(alloc: Global, items: &[Value]) -> Result<Option<Chart>, AllocError>
+    ensures { IfOk result (λ o. option_map (λ c. c.operators.items) o ≡ each pair_in (items_view items.now)) }
+{
+    let mut operators = Vec::new(alloc);
+    for item in items {
+        let Some(pair) = pair_in(item) else {
+            return Ok(None);
+        };
+        operators.push(pair)?;
+    }
+    Ok(Some(Chart { operators }))
+}
+
+/// Reads the chart, which may be missing.
+fn chart_at(alloc: Global, value: &Value) -> Result<Option<Option<Chart>>, AllocError>
+    ensures { IfOk result (λ o. option_map given_by o ≡ asked_chart (get (codes "chart") (view value.now))) }
+{
+    let Some(found) = value.get("chart") else {
+        return Ok(Some(None));
+    };
+    let Some(items) = found.as_array() else {
+        return Ok(None);
+    };
+    let Some(chart) = chart_from(alloc, items)? else {
+        return Ok(None);
+    };
+    Ok(Some(Some(chart)))
+}
+
 #[tactic(auto, unfolding(crate::specs::Asked::declare_in))]
 fn declare_in(alloc: Global, value: &Value) -> Result<Option<Request>, AllocError>
     ensures { IfOk result (λ o. option_map call_of o ≡ declare_in (view value.now)) }
@@ -153,9 +205,12 @@ fn register_in(alloc: Global, value: &Value) -> Result<Option<Request>, AllocErr
     let Some(text) = text_at(value, "text") else {
         return Ok(None);
     };
+    let Some(chart) = chart_at(alloc, value)? else {
+        return Ok(None);
+    };
     let name = String::from_str(alloc, name)?;
     let text = String::from_str(alloc, text)?;
-    Ok(Some(Request::Query { name, text }))
+    Ok(Some(Request::Query { name, text, chart }))
 }
 
 #[tactic(auto, unfolding(crate::specs::Asked::append_in))]
@@ -214,6 +269,17 @@ fn discard_in(alloc: Global, value: &Value) -> Result<Option<Request>, AllocErro
     Ok(Some(Request::Drop { query }))
 }
 
+#[tactic(auto, unfolding(crate::specs::Asked::plan_in))]
+fn plan_in(alloc: Global, value: &Value) -> Result<Option<Request>, AllocError>
+    ensures { IfOk result (λ o. option_map call_of o ≡ plan_in (view value.now)) }
+{
+    let Some(query) = text_at(value, "query") else {
+        return Ok(None);
+    };
+    let query = String::from_str(alloc, query)?;
+    Ok(Some(Request::Plan { query }))
+}
+
 #[tactic(auto, unfolding(crate::specs::Asked::asked_by))]
 fn asked_by(alloc: Global, op: &str, value: &Value) -> Result<Option<Request>, AllocError>
     ensures { IfOk result (λ o. option_map call_of o ≡ asked_by op.now (view value.now)) }
@@ -238,6 +304,9 @@ fn asked_by(alloc: Global, op: &str, value: &Value) -> Result<Option<Request>, A
     }
     if op == "drop" {
         return discard_in(alloc, value);
+    }
+    if op == "plan" {
+        return plan_in(alloc, value);
     }
     Ok(None)
 }

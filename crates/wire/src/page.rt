@@ -67,7 +67,8 @@ impl Page {
         self.add_to_empty(sink, bytes);
     }
 
-    fn add_digits<K: Sink>(&mut self, sink: &mut K, number: u64)
+    /// Adds the decimal digits of a number.
+    pub(crate) fn add_digits<K: Sink>(&mut self, sink: &mut K, number: u64)
         ensures { Writes (K.taken sink.old) (K.failures sink.old) self.old (K.taken sink.new) (K.failures sink.new) self.new (decimal number) }
     {
         if number < 10 {

@@ -1,17 +1,19 @@
 //! Replies, and their lines.
 ghost use Rattle.std.specs.Prelude.{◌≡◌, ◌++◌, List, ℕ, true, codes, IfErr};
 ghost use Rattle.std.specs.Fmt.{signed_decimal};
+ghost use Rattle.envelope.specs.LowestTerms.{shown};
+ghost use Rattle.plan.specs.Kinds.{kind_name};
 ghost use Rattle.reference.specs.CallViews.{handed_of};
 ghost use Rattle.reference.specs.FaultTexts.{place_text};
 ghost use Rattle.wire.specs.Devices.{Puts};
 ghost use Rattle.wire.specs.Paged.{Writes};
-ghost use Rattle.wire.specs.Printed.{value_text, after_commas, row_text, rows_text, wire_fault_text, line_of, answer_of, error_line};
+ghost use Rattle.wire.specs.Printed.{value_text, after_commas, row_text, rows_text, operator_text, operators_text, wire_fault_text, line_of, answer_of, error_line};
 
 use crate::device::Sink;
 use crate::fault::ScriptFault;
 use crate::page::Page;
 use crate::request::WireFault;
-use reference::Fault;
+use reference::{Fault, Kind, Slope};
 use values::{Row, Value};
 
 /// What a request is answered.
@@ -21,6 +23,8 @@ pub enum Reply {
     Done,
     /// A take's answers, each with its instant.
     Rows(Vec<(i64, Row)>),
+    /// What each operator of a query does, and its slope.
+    Operators(Vec<(Kind, Slope)>),
     /// The engine refused the call.
     Refused(Fault),
     /// The line is no request.
@@ -81,6 +85,65 @@ fn add_rows<K: Sink>(sink: &mut K, page: &mut Page, rows: &[(i64, Row)])
     }
 }
 
+fn kind_name(kind: Kind) -> &'static str
+    ensures { result.now ≡ kind_name kind }
+{
+    match kind {
+        Kind::Window => "Window",
+        Kind::Select => "Select",
+        Kind::Join => "Join",
+        Kind::Project => "Project",
+        Kind::Group => "Group",
+        Kind::Distinct => "Distinct",
+        Kind::ToStream => "ToStream",
+    }
+}
+
+#[tactic(auto, using(crate::proofs::Printing::writes_both))]
+fn add_slope<K: Sink>(sink: &mut K, page: &mut Page, slope: Slope)
+    ensures { Writes (K.taken sink.old) (K.failures sink.old) page.old
+        (K.taken sink.new) (K.failures sink.new) page.new (shown slope) }
+{
+    let (numerator, denominator) = slope.parts();
+    page.add_digits(sink, numerator);
+    page.add(sink, b"/");
+    page.add_digits(sink, denominator);
+}
+
+#[tactic(auto, using(crate::proofs::Printing::writes_both), unfolding(crate::specs::Printed::operator_text))]
+fn add_operator<K: Sink>(sink: &mut K, page: &mut Page, kind: Kind, slope: Slope)
+    ensures { Writes (K.taken sink.old) (K.failures sink.old) page.old
+        (K.taken sink.new) (K.failures sink.new) page.new (operator_text (kind, slope)) }
+{
+    page.add(sink, b"[\"");
+    page.add(sink, kind_name(kind).as_bytes());
+    page.add(sink, b"\",\"");
+    add_slope(sink, page, slope);
+    page.add(sink, b"\"]");
+}
+
+#[tactic(auto, using(crate::proofs::Printing::writes_both))]
+fn add_more_operators<K: Sink>(sink: &mut K, page: &mut Page, operators: &[(Kind, Slope)])
+    ensures { Writes (K.taken sink.old) (K.failures sink.old) page.old
+        (K.taken sink.new) (K.failures sink.new) page.new (after_commas operator_text operators.now) }
+{
+    for (kind, slope) in operators {
+        page.add(sink, b",");
+        add_operator(sink, page, *kind, *slope);
+    }
+}
+
+#[tactic(auto, using(crate::proofs::Printing::writes_both), unfolding(crate::specs::Printed::operators_text))]
+fn add_operators<K: Sink>(sink: &mut K, page: &mut Page, operators: &[(Kind, Slope)])
+    ensures { Writes (K.taken sink.old) (K.failures sink.old) page.old
+        (K.taken sink.new) (K.failures sink.new) page.new (operators_text operators.now) }
+{
+    if let Some(((kind, slope), more)) = operators.split_first() {
+        add_operator(sink, page, *kind, *slope);
+        add_more_operators(sink, page, more);
+    }
+}
+
 fn wire_fault_text(fault: &WireFault) -> &'static str
     ensures { result.now ≡ wire_fault_text fault.now }
 {
@@ -123,6 +186,11 @@ fn add_reply<K: Sink>(sink: &mut K, page: &mut Page, reply: &Reply)
         Reply::Rows(rows) => {
             page.add(sink, b"{\"ok\":true,\"rows\":[");
             add_rows(sink, page, rows);
+            page.add(sink, b"]}\n");
+        }
+        Reply::Operators(operators) => {
+            page.add(sink, b"{\"ok\":true,\"operators\":[");
+            add_operators(sink, page, operators);
             page.add(sink, b"]}\n");
         }
         Reply::Refused(fault) => add_error(sink, page, fault.name(), fault.place()),

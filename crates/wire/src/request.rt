@@ -1,5 +1,5 @@
 //! What a request line asks for.
-use reference::NewRows;
+use reference::{Chart, NewRows};
 
 /// What a request line asks for, with streams and queries by name.
 #[derive(Drop)]
@@ -10,10 +10,11 @@ pub enum Request {
         columns: Vec<String>,
         from: i64,
     },
-    /// Registers a query.
+    /// Registers a query, with a chart of its operators' costs and sizes where one is given.
     Query {
         name: String,
         text: String,
+        chart: Option<Chart>,
     },
     /// Appends rows to a stream.
     Append {
@@ -34,6 +35,10 @@ pub enum Request {
     },
     /// Drops a query.
     Drop {
+        query: String,
+    },
+    /// Shows the operators of a query and their slopes.
+    Plan {
         query: String,
     },
 }

@@ -1,7 +1,7 @@
 //! Scripts of requests.
 ghost use Rattle.std.specs.Prelude.{◌≡◌, ◌<◌, ◌≤◌, ℕ, List, Result, IfErr, OnOk, OnErr};
 ghost use Rattle.wire.specs.Devices.{Puts, Rises};
-ghost use Rattle.wire.specs.Calls.{Call, append, heartbeat, take_rows, discard, call_of};
+ghost use Rattle.wire.specs.Calls.{Call, append, heartbeat, take_rows, discard, show_plan, call_of};
 ghost use Rattle.wire.specs.Printed.{Answer, answer_of, line_of};
 ghost use Rattle.wire.specs.Requests.{Reads, requests_of};
 ghost use Rattle.wire.specs.Script.{answered, done_of, script, Says, Begins, Runs, Scripts, Stands, Replies, served};
@@ -73,6 +73,18 @@ fn discard<E: Answering>(engine: &mut E, query: &str) -> Reply
     }
 }
 
+fn show_plan<E: Answering>(engine: &E, query: &str) -> Reply
+    ensures { Replies (answered (E.world engine.now) (show_plan query.now)) (answer_of result) (E.world engine.now) }
+{
+    let Some(number) = engine.query_named(query) else {
+        return Reply::Refused(Fault::UnknownQuery);
+    };
+    match engine.slopes(number) {
+        Ok(operators) => Reply::Operators(operators),
+        Err(fault) => Reply::Refused(fault),
+    }
+}
+
 /// Runs a request, where a turn has at most so many rows.
 fn answer<E: Answering>(engine: &mut E, request: &Request, rows: u32) -> Reply
     requires rows { 0 < rows × rows ≤ 1024 }
@@ -86,12 +98,15 @@ fn answer<E: Answering>(engine: &mut E, request: &Request, rows: u32) -> Reply
             columns,
             from,
         } => done(engine.stream(name.as_str(), columns, *from)),
-        Request::Query { name, text } => done(engine.query(name.as_str(), text.as_str())),
+        Request::Query { name, text, chart } => {
+            done(engine.query(name.as_str(), text.as_str(), chart.as_ref()))
+        }
         Request::Append { stream, rows: more } => append(engine, stream.as_str(), more),
         Request::Heartbeat { stream, at } => heartbeat(engine, stream.as_str(), *at),
         Request::Drain => done(engine.drain(rows)),
         Request::Take { query, limit } => take(engine, query.as_str(), *limit),
         Request::Drop { query } => discard(engine, query.as_str()),
+        Request::Plan { query } => show_plan(engine, query.as_str()),
     }
 }
 

@@ -28,6 +28,7 @@ fn kinds<S: Source>(alloc: Global, source: &mut S) -> Result<String, Fail> {
             Ok(Request::Drain) => "d",
             Ok(Request::Take { .. }) => "t",
             Ok(Request::Drop { .. }) => "x",
+            Ok(Request::Plan { .. }) => "p",
             Err(WireFault::NotJson) => "1",
             Err(WireFault::BadRequest) => "2",
             Err(WireFault::LineTooLong) => "3",
@@ -40,6 +41,7 @@ fn kinds<S: Source>(alloc: Global, source: &mut S) -> Result<String, Fail> {
 const LINES: &[u8] = b"{\"op\":\"stream\",\"name\":\"S\",\"columns\":[\"a\"],\"from\":0}
  \t\r
 {\"op\":\"query\",\"name\":\"q\",\"text\":\"\",\"chart\":null}
+{\"op\":\"query\",\"name\":\"q\",\"text\":\"\",\"chart\":[[1,0],[-2,3]]}
 
 {\"op\":\"append\",\"stream\":\"S\",\"rows\":[[3,null,-7],[1]],\"more\":{}}
 {\"op\":\"append\",\"stream\":\"S\",\"rows\":[[]]}
@@ -57,7 +59,7 @@ const LINES: &[u8] = b"{\"op\":\"stream\",\"name\":\"S\",\"columns\":[\"a\"],\"f
 \x0b
 {\"op\":\"drain\"";
 
-const KINDS: &str = "sqa22h22dt2x22111";
+const KINDS: &str = "s2qa22h22dt2xp2111";
 
 // Gives one byte at a time, and fails at a read.
 #[derive(Drop)]

@@ -8,8 +8,9 @@ use crate::fault::Fault;
 use crate::new_rows::NewRows;
 use crate::plain::Plain;
 use crate::plain::faults::turn_fault;
-use crate::plain::names::query_called;
-use crate::resolve::number_of;
+use crate::plain::lookup::{number_of, query_called};
+use envelope::Slope;
+use plan::{Chart, Kind};
 use values::Row;
 
 impl Answering for Plain {
@@ -26,13 +27,13 @@ impl Answering for Plain {
     }
 
     #[tactic(auto, unfolding(crate::specs::World::register_step))]
-    fn query(&mut self, name: &str, text: &str) -> Result<u64, Fault> {
+    fn query(&mut self, name: &str, text: &str, chart: Option<&Chart>) -> Result<u64, Fault> {
         if let Some(fault) = self.register_fault(name) {
             return Err(fault);
         }
-        match self.find(text) {
+        match self.find(text, chart) {
             Err(fault) => Err(fault),
-            Ok(found) => Ok(self.register(name, found)?),
+            Ok(plan) => Ok(self.register(name, plan)?),
         }
     }
 
@@ -78,6 +79,14 @@ impl Answering for Plain {
         }
         self.drop_out(query);
         Ok(())
+    }
+
+    #[tactic(auto, unfolding(crate::specs::World::slopes_at))]
+    fn slopes(&self, query: u64) -> Result<Vec<(Kind, Slope)>, Fault> {
+        match self.query_at(query) {
+            Some(query) => Ok(query.operators(self.alloc)?),
+            None => Err(Fault::UnknownQuery),
+        }
     }
 
     #[tactic(auto, unfolding(crate::specs::World::stream_named))]

@@ -1,4 +1,5 @@
 //! What an accepted call changes.
+ghost use Rattle.std.specs.List.{list_all};
 ghost use Rattle.std.specs.Prelude.{◌≡◌, IfOk, OnOk, OnErr, None, length, min, true, [], ◌∷◌, ◌++◌, nat_abs, drop, take, map};
 ghost use Rattle.reference.specs.Commands.{first_fault, after, change, registered_as, Declare, Append, Heartbeat, Take, Drop};
 ghost use Rattle.reference.specs.CallViews.{texts_of, handed_of};
@@ -6,26 +7,30 @@ ghost use Rattle.reference.specs.World.{handed, waiting_at, untaken};
 ghost use Rattle.reference.specs.PlainViews.{machine_in, world_of};
 ghost use Rattle.reference.specs.Standing.{found_of, query_of, waiting_of, fresh_of};
 ghost use Rattle.reference.specs.Places.{machine_of};
-ghost use Rattle.reference.specs.Sound.{has_narrow_rows, all_slide};
+ghost use Rattle.names.specs.Sound.{has_narrow_rows, all_slide};
+ghost use Rattle.names.specs.Views.{names_of};
+ghost use Rattle.cql_reader.specs.Lexis.{is_name};
 
 use crate::new_rows::NewRows;
 use crate::plain::Plain;
-use crate::resolve::Found;
 use crate::standing::StandingQuery;
 use crate::stream::Stream;
+use cql_reader::Name;
+use plan::Plan;
 use std::alloc::{AllocError, Global};
 use values::Row;
 
-/// The names once more.
-fn copy_names(alloc: Global, names: &[String]) -> Result<Vec<String>, AllocError>
-    ensures names { IfOk result (λ v. texts_of v.items ≡ texts_of names.now) }
-    ensures len { IfOk result (λ v. length v.items ≡ length names.now) }
+/// The names of these texts.
+fn names_of(alloc: Global, texts: &[String]) -> Result<Vec<Name>, AllocError>
+    requires { list_all is_name (texts_of texts.now) ≡ true }
+    ensures names { IfOk result (λ v. names_of v.items ≡ texts_of texts.now) }
+    ensures len { IfOk result (λ v. length v.items ≡ length texts.now) }
 {
-    let mut copy = Vec::new(alloc);
-    for name in names {
-        copy.push(name.clone()?)?;
+    let mut names = Vec::new(alloc);
+    for text in texts {
+        names.push(Name::new(text.as_str().as_bytes()))?;
     }
-    Ok(copy)
+    Ok(names)
 }
 
 impl Plain {
@@ -41,26 +46,26 @@ impl Plain {
         ensures ok { OnOk result (world_of self.new ≡ record (world_of self.old) { machine = after (machine_in self.old) (Declare name.now (texts_of columns.now) from) 0 }) }
         ensures err { OnErr result (world_of self.new ≡ world_of self.old) }
     {
-        let name = String::from_str(self.alloc, name)?;
-        let columns = copy_names(self.alloc, columns)?;
+        let columns = names_of(self.alloc, columns)?;
         self.streams.reserve(1)?;
         let number = self.streams.len() as u64;
-        self.streams
-            .push_reserved(Stream::new(self.alloc, name, columns, from as u64));
+        let name = Name::new(name.as_bytes());
+        let stream = Stream::new(self.alloc, name, columns, from as u64);
+        self.streams.push_reserved(stream);
         Ok(number)
     }
 
     /// Adds a query and answers its number. On Err all is as it was.
-    pub(crate) fn register(&mut self, name: &str, found: Found) -> Result<u64, AllocError>
-        requires fits { has_narrow_rows found.meaning.shape ≡ true }
-        requires sources { length found.meaning.windows.items ≡ length found.streams.items }
-        requires slides { all_slide found.meaning.windows.items ≡ true }
+    pub(crate) fn register(&mut self, name: &str, plan: Plan) -> Result<u64, AllocError>
+        requires fits { has_narrow_rows plan.meaning.shape ≡ true }
+        requires sources { length plan.meaning.windows.items ≡ length plan.streams.items }
+        requires slides { all_slide plan.meaning.windows.items ≡ true }
         ensures number { IfOk result (λ n. n ≡ length self.old.queries.items) }
-        ensures ok { OnOk result (world_of self.new ≡ record { machine = record (machine_in self.old) { queries = (machine_in self.old).queries ++ registered_as (machine_in self.old) name.now (found_of found) ∷ [] }; waiting = (world_of self.old).waiting ++ [] ∷ [] }) }
+        ensures ok { OnOk result (world_of self.new ≡ record { machine = record (machine_in self.old) { queries = (machine_in self.old).queries ++ registered_as (machine_in self.old) name.now (found_of plan) ∷ [] }; waiting = (world_of self.old).waiting ++ [] ∷ [] }) }
         ensures err { OnErr result (world_of self.new ≡ world_of self.old) }
     {
         let name = String::from_str(self.alloc, name)?;
-        let query = StandingQuery::new(self.alloc, &self.streams, name, found)?;
+        let query = StandingQuery::new(self.alloc, &self.streams, name, plan)?;
         self.queries.reserve(1)?;
         let number = self.queries.len() as u64;
         self.queries.push_reserved(query);

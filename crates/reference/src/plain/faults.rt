@@ -1,6 +1,7 @@
 //! The first test that a call fails.
 ghost use Rattle.std.specs.Prelude.{◌≡◌, IfSome, MatchOption, None, Some, slice_get, map, count_by, not};
 ghost use Rattle.reference.specs.Commands.{first_fault, first_of, register_tests, Declare, Append, Heartbeat, Take, Drop};
+ghost use Rattle.reference.specs.Machine.{query_at};
 ghost use Rattle.reference.specs.World.{drain_fault};
 ghost use Rattle.reference.specs.CallViews.{texts_of};
 ghost use Rattle.reference.specs.PlainViews.{machine_in};
@@ -11,8 +12,7 @@ use crate::fault::Fault;
 use crate::limits::{MAX_INSTANT, MAX_QUERIES, MAX_REGISTRATIONS, MAX_STREAMS, MAX_TAKE, MAX_TURN};
 use crate::new_rows::NewRows;
 use crate::plain::Plain;
-use crate::plain::names::{are_columns, query_called};
-use crate::resolve::number_of;
+use crate::plain::lookup::{are_columns, number_of, query_called};
 use crate::standing::StandingQuery;
 use crate::stream::Stream;
 use cql_reader::is_name;
@@ -95,6 +95,16 @@ impl Plain {
             return Some(Fault::BadLimit);
         }
         None
+    }
+
+    /// The query of a number, if it was not dropped.
+    pub(crate) fn query_at(&self, number: u64) -> Option<&StandingQuery>
+        ensures { MatchOption result (query_at (machine_in self.now) number ≡ None) (λ q. query_at (machine_in self.now) number ≡ Some (query_of q.now)) }
+    {
+        match self.queries.get(number as usize) {
+            Some(query) if !query.is_dropped() => Some(query),
+            _ => None,
+        }
     }
 
     pub(crate) fn drop_fault(&self, query: u64) -> Option<Fault>

@@ -1,48 +1,100 @@
 //! What the text of a query means.
-ghost use Rattle.std.specs.Prelude.{◌≡◌, ◌≤◌, IfOk, length, true, sum, Ok};
+ghost use Rattle.std.specs.Prelude.{◌≡◌, ◌≤◌, ℤ, IfOk, length, true, Option, Result, List};
+ghost use Rattle.std.specs.List.{AllByRecursion};
+ghost use Rattle.std.specs.Option.{option_copied};
+ghost use Rattle.cql_reader.specs.Coded.{Tells};
+ghost use Rattle.cql_reader.specs.Fault as text;
 ghost use Rattle.cql_reader.specs.Query as syntax;
-ghost use Rattle.reference.specs.Commands.{catalog_of, found, found_of};
-ghost use Rattle.reference.specs.Finds.{Finds};
+ghost use Rattle.cql_reader.specs.Views.{query_of};
+ghost use Rattle.cql_reader.specs.WellFormed.{IsWellFormed};
+ghost use Rattle.names.specs.Catalog as catalogs;
+ghost use Rattle.names.specs.Sound.{has_narrow_rows, all_slide};
+ghost use Rattle.plan.specs.Chart.{given_by};
+ghost use Rattle.plan.specs.Faults.{first_fault};
+ghost use Rattle.plan.specs.Told.{Told};
+ghost use Rattle.reference.specs.Commands.{catalog_of, found, found_by, found_of};
+ghost use Rattle.reference.specs.Finds.{Finds, FindsFault};
 ghost use Rattle.reference.specs.PlainViews.{machine_in};
-ghost use Rattle.reference.specs.Sound.{has_narrow_rows, all_slide};
 
 use crate::fault::{Fault, QueryFault};
 use crate::plain::Plain;
-use crate::resolve::{Found, meaning_of, numbers_of, widths_of};
+use crate::stream::Stream;
 use cql_reader::{Query, ReadFault, read};
+use names::Catalog;
+use plan::{Chart, Plan, PlanFault, plan};
+use std::alloc::{AllocError, Global};
+
+/// A text that was not read is refused for this.
+fn text_fault(fault: ReadFault) -> Fault
+    ensures { (catalog : List catalogs.Stream) (given : Option (List (ℤ × ℤ))) (defined : Result syntax.Query text.Fault) → Tells defined fault → FindsFault (found_of catalog given defined) result }
+{
+    match fault {
+        ReadFault::OutOfMemory => Fault::OutOfMemory,
+        ReadFault::TextTooLong => Fault::Query(QueryFault::TextTooLong),
+        ReadFault::NotAscii => Fault::Query(QueryFault::NotAscii),
+        ReadFault::BadToken(place) => Fault::Query(QueryFault::BadToken(place)),
+        ReadFault::Unexpected(place) => Fault::Query(QueryFault::Unexpected(place)),
+        ReadFault::NumberRange(place) => Fault::Query(QueryFault::NumberRange(place)),
+        ReadFault::TooDeep(place) => Fault::Query(QueryFault::TooDeep(place)),
+    }
+}
+
+/// A query that was not planned is refused for this.
+#[tactic(auto, unfolding(crate::specs::Commands::found_by))]
+fn plan_fault(fault: PlanFault) -> Fault
+    ensures { (catalog : List catalogs.Stream) (given : Option (List (ℤ × ℤ))) (q : syntax.Query) → Told fault (first_fault q catalog given) → FindsFault (found_by catalog given q) result }
+{
+    match fault {
+        PlanFault::OutOfMemory => Fault::OutOfMemory,
+        PlanFault::UnknownStream => Fault::Query(QueryFault::UnknownStream),
+        PlanFault::UnknownColumn => Fault::Query(QueryFault::UnknownColumn),
+        PlanFault::AmbiguousColumn => Fault::Query(QueryFault::AmbiguousColumn),
+        PlanFault::DuplicateAlias => Fault::Query(QueryFault::DuplicateAlias),
+        PlanFault::NoJoinKey => Fault::Query(QueryFault::NoJoinKey),
+        PlanFault::NotGrouped => Fault::Query(QueryFault::NotGrouped),
+        PlanFault::TooWide => Fault::Query(QueryFault::TooWide),
+        PlanFault::BadChart => Fault::Query(QueryFault::BadChart),
+    }
+}
+
+/// The names of the streams.
+fn catalog_of(alloc: Global, streams: &[Stream]) -> Result<Catalog, AllocError>
+    ensures catalog { IfOk result (λ c. c ≡ catalog_of streams.now) }
+    ensures few { IfOk result (λ c. AllByRecursion (λ s. length s.columns ≤ 8) c) }
+{
+    let mut catalog = Catalog::new(alloc);
+    for stream in streams {
+        stream.declare_in(alloc, &mut catalog)?;
+    }
+    Ok(catalog)
+}
 
 impl Plain {
-    /// What the text means over the declared streams.
-    pub(crate) fn find(&self, text: &str) -> Result<Found, Fault>
-        ensures finds { Finds (found (machine_in self.now) text.now) result }
-        ensures fits { IfOk result (λ f. has_narrow_rows f.meaning.shape ≡ true) }
-        ensures sources { IfOk result (λ f. length f.meaning.windows.items ≡ length f.streams.items) }
-        ensures slides { IfOk result (λ f. all_slide f.meaning.windows.items ≡ true) }
+    /// The plan of the text over the declared streams.
+    pub(crate) fn find(&self, text: &str, chart: Option<&Chart>) -> Result<Plan, Fault>
+        ensures finds { Finds (found (machine_in self.now) text.now (given_by (option_copied chart.entry))) result }
+        ensures fits { IfOk result (λ p. has_narrow_rows p.meaning.shape ≡ true) }
+        ensures sources { IfOk result (λ p. length p.meaning.windows.items ≡ length p.streams.items) }
+        ensures slides { IfOk result (λ p. all_slide p.meaning.windows.items ≡ true) }
     {
         match read(self.alloc, text.as_bytes()) {
-            Ok(query) => self.resolve(&query),
-            Err(ReadFault::OutOfMemory) => Err(Fault::OutOfMemory),
-            Err(ReadFault::TextTooLong) => Err(Fault::Query(QueryFault::TextTooLong)),
-            Err(ReadFault::NotAscii) => Err(Fault::Query(QueryFault::NotAscii)),
-            Err(ReadFault::BadToken(place)) => Err(Fault::Query(QueryFault::BadToken(place))),
-            Err(ReadFault::Unexpected(place)) => Err(Fault::Query(QueryFault::Unexpected(place))),
-            Err(ReadFault::NumberRange(place)) => Err(Fault::Query(QueryFault::NumberRange(place))),
+            Ok(query) => self.plan(&query, chart),
+            Err(fault) => Err(text_fault(fault)),
         }
     }
 
-    /// What a query with one source means over the declared streams.
-    fn resolve(&self, query: &Query) -> Result<Found, Fault>
-        requires { length query.now.sources.items ≡ 1 }
-        ensures finds { Finds (found_of (catalog_of self.now.streams.items) (Ok (syntax.query_of query.now))) result }
-        ensures fits { IfOk result (λ f. has_narrow_rows f.meaning.shape ≡ true) }
-        ensures sources { IfOk result (λ f. length f.meaning.windows.items ≡ length f.streams.items) }
-        ensures slides { IfOk result (λ f. all_slide f.meaning.windows.items ≡ true) }
+    /// The plan of the query over the declared streams.
+    fn plan(&self, query: &Query, chart: Option<&Chart>) -> Result<Plan, Fault>
+        requires { IsWellFormed (query_of query.now) }
+        ensures finds { Finds (found_by (catalog_of self.now.streams.items) (given_by (option_copied chart.entry)) (query_of query.now)) result }
+        ensures fits { IfOk result (λ p. has_narrow_rows p.meaning.shape ≡ true) }
+        ensures sources { IfOk result (λ p. length p.meaning.windows.items ≡ length p.streams.items) }
+        ensures slides { IfOk result (λ p. all_slide p.meaning.windows.items ≡ true) }
     {
-        let Some(streams) = numbers_of(self.alloc, &self.streams, &query.sources)? else {
-            return Err(Fault::Query(QueryFault::UnknownStream));
-        };
-        let widths = widths_of(self.alloc, &self.streams, &streams)?;
-        let meaning = meaning_of(self.alloc, query, &widths)?;
-        Ok(Found { streams, meaning })
+        let catalog = catalog_of(self.alloc, &self.streams)?;
+        match plan(self.alloc, query, &catalog, chart) {
+            Ok(plan) => Ok(plan),
+            Err(fault) => Err(plan_fault(fault)),
+        }
     }
 }

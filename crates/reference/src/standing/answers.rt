@@ -29,7 +29,7 @@ impl StandingQuery {
     {
         let inputs = inputs_at(alloc, streams, self.first, &self.places)?;
         let until = until_for(streams, &self.places);
-        evaluate(alloc, &self.meaning, self.first, until, &inputs)
+        evaluate(alloc, &self.plan.meaning, self.first, until, &inputs)
     }
 
     /// Its answers that are closed and not yet taken.

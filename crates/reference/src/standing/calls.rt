@@ -7,15 +7,15 @@ ghost use Rattle.reference.specs.Commands as commands;
 ghost use Rattle.reference.specs.Commands.{registered_as, took};
 ghost use Rattle.reference.specs.World.{handed};
 ghost use Rattle.reference.specs.CallViews.{handed_of};
-ghost use Rattle.reference.specs.Sound.{has_narrow_rows, all_slide};
+ghost use Rattle.names.specs.Sound.{has_narrow_rows, all_slide};
 ghost use Rattle.reference.specs.Places.{machine_of};
 ghost use Rattle.reference.specs.Standing.{query_of, waiting_of, found_of};
 ghost use Rattle.reference.specs.Views.{pairs_of};
 
 use crate::place::{first_for, places_of};
-use crate::resolve::Found;
 use crate::standing::StandingQuery;
 use crate::stream::Stream;
+use plan::Plan;
 use std::alloc::{AllocError, Global};
 use std::collections::VecDeque;
 use values::Row;
@@ -26,19 +26,19 @@ impl StandingQuery {
         alloc: Global,
         streams: &[Stream],
         name: String,
-        found: Found,
+        plan: Plan,
     ) -> Result<StandingQuery, AllocError>
-        requires fits { has_narrow_rows found.meaning.shape ≡ true }
-        requires sources { length found.meaning.windows.items ≡ length found.streams.items }
-        requires slides { all_slide found.meaning.windows.items ≡ true }
-        ensures query { IfOk result (λ q. query_of q ≡ registered_as (machine_of streams.now) (string_bytes name) (found_of found)) }
+        requires fits { has_narrow_rows plan.meaning.shape ≡ true }
+        requires sources { length plan.meaning.windows.items ≡ length plan.streams.items }
+        requires slides { all_slide plan.meaning.windows.items ≡ true }
+        ensures query { IfOk result (λ q. query_of q ≡ registered_as (machine_of streams.now) (string_bytes name) (found_of plan)) }
         ensures waiting { IfOk result (λ q. waiting_of q ≡ []) }
     {
-        let places = places_of(alloc, streams, &found.streams)?;
+        let places = places_of(alloc, streams, &plan.streams)?;
         let first = first_for(streams, &places);
         Ok(StandingQuery {
             name,
-            meaning: found.meaning,
+            plan,
             places,
             first,
             taken: 0,

@@ -1,7 +1,7 @@
 use Rattle.std.proofs.Common.{◌++◌, ◌∙◌, ap, sym, codes}
 use Rattle.reference.specs.CallViews.{handed_of}
 use Rattle.reference.specs.FaultTexts.{fault_text, fault_name, place_text}
-use Rattle.wire.specs.Printed.{line_of, answer_of, rows, error_line}
+use Rattle.wire.specs.Printed.{line_of, answer_of, rows, operators, error_line}
 use Rattle.wire.proofs.Printing.{writes_both, write_text}
 use Rattle.wire.proofs.reply.add_reply.Goals as goal
 
@@ -15,6 +15,13 @@ returns-in-Rows g c =
     write_text (line_of (answer_of c.args.reply.now))
     (ap (λ l. line_of (rows (handed_of l))) c.deref.ensures.value ∙ sym (ap (λ r. line_of (answer_of r)) c.in-Rows.is))
     (writes_both {x = codes "{\"ok\":true,\"rows\":["} c.add-in-Rows.ensures (writes_both c.add_rows.ensures c.add-in-Rows-2.ensures))
+
+pub returns-in-Operators : goal.returns-in-Operators
+unfolding line_of
+returns-in-Operators g c =
+    write_text (line_of (answer_of c.args.reply.now))
+    (ap (λ l. line_of (operators l)) c.deref-in-Operators.ensures.value ∙ sym (ap (λ r. line_of (answer_of r)) c.in-Operators.is))
+    (writes_both {x = codes "{\"ok\":true,\"operators\":["} c.add-in-Operators.ensures (writes_both c.add_operators.ensures c.add-in-Operators-2.ensures))
 
 pub returns-in-Refused : goal.returns-in-Refused
 unfolding line_of fault_text

@@ -16,6 +16,6 @@ returns-clause-ok c =
     let p = c.args.self.now in
     let items : c.push_reserved.new.self.items ≡ p.queries.items ++ c.in_ok-query.query ∷ []
     = c.push_reserved.ensures.items ∙ ap (λ (qs : List StandingQuery). qs ++ c.in_ok-query.query ∷ []) c.in_ok-reserve.ensures.items in
-    let named : query_of c.in_ok-query.query ≡ registered_as (machine_of p.streams.items) c.args.name.now (found_of c.args.found)
-    = (rw c.deref.ensures.value at c.in_ok-query.ensures.query) ∙ ap (λ (n : List ℕ). registered_as (machine_of p.streams.items) n (found_of c.args.found)) c.in_ok-name.ensures.ok in
+    let named : query_of c.in_ok-query.query ≡ registered_as (machine_of p.streams.items) c.args.name.now (found_of c.args.plan)
+    = (rw c.deref.ensures.value at c.in_ok-query.ensures.query) ∙ ap (λ (n : List ℕ). registered_as (machine_of p.streams.items) n (found_of c.args.plan)) c.in_ok-name.ensures.ok in
     ap (made p.streams.items) items ∙ registered_world p.streams.items p.queries.items c.in_ok-query.query _ named c.in_ok-query.ensures.waiting

@@ -13,12 +13,12 @@ returns-clause-answers c =
     let shown = rw c.deref.ensures.value at c.in_ok-inputs.ensures.inputs in
     let «end» = rw c.deref-2.ensures.value at c.until_for-until.ensures.least in
     if_ok
-    (λ v h. h ∙ ap (λ u. answers (resolved_of q.meaning) q.first u (inputs_of c.in_ok-inputs.inputs.items)) «end»
-    ∙ sym (answers-same (resolved_of q.meaning) q.first (until_for c.args.streams.now (map place_of q.places.items))
+    (λ v h. h ∙ ap (λ u. answers (resolved_of q.plan.meaning) q.first u (inputs_of c.in_ok-inputs.inputs.items)) «end»
+    ∙ sym (answers-same (resolved_of q.plan.meaning) q.first (until_for c.args.streams.now (map place_of q.places.items))
     (map (input_at c.args.streams.now q.first) (map place_of q.places.items)) (inputs_of c.in_ok-inputs.inputs.items) shown))
     c.evaluate.result (rw c.deref-3.ensures.value at c.evaluate.ensures)
 
 pub returns-clause-instants : goal.returns-clause-instants
 returns-clause-instants c =
     let q = c.args.self.now in
-    if_ok (λ v h. rw h (answers-signed (resolved_of q.meaning) q.first c.until_for-until.result _ c.until_for-until.ensures.range)) c.evaluate.result c.evaluate.ensures
+    if_ok (λ v h. rw h (answers-signed (resolved_of q.plan.meaning) q.first c.until_for-until.result _ c.until_for-until.ensures.range)) c.evaluate.result c.evaluate.ensures

@@ -1,0 +1,34 @@
+//! The operators of a registered query.
+ghost use Rattle.std.specs.Prelude.{◌≡◌, IfOk, map};
+ghost use Rattle.std.specs.List.{zip};
+ghost use Rattle.plan.specs.Kinds.{kind_of};
+ghost use Rattle.plan.specs.Views.{nodes_of};
+ghost use Rattle.reference.specs.Standing.{query_of};
+ghost use Rattle.reference.specs.World.{operators_of};
+
+use crate::standing::StandingQuery;
+use envelope::Slope;
+use plan::{Kind, Node, slopes};
+use std::alloc::{AllocError, Global};
+
+impl StandingQuery {
+    /// What each of its operators does, and its slope.
+    #[tactic(auto, unfolding(crate::specs::World::operators_of))]
+    pub(crate) fn operators(&self, alloc: Global) -> Result<Vec<(Kind, Slope)>, AllocError>
+        ensures { IfOk result (λ v. v.items ≡ operators_of (query_of self.now)) }
+    {
+        let slopes = slopes(alloc, &self.plan)?;
+        paired(alloc, &self.plan.nodes, &slopes)
+    }
+}
+
+/// What each operator does, beside its slope.
+fn paired(alloc: Global, nodes: &[Node], slopes: &[Slope]) -> Result<Vec<(Kind, Slope)>, AllocError>
+    ensures { IfOk result (λ v. v.items ≡ zip (map kind_of (nodes_of nodes.now)) slopes.now) }
+{
+    let mut operators = Vec::new(alloc);
+    for i in 0..nodes.len().min(slopes.len()) {
+        operators.push((nodes[i].kind(), slopes[i]))?;
+    }
+    Ok(operators)
+}

@@ -1,6 +1,6 @@
-use plan::{Chart, Plan, fits_a_row, plan, slopes};
 use cql_reader::{Condition, Entries, Name, Operand, Query, Reference, Source, Window};
 use names::Catalog;
+use plan::{Chart, Plan, fits_a_row, plan, slopes};
 use std::alloc::{AllocError, Global};
 use std::test::Fail;
 use values::{Compare, Operator};

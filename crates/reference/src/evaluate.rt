@@ -14,5 +14,3 @@ mod window;
 
 pub use answers::evaluate;
 
-#[cfg(test)]
-mod tests;

@@ -1,7 +1,8 @@
 //! Laws of answers that hold for every query and every input.
-ghost use Rattle.std.specs.Prelude.{◌≡◌, ◌≤◌, ◌<◌, ℕ, List, ◌++◌};
+ghost use Rattle.std.specs.Prelude.{◌≡◌, ◌≤◌, ◌<◌, ℕ, List, ◌++◌, map};
 ghost use Rattle.values.specs.Row.{Row};
-ghost use Rattle.values.specs.Window.{Element};
+ghost use Rattle.values.specs.Arrivals.{AllSameAtInstants, AllReordered, AllByInstants};
+ghost use Rattle.values.specs.Window.{Element, numbered};
 ghost use Rattle.values.specs.Answers.{Resolved, answers, shown_at};
 ghost use Rattle.values.proofs.Worlds.{SameTables};
 ghost use Rattle.values.proofs.Closed.{Longer};
@@ -19,4 +20,16 @@ pub fn equal_window_bags_have_equal_answers()
 /// Elements that come later, at instants that are not closed yet, change no answer of a closed instant.
 pub fn later_elements_change_no_closed_answer()
     ensures { (q : Resolved) (start : ℕ) (until : ℕ) (inputs : List (List Element)) (longer : List (List Element)) → Longer until inputs longer → answers q start until inputs ≡ answers q start until longer }
+{}
+
+/// The order in which elements came matters within an instant alone: inputs in which the elements of each instant came in the
+/// same order have the same answers.
+pub fn order_of_arrival_matters_within_an_instant_alone()
+    ensures { (q : Resolved) (start : ℕ) (until : ℕ) (inputs : List (List (ℕ × Row))) (others : List (List (ℕ × Row))) → AllSameAtInstants inputs others → answers q start until (map (numbered 0) inputs) ≡ answers q start until (map (numbered 0) others) }
+{}
+
+/// And there it matters to windows of last rows alone: where no window of the query is one, inputs of the same elements in
+/// whatever order have the same answers.
+pub fn order_of_arrival_matters_to_last_rows_alone()
+    ensures { (q : Resolved) (start : ℕ) (until : ℕ) (inputs : List (List (ℕ × Row))) (others : List (List (ℕ × Row))) → AllByInstants q.windows → AllReordered inputs others → answers q start until (map (numbered 0) inputs) ≡ answers q start until (map (numbered 0) others) }
 {}

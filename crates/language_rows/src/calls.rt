@@ -1,7 +1,4 @@
-use crate::answering::Answering;
-use crate::fault::{Fault, QueryFault};
-use crate::new_rows::NewRows;
-use crate::plain::Plain;
+use reference::{Answering, Fault, NewRows, Plain, QueryFault};
 use std::alloc::{AllocError, Global};
 use std::process::Abort;
 use std::test::Fail;

@@ -10,4 +10,5 @@ pub mod Condition
 pub mod Relation
 pub mod Answers
 pub mod Resolved
+pub mod Arrivals
 pub mod Examples

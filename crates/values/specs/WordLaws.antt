@@ -1,5 +1,5 @@
 -- A value goes to its word and back.
-use Rattle.std.proofs.Common.{ℤ, ◌≡◌, refl, sym, Some, None, cond, Option, Bool, true, false}
+use Rattle.std.proofs.Common.{ℤ, ◌≡◌, refl, sym, Some, None, cond, Bool, true, false}
 use Rattle.std.specs.Ordering.{int_eq}
 use Rattle.std.proofs.lemmas.Bool.Decides.{Decides-int_eq}
 use Rattle.values.specs.Word.{null_word, value_of_word, word_of_value}

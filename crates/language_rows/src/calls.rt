@@ -1,7 +1,12 @@
-use reference::{Answering, Fault, NewRows, Plain, QueryFault};
+use cql_reader::{Name, read};
+use names::{Catalog, resolve};
+use plan::{Chart, fits_a_row};
+use reference::{Answering, Fault, NewRows, Plain, QueryFault, answers};
 use std::alloc::{AllocError, Global};
+use std::fmt::Write;
 use std::process::Abort;
 use std::test::Fail;
+use values::{Row, Value};
 
 const ISTREAM: &str = "Select Istream(*) From S [Now]";
 
@@ -166,5 +171,55 @@ fn faults_are_told_by_number_and_name(rt: HostRuntime) -> Result<(), Fail> {
     );
     assert_eq!(rt; place.name(), "Q3 BadToken");
     assert_eq!(rt; place.place(), Some(30));
+    Ok(())
+}
+
+// A row of one number.
+fn row(number: i128) -> Row {
+    let mut row = Row::new();
+    row.push(Value::clamped(number));
+    row
+}
+
+#[test]
+fn answers_are_those_of_the_closed_instants(rt: HostRuntime) -> Result<(), Fail> {
+    let alloc = rt.alloc();
+    let mut catalog = Catalog::new(alloc);
+    catalog.declare(Name::new(b"S"), vec![in alloc; Name::new(b"a")]?)?;
+    let query = read(alloc, ISTREAM.as_bytes())?;
+    let mut inputs = Vec::new(alloc);
+    inputs.push(vec![in alloc; (3, row(7)), (1, row(5)), (3, row(6)), (4, row(8))]?)?;
+    assert!(rt; fits_a_row(&query, &catalog));
+    assert!(rt; query.sources.len() == inputs.len());
+    let named = resolve(alloc, &query, &catalog)?;
+    assert_eq!(rt; named.streams.len(), 1);
+    let mut text = String::new(alloc);
+    for (at, row) in &answers(alloc, &query, &catalog, &inputs, -1, 3)? {
+        write!(text, "{at}:")?;
+        for value in row.as_slice() {
+            write!(text, " {value}")?;
+        }
+        write!(text, "; ")?;
+    }
+    assert_eq!(rt; text.as_str(), "1: 5; 3: 6; 3: 7; ");
+    Ok(())
+}
+
+#[test]
+fn slopes_are_those_of_the_chart(rt: HostRuntime) -> Result<(), Fail> {
+    let alloc = rt.alloc();
+    let mut plain = engine(&rt, alloc)?;
+    let chart = Chart {
+        operators: vec![in alloc; (1, 900_000), (1, 100_000), (1, 0)]?,
+    };
+    assert_eq!(rt; plain.query("r", ISTREAM, Some(&chart))?, 1);
+    let mut text = String::new(alloc);
+    for (kind, slope) in &plain.slopes(1)? {
+        write!(text, "{kind} {slope}; ")?;
+    }
+    assert_eq!(rt; text.as_str(), "Window 450000/1; Project 450000/1; ToStream 100000/1; ");
+    assert_eq!(rt; fault_of(plain.slopes(2)), Some(Fault::UnknownQuery));
+    plain.drop_query(1)?;
+    assert_eq!(rt; fault_of(plain.slopes(1)), Some(Fault::UnknownQuery));
     Ok(())
 }

@@ -31,7 +31,7 @@ fn three(alloc: Global) -> Result<Batch, AllocError>
 }
 
 /// Whether a batch has just these rows; past a row's end is null.
-pub fn shows(batch: &Batch, rows: &[(bool, [Option<i64>; 3])]) -> bool {
+pub(crate) fn shows(batch: &Batch, rows: &[(bool, [Option<i64>; 3])]) -> bool {
     if batch.len() != rows.len() {
         return false;
     }

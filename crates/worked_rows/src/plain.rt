@@ -3,7 +3,7 @@
 use lane_kernels::Comparison;
 use values::Value;
 
-pub fn compared(x: Value, how: Comparison, y: Value) -> Option<bool> {
+pub(crate) fn compared(x: Value, how: Comparison, y: Value) -> Option<bool> {
     let (x, y) = (x.number()?, y.number()?);
     Some(match how {
         Comparison::Equal => x == y,
@@ -15,11 +15,11 @@ pub fn compared(x: Value, how: Comparison, y: Value) -> Option<bool> {
     })
 }
 
-pub fn not(a: Option<bool>) -> Option<bool> {
+pub(crate) fn not(a: Option<bool>) -> Option<bool> {
     Some(!a?)
 }
 
-pub fn and(a: Option<bool>, b: Option<bool>) -> Option<bool> {
+pub(crate) fn and(a: Option<bool>, b: Option<bool>) -> Option<bool> {
     match (a, b) {
         (Some(false), _) => Some(false),
         (_, Some(false)) => Some(false),
@@ -28,6 +28,6 @@ pub fn and(a: Option<bool>, b: Option<bool>) -> Option<bool> {
     }
 }
 
-pub fn or(a: Option<bool>, b: Option<bool>) -> Option<bool> {
+pub(crate) fn or(a: Option<bool>, b: Option<bool>) -> Option<bool> {
     not(and(not(a), not(b)))
 }

@@ -9,7 +9,7 @@ use values::Value;
 pub const LENGTHS: [usize; 9] = [0, 1, 7, 8, 9, 63, 64, 65, 1024];
 
 /// A number from -11 to 11, or null at one place in five; the samples of another factor differ.
-pub fn sample(i: usize, factor: usize) -> Value {
+pub(crate) fn sample(i: usize, factor: usize) -> Value {
     if i.wrapping_add(factor) % 5 == 0 {
         Value::null()
     } else {
@@ -18,7 +18,7 @@ pub fn sample(i: usize, factor: usize) -> Value {
 }
 
 /// The samples of a factor at the first `count` places.
-pub fn samples(alloc: Global, count: usize, factor: usize) -> Result<Column, AllocError>
+pub(crate) fn samples(alloc: Global, count: usize, factor: usize) -> Result<Column, AllocError>
     requires { count ≤ 1024 }
     ensures { IfOk result (λ c. length c ≡ count) }
 {
@@ -30,7 +30,7 @@ pub fn samples(alloc: Global, count: usize, factor: usize) -> Result<Column, All
 }
 
 /// The numbers 1 to `count`, with a null at one place.
-pub fn counted(alloc: Global, count: usize, null_at: usize) -> Result<Column, AllocError>
+pub(crate) fn counted(alloc: Global, count: usize, null_at: usize) -> Result<Column, AllocError>
     requires { count ≤ 1024 }
     ensures { IfOk result (λ c. length c ≡ count) }
 {
@@ -47,7 +47,7 @@ pub fn counted(alloc: Global, count: usize, null_at: usize) -> Result<Column, Al
 }
 
 /// Whether the bit at a place is set.
-pub fn bit(words: &[u64], i: usize) -> bool {
+pub(crate) fn bit(words: &[u64], i: usize) -> bool {
     match words.get(i / 64) {
         Some(word) => *word >> (i % 64) & 1 == 1,
         None => false,
@@ -55,7 +55,7 @@ pub fn bit(words: &[u64], i: usize) -> bool {
 }
 
 /// The truth at a place.
-pub fn truth_at(truth: &[u64], known: &[u64], i: usize) -> Option<bool> {
+pub(crate) fn truth_at(truth: &[u64], known: &[u64], i: usize) -> Option<bool> {
     if bit(known, i) {
         Some(bit(truth, i))
     } else {
@@ -64,7 +64,7 @@ pub fn truth_at(truth: &[u64], known: &[u64], i: usize) -> Option<bool> {
 }
 
 /// Whether a true place is a known one, and no place from `count` on is known.
-pub fn is_well_formed(truth: &[u64], known: &[u64], count: usize) -> bool {
+pub(crate) fn is_well_formed(truth: &[u64], known: &[u64], count: usize) -> bool {
     for i in 0..1100 {
         if bit(truth, i) && !bit(known, i) || i >= count && bit(known, i) {
             return false;

@@ -177,7 +177,6 @@ fn resolved_query_has_its_streams_widths_and_keys(rt: HostRuntime) -> Result<(),
 #[test]
 fn catalog_finds_streams_by_name(rt: HostRuntime) -> Result<(), Fail> {
     let catalog = catalog(rt.alloc())?;
-    assert_eq!(rt; (catalog.len(), catalog.is_empty()), (3, false));
     assert_eq!(rt; catalog.number_of(b"B"), Some(2));
     assert_eq!(rt; catalog.number_of(b"Z"), None);
     assert_eq!(rt; catalog.columns_of(b"B").len(), 2);

@@ -1,5 +1,5 @@
 //! The declared streams that a query may name.
-ghost use Rattle.std.specs.Prelude.{◌≡◌, ◌==◌, [], ◌∷◌, ◌++◌, OnOk, OnErr, length, map, position};
+ghost use Rattle.std.specs.Prelude.{◌≡◌, [], ◌∷◌, ◌++◌, OnOk, OnErr, map, position};
 ghost use Rattle.std.specs.Str.{bytes_eq};
 ghost use Rattle.cql_reader.specs.Views.{name_of};
 ghost use Rattle.names.specs.Catalog.{number_in, columns_in};
@@ -61,20 +61,6 @@ impl Catalog {
     {
         self.streams.push(Declared { name, columns })?;
         Ok(())
-    }
-
-    /// How many streams there are.
-    pub fn len(&self) -> usize
-        ensures { result ≡ length self.now }
-    {
-        self.streams.len()
-    }
-
-    /// Whether there is no stream.
-    pub fn is_empty(&self) -> bool
-        ensures { result ≡ (length self.now == 0) }
-    {
-        self.streams.is_empty()
     }
 
     /// The number of the stream of a name; None where no stream has it.

@@ -8,4 +8,5 @@ pub mod Faults
 pub mod Told
 pub mod Laws
 pub mod Paths
+pub mod Examples
 pub mod PathExamples

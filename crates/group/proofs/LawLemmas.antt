@@ -18,7 +18,7 @@ use Rattle.op_queue.proofs.SignedLemmas.{weigh-append, Same-refl, Same-sym, Same
 use Rattle.group.specs.declared.cells.Figure.{Figure}
 use Rattle.group.specs.Groups.{GroupBy, grouped, key_in, no_columns}
 use Rattle.group.specs.Cells.{Held, held, held_cmp, TallyState, CellState, cell_zero, cell_after, showing, figures, shown_figure}
-use Rattle.group.specs.Turns.{GroupState, cell_of, row_key, row_after, rows_after, TouchedState, ShownState, excerpt, near_at, row_now, fitted, same_shown, signed_row, swap_of, outputs, shown_now, shown_after, first_touched, beginning}
+use Rattle.group.specs.Turns.{GroupState, cell_of, row_key, row_after, rows_after, TouchedState, ShownState, excerpt, near_at, row_now, fitted, same_shown, signed_row, swap_of, outputs, shown_now, shown_after, first_touched, beginning, closed_state}
 use Rattle.group.specs.Laws.{count, members, keys_at, is_key, row_of, AllTally, Counts, shown_list, shown_rows, touched_keys, IsWide, Stands}
 use Rattle.group.proofs.KeyLemmas.{held_order, same_key, same_turned, cell-taken_in}
 use Rattle.group.proofs.BagLemmas.{row_is, row_itself, any_count, count_any, weigh-filter, count-filter, reread, flat_map-append, flat_map-chosen, turns_leave, turns_enter, turns_parts, after_row}
@@ -260,10 +260,6 @@ no_counts k = refl
 none_sorted : IsStrictlySortedBy held_cmp []
 unfolding IsStrictlySortedBy
 none_sorted = tt
-
--- the state in which these groups show these rows, and none is touched
-abbrev pub closed_state : GroupState → List ShownState → GroupState
-closed_state s cs = record { group = s.group; cells = fold (shown_after (length s.group.items)) s.cells cs; touched = [] }
 
 closed_stands : (s : GroupState) (o b : List Row) → Stands s o b → weigh (λ x. 1) b ≤ 2 ^ 62 → Stands (closed_state s (showns (λ k. row_now s.group (excerpt s.group.items k (cell_of (length s.group.items) k s.cells))) s.touched)) (grouped s.group b) b
 closed_stands s o b h small = record {

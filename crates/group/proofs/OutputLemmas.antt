@@ -72,9 +72,9 @@ batches_more items item rows instant from to h e =
     let f : List SignedRow → List (Entry Row) = λ rs. map (RowAt instant) (map signed rs) in
     let part = take (to - from) (drop from rows) in
     let split : f part ++ f (drop to rows) ≡ f (drop from rows) =
-        sym (ap (map (RowAt instant)) (map-append signed part (drop to rows)) ∙ map-append (RowAt instant) (map signed part) (map signed (drop to rows)))
-        ∙ ap (λ (rs : List SignedRow). f (part ++ rs)) (sym (drop_sum from (to - from) to rows (omega (arith, h))))
-        ∙ ap f (take-append-drop (to - from) (drop from rows)) in
+    sym (ap (map (RowAt instant)) (map-append signed part (drop to rows)) ∙ map-append (RowAt instant) (map signed part) (map signed (drop to rows)))
+    ∙ ap (λ (rs : List SignedRow). f (part ++ rs)) (sym (drop_sum from (to - from) to rows (omega (arith, h))))
+    ∙ ap f (take-append-drop (to - from) (drop from rows)) in
     ap (λ (es : List (Entry Row)). es ++ f (drop to rows)) (flat_map-append entries_of items (item ∷ []) ∙ ap (λ (es : List (Entry Row)). flat_map entries_of items ++ es) (append-nil (entries_of item) ∙ e))
     ∙ append_assoc (flat_map entries_of items) (f part) (f (drop to rows))
     ∙ ap (λ (es : List (Entry Row)). flat_map entries_of items ++ es) split

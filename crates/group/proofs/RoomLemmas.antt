@@ -1,5 +1,5 @@
 -- Each row takes a little of the room that counts and sums have.
-use Rattle.std.proofs.Common.{◌≡◌, ℕ, ℤ, zero, suc, ◌+◌, ◌-◌, ◌*◌, ◌^◌, ◌<◌, ◌≤◌, ◌+ℤ◌, ◌≤ℤ◌, neg_ℤ, pos, Bool, true, false, cond, nat_lt, Option, Some, None, unwrap_or, List, [], ◌∷◌, map, length, get_or, replicate, refl, sym, ap, subst, ◌∙◌, arith}
+use Rattle.std.proofs.Common.{◌≡◌, ℕ, ℤ, zero, suc, ◌+◌, ◌-◌, ◌*◌, ◌^◌, ◌<◌, ◌≤◌, ◌+ℤ◌, ◌≤ℤ◌, neg_ℤ, pos, Bool, true, false, cond, nat_lt, Option, Some, None, unwrap_or, List, [], ◌∷◌, map, length, fold, get_or, replicate, refl, sym, ap, subst, ◌∙◌, arith}
 use Rattle.std.specs.List.{All}
 use Rattle.std.specs.Option.{is_some, IfSome, IsSome}
 use Rattle.std.specs.Map.{lookup, set_value, remove_entry, values_of}
@@ -13,9 +13,12 @@ use Rattle.values.specs.Row.{Row, value_cmp}
 use Rattle.values.specs.Value.{IsAnswerValue, IsAnswerNumber, answer_max}
 use Rattle.values.specs.declared.resolved.Item.{Item}
 use Rattle.values.specs.declared.resolved.Item.TheVariants.{Key}
-use Rattle.group.specs.Cells.{Held, held_cmp, Values, count_of, one_more, one_less, values_by, TallyState, tally_zero, tally_by, tally_after, partly, tallies_after, keeps, number_of, signed_by, CellState, cell_zero, cell_after, TallyRoom, CellRoom, ReadsInRange}
-use Rattle.group.specs.Turns.{GroupState, cell_of, taken_in, row_key, row_after, HasRoom}
-use Rattle.group.proofs.KeyLemmas.{cell-taken_in}
+use Rattle.group.specs.Cells.{Held, held_cmp, Values, count_of, one_more, one_less, values_by, TallyState, tally_zero, tally_by, tally_after, partly, tallies_after, keeps, number_of, signed_by, CellState, cell_zero, cell_after, showing, TallyRoom, CellRoom, ReadsInRange}
+use Rattle.op_queue.specs.declared.item.Item as queue
+use Rattle.op_queue.specs.declared.item.Item.TheVariants.{Rows, Tick}
+use Rattle.group.specs.Groups.{GroupBy}
+use Rattle.group.specs.Turns.{RoomFor, beginning, GroupState, has_key, cell_of, with_cell, taken_in, shown_at, shown_after, row_key, row_after, ShownState, closed_state, CountsUpTo, KeepsRoom}
+use Rattle.std.proofs.lemmas.List.{length-replicate}
 use Rattle.group.proofs.TallyLemmas.{length-partly}
 
 -- COUNTS OF VALUES
@@ -29,17 +32,17 @@ count_of-le m v es h = or_zero m (lookup (is_at (value_cmp v)) es) (IfSome-looku
 all_le : (m n : ℕ) (xs : List ℕ) → m ≤ n → All (λ x. x ≤ m) xs → All (λ x. x ≤ n) xs
 all_le m n xs h a = λ k d lt. omega (arith, h, a k d lt)
 
-values_room : (n : ℕ) (enters kept : Bool) (v : Option ℤ) (es : Values) → All (λ m. m ≤ 2 ^ 62 + n) (values_of es) → All (λ m. m ≤ 2 ^ 62 + (n + 1)) (values_of (cond kept (values_by enters v es) es))
+values_room : (n : ℕ) (enters kept : Bool) (v : Option ℤ) (es : Values) → All (λ m. m ≤ n) (values_of es) → All (λ m. m ≤ n + 1) (values_of (cond kept (values_by enters v es) es))
 values_room n enters false v es h = all_le _ _ (values_of es) (omega arith) h
-values_room n true true v es h = All-values-insert_entry value_cmp v (count_of v es + 1) (λ m. m ≤ 2 ^ 62 + (n + 1)) es (all_le _ _ (values_of es) (omega arith) h) (omega (arith, count_of-le (2 ^ 62 + n) v es h))
+values_room n true true v es h = All-values-insert_entry value_cmp v (count_of v es + 1) (λ m. m ≤ n + 1) es (all_le _ _ (values_of es) (omega arith) h) (omega (arith, count_of-le n v es h))
 values_room n false true v es h = here (nat_lt 1 (count_of v es))
   where
-    more : All (λ m. m ≤ 2 ^ 62 + (n + 1)) (values_of es)
-    more = all_le (2 ^ 62 + n) (2 ^ 62 + (n + 1)) (values_of es) (omega arith) h
+    more : All (λ m. m ≤ n + 1) (values_of es)
+    more = all_le n (n + 1) (values_of es) (omega arith) h
 
-    here : (b : Bool) → All (λ m. m ≤ 2 ^ 62 + (n + 1)) (values_of (cond b (set_value (is_at (value_cmp v)) es (count_of v es - 1)) (remove_entry (is_at (value_cmp v)) es)))
-    here true = All-values-set_value (is_at (value_cmp v)) (λ m. m ≤ 2 ^ 62 + (n + 1)) es (count_of v es - 1) more (omega (arith, count_of-le (2 ^ 62 + n) v es h))
-    here false = All-map-remove_entry (is_at (value_cmp v)) (λ e. e.1) (λ m. m ≤ 2 ^ 62 + (n + 1)) es more
+    here : (b : Bool) → All (λ m. m ≤ n + 1) (values_of (cond b (set_value (is_at (value_cmp v)) es (count_of v es - 1)) (remove_entry (is_at (value_cmp v)) es)))
+    here true = All-values-set_value (is_at (value_cmp v)) (λ m. m ≤ n + 1) es (count_of v es - 1) more (omega (arith, count_of-le n v es h))
+    here false = All-map-remove_entry (is_at (value_cmp v)) (λ e. e.1) (λ m. m ≤ n + 1) es more
 
 -- A TALLY
 within_le : (m n : ℕ) (z : ℤ) → m ≤ n → IsWithin m z → IsWithin n z
@@ -57,16 +60,16 @@ answer_within z w = let l : neg_ℤ answer_max ≤ℤ z = w.0 in let u : z ≤�
 
 pub tally_room_le : (m n : ℕ) (t : TallyState) → m ≤ n → TallyRoom m t → TallyRoom n t
 tally_room_le m n t h r = record {
-  numbers = within_le (2 ^ 62 + m) (2 ^ 62 + n) t.numbers (omega arith) r.numbers;
-  total = within_le (2 ^ 125 + m * 2 ^ 63) (2 ^ 125 + n * 2 ^ 63) t.total (omega arith) r.total;
-  values = all_le (2 ^ 62 + m) (2 ^ 62 + n) (values_of t.values) (omega arith) r.values;
+  numbers = within_le m n t.numbers h r.numbers;
+  total = within_le (m * 2 ^ 63) (n * 2 ^ 63) t.total (omega (arith, h)) r.total;
+  values = all_le m n (values_of t.values) h r.values;
 }
 
 tally_room : (n : ℕ) (enters kept : Bool) (v : Option ℤ) (t : TallyState) → IsAnswerValue v → TallyRoom n t → TallyRoom (n + 1) (tally_by enters kept v t)
 tally_room n enters kept None t h r = tally_room_le n (n + 1) t (omega arith) r
 tally_room n enters kept (Some z) t h r = record {
-  numbers = within_le (2 ^ 62 + n + 1) (2 ^ 62 + (n + 1)) _ (omega arith) (within_add (2 ^ 62 + n) 1 t.numbers (signed_by enters (pos 1)) r.numbers (signed_within 1 enters (pos 1) one_within));
-  total = within_le (2 ^ 125 + n * 2 ^ 63 + 2 ^ 63) (2 ^ 125 + (n + 1) * 2 ^ 63) _ (omega arith) (within_add (2 ^ 125 + n * 2 ^ 63) (2 ^ 63) t.total (signed_by enters z) r.total (signed_within (2 ^ 63) enters z (answer_within z h)));
+  numbers = within_add n 1 t.numbers (signed_by enters (pos 1)) r.numbers (signed_within 1 enters (pos 1) one_within);
+  total = within_le (n * 2 ^ 63 + 2 ^ 63) ((n + 1) * 2 ^ 63) _ (omega arith) (within_add (n * 2 ^ 63) (2 ^ 63) t.total (signed_by enters z) r.total (signed_within (2 ^ 63) enters z (answer_within z h)));
   values = values_room n enters kept (Some z) t.values r.values;
 }
 
@@ -86,25 +89,78 @@ tallies_room n s (i ∷ is) (t ∷ ts) l h a =
 
 pub cell_room_le : (m n : ℕ) (is : List Item) (c : CellState) → m ≤ n → CellRoom m is c → CellRoom n is c
 cell_room_le m n is c h r = record {
-  rows = within_le (2 ^ 62 + m) (2 ^ 62 + n) c.rows (omega arith) r.rows;
+  rows = within_le m n c.rows h r.rows;
   aligned = r.aligned;
   tallies = λ k d lt. tally_room_le m n _ h (r.tallies k d lt);
 }
 
 cell_room : (n : ℕ) (is : List Item) (c : CellState) (s : Bool × Row) → ReadsInRange is s → CellRoom n is c → CellRoom (n + 1) is (cell_after is c s)
 cell_room n is c s h r = record {
-  rows = within_le (2 ^ 62 + n + 1) (2 ^ 62 + (n + 1)) _ (omega arith) (within_add (2 ^ 62 + n) 1 c.rows (signed_by s.0 (pos 1)) r.rows (signed_within 1 s.0 (pos 1) one_within));
+  rows = within_add n 1 c.rows (signed_by s.0 (pos 1)) r.rows (signed_within 1 s.0 (pos 1) one_within);
   aligned = length-partly s (length is) is c.tallies ∙ r.aligned;
   tallies = tallies_room n s is c.tallies r.aligned h r.tallies;
 }
 
--- after a row each group has room for one row less
-pub room_after : (n : ℕ) (s : GroupState) (r : Bool × Row) → ((k : Held) → CellRoom n s.group.items (cell_of (length s.group.items) k s.cells)) → ReadsInRange s.group.items r → (k : Held) → CellRoom (n + 1) s.group.items (cell_of (length s.group.items) k (row_after s r).cells)
-room_after n s r h range k =
-    let is = s.group.items in
-    let key = row_key s.group r in
-    subst (CellRoom (n + 1) is) (sym (cell-taken_in is key k r s.cells)) (here (is_eq (held_cmp key k)))
+nought_within : (n : ℕ) → IsWithin n (pos 0)
+nought_within n = record { low = omega (arith, ints); high = omega (arith, ints) }
+
+zero_tallies : (n m : ℕ) → All (TallyRoom n) (replicate m tally_zero)
+zero_tallies n zero = λ k d lt. absurd (omega (arith, lt))
+zero_tallies n (suc m) = first_and (TallyRoom n) tally_zero (replicate m tally_zero) (record { numbers = nought_within n; total = nought_within (n * 2 ^ 63); values = λ k d lt. absurd (omega (arith, lt)) }) (zero_tallies n m)
+
+pub zero_room : (n : ℕ) (is : List Item) → CellRoom n is (cell_zero (length is))
+zero_room n is = record { rows = nought_within n; aligned = length-replicate (length is) tally_zero; tallies = zero_tallies n (length is) }
+
+-- ALL GROUPS
+or_room : (n : ℕ) (is : List Item) (o : Option CellState) → IfSome o (CellRoom n is) → CellRoom n is (unwrap_or o (cell_zero (length is)))
+or_room n is None h = zero_room n is
+or_room n is (Some c) h = h
+
+pub room_at : (n : ℕ) (is : List Item) (k : Held) (es : List (Held × CellState)) → All (CellRoom n is) (values_of es) → CellRoom n is (cell_of (length is) k es)
+room_at n is k es h = or_room n is (lookup (is_at (held_cmp k)) es) (IfSome-lookup_from_All (CellRoom n is) (is_at (held_cmp k)) es h)
+
+pub all_room_le : (m n : ℕ) (is : List Item) (es : List (Held × CellState)) → m ≤ n → All (CellRoom m is) (values_of es) → All (CellRoom n is) (values_of es)
+all_room_le m n is es h a = λ k d lt. cell_room_le m n is _ h (a k d lt)
+
+with_room : (n : ℕ) (is : List Item) (k : Held) (c d : CellState) (es : List (Held × CellState)) → All (CellRoom n is) (values_of es) → CellRoom n is c → CellRoom n is d → All (CellRoom n is) (values_of (with_cell k c d es))
+with_room n is k c d es h p q = here (has_key k es)
   where
-    here : (b : Bool) → CellRoom (n + 1) s.group.items (cond b (cell_after s.group.items (cell_of (length s.group.items) (row_key s.group r) s.cells) r) (cell_of (length s.group.items) k s.cells))
-    here true = cell_room n s.group.items (cell_of (length s.group.items) (row_key s.group r) s.cells) r range (h (row_key s.group r))
-    here false = cell_room_le n (n + 1) s.group.items (cell_of (length s.group.items) k s.cells) (omega arith) (h k)
+    here : (b : Bool) → All (CellRoom n is) (values_of (cond b (set_value (is_at (held_cmp k)) es c) (insert_entry held_cmp es k d)))
+    here true = All-values-set_value (is_at (held_cmp k)) (CellRoom n is) es c h p
+    here false = All-values-insert_entry held_cmp k d (CellRoom n is) es h q
+
+-- after a row
+pub room_after : (n : ℕ) (s : GroupState) (r : Bool × Row) → ReadsInRange s.group.items r → CountsUpTo n s → CountsUpTo (n + 1) (row_after s r)
+room_after n s r range h =
+    let is = s.group.items in
+    let k = row_key s.group r in
+    with_room (n + 1) is k (cell_after is (cell_of (length is) k s.cells) r) (cell_after is (cell_zero (length is)) r) s.cells
+    (all_room_le n (n + 1) is s.cells (omega arith) h)
+    (cell_room n is (cell_of (length is) k s.cells) r range (room_at n is k s.cells h))
+    (cell_room n is (cell_zero (length is)) r range (zero_room n is))
+
+showing_room : (n : ℕ) (is : List Item) (c : CellState) (o : Option Held) → CellRoom n is c → CellRoom n is (showing c o)
+showing_room n is c o h = record { rows = h.rows; aligned = h.aligned; tallies = h.tallies }
+
+shown_room : (n : ℕ) (is : List Item) (k : Held) (o : Option Held) (es : List (Held × CellState)) → All (CellRoom n is) (values_of es) → All (CellRoom n is) (values_of (shown_at (length is) k o es))
+shown_room n is k None es h = All-map-remove_entry (is_at (held_cmp k)) (λ e. e.1) (CellRoom n is) es h
+shown_room n is k (Some r) es h =
+    with_room n is k (showing (cell_of (length is) k es) (Some r)) (showing (cell_zero (length is)) (Some r)) es h
+    (showing_room n is (cell_of (length is) k es) (Some r) (room_at n is k es h)) (showing_room n is (cell_zero (length is)) (Some r) (zero_room n is))
+
+closing_room : (n : ℕ) (is : List Item) (cs : List ShownState) (es : List (Held × CellState)) → All (CellRoom n is) (values_of es) → All (CellRoom n is) (values_of (fold (shown_after (length is)) es cs))
+closing_room n is [] es h = h
+closing_room n is (c ∷ cs) es h = closing_room n is cs (shown_at (length is) c.key c.row es) (shown_room n is c.key c.row es h)
+
+-- after a tick
+pub room_closed : (s : GroupState) (cs : List ShownState) → KeepsRoom s (closed_state s cs)
+room_closed s cs n h = all_room_le n (n + 1024) s.group.items (fold (shown_after (length s.group.items)) s.cells cs) (omega arith) (closing_room n s.group.items cs s.cells h)
+
+-- at the beginning
+pub room_begins : (n : ℕ) (g : GroupBy) → CountsUpTo n (beginning g)
+room_begins n g = λ k d lt. absurd (omega (arith, lt))
+
+-- where there is room for a batch there is room for any item
+pub room_for : (n : ℕ) (s : GroupState) (i : queue.Item) → n ≤ 2 ^ 62 → CountsUpTo n s → RoomFor s i
+room_for n s (Rows t b) h a = all_room_le n (2 ^ 62) s.group.items s.cells h a
+room_for n s (Tick t) h a = tt

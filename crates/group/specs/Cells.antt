@@ -157,15 +157,14 @@ abbrev pub shown_figure : Figure → Option ℤ
 shown_figure f = clamped_or f.value f.number
 
 -- ROOM
-
--- after n more rows the counts and the sum still fit, where they began within 2^62 rows
+-- the counts and the sum are those of at most n rows
 pub record TallyRoom (n : ℕ) (t : TallyState) : Type 0 where
-  pub numbers : IsWithin (2 ^ 62 + n) t.numbers
-  pub total : IsWithin (2 ^ 125 + n * 2 ^ 63) t.total
-  pub values : All (λ m. m ≤ 2 ^ 62 + n) (values_of t.values)
+  pub numbers : IsWithin n t.numbers
+  pub total : IsWithin (n * 2 ^ 63) t.total
+  pub values : All (λ m. m ≤ n) (values_of t.values)
 
 pub record CellRoom (n : ℕ) (is : List Item) (c : CellState) : Type 0 where
-  pub rows : IsWithin (2 ^ 62 + n) c.rows
+  pub rows : IsWithin n c.rows
   pub aligned : length c.tallies ≡ length is
   pub tallies : All (TallyRoom n) c.tallies
 

@@ -2,10 +2,10 @@
 use Rattle.std.specs.Prelude.{ℕ, suc, ◌+◌, ◌<◌, ◌≤◌, ◌≡◌, ◌^◌, ℤ, pos, Option, Some, None, unwrap_or, List, [], ◌∷◌, ◌++◌, map, length, fold, Bool, true, false, cond, ◌||◌}
 use Rattle.std.specs.Option.{is_some, option_to_list, option_map}
 use Rattle.std.specs.Ordering.{int_cmp, is_lt}
-use Rattle.std.specs.Map.{lookup, set_value, remove_entry}
+use Rattle.std.specs.Map.{lookup, set_value, remove_entry, values_of}
 use Rattle.std.specs.BTreeMap.{is_at, insert_entry}
 use Rattle.std.specs.BTreeSet.{insert_key}
-use Rattle.std.specs.List.{range_with_len}
+use Rattle.std.specs.List.{All, range_with_len}
 use Rattle.values.specs.Row.{Row, row_cmp, same_row, value_at}
 use Rattle.values.specs.declared.resolved.Column.{Column}
 use Rattle.values.specs.declared.resolved.Item.{Item}
@@ -135,14 +135,24 @@ shown_at n k (Some r) es = shown_in n k r es
 abbrev pub shown_after : ℕ → List (Held × CellState) → ShownState → List (Held × CellState)
 shown_after n es c = shown_at n c.key c.row es
 
+-- the groups show these rows, and none is touched
+abbrev pub closed_state : GroupState → List ShownState → GroupState
+closed_state s cs = record { group = s.group; cells = fold (shown_after (length s.group.items)) s.cells cs; touched = [] }
+
 abbrev pub next : GroupState → queue.Item → List ShownState → GroupState
 next s (Rows t b) cs = rows_after s b
-next s (Tick t) cs = record { group = s.group; cells = fold (shown_after (length s.group.items)) s.cells cs; touched = [] }
+next s (Tick t) cs = closed_state s cs
 
--- each group has room for a batch
-abbrev pub HasRoom : GroupState → Type 0
-HasRoom s = (k : Held) → CellRoom 0 s.group.items (cell_of (length s.group.items) k s.cells)
+-- ROOM
+-- no group has counts of more than n rows
+abbrev pub CountsUpTo : ℕ → GroupState → Type 0
+CountsUpTo n s = All (CellRoom n s.group.items) (values_of s.cells)
 
+-- at rows the groups count at most 2^62: so there is room for the batch
 abbrev pub RoomFor : GroupState → queue.Item → Type 0
-RoomFor s (Rows t b) = HasRoom s
+RoomFor s (Rows t b) = CountsUpTo (2 ^ 62) s
 RoomFor s (Tick t) = Unit {0}
+
+-- after a turn no group counts more than a batch beyond what it did
+abbrev pub KeepsRoom : GroupState → GroupState → Type 0
+KeepsRoom old new = (n : ℕ) → CountsUpTo n old → CountsUpTo (n + 1024) new

@@ -106,7 +106,7 @@ fn counted(count: i64, enters: bool) -> i64
 
 /// The sum after a number entered or left.
 fn summed(total: i128, enters: bool, number: i64) -> i128
-    requires { IsWithin (2 ^ 125 + 1024 * 2 ^ 63) total }
+    requires { IsWithin ((2 ^ 62 + 1024) * 2 ^ 63) total }
     ensures { result ≡ total +ℤ signed_by enters number }
 {
     if enters {
@@ -147,7 +147,7 @@ impl Tally {
 
     /// A number enters or leaves: it is counted and summed.
     fn count(&mut self, enters: bool, number: i64)
-        requires { TallyRoom 1024 self.old }
+        requires { TallyRoom (2 ^ 62 + 1024) self.old }
         ensures { self.new ≡ tally_by enters false (Some number) self.old }
     {
         self.numbers = counted(self.numbers, enters);
@@ -165,7 +165,7 @@ impl Tally {
 
     /// A row with this value enters or leaves.
     fn take(&mut self, enters: bool, keeps: bool, value: Value) -> Result<(), AllocError>
-        requires { TallyRoom 1024 self.old }
+        requires { TallyRoom (2 ^ 62 + 1024) self.old }
         ensures tally { OnOk result (self.new ≡ tally_by enters keeps value self.old) }
         ensures range { OnOk result (IsAnswerValue value) }
     {
@@ -279,7 +279,7 @@ impl Model for Cell {
 /// A row enters or leaves: each tally takes it.
 fn take_tallies(tallies: &mut Vec<Tally>, items: &[Item], row: &SignedRow) -> Result<(), AllocError>
     requires aligned { length tallies.old.items ≡ length items.now }
-    requires room { All (TallyRoom 1024) tallies.old.items }
+    requires room { All (TallyRoom (2 ^ 62 + 1024)) tallies.old.items }
     ensures tallies { OnOk result (tallies.new.items ≡ tallies_after (signed row.now) items.now tallies.old.items) }
     ensures range { OnOk result (ReadsInRange items.now (signed row.now)) }
 {
@@ -327,7 +327,7 @@ impl Cell {
 
     /// A row of the group enters or leaves.
     pub(crate) fn take(&mut self, items: &[Item], row: &SignedRow) -> Result<(), AllocError>
-        requires { CellRoom 1024 items.now self.old }
+        requires { CellRoom (2 ^ 62 + 1024) items.now self.old }
         ensures cell { OnOk result (self.new ≡ cell_after items.now self.old (signed row.now)) }
         ensures range { OnOk result (ReadsInRange items.now (signed row.now)) }
     {
@@ -344,7 +344,12 @@ impl Cell {
     }
 
     /// The exact figures, one for each item of the list.
-    pub(crate) fn figures(&self, alloc: Global, items: &[Item], key: &Row) -> Result<Vec<Figure>, AllocError>
+    pub(crate) fn figures(
+        &self,
+        alloc: Global,
+        items: &[Item],
+        key: &Row,
+    ) -> Result<Vec<Figure>, AllocError>
         ensures figures { IfOk result (λ fs. fs.items ≡ figures key.now.items self.now.rows items.now self.now.tallies) }
         ensures few { IfOk result (λ fs. length fs.items ≤ length items.now) }
     {

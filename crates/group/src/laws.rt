@@ -7,5 +7,4 @@ ghost use Rattle.group.specs.Laws.{Laws};
 /// groups of all columns are Distinct.
 pub fn groups_keep_their_laws()
     ensures { Laws }
-{
-}
+{}

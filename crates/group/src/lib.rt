@@ -16,3 +16,6 @@ pub use laws::groups_keep_their_laws;
 pub use shape::GroupBy;
 pub use state::Group;
 pub use turn::{Change, Near, work};
+
+#[cfg(test)]
+mod tests;

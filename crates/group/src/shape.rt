@@ -35,7 +35,7 @@ impl GroupBy {
         requires items { length items.items ≤ MAX_COLUMNS }
         ensures { result ≡ record { by = by.items; items = items.items } }
     {
-        GroupBy { by, items }
+        Self { by, items }
     }
 
     /// Distinct over rows of this many columns: the groups of all columns, which list their key.

@@ -249,6 +249,17 @@ fn work_at(
     Ok((items, Change { shown }))
 }
 
+/// No outputs, and no change of what is shown.
+fn nothing(alloc: Global) -> (Vec<Item>, Change)
+    ensures outputs { result.0.items ≡ [] }
+    ensures change { result.1 ≡ [] }
+{
+    let change = Change {
+        shown: Vec::new(alloc),
+    };
+    (Vec::new(alloc), change)
+}
+
 /// The outputs and the change of a turn, from its item and excerpt alone.
 ///
 /// At a tick each touched group whose row differs from the one that was shown puts that one out with minus and its own with plus;
@@ -263,12 +274,7 @@ pub fn work(
     ensures change { IfOk result (λ w. w.1 ≡ change group.now item.now near.now) }
 {
     match item {
-        Item::Rows(_, _) => Ok((
-            Vec::new(alloc),
-            Change {
-                shown: Vec::new(alloc),
-            },
-        )),
+        Item::Rows(_, _) => Ok(nothing(alloc)),
         Item::Tick(at) => {
             let done = work_at(alloc, group, *at, &near.groups)?;
             Ok(done)

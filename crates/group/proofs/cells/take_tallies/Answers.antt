@@ -1,4 +1,4 @@
-use Rattle.std.proofs.Common.{◌≡◌, ◌∙◌, ◌<◌, ◌+◌, suc, sym, ap, subst, arith, length, get_or, slice_index_or, slice_set, List}
+use Rattle.std.proofs.Common.{◌≡◌, ◌∙◌, ◌<◌, ◌+◌, ◌^◌, suc, sym, ap, subst, arith, length, get_or, slice_index_or, slice_set, List}
 use Rattle.values.specs.declared.resolved.Item.{Item}
 use Rattle.values.specs.declared.resolved.Item.TheVariants.{Key}
 use Rattle.values.specs.Value.{IsAnswerValue}
@@ -17,7 +17,7 @@ take-requires c =
     let ts = c.args.tallies.now.items in
     let x = c.index_mut.result.now in
     let e : x ≡ slice_index_or ts c.loop-place.place x = c.index_mut.ensures.value ∙ ap (λ (us : List TallyState). slice_index_or us c.loop-place.place x) c.loop-place.invariant.done ∙ partly-at (signed c.args.row.now) c.loop-place.place c.args.items.now ts x in
-    subst (TallyRoom 1024) (sym e) (c.requires.room c.loop-place.place x (omega (arith, c.requires.aligned, c.loop-place-test.true)))
+    subst (TallyRoom (2 ^ 62 + 1024)) (sym e) (c.requires.room c.loop-place.place x (omega (arith, c.requires.aligned, c.loop-place-test.true)))
 
 pub loop-place-preserved : goal.loop-place-preserved
 loop-place-preserved c =
@@ -30,10 +30,10 @@ loop-place-preserved c =
     let i = get_or is p (Key 0) in
     let more : suc p ≡ p + 1 = omega arith in
     let taken : c.take.new.self ≡ tally_after s i (get_or ts p x) =
-        c.in_ok-take.ensures.tally
-        ∙ ap (λ k. tally_by s.0 k c.number_of.result x) c.keeps.ensures
-        ∙ ap (λ v. tally_by s.0 (keeps i) v x) c.number_of.ensures
-        ∙ ap (λ (t : TallyState). tally_after s i t) e in
+    c.in_ok-take.ensures.tally
+    ∙ ap (λ k. tally_by s.0 k c.number_of.result x) c.keeps.ensures
+    ∙ ap (λ v. tally_by s.0 (keeps i) v x) c.number_of.ensures
+    ∙ ap (λ (t : TallyState). tally_after s i t) e in
     let here : IsAnswerValue (number_of i c.args.row.now.row.items) = subst IsAnswerValue c.number_of.ensures c.in_ok-take.ensures.range in
     record {
       done =

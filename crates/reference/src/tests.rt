@@ -221,7 +221,10 @@ fn slopes_are_those_of_the_chart(rt: HostRuntime) -> Result<(), Fail> {
     for (kind, slope) in &plain.slopes(1)? {
         write!(text, "{kind} {slope}; ")?;
     }
-    assert_eq!(rt; text.as_str(), "Window 450000/1; Project 450000/1; ToStream 100000/1; ");
+    assert_eq!(rt;
+        text.as_str(),
+        "Window 450000/1; Project 450000/1; ToStream 100000/1; "
+    );
     assert_eq!(rt; fault_of(plain.slopes(2)), Some(Fault::UnknownQuery));
     plain.drop_query(1)?;
     assert_eq!(rt; fault_of(plain.slopes(1)), Some(Fault::UnknownQuery));

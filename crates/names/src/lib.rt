@@ -19,4 +19,3 @@ pub use laws::matches_bear_the_name;
 pub use meaning::{Named, resolve};
 pub use split::Key;
 pub use streams::Catalog;
-

@@ -13,4 +13,3 @@ mod group;
 mod window;
 
 pub use answers::evaluate;
-

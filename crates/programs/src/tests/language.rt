@@ -213,7 +213,7 @@ const REFUSED: [Registered; 12] = [
 ];
 
 // The operators of a query, each with its slope.
-const PLANNED: [Registered; 7] = [
+const PLANNED: [Registered; 9] = [
     Registered {
         streams: S_A,
         query: "Select Istream(*) From S [Now]",
@@ -243,6 +243,18 @@ const PLANNED: [Registered; 7] = [
         query: "Select Istream(*) From S [Now]",
         chart: r#","chart":[[1,0],[1,0],[1,0]]"#,
         reply: r#"["Window","1000000/1"],["Project","0/1"],["ToStream","0/1"]"#,
+    },
+    Registered {
+        streams: S_A,
+        query: "Select Istream(*) From S [Now]",
+        chart: r#","chart":[[2,1000000],[3,1000000],[2,0]]"#,
+        reply: r#"["Window","1000000/7"],["Project","1000000/7"],["ToStream","1000000/7"]"#,
+    },
+    Registered {
+        streams: A_K_B_KV,
+        query: "Select Istream(A.k, B.v) From A [Now], B [Now] Where A.k = B.k",
+        chart: "",
+        reply: r#"["Window","125000/1"],["Window","125000/1"],["Join","125000/1"],["Project","125000/1"],["ToStream","125000/1"]"#,
     },
     Registered {
         streams: A_K_B_KV,
@@ -329,14 +341,14 @@ fn a_plan_shows_its_operators_and_their_slopes(rt: HostRuntime) -> Result<(), Fa
             last.as_str(),
         )?;
     }
-    let none = "{\"op\":\"plan\",\"query\":\"r\"}\n";
-    expect_last(
-        &rt,
-        alloc,
-        &PLANNED[0],
-        none,
-        "\"error\":\"E6 UnknownQuery\"",
-    )
+    let unknown = "\"error\":\"E6 UnknownQuery\"";
+    for lines in [
+        "{\"op\":\"plan\",\"query\":\"r\"}\n",
+        "{\"op\":\"drop\",\"query\":\"q\"}\n{\"op\":\"plan\",\"query\":\"q\"}\n",
+    ] {
+        expect_last(&rt, alloc, &PLANNED[0], lines, unknown)?;
+    }
+    Ok(())
 }
 
 #[test]
@@ -403,5 +415,39 @@ const JOINED_REPLIES: &str = r#"{"ok":true}
 #[test]
 fn a_join_goes_on_as_its_streams_are_closed(rt: HostRuntime) {
     let (input, replies) = (JOINED.as_bytes(), JOINED_REPLIES.as_bytes());
+    expect_run(&rt, rt.alloc(), "--plain", input, 0, replies);
+}
+
+const CLOSED_APART: &str = r#"{"op":"stream","name":"A","columns":["k"],"from":0}
+{"op":"stream","name":"B","columns":["k"],"from":0}
+{"op":"query","name":"q","text":"Select Istream(A.k) From A [Now], B [Now] Where A.k = B.k"}
+{"op":"append","stream":"A","rows":[[2,1],[7,1]]}
+{"op":"append","stream":"B","rows":[[2,1],[7,1]]}
+{"op":"heartbeat","stream":"A","at":9}
+{"op":"heartbeat","stream":"B","at":4}
+{"op":"drain"}
+{"op":"take","query":"q","limit":100}
+{"op":"heartbeat","stream":"B","at":9}
+{"op":"drain"}
+{"op":"take","query":"q","limit":100}
+"#;
+
+const CLOSED_APART_REPLIES: &str = r#"{"ok":true}
+{"ok":true}
+{"ok":true}
+{"ok":true}
+{"ok":true}
+{"ok":true}
+{"ok":true}
+{"ok":true}
+{"ok":true,"rows":[[2,1]]}
+{"ok":true}
+{"ok":true}
+{"ok":true,"rows":[[7,1]]}
+"#;
+
+#[test]
+fn a_join_is_answered_where_both_streams_are_closed(rt: HostRuntime) {
+    let (input, replies) = (CLOSED_APART.as_bytes(), CLOSED_APART_REPLIES.as_bytes());
     expect_run(&rt, rt.alloc(), "--plain", input, 0, replies);
 }

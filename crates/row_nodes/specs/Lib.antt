@@ -2,3 +2,4 @@ pub mod Steps
 pub mod Select
 pub mod Project
 pub mod Laws
+pub mod Examples

@@ -2,3 +2,4 @@ pub mod Widths
 pub mod Range
 pub mod Latest
 pub mod Laws
+pub mod Examples

@@ -1,0 +1,55 @@
+-- The definitions at worked rows.
+use Rattle.std.specs.Prelude.{◌≡◌, ℕ, Bool, true, false, None, Some, pos, List, [], ◌∷◌, refl}
+use Rattle.values.specs.Row.{Row}
+use Rattle.op_queue.specs.Entries.{RowAt, TickAt}
+use Rattle.op_queue.specs.declared.item.Item.TheVariants.{Rows, Tick}
+use Rattle.windows.specs.Latest as latest
+use Rattle.windows.specs.Range as range
+
+abbrev one : ℕ → Row
+one n = Some (pos n) ∷ []
+
+abbrev two : ℕ → ℕ → Row
+two m n = Some (pos m) ∷ Some (pos n) ∷ []
+
+abbrev enters : Row → Bool × Row
+enters r = (true, r)
+
+abbrev leaves : Row → Bool × Row
+leaves r = (false, r)
+
+-- Range 2 with rows of the instants 1, 2 and 4: at the tick of 4 the row of 1 leaves
+abbrev window : range.RangeState
+window = record { span = Some 2; width = 1; held = (1, one 7) ∷ (2, one 8) ∷ (4, one 9) ∷ [] }
+
+older_leave : range.out (Tick 4) (range.near window (Tick 4)) ≡ RowAt 4 (leaves (one 7)) ∷ TickAt 4 ∷ []
+older_leave = refl
+
+newer_stay : range.next window (Tick 4) ≡ (2, one 8) ∷ (4, one 9) ∷ []
+newer_stay = refl
+
+rows_are_held : range.next window (Rows 4 (enters (one 5) ∷ [])) ≡ (1, one 7) ∷ (2, one 8) ∷ (4, one 9) ∷ (4, one 5) ∷ []
+rows_are_held = refl
+
+-- Now holds the rows of the instant alone
+now_forgets : range.near (record { span = Some 0; width = 1; held = (1, one 7) ∷ (2, one 8) ∷ [] }) (Tick 2) ≡ one 7 ∷ []
+now_forgets = refl
+
+all_stay : range.near (record { span = None; width = 1; held = (1, one 7) ∷ (2, one 8) ∷ [] }) (Tick 9) ≡ []
+all_stay = refl
+
+-- Rows 2, with no partition, from nothing: the third row makes the first fall out, and the fourth the second
+abbrev nothing : Row → List Row
+nothing k = []
+
+third_and_fourth : latest.interleaved (enters (one 1) ∷ enters (one 2) ∷ enters (one 3) ∷ enters (one 4) ∷ []) (latest.all_fallen [] 2 nothing (enters (one 1) ∷ enters (one 2) ∷ enters (one 3) ∷ enters (one 4) ∷ []))
+    ≡ enters (one 1) ∷ enters (one 2) ∷ enters (one 3) ∷ leaves (one 1) ∷ enters (one 4) ∷ leaves (one 2) ∷ []
+third_and_fourth = refl
+
+last_two : latest.all_after [] 2 nothing (enters (one 1) ∷ enters (one 2) ∷ enters (one 3) ∷ []) [] ≡ one 2 ∷ one 3 ∷ []
+last_two = refl
+
+-- Partition By the first column Rows 1: a row makes the one before it fall out that has the same first value; nulls are one partition
+partitioned : latest.all_fallen (0 ∷ []) 1 nothing (enters (two 1 10) ∷ enters (two 2 20) ∷ enters (two 1 11) ∷ enters (None ∷ Some (pos 1) ∷ []) ∷ enters (None ∷ Some (pos 2) ∷ []) ∷ [])
+    ≡ None ∷ None ∷ Some (two 1 10) ∷ None ∷ Some (None ∷ Some (pos 1) ∷ []) ∷ []
+partitioned = refl

@@ -8,6 +8,7 @@
 mod cells;
 mod laws;
 mod rows;
+mod same;
 mod shape;
 mod state;
 mod turn;
@@ -16,6 +17,3 @@ pub use laws::groups_keep_their_laws;
 pub use shape::GroupBy;
 pub use state::Group;
 pub use turn::{Change, Near, work};
-
-#[cfg(test)]
-mod tests;

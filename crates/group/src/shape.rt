@@ -59,6 +59,13 @@ impl GroupBy {
         key_of(&self.by, row)
     }
 
+    /// Group By's columns.
+    pub(crate) fn by(&self) -> &[Column]
+        ensures { result.now ≡ self.now.by }
+    {
+        &self.by
+    }
+
     /// The list.
     pub(crate) fn items(&self) -> &[Item]
         ensures value { result.now ≡ self.now.items }

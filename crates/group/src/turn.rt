@@ -91,6 +91,12 @@ impl Near {
     {
         Near { groups }
     }
+
+    pub(crate) fn groups(&self) -> &[Touched]
+        ensures { result.now ≡ self.now }
+    {
+        &self.groups
+    }
 }
 
 impl Change {

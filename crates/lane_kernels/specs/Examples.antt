@@ -1,7 +1,7 @@
 -- The definitions at worked examples: nine values 1 to 9, and the same with the last one null.
 use Rattle.std.specs.Prelude.{◌≡◌, ℕ, ℤ, pos, Bool, true, false, Option, Some, None, List, [], ◌∷◌, ◌++◌, map, count_by, refl}
 use Rattle.values.specs.Row.{Row}
-use Rattle.values.specs.Condition.{compared, not3, Above, Below}
+use Rattle.values.specs.Condition.{compared, not3, Above}
 use Rattle.column.specs.Bits.{bits}
 use Rattle.lane_kernels.specs.Steps.{steps_truth}
 use Rattle.lane_kernels.specs.Truth.{signed_total, truths}

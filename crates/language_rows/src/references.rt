@@ -9,13 +9,6 @@ fn name(letter: u8) -> Name {
     Name::new(&[letter])
 }
 
-fn plain(column: u8) -> Reference {
-    Reference {
-        qualifier: None,
-        name: name(column),
-    }
-}
-
 fn dotted(source: u8, column: u8) -> Reference {
     Reference {
         qualifier: Some(name(source)),
@@ -34,10 +27,6 @@ fn sources(alloc: Global, named: &[(u8, Option<u8>)]) -> Result<Vec<Source>, All
         })?;
     }
     Ok(sources)
-}
-
-fn items(alloc: Global, entries: &[Entry]) -> Result<Entries, AllocError> {
-    Ok(Entries::Each(Vec::from_slice(alloc, entries)?))
 }
 
 fn equal(a: Reference, b: Reference) -> Option<Condition> {
@@ -71,89 +60,6 @@ fn catalog(alloc: Global) -> Result<Catalog, AllocError> {
         Vec::from_slice(alloc, &[name(b'k'), name(b'v')])?,
     )?;
     Ok(catalog)
-}
-
-/// The fault of a query over the streams.
-fn told(alloc: Global, query: &Query) -> Result<Option<ResolveFault>, AllocError> {
-    match resolve(alloc, query, &catalog(alloc)?) {
-        Ok(_) => Ok(None),
-        Err(fault) => Ok(Some(fault)),
-    }
-}
-
-#[test]
-fn sources_are_known_and_of_different_names(rt: HostRuntime) -> Result<(), Fail> {
-    let alloc = rt.alloc();
-    let unknown = sources(alloc, &[(b'S', None), (b'Z', None)])?;
-    let unknown = query(
-        alloc,
-        items(alloc, &[Entry::Column(plain(b'q'))])?,
-        unknown,
-        None,
-        &[],
-    )?;
-    assert_eq!(rt; told(alloc, &unknown)?, Some(ResolveFault::UnknownStream));
-    let twice = sources(alloc, &[(b'S', None), (b'S', None)])?;
-    let twice = query(alloc, Entries::All, twice, None, &[])?;
-    assert_eq!(rt; told(alloc, &twice)?, Some(ResolveFault::DuplicateAlias));
-    Ok(())
-}
-
-#[test]
-fn columns_are_named_once(rt: HostRuntime) -> Result<(), Fail> {
-    let alloc = rt.alloc();
-    let missing = sources(alloc, &[(b'S', None)])?;
-    let missing = query(
-        alloc,
-        items(alloc, &[Entry::Column(plain(b'q'))])?,
-        missing,
-        None,
-        &[],
-    )?;
-    assert_eq!(rt; told(alloc, &missing)?, Some(ResolveFault::UnknownColumn));
-    let many = sources(alloc, &[(b'S', None), (b'S', None)])?;
-    let same = equal(dotted(b'S', b'a'), dotted(b'S', b'a'));
-    let many = query(alloc, Entries::All, many, same, &[])?;
-    assert_eq!(rt; told(alloc, &many)?, Some(ResolveFault::AmbiguousColumn));
-    Ok(())
-}
-
-#[test]
-fn grouped_lists_are_of_groups_and_lists_are_short(rt: HostRuntime) -> Result<(), Fail> {
-    let alloc = rt.alloc();
-    let item = Entry::Column(plain(b'v'));
-    let outside = sources(alloc, &[(b'B', None)])?;
-    let outside = query(alloc, items(alloc, &[item])?, outside, None, &[plain(b'k')])?;
-    assert_eq!(rt; told(alloc, &outside)?, Some(ResolveFault::NotGrouped));
-    let wide = sources(alloc, &[(b'B', None)])?;
-    let wide = query(alloc, items(alloc, &[item; 17])?, wide, None, &[])?;
-    assert_eq!(rt; told(alloc, &wide)?, Some(ResolveFault::TooWide));
-    Ok(())
-}
-
-/// x.a = y.a Or x.a = y.a, which is no conjunct that is a key.
-fn either(alloc: Global) -> Result<Option<Condition>, AllocError> {
-    let Some(left) = equal(dotted(b'x', b'a'), dotted(b'y', b'a')) else {
-        return Ok(None);
-    };
-    let Some(right) = equal(dotted(b'x', b'a'), dotted(b'y', b'a')) else {
-        return Ok(None);
-    };
-    Ok(Some(Condition::Or(Box::new(alloc, left)?, Box::new(alloc, right)?)))
-}
-
-#[test]
-fn two_sources_have_a_key(rt: HostRuntime) -> Result<(), Fail> {
-    let alloc = rt.alloc();
-    let list = [Entry::Column(dotted(b'x', b'a'))];
-    let below = sources(alloc, &[(b'S', Some(b'x')), (b'S', Some(b'y'))])?;
-    let below = query(alloc, items(alloc, &list)?, below, either(alloc)?, &[])?;
-    assert_eq!(rt; told(alloc, &below)?, Some(ResolveFault::NoJoinKey));
-    let tied = sources(alloc, &[(b'S', Some(b'x')), (b'S', Some(b'y'))])?;
-    let key = equal(dotted(b'x', b'a'), dotted(b'y', b'a'));
-    let tied = query(alloc, items(alloc, &list)?, tied, key, &[])?;
-    assert_eq!(rt; told(alloc, &tied)?, None);
-    Ok(())
 }
 
 #[test]

@@ -1,104 +1,12 @@
 // Texts and their answers.
 
-use cql_reader::ReadFault::{self, BadToken, NumberRange, TooDeep, Unexpected};
 use cql_reader::{
-    Condition, Entries, Entry, Operand, Reference, Window, every_query_is_well_formed,
+    Condition, Entries, Entry, Operand, ReadFault, Reference, Window, every_query_is_well_formed,
     every_text_has_one_answer, is_name, read,
 };
 use values::Compare::{Above, AtLeast, AtMost, Below, Differs, Equals};
 use values::Operator::{Dstream, Istream, Rstream};
 use values::{Compare, Operator};
-
-#[test]
-fn first_fault_and_its_place_are_told(rt: HostRuntime) {
-    let table = [
-        ("", Unexpected(0)),
-        ("Select * From S", Unexpected(7)),
-        ("Istream(Select a From S [Now]", Unexpected(29)),
-        ("Select Istream(a) From S [Now])", Unexpected(30)),
-        ("Select Istream(Count(Distinct a)) From S", Unexpected(21)),
-        ("Select Istream(Sum(*)) From S", Unexpected(19)),
-        ("Select Istream(a, *) From S", Unexpected(18)),
-        ("Select Istream(*) From Range [Now]", Unexpected(23)),
-        (
-            "Select Istream(*) From abcdefghijklmnopqrstuvwxyz_234567 [Now]",
-            Unexpected(23),
-        ),
-        ("Select Istream(*) From S [Range 1 Slide 1]", Unexpected(34)),
-        ("Select Istream(*) From S [Range5]", Unexpected(26)),
-        ("Select Istream(*) From S, T, U", Unexpected(27)),
-        ("Select Istream(*) From S x y", Unexpected(27)),
-        ("Select Istream(*) From S [Now] x [Now]", Unexpected(33)),
-        ("Select Istream(*) From S Where a", Unexpected(32)),
-        ("Select Istream(*) From S Where (a) = 1", Unexpected(33)),
-        ("Select Istream(*) From S Group By 1", Unexpected(34)),
-        ("Select Istream(*) From S;;", Unexpected(25)),
-        ("Select Istream(*) From S [Range -1]", NumberRange(32)),
-        (
-            "Select Istream(*) From S [Range 1099511627777]",
-            NumberRange(32),
-        ),
-        ("Select Istream(*) From S [Rows 0]", NumberRange(31)),
-        ("Select Istream(*) From S [Rows 65537]", NumberRange(31)),
-        (
-            "Select Istream(*) From S [Partition By a Rows 0]",
-            NumberRange(46),
-        ),
-        (
-            "Select Istream(*) From S Where a = 1099511627776",
-            NumberRange(35),
-        ),
-        (
-            "Select Istream(*) From S Where -1000000000000000000000000000000007 < a",
-            NumberRange(31),
-        ),
-        ("Select Istream(*) From S [Now] $", BadToken(31)),
-        ("Select Istream(*) From S Where a ! = 1", BadToken(33)),
-        ("Select Istream(*) From S Where a = - 1", BadToken(35)),
-    ];
-    for (text, want) in table {
-        match read(rt.alloc(), text.as_bytes()) {
-            Err(fault) => assert_eq!(rt; fault, want, "{text}"),
-            Ok(_) => assert!(rt; false, "{text} is read"),
-        }
-    }
-}
-
-#[test]
-fn long_texts_and_other_bytes_are_refused(rt: HostRuntime) {
-    let long = [b' '; 4097];
-    assert!(rt; matches!(read(rt.alloc(), &long), Err(ReadFault::TextTooLong)));
-    assert!(rt; matches!(read(rt.alloc(), &long[1..]), Err(Unexpected(4096))));
-    assert!(rt; matches!(read(rt.alloc(), b"Select \xc3"), Err(ReadFault::NotAscii)));
-}
-
-#[test]
-fn a_condition_is_thirty_two_deep(rt: HostRuntime) {
-    let table = [
-        (
-            "Select Istream(a) From S Where ((((((((((((((((((((((((((((((((a > 0))))))))))))))))))))))))))))))))",
-            None,
-        ),
-        (
-            "Select Istream(a) From S Where (((((((((((((((((((((((((((((((((a > 0)))))))))))))))))))))))))))))))))",
-            Some(TooDeep(63)),
-        ),
-        (
-            "Select Istream(a) From S Where Not((((((((((((((((((((((((((((((((a > 0))))))))))))))))))))))))))))))))",
-            Some(TooDeep(65)),
-        ),
-        (
-            "Select Istream(a) From S Where ((((((((((((((((((((((((((((((((a > 0)))))))))))))))))))))))))))))))) Or Not a > 0",
-            None,
-        ),
-    ];
-    for (text, want) in table {
-        match read(rt.alloc(), text.as_bytes()) {
-            Err(fault) => assert_eq!(rt; Some(fault), want, "{text}"),
-            Ok(_) => assert_eq!(rt; None, want, "{text}"),
-        }
-    }
-}
 
 // Whether the window is of this kind and number.
 fn is_window(window: &Window, kind: &str, number: u64) -> bool {

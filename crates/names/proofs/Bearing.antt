@@ -1,5 +1,5 @@
 -- Matches are the columns that bear a name.
-use Rattle.std.proofs.Common.{◌≡◌, ℕ, suc, ◌+◌, Bool, true, false, cond, ◌&&◌, List, [], ◌∷◌, ◌++◌, map, filter, length, get_or, refl, sym, ap, ◌∙◌, arith, append_assoc, length-append}
+use Rattle.std.proofs.Common.{◌≡◌, ℕ, suc, ◌+◌, Bool, true, false, cond, List, [], ◌∷◌, ◌++◌, filter, length, get_or, refl, sym, ap, ◌∙◌, arith, append_assoc, length-append}
 use Rattle.std.specs.List.{range_with_len}
 use Rattle.std.specs.Str.{bytes_eq}
 use Rattle.std.proofs.Math.Seq.{get_or-append_seam}
@@ -7,7 +7,7 @@ use Rattle.values.specs.Condition.{Column}
 use Rattle.cql_reader.specs.Query.{Reference}
 use Rattle.names.specs.Matches.{Table, allows, places, columns_at, matches_in, matches}
 use Rattle.names.specs.Resolved.{all_columns}
-use Rattle.names.specs.Laws.{source_at, bears, MatchesBearTheName}
+use Rattle.names.specs.Laws.{bears, MatchesBearTheName}
 
 filter-append : {X : Type 0} (p : X → Bool) (xs ys : List X) → filter p (xs ++ ys) ≡ filter p xs ++ filter p ys
 filter-append p [] ys = refl

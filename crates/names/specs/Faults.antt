@@ -1,5 +1,5 @@
 -- The faults of a query's names, and the first of them.
-use Rattle.std.specs.Prelude.{ℕ, ◌-◌, ◌==◌, Bool, true, false, cond, not, ◌&&◌, ◌||◌, nat_lt, Option, Some, None, List, [], ◌∷◌, ◌++◌, map, length}
+use Rattle.std.specs.Prelude.{ℕ, ◌-◌, ◌==◌, Bool, true, false, not, ◌&&◌, ◌||◌, nat_lt, Option, Some, None, List, [], ◌∷◌, ◌++◌, map, length}
 use Rattle.std.specs.List.{list_any, flat_map, range_with_len}
 use Rattle.std.specs.Option.{is_none}
 use Rattle.std.specs.Str.{bytes_eq}
@@ -105,11 +105,12 @@ fault_tests q catalog =
     ∷ (is_ungrouped (tables catalog q.sources) q, NotGrouped)
     ∷ (is_wide q, TooWide) ∷ []
 
--- the first of the tests that is met
-abbrev pub first_met : List (Bool × Fault) → Option Fault
-first_met [] = None
-first_met (t ∷ ts) = cond t.0 (Some t.1) (first_met ts)
+-- of tests with their faults, the fault of the first that is met
+abbrev pub first_of : {F : Type 0} → List (Bool × F) → Option F
+first_of [] = None
+first_of ((true, fault) ∷ tests) = Some fault
+first_of ((false, fault) ∷ tests) = first_of tests
 
 -- the first fault of a query over a catalog, each test being over the whole query
 abbrev pub first_fault : syntax.Query → List Stream → Option Fault
-first_fault q catalog = first_met (fault_tests q catalog)
+first_fault q catalog = first_of (fault_tests q catalog)

@@ -66,7 +66,7 @@ pub(crate) struct Tests {
 
 /// Refuses by the first test that is met.
 pub(crate) fn refuse(tests: Tests) -> Result<(), ResolveFault>
-    ensures { Refuses result (spec.first_met (tests_of tests)) }
+    ensures { Refuses result (spec.first_of (tests_of tests)) }
 {
     if tests.unknown_stream {
         return Err(ResolveFault::UnknownStream);

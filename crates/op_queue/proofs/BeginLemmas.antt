@@ -8,7 +8,7 @@ use Rattle.std.proofs.lemmas.List.Elements.{All-head, All-tail}
 use Rattle.values.specs.Row.{Row}
 use Rattle.op_queue.specs.Entries.{Entry}
 use Rattle.op_queue.specs.Items.{entries_of, ticks}
-use Rattle.op_queue.specs.Queues.{Waiting, at_once, before_next, each_begins, first_begins}
+use Rattle.op_queue.specs.Queues.{at_once, before_next, each_begins, first_begins}
 use Rattle.op_queue.specs.Pieces.{piece_begins, piece_entries, piece_size, queue_begins, queue_entries, IsPiece, IsQueue, IsLongerRun}
 use Rattle.op_queue.specs.declared.item.Item.{Item}
 use Rattle.op_queue.specs.declared.queue.Piece.{Piece}

@@ -9,7 +9,7 @@ use Rattle.values.specs.Row.{Row}
 use Rattle.values.specs.Window.{Element}
 use Rattle.op_queue.specs.Cursors.{IsWithin, cursor_entries}
 use Rattle.op_queue.specs.Entries.{Entry, RowAt, TickAt}
-use Rattle.op_queue.specs.Items.{IsFrontPart, entries_of, front_of, front_part, front_rows}
+use Rattle.op_queue.specs.Items.{IsFrontPart, front_of, front_part, front_rows}
 use Rattle.op_queue.specs.Logs.{Closed, entering, instant_entries, is_shown, is_waiting, log_entries, row_entries, shown, span_entries}
 use Rattle.op_queue.specs.declared.cursor.Cursor.{Cursor}
 use Rattle.op_queue.specs.declared.item.Item.TheVariants.{Rows, Tick}

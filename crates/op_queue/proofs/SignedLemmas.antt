@@ -1,5 +1,5 @@
 -- Laws of bags and of signed rows.
-use Rattle.std.proofs.Common.{inl, inr, ⊎_elim, zero-le, ◌⊎◌, ℕ, zero, suc, ◌+◌, ◌-◌, ◌≤◌, ◌≡◌, List, [], ◌∷◌, ◌++◌, take, length, map, filter, cond, Bool, true, false, refl, sym, ap, ◌∙◌, subst, arith, append-nil, append_assoc, add_assoc, add-zero, zero-add}
+use Rattle.std.proofs.Common.{inl, inr, ⊎_elim, ◌⊎◌, ℕ, zero, suc, ◌+◌, ◌≤◌, ◌≡◌, List, [], ◌∷◌, ◌++◌, take, length, map, Bool, refl, sym, ap, ◌∙◌, arith, zero-add}
 use Rattle.std.proofs.Math.Seq.{take-append-add}
 use Rattle.op_queue.specs.Signed.{weigh, gain, loss, up, down, Same, Adds, Legal, Turns}
 

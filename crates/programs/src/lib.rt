@@ -7,6 +7,3 @@ mod options;
 pub use body::{lack_memory, run, run_over};
 pub use options::{RunOptions, run_options};
 pub use wire::{ReaderSource, WriterSink};
-
-#[cfg(test)]
-mod tests;

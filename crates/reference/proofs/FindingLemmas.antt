@@ -1,5 +1,5 @@
 -- A query that was planned.
-use Rattle.std.proofs.Common.{◌≡◌, ◌≤◌, ◌+◌, ◌*◌, ℕ, zero, suc, ℤ, Option, Some, None, Result, Ok, List, [], ◌∷◌, length, map, sum, slice_get, option_and_then, unwrap_or, refl, sym, ap, ◌∙◌, arith}
+use Rattle.std.proofs.Common.{◌≡◌, ◌≤◌, ◌*◌, ℕ, zero, suc, ℤ, Option, Some, None, Result, Ok, List, [], ◌∷◌, length, map, sum, slice_get, option_and_then, unwrap_or, sym, ap, ◌∙◌, arith}
 use Rattle.std.specs.List.{AllByRecursion}
 use Rattle.std.specs.Option.{option_map_or}
 use Rattle.std.proofs.lemmas.List.{length-map}

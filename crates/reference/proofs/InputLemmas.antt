@@ -1,6 +1,6 @@
 -- Inputs copied out of a stream, row by row, and answers over them.
-use Rattle.std.proofs.Common.{nat_lt, pos, drop, append_assoc, Result, Ok, Err, IfOk, ◌⊎◌, inl, inr, Vec, ◌≡◌, ◌≤◌, ◌<◌, ◌+◌, ◌-◌, ◌^◌, ℕ, zero, suc, ℤ, Bool, true, false, cond, ◌&&◌, nat_le, Option, Some, None, List, [], ◌∷◌, ◌++◌, length, map, filter, take, get_or, All, min, max, fold, refl, sym, ap, ◌∙◌, arith, option_map}
-use Rattle.std.specs.List.{list_all, reduce, range_with_len, flat_map}
+use Rattle.std.proofs.Common.{nat_lt, pos, drop, append_assoc, Result, Ok, Err, IfOk, ◌⊎◌, inl, inr, Vec, ◌≡◌, ◌≤◌, ◌<◌, ◌+◌, ◌-◌, ℕ, zero, suc, ℤ, Bool, true, false, cond, ◌&&◌, nat_le, Option, Some, None, List, [], ◌∷◌, ◌++◌, length, map, filter, take, get_or, min, fold, refl, sym, ap, ◌∙◌, arith}
+use Rattle.std.specs.List.{reduce, range_with_len, flat_map}
 use Rattle.std.proofs.lemmas.List.{map-append, append-nil, get_or_default, drop_all, length-map}
 use Rattle.std.proofs.lemmas.List.Folds.{list_all-append}
 use Rattle.std.proofs.lemmas.Bool.{lt-ltb, ltb-true}
@@ -14,7 +14,7 @@ use Rattle.values.specs.Row.{Row}
 use Rattle.values.specs.Perm.{same}
 use Rattle.values.specs.Window.{Element, Window, numbered, plain, input_of, window_rows}
 use Rattle.values.specs.Answers.{Resolved, shown_at, answers, answers_at}
-use Rattle.values.proofs.Renumber.{Increasing, increasing-numbered, increasing-filter, window_rows-plain}
+use Rattle.values.proofs.Renumber.{increasing-numbered, increasing-filter, window_rows-plain}
 use Rattle.values.proofs.Worlds.{SameTables, same-answers}
 use Rattle.reference.specs.Inputs.{ShowsSame, EachShowsSame, are_signed}
 use Rattle.reference.specs.Views.{pairs_of, elements_of, element_at, inputs_of, blank}

@@ -1,14 +1,14 @@
 -- Names and their lengths, and what an accepted declaration names.
-use Rattle.std.proofs.Common.{◌≡◌, ◌≤◌, ◌<◌, ◌+◌, ℕ, zero, suc, Bool, true, false, not, ◌&&◌, nat_le, nat_lt, Option, Some, None, is_some, List, [], ◌∷◌, ◌++◌, length, map, get_or, position, refl, sym, ap, ◌∙◌, arith, ℤ, String, string_bytes}
+use Rattle.std.proofs.Common.{◌≡◌, ◌≤◌, ◌<◌, ℕ, zero, suc, Bool, true, false, not, ◌&&◌, nat_le, nat_lt, None, is_some, List, [], ◌∷◌, length, map, get_or, position, refl, arith, ℤ, String, string_bytes}
 use Rattle.std.specs.List.{list_all, position_or_len}
 use Rattle.std.specs.declared.alloc.Global.{Global}
 use Rattle.std.proofs.lemmas.List.{length-map}
 use Rattle.std.proofs.lemmas.Bool.{leb-true}
 use Rattle.cql_reader.specs.Lexis.{is_name, is_letter, first_byte, all_word, is_reserved}
-use Rattle.names.specs.Catalog as catalogs
+use Rattle.names.specs.Faults.{has_repeat}
 use Rattle.reference.specs.CallViews.{texts_of}
-use Rattle.reference.specs.Machine.{Stream, Machine, stream_named}
-use Rattle.reference.specs.Commands.{first_of, declare_fault, are_columns, has_repeat, is_instant}
+use Rattle.reference.specs.Machine.{Machine, stream_named}
+use Rattle.reference.specs.Commands.{declare_fault, are_columns, is_instant}
 use Rattle.reference.specs.declared.fault.Fault.{Fault}
 use Rattle.reference.specs.declared.fault.Fault.TheVariants.{BadName, NameTaken, BadColumns, InstantRange, TooMany}
 use Rattle.reference.specs.declared.limits.TheConstants.{MAX_STREAMS, MAX_STREAM_COLUMNS}

@@ -1,6 +1,6 @@
 -- The tests of a meaning, and what they say.
-use Rattle.std.proofs.Common.{◌≡◌, ◌≤◌, ◌<◌, ◌&&◌, ℕ, zero, suc, Bool, true, false, nat_le, nat_lt, List, [], ◌∷◌, length, get_or, All, arith, refl}
-use Rattle.std.proofs.lemmas.Bool.{leb-true, le-leb, ltb-true}
+use Rattle.std.proofs.Common.{◌≡◌, ◌&&◌, zero, suc, Bool, true, false, nat_le, List, [], ◌∷◌, length, All, arith, refl}
+use Rattle.std.proofs.lemmas.Bool.{leb-true, ltb-true}
 use Rattle.values.specs.declared.resolved.Shape.{Shape}
 use Rattle.values.specs.declared.resolved.Shape.TheVariants.{Listed, Grouped}
 use Rattle.values.specs.declared.resolved.Window.{Window}

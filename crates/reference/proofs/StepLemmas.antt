@@ -1,5 +1,5 @@
 -- What a call answers, by the first test that it fails.
-use Rattle.std.proofs.Common.{◌≡◌, Bool, true, false, Option, Some, None, IfSome, List, [], ◌∷◌, ◌++◌, Result, Ok, Err, refl, sym, ap, subst, ◌∙◌, set, ◌≤◌, get_or, length, ◌<◌, ℕ, zero, suc, ◌+◌, map, arith, OnOk, OnErr, take, drop, min}
+use Rattle.std.proofs.Common.{◌≡◌, Bool, true, false, Option, Some, None, List, [], ◌∷◌, ◌++◌, Result, Ok, Err, refl, sym, ap, subst, ◌∙◌, set, get_or, length, ◌<◌, ℕ, zero, suc, ◌+◌, map, arith, OnOk, OnErr, take, drop, min}
 use Rattle.std.proofs.lemmas.List.{map-append}
 use Rattle.std.proofs.lemmas.Grind.{take-set_at}
 use Rattle.values.specs.Row.{Row}
@@ -10,10 +10,11 @@ use Rattle.reference.specs.Standing.{query_of, waiting_of, fresh_of}
 use Rattle.reference.specs.declared.fault.Fault.{Fault}
 use Rattle.reference.specs.declared.fault.Fault.TheVariants.{Query, BadName, NameTaken, BadColumns, TooMany, UnknownStream, UnknownQuery, BadWidth, ValueRange, InstantRange, Late, Backward, Leap, StreamFull, BadLimit, OutOfMemory}
 use Rattle.reference.specs.declared.fault.QueryFault.{QueryFault}
-use Rattle.reference.specs.Commands.{Found, first_of, change, query_tests, of_stream, of_query}
+use Rattle.reference.specs.Commands.{Found, change, query_tests, of_stream, of_query}
+use Rattle.names.specs.Faults.{first_of}
 use Rattle.reference.specs.Finds.{Finds}
 use Rattle.reference.specs.Told.{IsTold}
-use Rattle.reference.specs.World.{World, Step, unless, Does, Drains, MayLackMemory}
+use Rattle.reference.specs.World.{World, unless, Does, Drains, MayLackMemory}
 
 module _ {A B : Type 0} (view : A → B) (w new : World) (a : B) where
   told : (f : Fault) → IsTold f → Does view w (unless (Some f) w a new) (Err f) w

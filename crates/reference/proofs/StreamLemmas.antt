@@ -1,17 +1,17 @@
 -- What the tests of an append let through, and what it makes of a stream.
-use Rattle.std.proofs.Common.{◌≡◌, ◌≤◌, ◌+◌, ℕ, ℤ, Bool, true, false, not, ◌&&◌, ◌||◌, ◌==◌, nat_le, Option, Some, None, List, [], ◌∷◌, ◌++◌, length, map, refl, sym, ap, ◌∙◌, arith, pos, int_le, int_lt, nat_lt, nat_abs, length-append}
+use Rattle.std.proofs.Common.{◌≡◌, ◌≤◌, ◌+◌, ℕ, ℤ, Bool, true, false, not, ◌&&◌, ◌||◌, ◌==◌, nat_le, Option, None, List, [], ◌∷◌, ◌++◌, length, refl, ap, ◌∙◌, arith, pos, int_le, int_lt, nat_lt, nat_abs, length-append}
 use Rattle.std.specs.List.{list_any, list_all}
-use Rattle.std.proofs.lemmas.List.{map-append, length-map}
+use Rattle.std.proofs.lemmas.List.{length-map}
 use Rattle.std.proofs.lemmas.Bool.{le-leb, eqb-true}
 use Rattle.arrayvec.specs.ArrayVec.{ArrayVec}
-use Rattle.values.specs.Row.{Row}
 use Rattle.values.specs.Window.{numbered}
 use Rattle.values.proofs.Closed.{numbered-append}
 use Rattle.reference.specs.declared.fault.Fault.{Fault}
 use Rattle.reference.specs.declared.limits.TheConstants.{MAX_INSTANT, MAX_APPENDED, MAX_STREAM_ROWS}
 use Rattle.reference.specs.declared.fault.Fault.TheVariants.{TooMany, BadWidth, ValueRange, InstantRange, Late, StreamFull}
+use Rattle.names.specs.Faults.{first_of}
 use Rattle.reference.specs.Machine.{Stream}
-use Rattle.reference.specs.Commands.{first_of, append_tests, is_stream_value, is_instant, elements_from}
+use Rattle.reference.specs.Commands.{append_tests, is_stream_value, is_instant, elements_from}
 use Rattle.reference.specs.Views.{pairs_of, elements_of}
 use Rattle.reference.specs.Appended.{can_be_kept, kept_of}
 
@@ -28,7 +28,7 @@ or_left : (a b : Bool) → (a || b) ≡ false → a ≡ false
 or_left true b h = h
 or_left false b h = refl
 
-or_right : (a b : Bool) → (a || b) ≡ false → b ≡ false
+pub or_right : (a b : Bool) → (a || b) ≡ false → b ≡ false
 or_right true b h = cc
 or_right false b h = h
 

@@ -9,6 +9,7 @@ pub mod Totals
 pub mod Appended
 pub mod Inputs
 pub mod Standing
+pub mod Named
 pub mod Places
 pub mod PlainViews
 pub mod Told

@@ -1,17 +1,15 @@
 -- The machine at worked examples.
-use Rattle.std.specs.Prelude.{◌≡◌, ℕ, true, false, List, [], ◌∷◌, map, Option, Some, None, Ok, Err, ℤ, pos, refl}
-use Rattle.values.specs.Row.{Row}
-use Rattle.values.specs.Window.{numbered, Range}
+use Rattle.std.specs.Prelude.{◌≡◌, ℕ, false, [], ◌∷◌, Option, Some, None, Ok, ℤ, pos, refl}
+use Rattle.values.specs.Window.{Range}
 use Rattle.values.specs.Condition.{Column}
 use Rattle.values.specs.Relation.{Listed}
 use Rattle.values.specs.Answers.{Resolved, Istream}
-use Rattle.reference.specs.declared.fault.Fault.TheVariants.{UnknownStream, UnknownQuery, TooMany, BadWidth, ValueRange, InstantRange, Late, Backward, Leap, BadLimit}
+use Rattle.reference.specs.declared.fault.Fault.TheVariants.{UnknownStream, UnknownQuery, BadWidth, ValueRange, Late, Backward, Leap, BadLimit}
 use Rattle.plan.specs.Build.{plan_of}
 use Rattle.plan.specs.Chart.{measures_of}
-use Rattle.reference.specs.Machine as machine
 use Rattle.reference.specs.Machine.{Machine, Stream, Registered}
 use Rattle.reference.specs.Commands.{Append, Heartbeat, Take, Drop, first_fault, after}
-use Rattle.reference.specs.World.{World, append_step, heartbeat_step, take_step, drop_step, drain_step}
+use Rattle.reference.specs.World.{World, take_step, drain_step}
 
 -- a value, and the column a of the source S
 abbrev num : ℕ → Option ℤ

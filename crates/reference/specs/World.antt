@@ -11,7 +11,8 @@ use Rattle.reference.specs.declared.fault.Fault.TheVariants.{Query, BadLimit, Un
 use Rattle.reference.specs.declared.limits.TheConstants.{MAX_TURN}
 use Rattle.reference.specs.Machine.{Machine, Registered, query_at, closed_answers}
 use Rattle.reference.specs.Machine as machine
-use Rattle.reference.specs.Commands.{Declare, Register, Append, Heartbeat, Take, Drop, first_fault, first_of, after, change}
+use Rattle.reference.specs.Commands.{Declare, Register, Append, Heartbeat, Take, Drop, first_fault, after, change}
+use Rattle.names.specs.Faults.{first_of}
 
 -- the machine, and the answers of each query that wait for a take
 pub record World : Type 0 where

@@ -30,4 +30,6 @@ pub use limits::{
 };
 pub use new_rows::NewRows;
 pub use plain::Plain;
+pub use plain::changes::names_of;
+pub use plain::lookup::are_columns;
 pub use plan::{Chart, Kind};

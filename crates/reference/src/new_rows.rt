@@ -72,35 +72,35 @@ impl NewRows {
     }
 
     /// Whether a row has another number of values.
-    pub(crate) fn has_other_width(&self, width: usize) -> bool
+    pub fn has_other_width(&self, width: usize) -> bool
         ensures { result ≡ list_any (λ r. not (length r.1 == width)) self.now }
     {
         any_differs(&self.widths, width)
     }
 
     /// Whether a value lies outside the range of streams.
-    pub(crate) fn has_other_value(&self) -> bool
+    pub fn has_other_value(&self) -> bool
         ensures { result ≡ list_any (λ r. not (list_all is_stream_value r.1)) self.now }
     {
         !all_stream_values(&self.values)
     }
 
     /// Whether an instant lies outside the range of instants.
-    pub(crate) fn has_other_instant(&self) -> bool
+    pub fn has_other_instant(&self) -> bool
         ensures { result ≡ list_any (λ r. not (is_instant r.0)) self.now }
     {
         any_no_instant(&self.instants)
     }
 
     /// Whether a row is below the first open instant.
-    pub(crate) fn has_late_row(&self, first_open: i64) -> bool
+    pub fn has_late_row(&self, first_open: i64) -> bool
         ensures { result ≡ list_any (λ r. int_lt r.0 first_open) self.now }
     {
         any_below(&self.instants, first_open)
     }
 
     /// Puts the rows behind the elements, which have room for them.
-    pub(crate) fn copy_to(&self, elements: &mut Vec<(u64, Row)>)
+    pub fn copy_to(&self, elements: &mut Vec<(u64, Row)>)
         requires good { list_all can_be_kept self.now ≡ true }
         requires room { vec_len elements.old + length self.now ≤ vec_capacity elements.old }
         ensures { pairs_of elements.new.items ≡ pairs_of elements.old.items ++ kept_of self.now }

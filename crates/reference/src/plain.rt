@@ -1,17 +1,20 @@
 //! The plain engine.
-ghost use Rattle.std.specs.Prelude.{◌≡◌, IfOk, IsOk};
-ghost use Rattle.reference.specs.World as world;
-ghost use Rattle.reference.specs.PlainViews.{world_of};
+ghost use Rattle.std.specs.Prelude.{◌≡◌, ◌≤◌, All, length, map};
+ghost use Rattle.reference.specs.Commands.{catalog_of};
+ghost use Rattle.reference.specs.Named.{stream_name, query_name};
 
 mod answering;
-mod changes;
+mod catalog;
+pub(crate) mod changes;
+mod empty;
 mod faults;
 mod finding;
-mod lookup;
+pub(crate) mod lookup;
 
-use crate::fault::Fault;
 use crate::standing::StandingQuery;
 use crate::stream::Stream;
+use name_table::NameTable;
+use names::Catalog;
 use std::alloc::Global;
 
 /// An engine that keeps what it was told, and evaluates each query anew at each drain.
@@ -19,19 +22,14 @@ use std::alloc::Global;
 pub struct Plain {
     alloc: Global,
     streams: Vec<Stream>,
+    // what the streams are called, and their columns, for queries to name
+    catalog: Catalog,
+    stream_names: NameTable,
     queries: Vec<StandingQuery>,
-}
-
-impl Plain {
-    /// An engine with no stream and no query. Takes no memory.
-    pub fn new(alloc: Global) -> Result<Plain, Fault>
-        ensures empty { IfOk result (λ p. world_of p ≡ world.empty) }
-        ensures succeeds { IsOk result }
-    {
-        Ok(Plain {
-            alloc,
-            streams: Vec::new(alloc),
-            queries: Vec::new(alloc),
-        })
-    }
+    // without the names of dropped queries
+    query_names: NameTable,
+    ghost declared: { catalog ≡ catalog_of streams.items },
+    ghost few: { All (λ s. length s.columns ≤ 8) catalog },
+    ghost streams_are_named: { stream_names ≡ map stream_name streams.items },
+    ghost queries_are_named: { query_names ≡ map query_name queries.items },
 }

@@ -1,7 +1,8 @@
 //! A declared stream and what came to it.
 ghost use Rattle.std.specs.Prelude.{◌≡◌, ◌≤◌, [], None, OnOk, OnErr, IfOk, IfSome, length, ◌∷◌, ◌++◌, ◌<◌, ◌&&◌, nat_le};
 ghost use Rattle.values.specs.Window.{input_of, plain};
-ghost use Rattle.reference.specs.Commands.{first_of, append_tests, heartbeat_tests, appended, closed_to, catalog_of};
+ghost use Rattle.reference.specs.Commands.{append_tests, heartbeat_tests, appended, closed_to, catalog_of};
+ghost use Rattle.names.specs.Faults.{first_of};
 ghost use Rattle.names.specs.Views.{names_of};
 ghost use Rattle.cql_reader.specs.Views.{name_of};
 ghost use Rattle.reference.specs.Inputs.{ShowsSame};
@@ -30,6 +31,7 @@ pub(crate) struct Stream {
 impl Model for Stream {
     ghost use Rattle.std.specs.Prelude.{◌≤◌, length};
     ghost use Rattle.cql_reader.specs.Views.{name_of};
+    ghost use Rattle.names.specs.Faults.{first_of};
     ghost use Rattle.names.specs.Views.{names_of};
     ghost use Rattle.reference.specs.Machine as machine;
     ghost use Rattle.reference.specs.Views.{elements_of};
@@ -54,13 +56,6 @@ impl Stream {
             elements: Vec::new(alloc),
             first_open,
         }
-    }
-
-    /// Its name.
-    pub(crate) fn name(&self) -> &[u8]
-        ensures { result.now ≡ self.now.name }
-    {
-        self.name.as_bytes()
     }
 
     /// Declares its names in a catalog.

@@ -9,8 +9,6 @@
 
 mod net;
 mod row_bag;
-#[cfg(test)]
-mod tests;
 
 pub use net::Net;
 pub use row_bag::{RowBag, begins_with, copy_row};

@@ -14,6 +14,3 @@ pub use laws::{
 pub use postfix::steps;
 pub use projection::project;
 pub use selection::select;
-
-#[cfg(test)]
-mod tests;

@@ -10,9 +10,6 @@ ghost use Rattle.row_bags.specs.Bags.{rows_of};
 ghost use Rattle.to_stream.specs.Turns.{State, shown, near, out, taken, next, HasRoom, HasRoomFor, answers_of};
 ghost use Rattle.to_stream.specs.Law.{Stands, StepLaw};
 
-#[cfg(test)]
-mod tests;
-
 use column::Batch;
 use op_queue::Item;
 use row_bags::{Net, RowBag, copy_row};

@@ -1,12 +1,12 @@
 -- The order of arrival: between instants it decides nothing, and within one instant it decides windows of last rows alone.
 use Rattle.std.proofs.Common.{◌≡◌, ℕ, suc, ◌<◌, ◌==◌, Bool, true, false, List, [], ◌∷◌, ◌++◌, map, filter, refl, sym, ap, ◌∙◌, arith}
+use Rattle.std.specs.List.{AllByRecursion}
 use Rattle.std.proofs.lemmas.Bool.Decides.{nat_tests}
 use Rattle.values.specs.Row.{Row}
 use Rattle.values.specs.Perm.{Perm, same, keep, flip, join}
 use Rattle.values.specs.Window.{Element, Window, Range, RangeSlide, Unbounded, LastRows, is_later, numbered, shows, window_rows}
 use Rattle.values.specs.Answers.{Resolved, shown_at, answers}
 use Rattle.values.specs.Arrivals.{SameAtInstants, AllSameAtInstants, AllReordered, GoesByInstants, AllByInstants}
-use Rattle.values.proofs.Forget.{Each}
 use Rattle.values.proofs.Perms.{perm-filter, perm-map}
 use Rattle.values.proofs.Windows.{perm-window_rows}
 use Rattle.values.proofs.Worlds.{SameTables, same-answers}
@@ -113,7 +113,7 @@ record Aligned (n : ℕ) (xs ys : List (ℕ × Row)) : Type 0 where
   moved : Perm elements (numbered n ys)
   alike : Alike (numbered n xs) elements
   tests : AllTests (numbered n xs) elements (numbered n xs) elements
-  above : (m : ℕ) → m < n → Each (λ f. m < f.arrival) elements
+  above : (m : ℕ) → m < n → AllByRecursion (λ f. m < f.arrival) elements
 
 alike_itself : (es : List Element) → Alike es es
 alike_itself [] = tt
@@ -154,7 +154,7 @@ flipped n x y rest h =
       above = λ m lt. (omega arith, (lt, numbers_rise m (suc (suc n)) rest (omega arith)));
     }
 
-each_less : (m n : ℕ) → m < n → (es : List Element) → Each (λ f. n < f.arrival) es → Each (λ f. m < f.arrival) es
+each_less : (m n : ℕ) → m < n → (es : List Element) → AllByRecursion (λ f. n < f.arrival) es → AllByRecursion (λ f. m < f.arrival) es
 each_less m n h [] k = tt
 each_less m n h (e ∷ es) k = (let j : n < e.arrival = k.0 in omega arith, each_less m n h es k.1)
 
@@ -164,8 +164,8 @@ aligned n (z ∷ front) x y rest h =
     let i = aligned (suc n) front x y rest h in
     let e : Element = record { arrival = n; instant = z.0; row = z.1 } in
     let es : List Element = numbered (suc n) (front ++ x ∷ y ∷ rest) in
-    let up : Each (λ f. n < f.arrival) es = numbers_rise n (suc n) (front ++ x ∷ y ∷ rest) (omega arith) in
-    let also : Each (λ f. n < f.arrival) i.elements = i.above n (omega arith) in
+    let up : AllByRecursion (λ f. n < f.arrival) es = numbers_rise n (suc n) (front ++ x ∷ y ∷ rest) (omega arith) in
+    let also : AllByRecursion (λ f. n < f.arrival) i.elements = i.above n (omega arith) in
     record {
       elements = e ∷ i.elements;
       moved = keep e i.elements (numbered (suc n) (front ++ y ∷ x ∷ rest)) i.moved;

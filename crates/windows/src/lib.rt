@@ -13,6 +13,3 @@ mod range;
 pub use latest::{LatestWindow, latest_work};
 pub use laws::{latest_takes_rows, latest_takes_ticks, range_takes_rows, range_takes_ticks};
 pub use range::{RangeWindow, range_work};
-
-#[cfg(test)]
-mod tests;

@@ -3,7 +3,7 @@ use Rattle.std.proofs.Common.{◌≡◌, ◌≤◌, ◌<◌, ℕ, Bool, true, fa
 use Rattle.std.specs.Prelude.{not, ◌&&◌, nat_le, None, ⊤}
 use Rattle.std.proofs.lemmas.Bool.{le-leb}
 use Rattle.reference.specs.World.{World, Step, Drains, drain_step, drain_fault, unless, untaken}
-use Rattle.reference.specs.Commands.{first_of}
+use Rattle.names.specs.Faults.{first_of}
 use Rattle.reference.specs.declared.limits.TheConstants.{MAX_TURN}
 use Rattle.reference.specs.declared.fault.Fault.{Fault}
 use Rattle.reference.specs.declared.fault.Fault.TheVariants.{Query, BadName, NameTaken, BadColumns, TooMany, UnknownStream, UnknownQuery, BadWidth, ValueRange, InstantRange, Late, Backward, Leap, StreamFull, BadLimit, OutOfMemory}

@@ -14,8 +14,6 @@ mod read;
 mod reply;
 mod request;
 mod script;
-#[cfg(test)]
-mod tests;
 
 pub use device::{
     DeviceFailed, MemorySink, MemorySource, ReaderSource, Sink, Source, WriterSink, put,

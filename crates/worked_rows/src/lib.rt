@@ -1,19 +1,31 @@
-//! Worked rows and vectors of the crates that the operators stand on, as tests: columns, lane kernels, queues and logs.
+//! Worked rows and vectors of values, columns, lane kernels, queues and logs, and of the operators over them, as tests.
 //!
 //! They stand in a crate of their own because a crate's tests are proved with all of the crate once more.
 #![tactic(auto)]
 
 #[cfg(test)]
+mod bags;
+#[cfg(test)]
 mod columns;
 #[cfg(test)]
 mod conditions;
 #[cfg(test)]
+mod groups;
+#[cfg(test)]
 mod kernels;
+#[cfg(test)]
+mod numbers;
 #[cfg(test)]
 mod plain;
 #[cfg(test)]
 mod queues;
 #[cfg(test)]
 mod samples;
+#[cfg(test)]
+mod selected;
+#[cfg(test)]
+mod shown;
+#[cfg(test)]
+mod streamed;
 #[cfg(test)]
 mod vectors;

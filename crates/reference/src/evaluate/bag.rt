@@ -6,14 +6,7 @@ ghost use Rattle.values.specs.Bag as bags;
 ghost use Rattle.reference.specs.Views.{rows_of};
 
 use std::alloc::{AllocError, Global};
-use values::{Row, same_rows};
-
-/// The row once more.
-pub(crate) fn copy_row(row: &Row) -> Result<Row, AllocError>
-    ensures { IfOk result (λ r. r ≡ row.now) }
-{
-    row.clone()
-}
+use values::{Row, copy_row, same_rows};
 
 /// Takes one copy of the row out, where there is one.
 pub(crate) fn remove_one(rows: &mut Vec<Row>, row: &Row)
@@ -64,7 +57,7 @@ pub(crate) fn distinct(alloc: Global, rows: &[Row]) -> Result<Vec<Row>, AllocErr
     let mut all = Vec::new(alloc);
     for i in 0..rows.len() {
         if !is_among(&rows[i], &rows[i + 1..]) {
-            all.push(copy_row(&rows[i])?)?;
+            all.push(copy_row(&rows[i]))?;
         }
     }
     Ok(all)

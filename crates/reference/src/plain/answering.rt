@@ -8,7 +8,6 @@ use crate::fault::Fault;
 use crate::new_rows::NewRows;
 use crate::plain::Plain;
 use crate::plain::faults::turn_fault;
-use crate::plain::lookup::{number_of, query_called};
 use envelope::Slope;
 use plan::{Chart, Kind};
 use values::Row;
@@ -91,11 +90,11 @@ impl Answering for Plain {
 
     #[tactic(auto, unfolding(crate::specs::World::stream_named))]
     fn stream_named(&self, name: &str) -> Option<u64> {
-        number_of(&self.streams, name.as_bytes()).map(|number| number as u64)
+        self.stream_number(name).map(|number| number as u64)
     }
 
     #[tactic(auto, unfolding(crate::specs::World::query_named))]
     fn query_named(&self, name: &str) -> Option<u64> {
-        query_called(&self.queries, name).map(|number| number as u64)
+        self.query_number(name).map(|number| number as u64)
     }
 }

@@ -1,18 +1,20 @@
 //! What an accepted call changes.
 ghost use Rattle.std.specs.List.{list_all};
 ghost use Rattle.std.specs.Prelude.{◌≡◌, IfOk, OnOk, OnErr, None, length, min, true, [], ◌∷◌, ◌++◌, nat_abs, drop, take, map};
-ghost use Rattle.reference.specs.Commands.{first_fault, after, change, registered_as, Declare, Append, Heartbeat, Take, Drop};
+ghost use Rattle.reference.specs.Commands.{first_fault, register_tests, after, change, registered_as, Declare, Append, Heartbeat, Take, Drop};
 ghost use Rattle.reference.specs.CallViews.{texts_of, handed_of};
 ghost use Rattle.reference.specs.World.{handed, waiting_at, untaken};
 ghost use Rattle.reference.specs.PlainViews.{machine_in, world_of};
 ghost use Rattle.reference.specs.Standing.{found_of, query_of, waiting_of, fresh_of};
 ghost use Rattle.reference.specs.Places.{machine_of};
 ghost use Rattle.names.specs.Sound.{has_narrow_rows, all_slide};
+ghost use Rattle.names.specs.Faults.{first_of};
 ghost use Rattle.names.specs.Views.{names_of};
 ghost use Rattle.cql_reader.specs.Lexis.{is_name};
 
 use crate::new_rows::NewRows;
 use crate::plain::Plain;
+use crate::plain::catalog::catalog_with;
 use crate::standing::StandingQuery;
 use crate::stream::Stream;
 use cql_reader::Name;
@@ -21,7 +23,7 @@ use std::alloc::{AllocError, Global};
 use values::Row;
 
 /// The names of these texts.
-fn names_of(alloc: Global, texts: &[String]) -> Result<Vec<Name>, AllocError>
+pub fn names_of(alloc: Global, texts: &[String]) -> Result<Vec<Name>, AllocError>
     requires { list_all is_name (texts_of texts.now) ≡ true }
     ensures names { IfOk result (λ v. names_of v.items ≡ texts_of texts.now) }
     ensures len { IfOk result (λ v. length v.items ≡ length texts.now) }
@@ -47,16 +49,20 @@ impl Plain {
         ensures err { OnErr result (world_of self.new ≡ world_of self.old) }
     {
         let columns = names_of(self.alloc, columns)?;
+        let stream = Stream::new(self.alloc, Name::new(name.as_bytes()), columns, from as u64);
+        // all growth comes first, so the catalog is made anew; there are at most 64 streams
+        let catalog = catalog_with(self.alloc, &self.streams, &stream)?;
         self.streams.reserve(1)?;
+        self.stream_names.push(name)?;
         let number = self.streams.len() as u64;
-        let name = Name::new(name.as_bytes());
-        let stream = Stream::new(self.alloc, name, columns, from as u64);
+        self.catalog = catalog;
         self.streams.push_reserved(stream);
         Ok(number)
     }
 
     /// Adds a query and answers its number. On Err all is as it was.
     pub(crate) fn register(&mut self, name: &str, plan: Plan) -> Result<u64, AllocError>
+        requires fresh { first_of (register_tests (machine_in self.old) name.now) ≡ None }
         requires fits { has_narrow_rows plan.meaning.shape ≡ true }
         requires sources { length plan.meaning.windows.items ≡ length plan.streams.items }
         requires slides { all_slide plan.meaning.windows.items ≡ true }
@@ -64,9 +70,10 @@ impl Plain {
         ensures ok { OnOk result (world_of self.new ≡ record { machine = record (machine_in self.old) { queries = (machine_in self.old).queries ++ registered_as (machine_in self.old) name.now (found_of plan) ∷ [] }; waiting = (world_of self.old).waiting ++ [] ∷ [] }) }
         ensures err { OnErr result (world_of self.new ≡ world_of self.old) }
     {
-        let name = String::from_str(self.alloc, name)?;
-        let query = StandingQuery::new(self.alloc, &self.streams, name, plan)?;
+        let own_name = String::from_str(self.alloc, name)?;
+        let query = StandingQuery::new(self.alloc, &self.streams, own_name, plan)?;
         self.queries.reserve(1)?;
+        self.query_names.push(name)?;
         let number = self.queries.len() as u64;
         self.queries.push_reserved(query);
         Ok(number)
@@ -114,6 +121,7 @@ impl Plain {
         ensures machine { machine_in self.new ≡ after (machine_in self.old) (Drop query) 0 }
         ensures waiting { (world_of self.new).waiting ≡ change query (λ rows. []) (world_of self.old).waiting }
     {
+        self.query_names.free(self.queries[query as usize].name());
         self.queries[query as usize].drop_out();
     }
 }

@@ -1,6 +1,7 @@
 //! The first test that a call fails.
 ghost use Rattle.std.specs.Prelude.{◌≡◌, IfSome, MatchOption, None, Some, slice_get, map, count_by, not};
-ghost use Rattle.reference.specs.Commands.{first_fault, first_of, register_tests, Declare, Append, Heartbeat, Take, Drop};
+ghost use Rattle.reference.specs.Commands.{first_fault, register_tests, Declare, Append, Heartbeat, Take, Drop};
+ghost use Rattle.names.specs.Faults.{first_of};
 ghost use Rattle.reference.specs.Machine.{query_at};
 ghost use Rattle.reference.specs.World.{drain_fault};
 ghost use Rattle.reference.specs.CallViews.{texts_of};
@@ -12,7 +13,7 @@ use crate::fault::Fault;
 use crate::limits::{MAX_INSTANT, MAX_QUERIES, MAX_REGISTRATIONS, MAX_STREAMS, MAX_TAKE, MAX_TURN};
 use crate::new_rows::NewRows;
 use crate::plain::Plain;
-use crate::plain::lookup::{are_columns, number_of, query_called};
+use crate::plain::lookup::are_columns;
 use crate::standing::StandingQuery;
 use crate::stream::Stream;
 use cql_reader::is_name;
@@ -25,7 +26,7 @@ impl Plain {
         if !is_name(name) {
             return Some(Fault::BadName);
         }
-        if number_of(&self.streams, name.as_bytes()).is_some() {
+        if self.stream_number(name).is_some() {
             return Some(Fault::NameTaken);
         }
         if !are_columns(columns) {
@@ -48,7 +49,7 @@ impl Plain {
         if !is_name(name) {
             return Some(Fault::BadName);
         }
-        if query_called(&self.queries, name).is_some() {
+        if self.query_number(name).is_some() {
             return Some(Fault::NameTaken);
         }
         let undropped = count_undropped(&self.queries);

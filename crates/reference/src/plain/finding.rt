@@ -18,11 +18,8 @@ ghost use Rattle.reference.specs.PlainViews.{machine_in};
 
 use crate::fault::{Fault, QueryFault};
 use crate::plain::Plain;
-use crate::stream::Stream;
 use cql_reader::{Query, ReadFault, read};
-use names::Catalog;
 use plan::{Chart, Plan, PlanFault, plan};
-use std::alloc::{AllocError, Global};
 
 /// A text that was not read is refused for this.
 fn text_fault(fault: ReadFault) -> Fault
@@ -57,18 +54,6 @@ fn plan_fault(fault: PlanFault) -> Fault
     }
 }
 
-/// The names of the streams.
-fn catalog_of(alloc: Global, streams: &[Stream]) -> Result<Catalog, AllocError>
-    ensures catalog { IfOk result (λ c. c ≡ catalog_of streams.now) }
-    ensures few { IfOk result (λ c. AllByRecursion (λ s. length s.columns ≤ 8) c) }
-{
-    let mut catalog = Catalog::new(alloc);
-    for stream in streams {
-        stream.declare_in(alloc, &mut catalog)?;
-    }
-    Ok(catalog)
-}
-
 impl Plain {
     /// The plan of the text over the declared streams.
     pub(crate) fn find(&self, text: &str, chart: Option<&Chart>) -> Result<Plan, Fault>
@@ -91,8 +76,7 @@ impl Plain {
         ensures sources { IfOk result (λ p. length p.meaning.windows.items ≡ length p.streams.items) }
         ensures slides { IfOk result (λ p. all_slide p.meaning.windows.items ≡ true) }
     {
-        let catalog = catalog_of(self.alloc, &self.streams)?;
-        match plan(self.alloc, query, &catalog, chart) {
+        match plan(self.alloc, query, &self.catalog, chart) {
             Ok(plan) => Ok(plan),
             Err(fault) => Err(plan_fault(fault)),
         }

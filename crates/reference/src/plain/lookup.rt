@@ -1,16 +1,16 @@
 //! Names of streams, columns and queries.
-ghost use Rattle.std.specs.Prelude.{◌≡◌, map, position};
+ghost use Rattle.std.specs.Prelude.{◌≡◌};
 ghost use Rattle.std.specs.List.{list_any, list_all};
 ghost use Rattle.std.specs.Str.{bytes_eq};
 ghost use Rattle.cql_reader.specs.Lexis as words;
+ghost use Rattle.names.specs.Faults as naming;
 ghost use Rattle.reference.specs.Commands as commands;
-ghost use Rattle.reference.specs.Machine as machine;
+ghost use Rattle.reference.specs.Machine.{stream_named, query_named};
 ghost use Rattle.reference.specs.CallViews.{texts_of};
-ghost use Rattle.reference.specs.Standing.{query_of};
+ghost use Rattle.reference.specs.PlainViews.{machine_in};
 
 use crate::limits::MAX_STREAM_COLUMNS;
-use crate::standing::StandingQuery;
-use crate::stream::Stream;
+use crate::plain::Plain;
 use cql_reader::is_name;
 
 fn is_among(names: &[String], name: &str) -> bool
@@ -37,7 +37,7 @@ fn are_names(names: &[String]) -> bool
 
 /// Whether a name stands twice among them.
 fn has_repeat(names: &[String]) -> bool
-    ensures { result ≡ commands.has_repeat (texts_of names.now) }
+    ensures { result ≡ naming.has_repeat (texts_of names.now) }
 {
     for i in 0..names.len() {
         if is_among(&names[i + 1..], names[i].as_str()) {
@@ -48,7 +48,7 @@ fn has_repeat(names: &[String]) -> bool
 }
 
 /// 1 to 8 names, all good and none twice.
-pub(crate) fn are_columns(names: &[String]) -> bool
+pub fn are_columns(names: &[String]) -> bool
     ensures { result ≡ commands.are_columns (texts_of names.now) }
 {
     if names.is_empty() || MAX_STREAM_COLUMNS < names.len() {
@@ -57,22 +57,18 @@ pub(crate) fn are_columns(names: &[String]) -> bool
     are_names(names) && !has_repeat(names)
 }
 
-fn position_called(queries: &[StandingQuery], name: &str) -> Option<usize>
-    ensures { result ≡ position (λ q. machine.is_called name.now (query_of q)) queries.now }
-{
-    queries.iter().position(|query| query.is_called(name))
-}
+impl Plain {
+    /// The number of the stream of a name. Its time grows with the logarithm of how many streams there are.
+    pub(crate) fn stream_number(&self, name: &str) -> Option<usize>
+        ensures { result ≡ stream_named (machine_in self.now) name.now }
+    {
+        self.stream_names.number(name)
+    }
 
-/// The number of the stream of a name.
-pub(crate) fn number_of(streams: &[Stream], name: &[u8]) -> Option<usize>
-    ensures { result ≡ position (λ s. bytes_eq s.name name.now) streams.now }
-{
-    streams.iter().position(|stream| stream.name() == name)
-}
-
-/// The number of the query of a name that was not dropped.
-pub(crate) fn query_called(queries: &[StandingQuery], name: &str) -> Option<usize>
-    ensures { result ≡ position (machine.is_called name.now) (map query_of queries.now) }
-{
-    position_called(queries, name)
+    /// The number of the query of a name that was not dropped. Its time grows with the logarithm of how many there are.
+    pub(crate) fn query_number(&self, name: &str) -> Option<usize>
+        ensures { result ≡ query_named (machine_in self.now) name.now }
+    {
+        self.query_names.number(name)
+    }
 }

@@ -2,7 +2,6 @@
 ghost use Rattle.std.specs.Prelude.{◌≡◌, ◌≤◌, ◌<◌, ◌+◌, ◌^◌, ◌++◌, [], IfOk, OnOk, OnErr, length, min, take, drop, vec_len, vec_capacity, string_bytes, true};
 ghost use Rattle.reference.specs.Inputs.{are_signed};
 ghost use Rattle.std.specs.VecDeque.{deque_len};
-ghost use Rattle.reference.specs.Machine as machine;
 ghost use Rattle.reference.specs.Commands as commands;
 ghost use Rattle.reference.specs.Commands.{registered_as, took};
 ghost use Rattle.reference.specs.World.{handed};
@@ -48,11 +47,11 @@ impl StandingQuery {
         })
     }
 
-    /// Whether it has the name and was not dropped.
-    pub(crate) fn is_called(&self, name: &str) -> bool
-        ensures { result ≡ machine.is_called name.now (query_of self.now) }
+    /// Its name.
+    pub(crate) fn name(&self) -> &str
+        ensures { result.now ≡ (query_of self.now).name }
     {
-        !self.is_dropped && self.name.as_str() == name
+        self.name.as_str()
     }
 
     /// Whether it was dropped.

@@ -1,7 +1,6 @@
 use Rattle.std.proofs.Common.{◌∙◌, ap, ℕ, nat_abs, pos, ◌+ℤ◌, w64}
 use Rattle.std.proofs.lemmas.Int.{to_z-of_z}
 use Rattle.values.specs.Answers as cql
-use Rattle.values.specs.Resolved.{resolved_of}
 use Rattle.reference.specs.Views.{inputs_of}
 use Rattle.cql_reader.specs.Views.{query_of}
 use Rattle.names.specs.Resolved.{resolved}

@@ -1,4 +1,4 @@
-use Rattle.std.proofs.Common.{arith, length-append, ◌∙◌, ap, ◌+◌, ℕ}
+use Rattle.std.proofs.Common.{length-append, ◌∙◌, ap, ◌+◌, ℕ}
 use Rattle.reference.specs.Machine.{input_at}
 use Rattle.reference.specs.Places.{place_of}
 use Rattle.reference.proofs.InputLemmas.{each-more}

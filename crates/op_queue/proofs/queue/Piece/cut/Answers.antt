@@ -1,6 +1,3 @@
-use Rattle.std.proofs.Common.{◌+◌, ◌-◌, ◌∙◌, ap, arith, drop, map, min, sym, take}
-use Rattle.op_queue.specs.Entries.{RowAt}
-use Rattle.op_queue.specs.Items.{ticks}
 use Rattle.op_queue.proofs.BeginLemmas.{at_once-rows, at_once-ticks}
 use Rattle.op_queue.proofs.FrontLemmas.{IsFrontPart-rows, IsFrontPart-tick, cut-rows, cut-tick}
 use Rattle.op_queue.proofs.queue.Piece.cut.Goals as goal

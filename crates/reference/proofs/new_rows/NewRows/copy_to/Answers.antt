@@ -1,4 +1,4 @@
-use Rattle.std.proofs.Common.{sym, ◌∙◌, ap, length, arith}
+use Rattle.std.proofs.Common.{ap, length, arith}
 use Rattle.reference.proofs.NewRowLemmas.{length-rows_in}
 use Rattle.reference.proofs.new_rows.NewRows.copy_to.Goals as goal
 

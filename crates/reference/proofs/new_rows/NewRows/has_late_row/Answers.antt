@@ -1,8 +1,7 @@
-use Rattle.std.proofs.Common.{sym, ◌∙◌, ap, not, length, ◌==◌, int_lt, ◌≡◌, Bool}
+use Rattle.std.proofs.Common.{◌∙◌, ap, int_lt}
 use Rattle.std.proofs.Common.{w64}
 use Rattle.std.proofs.lemmas.Int.{to_z-of_z}
-use Rattle.std.specs.List.{list_any, list_all}
-use Rattle.reference.specs.Commands.{is_stream_value, is_instant}
+use Rattle.std.specs.List.{list_any}
 use Rattle.reference.proofs.NewRowLemmas.{any-instants}
 use Rattle.reference.proofs.new_rows.NewRows.has_late_row.Goals as goal
 

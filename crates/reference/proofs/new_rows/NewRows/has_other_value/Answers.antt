@@ -1,6 +1,6 @@
-use Rattle.std.proofs.Common.{sym, ◌∙◌, ap, not, length, ◌==◌, int_lt, ◌≡◌, Bool}
+use Rattle.std.proofs.Common.{◌∙◌, ap, not}
 use Rattle.std.specs.List.{list_any, list_all}
-use Rattle.reference.specs.Commands.{is_stream_value, is_instant}
+use Rattle.reference.specs.Commands.{is_stream_value}
 use Rattle.reference.proofs.NewRowLemmas.{all-values}
 use Rattle.reference.proofs.new_rows.NewRows.has_other_value.Goals as goal
 

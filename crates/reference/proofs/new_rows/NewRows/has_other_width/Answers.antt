@@ -1,6 +1,5 @@
-use Rattle.std.proofs.Common.{sym, ◌∙◌, ap, not, length, ◌==◌, int_lt, ◌≡◌, Bool}
-use Rattle.std.specs.List.{list_any, list_all}
-use Rattle.reference.specs.Commands.{is_stream_value, is_instant}
+use Rattle.std.proofs.Common.{◌∙◌, ap, not, length, ◌==◌}
+use Rattle.std.specs.List.{list_any}
 use Rattle.reference.proofs.NewRowLemmas.{any-widths}
 use Rattle.reference.proofs.new_rows.NewRows.has_other_width.Goals as goal
 

@@ -1,14 +1,10 @@
-use Rattle.std.proofs.Common.{◌≡◌, ◌<◌, ℕ, List, [], length, ap, sym, ◌∙◌, map, rules, refl, min, nat_abs, drop, append_assoc, ◌++◌, ◌∷◌, get_or, w64, arith}
-use Rattle.std.proofs.lemmas.Int.{to_z-of_z}
-use Rattle.values.specs.Row.{Row}
-use Rattle.reference.specs.Machine.{Stream, Machine, Registered}
-use Rattle.reference.specs.World.{World, waiting_at, untaken}
-use Rattle.reference.specs.Commands.{closed_to, appended, dropped, took, registered_as, append_tests, heartbeat_tests, take_tests}
-use Rattle.reference.specs.PlainViews.{world_of, machine_in}
-use Rattle.reference.specs.Places.{machine_of}
-use Rattle.reference.specs.Standing.{query_of, waiting_of, found_of}
-use Rattle.reference.specs.declared.standing.StandingQuery.{StandingQuery}
+use Rattle.std.proofs.Common.{◌≡◌, ◌<◌, List, length, ap, sym, ◌∙◌, get_or}
+use Rattle.reference.specs.Machine.{Stream}
+use Rattle.reference.specs.World.{World}
+use Rattle.reference.specs.Commands.{appended, append_tests}
 use Rattle.reference.proofs.StepLemmas.{set-change_self, on_ok, stream_in, made}
+use Rattle.reference.proofs.StepLemmas.{on_err}
+use Rattle.reference.proofs.NamedLemmas.{catalog-set, names-set, either_way}
 use Rattle.reference.proofs.plain.Plain.append_rows.Goals as goal
 
 pub returns-clause-ok : goal.returns-clause-ok
@@ -19,3 +15,24 @@ returns-clause-ok c =
     on_ok c.append.result
     (λ h. ap streamed (set-change_self (appended c.args.rows.now) p.streams.items c.args.stream c.append.new.self c.index_mut.result.now lt (h ∙ ap (appended c.args.rows.now) c.index_mut.ensures.value)))
     c.append.ensures.ok
+
+pub invariant_of-self : goal.invariant_of-self
+invariant_of-self c =
+    let p = c.args.self.now in
+    let xs = p.streams.items in
+    let x = c.append.new.self in
+    let d = c.index_mut.result.now in
+    let name : x.name ≡ (get_or xs c.args.stream d).name =
+    either_way c.append.result
+    (on_ok c.append.result (λ h. ap (λ (s : Stream). s.name) (h ∙ ap (appended c.args.rows.now) c.index_mut.ensures.value)) c.append.ensures.ok)
+    (on_err c.append.result (λ h. ap (λ (s : Stream). s.name) (h ∙ c.index_mut.ensures.value)) c.append.ensures.err) in
+    let columns : x.columns ≡ (get_or xs c.args.stream d).columns =
+    either_way c.append.result
+    (on_ok c.append.result (λ h. ap (λ (s : Stream). s.columns) (h ∙ ap (appended c.args.rows.now) c.index_mut.ensures.value)) c.append.ensures.ok)
+    (on_err c.append.result (λ h. ap (λ (s : Stream). s.columns) (h ∙ c.index_mut.ensures.value)) c.append.ensures.err) in
+    record {
+      declared = p.declared ∙ sym (catalog-set xs c.args.stream x d name columns);
+      few = p.few;
+      streams_are_named = p.streams_are_named ∙ sym (names-set xs c.args.stream x d name);
+      queries_are_named = p.queries_are_named;
+    }

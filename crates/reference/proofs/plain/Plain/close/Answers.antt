@@ -1,14 +1,10 @@
-use Rattle.std.proofs.Common.{◌≡◌, ◌<◌, ℕ, List, [], length, ap, sym, ◌∙◌, map, rules, refl, min, nat_abs, drop, append_assoc, ◌++◌, ◌∷◌, get_or, w64, arith}
+use Rattle.std.proofs.Common.{◌≡◌, ◌<◌, List, length, ap, sym, ◌∙◌, get_or, w64}
 use Rattle.std.proofs.lemmas.Int.{to_z-of_z}
-use Rattle.values.specs.Row.{Row}
-use Rattle.reference.specs.Machine.{Stream, Machine, Registered}
-use Rattle.reference.specs.World.{World, waiting_at, untaken}
-use Rattle.reference.specs.Commands.{closed_to, appended, dropped, took, registered_as, append_tests, heartbeat_tests, take_tests}
-use Rattle.reference.specs.PlainViews.{world_of, machine_in}
-use Rattle.reference.specs.Places.{machine_of}
-use Rattle.reference.specs.Standing.{query_of, waiting_of, found_of}
-use Rattle.reference.specs.declared.standing.StandingQuery.{StandingQuery}
+use Rattle.reference.specs.Machine.{Stream}
+use Rattle.reference.specs.World.{World}
+use Rattle.reference.specs.Commands.{closed_to, heartbeat_tests}
 use Rattle.reference.proofs.StepLemmas.{set-change_self, stream_in, made}
+use Rattle.reference.proofs.NamedLemmas.{catalog-set, names-set}
 use Rattle.reference.proofs.plain.Plain.close.Goals as goal
 
 pub returns : goal.returns
@@ -18,3 +14,18 @@ returns c =
     let streamed : List Stream → World = λ xs. made xs p.queries.items in
     let closed = simp (to_z-of_z w64 c.args.at c.ranges.at) at c.close.ensures in
     ap streamed (set-change_self (closed_to c.args.at) p.streams.items c.args.stream c.close.new.self c.index_mut.result.now lt (closed ∙ ap (closed_to c.args.at) c.index_mut.ensures.value))
+
+pub invariant_of-self : goal.invariant_of-self
+invariant_of-self c =
+    let p = c.args.self.now in
+    let xs = p.streams.items in
+    let closed = simp (to_z-of_z w64 c.args.at c.ranges.at) at c.close.ensures in
+    let is : c.close.new.self ≡ closed_to c.args.at (get_or xs c.args.stream c.index_mut.result.now) = closed ∙ ap (closed_to c.args.at) c.index_mut.ensures.value in
+    record {
+      declared =
+          p.declared
+          ∙ sym (catalog-set xs c.args.stream c.close.new.self c.index_mut.result.now (ap (λ (s : Stream). s.name) is) (ap (λ (s : Stream). s.columns) is));
+      few = p.few;
+      streams_are_named = p.streams_are_named ∙ sym (names-set xs c.args.stream c.close.new.self c.index_mut.result.now (ap (λ (s : Stream). s.name) is));
+      queries_are_named = p.queries_are_named;
+    }

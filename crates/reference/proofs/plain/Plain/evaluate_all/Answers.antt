@@ -1,4 +1,4 @@
-use Rattle.std.proofs.Common.{◌≡◌, ◌<◌, ℕ, List, length, ap, ◌∙◌, map, arith}
+use Rattle.std.proofs.Common.{◌≡◌, ℕ, List, length, ap, sym, ◌∙◌, map, arith}
 use Rattle.std.proofs.lemmas.List.{with_items_is, length-map}
 use Rattle.values.specs.Row.{Row}
 use Rattle.reference.specs.Machine.{Registered}
@@ -9,6 +9,8 @@ use Rattle.reference.specs.Standing.{query_of, waiting_of}
 use Rattle.reference.specs.declared.plain.Plain.{Plain}
 use Rattle.reference.specs.declared.standing.StandingQuery.{StandingQuery}
 use Rattle.reference.proofs.StepLemmas.{on_ok, on_err, made}
+use Rattle.reference.specs.Named.{query_name}
+use Rattle.reference.proofs.NamedLemmas.{names_stay}
 use Rattle.reference.proofs.plain.Plain.evaluate_all.Goals as goal
 
 abbrev waits : Plain → List (List (ℕ × Row)) → World
@@ -38,3 +40,17 @@ returns-clause-err c =
     on_err c.refresh_all.result
     (λ h. ap (made p.streams.items) (with_items_is p.queries new len) ∙ ap (asks p new) same ∙ ap (waits p) h)
     (rw c.deref_mut.ensures.value at c.refresh_all.ensures.err)
+
+pub invariant_of-self : goal.invariant_of-self
+invariant_of-self c =
+    let p = c.args.self.now in
+    let new = c.refresh_all.new.queries in
+    let same : map query_of new ≡ map query_of p.queries.items = rw c.deref_mut.ensures.value at c.refresh_all.ensures.queries in
+    let sizes = ap length same in
+    let len : length new ≡ p.queries.len = omega (arith, sizes, length-map new query_of, length-map p.queries.items query_of, p.queries.ok.0) in
+    record {
+      declared = p.declared;
+      few = p.few;
+      streams_are_named = p.streams_are_named;
+      queries_are_named = p.queries_are_named ∙ sym (ap (map query_name) (with_items_is p.queries new len) ∙ names_stay new p.queries.items same);
+    }

@@ -1,14 +1,16 @@
-use Rattle.std.proofs.Common.{◌≡◌, ◌<◌, ℕ, List, [], length, ap, sym, ◌∙◌, map, rules, refl, min, nat_abs, drop, append_assoc, ◌++◌, ◌∷◌, get_or, w64, arith}
+use Rattle.std.proofs.Common.{◌≡◌, ◌<◌, ℕ, List, length, ap, sym, ◌∙◌, min, nat_abs, drop, get_or, w64}
 use Rattle.std.proofs.lemmas.Int.{to_z-of_z}
-use Rattle.values.specs.Row.{Row}
-use Rattle.reference.specs.Machine.{Stream, Machine, Registered}
-use Rattle.reference.specs.World.{World, waiting_at, untaken}
-use Rattle.reference.specs.Commands.{closed_to, appended, dropped, took, registered_as, append_tests, heartbeat_tests, take_tests}
-use Rattle.reference.specs.PlainViews.{world_of, machine_in}
-use Rattle.reference.specs.Places.{machine_of}
-use Rattle.reference.specs.Standing.{query_of, waiting_of, found_of}
+use Rattle.reference.specs.Machine.{Machine, Registered}
+use Rattle.reference.specs.World.{waiting_at}
+use Rattle.reference.specs.Commands.{took, take_tests}
+use Rattle.reference.specs.PlainViews.{world_of}
+use Rattle.reference.specs.Standing.{query_of, waiting_of}
 use Rattle.reference.specs.declared.standing.StandingQuery.{StandingQuery}
 use Rattle.reference.proofs.StepLemmas.{set-change, on_ok, handed_count, query_in}
+use Rattle.std.proofs.Math.Seq.{map-set_same}
+use Rattle.reference.specs.Named.{name_of_registered, query_name}
+use Rattle.reference.proofs.StepLemmas.{on_err}
+use Rattle.reference.proofs.NamedLemmas.{either_way}
 use Rattle.reference.proofs.plain.Plain.hand_out.Goals as goal
 
 pub returns-clause-machine : goal.returns-clause-machine
@@ -37,3 +39,20 @@ returns-clause-waiting c =
     (h ∙ ap (λ (q : StandingQuery). drop (min (nat_abs c.args.limit) (length (waiting_of q))) (waiting_of q)) c.index_mut.ensures.value
     ∙ ap (λ (n : ℕ). drop n (waiting_of (get_or p.queries.items c.args.query old))) count))
     (simp limit at c.take.ensures.waiting)
+
+pub invariant_of-self : goal.invariant_of-self
+invariant_of-self c =
+    let p = c.args.self.now in
+    let qs = p.queries.items in
+    let x = c.take.new.self in
+    let d = c.index_mut.result.now in
+    let name : query_name x ≡ query_name (get_or qs c.args.query d) =
+    either_way c.take.result
+    (on_ok c.take.result (λ h. ap name_of_registered h ∙ ap query_name c.index_mut.ensures.value) c.take.ensures.query)
+    (on_err c.take.result (λ h. ap query_name (h ∙ c.index_mut.ensures.value)) c.take.ensures.err) in
+    record {
+      declared = p.declared;
+      few = p.few;
+      streams_are_named = p.streams_are_named;
+      queries_are_named = p.queries_are_named ∙ sym (map-set_same query_name qs c.args.query x d name);
+    }

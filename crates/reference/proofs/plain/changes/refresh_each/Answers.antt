@@ -1,4 +1,4 @@
-use Rattle.std.proofs.Common.{◌≡◌, ◌<◌, ◌+◌, suc, length, ◌∙◌, arith, add-one}
+use Rattle.std.proofs.Common.{◌<◌, length, ◌∙◌, arith, add-one}
 use Rattle.std.proofs.Math.Seq.{map-set_same}
 use Rattle.reference.specs.Standing.{query_of}
 use Rattle.reference.proofs.StepLemmas.{refreshed}

@@ -1,5 +1,5 @@
 use Rattle.std.proofs.Common.{◌≡◌, drop}
-use Rattle.reference.specs.Commands.{has_repeat}
+use Rattle.names.specs.Faults.{has_repeat}
 use Rattle.reference.specs.CallViews.{texts_of}
 use Rattle.reference.proofs.plain.lookup.has_repeat.Given as goal
 

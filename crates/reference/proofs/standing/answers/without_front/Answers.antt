@@ -1,4 +1,4 @@
-use Rattle.std.proofs.Common.{◌≡◌, ℕ, length, min, arith, sym, ◌∙◌, ap}
+use Rattle.std.proofs.Common.{◌≡◌, length, min, arith, ◌∙◌, ap}
 use Rattle.reference.proofs.InputLemmas.{dropped-least, signed-drop}
 use Rattle.reference.specs.Inputs.{are_signed}
 use Rattle.reference.proofs.standing.answers.without_front.Goals as goal

@@ -1,4 +1,4 @@
-use Rattle.std.proofs.Common.{◌≡◌, ◌≤◌, arith, sym, ◌∙◌, ap, length, refl}
+use Rattle.std.proofs.Common.{◌≤◌, arith, ap, length, refl}
 use Rattle.std.proofs.lemmas.List.{length-map}
 use Rattle.cql_reader.specs.Views.{name_of}
 use Rattle.reference.specs.Machine.{Stream}

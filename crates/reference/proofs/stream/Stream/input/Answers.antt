@@ -1,8 +1,5 @@
-use Rattle.std.proofs.Common.{ap, subst, List}
-use Rattle.values.specs.Window.{Element, input_of}
+use Rattle.std.proofs.Common.{ap}
 use Rattle.reference.specs.Machine.{Stream}
-use Rattle.reference.specs.Inputs.{ShowsSame}
-use Rattle.reference.specs.Views.{elements_of, pairs_of}
 use Rattle.reference.proofs.InputLemmas.{if_ok, copied-shows}
 use Rattle.reference.proofs.stream.Stream.input.Goals as goal
 

@@ -1,0 +1,3 @@
+pub mod ConjunctLemmas
+pub mod MadeLemmas
+pub mod LawLemmas

@@ -1,0 +1,7 @@
+//! Look-ups by name: a table gives numbers to names, in the order in which they come, and finds the number of a name in
+//! logarithmic time.
+#![tactic(auto)]
+
+mod table;
+
+pub use table::NameTable;

@@ -1,0 +1,10 @@
+pub mod Windows
+pub mod Nets
+pub mod Worlds
+pub mod Queries
+pub mod Operators
+pub mod Plans
+pub mod Starts
+pub mod Ready
+pub mod Laws
+pub mod Examples

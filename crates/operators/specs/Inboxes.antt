@@ -1,0 +1,48 @@
+-- What waits for an operator: rows and ticks of a stream's log, or of a queue that another operator fills.
+use Rattle.std.specs.Prelude.{ℕ, ◌≡◌, Bool, true, false, min, List, [], ◌++◌, max, take, drop, length}
+use Rattle.std.specs.List.{flat_map}
+use Rattle.values.specs.Row.{Row}
+use Rattle.values.specs.Window.{Element}
+use Rattle.op_queue.specs.Cursors.{IsWithin, cursor_entries}
+use Rattle.op_queue.specs.Entries.{Entry}
+use Rattle.op_queue.specs.Items.{entries_of, front_part}
+use Rattle.op_queue.specs.Logs.{Closed, span_entries}
+use Rattle.op_queue.specs.Queues.{Waiting, at_once}
+use Rattle.op_queue.specs.declared.item.Item.{Item}
+use Rattle.op_queue.specs.declared.cursor.Cursor.{Cursor}
+use Rattle.operators.specs.declared.inboxes.Inbox.{Inbox}
+use Rattle.operators.specs.declared.inboxes.Inbox.TheVariants.{First, Between}
+
+-- the rows and ticks that wait, where the log is that of the stream that a first queue reads; a queue between operators reads none
+abbrev pub entries_in : Inbox → Closed → List (Entry Row)
+entries_in (First c) log = cursor_entries c log
+entries_in (Between q) log = q.entries
+
+-- a first queue's cursor has passed no more than its log has
+abbrev pub IsInboxWithin : Inbox → Closed → Type 0
+IsInboxWithin (First c) log = IsWithin c log
+IsInboxWithin (Between q) log = Unit {0}
+
+-- other operators fill it
+abbrev pub is_fed : Inbox → Bool
+is_fed (First c) = false
+is_fed (Between q) = true
+
+-- what other operators have put there
+abbrev pub queued : Inbox → List (Entry Row)
+queued (First c) = []
+queued (Between q) = q.entries
+
+-- the front that comes out at once: a tick, or at most so many of the rows that came as one batch, or that a log has of one instant
+abbrev pub cut_of : ℕ → Inbox → Closed → List (Entry Row)
+cut_of rows (First c) log = front_part (min rows 1024) (cursor_entries c log)
+cut_of rows (Between q) log = take (min rows (at_once q.begins)) q.entries
+
+abbrev pub all_entries : List Item → List (Entry Row)
+all_entries items = flat_map entries_of items
+
+-- the first n rows and ticks have left
+pub record IsDropped (n : ℕ) (log : Closed) (old new : Inbox) : Type 0 where
+  pub entries : entries_in new log ≡ drop n (entries_in old log)
+  pub within : IsInboxWithin new log
+  pub same : is_fed new ≡ is_fed old

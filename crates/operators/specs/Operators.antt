@@ -1,0 +1,116 @@
+-- An operator of a running query, as a plain value.
+use Rattle.std.specs.Prelude.{ℕ, ◌≡◌, cond, Option, Some, None, List, [], ◌++◌, length}
+use Rattle.std.specs.Option.{option_map}
+use Rattle.values.specs.Row.{Row}
+use Rattle.lane_kernels.specs.declared.condition.Step.{Step}
+use Rattle.column.specs.Rows.{of_side}
+use Rattle.column.specs.declared.batch.Side.{Side}
+use Rattle.column.specs.declared.batch.Side.TheVariants.{Left, Right}
+use Rattle.op_queue.specs.Entries.{Entry}
+use Rattle.op_queue.specs.Items.{entries_of, front_of}
+use Rattle.op_queue.specs.Logs.{Closed}
+use Rattle.op_queue.specs.declared.item.Item.{Item}
+use Rattle.op_queue.specs.declared.queue.Front.{Front}
+use Rattle.op_queue.specs.declared.queue.Front.TheVariants as front
+use Rattle.group.specs.Groups.{GroupBy}
+use Rattle.group.specs.Turns.{GroupState}
+use Rattle.join.specs.Turns.{JoinState}
+use Rattle.to_stream.specs.Turns as root
+use Rattle.windows.specs.Latest.{LatestState}
+use Rattle.windows.specs.Range.{RangeState}
+use Rattle.row_nodes.specs.Project.{AreColumns}
+use Rattle.row_nodes.specs.Select.{FitItem}
+use Rattle.turn.specs.declared.kinds.Kind.{Kind}
+use Rattle.turn.specs.declared.kinds.Kind.TheVariants as kind
+use Rattle.turn.specs.declared.outcomes.Change.{Change}
+use Rattle.operators.specs.Inboxes.{IsDropped, entries_in, is_fed, queued}
+use Rattle.operators.specs.States.{IsNext, usable}
+use Rattle.operators.specs.declared.inboxes.Inbox.{Inbox}
+use Rattle.operators.specs.declared.states.State.{State}
+use Rattle.operators.specs.declared.states.State.TheVariants.{Range, Latest, Nothing, Join, Groups, Root}
+
+-- what it does, what it holds, and what waits on its sides; an operator with one input has it on the left
+pub record PlainOperator : Type 0 where
+  pub kind : Kind
+  pub state : State
+  pub left : Inbox
+  pub right : Inbox
+
+abbrev pub inbox_of : PlainOperator → Side → Inbox
+inbox_of o side = of_side side o.left o.right
+
+abbrev pub other : Side → Side
+other Left = Right
+other Right = Left
+
+-- the rows and ticks that wait on a side, where the log is that of the stream that a first queue reads
+abbrev pub waiting : PlainOperator → Closed → Side → List (Entry Row)
+waiting o log side = entries_in (inbox_of o side) log
+
+-- THE STATE IS ONE OF THE KIND
+abbrev pub IsOfRange : State → Type 0
+IsOfRange s = (held : RangeState) × (s ≡ Range held)
+
+abbrev pub IsOfLatest : State → Type 0
+IsOfLatest s = (held : LatestState) × (s ≡ Latest held)
+
+abbrev pub IsOfJoin : State → Type 0
+IsOfJoin s = (held : JoinState) × (s ≡ Join held)
+
+abbrev pub IsOfGroup : GroupBy → State → Type 0
+IsOfGroup g s = (held : GroupState) × (s ≡ Groups held) × (held.group ≡ g)
+
+abbrev pub IsOfRoot : State → Type 0
+IsOfRoot s = (held : root.State) × (s ≡ Root held)
+
+abbrev pub Belongs : Kind → State → Type 0
+Belongs kind.RangeWindow s = IsOfRange s
+Belongs kind.LatestWindow s = IsOfLatest s
+Belongs (kind.Select steps) s = s ≡ Nothing
+Belongs (kind.Project columns) s = s ≡ Nothing
+Belongs kind.Join s = IsOfJoin s
+Belongs (kind.Group g) s = IsOfGroup g s
+Belongs kind.ToStream s = IsOfRoot s
+
+-- the item has the columns that Select's condition or Project's list speaks of
+abbrev pub HasNamedColumns : Kind → Item → Type 0
+HasNamedColumns kind.RangeWindow i = Unit {0}
+HasNamedColumns kind.LatestWindow i = Unit {0}
+HasNamedColumns (kind.Select steps) i = FitItem steps i
+HasNamedColumns (kind.Project columns) i = AreColumns columns i
+HasNamedColumns kind.Join i = Unit {0}
+HasNamedColumns (kind.Group g) i = Unit {0}
+HasNamedColumns kind.ToStream i = Unit {0}
+
+-- WHICH SIDE A LEASE TAKES
+abbrev pub front_instant : Front → ℕ
+front_instant (front.Row t) = t
+front_instant (front.Tick t) = t
+
+-- the instant at the front of the side, where the side can be used
+abbrev pub ready_at : PlainOperator → Closed → Side → Option ℕ
+ready_at o log side = cond (usable o.state side) (option_map front_instant (front_of (waiting o log side))) None
+
+-- the left side where both can be used
+abbrev pub first_ready : Option ℕ → Option ℕ → Option (Side × ℕ)
+first_ready (Some t) right = Some (Left, t)
+first_ready None (Some t) = Some (Right, t)
+first_ready None None = None
+
+abbrev pub ready : PlainOperator → Closed → Option (Side × ℕ)
+ready o log = first_ready (ready_at o log Left) (ready_at o log Right)
+
+-- AFTER A TURN with an item of the side: the item has left its queue, the other queue is as it was, and the state is the next one
+pub record IsFinished (o : PlainOperator) (log : Closed) (side : Side) (i : Item) (c : Change) (new : PlainOperator) : Type 0 where
+  pub kind : new.kind ≡ o.kind
+  pub state : IsNext o.state side i c new.state
+  pub dropped : IsDropped (length (entries_of i)) log (inbox_of o side) (inbox_of new side)
+  pub other : inbox_of new (other side) ≡ inbox_of o (other side)
+
+-- AFTER IT WAS FED: these wait too, at the back of the side's queue, and all else is as it was
+pub record IsFed (o : PlainOperator) (side : Side) (es : List (Entry Row)) (new : PlainOperator) : Type 0 where
+  pub kind : new.kind ≡ o.kind
+  pub state : new.state ≡ o.state
+  pub queued : queued (inbox_of new side) ≡ queued (inbox_of o side) ++ es
+  pub fed : is_fed (inbox_of new side) ≡ is_fed (inbox_of o side)
+  pub other : inbox_of new (other side) ≡ inbox_of o (other side)

@@ -1,0 +1,206 @@
+//! The operators of a running query.
+ghost use Rattle.std.specs.Prelude.{◌≡◌, ◌<◌, ◌≤◌, ◌++◌, [], true, length, IfOk, OnOk};
+ghost use Rattle.std.specs.Arc.{arc_value};
+ghost use Rattle.op_queue.specs.Entries.{IsForward};
+ghost use Rattle.op_queue.specs.Items.{IsFrontPart, entries_of};
+ghost use Rattle.turn.specs.Turns.{FitsKind};
+ghost use Rattle.operators.specs.Inboxes.{IsDropped, IsInboxWithin, all_entries, cut_of, entries_in, is_fed, queued};
+ghost use Rattle.operators.specs.Operators.{Belongs, HasNamedColumns, IsFed, IsFinished, front_instant, inbox_of, other, ready, ready_at, waiting};
+ghost use Rattle.operators.specs.States.{HasColumns, IsNext, Takes, near_of, usable};
+ghost use Rattle.operators.specs.declared.inboxes.Inbox.TheVariants.{Between};
+
+use crate::inboxes::Inbox;
+use crate::states::State;
+use column::Side;
+use op_queue::{Front, Item, Log, Queue};
+use std::alloc::{AllocError, Global};
+use std::marker::Model;
+use std::sync::Arc;
+use turn::{Change, Kind, Near};
+
+/// An operator of a running query: what it does, what it holds, and what waits for it.
+///
+/// An operator with one input has it on the left. Where a call is lent a log, it is that of the stream that a window reads; other
+/// operators read none, and any log will do.
+#[derive(Drop)]
+pub struct Operator {
+    kind: Arc<Kind>,
+    state: State,
+    left: Inbox,
+    right: Inbox,
+}
+
+impl Model for Operator {
+    ghost use Rattle.std.specs.Arc.{arc_value};
+    ghost use Rattle.operators.specs.Operators.{PlainOperator};
+
+    ghost Value = { PlainOperator };
+
+    ghost view = { λ o. record { kind = arc_value o.kind; state = o.state; left = o.left; right = o.right } };
+}
+
+impl Operator {
+    /// An operator of this kind with this state, and with this input on the left; nothing waits on the right.
+    pub fn new(alloc: Global, kind: Arc<Kind>, state: State, left: Inbox) -> Operator
+        ensures { result ≡ record { kind = arc_value kind; state = state; left = left; right = Between (record { entries = []; begins = []; pieces = 0 }) } }
+    {
+        Operator {
+            kind,
+            state,
+            left,
+            right: Inbox::Between(Queue::new(alloc)),
+        }
+    }
+
+    /// What it does, shared with its turns.
+    pub fn kind(&self) -> Result<Arc<Kind>, AllocError>
+        ensures { IfOk result (λ kind. arc_value kind ≡ self.now.kind) }
+    {
+        Arc::try_clone(&self.kind)
+    }
+
+    /// Whether the side can be used now, if anything waits there.
+    pub fn usable(&self, side: Side) -> bool
+        ensures { result ≡ usable self.now.state side }
+    {
+        self.state.usable(side)
+    }
+
+    /// The side that a lease takes, the left one where both can be used, and the instant at its front; None where no side can be used or
+    /// nothing waits there.
+    pub fn ready(&self, log: &Log) -> Option<(Side, u64)>
+        ensures { result ≡ ready self.now log.now }
+    {
+        match self.ready_at(log, Side::Left) {
+            Some(at) => Some((Side::Left, at)),
+            None => match self.ready_at(log, Side::Right) {
+                Some(at) => Some((Side::Right, at)),
+                None => None,
+            },
+        }
+    }
+
+    /// A copy of the front of a side: a tick, or at most `rows` of the rows that stand there together.
+    pub fn cut(&self, alloc: Global, log: &Log, side: Side, rows: usize) -> Result<Item, AllocError>
+        requires waits { 0 < length (waiting self.now log.now side) }
+        requires some { 0 < rows }
+        ensures part { IfOk result (IsFrontPart rows (waiting self.now log.now side)) }
+        ensures value { IfOk result (λ item. entries_of item ≡ cut_of rows (inbox_of self.now side) log.now) }
+    {
+        self.inbox(side).front_cut(alloc, log, rows)
+    }
+
+    /// The excerpt that a turn with the item needs of the state, which is one of the operator's kind.
+    pub fn near(&self, alloc: Global, side: Side, item: &Item) -> Result<Near, AllocError>
+        requires belongs { Belongs self.now.kind self.now.state }
+        requires columns { HasColumns self.now.state side item.now }
+        requires named { HasNamedColumns self.now.kind item.now }
+        ensures value { IfOk result (λ near. near ≡ near_of self.now.state side item.now) }
+        ensures fits { IfOk result (λ near. FitsKind self.now.kind side item.now near) }
+    {
+        let near = self.state.near(alloc, side, item)?;
+        Ok(near)
+    }
+
+    /// The operator after a turn with an item of the side's front: the item leaves, and the state changes. After an error the operator can
+    /// only be dropped.
+    pub fn finish_item(
+        &mut self,
+        log: &Log,
+        side: Side,
+        item: &Item,
+        change: &Change,
+    ) -> Result<(), AllocError>
+        requires waits { length (entries_of item.now) ≤ length (waiting self.old log.now side) }
+        requires within { IsInboxWithin (inbox_of self.old side) log.now }
+        requires takes { Takes self.old.state side item.now change.now }
+        ensures { OnOk result (IsFinished self.old log.now side item.now change.now self.new) }
+    {
+        self.change(side, item, change)?;
+        self.drop_item(log, side, item);
+        Ok(())
+    }
+
+    /// Items come from the operator below, to the back of the side's queue. After an error some of them have come.
+    pub fn feed(&mut self, side: Side, items: Vec<Item>) -> Result<(), AllocError>
+        requires fed { is_fed (inbox_of self.old side) ≡ true }
+        requires forward { IsForward (queued (inbox_of self.old side) ++ all_entries items.items) }
+        ensures { OnOk result (IsFed self.old side (all_entries items.items) self.new) }
+    {
+        match side {
+            Side::Left => self.left.push(items),
+            Side::Right => self.right.push(items),
+        }
+    }
+
+    /// How many rows and ticks wait on a side.
+    pub fn pending(&self, log: &Log, side: Side) -> u128
+        ensures { result ≡ length (waiting self.now log.now side) }
+    {
+        self.inbox(side).len(log)
+    }
+
+    fn inbox(&self, side: Side) -> &Inbox
+        ensures { result.now ≡ inbox_of self.now side }
+    {
+        match side {
+            Side::Left => &self.left,
+            Side::Right => &self.right,
+        }
+    }
+
+    /// The instant at the front of a side that can be used.
+    fn ready_at(&self, log: &Log, side: Side) -> Option<u64>
+        ensures { result ≡ ready_at self.now log.now side }
+    {
+        if !self.usable(side) {
+            return None;
+        }
+        let front = self.inbox(side).front(log)?;
+        Some(instant_of(front))
+    }
+
+    fn change(&mut self, side: Side, item: &Item, change: &Change) -> Result<(), AllocError>
+        requires { Takes self.old.state side item.now change.now }
+        ensures kind { self.new.kind ≡ self.old.kind }
+        ensures state { OnOk result (IsNext self.old.state side item.now change.now self.new.state) }
+        ensures left { self.new.left ≡ self.old.left }
+        ensures right { self.new.right ≡ self.old.right }
+    {
+        self.state.apply(side, item, change)
+    }
+
+    fn drop_item(&mut self, log: &Log, side: Side, item: &Item)
+        requires waits { length (entries_of item.now) ≤ length (waiting self.old log.now side) }
+        requires within { IsInboxWithin (inbox_of self.old side) log.now }
+        ensures kind { self.new.kind ≡ self.old.kind }
+        ensures state { self.new.state ≡ self.old.state }
+        ensures dropped { IsDropped (length (entries_of item.now)) log.now (inbox_of self.old side) (inbox_of self.new side) }
+        ensures other { inbox_of self.new (other side) ≡ inbox_of self.old (other side) }
+    {
+        let count = size_of(item);
+        match side {
+            Side::Left => self.left.drop_front(log, count),
+            Side::Right => self.right.drop_front(log, count),
+        }
+    }
+}
+
+fn instant_of(front: Front) -> u64
+    ensures { result ≡ front_instant front }
+{
+    match front {
+        Front::Row(at) => at,
+        Front::Tick(at) => at,
+    }
+}
+
+/// How many rows or ticks an item is.
+fn size_of(item: &Item) -> usize
+    ensures { result ≡ length (entries_of item.now) }
+{
+    match item {
+        Item::Rows(_, batch) => batch.len(),
+        Item::Tick(_) => 1,
+    }
+}

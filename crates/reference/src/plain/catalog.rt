@@ -1,0 +1,34 @@
+//! What the declared streams are called, and their columns.
+ghost use Rattle.std.specs.Prelude.{◌≡◌, ◌≤◌, ◌++◌, ◌∷◌, [], IfOk, length};
+ghost use Rattle.std.specs.List.{AllByRecursion};
+ghost use Rattle.reference.specs.Commands.{catalog_of};
+
+use crate::stream::Stream;
+use names::Catalog;
+use std::alloc::{AllocError, Global};
+
+/// The names of the streams.
+fn catalog_of(alloc: Global, streams: &[Stream]) -> Result<Catalog, AllocError>
+    ensures catalog { IfOk result (λ c. c ≡ catalog_of streams.now) }
+    ensures few { IfOk result (λ c. AllByRecursion (λ s. length s.columns ≤ 8) c) }
+{
+    let mut catalog = Catalog::new(alloc);
+    for stream in streams {
+        stream.declare_in(alloc, &mut catalog)?;
+    }
+    Ok(catalog)
+}
+
+/// The names of the streams and of one more.
+pub(crate) fn catalog_with(
+    alloc: Global,
+    streams: &[Stream],
+    stream: &Stream,
+) -> Result<Catalog, AllocError>
+    ensures catalog { IfOk result (λ c. c ≡ catalog_of streams.now ++ catalog_of (stream.now ∷ [])) }
+    ensures few { IfOk result (λ c. AllByRecursion (λ s. length s.columns ≤ 8) c) }
+{
+    let mut catalog = catalog_of(alloc, streams)?;
+    stream.declare_in(alloc, &mut catalog)?;
+    Ok(catalog)
+}

@@ -1,0 +1,109 @@
+-- Calls on streams as calls on each machine that has them.
+use Rattle.std.proofs.Common.{◌≡◌, ◌<◌, ◌∙◌, ℕ, ℤ, suc, nat_abs, Bool, false, not, Option, Some, None, is_some, Result, Ok, Err, OnOk, OnErr, List, [], ◌∷◌, length, get_or, nat_le, refl, sym, ap, subst}
+use Rattle.std.specs.Prelude.{slice_get}
+use Rattle.std.proofs.lemmas.Option.{slice_get_read}
+use Rattle.values.specs.Row.{Row}
+use Rattle.values.specs.Window.{Element}
+use Rattle.op_queue.specs.Cursors.{GainsClosed}
+use Rattle.reference.specs.Machine.{Stream, Registered, Machine, stream_named}
+use Rattle.reference.specs.Commands.{first_fault, declare_fault, declared, appended, closed_to, change, are_columns, is_instant, Declare, Append, Heartbeat}
+use Rattle.cql_reader.specs.Lexis.{is_name}
+use Rattle.reference.specs.declared.limits.TheConstants.{MAX_STREAMS}
+use Rattle.reference.specs.declared.fault.Fault.{Fault}
+use Rattle.reference.specs.declared.fault.Fault.TheVariants.{Query, BadName, NameTaken, BadColumns, TooMany, UnknownStream, UnknownQuery, BadWidth, ValueRange, InstantRange, Late, Backward, Leap, StreamFull, BadLimit, OutOfMemory}
+use Rattle.reference.specs.Places.{machine_of}
+use Rattle.reference.specs.Told.{IsTold}
+use Rattle.reference.specs.World.{World, Step, Does, Looks, unless, declare_step, append_step, heartbeat_step}
+use Rattle.reference.proofs.StreamLemmas.{none_first, none_later}
+use Rattle.reference.proofs.StepLemmas.{refused, done, lacked}
+use Rattle.stream_store.specs.Beside.{beside, DoesBeside}
+use Rattle.stream_store.specs.Closing.{closed_of, closing_of, closing_at, closing_in, unless_faulty, QueuesGain}
+
+nothing : {X : Type 0} (o : Option X) → is_some o ≡ false → o ≡ None
+nothing None h = refl
+nothing (Some x) h = cc
+
+-- the name of an accepted declaration is free
+pub name_free : (m : Machine) (name : List ℕ) (columns : List (List ℕ)) (start : ℤ) → declare_fault m name columns start ≡ None → stream_named m name ≡ None
+name_free m name columns start h =
+    let last : List (Bool × Fault) = (not (are_columns columns), BadColumns) ∷ (not (is_instant start), InstantRange) ∷ (nat_le MAX_STREAMS (length m.streams), TooMany) ∷ [] in
+    nothing (stream_named m name) (none_first (is_some (stream_named m name)) NameTaken last (none_later (not (is_name name)) BadName ((is_some (stream_named m name), NameTaken) ∷ last) h))
+
+-- ---- a step on each machine that has the streams
+module _ {A B : Type 0} (view : A → B) (step : World → Step B) (old next : List Stream) (a : B) (first : Option Fault)
+    (is : (qs : List Registered) (ws : List (List (ℕ × Row))) → step (beside qs ws old) ≡ unless first (beside qs ws old) a (beside qs ws next)) where
+  pub beside_refused : (f : Fault) → Some f ≡ first → IsTold f → DoesBeside view step old (Err f) old
+  beside_refused f e t = record {
+    does = λ qs ws. subst (λ (s : Step B). Does view (beside qs ws old) s (Err f) (beside qs ws old)) (sym (is qs ws)) (refused view (beside qs ws old) (beside qs ws next) a first f e t);
+  }
+
+  pub beside_lacked : (new : List Stream) → None ≡ first → new ≡ old → DoesBeside view step old (Err OutOfMemory) new
+  beside_lacked new e same = record {
+    does = λ qs ws. subst (λ (s : Step B). Does view (beside qs ws old) s (Err OutOfMemory) (beside qs ws new)) (sym (is qs ws))
+        (lacked view (beside qs ws old) (beside qs ws next) a first (beside qs ws new) e (ap (beside qs ws) same));
+  }
+
+  pub beside_done : (r : A) (new : List Stream) → None ≡ first → view r ≡ a → new ≡ next → DoesBeside view step old (Ok r) new
+  beside_done r new e v same = record {
+    does = λ qs ws. subst (λ (s : Step B). Does view (beside qs ws old) s (Ok r) (beside qs ws new)) (sym (is qs ws))
+        (done view (beside qs ws old) (beside qs ws next) a first r (beside qs ws new) e v (ap (beside qs ws) same));
+  }
+
+pub declare_is : (old : List Stream) (name : List ℕ) (columns : List (List ℕ)) (start : ℤ) (qs : List Registered) (ws : List (List (ℕ × Row)))
+    → declare_step (beside qs ws old) name columns start ≡ unless (first_fault (machine_of old) (Declare name columns start)) (beside qs ws old) (length old) (beside qs ws (declared (machine_of old) name columns start).streams)
+unfolding declare_step
+declare_is old name columns start qs ws = refl
+
+pub append_is : (old : List Stream) (n : ℕ) (rows : List (ℤ × List (Option ℤ))) (qs : List Registered) (ws : List (List (ℕ × Row)))
+    → append_step (beside qs ws old) n rows ≡ unless (first_fault (machine_of old) (Append n rows)) (beside qs ws old) tt (beside qs ws (change n (appended rows) old))
+unfolding append_step
+append_is old n rows qs ws = refl
+
+pub heartbeat_is : (old : List Stream) (n : ℕ) (at : ℤ) (qs : List Registered) (ws : List (List (ℕ × Row)))
+    → heartbeat_step (beside qs ws old) n at ≡ unless (first_fault (machine_of old) (Heartbeat n at)) (beside qs ws old) tt (beside qs ws (change n (closed_to at) old))
+unfolding heartbeat_step
+heartbeat_is old n at qs ws = refl
+
+-- ---- one stream changed
+pub kept_name : {A E : Type 0} (r : Result A E) (f : Stream → Stream) (new old : Stream) → (f old).name ≡ old.name → OnOk r (new ≡ f old) → OnErr r (new ≡ old) → new.name ≡ old.name
+kept_name (Ok a) f new old same ok err = ap (λ (s : Stream). s.name) ok ∙ same
+kept_name (Err e) f new old same ok err = ap (λ (s : Stream). s.name) err
+
+pub gained : {A E : Type 0} (r : Result A E) (xs : List Stream) (n : ℕ) (at : ℤ) (old new : Stream) → n < length xs → old ≡ get_or xs n old → OnOk r (new ≡ closed_to at old)
+    → OnOk r (GainsClosed (closed_of old) (closing_of at old) (suc (nat_abs at)) (closed_of new)) → OnOk r (QueuesGain (slice_get xs n) at)
+gained (Err e) xs n at old new lt same ok gains = tt
+gained (Ok a) xs n at old new lt same ok gains =
+    subst (λ (o : Option Stream). QueuesGain o at) (sym (slice_get_read xs (length xs) n old refl lt same))
+    (subst (λ (s : Stream). GainsClosed (closed_of old) (closing_of at old) (suc (nat_abs at)) (closed_of s)) ok gains)
+
+-- ---- a look
+looked_told : {A : Type 0} (view : A → List Element) (es : List Element) (f : Fault) → IsTold f → Looks view (unless_faulty (Some f) es) (Err f)
+looked_told view es (Query fault) t = refl
+looked_told view es BadName t = refl
+looked_told view es NameTaken t = refl
+looked_told view es BadColumns t = refl
+looked_told view es TooMany t = refl
+looked_told view es UnknownStream t = refl
+looked_told view es UnknownQuery t = refl
+looked_told view es BadWidth t = refl
+looked_told view es ValueRange t = refl
+looked_told view es InstantRange t = refl
+looked_told view es Late t = refl
+looked_told view es Backward t = refl
+looked_told view es Leap t = refl
+looked_told view es StreamFull t = refl
+looked_told view es BadLimit t = refl
+looked_told view es OutOfMemory t = absurd t
+
+module _ {A : Type 0} (view : A → List Element) (streams : List Stream) (n : ℕ) (at : ℤ) where
+  pub closing_refused : (f : Fault) → Some f ≡ first_fault (machine_of streams) (Heartbeat n at) → IsTold f → Looks view (closing_in streams n at) (Err f)
+  unfolding closing_in
+  closing_refused f e t = subst (λ (o : Option Fault). Looks view (unless_faulty o (closing_at streams n at)) (Err f)) e (looked_told view (closing_at streams n at) f t)
+
+  pub closing_lacked : None ≡ first_fault (machine_of streams) (Heartbeat n at) → Looks view (closing_in streams n at) (Err OutOfMemory)
+  unfolding closing_in
+  closing_lacked e = subst (λ (o : Option Fault). Looks view (unless_faulty o (closing_at streams n at)) (Err OutOfMemory)) e tt
+
+pub closing_found : (streams : List Stream) (n : ℕ) (at : ℤ) (es : List Element) → None ≡ first_fault (machine_of streams) (Heartbeat n at) → es ≡ closing_at streams n at → closing_in streams n at ≡ Ok es
+unfolding closing_in
+closing_found streams n at es e same = ap (λ o. unless_faulty o (closing_at streams n at)) (sym e) ∙ ap (λ xs. Ok xs) (sym same)

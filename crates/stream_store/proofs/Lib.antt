@@ -1,0 +1,5 @@
+mod KeyLemmas
+mod OrderLemmas
+mod StoredLemmas
+mod BesideLemmas
+pub mod ShownLemmas

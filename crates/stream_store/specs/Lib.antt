@@ -1,0 +1,5 @@
+pub mod Open
+pub mod Closing
+pub mod Stored
+pub mod Beside
+pub mod Examples

@@ -1,0 +1,205 @@
+//! One declared stream.
+ghost use Rattle.std.specs.Prelude.{◌≡◌, ◌≤◌, ◌++◌, ◌∷◌, [], suc, nat_abs, None, OnOk, OnErr, IfOk, IfSome, length, map};
+ghost use Rattle.cql_reader.specs.Views.{name_of};
+ghost use Rattle.names.specs.Views.{names_of};
+ghost use Rattle.op_queue.specs.Cursors.{GainsClosed};
+ghost use Rattle.op_queue.specs.Tables.{element};
+ghost use Rattle.names.specs.Faults.{first_of};
+ghost use Rattle.reference.specs.Commands.{append_tests, heartbeat_tests, appended, closed_to, catalog_of};
+ghost use Rattle.reference.specs.Told.{IsTold};
+ghost use Rattle.stream_store.specs.Closing.{closed_of, closing_of};
+
+use crate::open::{drop_up_to, forget_from, put_all, rows_up_to};
+use cql_reader::Name;
+use names::Catalog;
+use op_queue::{Arrival, Log};
+use reference::{Fault, MAX_APPENDED, MAX_INSTANT, MAX_LEAP, MAX_STREAM_ROWS, NewRows};
+use std::alloc::{AllocError, Global};
+use std::collections::BTreeMap;
+use std::marker::Model;
+use values::Row;
+
+/// A declared stream: its name, its columns' names, the closed rows, the open rows by instant and number, and how many came.
+#[derive(Drop)]
+pub(crate) struct Stored {
+    alloc: Global,
+    name: Name,
+    columns: Vec<Name>,
+    log: Log,
+    waiting: BTreeMap<(u64, u64), Row>,
+    arrivals: u64,
+}
+
+impl Model for Stored {
+    ghost use Rattle.std.specs.Prelude.{length};
+    ghost use Rattle.cql_reader.specs.Views.{name_of};
+    ghost use Rattle.names.specs.Views.{names_of};
+    ghost use Rattle.reference.specs.Machine as machine;
+
+    ghost Value = { machine.Stream };
+
+    ghost use Rattle.stream_store.specs.Stored.{stream_in, IsStored};
+
+    ghost view = { λ s. stream_in (name_of s.name) (names_of s.columns.items) s.arrivals s.log s.waiting.entries };
+
+    ghost invariant = { λ s. IsStored (length s.columns.items) s.arrivals s.log s.waiting.entries };
+}
+
+impl Stored {
+    /// A stream to which nothing came.
+    pub(crate) fn new(
+        alloc: Global,
+        name: Name,
+        columns: Vec<Name>,
+        first_open: u64,
+    ) -> Result<Stored, AllocError>
+        requires few { length columns.items ≤ 8 }
+        requires instant { first_open ≤ 1099511627776 }
+        ensures { IfOk result (λ s. s ≡ record { name = name_of name; columns = names_of columns.items; elements = []; arrivals = 0; first_open = first_open }) }
+    {
+        let log = Log::new(alloc, columns.len(), first_open)?;
+        Ok(Stored {
+            alloc,
+            name,
+            columns,
+            log,
+            waiting: BTreeMap::new(alloc),
+            arrivals: 0,
+        })
+    }
+
+    /// Declares its names in a catalog.
+    pub(crate) fn declare_in(&self, catalog: &mut Catalog) -> Result<(), AllocError>
+        ensures declared { OnOk result (catalog.new ≡ catalog.old ++ catalog_of (self.now ∷ [])) }
+        ensures few { length self.now.columns ≤ 8 }
+    {
+        let mut columns = Vec::new(self.alloc);
+        columns.extend_from_slice(&self.columns)?;
+        catalog.declare(self.name, columns)
+    }
+
+    /// How many rows came.
+    pub(crate) fn arrivals(&self) -> u64
+        ensures { result ≡ self.now.arrivals }
+    {
+        self.arrivals
+    }
+
+    /// The first open instant.
+    pub(crate) fn first_open(&self) -> u64
+        ensures open { result ≡ self.now.first_open }
+        ensures range { result ≤ 1099511627777 }
+    {
+        self.log.until()
+    }
+
+    /// What is closed.
+    pub(crate) fn log(&self) -> &Log
+        ensures { result.now ≡ closed_of self.now }
+    {
+        let _until = self.log.until();
+        &self.log
+    }
+
+    /// The first test of the rows that fails.
+    pub(crate) fn append_fault(&self, rows: &NewRows) -> Option<Fault>
+        ensures first { result ≡ first_of (append_tests self.now rows.now) }
+        ensures told { IfSome result IsTold }
+    {
+        if MAX_APPENDED < rows.len() {
+            return Some(Fault::TooMany);
+        }
+        if rows.has_other_width(self.columns.len()) {
+            return Some(Fault::BadWidth);
+        }
+        if rows.has_other_value() {
+            return Some(Fault::ValueRange);
+        }
+        if rows.has_other_instant() {
+            return Some(Fault::InstantRange);
+        }
+        if rows.has_late_row(self.first_open() as i64) {
+            return Some(Fault::Late);
+        }
+        if MAX_STREAM_ROWS < self.arrivals as usize + rows.len() {
+            return Some(Fault::StreamFull);
+        }
+        None
+    }
+
+    /// The first test of a heartbeat that fails.
+    pub(crate) fn heartbeat_fault(&self, at: i64) -> Option<Fault>
+        ensures first { result ≡ first_of (heartbeat_tests self.now at) }
+        ensures told { IfSome result IsTold }
+    {
+        if at < 0 || MAX_INSTANT < at {
+            return Some(Fault::InstantRange);
+        }
+        let first_open = self.first_open() as i64;
+        if at < first_open {
+            return Some(Fault::Backward);
+        }
+        if first_open + MAX_LEAP <= at {
+            return Some(Fault::Leap);
+        }
+        None
+    }
+
+    /// Appends the rows. On Err it is as it was.
+    pub(crate) fn append(&mut self, rows: &NewRows) -> Result<(), AllocError>
+        requires { first_of (append_tests self.old rows.now) ≡ None }
+        ensures ok { OnOk result (self.new ≡ appended rows.now self.old) }
+        ensures err { OnErr result (self.new ≡ self.old) }
+    {
+        let count = rows.len();
+        let mut kept = Vec::with_capacity(self.alloc, count)?;
+        rows.copy_to(&mut kept);
+        match put_all(&mut self.waiting, self.arrivals, kept) {
+            Ok(()) => {
+                let _len = self.waiting.len();
+                self.arrivals += count as u64;
+                Ok(())
+            }
+            Err(error) => {
+                forget_from(&mut self.waiting, self.arrivals);
+                Err(error)
+            }
+        }
+    }
+
+    /// The last instant that an accepted heartbeat closes.
+    fn last_closed(&self, at: i64) -> u64
+        requires { first_of (heartbeat_tests self.now at) ≡ None }
+        ensures value { result ≡ nat_abs at }
+        ensures later { self.now.first_open ≤ result }
+        ensures range { result ≤ 1099511627776 }
+    {
+        at as u64
+    }
+
+    /// The rows that a heartbeat at this instant closes, by instant, then arrival.
+    pub(crate) fn closing(&self, at: i64) -> Result<Vec<Arrival>, AllocError>
+        requires { first_of (heartbeat_tests self.now at) ≡ None }
+        ensures { IfOk result (λ v. map element v.items ≡ closing_of at self.now) }
+    {
+        let last = self.last_closed(at);
+        let _until = self.log.until();
+        rows_up_to(self.alloc, &self.waiting, last)
+    }
+
+    /// Closes all instants up to `at`, which have these rows. On Err it is as it was.
+    pub(crate) fn close(&mut self, at: i64, rows: &[Arrival]) -> Result<(), AllocError>
+        requires accepted { first_of (heartbeat_tests self.old at) ≡ None }
+        requires closing { map element rows.now ≡ closing_of at self.old }
+        ensures ok { OnOk result (self.new ≡ closed_to at self.old) }
+        ensures queues { OnOk result (GainsClosed (closed_of self.old) (closing_of at self.old) (suc (nat_abs at)) (closed_of self.new)) }
+        ensures err { OnErr result (self.new ≡ self.old) }
+    {
+        let last = self.last_closed(at);
+        let _until = self.log.until();
+        self.log.close(rows, last + 1)?;
+        let _closed = self.log.until();
+        drop_up_to(&mut self.waiting, last);
+        Ok(())
+    }
+}

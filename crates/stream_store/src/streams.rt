@@ -1,0 +1,295 @@
+//! The declared streams.
+ghost use Rattle.std.specs.Prelude.{◌≡◌, ◌++◌, ◌∷◌, [], ℕ, ◌≤◌, None, Some, IfOk, IfSome, OnOk, OnErr, MatchOption, length, map, slice_get, position};
+ghost use Rattle.std.specs.Option.{option_map, option_map_or};
+ghost use Rattle.std.specs.Str.{bytes_eq};
+ghost use Rattle.std.specs.List.{AllByRecursion};
+ghost use Rattle.op_queue.specs.Tables.{element};
+ghost use Rattle.reference.specs.CallViews.{texts_of};
+ghost use Rattle.reference.specs.Commands.{first_fault, declared, appended, closed_to, catalog_of, change, Declare, Append, Heartbeat};
+ghost use Rattle.reference.specs.Machine.{Stream};
+ghost use Rattle.reference.specs.Places.{machine_of};
+ghost use Rattle.reference.specs.Told.{IsTold};
+ghost use Rattle.reference.specs.World.{Looks, declare_step, append_step, heartbeat_step};
+ghost use Rattle.stream_store.specs.Beside.{DoesBeside};
+ghost use Rattle.stream_store.specs.Closing.{closed_of, closing_at, closing_in, QueuesGain};
+
+use crate::stored::Stored;
+use cql_reader::{Name, is_name};
+use name_table::NameTable;
+use names::Catalog;
+use op_queue::{Arrival, Log};
+use reference::{Fault, MAX_INSTANT, MAX_STREAMS, NewRows, are_columns, names_of};
+use std::alloc::{AllocError, Global};
+use std::marker::Model;
+
+/// The declared streams, by number, as the machine of `reference` knows them.
+///
+/// Closed rows stand in a `Log` a stream, which queries read by cursors; open rows by instant, until a heartbeat closes them.
+#[derive(Drop)]
+pub struct Streams {
+    alloc: Global,
+    streams: Vec<Stored>,
+    names: NameTable,
+}
+
+impl Model for Streams {
+    ghost use Rattle.std.specs.Prelude.{List, ◌≡◌, map, Some};
+    ghost use Rattle.reference.specs.Machine as machine;
+
+    ghost Value = { List machine.Stream };
+
+    ghost view = { λ s. s.streams.items };
+
+    ghost invariant = { λ s. s.names ≡ map (λ d. Some d.name) s.streams.items };
+}
+
+impl Streams {
+    /// No streams. Takes no memory.
+    pub fn new(alloc: Global) -> Streams
+        ensures { result ≡ [] }
+    {
+        Streams {
+            alloc,
+            streams: Vec::new(alloc),
+            names: NameTable::new(alloc),
+        }
+    }
+
+    /// The number of the stream of a name. Takes no memory; its time grows with the logarithm of how many streams there are.
+    pub fn named(&self, name: &str) -> Option<u64>
+        ensures { result ≡ position (λ s. bytes_eq s.name name.now) self.now }
+    {
+        self.place_of(name).map(|number| number as u64)
+    }
+
+    fn place_of(&self, name: &str) -> Option<usize>
+        ensures { result ≡ position (λ s. bytes_eq s.name name.now) self.now }
+    {
+        self.names.number(name)
+    }
+
+    /// How many streams were declared.
+    pub fn len(&self) -> usize
+        ensures { result ≡ length self.now }
+    {
+        self.streams.len()
+    }
+
+    fn stream_at(&self, number: u64) -> Option<&Stored>
+        ensures { MatchOption result (slice_get self.now number ≡ None) (λ s. slice_get self.now number ≡ Some s.now) }
+    {
+        self.streams.get(number as usize)
+    }
+
+    /// What the stream of a number has closed, for the cursors of queries.
+    pub fn log(&self, stream: u64) -> Option<&Log>
+        ensures { MatchOption result (slice_get self.now stream ≡ None) (λ log. option_map closed_of (slice_get self.now stream) ≡ Some log.now) }
+    {
+        match self.stream_at(stream) {
+            Some(stream) => Some(stream.log()),
+            None => None,
+        }
+    }
+
+    /// How many rows came to the stream of a number; 0 where there is none.
+    pub fn arrivals(&self, stream: u64) -> u64
+        ensures { result ≡ option_map_or (λ s. s.arrivals) (slice_get self.now stream) 0 }
+    {
+        match self.stream_at(stream) {
+            Some(stream) => stream.arrivals(),
+            None => 0,
+        }
+    }
+
+    /// The first instant of the stream of a number that no heartbeat has closed; 0 where there is none.
+    pub fn first_open(&self, stream: u64) -> u64
+        ensures instant { result ≡ option_map_or (λ s. s.first_open) (slice_get self.now stream) 0 }
+        ensures range { result ≤ 1099511627777 }
+    {
+        match self.stream_at(stream) {
+            Some(stream) => stream.first_open(),
+            None => 0,
+        }
+    }
+
+    /// The names that a query may use.
+    ///
+    /// # Errors
+    /// `AllocError` where memory is refused.
+    pub fn catalog(&self) -> Result<Catalog, AllocError>
+        ensures catalog { IfOk result (λ c. c ≡ catalog_of self.now) }
+        ensures few { IfOk result (λ c. AllByRecursion (λ s. length s.columns ≤ 8) c) }
+    {
+        catalog_of(self.alloc, &self.streams)
+    }
+
+    fn declare_fault(&self, name: &str, columns: &[String], from: i64) -> Option<Fault>
+        ensures first { result ≡ first_fault (machine_of self.now) (Declare name.now (texts_of columns.now) from) }
+        ensures told { IfSome result IsTold }
+    {
+        if !is_name(name) {
+            return Some(Fault::BadName);
+        }
+        if self.named(name).is_some() {
+            return Some(Fault::NameTaken);
+        }
+        if !are_columns(columns) {
+            return Some(Fault::BadColumns);
+        }
+        if from < 0 || MAX_INSTANT < from {
+            return Some(Fault::InstantRange);
+        }
+        if MAX_STREAMS <= self.streams.len() {
+            return Some(Fault::TooMany);
+        }
+        None
+    }
+
+    fn append_fault(&self, stream: u64, rows: &NewRows) -> Option<Fault>
+        ensures first { result ≡ first_fault (machine_of self.now) (Append stream rows.now) }
+        ensures told { IfSome result IsTold }
+    {
+        match self.streams.get(stream as usize) {
+            Some(stream) => stream.append_fault(rows),
+            None => Some(Fault::UnknownStream),
+        }
+    }
+
+    fn heartbeat_fault(&self, stream: u64, at: i64) -> Option<Fault>
+        ensures first { result ≡ first_fault (machine_of self.now) (Heartbeat stream at) }
+        ensures told { IfSome result IsTold }
+    {
+        match self.stream_at(stream) {
+            Some(stream) => stream.heartbeat_fault(at),
+            None => Some(Fault::UnknownStream),
+        }
+    }
+
+    /// Adds a stream. On Err all is as it was.
+    fn add(&mut self, name: &str, columns: &[String], from: i64) -> Result<u64, AllocError>
+        requires { first_fault (machine_of self.old) (Declare name.now (texts_of columns.now) from) ≡ None }
+        ensures number { IfOk result (λ n. n ≡ length self.old) }
+        ensures ok { OnOk result (self.new ≡ (declared (machine_of self.old) name.now (texts_of columns.now) from).streams) }
+        ensures err { OnErr result (self.new ≡ self.old) }
+    {
+        let columns = names_of(self.alloc, columns)?;
+        let stream = Stored::new(self.alloc, Name::new(name.as_bytes()), columns, from as u64)?;
+        self.streams.reserve(1)?;
+        let number = self.streams.len() as u64;
+        self.names.push(name)?;
+        self.streams.push_reserved(stream);
+        Ok(number)
+    }
+
+    /// Appends the rows. On Err all is as it was.
+    fn put(&mut self, stream: u64, rows: &NewRows) -> Result<(), AllocError>
+        requires { first_fault (machine_of self.old) (Append stream rows.now) ≡ None }
+        ensures ok { OnOk result (self.new ≡ change stream (appended rows.now) self.old) }
+        ensures err { OnErr result (self.new ≡ self.old) }
+    {
+        self.streams[stream as usize].append(rows)
+    }
+
+    fn rows_to_close(&self, stream: u64, at: i64) -> Result<Vec<Arrival>, AllocError>
+        requires { first_fault (machine_of self.now) (Heartbeat stream at) ≡ None }
+        ensures { IfOk result (λ v. map element v.items ≡ closing_at self.now stream at) }
+    {
+        self.streams[stream as usize].closing(at)
+    }
+
+    /// Closes all instants of the stream up to `at`, which have the rows that `closing` gave. On Err all is as it was.
+    ///
+    /// Whatever the number of cursors, it costs the rows; each cursor's queue gains just them and the ticks of the instants.
+    ///
+    /// # Errors
+    /// `AllocError` where memory is refused.
+    pub fn close(&mut self, stream: u64, at: i64, rows: &[Arrival]) -> Result<(), AllocError>
+        requires accepted { first_fault (machine_of self.old) (Heartbeat stream at) ≡ None }
+        requires closing { map element rows.now ≡ closing_at self.old stream at }
+        ensures ok { OnOk result (self.new ≡ change stream (closed_to at) self.old) }
+        ensures queues { OnOk result (QueuesGain (slice_get self.old stream) at) }
+        ensures err { OnErr result (self.new ≡ self.old) }
+    {
+        self.streams[stream as usize].close(at, rows)
+    }
+
+    fn close_up(&mut self, stream: u64, at: i64) -> Result<(), AllocError>
+        requires { first_fault (machine_of self.old) (Heartbeat stream at) ≡ None }
+        ensures ok { OnOk result (self.new ≡ change stream (closed_to at) self.old) }
+        ensures queues { OnOk result (QueuesGain (slice_get self.old stream) at) }
+        ensures err { OnErr result (self.new ≡ self.old) }
+    {
+        let rows = self.rows_to_close(stream, at)?;
+        self.close(stream, at, &rows)
+    }
+
+    /// Declares a stream, whose first open instant is `from`, and answers its number, from 0 on.
+    ///
+    /// # Errors
+    /// `BadName`, `NameTaken`, `BadColumns`, `InstantRange`, `TooMany`: the first test that fails, and then all is as it was.
+    pub fn declare(&mut self, name: &str, columns: &[String], from: i64) -> Result<u64, Fault>
+        ensures { DoesBeside (λ (n : ℕ). n) (λ w. declare_step w name.now (texts_of columns.now) from) self.old result self.new }
+    {
+        match self.declare_fault(name, columns, from) {
+            Some(fault) => Err(fault),
+            None => Ok(self.add(name, columns, from)?),
+        }
+    }
+
+    /// Appends rows to the stream of a number; where one row is refused, none is appended.
+    ///
+    /// It costs its rows, each with the logarithm of how many rows of the stream are open.
+    ///
+    /// # Errors
+    /// `UnknownStream`, `TooMany`, `BadWidth`, `ValueRange`, `InstantRange`, `Late`, `StreamFull`: the first test that fails,
+    /// and then all is as it was.
+    pub fn append(&mut self, stream: u64, rows: &NewRows) -> Result<(), Fault>
+        ensures { DoesBeside (λ u. u) (λ w. append_step w stream rows.now) self.old result self.new }
+    {
+        match self.append_fault(stream, rows) {
+            Some(fault) => Err(fault),
+            None => Ok(self.put(stream, rows)?),
+        }
+    }
+
+    /// The rows that a heartbeat at this instant closes, by instant, then arrival; with them `close` does what the heartbeat does.
+    ///
+    /// # Errors
+    /// `UnknownStream`, `InstantRange`, `Backward`, `Leap`: the first test that fails.
+    pub fn closing(&self, stream: u64, at: i64) -> Result<Vec<Arrival>, Fault>
+        ensures looks { Looks (λ v. map element v.items) (closing_in self.now stream at) result }
+        ensures accepted { OnOk result (first_fault (machine_of self.now) (Heartbeat stream at) ≡ None) }
+        ensures rows { IfOk result (λ v. map element v.items ≡ closing_at self.now stream at) }
+    {
+        match self.heartbeat_fault(stream, at) {
+            Some(fault) => Err(fault),
+            None => Ok(self.rows_to_close(stream, at)?),
+        }
+    }
+
+    /// Closes all instants of the stream up to `at`.
+    ///
+    /// # Errors
+    /// `UnknownStream`, `InstantRange`, `Backward`, `Leap`: the first test that fails, and then all is as it was.
+    pub fn heartbeat(&mut self, stream: u64, at: i64) -> Result<(), Fault>
+        ensures does { DoesBeside (λ u. u) (λ w. heartbeat_step w stream at) self.old result self.new }
+        ensures queues { OnOk result (QueuesGain (slice_get self.old stream) at) }
+    {
+        match self.heartbeat_fault(stream, at) {
+            Some(fault) => Err(fault),
+            None => Ok(self.close_up(stream, at)?),
+        }
+    }
+}
+
+/// The names of the streams.
+fn catalog_of(alloc: Global, streams: &[Stored]) -> Result<Catalog, AllocError>
+    ensures catalog { IfOk result (λ c. c ≡ catalog_of streams.now) }
+    ensures few { IfOk result (λ c. AllByRecursion (λ s. length s.columns ≤ 8) c) }
+{
+    let mut catalog = Catalog::new(alloc);
+    for stream in streams {
+        stream.declare_in(&mut catalog)?;
+    }
+    Ok(catalog)
+}

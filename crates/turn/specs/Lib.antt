@@ -1,0 +1,4 @@
+pub mod Nodes
+pub mod Turns
+pub mod Finished
+pub mod Same

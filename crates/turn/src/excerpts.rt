@@ -1,0 +1,86 @@
+//! What turns need of the states of operators.
+ghost use Rattle.std.specs.Prelude.{◌≡◌, ◌↔◌, IsTrue};
+
+use crate::same_rows::{same_fallen_rows, same_met, same_row_lists};
+use std::marker::Model;
+use values::Row;
+
+/// A list of rows.
+#[derive(Drop)]
+pub struct RowList {
+    pub rows: Vec<Row>,
+}
+
+impl Model for RowList {
+    ghost use Rattle.std.specs.Prelude.{List};
+    ghost use Rattle.values.specs.Row.{Row as PlainRow};
+    ghost use Rattle.windows.specs.Widths.{rows_of};
+
+    ghost Value = { List PlainRow };
+
+    ghost view = { λ l. rows_of l.rows.items };
+}
+
+/// For each row of an item the row that falls out of its partition after it, if one does.
+#[derive(Drop)]
+pub struct FallenRows {
+    pub rows: Vec<Option<Row>>,
+}
+
+impl Model for FallenRows {
+    ghost use Rattle.std.specs.Prelude.{List, Option};
+    ghost use Rattle.values.specs.Row.{Row as PlainRow};
+    ghost use Rattle.windows.specs.Latest.{fallen_rows};
+
+    ghost Value = { List (Option PlainRow) };
+
+    ghost view = { λ f. fallen_rows f.rows.items };
+}
+
+/// Of rows the rows of the other side that each meets, of a tick whether the other side has ticked.
+#[derive(Drop)]
+pub struct MetRows {
+    pub near: join::Near,
+}
+
+impl Model for MetRows {
+    ghost use Rattle.join.specs.Turns.{Excerpt, excerpt_of};
+
+    ghost Value = { Excerpt };
+
+    ghost view = { λ m. excerpt_of m.near };
+}
+
+/// The excerpt of an operator's state that a turn needs.
+#[derive(Drop)]
+pub enum Near {
+    /// Of operators without a state.
+    Nothing,
+    /// The rows that leave a window of the last instants; none where the item is rows.
+    Leaving(RowList),
+    /// The rows that fall out of the last rows of each partition; none where the item is a tick.
+    Fallen(FallenRows),
+    /// What the item meets on the other side of a join.
+    Met(MetRows),
+    /// The touched groups; none where the item is rows.
+    Groups(group::Near),
+    /// The rows that answer, in order; none where the item is rows.
+    Sorted(RowList),
+}
+
+impl Near {
+    /// Whether the excerpts are equal: of one kind, with the same rows or groups in the same order.
+    pub fn is_same(&self, other: &Near) -> bool
+        ensures { IsTrue result ↔ (self.now ≡ other.now) }
+    {
+        match (self, other) {
+            (Near::Nothing, Near::Nothing) => true,
+            (Near::Leaving(a), Near::Leaving(b)) => same_row_lists(&a.rows, &b.rows),
+            (Near::Fallen(a), Near::Fallen(b)) => same_fallen_rows(&a.rows, &b.rows),
+            (Near::Met(a), Near::Met(b)) => same_met(&a.near, &b.near),
+            (Near::Groups(a), Near::Groups(b)) => a.is_same(b),
+            (Near::Sorted(a), Near::Sorted(b)) => same_row_lists(&a.rows, &b.rows),
+            _ => false,
+        }
+    }
+}

@@ -1,0 +1,31 @@
+//! Turns: what a worker runs of an operator, outside every lock.
+//!
+//! A `Turn` is an item of an operator's queue with the excerpt of the operator's state that it needs. `Turn::run` makes the outputs and
+//! the change of these alone, so that it may run on any thread; what it made is a `Done`, which no other call makes.
+#![tactic(auto)]
+
+mod excerpts;
+mod group_turn;
+mod join_turn;
+mod kinds;
+mod latest_turn;
+mod nodes;
+mod outcomes;
+mod parts;
+mod project_turn;
+mod range_turn;
+mod root_turn;
+mod same_items;
+mod same_kinds;
+mod same_rows;
+mod select_turn;
+mod turns;
+mod works;
+
+pub use excerpts::{FallenRows, MetRows, Near, RowList};
+pub use kinds::{ColumnList, Kind, StepList};
+pub use nodes::Node;
+pub use outcomes::{Change, Outputs};
+pub use parts::Parts;
+pub use same_items::same_item;
+pub use turns::{Done, Turn};

@@ -1,0 +1,50 @@
+//! An operator of a query.
+ghost use Rattle.std.specs.Prelude.{◌≡◌, ◌↔◌, IsTrue};
+
+use crate::kinds::Kind;
+use crate::same_kinds::{same_kind, same_side};
+use column::Side;
+use std::marker::Model;
+use std::sync::Arc;
+
+/// An operator of a query's plan, and at a join the side that the item is of.
+///
+/// What the operator does is shared with the plan, so a node costs no copy of it.
+#[derive(Drop)]
+pub struct Node {
+    /// The number of the query.
+    pub query: u64,
+    /// The number of the operator in the query's plan.
+    pub operator: usize,
+    /// The side of a join; an operator with one input takes the left one.
+    pub side: Side,
+    /// What the operator does.
+    pub kind: Arc<Kind>,
+}
+
+impl Model for Node {
+    ghost use Rattle.std.specs.Arc.{arc_value};
+    ghost use Rattle.turn.specs.Nodes.{PlainNode};
+
+    ghost Value = { PlainNode };
+
+    ghost view = { λ n. record { query = n.query; operator = n.operator; side = n.side; kind = arc_value n.kind } };
+}
+
+impl Node {
+    /// Whether the nodes are equal: the same operator of the same query, the same side, and the same kind with all that it carries.
+    pub fn is_same(&self, other: &Node) -> bool
+        ensures { IsTrue result ↔ (self.now ≡ other.now) }
+    {
+        if self.query != other.query {
+            return false;
+        }
+        if self.operator != other.operator {
+            return false;
+        }
+        if !same_side(self.side, other.side) {
+            return false;
+        }
+        same_kind(&self.kind, &other.kind)
+    }
+}

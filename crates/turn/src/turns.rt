@@ -1,0 +1,91 @@
+//! Turns before they were run, and after.
+ghost use Rattle.std.specs.Prelude.{◌≡◌, IfOk, IfErr};
+ghost use Rattle.turn.specs.Turns.{Fits};
+ghost use Rattle.turn.specs.Finished.{IsDone, IsOf};
+
+use crate::excerpts::Near;
+use crate::nodes::Node;
+use crate::parts::Parts;
+use crate::works::work;
+use op_queue::Item;
+use std::alloc::Global;
+use std::marker::Model;
+
+/// What a lease hands out: an item of an operator's queue, and the excerpt of the operator's state that it needs.
+#[derive(Drop)]
+pub struct Turn {
+    /// The number of the lease.
+    pub lease: u64,
+    pub node: Node,
+    pub item: Item,
+    pub near: Near,
+}
+
+/// A turn that was run: its outputs and its change are those of its node, item and excerpt. Only `Turn::run` makes one.
+#[derive(Drop)]
+pub struct Done {
+    parts: Parts,
+}
+
+impl Model for Done {
+    ghost use Rattle.turn.specs.Finished.{IsDone};
+    ghost use Rattle.turn.specs.declared.parts.Parts.{Parts as Plain};
+
+    ghost Value = { Plain };
+
+    ghost view = { λ d. d.parts };
+
+    ghost invariant = { λ d. IsDone d.parts };
+}
+
+impl Turn {
+    /// Makes the outputs and the change. Where memory is refused the turn comes back as it was.
+    ///
+    /// It costs the item, the excerpt and the outputs, and knows neither the engine nor its lock.
+    pub fn run(self, alloc: Global) -> Result<Done, Turn>
+        requires { Fits self.node self.item self.near }
+        ensures turn { IfOk result (λ d. IsOf self d) }
+        ensures done { IfOk result IsDone }
+        ensures err { IfErr result (λ t. t ≡ self) }
+    {
+        match work(alloc, &self.node, &self.item, &self.near) {
+            Ok((outputs, change)) => {
+                let Turn {
+                    lease,
+                    node,
+                    item,
+                    near,
+                } = self;
+                Ok(Done {
+                    parts: Parts {
+                        lease,
+                        node,
+                        item,
+                        near,
+                        outputs,
+                        change,
+                    },
+                })
+            },
+            Err(_) => Err(self),
+        }
+    }
+}
+
+impl Done {
+    /// The turn, its outputs and its change, lent.
+    pub fn parts(&self) -> &Parts
+        ensures value { result.now ≡ self.now }
+        ensures done { IsDone result.now }
+    {
+        &self.parts
+    }
+
+    /// The turn, its outputs and its change, handed out.
+    pub fn into_parts(self) -> Parts
+        ensures value { result ≡ self }
+        ensures done { IsDone result }
+    {
+        self.parts
+    }
+}

@@ -1,0 +1,180 @@
+use programs::run;
+use std::alloc::Global;
+use std::process::Abort;
+use std::test::Fail;
+use wire::{DeviceFailed, MemorySink, MemorySource, Sink, Source};
+
+const FIRST: &str = r#"{"op":"stream","name":"S","columns":["a"],"from":0}
+{"op":"query","name":"q","text":"Select Istream(*) From S [Now]"}
+{"op":"append","stream":"S","rows":[[3,7],[1,5],[3,6]]}
+{"op":"heartbeat","stream":"S","at":3}
+{"op":"drain"}
+{"op":"take","query":"q","limit":100}
+"#;
+
+const FIRST_REPLIES: &str = r#"{"ok":true}
+{"ok":true}
+{"ok":true}
+{"ok":true}
+{"ok":true}
+{"ok":true,"rows":[[1,5],[3,6],[3,7]]}
+"#;
+
+// Runs `cqlrun` with a word over memory, and compares all that it does.
+fn expect_run(
+    rt: &impl Abort,
+    alloc: Global,
+    word: &str,
+    input: &[u8],
+    status: u8,
+    replies: &[u8],
+) {
+    let words = ["cqlrun", word];
+    let mut source = MemorySource::new(input);
+    let mut sink = MemorySink::new(alloc);
+    let mut errors = MemorySink::new(alloc);
+    let ended = run(alloc, words.as_slice(), &mut source, &mut sink, &mut errors);
+    assert_eq!(rt; ended, status);
+    assert_eq!(rt; sink.bytes.as_slice(), replies);
+    assert_eq!(rt; errors.bytes.is_empty(), status == 0);
+}
+
+#[test]
+fn scripts_are_answered_by_their_text(rt: HostRuntime) {
+    expect_run(&rt, rt.alloc(), "--plain", b"", 0, b"");
+    let (input, replies) = (FIRST.as_bytes(), FIRST_REPLIES.as_bytes());
+    expect_run(&rt, rt.alloc(), "--plain", input, 0, replies);
+}
+
+#[test]
+fn a_wrong_word_is_refused_and_nothing_is_answered(rt: HostRuntime) {
+    expect_run(&rt, rt.alloc(), "--plane", FIRST.as_bytes(), 2, b"");
+}
+
+#[test]
+fn help_is_no_error(rt: HostRuntime) {
+    let words = ["cqlrun", "--help"];
+    let mut source = MemorySource::new(FIRST.as_bytes());
+    let mut sink = MemorySink::new(rt.alloc());
+    let mut errors = MemorySink::new(rt.alloc());
+    let ended = run(
+        rt.alloc(),
+        words.as_slice(),
+        &mut source,
+        &mut sink,
+        &mut errors,
+    );
+    assert_eq!(rt; ended, 0);
+    assert!(rt; sink.bytes.len() > 0 && errors.bytes.is_empty());
+}
+
+// Memory that gives or takes up to seven bytes at a time, and fails at a call.
+#[derive(Drop)]
+struct Failing<'a> {
+    source: MemorySource<'a>,
+    sink: MemorySink,
+    until_failure: u64,
+    failures: u64,
+}
+
+impl Source for Failing<'_> {
+    ghost use Rattle.std.specs.Prelude.{None, length};
+
+    ghost left = { λ _. None };
+
+    ghost turns = { λ s. length s.source.bytes.now };
+
+    ghost failures = { λ s. s.failures };
+
+    fn read(&mut self, buffer: &mut [u8]) -> Result<usize, DeviceFailed> {
+        if self.until_failure == 0 {
+            self.failures = self.failures.saturating_add(1);
+            return Err(DeviceFailed);
+        }
+        self.until_failure -= 1;
+        let width = buffer.len().min(7);
+        self.source.read(&mut buffer[..width])
+    }
+}
+
+impl Sink for Failing<'_> {
+    ghost use Rattle.std.specs.Prelude.{None};
+
+    ghost taken = { λ _. None };
+
+    ghost failures = { λ s. s.sink.failures };
+
+    fn write(&mut self, bytes: &[u8]) -> Result<usize, DeviceFailed> {
+        if self.until_failure == 0 {
+            self.sink.failures = self.sink.failures.saturating_add(1);
+            return Err(DeviceFailed);
+        }
+        self.until_failure -= 1;
+        let (front, _) = bytes.split_at(bytes.len().min(7));
+        self.sink.write(front)
+    }
+}
+
+// Memory that fails after so many calls, over these bytes as a source.
+fn device_failing_after(
+    alloc: Global,
+    bytes: &'static [u8],
+    until_failure: u64,
+) -> Failing<'static> {
+    Failing {
+        source: MemorySource::new(bytes),
+        sink: MemorySink::new(alloc),
+        until_failure,
+        failures: 0,
+    }
+}
+
+#[test]
+fn a_failing_source_ends_the_run_after_a_front_of_the_replies(rt: HostRuntime) {
+    for calls in 0..FIRST.len() as u64 / 7 {
+        let words = ["cqlrun", "--plain"];
+        let mut source = device_failing_after(rt.alloc(), FIRST.as_bytes(), calls);
+        let mut sink = MemorySink::new(rt.alloc());
+        let mut errors = MemorySink::new(rt.alloc());
+        let ended = run(
+            rt.alloc(),
+            words.as_slice(),
+            &mut source,
+            &mut sink,
+            &mut errors,
+        );
+        assert_eq!(rt; ended, 1);
+        assert_eq!(rt;
+            errors.bytes.as_slice(),
+            b"cqlrun: read failed\n".as_slice()
+        );
+        assert!(rt; FIRST_REPLIES.as_bytes().starts_with(sink.bytes.as_slice()));
+    }
+}
+
+#[test]
+fn a_failing_sink_ends_the_run_after_a_front_of_the_replies(rt: HostRuntime) {
+    for calls in 0..FIRST_REPLIES.len() as u64 / 7 {
+        let words = ["cqlrun", "--plain"];
+        let mut source = MemorySource::new(FIRST.as_bytes());
+        let mut sink = device_failing_after(rt.alloc(), b"", calls);
+        let mut errors = MemorySink::new(rt.alloc());
+        let ended = run(
+            rt.alloc(),
+            words.as_slice(),
+            &mut source,
+            &mut sink,
+            &mut errors,
+        );
+        assert_eq!(rt; ended, 1);
+        assert_eq!(rt;
+            errors.bytes.as_slice(),
+            b"cqlrun: write failed\n".as_slice()
+        );
+        assert!(rt;
+            FIRST_REPLIES
+                .as_bytes()
+                .starts_with(sink.sink.bytes.as_slice())
+        );
+    }
+}

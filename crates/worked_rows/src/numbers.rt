@@ -1,0 +1,48 @@
+//! Worked values and rows.
+use std::cmp::Ordering;
+use std::test::Fail;
+use values::{Row, Value, compare_rows, same_rows, value_at};
+
+#[test]
+fn stream_range_ends_are_values_and_one_more_is_none(rt: HostRuntime) -> Result<(), Fail> {
+    let cases = [
+        (1_099_511_627_775, true),
+        (1_099_511_627_776, false),
+        (-1_099_511_627_775, true),
+        (-1_099_511_627_776, false),
+    ];
+    for (number, is_there) in cases {
+        assert_eq!(rt; Value::new(number).is_some(), is_there);
+    }
+    Ok(())
+}
+
+#[test]
+fn sums_past_the_answer_range_show_its_end(rt: HostRuntime) -> Result<(), Fail> {
+    let cases = [
+        (9_223_373_136_358_014_975, 9_223_372_036_854_775_807),
+        (9_223_372_036_846_387_200, 9_223_372_036_846_387_200),
+        (-9_223_372_036_854_775_808, -9_223_372_036_854_775_807),
+    ];
+    for (sum, shown) in cases {
+        assert_eq!(rt; Value::clamped(sum).number(), Some(shown));
+    }
+    Ok(())
+}
+
+#[test]
+fn rows_are_ordered_from_the_left_and_null_is_first(rt: HostRuntime) -> Result<(), Fail> {
+    let seven = Value::new(7).ok_or("in range")?;
+    let mut short = Row::new();
+    short.push(Value::null());
+    let mut long = Row::new();
+    long.push(Value::null());
+    long.push(seven);
+    assert_eq!(rt; compare_rows(&short, &long), Ordering::Less);
+    assert!(rt; same_rows(&long, &long));
+    assert!(rt; !same_rows(&short, &long));
+    assert_eq!(rt; value_at(&long, 1), seven);
+    assert_eq!(rt; value_at(&long, 2), Value::null());
+    assert_eq!(rt; Value::default(), Value::null());
+    Ok(())
+}

@@ -4,6 +4,6 @@
 #![tactic(auto)]
 
 #[cfg(test)]
-mod names;
-#[cfg(test)]
 mod streams;
+#[cfg(test)]
+mod tables;

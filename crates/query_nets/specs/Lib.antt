@@ -1,0 +1,4 @@
+pub mod Runs
+pub mod Widths
+pub mod Counts
+pub mod Steps

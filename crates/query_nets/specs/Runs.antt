@@ -55,38 +55,38 @@ pub record RunsProject (columns : List Column) (o : PlainOperator) (log : Closed
   pub places : List ℕ
   pub kind : o.kind ≡ kind.Project places
   pub state : o.state ≡ state.Nothing
-  pub columns : columns ≡ columns_at places
+  pub listed : columns ≡ columns_at places
   pub queue : q ≡ waiting o log Left
 
 -- GROUP: the state has taken the one bag and put out the other
 pub record RunsGroup (by : List Column) (items : List Item) (o : PlainOperator) (log : Closed) (q : List (Entry Row)) (taken shown : List Row) : Type 0 where
-  pub groups : GroupState
-  pub kind : o.kind ≡ kind.Group groups.group
-  pub state : o.state ≡ state.Groups groups
-  pub by : by ≡ columns_of groups.group.by
-  pub items : items ≡ items_of groups.group.items
-  pub stands : groups.Stands groups shown taken
+  pub held : GroupState
+  pub kind : o.kind ≡ kind.Group held.group
+  pub state : o.state ≡ state.Groups held
+  pub keyed : by ≡ columns_of held.group.by
+  pub listed : items ≡ items_of held.group.items
+  pub stands : groups.Stands held shown taken
   pub queue : q ≡ waiting o log Left
 
 -- DISTINCT over rows of this many columns
 pub record RunsDistinct (width : ℕ) (o : PlainOperator) (log : Closed) (q : List (Entry Row)) (taken shown : List Row) : Type 0 where
-  pub groups : GroupState
-  pub kind : o.kind ≡ kind.Group groups.group
-  pub state : o.state ≡ state.Groups groups
-  pub all : groups.group ≡ once_each width
+  pub held : GroupState
+  pub kind : o.kind ≡ kind.Group held.group
+  pub state : o.state ≡ state.Groups held
+  pub all : held.group ≡ once_each width
   pub some : 0 < width
-  pub stands : groups.Stands groups shown taken
+  pub stands : groups.Stands held shown taken
   pub queue : q ≡ waiting o log Left
 
 -- JOIN: its sides have taken the bags l and m, and those that ticked are marked
 pub record RunsJoin (keys : List plan.Key) (o : PlainOperator) (log : Closed) (q r : List (Entry Row)) (l m : List Row) (a b : Bool) : Type 0 where
-  pub join : JoinState
+  pub held : JoinState
   pub kind : o.kind ≡ kind.Join
-  pub state : o.state ≡ state.Join join
-  pub keys : (ls rs : List Row) → pairs.joined join.keys ls rs ≡ plan.joined keys ls rs
-  pub stands : joins.Stands join l m
-  pub left_ticked : join.left.ticked ≡ a
-  pub right_ticked : join.right.ticked ≡ b
+  pub state : o.state ≡ state.Join held
+  pub meets : (ls rs : List Row) → pairs.joined held.keys ls rs ≡ plan.joined keys ls rs
+  pub stands : joins.Stands held l m
+  pub left_ticked : held.left.ticked ≡ a
+  pub right_ticked : held.right.ticked ≡ b
   pub left_queue : q ≡ waiting o log Left
   pub right_queue : r ≡ waiting o log Right
 

@@ -30,8 +30,8 @@ AreEntries w (RowAt t s ∷ q) = IsRow w s.1 × AreEntries w q
 AreEntries w (TickAt t ∷ q) = AreEntries w q
 
 -- what a side has taken, and what waits there
-pub record IsSideWide (w : ℕ) (taken : List Row) (q : List (Entry Row)) : Type 0 where
-  pub taken : AreRows w taken
+pub record IsSideWide (w : ℕ) (took : List Row) (q : List (Entry Row)) : Type 0 where
+  pub taken : AreRows w took
   pub queue : AreEntries w q
 
 abbrev pub IsStateWide : ℕ → State → Type 0
@@ -71,12 +71,12 @@ pub record IsOneWide (w out : ℕ) (o : PlainOperator) (taken : List Row) (q : L
   pub narrow : w ≤ 16
   pub side : IsSideWide w taken q
 
-pub record IsBothWide (l r out : ℕ) (o : PlainOperator) (left right : List Row) (q s : List (Entry Row)) : Type 0 where
+pub record IsBothWide (l r out : ℕ) (o : PlainOperator) (ls rs : List Row) (q s : List (Entry Row)) : Type 0 where
   pub state : IsJoinWide l r o.state
   pub sum : out ≡ l + r
   pub narrow : out ≤ 16
-  pub left : IsSideWide l left q
-  pub right : IsSideWide r right s
+  pub left : IsSideWide l ls q
+  pub right : IsSideWide r rs s
 
 -- how many columns the rows have that the operator k puts out
 abbrev pub width_at : List ℕ → ℕ → ℕ

@@ -5,7 +5,8 @@ use Rattle.column.specs.declared.batch.Side.{Side}
 use Rattle.column.specs.declared.batch.Side.TheVariants.{Left, Right}
 use Rattle.op_queue.specs.Entries.{Entry, IsForward}
 use Rattle.op_queue.specs.Logs.{Closed}
-use Rattle.op_queue.proofs.PathLemmas.{Leads-forward}
+use Rattle.op_queue.proofs.PathLemmas.{Leads-append, Leads-forward}
+use Rattle.op_queue.specs.Paths.{Leads}
 use Rattle.group.specs.Laws as groups
 use Rattle.operators.specs.Inboxes.{entries_in, is_fed, queued}
 use Rattle.operators.specs.Operators.{IsFed, PlainOperator, inbox_of, other, waiting}
@@ -68,7 +69,7 @@ module _ (o o2 : PlainOperator) (side : Side) (outs : List (Entry Row)) (f : IsF
   pub waits_same : waiting o2 log (other side) ≡ waiting o log (other side)
   waits_same = ap (λ i. entries_in i log) f.other
 
-left_more : (o o2 : PlainOperator) (side : Side) (outs : List (Entry Row)) (log : Closed) → side ≡ Left → IsFed o side outs o2 → is_fed (inbox_of o side) ≡ true → waiting o2 log Left ≡ waiting o log Left ++ outs
+pub left_more : (o o2 : PlainOperator) (side : Side) (outs : List (Entry Row)) (log : Closed) → side ≡ Left → IsFed o side outs o2 → is_fed (inbox_of o side) ≡ true → waiting o2 log Left ≡ waiting o log Left ++ outs
 left_more o o2 side outs log e f fed = subst (λ s. waiting o2 log s ≡ waiting o log s ++ outs) e (waits_more o o2 side outs f fed log)
 
 -- IT STANDS for the cell with the entries
@@ -179,3 +180,31 @@ module _ (w : World) (ns : List plan.Node) (k : ℕ) (outs : List (Entry Row)) (
   few_fed (Distinct j) side (at_unary q i b n) t g r = (few_append (most_rows ns j) _ i _ _ _ q outs g.edge r.0 (bound_at j t.0), r.1)
   few_fed (Distinct j) side (at_join q s l m b n x y) t g r = absurd r
   few_fed (ToStream j op) side c t g r = absurd r
+
+-- INSTANTS never go back in its queue, with the entries that lead on from what the operator k has put out
+pub forward_on : (o : PlainOperator) (log : Closed) (side at : Side) (q outs : List (Entry Row)) → side ≡ at → q ≡ waiting o log at → is_fed (inbox_of o side) ≡ true → IsForward (q ++ outs) → IsForward (queued (inbox_of o side) ++ outs)
+forward_on o log side at q outs e is fed h = subst (λ l. IsForward (l ++ outs)) (is ∙ ap (waiting o log) (sym e) ∙ entries_fed (inbox_of o side) log fed) h
+
+from_input : (ch : ℕ → Input) (j k : ℕ) (outs : List (Entry Row)) (b2 : List Row) (n2 : ℕ) → j ≡ k → Leads (ch k).values (ch k).bag (ch k).opens outs b2 n2 → Leads (ch j).values (ch j).bag (ch j).opens outs b2 n2
+from_input ch j k outs b2 n2 e l = subst (λ z. Leads (ch z).values (ch z).bag (ch z).opens outs b2 n2) (sym e) l
+
+pub forward_fed : (w : World) (width k : ℕ) (node : plan.Node) (side : Side) (outs : List (Entry Row)) (o : PlainOperator) (log : Closed) (c : Cell) (ch : ℕ → Input) (b2 : List Row) (n2 : ℕ) → TakesAt k node side → is_fed (inbox_of o side) ≡ true
+    → Leads (ch k).values (ch k).bag (ch k).opens outs b2 n2 → Runs w width node o log c → GoodCell w (node_of node) c (ch (left_of (node_of node))) (ch (right_of (node_of node))) → IsForward (queued (inbox_of o side) ++ outs)
+forward_fed w width k (Window s) side outs o log c ch b2 n2 t fed l r g = absurd t
+forward_fed w width k (Select j cs) side outs o log (at_window h e b q n) ch b2 n2 t fed l r g = absurd r
+forward_fed w width k (Select j cs) side outs o log (at_unary q i b n) ch b2 n2 t fed l r g = forward_on o log side Left q outs t.1 r.queue fed (Leads-forward (Leads-append g.edge (from_input ch j k outs b2 n2 t.0 l)))
+forward_fed w width k (Select j cs) side outs o log (at_join q u a m b n x y) ch b2 n2 t fed l r g = absurd r
+forward_fed w width k (Project j columns) side outs o log (at_window h e b q n) ch b2 n2 t fed l r g = absurd r
+forward_fed w width k (Project j columns) side outs o log (at_unary q i b n) ch b2 n2 t fed l r g = forward_on o log side Left q outs t.1 r.queue fed (Leads-forward (Leads-append g.edge (from_input ch j k outs b2 n2 t.0 l)))
+forward_fed w width k (Project j columns) side outs o log (at_join q u a m b n x y) ch b2 n2 t fed l r g = absurd r
+forward_fed w width k (Group j by items) side outs o log (at_window h e b q n) ch b2 n2 t fed l r g = absurd r
+forward_fed w width k (Group j by items) side outs o log (at_unary q i b n) ch b2 n2 t fed l r g = forward_on o log side Left q outs t.1 r.queue fed (Leads-forward (Leads-append g.edge (from_input ch j k outs b2 n2 t.0 l)))
+forward_fed w width k (Group j by items) side outs o log (at_join q u a m b n x y) ch b2 n2 t fed l r g = absurd r
+forward_fed w width k (Distinct j) side outs o log (at_window h e b q n) ch b2 n2 t fed l r g = absurd r
+forward_fed w width k (Distinct j) side outs o log (at_unary q i b n) ch b2 n2 t fed l r g = forward_on o log side Left q outs t.1 r.queue fed (Leads-forward (Leads-append g.edge (from_input ch j k outs b2 n2 t.0 l)))
+forward_fed w width k (Distinct j) side outs o log (at_join q u a m b n x y) ch b2 n2 t fed l r g = absurd r
+forward_fed w width k (Join i j ks) side outs o log (at_window h e b q n) ch b2 n2 t fed l r g = absurd r
+forward_fed w width k (Join i j ks) side outs o log (at_unary q u b n) ch b2 n2 t fed l r g = absurd r
+forward_fed w width k (Join i j ks) side outs o log (at_join q u a m b n x y) ch b2 n2 (inl t) fed l r g = forward_on o log side Left q outs t.2 r.left_queue fed (Leads-forward (Leads-append g.left_edge (from_input ch i k outs b2 n2 t.0 l)))
+forward_fed w width k (Join i j ks) side outs o log (at_join q u a m b n x y) ch b2 n2 (inr t) fed l r g = forward_on o log side Right u outs t.2 r.right_queue fed (Leads-forward (Leads-append g.right_edge (from_input ch j k outs b2 n2 t.0 l)))
+forward_fed w width k (ToStream j op) side outs o log c ch b2 n2 t fed l r g = absurd r

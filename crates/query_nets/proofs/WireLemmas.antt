@@ -1,17 +1,23 @@
 -- The wires of a plan lead to the consumers of its net.
-use Rattle.std.proofs.Common.{◌≡◌, ◌≢◌, ℕ, zero, suc, ◌+◌, ◌<◌, ◌==◌, Bool, true, false, cond, inl, inr, ◌⊎◌, Option, Some, None, List, [], ◌∷◌, length, get_or, refl, sym, ap, ◌∙◌, subst, arith, eqb-true, eq-eqb}
+use Rattle.std.proofs.Common.{◌≡◌, ◌≢◌, ℕ, zero, suc, ◌+◌, ◌-◌, ◌<◌, ◌≤◌, ◌==◌, Bool, true, false, cond, inl, inr, ◌⊎◌, ⊎_elim, Option, Some, None, List, [], ◌∷◌, length, get_or, refl, sym, ap, ◌∙◌, subst, arith, eqb-true, eq-eqb}
 use Rattle.std.proofs.lemmas.Bool.{eqb-false, ne_eqb}
 use Rattle.column.specs.declared.batch.Side.{Side}
 use Rattle.column.specs.declared.batch.Side.TheVariants.{Left, Right}
 use Rattle.compiled_plans.specs.Wiring.{on_left, takes_on, wire_from, wire_or}
 use Rattle.compiled_plans.specs.declared.wiring.Wire.{Wire}
+use Rattle.values.specs.Answers.{Operator}
 use Rattle.plan.specs.Nodes as plan
 use Rattle.plan.specs.Nodes.{Window, Select, Join, Project, Group, Distinct, ToStream}
 use Rattle.plan.specs.Paths.{takes}
 use Rattle.plan.proofs.Lists.{by_test}
-use Rattle.nets.specs.Nets.{Takes}
-use Rattle.nets.specs.Operators.{node_of}
-use Rattle.nets.specs.Plans.{consumer}
+use Rattle.nets.specs.Laws as nets
+use Rattle.nets.specs.Nets.{Laid, Takes}
+use Rattle.nets.specs.Operators.{net_of, node_of}
+use Rattle.nets.specs.Plans.{below_root, consumer, consumer_of, world_of}
+use Rattle.nets.proofs.AnswerLemmas.{query_laid, shaped}
+use Rattle.nets.proofs.PlanLemmas.{Shaped}
+use Rattle.reference.specs.Machine.{Machine, Registered}
+use Rattle.query_nets.specs.Queries.{node_at}
 
 -- the operator takes what k puts out, on this side
 abbrev pub TakesAt : ℕ → plan.Node → Side → Type 0
@@ -95,3 +101,37 @@ wire_side n [] k j d e h = absurd (omega (arith, h))
 wire_side n (x ∷ xs) k j d e h =
     let l : suc n < suc (wire_from (suc n) xs k).to = later (suc n) xs k in
     side_of n k x xs d (wire_from (suc n) xs k) (takes_on k x) refl (omega (arith, l)) (λ i t b. wire_side (suc n) xs k i d t b) j e h
+
+pub at_most : {A : Type 0} (a b : ℕ) → a ≤ b → (a < b → A) → (a ≡ b → A) → A
+at_most a b h f g = ⊎_elim f g (let d : (a < b) ⊎ (a ≡ b) = grind arith in d)
+
+-- THE WIRES OF A REGISTERED QUERY
+pub record Wired (q : Registered) (k : ℕ) : Type 0 where
+  pub consumer : (wire_from 0 q.nodes k).to ≡ consumer_of q.nodes k
+  pub later : k < (wire_from 0 q.nodes k).to
+  pub within : (wire_from 0 q.nodes k).to ≤ below_root q.nodes
+  pub takes : TakesAt k (node_at q (wire_from 0 q.nodes k).to) (wire_from 0 q.nodes k).side
+
+root_takes : (k j : ℕ) (op : Operator) (node : plan.Node) (side : Side) → node ≡ ToStream j op → takes_on k node ≡ Some side → TakesAt k node side
+root_takes k j op node side e t = subst (λ n. TakesAt k n side) (sym e) (on_left_at j k side (sym (ap (takes_on k) e) ∙ t))
+
+module _ (vs : List ℕ) (m : Machine) (q : Registered) (stands : nets.Stands vs m q) where
+  pub wired : (k : ℕ) → k < below_root q.nodes → Wired q k
+  wired k kc =
+      let laid : Laid (net_of q.nodes) (below_root q.nodes) (consumer_of q.nodes) = query_laid vs m q stands.plan stands.wide in
+      let sh : Shaped (world_of m q).closed q.meaning q.nodes = shaped vs m q stands.plan stands.wide in
+      let to : ℕ = (wire_from 0 q.nodes k).to in
+      let side : Side = (wire_from 0 q.nodes k).side in
+      let e : to ≡ consumer_of q.nodes k = wire_to 0 q.nodes k in
+      let most : to ≤ below_root q.nodes = omega (arith, e, laid.within k kc) in
+      let two : 2 ≤ length q.nodes = sh.two in
+      let z : to ≡ 0 + to = omega arith in
+      let on : takes_on k (node_at q to) ≡ Some side = wire_side 0 q.nodes k to (Window 0) z (omega (arith, most, two)) in
+      record {
+        consumer = e;
+        later = omega (arith, e, laid.later k kc);
+        within = most;
+        takes = at_most to (below_root q.nodes) most
+            (λ lt. takes_at k (node_at q to) side (subst (λ n. Takes k (net_of q.nodes n)) (sym e) (laid.taken k kc (omega (arith, e, lt)))) on)
+            (λ same. root_takes k (length q.nodes - 2) q.meaning.operator (node_at q to) side (ap (node_at q) same ∙ sh.root) on);
+      }

@@ -2,4 +2,6 @@ pub mod Runs
 pub mod Widths
 pub mod Counts
 pub mod Steps
+pub mod Rooms
+pub mod Roots
 pub mod Queries

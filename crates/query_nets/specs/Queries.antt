@@ -1,19 +1,20 @@
 -- A running query: its operators, of which each stands for a cell of a net, and what it has given of its answers.
-use Rattle.std.specs.Prelude.{ℕ, ◌≡◌, ◌≢◌, ◌-◌, ◌<◌, ◌++◌, Bool, true, false, max, Option, Some, None, List, [], length, map, get_or, slice_get}
+use Rattle.std.specs.Prelude.{ℕ, ◌≡◌, ◌≢◌, ◌-◌, ◌<◌, ◌≤◌, ◌++◌, Bool, true, false, max, Option, Some, None, List, [], length, map, get_or, slice_get}
 use Rattle.std.specs.Option.{option_map_or}
 use Rattle.values.specs.Row.{Row}
 use Rattle.values.specs.Resolved.{operator_of}
 use Rattle.column.specs.declared.batch.Side.{Side}
 use Rattle.column.specs.declared.batch.Side.TheVariants.{Left, Right}
-use Rattle.op_queue.specs.Entries.{Entry}
+use Rattle.op_queue.specs.Entries.{Entry, IsForward}
+use Rattle.op_queue.specs.Items.{entries_of}
 use Rattle.op_queue.specs.Logs.{Closed}
 use Rattle.op_queue.specs.declared.item.Item.{Item}
 use Rattle.to_stream.specs.Turns as root
 use Rattle.turn.specs.Turns.{Outs, Put, Answered, change_at}
 use Rattle.turn.specs.declared.kinds.Kind.TheVariants as kind
 use Rattle.turn.specs.declared.outcomes.Change.{Change}
-use Rattle.operators.specs.Inboxes.{IsInboxWithin, is_fed}
-use Rattle.operators.specs.Operators.{IsFed, IsFinished, PlainOperator, inbox_of, ready}
+use Rattle.operators.specs.Inboxes.{IsInboxWithin, is_fed, queued}
+use Rattle.operators.specs.Operators.{Belongs, IsFed, IsFinished, PlainOperator, inbox_of, ready, waiting}
 use Rattle.operators.specs.States.{near_of}
 use Rattle.operators.specs.declared.inboxes.Inbox.{Inbox}
 use Rattle.operators.specs.declared.inboxes.Inbox.TheVariants.{First, Between}
@@ -26,13 +27,13 @@ use Rattle.reference.specs.Machine.{Machine, Place, Registered, Stream}
 use Rattle.stream_store.specs.Closing.{closed_of}
 use Rattle.nets.specs.Laws.{IsGood}
 use Rattle.nets.specs.Laws as nets
-use Rattle.nets.specs.Nets.{Cell, input_of, left_of, right_of}
-use Rattle.nets.specs.Operators.{net_of}
+use Rattle.nets.specs.Nets.{Cell, input_of}
 use Rattle.nets.specs.Plans.{below_root, value_of, world_of}
 use Rattle.query_nets.specs.Runs.{Runs, RunsRoot}
 use Rattle.query_nets.specs.Widths.{AreEntries, IsWide, width_at}
-use Rattle.query_nets.specs.Counts.{AreFew, HasRoom, StaysWithin, count, most_rows}
-use Rattle.query_nets.specs.Steps.{IsFirst, outs_at_first}
+use Rattle.query_nets.specs.Counts.{AreFew, StaysWithin, count, most_rows}
+use Rattle.query_nets.specs.Roots.{HasRootRoom}
+use Rattle.query_nets.specs.Steps.{MayTake}
 
 -- THE OPERATORS by their numbers
 
@@ -154,12 +155,21 @@ pub record IsAnswered (m : Machine) (q : Registered) (side : Side) (i : Item) (o
   pub finished : IsFinished (operator_at os (below_root q.nodes)) (log_at m q (below_root q.nodes)) side i (change_at_first (operator_at os (below_root q.nodes)) side i) (operator_at os2 (below_root q.nodes))
   pub others : (j : ℕ) → j ≢ below_root q.nodes → operator_at os2 j ≡ operator_at os j
 
+-- THE CALLER'S CONDITIONS of a turn with the item that stands first at a side, and of feeding
+pub record MayFinish (o : PlainOperator) (log : Closed) (side : Side) (i : Item) : Type 0 where
+  pub belongs : Belongs o.kind o.state
+  pub may : MayTake o side i
+  pub waits : length (entries_of i) ≤ length (waiting o log side)
+  pub within : IsInboxWithin (inbox_of o side) log
+
+pub record MayFeed (o : PlainOperator) (side : Side) (outs : List (Entry Row)) : Type 0 where
+  pub fed : is_fed (inbox_of o side) ≡ true
+  pub forward : IsForward (queued (inbox_of o side) ++ outs)
+
 -- NOTHING IS READY
 abbrev pub NoneReady : Machine → Registered → List PlainOperator → Type 0
 NoneReady m q os = (k : ℕ) → k < length q.nodes → ready (operator_at os k) (log_at m q k) ≡ None
 
--- THE PLAN HAS ROOM, whatever its operators have
-abbrev pub HasRoomAll : Machine → Registered → Type 0
-HasRoomAll m q =
-    (cells : ℕ → Cell) (k : ℕ) → k < below_root q.nodes
-    → HasRoom q.nodes k (node_at q k) (input_of (value_of m q) cells (left_of (net_of q.nodes k))) (input_of (value_of m q) cells (right_of (net_of q.nodes k)))
+-- THE ROOT HAS ROOM, whatever the operators have
+abbrev pub RootHasRoom : Machine → Registered → Type 0
+RootHasRoom m q = (cells : ℕ → Cell) → HasRootRoom (most_rows q.nodes (below_root q.nodes - 1)) (input_of (value_of m q) cells (below_root q.nodes - 1))

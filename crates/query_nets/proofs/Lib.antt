@@ -5,3 +5,5 @@ pub mod QueueLemmas
 pub mod KindLemmas
 pub mod QueryLemmas
 pub mod ReadyLemmas
+pub mod AnswerLemmas
+pub mod ClosingLemmas

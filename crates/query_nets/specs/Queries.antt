@@ -1,7 +1,9 @@
 -- A running query: its operators, of which each stands for a cell of a net, and what it has given of its answers.
-use Rattle.std.specs.Prelude.{ℕ, ◌≡◌, ◌≢◌, ◌-◌, ◌<◌, ◌≤◌, ◌++◌, Bool, true, false, max, Option, Some, None, List, [], length, map, get_or, slice_get}
+use Rattle.std.specs.Prelude.{ℕ, ◌≡◌, ◌≢◌, ◌-◌, ◌<◌, ◌≤◌, ◌++◌, Bool, true, false, max, Option, Some, None, List, [], ◌∷◌, length, map, get_or, slice_get}
+use Rattle.std.specs.List.{AllByRecursion}
 use Rattle.std.specs.Option.{option_map_or}
 use Rattle.values.specs.Row.{Row}
+use Rattle.values.specs.Window.{Element}
 use Rattle.values.specs.Resolved.{operator_of}
 use Rattle.column.specs.declared.batch.Side.{Side}
 use Rattle.column.specs.declared.batch.Side.TheVariants.{Left, Right}
@@ -30,7 +32,7 @@ use Rattle.nets.specs.Laws as nets
 use Rattle.nets.specs.Nets.{Cell, input_of}
 use Rattle.nets.specs.Plans.{below_root, value_of, world_of}
 use Rattle.query_nets.specs.Runs.{Runs, RunsRoot}
-use Rattle.query_nets.specs.Widths.{AreEntries, IsWide, width_at}
+use Rattle.query_nets.specs.Widths.{AreEntries, IsRow, IsWide, width_at}
 use Rattle.query_nets.specs.Counts.{AreFew, StaysWithin, count, most_rows}
 use Rattle.query_nets.specs.Roots.{HasRootRoom}
 use Rattle.query_nets.specs.Steps.{MayTake}
@@ -169,6 +171,20 @@ pub record MayFeed (o : PlainOperator) (side : Side) (outs : List (Entry Row)) :
 -- NOTHING IS READY
 abbrev pub NoneReady : Machine → Registered → List PlainOperator → Type 0
 NoneReady m q os = (k : ℕ) → k < length q.nodes → ready (operator_at os k) (log_at m q k) ≡ None
+
+-- THE STREAMS of the machine that a query reads
+-- elements stand in the order of their arrival
+abbrev pub IsByArrival : List Element → Type 0
+IsByArrival [] = Unit {0}
+IsByArrival (e ∷ es) = AllByRecursion (λ f. e.arrival < f.arrival) es × IsByArrival es
+
+abbrev pub elements_at : List Stream → ℕ → List Element
+elements_at streams n = option_map_or (λ s. s.elements) (slice_get streams n) []
+
+-- the rows of a window's stream have as many columns as those that it puts out, and values of their range
+pub record ReadsRows (ws : List ℕ) (m : Machine) (q : Registered) : Type 0 where
+  pub arrival : (n : ℕ) → IsByArrival (elements_at m.streams n)
+  pub wide : (k s : ℕ) → k < below_root q.nodes → node_at q k ≡ plan.Window s → AllByRecursion (λ e. IsRow (width_at ws k) e.row) (elements_at m.streams (place_of q s).stream)
 
 -- THE ROOT HAS ROOM, whatever the operators have
 abbrev pub RootHasRoom : Machine → Registered → Type 0

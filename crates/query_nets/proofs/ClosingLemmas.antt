@@ -118,8 +118,8 @@ same_parts : {X : Type 0} (f g : ℕ → List X) (a n : ℕ) → ((k : ℕ) → 
 same_parts f g a zero h = refl
 same_parts f g a (suc n) h = ap₂ (λ x y. x ++ y) (h a (omega arith) (omega arith)) (same_parts f g (a + 1) n (λ k le lt. h k (omega (arith, le)) (omega (arith, lt))))
 
-closed_same : (place start until near n : ℕ) (es : List Element) → start ≤ near → near + n ≤ until → closed_at place (by_instant start until es) near n ≡ closed_at place es near n
-closed_same place start until near n es le few = same_parts (λ t. shown place t (by_instant start until es)) (λ t. shown place t es) near n (λ t a b. shown_now place t start until es (omega (arith, a, le)) (omega (arith, b, few)))
+closed_same : (place start until near n : ℕ) (es : List Element) → start ≤ near → ((t : ℕ) → near ≤ t → t < near + n → t < until) → closed_at place (by_instant start until es) near n ≡ closed_at place es near n
+closed_same place start until near n es le few = same_parts (λ t. shown place t (by_instant start until es)) (λ t. shown place t es) near n (λ t a b. shown_now place t start until es (omega (arith, a, le)) (few t a b))
 
 -- WHAT IS OPEN parts into what is closed and what is open still
 skip : (p : Element → Bool) (b : Bool) (e : Element) (xs : List Element) → p e ≡ false → filter p (cond b (e ∷ xs) xs) ≡ filter p xs
@@ -175,7 +175,7 @@ parts place first c (suc k) es le =
     (join _ _ _ (part_one place first c le es) (perm-append_right (shown place c es) _ _ rest))
 
 -- of what a heartbeat closes
-pub closing_parts : (place first c until2 start k : ℕ) (es : List Element) → first ≤ c → start ≤ c → c + k ≤ until2
+pub closing_parts : (place first c until2 start k : ℕ) (es : List Element) → first ≤ c → start ≤ c → ((t : ℕ) → c ≤ t → t < c + k → t < until2)
     → Perm (opened c (input_of place first es)) (closed_at place (by_instant start until2 es) c k ++ opened (c + k) (input_of place first es))
 closing_parts place first c until2 start k es le a b =
     subst (λ l. Perm (opened c (input_of place first es)) (l ++ opened (c + k) (input_of place first es))) (sym (closed_same place start until2 c k es a b)) (parts place first c k es le)

@@ -7,3 +7,4 @@ pub mod QueryLemmas
 pub mod ReadyLemmas
 pub mod AnswerLemmas
 pub mod ClosingLemmas
+pub mod BeatLemmas

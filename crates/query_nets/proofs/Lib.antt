@@ -8,3 +8,4 @@ pub mod ReadyLemmas
 pub mod AnswerLemmas
 pub mod ClosingLemmas
 pub mod BeatLemmas
+pub mod HeartbeatLemmas

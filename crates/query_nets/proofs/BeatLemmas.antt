@@ -118,19 +118,19 @@ stream_beat : (place first : ℕ) (at : ℤ) (o : Option Stream) → QueuesGain 
 stream_beat place first at None g l b = none_beat place first no_log [] []
 stream_beat place first at (Some s) g l b = closing_beat place first s at b l g
 
-change_here : (f : Stream → Stream) (n : ℕ) (ss : List Stream) → slice_get (change n f ss) n ≡ option_map f (slice_get ss n)
+pub change_here : (f : Stream → Stream) (n : ℕ) (ss : List Stream) → slice_get (change n f ss) n ≡ option_map f (slice_get ss n)
 change_here f n [] = refl
 change_here f zero (s ∷ ss) = refl
 change_here f (suc n) (s ∷ ss) = change_here f n ss
 
-change_there : (f : Stream → Stream) (n i : ℕ) (ss : List Stream) → i ≢ n → slice_get (change n f ss) i ≡ slice_get ss i
+pub change_there : (f : Stream → Stream) (n i : ℕ) (ss : List Stream) → i ≢ n → slice_get (change n f ss) i ≡ slice_get ss i
 change_there f n i [] ne = refl
 change_there f zero zero (s ∷ ss) ne = absurd (ne refl)
 change_there f zero (suc i) (s ∷ ss) ne = refl
 change_there f (suc n) zero (s ∷ ss) ne = refl
 change_there f (suc n) (suc i) (s ∷ ss) ne = change_there f n i ss (λ e. ne (ap suc e))
 
-same_number : (a b : ℕ) → (a ≡ b) ⊎ (a ≢ b)
+pub same_number : (a b : ℕ) → (a ≡ b) ⊎ (a ≢ b)
 same_number a b = grind arith
 
 -- A SOURCE, of whatever stream

@@ -9,3 +9,4 @@ pub mod AnswerLemmas
 pub mod ClosingLemmas
 pub mod BeatLemmas
 pub mod HeartbeatLemmas
+pub mod AppendLemmas

@@ -58,7 +58,7 @@ stays_entering most n t ((true, r) ∷ xs) q h k = (omega (arith, h), stays_ente
 stays_entering most n t ((false, r) ∷ xs) q h k = (omega (arith, h), stays_entering most (n - 1) t xs q (omega (arith, h)) k)
 
 -- SOME ROWS KEPT, in the bag and in the batch
-count_kept : (p : Row → Bool) (b : List Row) → count (filter p b) ≤ count b
+pub count_kept : (p : Row → Bool) (b : List Row) → count (filter p b) ≤ count b
 unfolding weigh
 count_kept p [] = omega arith
 count_kept p (r ∷ b) = here (p r) (count_kept p b)

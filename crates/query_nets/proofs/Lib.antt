@@ -1,3 +1,5 @@
 pub mod CountLemmas
 pub mod WideLemmas
 pub mod ItemLemmas
+pub mod RoomLemmas
+pub mod GroupLemmas

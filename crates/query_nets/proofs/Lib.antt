@@ -3,3 +3,4 @@ pub mod WideLemmas
 pub mod ItemLemmas
 pub mod RoomLemmas
 pub mod GroupLemmas
+pub mod GroupSteps

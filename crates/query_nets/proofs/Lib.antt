@@ -4,3 +4,4 @@ pub mod ItemLemmas
 pub mod RoomLemmas
 pub mod GroupLemmas
 pub mod GroupSteps
+pub mod PairLemmas

@@ -5,3 +5,4 @@ pub mod RoomLemmas
 pub mod GroupLemmas
 pub mod GroupSteps
 pub mod PairLemmas
+pub mod JoinSteps

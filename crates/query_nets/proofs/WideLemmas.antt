@@ -50,6 +50,10 @@ pub entries_batch : (w t : ℕ) (xs : List (Bool × Row)) (q : List (Entry Row))
 entries_batch w t [] q h k = k
 entries_batch w t (s ∷ xs) q h k = (All-head (λ (s : Bool × Row). IsRow w s.1) s xs h, entries_batch w t xs q (All-tail (λ (s : Bool × Row). IsRow w s.1) s xs h) k)
 
+pub entries_alone : (w t : ℕ) (xs : List (Bool × Row)) → AreSigned w xs → AreEntries w (batch t xs)
+entries_alone w t [] h = tt
+entries_alone w t (s ∷ xs) h = (All-head (λ (s : Bool × Row). IsRow w s.1) s xs h, entries_alone w t xs (All-tail (λ (s : Bool × Row). IsRow w s.1) s xs h))
+
 -- rows of a side after a batch
 pub rows_after : (w t : ℕ) (xs : List (Bool × Row)) (q : List (Entry Row)) (b c : List Row) → Legal b xs → Adds b xs c → AreRows w b → AreEntries w (batch t xs ++ q) → AreRows w c
 rows_after w t xs q b c l a h k = all_after (IsRow w) xs b c l a h (entries_front w t xs q k)

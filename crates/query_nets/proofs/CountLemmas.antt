@@ -1,10 +1,10 @@
 -- How many rows a bag has on the way through a queue: after the front of the queue, with more behind it, and through an operator that keeps some rows or
 -- maps each.
-use Rattle.std.proofs.Common.{ℕ, ◌+◌, ◌-◌, ◌≤◌, ◌≡◌, Bool, true, false, cond, List, [], ◌∷◌, ◌++◌, map, filter, refl, sym, ap, ◌∙◌, subst, arith}
+use Rattle.std.proofs.Common.{ℕ, ◌+◌, ◌-◌, ◌≤◌, ◌≡◌, Bool, true, false, cond, List, [], ◌∷◌, ◌++◌, map, filter, sym, ◌∙◌, subst, arith}
 use Rattle.values.specs.Row.{Row}
 use Rattle.op_queue.specs.Entries.{Entry, RowAt, TickAt}
 use Rattle.op_queue.specs.Paths.{rows_in}
-use Rattle.op_queue.specs.Signed.{weigh, up, Same, Adds, Legal, Turns}
+use Rattle.op_queue.specs.Signed.{weigh, up, Adds, Legal, Turns}
 use Rattle.op_queue.proofs.SignedLemmas.{Adds-rest, Legal-front, Legal-rest, Same-from_none}
 use Rattle.group.proofs.BagLemmas.{after_row, weigh-filter}
 use Rattle.nets.specs.Nets.{batch}

@@ -1,5 +1,5 @@
 -- What groups put out: how wide the rows are, and how many.
-use Rattle.std.proofs.Common.{◌≡◌, ℕ, ℤ, zero, suc, ◌+◌, ◌*◌, ◌^◌, ◌<◌, ◌≤◌, ◌≤ℤ◌, ◌+ℤ◌, neg_ℤ, pos, max, Bool, true, false, cond, Option, Some, None, List, [], ◌∷◌, ◌++◌, map, filter, filter_map, fold, length, get_or, replicate, refl, sym, ap, ap₂, subst, ◌≢◌, ◌∙◌, arith, true≢false}
+use Rattle.std.proofs.Common.{◌≡◌, ℕ, ℤ, zero, suc, ◌+◌, ◌^◌, ◌<◌, ◌≤◌, ◌≤ℤ◌, ◌+ℤ◌, neg_ℤ, pos, max, Bool, true, false, cond, Option, Some, None, List, [], ◌∷◌, ◌++◌, map, filter, fold, length, replicate, refl, sym, ap, subst, ◌≢◌, ◌∙◌, arith, true≢false}
 use Rattle.std.specs.List.{All, flat_map, list_any, range_with_len, reduce, cons_option}
 use Rattle.std.specs.Int.{int_min, int_max}
 use Rattle.std.specs.Option.{option_map}
@@ -19,17 +19,16 @@ use Rattle.values.specs.Relation.{item_value, numbers, key_of, keys_of as keys_i
 use Rattle.values.specs.Resolved.{columns_of, item_of, items_of}
 use Rattle.values.specs.declared.resolved.Item.{Item}
 use Rattle.values.proofs.Order.{row_order}
-use Rattle.op_queue.specs.Entries.{Entry, TickAt}
-use Rattle.op_queue.specs.Signed.{weigh, gain, up, Same}
+use Rattle.op_queue.specs.Signed.{weigh, gain, up}
 use Rattle.op_queue.proofs.SignedLemmas.{weigh-append, weigh-map}
 use Rattle.row_bags.proofs.OrderLemmas.{copies-weigh, weigh-without}
-use Rattle.group.specs.Cells.{Held, held, held_cmp, TallyState, tally_zero, tally_by, tallies_after, keeps, number_of, CellState, cell_zero, cell_after}
-use Rattle.group.specs.Groups.{GroupBy, grouped, no_columns}
+use Rattle.group.specs.Cells.{Held, held, held_cmp, TallyState, tally_zero, tally_by, tallies_after, keeps, number_of, CellState, cell_after}
+use Rattle.group.specs.Groups.{GroupBy, grouped}
 use Rattle.group.specs.Turns.{GroupState, cell_of, row_key, row_after, rows_after, near_at, excerpt, row_now, fitted, same_shown, signed_row, swap_of, outputs, shown_now, shown_after, closed_state}
 use Rattle.group.specs.Laws.{count as times, shown_list, shown_rows, touched_keys, Stands}
 use Rattle.group.proofs.BagLemmas.{row_is, row_itself, weigh-flat_map}
 use Rattle.group.proofs.KeyLemmas.{held_order, cell-taken_in}
-use Rattle.group.proofs.StateLemmas.{closed, showns, cell-closing, changes-showns}
+use Rattle.group.proofs.StateLemmas.{closed, cell-closing, changes-showns}
 use Rattle.query_nets.specs.Counts.{count}
 use Rattle.query_nets.specs.Runs.{AreLean, KeepsFew}
 use Rattle.query_nets.specs.Widths.{AreRows, IsRow}
@@ -205,8 +204,13 @@ all_few s [] a = omega arith
 all_few s (k ∷ ks) a =
     let P : Held → Type 0 = λ k. shown_list (now_of s k.items) ≡ shown_rows (ticked s) k.items in
     let old : Option Held = (cell_of (length s.group.items) k s.cells).shown in
-    omega (arith, weigh-append (gain (λ x. 1)) (swap_of (length s.group.items) old (now_of s k.items)) (outputs s.group (near_at s.group.items s.cells ks)),
-    swap_few (length s.group.items) old (now_of s k.items), ap count (All-head P k ks a), all_few s ks (All-tail P k ks a))
+    omega (
+      arith,
+      weigh-append (gain (λ x. 1)) (swap_of (length s.group.items) old (now_of s k.items)) (outputs s.group (near_at s.group.items s.cells ks)),
+      swap_few (length s.group.items) old (now_of s k.items),
+      ap count (All-head P k ks a),
+      all_few s ks (All-tail P k ks a),
+    )
 
 none_count : count [] ≡ 0
 unfolding weigh
@@ -215,7 +219,7 @@ none_count = refl
 pub outputs_few : (s : GroupState) (o b : List Row) → Stands s o b → Stands (ticked s) (grouped s.group b) b → up (λ x. 1) (outputs s.group (near_at s.group.items s.cells s.touched)) ≤ count (grouped s.group b)
 outputs_few s o b h h2 =
     let few : up (λ x. 1) (outputs s.group (near_at s.group.items s.cells s.touched)) ≤ weigh (λ r. count (shown_rows (ticked s) r)) (touched_keys s) =
-        all_few s s.touched (All-from_any (eq_by_cmp_equiv held_order.total) (λ k. shown_list (now_of s k.items) ≡ shown_rows (ticked s) k.items) s.touched (λ k e. now_shown s o b h k.items e)) in
+    all_few s s.touched (All-from_any (eq_by_cmp_equiv held_order.total) (λ k. shown_list (now_of s k.items) ≡ shown_rows (ticked s) k.items) s.touched (λ k e. now_shown s o b h k.items e)) in
     omega (arith, few, part_le (λ r. count (shown_rows (ticked s) r)) (touched_keys s) h2.keys h.touched (λ k l z. ap count (h2.others k z) ∙ none_count), h2.was.weighs (λ x. 1), weigh-flat_map (λ x. 1) (shown_rows (ticked s)) h2.keys)
 
 -- THE RELATION OF THE GROUPS

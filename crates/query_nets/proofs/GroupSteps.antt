@@ -1,5 +1,5 @@
 -- The turns of Group By and Distinct.
-use Rattle.std.proofs.Common.{◌≡◌, ℕ, ◌+◌, ◌^◌, ◌<◌, ◌≤◌, max, Bool, true, false, List, [], ◌∷◌, ◌++◌, map, length, refl, sym, ap, ap₂, subst, ◌∙◌, arith, true≢false}
+use Rattle.std.proofs.Common.{◌≡◌, ℕ, ◌+◌, ◌^◌, ◌<◌, ◌≤◌, max, Bool, true, false, List, [], ◌∷◌, ◌++◌, length, refl, sym, ap, ap₂, subst, ◌∙◌, arith, true≢false}
 use Rattle.std.specs.List.{All}
 use Rattle.std.proofs.lemmas.List.{length-map}
 use Rattle.values.specs.Row.{Row, row_cmp}
@@ -12,7 +12,7 @@ use Rattle.column.specs.declared.batch.Side.TheVariants.{Left, Right}
 use Rattle.op_queue.specs.Entries.{Entry, RowAt, TickAt}
 use Rattle.op_queue.specs.Items.{entries_of}
 use Rattle.op_queue.specs.Logs.{Closed}
-use Rattle.op_queue.specs.Signed.{Same, Legal, Turns}
+use Rattle.op_queue.specs.Signed.{Same, Legal}
 use Rattle.op_queue.specs.declared.item.Item as queue
 use Rattle.op_queue.specs.declared.item.Item.TheVariants.{Rows, Tick}
 use Rattle.op_queue.proofs.PathLemmas.{Leads-front_legal, Leads-take_tick}
@@ -27,8 +27,7 @@ use Rattle.turn.specs.Turns.{Outs, Put, Answered, change_at, outs_at}
 use Rattle.turn.specs.declared.kinds.Kind.{Kind}
 use Rattle.turn.specs.declared.kinds.Kind.TheVariants as kind
 use Rattle.turn.specs.declared.outcomes.Change.{Change}
-use Rattle.turn.specs.declared.outcomes.Change.TheVariants as change
-use Rattle.operators.specs.Operators.{PlainOperator, HasNamedColumns, IsFinished, waiting}
+use Rattle.operators.specs.Operators.{PlainOperator, HasNamedColumns, IsFinished}
 use Rattle.operators.specs.States.{HasColumns, Takes, IsNext, near_of, shown_in, usable}
 use Rattle.operators.specs.declared.states.State.{State}
 use Rattle.operators.specs.declared.states.State.TheVariants as state
@@ -38,13 +37,13 @@ use Rattle.nets.specs.Operators.{grouping, once}
 use Rattle.nets.proofs.BagLemmas.{same_of}
 use Rattle.nets.proofs.FrontLemmas.{front_instant}
 use Rattle.nets.proofs.RootLemmas.{After, after}
-use Rattle.query_nets.specs.Counts.{StaysWithin, HasRoom, count, most_rows, tick_rows}
+use Rattle.query_nets.specs.Counts.{StaysWithin, count, most_rows, tick_rows}
 use Rattle.query_nets.specs.Runs.{KeepsFew, RunsGroup, RunsDistinct}
 use Rattle.query_nets.specs.Steps.{IsFirst, MayTake, StepMade, Stands, MayLaw, StepLaw, outs_at_first}
-use Rattle.query_nets.specs.Widths.{AreEntries, AreRows, IsRow, IsKindWide, IsSideWide, IsGroupWide, IsOnceWide, width_at}
+use Rattle.query_nets.specs.Widths.{AreEntries, AreRows, IsKindWide, IsSideWide, IsGroupWide, IsOnceWide, width_at}
 use Rattle.query_nets.proofs.CountLemmas.{stays_now, stays_after, stays_entering}
 use Rattle.query_nets.proofs.GroupLemmas.{lean_rows, lean_ticked, group_stays, outputs_wide, outputs_few, grouped_wide, distinct_few, grouped_few}
-use Rattle.query_nets.proofs.ItemLemmas.{left_side, rest_waits}
+use Rattle.query_nets.proofs.ItemLemmas.{rest_waits}
 use Rattle.query_nets.proofs.RoomLemmas.{InRange, groups_within}
 use Rattle.query_nets.proofs.WideLemmas.{rows_after, entries_back, entries_batch}
 
@@ -177,10 +176,10 @@ group_at i by items w ws ns k o o2 log q t b n d e it outs s f puts fin =
     let out : outs_of g it ≡ outs = outs_are g o o2 log it run.kind run.state outs puts in
     let shape : Grouped by items ≡ Grouped (columns_of g.group.by) (items_of g.group.items) = ap₂ Grouped run.keyed run.listed in
     let made : GroupMade w (grouping (Grouped by items)) i (width_at ws i) (width_at ws k) (most_rows ns i) (max 1 (tick_rows ns i)) g it (at_unary (entries_of it ++ f.rest) t b n) b f.rest =
-        group_made w (grouping (Grouped by items)) i (width_at ws i) (width_at ws k) (most_rows ns i) (max 1 (tick_rows ns i)) g d.values d.bag d.opens refl (subst (IsKindWide (width_at ws i) (width_at ws k)) run.kind wide.one.kind) it n f.rest t b
-        f.some run.stands run.few (subst (λ q. GoodOne (grouping (Grouped by items)) d.values q t b n d.bag d.opens) front good) (same_of (ap (λ shape. plan.shaped_rows shape t) (sym shape)))
-        (λ h. omega (arith, grouped_few g.group t, h.weighs (λ x. 1), s.room.left n)) (omega (arith, s.room.always i))
-        (subst (IsSideWide (width_at ws i) t) front wide.one.side) wide.puts (subst (StaysWithin (most_rows ns i) (count t)) front few.0) few.1 in
+    group_made w (grouping (Grouped by items)) i (width_at ws i) (width_at ws k) (most_rows ns i) (max 1 (tick_rows ns i)) g d.values d.bag d.opens refl (subst (IsKindWide (width_at ws i) (width_at ws k)) run.kind wide.one.kind) it n f.rest t b
+    f.some run.stands run.few (subst (λ q. GoodOne (grouping (Grouped by items)) d.values q t b n d.bag d.opens) front good) (same_of (ap (λ shape. plan.shaped_rows shape t) (sym shape)))
+    (λ h. omega (arith, grouped_few g.group t, h.weighs (λ x. 1), s.room.left n)) (omega (arith, s.room.always i))
+    (subst (IsSideWide (width_at ws i) t) front wide.one.side) wide.puts (subst (StaysWithin (most_rows ns i) (count t)) front few.0) few.1 in
     subst (λ q. StepMade w ws ns k (plan.Group i by items) (at_unary q t b n) outs o2 log) (sym front) (record {
       cell = at_unary f.rest made.taken made.puts made.opens;
       turn = subst (λ outs. Turn w (unary (grouping (Grouped by items)) i) (at_unary (entries_of it ++ f.rest) t b n) outs (at_unary f.rest made.taken made.puts made.opens)) out made.turn;
@@ -230,10 +229,10 @@ distinct_at i w ws ns k o o2 log q t b n d e it outs s f puts fin =
     let out : outs_of g it ≡ outs = outs_are g o o2 log it run.kind run.state outs puts in
     let rows : grouped g.group t ≡ distinct row_cmp t = once_rows (width_at ws k) g.group t run.all run.some (subst (λ c. AreRows c t) all_wide.same wide.one.side.taken) in
     let made : GroupMade w once i (width_at ws i) (width_at ws k) (most_rows ns i) (tick_rows ns i) g it (at_unary (entries_of it ++ f.rest) t b n) b f.rest =
-        group_made w once i (width_at ws i) (width_at ws k) (most_rows ns i) (tick_rows ns i) g d.values d.bag d.opens refl (subst (IsKindWide (width_at ws i) (width_at ws k)) run.kind wide.one.kind) it n f.rest t b
-        f.some run.stands run.few (subst (λ q. GoodOne once d.values q t b n d.bag d.opens) front good) (same_of rows)
-        (λ h. omega (arith, ap count rows, distinct_few t, h.weighs (λ x. 1), s.room.left n)) (omega (arith, s.room.always i))
-        (subst (IsSideWide (width_at ws i) t) front wide.one.side) wide.puts (subst (StaysWithin (most_rows ns i) (count t)) front few.0) few.1 in
+    group_made w once i (width_at ws i) (width_at ws k) (most_rows ns i) (tick_rows ns i) g d.values d.bag d.opens refl (subst (IsKindWide (width_at ws i) (width_at ws k)) run.kind wide.one.kind) it n f.rest t b
+    f.some run.stands run.few (subst (λ q. GoodOne once d.values q t b n d.bag d.opens) front good) (same_of rows)
+    (λ h. omega (arith, ap count rows, distinct_few t, h.weighs (λ x. 1), s.room.left n)) (omega (arith, s.room.always i))
+    (subst (IsSideWide (width_at ws i) t) front wide.one.side) wide.puts (subst (StaysWithin (most_rows ns i) (count t)) front few.0) few.1 in
     subst (λ q. StepMade w ws ns k (plan.Distinct i) (at_unary q t b n) outs o2 log) (sym front) (record {
       cell = at_unary f.rest made.taken made.puts made.opens;
       turn = subst (λ outs. Turn w (unary once i) (at_unary (entries_of it ++ f.rest) t b n) outs (at_unary f.rest made.taken made.puts made.opens)) out made.turn;

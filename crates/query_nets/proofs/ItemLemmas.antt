@@ -1,5 +1,5 @@
 -- What waits for an operator after a turn.
-use Rattle.std.proofs.Common.{◌≡◌, ℕ, true, false, List, [], ◌∷◌, ◌++◌, drop, length, refl, sym, ap, ◌∙◌, subst, true≢false}
+use Rattle.std.proofs.Common.{◌≡◌, true, List, [], ◌∷◌, ◌++◌, drop, length, refl, sym, ap, ◌∙◌, true≢false}
 use Rattle.values.specs.Row.{Row}
 use Rattle.column.specs.declared.batch.Side.{Side}
 use Rattle.column.specs.declared.batch.Side.TheVariants.{Left, Right}
@@ -9,7 +9,7 @@ use Rattle.op_queue.specs.Logs.{Closed}
 use Rattle.op_queue.specs.declared.item.Item.{Item}
 use Rattle.turn.specs.declared.outcomes.Change.{Change}
 use Rattle.operators.specs.Inboxes.{entries_in}
-use Rattle.operators.specs.Operators.{PlainOperator, IsFinished, inbox_of, other, waiting}
+use Rattle.operators.specs.Operators.{PlainOperator, IsFinished, other, waiting}
 use Rattle.operators.specs.States.{is_left}
 use Rattle.query_nets.specs.Steps.{IsFirst}
 

@@ -1,6 +1,5 @@
 -- The turns of a join.
-use Rattle.std.proofs.Common.{◌≡◌, ℕ, ◌+◌, ◌*◌, ◌^◌, ◌<◌, ◌≤◌, Bool, true, false, not, cond, List, [], ◌∷◌, ◌++◌, map, length, refl, sym, ap, ap₂, subst, ◌∙◌, arith, true≢false}
-use Rattle.std.specs.List.{All}
+use Rattle.std.proofs.Common.{◌≡◌, ℕ, ◌+◌, ◌*◌, ◌^◌, ◌<◌, ◌≤◌, Bool, true, false, not, cond, List, [], ◌∷◌, ◌++◌, length, refl, sym, ap, ap₂, subst, ◌∙◌, arith, true≢false}
 use Rattle.std.proofs.lemmas.List.{length-map}
 use Rattle.std.proofs.lemmas.List.Elements.{All-head}
 use Rattle.std.proofs.Math.Nat.{mul_comm}
@@ -11,7 +10,7 @@ use Rattle.column.specs.declared.batch.Side.TheVariants.{Left, Right}
 use Rattle.op_queue.specs.Entries.{Entry, RowAt, TickAt}
 use Rattle.op_queue.specs.Items.{entries_of}
 use Rattle.op_queue.specs.Logs.{Closed}
-use Rattle.op_queue.specs.Signed.{weigh, Same, Legal, Turns}
+use Rattle.op_queue.specs.Signed.{weigh, Legal, Turns}
 use Rattle.op_queue.specs.declared.item.Item.{Item}
 use Rattle.op_queue.specs.declared.item.Item.TheVariants.{Rows, Tick}
 use Rattle.op_queue.proofs.PathLemmas.{Leads-front_legal, rows_in-batch}
@@ -34,10 +33,10 @@ use Rattle.nets.specs.Nets.{World, Cell, at_window, at_unary, at_join, Input, Go
 use Rattle.nets.specs.Operators.{joining}
 use Rattle.nets.proofs.JoinTurns.{left_rows_made, right_rows_made, left_first_made, right_first_made, left_last_made, right_last_made}
 use Rattle.nets.proofs.RootLemmas.{After, after}
-use Rattle.query_nets.specs.Counts.{StaysWithin, HasRoom, count, most_rows}
+use Rattle.query_nets.specs.Counts.{StaysWithin, count, most_rows}
 use Rattle.query_nets.specs.Runs.{RunsJoin}
-use Rattle.query_nets.specs.Steps.{IsFirst, MayTake, StepMade, Stands, MayLaw, StepLaw, outs_at_first}
-use Rattle.query_nets.specs.Widths.{AreEntries, AreRows, IsRow, IsSideWide, IsJoinWide, IsBothWide, width_at}
+use Rattle.query_nets.specs.Steps.{IsFirst, StepMade, Stands, MayLaw, StepLaw, outs_at_first}
+use Rattle.query_nets.specs.Widths.{AreEntries, IsRow, IsSideWide, IsJoinWide, IsBothWide, width_at}
 use Rattle.query_nets.proofs.CountLemmas.{stays_now, stays_after}
 use Rattle.query_nets.proofs.ItemLemmas.{rest_waits, other_waits}
 use Rattle.query_nets.proofs.PairLemmas.{met_all, met_few, left_pairs_are, right_pairs_are, few_pairs, pairs_stay, beside_wide, pairs_wide, side_few}
@@ -149,7 +148,7 @@ module _ (i j : ℕ) (keys : List plan.Key) (w : World) (ws : List ℕ) (ns : Li
       let ys : List (Bool × Row) = join.pairs Left xs (matches g Left xs) in
       let law : Turns (pairs.joined g.keys l m) (joins.left_pairs g t xs) (pairs.joined g.keys a.bag m) × joins.Stands (join.next g Left (Rows t xs)) a.bag m = left_law g t xs l a.bag m run.stands table legal a.adds in
       let turns : Turns (plan.joined keys l m) ys (plan.joined keys a.bag m) =
-          subst (λ u. Turns u ys (plan.joined keys a.bag m)) (run.meets l m) (subst (λ u. Turns (pairs.joined g.keys l m) ys u) (run.meets a.bag m) (subst (λ z. Turns (pairs.joined g.keys l m) z (pairs.joined g.keys a.bag m)) (rows_in-batch t ys) law.0)) in
+      subst (λ u. Turns u ys (plan.joined keys a.bag m)) (run.meets l m) (subst (λ u. Turns (pairs.joined g.keys l m) ys u) (run.meets a.bag m) (subst (λ z. Turns (pairs.joined g.keys l m) z (pairs.joined g.keys a.bag m)) (rows_in-batch t ys) law.0)) in
       let out : batch t ys ≡ outs = outs_are g o o2 log Left (Rows t xs) run.kind run.state outs puts in
       subst (λ z. StepMade w ws ns k (plan.Join i j keys) (at_join z r l m b n false y) outs o2 log) (sym front)
       (made o o2 log (at_join (batch t xs ++ f.rest) r l m b n false y) outs Left (Rows t xs) (change_at o.kind (Rows t xs) (near_of o.state Left (Rows t xs))) g (join.next g Left (Rows t xs)) f.rest r a.bag m (plan.joined keys a.bag m) n false y
@@ -184,7 +183,7 @@ module _ (i j : ℕ) (keys : List plan.Key) (w : World) (ws : List ℕ) (ns : Li
       let ys : List (Bool × Row) = join.pairs Right xs (matches g Right xs) in
       let law : Turns (pairs.joined g.keys l m) (joins.right_pairs g t xs) (pairs.joined g.keys l a.bag) × joins.Stands (join.next g Right (Rows t xs)) l a.bag = right_law g t xs l m a.bag run.stands table legal a.adds in
       let turns : Turns (plan.joined keys l m) ys (plan.joined keys l a.bag) =
-          subst (λ u. Turns u ys (plan.joined keys l a.bag)) (run.meets l m) (subst (λ u. Turns (pairs.joined g.keys l m) ys u) (run.meets l a.bag) (subst (λ z. Turns (pairs.joined g.keys l m) z (pairs.joined g.keys l a.bag)) (rows_in-batch t ys) law.0)) in
+      subst (λ u. Turns u ys (plan.joined keys l a.bag)) (run.meets l m) (subst (λ u. Turns (pairs.joined g.keys l m) ys u) (run.meets l a.bag) (subst (λ z. Turns (pairs.joined g.keys l m) z (pairs.joined g.keys l a.bag)) (rows_in-batch t ys) law.0)) in
       let out : batch t ys ≡ outs = outs_are g o o2 log Right (Rows t xs) run.kind run.state outs puts in
       subst (λ z. StepMade w ws ns k (plan.Join i j keys) (at_join q z l m b n x false) outs o2 log) (sym front)
       (made o o2 log (at_join q (batch t xs ++ f.rest) l m b n x false) outs Right (Rows t xs) (change_at o.kind (Rows t xs) (near_of o.state Right (Rows t xs))) g (join.next g Right (Rows t xs)) q f.rest l a.bag (plan.joined keys l a.bag) n x false

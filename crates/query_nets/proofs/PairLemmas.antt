@@ -1,5 +1,5 @@
 -- What a join puts out: how wide the pairs are, and how many.
-use Rattle.std.proofs.Common.{◌≡◌, ℕ, suc, ◌+◌, ◌-◌, ◌*◌, ◌<◌, ◌≤◌, Bool, true, false, cond, List, [], ◌∷◌, ◌++◌, map, filter, length, refl, sym, ap, subst, ◌∙◌, arith}
+use Rattle.std.proofs.Common.{◌≡◌, ℕ, suc, ◌+◌, ◌-◌, ◌*◌, ◌≤◌, Bool, true, false, cond, List, [], ◌∷◌, ◌++◌, map, filter, length, refl, sym, ap, subst, ◌∙◌, arith}
 use Rattle.std.specs.List.{All, flat_map}
 use Rattle.std.proofs.lemmas.List.{length-append}
 use Rattle.std.proofs.lemmas.List.Elements.{All-nil, All-cons, All-head, All-tail, All-append, All-filter}
@@ -10,14 +10,14 @@ use Rattle.values.proofs.Order.{row_order}
 use Rattle.column.specs.declared.batch.Side.{Side}
 use Rattle.column.specs.declared.batch.Side.TheVariants.{Left, Right}
 use Rattle.op_queue.specs.Entries.{Entry}
-use Rattle.op_queue.specs.Signed.{weigh, Same, Adds, Legal}
-use Rattle.op_queue.proofs.SignedLemmas.{Legal-front, Legal-rest, Same-sym}
+use Rattle.op_queue.specs.Signed.{weigh, Adds, Legal}
+use Rattle.op_queue.proofs.SignedLemmas.{Legal-front, Legal-rest}
 use Rattle.row_bags.proofs.OrderLemmas.{length-in_order}
 use Rattle.group.proofs.BagLemmas.{after_row}
 use Rattle.group.proofs.FigureLemmas.{numbers_le}
 use Rattle.join.specs.Pairs.{fits, pair, joined}
 use Rattle.join.specs.Layouts.{other, order, chosen, agrees}
-use Rattle.join.specs.Turns.{JoinState, SideState, met, beside, pairs_of, pairs, kept_of}
+use Rattle.join.specs.Turns.{SideState, met, beside, pairs_of, pairs, kept_of}
 use Rattle.join.specs.Laws.{StandsFor}
 use Rattle.join.proofs.LawLemmas.{weigh-met, joined_by_right}
 use Rattle.join.proofs.MatchLemmas.{fits_on, fits-right}
@@ -50,17 +50,17 @@ one_pair false x = refl
 pub left_pairs_are : (ks : List (ℕ × ℕ)) (held : SideState) (l r : List Row) → StandsFor Right ks held r → weigh (λ x. count (met Right ks held x)) l ≡ count (joined ks l r)
 left_pairs_are ks held l r h =
     weigh-same (λ x. count (met Right ks held x)) (λ x. count (flat_map (pair ks x) r)) (λ x.
-        weigh-met Right ks held r x (λ m. 1) h
-        ∙ weigh-same (λ m. cond (fits_on Right ks m x) 1 0) (λ m. count (pair ks x m)) (λ m. ap {B = ℕ} (λ b. cond b 1 0) (fits-right ks x m) ∙ sym (one_pair (fits ks x m) (x ++ m))) r
-        ∙ sym (weigh-flat_map (λ m. 1) (pair ks x) r)) l
+    weigh-met Right ks held r x (λ m. 1) h
+    ∙ weigh-same (λ m. cond (fits_on Right ks m x) 1 0) (λ m. count (pair ks x m)) (λ m. ap {B = ℕ} (λ b. cond b 1 0) (fits-right ks x m) ∙ sym (one_pair (fits ks x m) (x ++ m))) r
+    ∙ sym (weigh-flat_map (λ m. 1) (pair ks x) r)) l
     ∙ sym (weigh-flat_map (λ m. 1) (λ x. flat_map (pair ks x) r) l)
 
 pub right_pairs_are : (ks : List (ℕ × ℕ)) (held : SideState) (l r : List Row) → StandsFor Left ks held l → weigh (λ x. count (met Left ks held x)) r ≡ count (joined ks l r)
 right_pairs_are ks held l r h =
     weigh-same (λ x. count (met Left ks held x)) (λ x. count (flat_map (λ m. pair ks m x) l)) (λ x.
-        weigh-met Left ks held l x (λ m. 1) h
-        ∙ weigh-same (λ m. cond (fits_on Left ks m x) 1 0) (λ m. count (pair ks m x)) (λ m. sym (one_pair (fits ks m x) (m ++ x))) l
-        ∙ sym (weigh-flat_map (λ m. 1) (λ m. pair ks m x) l)) r
+    weigh-met Left ks held l x (λ m. 1) h
+    ∙ weigh-same (λ m. cond (fits_on Left ks m x) 1 0) (λ m. count (pair ks m x)) (λ m. sym (one_pair (fits ks m x) (m ++ x))) l
+    ∙ sym (weigh-flat_map (λ m. 1) (λ m. pair ks m x) l)) r
     ∙ sym (weigh-flat_map (λ m. 1) (λ x. flat_map (λ m. pair ks m x) l) r)
     ∙ sym ((joined_by_right ks l r).weighs (λ m. 1))
 

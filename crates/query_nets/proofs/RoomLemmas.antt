@@ -1,8 +1,6 @@
 -- Room for the counts and sums of groups, by how many rows they have taken, whose values are of the answer range.
-use Rattle.std.proofs.Common.{◌≡◌, ℕ, ℤ, zero, suc, ◌+◌, ◌*◌, ◌^◌, ◌<◌, ◌≤◌, ◌≤ℤ◌, ◌-ℤ◌, neg_ℤ, pos, negsuc, Bool, true, false, Option, Some, None, unwrap_or, cond, List, [], ◌∷◌, filter, length, get_or, refl, sym, ap, subst, ◌∙◌, arith}
-use Rattle.std.specs.declared.cmp.Ordering.{Ordering}
+use Rattle.std.proofs.Common.{◌≡◌, ℕ, ℤ, zero, suc, ◌*◌, ◌^◌, ◌≤◌, ◌≤ℤ◌, neg_ℤ, pos, negsuc, Bool, true, false, Option, Some, None, unwrap_or, cond, List, [], ◌∷◌, length, get_or, refl, sym, ap, subst, arith}
 use Rattle.std.specs.List.{All}
-use Rattle.std.specs.List.Sorted.{IsStrictlySortedBy}
 use Rattle.std.specs.Option.{IfSome}
 use Rattle.std.specs.Map.{lookup, keys_of, values_of}
 use Rattle.std.specs.BTreeMap.{is_at}
@@ -13,7 +11,6 @@ use Rattle.std.proofs.lemmas.List.Elements.{All-nil, All-cons, All-head, All-tai
 use Rattle.std.proofs.lemmas.Map.Keys.{IsDistinct-from_sorted}
 use Rattle.std.proofs.lemmas.Map.Views.{All-values_from_lookup}
 use Rattle.lane_kernels.specs.Lanes.{IsWithin}
-use Rattle.values.specs.Bag.{IsExactOrder}
 use Rattle.values.specs.Row.{Row, value_at, value_cmp, same_row}
 use Rattle.values.specs.Value.{IsAnswerValue, answer_max}
 use Rattle.values.specs.Condition.{Column, field}
@@ -22,7 +19,7 @@ use Rattle.values.specs.declared.resolved.Item.{Item}
 use Rattle.values.specs.declared.resolved.Item.TheVariants.{Key, CountAll, Count, Sum, Min, Max}
 use Rattle.values.proofs.Order.{value_order}
 use Rattle.op_queue.specs.Signed.{weigh}
-use Rattle.group.specs.Cells.{Held, held_cmp, Values, TallyState, number_of, keeps, CellState, cell_zero, TallyRoom, CellRoom}
+use Rattle.group.specs.Cells.{held_cmp, Values, TallyState, number_of, keeps, CellState, cell_zero, TallyRoom, CellRoom}
 use Rattle.group.specs.Groups.{key_in}
 use Rattle.group.specs.Turns.{GroupState, cell_of, CountsUpTo}
 use Rattle.group.specs.Laws.{some_by, over_by, under_by, copy_by, some_count, HoldsNumbers, Tallies, AllTally, Counts, Stands, members}

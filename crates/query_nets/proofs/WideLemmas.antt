@@ -1,15 +1,15 @@
 -- How wide rows are in bags and queues, after the front of a queue was taken.
-use Rattle.std.proofs.Common.{ℕ, zero, suc, ◌+◌, ◌<◌, ◌≡◌, Bool, true, false, List, [], ◌∷◌, ◌++◌, map, length, get_or, refl, sym, ap, subst, arith}
+use Rattle.std.proofs.Common.{ℕ, Bool, true, false, List, [], ◌∷◌, ◌++◌, arith}
 use Rattle.std.specs.List.{All}
 use Rattle.std.proofs.lemmas.List.Elements.{All-nil, All-cons, All-head, All-tail}
 use Rattle.std.proofs.lemmas.List.Sorted.{All-permutation}
 use Rattle.values.specs.Row.{Row}
 use Rattle.values.proofs.Perms.{perm-permutation}
-use Rattle.op_queue.specs.Entries.{Entry, RowAt, TickAt}
+use Rattle.op_queue.specs.Entries.{Entry}
 use Rattle.op_queue.specs.Signed.{weigh, Same, Adds, Legal}
-use Rattle.op_queue.proofs.SignedLemmas.{Adds-rest, Legal-front, Legal-rest, Same-from_none, Same-sym}
+use Rattle.op_queue.proofs.SignedLemmas.{Adds-rest, Legal-front, Legal-rest, Same-from_none}
 use Rattle.group.proofs.BagLemmas.{after_row}
-use Rattle.nets.specs.Nets.{batch, closing}
+use Rattle.nets.specs.Nets.{batch}
 use Rattle.nets.proofs.BagLemmas.{same_perm}
 use Rattle.query_nets.specs.Widths.{AreEntries, AreRows, IsRow}
 

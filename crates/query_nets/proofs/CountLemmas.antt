@@ -27,7 +27,8 @@ unfolding weigh
 count_left r a = omega (arith, a.weighs (λ x. 1))
 
 -- AFTER the rows of a batch, which turn the bag b into c
-pub stays_after : (most t : ℕ) (xs : List (Bool × Row)) (q : List (Entry Row)) (b c : List Row) → Legal b xs → Adds b xs c → StaysWithin most (count b) (batch t xs ++ q) → StaysWithin most (count c) q
+pub stays_after : (most t : ℕ) (xs : List (Bool × Row)) (q : List (Entry Row)) (b c : List Row) → Legal b xs → Adds b xs c
+    → StaysWithin most (count b) (batch t xs ++ q) → StaysWithin most (count c) q
 stays_after most t [] q b c l a h = subst (λ n. StaysWithin most n q) ((Same-from_none a).weighs (λ x. 1)) h
 stays_after most t ((true, r) ∷ xs) q b c l a h =
     let e : (z : List Row) × Adds b ((true, r) ∷ []) z = after_row b (true, r) (Legal-front ((true, r) ∷ []) xs l) in
@@ -37,7 +38,8 @@ stays_after most t ((false, r) ∷ xs) q b c l a h =
     stays_after most t xs q e.0 c (Legal-rest e.1 l) (Adds-rest e.1 a) (subst (λ n. StaysWithin most n (batch t xs ++ q)) (count_left r e.1) h.1)
 
 -- WITH MORE BEHIND, where the queue p turns b into c
-pub stays_append : (most : ℕ) (p q : List (Entry Row)) (b c : List Row) → Turns b (rows_in p) c → StaysWithin most (count b) p → StaysWithin most (count c) q → StaysWithin most (count b) (p ++ q)
+pub stays_append : (most : ℕ) (p q : List (Entry Row)) (b c : List Row) → Turns b (rows_in p) c → StaysWithin most (count b) p → StaysWithin most (count c) q
+    → StaysWithin most (count b) (p ++ q)
 unfolding rows_in
 stays_append most [] q b c m h k = subst (λ n. StaysWithin most n q) (sym ((Same-from_none m.adds).weighs (λ x. 1))) k
 stays_append most (RowAt t (true, r) ∷ p) q b c m h k =
@@ -51,7 +53,8 @@ stays_append most (RowAt t (false, r) ∷ p) q b c m h k =
 stays_append most (TickAt t ∷ p) q b c m h k = (h.0, stays_append most p q b c m h.1 k)
 
 -- WHERE FEW ENTER: n rows, and those that enter, are no more than `most`
-pub stays_entering : (most n t : ℕ) (xs : List (Bool × Row)) (q : List (Entry Row)) → n + up (λ x. 1) xs ≤ most → ((m : ℕ) → m ≤ most → StaysWithin most m q) → StaysWithin most n (batch t xs ++ q)
+pub stays_entering : (most n t : ℕ) (xs : List (Bool × Row)) (q : List (Entry Row)) → n + up (λ x. 1) xs ≤ most → ((m : ℕ) → m ≤ most → StaysWithin most m q)
+    → StaysWithin most n (batch t xs ++ q)
 unfolding weigh
 stays_entering most n t [] q h k = k n (omega (arith, h))
 stays_entering most n t ((true, r) ∷ xs) q h k = (omega (arith, h), stays_entering most (n + 1) t xs q (omega (arith, h)) k)
@@ -75,25 +78,32 @@ kept_left : (p : Row → Bool) {b z : List Row} (r : Row) → Adds b ((false, r)
 unfolding weigh
 kept_left p {b = b} {z = z} r a = omega (arith, a.weighs (λ x. cond (p x) 1 0), weigh-filter (λ x. 1) p b, weigh-filter (λ x. 1) p z)
 
-pub stays_kept : (p : Row → Bool) (most t : ℕ) (xs : List (Bool × Row)) (q : List (Entry Row)) (b : List Row) → Legal b xs → StaysWithin most (count b) (batch t xs ++ q) → StaysWithin most (count (filter p b)) (batch t (filter (λ s. p s.1) xs))
+pub stays_kept : (p : Row → Bool) (most t : ℕ) (xs : List (Bool × Row)) (q : List (Entry Row)) (b : List Row) → Legal b xs
+    → StaysWithin most (count b) (batch t xs ++ q) → StaysWithin most (count (filter p b)) (batch t (filter (λ s. p s.1) xs))
 stays_kept p most t [] q b l h = omega (arith, count_kept p b, stays_now q h)
 stays_kept p most t ((true, r) ∷ xs) q b l h =
     let e : (z : List Row) × Adds b ((true, r) ∷ []) z = after_row b (true, r) (Legal-front ((true, r) ∷ []) xs l) in
-    here (p r) (kept_entered p r e.1) (stays_kept p most t xs q e.0 (Legal-rest e.1 l) (subst (λ n. StaysWithin most n (batch t xs ++ q)) (count_entered r e.1) h.1))
+    here (p r) (kept_entered p r e.1)
+    (stays_kept p most t xs q e.0 (Legal-rest e.1 l) (subst (λ n. StaysWithin most n (batch t xs ++ q)) (count_entered r e.1) h.1))
   where
-    here : (t2 : Bool) {m : ℕ} → count (filter p b) + cond t2 1 0 ≡ m → StaysWithin most m (batch t (filter (λ s. p s.1) xs)) → StaysWithin most (count (filter p b)) (batch t (cond t2 ((true, r) ∷ filter (λ s. p s.1) xs) (filter (λ s. p s.1) xs)))
+    here : (t2 : Bool) {m : ℕ} → count (filter p b) + cond t2 1 0 ≡ m → StaysWithin most m (batch t (filter (λ s. p s.1) xs))
+        → StaysWithin most (count (filter p b)) (batch t (cond t2 ((true, r) ∷ filter (λ s. p s.1) xs) (filter (λ s. p s.1) xs)))
     here true e i = (omega (arith, count_kept p b, h.0), subst (λ n. StaysWithin most n (batch t (filter (λ s. p s.1) xs))) (sym e) i)
-    here false e i = let f : count (filter p b) ≡ count (filter p b) + 0 = omega arith in subst (λ n. StaysWithin most n (batch t (filter (λ s. p s.1) xs))) (sym (f ∙ e)) i
+    here false e i =
+        let f : count (filter p b) ≡ count (filter p b) + 0 = omega arith in subst (λ n. StaysWithin most n (batch t (filter (λ s. p s.1) xs))) (sym (f ∙ e)) i
 stays_kept p most t ((false, r) ∷ xs) q b l h =
     let e : (z : List Row) × Adds b ((false, r) ∷ []) z = after_row b (false, r) (Legal-front ((false, r) ∷ []) xs l) in
     here (p r) (kept_left p r e.1) (stays_kept p most t xs q e.0 (Legal-rest e.1 l) (subst (λ n. StaysWithin most n (batch t xs ++ q)) (count_left r e.1) h.1))
   where
-    here : (t2 : Bool) {m : ℕ} → count (filter p b) - cond t2 1 0 ≡ m → StaysWithin most m (batch t (filter (λ s. p s.1) xs)) → StaysWithin most (count (filter p b)) (batch t (cond t2 ((false, r) ∷ filter (λ s. p s.1) xs) (filter (λ s. p s.1) xs)))
+    here : (t2 : Bool) {m : ℕ} → count (filter p b) - cond t2 1 0 ≡ m → StaysWithin most m (batch t (filter (λ s. p s.1) xs))
+        → StaysWithin most (count (filter p b)) (batch t (cond t2 ((false, r) ∷ filter (λ s. p s.1) xs) (filter (λ s. p s.1) xs)))
     here true e i = (omega (arith, count_kept p b, h.0), subst (λ n. StaysWithin most n (batch t (filter (λ s. p s.1) xs))) (sym e) i)
-    here false e i = let f : count (filter p b) ≡ count (filter p b) - 0 = omega arith in subst (λ n. StaysWithin most n (batch t (filter (λ s. p s.1) xs))) (sym (f ∙ e)) i
+    here false e i =
+        let f : count (filter p b) ≡ count (filter p b) - 0 = omega arith in subst (λ n. StaysWithin most n (batch t (filter (λ s. p s.1) xs))) (sym (f ∙ e)) i
 
 -- EACH ROW MAPPED
-pub stays_mapped : (f : Row → Row) (most n t : ℕ) (xs : List (Bool × Row)) (q : List (Entry Row)) → StaysWithin most n (batch t xs ++ q) → StaysWithin most n (batch t (map (λ s. (s.0, f s.1)) xs))
+pub stays_mapped : (f : Row → Row) (most n t : ℕ) (xs : List (Bool × Row)) (q : List (Entry Row)) → StaysWithin most n (batch t xs ++ q)
+    → StaysWithin most n (batch t (map (λ s. (s.0, f s.1)) xs))
 stays_mapped f most n t [] q h = stays_now q h
 stays_mapped f most n t ((true, r) ∷ xs) q h = (h.0, stays_mapped f most (n + 1) t xs q h.1)
 stays_mapped f most n t ((false, r) ∷ xs) q h = (h.0, stays_mapped f most (n - 1) t xs q h.1)

@@ -52,9 +52,11 @@ lean_zero (i ∷ is) = (λ e. refl, lean_zero is)
 
 lean_row : (s : GroupState) (r : Bool × Row) → KeepsFew s → KeepsFew (row_after s r)
 lean_row s r h k =
-    subst (λ (c : CellState). AreLean s.group.items c.tallies) (sym (cell-taken_in s.group.items (row_key s.group r) (held k) r s.cells)) (here (is_eq (held_cmp (row_key s.group r) (held k))))
+    subst (λ (c : CellState). AreLean s.group.items c.tallies) (sym (cell-taken_in s.group.items (row_key s.group r) (held k) r s.cells))
+    (here (is_eq (held_cmp (row_key s.group r) (held k))))
   where
-    here : (b : Bool) → AreLean s.group.items (cond b (cell_after s.group.items (cell_of (length s.group.items) (row_key s.group r) s.cells) r) (cell_of (length s.group.items) (held k) s.cells)).tallies
+    here : (b : Bool)
+        → AreLean s.group.items (cond b (cell_after s.group.items (cell_of (length s.group.items) (row_key s.group r) s.cells) r) (cell_of (length s.group.items) (held k) s.cells)).tallies
     here true = lean_tallies r s.group.items _ (h (row_key s.group r).items)
     here false = h k
 
@@ -80,12 +82,14 @@ cell_ticked : (s : GroupState) (o b : List Row) → Stands s o b → (k : Row)
     → cell_of (length s.group.items) (held k) (ticked s).cells ≡ cond (is_touched s k) (closed (length s.group.items) (cell_of (length s.group.items) (held k) s.cells) (now_of s k)) (cell_of (length s.group.items) (held k) s.cells)
 cell_ticked s o b h k =
     ap (λ cs. cell_of (length s.group.items) (held k) (fold (shown_after (length s.group.items)) s.cells cs)) (changes-showns s.group s.cells s.touched)
-    ∙ cell-closing (length s.group.items) (λ j. row_now s.group (excerpt s.group.items j (cell_of (length s.group.items) j s.cells))) s.touched s.cells h.sorted (held k)
+    ∙ cell-closing (length s.group.items) (λ j. row_now s.group (excerpt s.group.items j (cell_of (length s.group.items) j s.cells))) s.touched s.cells h.sorted
+    (held k)
 
 pub lean_ticked : (s : GroupState) (o b : List Row) → Stands s o b → KeepsFew s → KeepsFew (ticked s)
 lean_ticked s o b h f k = subst (λ (c : CellState). AreLean s.group.items c.tallies) (sym (cell_ticked s o b h k)) (here (is_touched s k) (now_of s k))
   where
-    here : (t : Bool) (now : Option Held) → AreLean s.group.items (cond t (closed (length s.group.items) (cell_of (length s.group.items) (held k) s.cells) now) (cell_of (length s.group.items) (held k) s.cells)).tallies
+    here : (t : Bool) (now : Option Held)
+        → AreLean s.group.items (cond t (closed (length s.group.items) (cell_of (length s.group.items) (held k) s.cells) now) (cell_of (length s.group.items) (held k) s.cells)).tallies
     here true None = lean_zero s.group.items
     here true (Some r) = f k
     here false now = f k
@@ -127,7 +131,8 @@ shown_all P s o b h a k = here (times k h.keys) refl
     here (suc n) e = part_in P (shown_rows s) k h.keys (omega (arith, e)) (all_same P o (flat_map (shown_rows s) h.keys) h.was a)
 
 -- a weight of some keys, each there once, is no more than that of keys among which are all that weigh anything
-pub part_le : (u : Row → ℕ) (ks js : List Row) → ((k : Row) → times k ks ≤ 1) → ((k : Row) → 0 < times k ks → times k js ≡ 0 → u k ≡ 0) → weigh u ks ≤ weigh u js
+pub part_le : (u : Row → ℕ) (ks js : List Row) → ((k : Row) → times k ks ≤ 1) → ((k : Row) → 0 < times k ks → times k js ≡ 0 → u k ≡ 0)
+    → weigh u ks ≤ weigh u js
 unfolding weigh
 part_le u [] js once h = omega arith
 part_le u (k ∷ ks) js once h = here (times k js) refl (λ us g. part_le u ks us less g)
@@ -142,7 +147,8 @@ part_le u (k ∷ ks) js once h = here (times k js) refl (λ us g. part_le u ks u
     other e j l z true f = absurd (omega (arith, l, once j, ap {B = ℕ} (λ (b : Bool). cond b 1 0) f))
     other e j l z false f = h j (omega (arith, l)) (omega (arith, z, gone e (λ y. cond (is_same row_cmp j y) 1 0), ap {B = ℕ} (λ (b : Bool). cond b 1 0) f))
 
-    here : (n : ℕ) → times k js ≡ n → ((us : List Row) → ((j : Row) → 0 < times j ks → times j us ≡ 0 → u j ≡ 0) → weigh u ks ≤ weigh u us) → u k + weigh u ks ≤ weigh u js
+    here : (n : ℕ) → times k js ≡ n → ((us : List Row) → ((j : Row) → 0 < times j ks → times j us ≡ 0 → u j ≡ 0) → weigh u ks ≤ weigh u us)
+        → u k + weigh u ks ≤ weigh u js
     here zero e rest = omega (arith, h k (omega (arith, ap {B = ℕ} (λ (b : Bool). cond b 1 0) (row_itself k))) e, rest js (λ j l z. h j (omega (arith, l)) z))
     here (suc n) e rest =
         let some : times k js ≢ 0 = λ z. absurd (omega (arith, e, z)) in
@@ -150,18 +156,22 @@ part_le u (k ∷ ks) js once h = here (times k js) refl (λ us g. part_le u ks u
 
 -- THE OUTPUTS OF A TICK
 fitted_row : (n : ℕ) (r : Held) → InRange r.items → IsRow n (fitted n r)
-fitted_row n r a = record { wide = length-map-range_with_len (value_at r.items) 0 n; values = All-map IsAnswerValue (value_at r.items) (range_with_len 0 n) (λ i d l. value_in r.items _ a) }
+fitted_row n r a =
+    record { wide = length-map-range_with_len (value_at r.items) 0 n; values = All-map IsAnswerValue (value_at r.items) (range_with_len 0 n) (λ i d l. value_in r.items _ a) }
 
 signed_wide : (enters : Bool) (n : ℕ) (o : Option Held) → All InRange (shown_list o) → AreSigned n (signed_row enters n o)
 signed_wide enters n None a = All-nil (λ (s : Bool × Row). IsRow n s.1)
-signed_wide enters n (Some r) a = All-cons (λ (s : Bool × Row). IsRow n s.1) (enters, fitted n r) [] (fitted_row n r (All-head InRange r.items [] a)) (All-nil (λ (s : Bool × Row). IsRow n s.1))
+signed_wide enters n (Some r) a =
+    All-cons (λ (s : Bool × Row). IsRow n s.1) (enters, fitted n r) [] (fitted_row n r (All-head InRange r.items [] a))
+    (All-nil (λ (s : Bool × Row). IsRow n s.1))
 
 swap_wide : (n : ℕ) (old now : Option Held) → All InRange (shown_list old) → All InRange (shown_list now) → AreSigned n (swap_of n old now)
 swap_wide n old now a b = here (same_shown old now)
   where
     here : (t : Bool) → AreSigned n (cond t [] (signed_row false n old ++ signed_row true n now))
     here true = All-nil (λ (s : Bool × Row). IsRow n s.1)
-    here false = All-append (λ (s : Bool × Row). IsRow n s.1) (signed_row false n old) (signed_row true n now) (signed_wide false n old a) (signed_wide true n now b)
+    here false =
+        All-append (λ (s : Bool × Row). IsRow n s.1) (signed_row false n old) (signed_row true n now) (signed_wide false n old a) (signed_wide true n now b)
 
 -- of a key that was touched
 record IsShown (s : GroupState) (k : Held) : Type 0 where
@@ -177,7 +187,8 @@ all_wide s (k ∷ ks) a =
     (swap_wide (length s.group.items) _ (now_of s k.items) h.old (subst (All InRange) (sym h.is) h.new))
     (all_wide s ks (All-tail (IsShown s) k ks a))
 
-pub outputs_wide : (s : GroupState) (o b : List Row) → Stands s o b → Stands (ticked s) (grouped s.group b) b → All InRange o → All InRange (grouped s.group b) → AreSigned (length s.group.items) (outputs s.group (near_at s.group.items s.cells s.touched))
+pub outputs_wide : (s : GroupState) (o b : List Row) → Stands s o b → Stands (ticked s) (grouped s.group b) b → All InRange o → All InRange (grouped s.group b)
+    → AreSigned (length s.group.items) (outputs s.group (near_at s.group.items s.cells s.touched))
 outputs_wide s o b h h2 a a2 =
     all_wide s s.touched
     (All-from_any (eq_by_cmp_equiv held_order.total) (IsShown s) s.touched (λ k e. record { old = shown_all InRange s o b h a k.items; new = shown_all InRange (ticked s) (grouped s.group b) b h2 a2 k.items; is = now_shown s o b h k.items e }))
@@ -216,7 +227,8 @@ none_count : count [] ≡ 0
 unfolding weigh
 none_count = refl
 
-pub outputs_few : (s : GroupState) (o b : List Row) → Stands s o b → Stands (ticked s) (grouped s.group b) b → up (λ x. 1) (outputs s.group (near_at s.group.items s.cells s.touched)) ≤ count (grouped s.group b)
+pub outputs_few : (s : GroupState) (o b : List Row) → Stands s o b → Stands (ticked s) (grouped s.group b) b
+    → up (λ x. 1) (outputs s.group (near_at s.group.items s.cells s.touched)) ≤ count (grouped s.group b)
 outputs_few s o b h h2 =
     let few : up (λ x. 1) (outputs s.group (near_at s.group.items s.cells s.touched)) ≤ weigh (λ r. count (shown_rows (ticked s) r)) (touched_keys s) =
     all_few s s.touched (All-from_any (eq_by_cmp_equiv held_order.total) (λ k. shown_list (now_of s k.items) ≡ shown_rows (ticked s) k.items) s.touched (λ k e. now_shown s o b h k.items e)) in
@@ -236,11 +248,13 @@ max_in a b h k =
     let l : neg_ℤ answer_max ≤ℤ a = h.0 in let u : a ≤ℤ answer_max = h.1 in let m : neg_ℤ answer_max ≤ℤ b = k.0 in let v : b ≤ℤ answer_max = k.1 in
     (omega (arith, ints, clamps), omega (arith, ints, clamps))
 
-fold_in : (op : ℤ → ℤ → ℤ) → ((a b : ℤ) → IsAnswerNumber a → IsAnswerNumber b → IsAnswerNumber (op a b)) → (ns : List ℤ) (z : ℤ) → IsAnswerNumber z → All IsAnswerNumber ns → IsAnswerNumber (fold op z ns)
+fold_in : (op : ℤ → ℤ → ℤ) → ((a b : ℤ) → IsAnswerNumber a → IsAnswerNumber b → IsAnswerNumber (op a b)) → (ns : List ℤ) (z : ℤ) → IsAnswerNumber z
+    → All IsAnswerNumber ns → IsAnswerNumber (fold op z ns)
 fold_in op h [] z a b = a
 fold_in op h (n ∷ ns) z a b = fold_in op h ns (op z n) (h z n a (All-head IsAnswerNumber n ns b)) (All-tail IsAnswerNumber n ns b)
 
-reduce_in : (op : ℤ → ℤ → ℤ) → ((a b : ℤ) → IsAnswerNumber a → IsAnswerNumber b → IsAnswerNumber (op a b)) → (ns : List ℤ) → All IsAnswerNumber ns → IsAnswerValue (reduce op ns)
+reduce_in : (op : ℤ → ℤ → ℤ) → ((a b : ℤ) → IsAnswerNumber a → IsAnswerNumber b → IsAnswerNumber (op a b)) → (ns : List ℤ) → All IsAnswerNumber ns
+    → IsAnswerValue (reduce op ns)
 reduce_in op h [] a = tt
 reduce_in op h (n ∷ ns) a = fold_in op h ns n (All-head IsAnswerNumber n ns a) (All-tail IsAnswerNumber n ns a)
 
@@ -267,7 +281,8 @@ numbers_length c (rows ∷ group) = here (field rows c) (numbers_length c group)
     here None i = omega (arith, i)
     here (Some z) i = omega (arith, i)
 
-item_in : (key : Row) (group : List (List Row)) → InRange key → length group ≤ 2 ^ 62 → All Fields group → (i : relations.Item) → IsAnswerValue (item_value key group i)
+item_in : (key : Row) (group : List (List Row)) → InRange key → length group ≤ 2 ^ 62 → All Fields group → (i : relations.Item)
+    → IsAnswerValue (item_value key group i)
 item_in key group k l a (relations.Key j) = value_in key j k
 item_in key group k l a relations.CountAll = count_in (length group) l
 item_in key group k l a (relations.Count c) = count_in (length (numbers c group)) (omega (arith, l, numbers_length c group))
@@ -283,12 +298,15 @@ kept_length {X = X} p (x ∷ xs) = here (p x) (kept_length p xs)
     here true i = omega (arith, i)
     here false i = omega (arith, i)
 
-group_wide : (by : List Column) (items : List relations.Item) (kept : List (List Row)) (key : Row) → length kept ≤ 2 ^ 62 → All Fields kept → InRange key → IsRow (length items) (group_row by items kept key)
+group_wide : (by : List Column) (items : List relations.Item) (kept : List (List Row)) (key : Row) → length kept ≤ 2 ^ 62 → All Fields kept → InRange key
+    → IsRow (length items) (group_row by items kept key)
 group_wide by items kept key l a k =
     let mine : List Row → Bool = λ rows. same_row key (key_of by rows) in
     record {
       wide = length-map items (item_value key (filter mine kept));
-      values = All-map IsAnswerValue (item_value key (filter mine kept)) items (λ i d lt. item_in key (filter mine kept) k (omega (arith, l, kept_length mine kept)) (All-filter mine Fields kept a) _);
+      values =
+          All-map IsAnswerValue (item_value key (filter mine kept)) items
+          (λ i d lt. item_in key (filter mine kept) k (omega (arith, l, kept_length mine kept)) (All-filter mine Fields kept a) _);
     }
 
 all_distinct : (P : Row → Type 0) (xs : List Row) → All P xs → All P (distinct row_cmp xs)
@@ -301,7 +319,9 @@ all_distinct P (x ∷ xs) a = here (list_any (is_same row_cmp x) xs) (all_distin
 
 keys_wide : (by : List Column) (kept : List (List Row)) → All Fields kept → All InRange (keys_in by kept)
 keys_wide [] kept a = All-cons InRange [] [] (All-nil IsAnswerValue) (All-nil InRange)
-keys_wide (c ∷ by) kept a = all_distinct InRange (map (key_of (c ∷ by)) kept) (All-map InRange (key_of (c ∷ by)) kept (λ k d l. All-map IsAnswerValue (field _) (c ∷ by) (λ i e m. a k d l _)))
+keys_wide (c ∷ by) kept a =
+    all_distinct InRange (map (key_of (c ∷ by)) kept)
+    (All-map InRange (key_of (c ∷ by)) kept (λ k d l. All-map IsAnswerValue (field _) (c ∷ by) (λ i e m. a k d l _)))
 
 alone_length : (b : List Row) → length (map {B = List Row} (λ r. r ∷ []) b) ≡ count b
 unfolding weigh
@@ -328,7 +348,8 @@ distinct_few (x ∷ xs) = here (list_any (is_same row_cmp x) xs) (distinct_few x
 keys_few : (by : List Column) (b : List Row) → count (keys_in by (map (λ r. r ∷ []) b)) ≤ max 1 (count b)
 unfolding weigh
 keys_few [] b = omega arith
-keys_few (c ∷ by) b = omega (arith, distinct_few (map (key_of (c ∷ by)) (map (λ r. r ∷ []) b)), weigh-map (λ r. 1) (key_of (c ∷ by)) (map (λ r. r ∷ []) b), weigh-map (λ r. 1) (λ (r : Row). r ∷ []) b)
+keys_few (c ∷ by) b =
+    omega (arith, distinct_few (map (key_of (c ∷ by)) (map (λ r. r ∷ []) b)), weigh-map (λ r. 1) (key_of (c ∷ by)) (map (λ r. r ∷ []) b), weigh-map (λ r. 1) (λ (r : Row). r ∷ []) b)
 
 pub grouped_few : (g : GroupBy) (b : List Row) → count (grouped g b) ≤ max 1 (count b)
 grouped_few g b =

@@ -77,7 +77,8 @@ untrue {ℓ} : {A : Type ℓ} → false ≡ true → A
 untrue h = absurd (true≢false (sym h))
 
 module _ (wo : World) (f : Unary) (x w out most room : ℕ) (s : GroupState) (v : ℕ → List Row) (below : List Row) (m : ℕ) where
-  rows_made : f.streams ≡ false → (t n : ℕ) (b : List (Bool × Row)) (q : List (Entry Row)) (i o : List Row) → 0 < length b → laws.Stands s o i → KeepsFew s → GoodOne f v (batch t b ++ q) i o n below m
+  rows_made : f.streams ≡ false → (t n : ℕ) (b : List (Bool × Row)) (q : List (Entry Row)) (i o : List Row) → 0 < length b → laws.Stands s o i → KeepsFew s
+      → GoodOne f v (batch t b ++ q) i o n below m
       → IsSideWide w i (batch t b ++ q) → AreRows out o → StaysWithin most (count i) (batch t b ++ q) → count o ≤ room
       → GroupMade wo f x w out most room s (Rows t b) (at_unary (batch t b ++ q) i o n) o q
   rows_made quiet t n b q i o l st few g wide puts stays bound =
@@ -100,7 +101,8 @@ module _ (wo : World) (f : Unary) (x w out most room : ℕ) (s : GroupState) (v 
         outs_few = omega (arith, bound);
       }
 
-  tick_made : out ≡ length s.group.items → (t n : ℕ) (q : List (Entry Row)) (i o : List Row) → laws.Stands s o i → KeepsFew s → GoodOne f v (TickAt t ∷ q) i o n below m
+  tick_made : out ≡ length s.group.items → (t n : ℕ) (q : List (Entry Row)) (i o : List Row) → laws.Stands s o i → KeepsFew s
+      → GoodOne f v (TickAt t ∷ q) i o n below m
       → Same (grouped s.group i) (f.value i) → (Same i (v n) → count (grouped s.group i) ≤ room) → count i ≤ 2 ^ 62
       → IsSideWide w i (TickAt t ∷ q) → AreRows out o → StaysWithin most (count i) (TickAt t ∷ q) → count o ≤ room
       → GroupMade wo f x w out most room s (Tick t) (at_unary (TickAt t ∷ q) i o n) o q
@@ -113,7 +115,8 @@ module _ (wo : World) (f : Unary) (x w out most room : ℕ) (s : GroupState) (v 
         opens = n + 1;
         taken = i;
         puts = next;
-        turn = subst (λ j. Turn wo (unary f x) (at_unary (TickAt j ∷ q) i o n) (closing j (group.outputs s.group (group.near s (Tick t)))) (at_unary q i next (n + 1))) (sym taken.0)
+        turn =
+            subst (λ j. Turn wo (unary f x) (at_unary (TickAt j ∷ q) i o n) (closing j (group.outputs s.group (group.near s (Tick t)))) (at_unary q i next (n + 1))) (sym taken.0)
             (tick_turn f x n (group.outputs s.group (group.near s (Tick t))) q i o next (record { puts = λ k. outputs_turn s o i st bound; shows = λ k. value }));
         stands = st2;
         few = lean_ticked s o i st few;
@@ -124,16 +127,22 @@ module _ (wo : World) (f : Unary) (x w out most room : ℕ) (s : GroupState) (v 
         puts_few = size taken.1;
         outs_wide = subst (λ k. AreEntries k (outs_of s (Tick t))) (sym e)
             (entries_batch (length s.group.items) t (group.outputs s.group (group.near s (Tick t))) (TickAt t ∷ []) (outputs_wide s o i st st2 (in_range out o puts) (in_range (length s.group.items) next rows)) tt);
-        outs_few = stays_entering (room + room) (count o) t (group.outputs s.group (group.near s (Tick t))) (TickAt t ∷ []) (omega (arith, held, outputs_few s o i st st2, size taken.1)) (λ k l. (l, l));
+        outs_few =
+            stays_entering (room + room) (count o) t (group.outputs s.group (group.near s (Tick t))) (TickAt t ∷ [])
+            (omega (arith, held, outputs_few s o i st st2, size taken.1)) (λ k l. (l, l));
       }
 
   -- with whatever item stands first
-  pub group_made : f.streams ≡ false → out ≡ length s.group.items → (it : queue.Item) (n : ℕ) (q : List (Entry Row)) (i o : List Row) → 0 < length (entries_of it) → laws.Stands s o i → KeepsFew s
-      → GoodOne f v (entries_of it ++ q) i o n below m → Same (grouped s.group i) (f.value i) → (Same i (v n) → count (grouped s.group i) ≤ room) → most ≤ 2 ^ 62
+  pub group_made : f.streams ≡ false → out ≡ length s.group.items → (it : queue.Item) (n : ℕ) (q : List (Entry Row)) (i o : List Row)
+      → 0 < length (entries_of it) → laws.Stands s o i → KeepsFew s
+      → GoodOne f v (entries_of it ++ q) i o n below m → Same (grouped s.group i) (f.value i) → (Same i (v n) → count (grouped s.group i) ≤ room)
+      → most ≤ 2 ^ 62
       → IsSideWide w i (entries_of it ++ q) → AreRows out o → StaysWithin most (count i) (entries_of it ++ q) → count o ≤ room
       → GroupMade wo f x w out most room s it (at_unary (entries_of it ++ q) i o n) o q
-  group_made quiet e (Rows t b) n q i o l st few g value size bound wide puts stays held = rows_made quiet t n b q i o (omega (arith, l, length-map b (RowAt t))) st few g wide puts stays held
-  group_made quiet e (Tick t) n q i o l st few g value size bound wide puts stays held = tick_made e t n q i o st few g value size (omega (arith, bound, stays_now (TickAt t ∷ q) stays)) wide puts stays held
+  group_made quiet e (Rows t b) n q i o l st few g value size bound wide puts stays held =
+      rows_made quiet t n b q i o (omega (arith, l, length-map b (RowAt t))) st few g wide puts stays held
+  group_made quiet e (Tick t) n q i o l st few g value size bound wide puts stays held =
+      tick_made e t n q i o st few g value size (omega (arith, bound, stays_now (TickAt t ∷ q) stays)) wide puts stays held
 
 -- WHAT THE OPERATOR'S TURN SAYS, by its kind and state
 abbrev put_in : Outs → List (Entry Row)
@@ -147,7 +156,8 @@ module _ (s : GroupState) (o o2 : PlainOperator) (log : Closed) (it : queue.Item
   next_is : IsFinished o log Left it (change_at o.kind it (near_of o.state Left it)) o2 → o2.state ≡ state.Groups (after_item s it)
   next_is h =
       subst (λ (held : State). IsNext held Left it (change_at o.kind it (near_of o.state Left it)) o2.state) is_state h.state
-      ∙ ap (λ (c : Change). state.Groups (group.next s it (shown_in c))) (ap₂ (λ (what : Kind) (held : State). change_at what it (near_of held Left it)) is_kind is_state)
+      ∙ ap (λ (c : Change). state.Groups (group.next s it (shown_in c)))
+      (ap₂ (λ (what : Kind) (held : State). change_at what it (near_of held Left it)) is_kind is_state)
 
   -- there is room for the item where few rows were taken
   may_take : (side : Side) (shown taken : List Row) → laws.Stands s shown taken → KeepsFew s → count taken ≤ 2 ^ 62 → All InRange taken → MayTake o side it
@@ -176,13 +186,16 @@ group_at i by items w ws ns k o o2 log q t b n d e it outs s f puts fin =
     let out : outs_of g it ≡ outs = outs_are g o o2 log it run.kind run.state outs puts in
     let shape : Grouped by items ≡ Grouped (columns_of g.group.by) (items_of g.group.items) = ap₂ Grouped run.keyed run.listed in
     let made : GroupMade w (grouping (Grouped by items)) i (width_at ws i) (width_at ws k) (most_rows ns i) (max 1 (tick_rows ns i)) g it (at_unary (entries_of it ++ f.rest) t b n) b f.rest =
-    group_made w (grouping (Grouped by items)) i (width_at ws i) (width_at ws k) (most_rows ns i) (max 1 (tick_rows ns i)) g d.values d.bag d.opens refl (subst (IsKindWide (width_at ws i) (width_at ws k)) run.kind wide.one.kind) it n f.rest t b
-    f.some run.stands run.few (subst (λ q. GoodOne (grouping (Grouped by items)) d.values q t b n d.bag d.opens) front good) (same_of (ap (λ shape. plan.shaped_rows shape t) (sym shape)))
+    group_made w (grouping (Grouped by items)) i (width_at ws i) (width_at ws k) (most_rows ns i) (max 1 (tick_rows ns i)) g d.values d.bag d.opens refl
+    (subst (IsKindWide (width_at ws i) (width_at ws k)) run.kind wide.one.kind) it n f.rest t b
+    f.some run.stands run.few (subst (λ q. GoodOne (grouping (Grouped by items)) d.values q t b n d.bag d.opens) front good)
+    (same_of (ap (λ shape. plan.shaped_rows shape t) (sym shape)))
     (λ h. omega (arith, grouped_few g.group t, h.weighs (λ x. 1), s.room.left n)) (omega (arith, s.room.always i))
     (subst (IsSideWide (width_at ws i) t) front wide.one.side) wide.puts (subst (StaysWithin (most_rows ns i) (count t)) front few.0) few.1 in
     subst (λ q. StepMade w ws ns k (plan.Group i by items) (at_unary q t b n) outs o2 log) (sym front) (record {
       cell = at_unary f.rest made.taken made.puts made.opens;
-      turn = subst (λ outs. Turn w (unary (grouping (Grouped by items)) i) (at_unary (entries_of it ++ f.rest) t b n) outs (at_unary f.rest made.taken made.puts made.opens)) out made.turn;
+      turn =
+          subst (λ outs. Turn w (unary (grouping (Grouped by items)) i) (at_unary (entries_of it ++ f.rest) t b n) outs (at_unary f.rest made.taken made.puts made.opens)) out made.turn;
       runs = record {
         held = after_item g it;
         kind = fin.kind ∙ run.kind ∙ ap kind.Group (sym made.group);
@@ -196,20 +209,25 @@ group_at i by items w ws ns k o o2 log q t b n d e it outs s f puts fin =
       wide = record { one = record { kind = subst (IsKindWide (width_at ws i) (width_at ws k)) (sym fin.kind) wide.one.kind; narrow = wide.one.narrow; side = made.side }; puts = made.puts_wide };
       few = (made.stays, made.puts_few);
       outs_wide = subst (AreEntries (width_at ws k)) out made.outs_wide;
-      outs_few = subst (λ most. StaysWithin most (count b) outs) (sym s.room.most) (subst (StaysWithin (max 1 (tick_rows ns i) + max 1 (tick_rows ns i)) (count b)) out made.outs_few);
+      outs_few =
+          subst (λ most. StaysWithin most (count b) outs) (sym s.room.most)
+          (subst (StaysWithin (max 1 (tick_rows ns i) + max 1 (tick_rows ns i)) (count b)) out made.outs_few);
     })
 
 pub group_steps : (i : ℕ) (by : List Column) (items : List Item) → StepLaw (plan.Group i by items)
 group_steps i by items w ws ns k o o2 log (at_window h m b q n) d e side it outs s f puts fin = absurd s.runs
 group_steps i by items w ws ns k o o2 log (at_join q r l m b n x y) d e side it outs s f puts fin = absurd s.runs
-group_steps i by items w ws ns k o o2 log (at_unary q t b n) d e Left it outs s f puts fin = group_at i by items w ws ns k o o2 log q t b n d e it outs s f puts fin
-group_steps i by items w ws ns k o o2 log (at_unary q t b n) d e Right it outs s f puts fin = untrue (subst (λ (held : State). usable held Right ≡ true) s.runs.state f.usable)
+group_steps i by items w ws ns k o o2 log (at_unary q t b n) d e Left it outs s f puts fin =
+    group_at i by items w ws ns k o o2 log q t b n d e it outs s f puts fin
+group_steps i by items w ws ns k o o2 log (at_unary q t b n) d e Right it outs s f puts fin =
+    untrue (subst (λ (held : State). usable held Right ≡ true) s.runs.state f.usable)
 
 pub group_may : (i : ℕ) (by : List Column) (items : List Item) → MayLaw (plan.Group i by items)
 group_may i by items w ws ns k o log (at_window h m b q n) d e side it s f = absurd s.runs
 group_may i by items w ws ns k o log (at_join q r l m b n x y) d e side it s f = absurd s.runs
 group_may i by items w ws ns k o log (at_unary q t b n) d e side it s f =
-    may_take s.runs.held o o log it s.runs.kind s.runs.state side b t s.runs.stands s.runs.few (omega (arith, stays_now q s.few.0, s.room.always i)) (in_range (width_at ws i) t s.wide.one.side.taken)
+    may_take s.runs.held o o log it s.runs.kind s.runs.state side b t s.runs.stands s.runs.few (omega (arith, stays_now q s.few.0, s.room.always i))
+    (in_range (width_at ws i) t s.wide.one.side.taken)
 
 -- DISTINCT
 once_rows : (width : ℕ) (g : GroupBy) (b : List Row) → g ≡ once_each width → 0 < width → AreRows width b → grouped g b ≡ distinct row_cmp b
@@ -227,15 +245,18 @@ distinct_at i w ws ns k o o2 log q t b n d e it outs s f puts fin =
     let g : GroupState = run.held in
     let front : q ≡ entries_of it ++ f.rest = run.queue ∙ f.is in
     let out : outs_of g it ≡ outs = outs_are g o o2 log it run.kind run.state outs puts in
-    let rows : grouped g.group t ≡ distinct row_cmp t = once_rows (width_at ws k) g.group t run.all run.some (subst (λ c. AreRows c t) all_wide.same wide.one.side.taken) in
+    let rows : grouped g.group t ≡ distinct row_cmp t =
+    once_rows (width_at ws k) g.group t run.all run.some (subst (λ c. AreRows c t) all_wide.same wide.one.side.taken) in
     let made : GroupMade w once i (width_at ws i) (width_at ws k) (most_rows ns i) (tick_rows ns i) g it (at_unary (entries_of it ++ f.rest) t b n) b f.rest =
-    group_made w once i (width_at ws i) (width_at ws k) (most_rows ns i) (tick_rows ns i) g d.values d.bag d.opens refl (subst (IsKindWide (width_at ws i) (width_at ws k)) run.kind wide.one.kind) it n f.rest t b
+    group_made w once i (width_at ws i) (width_at ws k) (most_rows ns i) (tick_rows ns i) g d.values d.bag d.opens refl
+    (subst (IsKindWide (width_at ws i) (width_at ws k)) run.kind wide.one.kind) it n f.rest t b
     f.some run.stands run.few (subst (λ q. GoodOne once d.values q t b n d.bag d.opens) front good) (same_of rows)
     (λ h. omega (arith, ap count rows, distinct_few t, h.weighs (λ x. 1), s.room.left n)) (omega (arith, s.room.always i))
     (subst (IsSideWide (width_at ws i) t) front wide.one.side) wide.puts (subst (StaysWithin (most_rows ns i) (count t)) front few.0) few.1 in
     subst (λ q. StepMade w ws ns k (plan.Distinct i) (at_unary q t b n) outs o2 log) (sym front) (record {
       cell = at_unary f.rest made.taken made.puts made.opens;
-      turn = subst (λ outs. Turn w (unary once i) (at_unary (entries_of it ++ f.rest) t b n) outs (at_unary f.rest made.taken made.puts made.opens)) out made.turn;
+      turn =
+          subst (λ outs. Turn w (unary once i) (at_unary (entries_of it ++ f.rest) t b n) outs (at_unary f.rest made.taken made.puts made.opens)) out made.turn;
       runs = record {
         held = after_item g it;
         kind = fin.kind ∙ run.kind ∙ ap kind.Group (sym made.group);
@@ -252,17 +273,20 @@ distinct_at i w ws ns k o o2 log q t b n d e it outs s f puts fin =
       };
       few = (made.stays, made.puts_few);
       outs_wide = subst (AreEntries (width_at ws k)) out made.outs_wide;
-      outs_few = subst (λ most. StaysWithin most (count b) outs) (sym s.room.most) (subst (StaysWithin (tick_rows ns i + tick_rows ns i) (count b)) out made.outs_few);
+      outs_few =
+          subst (λ most. StaysWithin most (count b) outs) (sym s.room.most) (subst (StaysWithin (tick_rows ns i + tick_rows ns i) (count b)) out made.outs_few);
     })
 
 pub distinct_steps : (i : ℕ) → StepLaw (plan.Distinct i)
 distinct_steps i w ws ns k o o2 log (at_window h m b q n) d e side it outs s f puts fin = absurd s.runs
 distinct_steps i w ws ns k o o2 log (at_join q r l m b n x y) d e side it outs s f puts fin = absurd s.runs
 distinct_steps i w ws ns k o o2 log (at_unary q t b n) d e Left it outs s f puts fin = distinct_at i w ws ns k o o2 log q t b n d e it outs s f puts fin
-distinct_steps i w ws ns k o o2 log (at_unary q t b n) d e Right it outs s f puts fin = untrue (subst (λ (held : State). usable held Right ≡ true) s.runs.state f.usable)
+distinct_steps i w ws ns k o o2 log (at_unary q t b n) d e Right it outs s f puts fin =
+    untrue (subst (λ (held : State). usable held Right ≡ true) s.runs.state f.usable)
 
 pub distinct_may : (i : ℕ) → MayLaw (plan.Distinct i)
 distinct_may i w ws ns k o log (at_window h m b q n) d e side it s f = absurd s.runs
 distinct_may i w ws ns k o log (at_join q r l m b n x y) d e side it s f = absurd s.runs
 distinct_may i w ws ns k o log (at_unary q t b n) d e side it s f =
-    may_take s.runs.held o o log it s.runs.kind s.runs.state side b t s.runs.stands s.runs.few (omega (arith, stays_now q s.few.0, s.room.always i)) (in_range (width_at ws i) t s.wide.group.one.side.taken)
+    may_take s.runs.held o o log it s.runs.kind s.runs.state side b t s.runs.stands s.runs.few (omega (arith, stays_now q s.few.0, s.room.always i))
+    (in_range (width_at ws i) t s.wide.group.one.side.taken)

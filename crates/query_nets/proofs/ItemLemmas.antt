@@ -18,10 +18,12 @@ drop_front [] q = refl
 drop_front (x ∷ p) q = drop_front p q
 
 -- the rest of the side's queue, and the other side's
-pub rest_waits : (o o2 : PlainOperator) (log : Closed) (side : Side) (i : Item) (c : Change) (f : IsFirst o log side i) → IsFinished o log side i c o2 → f.rest ≡ waiting o2 log side
+pub rest_waits : (o o2 : PlainOperator) (log : Closed) (side : Side) (i : Item) (c : Change) (f : IsFirst o log side i) → IsFinished o log side i c o2
+    → f.rest ≡ waiting o2 log side
 rest_waits o o2 log side i c f h = sym (h.dropped.entries ∙ ap (drop (length (entries_of i))) f.is ∙ drop_front (entries_of i) f.rest)
 
-pub other_waits : (o o2 : PlainOperator) (log : Closed) (side : Side) (i : Item) (c : Change) → IsFinished o log side i c o2 → waiting o2 log (other side) ≡ waiting o log (other side)
+pub other_waits : (o o2 : PlainOperator) (log : Closed) (side : Side) (i : Item) (c : Change) → IsFinished o log side i c o2
+    → waiting o2 log (other side) ≡ waiting o log (other side)
 other_waits o o2 log side i c h = ap (λ b. entries_in b log) h.other
 
 -- an operator with one input uses the left side

@@ -78,31 +78,34 @@ first_wide w (x ∷ xs) l h = (All-head (λ (s : Bool × Row). IsRow w s.1) x xs
 module _ (i j : ℕ) (keys : List plan.Key) (w : World) (ws : List ℕ) (ns : List plan.Node) (k : ℕ) where
   -- A JOIN AFTER A TURN stands for the next cell
   made : (o o2 : PlainOperator) (log : Closed) (c : Cell) (outs : List (Entry Row)) (side : Side) (it : Item) (change : Change) (s s2 : JoinState) (q r : List (Entry Row)) (l m b : List Row) (n : ℕ) (x y : Bool)
-      → o.kind ≡ kind.Join → ((ls rs : List Row) → pairs.joined s.keys ls rs ≡ plan.joined keys ls rs) → IsJoinWide (width_at ws i) (width_at ws j) (state.Join s)
+      → o.kind ≡ kind.Join → ((ls rs : List Row) → pairs.joined s.keys ls rs ≡ plan.joined keys ls rs)
+      → IsJoinWide (width_at ws i) (width_at ws j) (state.Join s)
       → IsFinished o log side it change o2 → o2.state ≡ state.Join s2 → IsMarked s s2 → width_at ws k ≡ width_at ws i + width_at ws j → width_at ws k ≤ 16
       → joins.Stands s2 l m → s2.left.ticked ≡ x → s2.right.ticked ≡ y → q ≡ waiting o2 log Left → r ≡ waiting o2 log Right
       → IsSideWide (width_at ws i) l q → IsSideWide (width_at ws j) m r → StaysWithin (most_rows ns i) (count l) q → StaysWithin (most_rows ns j) (count m) r
-      → Turn w (nets.join (joining keys) i j) c outs (at_join q r l m b n x y) → AreEntries (width_at ws k) outs → StaysWithin (most_rows ns k) (count (nets.cell_shown c)) outs
+      → Turn w (nets.join (joining keys) i j) c outs (at_join q r l m b n x y) → AreEntries (width_at ws k) outs
+      → StaysWithin (most_rows ns k) (count (nets.cell_shown c)) outs
       → StepMade w ws ns k (plan.Join i j keys) c outs o2 log
-  made o o2 log c outs side it change s s2 q r l m b n x y is_kind meets widths fin is_state same sum narrow stands lt rt lq rq lw rw lf rf turn outs_wide outs_few = record {
-    cell = at_join q r l m b n x y;
-    turn = turn;
-    runs = record {
-      held = s2;
-      kind = fin.kind ∙ is_kind;
-      state = is_state;
-      meets = λ ls rs. ap (λ ks. pairs.joined ks ls rs) same.keys ∙ meets ls rs;
-      stands = stands;
-      left_ticked = lt;
-      right_ticked = rt;
-      left_queue = lq;
-      right_queue = rq;
-    };
-    wide = record { state = subst (IsJoinWide (width_at ws i) (width_at ws j)) (sym is_state) (same.left ∙ widths.0, same.right ∙ widths.1); sum = sum; narrow = narrow; left = lw; right = rw };
-    few = (lf, rf);
-    outs_wide = outs_wide;
-    outs_few = outs_few;
-  }
+  made o o2 log c outs side it change s s2 q r l m b n x y is_kind meets widths fin is_state same sum narrow stands lt rt lq rq lw rw lf rf turn outs_wide outs_few =
+      record {
+        cell = at_join q r l m b n x y;
+        turn = turn;
+        runs = record {
+          held = s2;
+          kind = fin.kind ∙ is_kind;
+          state = is_state;
+          meets = λ ls rs. ap (λ ks. pairs.joined ks ls rs) same.keys ∙ meets ls rs;
+          stands = stands;
+          left_ticked = lt;
+          right_ticked = rt;
+          left_queue = lq;
+          right_queue = rq;
+        };
+        wide = record { state = subst (IsJoinWide (width_at ws i) (width_at ws j)) (sym is_state) (same.left ∙ widths.0, same.right ∙ widths.1); sum = sum; narrow = narrow; left = lw; right = rw };
+        few = (lf, rf);
+        outs_wide = outs_wide;
+        outs_few = outs_few;
+      }
 
   -- THE PAIRS of the bags that are taken are no more than there is room for
   module _ (s : JoinState) (l m : List Row) (stands : joins.Stands s l m) (fits : most_rows ns k ≡ most_rows ns i * most_rows ns j) where
@@ -127,8 +130,10 @@ module _ (i j : ℕ) (keys : List plan.Key) (w : World) (ws : List ℕ) (ns : Li
 
   -- ROWS of the left side
   left_rows_at : (o o2 : PlainOperator) (log : Closed) (q r : List (Entry Row)) (l m b : List Row) (n : ℕ) (y : Bool) (d e : Input) (t : ℕ) (xs : List (Bool × Row)) (outs : List (Entry Row))
-      → Stands w ws ns k (plan.Join i j keys) o log (at_join q r l m b n false y) d e → (f : IsFirst o log Left (Rows t xs)) → outs_at_first o Left (Rows t xs) ≡ Put outs
-      → IsFinished o log Left (Rows t xs) (change_at o.kind (Rows t xs) (near_of o.state Left (Rows t xs))) o2 → StepMade w ws ns k (plan.Join i j keys) (at_join q r l m b n false y) outs o2 log
+      → Stands w ws ns k (plan.Join i j keys) o log (at_join q r l m b n false y) d e → (f : IsFirst o log Left (Rows t xs))
+      → outs_at_first o Left (Rows t xs) ≡ Put outs
+      → IsFinished o log Left (Rows t xs) (change_at o.kind (Rows t xs) (near_of o.state Left (Rows t xs))) o2
+      → StepMade w ws ns k (plan.Join i j keys) (at_join q r l m b n false y) outs o2 log
   left_rows_at o o2 log q r l m b n y d e t xs outs s f puts fin =
       let run : RunsJoin keys o log q r l m false y = s.runs in
       let wide : IsBothWide (width_at ws i) (width_at ws j) (width_at ws k) o l m q r = s.wide in
@@ -137,7 +142,8 @@ module _ (i j : ℕ) (keys : List plan.Key) (w : World) (ws : List ℕ) (ns : Li
       let g : JoinState = run.held in
       let widths : (g.left.width ≡ width_at ws i) × (g.right.width ≡ width_at ws j) = subst (IsJoinWide (width_at ws i) (width_at ws j)) run.state wide.state in
       let front : q ≡ batch t xs ++ f.rest = run.left_queue ∙ f.is in
-      let here : GoodTwo (joining keys) d.values e.values (batch t xs ++ f.rest) r l m b n false y d.bag d.opens e.bag e.opens = subst (λ z. GoodTwo (joining keys) d.values e.values z r l m b n false y d.bag d.opens e.bag e.opens) front good in
+      let here : GoodTwo (joining keys) d.values e.values (batch t xs ++ f.rest) r l m b n false y d.bag d.opens e.bag e.opens =
+      subst (λ z. GoodTwo (joining keys) d.values e.values z r l m b n false y d.bag d.opens e.bag e.opens) front good in
       let side : IsSideWide (width_at ws i) l (batch t xs ++ f.rest) = subst (IsSideWide (width_at ws i) l) front wide.left in
       let stays : StaysWithin (most_rows ns i) (count l) (batch t xs ++ f.rest) = subst (StaysWithin (most_rows ns i) (count l)) front few.0 in
       let some : 0 < length xs = omega (arith, f.some, length-map xs (RowAt t)) in
@@ -146,13 +152,16 @@ module _ (i j : ℕ) (keys : List plan.Key) (w : World) (ws : List ℕ) (ns : Li
       let signed : AreSigned (width_at ws i) xs = entries_front (width_at ws i) t xs f.rest side.queue in
       let table : IsTable g.left.width xs = λ c d2 lt. (signed c d2 lt).wide ∙ sym widths.0 in
       let ys : List (Bool × Row) = join.pairs Left xs (matches g Left xs) in
-      let law : Turns (pairs.joined g.keys l m) (joins.left_pairs g t xs) (pairs.joined g.keys a.bag m) × joins.Stands (join.next g Left (Rows t xs)) a.bag m = left_law g t xs l a.bag m run.stands table legal a.adds in
+      let law : Turns (pairs.joined g.keys l m) (joins.left_pairs g t xs) (pairs.joined g.keys a.bag m) × joins.Stands (join.next g Left (Rows t xs)) a.bag m =
+      left_law g t xs l a.bag m run.stands table legal a.adds in
       let turns : Turns (plan.joined keys l m) ys (plan.joined keys a.bag m) =
-      subst (λ u. Turns u ys (plan.joined keys a.bag m)) (run.meets l m) (subst (λ u. Turns (pairs.joined g.keys l m) ys u) (run.meets a.bag m) (subst (λ z. Turns (pairs.joined g.keys l m) z (pairs.joined g.keys a.bag m)) (rows_in-batch t ys) law.0)) in
+      subst (λ u. Turns u ys (plan.joined keys a.bag m)) (run.meets l m)
+      (subst (λ u. Turns (pairs.joined g.keys l m) ys u) (run.meets a.bag m) (subst (λ z. Turns (pairs.joined g.keys l m) z (pairs.joined g.keys a.bag m)) (rows_in-batch t ys) law.0)) in
       let out : batch t ys ≡ outs = outs_are g o o2 log Left (Rows t xs) run.kind run.state outs puts in
       subst (λ z. StepMade w ws ns k (plan.Join i j keys) (at_join z r l m b n false y) outs o2 log) (sym front)
       (made o o2 log (at_join (batch t xs ++ f.rest) r l m b n false y) outs Left (Rows t xs) (change_at o.kind (Rows t xs) (near_of o.state Left (Rows t xs))) g (join.next g Left (Rows t xs)) f.rest r a.bag m (plan.joined keys a.bag m) n false y
-      run.kind run.meets widths fin (next_is g o o2 log Left (Rows t xs) run.kind run.state _ fin) (record { keys = refl; left = refl; right = refl }) wide.sum wide.narrow law.1 run.left_ticked run.right_ticked
+      run.kind run.meets widths fin (next_is g o o2 log Left (Rows t xs) run.kind run.state _ fin)
+      (record { keys = refl; left = refl; right = refl }) wide.sum wide.narrow law.1 run.left_ticked run.right_ticked
       (rest_waits o o2 log Left (Rows t xs) _ f fin) (run.right_queue ∙ sym (other_waits o o2 log Left (Rows t xs) _ fin))
       (record { taken = rows_after (width_at ws i) t xs f.rest l a.bag legal a.adds side.taken side.queue; queue = entries_back (width_at ws i) t xs f.rest side.queue }) wide.right (stays_after (most_rows ns i) t xs f.rest l a.bag legal a.adds stays) few.1
       (subst (λ z. Turn w (nets.join (joining keys) i j) (at_join (batch t xs ++ f.rest) r l m b n false y) z (at_join f.rest r a.bag m (plan.joined keys a.bag m) n false y)) out (left_rows_made w (joining keys) i j d.values e.values f.rest r l m b n d.bag d.opens e.bag e.opens t xs ys a.bag y some (record { took = λ h. a.adds; puts = λ h. turns }) here))
@@ -162,8 +171,10 @@ module _ (i j : ℕ) (keys : List plan.Key) (w : World) (ws : List ℕ) (ns : Li
 
   -- ROWS of the right side
   right_rows_at : (o o2 : PlainOperator) (log : Closed) (q r : List (Entry Row)) (l m b : List Row) (n : ℕ) (x : Bool) (d e : Input) (t : ℕ) (xs : List (Bool × Row)) (outs : List (Entry Row))
-      → Stands w ws ns k (plan.Join i j keys) o log (at_join q r l m b n x false) d e → (f : IsFirst o log Right (Rows t xs)) → outs_at_first o Right (Rows t xs) ≡ Put outs
-      → IsFinished o log Right (Rows t xs) (change_at o.kind (Rows t xs) (near_of o.state Right (Rows t xs))) o2 → StepMade w ws ns k (plan.Join i j keys) (at_join q r l m b n x false) outs o2 log
+      → Stands w ws ns k (plan.Join i j keys) o log (at_join q r l m b n x false) d e → (f : IsFirst o log Right (Rows t xs))
+      → outs_at_first o Right (Rows t xs) ≡ Put outs
+      → IsFinished o log Right (Rows t xs) (change_at o.kind (Rows t xs) (near_of o.state Right (Rows t xs))) o2
+      → StepMade w ws ns k (plan.Join i j keys) (at_join q r l m b n x false) outs o2 log
   right_rows_at o o2 log q r l m b n x d e t xs outs s f puts fin =
       let run : RunsJoin keys o log q r l m x false = s.runs in
       let wide : IsBothWide (width_at ws i) (width_at ws j) (width_at ws k) o l m q r = s.wide in
@@ -172,7 +183,8 @@ module _ (i j : ℕ) (keys : List plan.Key) (w : World) (ws : List ℕ) (ns : Li
       let g : JoinState = run.held in
       let widths : (g.left.width ≡ width_at ws i) × (g.right.width ≡ width_at ws j) = subst (IsJoinWide (width_at ws i) (width_at ws j)) run.state wide.state in
       let front : r ≡ batch t xs ++ f.rest = run.right_queue ∙ f.is in
-      let here : GoodTwo (joining keys) d.values e.values q (batch t xs ++ f.rest) l m b n x false d.bag d.opens e.bag e.opens = subst (λ z. GoodTwo (joining keys) d.values e.values q z l m b n x false d.bag d.opens e.bag e.opens) front good in
+      let here : GoodTwo (joining keys) d.values e.values q (batch t xs ++ f.rest) l m b n x false d.bag d.opens e.bag e.opens =
+      subst (λ z. GoodTwo (joining keys) d.values e.values q z l m b n x false d.bag d.opens e.bag e.opens) front good in
       let side : IsSideWide (width_at ws j) m (batch t xs ++ f.rest) = subst (IsSideWide (width_at ws j) m) front wide.right in
       let stays : StaysWithin (most_rows ns j) (count m) (batch t xs ++ f.rest) = subst (StaysWithin (most_rows ns j) (count m)) front few.1 in
       let some : 0 < length xs = omega (arith, f.some, length-map xs (RowAt t)) in
@@ -181,13 +193,16 @@ module _ (i j : ℕ) (keys : List plan.Key) (w : World) (ws : List ℕ) (ns : Li
       let signed : AreSigned (width_at ws j) xs = entries_front (width_at ws j) t xs f.rest side.queue in
       let table : IsTable g.right.width xs = λ c d2 lt. (signed c d2 lt).wide ∙ sym widths.1 in
       let ys : List (Bool × Row) = join.pairs Right xs (matches g Right xs) in
-      let law : Turns (pairs.joined g.keys l m) (joins.right_pairs g t xs) (pairs.joined g.keys l a.bag) × joins.Stands (join.next g Right (Rows t xs)) l a.bag = right_law g t xs l m a.bag run.stands table legal a.adds in
+      let law : Turns (pairs.joined g.keys l m) (joins.right_pairs g t xs) (pairs.joined g.keys l a.bag) × joins.Stands (join.next g Right (Rows t xs)) l a.bag =
+      right_law g t xs l m a.bag run.stands table legal a.adds in
       let turns : Turns (plan.joined keys l m) ys (plan.joined keys l a.bag) =
-      subst (λ u. Turns u ys (plan.joined keys l a.bag)) (run.meets l m) (subst (λ u. Turns (pairs.joined g.keys l m) ys u) (run.meets l a.bag) (subst (λ z. Turns (pairs.joined g.keys l m) z (pairs.joined g.keys l a.bag)) (rows_in-batch t ys) law.0)) in
+      subst (λ u. Turns u ys (plan.joined keys l a.bag)) (run.meets l m)
+      (subst (λ u. Turns (pairs.joined g.keys l m) ys u) (run.meets l a.bag) (subst (λ z. Turns (pairs.joined g.keys l m) z (pairs.joined g.keys l a.bag)) (rows_in-batch t ys) law.0)) in
       let out : batch t ys ≡ outs = outs_are g o o2 log Right (Rows t xs) run.kind run.state outs puts in
       subst (λ z. StepMade w ws ns k (plan.Join i j keys) (at_join q z l m b n x false) outs o2 log) (sym front)
       (made o o2 log (at_join q (batch t xs ++ f.rest) l m b n x false) outs Right (Rows t xs) (change_at o.kind (Rows t xs) (near_of o.state Right (Rows t xs))) g (join.next g Right (Rows t xs)) q f.rest l a.bag (plan.joined keys l a.bag) n x false
-      run.kind run.meets widths fin (next_is g o o2 log Right (Rows t xs) run.kind run.state _ fin) (record { keys = refl; left = refl; right = refl }) wide.sum wide.narrow law.1 run.left_ticked run.right_ticked
+      run.kind run.meets widths fin (next_is g o o2 log Right (Rows t xs) run.kind run.state _ fin)
+      (record { keys = refl; left = refl; right = refl }) wide.sum wide.narrow law.1 run.left_ticked run.right_ticked
       (run.left_queue ∙ sym (other_waits o o2 log Right (Rows t xs) _ fin)) (rest_waits o o2 log Right (Rows t xs) _ f fin)
       wide.left (record { taken = rows_after (width_at ws j) t xs f.rest m a.bag legal a.adds side.taken side.queue; queue = entries_back (width_at ws j) t xs f.rest side.queue }) few.0 (stays_after (most_rows ns j) t xs f.rest m a.bag legal a.adds stays)
       (subst (λ z. Turn w (nets.join (joining keys) i j) (at_join q (batch t xs ++ f.rest) l m b n x false) z (at_join q f.rest l a.bag (plan.joined keys l a.bag) n x false)) out (right_rows_made w (joining keys) i j d.values e.values q f.rest l m b n d.bag d.opens e.bag e.opens t xs ys a.bag x some (record { took = λ h. a.adds; puts = λ h. turns }) here))
@@ -197,8 +212,10 @@ module _ (i j : ℕ) (keys : List plan.Key) (w : World) (ws : List ℕ) (ns : Li
 
   -- the first tick of an instant, on the left side
   left_first_at : (o o2 : PlainOperator) (log : Closed) (q r : List (Entry Row)) (l m b : List Row) (n : ℕ) (d e : Input) (t : ℕ) (outs : List (Entry Row))
-      → Stands w ws ns k (plan.Join i j keys) o log (at_join q r l m b n false false) d e → (f : IsFirst o log Left (Tick t)) → outs_at_first o Left (Tick t) ≡ Put outs
-      → IsFinished o log Left (Tick t) (change_at o.kind (Tick t) (near_of o.state Left (Tick t))) o2 → StepMade w ws ns k (plan.Join i j keys) (at_join q r l m b n false false) outs o2 log
+      → Stands w ws ns k (plan.Join i j keys) o log (at_join q r l m b n false false) d e → (f : IsFirst o log Left (Tick t))
+      → outs_at_first o Left (Tick t) ≡ Put outs
+      → IsFinished o log Left (Tick t) (change_at o.kind (Tick t) (near_of o.state Left (Tick t))) o2
+      → StepMade w ws ns k (plan.Join i j keys) (at_join q r l m b n false false) outs o2 log
   left_first_at o o2 log q r l m b n d e t outs s f puts fin =
       let run : RunsJoin keys o log q r l m false false = s.runs in
       let wide : IsBothWide (width_at ws i) (width_at ws j) (width_at ws k) o l m q r = s.wide in
@@ -207,15 +224,18 @@ module _ (i j : ℕ) (keys : List plan.Key) (w : World) (ws : List ℕ) (ns : Li
       let g : JoinState = run.held in
       let widths : (g.left.width ≡ width_at ws i) × (g.right.width ≡ width_at ws j) = subst (IsJoinWide (width_at ws i) (width_at ws j)) run.state wide.state in
       let front : q ≡ TickAt t ∷ f.rest = run.left_queue ∙ f.is in
-      let here : GoodTwo (joining keys) d.values e.values (TickAt t ∷ f.rest) r l m b n false false d.bag d.opens e.bag e.opens = subst (λ z. GoodTwo (joining keys) d.values e.values z r l m b n false false d.bag d.opens e.bag e.opens) front good in
+      let here : GoodTwo (joining keys) d.values e.values (TickAt t ∷ f.rest) r l m b n false false d.bag d.opens e.bag e.opens =
+      subst (λ z. GoodTwo (joining keys) d.values e.values z r l m b n false false d.bag d.opens e.bag e.opens) front good in
       let side : IsSideWide (width_at ws i) l (TickAt t ∷ f.rest) = subst (IsSideWide (width_at ws i) l) front wide.left in
       let stays : StaysWithin (most_rows ns i) (count l) (TickAt t ∷ f.rest) = subst (StaysWithin (most_rows ns i) (count l)) front few.0 in
-      let law : (join.out Left (Tick t) (join.near g Left (Tick t)) ≡ []) × ((join.next g Left (Tick t)).left.ticked ≡ true) × ((join.next g Left (Tick t)).right.ticked ≡ false) = (tick_law g Left t).waits run.right_ticked in
+      let law : (join.out Left (Tick t) (join.near g Left (Tick t)) ≡ []) × ((join.next g Left (Tick t)).left.ticked ≡ true) × ((join.next g Left (Tick t)).right.ticked ≡ false) =
+      (tick_law g Left t).waits run.right_ticked in
       let out : [] ≡ outs = sym law.0 ∙ outs_are g o o2 log Left (Tick t) run.kind run.state outs puts in
       let few_now : count b ≤ most_rows ns k = shown_few o log q r l m b n false false d e s in
       subst (λ z. StepMade w ws ns k (plan.Join i j keys) (at_join z r l m b n false false) outs o2 log) (sym front)
       (made o o2 log (at_join (TickAt t ∷ f.rest) r l m b n false false) outs Left (Tick t) (change_at o.kind (Tick t) (near_of o.state Left (Tick t))) g (join.next g Left (Tick t)) f.rest r l m b n true false
-      run.kind run.meets widths fin (next_is g o o2 log Left (Tick t) run.kind run.state _ fin) (tick_marks g Left t) wide.sum wide.narrow ((tick_law g Left t).stays l m run.stands) law.1 law.2
+      run.kind run.meets widths fin (next_is g o o2 log Left (Tick t) run.kind run.state _ fin) (tick_marks g Left t) wide.sum wide.narrow
+      ((tick_law g Left t).stays l m run.stands) law.1 law.2
       (rest_waits o o2 log Left (Tick t) _ f fin) (run.right_queue ∙ sym (other_waits o o2 log Left (Tick t) _ fin))
       (record { taken = side.taken; queue = side.queue }) wide.right stays.1 few.1
       (subst (λ z. Turn w (nets.join (joining keys) i j) (at_join (TickAt t ∷ f.rest) r l m b n false false) z (at_join f.rest r l m b n true false)) out (left_first_made w (joining keys) i j d.values e.values f.rest r l m b n d.bag d.opens e.bag e.opens t here))
@@ -223,8 +243,10 @@ module _ (i j : ℕ) (keys : List plan.Key) (w : World) (ws : List ℕ) (ns : Li
 
   -- the second tick of an instant, on the left side
   left_last_at : (o o2 : PlainOperator) (log : Closed) (q r : List (Entry Row)) (l m b : List Row) (n : ℕ) (d e : Input) (t : ℕ) (outs : List (Entry Row))
-      → Stands w ws ns k (plan.Join i j keys) o log (at_join q r l m b n false true) d e → (f : IsFirst o log Left (Tick t)) → outs_at_first o Left (Tick t) ≡ Put outs
-      → IsFinished o log Left (Tick t) (change_at o.kind (Tick t) (near_of o.state Left (Tick t))) o2 → StepMade w ws ns k (plan.Join i j keys) (at_join q r l m b n false true) outs o2 log
+      → Stands w ws ns k (plan.Join i j keys) o log (at_join q r l m b n false true) d e → (f : IsFirst o log Left (Tick t))
+      → outs_at_first o Left (Tick t) ≡ Put outs
+      → IsFinished o log Left (Tick t) (change_at o.kind (Tick t) (near_of o.state Left (Tick t))) o2
+      → StepMade w ws ns k (plan.Join i j keys) (at_join q r l m b n false true) outs o2 log
   left_last_at o o2 log q r l m b n d e t outs s f puts fin =
       let run : RunsJoin keys o log q r l m false true = s.runs in
       let wide : IsBothWide (width_at ws i) (width_at ws j) (width_at ws k) o l m q r = s.wide in
@@ -233,15 +255,18 @@ module _ (i j : ℕ) (keys : List plan.Key) (w : World) (ws : List ℕ) (ns : Li
       let g : JoinState = run.held in
       let widths : (g.left.width ≡ width_at ws i) × (g.right.width ≡ width_at ws j) = subst (IsJoinWide (width_at ws i) (width_at ws j)) run.state wide.state in
       let front : q ≡ TickAt t ∷ f.rest = run.left_queue ∙ f.is in
-      let here : GoodTwo (joining keys) d.values e.values (TickAt t ∷ f.rest) r l m b n false true d.bag d.opens e.bag e.opens = subst (λ z. GoodTwo (joining keys) d.values e.values z r l m b n false true d.bag d.opens e.bag e.opens) front good in
+      let here : GoodTwo (joining keys) d.values e.values (TickAt t ∷ f.rest) r l m b n false true d.bag d.opens e.bag e.opens =
+      subst (λ z. GoodTwo (joining keys) d.values e.values z r l m b n false true d.bag d.opens e.bag e.opens) front good in
       let side : IsSideWide (width_at ws i) l (TickAt t ∷ f.rest) = subst (IsSideWide (width_at ws i) l) front wide.left in
       let stays : StaysWithin (most_rows ns i) (count l) (TickAt t ∷ f.rest) = subst (StaysWithin (most_rows ns i) (count l)) front few.0 in
-      let law : (join.out Left (Tick t) (join.near g Left (Tick t)) ≡ TickAt t ∷ []) × ((join.next g Left (Tick t)).left.ticked ≡ false) × ((join.next g Left (Tick t)).right.ticked ≡ false) = (tick_law g Left t).passes run.right_ticked in
+      let law : (join.out Left (Tick t) (join.near g Left (Tick t)) ≡ TickAt t ∷ []) × ((join.next g Left (Tick t)).left.ticked ≡ false) × ((join.next g Left (Tick t)).right.ticked ≡ false) =
+      (tick_law g Left t).passes run.right_ticked in
       let out : TickAt t ∷ [] ≡ outs = sym law.0 ∙ outs_are g o o2 log Left (Tick t) run.kind run.state outs puts in
       let few_now : count b ≤ most_rows ns k = shown_few o log q r l m b n false true d e s in
       subst (λ z. StepMade w ws ns k (plan.Join i j keys) (at_join z r l m b n false true) outs o2 log) (sym front)
       (made o o2 log (at_join (TickAt t ∷ f.rest) r l m b n false true) outs Left (Tick t) (change_at o.kind (Tick t) (near_of o.state Left (Tick t))) g (join.next g Left (Tick t)) f.rest r l m b (n + 1) false false
-      run.kind run.meets widths fin (next_is g o o2 log Left (Tick t) run.kind run.state _ fin) (tick_marks g Left t) wide.sum wide.narrow ((tick_law g Left t).stays l m run.stands) law.1 law.2
+      run.kind run.meets widths fin (next_is g o o2 log Left (Tick t) run.kind run.state _ fin) (tick_marks g Left t) wide.sum wide.narrow
+      ((tick_law g Left t).stays l m run.stands) law.1 law.2
       (rest_waits o o2 log Left (Tick t) _ f fin) (run.right_queue ∙ sym (other_waits o o2 log Left (Tick t) _ fin))
       (record { taken = side.taken; queue = side.queue }) wide.right stays.1 few.1
       (subst (λ z. Turn w (nets.join (joining keys) i j) (at_join (TickAt t ∷ f.rest) r l m b n false true) z (at_join f.rest r l m b (n + 1) false false)) out (left_last_made w (joining keys) i j d.values e.values f.rest r l m b n d.bag d.opens e.bag e.opens t here))
@@ -249,8 +274,10 @@ module _ (i j : ℕ) (keys : List plan.Key) (w : World) (ws : List ℕ) (ns : Li
 
   -- the first tick of an instant, on the right side
   right_first_at : (o o2 : PlainOperator) (log : Closed) (q r : List (Entry Row)) (l m b : List Row) (n : ℕ) (d e : Input) (t : ℕ) (outs : List (Entry Row))
-      → Stands w ws ns k (plan.Join i j keys) o log (at_join q r l m b n false false) d e → (f : IsFirst o log Right (Tick t)) → outs_at_first o Right (Tick t) ≡ Put outs
-      → IsFinished o log Right (Tick t) (change_at o.kind (Tick t) (near_of o.state Right (Tick t))) o2 → StepMade w ws ns k (plan.Join i j keys) (at_join q r l m b n false false) outs o2 log
+      → Stands w ws ns k (plan.Join i j keys) o log (at_join q r l m b n false false) d e → (f : IsFirst o log Right (Tick t))
+      → outs_at_first o Right (Tick t) ≡ Put outs
+      → IsFinished o log Right (Tick t) (change_at o.kind (Tick t) (near_of o.state Right (Tick t))) o2
+      → StepMade w ws ns k (plan.Join i j keys) (at_join q r l m b n false false) outs o2 log
   right_first_at o o2 log q r l m b n d e t outs s f puts fin =
       let run : RunsJoin keys o log q r l m false false = s.runs in
       let wide : IsBothWide (width_at ws i) (width_at ws j) (width_at ws k) o l m q r = s.wide in
@@ -259,15 +286,18 @@ module _ (i j : ℕ) (keys : List plan.Key) (w : World) (ws : List ℕ) (ns : Li
       let g : JoinState = run.held in
       let widths : (g.left.width ≡ width_at ws i) × (g.right.width ≡ width_at ws j) = subst (IsJoinWide (width_at ws i) (width_at ws j)) run.state wide.state in
       let front : r ≡ TickAt t ∷ f.rest = run.right_queue ∙ f.is in
-      let here : GoodTwo (joining keys) d.values e.values q (TickAt t ∷ f.rest) l m b n false false d.bag d.opens e.bag e.opens = subst (λ z. GoodTwo (joining keys) d.values e.values q z l m b n false false d.bag d.opens e.bag e.opens) front good in
+      let here : GoodTwo (joining keys) d.values e.values q (TickAt t ∷ f.rest) l m b n false false d.bag d.opens e.bag e.opens =
+      subst (λ z. GoodTwo (joining keys) d.values e.values q z l m b n false false d.bag d.opens e.bag e.opens) front good in
       let side : IsSideWide (width_at ws j) m (TickAt t ∷ f.rest) = subst (IsSideWide (width_at ws j) m) front wide.right in
       let stays : StaysWithin (most_rows ns j) (count m) (TickAt t ∷ f.rest) = subst (StaysWithin (most_rows ns j) (count m)) front few.1 in
-      let law : (join.out Right (Tick t) (join.near g Right (Tick t)) ≡ []) × ((join.next g Right (Tick t)).right.ticked ≡ true) × ((join.next g Right (Tick t)).left.ticked ≡ false) = (tick_law g Right t).waits run.left_ticked in
+      let law : (join.out Right (Tick t) (join.near g Right (Tick t)) ≡ []) × ((join.next g Right (Tick t)).right.ticked ≡ true) × ((join.next g Right (Tick t)).left.ticked ≡ false) =
+      (tick_law g Right t).waits run.left_ticked in
       let out : [] ≡ outs = sym law.0 ∙ outs_are g o o2 log Right (Tick t) run.kind run.state outs puts in
       let few_now : count b ≤ most_rows ns k = shown_few o log q r l m b n false false d e s in
       subst (λ z. StepMade w ws ns k (plan.Join i j keys) (at_join q z l m b n false false) outs o2 log) (sym front)
       (made o o2 log (at_join q (TickAt t ∷ f.rest) l m b n false false) outs Right (Tick t) (change_at o.kind (Tick t) (near_of o.state Right (Tick t))) g (join.next g Right (Tick t)) q f.rest l m b n false true
-      run.kind run.meets widths fin (next_is g o o2 log Right (Tick t) run.kind run.state _ fin) (tick_marks g Right t) wide.sum wide.narrow ((tick_law g Right t).stays l m run.stands) law.2 law.1
+      run.kind run.meets widths fin (next_is g o o2 log Right (Tick t) run.kind run.state _ fin) (tick_marks g Right t) wide.sum wide.narrow
+      ((tick_law g Right t).stays l m run.stands) law.2 law.1
       (run.left_queue ∙ sym (other_waits o o2 log Right (Tick t) _ fin)) (rest_waits o o2 log Right (Tick t) _ f fin)
       wide.left (record { taken = side.taken; queue = side.queue }) few.0 stays.1
       (subst (λ z. Turn w (nets.join (joining keys) i j) (at_join q (TickAt t ∷ f.rest) l m b n false false) z (at_join q f.rest l m b n false true)) out (right_first_made w (joining keys) i j d.values e.values q f.rest l m b n d.bag d.opens e.bag e.opens t here))
@@ -275,8 +305,10 @@ module _ (i j : ℕ) (keys : List plan.Key) (w : World) (ws : List ℕ) (ns : Li
 
   -- the second tick of an instant, on the right side
   right_last_at : (o o2 : PlainOperator) (log : Closed) (q r : List (Entry Row)) (l m b : List Row) (n : ℕ) (d e : Input) (t : ℕ) (outs : List (Entry Row))
-      → Stands w ws ns k (plan.Join i j keys) o log (at_join q r l m b n true false) d e → (f : IsFirst o log Right (Tick t)) → outs_at_first o Right (Tick t) ≡ Put outs
-      → IsFinished o log Right (Tick t) (change_at o.kind (Tick t) (near_of o.state Right (Tick t))) o2 → StepMade w ws ns k (plan.Join i j keys) (at_join q r l m b n true false) outs o2 log
+      → Stands w ws ns k (plan.Join i j keys) o log (at_join q r l m b n true false) d e → (f : IsFirst o log Right (Tick t))
+      → outs_at_first o Right (Tick t) ≡ Put outs
+      → IsFinished o log Right (Tick t) (change_at o.kind (Tick t) (near_of o.state Right (Tick t))) o2
+      → StepMade w ws ns k (plan.Join i j keys) (at_join q r l m b n true false) outs o2 log
   right_last_at o o2 log q r l m b n d e t outs s f puts fin =
       let run : RunsJoin keys o log q r l m true false = s.runs in
       let wide : IsBothWide (width_at ws i) (width_at ws j) (width_at ws k) o l m q r = s.wide in
@@ -285,15 +317,18 @@ module _ (i j : ℕ) (keys : List plan.Key) (w : World) (ws : List ℕ) (ns : Li
       let g : JoinState = run.held in
       let widths : (g.left.width ≡ width_at ws i) × (g.right.width ≡ width_at ws j) = subst (IsJoinWide (width_at ws i) (width_at ws j)) run.state wide.state in
       let front : r ≡ TickAt t ∷ f.rest = run.right_queue ∙ f.is in
-      let here : GoodTwo (joining keys) d.values e.values q (TickAt t ∷ f.rest) l m b n true false d.bag d.opens e.bag e.opens = subst (λ z. GoodTwo (joining keys) d.values e.values q z l m b n true false d.bag d.opens e.bag e.opens) front good in
+      let here : GoodTwo (joining keys) d.values e.values q (TickAt t ∷ f.rest) l m b n true false d.bag d.opens e.bag e.opens =
+      subst (λ z. GoodTwo (joining keys) d.values e.values q z l m b n true false d.bag d.opens e.bag e.opens) front good in
       let side : IsSideWide (width_at ws j) m (TickAt t ∷ f.rest) = subst (IsSideWide (width_at ws j) m) front wide.right in
       let stays : StaysWithin (most_rows ns j) (count m) (TickAt t ∷ f.rest) = subst (StaysWithin (most_rows ns j) (count m)) front few.1 in
-      let law : (join.out Right (Tick t) (join.near g Right (Tick t)) ≡ TickAt t ∷ []) × ((join.next g Right (Tick t)).right.ticked ≡ false) × ((join.next g Right (Tick t)).left.ticked ≡ false) = (tick_law g Right t).passes run.left_ticked in
+      let law : (join.out Right (Tick t) (join.near g Right (Tick t)) ≡ TickAt t ∷ []) × ((join.next g Right (Tick t)).right.ticked ≡ false) × ((join.next g Right (Tick t)).left.ticked ≡ false) =
+      (tick_law g Right t).passes run.left_ticked in
       let out : TickAt t ∷ [] ≡ outs = sym law.0 ∙ outs_are g o o2 log Right (Tick t) run.kind run.state outs puts in
       let few_now : count b ≤ most_rows ns k = shown_few o log q r l m b n true false d e s in
       subst (λ z. StepMade w ws ns k (plan.Join i j keys) (at_join q z l m b n true false) outs o2 log) (sym front)
       (made o o2 log (at_join q (TickAt t ∷ f.rest) l m b n true false) outs Right (Tick t) (change_at o.kind (Tick t) (near_of o.state Right (Tick t))) g (join.next g Right (Tick t)) q f.rest l m b (n + 1) false false
-      run.kind run.meets widths fin (next_is g o o2 log Right (Tick t) run.kind run.state _ fin) (tick_marks g Right t) wide.sum wide.narrow ((tick_law g Right t).stays l m run.stands) law.2 law.1
+      run.kind run.meets widths fin (next_is g o o2 log Right (Tick t) run.kind run.state _ fin) (tick_marks g Right t) wide.sum wide.narrow
+      ((tick_law g Right t).stays l m run.stands) law.2 law.1
       (run.left_queue ∙ sym (other_waits o o2 log Right (Tick t) _ fin)) (rest_waits o o2 log Right (Tick t) _ f fin)
       wide.left (record { taken = side.taken; queue = side.queue }) few.0 stays.1
       (subst (λ z. Turn w (nets.join (joining keys) i j) (at_join q (TickAt t ∷ f.rest) l m b n true false) z (at_join q f.rest l m b (n + 1) false false)) out (right_last_made w (joining keys) i j d.values e.values q f.rest l m b n d.bag d.opens e.bag e.opens t here))
@@ -306,18 +341,28 @@ ticked_out s o side e h t = untrue (sym (ap not t) ∙ subst (λ (held : State).
 pub join_steps : (i j : ℕ) (keys : List plan.Key) → StepLaw (plan.Join i j keys)
 join_steps i j keys w ws ns k o o2 log (at_window h u b q n) d e side it outs s f puts fin = absurd s.runs
 join_steps i j keys w ws ns k o o2 log (at_unary q t b n) d e side it outs s f puts fin = absurd s.runs
-join_steps i j keys w ws ns k o o2 log (at_join q r l m b n true y) d e Left it outs s f puts fin = absurd (ticked_out s.runs.held o Left s.runs.state f.usable s.runs.left_ticked)
-join_steps i j keys w ws ns k o o2 log (at_join q r l m b n false y) d e Left (Rows t xs) outs s f puts fin = left_rows_at i j keys w ws ns k o o2 log q r l m b n y d e t xs outs s f puts fin
-join_steps i j keys w ws ns k o o2 log (at_join q r l m b n false false) d e Left (Tick t) outs s f puts fin = left_first_at i j keys w ws ns k o o2 log q r l m b n d e t outs s f puts fin
-join_steps i j keys w ws ns k o o2 log (at_join q r l m b n false true) d e Left (Tick t) outs s f puts fin = left_last_at i j keys w ws ns k o o2 log q r l m b n d e t outs s f puts fin
-join_steps i j keys w ws ns k o o2 log (at_join q r l m b n x true) d e Right it outs s f puts fin = absurd (ticked_out s.runs.held o Right s.runs.state f.usable s.runs.right_ticked)
-join_steps i j keys w ws ns k o o2 log (at_join q r l m b n x false) d e Right (Rows t xs) outs s f puts fin = right_rows_at i j keys w ws ns k o o2 log q r l m b n x d e t xs outs s f puts fin
-join_steps i j keys w ws ns k o o2 log (at_join q r l m b n false false) d e Right (Tick t) outs s f puts fin = right_first_at i j keys w ws ns k o o2 log q r l m b n d e t outs s f puts fin
-join_steps i j keys w ws ns k o o2 log (at_join q r l m b n true false) d e Right (Tick t) outs s f puts fin = right_last_at i j keys w ws ns k o o2 log q r l m b n d e t outs s f puts fin
+join_steps i j keys w ws ns k o o2 log (at_join q r l m b n true y) d e Left it outs s f puts fin =
+    absurd (ticked_out s.runs.held o Left s.runs.state f.usable s.runs.left_ticked)
+join_steps i j keys w ws ns k o o2 log (at_join q r l m b n false y) d e Left (Rows t xs) outs s f puts fin =
+    left_rows_at i j keys w ws ns k o o2 log q r l m b n y d e t xs outs s f puts fin
+join_steps i j keys w ws ns k o o2 log (at_join q r l m b n false false) d e Left (Tick t) outs s f puts fin =
+    left_first_at i j keys w ws ns k o o2 log q r l m b n d e t outs s f puts fin
+join_steps i j keys w ws ns k o o2 log (at_join q r l m b n false true) d e Left (Tick t) outs s f puts fin =
+    left_last_at i j keys w ws ns k o o2 log q r l m b n d e t outs s f puts fin
+join_steps i j keys w ws ns k o o2 log (at_join q r l m b n x true) d e Right it outs s f puts fin =
+    absurd (ticked_out s.runs.held o Right s.runs.state f.usable s.runs.right_ticked)
+join_steps i j keys w ws ns k o o2 log (at_join q r l m b n x false) d e Right (Rows t xs) outs s f puts fin =
+    right_rows_at i j keys w ws ns k o o2 log q r l m b n x d e t xs outs s f puts fin
+join_steps i j keys w ws ns k o o2 log (at_join q r l m b n false false) d e Right (Tick t) outs s f puts fin =
+    right_first_at i j keys w ws ns k o o2 log q r l m b n d e t outs s f puts fin
+join_steps i j keys w ws ns k o o2 log (at_join q r l m b n true false) d e Right (Tick t) outs s f puts fin =
+    right_last_at i j keys w ws ns k o o2 log q r l m b n d e t outs s f puts fin
 
 -- THE ITEM MAY BE TAKEN: its rows are as wide as its side's, and the side stays below 2^62 rows
-item_wide : (w c : ℕ) (it : Item) (q rest : List (Entry Row)) → q ≡ entries_of it ++ rest → 0 < length (entries_of it) → AreEntries w q → c ≡ w → join.IsItemWide c it
-item_wide w c (Rows t xs) q rest e l h k = first_wide w xs (omega (arith, l, length-map xs (RowAt t))) (entries_front w t xs rest (subst (AreEntries w) e h)) ∙ sym k
+item_wide : (w c : ℕ) (it : Item) (q rest : List (Entry Row)) → q ≡ entries_of it ++ rest → 0 < length (entries_of it) → AreEntries w q → c ≡ w
+    → join.IsItemWide c it
+item_wide w c (Rows t xs) q rest e l h k =
+    first_wide w xs (omega (arith, l, length-map xs (RowAt t))) (entries_front w t xs rest (subst (AreEntries w) e h)) ∙ sym k
 item_wide w c (Tick t) q rest e l h k = tt
 
 item_room : (held : SideState) (it : Item) → length (entries_of it) ≤ 1024 → length held.rows ≤ 2 ^ 61 → join.HasRoom held it
@@ -329,18 +374,24 @@ join_may i j keys w ws ns k o log (at_window h u b q n) d e side it s f = absurd
 join_may i j keys w ws ns k o log (at_unary q t b n) d e side it s f = absurd s.runs
 join_may i j keys w ws ns k o log (at_join q r l m b n x y) d e Left it s f =
     let g : JoinState = s.runs.held in
-    let widths : (g.left.width ≡ width_at ws i) × (g.right.width ≡ width_at ws j) = subst (IsJoinWide (width_at ws i) (width_at ws j)) s.runs.state s.wide.state in
+    let widths : (g.left.width ≡ width_at ws i) × (g.right.width ≡ width_at ws j) =
+    subst (IsJoinWide (width_at ws i) (width_at ws j)) s.runs.state s.wide.state in
     record {
-      columns = subst (λ (held : State). HasColumns held Left it) (sym s.runs.state) (item_wide (width_at ws i) g.left.width it q f.rest (s.runs.left_queue ∙ f.is) f.some s.wide.left.queue widths.0);
+      columns =
+          subst (λ (held : State). HasColumns held Left it) (sym s.runs.state)
+          (item_wide (width_at ws i) g.left.width it q f.rest (s.runs.left_queue ∙ f.is) f.some s.wide.left.queue widths.0);
       named = subst (λ (what : Kind). HasNamedColumns what it) (sym s.runs.kind) tt;
       takes = subst (λ (held : State). Takes held Left it (change_at o.kind it (near_of held Left it))) (sym s.runs.state)
           (item_room g.left it f.few (omega (arith, side_few Left g.keys g.left l s.runs.stands.left, stays_now q s.few.0, s.room.always i)));
     }
 join_may i j keys w ws ns k o log (at_join q r l m b n x y) d e Right it s f =
     let g : JoinState = s.runs.held in
-    let widths : (g.left.width ≡ width_at ws i) × (g.right.width ≡ width_at ws j) = subst (IsJoinWide (width_at ws i) (width_at ws j)) s.runs.state s.wide.state in
+    let widths : (g.left.width ≡ width_at ws i) × (g.right.width ≡ width_at ws j) =
+    subst (IsJoinWide (width_at ws i) (width_at ws j)) s.runs.state s.wide.state in
     record {
-      columns = subst (λ (held : State). HasColumns held Right it) (sym s.runs.state) (item_wide (width_at ws j) g.right.width it r f.rest (s.runs.right_queue ∙ f.is) f.some s.wide.right.queue widths.1);
+      columns =
+          subst (λ (held : State). HasColumns held Right it) (sym s.runs.state)
+          (item_wide (width_at ws j) g.right.width it r f.rest (s.runs.right_queue ∙ f.is) f.some s.wide.right.queue widths.1);
       named = subst (λ (what : Kind). HasNamedColumns what it) (sym s.runs.kind) tt;
       takes = subst (λ (held : State). Takes held Right it (change_at o.kind it (near_of held Right it))) (sym s.runs.state)
           (item_room g.right it f.few (omega (arith, side_few Right g.keys g.right m s.runs.stands.right, stays_now r s.few.1, s.room.always j)));

@@ -29,7 +29,8 @@ use Rattle.query_nets.proofs.CountLemmas.{stays_now, count_entered, count_left}
 use Rattle.query_nets.proofs.WideLemmas.{AreSigned, all_same}
 
 -- THE ROWS THAT A ROW MEETS are rows of the other side
-pub met_all : (P : Row → Type 0) (side : Side) (ks : List (ℕ × ℕ)) (held : SideState) (b : List Row) (x : Row) → StandsFor side ks held b → All P b → All P (met side ks held x)
+pub met_all : (P : Row → Type 0) (side : Side) (ks : List (ℕ × ℕ)) (held : SideState) (b : List Row) (x : Row) → StandsFor side ks held b → All P b
+    → All P (met side ks held x)
 met_all P side ks held b x h a =
     let p : Row → Bool = λ r. fits_on side ks r x in
     all_same P (filter p b) (met side ks held x) (record { weighs = λ w. weigh-filter p w b ∙ sym (weigh-met side ks held b x w h) }) (All-filter p P b a)
@@ -39,7 +40,8 @@ fit_most true = omega arith
 fit_most false = omega arith
 
 pub met_few : (side : Side) (ks : List (ℕ × ℕ)) (held : SideState) (b : List Row) (x : Row) → StandsFor side ks held b → count (met side ks held x) ≤ count b
-met_few side ks held b x h = omega (arith, weigh-met side ks held b x (λ r. 1) h, numbers_le (λ r. cond (fits_on side ks r x) 1 0) (λ r. fit_most (fits_on side ks r x)) b)
+met_few side ks held b x h =
+    omega (arith, weigh-met side ks held b x (λ r. 1) h, numbers_le (λ r. cond (fits_on side ks r x) 1 0) (λ r. fit_most (fits_on side ks r x)) b)
 
 -- HOW MANY PAIRS there are
 one_pair : (b : Bool) (x : Row) → count (cond b (x ∷ []) []) ≡ cond b 1 0
@@ -47,15 +49,18 @@ unfolding weigh
 one_pair true x = refl
 one_pair false x = refl
 
-pub left_pairs_are : (ks : List (ℕ × ℕ)) (held : SideState) (l r : List Row) → StandsFor Right ks held r → weigh (λ x. count (met Right ks held x)) l ≡ count (joined ks l r)
+pub left_pairs_are : (ks : List (ℕ × ℕ)) (held : SideState) (l r : List Row) → StandsFor Right ks held r
+    → weigh (λ x. count (met Right ks held x)) l ≡ count (joined ks l r)
 left_pairs_are ks held l r h =
     weigh-same (λ x. count (met Right ks held x)) (λ x. count (flat_map (pair ks x) r)) (λ x.
     weigh-met Right ks held r x (λ m. 1) h
-    ∙ weigh-same (λ m. cond (fits_on Right ks m x) 1 0) (λ m. count (pair ks x m)) (λ m. ap {B = ℕ} (λ b. cond b 1 0) (fits-right ks x m) ∙ sym (one_pair (fits ks x m) (x ++ m))) r
+    ∙ weigh-same (λ m. cond (fits_on Right ks m x) 1 0) (λ m. count (pair ks x m))
+    (λ m. ap {B = ℕ} (λ b. cond b 1 0) (fits-right ks x m) ∙ sym (one_pair (fits ks x m) (x ++ m))) r
     ∙ sym (weigh-flat_map (λ m. 1) (pair ks x) r)) l
     ∙ sym (weigh-flat_map (λ m. 1) (λ x. flat_map (pair ks x) r) l)
 
-pub right_pairs_are : (ks : List (ℕ × ℕ)) (held : SideState) (l r : List Row) → StandsFor Left ks held l → weigh (λ x. count (met Left ks held x)) r ≡ count (joined ks l r)
+pub right_pairs_are : (ks : List (ℕ × ℕ)) (held : SideState) (l r : List Row) → StandsFor Left ks held l
+    → weigh (λ x. count (met Left ks held x)) r ≡ count (joined ks l r)
 right_pairs_are ks held l r h =
     weigh-same (λ x. count (met Left ks held x)) (λ x. count (flat_map (λ m. pair ks m x) l)) (λ x.
     weigh-met Left ks held l x (λ m. 1) h
@@ -77,14 +82,16 @@ pub few_pairs : (w : Row → ℕ) (c n most : ℕ) → ((x : Row) → w x ≤ c)
 few_pairs w c n most h l xs k = omega (arith, weigh_times w most (λ x. omega (arith, h x, l)) xs, mul-le-mul_right most k)
 
 -- AS THEY GO OUT, row by row
-enter_one : (most t n : ℕ) (side : Side) (x : Row) (rows : List Row) (ys : List (Bool × Row)) → n + count rows ≤ most → StaysWithin most (n + count rows) (batch t ys) → StaysWithin most n (batch t (pairs_of side (true, x) rows ++ ys))
+enter_one : (most t n : ℕ) (side : Side) (x : Row) (rows : List Row) (ys : List (Bool × Row)) → n + count rows ≤ most
+    → StaysWithin most (n + count rows) (batch t ys) → StaysWithin most n (batch t (pairs_of side (true, x) rows ++ ys))
 unfolding weigh
 enter_one most t n side x [] ys l h = let e : n + 0 ≡ n = omega arith in subst (λ m. StaysWithin most m (batch t ys)) e h
 enter_one most t n side x (r ∷ rows) ys l h =
     let e : n + (1 + count rows) ≡ n + 1 + count rows = omega arith in
     (omega (arith, l), enter_one most t (n + 1) side x rows ys (omega (arith, l)) (subst (λ m. StaysWithin most m (batch t ys)) e h))
 
-leave_one : (most t n : ℕ) (side : Side) (x : Row) (rows : List Row) (ys : List (Bool × Row)) → n ≤ most → StaysWithin most (n - count rows) (batch t ys) → StaysWithin most n (batch t (pairs_of side (false, x) rows ++ ys))
+leave_one : (most t n : ℕ) (side : Side) (x : Row) (rows : List Row) (ys : List (Bool × Row)) → n ≤ most → StaysWithin most (n - count rows) (batch t ys)
+    → StaysWithin most n (batch t (pairs_of side (false, x) rows ++ ys))
 unfolding weigh
 leave_one most t n side x [] ys l h = let e : n - 0 ≡ n = omega arith in subst (λ m. StaysWithin most m (batch t ys)) e h
 leave_one most t n side x (r ∷ rows) ys l h =
@@ -101,13 +108,15 @@ met_left w r a = omega (arith, a.weighs w)
 
 -- the pairs of the rows of a side, of which there are never more than `below`
 pub pairs_stay : (side : Side) (h : Row → List Row) (below most t : ℕ) → ((l : List Row) → count l ≤ below → weigh (λ x. count (h x)) l ≤ most)
-    → (b : List (Bool × Row)) (q : List (Entry Row)) (l : List Row) → Legal l b → StaysWithin below (count l) (batch t b ++ q) → StaysWithin most (weigh (λ x. count (h x)) l) (batch t (pairs side b (map (λ x. h x.1) b)))
+    → (b : List (Bool × Row)) (q : List (Entry Row)) (l : List Row) → Legal l b → StaysWithin below (count l) (batch t b ++ q)
+    → StaysWithin most (weigh (λ x. count (h x)) l) (batch t (pairs side b (map (λ x. h x.1) b)))
 pairs_stay side h below most t bound [] q l legal k = bound l (stays_now q k)
 pairs_stay side h below most t bound ((true, r) ∷ b) q l legal k =
     let e : (z : List Row) × Adds l ((true, r) ∷ []) z = after_row l (true, r) (Legal-front ((true, r) ∷ []) b legal) in
     let more : StaysWithin below (count e.0) (batch t b ++ q) = subst (λ n. StaysWithin below n (batch t b ++ q)) (count_entered r e.1) k.1 in
     let then : weigh (λ x. count (h x)) l + count (h r) ≡ weigh (λ x. count (h x)) e.0 = met_entered (λ x. count (h x)) r e.1 in
-    enter_one most t (weigh (λ x. count (h x)) l) side r (h r) (pairs side b (map (λ x. h x.1) b)) (omega (arith, then, bound e.0 (stays_now (batch t b ++ q) more)))
+    enter_one most t (weigh (λ x. count (h x)) l) side r (h r) (pairs side b (map (λ x. h x.1) b))
+    (omega (arith, then, bound e.0 (stays_now (batch t b ++ q) more)))
     (subst (λ n. StaysWithin most n (batch t (pairs side b (map (λ x. h x.1) b)))) (sym then) (pairs_stay side h below most t bound b q e.0 (Legal-rest e.1 legal) more))
 pairs_stay side h below most t bound ((false, r) ∷ b) q l legal k =
     let e : (z : List Row) × Adds l ((false, r) ∷ []) z = after_row l (false, r) (Legal-front ((false, r) ∷ []) b legal) in
@@ -120,12 +129,15 @@ pairs_stay side h below most t bound ((false, r) ∷ b) q l legal k =
 pub beside_wide : (l r out : ℕ) (x y : Row) → out ≡ l + r → IsRow l x → IsRow r y → IsRow out (x ++ y)
 beside_wide l r out x y e h k = record { wide = length-append x y ∙ omega (arith, e, h.wide, k.wide); values = All-append IsAnswerValue x y h.values k.values }
 
-of_one_wide : (side : Side) (m out : ℕ) (x : Bool × Row) → ((y : Row) → IsRow m y → IsRow out (beside side x.1 y)) → (rows : List Row) → AreRows m rows → AreSigned out (pairs_of side x rows)
+of_one_wide : (side : Side) (m out : ℕ) (x : Bool × Row) → ((y : Row) → IsRow m y → IsRow out (beside side x.1 y)) → (rows : List Row) → AreRows m rows
+    → AreSigned out (pairs_of side x rows)
 of_one_wide side m out x h [] a = All-nil (λ (s : Bool × Row). IsRow out s.1)
 of_one_wide side m out x h (r ∷ rows) a =
-    All-cons (λ (s : Bool × Row). IsRow out s.1) (x.0, beside side x.1 r) (pairs_of side x rows) (h r (All-head (IsRow m) r rows a)) (of_one_wide side m out x h rows (All-tail (IsRow m) r rows a))
+    All-cons (λ (s : Bool × Row). IsRow out s.1) (x.0, beside side x.1 r) (pairs_of side x rows) (h r (All-head (IsRow m) r rows a))
+    (of_one_wide side m out x h rows (All-tail (IsRow m) r rows a))
 
-pub pairs_wide : (side : Side) (h : Row → List Row) (w m out : ℕ) → ((x y : Row) → IsRow w x → IsRow m y → IsRow out (beside side x y)) → ((x : Row) → AreRows m (h x)) → (b : List (Bool × Row)) → AreSigned w b → AreSigned out (pairs side b (map (λ x. h x.1) b))
+pub pairs_wide : (side : Side) (h : Row → List Row) (w m out : ℕ) → ((x y : Row) → IsRow w x → IsRow m y → IsRow out (beside side x y))
+    → ((x : Row) → AreRows m (h x)) → (b : List (Bool × Row)) → AreSigned w b → AreSigned out (pairs side b (map (λ x. h x.1) b))
 pairs_wide side h w m out each wide [] a = All-nil (λ (s : Bool × Row). IsRow out s.1)
 pairs_wide side h w m out each wide (x ∷ b) a =
     All-append (λ (s : Bool × Row). IsRow out s.1) (pairs_of side x (h x.1)) (pairs side b (map (λ x. h x.1) b))
@@ -138,9 +150,11 @@ unfolding weigh
 kept_few side ks columns [] = omega arith
 kept_few side ks columns (r ∷ b) = here (agrees (other side) ks r) (chosen columns r) (kept_few side ks columns b)
   where
-    here : (t : Bool) (x : Row) → length (flat_map (kept_of columns side ks) b) ≤ count b → length (cond t (x ∷ []) [] ++ flat_map (kept_of columns side ks) b) ≤ 1 + count b
+    here : (t : Bool) (x : Row) → length (flat_map (kept_of columns side ks) b) ≤ count b
+        → length (cond t (x ∷ []) [] ++ flat_map (kept_of columns side ks) b) ≤ 1 + count b
     here true x h = omega (arith, h)
     here false x h = omega (arith, h)
 
 pub side_few : (side : Side) (ks : List (ℕ × ℕ)) (held : SideState) (b : List Row) → StandsFor side ks held b → length held.rows ≤ count b
-side_few side ks held b h = omega (arith, ap length h.rows, length-in_order row_cmp row_order (flat_map (kept_of (order side ks held.width) side ks) b), kept_few side ks (order side ks held.width) b)
+side_few side ks held b h =
+    omega (arith, ap length h.rows, length-in_order row_cmp row_order (flat_map (kept_of (order side ks held.width) side ks) b), kept_few side ks (order side ks held.width) b)

@@ -94,11 +94,14 @@ values_within n i es xs l h =
 none_within : (n : ℕ) (es : Values) → es ≡ [] → All (λ m. m ≤ n) (values_of es)
 none_within n es e = subst (λ (es : Values). All (λ m. m ≤ n) (values_of es)) (sym e) (All-nil (λ (m : ℕ). m ≤ n))
 
-tally_within : (n : ℕ) (i : Item) (t : TallyState) (xs : List Row) → count xs ≤ n → All InRange xs → (keeps i ≡ false → t.values ≡ []) → Tallies i t xs → TallyRoom n t
+tally_within : (n : ℕ) (i : Item) (t : TallyState) (xs : List Row) → count xs ≤ n → All InRange xs → (keeps i ≡ false → t.values ≡ []) → Tallies i t xs
+    → TallyRoom n t
 tally_within n i t xs l a lean h =
     let s : weigh (λ x. some_by (number_of i x)) xs ≤ count xs = numbers_le (λ x. some_by (number_of i x)) (λ x. some_most (number_of i x)) xs in
-    let o : weigh (λ x. over_by (number_of i x)) xs ≤ count xs * 2 ^ 63 = weigh_most (λ x. over_by (number_of i x)) (λ x r. over_most (number_of i x) (number_in i x r)) xs a in
-    let u : weigh (λ x. under_by (number_of i x)) xs ≤ count xs * 2 ^ 63 = weigh_most (λ x. under_by (number_of i x)) (λ x r. under_most (number_of i x) (number_in i x r)) xs a in
+    let o : weigh (λ x. over_by (number_of i x)) xs ≤ count xs * 2 ^ 63 =
+    weigh_most (λ x. over_by (number_of i x)) (λ x r. over_most (number_of i x) (number_in i x r)) xs a in
+    let u : weigh (λ x. under_by (number_of i x)) xs ≤ count xs * 2 ^ 63 =
+    weigh_most (λ x. under_by (number_of i x)) (λ x r. under_most (number_of i x) (number_in i x r)) xs a in
     record {
       numbers = subst (IsWithin n) (sym h.numbers) (record { low = omega (arith, ints, s, l); high = omega (arith, ints, s, l) });
       total = subst (IsWithin (n * 2 ^ 63)) (sym h.total) (record { low = omega (arith, ints, o, u, l); high = omega (arith, ints, o, u, l) });
@@ -116,7 +119,8 @@ aligned_by [] (t ∷ ts) xs h = absurd h
 aligned_by (i ∷ is) [] xs h = absurd h
 aligned_by (i ∷ is) (t ∷ ts) xs h = ap suc (aligned_by is ts xs h.1)
 
-tallies_within : (n : ℕ) (is : List Item) (ts : List TallyState) (xs : List Row) → count xs ≤ n → All InRange xs → AreLean is ts → AllTally is ts xs → All (TallyRoom n) ts
+tallies_within : (n : ℕ) (is : List Item) (ts : List TallyState) (xs : List Row) → count xs ≤ n → All InRange xs → AreLean is ts → AllTally is ts xs
+    → All (TallyRoom n) ts
 tallies_within n [] [] xs l a lean h = All-nil (TallyRoom n)
 tallies_within n [] (t ∷ ts) xs l a lean h = absurd h
 tallies_within n (i ∷ is) [] xs l a lean h = absurd h
@@ -139,4 +143,5 @@ groups_within n s o b l a lean h =
     All-values_from_lookup (eq_by_cmp_equiv held_order.total) (CellRoom n s.group.items) s.cells (IsDistinct-from_sorted held_cmp (keys_of s.cells) h.sorted)
     (λ k. or_some (CellRoom n s.group.items) (cell_zero (length s.group.items)) (lookup (is_at (held_cmp k)) s.cells)
     (cell_within n s.group.items (cell_of (length s.group.items) k s.cells) (members s.group k.items b)
-    (omega (arith, l, count_kept (λ r. same_row k.items (key_in s.group.by r)) b)) (All-filter (λ r. same_row k.items (key_in s.group.by r)) InRange b a) (lean k.items) (h.counts k.items)))
+    (omega (arith, l, count_kept (λ r. same_row k.items (key_in s.group.by r)) b)) (All-filter (λ r. same_row k.items (key_in s.group.by r)) InRange b a)
+    (lean k.items) (h.counts k.items)))

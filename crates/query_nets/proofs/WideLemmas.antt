@@ -29,10 +29,13 @@ pub all_after : (P : Row → Type 0) (xs : List (Bool × Row)) (b c : List Row) 
 all_after P [] b c l a h k = all_same P b c (Same-from_none a) h
 all_after P ((true, r) ∷ xs) b c l a h k =
     let e : (z : List Row) × Adds b ((true, r) ∷ []) z = after_row b (true, r) (Legal-front ((true, r) ∷ []) xs l) in
-    all_after P xs e.0 c (Legal-rest e.1 l) (Adds-rest e.1 a) (all_same P (r ∷ b) e.0 (entered r e.1) (All-cons P r b (All-head (λ (s : Bool × Row). P s.1) (true, r) xs k) h)) (All-tail (λ (s : Bool × Row). P s.1) (true, r) xs k)
+    all_after P xs e.0 c (Legal-rest e.1 l) (Adds-rest e.1 a)
+    (all_same P (r ∷ b) e.0 (entered r e.1) (All-cons P r b (All-head (λ (s : Bool × Row). P s.1) (true, r) xs k) h))
+    (All-tail (λ (s : Bool × Row). P s.1) (true, r) xs k)
 all_after P ((false, r) ∷ xs) b c l a h k =
     let e : (z : List Row) × Adds b ((false, r) ∷ []) z = after_row b (false, r) (Legal-front ((false, r) ∷ []) xs l) in
-    all_after P xs e.0 c (Legal-rest e.1 l) (Adds-rest e.1 a) (All-tail P r e.0 (all_same P b (r ∷ e.0) (gone r e.1) h)) (All-tail (λ (s : Bool × Row). P s.1) (false, r) xs k)
+    all_after P xs e.0 c (Legal-rest e.1 l) (Adds-rest e.1 a) (All-tail P r e.0 (all_same P b (r ∷ e.0) (gone r e.1) h))
+    (All-tail (λ (s : Bool × Row). P s.1) (false, r) xs k)
 
 -- QUEUES
 abbrev pub AreSigned : ℕ → List (Bool × Row) → Type 0
@@ -48,12 +51,14 @@ entries_back w t (s ∷ xs) q h = entries_back w t xs q h.1
 
 pub entries_batch : (w t : ℕ) (xs : List (Bool × Row)) (q : List (Entry Row)) → AreSigned w xs → AreEntries w q → AreEntries w (batch t xs ++ q)
 entries_batch w t [] q h k = k
-entries_batch w t (s ∷ xs) q h k = (All-head (λ (s : Bool × Row). IsRow w s.1) s xs h, entries_batch w t xs q (All-tail (λ (s : Bool × Row). IsRow w s.1) s xs h) k)
+entries_batch w t (s ∷ xs) q h k =
+    (All-head (λ (s : Bool × Row). IsRow w s.1) s xs h, entries_batch w t xs q (All-tail (λ (s : Bool × Row). IsRow w s.1) s xs h) k)
 
 pub entries_alone : (w t : ℕ) (xs : List (Bool × Row)) → AreSigned w xs → AreEntries w (batch t xs)
 entries_alone w t [] h = tt
 entries_alone w t (s ∷ xs) h = (All-head (λ (s : Bool × Row). IsRow w s.1) s xs h, entries_alone w t xs (All-tail (λ (s : Bool × Row). IsRow w s.1) s xs h))
 
 -- rows of a side after a batch
-pub rows_after : (w t : ℕ) (xs : List (Bool × Row)) (q : List (Entry Row)) (b c : List Row) → Legal b xs → Adds b xs c → AreRows w b → AreEntries w (batch t xs ++ q) → AreRows w c
+pub rows_after : (w t : ℕ) (xs : List (Bool × Row)) (q : List (Entry Row)) (b c : List Row) → Legal b xs → Adds b xs c → AreRows w b
+    → AreEntries w (batch t xs ++ q) → AreRows w c
 rows_after w t xs q b c l a h k = all_after (IsRow w) xs b c l a h (entries_front w t xs q k)

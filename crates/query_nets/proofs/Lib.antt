@@ -10,3 +10,11 @@ pub mod ClosingLemmas
 pub mod BeatLemmas
 pub mod HeartbeatLemmas
 pub mod AppendLemmas
+pub mod CountLemmas
+pub mod WideLemmas
+pub mod ItemLemmas
+pub mod RoomLemmas
+pub mod GroupLemmas
+pub mod GroupSteps
+pub mod PairLemmas
+pub mod JoinSteps

@@ -2,3 +2,4 @@ pub mod Runs
 pub mod Widths
 pub mod Counts
 pub mod Steps
+pub mod Rooms

@@ -1,1 +1,4 @@
+pub mod CountLemmas
+pub mod WideLemmas
+pub mod ItemLemmas
 pub mod PlanCounts

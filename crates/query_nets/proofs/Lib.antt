@@ -2,3 +2,4 @@ pub mod CountLemmas
 pub mod WideLemmas
 pub mod ItemLemmas
 pub mod PlanCounts
+pub mod RootSteps

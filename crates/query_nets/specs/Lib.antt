@@ -3,3 +3,4 @@ pub mod Widths
 pub mod Counts
 pub mod Steps
 pub mod Rooms
+pub mod Roots

@@ -21,10 +21,10 @@ use Rattle.plan.proofs.Numbers.{Below, Rises}
 use Rattle.reference.specs.Machine.{Machine, Registered, Stream, Place, input_at}
 use Rattle.nets.specs.Nets.{left_of, right_of}
 use Rattle.nets.specs.Operators.{net_of}
-use Rattle.nets.specs.Plans.{IsPlanOf, bags_of, inputs_of, value_of}
+use Rattle.nets.specs.Plans.{bags_of, below_root, inputs_of, value_of}
 use Rattle.nets.proofs.PlanLemmas.{shaped_plan}
 use Rattle.query_nets.specs.Counts.{count, most_rows, most_rows_by, rows_of, stream_rows, tick_rows, tick_rows_by}
-use Rattle.query_nets.specs.Rooms.{HasShortStreams, PlanHasRoom}
+use Rattle.query_nets.specs.Rooms.{IsBounded, PlanHasRoom, RootHasRoom}
 
 -- BOUNDS BY THOSE OF THE INPUTS
 
@@ -333,19 +333,31 @@ few_shown first t (w ∷ ws) [] h s = omega arith
 few_shown first t (w ∷ ws) (es ∷ inputs) h zero = omega (arith, length-map (filter (shows first w t es) es) (λ (e : Element). e.row), few_kept (shows first w t es) es, h.0)
 few_shown first t (w ∷ ws) (es ∷ inputs) h (suc s) = few_shown first t ws inputs h.1 s
 
-pub query_values_few : (m : Machine) (q : Registered) → HasShortStreams m → (k t : ℕ) → count (value_of m q k t) ≤ tick_rows q.nodes k
-query_values_few m q h k t = values_few (bags_of m q t) (few_shown q.first t q.meaning.windows (inputs_of m q) (few_inputs m.streams q.first q.places h)) q.nodes k
-
 -- ITS OPERATORS have room
-pub plan_has_room : (vs : List ℕ) (m : Machine) (q : Registered) → IsPlanOf vs q.meaning q.nodes → length vs ≤ 2 → HasShortStreams m → PlanHasRoom m q
-plan_has_room vs m q p few h cells k below =
-    let two : length q.meaning.windows ≤ 2 = omega (arith, p.scoped.sources, few) in
-    let some : 0 < length q.meaning.windows = omega (arith, p.scoped.sources, p.some) in
-    let rises : Rises 0 q.nodes = subst (Rises 0) (sym p.is) (shaped_plan (λ s. 0) vs q.meaning some).rises in
-    record {
-      most = rows-is (most_rows_by q.nodes) (most_local q.nodes) q.nodes k (WindowNode 0) rises (omega (arith, below));
-      left = λ t. query_values_few m q h (left_of (net_of q.nodes k)) t;
-      right = λ t. query_values_few m q h (right_of (net_of q.nodes k)) t;
-      at_ticks = λ i. subst (λ ns. tick_rows ns i ≤ 2 ^ 60) (sym p.is) (plan_ticks vs q.meaning two i);
-      always = λ i. subst (λ ns. most_rows ns i ≤ 2 ^ 61) (sym p.is) (plan_most vs q.meaning two i);
-    }
+module _ (vs : List ℕ) (m : Machine) (q : Registered) (h : IsBounded vs m q) where
+  two : length q.meaning.windows ≤ 2
+  two = omega (arith, h.plan.scoped.sources, h.few)
+
+  ticks : (i : ℕ) → tick_rows q.nodes i ≤ 2 ^ 60
+  ticks i = subst (λ ns. tick_rows ns i ≤ 2 ^ 60) (sym h.plan.is) (plan_ticks vs q.meaning two i)
+
+  most : (i : ℕ) → most_rows q.nodes i ≤ 2 ^ 61
+  most i = subst (λ ns. most_rows ns i ≤ 2 ^ 61) (sym h.plan.is) (plan_most vs q.meaning two i)
+
+  few : (k t : ℕ) → count (value_of m q k t) ≤ tick_rows q.nodes k
+  few k t = values_few (bags_of m q t) (few_shown q.first t q.meaning.windows (inputs_of m q) (few_inputs m.streams q.first q.places h.short)) q.nodes k
+
+  pub plan_has_room : PlanHasRoom m q
+  plan_has_room cells k below =
+      let some : 0 < length q.meaning.windows = omega (arith, h.plan.scoped.sources, h.plan.some) in
+      let rises : Rises 0 q.nodes = subst (Rises 0) (sym h.plan.is) (shaped_plan (λ s. 0) vs q.meaning some).rises in
+      record {
+        most = rows-is (most_rows_by q.nodes) (most_local q.nodes) q.nodes k (WindowNode 0) rises (omega (arith, below));
+        left = few (left_of (net_of q.nodes k));
+        right = few (right_of (net_of q.nodes k));
+        at_ticks = ticks;
+        always = most;
+      }
+
+  pub root_has_room : RootHasRoom m q
+  root_has_room cells = record { at_ticks = λ t. le_trans (few (below_root q.nodes - 1) t) (ticks (below_root q.nodes - 1)); always = most (below_root q.nodes - 1) }

@@ -1,14 +1,14 @@
 //! What holds of the operators of every running query: functions that do nothing, each with one law.
-ghost use Rattle.std.specs.Prelude.{ℕ, ◌≤◌, List, length};
+ghost use Rattle.std.specs.Prelude.{ℕ, List};
 ghost use Rattle.reference.specs.Machine.{Machine, Registered};
-ghost use Rattle.nets.specs.Plans.{IsPlanOf};
-ghost use Rattle.query_nets.specs.Rooms.{HasShortStreams, PlanHasRoom};
+ghost use Rattle.query_nets.specs.Rooms.{IsBounded, PlanHasRoom, RootHasRoom};
 ghost use Rattle.query_nets.specs.Roots.{RootMay, RootStep};
 
 /// The operators of a query over one or two streams of at most 2^30 rows have room: their values have at most 2^60 rows at each
 /// instant, and in the middle of one they have put out at most twice as many.
 pub fn plans_have_room()
-    ensures { (vs : List ℕ) (m : Machine) (q : Registered) → IsPlanOf vs q.meaning q.nodes → length vs ≤ 2 → HasShortStreams m → PlanHasRoom m q }
+    ensures inner { (vs : List ℕ) (m : Machine) (q : Registered) → IsBounded vs m q → PlanHasRoom m q }
+    ensures root { (vs : List ℕ) (m : Machine) (q : Registered) → IsBounded vs m q → RootHasRoom m q }
 {}
 
 /// The root of a query may take the item at its front, and after a turn with it stands for its next state, behind whose answers so

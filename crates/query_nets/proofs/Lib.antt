@@ -3,3 +3,4 @@ pub mod WideLemmas
 pub mod ItemLemmas
 pub mod PlanCounts
 pub mod RootSteps
+pub mod MachineCounts

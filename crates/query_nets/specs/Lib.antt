@@ -4,3 +4,4 @@ pub mod Counts
 pub mod Steps
 pub mod Rooms
 pub mod Roots
+pub mod Machines

@@ -3,6 +3,7 @@ ghost use Rattle.std.specs.Prelude.{ℕ, List};
 ghost use Rattle.reference.specs.Machine.{Machine, Registered};
 ghost use Rattle.query_nets.specs.Rooms.{IsBounded, PlanHasRoom, RootHasRoom};
 ghost use Rattle.query_nets.specs.Roots.{RootMay, RootStep};
+ghost use Rattle.query_nets.specs.Machines.{IsMachine, MachinesStand, QueriesStand};
 
 /// The operators of a query over one or two streams of at most 2^30 rows have room: their values have at most 2^60 rows at each
 /// instant, and in the middle of one they have put out at most twice as many.
@@ -16,4 +17,15 @@ pub fn plans_have_room()
 pub fn roots_take_their_turns()
     ensures may { RootMay }
     ensures step { RootStep }
+{}
+
+/// The machine's streams never have more than 2^30 rows, each as wide as the stream's columns, and its queries run the plans of what
+/// they mean, over one or two streams.
+pub fn machines_stand()
+    ensures { MachinesStand }
+{}
+
+/// So the queries of such a machine stand over its streams, and their operators have room.
+pub fn their_queries_stand()
+    ensures { (m : Machine) → IsMachine m → QueriesStand m }
 {}

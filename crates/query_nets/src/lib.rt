@@ -3,4 +3,4 @@
 
 mod laws;
 
-pub use laws::{plans_have_room, roots_take_their_turns};
+pub use laws::{machines_stand, plans_have_room, roots_take_their_turns, their_queries_stand};

@@ -1,5 +1,5 @@
 -- The machine's streams have few rows, and its queries run plans over them, whatever it was told.
-use Rattle.std.proofs.Common.{◌≡◌, ℕ, zero, suc, ◌+◌, ◌<◌, ◌≤◌, ◌==◌, Bool, true, false, not, ◌&&◌, ◌||◌, cond, nat_le, nat_lt, Option, None, Some, ℤ, List, [], ◌∷◌, ◌++◌, map, filter, length, get_or, refl, sym, ap, ◌∙◌, subst, arith, length-append, eqb-true}
+use Rattle.std.proofs.Common.{◌≡◌, ℕ, zero, suc, ◌+◌, ◌<◌, ◌≤◌, ◌==◌, Bool, true, false, not, ◌&&◌, ◌||◌, cond, nat_le, nat_lt, Option, None, Some, ℤ, List, [], ◌∷◌, ◌++◌, map, filter, length, get_or, refl, sym, ap, ap₂, ◌∙◌, subst, arith, length-append, eqb-true}
 use Rattle.std.specs.Prelude.{Result, Ok, Err, slice_get, nat_abs, int_lt, pos, unwrap_or, option_and_then}
 use Rattle.std.specs.List.{AllByRecursion, list_all, list_any}
 use Rattle.std.specs.Option.{is_none, option_map_or}
@@ -36,7 +36,7 @@ use Rattle.nets.specs.Laws.{Stands}
 use Rattle.nets.specs.Plans.{IsPlanOf, inputs_of}
 use Rattle.query_nets.specs.Counts.{stream_rows}
 use Rattle.query_nets.specs.Rooms.{IsBounded}
-use Rattle.query_nets.specs.Machines.{AreSources, IsMachine, IsQuery, IsSource, IsStream, MachinesStand, QueriesStand, columns_of}
+use Rattle.query_nets.specs.Machines.{IsMachine, IsQuery, IsStream, MachinesStand, QueriesStand, columns_of, widths_of}
 
 -- STREAMS after a command
 
@@ -74,14 +74,25 @@ keeps_more ss ts = record { many = omega (arith, length-append ss ts); columns =
 keeps_changed : (f : Stream → Stream) → ((s : Stream) → length (f s).columns ≡ length s.columns) → (n : ℕ) (ss : List Stream) → Keeps ss (change n f ss)
 keeps_changed f h n ss = record { many = omega (arith, many_changed f n ss); columns = λ i l. columns_changed f h n i ss }
 
-kept_sources : (ss ts : List Stream) → Keeps ss ts → (ps : List Place) (vs : List ℕ) → AreSources ss ps vs → AreSources ts ps vs
-kept_sources ss ts k [] [] h = tt
-kept_sources ss ts k [] (v ∷ vs) h = absurd h
-kept_sources ss ts k (p ∷ ps) [] h = absurd h
-kept_sources ss ts k (p ∷ ps) (v ∷ vs) h = (record { known = omega (arith, h.0.known, k.many); wide = k.columns p.stream h.0.known ∙ h.0.wide }, kept_sources ss ts k ps vs h.1)
+keeps_same : (ss : List Stream) → Keeps ss ss
+keeps_same ss = record { many = omega arith; columns = λ i l. refl }
+
+registered_streams : (m : Machine) (name : List ℕ) (r : Result Found QueryFault) → Keeps m.streams (registered m name r).streams
+registered_streams m name (Ok f) = keeps_same m.streams
+registered_streams m name (Err fault) = keeps_same m.streams
+
+kept_widths : (ss ts : List Stream) → Keeps ss ts → (ps : List Place) → AllByRecursion (λ p. p.stream < length ss) ps → map (λ p. columns_of ts p.stream) ps ≡ map (λ p. columns_of ss p.stream) ps
+kept_widths ss ts k [] h = refl
+kept_widths ss ts k (p ∷ ps) h = ap₂ (λ v vs. v ∷ vs) (k.columns p.stream h.0) (kept_widths ss ts k ps h.1)
 
 kept_query : (ss ts : List Stream) → Keeps ss ts → (q : Registered) → IsQuery ss q → IsQuery ts q
-kept_query ss ts k q h = record { widths = h.widths; plan = h.plan; few = h.few; sources = kept_sources ss ts k q.places h.widths h.sources }
+kept_query ss ts k q h =
+    let e : widths_of ss q ≡ widths_of ts q = sym (kept_widths ss ts k q.places h.known) in
+    record {
+      plan = subst (λ vs. IsPlanOf vs q.meaning q.nodes) e h.plan;
+      few = subst (λ vs. length vs ≤ 2) e h.few;
+      known = each-weaken (λ (p : Place). p.stream < length ss) (λ (p : Place). p.stream < length ts) (λ p l. omega (arith, l, k.many)) q.places h.known;
+    }
 
 kept_queries : (ss ts : List Stream) → Keeps ss ts → (qs : List Registered) → AllByRecursion (IsQuery ss) qs → AllByRecursion (IsQuery ts) qs
 kept_queries ss ts k qs h = each-weaken (IsQuery ss) (IsQuery ts) (kept_query ss ts k) qs h
@@ -136,19 +147,21 @@ columns_by [] n = refl
 columns_by (s ∷ ss) zero = refl
 columns_by (s ∷ ss) (suc n) = columns_by ss n
 
-source_here : (m : Machine) (o : Option ℕ) → is_none o ≡ false → unwrap_or o 0 < length (catalog_of m.streams)
-    → IsSource m.streams (place_at m (unwrap_or o 0)) (length (option_map_or (λ s. s.columns) (option_and_then (slice_get (catalog_of m.streams)) o) []))
-source_here m None h l = cc
-source_here m (Some n) h l = record { known = omega (arith, l, length-map m.streams (λ (s : Stream). let c : catalogs.Stream = record { name = s.name; columns = s.columns } in c)); wide = sym (columns_by m.streams n) }
+source_here : (m : Machine) (o : Option ℕ) → is_none o ≡ false → columns_of m.streams (unwrap_or o 0) ≡ length (option_map_or (λ s. s.columns) (option_and_then (slice_get (catalog_of m.streams)) o) [])
+source_here m None h = cc
+source_here m (Some n) h = sym (columns_by m.streams n)
 
 sources_here : (m : Machine) (sources : List syntax.Source) → list_any (λ s. is_none (number_in (catalog_of m.streams) s.stream)) sources ≡ false
-    → AllByRecursion (λ n. n < length (catalog_of m.streams)) (map (λ s. unwrap_or (number_in (catalog_of m.streams) s.stream) 0) sources)
-    → AreSources m.streams (map (place_at m) (map (λ s. unwrap_or (number_in (catalog_of m.streams) s.stream) 0) sources)) (map (λ t. length t.columns) (tables (catalog_of m.streams) sources))
-sources_here m [] h l = tt
-sources_here m (s ∷ sources) h l =
+    → map (λ p. columns_of m.streams p.stream) (map (place_at m) (map (λ s. unwrap_or (number_in (catalog_of m.streams) s.stream) 0) sources)) ≡ map (λ t. length t.columns) (tables (catalog_of m.streams) sources)
+sources_here m [] h = refl
+sources_here m (s ∷ sources) h =
     let t : (is_none (number_in (catalog_of m.streams) s.stream) ≡ false) × (list_any (λ s. is_none (number_in (catalog_of m.streams) s.stream)) sources ≡ false) =
     either_none (is_none (number_in (catalog_of m.streams) s.stream)) (list_any (λ s. is_none (number_in (catalog_of m.streams) s.stream)) sources) h in
-    (source_here m (number_in (catalog_of m.streams) s.stream) t.0 l.0, sources_here m sources t.1 l.1)
+    ap₂ (λ v vs. v ∷ vs) (source_here m (number_in (catalog_of m.streams) s.stream) t.0) (sources_here m sources t.1)
+
+places_known : (m : Machine) (ns : List ℕ) → AllByRecursion (λ n. n < length (catalog_of m.streams)) ns → AllByRecursion (λ p. p.stream < length m.streams) (map (place_at m) ns)
+places_known m [] h = tt
+places_known m (n ∷ ns) h = (subst (λ k. n < k) (length-map m.streams (λ (s : Stream). let c : catalogs.Stream = record { name = s.name; columns = s.columns } in c)) h.0, places_known m ns h.1)
 
 -- what was found without a fault is a query
 read_query : (m : Machine) (given : Option (List (ℤ × ℤ))) (name : List ℕ) (q : syntax.Query) → IsWellFormed q → naming.first_fault q (catalog_of m.streams) ≡ None
@@ -156,12 +169,12 @@ read_query : (m : Machine) (given : Option (List (ℤ × ℤ))) (name : List ℕ
 read_query m given name q good none =
     let catalog : List catalogs.Stream = catalog_of m.streams in
     let long : length (widths q catalog) ≡ length q.sources = length-map (tables catalog q.sources) _ ∙ length-map q.sources (table_of catalog) in
-    let streams_known = (accepted q catalog none).streams in
+    let known_streams : list_any (λ s. is_none (number_in catalog s.stream)) q.sources ≡ false = (accepted q catalog none).streams in
+    let e : widths q catalog ≡ map (λ p. columns_of m.streams p.stream) (map (place_at m) (streams q catalog)) = sym (sources_here m q.sources known_streams) in
     record {
-      widths = widths q catalog;
-      plan = record { some = omega (arith, long, good.some_source); scoped = accepted-scoped q catalog none; is = refl };
-      few = omega (arith, long, good.few_sources);
-      sources = sources_here m q.sources streams_known (known catalog q.sources streams_known);
+      plan = subst (λ vs. IsPlanOf vs (resolved q catalog) (plan_of (widths q catalog) (resolved q catalog))) e (record { some = omega (arith, long, good.some_source); scoped = accepted-scoped q catalog none; is = refl });
+      few = subst (λ vs. length vs ≤ 2) e (omega (arith, long, good.few_sources));
+      known = places_known m (streams q catalog) (known catalog q.sources known_streams);
     }
 
 no_name_fault : (f : Option naming.Fault) (bad : Bool) → planning.after_names f bad ≡ None → f ≡ None
@@ -211,11 +224,11 @@ machine_after m (Heartbeat n at) count e h = record {
 }
 machine_after m (Take n limit) count e h = record {
   streams = h.streams;
-  queries = each_changed (IsQuery m.streams) (took count) n m.queries (λ q is i. record { widths = i.widths; plan = i.plan; few = i.few; sources = i.sources }) h.queries;
+  queries = each_changed (IsQuery m.streams) (took count) n m.queries (λ q is i. record { plan = i.plan; few = i.few; known = i.known }) h.queries;
 }
 machine_after m (Drop n) count e h = record {
   streams = h.streams;
-  queries = each_changed (IsQuery m.streams) dropped n m.queries (λ q is i. record { widths = i.widths; plan = i.plan; few = i.few; sources = i.sources }) h.queries;
+  queries = each_changed (IsQuery m.streams) dropped n m.queries (λ q is i. record { plan = i.plan; few = i.few; known = i.known }) h.queries;
 }
 
 pub machines_stand : MachinesStand
@@ -228,34 +241,38 @@ wide_input place first v [] i h e = tt
 wide_input place first v (s ∷ ss) zero h e = each-filter (λ (e : Element). length e.row ≡ v) _ s.elements (subst (λ n. AllByRecursion (λ (e : Element). length e.row ≡ n) s.elements) e h.0.wide)
 wide_input place first v (s ∷ ss) (suc i) h e = wide_input place first v ss i h.1 e
 
-tables_shown : (ss : List Stream) (first t : ℕ) → AllByRecursion IsStream ss → (ws : List Window) (ps : List Place) (vs : List ℕ) → length ws ≡ length vs → AreSources ss ps vs → Tables vs (shown_at first ws t (map (input_at ss first) ps))
-tables_shown ss first t h [] [] [] l s = tt
-tables_shown ss first t h [] [] (v ∷ vs) l s = absurd s
-tables_shown ss first t h [] (p ∷ ps) [] l s = absurd s
-tables_shown ss first t h [] (p ∷ ps) (v ∷ vs) l s = absurd (omega (arith, l))
-tables_shown ss first t h (w ∷ ws) [] [] l s = absurd (omega (arith, l))
-tables_shown ss first t h (w ∷ ws) [] (v ∷ vs) l s = absurd s
-tables_shown ss first t h (w ∷ ws) (p ∷ ps) [] l s = absurd s
-tables_shown ss first t h (w ∷ ws) (p ∷ ps) (v ∷ vs) l s =
+tables_shown : (ss : List Stream) (first t : ℕ) → AllByRecursion IsStream ss → (ws : List Window) (ps : List Place) → length ws ≡ length (map (λ p. columns_of ss p.stream) ps) → Tables (map (λ p. columns_of ss p.stream) ps) (shown_at first ws t (map (input_at ss first) ps))
+tables_shown ss first t h [] [] l = tt
+tables_shown ss first t h [] (p ∷ ps) l = absurd (omega (arith, l))
+tables_shown ss first t h (w ∷ ws) [] l = absurd (omega (arith, l))
+tables_shown ss first t h (w ∷ ws) (p ∷ ps) l =
+    let v : ℕ = columns_of ss p.stream in
     let input : List Element = input_at ss first p in
     (each-map (λ (r : Row). length r ≡ v) (λ (e : Element). e.row) (filter (shows first w t input) input)
-    (each-filter (λ (e : Element). length e.row ≡ v) (shows first w t input) input (wide_input p.arrivals first v ss p.stream h s.0.wide)), tables_shown ss first t h ws ps vs (omega (arith, l)) s.1)
-
-many_sources : (ss : List Stream) (ps : List Place) (vs : List ℕ) → AreSources ss ps vs → length ps ≡ length vs
-many_sources ss [] [] h = refl
-many_sources ss [] (v ∷ vs) h = absurd h
-many_sources ss (p ∷ ps) [] h = absurd h
-many_sources ss (p ∷ ps) (v ∷ vs) h = ap suc (many_sources ss ps vs h.1)
+    (each-filter (λ (e : Element). length e.row ≡ v) (shows first w t input) input (wide_input p.arrivals first v ss p.stream h refl)), tables_shown ss first t h ws ps (omega (arith, l)))
 
 few_elements : (s : Stream) → IsStream s → length s.elements ≤ stream_rows
 few_elements s h = omega (arith, h.counted, h.few)
+
+-- a command keeps the streams' columns
+keeps_after : (m : Machine) (c : Command) (count : ℕ) → Keeps m.streams (after m c count).streams
+keeps_after m (Declare name columns start) count = keeps_more m.streams (record { name = name; columns = columns; elements = []; arrivals = 0; first_open = nat_abs start } ∷ [])
+keeps_after m (Register name source given) count = registered_streams m name (found m source given)
+keeps_after m (Append n rows) count = keeps_changed (appended rows) (λ s. refl) n m.streams
+keeps_after m (Heartbeat n at) count = keeps_changed (closed_to at) (λ s. refl) n m.streams
+keeps_after m (Take n limit) count = keeps_same m.streams
+keeps_after m (Drop n) count = keeps_same m.streams
 
 pub queries_stand : (m : Machine) → IsMachine m → QueriesStand m
 queries_stand m h = record {
   each = λ k d l. each_at (IsQuery m.streams) m.queries k d l h.queries;
   stands = λ q i. record {
     plan = i.plan;
-    wide = record { places = many_sources m.streams q.places i.widths i.sources; tables = λ t. tables_shown m.streams q.first t h.streams q.meaning.windows q.places i.widths i.plan.scoped.sources i.sources };
+    wide = record { places = sym (length-map q.places _); tables = λ t. tables_shown m.streams q.first t h.streams q.meaning.windows q.places i.plan.scoped.sources };
   };
   bounded = λ q i. record { plan = i.plan; few = i.few; short = each-weaken IsStream (λ s. length s.elements ≤ stream_rows) few_elements m.streams h.streams };
+  keeps = λ c count q i. record {
+    widths = kept_widths m.streams (after m c count).streams (keeps_after m c count) q.places i.known;
+    query = kept_query m.streams (after m c count).streams (keeps_after m c count) q i;
+  };
 }

@@ -24,7 +24,7 @@ use Rattle.nets.specs.Operators.{net_of}
 use Rattle.nets.specs.Plans.{bags_of, below_root, inputs_of, value_of}
 use Rattle.nets.proofs.PlanLemmas.{shaped_plan}
 use Rattle.query_nets.specs.Counts.{count, most_rows, most_rows_by, rows_of, stream_rows, tick_rows, tick_rows_by}
-use Rattle.query_nets.specs.Rooms.{IsBounded, PlanHasRoom, RootHasRoom}
+use Rattle.query_nets.specs.Rooms.{HasShortInputs, IsBounded, PlanHasRoom, RootHasRoom}
 
 -- BOUNDS BY THOSE OF THE INPUTS
 
@@ -361,3 +361,11 @@ module _ (vs : List ℕ) (m : Machine) (q : Registered) (h : IsBounded vs m q) w
 
   pub root_has_room : RootHasRoom m q
   root_has_room cells = record { at_ticks = λ t. le_trans (few (below_root q.nodes - 1) t) (ticks (below_root q.nodes - 1)); always = most (below_root q.nodes - 1) }
+
+  short_at : (inputs : List (List Element)) → AllByRecursion (λ es. length es ≤ stream_rows) inputs → (s : ℕ) → length (get_or inputs s []) ≤ stream_rows
+  short_at [] h s = omega arith
+  short_at (es ∷ inputs) h zero = h.0
+  short_at (es ∷ inputs) h (suc s) = short_at inputs h.1 s
+
+  pub has_short_inputs : HasShortInputs m q
+  has_short_inputs = short_at (inputs_of m q) (few_inputs m.streams q.first q.places h.short)

@@ -5,3 +5,4 @@ pub mod Steps
 pub mod Rooms
 pub mod Roots
 pub mod Machines
+pub mod Examples

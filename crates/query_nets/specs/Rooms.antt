@@ -5,7 +5,7 @@ use Rattle.plan.specs.Nodes.{Window}
 use Rattle.reference.specs.Machine.{Machine, Registered}
 use Rattle.nets.specs.Nets.{Cell, input_of, left_of, right_of}
 use Rattle.nets.specs.Operators.{net_of}
-use Rattle.nets.specs.Plans.{IsPlanOf, below_root, value_of}
+use Rattle.nets.specs.Plans.{IsPlanOf, below_root, value_of, world_of}
 use Rattle.query_nets.specs.Counts.{HasRoom, most_rows, stream_rows}
 use Rattle.query_nets.specs.Roots.{HasRootRoom}
 
@@ -24,3 +24,7 @@ PlanHasRoom m q =
 -- AND ITS ROOT has
 abbrev pub RootHasRoom : Machine → Registered → Type 0
 RootHasRoom m q = (cells : ℕ → Cell) → HasRootRoom (most_rows q.nodes (below_root q.nodes - 1)) (input_of (value_of m q) cells (below_root q.nodes - 1))
+
+-- AND WHAT COUNTS OF ITS SOURCES is within the bound
+abbrev pub HasShortInputs : Machine → Registered → Type 0
+HasShortInputs m q = (s : ℕ) → length ((world_of m q).inputs s) ≤ stream_rows

@@ -1,7 +1,7 @@
 //! What holds of the operators of every running query: functions that do nothing, each with one law.
 ghost use Rattle.std.specs.Prelude.{ℕ, List};
 ghost use Rattle.reference.specs.Machine.{Machine, Registered};
-ghost use Rattle.query_nets.specs.Rooms.{IsBounded, PlanHasRoom, RootHasRoom};
+ghost use Rattle.query_nets.specs.Rooms.{HasShortInputs, IsBounded, PlanHasRoom, RootHasRoom};
 ghost use Rattle.query_nets.specs.Roots.{RootMay, RootStep};
 ghost use Rattle.query_nets.specs.Machines.{IsMachine, MachinesStand, QueriesStand};
 
@@ -10,6 +10,7 @@ ghost use Rattle.query_nets.specs.Machines.{IsMachine, MachinesStand, QueriesSta
 pub fn plans_have_room()
     ensures inner { (vs : List ℕ) (m : Machine) (q : Registered) → IsBounded vs m q → PlanHasRoom m q }
     ensures root { (vs : List ℕ) (m : Machine) (q : Registered) → IsBounded vs m q → RootHasRoom m q }
+    ensures sources { (vs : List ℕ) (m : Machine) (q : Registered) → IsBounded vs m q → HasShortInputs m q }
 {}
 
 /// The root of a query may take the item at its front, and after a turn with it stands for its next state, behind whose answers so

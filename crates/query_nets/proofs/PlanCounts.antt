@@ -99,7 +99,8 @@ module _ (by : (ℕ → ℕ) → plan.Node → ℕ) where
       let j : n + suc i ≡ suc n + i = omega arith in
       rw j (rows-at local (done ++ y ∷ []) xs (suc n) i d (pushed done y n e) r.1 (omega (arith, l)))
 
-  pub rows-is : IsLocal by → (xs : List plan.Node) (k : ℕ) (d : plan.Node) → Rises 0 xs → k < length xs → get_or (rows_of by [] xs) k 0 ≡ by (λ i. get_or (rows_of by [] xs) i 0) (get_or xs k d)
+  pub rows-is : IsLocal by → (xs : List plan.Node) (k : ℕ) (d : plan.Node) → Rises 0 xs → k < length xs
+      → get_or (rows_of by [] xs) k 0 ≡ by (λ i. get_or (rows_of by [] xs) i 0) (get_or xs k d)
   rows-is local xs k d r l = let e : 0 + k ≡ k = omega arith in ap (λ i. get_or (rows_of by [] xs) i 0) (sym e) ∙ rows-at local [] xs 0 k d refl r l
 
   -- BOUNDS OF ALL
@@ -132,7 +133,8 @@ module _ (by : (ℕ → ℕ) → plan.Node → ℕ) where
 
   sources-under : Lower → (done : List ℕ) (n s : ℕ) (each : List (List Condition)) → Under (2 ^ 30) done → Under (2 ^ 30) (rows_of by done (source_nodes n s each))
   sources-under l done n s [] u = u
-  sources-under l done n s ([] ∷ each) u = sources-under l (done ++ by (λ i. get_or done i 0) (WindowNode s) ∷ []) (suc n) (suc s) each (under-one (2 ^ 30) done (WindowNode s) (keeps_window l s) u)
+  sources-under l done n s ([] ∷ each) u =
+      sources-under l (done ++ by (λ i. get_or done i 0) (WindowNode s) ∷ []) (suc n) (suc s) each (under-one (2 ^ 30) done (WindowNode s) (keeps_window l s) u)
   sources-under l done n s ((c ∷ cs) ∷ each) u =
       let more : List ℕ = done ++ by (λ i. get_or done i 0) (WindowNode s) ∷ [] in
       sources-under l (more ++ by (λ i. get_or more i 0) (Select n (c ∷ cs)) ∷ []) (suc (suc n)) (suc s) each
@@ -148,7 +150,8 @@ module _ (by : (ℕ → ℕ) → plan.Node → ℕ) where
       (le_trans (l.joins f i j ks) (product_under (f i) (f j) (under-at (2 ^ 30) done u i) (under-at (2 ^ 30) done u j)))
 
   -- there is one join at most
-  joins-under : Lower → (done : List ℕ) (n : ℕ) (ts : List ℕ) (keys : List (List Key)) → length keys ≤ 1 → Under (2 ^ 30) done → Under (2 ^ 60) (rows_of by done (joins_of n ts keys))
+  joins-under : Lower → (done : List ℕ) (n : ℕ) (ts : List ℕ) (keys : List (List Key)) → length keys ≤ 1 → Under (2 ^ 30) done
+      → Under (2 ^ 60) (rows_of by done (joins_of n ts keys))
   joins-under l done n [] keys h u = under-more (2 ^ 30) (2 ^ 60) done (omega arith) u
   joins-under l done n (t ∷ []) keys h u = under-more (2 ^ 30) (2 ^ 60) done (omega arith) u
   joins-under l done n (t ∷ z ∷ ts) [] h u = under-more (2 ^ 30) (2 ^ 60) done (omega arith) u
@@ -164,7 +167,8 @@ module _ (by : (ℕ → ℕ) → plan.Node → ℕ) where
   shape-keeps b e f top (Listed columns) = e.lists top (map f columns)
   shape-keeps b e f top (Grouped columns items) = e.groups top _ _
 
-  ends-under : (b : ℕ) → Upper b → (done : List ℕ) (is_distinct : Bool) (shape : plan.Node) (op : Operator) (k : ℕ) → Keeps b shape → Under b done → Under b (rows_of by done (end_nodes is_distinct shape op k))
+  ends-under : (b : ℕ) → Upper b → (done : List ℕ) (is_distinct : Bool) (shape : plan.Node) (op : Operator) (k : ℕ) → Keeps b shape → Under b done
+      → Under b (rows_of by done (end_nodes is_distinct shape op k))
   ends-under b e done true shape op k h u =
       let more : List ℕ = done ++ by (λ i. get_or done i 0) shape ∷ [] in
       let yet : List ℕ = more ++ by (λ i. get_or more i 0) (Distinct k) ∷ [] in
@@ -173,7 +177,9 @@ module _ (by : (ℕ → ℕ) → plan.Node → ℕ) where
       let more : List ℕ = done ++ by (λ i. get_or done i 0) shape ∷ [] in
       under-one b more (ToStream k op) (e.roots k op) (under-one b done shape h u)
 
-  nodes-under : (b : ℕ) → 2 ^ 60 ≤ b → Lower → Upper b → (own : List (List Condition)) (keys : List (List Key)) (rest : List Condition) (is_distinct : Bool) (f : Column → Column) (shape : Shape) (op : Operator) → length keys ≤ 1
+  nodes-under : (b : ℕ) → 2 ^ 60 ≤ b → Lower → Upper b
+      → (own : List (List Condition)) (keys : List (List Key)) (rest : List Condition) (is_distinct : Bool) (f : Column → Column) (shape : Shape) (op : Operator)
+      → length keys ≤ 1
       → Under b (rows_of by [] (nodes_over own keys rest is_distinct (λ top. shape_node f top shape) op))
   nodes-under b big l e own keys rest is_distinct f shape op few =
       let sources : List plan.Node = source_nodes 0 0 own in
@@ -212,20 +218,21 @@ few_keys vs q few =
     let long : length (map (map (key_placed vs)) (join_keys_of n cs)) ≡ n - 1 = length-map (join_keys_of n cs) _ ∙ length-map-range_with_len (join_keys cs) 1 (n - 1) in
     omega (arith, long, few)
 
-pub plan_ticks : (vs : List ℕ) (q : Resolved) → length q.windows ≤ 2 → (i : ℕ) → tick_rows (plan_of vs q) i ≤ 2 ^ 60
-plan_ticks vs q few i =
+plan_under : (by : (ℕ → ℕ) → plan.Node → ℕ) (b : ℕ) → 2 ^ 60 ≤ b → Lower by → Upper by b → (vs : List ℕ) (q : Resolved) → length q.windows ≤ 2 → (i : ℕ)
+    → get_or (rows_of by [] (plan_of vs q)) i 0 ≤ b
+plan_under by b big l u vs q few i =
     let n : ℕ = length q.windows in
     let cs : List Condition = all_conjuncts q.condition in
-    under-at (2 ^ 60) (rows_of tick_rows_by [] (plan_of vs q))
-    (nodes-under tick_rows_by (2 ^ 60) (omega arith) ticks_lower ticks_upper (all_alone (own_of n cs)) (map (map (key_placed vs)) (join_keys_of n cs)) (map (moved (placed vs)) (remaining n cs)) q.is_distinct (placed vs) q.shape q.operator (few_keys vs q few)) i
+    let own : List (List Condition) = all_alone (own_of n cs) in
+    let keys : List (List Key) = map (map (key_placed vs)) (join_keys_of n cs) in
+    let rest : List Condition = map (moved (placed vs)) (remaining n cs) in
+    under-at b (rows_of by [] (plan_of vs q)) (nodes-under by b big l u own keys rest q.is_distinct (placed vs) q.shape q.operator (few_keys vs q few)) i
+
+pub plan_ticks : (vs : List ℕ) (q : Resolved) → length q.windows ≤ 2 → (i : ℕ) → tick_rows (plan_of vs q) i ≤ 2 ^ 60
+plan_ticks = plan_under tick_rows_by (2 ^ 60) (omega arith) ticks_lower ticks_upper
 
 pub plan_most : (vs : List ℕ) (q : Resolved) → length q.windows ≤ 2 → (i : ℕ) → most_rows (plan_of vs q) i ≤ 2 ^ 61
-plan_most vs q few i =
-    let n : ℕ = length q.windows in
-    let cs : List Condition = all_conjuncts q.condition in
-    let ns : List plan.Node = plan_of vs q in
-    under-at (2 ^ 61) (rows_of (most_rows_by ns) [] ns)
-    (nodes-under (most_rows_by ns) (2 ^ 61) (omega arith) (most_lower ns) (most_upper ns (plan_ticks vs q few)) (all_alone (own_of n cs)) (map (map (key_placed vs)) (join_keys_of n cs)) (map (moved (placed vs)) (remaining n cs)) q.is_distinct (placed vs) q.shape q.operator (few_keys vs q few)) i
+plan_most vs q few = plan_under (most_rows_by (plan_of vs q)) (2 ^ 61) (omega arith) (most_lower (plan_of vs q)) (most_upper (plan_of vs q) (plan_ticks vs q few)) vs q few
 
 -- VALUES
 
@@ -241,7 +248,9 @@ few_either false n xs ys h k = k
 -- a filter leaves out, and never adds
 few_kept : {X : Type 0} (p : X → Bool) (xs : List X) → length (filter p xs) ≤ length xs
 few_kept p [] = omega arith
-few_kept p (x ∷ xs) = let h : length (filter p xs) ≤ length xs = few_kept p xs in few_either (p x) (suc (length xs)) (x ∷ filter p xs) (filter p xs) (omega (arith, h)) (omega (arith, h))
+few_kept p (x ∷ xs) =
+    let h : length (filter p xs) ≤ length xs = few_kept p xs in
+    few_either (p x) (suc (length xs)) (x ∷ filter p xs) (filter p xs) (omega (arith, h)) (omega (arith, h))
 
 few_distinct : (rows : List Row) → length (distinct row_cmp rows) ≤ length rows
 few_distinct [] = omega arith
@@ -314,20 +323,26 @@ module _ (ws : List (List Row)) (short : (s : ℕ) → length (get_or ws s []) �
       all_few (done ++ v ∷ []) (ns ++ n ∷ []) (bounds-push done ns v n b (few_at done ns b x)) xs
 
   values_few : (nodes : List plan.Node) (k : ℕ) → count (get_or (values_of ws [] nodes) k []) ≤ tick_rows nodes k
-  values_few nodes k = omega (arith, count_is (get_or (values_of ws [] nodes) k []), bounds-at (values_of ws [] nodes) (rows_of tick_rows_by [] nodes) (all_few [] [] tt nodes) k)
+  values_few nodes k =
+      omega (arith, count_is (get_or (values_of ws [] nodes) k []), bounds-at (values_of ws [] nodes) (rows_of tick_rows_by [] nodes) (all_few [] [] tt nodes) k)
 
 -- A REGISTERED QUERY: its windows show no more rows than their streams have
 
-few_of_stream : (place first : ℕ) (ss : List Stream) (i : ℕ) → AllByRecursion (λ s. length s.elements ≤ stream_rows) ss → length (option_map_or (λ s. input_of place first s.elements) (slice_get ss i) []) ≤ stream_rows
+abbrev AreShort : List Stream → Type 0
+AreShort ss = AllByRecursion (λ s. length s.elements ≤ stream_rows) ss
+
+few_of_stream : (place first : ℕ) (ss : List Stream) (i : ℕ) → AreShort ss
+    → length (option_map_or (λ s. input_of place first s.elements) (slice_get ss i) []) ≤ stream_rows
 few_of_stream place first [] i h = omega arith
 few_of_stream place first (s ∷ ss) zero h = le_trans (few_kept _ s.elements) h.0
 few_of_stream place first (s ∷ ss) (suc i) h = few_of_stream place first ss i h.1
 
-few_inputs : (ss : List Stream) (first : ℕ) (places : List Place) → AllByRecursion (λ s. length s.elements ≤ stream_rows) ss → AllByRecursion (λ es. length es ≤ stream_rows) (map (input_at ss first) places)
+few_inputs : (ss : List Stream) (first : ℕ) (places : List Place) → AreShort ss → AllByRecursion (λ es. length es ≤ stream_rows) (map (input_at ss first) places)
 few_inputs ss first [] h = tt
 few_inputs ss first (p ∷ places) h = (few_of_stream p.arrivals first ss p.stream h, few_inputs ss first places h)
 
-few_shown : (first t : ℕ) (ws : List Window) (inputs : List (List Element)) → AllByRecursion (λ es. length es ≤ stream_rows) inputs → (s : ℕ) → length (get_or (shown_at first ws t inputs) s []) ≤ stream_rows
+few_shown : (first t : ℕ) (ws : List Window) (inputs : List (List Element)) → AllByRecursion (λ es. length es ≤ stream_rows) inputs → (s : ℕ)
+    → length (get_or (shown_at first ws t inputs) s []) ≤ stream_rows
 few_shown first t [] inputs h s = omega arith
 few_shown first t (w ∷ ws) [] h s = omega arith
 few_shown first t (w ∷ ws) (es ∷ inputs) h zero = omega (arith, length-map (filter (shows first w t es) es) (λ (e : Element). e.row), few_kept (shows first w t es) es, h.0)

@@ -1,5 +1,5 @@
 -- The root of a running query takes the item at its front.
-use Rattle.std.proofs.Common.{◌≡◌, ℕ, zero, suc, ◌+◌, ◌<◌, ◌≤◌, ◌^◌, Bool, true, false, cond, nat_le, List, [], ◌∷◌, ◌++◌, map, length, inl, inr, refl, sym, ap, ap₂, ◌∙◌, subst, arith, append-nil}
+use Rattle.std.proofs.Common.{◌≡◌, ℕ, zero, suc, ◌<◌, ◌≤◌, ◌^◌, Bool, true, false, cond, nat_le, List, [], ◌∷◌, ◌++◌, length, inl, inr, refl, sym, ap, ap₂, ◌∙◌, subst, arith, append-nil}
 use Rattle.std.proofs.lemmas.List.{length-map}
 use Rattle.values.specs.Row.{Row}
 use Rattle.values.specs.declared.resolved.Operator.{Operator}
@@ -10,7 +10,7 @@ use Rattle.op_queue.specs.Entries.{Entry, RowAt, TickAt}
 use Rattle.op_queue.specs.Items.{entries_of}
 use Rattle.op_queue.specs.Logs.{Closed}
 use Rattle.op_queue.specs.Paths.{Leads}
-use Rattle.op_queue.specs.Signed.{weigh, Adds, Legal}
+use Rattle.op_queue.specs.Signed.{weigh, Legal}
 use Rattle.op_queue.specs.declared.item.Item.{Item}
 use Rattle.op_queue.specs.declared.item.Item.TheVariants.{Rows, Tick}
 use Rattle.op_queue.proofs.PathLemmas.{Leads-front_legal, Leads-take_rows, Leads-take_tick}
@@ -20,18 +20,16 @@ use Rattle.to_stream.specs.Law.{StandsAs}
 use Rattle.to_stream.proofs.StepLemmas.{Keeps, has_room, step_law}
 use Rattle.turn.specs.Turns.{Outs, Put, Answered, change_at, outs_at}
 use Rattle.turn.specs.declared.outcomes.Change.{Change}
-use Rattle.turn.specs.declared.kinds.Kind.TheVariants as kind
 use Rattle.operators.specs.Operators.{PlainOperator, HasNamedColumns, IsFinished, waiting}
-use Rattle.operators.specs.States.{HasColumns, IsNext, Takes, is_left, near_of, usable}
-use Rattle.operators.specs.declared.states.State.TheVariants as state
+use Rattle.operators.specs.States.{HasColumns, IsNext, Takes, near_of, usable}
 use Rattle.nets.specs.Nets.{Input, batch}
 use Rattle.nets.specs.Queries.{GoodRoot, before}
 use Rattle.nets.proofs.FrontLemmas.{front_instant}
 use Rattle.nets.proofs.RootLemmas.{After, after, root_takes_rows, root_takes_tick}
 use Rattle.query_nets.specs.Runs.{IsSpare, RunsRoot}
 use Rattle.query_nets.specs.Counts.{StaysWithin, count}
-use Rattle.query_nets.specs.Steps.{IsFirst, MayTake, outs_at_first}
-use Rattle.query_nets.specs.Roots.{HasRootRoom, RootMade, RootMay, RootStands, RootStep}
+use Rattle.query_nets.specs.Steps.{IsFirst, outs_at_first}
+use Rattle.query_nets.specs.Roots.{RootMay, RootStands, RootStep}
 use Rattle.query_nets.proofs.CountLemmas.{stays_after, stays_now}
 use Rattle.query_nets.proofs.ItemLemmas.{left_side, rest_waits}
 use Rattle.query_nets.proofs.PlanCounts.{count_is}
@@ -111,7 +109,8 @@ abbrev answers_in : Outs → List (ℕ × Row)
 answers_in (Put es) = []
 answers_in (Answered rows) = rows
 
-answers_are : (o : PlainOperator) (log : Closed) (s : State) (q : List (Entry Row)) (side : Side) (i : Item) (answers : List (ℕ × Row)) → RunsRoot o log s q → outs_at_first o side i ≡ Answered answers → out i (near s i) ≡ answers
+answers_are : (o : PlainOperator) (log : Closed) (s : State) (q : List (Entry Row)) (side : Side) (i : Item) (answers : List (ℕ × Row)) → RunsRoot o log s q
+    → outs_at_first o side i ≡ Answered answers → out i (near s i) ≡ answers
 answers_are o log s q side i answers r e = ap answers_in (sym (ap₂ (λ k z. outs_at k side i (near_of z side i)) r.kind r.state) ∙ e)
 
 -- THE BAG that the root has taken: as many rows as the queue says
@@ -124,7 +123,8 @@ record Good (first start : ℕ) (earlier : List (ℕ × Row)) (d : Input) (most 
   pub good : GoodRoot first start earlier d.values s q d.bag d.opens given
   pub few : StaysWithin most (count good.whole) q
 
-takes_item : (first start : ℕ) (earlier : List (ℕ × Row)) (d : Input) (most : ℕ) (s : State) (i : Item) (rest : List (Entry Row)) (given : List (ℕ × Row)) → 0 < length (entries_of i)
+takes_item : (first start : ℕ) (earlier : List (ℕ × Row)) (d : Input) (most : ℕ) (s : State) (i : Item) (rest : List (Entry Row)) (given : List (ℕ × Row))
+    → 0 < length (entries_of i)
     → Good first start earlier d most s (entries_of i ++ rest) given → Good first start earlier d most (next s i) rest (given ++ out i (near s i))
 takes_item first start earlier d most s (Rows t b) rest given some h =
     let g : GoodRoot first start earlier d.values s (batch t b ++ rest) d.bag d.opens given = h.good in

@@ -18,3 +18,6 @@ pub mod GroupLemmas
 pub mod GroupSteps
 pub mod PairLemmas
 pub mod JoinSteps
+pub mod PlanCounts
+pub mod RootSteps
+pub mod MachineCounts

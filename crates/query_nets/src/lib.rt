@@ -3,4 +3,8 @@
 
 mod laws;
 
-pub use laws::{distincts_take_their_turns, groups_take_their_turns, joins_take_their_turns};
+pub use laws::{
+    distincts_take_their_turns, groups_take_their_turns, joins_take_their_turns, machines_stand,
+    plans_have_room, projects_take_their_turns, roots_take_their_turns, selects_take_their_turns,
+    their_queries_stand, windows_take_their_turns,
+};

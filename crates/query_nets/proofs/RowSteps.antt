@@ -2,19 +2,15 @@
 use Rattle.std.proofs.Common.{◌≡◌, ℕ, ◌+◌, ◌<◌, ◌≤◌, Bool, true, None, List, [], ◌∷◌, ◌++◌, filter, get_or, length, map, refl, sym, ap, ◌∙◌, subst, subst₂, arith}
 use Rattle.std.specs.List.{All}
 use Rattle.std.proofs.lemmas.List.{length-map}
-use Rattle.std.proofs.lemmas.List.Elements.{All-cons, All-filter, All-head, All-map, All-nil, All-tail}
+use Rattle.std.proofs.lemmas.List.Elements.{All-filter, All-map}
 use Rattle.values.specs.Row.{Row, value_at}
 use Rattle.values.specs.Value.{IsAnswerValue}
 use Rattle.values.specs.Condition.{Column, Condition}
 use Rattle.values.specs.Relation.{Listed}
-use Rattle.column.specs.Rows.{width}
-use Rattle.column.specs.declared.batch.Side.{Side}
-use Rattle.column.specs.declared.batch.Side.TheVariants.{Left, Right}
 use Rattle.lane_kernels.specs.Steps.{StepsFit}
 use Rattle.lane_kernels.specs.declared.condition.Step.{Step}
 use Rattle.op_queue.specs.Entries.{Entry, TickAt}
 use Rattle.op_queue.specs.Items.{entries_of}
-use Rattle.op_queue.specs.Logs.{Closed}
 use Rattle.op_queue.specs.Signed.{weigh, Legal, Same}
 use Rattle.op_queue.specs.declared.item.Item.{Item}
 use Rattle.op_queue.specs.declared.item.Item.TheVariants.{Rows, Tick}
@@ -22,25 +18,22 @@ use Rattle.op_queue.proofs.PathLemmas.{Leads-front_legal}
 use Rattle.row_nodes.specs.Select.{FitItem, is_kept, selected}
 use Rattle.row_nodes.specs.Project.{AreColumns, columns_in, projected, projected_row}
 use Rattle.row_nodes.proofs.RowLemmas.{filter_by}
-use Rattle.turn.specs.Turns.{Outs, Put, change_at, outs_at}
-use Rattle.turn.specs.declared.kinds.Kind.{Kind}
-use Rattle.turn.specs.declared.kinds.Kind.TheVariants as kind
-use Rattle.operators.specs.Operators.{PlainOperator, HasNamedColumns, IsFinished, waiting}
+use Rattle.turn.specs.Turns.{Put, change_at, outs_at}
+use Rattle.operators.specs.Operators.{HasNamedColumns}
 use Rattle.operators.specs.States.{HasColumns, IsNext, Takes, is_left, near_of, usable}
-use Rattle.operators.specs.declared.states.State.{State}
 use Rattle.operators.specs.declared.states.State.TheVariants as state
 use Rattle.plan.specs.Nodes as plan
 use Rattle.plan.specs.Nodes.{holds_all, shaped_rows}
 use Rattle.plan.specs.Views.{columns_at}
-use Rattle.nets.specs.Nets.{Unary, World, Cell, Input, at_window, at_unary, at_join, GoodOne, Turn, batch, unary}
+use Rattle.nets.specs.Nets.{Unary, World, at_window, at_unary, at_join, GoodOne, Turn, batch, unary}
 use Rattle.nets.specs.Operators.{Tell, listing, selecting}
 use Rattle.nets.proofs.UnaryTurns.{UnaryMade, NoState, project_rows_made, project_tick_made, select_rows_made, select_tick_made}
 use Rattle.query_nets.specs.Runs.{RunsProject, RunsSelect}
-use Rattle.query_nets.specs.Widths.{IsRow, AreRows, AreEntries, IsKindWide, IsOneWide, IsSideWide, width_at}
-use Rattle.query_nets.specs.Counts.{HasRoom, StaysWithin, count, most_rows}
-use Rattle.query_nets.specs.Steps.{IsFirst, MayTake, MayLaw, Stands, StepLaw, StepMade, outs_at_first}
+use Rattle.query_nets.specs.Widths.{IsRow, AreEntries, IsKindWide, IsOneWide, IsSideWide, width_at}
+use Rattle.query_nets.specs.Counts.{StaysWithin, count, most_rows}
+use Rattle.query_nets.specs.Steps.{MayLaw, StepLaw}
 use Rattle.query_nets.proofs.FirstLemmas.{AreSigned, batch_entries, batch_some, batch_wide, batch_width, first_left, left_after}
-use Rattle.query_nets.proofs.TakenLemmas.{TakenKept, failing, legal_leaves, one_kept, passing, weigh_parts, weigh_passing, within_filter, within_map, within_now}
+use Rattle.query_nets.proofs.TakenLemmas.{TakenKept, failing, legal_leaves, one_kept, passing, weigh_parts, weigh_passing, within_filter, within_map}
 
 -- a turn of an operator with one input, at whatever item
 pub record OneMade (w : World) (f : Unary) (x : ℕ) (q : List (Entry Row)) (i o : List Row) (n : ℕ) (outs rest : List (Entry Row)) : Type 0 where

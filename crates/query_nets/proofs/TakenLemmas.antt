@@ -1,5 +1,5 @@
 -- What an operator with one input has taken after a turn, and how many rows it takes and puts out on the way.
-use Rattle.std.proofs.Common.{◌≡◌, ℕ, zero, suc, ◌+◌, ◌-◌, ◌<◌, ◌≤◌, ◌⊎◌, inl, inr, ⊎_elim, Bool, true, false, cond, List, [], ◌∷◌, ◌++◌, filter, get_or, length, map, take, refl, sym, ap, ◌∙◌, subst, arith}
+use Rattle.std.proofs.Common.{◌≡◌, ℕ, zero, suc, ◌+◌, ◌-◌, ◌<◌, ◌≤◌, ◌⊎◌, inl, inr, ⊎_elim, Bool, true, false, cond, List, [], ◌∷◌, ◌++◌, filter, get_or, length, map, take, refl, sym, ap, subst, arith}
 use Rattle.std.specs.Cmp.{Equal-is}
 use Rattle.std.specs.List.{All}
 use Rattle.std.proofs.lemmas.List.Elements.{All-head, All-tail}
@@ -9,12 +9,12 @@ use Rattle.values.proofs.Bags.{same_itself}
 use Rattle.values.proofs.Order.{row_order}
 use Rattle.op_queue.specs.Entries.{Entry, RowAt, TickAt}
 use Rattle.op_queue.specs.Paths.{Leads}
-use Rattle.op_queue.specs.Signed.{weigh, gain, loss, up, down, Adds, Legal}
+use Rattle.op_queue.specs.Signed.{weigh, up, down, Adds, Legal}
 use Rattle.op_queue.proofs.PathLemmas.{Leads-front_legal}
 use Rattle.nets.specs.Nets.{World, Node, Cell, at_window, at_unary, at_join, batch, Turn, window_rows_turn, window_tick_turn, rows_turn, tick_turn, left_rows, right_rows, left_first, right_first, left_last, right_last}
-use Rattle.query_nets.specs.Widths.{IsRow, AreRows, IsSideWide}
+use Rattle.query_nets.specs.Widths.{IsRow, IsSideWide}
 use Rattle.query_nets.specs.Counts.{StaysWithin, count}
-use Rattle.query_nets.proofs.FirstLemmas.{AreSigned, batch_wide, behind_wide}
+use Rattle.query_nets.proofs.FirstLemmas.{batch_wide, behind_wide}
 
 -- ROWS OF A BAG AND OF WHAT COMES
 

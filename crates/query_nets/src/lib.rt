@@ -3,4 +3,4 @@
 
 mod laws;
 
-pub use laws::{projects_take_their_turns, selects_take_their_turns};
+pub use laws::{projects_take_their_turns, selects_take_their_turns, windows_take_their_turns};

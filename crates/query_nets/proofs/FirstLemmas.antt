@@ -19,7 +19,8 @@ use Rattle.query_nets.specs.Widths.{IsRow, AreEntries}
 use Rattle.query_nets.specs.Steps.{IsFirst}
 
 -- after a turn what stood behind the item waits on its side
-pub rest_after : (o o2 : PlainOperator) (log : Closed) (side : Side) (i : Item) (c : Change) (f : IsFirst o log side i) → IsFinished o log side i c o2 → waiting o2 log side ≡ f.rest
+pub rest_after : (o o2 : PlainOperator) (log : Closed) (side : Side) (i : Item) (c : Change) (f : IsFirst o log side i)
+    → IsFinished o log side i c o2 → waiting o2 log side ≡ f.rest
 rest_after o o2 log side i c f d = d.dropped.entries ∙ ap (drop (length (entries_of i))) f.is ∙ drop-append_seam (entries_of i) f.rest
 
 -- the signed rows have so many columns and values of the answer range
@@ -52,10 +53,12 @@ batch_entries w t [] h = tt
 batch_entries w t (x ∷ xs) h = (All-head (λ s. IsRow w s.1) x xs h, batch_entries w t xs (All-tail (λ s. IsRow w s.1) x xs h))
 
 -- AN OPERATOR WITH ONE INPUT has it on the left
-pub first_left : (o : PlainOperator) (log : Closed) (q : List (Entry Row)) (side : Side) (i : Item) → is_left side ≡ true → q ≡ waiting o log Left → (f : IsFirst o log side i) → q ≡ entries_of i ++ f.rest
+pub first_left : (o : PlainOperator) (log : Closed) (q : List (Entry Row)) (side : Side) (i : Item) → is_left side ≡ true → q ≡ waiting o log Left
+    → (f : IsFirst o log side i) → q ≡ entries_of i ++ f.rest
 first_left o log q Left i e h f = h ∙ f.is
 first_left o log q Right i e h f = absurd (true≢false (sym e))
 
-pub left_after : (o o2 : PlainOperator) (log : Closed) (side : Side) (i : Item) (c : Change) → is_left side ≡ true → (f : IsFirst o log side i) → IsFinished o log side i c o2 → f.rest ≡ waiting o2 log Left
+pub left_after : (o o2 : PlainOperator) (log : Closed) (side : Side) (i : Item) (c : Change) → is_left side ≡ true → (f : IsFirst o log side i)
+    → IsFinished o log side i c o2 → f.rest ≡ waiting o2 log Left
 left_after o o2 log Left i c e f d = sym (rest_after o o2 log Left i c f d)
 left_after o o2 log Right i c e f d = absurd (true≢false (sym e))

@@ -23,7 +23,8 @@ use Rattle.query_nets.proofs.FirstLemmas.{batch_entries, batch_some, batch_wide,
 use Rattle.query_nets.proofs.TakenLemmas.{within_entering}
 
 -- THE ITEM at the front of a window
-pub item_now : (i : Item) (n c : ℕ) (rest : List (Entry Row)) (waiting : List Element) → 0 < length (entries_of i) → Brings n (entries_of i ++ rest) waiting c → item_instant i ≡ n
+pub item_now : (i : Item) (n c : ℕ) (rest : List (Entry Row)) (waiting : List Element) → 0 < length (entries_of i)
+    → Brings n (entries_of i ++ rest) waiting c → item_instant i ≡ n
 item_now (Rows t b) n c rest waiting some h = brought_instant n t c b rest waiting (batch_some t b some) h
 item_now (Tick t) n c rest waiting some h = h.0
 
@@ -31,7 +32,8 @@ pub item_wide : (w : ℕ) (i : Item) (rest : List (Entry Row)) → 0 < length (e
 item_wide w (Rows t b) rest some h = batch_width w t b rest (batch_some t b some) h
 item_wide w (Tick t) rest some h = tt
 
-pub brought_few : (n t c : ℕ) (b : List (Bool × Row)) (q : List (Entry Row)) (waiting : List Element) → Brings n (batch t b ++ q) waiting c → length b ≤ length waiting
+pub brought_few : (n t c : ℕ) (b : List (Bool × Row)) (q : List (Entry Row)) (waiting : List Element) → Brings n (batch t b ++ q) waiting c
+    → length b ≤ length waiting
 brought_few n t c [] q waiting h = omega arith
 brought_few n t c (s ∷ b) q [] h = absurd h
 brought_few n t c (s ∷ b) q (e ∷ waiting) h = omega (arith, brought_few n t c b q waiting h.3)
@@ -43,7 +45,9 @@ rows_all P (e ∷ es) h = All-cons (λ (x : Element). P x.row) e es (All-head P 
 
 pub coming_all : (P : Row → Type 0) (es : List Element) → All (λ s. P s.1) (coming es) → All (λ e. P e.row) es
 coming_all P [] h = All-nil (λ (e : Element). P e.row)
-coming_all P (e ∷ es) h = All-cons (λ (x : Element). P x.row) e es (All-head (λ s. P s.1) (true, e.row) (coming es) h) (coming_all P es (All-tail (λ s. P s.1) (true, e.row) (coming es) h))
+coming_all P (e ∷ es) h =
+    All-cons (λ (x : Element). P x.row) e es (All-head (λ s. P s.1) (true, e.row) (coming es) h)
+    (coming_all P es (All-tail (λ s. P s.1) (true, e.row) (coming es) h))
 
 pub count_elements : (es : List Element) → count (rows_in_order es) ≡ length es
 unfolding weigh
@@ -65,7 +69,9 @@ pub record HeldKept (w : ℕ) (h e : List Element) (q : List (Entry Row)) (h2 e2
   pub wide : IsSideWide w (rows_in_order h) q → IsSideWide w (rows_in_order h2) q2
 
 part_rows : (w : ℕ) (h h2 : List Element) → IsPart h2 h → All (λ e. IsRow w e.row) h → AreRows w (rows_in_order h2)
-part_rows w h h2 part rows = subst (λ l. AreRows w (rows_in_order l)) (sym part.is) (All-map (IsRow w) (λ (e : Element). e.row) (filter part.test h) (All-filter part.test (λ (e : Element). IsRow w e.row) h rows))
+part_rows w h h2 part rows =
+    subst (λ l. AreRows w (rows_in_order l)) (sym part.is) (All-map (IsRow w) (λ (e : Element). e.row) (filter part.test h)
+    (All-filter part.test (λ (e : Element). IsRow w e.row) h rows))
 
 part_few : (h h2 : List Element) → IsPart h2 h → length h2 ≤ length h
 part_few h h2 part = subst (λ l. length l ≤ length h) (sym part.is) (filter_few part.test h)
@@ -81,7 +87,8 @@ pub window_kept : (w : World) (node : Node) (c c2 : Cell) (outs : List (Entry Ro
 window_kept w node c c2 outs (window_rows_turn k n es ys h h2 e o o2 q law part) = λ wide. record {
   few = omega (arith, part_few (h ++ es) h2 part, length-append h es, length-append es e);
   wide = λ s. record {
-    taken = part_rows wide (h ++ es) h2 part (All-append (λ (x : Element). IsRow wide x.row) h es (rows_all (IsRow wide) h s.taken) (coming_all (IsRow wide) es (batch_wide wide n (coming es) q s.queue)));
+    taken = part_rows wide (h ++ es) h2 part (All-append (λ (x : Element). IsRow wide x.row) h es (rows_all (IsRow wide) h s.taken)
+        (coming_all (IsRow wide) es (batch_wide wide n (coming es) q s.queue)));
     queue = behind_wide wide n (coming es) q s.queue;
   };
 }
@@ -120,7 +127,8 @@ up_interleaved ((false, r) ∷ xs) (None ∷ fallen) = omega (arith, up_interlea
 up_interleaved ((false, r) ∷ xs) (Some y ∷ fallen) = omega (arith, up_interleaved xs fallen)
 
 within_batch : (most t n k : ℕ) (xs : List (Bool × Row)) → up (λ r. 1) xs ≤ k → n + k ≤ most → StaysWithin most n (batch t xs)
-within_batch most t n k xs le h = subst (StaysWithin most n) (append-nil (batch t xs)) (within_entering most t n xs [] (omega (arith, le, h)) (λ m l. omega (arith, l, le, h)))
+within_batch most t n k xs le h =
+    subst (StaysWithin most n) (append-nil (batch t xs)) (within_entering most t n xs [] (omega (arith, le, h)) (λ m l. omega (arith, l, le, h)))
 
 -- RANGE
 
@@ -131,21 +139,27 @@ plain_up_to n (e ∷ es) h = All-cons (λ (x : ℕ × Row). x.0 ≤ n) (e.instan
 pub range_up_to : (n : ℕ) (held : List (ℕ × Row)) (h : List Element) → RangeStands n held h → range.IsAfter n held
 range_up_to n held h s = subst (range.IsAfter n) (sym s.same) (plain_up_to n h s.up_to)
 
-pub range_wide : (s : range.RangeState) (w n : ℕ) (h : List Element) (i : Item) (rest : List (Entry Row)) → RangeStands n s.held h → IsSideWide w (rows_in_order h) (entries_of i ++ rest) → AreEntries w (range.out i (range.near s i))
+pub range_wide : (s : range.RangeState) (w n : ℕ) (h : List Element) (i : Item) (rest : List (Entry Row)) → RangeStands n s.held h
+    → IsSideWide w (rows_in_order h) (entries_of i ++ rest) → AreEntries w (range.out i (range.near s i))
 range_wide s w n h (Rows t b) rest st side = batch_entries w t b (batch_wide w t b rest side.queue)
 range_wide s w n h (Tick t) rest st side =
     let held : All (λ (x : ℕ × Row). IsRow w x.1) s.held =
-    subst (All (λ (x : ℕ × Row). IsRow w x.1)) (sym st.same) (All-map (λ (x : ℕ × Row). IsRow w x.1) (λ (e : Element). (e.instant, e.row)) h (rows_all (IsRow w) h side.taken)) in
+    subst (All (λ (x : ℕ × Row). IsRow w x.1)) (sym st.same) (All-map (λ (x : ℕ × Row). IsRow w x.1) (λ (e : Element). (e.instant, e.row)) h
+    (rows_all (IsRow w) h side.taken)) in
     let past : List (ℕ × Row) = filter (range.is_past s.span t) s.held in
     let rows : List Row = map (λ (x : ℕ × Row). x.1) past in
-    let leave : AreRows w rows = All-map (IsRow w) (λ (x : ℕ × Row). x.1) past (All-filter (range.is_past s.span t) (λ (x : ℕ × Row). IsRow w x.1) s.held held) in
+    let leave : AreRows w rows =
+    All-map (IsRow w) (λ (x : ℕ × Row). x.1) past (All-filter (range.is_past s.span t) (λ (x : ℕ × Row). IsRow w x.1) s.held held) in
     wide_batch w t (map range.leaving rows) (TickAt t ∷ []) (All-map (λ (x : Bool × Row). IsRow w x.1) range.leaving rows leave) tt
 
-pub range_few : (s : range.RangeState) (most n m c : ℕ) (waiting : List Element) (i : Item) (rest : List (Entry Row)) → Brings m (entries_of i ++ rest) waiting c → n + length waiting ≤ most → StaysWithin most n (range.out i (range.near s i))
-range_few s most n m c waiting (Rows t b) rest brings h = within_batch most t n (length b) b (up_most b) (omega (arith, h, brought_few m t c b rest waiting brings))
+pub range_few : (s : range.RangeState) (most n m c : ℕ) (waiting : List Element) (i : Item) (rest : List (Entry Row))
+    → Brings m (entries_of i ++ rest) waiting c → n + length waiting ≤ most → StaysWithin most n (range.out i (range.near s i))
+range_few s most n m c waiting (Rows t b) rest brings h =
+    within_batch most t n (length b) b (up_most b) (omega (arith, h, brought_few m t c b rest waiting brings))
 range_few s most n m c waiting (Tick t) rest brings h =
     let rows : List Row = range.near s (Tick t) in
-    within_entering most t n (map range.leaving rows) (TickAt t ∷ []) (omega (arith, h, up_leaving rows)) (λ j l. (omega (arith, h, l, up_leaving rows), omega (arith, h, l, up_leaving rows)))
+    within_entering most t n (map range.leaving rows) (TickAt t ∷ []) (omega (arith, h, up_leaving rows))
+    (λ j l. (omega (arith, h, l, up_leaving rows), omega (arith, h, l, up_leaving rows)))
 
 -- THE LAST ROWS OF PARTITIONS
 
@@ -161,10 +175,12 @@ module _ (P : Row → Type 0) (columns : List ℕ) (n : ℕ) where
   fallen_all rows h = here (nat_lt n (length rows)) refl
     where
       here : (b : Bool) → nat_lt n (length rows) ≡ b → All (λ s. P s.1) (latest.minus_of (cond b (Some (get_or rows 0 [])) None))
-      here true e = All-cons (λ (s : Bool × Row). P s.1) (false, get_or rows 0 []) [] (h 0 [] (omega (arith, ltb-true _ _ e))) (All-nil (λ (s : Bool × Row). P s.1))
+      here true e =
+          All-cons (λ (s : Bool × Row). P s.1) (false, get_or rows 0 []) [] (h 0 [] (omega (arith, ltb-true _ _ e))) (All-nil (λ (s : Bool × Row). P s.1))
       here false e = All-nil (λ (s : Bool × Row). P s.1)
 
-  interleaved_all : (held : Row → List Row) (xs : List (Bool × Row)) → ((k : Row) → All P (held k)) → All (λ s. P s.1) xs → All (λ s. P s.1) (latest.interleaved xs (latest.all_fallen columns n held xs))
+  interleaved_all : (held : Row → List Row) (xs : List (Bool × Row)) → ((k : Row) → All P (held k)) → All (λ s. P s.1) xs
+      → All (λ s. P s.1) (latest.interleaved xs (latest.all_fallen columns n held xs))
   interleaved_all held [] h k = All-nil (λ (s : Bool × Row). P s.1)
   interleaved_all held (x ∷ xs) h k =
       let Q : Bool × Row → Type 0 = λ s. P s.1 in
@@ -172,17 +188,23 @@ module _ (P : Row → Type 0) (columns : List ℕ) (n : ℕ) where
       let rows : List Row = held (latest.key_in columns x.1) ++ x.1 ∷ [] in
       let later : List (Bool × Row) = latest.interleaved xs (latest.all_fallen columns n (latest.held_after columns n held x.1) xs) in
       All-cons Q x (latest.minus_of (latest.fallen_of n rows) ++ later) one
-      (All-append Q (latest.minus_of (latest.fallen_of n rows)) later (fallen_all rows (All-append P (held (latest.key_in columns x.1)) (x.1 ∷ []) (h (latest.key_in columns x.1)) (All-cons P x.1 [] one (All-nil P))))
+      (All-append Q (latest.minus_of (latest.fallen_of n rows)) later
+      (fallen_all rows (All-append P (held (latest.key_in columns x.1)) (x.1 ∷ []) (h (latest.key_in columns x.1)) (All-cons P x.1 [] one (All-nil P))))
       (interleaved_all (latest.held_after columns n held x.1) xs (λ j. after_all held x.1 j (h j) one) (All-tail Q x xs k)))
 
-pub latest_wide : (s : latest.LatestState) (first w n : ℕ) (h : List Element) (i : Item) (rest : List (Entry Row)) → LatestStands first s.columns s.count n (latest.held_in s.entries) h → IsSideWide w (rows_in_order h) (entries_of i ++ rest)
+pub latest_wide : (s : latest.LatestState) (first w n : ℕ) (h : List Element) (i : Item) (rest : List (Entry Row))
+    → LatestStands first s.columns s.count n (latest.held_in s.entries) h → IsSideWide w (rows_in_order h) (entries_of i ++ rest)
     → AreEntries w (latest.out i (latest.near s i))
 latest_wide s first w n h (Rows t b) rest st side =
-    let parts : (k : Row) → AreRows w (latest.held_in s.entries k) = λ k. subst (AreRows w) (sym (st.parts k)) (All-map (IsRow w) (λ (e : Element). e.row) (filter (is_of s.columns k) h) (All-filter (is_of s.columns k) (λ (e : Element). IsRow w e.row) h (rows_all (IsRow w) h side.taken))) in
-    batch_entries w t (latest.interleaved b (latest.all_fallen s.columns s.count (latest.held_in s.entries) b)) (interleaved_all (IsRow w) s.columns s.count (latest.held_in s.entries) b parts (batch_wide w t b rest side.queue))
+    let parts : (k : Row) → AreRows w (latest.held_in s.entries k) =
+    λ k. subst (AreRows w) (sym (st.parts k)) (All-map (IsRow w) (λ (e : Element). e.row) (filter (is_of s.columns k) h)
+    (All-filter (is_of s.columns k) (λ (e : Element). IsRow w e.row) h (rows_all (IsRow w) h side.taken))) in
+    batch_entries w t (latest.interleaved b (latest.all_fallen s.columns s.count (latest.held_in s.entries) b))
+    (interleaved_all (IsRow w) s.columns s.count (latest.held_in s.entries) b parts (batch_wide w t b rest side.queue))
 latest_wide s first w n h (Tick t) rest st side = tt
 
-pub latest_few : (s : latest.LatestState) (most n m c : ℕ) (waiting : List Element) (i : Item) (rest : List (Entry Row)) → Brings m (entries_of i ++ rest) waiting c → n + length waiting ≤ most → StaysWithin most n (latest.out i (latest.near s i))
+pub latest_few : (s : latest.LatestState) (most n m c : ℕ) (waiting : List Element) (i : Item) (rest : List (Entry Row))
+    → Brings m (entries_of i ++ rest) waiting c → n + length waiting ≤ most → StaysWithin most n (latest.out i (latest.near s i))
 latest_few s most n m c waiting (Rows t b) rest brings h =
     let fallen : List (Option Row) = latest.all_fallen s.columns s.count (latest.held_in s.entries) b in
     within_batch most t n (length b) (latest.interleaved b fallen) (up_interleaved b fallen) (omega (arith, h, brought_few m t c b rest waiting brings))

@@ -44,7 +44,8 @@ pub record OneMade (w : World) (f : Unary) (x : ℕ) (q : List (Entry Row)) (i o
 
 -- SELECT
 
-select_fits : (steps : List Step) (w : ℕ) (i : Item) (rest : List (Entry Row)) → 0 < length (entries_of i) → AreEntries w (entries_of i ++ rest) → StepsFit w 0 steps → FitItem steps i
+select_fits : (steps : List Step) (w : ℕ) (i : Item) (rest : List (Entry Row)) → 0 < length (entries_of i) → AreEntries w (entries_of i ++ rest)
+    → StepsFit w 0 steps → FitItem steps i
 select_fits steps w (Rows t b) rest some h k = subst (λ n. StepsFit n 0 steps) (sym (batch_width w t b rest (batch_some t b some) h)) k
 select_fits steps w (Tick t) rest some h k = tt
 
@@ -59,21 +60,27 @@ select_may x cs w ws ns k o log (at_unary q t b n) d z side i s f =
     let fit : StepsFit (width_at ws x) 0 r.steps × (width_at ws k ≡ width_at ws x) = subst (IsKindWide (width_at ws x) (width_at ws k)) r.kind wide.kind in
     record {
       columns = subst (λ a. HasColumns a side i) (sym r.state) tt;
-      named = subst (λ a. HasNamedColumns a i) (sym r.kind) (select_fits r.steps (width_at ws x) i f.rest f.some (subst (AreEntries (width_at ws x)) queue wide.side.queue) fit.0);
+      named = subst (λ a. HasNamedColumns a i) (sym r.kind) (select_fits r.steps (width_at ws x) i f.rest f.some
+          (subst (AreEntries (width_at ws x)) queue wide.side.queue) fit.0);
       takes = subst (λ a. Takes a side i (change_at o.kind i (near_of o.state side i))) (sym r.state) tt;
     }
 
 module _ (w : World) (cs : List Condition) (steps : List Step) (tell : Tell steps cs) (x : ℕ) (v : ℕ → List Row) (below : List Row) (m : ℕ) where
-  select_made : (i : Item) (n : ℕ) (rest : List (Entry Row)) (t b : List Row) → 0 < length (entries_of i) → GoodOne (selecting cs) v (entries_of i ++ rest) t b n below m
+  select_made : (i : Item) (n : ℕ) (rest : List (Entry Row)) (t b : List Row) → 0 < length (entries_of i)
+      → GoodOne (selecting cs) v (entries_of i ++ rest) t b n below m
       → OneMade w (selecting cs) x (entries_of i ++ rest) t b n (selected steps i) rest
   select_made (Rows u xs) n rest t b some g =
-      let a : UnaryMade w (selecting cs) x (at_unary (batch u xs ++ rest) t b n) (selected steps (Rows u xs)) rest n NoState = select_rows_made w cs steps tell x v below m u n xs rest t b (batch_some u xs some) g in
+      let a : UnaryMade w (selecting cs) x (at_unary (batch u xs ++ rest) t b n) (selected steps (Rows u xs)) rest n NoState =
+      select_rows_made w cs steps tell x v below m u n xs rest t b (batch_some u xs some) g in
       record { taken = a.taken; shown = a.shown; opens = n; turn = a.turn }
   select_made (Tick u) n rest t b some g =
-      let a : UnaryMade w (selecting cs) x (at_unary (TickAt u ∷ rest) t b n) (selected steps (Tick u)) rest (n + 1) NoState = select_tick_made w cs steps tell x v below m u n rest t b g in
+      let a : UnaryMade w (selecting cs) x (at_unary (TickAt u ∷ rest) t b n) (selected steps (Tick u)) rest (n + 1) NoState =
+      select_tick_made w cs steps tell x v below m u n rest t b g in
       record { taken = a.taken; shown = a.shown; opens = n + 1; turn = a.turn }
 
-  select_few : (most : ℕ) (i : Item) (n : ℕ) (rest : List (Entry Row)) (t b : List Row) → GoodOne (selecting cs) v (entries_of i ++ rest) t b n below m → StaysWithin most (count t) (entries_of i ++ rest) → StaysWithin most (count b) (selected steps i)
+  select_few : (most : ℕ) (i : Item) (n : ℕ) (rest : List (Entry Row)) (t b : List Row)
+      → GoodOne (selecting cs) v (entries_of i ++ rest) t b n below m → StaysWithin most (count t) (entries_of i ++ rest)
+      → StaysWithin most (count b) (selected steps i)
   select_few most (Rows u xs) n rest t b g h =
       let p : Row → Bool = λ r. holds_all cs (r ∷ []) in
       let legal : Legal t xs = Leads-front_legal u xs rest g.edge in
@@ -81,7 +88,8 @@ module _ (w : World) (cs : List Condition) (steps : List Step) (tell : Tell step
       let few : count b ≡ weigh (passing p) t = same.weighs (λ r. 1) ∙ weigh_passing p t in
       let e : filter (λ s. p s.1) xs ≡ filter (is_kept steps) xs = filter_by (λ s. p s.1) (is_kept steps) (λ s. sym (tell.tells s.1)) xs in
       subst₂ (λ c ys. StaysWithin most c (batch u ys)) (sym few) e
-      (within_filter p most u (weigh (passing p) t) (weigh (failing p) t) xs rest (legal_leaves (passing p) t xs legal) (legal_leaves (failing p) t xs legal) (subst (λ c. StaysWithin most c (batch u xs ++ rest)) (weigh_parts p t) h))
+      (within_filter p most u (weigh (passing p) t) (weigh (failing p) t) (count t) xs rest (sym (weigh_parts p t))
+      (legal_leaves (passing p) t xs legal) (legal_leaves (failing p) t xs legal) h)
   select_few most (Tick u) n rest t b g h =
       let p : Row → Bool = λ r. holds_all cs (r ∷ []) in
       let same : Same b (filter p t) = g.shows refl in
@@ -103,26 +111,32 @@ select_steps x cs w ws ns k o o2 log (at_unary q t b n) d z side i outs s f put 
     let fit : StepsFit (width_at ws x) 0 r.steps × (width_at ws k ≡ width_at ws x) = subst (IsKindWide (width_at ws x) (width_at ws k)) r.kind wide.kind in
     let placed : IsSideWide (width_at ws x) t (entries_of i ++ f.rest) = subst (IsSideWide (width_at ws x) t) queue wide.side in
     let few : StaysWithin (most_rows ns x) (count t) (entries_of i ++ f.rest) = subst (StaysWithin (most_rows ns x) (count t)) queue s.few in
-    let good : GoodOne (selecting cs) d.values (entries_of i ++ f.rest) t b n d.bag d.opens = subst (λ l. GoodOne (selecting cs) d.values l t b n d.bag d.opens) queue s.good in
+    let good : GoodOne (selecting cs) d.values (entries_of i ++ f.rest) t b n d.bag d.opens =
+    subst (λ l. GoodOne (selecting cs) d.values l t b n d.bag d.opens) queue s.good in
     let is : Put (selected r.steps i) ≡ Put outs = subst₂ (λ a c. outs_at a side i (near_of c side i) ≡ Put outs) r.kind r.state put in
     let same : selected r.steps i ≡ outs = cc in
     let next : o2.state ≡ state.Nothing = subst (λ a. IsNext a side i (change_at o.kind i (near_of o.state side i)) o2.state) r.state g.state in
-    let made : OneMade w (selecting cs) x (entries_of i ++ f.rest) t b n (selected r.steps i) f.rest = select_made w cs r.steps r.tell x d.values d.bag d.opens i n f.rest t b f.some good in
+    let made : OneMade w (selecting cs) x (entries_of i ++ f.rest) t b n (selected r.steps i) f.rest =
+    select_made w cs r.steps r.tell x d.values d.bag d.opens i n f.rest t b f.some good in
     let kept : TakenKept (width_at ws x) (most_rows ns x) t (entries_of i ++ f.rest) made.taken f.rest =
-    one_kept w (unary (selecting cs) x) (at_unary (entries_of i ++ f.rest) t b n) (at_unary f.rest made.taken made.shown made.opens) (selected r.steps i) made.turn d.values d.bag d.opens good.edge (width_at ws x) (most_rows ns x) in
+    one_kept w (unary (selecting cs) x) (at_unary (entries_of i ++ f.rest) t b n) (at_unary f.rest made.taken made.shown made.opens)
+    (selected r.steps i) made.turn d.values d.bag d.opens good.edge (width_at ws x) (most_rows ns x) in
     record {
       cell = at_unary f.rest made.taken made.shown made.opens;
-      turn = subst₂ (λ l ys. Turn w (unary (selecting cs) x) (at_unary l t b n) ys (at_unary f.rest made.taken made.shown made.opens)) (sym queue) same made.turn;
+      turn = subst₂ (λ l ys. Turn w (unary (selecting cs) x) (at_unary l t b n) ys (at_unary f.rest made.taken made.shown made.opens))
+          (sym queue) same made.turn;
       runs = record { steps = r.steps; kind = g.kind ∙ r.kind; state = next; tell = r.tell; queue = left_after o o2 log side i _ used f g };
       wide = record { kind = subst (IsKindWide (width_at ws x) (width_at ws k)) (sym g.kind) wide.kind; narrow = wide.narrow; side = kept.wide placed };
       few = kept.few few;
       outs_wide = subst₂ AreEntries (sym fit.1) same (select_wide r.steps (width_at ws x) i f.rest placed.queue);
-      outs_few = subst₂ (λ most ys. StaysWithin most (count b) ys) (sym s.room.most) same (select_few w cs r.steps r.tell x d.values d.bag d.opens (most_rows ns x) i n f.rest t b good few);
+      outs_few = subst₂ (λ most ys. StaysWithin most (count b) ys) (sym s.room.most) same
+          (select_few w cs r.steps r.tell x d.values d.bag d.opens (most_rows ns x) i n f.rest t b good few);
     }
 
 -- PROJECT
 
-project_fits : (places : List ℕ) (w : ℕ) (i : Item) (rest : List (Entry Row)) → 0 < length (entries_of i) → AreEntries w (entries_of i ++ rest) → All (λ k. k < w) places → AreColumns places i
+project_fits : (places : List ℕ) (w : ℕ) (i : Item) (rest : List (Entry Row)) → 0 < length (entries_of i) → AreEntries w (entries_of i ++ rest)
+    → All (λ k. k < w) places → AreColumns places i
 project_fits places w (Rows t b) rest some h k = subst (λ n. All (λ j. j < n) places) (sym (batch_width w t b rest (batch_some t b some) h)) k
 project_fits places w (Tick t) rest some h k = tt
 
@@ -137,7 +151,8 @@ project_may x columns w ws ns k o log (at_unary q t b n) d z side i s f =
     let fit : All (λ j. j < width_at ws x) r.places × (width_at ws k ≡ length r.places) = subst (IsKindWide (width_at ws x) (width_at ws k)) r.kind wide.kind in
     record {
       columns = subst (λ a. HasColumns a side i) (sym r.state) tt;
-      named = subst (λ a. HasNamedColumns a i) (sym r.kind) (project_fits r.places (width_at ws x) i f.rest f.some (subst (AreEntries (width_at ws x)) queue wide.side.queue) fit.0);
+      named = subst (λ a. HasNamedColumns a i) (sym r.kind) (project_fits r.places (width_at ws x) i f.rest f.some
+          (subst (AreEntries (width_at ws x)) queue wide.side.queue) fit.0);
       takes = subst (λ a. Takes a side i (change_at o.kind i (near_of o.state side i))) (sym r.state) tt;
     }
 
@@ -148,16 +163,20 @@ listed_count columns [] = refl
 listed_count columns (r ∷ rows) = ap (λ n. 1 + n) (listed_count columns rows)
 
 module _ (w : World) (places : List ℕ) (x : ℕ) (v : ℕ → List Row) (below : List Row) (m : ℕ) where
-  project_made : (i : Item) (n : ℕ) (rest : List (Entry Row)) (t b : List Row) → 0 < length (entries_of i) → GoodOne (listing (Listed (columns_at places))) v (entries_of i ++ rest) t b n below m
+  project_made : (i : Item) (n : ℕ) (rest : List (Entry Row)) (t b : List Row) → 0 < length (entries_of i)
+      → GoodOne (listing (Listed (columns_at places))) v (entries_of i ++ rest) t b n below m
       → OneMade w (listing (Listed (columns_at places))) x (entries_of i ++ rest) t b n (projected places i) rest
   project_made (Rows u xs) n rest t b some g =
-      let a : UnaryMade w (listing (Listed (columns_at places))) x (at_unary (batch u xs ++ rest) t b n) (projected places (Rows u xs)) rest n NoState = project_rows_made w places x v below m u n xs rest t b (batch_some u xs some) g in
+      let a : UnaryMade w (listing (Listed (columns_at places))) x (at_unary (batch u xs ++ rest) t b n)
+      (projected places (Rows u xs)) rest n NoState = project_rows_made w places x v below m u n xs rest t b (batch_some u xs some) g in
       record { taken = a.taken; shown = a.shown; opens = n; turn = a.turn }
   project_made (Tick u) n rest t b some g =
-      let a : UnaryMade w (listing (Listed (columns_at places))) x (at_unary (TickAt u ∷ rest) t b n) (projected places (Tick u)) rest (n + 1) NoState = project_tick_made w places x v below m u n rest t b g in
+      let a : UnaryMade w (listing (Listed (columns_at places))) x (at_unary (TickAt u ∷ rest) t b n) (projected places (Tick u)) rest
+      (n + 1) NoState = project_tick_made w places x v below m u n rest t b g in
       record { taken = a.taken; shown = a.shown; opens = n + 1; turn = a.turn }
 
-  project_few : (most : ℕ) (i : Item) (n : ℕ) (rest : List (Entry Row)) (t b : List Row) → GoodOne (listing (Listed (columns_at places))) v (entries_of i ++ rest) t b n below m → StaysWithin most (count t) (entries_of i ++ rest)
+  project_few : (most : ℕ) (i : Item) (n : ℕ) (rest : List (Entry Row)) (t b : List Row)
+      → GoodOne (listing (Listed (columns_at places))) v (entries_of i ++ rest) t b n below m → StaysWithin most (count t) (entries_of i ++ rest)
       → StaysWithin most (count b) (projected places i)
   project_few most (Rows u xs) n rest t b g h =
       let same : Same b (shaped_rows (Listed (columns_at places)) t) = g.shows refl in
@@ -175,10 +194,12 @@ listed_row places w r within h = record {
   values = All-map IsAnswerValue (value_at r) places (λ j d lt. h.values (get_or places j d) None (omega (arith, within j d lt, h.wide)));
 }
 
-project_wide : (places : List ℕ) (w : ℕ) (i : Item) (rest : List (Entry Row)) → All (λ k. k < w) places → AreEntries w (entries_of i ++ rest) → AreEntries (length places) (projected places i)
+project_wide : (places : List ℕ) (w : ℕ) (i : Item) (rest : List (Entry Row)) → All (λ k. k < w) places → AreEntries w (entries_of i ++ rest)
+    → AreEntries (length places) (projected places i)
 project_wide places w (Rows t b) rest within h =
     let rows : AreSigned w b = batch_wide w t b rest h in
-    batch_entries (length places) t (map (projected_row places) b) (All-map (λ s. IsRow (length places) s.1) (projected_row places) b (λ j d lt. listed_row places w (get_or b j d).1 within (rows j d lt)))
+    batch_entries (length places) t (map (projected_row places) b)
+    (All-map (λ s. IsRow (length places) s.1) (projected_row places) b (λ j d lt. listed_row places w (get_or b j d).1 within (rows j d lt)))
 project_wide places w (Tick t) rest within h = tt
 
 pub project_steps : (x : ℕ) (columns : List Column) → StepLaw (plan.Project x columns)
@@ -193,21 +214,26 @@ project_steps x columns w ws ns k o o2 log (at_unary q t b n) d z side i outs s 
     let placed : IsSideWide (width_at ws x) t (entries_of i ++ f.rest) = subst (IsSideWide (width_at ws x) t) queue wide.side in
     let few : StaysWithin (most_rows ns x) (count t) (entries_of i ++ f.rest) = subst (StaysWithin (most_rows ns x) (count t)) queue s.few in
     let listed : Unary = listing (Listed (columns_at r.places)) in
-    let good : GoodOne listed d.values (entries_of i ++ f.rest) t b n d.bag d.opens = subst₂ (λ cols l. GoodOne (listing (Listed cols)) d.values l t b n d.bag d.opens) r.listed queue s.good in
+    let good : GoodOne listed d.values (entries_of i ++ f.rest) t b n d.bag d.opens =
+    subst₂ (λ cols l. GoodOne (listing (Listed cols)) d.values l t b n d.bag d.opens) r.listed queue s.good in
     let is : Put (projected r.places i) ≡ Put outs = subst₂ (λ a c. outs_at a side i (near_of c side i) ≡ Put outs) r.kind r.state put in
     let same : projected r.places i ≡ outs = cc in
     let next : o2.state ≡ state.Nothing = subst (λ a. IsNext a side i (change_at o.kind i (near_of o.state side i)) o2.state) r.state g.state in
-    let made : OneMade w listed x (entries_of i ++ f.rest) t b n (projected r.places i) f.rest = project_made w r.places x d.values d.bag d.opens i n f.rest t b f.some good in
+    let made : OneMade w listed x (entries_of i ++ f.rest) t b n (projected r.places i) f.rest =
+    project_made w r.places x d.values d.bag d.opens i n f.rest t b f.some good in
     let kept : TakenKept (width_at ws x) (most_rows ns x) t (entries_of i ++ f.rest) made.taken f.rest =
-    one_kept w (unary listed x) (at_unary (entries_of i ++ f.rest) t b n) (at_unary f.rest made.taken made.shown made.opens) (projected r.places i) made.turn d.values d.bag d.opens good.edge (width_at ws x) (most_rows ns x) in
+    one_kept w (unary listed x) (at_unary (entries_of i ++ f.rest) t b n) (at_unary f.rest made.taken made.shown made.opens)
+    (projected r.places i) made.turn d.values d.bag d.opens good.edge (width_at ws x) (most_rows ns x) in
     let turn : Turn w (unary listed x) (at_unary q t b n) outs (at_unary f.rest made.taken made.shown made.opens) =
     subst₂ (λ l ys. Turn w (unary listed x) (at_unary l t b n) ys (at_unary f.rest made.taken made.shown made.opens)) (sym queue) same made.turn in
     record {
       cell = at_unary f.rest made.taken made.shown made.opens;
-      turn = subst (λ cols. Turn w (unary (listing (Listed cols)) x) (at_unary q t b n) outs (at_unary f.rest made.taken made.shown made.opens)) (sym r.listed) turn;
+      turn = subst (λ cols. Turn w (unary (listing (Listed cols)) x) (at_unary q t b n) outs (at_unary f.rest made.taken made.shown made.opens))
+          (sym r.listed) turn;
       runs = record { places = r.places; kind = g.kind ∙ r.kind; state = next; listed = r.listed; queue = left_after o o2 log side i _ used f g };
       wide = record { kind = subst (IsKindWide (width_at ws x) (width_at ws k)) (sym g.kind) wide.kind; narrow = wide.narrow; side = kept.wide placed };
       few = kept.few few;
       outs_wide = subst₂ AreEntries (sym fit.1) same (project_wide r.places (width_at ws x) i f.rest fit.0 placed.queue);
-      outs_few = subst₂ (λ most ys. StaysWithin most (count b) ys) (sym s.room.most) same (project_few w r.places x d.values d.bag d.opens (most_rows ns x) i n f.rest t b good few);
+      outs_few = subst₂ (λ most ys. StaysWithin most (count b) ys) (sym s.room.most) same
+          (project_few w r.places x d.values d.bag d.opens (most_rows ns x) i n f.rest t b good few);
     }

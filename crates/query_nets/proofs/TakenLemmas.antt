@@ -67,17 +67,17 @@ pub record MayLeave (w : Row → ℕ) (n : ℕ) (xs : List (Bool × Row)) : Type
 pub legal_leaves : (w : Row → ℕ) (b : List Row) (xs : List (Bool × Row)) → Legal b xs → MayLeave w (weigh w b) xs
 legal_leaves w b xs h = record { fits = h.fits w }
 
-entered : (w : Row → ℕ) (n : ℕ) (r : Row) (xs : List (Bool × Row)) → MayLeave w n ((true, r) ∷ xs) → MayLeave w (n + w r) xs
+entered : (w : Row → ℕ) (n m : ℕ) (r : Row) (xs : List (Bool × Row)) → n + w r ≡ m → MayLeave w n ((true, r) ∷ xs) → MayLeave w m xs
 unfolding weigh
-entered w n r xs h = record { fits = λ k. omega (arith, h.fits (suc k)) }
+entered w n m r xs e h = record { fits = λ k. omega (arith, e, h.fits (suc k)) }
 
 may_leave : (w : Row → ℕ) (n : ℕ) (r : Row) (xs : List (Bool × Row)) → MayLeave w n ((false, r) ∷ xs) → w r ≤ n
 unfolding weigh
 may_leave w n r xs h = omega (arith, h.fits 1)
 
-left : (w : Row → ℕ) (n : ℕ) (r : Row) (xs : List (Bool × Row)) → MayLeave w n ((false, r) ∷ xs) → MayLeave w (n - w r) xs
+left : (w : Row → ℕ) (n m : ℕ) (r : Row) (xs : List (Bool × Row)) → m + w r ≡ n → MayLeave w n ((false, r) ∷ xs) → MayLeave w m xs
 unfolding weigh
-left w n r xs h = record { fits = λ k. omega (arith, h.fits (suc k), may_leave w n r xs h) }
+left w n m r xs e h = record { fits = λ k. omega (arith, e, h.fits (suc k)) }
 
 pub within_now : (most n : ℕ) (q : List (Entry Row)) → StaysWithin most n q → n ≤ most
 within_now most n [] h = h
@@ -86,14 +86,18 @@ within_now most n (RowAt t (false, r) ∷ q) h = h.0
 within_now most n (TickAt t ∷ q) h = h.0
 
 -- behind a batch the bag has as many rows as the batch leaves
-pub within_behind : (most t n m : ℕ) (xs : List (Bool × Row)) (q : List (Entry Row)) → MayLeave (λ r. 1) n xs → n + up (λ r. 1) xs ≡ down (λ r. 1) xs + m → StaysWithin most n (batch t xs ++ q) → StaysWithin most m q
+pub within_behind : (most t n m : ℕ) (xs : List (Bool × Row)) (q : List (Entry Row)) → MayLeave (λ r. 1) n xs
+    → n + up (λ r. 1) xs ≡ down (λ r. 1) xs + m → StaysWithin most n (batch t xs ++ q) → StaysWithin most m q
 unfolding weigh
 within_behind most t n m [] q l e h = let same : n ≡ m = omega (arith, e) in subst (λ i. StaysWithin most i q) same h
-within_behind most t n m ((true, r) ∷ xs) q l e h = within_behind most t (n + 1) m xs q (entered (λ r. 1) n r xs l) (omega (arith, e)) h.1
-within_behind most t n m ((false, r) ∷ xs) q l e h = within_behind most t (n - 1) m xs q (left (λ r. 1) n r xs l) (omega (arith, e, may_leave (λ r. 1) n r xs l)) h.1
+within_behind most t n m ((true, r) ∷ xs) q l e h = within_behind most t (n + 1) m xs q (entered (λ r. 1) n (n + 1) r xs refl l) (omega (arith, e)) h.1
+within_behind most t n m ((false, r) ∷ xs) q l e h =
+    let some : 1 ≤ n = may_leave (λ r. 1) n r xs l in
+    within_behind most t (n - 1) m xs q (left (λ r. 1) n (n - 1) r xs (omega (arith, some)) l) (omega (arith, e, some)) h.1
 
 -- where all that enter are few enough
-pub within_entering : (most t n : ℕ) (xs : List (Bool × Row)) (q : List (Entry Row)) → n + up (λ r. 1) xs ≤ most → ((m : ℕ) → m ≤ n + up (λ r. 1) xs → StaysWithin most m q) → StaysWithin most n (batch t xs ++ q)
+pub within_entering : (most t n : ℕ) (xs : List (Bool × Row)) (q : List (Entry Row)) → n + up (λ r. 1) xs ≤ most
+    → ((m : ℕ) → m ≤ n + up (λ r. 1) xs → StaysWithin most m q) → StaysWithin most n (batch t xs ++ q)
 unfolding weigh
 within_entering most t n [] q h k = k n (omega arith)
 within_entering most t n ((true, r) ∷ xs) q h k = (omega (arith, h), within_entering most t (n + 1) xs q (omega (arith, h)) (λ m l. k m (omega (arith, l))))
@@ -106,31 +110,55 @@ passing p r = cond (p r) 1 0
 abbrev pub failing : (Row → Bool) → Row → ℕ
 failing p r = cond (p r) 0 1
 
-pub within_filter : (p : Row → Bool) (most t m u : ℕ) (xs : List (Bool × Row)) (q : List (Entry Row)) → MayLeave (passing p) m xs → MayLeave (failing p) u xs → StaysWithin most (m + u) (batch t xs ++ q)
-    → StaysWithin most m (batch t (filter (λ s. p s.1) xs))
-within_filter p most t m u [] q l k h = omega (arith, within_now most (m + u) q h)
-within_filter p most t m u ((true, r) ∷ xs) q l k h = here (p r) (entered (passing p) m r xs l) (entered (failing p) u r xs k) (λ j i. within_filter p most t j i xs q)
+pub within_filter : (p : Row → Bool) (most t m u n : ℕ) (xs : List (Bool × Row)) (q : List (Entry Row)) → m + u ≡ n → MayLeave (passing p) m xs
+    → MayLeave (failing p) u xs
+    → StaysWithin most n (batch t xs ++ q) → StaysWithin most m (batch t (filter (λ s. p s.1) xs))
+within_filter p most t m u n [] q same l k h = omega (arith, same, within_now most n q h)
+within_filter p most t m u n ((true, r) ∷ xs) q same l k h = here (p r) refl (λ j i. within_filter p most t j i (n + 1) xs q)
   where
-    here : (b : Bool) → MayLeave (passing p) (m + cond b 1 0) xs → MayLeave (failing p) (u + cond b 0 1) xs
-        → ((j i : ℕ) → MayLeave (passing p) j xs → MayLeave (failing p) i xs → StaysWithin most (j + i) (batch t xs ++ q) → StaysWithin most j (batch t (filter (λ s. p s.1) xs)))
+    here : (b : Bool) → p r ≡ b
+        → ((j i : ℕ) → j + i ≡ n + 1 → MayLeave (passing p) j xs → MayLeave (failing p) i xs → StaysWithin most (n + 1) (batch t xs ++ q)
+        → StaysWithin most j (batch t (filter (λ s. p s.1) xs)))
         → StaysWithin most m (batch t (cond b ((true, r) ∷ filter (λ s. p s.1) xs) (filter (λ s. p s.1) xs)))
-    here true i j more = (omega (arith, h.0), more (m + 1) u i (subst (λ n. MayLeave (failing p) n xs) (let e : u + 0 ≡ u = omega arith in e) j) (subst (λ n. StaysWithin most n (batch t xs ++ q)) (let e : (m + u) + 1 ≡ (m + 1) + u = omega arith in e) h.1))
-    here false i j more = more m (u + 1) (subst (λ n. MayLeave (passing p) n xs) (let e : m + 0 ≡ m = omega arith in e) i) j (subst (λ n. StaysWithin most n (batch t xs ++ q)) (let e : (m + u) + 1 ≡ m + (u + 1) = omega arith in e) h.1)
-within_filter p most t m u ((false, r) ∷ xs) q l k h =
-    here (p r) (may_leave (passing p) m r xs l) (may_leave (failing p) u r xs k) (left (passing p) m r xs l) (left (failing p) u r xs k) (λ j i. within_filter p most t j i xs q)
+    here true e more =
+        let one : passing p r ≡ 1 = ap (λ b. cond b 1 0) e in
+        let none : failing p r ≡ 0 = ap (λ b. cond b 0 1) e in (
+          omega (arith, same, h.0),
+          more (m + 1) u (omega (arith, same)) (entered (passing p) m (m + 1) r xs (omega (arith, one)) l)
+              (entered (failing p) u u r xs (omega (arith, none)) k) h.1,
+        )
+    here false e more =
+        let one : failing p r ≡ 1 = ap (λ b. cond b 0 1) e in
+        let none : passing p r ≡ 0 = ap (λ b. cond b 1 0) e in
+        more m (u + 1) (omega (arith, same)) (entered (passing p) m m r xs (omega (arith, none)) l)
+        (entered (failing p) u (u + 1) r xs (omega (arith, one)) k) h.1
+within_filter p most t m u n ((false, r) ∷ xs) q same l k h =
+    here (p r) refl (may_leave (passing p) m r xs l) (may_leave (failing p) u r xs k) (λ j i. within_filter p most t j i (n - 1) xs q)
   where
-    here : (b : Bool) → cond b 1 0 ≤ m → cond b 0 1 ≤ u → MayLeave (passing p) (m - cond b 1 0) xs → MayLeave (failing p) (u - cond b 0 1) xs
-        → ((j i : ℕ) → MayLeave (passing p) j xs → MayLeave (failing p) i xs → StaysWithin most (j + i) (batch t xs ++ q) → StaysWithin most j (batch t (filter (λ s. p s.1) xs)))
+    here : (b : Bool) → p r ≡ b → passing p r ≤ m → failing p r ≤ u
+        → ((j i : ℕ) → j + i ≡ n - 1 → MayLeave (passing p) j xs → MayLeave (failing p) i xs → StaysWithin most (n - 1) (batch t xs ++ q)
+        → StaysWithin most j (batch t (filter (λ s. p s.1) xs)))
         → StaysWithin most m (batch t (cond b ((false, r) ∷ filter (λ s. p s.1) xs) (filter (λ s. p s.1) xs)))
-    here true c d i j more = (omega (arith, h.0), more (m - 1) u i (subst (λ n. MayLeave (failing p) n xs) (let e : u - 0 ≡ u = omega arith in e) j) (subst (λ n. StaysWithin most n (batch t xs ++ q)) (let e : (m + u) - 1 ≡ (m - 1) + u = omega (arith, c) in e) h.1))
-    here false c d i j more = more m (u - 1) (subst (λ n. MayLeave (passing p) n xs) (let e : m - 0 ≡ m = omega arith in e) i) j (subst (λ n. StaysWithin most n (batch t xs ++ q)) (let e : (m + u) - 1 ≡ m + (u - 1) = omega (arith, d) in e) h.1)
+    here true e c d more =
+        let one : passing p r ≡ 1 = ap (λ b. cond b 1 0) e in
+        let none : failing p r ≡ 0 = ap (λ b. cond b 0 1) e in (
+          omega (arith, same, h.0),
+          more (m - 1) u (omega (arith, same, c, one)) (left (passing p) m (m - 1) r xs (omega (arith, c, one)) l)
+              (left (failing p) u u r xs (omega (arith, none)) k) h.1,
+        )
+    here false e c d more =
+        let one : failing p r ≡ 1 = ap (λ b. cond b 0 1) e in
+        let none : passing p r ≡ 0 = ap (λ b. cond b 1 0) e in
+        more m (u - 1) (omega (arith, same, d, one)) (left (passing p) m m r xs (omega (arith, none)) l)
+        (left (failing p) u (u - 1) r xs (omega (arith, d, one)) k) h.1
 
 pub weigh_passing : (p : Row → Bool) (xs : List Row) → weigh (λ r. 1) (filter p xs) ≡ weigh (passing p) xs
 unfolding weigh
 weigh_passing p [] = refl
 weigh_passing p (x ∷ xs) = here (p x) (weigh_passing p xs)
   where
-    here : (b : Bool) → weigh (λ r. 1) (filter p xs) ≡ weigh (passing p) xs → weigh (λ r. 1) (cond b (x ∷ filter p xs) (filter p xs)) ≡ cond b 1 0 + weigh (passing p) xs
+    here : (b : Bool) → weigh (λ r. 1) (filter p xs) ≡ weigh (passing p) xs
+        → weigh (λ r. 1) (cond b (x ∷ filter p xs) (filter p xs)) ≡ cond b 1 0 + weigh (passing p) xs
     here true h = ap (λ n. 1 + n) h
     here false h = omega (arith, h)
 
@@ -139,12 +167,14 @@ unfolding weigh
 weigh_parts p [] = refl
 weigh_parts p (x ∷ xs) = here (p x) (weigh_parts p xs)
   where
-    here : (b : Bool) → weigh (λ r. 1) xs ≡ weigh (passing p) xs + weigh (failing p) xs → 1 + weigh (λ r. 1) xs ≡ (cond b 1 0 + weigh (passing p) xs) + (cond b 0 1 + weigh (failing p) xs)
+    here : (b : Bool) → weigh (λ r. 1) xs ≡ weigh (passing p) xs + weigh (failing p) xs
+        → 1 + weigh (λ r. 1) xs ≡ (cond b 1 0 + weigh (passing p) xs) + (cond b 0 1 + weigh (failing p) xs)
     here true h = omega (arith, h)
     here false h = omega (arith, h)
 
 -- of each row another
-pub within_map : (f : Row → Row) (most t n : ℕ) (xs : List (Bool × Row)) (q : List (Entry Row)) → StaysWithin most n (batch t xs ++ q) → StaysWithin most n (batch t (map (λ s. (s.0, f s.1)) xs))
+pub within_map : (f : Row → Row) (most t n : ℕ) (xs : List (Bool × Row)) (q : List (Entry Row)) → StaysWithin most n (batch t xs ++ q)
+    → StaysWithin most n (batch t (map (λ s. (s.0, f s.1)) xs))
 within_map f most t n [] q h = within_now most n q h
 within_map f most t n ((true, r) ∷ xs) q h = (h.0, within_map f most t (n + 1) xs q h.1)
 within_map f most t n ((false, r) ∷ xs) q h = (h.0, within_map f most t (n - 1) xs q h.1)
@@ -155,7 +185,8 @@ pub record TakenKept (w most : ℕ) (i : List Row) (q : List (Entry Row)) (i2 : 
   pub wide : IsSideWide w i q → IsSideWide w i2 q2
   pub few : StaysWithin most (count i) q → StaysWithin most (count i2) q2
 
-pub rows_taken : (w most n : ℕ) (i i2 : List Row) (xs : List (Bool × Row)) (q : List (Entry Row)) → Legal i xs → Adds i xs i2 → TakenKept w most i (batch n xs ++ q) i2 q
+pub rows_taken : (w most n : ℕ) (i i2 : List Row) (xs : List (Bool × Row)) (q : List (Entry Row)) → Legal i xs → Adds i xs i2
+    → TakenKept w most i (batch n xs ++ q) i2 q
 rows_taken w most n i i2 xs q l a = record {
   wide = λ h. record { taken = All-adds (IsRow w) h.taken (batch_wide w n xs q h.queue) a; queue = behind_wide w n xs q h.queue };
   few = λ h. within_behind most n (count i) (count i2) xs q (legal_leaves (λ r. 1) i xs l) (a.weighs (λ r. 1)) h;
@@ -164,7 +195,8 @@ rows_taken w most n i i2 xs q l a = record {
 abbrev pub OneKept : Cell → Cell → Type 0
 OneKept (at_window h e b q n) d = Unit {0}
 OneKept (at_unary q i o n) (at_window h e b r m) = Unit {0}
-OneKept (at_unary q i o n) (at_unary q2 i2 o2 n2) = (v : ℕ → List Row) (below : List Row) (m : ℕ) → Leads v i n q below m → (w most : ℕ) → TakenKept w most i q i2 q2
+OneKept (at_unary q i o n) (at_unary q2 i2 o2 n2) =
+    (v : ℕ → List Row) (below : List Row) (m : ℕ) → Leads v i n q below m → (w most : ℕ) → TakenKept w most i q i2 q2
 OneKept (at_unary q i o n) (at_join r s l m p k a b) = Unit {0}
 OneKept (at_join q r l m o n a b) d = Unit {0}
 
@@ -174,7 +206,8 @@ one_kept w node c c2 outs (window_tick_turn k n ys h h2 e o o2 q law part) = tt
 one_kept w node c c2 outs (rows_turn f x n xs ys q i i2 o o2 law) = λ v below m edge wide most.
     let legal : Legal i xs = Leads-front_legal n xs q edge in
     rows_taken wide most n i i2 xs q legal (law.took legal)
-one_kept w node c c2 outs (tick_turn f x n ys q i o o2 law) = λ v below m edge wide most. record { wide = λ h. record { taken = h.taken; queue = h.queue }; few = λ h. h.1 }
+one_kept w node c c2 outs (tick_turn f x n ys q i o o2 law) =
+    λ v below m edge wide most. record { wide = λ h. record { taken = h.taken; queue = h.queue }; few = λ h. h.1 }
 one_kept w node c c2 outs (left_rows f x y n xs ys q r l l2 m o b law) = tt
 one_kept w node c c2 outs (right_rows f x y n xs ys q r l m m2 o a law) = tt
 one_kept w node c c2 outs (left_first f x y n q r l m o) = tt

@@ -25,7 +25,7 @@ use Rattle.operators.specs.declared.states.State.TheVariants as state
 use Rattle.plan.specs.Nodes as plan
 use Rattle.plan.specs.Nodes.{holds_all, shaped_rows}
 use Rattle.plan.specs.Views.{columns_at}
-use Rattle.nets.specs.Nets.{Unary, World, at_window, at_unary, at_join, GoodOne, Turn, batch, unary}
+use Rattle.nets.specs.Nets.{Unary, World, Cell, at_window, at_unary, at_join, GoodOne, Turn, batch, unary}
 use Rattle.nets.specs.Operators.{Tell, listing, selecting}
 use Rattle.nets.proofs.UnaryTurns.{UnaryMade, NoState, project_rows_made, project_tick_made, select_rows_made, select_tick_made}
 use Rattle.query_nets.specs.Runs.{RunsProject, RunsSelect}
@@ -41,6 +41,10 @@ pub record OneMade (w : World) (f : Unary) (x : ℕ) (q : List (Entry Row)) (i o
   pub shown : List Row
   pub opens : ℕ
   pub turn : Turn w (unary f x) (at_unary q i o n) outs (at_unary rest taken shown opens)
+
+one_made : (w : World) (f : Unary) (x : ℕ) (q : List (Entry Row)) (i o : List Row) (n m : ℕ) (outs rest : List (Entry Row))
+    → UnaryMade w f x (at_unary q i o n) outs rest m NoState → OneMade w f x q i o n outs rest
+one_made w f x q i o n m outs rest a = record { taken = a.taken; shown = a.shown; opens = m; turn = a.turn }
 
 -- SELECT
 
@@ -70,13 +74,10 @@ module _ (w : World) (cs : List Condition) (steps : List Step) (tell : Tell step
       → GoodOne (selecting cs) v (entries_of i ++ rest) t b n below m
       → OneMade w (selecting cs) x (entries_of i ++ rest) t b n (selected steps i) rest
   select_made (Rows u xs) n rest t b some g =
-      let a : UnaryMade w (selecting cs) x (at_unary (batch u xs ++ rest) t b n) (selected steps (Rows u xs)) rest n NoState =
-      select_rows_made w cs steps tell x v below m u n xs rest t b (batch_some u xs some) g in
-      record { taken = a.taken; shown = a.shown; opens = n; turn = a.turn }
+      one_made w (selecting cs) x (batch u xs ++ rest) t b n n (selected steps (Rows u xs)) rest
+      (select_rows_made w cs steps tell x v below m u n xs rest t b (batch_some u xs some) g)
   select_made (Tick u) n rest t b some g =
-      let a : UnaryMade w (selecting cs) x (at_unary (TickAt u ∷ rest) t b n) (selected steps (Tick u)) rest (n + 1) NoState =
-      select_tick_made w cs steps tell x v below m u n rest t b g in
-      record { taken = a.taken; shown = a.shown; opens = n + 1; turn = a.turn }
+      one_made w (selecting cs) x (TickAt u ∷ rest) t b n (n + 1) (selected steps (Tick u)) rest (select_tick_made w cs steps tell x v below m u n rest t b g)
 
   select_few : (most : ℕ) (i : Item) (n : ℕ) (rest : List (Entry Row)) (t b : List Row)
       → GoodOne (selecting cs) v (entries_of i ++ rest) t b n below m → StaysWithin most (count t) (entries_of i ++ rest)
@@ -118,13 +119,13 @@ select_steps x cs w ws ns k o o2 log (at_unary q t b n) d z side i outs s f put 
     let next : o2.state ≡ state.Nothing = subst (λ a. IsNext a side i (change_at o.kind i (near_of o.state side i)) o2.state) r.state g.state in
     let made : OneMade w (selecting cs) x (entries_of i ++ f.rest) t b n (selected r.steps i) f.rest =
     select_made w cs r.steps r.tell x d.values d.bag d.opens i n f.rest t b f.some good in
+    let cell : Cell = at_unary f.rest made.taken made.shown made.opens in
     let kept : TakenKept (width_at ws x) (most_rows ns x) t (entries_of i ++ f.rest) made.taken f.rest =
-    one_kept w (unary (selecting cs) x) (at_unary (entries_of i ++ f.rest) t b n) (at_unary f.rest made.taken made.shown made.opens)
-    (selected r.steps i) made.turn d.values d.bag d.opens good.edge (width_at ws x) (most_rows ns x) in
+    one_kept w (unary (selecting cs) x) (at_unary (entries_of i ++ f.rest) t b n) cell (selected r.steps i)
+    made.turn d.values d.bag d.opens good.edge (width_at ws x) (most_rows ns x) in
     record {
-      cell = at_unary f.rest made.taken made.shown made.opens;
-      turn = subst₂ (λ l ys. Turn w (unary (selecting cs) x) (at_unary l t b n) ys (at_unary f.rest made.taken made.shown made.opens))
-          (sym queue) same made.turn;
+      cell = cell;
+      turn = subst₂ (λ l ys. Turn w (unary (selecting cs) x) (at_unary l t b n) ys cell) (sym queue) same made.turn;
       runs = record { steps = r.steps; kind = g.kind ∙ r.kind; state = next; tell = r.tell; queue = left_after o o2 log side i _ used f g };
       wide = record { kind = subst (IsKindWide (width_at ws x) (width_at ws k)) (sym g.kind) wide.kind; narrow = wide.narrow; side = kept.wide placed };
       few = kept.few few;
@@ -162,22 +163,21 @@ unfolding weigh
 listed_count columns [] = refl
 listed_count columns (r ∷ rows) = ap (λ n. 1 + n) (listed_count columns rows)
 
+-- Project by the places of its columns
+abbrev pub listing_at : List ℕ → Unary
+listing_at places = listing (Listed (columns_at places))
+
 module _ (w : World) (places : List ℕ) (x : ℕ) (v : ℕ → List Row) (below : List Row) (m : ℕ) where
   project_made : (i : Item) (n : ℕ) (rest : List (Entry Row)) (t b : List Row) → 0 < length (entries_of i)
-      → GoodOne (listing (Listed (columns_at places))) v (entries_of i ++ rest) t b n below m
-      → OneMade w (listing (Listed (columns_at places))) x (entries_of i ++ rest) t b n (projected places i) rest
+      → GoodOne (listing_at places) v (entries_of i ++ rest) t b n below m → OneMade w (listing_at places) x (entries_of i ++ rest) t b n (projected places i) rest
   project_made (Rows u xs) n rest t b some g =
-      let a : UnaryMade w (listing (Listed (columns_at places))) x (at_unary (batch u xs ++ rest) t b n)
-      (projected places (Rows u xs)) rest n NoState = project_rows_made w places x v below m u n xs rest t b (batch_some u xs some) g in
-      record { taken = a.taken; shown = a.shown; opens = n; turn = a.turn }
+      one_made w (listing_at places) x (batch u xs ++ rest) t b n n (projected places (Rows u xs)) rest
+      (project_rows_made w places x v below m u n xs rest t b (batch_some u xs some) g)
   project_made (Tick u) n rest t b some g =
-      let a : UnaryMade w (listing (Listed (columns_at places))) x (at_unary (TickAt u ∷ rest) t b n) (projected places (Tick u)) rest
-      (n + 1) NoState = project_tick_made w places x v below m u n rest t b g in
-      record { taken = a.taken; shown = a.shown; opens = n + 1; turn = a.turn }
+      one_made w (listing_at places) x (TickAt u ∷ rest) t b n (n + 1) (projected places (Tick u)) rest (project_tick_made w places x v below m u n rest t b g)
 
-  project_few : (most : ℕ) (i : Item) (n : ℕ) (rest : List (Entry Row)) (t b : List Row)
-      → GoodOne (listing (Listed (columns_at places))) v (entries_of i ++ rest) t b n below m → StaysWithin most (count t) (entries_of i ++ rest)
-      → StaysWithin most (count b) (projected places i)
+  project_few : (most : ℕ) (i : Item) (n : ℕ) (rest : List (Entry Row)) (t b : List Row) → GoodOne (listing_at places) v (entries_of i ++ rest) t b n below m
+      → StaysWithin most (count t) (entries_of i ++ rest) → StaysWithin most (count b) (projected places i)
   project_few most (Rows u xs) n rest t b g h =
       let same : Same b (shaped_rows (Listed (columns_at places)) t) = g.shows refl in
       let few : count b ≡ count t = same.weighs (λ r. 1) ∙ listed_count (columns_at places) t in
@@ -213,23 +213,22 @@ project_steps x columns w ws ns k o o2 log (at_unary q t b n) d z side i outs s 
     let fit : All (λ j. j < width_at ws x) r.places × (width_at ws k ≡ length r.places) = subst (IsKindWide (width_at ws x) (width_at ws k)) r.kind wide.kind in
     let placed : IsSideWide (width_at ws x) t (entries_of i ++ f.rest) = subst (IsSideWide (width_at ws x) t) queue wide.side in
     let few : StaysWithin (most_rows ns x) (count t) (entries_of i ++ f.rest) = subst (StaysWithin (most_rows ns x) (count t)) queue s.few in
-    let listed : Unary = listing (Listed (columns_at r.places)) in
-    let good : GoodOne listed d.values (entries_of i ++ f.rest) t b n d.bag d.opens =
+    let good : GoodOne (listing_at r.places) d.values (entries_of i ++ f.rest) t b n d.bag d.opens =
     subst₂ (λ cols l. GoodOne (listing (Listed cols)) d.values l t b n d.bag d.opens) r.listed queue s.good in
     let is : Put (projected r.places i) ≡ Put outs = subst₂ (λ a c. outs_at a side i (near_of c side i) ≡ Put outs) r.kind r.state put in
     let same : projected r.places i ≡ outs = cc in
     let next : o2.state ≡ state.Nothing = subst (λ a. IsNext a side i (change_at o.kind i (near_of o.state side i)) o2.state) r.state g.state in
-    let made : OneMade w listed x (entries_of i ++ f.rest) t b n (projected r.places i) f.rest =
+    let made : OneMade w (listing_at r.places) x (entries_of i ++ f.rest) t b n (projected r.places i) f.rest =
     project_made w r.places x d.values d.bag d.opens i n f.rest t b f.some good in
+    let cell : Cell = at_unary f.rest made.taken made.shown made.opens in
     let kept : TakenKept (width_at ws x) (most_rows ns x) t (entries_of i ++ f.rest) made.taken f.rest =
-    one_kept w (unary listed x) (at_unary (entries_of i ++ f.rest) t b n) (at_unary f.rest made.taken made.shown made.opens)
-    (projected r.places i) made.turn d.values d.bag d.opens good.edge (width_at ws x) (most_rows ns x) in
-    let turn : Turn w (unary listed x) (at_unary q t b n) outs (at_unary f.rest made.taken made.shown made.opens) =
-    subst₂ (λ l ys. Turn w (unary listed x) (at_unary l t b n) ys (at_unary f.rest made.taken made.shown made.opens)) (sym queue) same made.turn in
+    one_kept w (unary (listing_at r.places) x) (at_unary (entries_of i ++ f.rest) t b n) cell (projected r.places i)
+    made.turn d.values d.bag d.opens good.edge (width_at ws x) (most_rows ns x) in
+    let turn : Turn w (unary (listing_at r.places) x) (at_unary q t b n) outs cell =
+    subst₂ (λ l ys. Turn w (unary (listing_at r.places) x) (at_unary l t b n) ys cell) (sym queue) same made.turn in
     record {
-      cell = at_unary f.rest made.taken made.shown made.opens;
-      turn = subst (λ cols. Turn w (unary (listing (Listed cols)) x) (at_unary q t b n) outs (at_unary f.rest made.taken made.shown made.opens))
-          (sym r.listed) turn;
+      cell = cell;
+      turn = subst (λ cols. Turn w (unary (listing (Listed cols)) x) (at_unary q t b n) outs cell) (sym r.listed) turn;
       runs = record { places = r.places; kind = g.kind ∙ r.kind; state = next; listed = r.listed; queue = left_after o o2 log side i _ used f g };
       wide = record { kind = subst (IsKindWide (width_at ws x) (width_at ws k)) (sym g.kind) wide.kind; narrow = wide.narrow; side = kept.wide placed };
       few = kept.few few;

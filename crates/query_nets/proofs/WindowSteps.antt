@@ -23,7 +23,7 @@ use Rattle.operators.specs.declared.states.State.{State}
 use Rattle.operators.specs.declared.states.State.TheVariants as state
 use Rattle.plan.specs.Nodes as plan
 use Rattle.nets.specs.Windows.{GoodWindow}
-use Rattle.nets.specs.Nets.{World, Input, at_window, at_unary, at_join, Turn, batch, window}
+use Rattle.nets.specs.Nets.{World, Cell, Input, at_window, at_unary, at_join, Turn, batch, window}
 use Rattle.nets.proofs.WindowTurns.{WindowMade, latest_rows_made, latest_tick_made, range_rows_made, range_tick_made}
 use Rattle.query_nets.specs.Runs.{RunsWindow, WindowStands}
 use Rattle.query_nets.specs.Widths.{AreEntries, IsSideWide, IsStateWide, IsWindowWide, width_at}
@@ -125,32 +125,33 @@ pub record HeldMade (w : World) (k : ℕ) (h e : List Element) (q : List (Entry 
   pub turn : Turn w (window k) (at_window h e (rows_in_order h) q n) outs (at_window held waiting (rows_in_order held) rest opens)
   pub stands : Stand opens held
 
-range_made : (w : World) (x : ℕ) (s : RangeState) → w.windows x ≡ range_of s.span
-    → (i : Item) (n c : ℕ) (h e : List Element) (rest : List (Entry Row)) → 0 < length (entries_of i) → RangeStands n s.held h
-    → GoodWindow w.first (w.windows x) (w.inputs x) c h e n (entries_of i ++ rest)
-    → HeldMade w x h e (entries_of i ++ rest) n (range.out i (range.near s i)) rest (λ m. RangeStands m (range.next s i))
-range_made w x s is (Rows t b) n c h e rest some st g =
-    let a : WindowMade w x (at_window h e (rows_in_order h) (batch t b ++ rest) n) (range.out (Rows t b) (range.near s (Rows t b))) rest n
-    (RangeStands n (range.next s (Rows t b))) = range_rows_made w x s is t n c h e b rest (batch_some t b some) st g in
-    record { held = a.held; waiting = a.waiting; opens = n; turn = a.turn; stands = a.stands }
-range_made w x s is (Tick t) n c h e rest some st g =
-    let a : WindowMade w x (at_window h e (rows_in_order h) (TickAt t ∷ rest) n) (range.out (Tick t) (range.near s (Tick t))) rest (n + 1)
-    (RangeStands (n + 1) (range.next s (Tick t))) = range_tick_made w x s is t n c h e rest st g in
-    record { held = a.held; waiting = a.waiting; opens = n + 1; turn = a.turn; stands = a.stands }
+held_made : (w : World) (x : ℕ) (h e : List Element) (q : List (Entry Row)) (n m : ℕ) (outs rest : List (Entry Row)) (Stand : ℕ → List Element → Type 0)
+    → WindowMade w x (at_window h e (rows_in_order h) q n) outs rest m (Stand m) → HeldMade w x h e q n outs rest Stand
+held_made w x h e q n m outs rest Stand a = record { held = a.held; waiting = a.waiting; opens = m; turn = a.turn; stands = a.stands }
 
-latest_made : (w : World) (x : ℕ) (s : LatestState) → w.windows x ≡ LastRows s.columns s.count
-    → (i : Item) (n c : ℕ) (h e : List Element) (rest : List (Entry Row)) → 0 < length (entries_of i)
-    → LatestStands w.first s.columns s.count n (held_in s.entries) h
-    → GoodWindow w.first (w.windows x) (w.inputs x) c h e n (entries_of i ++ rest)
-    → HeldMade w x h e (entries_of i ++ rest) n (latest.out i (latest.near s i)) rest (λ m. LatestStands w.first s.columns s.count m (latest.next s i))
-latest_made w x s is (Rows t b) n c h e rest some st g =
-    let a : WindowMade w x (at_window h e (rows_in_order h) (batch t b ++ rest) n) (latest.out (Rows t b) (latest.near s (Rows t b))) rest n
-    (LatestStands w.first s.columns s.count n (latest.next s (Rows t b))) = latest_rows_made w x s is t n c h e b rest (batch_some t b some) st g in
-    record { held = a.held; waiting = a.waiting; opens = n; turn = a.turn; stands = a.stands }
-latest_made w x s is (Tick t) n c h e rest some st g =
-    let a : WindowMade w x (at_window h e (rows_in_order h) (TickAt t ∷ rest) n) (latest.out (Tick t) (latest.near s (Tick t))) rest (n + 1)
-    (LatestStands w.first s.columns s.count (n + 1) (latest.next s (Tick t))) = latest_tick_made w x s is t n c h e rest st g in
-    record { held = a.held; waiting = a.waiting; opens = n + 1; turn = a.turn; stands = a.stands }
+module _ (w : World) (x n c : ℕ) (h e : List Element) (rest : List (Entry Row)) where
+  range_made : (s : RangeState) → w.windows x ≡ range_of s.span → (i : Item) → 0 < length (entries_of i) → RangeStands n s.held h
+      → GoodWindow w.first (w.windows x) (w.inputs x) c h e n (entries_of i ++ rest)
+      → HeldMade w x h e (entries_of i ++ rest) n (range.out i (range.near s i)) rest (λ m. RangeStands m (range.next s i))
+  range_made s is (Rows t b) some st g =
+      held_made w x h e (batch t b ++ rest) n n (range.out (Rows t b) (range.near s (Rows t b))) rest (λ m. RangeStands m (range.next s (Rows t b)))
+      (range_rows_made w x s is t n c h e b rest (batch_some t b some) st g)
+  range_made s is (Tick t) some st g =
+      held_made w x h e (TickAt t ∷ rest) n (n + 1) (range.out (Tick t) (range.near s (Tick t))) rest (λ m. RangeStands m (range.next s (Tick t)))
+      (range_tick_made w x s is t n c h e rest st g)
+
+  latest_made : (s : LatestState) → w.windows x ≡ LastRows s.columns s.count → (i : Item) → 0 < length (entries_of i)
+      → LatestStands w.first s.columns s.count n (held_in s.entries) h
+      → GoodWindow w.first (w.windows x) (w.inputs x) c h e n (entries_of i ++ rest)
+      → HeldMade w x h e (entries_of i ++ rest) n (latest.out i (latest.near s i)) rest (λ m. LatestStands w.first s.columns s.count m (latest.next s i))
+  latest_made s is (Rows t b) some st g =
+      held_made w x h e (batch t b ++ rest) n n (latest.out (Rows t b) (latest.near s (Rows t b))) rest
+      (λ m. LatestStands w.first s.columns s.count m (latest.next s (Rows t b)))
+      (latest_rows_made w x s is t n c h e b rest (batch_some t b some) st g)
+  latest_made s is (Tick t) some st g =
+      held_made w x h e (TickAt t ∷ rest) n (n + 1) (latest.out (Tick t) (latest.near s (Tick t))) rest
+      (λ m. LatestStands w.first s.columns s.count m (latest.next s (Tick t)))
+      (latest_tick_made w x s is t n c h e rest st g)
 
 -- the state after a turn of a window of last rows
 record LatestNext (s : LatestState) (i : Item) (new : State) : Type 0 where
@@ -191,16 +192,14 @@ module _ (w : World) (ws : List ℕ) (ns : List plan.Node) (k x : ℕ) (o o2 : P
       let queue : q ≡ entries_of i ++ f.rest = first_left o log q side i used before.queue f in
       let wide : IsWindowWide (width_at ws k) o h q = s.wide in
       let few : AreWindowRowsFew (w.closed x) (w.inputs x) h e = s.few in
+      let cell : Cell = at_window made.held made.waiting (rows_in_order made.held) f.rest made.opens in
       let kept : HeldKept (width_at ws k) h e (entries_of i ++ f.rest) made.held made.waiting f.rest =
-      window_kept w (window x) (at_window h e (rows_in_order h) (entries_of i ++ f.rest) n)
-      (at_window made.held made.waiting (rows_in_order made.held) f.rest made.opens) outs2 made.turn (width_at ws k) in
-      let turn : Turn w (window x) (at_window h e (rows_in_order h) q n) outs (at_window made.held made.waiting (rows_in_order made.held) f.rest made.opens) =
-      subst₂ (λ l ys. Turn w (window x) (at_window h e (rows_in_order h) l n) ys
-      (at_window made.held made.waiting (rows_in_order made.held) f.rest made.opens)) (sym queue) same made.turn in
+      window_kept w (window x) (at_window h e (rows_in_order h) (entries_of i ++ f.rest) n) cell outs2 made.turn (width_at ws k) in
+      let turn : Turn w (window x) (at_window h e (rows_in_order h) q n) outs cell =
+      subst₂ (λ l ys. Turn w (window x) (at_window h e (rows_in_order h) l n) ys cell) (sym queue) same made.turn in
       record {
-        cell = at_window made.held made.waiting (rows_in_order made.held) f.rest made.opens;
-        turn = subst (λ l. Turn w (window x) (at_window h e l q n) outs
-            (at_window made.held made.waiting (rows_in_order made.held) f.rest made.opens)) (sym before.shows) turn;
+        cell = cell;
+        turn = subst (λ l. Turn w (window x) (at_window h e l q n) outs cell) (sym before.shows) turn;
         runs = record { kind = kind; stands = stand made.opens made.held made.stands; shows = refl; queue = left_after o o2 log side i _ used f g };
         wide = record { state = state; some = wide.some; side = kept.wide (subst (IsSideWide (width_at ws k) (rows_in_order h)) queue wide.side) };
         few = record { few = omega (arith, few.few, kept.few); stream = few.stream };
@@ -224,7 +223,7 @@ module _ (w : World) (ws : List ℕ) (ns : List plan.Node) (k x : ℕ) (o o2 : P
       let same : range.out i (range.near r i) ≡ outs = cc in
       let next : o2.state ≡ state.Range (range_after r i) = subst (λ c. IsNext c side i (change_at o.kind i (near_of o.state side i)) o2.state) is g.state in
       let bound : count (rows_in_order h) + length e ≤ stream_rows = omega (arith, count_elements h, few.few, few.stream) in
-      step used (range.out i (range.near r i)) same (λ m. RangeStands m (range.next r i)) (range_made w x r st.0 i n (w.closed x) h e f.rest f.some st.1 good)
+      step used (range.out i (range.near r i)) same (λ m. RangeStands m (range.next r i)) (range_made w x n (w.closed x) h e f.rest r st.0 i f.some st.1 good)
       (subst₂ Belongs (sym (g.kind ∙ a)) (sym next) (range_after r i, refl))
       (subst (IsStateWide (width_at ws k)) (sym next) width)
       (λ m l stands. subst (λ c. WindowStands w.first (w.windows x) m c l) (sym next) (st.0, stands))
@@ -251,7 +250,7 @@ module _ (w : World) (ws : List ℕ) (ns : List plan.Node) (k x : ℕ) (o o2 : P
       subst₂ (λ c m. w.windows x ≡ LastRows c m) (sym next.after.columns) (sym next.after.count) st.0 in
       let bound : count (rows_in_order h) + length e ≤ stream_rows = omega (arith, count_elements h, few.few, few.stream) in
       step used (latest.out i (latest.near r i)) same (λ m. LatestStands w.first r.columns r.count m (latest.next r i))
-      (latest_made w x r st.0 i n (w.closed x) h e f.rest f.some st.1 good)
+      (latest_made w x n (w.closed x) h e f.rest r st.0 i f.some st.1 good)
       (subst₂ Belongs (sym (g.kind ∙ a)) (sym next.is) (new, refl))
       (subst (IsStateWide (width_at ws k)) (sym next.is) (next.after.width ∙ width))
       (λ m l stands. subst (λ c. WindowStands w.first (w.windows x) m c l) (sym next.is) (shows, latest_stands w.first m r new i l next.after stands))

@@ -21,3 +21,8 @@ pub mod JoinSteps
 pub mod PlanCounts
 pub mod RootSteps
 pub mod MachineCounts
+pub mod FirstLemmas
+pub mod TakenLemmas
+pub mod HeldLemmas
+pub mod RowSteps
+pub mod WindowSteps

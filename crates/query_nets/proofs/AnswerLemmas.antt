@@ -27,8 +27,9 @@ use Rattle.nets.proofs.PlanLemmas.{Shaped}
 use Rattle.query_nets.specs.Widths.{AreEntries, width_at}
 use Rattle.query_nets.specs.Counts.{most_rows}
 use Rattle.query_nets.specs.Steps.{IsFirst, outs_at_first}
+use Rattle.query_nets.specs.Rooms.{RootHasRoom}
 use Rattle.query_nets.specs.Roots.{RootMade, RootMay, RootStands, RootStep}
-use Rattle.query_nets.specs.Queries.{GoesOn, HasInboxes, IsAnswered, IsLeftInbox, IsRunning, MayFinish, RootHasRoom, RunsAt, log_at, node_at, operator_at}
+use Rattle.query_nets.specs.Queries.{GoesOn, HasInboxes, IsAnswered, IsLeftInbox, IsRunning, MayFinish, RunsAt, log_at, node_at, operator_at}
 use Rattle.query_nets.proofs.QueueLemmas.{first_waits, inbox_within, inboxes_finished}
 
 wide_rest : (w : ℕ) (q r : List (Entry Row)) → AreEntries w (q ++ r) → AreEntries w r

@@ -30,7 +30,7 @@ use Rattle.operators.specs.Operators.{PlainOperator}
 use Rattle.query_nets.specs.Runs.{Runs, RunsRoot, RunsWindow}
 use Rattle.query_nets.specs.Counts.{AreFew, AreWindowRowsFew, StaysWithin, most_rows, stream_rows}
 use Rattle.query_nets.specs.Widths.{width_at}
-use Rattle.query_nets.specs.Rooms.{HasShortStreams}
+use Rattle.query_nets.specs.Rooms.{HasShortInputs}
 use Rattle.query_nets.specs.Queries.{HasInboxes, IsRunning, RunsAt, RunsAtRoot, log_at, no_log, node_at, operator_at, place_of, source_of, stream_log}
 use Rattle.query_nets.proofs.BeatLemmas.{IsLaterIn, change_here, change_there, same_number}
 use Rattle.query_nets.proofs.QueryLemmas.{same_count}
@@ -158,20 +158,6 @@ filter_few p (e ∷ es) = here (p e) (filter_few p es)
     here true h = omega (arith, h)
     here false h = omega (arith, h)
 
-short_elements : (ss : List Stream) (i : ℕ) → AllByRecursion (λ s. length s.elements ≤ stream_rows) ss → length (option_map_or (λ s. s.elements) (slice_get ss i) []) ≤ stream_rows
-short_elements [] i h = omega arith
-short_elements (s ∷ ss) zero h = h.0
-short_elements (s ∷ ss) (suc i) h = short_elements ss i h.1
-
-input_option : (place first : ℕ) (o : Option Stream) → length (option_map_or (λ s. input_of place first s.elements) o []) ≤ length (option_map_or (λ s. s.elements) o [])
-input_option place first None = omega arith
-input_option place first (Some s) = filter_few (λ e. nat_le place e.arrival && nat_le first e.instant) s.elements
-
-short_inputs : (ss : List Stream) (first : ℕ) (ps : List Place) (k : ℕ) → AllByRecursion (λ s. length s.elements ≤ stream_rows) ss → length (get_or (map (input_at ss first) ps) k []) ≤ stream_rows
-short_inputs ss first [] k h = omega arith
-short_inputs ss first (p ∷ ps) zero h = omega (arith, input_option p.arrivals first (slice_get ss p.stream), short_elements ss p.stream h)
-short_inputs ss first (p ∷ ps) (suc k) h = short_inputs ss first ps k h
-
 -- THE OPERATORS
 module _ (w w2 : World) where
   pub runs_world : (width : ℕ) (node : plan.Node) (o : PlainOperator) (log : Closed) (c : Cell) → w2.first ≡ w.first → ((s : ℕ) → w2.windows s ≡ w.windows s) → Runs w width node o log c → Runs w2 width node o log c
@@ -211,7 +197,7 @@ module _ (w w2 : World) where
   few_world ns (ToStream j op) c es closed inputs short r = r
 
 -- AN ACCEPTED APPEND
-module _ (vs ws : List ℕ) (m : Machine) (q : Registered) (n : ℕ) (rows : List (ℤ × List (Option ℤ))) (accepted : first_fault m (Append n rows) ≡ None) (short : HasShortStreams (after m (Append n rows) 0)) where
+module _ (vs ws : List ℕ) (m : Machine) (q : Registered) (n : ℕ) (rows : List (ℤ × List (Option ℤ))) (accepted : first_fault m (Append n rows) ≡ None) (short : HasShortInputs (after m (Append n rows) 0) q) where
   m2 : Machine
   m2 = after m (Append n rows) 0
 
@@ -242,7 +228,7 @@ module _ (vs ws : List ℕ) (m : Machine) (q : Registered) (n : ℕ) (rows : Lis
   inner_same k o c r = record {
     runs = subst (λ l. Runs (world_of (after m (Append n rows) 0) q) (width_at ws k) (node_at q k) o l c) (logs k) (runs_world (world_of m q) (world_of (after m (Append n rows) 0) q) (width_at ws k) (node_at q k) o (log_at m q k) c refl (λ s. refl) r.runs);
     wide = r.wide;
-    few = few_world (world_of m q) (world_of (after m (Append n rows) 0) q) q.nodes (node_at q k) c coming_to closed2 inputs2 (λ s. short_inputs (after m (Append n rows) 0).streams q.first q.places s short) r.few;
+    few = few_world (world_of m q) (world_of (after m (Append n rows) 0) q) q.nodes (node_at q k) c coming_to closed2 inputs2 short r.few;
     inboxes = subst (λ l. HasInboxes q l (node_at q k) o) (logs k) r.inboxes;
   }
 

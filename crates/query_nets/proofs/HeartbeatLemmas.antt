@@ -133,10 +133,10 @@ module _ (w w2 : World) (first : w2.first ≡ w.first) (windows : (s : ℕ) → 
   runs_beat width (Project j columns) o log log2 (at_unary q t b n) g r = record { places = r.places; kind = r.kind; state = r.state; listed = r.listed; queue = r.queue ∙ relog o.left log log2 g }
   runs_beat width (Project j columns) o log log2 (at_join q u l m b n x y) g r = absurd r
   runs_beat width (Group j by items) o log log2 (at_window h e b q n) g r = absurd r
-  runs_beat width (Group j by items) o log log2 (at_unary q t b n) g r = record { held = r.held; kind = r.kind; state = r.state; keyed = r.keyed; listed = r.listed; stands = r.stands; queue = r.queue ∙ relog o.left log log2 g }
+  runs_beat width (Group j by items) o log log2 (at_unary q t b n) g r = record { held = r.held; kind = r.kind; state = r.state; keyed = r.keyed; listed = r.listed; stands = r.stands; few = r.few; queue = r.queue ∙ relog o.left log log2 g }
   runs_beat width (Group j by items) o log log2 (at_join q u l m b n x y) g r = absurd r
   runs_beat width (Distinct j) o log log2 (at_window h e b q n) g r = absurd r
-  runs_beat width (Distinct j) o log log2 (at_unary q t b n) g r = record { held = r.held; kind = r.kind; state = r.state; all = r.all; some = r.some; stands = r.stands; queue = r.queue ∙ relog o.left log log2 g }
+  runs_beat width (Distinct j) o log log2 (at_unary q t b n) g r = record { held = r.held; kind = r.kind; state = r.state; all = r.all; some = r.some; stands = r.stands; few = r.few; queue = r.queue ∙ relog o.left log log2 g }
   runs_beat width (Distinct j) o log log2 (at_join q u l m b n x y) g r = absurd r
   runs_beat width (Join j k ks) o log log2 (at_window h e b q n) g r = absurd r
   runs_beat width (Join j k ks) o log log2 (at_unary q t b n) g r = absurd r
@@ -284,7 +284,7 @@ module _ (vs ws : List ℕ) (m : Machine) (q : Registered) (n : ℕ) (at : ℤ) 
         good = good2;
         inner = λ k kc. inner_beats k (operator_at os k) (r.cells k) kc (r.inner k kc);
         last = record {
-          runs = record { kind = r.last.runs.kind; state = r.last.runs.state; queue = r.last.runs.queue ∙ relog o.left (log_at m q rootn) (log_at (after m (Heartbeat n at) 0) q rootn) fed };
+          runs = record { kind = r.last.runs.kind; state = r.last.runs.state; spare = r.last.runs.spare; queue = r.last.runs.queue ∙ relog o.left (log_at m q rootn) (log_at (after m (Heartbeat n at) 0) q rootn) fed };
           operator = r.last.operator;
           wide = r.last.wide;
           few = subst (λ x. StaysWithin (most_rows q.nodes (rootn - 1)) x r.queue)

@@ -34,7 +34,6 @@ use Rattle.nets.specs.Plans.{below_root, value_of, world_of}
 use Rattle.query_nets.specs.Runs.{Runs, RunsRoot}
 use Rattle.query_nets.specs.Widths.{AreEntries, IsRow, IsWide, width_at}
 use Rattle.query_nets.specs.Counts.{AreFew, StaysWithin, count, most_rows}
-use Rattle.query_nets.specs.Roots.{HasRootRoom}
 use Rattle.query_nets.specs.Steps.{MayTake}
 
 -- THE OPERATORS by their numbers
@@ -185,7 +184,3 @@ elements_at streams n = option_map_or (λ s. s.elements) (slice_get streams n) [
 pub record ReadsRows (ws : List ℕ) (m : Machine) (q : Registered) : Type 0 where
   pub arrival : (n : ℕ) → IsByArrival (elements_at m.streams n)
   pub wide : (k s : ℕ) → k < below_root q.nodes → node_at q k ≡ plan.Window s → AllByRecursion (λ e. IsRow (width_at ws k) e.row) (elements_at m.streams (place_of q s).stream)
-
--- THE ROOT HAS ROOM, whatever the operators have
-abbrev pub RootHasRoom : Machine → Registered → Type 0
-RootHasRoom m q = (cells : ℕ → Cell) → HasRootRoom (most_rows q.nodes (below_root q.nodes - 1)) (input_of (value_of m q) cells (below_root q.nodes - 1))

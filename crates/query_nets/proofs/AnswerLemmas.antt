@@ -1,5 +1,5 @@
 -- A running query after a turn of its root, which gives answers.
-use Rattle.std.proofs.Common.{◌≡◌, ◌≢◌, ℕ, ◌-◌, ◌<◌, ◌≤◌, Bool, true, false, List, [], ◌∷◌, ◌++◌, length, refl, sym, ap, ap₂, ◌∙◌, subst, subst₂, arith}
+use Rattle.std.proofs.Common.{◌≡◌, ℕ, ◌-◌, true, List, [], ◌∷◌, ◌++◌, refl, sym, ap, ap₂, ◌∙◌, subst, subst₂, arith}
 use Rattle.values.specs.Row.{Row}
 use Rattle.values.specs.Resolved.{operator_of}
 use Rattle.column.specs.declared.batch.Side.{Side}
@@ -10,16 +10,12 @@ use Rattle.op_queue.specs.Logs.{Closed}
 use Rattle.op_queue.specs.declared.item.Item.{Item}
 use Rattle.to_stream.specs.Turns as root
 use Rattle.turn.specs.Turns.{Answered, outs_at}
-use Rattle.turn.specs.declared.kinds.Kind.TheVariants as kind
 use Rattle.operators.specs.Inboxes.{is_fed}
-use Rattle.operators.specs.Operators.{Belongs, IsFinished, PlainOperator, inbox_of}
+use Rattle.operators.specs.Operators.{Belongs, PlainOperator, inbox_of}
 use Rattle.operators.specs.States.{near_of}
 use Rattle.operators.specs.declared.inboxes.Inbox.{Inbox}
 use Rattle.operators.specs.declared.inboxes.Inbox.TheVariants.{First, Between}
-use Rattle.operators.specs.declared.states.State.TheVariants as state
-use Rattle.plan.specs.Nodes as plan
 use Rattle.reference.specs.Machine.{Machine, Registered}
-use Rattle.nets.specs.Laws.{IsGood}
 use Rattle.nets.specs.Nets.{input_of}
 use Rattle.nets.specs.Plans.{below_root, value_of, world_of}
 use Rattle.nets.proofs.AnswerLemmas.{shaped}
@@ -29,7 +25,7 @@ use Rattle.query_nets.specs.Counts.{most_rows}
 use Rattle.query_nets.specs.Steps.{IsFirst, outs_at_first}
 use Rattle.query_nets.specs.Rooms.{RootHasRoom}
 use Rattle.query_nets.specs.Roots.{RootMade, RootMay, RootStands, RootStep}
-use Rattle.query_nets.specs.Queries.{GoesOn, HasInboxes, IsAnswered, IsLeftInbox, IsRunning, MayFinish, RunsAt, log_at, node_at, operator_at}
+use Rattle.query_nets.specs.Queries.{GoesOn, IsAnswered, IsLeftInbox, IsRunning, MayFinish, RunsAt, log_at, node_at, operator_at}
 use Rattle.query_nets.proofs.QueueLemmas.{first_waits, inbox_within, inboxes_finished}
 
 wide_rest : (w : ℕ) (q r : List (Entry Row)) → AreEntries w (q ++ r) → AreEntries w r

@@ -1,37 +1,36 @@
 -- A running query after an append: what is closed stays, so nothing of it changes.
-use Rattle.std.proofs.Common.{◌≡◌, ◌≢◌, ℕ, ℤ, pos, negsuc, zero, suc, nat_abs, ◌+◌, ◌-◌, ◌<◌, ◌≤◌, ◌==◌, ◌&&◌, ◌||◌, nat_le, nat_lt, int_lt, int_le, ◌+ℤ◌, not, Bool, true, false, cond, max, ◌⊎◌, ⊎_elim, Option, Some, None, List, [], ◌∷◌, ◌++◌, filter, flat_map, map, length, get_or, refl, sym, ap, ap₂, ◌∙◌, subst, subst₂, arith, append-nil, length-append, eqb-true}
-use Rattle.std.specs.List.{AllByRecursion, list_all, list_any, range_with_len}
+use Rattle.std.proofs.Common.{◌≡◌, ℕ, ℤ, pos, negsuc, zero, suc, nat_abs, ◌+◌, ◌-◌, ◌<◌, ◌≤◌, ◌==◌, ◌&&◌, ◌||◌, nat_le, nat_lt, int_lt, int_le, ◌+ℤ◌, not, Bool, true, false, cond, max, ⊎_elim, Option, Some, None, List, [], ◌∷◌, ◌++◌, filter, map, length, get_or, refl, sym, ap, ap₂, ◌∙◌, subst, subst₂, arith, append-nil, length-append, eqb-true}
+use Rattle.std.specs.List.{AllByRecursion, list_all, list_any}
 use Rattle.std.specs.Prelude.{slice_get}
 use Rattle.std.specs.Option.{option_map, option_map_or}
-use Rattle.std.proofs.lemmas.Bool.{le-leb, leb-true, ltb-false, ne_eqb}
+use Rattle.std.proofs.lemmas.Bool.{leb-true, ltb-false, ne_eqb}
 use Rattle.std.proofs.lemmas.List.Elements.{filter-append}
 use Rattle.values.specs.Row.{Row}
-use Rattle.values.specs.Window.{Element, input_of, numbered}
-use Rattle.op_queue.specs.Entries.{Entry}
+use Rattle.values.specs.Window.{Element, input_of}
 use Rattle.op_queue.specs.Logs.{Closed}
 use Rattle.windows.specs.Laws.{Each}
 use Rattle.plan.specs.Nodes as plan
 use Rattle.plan.specs.Nodes.{Window, Select, Join, Project, Group, Distinct, ToStream}
 use Rattle.names.specs.Faults.{first_of}
 use Rattle.reference.specs.Commands.{Append, Heartbeat, after, append_tests, appended, change, elements_from, first_fault, heartbeat_tests, is_instant, is_stream_value, of_stream}
-use Rattle.reference.specs.Machine.{Machine, Place, Registered, Stream, input_at, opens}
+use Rattle.reference.specs.Machine.{Machine, Place, Registered, Stream, input_at}
 use Rattle.reference.specs.declared.fault.Fault.{Fault}
 use Rattle.reference.specs.declared.fault.Fault.TheVariants.{BadWidth, TooMany, ValueRange, InstantRange, Late, Backward, Leap, StreamFull}
 use Rattle.reference.specs.declared.limits.TheConstants.{MAX_APPENDED, MAX_LEAP, MAX_STREAM_ROWS}
 use Rattle.reference.proofs.StreamLemmas.{none_first, none_later}
-use Rattle.stream_store.specs.Closing.{by_instant, by_key, closed_of}
+use Rattle.stream_store.specs.Closing.{by_key, closed_of}
 use Rattle.nets.specs.Laws as nets
 use Rattle.nets.specs.Laws.{IsGood}
 use Rattle.nets.specs.Windows.{AreFrom, opened}
 use Rattle.nets.specs.Nets.{World, Cell, at_window, at_unary, at_join}
-use Rattle.nets.specs.Plans.{below_root, inputs_of, world_of}
+use Rattle.nets.specs.Plans.{below_root, world_of}
 use Rattle.nets.proofs.MachineLemmas.{append_inputs, append_opens, arriving, machine_appends}
 use Rattle.operators.specs.Operators.{PlainOperator}
 use Rattle.query_nets.specs.Runs.{Runs, RunsRoot, RunsWindow}
-use Rattle.query_nets.specs.Counts.{AreFew, AreWindowRowsFew, StaysWithin, most_rows, stream_rows}
+use Rattle.query_nets.specs.Counts.{AreFew, StaysWithin, most_rows, stream_rows}
 use Rattle.query_nets.specs.Widths.{width_at}
 use Rattle.query_nets.specs.Rooms.{HasShortInputs}
-use Rattle.query_nets.specs.Queries.{HasInboxes, IsRunning, RunsAt, RunsAtRoot, log_at, no_log, node_at, operator_at, place_of, source_of, stream_log}
+use Rattle.query_nets.specs.Queries.{HasInboxes, IsRunning, RunsAt, log_at, no_log, node_at, operator_at, source_of, stream_log}
 use Rattle.query_nets.proofs.BeatLemmas.{IsLaterIn, change_here, change_there, same_number}
 use Rattle.query_nets.proofs.QueryLemmas.{same_count}
 

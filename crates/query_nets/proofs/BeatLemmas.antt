@@ -1,5 +1,5 @@
 -- What a heartbeat is for a source of a query: its window's queue gains what is closed.
-use Rattle.std.proofs.Common.{◌≡◌, ◌≢◌, ℕ, ℤ, zero, suc, nat_abs, ◌+◌, ◌-◌, ◌<◌, ◌≤◌, ◌==◌, Bool, true, false, cond, max, ◌⊎◌, inl, inr, ⊎_elim, Option, Some, None, List, [], ◌∷◌, ◌++◌, filter, flat_map, map, length, get_or, refl, sym, ap, ap₂, ◌∙◌, subst, subst₂, arith, append-nil}
+use Rattle.std.proofs.Common.{◌≡◌, ◌≢◌, ℕ, ℤ, zero, suc, nat_abs, ◌+◌, ◌-◌, ◌≤◌, ◌==◌, Bool, true, false, cond, max, ◌⊎◌, ⊎_elim, Option, Some, None, List, [], ◌∷◌, ◌++◌, filter, flat_map, refl, sym, ap, ap₂, ◌∙◌, subst, arith, append-nil}
 use Rattle.std.specs.List.{AllByRecursion, range_with_len}
 use Rattle.std.specs.Prelude.{slice_get}
 use Rattle.std.specs.Option.{option_map, option_map_or}
@@ -7,16 +7,15 @@ use Rattle.values.specs.Row.{Row}
 use Rattle.values.specs.Perm.{Perm, same}
 use Rattle.values.specs.Window.{Element, input_of}
 use Rattle.op_queue.specs.Cursors.{GainsClosed, cursor_entries}
-use Rattle.op_queue.specs.Entries.{Entry, RowAt, TickAt}
-use Rattle.op_queue.specs.Logs.{Closed, instant_entries, is_shown, row_entries, shown, span_entries}
-use Rattle.op_queue.specs.declared.cursor.Cursor.{Cursor}
+use Rattle.op_queue.specs.Entries.{Entry, TickAt}
+use Rattle.op_queue.specs.Logs.{Closed, instant_entries, is_shown, row_entries, shown}
 use Rattle.windows.specs.Laws.{IsRising}
 use Rattle.operators.specs.Inboxes.{IsInboxWithin, entries_in}
 use Rattle.operators.specs.declared.inboxes.Inbox.{Inbox}
 use Rattle.operators.specs.declared.inboxes.Inbox.TheVariants.{First, Between}
 use Rattle.reference.specs.Commands.{change, closed_to}
-use Rattle.reference.specs.Machine.{Machine, Place, Registered, Stream, input_at}
-use Rattle.stream_store.specs.Closing.{QueuesGain, by_instant, by_key, closed_of, closing_of}
+use Rattle.reference.specs.Machine.{Place, Stream, input_at}
+use Rattle.stream_store.specs.Closing.{QueuesGain, by_key, closed_of, closing_of}
 use Rattle.nets.specs.Windows.{AreBelow, Brings, opened}
 use Rattle.nets.proofs.BeatLemmas.{closed_at, closed_below, closed_rises, span_brings}
 use Rattle.query_nets.specs.Widths.{AreEntries, IsRow}

@@ -1,5 +1,5 @@
 -- An operator whose queue gains what another has put out.
-use Rattle.std.proofs.Common.{◌≡◌, ◌≢◌, ℕ, Bool, true, false, true≢false, inl, inr, ◌⊎◌, List, [], ◌∷◌, ◌++◌, refl, sym, ap, ap₂, ◌∙◌, subst, subst₂, arith}
+use Rattle.std.proofs.Common.{◌≡◌, ℕ, true, false, true≢false, inl, inr, List, ◌++◌, sym, ap, ◌∙◌, subst, subst₂}
 use Rattle.values.specs.Row.{Row}
 use Rattle.column.specs.declared.batch.Side.{Side}
 use Rattle.column.specs.declared.batch.Side.TheVariants.{Left, Right}
@@ -7,20 +7,16 @@ use Rattle.op_queue.specs.Entries.{Entry, IsForward}
 use Rattle.op_queue.specs.Logs.{Closed}
 use Rattle.op_queue.proofs.PathLemmas.{Leads-append, Leads-forward}
 use Rattle.op_queue.specs.Paths.{Leads}
-use Rattle.group.specs.Laws as groups
 use Rattle.operators.specs.Inboxes.{entries_in, is_fed, queued}
 use Rattle.operators.specs.Operators.{IsFed, PlainOperator, inbox_of, other, waiting}
-use Rattle.operators.specs.declared.inboxes.Inbox.{Inbox}
 use Rattle.operators.proofs.InboxLemmas.{entries_fed}
 use Rattle.plan.specs.Nodes as plan
 use Rattle.plan.specs.Nodes.{Window, Select, Join, Project, Group, Distinct, ToStream}
-use Rattle.reference.specs.Machine.{Registered}
 use Rattle.nets.specs.Nets.{World, Cell, at_window, at_unary, at_join, Feeds, to_unary, to_left, to_right, GoodCell, Input, left_of, right_of}
 use Rattle.nets.specs.Operators.{node_of}
 use Rattle.query_nets.specs.Runs.{Runs}
 use Rattle.query_nets.specs.Widths.{IsGroupWide, IsWide, AreEntries, IsSideWide, IsKindWide, IsJoinWide, width_at}
 use Rattle.query_nets.specs.Counts.{AreFew, StaysWithin, count, most_rows}
-use Rattle.query_nets.specs.Queries.{HasInboxes}
 use Rattle.query_nets.proofs.FeedLemmas.{few_append, wide_append}
 use Rattle.query_nets.proofs.WireLemmas.{TakesAt}
 

@@ -1,5 +1,5 @@
 -- A running query after a heartbeat.
-use Rattle.std.proofs.Common.{◌≡◌, ℕ, ℤ, suc, nat_abs, ◌+◌, ◌-◌, ◌<◌, ◌≤◌, Bool, true, false, max, ◌⊎◌, ⊎_elim, Option, Some, None, List, [], ◌∷◌, ◌++◌, map, length, get_or, refl, sym, ap, ap₂, ◌∙◌, subst, subst₂, arith, length-append}
+use Rattle.std.proofs.Common.{◌≡◌, ℕ, ℤ, ◌-◌, ◌<◌, ◌≤◌, true, max, ⊎_elim, Option, Some, None, List, [], ◌++◌, length, get_or, refl, sym, ap, ◌∙◌, subst, subst₂, arith, length-append}
 use Rattle.std.specs.List.{AllByRecursion}
 use Rattle.std.specs.Prelude.{slice_get}
 use Rattle.std.specs.Option.{option_map_or}
@@ -7,38 +7,35 @@ use Rattle.std.proofs.lemmas.Bool.{cases_lt}
 use Rattle.std.proofs.lemmas.List.{get_or-map, get_or_past, length-map}
 use Rattle.values.specs.Row.{Row}
 use Rattle.values.specs.Perm.{Perm, same}
-use Rattle.values.specs.Window.{Element, Window as Told}
+use Rattle.values.specs.Window.{Element}
 use Rattle.values.specs.Answers.{Operator, shown_at}
-use Rattle.column.specs.declared.batch.Side.{Side}
-use Rattle.column.specs.declared.batch.Side.TheVariants.{Left, Right}
 use Rattle.op_queue.specs.Entries.{Entry}
 use Rattle.op_queue.specs.Logs.{Closed}
-use Rattle.windows.specs.Laws.{IsRising, rows_in_order}
-use Rattle.to_stream.specs.Turns as root
+use Rattle.windows.specs.Laws.{IsRising}
 use Rattle.operators.specs.Inboxes.{IsInboxWithin, entries_in, is_fed}
-use Rattle.operators.specs.Operators.{PlainOperator, waiting}
+use Rattle.operators.specs.Operators.{PlainOperator}
 use Rattle.operators.specs.declared.inboxes.Inbox.{Inbox}
 use Rattle.operators.proofs.InboxLemmas.{entries_fed}
 use Rattle.plan.specs.Nodes as plan
 use Rattle.plan.specs.Nodes.{Window, Select, Join, Project, Group, Distinct, ToStream}
 use Rattle.plan.specs.Scope.{Tables}
-use Rattle.reference.specs.Commands.{Heartbeat, after, change, closed_to}
+use Rattle.reference.specs.Commands.{Heartbeat, after}
 use Rattle.reference.specs.Machine.{Machine, Place, Registered, Stream, input_at, opens}
 use Rattle.stream_store.specs.Closing.{QueuesGain, closed_of}
 use Rattle.nets.specs.Laws as nets
 use Rattle.nets.specs.Laws.{IsGood}
 use Rattle.nets.specs.Windows.{AreBelow, Brings, opened}
 use Rattle.nets.specs.Worlds.{Beat, fed_cell}
-use Rattle.nets.specs.Nets.{Node, window, unary, join, World, Cell, at_window, at_unary, at_join, cell_next, cell_shown}
+use Rattle.nets.specs.Nets.{Node, window, unary, join, World, Cell, at_window, at_unary, at_join, cell_shown}
 use Rattle.nets.specs.Operators.{net_of, node_of}
-use Rattle.nets.specs.Plans.{AreWide, below_root, inputs_of, value_of, world_of}
+use Rattle.nets.specs.Plans.{below_root, inputs_of, world_of}
 use Rattle.nets.proofs.MachineLemmas.{heartbeat_inputs, machine_beats}
 use Rattle.nets.proofs.AnswerLemmas.{shaped}
 use Rattle.nets.proofs.PlanLemmas.{Shaped}
-use Rattle.query_nets.specs.Runs.{Runs, RunsRoot, RunsWindow}
+use Rattle.query_nets.specs.Runs.{Runs, RunsWindow}
 use Rattle.query_nets.specs.Widths.{AreEntries, IsRow, IsWide, width_at}
-use Rattle.query_nets.specs.Counts.{AreFew, AreWindowRowsFew, StaysWithin, count, most_rows}
-use Rattle.query_nets.specs.Queries.{HasInboxes, IsLeftInbox, IsRunning, Reads, ReadsRows, RunsAt, RunsAtRoot, elements_at, log_at, no_log, node_at, operator_at, place_of, source_of, stream_log}
+use Rattle.query_nets.specs.Counts.{AreFew, AreWindowRowsFew, StaysWithin, most_rows}
+use Rattle.query_nets.specs.Queries.{HasInboxes, IsLeftInbox, IsRunning, Reads, ReadsRows, RunsAt, elements_at, log_at, no_log, node_at, operator_at, place_of, source_of, stream_log}
 use Rattle.query_nets.proofs.BeatLemmas.{IsLaterIn, PlaceBeat, place_beat}
 use Rattle.query_nets.proofs.ClosingLemmas.{perm_length}
 use Rattle.query_nets.proofs.FeedLemmas.{wide_append}

@@ -26,3 +26,4 @@ pub mod TakenLemmas
 pub mod HeldLemmas
 pub mod RowSteps
 pub mod WindowSteps
+pub mod NodeLemmas

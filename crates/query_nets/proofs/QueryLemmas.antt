@@ -1,37 +1,35 @@
 -- A running query after turns of its operators.
-use Rattle.std.proofs.Common.{◌≡◌, ◌≢◌, ℕ, ◌+◌, ◌-◌, ◌<◌, ◌≤◌, ◌==◌, Bool, true, false, cond, ◌⊎◌, ⊎_elim, List, [], ◌∷◌, ◌++◌, length, refl, sym, ap, ◌∙◌, subst, subst₂, arith, eqb-true, eq-eqb}
+use Rattle.std.proofs.Common.{◌≡◌, ◌≢◌, ℕ, ◌-◌, ◌<◌, ◌==◌, true, cond, ◌⊎◌, ⊎_elim, List, [], ◌++◌, length, refl, sym, ap, ◌∙◌, subst, subst₂, arith, eq-eqb}
 use Rattle.std.proofs.lemmas.Bool.{ne_eqb}
 use Rattle.values.specs.Row.{Row}
 use Rattle.values.specs.Answers.{Operator}
 use Rattle.column.specs.declared.batch.Side.{Side}
 use Rattle.column.specs.declared.batch.Side.TheVariants.{Left, Right}
-use Rattle.op_queue.specs.Entries.{Entry, IsForward}
-use Rattle.op_queue.specs.Logs.{Closed}
+use Rattle.op_queue.specs.Entries.{Entry}
 use Rattle.op_queue.specs.Paths.{Leads}
 use Rattle.op_queue.specs.declared.item.Item.{Item}
 use Rattle.op_queue.proofs.PathLemmas.{Leads-append, Leads-forward, Leads-values}
 use Rattle.op_queue.specs.Signed.{Same}
 use Rattle.op_queue.proofs.SignedLemmas.{Same-refl}
 use Rattle.to_stream.specs.Turns as root
-use Rattle.turn.specs.Turns.{Outs, Put, Answered}
-use Rattle.operators.specs.Inboxes.{is_fed, queued}
+use Rattle.turn.specs.Turns.{Put}
+use Rattle.operators.specs.Inboxes.{is_fed}
 use Rattle.operators.specs.Operators.{IsFed, IsFinished, PlainOperator, inbox_of}
 use Rattle.compiled_plans.specs.Wiring.{wire_from}
 use Rattle.plan.specs.Nodes as plan
 use Rattle.reference.specs.Machine.{Machine, Registered}
 use Rattle.nets.specs.Laws.{IsGood, TurnsKeep}
-use Rattle.nets.specs.Laws as nets
-use Rattle.nets.specs.Nets.{World, Cell, at_window, at_unary, at_join, GoodCell, GoodAt, Input, Turn, Feeds, Planned, Laid, cell_next, cell_shown, input_of, left_of, right_of}
-use Rattle.nets.specs.Operators.{net_of, node_of}
+use Rattle.nets.specs.Nets.{Cell, at_window, at_unary, at_join, Turn, Feeds, Planned, Laid, cell_next, cell_shown, input_of, left_of, right_of}
+use Rattle.nets.specs.Operators.{net_of}
 use Rattle.nets.specs.Plans.{below_root, consumer_of, least_of, value_of, world_of}
-use Rattle.nets.specs.Queries.{GoodRoot, GoodQuery}
+use Rattle.nets.specs.Queries.{GoodRoot}
 use Rattle.nets.proofs.AnswerLemmas.{query_laid, query_planned, shaped, turns_keep}
 use Rattle.nets.proofs.PlanLemmas.{Shaped}
 use Rattle.nets.proofs.KeptLemmas.{LastKept, last_kept}
 use Rattle.nets.proofs.TurnLemmas.{TurnKept, turn_kept}
 use Rattle.query_nets.specs.Widths.{AreEntries, width_at}
 use Rattle.query_nets.specs.Counts.{StaysWithin, count, most_rows}
-use Rattle.query_nets.specs.Steps.{IsFirst, MayLaw, MayTake, Stands, StepLaw, StepMade, outs_at_first}
+use Rattle.query_nets.specs.Steps.{IsFirst, MayLaw, Stands, StepLaw, StepMade, outs_at_first}
 use Rattle.query_nets.specs.Rooms.{PlanHasRoom}
 use Rattle.query_nets.specs.Queries.{IsRunning, IsTurned, change_at_first, MayFeed, MayFinish, RunsAt, RunsAtRoot, log_at, node_at, operator_at}
 use Rattle.query_nets.proofs.FedLemmas.{fed_on, feeds_on, few_fed, forward_fed, forward_on, left_more, runs_fed, wide_fed}

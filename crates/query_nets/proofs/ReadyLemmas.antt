@@ -1,5 +1,5 @@
 -- Where no operator of a query is ready, the net is idle: the query has given all answers of the instants that are closed.
-use Rattle.std.proofs.Common.{◌≡◌, ℕ, ◌-◌, ◌<◌, ◌≤◌, ◌++◌, Bool, true, false, true≢false, not, cond, inl, inr, ◌⊎◌, ⊎_elim, Option, Some, None, List, [], ◌∷◌, length, refl, sym, ap, ◌∙◌, subst, arith}
+use Rattle.std.proofs.Common.{◌≡◌, ℕ, ◌≤◌, ◌++◌, Bool, true, false, not, cond, inl, inr, ◌⊎◌, Option, Some, None, List, [], ◌∷◌, length, refl, sym, ap, ◌∙◌, arith}
 use Rattle.std.specs.Option.{option_map}
 use Rattle.values.specs.Row.{Row}
 use Rattle.values.specs.Window.{Element, Window as Told}
@@ -8,7 +8,6 @@ use Rattle.column.specs.declared.batch.Side.TheVariants.{Left, Right}
 use Rattle.op_queue.specs.Entries.{Entry, RowAt, TickAt}
 use Rattle.op_queue.specs.Items.{front_of}
 use Rattle.op_queue.specs.Logs.{Closed}
-use Rattle.op_queue.specs.declared.queue.Front.{Front}
 use Rattle.to_stream.specs.Turns as root
 use Rattle.operators.specs.Operators.{PlainOperator, first_ready, front_instant, ready, ready_at, waiting}
 use Rattle.operators.specs.States.{usable}
@@ -16,7 +15,6 @@ use Rattle.operators.specs.declared.states.State.{State}
 use Rattle.operators.specs.declared.states.State.TheVariants as state
 use Rattle.plan.specs.Nodes as plan
 use Rattle.plan.specs.Nodes.{Window, Select, Join, Project, Group, Distinct, ToStream}
-use Rattle.plan.proofs.Lists.{by_test}
 use Rattle.reference.specs.Machine.{Machine, Registered, closed_answers}
 use Rattle.nets.specs.Nets.{World, Cell, at_window, at_unary, at_join, IdleCell}
 use Rattle.nets.specs.Plans.{below_root, world_of}

@@ -7,3 +7,4 @@ pub mod Roots
 pub mod Queries
 pub mod Machines
 pub mod Examples
+pub mod Laws

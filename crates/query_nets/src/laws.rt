@@ -8,6 +8,7 @@ ghost use Rattle.query_nets.specs.Steps.{MayLaw, StepLaw};
 ghost use Rattle.query_nets.specs.Rooms.{HasShortInputs, IsBounded, PlanHasRoom, RootHasRoom};
 ghost use Rattle.query_nets.specs.Roots.{RootMay, RootStep};
 ghost use Rattle.query_nets.specs.Machines.{IsMachine, MachinesStand, QueriesStand};
+ghost use Rattle.query_nets.specs.Laws.{GivesItsAnswers, RootsRun, RunsOnAtAppends, RunsOnAtHeartbeats, TurnsRun};
 
 /// A window may take whatever stands first in its queue, and a finished turn with it is a turn of a net: it puts out the rows
 /// that came, and with minus those that it no longer shows, and then its state stands for the elements that it holds.
@@ -72,4 +73,32 @@ pub fn machines_stand()
 /// So the queries of such a machine stand over its streams, and their operators have room.
 pub fn their_queries_stand()
     ensures { (m : Machine) → IsMachine m → QueriesStand m }
+{}
+
+/// A running query may take the item that stands first on a side of any of its operators below the root, what that puts out may be
+/// fed to the operator at the end of its wire, and with the turn finished the query runs on.
+pub fn turns_keep_queries_running()
+    ensures { (vs : List ℕ) (ws : List ℕ) (m : Machine) (q : Registered) → IsBounded vs m q → TurnsRun vs ws m q }
+{}
+
+/// So it is with its root, whose turns give answers.
+pub fn roots_keep_queries_running()
+    ensures { (vs : List ℕ) (ws : List ℕ) (m : Machine) (q : Registered) → IsBounded vs m q → RootsRun vs ws m q }
+{}
+
+/// What a running query has given is a beginning of CQL's answers for the instants that its streams' heartbeats have closed, and
+/// all of them where none of its operators is ready.
+pub fn running_queries_give_their_answers()
+    ensures { (vs : List ℕ) (ws : List ℕ) (m : Machine) (q : Registered) → GivesItsAnswers vs ws m q }
+{}
+
+/// A heartbeat that the machine accepts leaves a query running, with its operators and answers as they are: only its windows' queues
+/// gain what was closed.
+pub fn heartbeats_keep_queries_running()
+    ensures { (vs : List ℕ) (ws : List ℕ) (m : Machine) (q : Registered) → RunsOnAtHeartbeats vs ws m q }
+{}
+
+/// So does an append, after which the same waits.
+pub fn appends_keep_queries_running()
+    ensures { (vs : List ℕ) (ws : List ℕ) (m : Machine) (q : Registered) → RunsOnAtAppends vs ws m q }
 {}

@@ -67,7 +67,7 @@ module _ (vs ws : List ℕ) (m : Machine) (q : Registered) (room : RootHasRoom m
       → outs_at_first (operator_at os (below_root q.nodes)) side i ≡ Answered answers → IsAnswered m q side i os os2 → IsRunning vs ws m q os2 (given ++ answers)
   answer_runs step os2 side i answers first gives t =
       let made : RootMade q.first q.first [] (input_of (value_of m q) r.cells (below_root q.nodes - 1)) (most_rows q.nodes (below_root q.nodes - 1)) r.held r.queue i (operator_at os2 (below_root q.nodes)) (log_at m q (below_root q.nodes)) (given ++ answers) =
-          step q.first q.first [] _ _ _ _ _ r.held r.queue given side i answers root_stands first gives t.finished in
+      step q.first q.first [] _ _ _ _ _ r.held r.queue given side i answers root_stands first gives t.finished in
       record {
         stands = r.stands;
         many = t.many ∙ r.many;

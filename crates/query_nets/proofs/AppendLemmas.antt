@@ -112,7 +112,7 @@ log_option rows (Some s) h = closed_same s rows h
 log_same : (streams : List Stream) (n : ℕ) (rows : List (ℤ × List (Option ℤ))) → ComeLate (slice_get streams n) rows → (i : ℕ) → stream_log (change n (appended rows) streams) i ≡ stream_log streams i
 log_same streams n rows h i = ⊎_elim
     (λ e. subst (λ j. stream_log (change n (appended rows) streams) j ≡ stream_log streams j) (sym e)
-        (ap (λ o. option_map_or closed_of o no_log) (change_here (appended rows) n streams) ∙ log_option rows (slice_get streams n) h))
+    (ap (λ o. option_map_or closed_of o no_log) (change_here (appended rows) n streams) ∙ log_option rows (slice_get streams n) h))
     (λ ne. ap (λ o. option_map_or closed_of o no_log) (change_there (appended rows) n i streams ne))
     (same_number i n)
 
@@ -173,8 +173,8 @@ module _ (w w2 : World) where
   few_world : (ns : List plan.Node) (node : plan.Node) (c : Cell) (es : ℕ → List Element) → ((s : ℕ) → w2.closed s ≡ w.closed s) → ((s : ℕ) → w2.inputs s ≡ w.inputs s ++ es s) → ((s : ℕ) → length (w2.inputs s) ≤ stream_rows) → AreFew w ns node c → AreFew w2 ns node c
   few_world ns (Window s) (at_window h e b q n) es closed inputs short r =
       let more : length (opened (w2.closed s) (w2.inputs s)) ≤ length (opened (w.closed s) (w.inputs s)) + length (es s) =
-          let x : opened (w2.closed s) (w2.inputs s) ≡ opened (w.closed s) (w.inputs s) ++ opened (w.closed s) (es s) = ap₂ opened (closed s) (inputs s) ∙ filter-append (λ e. nat_le (w.closed s) e.instant) (w.inputs s) (es s) in
-          omega (arith, ap length x, length-append (opened (w.closed s) (w.inputs s)) (opened (w.closed s) (es s)), filter_few (λ e. nat_le (w.closed s) e.instant) (es s)) in
+      let x : opened (w2.closed s) (w2.inputs s) ≡ opened (w.closed s) (w.inputs s) ++ opened (w.closed s) (es s) = ap₂ opened (closed s) (inputs s) ∙ filter-append (λ e. nat_le (w.closed s) e.instant) (w.inputs s) (es s) in
+      omega (arith, ap length x, length-append (opened (w.closed s) (w.inputs s)) (opened (w.closed s) (es s)), filter_few (λ e. nat_le (w.closed s) e.instant) (es s)) in
       record { few = omega (arith, r.few, more, ap length (inputs s), length-append (w.inputs s) (es s)); stream = short s }
   few_world ns (Window s) (at_unary q t b n) es closed inputs short r = r
   few_world ns (Window s) (at_join q u l m b n x y) es closed inputs short r = r
@@ -235,7 +235,7 @@ module _ (vs ws : List ℕ) (m : Machine) (q : Registered) (n : ℕ) (rows : Lis
   unfolding m2
   append_runs os given stands2 r =
       let good2 : IsGood (after m (Append n rows) 0) q r.cells r.held r.queue given =
-          machine_appends vs m (after m (Append n rows) 0) q r.stands.plan r.stands.wide stands2.wide (append_opens m q n rows) coming_to inputs2 from_closed r.cells r.held r.queue given r.good in
+      machine_appends vs m (after m (Append n rows) 0) q r.stands.plan r.stands.wide stands2.wide (append_opens m q n rows) coming_to inputs2 from_closed r.cells r.held r.queue given r.good in
       let rootn : ℕ = below_root q.nodes in
       record {
         stands = stands2;

@@ -82,11 +82,13 @@ module _ (place first : ℕ) (s : Stream) (at : ℤ) (by : IsByArrival s.element
       × Reads place first (closed_of (closed_to at s)) i × IsInboxWithin i (closed_of (closed_to at s))
   closing_gains (First c) r h =
       let n : suc (nat_abs at) - max first s.first_open ≡ max first (suc (nat_abs at)) - max first s.first_open = omega (arith, later) in
-      let e : max c.at (suc (nat_abs at)) ≡ max first (suc (nat_abs at)) = omega (arith, later, r.1) in
-      (g.gains c h
-      ∙ ap₂ (λ p a. cursor_entries c (closed_of s) ++ flat_map (instant_entries p (closing_of at s)) (range_with_len a (suc (nat_abs at) - a))) r.0 r.1
-      ∙ ap (λ k. cursor_entries c (closed_of s) ++ flat_map (instant_entries place (closing_of at s)) (range_with_len (max first s.first_open) k)) n,
-       (r.0, e), g.within c h)
+      let e : max c.at (suc (nat_abs at)) ≡ max first (suc (nat_abs at)) = omega (arith, later, r.1) in (
+        g.gains c h
+            ∙ ap₂ (λ p a. cursor_entries c (closed_of s) ++ flat_map (instant_entries p (closing_of at s)) (range_with_len a (suc (nat_abs at) - a))) r.0 r.1
+            ∙ ap (λ k. cursor_entries c (closed_of s) ++ flat_map (instant_entries place (closing_of at s)) (range_with_len (max first s.first_open) k)) n,
+        (r.0, e),
+        g.within c h,
+      )
   closing_gains (Between w) r h = absurd r
 
   closing_beat : PlaceBeat place first (closed_of s) (closed_of (closed_to at s)) (input_of place first s.elements) s.elements

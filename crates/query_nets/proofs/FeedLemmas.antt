@@ -12,7 +12,6 @@ wide_append w [] r h k = k
 wide_append w (RowAt t s ∷ q) r h k = (h.0, wide_append w q r h.1 k)
 wide_append w (TickAt t ∷ q) r h k = wide_append w q r h k
 
-
 -- from n rows the queue leads to m, and none leaves that is not there
 stays_append : (most n m : ℕ) (q r : List (Entry Row)) → ((k : ℕ) → down (λ x. 1) (take k (rows_in q)) ≤ up (λ x. 1) (take k (rows_in q)) + n) → n + up (λ x. 1) (rows_in q) ≡ down (λ x. 1) (rows_in q) + m
     → StaysWithin most n q → StaysWithin most m r → StaysWithin most n (q ++ r)

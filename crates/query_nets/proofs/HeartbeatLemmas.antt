@@ -268,7 +268,7 @@ module _ (vs ws : List ℕ) (m : Machine) (q : Registered) (n : ℕ) (at : ℤ) 
       let sh : Shaped (world_of m q).closed q.meaning q.nodes = shaped vs m q r.stands.plan r.stands.wide in
       let cells2 : ℕ → Cell = λ k. fed_cell (λ s. (source_beat s).fresh) (λ s. (source_beat s).more) (net_of q.nodes k) (r.cells k) in
       let good2 : IsGood (after m (Heartbeat n at) 0) q cells2 r.held r.queue given =
-          machine_beats vs m (after m (Heartbeat n at) 0) q r.stands.plan r.stands.wide same_inputs (λ s. (source_beat s).fresh) (λ s. (source_beat s).more) beat r.cells r.held r.queue given r.good in
+      machine_beats vs m (after m (Heartbeat n at) 0) q r.stands.plan r.stands.wide same_inputs (λ s. (source_beat s).fresh) (λ s. (source_beat s).more) beat r.cells r.held r.queue given r.good in
       let rootn : ℕ = below_root q.nodes in
       let o : PlainOperator = operator_at os rootn in
       let fed : is_fed o.left ≡ true = root_fed o (log_at m q rootn) (node_at q rootn) (length q.nodes - 2) q.meaning.operator sh.root r.last.inboxes in

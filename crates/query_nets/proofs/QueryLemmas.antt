@@ -127,7 +127,7 @@ module _ (vs ws : List ℕ) (m : Machine) (q : Registered) (may : (node : plan.N
         let planned : Planned (world_of m q) (net_of q.nodes) (below_root q.nodes) (value_of m q) (least_of m q) = query_planned vs m q r.stands.plan r.stands.wide in
         let made : StepMade (world_of m q) ws q.nodes k (node_at q k) (r.cells k) outs o2 (log_at m q k) = steps (node_at q k) (world_of m q) ws q.nodes k (operator_at os k) o2 (log_at m q k) (r.cells k) _ _ side i outs (stands_at k kc) first puts f in
         let kept : TurnKept (world_of m q) (net_of q.nodes k) (r.cells k) outs made.cell (input_of (value_of m q) r.cells (left_of (net_of q.nodes k))) (input_of (value_of m q) r.cells (right_of (net_of q.nodes k))) =
-            turn_kept (world_of m q) (net_of q.nodes k) (r.cells k) made.cell outs _ _ (planned.lawful k kc) made.turn (r.good.good k kc) in
+        turn_kept (world_of m q) (net_of q.nodes k) (r.cells k) made.cell outs _ _ (planned.lawful k kc) made.turn (r.good.good k kc) in
         (cell_shown made.cell, cell_next made.cell, Leads-values (λ t a b. subst (λ z. Same z (value_of m q k t)) (planned.value k r.cells kc t) (Same-refl (value_of m q k t))) kept.path)
 
     pub turn_may_feed : MayFeed (operator_at os (wire_from 0 q.nodes k).to) (wire_from 0 q.nodes k).side outs
@@ -150,7 +150,7 @@ module _ (vs ws : List ℕ) (m : Machine) (q : Registered) (may : (node : plan.N
         let on_left : TakesAt k (plan.ToStream (length q.nodes - 2) q.meaning.operator) feeds = subst (λ n. TakesAt k n feeds) sh.root takes in
         let fed : is_fed (inbox_of o feeds) ≡ true = fed_side q (log_at m q root) k (node_at q root) o feeds takes r.last.inboxes in
         let path : Leads (value_of m q (root - 1)) (cell_shown (r.cells (root - 1))) (cell_next (r.cells (root - 1))) outs outs_lead.0 outs_lead.1 =
-            subst (λ z. Leads (value_of m q z) (cell_shown (r.cells z)) (cell_next (r.cells z)) outs outs_lead.0 outs_lead.1) top outs_lead.2 in
+        subst (λ z. Leads (value_of m q z) (cell_shown (r.cells z)) (cell_next (r.cells z)) outs outs_lead.0 outs_lead.1) top outs_lead.2 in
         subst (λ z. MayFeed (operator_at os z) feeds outs) (sym e)
         (record { fed = fed; forward = forward_on o (log_at m q root) feeds Left r.queue outs on_left.1 r.last.runs.queue fed (Leads-forward (Leads-append r.good.root.edge path)) }))
 
@@ -229,7 +229,7 @@ module _ (vs ws : List ℕ) (m : Machine) (q : Registered) (may : (node : plan.N
     inner_runs tc =
         let turns : TurnsKeep m q = turns_keep vs m q r.stands.plan r.stands.wide in
         let good2 : IsGood m q cells2 r.held r.queue given = turns.inner r.cells cells2 r.held r.queue given k outs kc (subst (λ z. z < below_root q.nodes) wire.consumer tc) turned
-            (subst (λ z. Feeds k outs (net_of q.nodes z) (r.cells z) (cells2 z)) wire.consumer (fed_net tc)) (λ j jc ne apart. other_is j ne (λ e. apart (e ∙ wire.consumer))) r.good in
+        (subst (λ z. Feeds k outs (net_of q.nodes z) (r.cells z) (cells2 z)) wire.consumer (fed_net tc)) (λ j jc ne apart. other_is j ne (λ e. apart (e ∙ wire.consumer))) r.good in
         record {
           stands = r.stands;
           many = t.many ∙ r.many;
@@ -253,15 +253,15 @@ module _ (vs ws : List ℕ) (m : Machine) (q : Registered) (may : (node : plan.N
         let sh : Shaped (world_of m q).closed q.meaning q.nodes = shaped vs m q r.stands.plan r.stands.wide in
         let top : k ≡ below_root q.nodes - 1 = omega (arith, laid.final k kc (sym wire.consumer ∙ e)) in
         let kept : LastKept (world_of m q) (net_of q.nodes) (value_of m q) cells2 (below_root q.nodes) (value_of m q k) (r.cells k) outs (cells2 k) =
-            last_kept (world_of m q) (net_of q.nodes) (value_of m q) r.cells cells2 k outs (below_root q.nodes) planned.rises r.good.good kc (planned.lawful k kc) (planned.value k r.cells kc) turned
-            (λ j jc ne. other_is j ne (λ z. omega (arith, z, e, jc))) (λ j jc. laid.apart k j kc jc (λ z. omega (arith, z, e, jc, wire.consumer))) in
+        last_kept (world_of m q) (net_of q.nodes) (value_of m q) r.cells cells2 k outs (below_root q.nodes) planned.rises r.good.good kc (planned.lawful k kc) (planned.value k r.cells kc) turned
+        (λ j jc ne. other_is j ne (λ z. omega (arith, z, e, jc))) (λ j jc. laid.apart k j kc jc (λ z. omega (arith, z, e, jc, wire.consumer))) in
         let path : Leads (value_of m q (below_root q.nodes - 1)) (cell_shown (r.cells (below_root q.nodes - 1))) (cell_next (r.cells (below_root q.nodes - 1))) outs (cell_shown (cells2 (below_root q.nodes - 1))) (cell_next (cells2 (below_root q.nodes - 1))) =
-            subst (λ z. Leads (value_of m q z) (cell_shown (r.cells z)) (cell_next (r.cells z)) outs (cell_shown (cells2 z)) (cell_next (cells2 z))) top kept.path in
+        subst (λ z. Leads (value_of m q z) (cell_shown (r.cells z)) (cell_next (r.cells z)) outs (cell_shown (cells2 z)) (cell_next (cells2 z))) top kept.path in
         let few : StaysWithin (most_rows q.nodes (below_root q.nodes - 1)) (count (cell_shown (r.cells (below_root q.nodes - 1)))) outs =
-            subst (λ z. StaysWithin (most_rows q.nodes z) (count (cell_shown (r.cells z))) outs) top made.outs_few in
+        subst (λ z. StaysWithin (most_rows q.nodes z) (count (cell_shown (r.cells z))) outs) top made.outs_few in
         let wide : AreEntries (width_at ws (below_root q.nodes - 1)) outs = subst (λ z. AreEntries (width_at ws z) outs) top made.outs_wide in
         let root2 : (h : GoodRoot q.first q.first [] (value_of m q (below_root q.nodes - 1)) r.held (r.queue ++ outs) (cell_shown (cells2 (below_root q.nodes - 1))) (cell_next (cells2 (below_root q.nodes - 1))) given) × (h.whole ≡ r.good.root.whole) =
-            root_gains q.first q.first (value_of m q (below_root q.nodes - 1)) r.held r.queue outs _ _ _ _ given path r.good.root in
+        root_gains q.first q.first (value_of m q (below_root q.nodes - 1)) r.held r.queue outs _ _ _ _ given path r.good.root in
         let fed : IsFed (operator_at os (below_root q.nodes)) feeds outs (operator_at os2 (below_root q.nodes)) = subst (λ z. IsFed (operator_at os z) feeds outs (operator_at os2 z)) e t.fed in
         let takes : TakesAt k (node_at q (below_root q.nodes)) feeds = subst (λ z. TakesAt k (node_at q z) feeds) e wire.takes in
         record {

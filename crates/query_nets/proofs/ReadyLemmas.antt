@@ -75,9 +75,10 @@ runs_idle w width (Select j cs) o log (at_unary q t b n) r i = left_idle o log s
 runs_idle w width (Select j cs) o log (at_join q u l m b n x y) r i = absurd r
 runs_idle w width (Join j k ks) o log (at_window h e b q n) r i = absurd r
 runs_idle w width (Join j k ks) o log (at_unary q t b n) r i = absurd r
-runs_idle w width (Join j k ks) o log (at_join q u l m b n x y) r i =
-    (join_idle o log Left x r.held.left.ticked q (ap (λ z. usable z Left) r.state) r.left_ticked r.left_queue i,
-     join_idle o log Right y r.held.right.ticked u (ap (λ z. usable z Right) r.state) r.right_ticked r.right_queue i)
+runs_idle w width (Join j k ks) o log (at_join q u l m b n x y) r i = (
+  join_idle o log Left x r.held.left.ticked q (ap (λ z. usable z Left) r.state) r.left_ticked r.left_queue i,
+  join_idle o log Right y r.held.right.ticked u (ap (λ z. usable z Right) r.state) r.right_ticked r.right_queue i,
+)
 runs_idle w width (Project j columns) o log (at_window h e b q n) r i = absurd r
 runs_idle w width (Project j columns) o log (at_unary q t b n) r i = left_idle o log state.Nothing q r.state refl r.queue i
 runs_idle w width (Project j columns) o log (at_join q u l m b n x y) r i = absurd r

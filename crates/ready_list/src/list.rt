@@ -69,7 +69,7 @@ impl ReadyList {
     pub fn change(&mut self, slot: Slot, instant: Option<u64>)
         ensures { self.new ≡ changed slot instant self.old }
     {
-        if let Ok(at) = place_of(&self.slots, slot) {
+        if let Ok(at) = place_of(&self.slots, &slot) {
             self.slots.remove(at);
             place(&mut self.slots, slot.with_instant(instant));
         }
@@ -86,12 +86,12 @@ impl ReadyList {
 
 /// Where the slot stands, or where it belongs.
 #[tactic(auto, using(crate::proofs::SlotLemmas::found_at, crate::proofs::SlotLemmas::missing_at))]
-fn place_of(slots: &[Slot], slot: Slot) -> Result<usize, usize>
+fn place_of(slots: &[Slot], slot: &Slot) -> Result<usize, usize>
     requires { IsStrictlySortedBy slot_cmp slots.now }
-    ensures found { IfOk result (IsFound slots.now slot) }
-    ensures missing { IfErr result (IsMissing slots.now slot) }
+    ensures found { IfOk result (IsFound slots.now slot.now) }
+    ensures missing { IfErr result (IsMissing slots.now slot.now) }
 {
-    slots.binary_search(&slot)
+    slots.binary_search(slot)
 }
 
 /// A slot comes to its place, unless it is there; there is room for it.
@@ -100,7 +100,7 @@ fn place(slots: &mut Vec<Slot>, slot: Slot)
     requires ordered { IsStrictlySortedBy slot_cmp slots.old.items }
     ensures { slots.new.items ≡ put slots.old.items slot }
 {
-    if let Err(at) = place_of(slots, slot) {
+    if let Err(at) = place_of(slots, &slot) {
         if slots.insert(at, slot).is_err() {
             unreachable!()
         }

@@ -8,3 +8,4 @@ pub mod Queries
 pub mod Machines
 pub mod Examples
 pub mod Laws
+pub mod Rows

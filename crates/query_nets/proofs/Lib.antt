@@ -28,3 +28,4 @@ pub mod RowSteps
 pub mod WindowSteps
 pub mod NodeLemmas
 pub mod RowLemmas
+pub mod LeaseLemmas

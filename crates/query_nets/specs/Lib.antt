@@ -9,3 +9,4 @@ pub mod Machines
 pub mod Examples
 pub mod Laws
 pub mod Rows
+pub mod Leases

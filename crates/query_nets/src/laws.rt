@@ -9,6 +9,7 @@ ghost use Rattle.query_nets.specs.Rooms.{HasShortInputs, IsBounded, PlanHasRoom,
 ghost use Rattle.query_nets.specs.Roots.{RootMay, RootStep};
 ghost use Rattle.query_nets.specs.Machines.{IsMachine, MachinesStand, QueriesStand};
 ghost use Rattle.query_nets.specs.Rows.{RowsStand};
+ghost use Rattle.query_nets.specs.Leases.{LeasesStandFirst};
 ghost use Rattle.query_nets.specs.Laws.{GivesItsAnswers, RootsRun, RunsOnAtAppends, RunsOnAtHeartbeats, TurnsRun};
 
 /// A window may take whatever stands first in its queue, and a finished turn with it is a turn of a net: it puts out the rows
@@ -108,4 +109,10 @@ pub fn appends_keep_queries_running()
 /// its queries read rows of their width.
 pub fn rows_stand()
     ensures { RowsStand }
+{}
+
+/// What is cut from the front of a side that an operator names as ready stands first there, and goes on to, whatever comes behind it
+/// before its turn is finished.
+pub fn leases_stand_first()
+    ensures { LeasesStandFirst }
 {}

@@ -1,5 +1,5 @@
 -- Cursors over a log: what stands at the front, what leaves, how much waits.
-use Rattle.std.proofs.Common.{◌≡◌, ℕ, suc, ◌+◌, ◌-◌, ◌<◌, ◌≤◌, Bool, true, false, cond, nat_lt, Some, List, [], ◌∷◌, ◌++◌, length, map, min, take, drop, slice_range, refl, ap, sym, ◌∙◌, arith, append_assoc, length-append, length-drop, length-take, ⊎_elim}
+use Rattle.std.proofs.Common.{◌≡◌, ℕ, suc, ◌+◌, ◌-◌, ◌<◌, ◌≤◌, Bool, true, false, cond, nat_lt, Some, List, [], ◌∷◌, ◌++◌, length, map, max, min, take, drop, slice_range, refl, ap, sym, ◌∙◌, arith, append_assoc, length-append, length-drop, length-take, ⊎_elim}
 use Rattle.std.specs.List.{flat_map, filter, range_with_len, All, drop-map}
 use Rattle.std.proofs.lemmas.Bool.{cases_lt}
 use Rattle.std.proofs.lemmas.Bool.Decides.{nat_tests}
@@ -7,7 +7,7 @@ use Rattle.std.proofs.lemmas.List.{drop-drop, drop_at, drop-append-le, length-ma
 use Rattle.std.proofs.lemmas.List.Elements.{All-weaker}
 use Rattle.values.specs.Row.{Row}
 use Rattle.values.specs.Window.{Element}
-use Rattle.op_queue.specs.Cursors.{IsWithin, cursor_entries}
+use Rattle.op_queue.specs.Cursors.{GoesOn, IsWithin, cursor_entries}
 use Rattle.op_queue.specs.Entries.{Entry, RowAt, TickAt}
 use Rattle.op_queue.specs.Items.{IsFrontPart, front_of, front_part, front_rows}
 use Rattle.op_queue.specs.Logs.{Closed, entering, instant_entries, is_shown, is_waiting, log_entries, row_entries, shown, span_entries}
@@ -60,18 +60,19 @@ entries-fresh c log none =
 length-row_entries : (t : ℕ) (es : List Element) → length (row_entries t es) ≡ length es
 length-row_entries t es = let f : Element → Entry Row = λ e. RowAt t (entering e) in length-map es f
 
--- `left` of the `count` entries of `old` are still to leave
-pub record IsPassing (old : List (Entry Row)) (count left : ℕ) (c : Cursor) (log : Closed) : Type 0 where
-  pub rest : drop left (cursor_entries c log) ≡ drop count old
+-- of the `count` entries of the cursor at the start `left` are still to leave
+pub record IsPassing (start : Cursor) (count left : ℕ) (c : Cursor) (log : Closed) : Type 0 where
+  pub rest : drop left (cursor_entries c log) ≡ drop count (cursor_entries start log)
   pub enough : left ≤ length (cursor_entries c log)
   pub within : IsWithin c log
+  pub goes_on : GoesOn log start c
 
-pub passing_open : {old : List (Entry Row)} {count left : ℕ} (c : Cursor) (log : Closed) → IsPassing old count left c log → 0 < left → c.at < log.until
+pub passing_open : {start : Cursor} {count left : ℕ} (c : Cursor) (log : Closed) → IsPassing start count left c log → 0 < left → c.at < log.until
 passing_open c log h some = waits_open c log (omega (arith, h.enough))
 
 -- rows of the instant leave
-pub IsPassing-rows : {old : List (Entry Row)} {count left : ℕ} (c : Cursor) (log : Closed) (from to : ℕ) → rest_of c log ≡ slice_range log.elements from to → to ≤ length log.elements → IsPassing old count left c log → 0 < left → left ≤ to - from → IsPassing old count 0 (record { place = c.place; at = c.at; passed = c.passed + left }) log
-IsPassing-rows {old} {count} {left} c log from to is end h some few =
+pub IsPassing-rows : {start : Cursor} {count left : ℕ} (c : Cursor) (log : Closed) (from to : ℕ) → rest_of c log ≡ slice_range log.elements from to → to ≤ length log.elements → IsPassing start count left c log → 0 < left → left ≤ to - from → IsPassing start count 0 (record { place = c.place; at = c.at; passed = c.passed + left }) log
+IsPassing-rows {start} {count} {left} c log from to is end h some few =
     let d : Cursor = record { place = c.place; at = c.at; passed = c.passed + left } in
     let lt = passing_open c log h some in
     let g : Element → Entry Row = λ e. RowAt c.at (entering e) in
@@ -88,11 +89,12 @@ IsPassing-rows {old} {count} {left} c log from to is end h some few =
       rest = sym after ∙ h.rest;
       enough = omega arith;
       within = omega (arith, n, length-drop c.passed (shown c.place c.at log.elements));
+      goes_on = record { place = h.goes_on.place; next = h.goes_on.next };
     }
 
 -- the rest of the instant leaves
-pub IsPassing-instant : {old : List (Entry Row)} {count left : ℕ} (c : Cursor) (log : Closed) (from to : ℕ) → rest_of c log ≡ slice_range log.elements from to → to ≤ length log.elements → IsPassing old count left c log → to - from < left → IsPassing old count (left - (to - from + 1)) (record { place = c.place; at = c.at + 1; passed = 0 }) log
-IsPassing-instant {old} {count} {left} c log from to is end h much =
+pub IsPassing-instant : {start : Cursor} {count left : ℕ} (c : Cursor) (log : Closed) (from to : ℕ) → rest_of c log ≡ slice_range log.elements from to → to ≤ length log.elements → IsPassing start count left c log → to - from < left → IsPassing start count (left - (to - from + 1)) (record { place = c.place; at = c.at + 1; passed = 0 }) log
+IsPassing-instant {start} {count} {left} c log from to is end h much =
     let d : Cursor = record { place = c.place; at = c.at + 1; passed = 0 } in
     let lt = passing_open c log h (omega arith) in
     let rows = row_entries c.at (rest_of c log) in
@@ -112,6 +114,7 @@ IsPassing-instant {old} {count} {left} c log from to is end h much =
           ∙ h.rest;
       enough = omega (arith, h.enough, ap length next, length-drop (to - from + 1) (cursor_entries c log));
       within = omega arith;
+      goes_on = record { place = h.goes_on.place; next = omega (arith, lt, h.goes_on.next) };
     }
 
 front_of-rows : (t : ℕ) (es : List Element) (tail : List (Entry Row)) → 0 < length es → front_of (row_entries t es ++ tail) ≡ Some (front.Row t)

@@ -1,31 +1,24 @@
 -- A running query after a turn of its root, which gives answers.
-use Rattle.std.proofs.Common.{◌≡◌, ℕ, ◌-◌, true, List, [], ◌∷◌, ◌++◌, refl, sym, ap, ap₂, ◌∙◌, subst, subst₂, arith}
+use Rattle.std.proofs.Common.{◌≡◌, ℕ, ◌-◌, List, [], ◌∷◌, ◌++◌, refl, sym, ap, ap₂, ◌∙◌, subst, subst₂, arith}
 use Rattle.values.specs.Row.{Row}
 use Rattle.values.specs.Resolved.{operator_of}
 use Rattle.column.specs.declared.batch.Side.{Side}
-use Rattle.column.specs.declared.batch.Side.TheVariants.{Left, Right}
 use Rattle.op_queue.specs.Entries.{Entry, RowAt, TickAt}
 use Rattle.op_queue.specs.Items.{entries_of}
-use Rattle.op_queue.specs.Logs.{Closed}
 use Rattle.op_queue.specs.declared.item.Item.{Item}
 use Rattle.to_stream.specs.Turns as root
 use Rattle.turn.specs.Turns.{Answered, outs_at}
-use Rattle.operators.specs.Inboxes.{is_fed}
-use Rattle.operators.specs.Operators.{Belongs, PlainOperator, inbox_of}
+use Rattle.operators.specs.Operators.{Belongs, PlainOperator}
 use Rattle.operators.specs.States.{near_of}
-use Rattle.operators.specs.declared.inboxes.Inbox.{Inbox}
-use Rattle.operators.specs.declared.inboxes.Inbox.TheVariants.{First, Between}
 use Rattle.reference.specs.Machine.{Machine, Registered}
 use Rattle.nets.specs.Nets.{input_of}
-use Rattle.nets.specs.Plans.{below_root, value_of, world_of}
-use Rattle.nets.proofs.AnswerLemmas.{shaped}
-use Rattle.nets.proofs.PlanLemmas.{Shaped}
+use Rattle.nets.specs.Plans.{below_root, value_of}
 use Rattle.query_nets.specs.Widths.{AreEntries, width_at}
 use Rattle.query_nets.specs.Counts.{most_rows}
 use Rattle.query_nets.specs.Steps.{IsFirst, outs_at_first}
 use Rattle.query_nets.specs.Rooms.{RootHasRoom}
 use Rattle.query_nets.specs.Roots.{RootMade, RootMay, RootStands, RootStep}
-use Rattle.query_nets.specs.Queries.{GoesOn, IsAnswered, IsLeftInbox, IsRunning, MayFinish, RunsAt, log_at, node_at, operator_at}
+use Rattle.query_nets.specs.Queries.{IsAnswered, IsRunning, MayFinish, RunsAt, log_at, node_at, operator_at}
 use Rattle.query_nets.proofs.QueueLemmas.{first_waits, inbox_within, inboxes_finished}
 
 wide_rest : (w : ℕ) (q r : List (Entry Row)) → AreEntries w (q ++ r) → AreEntries w r
@@ -33,21 +26,9 @@ wide_rest w [] r h = h
 wide_rest w (RowAt t s ∷ q) r h = wide_rest w q r h.1
 wide_rest w (TickAt t ∷ q) r h = wide_rest w q r h
 
--- a queue between operators stays one
-between : (log : Closed) (i j : Inbox) → is_fed i ≡ true → is_fed j ≡ is_fed i → GoesOn log i j
-between log (First c) j h e = absurd (cc)
-between log (Between u) (First d) h e = absurd (cc)
-between log (Between u) (Between w) h e = tt
-
 module _ (vs ws : List ℕ) (m : Machine) (q : Registered) (room : RootHasRoom m q) (os : List PlainOperator) (given : List (ℕ × Row)) (r : IsRunning vs ws m q os given) where
   root_stands : RootStands q.first q.first [] (input_of (value_of m q) r.cells (below_root q.nodes - 1)) (most_rows q.nodes (below_root q.nodes - 1)) (operator_at os (below_root q.nodes)) (log_at m q (below_root q.nodes)) r.held r.queue given
   root_stands = record { runs = r.last.runs; room = room r.cells; good = r.good.root; few = r.last.few }
-
-  root_fed_inbox : (side : Side) → is_fed (inbox_of (operator_at os (below_root q.nodes)) side) ≡ true
-  root_fed_inbox Left =
-      let sh : Shaped (world_of m q).closed q.meaning q.nodes = shaped vs m q r.stands.plan r.stands.wide in
-      subst (λ n. IsLeftInbox q (log_at m q (below_root q.nodes)) n (operator_at os (below_root q.nodes)).left) sh.root r.last.inboxes.left
-  root_fed_inbox Right = r.last.inboxes.right
 
   -- THE ITEM THAT STANDS FIRST may be taken
   pub answer_may : RootMay → (side : Side) (i : Item) → IsFirst (operator_at os (below_root q.nodes)) (log_at m q (below_root q.nodes)) side i → MayFinish (operator_at os (below_root q.nodes)) (log_at m q (below_root q.nodes)) side i
@@ -81,7 +62,6 @@ module _ (vs ws : List ℕ) (m : Machine) (q : Registered) (room : RootHasRoom m
           operator = ap operator_of made.operator ∙ r.last.operator;
           wide = wide_rest (width_at ws (below_root q.nodes - 1)) (entries_of i) made.rest (subst (AreEntries (width_at ws (below_root q.nodes - 1))) made.taken r.last.wide);
           few = made.stands.few;
-          inboxes = inboxes_finished q (log_at m q (below_root q.nodes)) (node_at q (below_root q.nodes)) _ _ side i _ t.finished
-              (between (log_at m q (below_root q.nodes)) _ _ (root_fed_inbox side) t.finished.dropped.same) r.last.inboxes;
+          inboxes = inboxes_finished q (log_at m q (below_root q.nodes)) (node_at q (below_root q.nodes)) _ _ side i _ t.finished r.last.inboxes;
         };
       }

@@ -27,3 +27,5 @@ pub mod HeldLemmas
 pub mod RowSteps
 pub mod WindowSteps
 pub mod NodeLemmas
+pub mod RowLemmas
+pub mod LeaseLemmas

@@ -8,3 +8,5 @@ pub mod Queries
 pub mod Machines
 pub mod Examples
 pub mod Laws
+pub mod Rows
+pub mod Leases

@@ -8,6 +8,8 @@ ghost use Rattle.query_nets.specs.Steps.{MayLaw, StepLaw};
 ghost use Rattle.query_nets.specs.Rooms.{HasShortInputs, IsBounded, PlanHasRoom, RootHasRoom};
 ghost use Rattle.query_nets.specs.Roots.{RootMay, RootStep};
 ghost use Rattle.query_nets.specs.Machines.{IsMachine, MachinesStand, QueriesStand};
+ghost use Rattle.query_nets.specs.Rows.{RowsStand};
+ghost use Rattle.query_nets.specs.Leases.{LeasesStandFirst};
 ghost use Rattle.query_nets.specs.Laws.{GivesItsAnswers, RootsRun, RunsOnAtAppends, RunsOnAtHeartbeats, TurnsRun};
 
 /// A window may take whatever stands first in its queue, and a finished turn with it is a turn of a net: it puts out the rows
@@ -101,4 +103,16 @@ pub fn heartbeats_keep_queries_running()
 /// So does an append, after which the same waits.
 pub fn appends_keep_queries_running()
     ensures { (vs : List ℕ) (ws : List ℕ) (m : Machine) (q : Registered) → RunsOnAtAppends vs ws m q }
+{}
+
+/// The rows of the machine's streams stand in the order of their arrival, and their values are of the answers' range; so the windows of
+/// its queries read rows of their width.
+pub fn rows_stand()
+    ensures { RowsStand }
+{}
+
+/// What is cut from the front of a side that an operator names as ready stands first there, and goes on to, whatever comes behind it
+/// before its turn is finished.
+pub fn leases_stand_first()
+    ensures { LeasesStandFirst }
 {}

@@ -122,7 +122,8 @@ module _ (i j : ℕ) (keys : List plan.Key) (w : World) (ws : List ℕ) (ns : Li
     widths = subst (IsJoinWide (width_at ws i) (width_at ws j)) s.runs.state s.wide.state
 
     -- THE JOIN STANDS for the next cell
-    made : (o2 : PlainOperator) (side : Side) (it : Item) (outs : List (Entry Row)) → IsTurn o o2 log side it outs → JoinMade g o2 log side it (at_join q r l m b n x y) → Made (at_join q r l m b n x y) outs o2 log
+    made : (o2 : PlainOperator) (side : Side) (it : Item) (outs : List (Entry Row)) → IsTurn o o2 log side it outs
+        → JoinMade g o2 log side it (at_join q r l m b n x y) → Made (at_join q r l m b n x y) outs o2 log
     made o2 side it outs turn h =
         let s2 : JoinState = join.next g side it in
         let c2 : Cell = at_join h.left h.right h.left_bag h.right_bag h.shown h.opens h.left_mark h.right_mark in
@@ -178,8 +179,10 @@ module _ (i j : ℕ) (keys : List plan.Key) (w : World) (ws : List ℕ) (ns : Li
     shown_few = omega (arith, left_start, left_bound l (stays_now q s.few.0))
 
   -- ROWS of the left side
-  left_rows : (o o2 : PlainOperator) (log : Closed) (q r : List (Entry Row)) (l m b : List Row) (n : ℕ) (y : Bool) (d e : Input) (t : ℕ) (xs : List (Bool × Row))
-      → (s : Before o log (at_join (batch t xs ++ q) r l m b n false y) d e) → 0 < length xs → q ≡ waiting o2 log Left → r ≡ waiting o2 log Right → JoinMade s.runs.held o2 log Left (Rows t xs) (at_join (batch t xs ++ q) r l m b n false y)
+  left_rows : (o o2 : PlainOperator) (log : Closed) (q r : List (Entry Row)) (l m b : List Row) (n : ℕ) (y : Bool) (d e : Input) (t : ℕ)
+      (xs : List (Bool × Row))
+      → (s : Before o log (at_join (batch t xs ++ q) r l m b n false y) d e) → 0 < length xs → q ≡ waiting o2 log Left → r ≡ waiting o2 log Right
+      → JoinMade s.runs.held o2 log Left (Rows t xs) (at_join (batch t xs ++ q) r l m b n false y)
   left_rows o o2 log q r l m b n y d e t xs s some lq rq =
       let g : JoinState = s.runs.held in
       let legal : Legal l xs = Leads-front_legal t xs q s.good.left_edge in
@@ -193,9 +196,11 @@ module _ (i j : ℕ) (keys : List plan.Key) (w : World) (ws : List ℕ) (ns : Li
       subst (λ u. Turns u ys (plan.joined keys a.bag m)) (s.runs.meets l m)
       (subst (λ u. Turns (pairs.joined g.keys l m) ys u) (s.runs.meets a.bag m)
       (subst (λ zs. Turns (pairs.joined g.keys l m) zs (pairs.joined g.keys a.bag m)) (rows_in-batch t ys) law.0)) in
-      let wide : (x : Row) → AreRows (width_at ws j) (met Right g.keys g.right x) = λ x. met_all (IsRow (width_at ws j)) Right g.keys g.right m x s.runs.stands.right s.wide.right.taken in
+      let wide : (x : Row) → AreRows (width_at ws j) (met Right g.keys g.right x) =
+      λ x. met_all (IsRow (width_at ws j)) Right g.keys g.right m x s.runs.stands.right s.wide.right.taken in
       let stay : StaysWithin (most_rows ns k) (weigh (λ x. count (met Right g.keys g.right x)) l) (batch t ys) =
-      pairs_stay Left (met Right g.keys g.right) (most_rows ns i) (most_rows ns k) t (left_bound o log (batch t xs ++ q) r l m b n false y d e s) xs q l legal s.few.0 in
+      pairs_stay Left (met Right g.keys g.right) (most_rows ns i) (most_rows ns k) t
+      (left_bound o log (batch t xs ++ q) r l m b n false y d e s) xs q l legal s.few.0 in
       record {
         left = q;
         right = r;
@@ -226,8 +231,10 @@ module _ (i j : ℕ) (keys : List plan.Key) (w : World) (ws : List ℕ) (ns : Li
       }
 
   -- ROWS of the right side
-  right_rows : (o o2 : PlainOperator) (log : Closed) (q r : List (Entry Row)) (l m b : List Row) (n : ℕ) (x : Bool) (d e : Input) (t : ℕ) (xs : List (Bool × Row))
-      → (s : Before o log (at_join q (batch t xs ++ r) l m b n x false) d e) → 0 < length xs → q ≡ waiting o2 log Left → r ≡ waiting o2 log Right → JoinMade s.runs.held o2 log Right (Rows t xs) (at_join q (batch t xs ++ r) l m b n x false)
+  right_rows : (o o2 : PlainOperator) (log : Closed) (q r : List (Entry Row)) (l m b : List Row) (n : ℕ) (x : Bool) (d e : Input) (t : ℕ)
+      (xs : List (Bool × Row))
+      → (s : Before o log (at_join q (batch t xs ++ r) l m b n x false) d e) → 0 < length xs → q ≡ waiting o2 log Left → r ≡ waiting o2 log Right
+      → JoinMade s.runs.held o2 log Right (Rows t xs) (at_join q (batch t xs ++ r) l m b n x false)
   right_rows o o2 log q r l m b n x d e t xs s some lq rq =
       let g : JoinState = s.runs.held in
       let legal : Legal m xs = Leads-front_legal t xs r s.good.right_edge in
@@ -241,9 +248,11 @@ module _ (i j : ℕ) (keys : List plan.Key) (w : World) (ws : List ℕ) (ns : Li
       subst (λ u. Turns u ys (plan.joined keys l a.bag)) (s.runs.meets l m)
       (subst (λ u. Turns (pairs.joined g.keys l m) ys u) (s.runs.meets l a.bag)
       (subst (λ zs. Turns (pairs.joined g.keys l m) zs (pairs.joined g.keys l a.bag)) (rows_in-batch t ys) law.0)) in
-      let wide : (x : Row) → AreRows (width_at ws i) (met Left g.keys g.left x) = λ x. met_all (IsRow (width_at ws i)) Left g.keys g.left l x s.runs.stands.left s.wide.left.taken in
+      let wide : (x : Row) → AreRows (width_at ws i) (met Left g.keys g.left x) =
+      λ x. met_all (IsRow (width_at ws i)) Left g.keys g.left l x s.runs.stands.left s.wide.left.taken in
       let stay : StaysWithin (most_rows ns k) (weigh (λ x. count (met Left g.keys g.left x)) m) (batch t ys) =
-      pairs_stay Right (met Left g.keys g.left) (most_rows ns j) (most_rows ns k) t (right_bound o log q (batch t xs ++ r) l m b n x false d e s) xs r m legal s.few.1 in
+      pairs_stay Right (met Left g.keys g.left) (most_rows ns j) (most_rows ns k) t
+      (right_bound o log q (batch t xs ++ r) l m b n x false d e s) xs r m legal s.few.1 in
       record {
         left = q;
         right = r;
@@ -274,7 +283,8 @@ module _ (i j : ℕ) (keys : List plan.Key) (w : World) (ws : List ℕ) (ns : Li
       }
 
   -- THE FIRST TICK of an instant, on the left side
-  left_first : (o o2 : PlainOperator) (log : Closed) (q r : List (Entry Row)) (l m b : List Row) (n : ℕ) (d e : Input) (t : ℕ) → (s : Before o log (at_join (TickAt t ∷ q) r l m b n false false) d e)
+  left_first : (o o2 : PlainOperator) (log : Closed) (q r : List (Entry Row)) (l m b : List Row) (n : ℕ) (d e : Input) (t : ℕ)
+      → (s : Before o log (at_join (TickAt t ∷ q) r l m b n false false) d e)
       → q ≡ waiting o2 log Left → r ≡ waiting o2 log Right → JoinMade s.runs.held o2 log Left (Tick t) (at_join (TickAt t ∷ q) r l m b n false false)
   left_first o o2 log q r l m b n d e t s lq rq =
       let g : JoinState = s.runs.held in
@@ -301,18 +311,22 @@ module _ (i j : ℕ) (keys : List plan.Key) (w : World) (ws : List ℕ) (ns : Li
         right_wide = s.wide.right;
         left_few = s.few.0.1;
         right_few = s.few.1;
-        turn = subst (λ z. Turn w (nets.join (joining keys) i j) (at_join (TickAt t ∷ q) r l m b n false false) z (at_join q r l m b (n) true false)) (sym law.0) turn;
+        turn =
+            subst (λ z. Turn w (nets.join (joining keys) i j) (at_join (TickAt t ∷ q) r l m b n false false) z (at_join q r l m b (n) true false))
+            (sym law.0) turn;
         outs_wide = subst (AreEntries (width_at ws k)) (sym law.0) tt;
         outs_few = subst (StaysWithin (most_rows ns k) (count b)) (sym law.0) few;
       }
 
   -- THE SECOND TICK of an instant, on the left side
-  left_last : (o o2 : PlainOperator) (log : Closed) (q r : List (Entry Row)) (l m b : List Row) (n : ℕ) (d e : Input) (t : ℕ) → (s : Before o log (at_join (TickAt t ∷ q) r l m b n false true) d e)
+  left_last : (o o2 : PlainOperator) (log : Closed) (q r : List (Entry Row)) (l m b : List Row) (n : ℕ) (d e : Input) (t : ℕ)
+      → (s : Before o log (at_join (TickAt t ∷ q) r l m b n false true) d e)
       → q ≡ waiting o2 log Left → r ≡ waiting o2 log Right → JoinMade s.runs.held o2 log Left (Tick t) (at_join (TickAt t ∷ q) r l m b n false true)
   left_last o o2 log q r l m b n d e t s lq rq =
       let g : JoinState = s.runs.held in
       let next : JoinState = join.next g Left (Tick t) in
-      let law : (put_out g Left (Tick t) ≡ TickAt t ∷ []) × (next.left.ticked ≡ false) × (next.right.ticked ≡ false) = (tick_law g Left t).passes s.runs.right_ticked in
+      let law : (put_out g Left (Tick t) ≡ TickAt t ∷ []) × (next.left.ticked ≡ false) × (next.right.ticked ≡ false) =
+      (tick_law g Left t).passes s.runs.right_ticked in
       let few : count b ≤ most_rows ns k = shown_few o log (TickAt t ∷ q) r l m b n false true d e s in
       let turn : Turn w (nets.join (joining keys) i j) (at_join (TickAt t ∷ q) r l m b n false true) (TickAt t ∷ []) (at_join q r l m b (n + 1) false false) =
       left_last_made w (joining keys) i j d.values e.values q r l m b n d.bag d.opens e.bag e.opens t s.good in
@@ -334,13 +348,16 @@ module _ (i j : ℕ) (keys : List plan.Key) (w : World) (ws : List ℕ) (ns : Li
         right_wide = s.wide.right;
         left_few = s.few.0.1;
         right_few = s.few.1;
-        turn = subst (λ z. Turn w (nets.join (joining keys) i j) (at_join (TickAt t ∷ q) r l m b n false true) z (at_join q r l m b (n + 1) false false)) (sym law.0) turn;
+        turn =
+            subst (λ z. Turn w (nets.join (joining keys) i j) (at_join (TickAt t ∷ q) r l m b n false true) z (at_join q r l m b (n + 1) false false))
+            (sym law.0) turn;
         outs_wide = subst (AreEntries (width_at ws k)) (sym law.0) tt;
         outs_few = subst (StaysWithin (most_rows ns k) (count b)) (sym law.0) (few, few);
       }
 
   -- THE FIRST TICK of an instant, on the right side
-  right_first : (o o2 : PlainOperator) (log : Closed) (q r : List (Entry Row)) (l m b : List Row) (n : ℕ) (d e : Input) (t : ℕ) → (s : Before o log (at_join q (TickAt t ∷ r) l m b n false false) d e)
+  right_first : (o o2 : PlainOperator) (log : Closed) (q r : List (Entry Row)) (l m b : List Row) (n : ℕ) (d e : Input) (t : ℕ)
+      → (s : Before o log (at_join q (TickAt t ∷ r) l m b n false false) d e)
       → q ≡ waiting o2 log Left → r ≡ waiting o2 log Right → JoinMade s.runs.held o2 log Right (Tick t) (at_join q (TickAt t ∷ r) l m b n false false)
   right_first o o2 log q r l m b n d e t s lq rq =
       let g : JoinState = s.runs.held in
@@ -367,18 +384,22 @@ module _ (i j : ℕ) (keys : List plan.Key) (w : World) (ws : List ℕ) (ns : Li
         right_wide = record { taken = s.wide.right.taken; queue = s.wide.right.queue };
         left_few = s.few.0;
         right_few = s.few.1.1;
-        turn = subst (λ z. Turn w (nets.join (joining keys) i j) (at_join q (TickAt t ∷ r) l m b n false false) z (at_join q r l m b (n) false true)) (sym law.0) turn;
+        turn =
+            subst (λ z. Turn w (nets.join (joining keys) i j) (at_join q (TickAt t ∷ r) l m b n false false) z (at_join q r l m b (n) false true))
+            (sym law.0) turn;
         outs_wide = subst (AreEntries (width_at ws k)) (sym law.0) tt;
         outs_few = subst (StaysWithin (most_rows ns k) (count b)) (sym law.0) few;
       }
 
   -- THE SECOND TICK of an instant, on the right side
-  right_last : (o o2 : PlainOperator) (log : Closed) (q r : List (Entry Row)) (l m b : List Row) (n : ℕ) (d e : Input) (t : ℕ) → (s : Before o log (at_join q (TickAt t ∷ r) l m b n true false) d e)
+  right_last : (o o2 : PlainOperator) (log : Closed) (q r : List (Entry Row)) (l m b : List Row) (n : ℕ) (d e : Input) (t : ℕ)
+      → (s : Before o log (at_join q (TickAt t ∷ r) l m b n true false) d e)
       → q ≡ waiting o2 log Left → r ≡ waiting o2 log Right → JoinMade s.runs.held o2 log Right (Tick t) (at_join q (TickAt t ∷ r) l m b n true false)
   right_last o o2 log q r l m b n d e t s lq rq =
       let g : JoinState = s.runs.held in
       let next : JoinState = join.next g Right (Tick t) in
-      let law : (put_out g Right (Tick t) ≡ TickAt t ∷ []) × (next.right.ticked ≡ false) × (next.left.ticked ≡ false) = (tick_law g Right t).passes s.runs.left_ticked in
+      let law : (put_out g Right (Tick t) ≡ TickAt t ∷ []) × (next.right.ticked ≡ false) × (next.left.ticked ≡ false) =
+      (tick_law g Right t).passes s.runs.left_ticked in
       let few : count b ≤ most_rows ns k = shown_few o log q (TickAt t ∷ r) l m b n true false d e s in
       let turn : Turn w (nets.join (joining keys) i j) (at_join q (TickAt t ∷ r) l m b n true false) (TickAt t ∷ []) (at_join q r l m b (n + 1) false false) =
       right_last_made w (joining keys) i j d.values e.values q r l m b n d.bag d.opens e.bag e.opens t s.good in
@@ -400,30 +421,38 @@ module _ (i j : ℕ) (keys : List plan.Key) (w : World) (ws : List ℕ) (ns : Li
         right_wide = record { taken = s.wide.right.taken; queue = s.wide.right.queue };
         left_few = s.few.0;
         right_few = s.few.1.1;
-        turn = subst (λ z. Turn w (nets.join (joining keys) i j) (at_join q (TickAt t ∷ r) l m b n true false) z (at_join q r l m b (n + 1) false false)) (sym law.0) turn;
+        turn =
+            subst (λ z. Turn w (nets.join (joining keys) i j) (at_join q (TickAt t ∷ r) l m b n true false) z (at_join q r l m b (n + 1) false false))
+            (sym law.0) turn;
         outs_wide = subst (AreEntries (width_at ws k)) (sym law.0) tt;
         outs_few = subst (StaysWithin (most_rows ns k) (count b)) (sym law.0) (few, few);
       }
 
   -- the item stands first on the left side
-  on_left : (o o2 : PlainOperator) (log : Closed) (q r : List (Entry Row)) (l m b : List Row) (n : ℕ) (x y : Bool) (d e : Input) (it : Item) (outs : List (Entry Row))
+  on_left : (o o2 : PlainOperator) (log : Closed) (q r : List (Entry Row)) (l m b : List Row) (n : ℕ) (x y : Bool) (d e : Input) (it : Item)
+      (outs : List (Entry Row))
       → Before o log (at_join q r l m b n x y) d e → (f : IsFirst o log Left it) → IsTurn o o2 log Left it outs
-      → ((s : Before o log (at_join (entries_of it ++ f.rest) r l m b n x y) d e) → f.rest ≡ waiting o2 log Left → r ≡ waiting o2 log Right → JoinMade s.runs.held o2 log Left it (at_join (entries_of it ++ f.rest) r l m b n x y)) → Made (at_join q r l m b n x y) outs o2 log
+      → ((s : Before o log (at_join (entries_of it ++ f.rest) r l m b n x y) d e) → f.rest ≡ waiting o2 log Left → r ≡ waiting o2 log Right
+      → JoinMade s.runs.held o2 log Left it (at_join (entries_of it ++ f.rest) r l m b n x y)) → Made (at_join q r l m b n x y) outs o2 log
   on_left o o2 log q r l m b n x y d e it outs s f turn new =
       let front : q ≡ entries_of it ++ f.rest = s.runs.left_queue ∙ f.is in
       let here : Before o log (at_join (entries_of it ++ f.rest) r l m b n x y) d e = subst (λ z. Before o log (at_join z r l m b n x y) d e) front s in
       subst (λ z. Made (at_join z r l m b n x y) outs o2 log) (sym front)
-      (made o log (entries_of it ++ f.rest) r l m b n x y d e here o2 Left it outs turn (new here (rest_waits o o2 log Left it _ f turn.finished) (s.runs.right_queue ∙ sym (other_waits o o2 log Left it _ turn.finished))))
+      (made o log (entries_of it ++ f.rest) r l m b n x y d e here o2 Left it outs turn
+      (new here (rest_waits o o2 log Left it _ f turn.finished) (s.runs.right_queue ∙ sym (other_waits o o2 log Left it _ turn.finished))))
 
   -- the item stands first on the right side
-  on_right : (o o2 : PlainOperator) (log : Closed) (q r : List (Entry Row)) (l m b : List Row) (n : ℕ) (x y : Bool) (d e : Input) (it : Item) (outs : List (Entry Row))
+  on_right : (o o2 : PlainOperator) (log : Closed) (q r : List (Entry Row)) (l m b : List Row) (n : ℕ) (x y : Bool) (d e : Input) (it : Item)
+      (outs : List (Entry Row))
       → Before o log (at_join q r l m b n x y) d e → (f : IsFirst o log Right it) → IsTurn o o2 log Right it outs
-      → ((s : Before o log (at_join q (entries_of it ++ f.rest) l m b n x y) d e) → q ≡ waiting o2 log Left → f.rest ≡ waiting o2 log Right → JoinMade s.runs.held o2 log Right it (at_join q (entries_of it ++ f.rest) l m b n x y)) → Made (at_join q r l m b n x y) outs o2 log
+      → ((s : Before o log (at_join q (entries_of it ++ f.rest) l m b n x y) d e) → q ≡ waiting o2 log Left → f.rest ≡ waiting o2 log Right
+      → JoinMade s.runs.held o2 log Right it (at_join q (entries_of it ++ f.rest) l m b n x y)) → Made (at_join q r l m b n x y) outs o2 log
   on_right o o2 log q r l m b n x y d e it outs s f turn new =
       let front : r ≡ entries_of it ++ f.rest = s.runs.right_queue ∙ f.is in
       let here : Before o log (at_join q (entries_of it ++ f.rest) l m b n x y) d e = subst (λ z. Before o log (at_join q z l m b n x y) d e) front s in
       subst (λ z. Made (at_join q z l m b n x y) outs o2 log) (sym front)
-      (made o log q (entries_of it ++ f.rest) l m b n x y d e here o2 Right it outs turn (new here (s.runs.left_queue ∙ sym (other_waits o o2 log Right it _ turn.finished)) (rest_waits o o2 log Right it _ f turn.finished)))
+      (made o log q (entries_of it ++ f.rest) l m b n x y d e here o2 Right it outs turn
+      (new here (s.runs.left_queue ∙ sym (other_waits o o2 log Right it _ turn.finished)) (rest_waits o o2 log Right it _ f turn.finished)))
 
 -- a side that has ticked cannot be used
 ticked_out : (s : JoinState) (o : PlainOperator) (side : Side) → o.state ≡ state.Join s → usable o.state side ≡ true → (side_of s side).ticked ≡ true → ⊥
@@ -432,8 +461,10 @@ ticked_out s o side e h t = untrue (sym (ap not t) ∙ subst (λ (held : State).
 pub join_steps : (i j : ℕ) (keys : List plan.Key) → StepLaw (plan.Join i j keys)
 join_steps i j keys w ws ns k o o2 log (at_window h u b q n) d e side it outs s f puts fin = absurd s.runs
 join_steps i j keys w ws ns k o o2 log (at_unary q t b n) d e side it outs s f puts fin = absurd s.runs
-join_steps i j keys w ws ns k o o2 log (at_join q r l m b n true y) d e Left it outs s f puts fin = absurd (ticked_out s.runs.held o Left s.runs.state f.usable s.runs.left_ticked)
-join_steps i j keys w ws ns k o o2 log (at_join q r l m b n x true) d e Right it outs s f puts fin = absurd (ticked_out s.runs.held o Right s.runs.state f.usable s.runs.right_ticked)
+join_steps i j keys w ws ns k o o2 log (at_join q r l m b n true y) d e Left it outs s f puts fin =
+    absurd (ticked_out s.runs.held o Left s.runs.state f.usable s.runs.left_ticked)
+join_steps i j keys w ws ns k o o2 log (at_join q r l m b n x true) d e Right it outs s f puts fin =
+    absurd (ticked_out s.runs.held o Right s.runs.state f.usable s.runs.right_ticked)
 join_steps i j keys w ws ns k o o2 log (at_join q r l m b n false y) d e Left (Rows t xs) outs s f puts fin =
     on_left i j keys w ws ns k o o2 log q r l m b n false y d e (Rows t xs) outs s f (record { puts = puts; finished = fin })
     (λ here lq rq. left_rows i j keys w ws ns k o o2 log f.rest r l m b n y d e t xs here (omega (arith, f.some, length-map xs (RowAt t))) lq rq)
@@ -454,8 +485,10 @@ join_steps i j keys w ws ns k o o2 log (at_join q r l m b n true false) d e Righ
     (λ here lq rq. right_last i j keys w ws ns k o o2 log q f.rest l m b n d e t here lq rq)
 
 -- THE ITEM MAY BE TAKEN: its rows are as wide as its side's, and the side stays below 2^62 rows
-item_wide : (w c : ℕ) (it : Item) (q rest : List (Entry Row)) → q ≡ entries_of it ++ rest → 0 < length (entries_of it) → AreEntries w q → c ≡ w → join.IsItemWide c it
-item_wide w c (Rows t xs) q rest e l h k = first_wide w xs (omega (arith, l, length-map xs (RowAt t))) (entries_front w t xs rest (subst (AreEntries w) e h)) ∙ sym k
+item_wide : (w c : ℕ) (it : Item) (q rest : List (Entry Row)) → q ≡ entries_of it ++ rest → 0 < length (entries_of it) → AreEntries w q → c ≡ w
+    → join.IsItemWide c it
+item_wide w c (Rows t xs) q rest e l h k =
+    first_wide w xs (omega (arith, l, length-map xs (RowAt t))) (entries_front w t xs rest (subst (AreEntries w) e h)) ∙ sym k
 item_wide w c (Tick t) q rest e l h k = tt
 
 item_room : (held : SideState) (it : Item) → length (entries_of it) ≤ 1024 → length held.rows ≤ 2 ^ 61 → join.HasRoom held it
@@ -467,18 +500,24 @@ join_may i j keys w ws ns k o log (at_window h u b q n) d e side it s f = absurd
 join_may i j keys w ws ns k o log (at_unary q t b n) d e side it s f = absurd s.runs
 join_may i j keys w ws ns k o log (at_join q r l m b n x y) d e Left it s f =
     let g : JoinState = s.runs.held in
-    let widths : (g.left.width ≡ width_at ws i) × (g.right.width ≡ width_at ws j) = subst (IsJoinWide (width_at ws i) (width_at ws j)) s.runs.state s.wide.state in
+    let widths : (g.left.width ≡ width_at ws i) × (g.right.width ≡ width_at ws j) =
+    subst (IsJoinWide (width_at ws i) (width_at ws j)) s.runs.state s.wide.state in
     record {
-      columns = subst (λ (held : State). HasColumns held Left it) (sym s.runs.state) (item_wide (width_at ws i) g.left.width it q f.rest (s.runs.left_queue ∙ f.is) f.some s.wide.left.queue widths.0);
+      columns =
+          subst (λ (held : State). HasColumns held Left it) (sym s.runs.state)
+          (item_wide (width_at ws i) g.left.width it q f.rest (s.runs.left_queue ∙ f.is) f.some s.wide.left.queue widths.0);
       named = subst (λ (what : Kind). HasNamedColumns what it) (sym s.runs.kind) tt;
       takes = subst (λ (held : State). Takes held Left it (change_at o.kind it (near_of held Left it))) (sym s.runs.state)
           (item_room g.left it f.few (omega (arith, side_few Left g.keys g.left l s.runs.stands.left, stays_now q s.few.0, s.room.always i)));
     }
 join_may i j keys w ws ns k o log (at_join q r l m b n x y) d e Right it s f =
     let g : JoinState = s.runs.held in
-    let widths : (g.left.width ≡ width_at ws i) × (g.right.width ≡ width_at ws j) = subst (IsJoinWide (width_at ws i) (width_at ws j)) s.runs.state s.wide.state in
+    let widths : (g.left.width ≡ width_at ws i) × (g.right.width ≡ width_at ws j) =
+    subst (IsJoinWide (width_at ws i) (width_at ws j)) s.runs.state s.wide.state in
     record {
-      columns = subst (λ (held : State). HasColumns held Right it) (sym s.runs.state) (item_wide (width_at ws j) g.right.width it r f.rest (s.runs.right_queue ∙ f.is) f.some s.wide.right.queue widths.1);
+      columns =
+          subst (λ (held : State). HasColumns held Right it) (sym s.runs.state)
+          (item_wide (width_at ws j) g.right.width it r f.rest (s.runs.right_queue ∙ f.is) f.some s.wide.right.queue widths.1);
       named = subst (λ (what : Kind). HasNamedColumns what it) (sym s.runs.kind) tt;
       takes = subst (λ (held : State). Takes held Right it (change_at o.kind it (near_of held Right it))) (sym s.runs.state)
           (item_room g.right it f.few (omega (arith, side_few Right g.keys g.right m s.runs.stands.right, stays_now r s.few.1, s.room.always j)));

@@ -1,6 +1,6 @@
 //! What is kept of a group.
 
-ghost use Rattle.std.specs.Prelude.{◌≡◌, ◌+◌, ◌-◌, ◌^◌, ◌<◌, ◌≤◌, ◌∷◌, [], length, map, replicate, IfOk, OnOk, OnErr, IsSome, pos, ℤ, Option, Some, None, List, cond, nat_lt, false, ◌+ℤ◌, ◌*◌};
+ghost use Rattle.std.specs.Prelude.{◌≡◌, ◌+◌, ◌-◌, ◌^◌, ◌<◌, ◌≤◌, ◌∷◌, [], length, map, replicate, IfOk, OnOk, OnErr, IsSome, pos, ℤ, Option, Some, None, List, cond, nat_lt, false, ◌+ℤ◌, ◌-ℤ◌, ◌*◌, ◌/◌, ◌==◌, fold};
 ghost use Rattle.std.specs.BTreeMap.{is_at};
 ghost use Rattle.std.specs.BTreeMap as tree;
 ghost use Rattle.std.specs.Map.{set_value, values_of};
@@ -9,21 +9,18 @@ ghost use Rattle.values.specs.Row.{value_cmp, value_at};
 ghost use Rattle.values.specs.Value.{IsAnswerValue};
 ghost use Rattle.column.specs.Rows.{signed};
 ghost use Rattle.lane_kernels.specs.Lanes.{IsWithin};
-ghost use Rattle.group.specs.Cells.{count_of, one_more, one_less, values_by, number_of, keeps, signed_by, tally_zero, tally_by, partly, tallies_after, cell_zero, cell_after, showing, figure, figures, sum_figure, least, greatest, clamped_or, number_figure, value_figure, keeping, TallyRoom, CellRoom, ReadsInRange};
-ghost use Rattle.std.specs.Prelude.{fold, ◌==◌, ◌/◌, ◌-ℤ◌};
-ghost use Rattle.column.specs.Bits.{bits, word_count};
-ghost use Rattle.column.specs.Bits.{place as place_of};
+ghost use Rattle.group.specs.Cells.{count_of, one_more, one_less, values_by, number_of, keeps, signed_by, tally_zero, tally_by, partly, tallies_after, cell_zero, cell_after, showing, each, figure, figures, sum_figure, least, greatest, clamped_or, number_figure, value_figure, keeping, TallyRoom, CellRoom, ReadsInRange};
+ghost use Rattle.column.specs.Bits.{bits, word_count, place as place_of};
 ghost use Rattle.column.specs.Columns.{IsStreamValue};
-ghost use Rattle.group.specs.Cells.{each};
 ghost use Rattle.group.specs.Batches.{rows_counted, leaving, fields, tally_values, tally_sums, tally_rows, numbers_read, AllInRange};
 
-use crate::rows::{copy_row, field_of};
+use crate::rows::field_of;
 use column::{Batch, Column as Lane, SignedRow};
 use lane_kernels::{count_set, count_signed, sum_signed};
 use std::alloc::{AllocError, Global};
 use std::collections::BTreeMap;
 use std::marker::Model;
-use values::{Column, Item, Row, Value, value_at};
+use values::{Column, Item, Row, Value, copy_row, value_at};
 
 /// The number that an item reads in a row; null where it reads none.
 fn number_of(item: Item, row: &Row) -> Value

@@ -396,7 +396,7 @@ fn is_set(words: &[u64], place: usize) -> bool
     words[place / 64] >> (place % 64) & 1 == 1
 }
 
-/// How many are left of all, where those gone are taken away as well as not counted.
+/// All less twice those gone: how many stay, those gone taken away.
 fn less_twice(all: usize, gone: u32) -> i64
     requires { all ≤ 1024 }
     ensures { result ≡ pos all -ℤ pos (2 * gone) }

@@ -37,13 +37,13 @@ def value(chance):
     return None if chance.random() < 0.2 else chance.randrange(4)
 
 
-def rows(chance, at, width, most):
-    return [[at] + [value(chance) for _ in range(width)] for _ in range(chance.randrange(most + 1))]
+def rows(chance, at, width, least, most):
+    return [[at] + [value(chance) for _ in range(width)] for _ in range(chance.randrange(least, most + 1))]
 
 
-def texts(chance, joins):
+def texts(chance, windows, joins):
     for shape in LISTS:
-        for window in chance.sample(WINDOWS, 3):
+        for window in chance.sample(windows, min(3, len(windows))):
             yield chance.choice(["Istream", "Dstream", "Rstream"]), shape.format(window)
     for shape in JOINS:
         for _ in range(joins):
@@ -51,16 +51,15 @@ def texts(chance, joins):
             yield chance.choice(["Istream", "Dstream", "Rstream"]), shape.format(*pair)
 
 
-def script(seed, instants, most, joins, drains, queries=99):
+def script(seed, instants, least, most, joins, drains, windows=WINDOWS):
     chance = random.Random(seed)
     lines = [
         {"op": "stream", "name": "S", "columns": ["k", "v", "w"], "from": 0},
         {"op": "stream", "name": "T", "columns": ["k", "v"], "from": chance.randrange(3)},
     ]
     closed = {"S": -1, "T": lines[1]["from"] - 1}
-    waiting = [f"Select {operator}{rest}" for operator, rest in texts(chance, joins)]
+    waiting = [f"Select {operator}{rest}" for operator, rest in texts(chance, windows, joins)]
     chance.shuffle(waiting)
-    waiting = waiting[:queries]
     names = []
     while min(closed.values()) < instants:
         # a third of the queries come while the streams run
@@ -70,10 +69,10 @@ def script(seed, instants, most, joins, drains, queries=99):
         stream = min(closed, key=closed.get) if chance.random() < 0.8 else chance.choice("ST")
         width = 3 if stream == "S" else 2
         later = closed[stream] + 1 + chance.randrange(3)
-        more = rows(chance, closed[stream] + 1, width, most) + rows(chance, later, width, most // 2)
+        more = rows(chance, closed[stream] + 1, width, least, most) + rows(chance, later, width, 0, most // 2)
         chance.shuffle(more)
-        if more:
-            lines.append({"op": "append", "stream": stream, "rows": more})
+        for first in range(0, len(more), 1000):
+            lines.append({"op": "append", "stream": stream, "rows": more[first : first + 1000]})
         if chance.random() < 0.8:
             closed[stream] += 1 + (chance.randrange(4) if chance.random() < 0.3 else 0)
             lines.append({"op": "heartbeat", "stream": stream, "at": closed[stream]})
@@ -86,8 +85,8 @@ def script(seed, instants, most, joins, drains, queries=99):
 folder = sys.argv[1]
 for seed in range(4):
     with open(f"{folder}/few_{seed}", "w") as file:
-        file.write(script(seed, 12, 3, 3, 0.3))
+        file.write(script(seed, 12, 0, 3, 3, 0.3))
     with open(f"{folder}/some_{seed}", "w") as file:
-        file.write(script(100 + seed, 5, 12, 1, 0.1))
+        file.write(script(100 + seed, 5, 0, 12, 1, 0.1))
 with open(f"{folder}/many", "w") as file:
-    file.write(script(200, 1, 1400, 0, 0, 8))
+    file.write(script(200, 0, 1025, 1100, 0, 0, ["[Range 1]"]))

@@ -77,8 +77,14 @@ fn rows_of_now_are_shown(alloc: Global) -> Result<bool, AllocError> {
     listing_answers(alloc, Operator::Istream, Window::Range(0), 4, rows, &wanted)
 }
 
+fn seven_is_printed(alloc: Global) -> Result<bool, AllocError> {
+    let text = format!(in alloc; "{}", Value::clamped(7))?;
+    Ok(text.as_str() == "7")
+}
+
 #[test]
 fn the_rows_of_an_instant_are_shown_in_order(rt: HostRuntime) -> Result<(), Fail> {
     assert!(rt; rows_of_now_are_shown(rt.alloc())?);
+    assert!(rt; seven_is_printed(rt.alloc())?);
     Ok(())
 }

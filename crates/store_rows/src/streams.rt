@@ -249,7 +249,7 @@ fn sizes(alloc: Global) -> Result<(u64, u128, usize), Fault> {
 
 // The numbers of S and of s.
 fn named(alloc: Global) -> Result<[Option<u64>; 2], Fault> {
-    let streams = streams(alloc)?;
+    let streams = half_closed(alloc)?;
     Ok([streams.named("S"), streams.named("s")])
 }
 
@@ -265,7 +265,7 @@ fn has_one_stream(catalog: &Catalog) -> bool {
 }
 
 fn catalog_has_one_stream(alloc: Global) -> Result<bool, Fault> {
-    let streams = streams(alloc)?;
+    let streams = half_closed(alloc)?;
     let catalog = streams.catalog()?;
     Ok(has_one_stream(&catalog))
 }

@@ -1,5 +1,5 @@
 -- Cursors over a log: what stands at the front, what leaves, how much waits.
-use Rattle.std.proofs.Common.{◌≡◌, ℕ, suc, ◌+◌, ◌-◌, ◌<◌, ◌≤◌, Bool, true, false, cond, nat_lt, Some, List, [], ◌∷◌, ◌++◌, length, map, min, take, drop, slice_range, refl, ap, sym, ◌∙◌, arith, append_assoc, length-append, length-drop, length-take, ⊎_elim}
+use Rattle.std.proofs.Common.{◌≡◌, ℕ, suc, ◌+◌, ◌-◌, ◌<◌, ◌≤◌, Bool, true, false, cond, nat_lt, max, Some, List, [], ◌∷◌, ◌++◌, length, map, min, take, drop, slice_range, refl, ap, sym, ◌∙◌, arith, append_assoc, length-append, length-drop, length-take, ⊎_elim}
 use Rattle.std.specs.List.{flat_map, filter, range_with_len, All, drop-map}
 use Rattle.std.proofs.lemmas.Bool.{cases_lt}
 use Rattle.std.proofs.lemmas.Bool.Decides.{nat_tests}
@@ -7,7 +7,7 @@ use Rattle.std.proofs.lemmas.List.{drop-drop, drop_at, drop-append-le, length-ma
 use Rattle.std.proofs.lemmas.List.Elements.{All-weaker}
 use Rattle.values.specs.Row.{Row}
 use Rattle.values.specs.Window.{Element}
-use Rattle.op_queue.specs.Cursors.{IsWithin, cursor_entries}
+use Rattle.op_queue.specs.Cursors.{Advances, IsWithin, cursor_entries}
 use Rattle.op_queue.specs.Entries.{Entry, RowAt, TickAt}
 use Rattle.op_queue.specs.Items.{IsFrontPart, front_of, front_part, front_rows}
 use Rattle.op_queue.specs.Logs.{Closed, entering, instant_entries, is_shown, is_waiting, log_entries, row_entries, shown, span_entries}
@@ -219,3 +219,23 @@ pub passed-le : (c : Cursor) (log : Closed) (from to : ℕ) → rest_of c log �
 passed-le c log from to is end within =
     let n = ap length is ∙ length-slice_range log.elements from to end in
     omega (arith, n, length-drop c.passed (shown c.place c.at log.elements), length-filter-le (is_shown c.place c.at) log.elements)
+
+-- `left` of the `count` rows and ticks of the cursor `old` are still to leave
+pub record IsLeaving (old : Cursor) (count left : ℕ) (c : Cursor) (log : Closed) : Type 0 where
+  pub passing : IsPassing (cursor_entries old log) count left c log
+  pub advances : Advances log old c
+
+pub IsLeaving-rows : {old : Cursor} {count left : ℕ} (c : Cursor) (log : Closed) (from to : ℕ) → rest_of c log ≡ slice_range log.elements from to → to ≤ length log.elements → IsLeaving old count left c log → 0 < left → left ≤ to - from → IsLeaving old count 0 (record { place = c.place; at = c.at; passed = c.passed + left }) log
+IsLeaving-rows c log from to is end h some few = record {
+  passing = IsPassing-rows c log from to is end h.passing some few;
+  advances = record { place = h.advances.place; goes_on = h.advances.goes_on };
+}
+
+pub IsLeaving-instant : {old : Cursor} {count left : ℕ} (c : Cursor) (log : Closed) (from to : ℕ) → rest_of c log ≡ slice_range log.elements from to → to ≤ length log.elements → IsLeaving old count left c log → to - from < left → IsLeaving old count (left - (to - from + 1)) (record { place = c.place; at = c.at + 1; passed = 0 }) log
+IsLeaving-instant c log from to is end h much =
+    let lt = passing_open c log h.passing (omega arith) in
+    let same : max (c.at + 1) log.until ≡ max c.at log.until = omega arith in
+    record {
+      passing = IsPassing-instant c log from to is end h.passing much;
+      advances = record { place = h.advances.place; goes_on = same ∙ h.advances.goes_on };
+    }

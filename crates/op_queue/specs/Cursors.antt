@@ -15,6 +15,11 @@ cursor_entries c log =
 abbrev pub IsWithin : Cursor → Closed → Type 0
 IsWithin c log = c.passed ≤ length (shown c.place c.at log.elements)
 
+-- rows and ticks have left: the cursor reads from the same place on, and goes on where its log ends, or where it had passed that
+pub record Advances (log : Closed) (old new : Cursor) : Type 0 where
+  pub place : new.place ≡ old.place
+  pub goes_on : max new.at log.until ≡ max old.at log.until
+
 -- the queue of every cursor gains the rows and ticks of the instants that the log closed, and nothing else
 pub record GainsClosed (old : Closed) (es : List Element) (until : ℕ) (new : Closed) : Type 0 where
   pub gains : (c : Cursor) → IsWithin c old → cursor_entries c new ≡ cursor_entries c old ++ span_entries c.place es (max c.at old.until) until

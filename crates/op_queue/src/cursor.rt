@@ -1,6 +1,6 @@
 //! Cursors.
 ghost use Rattle.std.specs.Prelude.{◌≡◌, ◌<◌, ◌≤◌, length, drop, min, slice_range, IfOk};
-ghost use Rattle.op_queue.specs.Cursors.{IsWithin, cursor_entries};
+ghost use Rattle.op_queue.specs.Cursors.{Advances, IsWithin, cursor_entries};
 ghost use Rattle.op_queue.specs.Items.{IsFrontPart, entries_of, front_of, front_part};
 ghost use Rattle.op_queue.specs.Logs.{Closed, log_entries, shown};
 
@@ -74,6 +74,7 @@ impl Cursor {
         requires within { IsWithin self.old log.now }
         ensures entries { cursor_entries self.new log.now ≡ drop count (cursor_entries self.old log.now) }
         ensures within { IsWithin self.new log.now }
+        ensures advances { Advances log.now self.old self.new }
     {
         let _until = log.until();
         let _len = log.len();

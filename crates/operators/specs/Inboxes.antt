@@ -3,7 +3,7 @@ use Rattle.std.specs.Prelude.{ℕ, ◌≡◌, Bool, true, false, min, List, [], 
 use Rattle.std.specs.List.{flat_map}
 use Rattle.values.specs.Row.{Row}
 use Rattle.values.specs.Window.{Element}
-use Rattle.op_queue.specs.Cursors.{IsWithin, cursor_entries}
+use Rattle.op_queue.specs.Cursors.{Advances, IsWithin, cursor_entries}
 use Rattle.op_queue.specs.Entries.{Entry}
 use Rattle.op_queue.specs.Items.{entries_of, front_part}
 use Rattle.op_queue.specs.Logs.{Closed, span_entries}
@@ -41,8 +41,16 @@ cut_of rows (Between q) log = take (min rows (at_once q.begins)) q.entries
 abbrev pub all_entries : List Item → List (Entry Row)
 all_entries items = flat_map entries_of items
 
+-- a first queue reads from the same place on, and goes on where its log ends, or where it had passed that
+abbrev pub GoesOn : Closed → Inbox → Inbox → Type 0
+GoesOn log (First c) (First d) = Advances log c d
+GoesOn log (First c) (Between w) = ⊥
+GoesOn log (Between u) (First d) = ⊥
+GoesOn log (Between u) (Between w) = Unit {0}
+
 -- the first n rows and ticks have left
 pub record IsDropped (n : ℕ) (log : Closed) (old new : Inbox) : Type 0 where
   pub entries : entries_in new log ≡ drop n (entries_in old log)
   pub within : IsInboxWithin new log
   pub same : is_fed new ≡ is_fed old
+  pub goes_on : GoesOn log old new

@@ -2,7 +2,7 @@
 ghost use Rattle.std.specs.Prelude.{◌≡◌, ◌<◌, ◌≤◌, ◌++◌, [], true, length, drop, IfOk, OnOk};
 ghost use Rattle.op_queue.specs.Entries.{IsForward};
 ghost use Rattle.op_queue.specs.Items.{IsFrontPart, entries_of, front_of};
-ghost use Rattle.operators.specs.Inboxes.{IsInboxWithin, all_entries, cut_of, entries_in, is_fed, queued};
+ghost use Rattle.operators.specs.Inboxes.{GoesOn, IsInboxWithin, all_entries, cut_of, entries_in, is_fed, queued};
 
 use op_queue::{Cursor, Front, Item, Log, Queue};
 use std::alloc::{AllocError, Global};
@@ -50,6 +50,7 @@ impl Inbox {
         ensures entries { entries_in self.new log.now ≡ drop count (entries_in self.old log.now) }
         ensures within { IsInboxWithin self.new log.now }
         ensures same { is_fed self.new ≡ is_fed self.old }
+        ensures goes_on { GoesOn log.now self.old self.new }
     {
         match self {
             Inbox::First(cursor) => cursor.drop_front(log, count),

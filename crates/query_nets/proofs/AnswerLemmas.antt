@@ -28,19 +28,13 @@ use Rattle.query_nets.specs.Widths.{AreEntries, width_at}
 use Rattle.query_nets.specs.Counts.{most_rows}
 use Rattle.query_nets.specs.Steps.{IsFirst, outs_at_first}
 use Rattle.query_nets.specs.Roots.{RootMade, RootMay, RootStands, RootStep}
-use Rattle.query_nets.specs.Queries.{GoesOn, HasInboxes, IsAnswered, IsLeftInbox, IsRunning, MayFinish, RootHasRoom, RunsAt, log_at, node_at, operator_at}
+use Rattle.query_nets.specs.Queries.{HasInboxes, IsAnswered, IsLeftInbox, IsRunning, MayFinish, RootHasRoom, RunsAt, log_at, node_at, operator_at}
 use Rattle.query_nets.proofs.QueueLemmas.{first_waits, inbox_within, inboxes_finished}
 
 wide_rest : (w : ℕ) (q r : List (Entry Row)) → AreEntries w (q ++ r) → AreEntries w r
 wide_rest w [] r h = h
 wide_rest w (RowAt t s ∷ q) r h = wide_rest w q r h.1
 wide_rest w (TickAt t ∷ q) r h = wide_rest w q r h
-
--- a queue between operators stays one
-between : (log : Closed) (i j : Inbox) → is_fed i ≡ true → is_fed j ≡ is_fed i → GoesOn log i j
-between log (First c) j h e = absurd (cc)
-between log (Between u) (First d) h e = absurd (cc)
-between log (Between u) (Between w) h e = tt
 
 module _ (vs ws : List ℕ) (m : Machine) (q : Registered) (room : RootHasRoom m q) (os : List PlainOperator) (given : List (ℕ × Row)) (r : IsRunning vs ws m q os given) where
   root_stands : RootStands q.first q.first [] (input_of (value_of m q) r.cells (below_root q.nodes - 1)) (most_rows q.nodes (below_root q.nodes - 1)) (operator_at os (below_root q.nodes)) (log_at m q (below_root q.nodes)) r.held r.queue given

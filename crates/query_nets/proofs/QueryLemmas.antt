@@ -193,7 +193,7 @@ module _ (vs ws : List ℕ) (m : Machine) (q : Registered) (may : (node : plan.N
     self_runs : RunsAt ws m q k (operator_at os2 k) (cells2 k)
     self_runs =
         subst (RunsAt ws m q k (operator_at os2 k)) (sym self_is)
-        (record { runs = made.runs; wide = made.wide; few = made.few; inboxes = inboxes_finished q (log_at m q k) (node_at q k) (operator_at os k) (operator_at os2 k) side i _ t.finished t.goes_on (r.inner k kc).inboxes })
+        (record { runs = made.runs; wide = made.wide; few = made.few; inboxes = inboxes_finished q (log_at m q k) (node_at q k) (operator_at os k) (operator_at os2 k) side i _ t.finished (r.inner k kc).inboxes })
 
     other_runs : (j : ℕ) → j < below_root q.nodes → j ≢ k → j ≢ to → RunsAt ws m q j (operator_at os2 j) (cells2 j)
     unfolding to

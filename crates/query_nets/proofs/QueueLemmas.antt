@@ -8,7 +8,7 @@ use Rattle.op_queue.specs.Items.{entries_of}
 use Rattle.op_queue.specs.Logs.{Closed}
 use Rattle.op_queue.specs.declared.item.Item.{Item}
 use Rattle.turn.specs.declared.outcomes.Change.{Change}
-use Rattle.operators.specs.Inboxes.{IsInboxWithin, is_fed}
+use Rattle.operators.specs.Inboxes.{GoesOn, IsInboxWithin, is_fed}
 use Rattle.operators.specs.Operators.{IsFed, IsFinished, PlainOperator, inbox_of, waiting}
 use Rattle.operators.specs.declared.inboxes.Inbox.{Inbox}
 use Rattle.operators.specs.declared.inboxes.Inbox.TheVariants.{First, Between}
@@ -16,7 +16,7 @@ use Rattle.plan.specs.Nodes as plan
 use Rattle.plan.specs.Nodes.{Window, Select, Join, Project, Group, Distinct, ToStream}
 use Rattle.reference.specs.Machine.{Registered}
 use Rattle.query_nets.specs.Steps.{IsFirst}
-use Rattle.query_nets.specs.Queries.{GoesOn, HasInboxes, IsLeftInbox, Reads, place_of}
+use Rattle.query_nets.specs.Queries.{HasInboxes, IsLeftInbox, Reads, place_of}
 use Rattle.query_nets.proofs.WireLemmas.{TakesAt}
 
 -- ALL INBOXES are within their logs
@@ -43,7 +43,7 @@ first_waits o log side i f = omega (arith, ap length f.is, length-append (entrie
 
 -- A TURN of the operator
 reads_on : (place first : ℕ) (log : Closed) (i j : Inbox) → GoesOn log i j → Reads place first log i → Reads place first log j
-reads_on place first log (First c) (First d) g r = (g.0 ∙ r.0, g.1 ∙ r.1)
+reads_on place first log (First c) (First d) g r = (g.place ∙ r.0, g.goes_on ∙ r.1)
 reads_on place first log (First c) (Between w) g r = absurd g
 reads_on place first log (Between u) (First d) g r = absurd r
 reads_on place first log (Between u) (Between w) g r = absurd r
@@ -57,9 +57,9 @@ left_goes_on q log (Group k by items) i j g w e h = e ∙ h
 left_goes_on q log (Distinct k) i j g w e h = e ∙ h
 left_goes_on q log (ToStream k op) i j g w e h = e ∙ h
 
-pub inboxes_finished : (q : Registered) (log : Closed) (node : plan.Node) (o o2 : PlainOperator) (side : Side) (i : Item) (c : Change) → IsFinished o log side i c o2 → GoesOn log (inbox_of o side) (inbox_of o2 side) → HasInboxes q log node o → HasInboxes q log node o2
-inboxes_finished q log node o o2 Left i c f g h = record { left = left_goes_on q log node o.left o2.left g f.dropped.within f.dropped.same h.left; right = subst (λ x. is_fed x ≡ true) (sym f.other) h.right }
-inboxes_finished q log node o o2 Right i c f g h = record { left = subst (λ x. IsLeftInbox q log node x) (sym f.other) h.left; right = f.dropped.same ∙ h.right }
+pub inboxes_finished : (q : Registered) (log : Closed) (node : plan.Node) (o o2 : PlainOperator) (side : Side) (i : Item) (c : Change) → IsFinished o log side i c o2 → HasInboxes q log node o → HasInboxes q log node o2
+inboxes_finished q log node o o2 Left i c f h = record { left = left_goes_on q log node o.left o2.left f.dropped.goes_on f.dropped.within f.dropped.same h.left; right = subst (λ x. is_fed x ≡ true) (sym f.other) h.right }
+inboxes_finished q log node o o2 Right i c f h = record { left = subst (λ x. IsLeftInbox q log node x) (sym f.other) h.left; right = f.dropped.same ∙ h.right }
 
 -- A FED OPERATOR
 pub fed_side : (q : Registered) (log : Closed) (k : ℕ) (node : plan.Node) (o : PlainOperator) (side : Side) → TakesAt k node side → HasInboxes q log node o → is_fed (inbox_of o side) ≡ true

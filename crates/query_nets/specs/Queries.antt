@@ -133,13 +133,6 @@ pub record IsPlainQuery (vs ws : List ℕ) (m : Machine) (q : Registered) (taken
   pub runs : IsRunning vs ws m q p.operators (taken ++ p.answers)
 
 -- A FINISHED TURN
--- the first queue reads the same place, and goes on where its log ends if it had not passed that
-abbrev pub GoesOn : Closed → Inbox → Inbox → Type 0
-GoesOn log (First c) (First d) = (d.place ≡ c.place) × (max d.at log.until ≡ max c.at log.until)
-GoesOn log (First c) (Between w) = ⊥
-GoesOn log (Between u) (First d) = ⊥
-GoesOn log (Between u) (Between w) = Unit {0}
-
 abbrev pub change_at_first : PlainOperator → Side → Item → Change
 change_at_first o side i = change_at o.kind i (near_of o.state side i)
 
@@ -147,7 +140,6 @@ change_at_first o side i = change_at o.kind i (near_of o.state side i)
 pub record IsTurned (m : Machine) (q : Registered) (k : ℕ) (side : Side) (i : Item) (outs : List (Entry Row)) (os os2 : List PlainOperator) : Type 0 where
   pub many : length os2 ≡ length os
   pub finished : IsFinished (operator_at os k) (log_at m q k) side i (change_at_first (operator_at os k) side i) (operator_at os2 k)
-  pub goes_on : GoesOn (log_at m q k) (inbox_of (operator_at os k) side) (inbox_of (operator_at os2 k) side)
   pub fed : IsFed (operator_at os (wire_from 0 q.nodes k).to) (wire_from 0 q.nodes k).side outs (operator_at os2 (wire_from 0 q.nodes k).to)
   pub others : (j : ℕ) → j ≢ k → j ≢ (wire_from 0 q.nodes k).to → operator_at os2 j ≡ operator_at os j
 

@@ -1,5 +1,5 @@
 -- A running query after a turn of its root, which gives answers.
-use Rattle.std.proofs.Common.{◌≡◌, ◌≢◌, ℕ, ◌-◌, ◌<◌, ◌≤◌, Bool, true, false, List, [], ◌∷◌, ◌++◌, length, refl, sym, ap, ap₂, ◌∙◌, subst, subst₂, arith}
+use Rattle.std.proofs.Common.{◌≡◌, ℕ, ◌-◌, true, List, [], ◌∷◌, ◌++◌, refl, sym, ap, ap₂, ◌∙◌, subst, subst₂, arith}
 use Rattle.values.specs.Row.{Row}
 use Rattle.values.specs.Resolved.{operator_of}
 use Rattle.column.specs.declared.batch.Side.{Side}
@@ -10,25 +10,19 @@ use Rattle.op_queue.specs.Logs.{Closed}
 use Rattle.op_queue.specs.declared.item.Item.{Item}
 use Rattle.to_stream.specs.Turns as root
 use Rattle.turn.specs.Turns.{Answered, outs_at}
-use Rattle.turn.specs.declared.kinds.Kind.TheVariants as kind
-use Rattle.operators.specs.Inboxes.{is_fed}
-use Rattle.operators.specs.Operators.{Belongs, IsFinished, PlainOperator, inbox_of}
+use Rattle.operators.specs.Operators.{Belongs, PlainOperator, inbox_of}
 use Rattle.operators.specs.States.{near_of}
 use Rattle.operators.specs.declared.inboxes.Inbox.{Inbox}
 use Rattle.operators.specs.declared.inboxes.Inbox.TheVariants.{First, Between}
-use Rattle.operators.specs.declared.states.State.TheVariants as state
-use Rattle.plan.specs.Nodes as plan
 use Rattle.reference.specs.Machine.{Machine, Registered}
-use Rattle.nets.specs.Laws.{IsGood}
 use Rattle.nets.specs.Nets.{input_of}
 use Rattle.nets.specs.Plans.{below_root, value_of, world_of}
-use Rattle.nets.proofs.AnswerLemmas.{shaped}
-use Rattle.nets.proofs.PlanLemmas.{Shaped}
 use Rattle.query_nets.specs.Widths.{AreEntries, width_at}
 use Rattle.query_nets.specs.Counts.{most_rows}
 use Rattle.query_nets.specs.Steps.{IsFirst, outs_at_first}
+use Rattle.query_nets.specs.Rooms.{RootHasRoom}
 use Rattle.query_nets.specs.Roots.{RootMade, RootMay, RootStands, RootStep}
-use Rattle.query_nets.specs.Queries.{HasInboxes, IsAnswered, IsLeftInbox, IsRunning, MayFinish, RootHasRoom, RunsAt, log_at, node_at, operator_at}
+use Rattle.query_nets.specs.Queries.{IsAnswered, IsRunning, MayFinish, RunsAt, log_at, node_at, operator_at}
 use Rattle.query_nets.proofs.QueueLemmas.{first_waits, inbox_within, inboxes_finished}
 
 wide_rest : (w : ℕ) (q r : List (Entry Row)) → AreEntries w (q ++ r) → AreEntries w r
@@ -39,12 +33,6 @@ wide_rest w (TickAt t ∷ q) r h = wide_rest w q r h
 module _ (vs ws : List ℕ) (m : Machine) (q : Registered) (room : RootHasRoom m q) (os : List PlainOperator) (given : List (ℕ × Row)) (r : IsRunning vs ws m q os given) where
   root_stands : RootStands q.first q.first [] (input_of (value_of m q) r.cells (below_root q.nodes - 1)) (most_rows q.nodes (below_root q.nodes - 1)) (operator_at os (below_root q.nodes)) (log_at m q (below_root q.nodes)) r.held r.queue given
   root_stands = record { runs = r.last.runs; room = room r.cells; good = r.good.root; few = r.last.few }
-
-  root_fed_inbox : (side : Side) → is_fed (inbox_of (operator_at os (below_root q.nodes)) side) ≡ true
-  root_fed_inbox Left =
-      let sh : Shaped (world_of m q).closed q.meaning q.nodes = shaped vs m q r.stands.plan r.stands.wide in
-      subst (λ n. IsLeftInbox q (log_at m q (below_root q.nodes)) n (operator_at os (below_root q.nodes)).left) sh.root r.last.inboxes.left
-  root_fed_inbox Right = r.last.inboxes.right
 
   -- THE ITEM THAT STANDS FIRST may be taken
   pub answer_may : RootMay → (side : Side) (i : Item) → IsFirst (operator_at os (below_root q.nodes)) (log_at m q (below_root q.nodes)) side i → MayFinish (operator_at os (below_root q.nodes)) (log_at m q (below_root q.nodes)) side i
@@ -64,7 +52,7 @@ module _ (vs ws : List ℕ) (m : Machine) (q : Registered) (room : RootHasRoom m
       → outs_at_first (operator_at os (below_root q.nodes)) side i ≡ Answered answers → IsAnswered m q side i os os2 → IsRunning vs ws m q os2 (given ++ answers)
   answer_runs step os2 side i answers first gives t =
       let made : RootMade q.first q.first [] (input_of (value_of m q) r.cells (below_root q.nodes - 1)) (most_rows q.nodes (below_root q.nodes - 1)) r.held r.queue i (operator_at os2 (below_root q.nodes)) (log_at m q (below_root q.nodes)) (given ++ answers) =
-          step q.first q.first [] _ _ _ _ _ r.held r.queue given side i answers root_stands first gives t.finished in
+      step q.first q.first [] _ _ _ _ _ r.held r.queue given side i answers root_stands first gives t.finished in
       record {
         stands = r.stands;
         many = t.many ∙ r.many;
@@ -78,7 +66,6 @@ module _ (vs ws : List ℕ) (m : Machine) (q : Registered) (room : RootHasRoom m
           operator = ap operator_of made.operator ∙ r.last.operator;
           wide = wide_rest (width_at ws (below_root q.nodes - 1)) (entries_of i) made.rest (subst (AreEntries (width_at ws (below_root q.nodes - 1))) made.taken r.last.wide);
           few = made.stands.few;
-          inboxes = inboxes_finished q (log_at m q (below_root q.nodes)) (node_at q (below_root q.nodes)) _ _ side i _ t.finished
-              (between (log_at m q (below_root q.nodes)) _ _ (root_fed_inbox side) t.finished.dropped.same) r.last.inboxes;
+          inboxes = inboxes_finished q (log_at m q (below_root q.nodes)) (node_at q (below_root q.nodes)) _ _ side i _ t.finished r.last.inboxes;
         };
       }

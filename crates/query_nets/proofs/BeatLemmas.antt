@@ -1,5 +1,5 @@
 -- What a heartbeat is for a source of a query: its window's queue gains what is closed.
-use Rattle.std.proofs.Common.{◌≡◌, ◌≢◌, ℕ, ℤ, zero, suc, nat_abs, ◌+◌, ◌-◌, ◌<◌, ◌≤◌, ◌==◌, Bool, true, false, cond, max, ◌⊎◌, inl, inr, ⊎_elim, Option, Some, None, List, [], ◌∷◌, ◌++◌, filter, flat_map, map, length, get_or, refl, sym, ap, ap₂, ◌∙◌, subst, subst₂, arith, append-nil}
+use Rattle.std.proofs.Common.{◌≡◌, ◌≢◌, ℕ, ℤ, zero, suc, nat_abs, ◌+◌, ◌-◌, ◌≤◌, ◌==◌, Bool, true, false, cond, max, ◌⊎◌, ⊎_elim, Option, Some, None, List, [], ◌∷◌, ◌++◌, filter, flat_map, refl, sym, ap, ap₂, ◌∙◌, subst, arith, append-nil}
 use Rattle.std.specs.List.{AllByRecursion, range_with_len}
 use Rattle.std.specs.Prelude.{slice_get}
 use Rattle.std.specs.Option.{option_map, option_map_or}
@@ -7,16 +7,15 @@ use Rattle.values.specs.Row.{Row}
 use Rattle.values.specs.Perm.{Perm, same}
 use Rattle.values.specs.Window.{Element, input_of}
 use Rattle.op_queue.specs.Cursors.{GainsClosed, cursor_entries}
-use Rattle.op_queue.specs.Entries.{Entry, RowAt, TickAt}
-use Rattle.op_queue.specs.Logs.{Closed, instant_entries, is_shown, row_entries, shown, span_entries}
-use Rattle.op_queue.specs.declared.cursor.Cursor.{Cursor}
+use Rattle.op_queue.specs.Entries.{Entry, TickAt}
+use Rattle.op_queue.specs.Logs.{Closed, instant_entries, is_shown, row_entries, shown}
 use Rattle.windows.specs.Laws.{IsRising}
 use Rattle.operators.specs.Inboxes.{IsInboxWithin, entries_in}
 use Rattle.operators.specs.declared.inboxes.Inbox.{Inbox}
 use Rattle.operators.specs.declared.inboxes.Inbox.TheVariants.{First, Between}
 use Rattle.reference.specs.Commands.{change, closed_to}
-use Rattle.reference.specs.Machine.{Machine, Place, Registered, Stream, input_at}
-use Rattle.stream_store.specs.Closing.{QueuesGain, by_instant, by_key, closed_of, closing_of}
+use Rattle.reference.specs.Machine.{Place, Stream, input_at}
+use Rattle.stream_store.specs.Closing.{QueuesGain, by_key, closed_of, closing_of}
 use Rattle.nets.specs.Windows.{AreBelow, Brings, opened}
 use Rattle.nets.proofs.BeatLemmas.{closed_at, closed_below, closed_rises, span_brings}
 use Rattle.query_nets.specs.Widths.{AreEntries, IsRow}
@@ -83,11 +82,13 @@ module _ (place first : ℕ) (s : Stream) (at : ℤ) (by : IsByArrival s.element
       × Reads place first (closed_of (closed_to at s)) i × IsInboxWithin i (closed_of (closed_to at s))
   closing_gains (First c) r h =
       let n : suc (nat_abs at) - max first s.first_open ≡ max first (suc (nat_abs at)) - max first s.first_open = omega (arith, later) in
-      let e : max c.at (suc (nat_abs at)) ≡ max first (suc (nat_abs at)) = omega (arith, later, r.1) in
-      (g.gains c h
-      ∙ ap₂ (λ p a. cursor_entries c (closed_of s) ++ flat_map (instant_entries p (closing_of at s)) (range_with_len a (suc (nat_abs at) - a))) r.0 r.1
-      ∙ ap (λ k. cursor_entries c (closed_of s) ++ flat_map (instant_entries place (closing_of at s)) (range_with_len (max first s.first_open) k)) n,
-       (r.0, e), g.within c h)
+      let e : max c.at (suc (nat_abs at)) ≡ max first (suc (nat_abs at)) = omega (arith, later, r.1) in (
+        g.gains c h
+            ∙ ap₂ (λ p a. cursor_entries c (closed_of s) ++ flat_map (instant_entries p (closing_of at s)) (range_with_len a (suc (nat_abs at) - a))) r.0 r.1
+            ∙ ap (λ k. cursor_entries c (closed_of s) ++ flat_map (instant_entries place (closing_of at s)) (range_with_len (max first s.first_open) k)) n,
+        (r.0, e),
+        g.within c h,
+      )
   closing_gains (Between w) r h = absurd r
 
   closing_beat : PlaceBeat place first (closed_of s) (closed_of (closed_to at s)) (input_of place first s.elements) s.elements
@@ -118,19 +119,19 @@ stream_beat : (place first : ℕ) (at : ℤ) (o : Option Stream) → QueuesGain 
 stream_beat place first at None g l b = none_beat place first no_log [] []
 stream_beat place first at (Some s) g l b = closing_beat place first s at b l g
 
-change_here : (f : Stream → Stream) (n : ℕ) (ss : List Stream) → slice_get (change n f ss) n ≡ option_map f (slice_get ss n)
+pub change_here : (f : Stream → Stream) (n : ℕ) (ss : List Stream) → slice_get (change n f ss) n ≡ option_map f (slice_get ss n)
 change_here f n [] = refl
 change_here f zero (s ∷ ss) = refl
 change_here f (suc n) (s ∷ ss) = change_here f n ss
 
-change_there : (f : Stream → Stream) (n i : ℕ) (ss : List Stream) → i ≢ n → slice_get (change n f ss) i ≡ slice_get ss i
+pub change_there : (f : Stream → Stream) (n i : ℕ) (ss : List Stream) → i ≢ n → slice_get (change n f ss) i ≡ slice_get ss i
 change_there f n i [] ne = refl
 change_there f zero zero (s ∷ ss) ne = absurd (ne refl)
 change_there f zero (suc i) (s ∷ ss) ne = refl
 change_there f (suc n) zero (s ∷ ss) ne = refl
 change_there f (suc n) (suc i) (s ∷ ss) ne = change_there f n i ss (λ e. ne (ap suc e))
 
-same_number : (a b : ℕ) → (a ≡ b) ⊎ (a ≢ b)
+pub same_number : (a b : ℕ) → (a ≡ b) ⊎ (a ≢ b)
 same_number a b = grind arith
 
 -- A SOURCE, of whatever stream

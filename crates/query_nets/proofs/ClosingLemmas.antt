@@ -1,7 +1,7 @@
 -- What a heartbeat closes of a stream, as a query's input sees it.
-use Rattle.std.proofs.Common.{◌≡◌, ◌≢◌, ℕ, zero, suc, ◌+◌, ◌-◌, ◌<◌, ◌≤◌, ◌==◌, ◌&&◌, ◌||◌, nat_le, nat_lt, Bool, true, false, cond, max, ◌⊎◌, inl, inr, ⊎_elim, List, [], ◌∷◌, ◌++◌, filter, flat_map, length, refl, sym, ap, ap₂, ◌∙◌, subst, subst₂, arith, append-nil, append_assoc}
+use Rattle.std.proofs.Common.{◌≡◌, ◌≢◌, ℕ, zero, suc, ◌+◌, ◌-◌, ◌<◌, ◌≤◌, ◌==◌, ◌&&◌, nat_le, nat_lt, Bool, true, false, cond, ◌⊎◌, inl, inr, ⊎_elim, List, [], ◌∷◌, ◌++◌, filter, flat_map, length, refl, sym, ap, ap₂, ◌∙◌, subst, subst₂, arith, append-nil, append_assoc}
 use Rattle.std.specs.List.{AllByRecursion, range_with_len}
-use Rattle.std.proofs.lemmas.Bool.{cases_order, eq-eqb, eqb-true, le-leb, le-ltb, lt-leb, lt-ltb, ne_eqb}
+use Rattle.std.proofs.lemmas.Bool.{eq-eqb, eqb-true, le-leb, le-ltb, lt-leb, lt-ltb, ne_eqb}
 use Rattle.std.proofs.lemmas.List.Elements.{filter-append}
 use Rattle.values.specs.Perm.{Perm, same, keep, flip, join}
 use Rattle.values.specs.Window.{Element, input_of}
@@ -170,7 +170,7 @@ parts place first c zero es le = let z : c + 0 ≡ c = omega arith in subst (λ 
 parts place first c (suc k) es le =
     let z : c + 1 + k ≡ c + suc k = omega arith in
     let rest : Perm (opened (c + 1) (input_of place first es)) (closed_at place es (c + 1) k ++ opened (c + suc k) (input_of place first es)) =
-        subst (λ i. Perm (opened (c + 1) (input_of place first es)) (closed_at place es (c + 1) k ++ opened i (input_of place first es))) z (parts place first (c + 1) k es (omega (arith, le))) in
+    subst (λ i. Perm (opened (c + 1) (input_of place first es)) (closed_at place es (c + 1) k ++ opened i (input_of place first es))) z (parts place first (c + 1) k es (omega (arith, le))) in
     subst (Perm (opened c (input_of place first es))) (sym (append_assoc (shown place c es) (closed_at place es (c + 1) k) (opened (c + suc k) (input_of place first es))))
     (join _ _ _ (part_one place first c le es) (perm-append_right (shown place c es) _ _ rest))
 

@@ -1,5 +1,5 @@
 -- An operator whose queue gains what another has put out.
-use Rattle.std.proofs.Common.{◌≡◌, ◌≢◌, ℕ, Bool, true, false, true≢false, inl, inr, ◌⊎◌, List, [], ◌∷◌, ◌++◌, refl, sym, ap, ap₂, ◌∙◌, subst, subst₂, arith}
+use Rattle.std.proofs.Common.{◌≡◌, ℕ, true, false, true≢false, inl, inr, List, ◌++◌, sym, ap, ◌∙◌, subst, subst₂}
 use Rattle.values.specs.Row.{Row}
 use Rattle.column.specs.declared.batch.Side.{Side}
 use Rattle.column.specs.declared.batch.Side.TheVariants.{Left, Right}
@@ -7,20 +7,16 @@ use Rattle.op_queue.specs.Entries.{Entry, IsForward}
 use Rattle.op_queue.specs.Logs.{Closed}
 use Rattle.op_queue.proofs.PathLemmas.{Leads-append, Leads-forward}
 use Rattle.op_queue.specs.Paths.{Leads}
-use Rattle.group.specs.Laws as groups
 use Rattle.operators.specs.Inboxes.{entries_in, is_fed, queued}
 use Rattle.operators.specs.Operators.{IsFed, PlainOperator, inbox_of, other, waiting}
-use Rattle.operators.specs.declared.inboxes.Inbox.{Inbox}
 use Rattle.operators.proofs.InboxLemmas.{entries_fed}
 use Rattle.plan.specs.Nodes as plan
 use Rattle.plan.specs.Nodes.{Window, Select, Join, Project, Group, Distinct, ToStream}
-use Rattle.reference.specs.Machine.{Registered}
 use Rattle.nets.specs.Nets.{World, Cell, at_window, at_unary, at_join, Feeds, to_unary, to_left, to_right, GoodCell, Input, left_of, right_of}
 use Rattle.nets.specs.Operators.{node_of}
 use Rattle.query_nets.specs.Runs.{Runs}
-use Rattle.query_nets.specs.Widths.{IsWide, AreEntries, IsSideWide, IsKindWide, IsJoinWide, width_at}
+use Rattle.query_nets.specs.Widths.{IsGroupWide, IsWide, AreEntries, IsSideWide, IsKindWide, IsJoinWide, width_at}
 use Rattle.query_nets.specs.Counts.{AreFew, StaysWithin, count, most_rows}
-use Rattle.query_nets.specs.Queries.{HasInboxes}
 use Rattle.query_nets.proofs.FeedLemmas.{few_append, wide_append}
 use Rattle.query_nets.proofs.WireLemmas.{TakesAt}
 
@@ -117,11 +113,11 @@ runs_fed w width k (Project j columns) side outs o o2 log (at_unary q i b n) t f
 runs_fed w width k (Project j columns) side outs o o2 log (at_join q s l m b n x y) t f fed r = absurd r
 runs_fed w width k (Group j by items) side outs o o2 log (at_window h es b q n) t f fed r = absurd r
 runs_fed w width k (Group j by items) side outs o o2 log (at_unary q i b n) t f fed r =
-    record { held = r.held; kind = f.kind ∙ r.kind; state = f.state ∙ r.state; keyed = r.keyed; listed = r.listed; stands = r.stands; queue = ap (λ x. x ++ outs) r.queue ∙ sym (left_more o o2 side outs log t.1 f fed) }
+    record { held = r.held; kind = f.kind ∙ r.kind; state = f.state ∙ r.state; keyed = r.keyed; listed = r.listed; stands = r.stands; few = r.few; queue = ap (λ x. x ++ outs) r.queue ∙ sym (left_more o o2 side outs log t.1 f fed) }
 runs_fed w width k (Group j by items) side outs o o2 log (at_join q s l m b n x y) t f fed r = absurd r
 runs_fed w width k (Distinct j) side outs o o2 log (at_window h es b q n) t f fed r = absurd r
 runs_fed w width k (Distinct j) side outs o o2 log (at_unary q i b n) t f fed r =
-    record { held = r.held; kind = f.kind ∙ r.kind; state = f.state ∙ r.state; all = r.all; some = r.some; stands = r.stands; queue = ap (λ x. x ++ outs) r.queue ∙ sym (left_more o o2 side outs log t.1 f fed) }
+    record { held = r.held; kind = f.kind ∙ r.kind; state = f.state ∙ r.state; all = r.all; some = r.some; stands = r.stands; few = r.few; queue = ap (λ x. x ++ outs) r.queue ∙ sym (left_more o o2 side outs log t.1 f fed) }
 runs_fed w width k (Distinct j) side outs o o2 log (at_join q s l m b n x y) t f fed r = absurd r
 runs_fed w width k (ToStream j op) side outs o o2 log c t f fed r = absurd r
 
@@ -129,6 +125,10 @@ runs_fed w width k (ToStream j op) side outs o o2 log c t f fed r = absurd r
 module _ (ws : List ℕ) (k : ℕ) (outs : List (Entry Row)) (wide : AreEntries (width_at ws k) outs) where
   side_fed : (i : ℕ) (t : List Row) (q : List (Entry Row)) → i ≡ k → IsSideWide (width_at ws i) t q → IsSideWide (width_at ws i) t (q ++ outs)
   side_fed i t q e s = record { taken = s.taken; queue = wide_append (width_at ws i) q outs s.queue (subst (λ z. AreEntries (width_at ws z) outs) (sym e) wide) }
+
+  group_fed : (to j : ℕ) (o o2 : PlainOperator) (i b : List Row) (q : List (Entry Row)) → j ≡ k → o2.kind ≡ o.kind → IsGroupWide (width_at ws j) (width_at ws to) o i b q → IsGroupWide (width_at ws j) (width_at ws to) o2 i b (q ++ outs)
+  group_fed to j o o2 i b q e f r =
+      record { one = record { kind = subst (IsKindWide (width_at ws j) (width_at ws to)) (sym f) r.one.kind; narrow = r.one.narrow; side = side_fed j i q e r.one.side }; puts = r.puts }
 
   pub wide_fed : (to : ℕ) (node : plan.Node) (side : Side) (o o2 : PlainOperator) (c : Cell) → TakesAt k node side → IsFed o side outs o2 → IsWide ws to node o c → IsWide ws to node o2 (fed_on side outs c)
   wide_fed to (Window s) side o o2 c t f r = absurd t
@@ -147,10 +147,10 @@ module _ (ws : List ℕ) (k : ℕ) (outs : List (Entry Row)) (wide : AreEntries 
   wide_fed to (Project j columns) side o o2 (at_unary q i b n) t f r = record { kind = subst (IsKindWide (width_at ws j) (width_at ws to)) (sym f.kind) r.kind; narrow = r.narrow; side = side_fed j i q t.0 r.side }
   wide_fed to (Project j columns) side o o2 (at_join q s l m b n x y) t f r = absurd r
   wide_fed to (Group j by items) side o o2 (at_window h es b q n) t f r = absurd r
-  wide_fed to (Group j by items) side o o2 (at_unary q i b n) t f r = record { kind = subst (IsKindWide (width_at ws j) (width_at ws to)) (sym f.kind) r.kind; narrow = r.narrow; side = side_fed j i q t.0 r.side }
+  wide_fed to (Group j by items) side o o2 (at_unary q i b n) t f r = group_fed to j o o2 i b q t.0 f.kind r
   wide_fed to (Group j by items) side o o2 (at_join q s l m b n x y) t f r = absurd r
   wide_fed to (Distinct j) side o o2 (at_window h es b q n) t f r = absurd r
-  wide_fed to (Distinct j) side o o2 (at_unary q i b n) t f r = record { kind = subst (IsKindWide (width_at ws j) (width_at ws to)) (sym f.kind) r.kind; narrow = r.narrow; side = side_fed j i q t.0 r.side }
+  wide_fed to (Distinct j) side o o2 (at_unary q i b n) t f r = record { group = group_fed to j o o2 i b q t.0 f.kind r.group; same = r.same }
   wide_fed to (Distinct j) side o o2 (at_join q s l m b n x y) t f r = absurd r
   wide_fed to (ToStream j op) side o o2 c t f r = absurd r
 

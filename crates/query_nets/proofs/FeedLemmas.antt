@@ -1,5 +1,5 @@
 -- What comes to the back of a queue: how wide and how many the rows are.
-use Rattle.std.proofs.Common.{◌≡◌, ℕ, suc, ◌+◌, ◌≤◌, ◌-◌, Bool, true, false, List, [], ◌∷◌, ◌++◌, take, refl, sym, subst, arith}
+use Rattle.std.proofs.Common.{◌≡◌, ℕ, suc, ◌+◌, ◌≤◌, ◌-◌, true, false, List, [], ◌∷◌, ◌++◌, take, subst, arith}
 use Rattle.values.specs.Row.{Row}
 use Rattle.op_queue.specs.Entries.{Entry, RowAt, TickAt}
 use Rattle.op_queue.specs.Paths.{Leads, rows_in}
@@ -11,7 +11,6 @@ pub wide_append : (w : ℕ) (q r : List (Entry Row)) → AreEntries w q → AreE
 wide_append w [] r h k = k
 wide_append w (RowAt t s ∷ q) r h k = (h.0, wide_append w q r h.1 k)
 wide_append w (TickAt t ∷ q) r h k = wide_append w q r h k
-
 
 -- from n rows the queue leads to m, and none leaves that is not there
 stays_append : (most n m : ℕ) (q r : List (Entry Row)) → ((k : ℕ) → down (λ x. 1) (take k (rows_in q)) ≤ up (λ x. 1) (take k (rows_in q)) + n) → n + up (λ x. 1) (rows_in q) ≡ down (λ x. 1) (rows_in q) + m

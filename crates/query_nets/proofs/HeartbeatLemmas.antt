@@ -1,5 +1,5 @@
 -- A running query after a heartbeat.
-use Rattle.std.proofs.Common.{◌≡◌, ℕ, ℤ, suc, nat_abs, ◌+◌, ◌-◌, ◌<◌, ◌≤◌, Bool, true, false, max, ◌⊎◌, ⊎_elim, Option, Some, None, List, [], ◌∷◌, ◌++◌, map, length, get_or, refl, sym, ap, ap₂, ◌∙◌, subst, subst₂, arith, length-append}
+use Rattle.std.proofs.Common.{◌≡◌, ℕ, ℤ, ◌-◌, ◌<◌, ◌≤◌, true, max, ⊎_elim, Option, Some, None, List, [], ◌++◌, length, get_or, refl, sym, ap, ◌∙◌, subst, subst₂, arith, length-append}
 use Rattle.std.specs.List.{AllByRecursion}
 use Rattle.std.specs.Prelude.{slice_get}
 use Rattle.std.specs.Option.{option_map_or}
@@ -7,38 +7,35 @@ use Rattle.std.proofs.lemmas.Bool.{cases_lt}
 use Rattle.std.proofs.lemmas.List.{get_or-map, get_or_past, length-map}
 use Rattle.values.specs.Row.{Row}
 use Rattle.values.specs.Perm.{Perm, same}
-use Rattle.values.specs.Window.{Element, Window as Told}
+use Rattle.values.specs.Window.{Element}
 use Rattle.values.specs.Answers.{Operator, shown_at}
-use Rattle.column.specs.declared.batch.Side.{Side}
-use Rattle.column.specs.declared.batch.Side.TheVariants.{Left, Right}
 use Rattle.op_queue.specs.Entries.{Entry}
 use Rattle.op_queue.specs.Logs.{Closed}
-use Rattle.windows.specs.Laws.{IsRising, rows_in_order}
-use Rattle.to_stream.specs.Turns as root
+use Rattle.windows.specs.Laws.{IsRising}
 use Rattle.operators.specs.Inboxes.{IsInboxWithin, entries_in, is_fed}
-use Rattle.operators.specs.Operators.{PlainOperator, waiting}
+use Rattle.operators.specs.Operators.{PlainOperator}
 use Rattle.operators.specs.declared.inboxes.Inbox.{Inbox}
 use Rattle.operators.proofs.InboxLemmas.{entries_fed}
 use Rattle.plan.specs.Nodes as plan
 use Rattle.plan.specs.Nodes.{Window, Select, Join, Project, Group, Distinct, ToStream}
 use Rattle.plan.specs.Scope.{Tables}
-use Rattle.reference.specs.Commands.{Heartbeat, after, change, closed_to}
+use Rattle.reference.specs.Commands.{Heartbeat, after}
 use Rattle.reference.specs.Machine.{Machine, Place, Registered, Stream, input_at, opens}
 use Rattle.stream_store.specs.Closing.{QueuesGain, closed_of}
 use Rattle.nets.specs.Laws as nets
 use Rattle.nets.specs.Laws.{IsGood}
 use Rattle.nets.specs.Windows.{AreBelow, Brings, opened}
 use Rattle.nets.specs.Worlds.{Beat, fed_cell}
-use Rattle.nets.specs.Nets.{Node, window, unary, join, World, Cell, at_window, at_unary, at_join, cell_next, cell_shown}
+use Rattle.nets.specs.Nets.{Node, window, unary, join, World, Cell, at_window, at_unary, at_join, cell_shown}
 use Rattle.nets.specs.Operators.{net_of, node_of}
-use Rattle.nets.specs.Plans.{AreWide, below_root, inputs_of, value_of, world_of}
+use Rattle.nets.specs.Plans.{below_root, inputs_of, world_of}
 use Rattle.nets.proofs.MachineLemmas.{heartbeat_inputs, machine_beats}
 use Rattle.nets.proofs.AnswerLemmas.{shaped}
 use Rattle.nets.proofs.PlanLemmas.{Shaped}
-use Rattle.query_nets.specs.Runs.{Runs, RunsRoot, RunsWindow}
+use Rattle.query_nets.specs.Runs.{Runs, RunsWindow}
 use Rattle.query_nets.specs.Widths.{AreEntries, IsRow, IsWide, width_at}
-use Rattle.query_nets.specs.Counts.{AreFew, AreWindowRowsFew, StaysWithin, count, most_rows}
-use Rattle.query_nets.specs.Queries.{HasInboxes, IsLeftInbox, IsRunning, Reads, ReadsRows, RunsAt, RunsAtRoot, elements_at, log_at, no_log, node_at, operator_at, place_of, source_of, stream_log}
+use Rattle.query_nets.specs.Counts.{AreFew, AreWindowRowsFew, StaysWithin, most_rows}
+use Rattle.query_nets.specs.Queries.{HasInboxes, IsLeftInbox, IsRunning, Reads, ReadsRows, RunsAt, elements_at, log_at, no_log, node_at, operator_at, place_of, source_of, stream_log}
 use Rattle.query_nets.proofs.BeatLemmas.{IsLaterIn, PlaceBeat, place_beat}
 use Rattle.query_nets.proofs.ClosingLemmas.{perm_length}
 use Rattle.query_nets.proofs.FeedLemmas.{wide_append}
@@ -133,10 +130,10 @@ module _ (w w2 : World) (first : w2.first ≡ w.first) (windows : (s : ℕ) → 
   runs_beat width (Project j columns) o log log2 (at_unary q t b n) g r = record { places = r.places; kind = r.kind; state = r.state; listed = r.listed; queue = r.queue ∙ relog o.left log log2 g }
   runs_beat width (Project j columns) o log log2 (at_join q u l m b n x y) g r = absurd r
   runs_beat width (Group j by items) o log log2 (at_window h e b q n) g r = absurd r
-  runs_beat width (Group j by items) o log log2 (at_unary q t b n) g r = record { held = r.held; kind = r.kind; state = r.state; keyed = r.keyed; listed = r.listed; stands = r.stands; queue = r.queue ∙ relog o.left log log2 g }
+  runs_beat width (Group j by items) o log log2 (at_unary q t b n) g r = record { held = r.held; kind = r.kind; state = r.state; keyed = r.keyed; listed = r.listed; stands = r.stands; few = r.few; queue = r.queue ∙ relog o.left log log2 g }
   runs_beat width (Group j by items) o log log2 (at_join q u l m b n x y) g r = absurd r
   runs_beat width (Distinct j) o log log2 (at_window h e b q n) g r = absurd r
-  runs_beat width (Distinct j) o log log2 (at_unary q t b n) g r = record { held = r.held; kind = r.kind; state = r.state; all = r.all; some = r.some; stands = r.stands; queue = r.queue ∙ relog o.left log log2 g }
+  runs_beat width (Distinct j) o log log2 (at_unary q t b n) g r = record { held = r.held; kind = r.kind; state = r.state; all = r.all; some = r.some; stands = r.stands; few = r.few; queue = r.queue ∙ relog o.left log log2 g }
   runs_beat width (Distinct j) o log log2 (at_join q u l m b n x y) g r = absurd r
   runs_beat width (Join j k ks) o log log2 (at_window h e b q n) g r = absurd r
   runs_beat width (Join j k ks) o log log2 (at_unary q t b n) g r = absurd r
@@ -271,7 +268,7 @@ module _ (vs ws : List ℕ) (m : Machine) (q : Registered) (n : ℕ) (at : ℤ) 
       let sh : Shaped (world_of m q).closed q.meaning q.nodes = shaped vs m q r.stands.plan r.stands.wide in
       let cells2 : ℕ → Cell = λ k. fed_cell (λ s. (source_beat s).fresh) (λ s. (source_beat s).more) (net_of q.nodes k) (r.cells k) in
       let good2 : IsGood (after m (Heartbeat n at) 0) q cells2 r.held r.queue given =
-          machine_beats vs m (after m (Heartbeat n at) 0) q r.stands.plan r.stands.wide same_inputs (λ s. (source_beat s).fresh) (λ s. (source_beat s).more) beat r.cells r.held r.queue given r.good in
+      machine_beats vs m (after m (Heartbeat n at) 0) q r.stands.plan r.stands.wide same_inputs (λ s. (source_beat s).fresh) (λ s. (source_beat s).more) beat r.cells r.held r.queue given r.good in
       let rootn : ℕ = below_root q.nodes in
       let o : PlainOperator = operator_at os rootn in
       let fed : is_fed o.left ≡ true = root_fed o (log_at m q rootn) (node_at q rootn) (length q.nodes - 2) q.meaning.operator sh.root r.last.inboxes in
@@ -284,7 +281,7 @@ module _ (vs ws : List ℕ) (m : Machine) (q : Registered) (n : ℕ) (at : ℤ) 
         good = good2;
         inner = λ k kc. inner_beats k (operator_at os k) (r.cells k) kc (r.inner k kc);
         last = record {
-          runs = record { kind = r.last.runs.kind; state = r.last.runs.state; queue = r.last.runs.queue ∙ relog o.left (log_at m q rootn) (log_at (after m (Heartbeat n at) 0) q rootn) fed };
+          runs = record { kind = r.last.runs.kind; state = r.last.runs.state; spare = r.last.runs.spare; queue = r.last.runs.queue ∙ relog o.left (log_at m q rootn) (log_at (after m (Heartbeat n at) 0) q rootn) fed };
           operator = r.last.operator;
           wide = r.last.wide;
           few = subst (λ x. StaysWithin (most_rows q.nodes (rootn - 1)) x r.queue)

@@ -1,12 +1,12 @@
 -- An operator below the root has a state of its kind, and puts out entries.
-use Rattle.std.proofs.Common.{◌≡◌, ℕ, List, refl, sym, ap, ◌∙◌, subst, subst₂}
+use Rattle.std.proofs.Common.{◌≡◌, ℕ, List, refl, sym, subst, subst₂}
 use Rattle.values.specs.Row.{Row}
 use Rattle.values.specs.Window.{Element, Window as Told}
 use Rattle.column.specs.declared.batch.Side.{Side}
 use Rattle.op_queue.specs.Entries.{Entry}
 use Rattle.op_queue.specs.Logs.{Closed}
 use Rattle.op_queue.specs.declared.item.Item.{Item}
-use Rattle.turn.specs.Turns.{Outs, Put, Answered, outs_at}
+use Rattle.turn.specs.Turns.{Put, outs_at}
 use Rattle.turn.specs.declared.excerpts.Near.{Near}
 use Rattle.turn.specs.declared.excerpts.Near.TheVariants as near
 use Rattle.turn.specs.declared.kinds.Kind.{Kind}

@@ -1,37 +1,35 @@
 -- A running query after turns of its operators.
-use Rattle.std.proofs.Common.{◌≡◌, ◌≢◌, ℕ, ◌+◌, ◌-◌, ◌<◌, ◌≤◌, ◌==◌, Bool, true, false, cond, ◌⊎◌, ⊎_elim, List, [], ◌∷◌, ◌++◌, length, refl, sym, ap, ◌∙◌, subst, subst₂, arith, eqb-true, eq-eqb}
+use Rattle.std.proofs.Common.{◌≡◌, ◌≢◌, ℕ, ◌-◌, ◌<◌, ◌==◌, true, cond, ◌⊎◌, ⊎_elim, List, [], ◌++◌, length, refl, sym, ap, ◌∙◌, subst, subst₂, arith, eq-eqb}
 use Rattle.std.proofs.lemmas.Bool.{ne_eqb}
 use Rattle.values.specs.Row.{Row}
 use Rattle.values.specs.Answers.{Operator}
 use Rattle.column.specs.declared.batch.Side.{Side}
 use Rattle.column.specs.declared.batch.Side.TheVariants.{Left, Right}
-use Rattle.op_queue.specs.Entries.{Entry, IsForward}
-use Rattle.op_queue.specs.Logs.{Closed}
+use Rattle.op_queue.specs.Entries.{Entry}
 use Rattle.op_queue.specs.Paths.{Leads}
 use Rattle.op_queue.specs.declared.item.Item.{Item}
 use Rattle.op_queue.proofs.PathLemmas.{Leads-append, Leads-forward, Leads-values}
 use Rattle.op_queue.specs.Signed.{Same}
 use Rattle.op_queue.proofs.SignedLemmas.{Same-refl}
 use Rattle.to_stream.specs.Turns as root
-use Rattle.turn.specs.Turns.{Outs, Put, Answered}
-use Rattle.operators.specs.Inboxes.{is_fed, queued}
+use Rattle.turn.specs.Turns.{Put}
+use Rattle.operators.specs.Inboxes.{is_fed}
 use Rattle.operators.specs.Operators.{IsFed, IsFinished, PlainOperator, inbox_of}
 use Rattle.compiled_plans.specs.Wiring.{wire_from}
 use Rattle.plan.specs.Nodes as plan
 use Rattle.reference.specs.Machine.{Machine, Registered}
 use Rattle.nets.specs.Laws.{IsGood, TurnsKeep}
-use Rattle.nets.specs.Laws as nets
-use Rattle.nets.specs.Nets.{World, Cell, at_window, at_unary, at_join, GoodCell, GoodAt, Input, Turn, Feeds, Planned, Laid, cell_next, cell_shown, input_of, left_of, right_of}
-use Rattle.nets.specs.Operators.{net_of, node_of}
+use Rattle.nets.specs.Nets.{Cell, at_window, at_unary, at_join, Turn, Feeds, Planned, Laid, cell_next, cell_shown, input_of, left_of, right_of}
+use Rattle.nets.specs.Operators.{net_of}
 use Rattle.nets.specs.Plans.{below_root, consumer_of, least_of, value_of, world_of}
-use Rattle.nets.specs.Queries.{GoodRoot, GoodQuery}
+use Rattle.nets.specs.Queries.{GoodRoot}
 use Rattle.nets.proofs.AnswerLemmas.{query_laid, query_planned, shaped, turns_keep}
 use Rattle.nets.proofs.PlanLemmas.{Shaped}
 use Rattle.nets.proofs.KeptLemmas.{LastKept, last_kept}
 use Rattle.nets.proofs.TurnLemmas.{TurnKept, turn_kept}
 use Rattle.query_nets.specs.Widths.{AreEntries, width_at}
 use Rattle.query_nets.specs.Counts.{StaysWithin, count, most_rows}
-use Rattle.query_nets.specs.Steps.{IsFirst, MayLaw, MayTake, Stands, StepLaw, StepMade, outs_at_first}
+use Rattle.query_nets.specs.Steps.{IsFirst, MayLaw, Stands, StepLaw, StepMade, outs_at_first}
 use Rattle.query_nets.specs.Rooms.{PlanHasRoom}
 use Rattle.query_nets.specs.Queries.{IsRunning, IsTurned, change_at_first, MayFeed, MayFinish, RunsAt, RunsAtRoot, log_at, node_at, operator_at}
 use Rattle.query_nets.proofs.FedLemmas.{fed_on, feeds_on, few_fed, forward_fed, forward_on, left_more, runs_fed, wide_fed}
@@ -90,6 +88,7 @@ module _ (ws : List ℕ) (m : Machine) (q : Registered) where
         runs = record {
           kind = f.kind ∙ l.runs.kind;
           state = f.state ∙ l.runs.state;
+          spare = l.runs.spare;
           queue = ap (λ x. x ++ outs) l.runs.queue ∙ sym (left_more o o2 side outs (log_at m q (below_root q.nodes)) t.1 f (fed_side q (log_at m q (below_root q.nodes)) k (node_at q (below_root q.nodes)) o side takes l.inboxes));
         };
         operator = l.operator;
@@ -128,7 +127,7 @@ module _ (vs ws : List ℕ) (m : Machine) (q : Registered) (may : (node : plan.N
         let planned : Planned (world_of m q) (net_of q.nodes) (below_root q.nodes) (value_of m q) (least_of m q) = query_planned vs m q r.stands.plan r.stands.wide in
         let made : StepMade (world_of m q) ws q.nodes k (node_at q k) (r.cells k) outs o2 (log_at m q k) = steps (node_at q k) (world_of m q) ws q.nodes k (operator_at os k) o2 (log_at m q k) (r.cells k) _ _ side i outs (stands_at k kc) first puts f in
         let kept : TurnKept (world_of m q) (net_of q.nodes k) (r.cells k) outs made.cell (input_of (value_of m q) r.cells (left_of (net_of q.nodes k))) (input_of (value_of m q) r.cells (right_of (net_of q.nodes k))) =
-            turn_kept (world_of m q) (net_of q.nodes k) (r.cells k) made.cell outs _ _ (planned.lawful k kc) made.turn (r.good.good k kc) in
+        turn_kept (world_of m q) (net_of q.nodes k) (r.cells k) made.cell outs _ _ (planned.lawful k kc) made.turn (r.good.good k kc) in
         (cell_shown made.cell, cell_next made.cell, Leads-values (λ t a b. subst (λ z. Same z (value_of m q k t)) (planned.value k r.cells kc t) (Same-refl (value_of m q k t))) kept.path)
 
     pub turn_may_feed : MayFeed (operator_at os (wire_from 0 q.nodes k).to) (wire_from 0 q.nodes k).side outs
@@ -151,7 +150,7 @@ module _ (vs ws : List ℕ) (m : Machine) (q : Registered) (may : (node : plan.N
         let on_left : TakesAt k (plan.ToStream (length q.nodes - 2) q.meaning.operator) feeds = subst (λ n. TakesAt k n feeds) sh.root takes in
         let fed : is_fed (inbox_of o feeds) ≡ true = fed_side q (log_at m q root) k (node_at q root) o feeds takes r.last.inboxes in
         let path : Leads (value_of m q (root - 1)) (cell_shown (r.cells (root - 1))) (cell_next (r.cells (root - 1))) outs outs_lead.0 outs_lead.1 =
-            subst (λ z. Leads (value_of m q z) (cell_shown (r.cells z)) (cell_next (r.cells z)) outs outs_lead.0 outs_lead.1) top outs_lead.2 in
+        subst (λ z. Leads (value_of m q z) (cell_shown (r.cells z)) (cell_next (r.cells z)) outs outs_lead.0 outs_lead.1) top outs_lead.2 in
         subst (λ z. MayFeed (operator_at os z) feeds outs) (sym e)
         (record { fed = fed; forward = forward_on o (log_at m q root) feeds Left r.queue outs on_left.1 r.last.runs.queue fed (Leads-forward (Leads-append r.good.root.edge path)) }))
 
@@ -230,7 +229,7 @@ module _ (vs ws : List ℕ) (m : Machine) (q : Registered) (may : (node : plan.N
     inner_runs tc =
         let turns : TurnsKeep m q = turns_keep vs m q r.stands.plan r.stands.wide in
         let good2 : IsGood m q cells2 r.held r.queue given = turns.inner r.cells cells2 r.held r.queue given k outs kc (subst (λ z. z < below_root q.nodes) wire.consumer tc) turned
-            (subst (λ z. Feeds k outs (net_of q.nodes z) (r.cells z) (cells2 z)) wire.consumer (fed_net tc)) (λ j jc ne apart. other_is j ne (λ e. apart (e ∙ wire.consumer))) r.good in
+        (subst (λ z. Feeds k outs (net_of q.nodes z) (r.cells z) (cells2 z)) wire.consumer (fed_net tc)) (λ j jc ne apart. other_is j ne (λ e. apart (e ∙ wire.consumer))) r.good in
         record {
           stands = r.stands;
           many = t.many ∙ r.many;
@@ -254,15 +253,15 @@ module _ (vs ws : List ℕ) (m : Machine) (q : Registered) (may : (node : plan.N
         let sh : Shaped (world_of m q).closed q.meaning q.nodes = shaped vs m q r.stands.plan r.stands.wide in
         let top : k ≡ below_root q.nodes - 1 = omega (arith, laid.final k kc (sym wire.consumer ∙ e)) in
         let kept : LastKept (world_of m q) (net_of q.nodes) (value_of m q) cells2 (below_root q.nodes) (value_of m q k) (r.cells k) outs (cells2 k) =
-            last_kept (world_of m q) (net_of q.nodes) (value_of m q) r.cells cells2 k outs (below_root q.nodes) planned.rises r.good.good kc (planned.lawful k kc) (planned.value k r.cells kc) turned
-            (λ j jc ne. other_is j ne (λ z. omega (arith, z, e, jc))) (λ j jc. laid.apart k j kc jc (λ z. omega (arith, z, e, jc, wire.consumer))) in
+        last_kept (world_of m q) (net_of q.nodes) (value_of m q) r.cells cells2 k outs (below_root q.nodes) planned.rises r.good.good kc (planned.lawful k kc) (planned.value k r.cells kc) turned
+        (λ j jc ne. other_is j ne (λ z. omega (arith, z, e, jc))) (λ j jc. laid.apart k j kc jc (λ z. omega (arith, z, e, jc, wire.consumer))) in
         let path : Leads (value_of m q (below_root q.nodes - 1)) (cell_shown (r.cells (below_root q.nodes - 1))) (cell_next (r.cells (below_root q.nodes - 1))) outs (cell_shown (cells2 (below_root q.nodes - 1))) (cell_next (cells2 (below_root q.nodes - 1))) =
-            subst (λ z. Leads (value_of m q z) (cell_shown (r.cells z)) (cell_next (r.cells z)) outs (cell_shown (cells2 z)) (cell_next (cells2 z))) top kept.path in
+        subst (λ z. Leads (value_of m q z) (cell_shown (r.cells z)) (cell_next (r.cells z)) outs (cell_shown (cells2 z)) (cell_next (cells2 z))) top kept.path in
         let few : StaysWithin (most_rows q.nodes (below_root q.nodes - 1)) (count (cell_shown (r.cells (below_root q.nodes - 1)))) outs =
-            subst (λ z. StaysWithin (most_rows q.nodes z) (count (cell_shown (r.cells z))) outs) top made.outs_few in
+        subst (λ z. StaysWithin (most_rows q.nodes z) (count (cell_shown (r.cells z))) outs) top made.outs_few in
         let wide : AreEntries (width_at ws (below_root q.nodes - 1)) outs = subst (λ z. AreEntries (width_at ws z) outs) top made.outs_wide in
         let root2 : (h : GoodRoot q.first q.first [] (value_of m q (below_root q.nodes - 1)) r.held (r.queue ++ outs) (cell_shown (cells2 (below_root q.nodes - 1))) (cell_next (cells2 (below_root q.nodes - 1))) given) × (h.whole ≡ r.good.root.whole) =
-            root_gains q.first q.first (value_of m q (below_root q.nodes - 1)) r.held r.queue outs _ _ _ _ given path r.good.root in
+        root_gains q.first q.first (value_of m q (below_root q.nodes - 1)) r.held r.queue outs _ _ _ _ given path r.good.root in
         let fed : IsFed (operator_at os (below_root q.nodes)) feeds outs (operator_at os2 (below_root q.nodes)) = subst (λ z. IsFed (operator_at os z) feeds outs (operator_at os2 z)) e t.fed in
         let takes : TakesAt k (node_at q (below_root q.nodes)) feeds = subst (λ z. TakesAt k (node_at q z) feeds) e wire.takes in
         record {

@@ -1,5 +1,5 @@
 -- Where no operator of a query is ready, the net is idle: the query has given all answers of the instants that are closed.
-use Rattle.std.proofs.Common.{◌≡◌, ℕ, ◌-◌, ◌<◌, ◌≤◌, ◌++◌, Bool, true, false, true≢false, not, cond, inl, inr, ◌⊎◌, ⊎_elim, Option, Some, None, List, [], ◌∷◌, length, refl, sym, ap, ◌∙◌, subst, arith}
+use Rattle.std.proofs.Common.{◌≡◌, ℕ, ◌≤◌, ◌++◌, Bool, true, false, not, cond, inl, inr, ◌⊎◌, Option, Some, None, List, [], ◌∷◌, length, refl, sym, ap, ◌∙◌, arith}
 use Rattle.std.specs.Option.{option_map}
 use Rattle.values.specs.Row.{Row}
 use Rattle.values.specs.Window.{Element, Window as Told}
@@ -8,7 +8,6 @@ use Rattle.column.specs.declared.batch.Side.TheVariants.{Left, Right}
 use Rattle.op_queue.specs.Entries.{Entry, RowAt, TickAt}
 use Rattle.op_queue.specs.Items.{front_of}
 use Rattle.op_queue.specs.Logs.{Closed}
-use Rattle.op_queue.specs.declared.queue.Front.{Front}
 use Rattle.to_stream.specs.Turns as root
 use Rattle.operators.specs.Operators.{PlainOperator, first_ready, front_instant, ready, ready_at, waiting}
 use Rattle.operators.specs.States.{usable}
@@ -16,7 +15,6 @@ use Rattle.operators.specs.declared.states.State.{State}
 use Rattle.operators.specs.declared.states.State.TheVariants as state
 use Rattle.plan.specs.Nodes as plan
 use Rattle.plan.specs.Nodes.{Window, Select, Join, Project, Group, Distinct, ToStream}
-use Rattle.plan.proofs.Lists.{by_test}
 use Rattle.reference.specs.Machine.{Machine, Registered, closed_answers}
 use Rattle.nets.specs.Nets.{World, Cell, at_window, at_unary, at_join, IdleCell}
 use Rattle.nets.specs.Plans.{below_root, world_of}
@@ -77,9 +75,10 @@ runs_idle w width (Select j cs) o log (at_unary q t b n) r i = left_idle o log s
 runs_idle w width (Select j cs) o log (at_join q u l m b n x y) r i = absurd r
 runs_idle w width (Join j k ks) o log (at_window h e b q n) r i = absurd r
 runs_idle w width (Join j k ks) o log (at_unary q t b n) r i = absurd r
-runs_idle w width (Join j k ks) o log (at_join q u l m b n x y) r i =
-    (join_idle o log Left x r.held.left.ticked q (ap (λ z. usable z Left) r.state) r.left_ticked r.left_queue i,
-     join_idle o log Right y r.held.right.ticked u (ap (λ z. usable z Right) r.state) r.right_ticked r.right_queue i)
+runs_idle w width (Join j k ks) o log (at_join q u l m b n x y) r i = (
+  join_idle o log Left x r.held.left.ticked q (ap (λ z. usable z Left) r.state) r.left_ticked r.left_queue i,
+  join_idle o log Right y r.held.right.ticked u (ap (λ z. usable z Right) r.state) r.right_ticked r.right_queue i,
+)
 runs_idle w width (Project j columns) o log (at_window h e b q n) r i = absurd r
 runs_idle w width (Project j columns) o log (at_unary q t b n) r i = left_idle o log state.Nothing q r.state refl r.queue i
 runs_idle w width (Project j columns) o log (at_join q u l m b n x y) r i = absurd r

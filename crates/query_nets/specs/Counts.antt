@@ -1,5 +1,5 @@
 -- How many rows the bags have that operators of a query have taken and put out, at any moment.
-use Rattle.std.specs.Prelude.{ℕ, ◌≡◌, ◌+◌, ◌*◌, ◌-◌, ◌≤◌, ◌^◌, ◌++◌, Bool, true, false, List, [], ◌∷◌, length, max, get_or}
+use Rattle.std.specs.Prelude.{ℕ, ◌≡◌, ◌+◌, ◌*◌, ◌-◌, ◌≤◌, ◌^◌, ◌++◌, true, false, List, [], ◌∷◌, length, max, get_or}
 use Rattle.values.specs.Row.{Row}
 use Rattle.values.specs.Window.{Element}
 use Rattle.op_queue.specs.Entries.{Entry, RowAt, TickAt}

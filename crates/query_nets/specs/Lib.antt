@@ -5,3 +5,6 @@ pub mod Steps
 pub mod Rooms
 pub mod Roots
 pub mod Queries
+pub mod Machines
+pub mod Examples
+pub mod Laws

@@ -1,18 +1,17 @@
 -- A running query: its operators, of which each stands for a cell of a net, and what it has given of its answers.
-use Rattle.std.specs.Prelude.{ℕ, ◌≡◌, ◌≢◌, ◌-◌, ◌<◌, ◌≤◌, ◌++◌, Bool, true, false, max, Option, Some, None, List, [], ◌∷◌, length, map, get_or, slice_get}
+use Rattle.std.specs.Prelude.{ℕ, ◌≡◌, ◌≢◌, ◌-◌, ◌<◌, ◌≤◌, ◌++◌, true, max, None, List, [], ◌∷◌, length, map, get_or, slice_get}
 use Rattle.std.specs.List.{AllByRecursion}
 use Rattle.std.specs.Option.{option_map_or}
 use Rattle.values.specs.Row.{Row}
 use Rattle.values.specs.Window.{Element}
 use Rattle.values.specs.Resolved.{operator_of}
 use Rattle.column.specs.declared.batch.Side.{Side}
-use Rattle.column.specs.declared.batch.Side.TheVariants.{Left, Right}
 use Rattle.op_queue.specs.Entries.{Entry, IsForward}
 use Rattle.op_queue.specs.Items.{entries_of}
 use Rattle.op_queue.specs.Logs.{Closed}
 use Rattle.op_queue.specs.declared.item.Item.{Item}
 use Rattle.to_stream.specs.Turns as root
-use Rattle.turn.specs.Turns.{Outs, Put, Answered, change_at}
+use Rattle.turn.specs.Turns.{change_at}
 use Rattle.turn.specs.declared.kinds.Kind.TheVariants as kind
 use Rattle.turn.specs.declared.outcomes.Change.{Change}
 use Rattle.operators.specs.Inboxes.{IsInboxWithin, is_fed, queued}
@@ -29,12 +28,11 @@ use Rattle.reference.specs.Machine.{Machine, Place, Registered, Stream}
 use Rattle.stream_store.specs.Closing.{closed_of}
 use Rattle.nets.specs.Laws.{IsGood}
 use Rattle.nets.specs.Laws as nets
-use Rattle.nets.specs.Nets.{Cell, input_of}
-use Rattle.nets.specs.Plans.{below_root, value_of, world_of}
+use Rattle.nets.specs.Nets.{Cell}
+use Rattle.nets.specs.Plans.{below_root, world_of}
 use Rattle.query_nets.specs.Runs.{Runs, RunsRoot}
 use Rattle.query_nets.specs.Widths.{AreEntries, IsRow, IsWide, width_at}
 use Rattle.query_nets.specs.Counts.{AreFew, StaysWithin, count, most_rows}
-use Rattle.query_nets.specs.Roots.{HasRootRoom}
 use Rattle.query_nets.specs.Steps.{MayTake}
 
 -- THE OPERATORS by their numbers
@@ -177,7 +175,3 @@ elements_at streams n = option_map_or (λ s. s.elements) (slice_get streams n) [
 pub record ReadsRows (ws : List ℕ) (m : Machine) (q : Registered) : Type 0 where
   pub arrival : (n : ℕ) → IsByArrival (elements_at m.streams n)
   pub wide : (k s : ℕ) → k < below_root q.nodes → node_at q k ≡ plan.Window s → AllByRecursion (λ e. IsRow (width_at ws k) e.row) (elements_at m.streams (place_of q s).stream)
-
--- THE ROOT HAS ROOM, whatever the operators have
-abbrev pub RootHasRoom : Machine → Registered → Type 0
-RootHasRoom m q = (cells : ℕ → Cell) → HasRootRoom (most_rows q.nodes (below_root q.nodes - 1)) (input_of (value_of m q) cells (below_root q.nodes - 1))

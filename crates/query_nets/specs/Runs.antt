@@ -1,9 +1,12 @@
 -- What the operators of a running query stand for: the cells of a net, which also have the bags that no code holds.
-use Rattle.std.specs.Prelude.{ℕ, ◌≡◌, ◌<◌, Bool, List}
+use Rattle.std.specs.Prelude.{ℕ, ◌≡◌, ◌<◌, Bool, false, List, [], ◌∷◌, length}
 use Rattle.values.specs.Row.{Row}
 use Rattle.values.specs.Condition.{Column, Condition}
 use Rattle.values.specs.Relation.{Item}
 use Rattle.values.specs.Resolved.{columns_of, items_of}
+use Rattle.values.specs.declared.resolved.Item as listed
+use Rattle.values.specs.declared.resolved.Operator.{Operator}
+use Rattle.values.specs.declared.resolved.Operator.TheVariants.{Istream, Dstream, Rstream}
 use Rattle.values.specs.Window.{Element, Window, LastRows}
 use Rattle.column.specs.declared.batch.Side.TheVariants.{Left, Right}
 use Rattle.lane_kernels.specs.declared.condition.Step.{Step}
@@ -11,12 +14,14 @@ use Rattle.op_queue.specs.Entries.{Entry}
 use Rattle.op_queue.specs.Logs.{Closed}
 use Rattle.windows.specs.Laws.{RangeStands, LatestStands, range_of, rows_in_order}
 use Rattle.windows.specs.Latest.{held_in}
+use Rattle.group.specs.Cells.{TallyState, held, keeps}
 use Rattle.group.specs.Groups.{once_each}
-use Rattle.group.specs.Turns.{GroupState}
+use Rattle.group.specs.Turns.{GroupState, cell_of}
 use Rattle.group.specs.Laws as groups
 use Rattle.join.specs.Pairs as pairs
 use Rattle.join.specs.Turns.{JoinState}
 use Rattle.join.specs.Laws as joins
+use Rattle.row_bags.specs.Nets.{net_of}
 use Rattle.to_stream.specs.Turns as root
 use Rattle.turn.specs.declared.kinds.Kind.TheVariants as kind
 use Rattle.operators.specs.Operators.{Belongs, PlainOperator, waiting}
@@ -58,6 +63,15 @@ pub record RunsProject (columns : List Column) (o : PlainOperator) (log : Closed
   pub listed : columns ≡ columns_at places
   pub queue : q ≡ waiting o log Left
 
+-- GROUPS keep the numbers of a column one by one where an item asks for the least or greatest of them, and of no other item
+abbrev pub AreLean : List listed.Item → List TallyState → Type 0
+AreLean [] ts = Unit {0}
+AreLean (i ∷ is) [] = Unit {0}
+AreLean (i ∷ is) (t ∷ ts) = (keeps i ≡ false → t.values ≡ []) × AreLean is ts
+
+abbrev pub KeepsFew : GroupState → Type 0
+KeepsFew s = (k : Row) → AreLean s.group.items (cell_of (length s.group.items) (held k) s.cells).tallies
+
 -- GROUP: the state has taken the one bag and put out the other
 pub record RunsGroup (by : List Column) (items : List Item) (o : PlainOperator) (log : Closed) (q : List (Entry Row)) (taken shown : List Row) : Type 0 where
   pub held : GroupState
@@ -66,6 +80,7 @@ pub record RunsGroup (by : List Column) (items : List Item) (o : PlainOperator) 
   pub keyed : by ≡ columns_of held.group.by
   pub listed : items ≡ items_of held.group.items
   pub stands : groups.Stands held shown taken
+  pub few : KeepsFew held
   pub queue : q ≡ waiting o log Left
 
 -- DISTINCT over rows of this many columns
@@ -76,6 +91,7 @@ pub record RunsDistinct (width : ℕ) (o : PlainOperator) (log : Closed) (q : Li
   pub all : held.group ≡ once_each width
   pub some : 0 < width
   pub stands : groups.Stands held shown taken
+  pub few : KeepsFew held
   pub queue : q ≡ waiting o log Left
 
 -- JOIN: its sides have taken the bags l and m, and those that ticked are marked
@@ -112,8 +128,14 @@ Runs w width (plan.Distinct i) o log (at_unary q t b n) = RunsDistinct width o l
 Runs w width (plan.Distinct i) o log (at_join q r l m b n x y) = ⊥
 Runs w width (plan.ToStream i op) o log c = ⊥
 
--- THE ROOT, with its state and its queue
+-- THE ROOT, with its state and its queue; what its operator does not ask for stays empty
+abbrev pub IsSpare : Operator → root.State → Type 0
+IsSpare Istream s = s.whole ≡ []
+IsSpare Dstream s = s.whole ≡ []
+IsSpare Rstream s = s.net ≡ net_of [] []
+
 pub record RunsRoot (o : PlainOperator) (log : Closed) (s : root.State) (q : List (Entry Row)) : Type 0 where
   pub kind : o.kind ≡ kind.ToStream
   pub state : o.state ≡ state.Root s
+  pub spare : IsSpare s.operator s
   pub queue : q ≡ waiting o log Left

@@ -1,5 +1,5 @@
 -- A finished turn of one operator of a query.
-use Rattle.std.specs.Prelude.{ℕ, ◌≡◌, ◌<◌, ◌++◌, true, List, length}
+use Rattle.std.specs.Prelude.{ℕ, ◌≡◌, ◌<◌, ◌≤◌, ◌++◌, true, List, length}
 use Rattle.values.specs.Row.{Row}
 use Rattle.column.specs.declared.batch.Side.{Side}
 use Rattle.op_queue.specs.Entries.{Entry}
@@ -16,10 +16,11 @@ use Rattle.query_nets.specs.Runs.{Runs}
 use Rattle.query_nets.specs.Widths.{IsWide, AreEntries, width_at}
 use Rattle.query_nets.specs.Counts.{AreFew, HasRoom, StaysWithin, count, most_rows}
 
--- the item stands first on a side that can be used
+-- the item stands first on a side that can be used, and is no longer than a batch
 pub record IsFirst (o : PlainOperator) (log : Closed) (side : Side) (i : Item) : Type 0 where
   pub rest : List (Entry Row)
   pub some : 0 < length (entries_of i)
+  pub few : length (entries_of i) ≤ 1024
   pub is : waiting o log side ≡ entries_of i ++ rest
   pub usable : usable o.state side ≡ true
 

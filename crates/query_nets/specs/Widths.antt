@@ -71,6 +71,16 @@ pub record IsOneWide (w out : ℕ) (o : PlainOperator) (taken : List Row) (q : L
   pub narrow : w ≤ 16
   pub side : IsSideWide w taken q
 
+-- what groups have put out
+pub record IsGroupWide (w out : ℕ) (o : PlainOperator) (taken shown : List Row) (q : List (Entry Row)) : Type 0 where
+  pub one : IsOneWide w out o taken q
+  pub puts : AreRows out shown
+
+-- rows are put out as they are taken, each once
+pub record IsOnceWide (w out : ℕ) (o : PlainOperator) (taken shown : List Row) (q : List (Entry Row)) : Type 0 where
+  pub group : IsGroupWide w out o taken shown q
+  pub same : w ≡ out
+
 pub record IsBothWide (l r out : ℕ) (o : PlainOperator) (ls rs : List Row) (q s : List (Entry Row)) : Type 0 where
   pub state : IsJoinWide l r o.state
   pub sum : out ≡ l + r
@@ -97,9 +107,9 @@ IsWide ws k (plan.Project i columns) o (at_window h e b q n) = ⊥
 IsWide ws k (plan.Project i columns) o (at_unary q t b n) = IsOneWide (width_at ws i) (width_at ws k) o t q
 IsWide ws k (plan.Project i columns) o (at_join q r l m b n x y) = ⊥
 IsWide ws k (plan.Group i by items) o (at_window h e b q n) = ⊥
-IsWide ws k (plan.Group i by items) o (at_unary q t b n) = IsOneWide (width_at ws i) (width_at ws k) o t q
+IsWide ws k (plan.Group i by items) o (at_unary q t b n) = IsGroupWide (width_at ws i) (width_at ws k) o t b q
 IsWide ws k (plan.Group i by items) o (at_join q r l m b n x y) = ⊥
 IsWide ws k (plan.Distinct i) o (at_window h e b q n) = ⊥
-IsWide ws k (plan.Distinct i) o (at_unary q t b n) = IsOneWide (width_at ws i) (width_at ws k) o t q
+IsWide ws k (plan.Distinct i) o (at_unary q t b n) = IsOnceWide (width_at ws i) (width_at ws k) o t b q
 IsWide ws k (plan.Distinct i) o (at_join q r l m b n x y) = ⊥
 IsWide ws k (plan.ToStream i op) o c = ⊥

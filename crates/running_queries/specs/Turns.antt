@@ -70,10 +70,10 @@ pub record CanLease (o : PlainOperator) (log : Closed) (side : Side) (rows : ℕ
   pub some : 0 < rows
   pub may : (i : Item) → IsFirst o log side i → MayTake o side i
 
--- what is handed out: the front that comes out at once, and the excerpt that a turn with it needs
+-- what is handed out: the front that comes out at once, of at most a batch, and the excerpt that a turn with it needs
 pub record IsLeased (o : PlainOperator) (log : Closed) (side : Side) (rows : ℕ) (i : Item) (n : Near) : Type 0 where
   pub first : IsFirst o log side i
-  pub cut : entries_of i ≡ cut_of rows (inbox_of o side) log
+  pub cut : entries_of i ≡ cut_of (min rows 1024) (inbox_of o side) log
   pub near : n ≡ near_of o.state side i
   pub fits : FitsKind o.kind side i n
 
@@ -84,15 +84,15 @@ pub record CanFinish (o : PlainOperator) (log : Closed) (side : Side) (i : Item)
   pub within : IsInboxWithin (inbox_of o side) log
   pub takes : Takes o.state side i c
 
--- rows and ticks may be fed to another operator, to which the wire leads
-pub record CanFeed (p : PlainQuery) (k : ℕ) (es : List (Entry Row)) : Type 0 where
+-- what it puts out may be fed to another operator, to which the wire leads
+pub record CanFeed (streams : List Stream) (p : PlainQuery) (k : ℕ) (side : Side) (i : Item) (c : Change) (es : List (Entry Row)) : Type 0 where
   pub here : (wire_at p k).to < length p.operators
   pub another : (wire_at p k).to ≢ k
-  pub may : MayFeed (operator_at p.operators (wire_at p k).to) (wire_at p k).side es
+  pub may : (o : PlainOperator) → IsFinished (operator_at p.operators k) (log_of streams p k) side i c o → MayFeed (operator_at p.operators (wire_at p k).to) (wire_at p k).side es
 
-abbrev pub CanPut : PlainQuery → ℕ → Outs → Type 0
-CanPut p k (Put es) = CanFeed p k es
-CanPut p k (Answered answers) = Unit {0}
+abbrev pub CanPut : List Stream → PlainQuery → ℕ → Side → Item → Change → Outs → Type 0
+CanPut streams p k side i c (Put es) = CanFeed streams p k side i c es
+CanPut streams p k side i c (Answered answers) = Unit {0}
 
 -- the operator has taken the item, and wires and sources are as they were
 pub record HasFinished (streams : List Stream) (p : PlainQuery) (k : ℕ) (side : Side) (i : Item) (c : Change) (p2 : PlainQuery) : Type 0 where

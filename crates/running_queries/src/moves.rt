@@ -1,5 +1,5 @@
 //! What changes at one operator, and what leaves the answers.
-ghost use Rattle.std.specs.Prelude.{◌≡◌, ◌<◌, ◌≤◌, ◌+◌, ◌++◌, true, length, take, drop, vec_len, vec_capacity, OnOk, IfOk};
+ghost use Rattle.std.specs.Prelude.{◌≡◌, ◌<◌, ◌≤◌, ◌+◌, ◌++◌, true, length, min, take, drop, vec_len, vec_capacity, OnOk, IfOk};
 ghost use Rattle.std.specs.VecDeque.{deque_len};
 ghost use Rattle.to_stream.specs.Turns.{answers_of};
 ghost use Rattle.operators.specs.Inboxes.{all_entries};
@@ -10,7 +10,7 @@ ghost use Rattle.reference.specs.World.{handed};
 ghost use Rattle.query_nets.specs.Queries.{MayFeed, operator_at, stream_log};
 ghost use Rattle.running_queries.specs.Turns.{CanFinish, CanLease, IsLeased, OnlyAt};
 
-use column::Side;
+use column::{MAX_ROWS, Side};
 use op_queue::{Item, Log};
 use operators::Operator;
 use std::alloc::{AllocError, Global};
@@ -31,7 +31,6 @@ pub(crate) fn log_at(streams: &Streams, stream: u64) -> &Log
 }
 
 /// What stands first on a side of an operator, and the excerpt that a turn with it needs.
-#[tactic(auto, using(crate::proofs::LeaseLemmas::part_first, crate::proofs::LeaseLemmas::part_taken))]
 pub(crate) fn leased(
     alloc: Global,
     operator: &Operator,
@@ -42,9 +41,15 @@ pub(crate) fn leased(
     requires { CanLease operator.now log.now side rows }
     ensures { IfOk result (λ leased. IsLeased operator.now log.now side rows leased.0 leased.1) }
 {
-    let item = operator.cut(alloc, log, side, rows)?;
+    let item = operator.cut(alloc, log, side, within_a_batch(rows))?;
     let near = operator.near(alloc, side, &item)?;
     Ok((item, near))
+}
+
+fn within_a_batch(rows: usize) -> usize
+    ensures { result ≡ min rows 1024 }
+{
+    rows.min(MAX_ROWS)
 }
 
 /// The operator of a number after a turn with an item.

@@ -111,7 +111,7 @@ impl RunningQuery {
         self.operator(operator).kind()
     }
 
-    /// A copy of what stands first on a side of an operator, at most `rows` rows or a tick, and the excerpt that a turn with it needs. It
+    /// A copy of what stands first on a side of an operator, at most `rows` rows and no more than a batch has, or a tick, and the excerpt that a turn with it needs. It
     /// costs these two, and look-ups.
     pub fn lease(
         &self,
@@ -142,7 +142,7 @@ impl RunningQuery {
     ) -> Result<(), AllocError>
         requires here { HasOperator streams.now self.old operator }
         requires may { CanFinish (operator_at self.old.operators operator) (log_of streams.now self.old operator) side item.now change.now }
-        requires puts { CanPut self.old operator (outs_in outputs) }
+        requires puts { CanPut streams.now self.old operator side item.now change.now (outs_in outputs) }
         ensures finished { OnOk result (HasFinished streams.now self.old operator side item.now change.now self.new) }
         ensures put { OnOk result (HasPut self.old operator (outs_in outputs) self.new) }
     {
@@ -205,7 +205,7 @@ impl RunningQuery {
     ) -> Result<(), AllocError>
         requires here { HasOperator streams.now self.old operator }
         requires may { CanFinish (operator_at self.old.operators operator) (log_of streams.now self.old operator) side item.now change.now }
-        requires feeds { CanFeed self.old operator (all_entries items.items) }
+        requires feeds { CanFeed streams.now self.old operator side item.now change.now (all_entries items.items) }
         ensures finished { OnOk result (HasFinished streams.now self.old operator side item.now change.now self.new) }
         ensures fed { OnOk result (HasFed self.old operator (all_entries items.items) self.new) }
     {

@@ -10,7 +10,8 @@ use Rattle.turn.specs.declared.excerpts.Near.{Near}
 use Rattle.operators.specs.Inboxes.{cut_of}
 use Rattle.operators.specs.Operators.{PlainOperator, inbox_of, waiting}
 use Rattle.operators.specs.States.{near_of}
-use Rattle.query_nets.specs.Steps.{IsFirst, MayTake}
+use Rattle.query_nets.specs.Steps.{IsFirst}
+use Rattle.query_nets.specs.Queries.{MayFinish}
 use Rattle.running_queries.specs.Turns.{CanLease, IsLeased}
 
 -- a front part of what waits, of no more rows than a batch has, stands first
@@ -23,7 +24,7 @@ part_first rows n o log side i e can part = record {
   usable = can.usable;
 }
 
-pub part_taken : (rows n : ℕ) (o : PlainOperator) (log : Closed) (side : Side) (i : Item) → n ≡ min rows 1024 → CanLease o log side rows → IsFrontPart n (waiting o log side) i → MayTake o side i
+pub part_taken : (rows n : ℕ) (o : PlainOperator) (log : Closed) (side : Side) (i : Item) → n ≡ min rows 1024 → CanLease o log side rows → IsFrontPart n (waiting o log side) i → MayFinish o log side i
 part_taken rows n o log side i e can part = can.may i (part_first rows n o log side i e can part)
 
 pub part_leased : (rows n : ℕ) (o : PlainOperator) (log : Closed) (side : Side) (i : Item) (near : Near) → n ≡ min rows 1024 → CanLease o log side rows → IsFrontPart n (waiting o log side) i

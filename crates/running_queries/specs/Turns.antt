@@ -12,7 +12,7 @@ use Rattle.turn.specs.Turns.{FitsKind, Outs, Put, Answered}
 use Rattle.turn.specs.declared.excerpts.Near.{Near}
 use Rattle.turn.specs.declared.outcomes.Change.{Change}
 use Rattle.operators.specs.Inboxes.{IsInboxWithin, cut_of}
-use Rattle.operators.specs.Operators.{Belongs, IsFed, IsFinished, PlainOperator, inbox_of, waiting}
+use Rattle.operators.specs.Operators.{IsFed, IsFinished, PlainOperator, inbox_of, waiting}
 use Rattle.operators.specs.States.{Takes, near_of, usable}
 use Rattle.plan.specs.Nodes as plan
 use Rattle.plan.specs.Views.{nodes_of}
@@ -21,8 +21,8 @@ use Rattle.compiled_plans.specs.Beginnings.{AreMade, widths_of}
 use Rattle.compiled_plans.specs.Wiring.{wires_of}
 use Rattle.compiled_plans.specs.declared.wiring.Wire.{Wire}
 use Rattle.reference.specs.Machine.{Stream}
-use Rattle.query_nets.specs.Queries.{MayFeed, PlainQuery, operator_at, stream_log}
-use Rattle.query_nets.specs.Steps.{IsFirst, MayTake}
+use Rattle.query_nets.specs.Queries.{MayFeed, MayFinish, PlainQuery, operator_at, stream_log}
+use Rattle.query_nets.specs.Steps.{IsFirst}
 
 -- ITS OPERATORS
 -- where the outputs of an operator go
@@ -62,13 +62,12 @@ pub record IsBeginning (ws : List Window) (widths streams places : List ℕ) (st
   pub answers : p.answers ≡ []
 
 -- LEASES
--- the caller's conditions: something waits, on a side that can be used, and whatever stands first there may be taken
+-- the caller's conditions: something waits, on a side that can be used, and a turn with whatever stands first there may come back
 pub record CanLease (o : PlainOperator) (log : Closed) (side : Side) (rows : ℕ) : Type 0 where
-  pub belongs : Belongs o.kind o.state
   pub usable : usable o.state side ≡ true
   pub waits : 0 < length (waiting o log side)
   pub some : 0 < rows
-  pub may : (i : Item) → IsFirst o log side i → MayTake o side i
+  pub may : (i : Item) → IsFirst o log side i → MayFinish o log side i
 
 -- what is handed out: the front that comes out at once, of at most a batch, and the excerpt that a turn with it needs
 pub record IsLeased (o : PlainOperator) (log : Closed) (side : Side) (rows : ℕ) (i : Item) (n : Near) : Type 0 where

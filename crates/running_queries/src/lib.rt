@@ -5,8 +5,10 @@
 //! operator that the plan's wire leads to, or adds it to the answers. Each call is lent the streams, of which windows read what is closed.
 #![tactic(auto)]
 
+mod laws;
 mod moves;
 mod queries;
 mod sources;
 
+pub use laws::plain_queries_run;
 pub use queries::RunningQuery;

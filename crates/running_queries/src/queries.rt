@@ -100,7 +100,10 @@ impl RunningQuery {
     {
         let log = self.log(streams, operator);
         let operator = self.operator(operator);
-        (operator.pending(log, Side::Left), operator.pending(log, Side::Right))
+        (
+            operator.pending(log, Side::Left),
+            operator.pending(log, Side::Right),
+        )
     }
 
     /// What an operator does, shared with its turns.
@@ -147,8 +150,12 @@ impl RunningQuery {
         ensures put { OnOk result (HasPut self.old operator (outs_in outputs) self.new) }
     {
         match outputs {
-            Outputs::Items(items) => self.finish_and_feed(streams, operator, side, item, change, items),
-            Outputs::Answers(answers) => self.finish_and_answer(streams, operator, side, item, change, answers),
+            Outputs::Items(items) => self.finish_and_feed(
+                streams, operator, side, item, change, items,
+            ),
+            Outputs::Answers(answers) => self.finish_and_answer(
+                streams, operator, side, item, change, answers,
+            ),
         }
     }
 

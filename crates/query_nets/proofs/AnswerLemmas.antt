@@ -1,22 +1,18 @@
 -- A running query after a turn of its root, which gives answers.
-use Rattle.std.proofs.Common.{◌≡◌, ℕ, ◌-◌, true, List, [], ◌∷◌, ◌++◌, refl, sym, ap, ap₂, ◌∙◌, subst, subst₂, arith}
+use Rattle.std.proofs.Common.{◌≡◌, ℕ, ◌-◌, List, [], ◌∷◌, ◌++◌, refl, sym, ap, ap₂, ◌∙◌, subst, subst₂, arith}
 use Rattle.values.specs.Row.{Row}
 use Rattle.values.specs.Resolved.{operator_of}
 use Rattle.column.specs.declared.batch.Side.{Side}
-use Rattle.column.specs.declared.batch.Side.TheVariants.{Left, Right}
 use Rattle.op_queue.specs.Entries.{Entry, RowAt, TickAt}
 use Rattle.op_queue.specs.Items.{entries_of}
-use Rattle.op_queue.specs.Logs.{Closed}
 use Rattle.op_queue.specs.declared.item.Item.{Item}
 use Rattle.to_stream.specs.Turns as root
 use Rattle.turn.specs.Turns.{Answered, outs_at}
-use Rattle.operators.specs.Operators.{Belongs, PlainOperator, inbox_of}
+use Rattle.operators.specs.Operators.{Belongs, PlainOperator}
 use Rattle.operators.specs.States.{near_of}
-use Rattle.operators.specs.declared.inboxes.Inbox.{Inbox}
-use Rattle.operators.specs.declared.inboxes.Inbox.TheVariants.{First, Between}
 use Rattle.reference.specs.Machine.{Machine, Registered}
 use Rattle.nets.specs.Nets.{input_of}
-use Rattle.nets.specs.Plans.{below_root, value_of, world_of}
+use Rattle.nets.specs.Plans.{below_root, value_of}
 use Rattle.query_nets.specs.Widths.{AreEntries, width_at}
 use Rattle.query_nets.specs.Counts.{most_rows}
 use Rattle.query_nets.specs.Steps.{IsFirst, outs_at_first}

@@ -1,5 +1,5 @@
 -- What stands first on a side may be leased.
-use Rattle.std.proofs.Common.{◌≡◌, ◌∙◌, ℕ, ◌<◌, ◌≤◌, List, ◌++◌, length, min, take, drop, true, sym, ap, arith}
+use Rattle.std.proofs.Common.{◌≡◌, ◌∙◌, ℕ, ◌++◌, length, min, drop, sym, ap, arith}
 use Rattle.std.proofs.lemmas.List.{take-append-drop}
 use Rattle.column.specs.declared.batch.Side.{Side}
 use Rattle.op_queue.specs.Items.{IsFrontPart, entries_of}

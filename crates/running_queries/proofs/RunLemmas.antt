@@ -1,16 +1,16 @@
 -- A query runs on through the turns of its code.
-use Rattle.std.proofs.Common.{◌≡◌, ◌≢◌, ◌∙◌, ℕ, ◌-◌, ◌+◌, ◌<◌, ◌≤◌, Bool, true, false, cond, inl, inr, ◌⊎◌, ⊎_elim, Option, Some, None, List, [], ◌∷◌, ◌++◌, length, map, get_or, sym, ap, refl, subst, arith, append_assoc}
+use Rattle.std.proofs.Common.{◌≡◌, ◌≢◌, ◌∙◌, ℕ, ◌-◌, ◌+◌, ◌<◌, Bool, true, false, cond, ◌⊎◌, ⊎_elim, Option, Some, None, List, [], ◌∷◌, ◌++◌, length, min, take, drop, get_or, sym, ap, refl, subst, arith, append_assoc}
 use Rattle.std.specs.Option.{option_map, unwrap_or}
-use Rattle.std.proofs.lemmas.List.{get_or-map, length-map}
+use Rattle.std.proofs.lemmas.List.{get_or-map, length-map, take-append-drop}
 use Rattle.std.proofs.lemmas.List.FromFn.{get_or-map-range_with_len, length-map-range_with_len}
 use Rattle.values.specs.Row.{Row}
 use Rattle.column.specs.declared.batch.Side.{Side}
 use Rattle.column.specs.declared.batch.Side.TheVariants.{Left, Right}
-use Rattle.op_queue.specs.Entries.{Entry, RowAt, TickAt}
+use Rattle.op_queue.specs.Entries.{Entry}
 use Rattle.op_queue.specs.Items.{front_of}
 use Rattle.op_queue.specs.Logs.{Closed}
 use Rattle.op_queue.specs.declared.item.Item.{Item}
-use Rattle.turn.specs.Turns.{Outs, Put, Answered}
+use Rattle.turn.specs.Turns.{Put, Answered}
 use Rattle.operators.specs.Operators.{IsFed, IsFinished, PlainOperator, first_ready, front_instant, ready, ready_at, waiting}
 use Rattle.operators.specs.States.{usable}
 use Rattle.compiled_plans.specs.Wiring.{wire_from}
@@ -23,7 +23,8 @@ use Rattle.query_nets.specs.Queries.{IsAnswered, IsPlainQuery, IsRunning, IsTurn
 use Rattle.query_nets.specs.Steps.{IsFirst, outs_at_first}
 use Rattle.query_nets.proofs.WireLemmas.{Wired, wired}
 use Rattle.running_queries.specs.Laws.{PlainQueriesRun}
-use Rattle.running_queries.specs.Turns.{CanFeed, CanFinish, CanLease, CanPut, HasAnswered, HasFed, HasFinished, HasOperator, HasPut, log_of, source_at, wire_at}
+use Rattle.running_queries.specs.Turns as took
+use Rattle.running_queries.specs.Turns.{CanFeed, CanFinish, CanLease, CanPut, HasAnswered, HasFed, HasFinished, HasOperator, HasPut, handed_out, log_of, source_at, wire_at}
 
 -- WHAT IS READY has something on a side that can be used
 some_waits : (es : List (Entry Row)) (at : ℕ) → option_map front_instant (front_of es) ≡ Some at → 0 < length es
@@ -177,6 +178,13 @@ module _ (vs ws : List ℕ) (m : Machine) (q : Registered) (turns : TurnsRun vs 
       pub runs : HasPut p k (outs_at_first (operator_at p.operators k) side i) p2 → IsPlainQuery vs ws m q taken p2
       runs put = by_number k (length q.nodes) kc (λ lt. runs_inner lt put) (λ e. runs_root e put)
 
+-- ANSWERS THAT WERE TAKEN no longer wait
+still_runs : (vs ws : List ℕ) (m : Machine) (q : Registered) (before : List (ℕ × Row)) (p : PlainQuery) (limit : ℕ) → IsPlainQuery vs ws m q before p → IsPlainQuery vs ws m q (before ++ took.taken limit p.answers) (handed_out limit p)
+still_runs vs ws m q before p limit h =
+    let count : ℕ = min limit (length p.answers) in
+    let parts : (before ++ take count p.answers) ++ drop count p.answers ≡ before ++ p.answers = append_assoc before (take count p.answers) (drop count p.answers) ∙ ap (λ x. before ++ x) (take-append-drop count p.answers) in
+    record { wires = h.wires; sources = h.sources; runs = subst (IsRunning vs ws m q p.operators) (sym parts) h.runs }
+
 pub plain_queries_run : (vs ws : List ℕ) (m : Machine) (q : Registered) → TurnsRun vs ws m q → RootsRun vs ws m q → PlainQueriesRun vs ws m q
 plain_queries_run vs ws m q turns roots = record {
   operators = λ taken p k h kc s. has_operator vs ws m q turns roots taken p h k kc s;
@@ -184,4 +192,5 @@ plain_queries_run vs ws m q turns roots = record {
   finishes = λ taken p k side i h kc f. can_come_back vs ws m q turns roots taken p h k kc side i f;
   puts = λ taken p k side i h kc f. can_put vs ws m q turns roots taken p h k kc side i f;
   runs = λ taken p p2 k side i h kc f done put. runs vs ws m q turns roots taken p h k kc side i f p2 done put;
+  takes = still_runs vs ws m q;
 }

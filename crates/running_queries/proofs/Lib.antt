@@ -1,0 +1,3 @@
+pub mod LeaseLemmas
+pub mod AnswerLemmas
+pub mod RunLemmas

@@ -90,10 +90,10 @@ kept_here e n kept h = get_or-set_same e.queries n kept Dropped h
 pub kept_there : (e : PlainEngine) (n j : ℕ) (kept : Kept) → j ≢ n → get_or (set e.queries n kept) j Dropped ≡ get_or e.queries j Dropped
 kept_there e n j kept ne = get_or-set_other e.queries n j kept Dropped ne
 
-same_query : {a b : Registered} → Some a ≡ Some b → a ≡ b
+pub same_query : {a b : Registered} → Some a ≡ Some b → a ≡ b
 same_query e = cc
 
-same_plain : {a b : PlainQuery} → Running a ≡ Running b → a ≡ b
+pub same_plain : {a b : PlainQuery} → Running a ≡ Running b → a ≡ b
 same_plain e = cc
 
 -- an item that stands first stands first still, in an operator that has it first

@@ -1,3 +1,6 @@
 pub mod SlotLemmas
 pub mod PromiseLemmas
 pub mod BackLemmas
+pub mod TableLemmas
+pub mod FinishLemmas
+pub mod LeaseLemmas

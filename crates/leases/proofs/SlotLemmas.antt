@@ -93,7 +93,7 @@ equal_by Greater e = absurd (cc)
 abbrev pub AreNumbered : (ℕ → ℕ → Option Slot) → Type 0
 AreNumbered table = (n k : ℕ) (t : Slot) → table n k ≡ Some t → (t.query ≡ n) × (t.operator ≡ k)
 
-numbers : (n k a b : ℕ) → ((n ≡ a) × (k ≡ b)) ⊎ ((n ≢ a) ⊎ (k ≢ b))
+pub numbers : (n k a b : ℕ) → ((n ≡ a) × (k ≡ b)) ⊎ ((n ≢ a) ⊎ (k ≢ b))
 numbers n k a b = by_test (n == a) (λ t. by_test (k == b) (λ u. inl (eqb-true n a t, eqb-true k b u)) (λ f. inr (inr (λ e. absurd (let g : (k == b) ≡ true = eq-eqb k b e in cc)))))
     (λ f. inr (inl (λ e. absurd (let g : (n == a) ≡ true = eq-eqb n a e in cc))))
 

@@ -1,34 +1,22 @@
 -- An engine after a turn has come back.
-use Rattle.std.proofs.Common.{◌≡◌, ◌≢◌, ℕ, ◌+◌, ◌<◌, ◌≤◌, ◌++◌, ◌&&◌, ◌||◌, ◌==◌, not, Bool, true, false, cond, inl, inr, ◌⊎◌, ⊎_elim, Option, Some, None, List, [], ◌∷◌, filter, length, set, get_or, refl, sym, ap, ◌∙◌, subst, arith, eqb-true, eq-eqb, lt-ltb}
+use Rattle.std.proofs.Common.{◌≡◌, ◌≢◌, ℕ, ◌<◌, ◌||◌, ◌==◌, not, Bool, true, false, inl, inr, ◌⊎◌, ⊎_elim, Some, List, [], ◌∷◌, filter, length, set, get_or, refl, sym, ap, ◌∙◌, subst, arith, eqb-true, eq-eqb}
 use Rattle.std.specs.List.{list_any}
 use Rattle.std.proofs.lemmas.List.{get_or-set_other, get_or-set_same, length-set}
 use Rattle.std.proofs.lemmas.Option.{slice_get_within}
-use Rattle.values.specs.Row.{Row}
 use Rattle.column.specs.declared.batch.Side.{Side}
-use Rattle.column.specs.declared.batch.Side.TheVariants.{Left, Right}
-use Rattle.op_queue.specs.Entries.{Entry}
-use Rattle.op_queue.specs.Items.{entries_of}
 use Rattle.op_queue.specs.Logs.{Closed}
 use Rattle.op_queue.specs.declared.item.Item.{Item}
-use Rattle.operators.specs.Inboxes.{entries_in, is_fed, queued}
-use Rattle.operators.specs.Operators.{IsFed, PlainOperator, inbox_of, waiting}
-use Rattle.operators.specs.States.{near_of, usable}
-use Rattle.operators.specs.declared.inboxes.Inbox.{Inbox}
-use Rattle.operators.specs.declared.inboxes.Inbox.TheVariants.{First, Between}
-use Rattle.compiled_plans.specs.Wiring.{wire_from}
+use Rattle.operators.specs.Operators.{PlainOperator}
+use Rattle.operators.specs.States.{near_of}
 use Rattle.plan.proofs.Lists.{by_test}
-use Rattle.reference.specs.Machine.{Machine, Registered}
-use Rattle.nets.specs.Plans.{below_root}
-use Rattle.query_nets.specs.Machines.{IsQuery, widths_of}
-use Rattle.query_nets.specs.Queries.{IsPlainQuery, IsRunning, MayFeed, PlainQuery, log_at, operator_at}
-use Rattle.query_nets.specs.Rooms.{IsBounded}
+use Rattle.reference.specs.Machine.{Registered}
+use Rattle.query_nets.specs.Queries.{PlainQuery, log_at, operator_at}
 use Rattle.query_nets.specs.Steps.{IsFirst}
-use Rattle.ready_list.specs.Slots.{slot, with_instant}
 use Rattle.ready_list.specs.declared.slots.Slot.{Slot}
-use Rattle.leases.specs.Engines.{AreApart, Broken, Dropped, Goes, GoodEngine, HasSlots, IsIn, IsKept, IsLease, Kept, Lease, PlainEngine, Running, instant_at, is_leased, is_of, kept_at, query_at, slope_at, slot_at, slot_in, slot_of}
-use Rattle.leases.specs.Calls.{IsOf, given_back, others, retold}
-use Rattle.leases.proofs.PromiseLemmas.{IsSlot, is_slot, slot_is}
-use Rattle.leases.proofs.SlotLemmas.{AreNumbered, changed_slots, filter_in, in_filter}
+use Rattle.leases.specs.Engines.{AreApart, Dropped, GoodEngine, HasSlots, IsIn, IsKept, IsLease, Kept, Lease, PlainEngine, Running, is_of, kept_at, query_at, slot_of}
+use Rattle.leases.specs.Calls.{IsOf, given_back, others}
+use Rattle.leases.proofs.PromiseLemmas.{is_slot}
+use Rattle.leases.proofs.SlotLemmas.{AreNumbered, in_filter}
 
 -- THE SLOTS of an engine are numbered
 pub numbered : (e : PlainEngine) → AreNumbered (slot_of e)

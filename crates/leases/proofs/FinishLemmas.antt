@@ -1,5 +1,5 @@
 -- A finished turn leaves an engine good.
-use Rattle.std.proofs.Common.{◌≡◌, ◌≢◌, ℕ, ◌-◌, ◌<◌, ◌≤◌, ◌++◌, ◌==◌, nat_lt, Bool, true, false, cond, inl, inr, ◌⊎◌, ⊎_elim, Option, Some, None, List, [], ◌∷◌, length, set, get_or, refl, sym, ap, ◌∙◌, subst, arith, eqb-true, eq-eqb}
+use Rattle.std.proofs.Common.{◌≡◌, ◌≢◌, ℕ, ◌<◌, ◌++◌, ◌==◌, nat_lt, true, cond, inl, inr, ◌⊎◌, ⊎_elim, Option, Some, None, List, length, set, refl, sym, ap, ◌∙◌, subst, arith, eqb-true, eq-eqb}
 use Rattle.std.proofs.lemmas.List.{append_assoc, set-get_or}
 use Rattle.std.proofs.lemmas.Option.{get_or_from_slice_get, slice_get_within}
 use Rattle.values.specs.Row.{Row}
@@ -17,7 +17,7 @@ use Rattle.operators.specs.declared.inboxes.Inbox.{Inbox}
 use Rattle.operators.specs.declared.inboxes.Inbox.TheVariants.{First, Between}
 use Rattle.compiled_plans.specs.Wiring.{wire_from}
 use Rattle.plan.proofs.Lists.{by_test}
-use Rattle.reference.specs.Machine.{Machine, Registered}
+use Rattle.reference.specs.Machine.{Registered}
 use Rattle.nets.specs.Plans.{below_root}
 use Rattle.query_nets.specs.Laws.{RootsRun, TurnsRun}
 use Rattle.query_nets.specs.Machines.{IsQuery, widths_of}
@@ -27,13 +27,12 @@ use Rattle.query_nets.specs.Steps.{IsFirst, outs_at_first}
 use Rattle.query_nets.proofs.MachineCounts.{queries_stand}
 use Rattle.query_nets.proofs.NodeLemmas.{roots_run, turns_run}
 use Rattle.query_nets.proofs.WireLemmas.{Wired, wired}
-use Rattle.ready_list.specs.Slots.{slot, with_instant}
 use Rattle.ready_list.specs.declared.slots.Slot.{Slot}
-use Rattle.leases.specs.Engines.{Dropped, Goes, GoodEngine, HasSlots, IsIn, IsKept, IsLease, Kept, Lease, PlainEngine, Running, instant_at, kept_at, query_at, slot_at, slot_in, slot_of}
+use Rattle.leases.specs.Engines.{Dropped, Goes, GoodEngine, HasSlots, IsIn, IsKept, IsLease, Lease, PlainEngine, Running, instant_at, kept_at, query_at, slot_at, slot_in, slot_of}
 use Rattle.leases.specs.Calls.{IsAnsweredTurn, IsFinishedTurn, IsOf, abandoned, answered, finished, given_back, others, retold}
 use Rattle.leases.proofs.BackLemmas.{FirstStays, back_good, kept_here, kept_there, numbered, same_leased, same_plain, same_query, stays_same}
 use Rattle.leases.proofs.PromiseLemmas.{slot_is}
-use Rattle.leases.proofs.SlotLemmas.{AreNumbered, changed_slots, numbers}
+use Rattle.leases.proofs.SlotLemmas.{changed_slots, numbers}
 use Rattle.leases.proofs.TableLemmas.{running_slot, same_slot_at, same_slot_in, updated, updated_here, updated_numbered, updated_there}
 
 -- THE ITEM of a turn stands first on its side

@@ -1,17 +1,16 @@
 -- A turn that goes out, and a query that breaks, leave an engine good.
-use Rattle.std.proofs.Common.{◌≡◌, ◌≢◌, ℕ, suc, ◌+◌, ◌<◌, ◌≤◌, ◌++◌, ◌||◌, ◌==◌, not, Bool, cond, true, false, inl, inr, ◌⊎◌, ⊎_elim, Option, Some, None, List, [], ◌∷◌, filter, length, set, refl, sym, ap, ◌∙◌, subst, arith, eqb-true, eq-eqb}
+use Rattle.std.proofs.Common.{◌≡◌, ◌≢◌, ℕ, ◌+◌, ◌<◌, ◌++◌, ◌||◌, ◌==◌, not, Bool, cond, true, false, inl, inr, ◌⊎◌, ⊎_elim, Option, Some, None, List, [], ◌∷◌, length, set, refl, sym, ap, ◌∙◌, subst, arith, eqb-true, eq-eqb}
 use Rattle.std.specs.List.{list_any}
 use Rattle.std.proofs.lemmas.List.{length-set}
 use Rattle.std.proofs.lemmas.Option.{slice_get_within}
 use Rattle.plan.proofs.Lists.{by_test}
-use Rattle.reference.specs.Machine.{Machine, Registered}
+use Rattle.reference.specs.Machine.{Registered}
 use Rattle.query_nets.specs.Queries.{PlainQuery}
-use Rattle.ready_list.specs.Slots.{first_of}
 use Rattle.ready_list.specs.declared.slots.Slot.{Slot}
-use Rattle.leases.specs.Engines.{AreApart, Broken, Dropped, Goes, GoodEngine, HasGiven, HasSlots, IsIn, IsKept, IsLease, Kept, Lease, PlainEngine, Running, instant_at, is_leased, is_of, kept_at, query_at, slot_at, slot_in, slot_of}
+use Rattle.leases.specs.Engines.{AreApart, Broken, Goes, GoodEngine, HasGiven, HasSlots, IsIn, IsKept, IsLease, Lease, PlainEngine, Running, instant_at, is_leased, is_of, kept_at, query_at, slot_at, slot_in, slot_of}
 use Rattle.leases.specs.Promises.{IsOfSteepest}
-use Rattle.leases.specs.Calls.{IsLeasable, IsOf, broken, given_out, leased, of_others, retold}
-use Rattle.leases.proofs.BackLemmas.{kept_here, kept_there, left_apart, numbered, same_plain, same_query, unequal}
+use Rattle.leases.specs.Calls.{IsLeasable, broken, given_out, leased, of_others, retold}
+use Rattle.leases.proofs.BackLemmas.{kept_here, kept_there, left_apart, numbered, same_query, unequal}
 use Rattle.leases.proofs.PromiseLemmas.{kept_given, keeps_its_promises, slot_is}
 use Rattle.leases.proofs.SlotLemmas.{changed_slots, in_filter, left_slots}
 use Rattle.leases.proofs.TableLemmas.{same_slot_in}

@@ -4,3 +4,4 @@ pub mod BackLemmas
 pub mod TableLemmas
 pub mod FinishLemmas
 pub mod LeaseLemmas
+pub mod AgainLemmas

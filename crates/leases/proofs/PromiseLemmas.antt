@@ -1,6 +1,5 @@
 -- A good engine keeps its promises.
-use Rattle.std.proofs.Common.{◌≡◌, ℕ, Bool, true, false, ◌<◌, ◌++◌, cond, inl, inr, ◌⊎◌, ⊎_elim, Option, Some, None, MatchOption, is_none, unwrap_or, List, [], ◌∷◌, length, nat_lt, lt-ltb, ltb-true, refl, sym, ap, ◌∙◌, subst, arith}
-use Rattle.std.specs.List.{AllByRecursion}
+use Rattle.std.proofs.Common.{◌≡◌, ℕ, Bool, true, false, ◌<◌, ◌++◌, cond, inl, inr, Option, Some, None, MatchOption, is_none, unwrap_or, List, [], ◌∷◌, length, nat_lt, lt-ltb, ltb-true, refl, sym, ap, ◌∙◌, subst}
 use Rattle.std.specs.Option.{option_map}
 use Rattle.column.specs.declared.batch.Side.{Side}
 use Rattle.envelope.specs.Fraction.{NoGreater}
@@ -10,11 +9,11 @@ use Rattle.reference.specs.Machine.{Machine, Registered}
 use Rattle.query_nets.specs.Machines.{widths_of}
 use Rattle.query_nets.specs.Queries.{NoneReady, PlainQuery, log_at, operator_at}
 use Rattle.query_nets.proofs.NodeLemmas.{gives_its_answers}
-use Rattle.ready_list.specs.Slots.{AreIdle, IsSteepest, first_of, slot}
+use Rattle.ready_list.specs.Slots.{AreIdle, IsSteepest, first_of}
 use Rattle.ready_list.specs.declared.slots.Slot.{Slot}
 use Rattle.ready_list.proofs.FirstLemmas.{first_is_steepest}
 use Rattle.leases.specs.Engines.{Broken, Dropped, Goes, GoodEngine, HasGiven, IsIn, IsKept, Kept, PlainEngine, Running, answers_in, instant_at, is_leased, kept_at, query_at, ready_instant, slope_at, slot_at, slot_in, slot_of}
-use Rattle.leases.specs.Promises.{GivesAll, GivesBeginnings, HasGivenAll, IsOfSteepest, KeepsItsPromises, LeasesSteepest}
+use Rattle.leases.specs.Promises.{GivesAll, GivesBeginnings, KeepsItsPromises, LeasesSteepest}
 
 -- WHAT WAS GIVEN
 pub kept_given : (m : Machine) (q : Registered) (kept : Kept) → IsKept m q kept → HasGiven m q (answers_in kept)

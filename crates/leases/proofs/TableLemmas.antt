@@ -1,14 +1,14 @@
 -- The tables of slots of two engines.
-use Rattle.std.proofs.Common.{◌≡◌, ◌≢◌, ℕ, ◌<◌, ◌==◌, ◌&&◌, nat_lt, Bool, true, false, cond, inl, inr, ◌⊎◌, ⊎_elim, Option, Some, None, List, length, refl, sym, ap, ◌∙◌, subst, eqb-true, eq-eqb}
+use Rattle.std.proofs.Common.{◌≡◌, ◌≢◌, ℕ, ◌==◌, ◌&&◌, nat_lt, true, false, cond, inl, inr, ◌⊎◌, Option, Some, None, List, length, refl, sym, ap, ◌∙◌, eqb-true, eq-eqb}
 use Rattle.std.specs.List.{list_any}
 use Rattle.plan.proofs.Lists.{by_test}
 use Rattle.std.specs.Option.{option_map}
 use Rattle.ready_list.specs.Slots.{slot}
 use Rattle.operators.specs.Operators.{ready}
-use Rattle.reference.specs.Machine.{Machine, Registered}
+use Rattle.reference.specs.Machine.{Registered}
 use Rattle.query_nets.specs.Queries.{PlainQuery, log_at, operator_at}
 use Rattle.ready_list.specs.declared.slots.Slot.{Slot}
-use Rattle.leases.specs.Engines.{Broken, Dropped, Kept, Lease, PlainEngine, Running, instant_at, is_leased, is_of, kept_at, query_at, ready_instant, slope_at, slot_at, slot_in, slot_of}
+use Rattle.leases.specs.Engines.{Broken, Dropped, Kept, Lease, PlainEngine, Running, is_leased, is_of, kept_at, query_at, ready_instant, slope_at, slot_at, slot_in, slot_of}
 use Rattle.leases.proofs.BackLemmas.{unequal}
 use Rattle.leases.proofs.SlotLemmas.{AreNumbered}
 

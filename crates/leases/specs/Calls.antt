@@ -1,14 +1,14 @@
 -- What calls do to an engine of many queries.
-use Rattle.std.specs.Prelude.{ℕ, ◌≡◌, ◌+◌, ◌<◌, ◌==◌, not, Some, List, [], ◌∷◌, ◌++◌, filter, length, set, take, drop}
+use Rattle.std.specs.Prelude.{ℕ, ◌≡◌, ◌+◌, ◌<◌, ◌==◌, not, Some, List, [], ◌∷◌, ◌++◌, filter, length, set}
 use Rattle.values.specs.Row.{Row}
 use Rattle.op_queue.specs.Entries.{Entry}
 use Rattle.turn.specs.Turns.{Answered, Put}
 use Rattle.operators.specs.Operators.{PlainOperator}
 use Rattle.operators.specs.States.{near_of}
 use Rattle.compiled_plans.specs.Wiring.{wire_from}
-use Rattle.reference.specs.Machine.{Registered}
+use Rattle.reference.specs.Machine.{Machine, Registered}
 use Rattle.nets.specs.Plans.{below_root}
-use Rattle.query_nets.specs.Queries.{IsAnswered, IsTurned, PlainQuery, log_at, operator_at}
+use Rattle.query_nets.specs.Queries.{IsAnswered, IsRunning, IsTurned, PlainQuery, log_at, operator_at}
 use Rattle.query_nets.specs.Steps.{IsFirst, outs_at_first}
 use Rattle.ready_list.specs.Slots.{changed, first_of, without_query}
 use Rattle.ready_list.specs.declared.slots.Slot.{Slot}
@@ -88,3 +88,15 @@ of_others n ls = filter (λ l. not (l.query == n)) ls
 
 abbrev pub broken : PlainEngine → ℕ → PlainQuery → PlainEngine
 broken e n p = record e { queries = set e.queries n (Broken p.answers); leases = of_others n e.leases; slots = without_query n e.slots }
+
+-- A TAKE changes how many answers of a query were taken, and so the machine's queries
+abbrev pub with_taken : Registered → ℕ → Registered
+with_taken q n = record q { taken = n }
+
+abbrev pub with_queries : Machine → List Registered → Machine
+with_queries m qs = record m { queries = qs }
+
+-- a running query runs on with that
+abbrev pub RunsOnAtTakes : List ℕ → List ℕ → Machine → Registered → Type 0
+RunsOnAtTakes vs ws m q =
+    (qs : List Registered) (n : ℕ) (os : List PlainOperator) (given : List (ℕ × Row)) → IsRunning vs ws m q os given → IsRunning vs ws (with_queries m qs) (with_taken q n) os given

@@ -7,7 +7,7 @@ use Rattle.values.specs.Row.{Row}
 use Rattle.column.specs.declared.batch.Side.{Side}
 use Rattle.op_queue.specs.declared.item.Item.{Item}
 use Rattle.turn.specs.declared.excerpts.Near.{Near}
-use Rattle.operators.specs.Operators.{PlainOperator, ready}
+use Rattle.operators.specs.Operators.{ready}
 use Rattle.operators.specs.States.{near_of}
 use Rattle.envelope.specs.Fraction.{Fraction, fraction}
 use Rattle.plan.specs.Paths.{plan_slopes}

@@ -1,5 +1,5 @@
 -- What is promised of an engine of many queries.
-use Rattle.std.specs.Prelude.{ℕ, ◌≡◌, ◌<◌, ◌++◌, Option, Some, None, List, [], length, false}
+use Rattle.std.specs.Prelude.{ℕ, ◌≡◌, ◌<◌, ◌++◌, Some, None, List, [], length}
 use Rattle.values.specs.Row.{Row}
 use Rattle.envelope.specs.Fraction.{NoGreater}
 use Rattle.reference.specs.Machine.{Registered, closed_answers}

@@ -1,11 +1,11 @@
 //! What holds of an engine of many queries: functions that do nothing, each with a law.
-ghost use Rattle.std.specs.Prelude.{ℕ, ◌≡◌, Some};
-ghost use Rattle.reference.specs.Machine.{Registered};
+ghost use Rattle.std.specs.Prelude.{ℕ, ◌≡◌, List, Some};
+ghost use Rattle.reference.specs.Machine.{Machine, Registered};
 ghost use Rattle.query_nets.specs.Queries.{PlainQuery};
 ghost use Rattle.ready_list.specs.declared.slots.Slot.{Slot};
 ghost use Rattle.leases.specs.Engines.{GoodEngine, IsIn, Lease, PlainEngine, Running, kept_at, query_at};
 ghost use Rattle.leases.specs.Promises.{KeepsItsPromises};
-ghost use Rattle.leases.specs.Calls.{IsAnsweredTurn, IsFinishedTurn, IsLeasable, IsOf, abandoned, answered, broken, finished, leased};
+ghost use Rattle.leases.specs.Calls.{RunsOnAtTakes, IsAnsweredTurn, IsFinishedTurn, IsLeasable, IsOf, abandoned, answered, broken, finished, leased};
 
 /// Of each query of a good engine the answers that were taken, and those that wait, are a beginning of CQL's answers for the instants
 /// that its streams' heartbeats have closed, and all of them where no operator may take anything and no turn is out; and no operator
@@ -34,4 +34,9 @@ pub fn abandoned_turns_keep_engines_good()
 /// So it does where a query breaks, whose turns end and whose slots leave.
 pub fn broken_queries_keep_engines_good()
     ensures { (e : PlainEngine) (n : ℕ) (q : Registered) (p : PlainQuery) → GoodEngine e → query_at e n ≡ Some q → kept_at e n ≡ Running p → GoodEngine (broken e n p) }
+{}
+
+/// A running query whose answers are taken runs on, with its operators as they are: of the machine it knows the streams alone.
+pub fn takes_keep_queries_running()
+    ensures { (vs : List ℕ) (ws : List ℕ) (m : Machine) (q : Registered) → RunsOnAtTakes vs ws m q }
 {}

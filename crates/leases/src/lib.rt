@@ -6,4 +6,5 @@ mod laws;
 pub use laws::{
     abandoned_turns_keep_engines_good, broken_queries_keep_engines_good,
     finished_turns_keep_engines_good, good_engines_keep_their_promises, leases_keep_engines_good,
+    takes_keep_queries_running,
 };

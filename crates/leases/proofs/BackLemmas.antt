@@ -46,11 +46,6 @@ other_operator ls l a h i j = by_test (a.query == l.query)
     (λ f. inl (λ e. absurd (let g : (a.query == l.query) ≡ true = eq-eqb a.query l.query e in cc)))
 
 -- WHETHER AN OPERATOR IS LEASED
-any_in : (p : Lease → Bool) (ls : List Lease) (l : Lease) → IsIn ls l → p l ≡ true → list_any p ls ≡ true
-any_in p [] l i t = absurd i
-any_in p (x ∷ ls) l (inl e) t = let u : p x ≡ true = ap p e ∙ t in rw u refl
-any_in p (x ∷ ls) l (inr i) t = let u : list_any p ls ≡ true = any_in p ls l i t in by_test (p x) (λ v. rw v refl) (λ f. rw (f, u) refl)
-
 -- a lease that leaves, of which the test does not hold, changes nothing
 any_left : (p test : Lease → Bool) (ls : List Lease) → ((l : Lease) → IsIn ls l → test l ≡ false → p l ≡ false) → list_any p (filter test ls) ≡ list_any p ls
 any_left p test [] h = refl

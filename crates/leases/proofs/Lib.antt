@@ -1,0 +1,7 @@
+pub mod SlotLemmas
+pub mod PromiseLemmas
+pub mod BackLemmas
+pub mod TableLemmas
+pub mod FinishLemmas
+pub mod LeaseLemmas
+pub mod AgainLemmas

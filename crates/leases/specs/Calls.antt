@@ -1,0 +1,102 @@
+-- What calls do to an engine of many queries.
+use Rattle.std.specs.Prelude.{ℕ, ◌≡◌, ◌+◌, ◌<◌, ◌==◌, not, Some, List, [], ◌∷◌, ◌++◌, filter, length, set}
+use Rattle.values.specs.Row.{Row}
+use Rattle.op_queue.specs.Entries.{Entry}
+use Rattle.turn.specs.Turns.{Answered, Put}
+use Rattle.operators.specs.Operators.{PlainOperator}
+use Rattle.operators.specs.States.{near_of}
+use Rattle.compiled_plans.specs.Wiring.{wire_from}
+use Rattle.reference.specs.Machine.{Machine, Registered}
+use Rattle.nets.specs.Plans.{below_root}
+use Rattle.query_nets.specs.Queries.{IsAnswered, IsRunning, IsTurned, PlainQuery, log_at, operator_at}
+use Rattle.query_nets.specs.Steps.{IsFirst, outs_at_first}
+use Rattle.ready_list.specs.Slots.{changed, first_of, without_query}
+use Rattle.ready_list.specs.declared.slots.Slot.{Slot}
+use Rattle.leases.specs.Engines.{Broken, Lease, PlainEngine, Running, instant_at, kept_at, query_at, slot_at}
+
+-- the slot of the operator k of the query n, which is in `old`, gets the instant that it has in `new`
+abbrev pub retold : PlainEngine → PlainEngine → ℕ → Registered → PlainQuery → PlainQuery → ℕ → List Slot → List Slot
+retold old new n q p p2 k slots = changed (slot_at old n q p k) (instant_at new n q p2 k) slots
+
+-- THE QUERY AND THE OPERATOR that a turn is of
+pub record IsOf (e : PlainEngine) (l : Lease) (q : Registered) (p : PlainQuery) : Type 0 where
+  pub registered : query_at e l.query ≡ Some q
+  pub running : kept_at e l.query ≡ Running p
+  pub within : l.operator < length q.nodes
+
+-- A LEASE: a turn with the next number goes out
+abbrev pub given_out : PlainEngine → Lease → PlainEngine
+given_out e l = record e { leases = e.leases ++ l ∷ []; next = e.next + 1 }
+
+abbrev pub leased : PlainEngine → Lease → Registered → PlainQuery → PlainEngine
+leased e l q p = record e { leases = e.leases ++ l ∷ []; next = e.next + 1; slots = retold e (given_out e l) l.query q p p l.operator e.slots }
+
+-- it is of the operator of the first slot, with what stands first on one of its sides and the excerpt for that
+pub record IsLeasable (e : PlainEngine) (l : Lease) (q : Registered) (p : PlainQuery) (s : Slot) : Type 0 where
+  pub first : first_of e.slots ≡ Some s
+  pub query : l.query ≡ s.query
+  pub operator : l.operator ≡ s.operator
+  pub number : l.number ≡ e.next
+  pub of : IsOf e l q p
+  pub item : IsFirst (operator_at p.operators l.operator) (log_at e.machine q l.operator) l.side l.item
+  pub near : l.excerpt ≡ near_of (operator_at p.operators l.operator).state l.side l.item
+
+-- THE TURN OF A NUMBER comes back
+abbrev pub others : ℕ → List Lease → List Lease
+others n ls = filter (λ l. not (l.number == n)) ls
+
+abbrev pub given_back : PlainEngine → Lease → PlainQuery → PlainEngine
+given_back e l p2 = record e { queries = set e.queries l.query (Running p2); leases = others l.number e.leases }
+
+-- AN ABANDONED TURN changes nothing of its query
+abbrev pub abandoned : PlainEngine → Lease → Registered → PlainQuery → PlainEngine
+abandoned e l q p = record e { leases = others l.number e.leases; slots = retold e (record e { leases = others l.number e.leases }) l.query q p p l.operator e.slots }
+
+-- A FINISHED TURN below the root feeds the operator at the end of the wire
+abbrev pub finished : PlainEngine → Lease → Registered → PlainQuery → PlainQuery → PlainEngine
+finished e l q p p2 = record (given_back e l p2) {
+  slots = retold e (given_back e l p2) l.query q p p2 (wire_from 0 q.nodes l.operator).to (retold e (given_back e l p2) l.query q p p2 l.operator e.slots);
+}
+
+pub record IsFinishedTurn (e : PlainEngine) (l : Lease) (q : Registered) (p p2 : PlainQuery) : Type 0 where
+  pub of : IsOf e l q p
+  pub below : l.operator < below_root q.nodes
+  pub outs : List (Entry Row)
+  pub puts : outs_at_first (operator_at p.operators l.operator) l.side l.item ≡ Put outs
+  pub turned : IsTurned e.machine q l.operator l.side l.item outs p.operators p2.operators
+  pub wires : p2.wires ≡ p.wires
+  pub sources : p2.sources ≡ p.sources
+  pub answers : p2.answers ≡ p.answers
+
+-- A FINISHED TURN of the root lengthens what waits
+abbrev pub answered : PlainEngine → Lease → Registered → PlainQuery → PlainQuery → PlainEngine
+answered e l q p p2 = record (given_back e l p2) { slots = retold e (given_back e l p2) l.query q p p2 l.operator e.slots }
+
+pub record IsAnsweredTurn (e : PlainEngine) (l : Lease) (q : Registered) (p p2 : PlainQuery) : Type 0 where
+  pub of : IsOf e l q p
+  pub root : l.operator ≡ below_root q.nodes
+  pub rows : List (ℕ × Row)
+  pub gives : outs_at_first (operator_at p.operators l.operator) l.side l.item ≡ Answered rows
+  pub turned : IsAnswered e.machine q l.side l.item p.operators p2.operators
+  pub wires : p2.wires ≡ p.wires
+  pub sources : p2.sources ≡ p.sources
+  pub answers : p2.answers ≡ p.answers ++ rows
+
+-- A REFUSED GROWTH breaks the query of the turn: its turns end, its slots leave, and what waits can be taken still
+abbrev pub of_others : ℕ → List Lease → List Lease
+of_others n ls = filter (λ l. not (l.query == n)) ls
+
+abbrev pub broken : PlainEngine → ℕ → PlainQuery → PlainEngine
+broken e n p = record e { queries = set e.queries n (Broken p.answers); leases = of_others n e.leases; slots = without_query n e.slots }
+
+-- A TAKE changes how many answers of a query were taken, and so the machine's queries
+abbrev pub with_taken : Registered → ℕ → Registered
+with_taken q n = record q { taken = n }
+
+abbrev pub with_queries : Machine → List Registered → Machine
+with_queries m qs = record m { queries = qs }
+
+-- a running query runs on with that
+abbrev pub RunsOnAtTakes : List ℕ → List ℕ → Machine → Registered → Type 0
+RunsOnAtTakes vs ws m q =
+    (qs : List Registered) (n : ℕ) (os : List PlainOperator) (given : List (ℕ × Row)) → IsRunning vs ws m q os given → IsRunning vs ws (with_queries m qs) (with_taken q n) os given

@@ -1,0 +1,3 @@
+pub mod Engines
+pub mod Promises
+pub mod Calls

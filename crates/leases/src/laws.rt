@@ -1,0 +1,42 @@
+//! What holds of an engine of many queries: functions that do nothing, each with a law.
+ghost use Rattle.std.specs.Prelude.{ℕ, ◌≡◌, List, Some};
+ghost use Rattle.reference.specs.Machine.{Machine, Registered};
+ghost use Rattle.query_nets.specs.Queries.{PlainQuery};
+ghost use Rattle.ready_list.specs.declared.slots.Slot.{Slot};
+ghost use Rattle.leases.specs.Engines.{GoodEngine, IsIn, Lease, PlainEngine, Running, kept_at, query_at};
+ghost use Rattle.leases.specs.Promises.{KeepsItsPromises};
+ghost use Rattle.leases.specs.Calls.{RunsOnAtTakes, IsAnsweredTurn, IsFinishedTurn, IsLeasable, IsOf, abandoned, answered, broken, finished, leased};
+
+/// Of each query of a good engine the answers that were taken, and those that wait, are a beginning of CQL's answers for the instants
+/// that its streams' heartbeats have closed, and all of them where no operator may take anything and no turn is out; and no operator
+/// that may be leased has a greater slope than that of the first slot.
+pub fn good_engines_keep_their_promises()
+    ensures { (e : PlainEngine) → GoodEngine e → KeepsItsPromises e }
+{}
+
+/// An engine stays good where a turn of the operator of the first slot goes out, with what stands first on one of its sides.
+pub fn leases_keep_engines_good()
+    ensures { (e : PlainEngine) (l : Lease) (q : Registered) (p : PlainQuery) (s : Slot) → GoodEngine e → IsLeasable e l q p s → GoodEngine (leased e l q p) }
+{}
+
+/// So it does where a turn that is out comes back finished: below the root its outputs are fed to the operator at the end of the wire,
+/// and those of the root wait to be taken.
+pub fn finished_turns_keep_engines_good()
+    ensures below { (e : PlainEngine) (l : Lease) (q : Registered) (p : PlainQuery) (p2 : PlainQuery) → GoodEngine e → IsIn e.leases l → IsFinishedTurn e l q p p2 → GoodEngine (finished e l q p p2) }
+    ensures root { (e : PlainEngine) (l : Lease) (q : Registered) (p : PlainQuery) (p2 : PlainQuery) → GoodEngine e → IsIn e.leases l → IsAnsweredTurn e l q p p2 → GoodEngine (answered e l q p p2) }
+{}
+
+/// So it does where one comes back abandoned: its operator may be leased again.
+pub fn abandoned_turns_keep_engines_good()
+    ensures { (e : PlainEngine) (l : Lease) (q : Registered) (p : PlainQuery) → GoodEngine e → IsIn e.leases l → IsOf e l q p → GoodEngine (abandoned e l q p) }
+{}
+
+/// So it does where a query breaks, whose turns end and whose slots leave.
+pub fn broken_queries_keep_engines_good()
+    ensures { (e : PlainEngine) (n : ℕ) (q : Registered) (p : PlainQuery) → GoodEngine e → query_at e n ≡ Some q → kept_at e n ≡ Running p → GoodEngine (broken e n p) }
+{}
+
+/// A running query whose answers are taken runs on, with its operators as they are: of the machine it knows the streams alone.
+pub fn takes_keep_queries_running()
+    ensures { (vs : List ℕ) (ws : List ℕ) (m : Machine) (q : Registered) → RunsOnAtTakes vs ws m q }
+{}

@@ -24,7 +24,7 @@ use Rattle.op_queue.proofs.SignedLemmas.{weigh-append, weigh-map}
 use Rattle.row_bags.proofs.OrderLemmas.{copies-weigh, weigh-without}
 use Rattle.group.specs.Cells.{Held, held, held_cmp, TallyState, tally_zero, tally_by, tallies_after, keeps, number_of, CellState, cell_after}
 use Rattle.group.specs.Groups.{GroupBy, grouped}
-use Rattle.group.specs.Turns.{GroupState, cell_of, row_key, row_after, rows_after, near_at, excerpt, row_now, fitted, same_shown, signed_row, swap_of, outputs, shown_now, shown_after, closed_state}
+use Rattle.group.specs.Turns.{GroupState, beginning, cell_of, row_key, row_after, rows_after, near_at, excerpt, row_now, fitted, same_shown, signed_row, swap_of, outputs, shown_now, shown_after, closed_state}
 use Rattle.group.specs.Laws.{count as times, shown_list, shown_rows, touched_keys, Stands}
 use Rattle.group.proofs.BagLemmas.{row_is, row_itself, weigh-flat_map}
 use Rattle.group.proofs.KeyLemmas.{held_order, cell-taken_in}
@@ -49,6 +49,10 @@ lean_tallies s (i ∷ is) (t ∷ ts) h = (lean_tally s.0 (keeps i) (number_of i 
 lean_zero : (is : List Item) → AreLean is (replicate (length is) tally_zero)
 lean_zero [] = tt
 lean_zero (i ∷ is) = (λ e. refl, lean_zero is)
+
+-- at the beginning nothing is kept
+pub lean_begins : (g : GroupBy) → KeepsFew (beginning g)
+lean_begins g k = lean_zero g.items
 
 lean_row : (s : GroupState) (r : Bool × Row) → KeepsFew s → KeepsFew (row_after s r)
 lean_row s r h k =

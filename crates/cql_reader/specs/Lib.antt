@@ -4,6 +4,7 @@ pub mod Query
 pub mod Views
 pub mod Grammar
 pub mod Fault
+pub mod FaultTexts
 pub mod Prediction
 pub mod Coded
 pub mod Reading

@@ -1,23 +1,22 @@
 -- What is kept of a group after a change at a key.
-use Rattle.std.proofs.Common.{◌≡◌, ℕ, ℤ, Bool, true, false, cond, Option, Some, None, unwrap_or, List, [], ◌∷◌, length, refl, sym, ap, subst, ◌∙◌}
+use Rattle.std.proofs.Common.{◌≡◌, ◌↔◌, ℕ, Bool, true, false, cond, Option, Some, None, unwrap_or, List, [], ◌∷◌, length, refl, sym, ap, subst, ◌∙◌}
 use Rattle.std.specs.declared.cmp.Ordering.{Ordering}
 use Rattle.std.specs.declared.cmp.Ordering.TheVariants.{Less, Equal, Greater}
-use Rattle.std.specs.Ordering.{is_eq, eq_by_cmp, match_ordering}
-use Rattle.std.specs.Option.{IsSome, is_some}
+use Rattle.std.specs.Ordering.{is_eq, match_ordering}
+use Rattle.std.specs.Option.{is_some}
 use Rattle.std.specs.Map.{lookup, set_value, remove_entry, keys_of}
 use Rattle.std.specs.BTreeMap.{is_at, insert_entry}
-use Rattle.std.specs.Cmp.{Equal-is, eq_by_cmp_equiv, IsTotalOrder}
+use Rattle.std.specs.Cmp.{eq_by_cmp_equiv}
 use Rattle.std.specs.List.Sorted.{IsStrictlySortedBy}
-use Rattle.std.specs.List.{AllByRecursion}
-use Rattle.std.proofs.lemmas.Map.{lookup-set_value, lookup-remove_entry, keys-set_value}
+use Rattle.std.proofs.lemmas.Map.{lookup-set_value, lookup-remove_entry}
 use Rattle.std.proofs.lemmas.Map.Keys.{IsDistinct-from_sorted}
 use Rattle.std.proofs.lemmas.Cmp.{on_total, tied_itself}
 use Rattle.values.specs.Bag.{IsExactOrder}
-use Rattle.values.specs.Row.{Row, row_cmp, value_cmp}
-use Rattle.values.proofs.Order.{row_order, value_order}
+use Rattle.values.specs.Row.{Row, same_row}
+use Rattle.values.proofs.Order.{row_order}
 use Rattle.values.specs.declared.resolved.Item.{Item}
 use Rattle.group.specs.Cells.{Held, held, held_cmp, CellState, cell_zero, cell_after, showing}
-use Rattle.group.specs.Turns.{has_key, cell_of, with_cell, taken_in, shown_in, shown_at}
+use Rattle.group.specs.Turns.{has_key, cell_of, with_cell, taken_in, shown_in}
 
 pub held_order : IsExactOrder held_cmp
 held_order = record {
@@ -89,6 +88,10 @@ module _ {K V : Type 0} (cmp : K → K → Ordering) (order : IsExactOrder cmp) 
       none_or : (b : Bool) → unwrap_or (cond b None (lookup (is_at (cmp q)) es)) d ≡ cond b d (unwrap_or (lookup (is_at (cmp q)) es) d)
       none_or true = refl
       none_or false = refl
+
+-- rows are the same where they compare as equal
+pub same_held : (a b : Held) → (same_row a.items b.items ≡ true) ↔ (a ≡ b)
+same_held a b = (same_key held_cmp held_order a b, λ e. ap (λ (k : Held). is_eq (held_cmp a k)) (sym e) ∙ key_itself held_cmp held_order a)
 
 none_at : {V : Type 0} (d : V) (r : Option V) → is_some r ≡ false → unwrap_or r d ≡ d
 none_at d None h = refl

@@ -9,3 +9,4 @@ pub mod ValueLemmas
 pub mod StateLemmas
 pub mod LawLemmas
 pub mod DistinctLemmas
+pub mod BatchLemmas

@@ -1,10 +1,9 @@
 -- Each row takes a little of the room that counts and sums have.
-use Rattle.std.proofs.Common.{◌≡◌, ℕ, ℤ, zero, suc, ◌+◌, ◌-◌, ◌*◌, ◌^◌, ◌<◌, ◌≤◌, ◌+ℤ◌, ◌≤ℤ◌, neg_ℤ, pos, Bool, true, false, cond, nat_lt, Option, Some, None, unwrap_or, List, [], ◌∷◌, map, length, fold, get_or, replicate, refl, sym, ap, subst, ◌∙◌, arith}
+use Rattle.std.proofs.Common.{◌≡◌, ℕ, ℤ, zero, suc, ◌+◌, ◌-◌, ◌*◌, ◌^◌, ◌≤◌, ◌≤ℤ◌, neg_ℤ, pos, Bool, true, false, cond, nat_lt, Option, Some, None, unwrap_or, List, [], ◌∷◌, length, fold, replicate, ◌∙◌, arith}
 use Rattle.std.specs.List.{All}
-use Rattle.std.specs.Option.{is_some, IfSome, IsSome}
+use Rattle.std.specs.Option.{IfSome}
 use Rattle.std.specs.Map.{lookup, set_value, remove_entry, values_of}
 use Rattle.std.specs.BTreeMap.{is_at, insert_entry}
-use Rattle.std.specs.Ordering.{is_eq}
 use Rattle.std.proofs.lemmas.Map.Views.{All-values-insert_entry, All-values-set_value, All-map-remove_entry, IfSome-lookup_from_All}
 use Rattle.std.proofs.lemmas.Int.{ints}
 use Rattle.lane_kernels.specs.Lanes.{IsWithin}
@@ -12,12 +11,11 @@ use Rattle.lane_kernels.proofs.SumLemmas.{within_add, within_neg}
 use Rattle.values.specs.Row.{Row, value_cmp}
 use Rattle.values.specs.Value.{IsAnswerValue, IsAnswerNumber, answer_max}
 use Rattle.values.specs.declared.resolved.Item.{Item}
-use Rattle.values.specs.declared.resolved.Item.TheVariants.{Key}
-use Rattle.group.specs.Cells.{Held, held_cmp, Values, count_of, one_more, one_less, values_by, TallyState, tally_zero, tally_by, tally_after, partly, tallies_after, keeps, number_of, signed_by, CellState, cell_zero, cell_after, showing, TallyRoom, CellRoom, ReadsInRange}
+use Rattle.group.specs.Cells.{Held, held_cmp, Values, count_of, values_by, TallyState, tally_zero, tally_by, tally_after, tallies_after, keeps, number_of, signed_by, CellState, cell_zero, cell_after, showing, TallyRoom, CellRoom, ReadsInRange}
 use Rattle.op_queue.specs.declared.item.Item as queue
 use Rattle.op_queue.specs.declared.item.Item.TheVariants.{Rows, Tick}
 use Rattle.group.specs.Groups.{GroupBy}
-use Rattle.group.specs.Turns.{RoomFor, beginning, GroupState, has_key, cell_of, with_cell, taken_in, shown_at, shown_after, row_key, row_after, ShownState, closed_state, CountsUpTo, KeepsRoom}
+use Rattle.group.specs.Turns.{RoomFor, beginning, GroupState, has_key, cell_of, with_cell, shown_at, shown_after, row_key, row_after, ShownState, closed_state, CountsUpTo, KeepsRoom}
 use Rattle.std.proofs.lemmas.List.{length-replicate}
 use Rattle.group.proofs.TallyLemmas.{length-partly}
 
@@ -65,7 +63,7 @@ tally_room_le m n t h r = record {
   values = all_le m n (values_of t.values) h r.values;
 }
 
-tally_room : (n : ℕ) (enters kept : Bool) (v : Option ℤ) (t : TallyState) → IsAnswerValue v → TallyRoom n t → TallyRoom (n + 1) (tally_by enters kept v t)
+pub tally_room : (n : ℕ) (enters kept : Bool) (v : Option ℤ) (t : TallyState) → IsAnswerValue v → TallyRoom n t → TallyRoom (n + 1) (tally_by enters kept v t)
 tally_room n enters kept None t h r = tally_room_le n (n + 1) t (omega arith) r
 tally_room n enters kept (Some z) t h r = record {
   numbers = within_add n 1 t.numbers (signed_by enters (pos 1)) r.numbers (signed_within 1 enters (pos 1) one_within);
@@ -97,7 +95,7 @@ cell_room_le m n is c h r = record {
 cell_room : (n : ℕ) (is : List Item) (c : CellState) (s : Bool × Row) → ReadsInRange is s → CellRoom n is c → CellRoom (n + 1) is (cell_after is c s)
 cell_room n is c s h r = record {
   rows = within_add n 1 c.rows (signed_by s.0 (pos 1)) r.rows (signed_within 1 s.0 (pos 1) one_within);
-  aligned = length-partly s (length is) is c.tallies ∙ r.aligned;
+  aligned = length-partly (tally_after s) (length is) is c.tallies ∙ r.aligned;
   tallies = tallies_room n s is c.tallies r.aligned h r.tallies;
 }
 

@@ -1,27 +1,26 @@
 -- The tallies of a group, one after the other.
-use Rattle.std.proofs.Common.{◌≡◌, ℕ, ℤ, zero, suc, ◌+◌, ◌<◌, ◌≤◌, List, [], ◌∷◌, ◌++◌, take, length, get_or, refl, ap, sym, ◌∙◌, arith, slice_set, replicate, Bool, true, false, nat_lt, ltb-true, ltb-false, subst, min}
+use Rattle.std.proofs.Common.{◌≡◌, ℕ, ℤ, zero, suc, ◌<◌, List, [], ◌∷◌, ◌++◌, take, length, get_or, refl, ap, arith, slice_set, Bool, true, false, nat_lt, ltb-true, ltb-false, subst, min}
 use Rattle.values.specs.Row.{Row}
 use Rattle.values.specs.declared.resolved.Item.{Item}
-use Rattle.group.specs.declared.cells.Figure.{Figure}
-use Rattle.group.specs.Cells.{TallyState, tally_after, partly, figure, figures}
+use Rattle.group.specs.Cells.{TallyState, partly, figure, figures}
 
-pub partly-at : (s : Bool × Row) (p : ℕ) (is : List Item) (ts : List TallyState) (d : TallyState) → get_or (partly s p is ts) p d ≡ get_or ts p d
-partly-at s zero is ts d = refl
-partly-at s (suc p) [] ts d = refl
-partly-at s (suc p) (i ∷ is) [] d = refl
-partly-at s (suc p) (i ∷ is) (t ∷ ts) d = partly-at s p is ts d
+pub partly-at : (f : Item → TallyState → TallyState) (p : ℕ) (is : List Item) (ts : List TallyState) (d : TallyState) → get_or (partly f p is ts) p d ≡ get_or ts p d
+partly-at f zero is ts d = refl
+partly-at f (suc p) [] ts d = refl
+partly-at f (suc p) (i ∷ is) [] d = refl
+partly-at f (suc p) (i ∷ is) (t ∷ ts) d = partly-at f p is ts d
 
-pub partly-more : (s : Bool × Row) (p : ℕ) (is : List Item) (ts : List TallyState) (d : Item) (e : TallyState) → p < length is → length ts ≡ length is → slice_set (partly s p is ts) p (tally_after s (get_or is p d) (get_or ts p e)) ≡ partly s (suc p) is ts
-partly-more s p [] ts d e h l = absurd (omega arith)
-partly-more s p (i ∷ is) [] d e h l = absurd (omega arith)
-partly-more s zero (i ∷ is) (t ∷ ts) d e h l = refl
-partly-more s (suc p) (i ∷ is) (t ∷ ts) d e h l = ap (λ us. tally_after s i t ∷ us) (partly-more s p is ts d e (omega arith) (omega arith))
+pub partly-more : (f : Item → TallyState → TallyState) (p : ℕ) (is : List Item) (ts : List TallyState) (d : Item) (e : TallyState) → p < length is → length ts ≡ length is → slice_set (partly f p is ts) p (f (get_or is p d) (get_or ts p e)) ≡ partly f (suc p) is ts
+partly-more f p [] ts d e h l = absurd (omega arith)
+partly-more f p (i ∷ is) [] d e h l = absurd (omega arith)
+partly-more f zero (i ∷ is) (t ∷ ts) d e h l = refl
+partly-more f (suc p) (i ∷ is) (t ∷ ts) d e h l = ap (λ us. f i t ∷ us) (partly-more f p is ts d e (omega arith) (omega arith))
 
-pub length-partly : (s : Bool × Row) (p : ℕ) (is : List Item) (ts : List TallyState) → length (partly s p is ts) ≡ length ts
-length-partly s zero is ts = refl
-length-partly s (suc p) [] ts = refl
-length-partly s (suc p) (i ∷ is) [] = refl
-length-partly s (suc p) (i ∷ is) (t ∷ ts) = ap suc (length-partly s p is ts)
+pub length-partly : (f : Item → TallyState → TallyState) (p : ℕ) (is : List Item) (ts : List TallyState) → length (partly f p is ts) ≡ length ts
+length-partly f zero is ts = refl
+length-partly f (suc p) [] ts = refl
+length-partly f (suc p) (i ∷ is) [] = refl
+length-partly f (suc p) (i ∷ is) (t ∷ ts) = ap suc (length-partly f p is ts)
 
 -- the figures of the first p items and one more
 pub figures-more : (k : Row) (n : ℤ) (p : ℕ) (is : List Item) (ts : List TallyState) (d : Item) (e : TallyState) → p < length is → p < length ts → figures k n (take p is) ts ++ figure k n (get_or is p d) (get_or ts p e) ∷ [] ≡ figures k n (take (suc p) is) ts

@@ -1,9 +1,8 @@
 -- What is kept of a group: its rows counted, and of each item of the list the numbers that it reads.
-use Rattle.std.specs.Prelude.{ℕ, zero, suc, ◌+◌, ◌-◌, ◌*◌, ◌^◌, ◌<◌, ◌≤◌, ◌≡◌, ℤ, pos, neg_ℤ, ◌+ℤ◌, Option, Some, None, unwrap_or, List, [], ◌∷◌, map, length, replicate, get_or, nat_lt, Bool, true, false, cond}
+use Rattle.std.specs.Prelude.{ℕ, zero, suc, ◌+◌, ◌-◌, ◌*◌, ◌^◌, ◌<◌, ◌≤◌, ◌≡◌, ℤ, pos, neg_ℤ, ◌+ℤ◌, Option, Some, None, unwrap_or, List, [], ◌∷◌, length, replicate, get_or, nat_lt, Bool, true, false, cond}
 use Rattle.std.specs.List.{All, slice_get}
 use Rattle.std.specs.Map.{lookup, set_value, remove_entry, values_of}
 use Rattle.std.specs.BTreeMap.{is_at, insert_entry}
-use Rattle.std.specs.Option.{is_some}
 use Rattle.std.specs.Ordering.{int_eq}
 use Rattle.std.specs.declared.cmp.Ordering.{Ordering}
 use Rattle.arrayvec.specs.ArrayVec.{ArrayVec}
@@ -87,15 +86,18 @@ tally_by enters kept (Some z) t = record {
 abbrev pub tally_after : Bool × Row → Item → TallyState → TallyState
 tally_after s i t = tally_by s.0 (keeps i) (number_of i s.1) t
 
--- the first p tallies have taken the row
-abbrev pub partly : Bool × Row → ℕ → List Item → List TallyState → List TallyState
-partly s zero is ts = ts
-partly s (suc p) [] ts = ts
-partly s (suc p) (i ∷ is) [] = []
-partly s (suc p) (i ∷ is) (t ∷ ts) = tally_after s i t ∷ partly s p is ts
+-- the first p tallies are changed, each by its item
+abbrev pub partly : (Item → TallyState → TallyState) → ℕ → List Item → List TallyState → List TallyState
+partly f zero is ts = ts
+partly f (suc p) [] ts = ts
+partly f (suc p) (i ∷ is) [] = []
+partly f (suc p) (i ∷ is) (t ∷ ts) = f i t ∷ partly f p is ts
+
+abbrev pub each : (Item → TallyState → TallyState) → List Item → List TallyState → List TallyState
+each f is ts = partly f (length is) is ts
 
 abbrev pub tallies_after : Bool × Row → List Item → List TallyState → List TallyState
-tallies_after s is ts = partly s (length is) is ts
+tallies_after s is ts = each (tally_after s) is ts
 
 -- how many rows the group has, a tally for each item of the list, and the row that was shown of it last
 pub record CellState : Type 0 where

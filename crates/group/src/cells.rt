@@ -1,6 +1,6 @@
 //! What is kept of a group.
 
-ghost use Rattle.std.specs.Prelude.{◌≡◌, ◌+◌, ◌-◌, ◌^◌, ◌<◌, ◌≤◌, ◌∷◌, [], length, map, replicate, IfOk, OnOk, OnErr, IsSome, pos, ℤ, Option, Some, None, List, cond, nat_lt, false, ◌+ℤ◌, ◌*◌};
+ghost use Rattle.std.specs.Prelude.{◌≡◌, ◌+◌, ◌-◌, ◌^◌, ◌<◌, ◌≤◌, ◌∷◌, [], length, map, replicate, IfOk, OnOk, OnErr, IsSome, pos, ℤ, Option, Some, None, List, cond, nat_lt, false, ◌+ℤ◌, ◌-ℤ◌, ◌*◌, ◌/◌, ◌==◌, fold};
 ghost use Rattle.std.specs.BTreeMap.{is_at};
 ghost use Rattle.std.specs.BTreeMap as tree;
 ghost use Rattle.std.specs.Map.{set_value, values_of};
@@ -9,14 +9,18 @@ ghost use Rattle.values.specs.Row.{value_cmp, value_at};
 ghost use Rattle.values.specs.Value.{IsAnswerValue};
 ghost use Rattle.column.specs.Rows.{signed};
 ghost use Rattle.lane_kernels.specs.Lanes.{IsWithin};
-ghost use Rattle.group.specs.Cells.{count_of, one_more, one_less, values_by, number_of, keeps, signed_by, tally_zero, tally_by, partly, tallies_after, cell_zero, cell_after, showing, figure, figures, sum_figure, least, greatest, clamped_or, number_figure, value_figure, keeping, TallyRoom, CellRoom, ReadsInRange};
+ghost use Rattle.group.specs.Cells.{count_of, one_more, one_less, values_by, number_of, keeps, signed_by, tally_zero, tally_by, partly, tallies_after, cell_zero, cell_after, showing, each, figure, figures, sum_figure, least, greatest, clamped_or, number_figure, value_figure, keeping, TallyRoom, CellRoom, ReadsInRange};
+ghost use Rattle.column.specs.Bits.{bits, word_count, place as place_of};
+ghost use Rattle.column.specs.Columns.{IsStreamValue};
+ghost use Rattle.group.specs.Batches.{rows_counted, leaving, fields, tally_values, tally_sums, tally_rows, numbers_read, AllInRange};
 
-use crate::rows::{copy_row, field_of};
-use column::SignedRow;
+use crate::rows::field_of;
+use column::{Batch, Column as Lane, SignedRow};
+use lane_kernels::{count_set, count_signed, sum_signed};
 use std::alloc::{AllocError, Global};
 use std::collections::BTreeMap;
 use std::marker::Model;
-use values::{Item, Row, Value, value_at};
+use values::{Column, Item, Row, Value, copy_row, value_at};
 
 /// The number that an item reads in a row; null where it reads none.
 fn number_of(item: Item, row: &Row) -> Value
@@ -116,6 +120,23 @@ fn summed(total: i128, enters: bool, number: i64) -> i128
     }
 }
 
+/// The count after a batch.
+fn count_added(count: i64, more: i64) -> i64
+    requires count { IsWithin (2 ^ 62) count }
+    requires more { IsWithin 1024 more }
+    ensures { result ≡ count +ℤ more }
+{
+    count + more
+}
+
+/// The sum after a batch.
+fn sum_added(total: i128, more: i64) -> i128
+    requires { IsWithin (2 ^ 62 * 2 ^ 63) total }
+    ensures { result ≡ total +ℤ more }
+{
+    total + more as i128
+}
+
 /// Of the numbers that an item reads in the rows of a group: how many there are, their exact sum, and where a least or a
 /// greatest is asked for, how often each stands there.
 #[derive(Drop)]
@@ -176,6 +197,83 @@ impl Tally {
                 self.keep(keeps, enters, value)?;
                 Ok(())
             }
+        }
+    }
+
+    /// The values of a column enter, those with a set bit in `minus` leave. None of them is kept: they are counted and summed by lanes.
+    fn take_sums(&mut self, lane: &Lane, minus: &[u64])
+        requires small { All IsStreamValue lane.now }
+        requires words { length minus.now ≡ word_count (length lane.now) }
+        requires room { TallyRoom (2 ^ 62) self.old }
+        ensures { self.new ≡ tally_sums (bits (length lane.now) minus.now) lane.now self.old }
+    {
+        let _ = lane.len();
+        self.numbers = count_added(self.numbers, count_signed(lane, minus));
+        self.total = sum_added(self.total, sum_signed(lane, minus));
+    }
+
+    /// The values of a column enter, those with a set bit in `minus` leave, one after the other.
+    fn take_values(&mut self, lane: &Lane, keeps: bool, minus: &[u64]) -> Result<(), AllocError>
+        requires words { length minus.now ≡ word_count (length lane.now) }
+        requires room { TallyRoom (2 ^ 62) self.old }
+        ensures tally { OnOk result (self.new ≡ tally_values keeps (bits (length lane.now) minus.now) lane.now self.old) }
+        ensures range { OnOk result (All IsAnswerValue lane.now) }
+    {
+        for place in 0..lane.len() {
+            self.take(!is_set(minus, place), keeps, lane.get(place))?;
+        }
+        Ok(())
+    }
+
+    /// The values of a column enter, those with a set bit in `minus` leave.
+    fn take_lane(&mut self, lane: &Lane, keeps: bool, minus: &[u64]) -> Result<(), AllocError>
+        requires words { length minus.now ≡ word_count (length lane.now) }
+        requires room { TallyRoom (2 ^ 62) self.old }
+        ensures tally { OnOk result (self.new ≡ tally_values keeps (bits (length lane.now) minus.now) lane.now self.old) }
+        ensures range { OnOk result (All IsAnswerValue lane.now) }
+    {
+        if keeps {
+            self.take_values(lane, true, minus)?;
+            return Ok(());
+        }
+        if lane.is_in_stream_range() {
+            self.take_sums(lane, minus);
+            return Ok(());
+        }
+        self.take_values(lane, false, minus)?;
+        Ok(())
+    }
+
+    /// The values that the rows of a batch have in a column enter and leave.
+    fn take_fields(&mut self, column: Column, keeps: bool, batch: &Batch) -> Result<(), AllocError>
+        requires { TallyRoom (2 ^ 62) self.old }
+        ensures tally { OnOk result (self.new ≡ tally_values keeps (leaving batch.now) (fields column batch.now) self.old) }
+        ensures range { OnOk result (All IsAnswerValue (fields column batch.now)) }
+    {
+        let _ = batch.len();
+        if column.source != 0 {
+            return Ok(());
+        }
+        if column.column >= batch.width() {
+            return Ok(());
+        }
+        self.take_lane(batch.column(column.column), keeps, batch.leaving_words())?;
+        Ok(())
+    }
+
+    /// The rows of a batch enter and leave.
+    fn take_batch(&mut self, item: Item, batch: &Batch) -> Result<(), AllocError>
+        requires { TallyRoom (2 ^ 62) self.old }
+        ensures tally { OnOk result (self.new ≡ tally_rows batch.now item self.old) }
+        ensures range { OnOk result (All IsAnswerValue (numbers_read item batch.now)) }
+    {
+        match item {
+            Item::Key(_) => Ok(()),
+            Item::CountAll => Ok(()),
+            Item::Count(column) => self.take_fields(column, false, batch),
+            Item::Sum(column) => self.take_fields(column, false, batch),
+            Item::Min(column) => self.take_fields(column, true, batch),
+            Item::Max(column) => self.take_fields(column, true, batch),
         }
     }
 
@@ -290,6 +388,43 @@ fn take_tallies(tallies: &mut Vec<Tally>, items: &[Item], row: &SignedRow) -> Re
     Ok(())
 }
 
+/// The bit at a place.
+fn is_set(words: &[u64], place: usize) -> bool
+    requires { place / 64 < length words.now }
+    ensures { result ≡ (place_of words.now place == 1) }
+{
+    words[place / 64] >> (place % 64) & 1 == 1
+}
+
+/// All less twice those gone: how many stay, those gone taken away.
+fn less_twice(all: usize, gone: u32) -> i64
+    requires { all ≤ 1024 }
+    ensures { result ≡ pos all -ℤ pos (2 * gone) }
+{
+    all as i64 - 2 * gone as i64
+}
+
+/// How many rows of a batch enter, those that leave taken away.
+fn rows_counted(batch: &Batch) -> i64
+    ensures value { result ≡ rows_counted batch.now }
+    ensures few { IsWithin 1024 result }
+{
+    less_twice(batch.len(), count_set(batch.leaving_words()))
+}
+
+/// The rows of a batch enter and leave: each tally takes them.
+fn take_batches(tallies: &mut Vec<Tally>, items: &[Item], batch: &Batch) -> Result<(), AllocError>
+    requires aligned { length tallies.old.items ≡ length items.now }
+    requires room { All (TallyRoom (2 ^ 62)) tallies.old.items }
+    ensures tallies { OnOk result (tallies.new.items ≡ each (tally_rows batch.now) items.now tallies.old.items) }
+    ensures range { OnOk result (AllInRange items.now batch.now) }
+{
+    for place in 0..items.len() {
+        tallies[place].take_batch(items[place], batch)?;
+    }
+    Ok(())
+}
+
 /// The exact figures of a group, one for each item of the list.
 fn figures_of(
     alloc: Global,
@@ -333,6 +468,17 @@ impl Cell {
     {
         take_tallies(&mut self.tallies, items, row)?;
         self.rows = counted(self.rows, row.enters);
+        Ok(())
+    }
+
+    /// The rows of a batch enter and leave, all of this group.
+    pub(crate) fn take_batch(&mut self, items: &[Item], batch: &Batch) -> Result<(), AllocError>
+        requires { CellRoom (2 ^ 62) items.now self.old }
+        ensures cell { OnOk result (self.new ≡ fold (cell_after items.now) self.old batch.now) }
+        ensures range { OnOk result (AllInRange items.now batch.now) }
+    {
+        take_batches(&mut self.tallies, items, batch)?;
+        self.rows = count_added(self.rows, rows_counted(batch));
         Ok(())
     }
 

@@ -19,17 +19,6 @@ pub(crate) fn field_of(row: &Row, column: Column) -> Value
     }
 }
 
-/// The same row again, which takes no memory.
-pub(crate) fn copy_row(row: &Row) -> Row
-    ensures { result ≡ row.now }
-{
-    let mut copy = Row::new();
-    for value in row.as_slice() {
-        copy.push(*value);
-    }
-    copy
-}
-
 /// The row with this many columns.
 pub(crate) fn fitted(row: &Row, width: usize) -> Row
     requires { width ≤ MAX_COLUMNS }

@@ -5,7 +5,7 @@ ghost use Rattle.std.specs.Prelude.{◌≡◌, ◌↔◌, IsTrue};
 use crate::cells::Figure;
 use crate::shape::GroupBy;
 use crate::turn::{Near, Touched};
-use values::{Column, Item, Row, Value};
+use values::{Column, Item, Row, Value, same_rows};
 
 fn same_value(a: Value, b: Value) -> bool
     ensures { IsTrue result ↔ (a ≡ b) }
@@ -17,28 +17,11 @@ fn same_value(a: Value, b: Value) -> bool
     }
 }
 
-fn same_values(a: &[Value], b: &[Value]) -> bool
-    ensures { IsTrue result ↔ (a.now ≡ b.now) }
-{
-    let mut left = a;
-    let mut right = b;
-    while let Some((x, rest)) = left.split_first() {
-        let Some((y, more)) = right.split_first() else {
-            return false;
-        };
-        if !same_value(*x, *y) {
-            return false;
-        }
-        left = rest;
-        right = more;
-    }
-    right.is_empty()
-}
-
+#[tactic(auto, using(crate::proofs::KeyLemmas::same_held))]
 fn same_row(a: &Row, b: &Row) -> bool
     ensures { IsTrue result ↔ (a.now ≡ b.now) }
 {
-    same_values(a.as_slice(), b.as_slice())
+    same_rows(a, b)
 }
 
 fn same_shown(a: &Option<Row>, b: &Option<Row>) -> bool

@@ -9,13 +9,13 @@ ghost use Rattle.group.specs.Cells.{held, shown_figure};
 ghost use Rattle.group.specs.Turns.{row_now, swap_of, signed_row, same_shown, outputs, out, change, shown_now};
 
 use crate::cells::Figure;
-use crate::rows::{copy_row, fitted};
+use crate::rows::fitted;
 use crate::shape::GroupBy;
 use column::{Batch, SignedRow};
 use op_queue::Item;
 use std::alloc::{AllocError, Global};
 use std::marker::Model;
-use values::{Row, same_rows};
+use values::{Row, copy_row, same_rows};
 
 /// The most rows of a batch.
 const BATCH: usize = 1024;

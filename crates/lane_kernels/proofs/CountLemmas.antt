@@ -15,7 +15,7 @@ use Rattle.column.specs.Bits.{bits}
 use Rattle.column.proofs.BitLemmas.{length-bits, get_or-bits}
 
 -- the bits of one word
-abbrev word_bits : ℕ → List Bool
+abbrev pub word_bits : ℕ → List Bool
 word_bits w = map (λ k. bit_at w k == 1) (range_with_len 0 64)
 
 cond_bit : (b : ℕ) → b < 2 → cond (b == 1) 1 0 ≡ b
@@ -36,7 +36,7 @@ same_id (b ∷ bs) = ap (λ l. b ∷ l) (same_id bs)
 pub ones_of_word : (w : ℕ) → w < 2 ^ 64 → count_ones w ≡ count_by (λ b. b) (word_bits w)
 ones_of_word w h = ap count_ones (sym (word_again w h) ∙ ap mask_l (sym (same_id (word_bits w)))) ∙ ones-mask_l (λ b. b) (word_bits w)
 
-bits_more : (words : List ℕ) (k : ℕ) → bits (64 * (k + 1)) words ≡ bits (64 * k) words ++ word_bits (get_or words k 0)
+pub bits_more : (words : List ℕ) (k : ℕ) → bits (64 * (k + 1)) words ≡ bits (64 * k) words ++ word_bits (get_or words k 0)
 bits_more words k =
     let long : length (bits (64 * k) words ++ word_bits (get_or words k 0)) ≡ 64 * (k + 1) =
     omega (arith, length-append (bits (64 * k) words) (word_bits (get_or words k 0)), length-bits (64 * k) words, length-map-range_with_len (λ j. bit_at (get_or words k 0) j == 1) 0 64) in

@@ -4,4 +4,5 @@ pub mod SumLemmas
 pub mod TotalLemmas
 pub mod WordLemmas
 pub mod CountLemmas
+pub mod SignLemmas
 pub mod ConditionLemmas

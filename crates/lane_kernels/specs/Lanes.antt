@@ -45,3 +45,9 @@ signed_sum (m ∷ ms) (x ∷ xs) = cond m (neg_ℤ x) x +ℤ signed_sum ms xs
 
 abbrev pub bits_of : ℕ → List Bool
 bits_of byte = map (λ k. bit_at byte k == 1) (range_with_len 0 8)
+
+-- how many truths there are, those with a true sign taken away
+abbrev pub signed_truths : List Bool → List Bool → ℤ
+signed_truths [] vs = pos 0
+signed_truths (m ∷ ms) [] = pos 0
+signed_truths (m ∷ ms) (v ∷ vs) = cond v (cond m (neg_ℤ (pos 1)) (pos 1)) (pos 0) +ℤ signed_truths ms vs

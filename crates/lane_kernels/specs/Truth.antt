@@ -30,3 +30,10 @@ signed_total [] vs = pos 0
 signed_total (m ∷ ms) [] = pos 0
 signed_total (m ∷ ms) (None ∷ vs) = signed_total ms vs
 signed_total (m ∷ ms) (Some x ∷ vs) = cond m (neg_ℤ x) x +ℤ signed_total ms vs
+
+-- how many of the values are no nulls, those with a true sign taken away
+abbrev pub signed_count : List Bool → List (Option ℤ) → ℤ
+signed_count [] vs = pos 0
+signed_count (m ∷ ms) [] = pos 0
+signed_count (m ∷ ms) (None ∷ vs) = signed_count ms vs
+signed_count (m ∷ ms) (Some x ∷ vs) = cond m (neg_ℤ (pos 1)) (pos 1) +ℤ signed_count ms vs

@@ -15,6 +15,6 @@ mod sum;
 pub use compare::{compare_columns, compare_const};
 pub use comparison::Comparison;
 pub use condition::{MAX_TRUTHS, Step, run_condition};
-pub use count::count_set;
+pub use count::{count_set, count_signed};
 pub use logic::{and3, not3, or3};
 pub use sum::sum_signed;

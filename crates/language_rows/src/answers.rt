@@ -1,60 +1,64 @@
+//! Answers of the definition that runs.
 ghost use Rattle.std.specs.Prelude.{◌≡◌, All, length};
 ghost use Rattle.values.specs.Resolved.{CanSlide};
 ghost use Rattle.values.specs.Resolved.{FitsRows};
 
 use reference::evaluate::evaluate;
 use std::alloc::{AllocError, Global};
-use std::fmt::Write;
+use std::test::Fail;
 use values::{Column, Operator, Resolved, Row, Shape, Value, Window};
 
 /// A row of one number.
-fn row(number: i128) -> Row {
+pub(crate) fn row(number: i128) -> Row {
     let mut row = Row::new();
     row.push(Value::clamped(number));
     row
 }
 
-/// The answers before an instant, as text.
-fn answers_text(
+/// Whether these are rows of one number, each at its instant.
+pub(crate) fn are(answers: &[(u64, Row)], wanted: &[(u64, i64)]) -> bool {
+    for ((at, row), (instant, number)) in answers.iter().zip(wanted) {
+        if at != instant || row.as_slice() != [Value::clamped(*number as i128)].as_slice() {
+            return false;
+        }
+    }
+    answers.len() == wanted.len()
+}
+
+/// Whether these are the answers before an instant.
+fn are_answers(
     alloc: Global,
     query: &Resolved,
     until: u64,
     inputs: &[Vec<(u64, Row)>],
-) -> Result<String, AllocError>
+    wanted: &[(u64, i64)],
+) -> Result<bool, AllocError>
     requires fits { FitsRows query.now.shape }
     requires sources { length query.now.windows.items ≡ length inputs.now }
     requires slides { All CanSlide query.now.windows.items }
 {
-    let mut text = String::new(alloc);
-    for (at, row) in &evaluate(alloc, query, 0, until, inputs)? {
-        write!(text, "{at}:")?;
-        for value in row.as_slice() {
-            write!(text, " {value}")?;
-        }
-        write!(text, "; ")?;
-    }
-    Ok(text)
+    let answers = evaluate(alloc, query, 0, until, inputs)?;
+    Ok(are(&answers, wanted))
 }
 
-/// A column of the first source.
-fn first(column: usize) -> Column {
-    Column { source: 0, column }
-}
-
-/// The answers of the query that lists the first column of its one source.
-fn listing(
+/// Whether these are the answers of the query that lists the first column of its one source.
+fn listing_answers(
     alloc: Global,
     operator: Operator,
     window: Window,
     until: u64,
     rows: Vec<(u64, Row)>,
-) -> Result<String, AllocError>
+    wanted: &[(u64, i64)],
+) -> Result<bool, AllocError>
     requires { CanSlide window }
 {
     let mut windows = Vec::new(alloc);
     windows.push(window)?;
     let mut columns = Vec::new(alloc);
-    columns.push(first(0))?;
+    columns.push(Column {
+        source: 0,
+        column: 0,
+    })?;
     let mut inputs = Vec::new(alloc);
     inputs.push(rows)?;
     let query = Resolved {
@@ -64,14 +68,23 @@ fn listing(
         is_distinct: false,
         operator,
     };
-    answers_text(alloc, &query, until, &inputs)
+    are_answers(alloc, &query, until, &inputs, wanted)
+}
+
+fn rows_of_now_are_shown(alloc: Global) -> Result<bool, AllocError> {
+    let rows = vec![in alloc; (3, row(7)), (1, row(5)), (3, row(6))]?;
+    let wanted = [(1, 5), (3, 6), (3, 7)];
+    listing_answers(alloc, Operator::Istream, Window::Range(0), 4, rows, &wanted)
+}
+
+fn seven_is_printed(alloc: Global) -> Result<bool, AllocError> {
+    let text = format!(in alloc; "{}", Value::clamped(7))?;
+    Ok(text.as_str() == "7")
 }
 
 #[test]
-fn the_rows_of_an_instant_are_shown_in_order(rt: HostRuntime) -> Result<(), AllocError> {
-    let alloc = rt.alloc();
-    let rows = vec![in alloc; (3, row(7)), (1, row(5)), (3, row(6))]?;
-    let now = listing(alloc, Operator::Istream, Window::Range(0), 4, rows)?;
-    assert_eq!(rt; now.as_str(), "1: 5; 3: 6; 3: 7; ");
+fn the_rows_of_an_instant_are_shown_in_order(rt: HostRuntime) -> Result<(), Fail> {
+    assert!(rt; rows_of_now_are_shown(rt.alloc())?);
+    assert!(rt; seven_is_printed(rt.alloc())?);
     Ok(())
 }

@@ -1,104 +1,195 @@
-use cql_reader::{Name, read};
+//! The calls of the plain engine, its faults, and answers of a text.
+
+use crate::answers::{are, row};
+use cql_reader::{Name, Query, read};
 use names::{Catalog, resolve};
 use plan::fits_a_row;
 use reference::{Answering, Fault, NewRows, Plain, QueryFault, answers};
 use std::alloc::{AllocError, Global};
-use std::fmt::Write;
-use std::process::Abort;
 use std::test::Fail;
-use values::{Row, Value};
+use values::Row;
 
 const ISTREAM: &str = "Select Istream(*) From S [Now]";
 
-// Two columns of these names.
-fn columns(alloc: Global, first: &str, second: &str) -> Result<Vec<String>, AllocError> {
+/// The columns a and b.
+fn columns(alloc: Global) -> Result<Vec<String>, AllocError> {
     let mut columns = Vec::new(alloc);
-    columns.push(String::from_str(alloc, first)?)?;
-    columns.push(String::from_str(alloc, second)?)?;
+    for name in ["a", "b"] {
+        columns.push(String::from_str(alloc, name)?)?;
+    }
     Ok(columns)
 }
 
-// An engine with a stream S(a, b) from 0 and a query q on it.
-fn engine(rt: &impl Abort, alloc: Global) -> Result<Plain, Fail> {
+/// Declares a stream S(a, b) from 0 and registers a query q on it: their numbers.
+fn numbers(alloc: Global, plain: &mut Plain) -> Result<(u64, u64), Fault> {
+    let columns = columns(alloc)?;
+    let stream = plain.stream("S", columns.as_slice(), 0)?;
+    let query = plain.query("q", ISTREAM, None)?;
+    Ok((stream, query))
+}
+
+/// The numbers of a stream and a query of a new engine.
+fn first_numbers(alloc: Global) -> Result<(u64, u64), Fault> {
     let mut plain = Plain::new(alloc)?;
-    let declared = plain.stream("S", columns(alloc, "a", "b")?.as_slice(), 0)?;
-    assert_eq!(rt; declared, 0);
-    assert_eq!(rt; plain.query("q", ISTREAM, None)?, 0);
+    numbers(alloc, &mut plain)
+}
+
+/// An engine with a stream S(a, b) from 0 and a query q on it.
+fn engine(alloc: Global) -> Result<Plain, Fault> {
+    let mut plain = Plain::new(alloc)?;
+    numbers(alloc, &mut plain)?;
     Ok(plain)
+}
+
+/// The row 7, null of the instant 3.
+fn rows(alloc: Global) -> Result<NewRows, AllocError> {
+    let mut rows = NewRows::new(alloc);
+    rows.push_row(3, &[Some(7), None])?;
+    Ok(rows)
+}
+
+fn rows_are_counted(alloc: Global) -> Result<bool, AllocError> {
+    let (none, one) = (NewRows::new(alloc), rows(alloc)?);
+    Ok(none.is_empty() && one.len() == 1)
+}
+
+/// Appends the row, closes its instant, and brings the query up to it.
+fn close_row(plain: &mut Plain, rows: &NewRows) -> Result<(), Fault> {
+    plain.append(0, rows)?;
+    plain.heartbeat(0, 3)?;
+    plain.drain(1_024)
+}
+
+/// An engine whose query has one answer waiting.
+fn closed(alloc: Global) -> Result<Plain, Fault> {
+    let rows = rows(alloc)?;
+    let mut plain = engine(alloc)?;
+    close_row(&mut plain, &rows)?;
+    Ok(plain)
+}
+
+/// How many rows a take of so many hands out.
+fn take_count(plain: &mut Plain, limit: i64) -> Result<usize, Fault> {
+    let rows = plain.take(0, limit)?;
+    Ok(rows.len())
+}
+
+/// How many rows two takes hand out.
+fn taken(alloc: Global) -> Result<(usize, usize), Fault> {
+    let mut plain = closed(alloc)?;
+    let first = take_count(&mut plain, 4_096)?;
+    let next = take_count(&mut plain, 1)?;
+    Ok((first, next))
 }
 
 #[test]
 fn a_row_is_taken_once_its_instant_is_closed(rt: HostRuntime) -> Result<(), Fail> {
-    let alloc = rt.alloc();
-    let mut plain = engine(&rt, alloc)?;
-    let mut rows = NewRows::new(alloc);
-    assert!(rt; rows.is_empty());
-    rows.push_row(3, &[Some(7), None])?;
-    assert_eq!(rt; rows.len(), 1);
-    plain.append(0, &rows)?;
-    plain.heartbeat(0, 3)?;
-    plain.drain(1_024)?;
-    assert_eq!(rt; plain.take(0, 4_096)?.len(), 1);
-    assert_eq!(rt; plain.take(0, 1)?.len(), 0);
+    assert!(rt; rows_are_counted(rt.alloc())?);
+    assert_eq!(rt; taken(rt.alloc())?, (1, 0));
     Ok(())
+}
+
+/// Whether the engine knows S and q by their numbers, and T not.
+fn are_named(plain: &Plain) -> bool {
+    plain.stream_named("T") == None
+        && plain.stream_named("S") == Some(0)
+        && plain.query_named("q") == Some(0)
+}
+
+fn names_are_found(alloc: Global) -> Result<bool, Fault> {
+    let plain = engine(alloc)?;
+    Ok(are_named(&plain))
+}
+
+/// The number of q once it is dropped, and that of the next q.
+fn dropped(alloc: Global) -> Result<(Option<u64>, u64), Fault> {
+    let mut plain = engine(alloc)?;
+    plain.drop_query(0)?;
+    let named = plain.query_named("q");
+    let next = plain.query("q", ISTREAM, None)?;
+    Ok((named, next))
 }
 
 #[test]
 fn streams_and_queries_have_numbers(rt: HostRuntime) -> Result<(), Fail> {
-    let mut plain = engine(&rt, rt.alloc())?;
-    assert_eq!(rt; plain.stream_named("T"), None);
-    assert_eq!(rt; plain.stream_named("S"), Some(0));
-    assert_eq!(rt; plain.query_named("q"), Some(0));
-    plain.drop_query(0)?;
-    assert_eq!(rt; plain.query_named("q"), None);
-    assert_eq!(rt; plain.query("q", ISTREAM, None)?, 1);
+    assert_eq!(rt; first_numbers(rt.alloc())?, (0, 0));
+    assert!(rt; names_are_found(rt.alloc())?);
+    assert_eq!(rt; dropped(rt.alloc())?, (None, 1));
     Ok(())
+}
+
+fn is_told(alloc: Global, fault: Fault, wanted: &str) -> Result<bool, AllocError> {
+    let text = format!(in alloc; "{fault}")?;
+    Ok(text.as_str() == wanted)
 }
 
 #[test]
 fn faults_are_told_by_number_and_name(rt: HostRuntime) -> Result<(), Fail> {
     let place = Fault::Query(QueryFault::BadToken(30));
-    let text = format!(in rt.alloc();
-        "{place}; {}; {}",
-        Fault::Query(QueryFault::UnknownStream),
-        Fault::Leap
-    )?;
-    assert_eq!(rt;
-        text.as_str(),
-        "Q3 BadToken at 30; Q7 UnknownStream; E12 Leap"
-    );
+    let unknown = Fault::Query(QueryFault::UnknownStream);
+    assert!(rt; is_told(rt.alloc(), place, "Q3 BadToken at 30")?);
+    assert!(rt; is_told(rt.alloc(), unknown, "Q7 UnknownStream")?);
+    assert!(rt; is_told(rt.alloc(), Fault::Leap, "E12 Leap")?);
     assert_eq!(rt; place.name(), "Q3 BadToken");
     assert_eq!(rt; place.place(), Some(30));
     Ok(())
 }
 
-// A row of one number.
-fn row(number: i128) -> Row {
-    let mut row = Row::new();
-    row.push(Value::clamped(number));
-    row
+/// The stream S(a).
+fn catalog(alloc: Global) -> Result<Catalog, AllocError> {
+    let columns = vec![in alloc; Name::new(b"a")]?;
+    let mut catalog = Catalog::new(alloc);
+    catalog.declare(Name::new(b"S"), columns)?;
+    Ok(catalog)
+}
+
+/// The rows 7, 5, 6 and 8 of S, each with its instant.
+fn inputs(alloc: Global) -> Result<Vec<Vec<(u64, Row)>>, AllocError> {
+    let rows = vec![in alloc; (3, row(7)), (1, row(5)), (3, row(6)), (4, row(8))]?;
+    let mut inputs = Vec::new(alloc);
+    inputs.push(rows)?;
+    Ok(inputs)
+}
+
+/// The answers above -1 up to 3 of a query of one stream.
+fn answered(
+    alloc: Global,
+    query: &Query,
+    catalog: &Catalog,
+    inputs: &[Vec<(u64, Row)>],
+) -> Result<Option<Vec<(u64, Row)>>, AllocError> {
+    if !fits_a_row(query, catalog) || query.sources.len() != inputs.len() {
+        return Ok(None);
+    }
+    match resolve(alloc, query, catalog) {
+        Ok(named) if named.streams.len() == 1 => {
+            let answers = answers(alloc, query, catalog, inputs, -1, 3)?;
+            Ok(Some(answers))
+        }
+        _ => Ok(None),
+    }
+}
+
+/// Whether these are the answers of a query over S.
+fn answers_are(alloc: Global, query: &Query, wanted: &[(u64, i64)]) -> Result<bool, AllocError> {
+    let catalog = catalog(alloc)?;
+    let inputs = inputs(alloc)?;
+    match answered(alloc, query, &catalog, &inputs)? {
+        Some(answers) => Ok(are(&answers, wanted)),
+        None => Ok(false),
+    }
+}
+
+fn text_is_answered(alloc: Global, text: &str, wanted: &[(u64, i64)]) -> Result<bool, AllocError> {
+    match read(alloc, text.as_bytes()) {
+        Ok(query) => answers_are(alloc, &query, wanted),
+        Err(_) => Ok(false),
+    }
 }
 
 #[test]
 fn answers_are_those_of_the_closed_instants(rt: HostRuntime) -> Result<(), Fail> {
-    let alloc = rt.alloc();
-    let mut catalog = Catalog::new(alloc);
-    catalog.declare(Name::new(b"S"), vec![in alloc; Name::new(b"a")]?)?;
-    let query = read(alloc, ISTREAM.as_bytes())?;
-    let mut inputs = Vec::new(alloc);
-    inputs.push(vec![in alloc; (3, row(7)), (1, row(5)), (3, row(6)), (4, row(8))]?)?;
-    assert!(rt; fits_a_row(&query, &catalog));
-    assert!(rt; query.sources.len() == inputs.len());
-    let named = resolve(alloc, &query, &catalog)?;
-    assert_eq!(rt; named.streams.len(), 1);
-    let mut text = String::new(alloc);
-    for (at, row) in &answers(alloc, &query, &catalog, &inputs, -1, 3)? {
-        write!(text, "{at}:")?;
-        for value in row.as_slice() {
-            write!(text, " {value}")?;
-        }
-        write!(text, "; ")?;
-    }
-    assert_eq!(rt; text.as_str(), "1: 5; 3: 6; 3: 7; ");
+    let wanted = [(1, 5), (3, 6), (3, 7)];
+    assert!(rt; text_is_answered(rt.alloc(), ISTREAM, &wanted)?);
     Ok(())
 }

@@ -17,61 +17,82 @@ fn chart(alloc: Global, operators: &[(u64, u64)]) -> Result<Vec<Point>, AllocErr
     Ok(points)
 }
 
-/// The slopes of the operators, shown one after another.
-fn told(alloc: Global, operators: &[(u64, u64)]) -> Result<String, AllocError> {
-    let points = chart(alloc, operators)?;
-    let mut text = String::new(alloc);
-    if is_chart(points.as_slice()) {
-        for slope in slopes(alloc, points.as_slice())? {
-            let one = format!(in alloc; "{slope} ")?;
-            text.push_str(one.as_str())?;
+/// Whether these are the numerators and denominators of the slopes.
+fn are(slopes: &[Slope], wanted: &[(u64, u64)]) -> bool {
+    for (slope, parts) in slopes.iter().zip(wanted) {
+        if slope.parts() != *parts {
+            return false;
         }
     }
-    Ok(text)
+    slopes.len() == wanted.len()
+}
+
+/// Whether the operators have these slopes.
+fn slopes_are(
+    alloc: Global,
+    operators: &[(u64, u64)],
+    wanted: &[(u64, u64)],
+) -> Result<bool, AllocError> {
+    let points = chart(alloc, operators)?;
+    if !is_chart(points.as_slice()) {
+        return Ok(false);
+    }
+    let found = slopes(alloc, points.as_slice())?;
+    Ok(are(&found, wanted))
+}
+
+fn is_shown(alloc: Global, slope: Slope, wanted: &str) -> Result<bool, AllocError> {
+    let text = format!(in alloc; "{slope}")?;
+    Ok(text.as_str() == wanted)
 }
 
 #[test]
 fn each_step_has_the_slope_of_its_segment(rt: HostRuntime) -> Result<(), Fail> {
-    let charts: [(&[(u64, u64)], &str); 5] = [
+    let charts: [(&[(u64, u64)], &[(u64, u64)]); 5] = [
         (
             &[(1, 900_000), (1, 100_000), (1, 0)],
-            "450000/1 450000/1 100000/1 ",
+            &[(450_000, 1), (450_000, 1), (100_000, 1)],
         ),
         (
             &[(1, 857_143), (1, 857_143), (1000, 0)],
-            "142857/1 122449/143 122449/143 ",
+            &[(142_857, 1), (122_449, 143), (122_449, 143)],
         ),
         (
             &[(2, 1_000_000), (3, 1_000_000), (2, 0)],
-            "1000000/7 1000000/7 1000000/7 ",
+            &[(1_000_000, 7), (1_000_000, 7), (1_000_000, 7)],
         ),
-        (&[(1, 0), (1, 0), (1, 0)], "1000000/1 0/1 0/1 "),
+        (&[(1, 0), (1, 0), (1, 0)], &[(1_000_000, 1), (0, 1), (0, 1)]),
         (
             &[(1, 0), (1, 500_000), (1, 700_000), (1, 0)],
-            "1000000/1 0/1 0/1 0/1 ",
+            &[(1_000_000, 1), (0, 1), (0, 1), (0, 1)],
         ),
     ];
-    for (operators, expected) in charts {
-        let text = told(rt.alloc(), operators)?;
-        assert_eq!(rt; text.as_str(), expected);
+    for (operators, wanted) in charts {
+        assert!(rt; slopes_are(rt.alloc(), operators, wanted)?);
     }
+    assert!(rt; is_shown(rt.alloc(), Slope::new(857_143, 1001), "122449/143")?);
     Ok(())
 }
 
 #[test]
 fn paths_of_the_default_chart_have_one_slope(rt: HostRuntime) -> Result<(), Fail> {
-    let plain = told(rt.alloc(), &[(2, 1_000_000), (1, 400_000), (1, 0)])?;
-    assert_eq!(rt; plain.as_str(), "250000/1 250000/1 250000/1 ");
-    let select = told(
-        rt.alloc(),
-        &[(2, 1_000_000), (1, 500_000), (1, 400_000), (1, 0)],
-    )?;
-    assert_eq!(rt; select.as_str(), "200000/1 200000/1 200000/1 200000/1 ");
-    let join = told(
-        rt.alloc(),
-        &[(2, 1_000_000), (4, 800_000), (1, 400_000), (1, 0)],
-    )?;
-    assert_eq!(rt; join.as_str(), "125000/1 125000/1 125000/1 125000/1 ");
+    let charts: [(&[(u64, u64)], &[(u64, u64)]); 3] = [
+        (
+            &[(2, 1_000_000), (1, 400_000), (1, 0)],
+            &[(250_000, 1), (250_000, 1), (250_000, 1)],
+        ),
+        (
+            &[(2, 1_000_000), (1, 500_000), (1, 400_000), (1, 0)],
+            &[(200_000, 1), (200_000, 1), (200_000, 1), (200_000, 1)],
+        ),
+        (
+            &[(2, 1_000_000), (4, 800_000), (1, 400_000), (1, 0)],
+            &[(125_000, 1), (125_000, 1), (125_000, 1), (125_000, 1)],
+        ),
+    ];
+    for (operators, wanted) in charts {
+        assert!(rt; slopes_are(rt.alloc(), operators, wanted)?);
+    }
     Ok(())
 }
 
@@ -86,6 +107,11 @@ fn slopes_are_ordered_as_fractions(rt: HostRuntime) {
     assert_eq!(rt; Slope::new(0, 9).parts(), (0, 1));
 }
 
+fn path_is_chart(alloc: Global, operators: &[(u64, u64)]) -> Result<bool, AllocError> {
+    let points = chart(alloc, operators)?;
+    Ok(is_chart(points.as_slice()))
+}
+
 #[test]
 fn points_out_of_range_are_no_chart(rt: HostRuntime) -> Result<(), Fail> {
     let paths: [(&[(u64, u64)], bool); 7] = [
@@ -98,8 +124,7 @@ fn points_out_of_range_are_no_chart(rt: HostRuntime) -> Result<(), Fail> {
         (&[(0, 0)], false),
     ];
     for (operators, expected) in paths {
-        let points = chart(rt.alloc(), operators)?;
-        assert_eq!(rt; is_chart(points.as_slice()), expected);
+        assert_eq!(rt; path_is_chart(rt.alloc(), operators)?, expected);
     }
     assert!(rt; !is_chart(&[Point { t: 1, s: 1_000_000 }, Point { t: 2, s: 0 }]));
     assert!(rt; !is_chart(&[Point { t: 0, s: 999_999 }, Point { t: 2, s: 0 }]));
@@ -120,12 +145,14 @@ fn counted<L: Ledger>(alloc: Global, points: &[Point], blank: Blank) -> Result<u
     }
 }
 
+/// The number of slopes of a path of three operators.
+fn counted_of_three(alloc: Global) -> Result<usize, AllocError> {
+    let points = chart(alloc, &[(1, 900_000), (1, 100_000), (1, 0)])?;
+    counted::<Brand>(alloc, points.as_slice(), Blank::new(1))
+}
+
 #[test]
 fn a_counted_call_answers_a_slope_for_each_operator(rt: HostRuntime) -> Result<(), Fail> {
-    let points = chart(rt.alloc(), &[(1, 900_000), (1, 100_000), (1, 0)])?;
-    assert_eq!(rt;
-        counted::<Brand>(rt.alloc(), points.as_slice(), Blank::new(1))?,
-        3
-    );
+    assert_eq!(rt; counted_of_three(rt.alloc())?, 3);
     Ok(())
 }

@@ -1,6 +1,7 @@
 use cql_reader::{Entries, Name, Query, Source, Window};
+use envelope::Slope;
 use names::Catalog;
-use plan::{Chart, Plan, fits_a_row, plan, slopes};
+use plan::{Chart, Node, Plan, fits_a_row, plan, slopes};
 use std::alloc::{AllocError, Global};
 use std::test::Fail;
 use values::Operator;
@@ -12,19 +13,20 @@ fn name(letter: u8) -> Name {
 
 /// The stream S(a).
 fn catalog(alloc: Global) -> Result<Catalog, AllocError> {
+    let columns = vec![in alloc; name(b'a')]?;
     let mut catalog = Catalog::new(alloc);
-    catalog.declare(name(b'S'), vec![in alloc; name(b'a')]?)?;
+    catalog.declare(name(b'S'), columns)?;
     Ok(catalog)
 }
 
-/// `Select Istream(*) From .. [Now]`, of a stream whose name is a letter.
-fn query(alloc: Global, stream: u8) -> Result<Query, AllocError> {
-    let mut sources = Vec::new(alloc);
-    sources.push(Source {
-        stream: name(stream),
+/// `Select Istream(*) From S [Now]`.
+fn query(alloc: Global) -> Result<Query, AllocError> {
+    let source = Source {
+        stream: name(b'S'),
         window: Window::Now,
         alias: None,
-    })?;
+    };
+    let sources = vec![in alloc; source]?;
     Ok(Query {
         operator: Operator::Istream,
         is_distinct: false,
@@ -35,38 +37,62 @@ fn query(alloc: Global, stream: u8) -> Result<Query, AllocError> {
     })
 }
 
-/// The operators with their slopes, or the fault.
-fn told(alloc: Global, query: &Query, chart: Option<&Chart>) -> Result<String, AllocError> {
+/// Whether an operator and its slope are told so.
+fn is_told(alloc: Global, node: &Node, slope: Slope, wanted: &str) -> Result<bool, AllocError> {
+    let text = format!(in alloc; "{} {slope}", node.kind())?;
+    Ok(text.as_str() == wanted)
+}
+
+fn are_told(
+    alloc: Global,
+    nodes: &[Node],
+    slopes: &[Slope],
+    wanted: &[&str],
+) -> Result<bool, AllocError> {
+    if nodes.len() != wanted.len() || slopes.len() != wanted.len() {
+        return Ok(false);
+    }
+    for i in 0..wanted.len() {
+        if !is_told(alloc, &nodes[i], slopes[i], wanted[i])? {
+            return Ok(false);
+        }
+    }
+    Ok(true)
+}
+
+fn plan_is_told(alloc: Global, plan: &Plan, wanted: &[&str]) -> Result<bool, AllocError> {
+    let slopes = slopes(alloc, plan)?;
+    are_told(alloc, &plan.nodes, &slopes, wanted)
+}
+
+/// Whether the operators of a query over S, of this chart, and their slopes are told so.
+fn query_is_told(
+    alloc: Global,
+    query: &Query,
+    chart: &Chart,
+    wanted: &[&str],
+) -> Result<bool, AllocError> {
     let catalog = catalog(alloc)?;
     if !fits_a_row(query, &catalog) {
-        return format!(in alloc; "too wide");
+        return Ok(false);
     }
-    match plan(alloc, query, &catalog, chart) {
-        Ok(plan) => shown(alloc, &plan),
-        Err(fault) => format!(in alloc; "{fault}"),
+    match plan(alloc, query, &catalog, Some(chart)) {
+        Ok(plan) => plan_is_told(alloc, &plan, wanted),
+        Err(_) => Ok(false),
     }
 }
 
-fn shown(alloc: Global, plan: &Plan) -> Result<String, AllocError> {
-    let mut text = String::new(alloc);
-    for (node, slope) in plan.nodes.iter().zip(slopes(alloc, plan)?) {
-        let one = format!(in alloc; "{} {slope} ", node.kind())?;
-        text.push_str(one.as_str())?;
-    }
-    Ok(text)
+fn charted_plan_is_told(alloc: Global) -> Result<bool, AllocError> {
+    let query = query(alloc)?;
+    let chart = Chart {
+        operators: vec![in alloc; (1, 900_000), (1, 100_000), (1, 0)]?,
+    };
+    let wanted = ["Window 450000/1", "Project 450000/1", "ToStream 100000/1"];
+    query_is_told(alloc, &query, &chart, &wanted)
 }
 
 #[test]
 fn slopes_follow_the_chart(rt: HostRuntime) -> Result<(), Fail> {
-    let alloc = rt.alloc();
-    let simple = query(alloc, b'S')?;
-    let chart = Chart {
-        operators: vec![in alloc; (1, 900_000), (1, 100_000), (1, 0)]?,
-    };
-    let text = told(alloc, &simple, Some(&chart))?;
-    assert_eq!(rt;
-        text.as_str(),
-        "Window 450000/1 Project 450000/1 ToStream 100000/1 "
-    );
+    assert!(rt; charted_plan_is_told(rt.alloc())?);
     Ok(())
 }

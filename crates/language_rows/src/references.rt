@@ -1,5 +1,5 @@
-use cql_reader::{Condition, Entries, Entry, Name, Operand, Query, Reference, Source, Window};
-use names::{Catalog, ResolveFault, resolve};
+use cql_reader::{Condition, Entries, Name, Operand, Query, Reference, Source, Window};
+use names::{Catalog, Named, ResolveFault, resolve};
 use std::alloc::{AllocError, Global};
 use std::test::Fail;
 use values::{Compare, Operator};
@@ -9,85 +9,93 @@ fn name(letter: u8) -> Name {
     Name::new(&[letter])
 }
 
-fn dotted(source: u8, column: u8) -> Reference {
-    Reference {
+fn dotted(source: u8, column: u8) -> Operand {
+    Operand::Column(Reference {
         qualifier: Some(name(source)),
         name: name(column),
+    })
+}
+
+fn source(stream: u8) -> Source {
+    Source {
+        stream: name(stream),
+        window: Window::Now,
+        alias: None,
     }
 }
 
-/// The sources of the streams, each with its letter as its name in the query, or without one.
-fn sources(alloc: Global, named: &[(u8, Option<u8>)]) -> Result<Vec<Source>, AllocError> {
-    let mut sources = Vec::new(alloc);
-    for (stream, alias) in named {
-        sources.push(Source {
-            stream: name(*stream),
-            window: Window::Now,
-            alias: alias.map(|letter| name(letter)),
-        })?;
-    }
-    Ok(sources)
-}
-
-fn equal(a: Reference, b: Reference) -> Option<Condition> {
-    Some(Condition::Compared(Operand::Column(a), Compare::Equals, Operand::Column(b)))
-}
-
-fn query(
-    alloc: Global,
-    entries: Entries,
-    sources: Vec<Source>,
-    condition: Option<Condition>,
-    group: &[Reference],
-) -> Result<Query, AllocError> {
+/// `Select Istream(*) From A [Now], B [Now] Where B.k = A.k`.
+fn joined(alloc: Global) -> Result<Query, AllocError> {
+    let sources = vec![in alloc; source(b'A'), source(b'B')]?;
+    let condition = Condition::Compared(dotted(b'B', b'k'), Compare::Equals, dotted(b'A', b'k'));
     Ok(Query {
         operator: Operator::Istream,
         is_distinct: false,
-        entries,
+        entries: Entries::All,
         sources,
-        condition,
-        group: Vec::from_slice(alloc, group)?,
+        condition: Some(condition),
+        group: Vec::new(alloc),
     })
+}
+
+fn declare(
+    alloc: Global,
+    catalog: &mut Catalog,
+    stream: u8,
+    columns: &[Name],
+) -> Result<(), AllocError> {
+    let columns = Vec::from_slice(alloc, columns)?;
+    catalog.declare(name(stream), columns)
 }
 
 /// S(a), A(k), B(k, v).
 fn catalog(alloc: Global) -> Result<Catalog, AllocError> {
     let mut catalog = Catalog::new(alloc);
-    catalog.declare(name(b'S'), Vec::from_slice(alloc, &[name(b'a')])?)?;
-    catalog.declare(name(b'A'), Vec::from_slice(alloc, &[name(b'k')])?)?;
-    catalog.declare(
-        name(b'B'),
-        Vec::from_slice(alloc, &[name(b'k'), name(b'v')])?,
-    )?;
+    declare(alloc, &mut catalog, b'S', &[name(b'a')])?;
+    declare(alloc, &mut catalog, b'A', &[name(b'k')])?;
+    declare(alloc, &mut catalog, b'B', &[name(b'k'), name(b'v')])?;
     Ok(catalog)
+}
+
+/// Whether the query has the streams 1 and 2, of one and of two columns, and one key that joins them.
+fn is_joined(named: &Named) -> bool {
+    let (own, keys, rest) = (named.own.len(), named.keys.len(), named.rest.len());
+    named.streams.as_slice() == [1, 2].as_slice()
+        && named.widths.as_slice() == [1, 2].as_slice()
+        && (own, keys, rest) == (2, 1, 0)
+}
+
+fn join_is_resolved(alloc: Global) -> Result<bool, AllocError> {
+    let catalog = catalog(alloc)?;
+    let query = joined(alloc)?;
+    match resolve(alloc, &query, &catalog) {
+        Ok(named) => Ok(is_joined(&named)),
+        Err(_) => Ok(false),
+    }
 }
 
 #[test]
 fn resolved_query_has_its_streams_widths_and_keys(rt: HostRuntime) -> Result<(), Fail> {
-    let alloc = rt.alloc();
-    let joined = sources(alloc, &[(b'A', None), (b'B', None)])?;
-    let key = equal(dotted(b'B', b'k'), dotted(b'A', b'k'));
-    let joined = query(alloc, Entries::All, joined, key, &[])?;
-    let Ok(named) = resolve(alloc, &joined, &catalog(alloc)?) else {
-        return Err("refused".into());
-    };
-    assert_eq!(rt; named.streams.as_slice(), [1, 2].as_slice());
-    assert_eq!(rt; named.widths.as_slice(), [1, 2].as_slice());
-    assert_eq!(rt;
-        (named.own.len(), named.keys.len(), named.rest.len()),
-        (2, 1, 0)
-    );
+    assert!(rt; join_is_resolved(rt.alloc())?);
     Ok(())
+}
+
+/// The number of a stream, and how many columns it has.
+fn found(alloc: Global, stream: &[u8]) -> Result<(Option<usize>, usize), AllocError> {
+    let catalog = catalog(alloc)?;
+    Ok((catalog.number_of(stream), catalog.columns_of(stream).len()))
 }
 
 #[test]
 fn catalog_finds_streams_by_name(rt: HostRuntime) -> Result<(), Fail> {
-    let catalog = catalog(rt.alloc())?;
-    assert_eq!(rt; catalog.number_of(b"B"), Some(2));
-    assert_eq!(rt; catalog.number_of(b"Z"), None);
-    assert_eq!(rt; catalog.columns_of(b"B").len(), 2);
-    assert_eq!(rt; catalog.columns_of(b"Z").len(), 0);
+    assert_eq!(rt; found(rt.alloc(), b"B")?, (Some(2), 2));
+    assert_eq!(rt; found(rt.alloc(), b"Z")?, (None, 0));
     Ok(())
+}
+
+fn is_told(alloc: Global, fault: ResolveFault, wanted: &str) -> Result<bool, AllocError> {
+    let text = format!(in alloc; "{fault}")?;
+    Ok(text.as_str() == wanted)
 }
 
 #[test]
@@ -102,8 +110,7 @@ fn faults_have_their_texts(rt: HostRuntime) -> Result<(), Fail> {
         (ResolveFault::TooWide, "Q13 TooWide"),
     ];
     for (fault, text) in cases {
-        let told = format!(in rt.alloc(); "{fault}")?;
-        assert_eq!(rt; told.as_str(), text);
+        assert!(rt; is_told(rt.alloc(), fault, text)?, "{text}");
     }
     Ok(())
 }

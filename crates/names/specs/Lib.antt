@@ -3,6 +3,7 @@ pub mod Matches
 pub mod Split
 pub mod Resolved
 pub mod Faults
+pub mod FaultTexts
 pub mod Sound
 pub mod Views
 pub mod Laws

@@ -38,9 +38,14 @@ impl From<AllocError> for ResolveFault {
 }
 
 impl fmt::Display for ResolveFault {
+    ghost use Rattle.std.specs.Prelude.{Some};
+    ghost use Rattle.names.specs.FaultTexts.{fault_text};
+
+    ghost output = { λ fault. Some (fault_text fault) };
+
     fn fmt<W: fmt::Write>(&self, f: &mut fmt::Formatter<W>) -> fmt::Result {
         match self {
-            ResolveFault::OutOfMemory => write!(f, "OutOfMemory"),
+            ResolveFault::OutOfMemory => write!(f, "E20 OutOfMemory"),
             ResolveFault::UnknownStream => write!(f, "Q7 UnknownStream"),
             ResolveFault::UnknownColumn => write!(f, "Q8 UnknownColumn"),
             ResolveFault::AmbiguousColumn => write!(f, "Q9 AmbiguousColumn"),

@@ -18,7 +18,6 @@ pub mod ConsumerLemmas
 pub mod LeastLemmas
 pub mod PlanLemmas
 pub mod AnswerLemmas
-pub mod ReadyLemmas
 pub mod MachineLemmas
 pub mod Walks
 pub mod BeatLemmas

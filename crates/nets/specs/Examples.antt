@@ -1,10 +1,8 @@
 -- The definitions at worked examples.
 use Rattle.std.specs.Prelude.{◌≡◌, ℕ, true, Some, pos, List, [], ◌∷◌, map, cond, ◌==◌, refl}
-use Rattle.std.specs.declared.cmp.Ordering.TheVariants.{Less}
 use Rattle.values.specs.Row.{Row}
 use Rattle.values.specs.Window.{Element}
 use Rattle.values.specs.Answers.{Istream, Dstream, Rstream}
-use Rattle.envelope.specs.Fraction.{fraction}
 use Rattle.op_queue.specs.Entries.{Entry, RowAt, TickAt}
 use Rattle.plan.specs.Nodes.{Key, Window, Join, Project, ToStream}
 use Rattle.plan.specs.Nodes as plan
@@ -14,7 +12,6 @@ use Rattle.nets.specs.Nets.{at_window, window}
 use Rattle.nets.specs.Worlds.{fed_cell}
 use Rattle.nets.specs.Queries.{before, given_from}
 use Rattle.nets.specs.Plans.{consumer_of, least_in, value_in}
-use Rattle.nets.specs.Ready.{ready_cmp}
 
 -- a row of one number
 abbrev row : ℕ → Row
@@ -70,13 +67,3 @@ leasts = refl
 
 value : value_in nodes (λ t. (row 1 ∷ row 2 ∷ []) ∷ (row 2 ∷ row 3 ∷ row 2 ∷ []) ∷ []) 3 0 ≡ row 2 ∷ row 2 ∷ []
 value = refl
-
--- READY OPERATORS: the slope goes before the instant, the instant before the numbers
-steeper_first : ready_cmp (record { slope = fraction 450000 1; instant = 9; query = 1; operator = 2 }) (record { slope = fraction 100000 1; instant = 0; query = 0; operator = 0 }) ≡ Less
-steeper_first = refl
-
-equal_slopes : ready_cmp (record { slope = fraction 1 2; instant = 3; query = 4; operator = 4 }) (record { slope = fraction 2 4; instant = 5; query = 0; operator = 0 }) ≡ Less
-equal_slopes = refl
-
-lower_number_first : ready_cmp (record { slope = fraction 1 2; instant = 3; query = 0; operator = 1 }) (record { slope = fraction 1 2; instant = 3; query = 0; operator = 2 }) ≡ Less
-lower_number_first = refl

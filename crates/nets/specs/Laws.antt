@@ -17,7 +17,6 @@ use Rattle.nets.specs.Queries.{GoodQuery, Idle}
 use Rattle.nets.specs.Operators.{net_of}
 use Rattle.nets.specs.Plans.{AreWide, IsPlanOf, bags_of, below_root, consumer_of, inputs_of, least_of, value_of, world_of}
 use Rattle.nets.specs.Starts.{fresh_cell, fresh_root}
-use Rattle.nets.specs.Ready.{Ready, AreInOrder, HasGreatestSlope}
 
 -- THE QUERY as the machine has it: its operators below the root have these cells, the root this state and queue, and it has given these answers
 abbrev pub IsGood : Machine → Registered → (ℕ → Cell) → State → List (Entry Row) → List (ℕ × Row) → Type 0
@@ -78,7 +77,3 @@ abbrev pub StartsGood : Machine → Registered → Type 0
 StartsGood m q =
     (op : Operator) → ((k : ℕ) → get_or (inputs_of m q) k [] ≡ []) → ((k : ℕ) → get_or (opens m.streams q.places) k 0 ≤ q.first)
     → IsGood m q (λ k. fresh_cell q.first (net_of q.nodes k)) (fresh_root op) [] []
-
--- THE FIRST OF READY OPERATORS in their order has a greatest slope
-abbrev pub FirstIsSteepest : Type 0
-FirstIsSteepest = (r : Ready) (rs : List Ready) → AreInOrder (r ∷ rs) → HasGreatestSlope r (r ∷ rs)

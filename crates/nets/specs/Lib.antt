@@ -5,6 +5,5 @@ pub mod Queries
 pub mod Operators
 pub mod Plans
 pub mod Starts
-pub mod Ready
 pub mod Laws
 pub mod Examples

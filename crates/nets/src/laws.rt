@@ -1,7 +1,7 @@
 //! What holds of every net: functions that do nothing, each with one law.
 ghost use Rattle.std.specs.Prelude.{ℕ, List};
 ghost use Rattle.reference.specs.Machine.{Machine, Registered};
-ghost use Rattle.nets.specs.Laws.{AppendsKeep, FirstIsSteepest, GivesABeginning, GivesAll, HeartbeatsKeep, PlansAreNets, Stands, StartsGood, TurnsKeep};
+ghost use Rattle.nets.specs.Laws.{AppendsKeep, GivesABeginning, GivesAll, HeartbeatsKeep, PlansAreNets, Stands, StartsGood, TurnsKeep};
 
 /// The operators of a query are a plan of a net over its streams: each but the root has one consumer, of a greater number, and
 /// the value of the operator below the root is the relation that the query's text means.
@@ -37,9 +37,4 @@ pub fn what_was_given_is_a_beginning()
 /// Where none of its operators has anything that it may take, a good query has given all of them.
 pub fn idle_queries_gave_all()
     ensures { (vs : List ℕ) (m : Machine) (q : Registered) → Stands vs m q → GivesAll m q }
-{}
-
-/// The first of ready operators in their order has a greatest slope.
-pub fn the_first_in_order_is_steepest()
-    ensures { FirstIsSteepest }
 {}

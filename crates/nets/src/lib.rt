@@ -12,6 +12,5 @@ mod laws;
 pub use consumers::consumer;
 pub use laws::{
     appends_keep_queries, heartbeats_keep_queries, idle_queries_gave_all, plans_are_nets,
-    queries_start_good, the_first_in_order_is_steepest, turns_keep_queries,
-    what_was_given_is_a_beginning,
+    queries_start_good, turns_keep_queries, what_was_given_is_a_beginning,
 };

@@ -1,9 +1,9 @@
 -- Queues that items are pushed into.
-use Rattle.std.proofs.Common.{◌≡◌, ◌∙◌, ℕ, ◌≤◌, ◌<◌, List, [], ◌∷◌, ◌++◌, length, get_or, ap, sym, subst, arith, length-append, Bool, true, false, true≢false, max, refl, append-nil}
+use Rattle.std.proofs.Common.{◌≡◌, ◌∙◌, ℕ, List, [], ◌∷◌, ◌++◌, ap, sym, subst, arith, length-append, true, true≢false, max, refl, append-nil}
 use Rattle.std.proofs.lemmas.List.{get_or_append_left}
 use Rattle.std.proofs.lemmas.List.{append_assoc}
 use Rattle.values.specs.Row.{Row}
-use Rattle.op_queue.specs.Entries.{Entry, IsForward, instant_of}
+use Rattle.op_queue.specs.Entries.{Entry, IsForward}
 use Rattle.op_queue.specs.Items.{entries_of}
 use Rattle.op_queue.specs.declared.item.Item.{Item}
 use Rattle.values.specs.Window.{Element}

@@ -1,15 +1,13 @@
 -- What waits for an operator: rows and ticks of a stream's log, or of a queue that another operator fills.
-use Rattle.std.specs.Prelude.{ℕ, ◌≡◌, Bool, true, false, min, List, [], ◌++◌, max, take, drop, length}
+use Rattle.std.specs.Prelude.{ℕ, ◌≡◌, Bool, true, false, min, List, [], take, drop}
 use Rattle.std.specs.List.{flat_map}
 use Rattle.values.specs.Row.{Row}
-use Rattle.values.specs.Window.{Element}
 use Rattle.op_queue.specs.Cursors.{GoesOn, IsWithin, cursor_entries}
 use Rattle.op_queue.specs.Entries.{Entry}
 use Rattle.op_queue.specs.Items.{entries_of, front_part}
-use Rattle.op_queue.specs.Logs.{Closed, span_entries}
-use Rattle.op_queue.specs.Queues.{Waiting, at_once}
+use Rattle.op_queue.specs.Logs.{Closed}
+use Rattle.op_queue.specs.Queues.{at_once}
 use Rattle.op_queue.specs.declared.item.Item.{Item}
-use Rattle.op_queue.specs.declared.cursor.Cursor.{Cursor}
 use Rattle.operators.specs.declared.inboxes.Inbox.{Inbox}
 use Rattle.operators.specs.declared.inboxes.Inbox.TheVariants.{First, Between}
 

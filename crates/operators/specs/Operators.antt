@@ -1,8 +1,7 @@
 -- An operator of a running query, as a plain value.
-use Rattle.std.specs.Prelude.{ℕ, ◌≡◌, cond, Option, Some, None, List, [], ◌++◌, length}
+use Rattle.std.specs.Prelude.{ℕ, ◌≡◌, cond, Option, Some, None, List, ◌++◌, length}
 use Rattle.std.specs.Option.{option_map}
 use Rattle.values.specs.Row.{Row}
-use Rattle.lane_kernels.specs.declared.condition.Step.{Step}
 use Rattle.column.specs.Rows.{of_side}
 use Rattle.column.specs.declared.batch.Side.{Side}
 use Rattle.column.specs.declared.batch.Side.TheVariants.{Left, Right}

@@ -5,6 +5,7 @@ pub mod Kinds
 pub mod Views
 pub mod Chart
 pub mod Faults
+pub mod FaultTexts
 pub mod Told
 pub mod Laws
 pub mod Paths

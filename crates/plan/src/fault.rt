@@ -58,9 +58,14 @@ impl From<ResolveFault> for PlanFault {
 }
 
 impl fmt::Display for PlanFault {
+    ghost use Rattle.std.specs.Prelude.{Some};
+    ghost use Rattle.plan.specs.FaultTexts.{fault_text};
+
+    ghost output = { λ fault. Some (fault_text fault) };
+
     fn fmt<W: fmt::Write>(&self, f: &mut fmt::Formatter<W>) -> fmt::Result {
         match self {
-            PlanFault::OutOfMemory => write!(f, "OutOfMemory"),
+            PlanFault::OutOfMemory => write!(f, "E20 OutOfMemory"),
             PlanFault::UnknownStream => write!(f, "Q7 UnknownStream"),
             PlanFault::UnknownColumn => write!(f, "Q8 UnknownColumn"),
             PlanFault::AmbiguousColumn => write!(f, "Q9 AmbiguousColumn"),

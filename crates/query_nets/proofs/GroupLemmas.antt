@@ -60,7 +60,8 @@ lean_row s r h k =
     (here (is_eq (held_cmp (row_key s.group r) (held k))))
   where
     here : (b : Bool)
-        → AreLean s.group.items (cond b (cell_after s.group.items (cell_of (length s.group.items) (row_key s.group r) s.cells) r) (cell_of (length s.group.items) (held k) s.cells)).tallies
+        → AreLean s.group.items
+        (cond b (cell_after s.group.items (cell_of (length s.group.items) (row_key s.group r) s.cells) r) (cell_of (length s.group.items) (held k) s.cells)).tallies
     here true = lean_tallies r s.group.items _ (h (row_key s.group r).items)
     here false = h k
 
@@ -76,14 +77,17 @@ group_stays (r ∷ rs) s = group_stays rs (row_after s r)
 abbrev pub ticked : GroupState → GroupState
 ticked s = closed_state s (map (shown_now s.group) (near_at s.group.items s.cells s.touched))
 
+abbrev cell_at : GroupState → Row → CellState
+cell_at s k = cell_of (length s.group.items) (held k) s.cells
+
 abbrev is_touched : GroupState → Row → Bool
 is_touched s k = list_any (λ j. is_eq (held_cmp (held k) j)) s.touched
 
 abbrev now_of : GroupState → Row → Option Held
-now_of s k = row_now s.group (excerpt s.group.items (held k) (cell_of (length s.group.items) (held k) s.cells))
+now_of s k = row_now s.group (excerpt s.group.items (held k) (cell_at s k))
 
 cell_ticked : (s : GroupState) (o b : List Row) → Stands s o b → (k : Row)
-    → cell_of (length s.group.items) (held k) (ticked s).cells ≡ cond (is_touched s k) (closed (length s.group.items) (cell_of (length s.group.items) (held k) s.cells) (now_of s k)) (cell_of (length s.group.items) (held k) s.cells)
+    → cell_of (length s.group.items) (held k) (ticked s).cells ≡ cond (is_touched s k) (closed (length s.group.items) (cell_at s k) (now_of s k)) (cell_at s k)
 cell_ticked s o b h k =
     ap (λ cs. cell_of (length s.group.items) (held k) (fold (shown_after (length s.group.items)) s.cells cs)) (changes-showns s.group s.cells s.touched)
     ∙ cell-closing (length s.group.items) (λ j. row_now s.group (excerpt s.group.items j (cell_of (length s.group.items) j s.cells))) s.touched s.cells h.sorted
@@ -93,7 +97,8 @@ pub lean_ticked : (s : GroupState) (o b : List Row) → Stands s o b → KeepsFe
 lean_ticked s o b h f k = subst (λ (c : CellState). AreLean s.group.items c.tallies) (sym (cell_ticked s o b h k)) (here (is_touched s k) (now_of s k))
   where
     here : (t : Bool) (now : Option Held)
-        → AreLean s.group.items (cond t (closed (length s.group.items) (cell_of (length s.group.items) (held k) s.cells) now) (cell_of (length s.group.items) (held k) s.cells)).tallies
+        → AreLean s.group.items
+        (cond t (closed (length s.group.items) (cell_of (length s.group.items) (held k) s.cells) now) (cell_of (length s.group.items) (held k) s.cells)).tallies
     here true None = lean_zero s.group.items
     here true (Some r) = f k
     here false now = f k
@@ -195,7 +200,11 @@ pub outputs_wide : (s : GroupState) (o b : List Row) → Stands s o b → Stands
     → AreSigned (length s.group.items) (outputs s.group (near_at s.group.items s.cells s.touched))
 outputs_wide s o b h h2 a a2 =
     all_wide s s.touched
-    (All-from_any (eq_by_cmp_equiv held_order.total) (IsShown s) s.touched (λ k e. record { old = shown_all InRange s o b h a k.items; new = shown_all InRange (ticked s) (grouped s.group b) b h2 a2 k.items; is = now_shown s o b h k.items e }))
+    (All-from_any (eq_by_cmp_equiv held_order.total) (IsShown s) s.touched (λ k e. record {
+      old = shown_all InRange s o b h a k.items;
+      new = shown_all InRange (ticked s) (grouped s.group b) b h2 a2 k.items;
+      is = now_shown s o b h k.items e;
+    }))
 
 signed_few : (n : ℕ) (old now : Option Held) → up (λ x. 1) (signed_row false n old ++ signed_row true n now) ≤ count (shown_list now)
 unfolding weigh
@@ -236,7 +245,9 @@ pub outputs_few : (s : GroupState) (o b : List Row) → Stands s o b → Stands 
 outputs_few s o b h h2 =
     let few : up (λ x. 1) (outputs s.group (near_at s.group.items s.cells s.touched)) ≤ weigh (λ r. count (shown_rows (ticked s) r)) (touched_keys s) =
     all_few s s.touched (All-from_any (eq_by_cmp_equiv held_order.total) (λ k. shown_list (now_of s k.items) ≡ shown_rows (ticked s) k.items) s.touched (λ k e. now_shown s o b h k.items e)) in
-    omega (arith, few, part_le (λ r. count (shown_rows (ticked s) r)) (touched_keys s) h2.keys h.touched (λ k l z. ap count (h2.others k z) ∙ none_count), h2.was.weighs (λ x. 1), weigh-flat_map (λ x. 1) (shown_rows (ticked s)) h2.keys)
+    let most : weigh (λ r. count (shown_rows (ticked s) r)) (touched_keys s) ≤ weigh (λ r. count (shown_rows (ticked s) r)) h2.keys =
+    part_le (λ r. count (shown_rows (ticked s) r)) (touched_keys s) h2.keys h.touched (λ k l z. ap count (h2.others k z) ∙ none_count) in
+    omega (arith, few, most, h2.was.weighs (λ x. 1), weigh-flat_map (λ x. 1) (shown_rows (ticked s)) h2.keys)
 
 -- THE RELATION OF THE GROUPS
 abbrev Fields : List Row → Type 0

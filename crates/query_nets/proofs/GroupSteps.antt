@@ -45,7 +45,7 @@ use Rattle.query_nets.proofs.CountLemmas.{stays_now, stays_after, stays_entering
 use Rattle.query_nets.proofs.GroupLemmas.{lean_rows, lean_ticked, group_stays, outputs_wide, outputs_few, grouped_wide, distinct_few, grouped_few}
 use Rattle.query_nets.proofs.ItemLemmas.{rest_waits}
 use Rattle.query_nets.proofs.RoomLemmas.{InRange, groups_within}
-use Rattle.query_nets.proofs.WideLemmas.{rows_after, entries_back, entries_batch}
+use Rattle.query_nets.proofs.WideLemmas.{AreSigned, rows_after, entries_back, entries_batch}
 
 in_range : (w : ℕ) (b : List Row) → AreRows w b → All InRange b
 in_range w b a = λ k d l. (a k d l).values
@@ -111,6 +111,8 @@ module _ (wo : World) (f : Unary) (x w out most room : ℕ) (s : GroupState) (v 
       let next : List Row = grouped s.group i in
       let st2 : laws.Stands (after_item s (Tick t)) next i = tick_stands s o i st bound in
       let rows : AreRows (length s.group.items) next = grouped_wide s.group i bound (in_range w i wide.taken) in
+      let signed : AreSigned (length s.group.items) (group.outputs s.group (group.near s (Tick t))) =
+      outputs_wide s o i st st2 (in_range out o puts) (in_range (length s.group.items) next rows) in
       record {
         opens = n + 1;
         taken = i;
@@ -126,7 +128,7 @@ module _ (wo : World) (f : Unary) (x w out most room : ℕ) (s : GroupState) (v 
         stays = stays.1;
         puts_few = size taken.1;
         outs_wide = subst (λ k. AreEntries k (outs_of s (Tick t))) (sym e)
-            (entries_batch (length s.group.items) t (group.outputs s.group (group.near s (Tick t))) (TickAt t ∷ []) (outputs_wide s o i st st2 (in_range out o puts) (in_range (length s.group.items) next rows)) tt);
+            (entries_batch (length s.group.items) t (group.outputs s.group (group.near s (Tick t))) (TickAt t ∷ []) signed tt);
         outs_few =
             stays_entering (room + room) (count o) t (group.outputs s.group (group.near s (Tick t))) (TickAt t ∷ [])
             (omega (arith, held, outputs_few s o i st st2, size taken.1)) (λ k l. (l, l));
@@ -173,7 +175,8 @@ module _ (s : GroupState) (o o2 : PlainOperator) (log : Closed) (it : queue.Item
       room (Tick t) = tt
 
 -- GROUP BY
-group_at : (i : ℕ) (by : List Column) (items : List Item) (w : World) (ws : List ℕ) (ns : List plan.Node) (k : ℕ) (o o2 : PlainOperator) (log : Closed) (q : List (Entry Row)) (t b : List Row) (n : ℕ) (d e : Input) (it : queue.Item) (outs : List (Entry Row))
+group_at : (i : ℕ) (by : List Column) (items : List Item) (w : World) (ws : List ℕ) (ns : List plan.Node) (k : ℕ) (o o2 : PlainOperator) (log : Closed)
+    (q : List (Entry Row)) (t b : List Row) (n : ℕ) (d e : Input) (it : queue.Item) (outs : List (Entry Row))
     → Stands w ws ns k (plan.Group i by items) o log (at_unary q t b n) d e → (f : IsFirst o log Left it) → outs_at_first o Left it ≡ Put outs
     → IsFinished o log Left it (change_at o.kind it (near_of o.state Left it)) o2 → StepMade w ws ns k (plan.Group i by items) (at_unary q t b n) outs o2 log
 group_at i by items w ws ns k o o2 log q t b n d e it outs s f puts fin =
@@ -233,7 +236,8 @@ group_may i by items w ws ns k o log (at_unary q t b n) d e side it s f =
 once_rows : (width : ℕ) (g : GroupBy) (b : List Row) → g ≡ once_each width → 0 < width → AreRows width b → grouped g b ≡ distinct row_cmp b
 once_rows width g b e l a = ap (λ h. grouped h b) e ∙ distinct_law width b l (λ k d lt. (a k d lt).wide)
 
-distinct_at : (i : ℕ) (w : World) (ws : List ℕ) (ns : List plan.Node) (k : ℕ) (o o2 : PlainOperator) (log : Closed) (q : List (Entry Row)) (t b : List Row) (n : ℕ) (d e : Input) (it : queue.Item) (outs : List (Entry Row))
+distinct_at : (i : ℕ) (w : World) (ws : List ℕ) (ns : List plan.Node) (k : ℕ) (o o2 : PlainOperator) (log : Closed) (q : List (Entry Row)) (t b : List Row)
+    (n : ℕ) (d e : Input) (it : queue.Item) (outs : List (Entry Row))
     → Stands w ws ns k (plan.Distinct i) o log (at_unary q t b n) d e → (f : IsFirst o log Left it) → outs_at_first o Left it ≡ Put outs
     → IsFinished o log Left it (change_at o.kind it (near_of o.state Left it)) o2 → StepMade w ws ns k (plan.Distinct i) (at_unary q t b n) outs o2 log
 distinct_at i w ws ns k o o2 log q t b n d e it outs s f puts fin =

@@ -89,7 +89,10 @@ copy_most v (Some z) = here (is_eq (value_cmp v (Some z)))
 values_within : (n : ℕ) (i : Item) (es : Values) (xs : List Row) → count xs ≤ n → HoldsNumbers i es xs → All (λ m. m ≤ n) (values_of es)
 values_within n i es xs l h =
     All-values_from_lookup (eq_by_cmp_equiv value_order.total) (λ m. m ≤ n) es (IsDistinct-from_sorted value_cmp (keys_of es) h.sorted)
-    (λ v. subst (λ o. IfSome o (λ m. m ≤ n)) (sym (h.counts v)) (some_within n (weigh (λ x. copy_by v (number_of i x)) xs) (omega (arith, l, numbers_le (λ x. copy_by v (number_of i x)) (λ x. copy_most v (number_of i x)) xs))))
+    (λ v. subst (λ o. IfSome o (λ m. m ≤ n)) (sym (h.counts v)) (some_within n (weigh (λ x. copy_by v (number_of i x)) xs) (few v)))
+  where
+    few : (v : Option ℤ) → weigh (λ x. copy_by v (number_of i x)) xs ≤ n
+    few v = omega (arith, l, numbers_le (λ x. copy_by v (number_of i x)) (λ x. copy_most v (number_of i x)) xs)
 
 none_within : (n : ℕ) (es : Values) → es ≡ [] → All (λ m. m ≤ n) (values_of es)
 none_within n es e = subst (λ (es : Values). All (λ m. m ≤ n) (values_of es)) (sym e) (All-nil (λ (m : ℕ). m ≤ n))

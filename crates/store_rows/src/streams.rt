@@ -1,20 +1,11 @@
 //! Streams at work.
-use cql_reader::read;
-use names::resolve;
+use names::Catalog;
 use op_queue::{Arrival, Cursor};
 use reference::{Fault, NewRows};
 use std::alloc::{AllocError, Global};
-use std::process::Abort;
 use std::test::Fail;
 use stream_store::Streams;
 use values::Value;
-
-// A column of this name.
-fn columns(alloc: Global, name: &str) -> Result<Vec<String>, AllocError> {
-    let mut columns = Vec::new(alloc);
-    columns.push(String::from_str(alloc, name)?)?;
-    Ok(columns)
-}
 
 // Rows of one value, each with its instant.
 fn rows(alloc: Global, pairs: &[(i64, i64)]) -> Result<NewRows, AllocError> {
@@ -25,13 +16,39 @@ fn rows(alloc: Global, pairs: &[(i64, i64)]) -> Result<NewRows, AllocError> {
     Ok(rows)
 }
 
-// Streams with a stream S(a) from 0.
-fn streams(rt: &impl Abort, alloc: Global) -> Result<Streams, Fail> {
+// A column of this name.
+fn columns(alloc: Global, name: &str) -> Result<Vec<String>, AllocError> {
+    let mut columns = Vec::new(alloc);
+    columns.push(String::from_str(alloc, name)?)?;
+    Ok(columns)
+}
+
+// Declares a stream of one column.
+fn declare(
+    alloc: Global,
+    streams: &mut Streams,
+    name: &str,
+    column: &str,
+    first: i64,
+) -> Result<u64, Fault> {
+    let columns = columns(alloc, column)?;
+    streams.declare(name, columns.as_slice(), first)
+}
+
+// Streams with a stream S(a) from 0, and its number.
+fn declared(alloc: Global) -> Result<(Streams, u64), Fault> {
     let mut streams = Streams::new(alloc);
-    assert_eq!(rt;
-        streams.declare("S", columns(alloc, "a")?.as_slice(), 0)?,
-        0
-    );
+    let number = declare(alloc, &mut streams, "S", "a", 0)?;
+    Ok((streams, number))
+}
+
+fn first_number(alloc: Global) -> Result<u64, Fault> {
+    let (_, number) = declared(alloc)?;
+    Ok(number)
+}
+
+fn streams(alloc: Global) -> Result<Streams, Fault> {
+    let (streams, _) = declared(alloc)?;
     Ok(streams)
 }
 
@@ -51,108 +68,212 @@ fn is_row(arrival: &Arrival, instant: u64, number: u64, value: i128) -> bool {
     arrival.row.as_slice() == [Value::clamped(value)].as_slice()
 }
 
-#[test]
-fn faults_come_in_the_order_of_their_tests(rt: HostRuntime) -> Result<(), Fail> {
-    let alloc = rt.alloc();
-    let mut streams = streams(&rt, alloc)?;
-    for (name, column, from, fault) in [
+// Whether each declaration is refused by its fault.
+fn declarations_are_refused(alloc: Global, streams: &mut Streams) -> bool {
+    for (name, column, first, fault) in [
         ("where", "1", -1, Fault::BadName),
         ("S", "1", -1, Fault::NameTaken),
         ("T", "1", -1, Fault::BadColumns),
         ("T", "b", -1, Fault::InstantRange),
     ] {
-        let answer = streams.declare(name, columns(alloc, column)?.as_slice(), from);
-        assert_eq!(rt; answer.err(), Some(fault));
+        if declare(alloc, streams, name, column, first).err() != Some(fault) {
+            return false;
+        }
     }
-    streams.heartbeat(0, 3)?;
+    true
+}
+
+// The fault of an append.
+fn refusal(
+    alloc: Global,
+    streams: &mut Streams,
+    stream: u64,
+    pairs: &[(i64, i64)],
+) -> Result<Option<Fault>, AllocError> {
+    let rows = rows(alloc, pairs)?;
+    Ok(streams.append(stream, &rows).err())
+}
+
+// Whether each append is refused by its fault.
+fn appends_are_refused(alloc: Global, streams: &mut Streams) -> Result<bool, AllocError> {
     for (at, value, fault) in [
         (-1, 1_099_511_627_776, Fault::ValueRange),
         (-1, 1, Fault::InstantRange),
         (3, 1, Fault::Late),
     ] {
-        let answer = streams.append(0, &rows(alloc, &[(4, 1), (at, value)])?);
-        assert_eq!(rt; answer.err(), Some(fault));
+        if refusal(alloc, streams, 0, &[(4, 1), (at, value)])? != Some(fault) {
+            return Ok(false);
+        }
     }
-    assert_eq!(rt;
-        streams.append(1, &rows(alloc, &[])?).err(),
-        Some(Fault::UnknownStream)
-    );
+    Ok(refusal(alloc, streams, 1, &[])? == Some(Fault::UnknownStream))
+}
+
+// Whether each heartbeat, and the first half of each, is refused by its fault.
+fn heartbeats_are_refused(streams: &mut Streams) -> bool {
     for (stream, at, fault) in [
         (1, -1, Fault::UnknownStream),
         (0, -1, Fault::InstantRange),
         (0, 3, Fault::Backward),
         (0, 65_540, Fault::Leap),
     ] {
-        assert_eq!(rt; streams.heartbeat(stream, at).err(), Some(fault));
-        assert_eq!(rt; streams.closing(stream, at).err(), Some(fault));
+        if streams.heartbeat(stream, at).err() != Some(fault) {
+            return false;
+        }
+        if streams.closing(stream, at).err() != Some(fault) {
+            return false;
+        }
     }
-    assert_eq!(rt; streams.arrivals(0), 0);
-    assert_eq!(rt; streams.first_open(0), 4);
+    true
+}
+
+// Which of the three calls are refused by their faults, and how many rows and which first open instant the stream then has.
+fn refused(alloc: Global) -> Result<([bool; 3], u64, u64), Fault> {
+    let mut streams = streams(alloc)?;
+    let first = declarations_are_refused(alloc, &mut streams);
+    streams.heartbeat(0, 3)?;
+    let second = appends_are_refused(alloc, &mut streams)?;
+    let third = heartbeats_are_refused(&mut streams);
+    Ok((
+        [first, second, third],
+        streams.arrivals(0),
+        streams.first_open(0),
+    ))
+}
+
+#[test]
+fn faults_come_in_the_order_of_their_tests(rt: HostRuntime) -> Result<(), Fail> {
+    assert_eq!(rt; first_number(rt.alloc())?, 0);
+    assert_eq!(rt; refused(rt.alloc())?, ([true, true, true], 0, 4));
     Ok(())
 }
 
-// Appends the rows, once more where memory was refused.
-fn append(rt: &impl Abort, streams: &mut Streams, rows: &NewRows) -> Result<(), Fail> {
+// Appends the rows, once more where memory was refused; false where the refusal changed the stream.
+fn append(alloc: Global, streams: &mut Streams, pairs: &[(i64, i64)]) -> Result<bool, Fault> {
+    let rows = rows(alloc, pairs)?;
     let came = streams.arrivals(0);
-    if streams.append(0, rows).is_err() {
-        assert_eq!(rt; streams.arrivals(0), came);
-        streams.append(0, rows)?;
+    if streams.append(0, &rows).is_err() {
+        if streams.arrivals(0) != came {
+            return Ok(false);
+        }
+        streams.append(0, &rows)?;
     }
-    Ok(())
+    Ok(true)
 }
 
-// Closes the instants up to `at`, once more where memory was refused.
-fn heartbeat(rt: &impl Abort, streams: &mut Streams, at: i64) -> Result<(), Fail> {
+// Closes the instants up to `at`, once more where memory was refused; false where the refusal changed the stream.
+fn heartbeat(streams: &mut Streams, at: i64) -> Result<bool, Fault> {
     let start = streams.first_open(0);
     if streams.heartbeat(0, at).is_err() {
-        assert_eq!(rt; streams.first_open(0), start);
+        if streams.first_open(0) != start {
+            return Ok(false);
+        }
         streams.heartbeat(0, at)?;
     }
-    Ok(())
+    Ok(true)
+}
+
+// Whether the rows 5, 7 and 6 are closed up to the instant 3, in this order.
+fn three_are_closing(streams: &Streams) -> bool {
+    match streams.closing(0, 3) {
+        Ok(closing) => match closing.as_slice() {
+            [first, second, third] => {
+                is_row(first, 1, 1, 5) && is_row(second, 3, 0, 7) && is_row(third, 3, 2, 6)
+            }
+            _ => false,
+        },
+        Err(_) => false,
+    }
+}
+
+// Appends four rows and closes three of them, and appends one more; false where a call went wrong.
+fn fill(alloc: Global, streams: &mut Streams) -> Result<bool, Fault> {
+    let came = append(alloc, streams, &[(3, 7), (1, 5), (3, 6), (9, 1)])?;
+    let are_closing = three_are_closing(streams);
+    let closed = heartbeat(streams, 3)?;
+    let more = append(alloc, streams, &[(4, 2)])?;
+    Ok(came && are_closing && closed && more)
+}
+
+// Whether queries see this of the filled stream: three rows and the ticks 0 to 3; two rows and the ticks 2 and 3; the rows that
+// came last and their ticks.
+fn three_see(streams: &Streams) -> bool {
+    seen(streams, 0, 0) == 7 && seen(streams, 0, 2) == 4 && seen(streams, 3, 0) == 4
+}
+
+fn filled_is_seen(alloc: Global) -> Result<bool, Fault> {
+    let mut streams = streams(alloc)?;
+    let is_filled = fill(alloc, &mut streams)?;
+    Ok(is_filled && three_see(&streams))
+}
+
+// Whether queries see this of the filled stream once all is closed.
+fn two_see(streams: &Streams) -> bool {
+    seen(streams, 0, 0) == 15 && seen(streams, 4, 4) == 7 && streams.arrivals(0) == 5
+}
+
+fn whole_is_seen(alloc: Global) -> Result<bool, Fault> {
+    let mut streams = streams(alloc)?;
+    let is_filled = fill(alloc, &mut streams)?;
+    let is_closed = heartbeat(&mut streams, 9)?;
+    Ok(is_filled && is_closed && two_see(&streams))
 }
 
 #[test]
 fn rows_are_closed_by_instant_and_then_arrival(rt: HostRuntime) -> Result<(), Fail> {
-    let alloc = rt.alloc();
-    let mut streams = streams(&rt, alloc)?;
-    append(
-        &rt,
-        &mut streams,
-        &rows(alloc, &[(3, 7), (1, 5), (3, 6), (9, 1)])?,
-    )?;
-    let closing = streams.closing(0, 3)?;
-    assert_eq!(rt; closing.len(), 3);
-    assert!(rt; is_row(&closing[0], 1, 1, 5));
-    assert!(rt; is_row(&closing[1], 3, 0, 7));
-    assert!(rt; is_row(&closing[2], 3, 2, 6));
-    heartbeat(&rt, &mut streams, 3)?;
-    append(&rt, &mut streams, &rows(alloc, &[(4, 2)])?)?;
-    // three rows and the ticks 0 to 3; two rows and the ticks 2 and 3; the rows that came last and their ticks
-    assert_eq!(rt; seen(&streams, 0, 0), 7);
-    assert_eq!(rt; seen(&streams, 0, 2), 4);
-    assert_eq!(rt; seen(&streams, 3, 0), 4);
-    heartbeat(&rt, &mut streams, 9)?;
-    assert_eq!(rt; seen(&streams, 0, 0), 15);
-    assert_eq!(rt; seen(&streams, 4, 4), 7);
-    assert_eq!(rt; streams.arrivals(0), 5);
+    assert!(rt; filled_is_seen(rt.alloc())?);
+    assert!(rt; whole_is_seen(rt.alloc())?);
     Ok(())
+}
+
+// Closes the instants up to 1 in two halves.
+fn close(streams: &mut Streams) -> Result<(), Fault> {
+    let closing = streams.closing(0, 1)?;
+    streams.close(0, 1, &closing)?;
+    Ok(())
+}
+
+// Streams with rows at the instants 1 and 2, of which the first is closed.
+fn half_closed(alloc: Global) -> Result<Streams, Fault> {
+    let rows = rows(alloc, &[(1, 5), (2, 6)])?;
+    let mut streams = streams(alloc)?;
+    streams.append(0, &rows)?;
+    close(&mut streams)?;
+    Ok(streams)
+}
+
+// The first open instant, what a query sees, and how many streams there are.
+fn sizes(alloc: Global) -> Result<(u64, u128, usize), Fault> {
+    let streams = half_closed(alloc)?;
+    Ok((streams.first_open(0), seen(&streams, 0, 0), streams.len()))
+}
+
+// The numbers of S and of s.
+fn named(alloc: Global) -> Result<[Option<u64>; 2], Fault> {
+    let streams = half_closed(alloc)?;
+    Ok([streams.named("S"), streams.named("s")])
+}
+
+// Whether the catalog has a stream S alone, of the column a.
+fn has_one_stream(catalog: &Catalog) -> bool {
+    if catalog.number_of(b"S") != Some(0) || catalog.number_of(b"s").is_some() {
+        return false;
+    }
+    match catalog.columns_of(b"S") {
+        [column] => column.as_bytes() == b"a".as_slice(),
+        _ => false,
+    }
+}
+
+fn catalog_has_one_stream(alloc: Global) -> Result<bool, Fault> {
+    let streams = half_closed(alloc)?;
+    let catalog = streams.catalog()?;
+    Ok(has_one_stream(&catalog))
 }
 
 #[test]
 fn a_heartbeat_comes_in_two_halves(rt: HostRuntime) -> Result<(), Fail> {
-    let alloc = rt.alloc();
-    let mut streams = streams(&rt, alloc)?;
-    streams.append(0, &rows(alloc, &[(1, 5), (2, 6)])?)?;
-    let closing = streams.closing(0, 1)?;
-    streams.close(0, 1, &closing)?;
-    assert_eq!(rt; streams.first_open(0), 2);
-    assert_eq!(rt; seen(&streams, 0, 0), 3);
-    assert_eq!(rt; streams.named("S"), Some(0));
-    assert_eq!(rt; streams.named("s"), None);
-    assert_eq!(rt; streams.len(), 1);
-    match read(alloc, b"Select Istream(a) From S [Now]") {
-        Ok(query) => assert!(rt; resolve(alloc, &query, &streams.catalog()?).is_ok()),
-        Err(_) => assert!(rt; false),
-    }
+    assert_eq!(rt; sizes(rt.alloc())?, (2, 3, 1));
+    assert_eq!(rt; named(rt.alloc())?, [Some(0), None]);
+    assert!(rt; catalog_has_one_stream(rt.alloc())?);
     Ok(())
 }

@@ -1,11 +1,11 @@
 -- Rows and batches that are equal.
-use Rattle.std.proofs.Common.{ℕ, ℤ, Option, None, List, [], ◌∷◌, Bool, true, false, not, ◌≡◌, ◌<◌, ◌↔◌, length, map, ap, refl, sym, ◌∙◌, arith}
+use Rattle.std.proofs.Common.{ℕ, None, List, [], Bool, true, false, not, ◌≡◌, ◌<◌, ◌↔◌, length, ap, refl, sym, ◌∙◌, arith}
 use Rattle.std.proofs.Math.ListN.{get_or}
 use Rattle.std.proofs.lemmas.List.{ext_get_or, get_or-map, length-map}
 use Rattle.values.specs.Row.{Row, row_cmp, same_row, value_at}
 use Rattle.values.proofs.Order.{row_order}
 use Rattle.values.proofs.Bags.{same_is, same_itself}
-use Rattle.column.specs.Rows.{IsBatch, column_of, width}
+use Rattle.column.specs.Rows.{IsBatch, width}
 use Rattle.join.specs.Turns.{Excerpt, Matches, Ticked}
 use Rattle.turn.specs.Same.{HaveSameColumns, leaving}
 

@@ -72,10 +72,10 @@ fn pairs(alloc: Global) -> Result<Batch, AllocError> {
 fn with_left_rows(alloc: Global) -> Result<Join, AllocError>
     ensures { IfOk result (λ j. j.right.width ≡ 1) }
 {
-    let mut keys = Vec::new(alloc);
-    keys.push((1, 0))?;
+    let item = Item::Rows(3, left_rows(alloc)?);
+    let keys = Vec::from_slice(alloc, &[(1, 0)])?;
     let mut join = Join::new(alloc, keys, 2, 1);
-    join.apply(Side::Left, &Item::Rows(3, left_rows(alloc)?))?;
+    join.apply(Side::Left, &item)?;
     Ok(join)
 }
 
@@ -87,33 +87,56 @@ fn turn(alloc: Global, join: &Join, side: Side, item: &Item) -> Result<Vec<Item>
     work(alloc, side, item, &near)
 }
 
+/// What the right rows put out.
+fn paired(alloc: Global) -> Result<Vec<Item>, AllocError> {
+    let join = with_left_rows(alloc)?;
+    let item = Item::Rows(3, right_rows(alloc)?);
+    turn(alloc, &join, Side::Right, &item)
+}
+
+fn is_alone(outputs: &[Item], wanted: &Item) -> bool {
+    match outputs {
+        [item] => same_item(item, wanted),
+        _ => false,
+    }
+}
+
+fn pairs_are_put_out(alloc: Global) -> Result<bool, AllocError> {
+    let outputs = paired(alloc)?;
+    let pairs = Item::Rows(3, pairs(alloc)?);
+    Ok(is_alone(&outputs, &pairs))
+}
+
 #[test]
 fn pairs_have_left_columns_first_and_the_sign_of_the_row_that_comes(
     rt: HostRuntime,
 ) -> Result<(), Fail> {
-    let alloc = rt.alloc();
-    let join = with_left_rows(alloc)?;
-    let item = Item::Rows(3, right_rows(alloc)?);
-    let outputs = turn(alloc, &join, Side::Right, &item)?;
-    let pairs = Item::Rows(3, pairs(alloc)?);
-    assert_eq!(rt; outputs.len(), 1);
-    match outputs.first() {
-        Some(item) => assert!(rt; same_item(item, &pairs)),
-        None => assert!(rt; false),
-    }
+    assert!(rt; pairs_are_put_out(rt.alloc())?);
     Ok(())
+}
+
+/// How many items the tick 3 of a side puts out, and whether the left and the right side have ticked after it.
+fn tick(alloc: Global, join: &mut Join, side: Side) -> Result<(usize, bool, bool), AllocError> {
+    let tick = Item::Tick(3);
+    let outputs = turn(alloc, join, side, &tick)?;
+    join.apply(side, &tick)?;
+    Ok((
+        outputs.len(),
+        join.ticked(Side::Left),
+        join.ticked(Side::Right),
+    ))
+}
+
+/// The ticks of the right side and then of the left.
+fn ticks(alloc: Global) -> Result<[(usize, bool, bool); 2], AllocError> {
+    let mut join = with_left_rows(alloc)?;
+    let right = tick(alloc, &mut join, Side::Right)?;
+    let left = tick(alloc, &mut join, Side::Left)?;
+    Ok([right, left])
 }
 
 #[test]
 fn a_tick_waits_for_the_other_side(rt: HostRuntime) -> Result<(), Fail> {
-    let alloc = rt.alloc();
-    let mut join = with_left_rows(alloc)?;
-    let tick = Item::Tick(3);
-    let first = turn(alloc, &join, Side::Right, &tick)?;
-    join.apply(Side::Right, &tick)?;
-    assert!(rt; first.is_empty() && join.ticked(Side::Right) && !join.ticked(Side::Left));
-    let second = turn(alloc, &join, Side::Left, &tick)?;
-    join.apply(Side::Left, &tick)?;
-    assert!(rt; second.len() == 1 && !join.ticked(Side::Right) && !join.ticked(Side::Left));
+    assert_eq!(rt; ticks(rt.alloc())?, [(0, false, true), (1, false, false)]);
     Ok(())
 }

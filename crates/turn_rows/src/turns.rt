@@ -90,90 +90,144 @@ fn first_size(done: &Done) -> Option<(usize, usize)> {
     }
 }
 
-/// The tick 2 at a window of the current instant that holds the rows 7 and 8 of the instant 1.
-fn expired(alloc: Global) -> Result<Done, AllocError> {
-    let batch = two(alloc, 7, 8)?;
+/// A window of the current instant that holds the rows 7 and 8 of the instant 1.
+fn held(alloc: Global) -> Result<RangeWindow, AllocError> {
+    let item = Item::Rows(1, two(alloc, 7, 8)?);
     let mut window = RangeWindow::new(alloc, Some(0), 1);
-    window.apply(&Item::Rows(1, batch), 0)?;
+    window.apply(&item, 0)?;
+    Ok(window)
+}
+
+/// The tick 2 at that window.
+fn expired(alloc: Global) -> Result<Done, AllocError> {
+    let node = node(alloc, Side::Left, Kind::RangeWindow)?;
+    let window = held(alloc)?;
     let tick = Item::Tick(2);
     let rows = window.near(alloc, &tick)?;
-    let node = node(alloc, Side::Left, Kind::RangeWindow)?;
-    let done = run(alloc, node, tick, Near::Leaving(RowList { rows }))?;
-    Ok(done)
+    run(alloc, node, tick, Near::Leaving(RowList { rows }))
+}
+
+/// The lease, the query and the operator of a turn, and whether its window drops two rows.
+fn told(done: &Done) -> (u64, u64, usize, bool) {
+    let parts = done.parts();
+    let drops_two = matches!(parts.change, Change::Leave(2));
+    (
+        parts.lease,
+        parts.node.query,
+        parts.node.operator,
+        drops_two,
+    )
+}
+
+fn size_of_expired(alloc: Global) -> Result<Option<(usize, usize)>, AllocError> {
+    let done = expired(alloc)?;
+    Ok(first_size(&done))
+}
+
+fn expired_is_told(alloc: Global) -> Result<(u64, u64, usize, bool), AllocError> {
+    let done = expired(alloc)?;
+    Ok(told(&done))
+}
+
+/// The lease that the parts of the turn have.
+fn lease_of_expired(alloc: Global) -> Result<u64, AllocError> {
+    let parts = expired(alloc)?.into_parts();
+    Ok(parts.lease)
 }
 
 #[test]
 fn rows_leave_a_window_of_instants(rt: HostRuntime) -> Result<(), Fail> {
-    let done = expired(rt.alloc())?;
-    assert_eq!(rt; first_size(&done), Some((2, 1)));
-    let parts = done.into_parts();
-    assert_eq!(rt;
-        (parts.lease, parts.node.query, parts.node.operator),
-        (9, 2, 3)
-    );
-    assert!(rt; matches!(parts.change, Change::Leave(2)));
+    assert_eq!(rt; size_of_expired(rt.alloc())?, Some((2, 1)));
+    assert_eq!(rt; expired_is_told(rt.alloc())?, (9, 2, 3, true));
+    assert_eq!(rt; lease_of_expired(rt.alloc())?, 9);
     Ok(())
 }
 
 /// The only column of the rows 7 and 8, twice.
 fn listed(alloc: Global) -> Result<Done, AllocError> {
-    let batch = two(alloc, 7, 8)?;
     let columns = Vec::from_slice(alloc, &[0usize, 0])?;
     let columns = ColumnList::new(columns);
     let node = node(alloc, Side::Left, Kind::Project(columns))?;
-    let done = run(alloc, node, Item::Rows(4, batch), Near::Nothing)?;
-    Ok(done)
+    let batch = two(alloc, 7, 8)?;
+    run(alloc, node, Item::Rows(4, batch), Near::Nothing)
+}
+
+/// Whether the turn is one of Project with these columns.
+fn lists(done: &Done, wanted: &[usize]) -> bool {
+    match &*done.parts().node.kind {
+        Kind::Project(columns) => columns.columns() == wanted,
+        _ => false,
+    }
+}
+
+/// The size of the first output, and whether the turn lists its column twice.
+fn listed_is_told(alloc: Global) -> Result<(Option<(usize, usize)>, bool), AllocError> {
+    let done = listed(alloc)?;
+    Ok((first_size(&done), lists(&done, &[0, 0])))
 }
 
 #[test]
 fn columns_are_listed(rt: HostRuntime) -> Result<(), Fail> {
-    let done = listed(rt.alloc())?;
-    assert_eq!(rt; first_size(&done), Some((2, 2)));
-    if let Kind::Project(columns) = &*done.parts().node.kind {
-        assert_eq!(rt; columns.columns(), [0, 0].as_slice());
-    }
+    assert_eq!(rt; listed_is_told(rt.alloc())?, (Some((2, 2)), true));
     Ok(())
 }
 
-/// The rows 8 and 7 at the right side of a join whose left side has taken the row 7 twice.
+/// A join whose left side has taken the row 7 twice.
+fn joined(alloc: Global) -> Result<Join, AllocError>
+    ensures { IfOk result (λ j. j.right.width ≡ 1) }
+{
+    let item = Item::Rows(4, two(alloc, 7, 7)?);
+    let keys = Vec::from_slice(alloc, &[(0usize, 0usize)])?;
+    let mut join = Join::new(alloc, keys, 1, 1);
+    join.apply(Side::Left, &item)?;
+    Ok(join)
+}
+
+/// The rows 8 and 7 at the right side of that join.
 fn met(alloc: Global) -> Result<Done, AllocError> {
-    let left = two(alloc, 7, 7)?;
-    let right = two(alloc, 8, 7)?;
-    let mut join = Join::new(alloc, Vec::from_slice(alloc, &[(0usize, 0usize)])?, 1, 1);
-    join.apply(Side::Left, &Item::Rows(4, left))?;
-    let item = Item::Rows(4, right);
-    let near = join.near(alloc, Side::Right, &item)?;
     let node = node(alloc, Side::Right, Kind::Join)?;
-    let done = run(alloc, node, item, Near::Met(MetRows { near }))?;
-    Ok(done)
+    let join = joined(alloc)?;
+    let item = Item::Rows(4, two(alloc, 8, 7)?);
+    let near = join.near(alloc, Side::Right, &item)?;
+    run(alloc, node, item, Near::Met(MetRows { near }))
+}
+
+fn size_of_met(alloc: Global) -> Result<Option<(usize, usize)>, AllocError> {
+    let done = met(alloc)?;
+    Ok(first_size(&done))
 }
 
 #[test]
 fn a_row_meets_the_rows_of_the_other_side(rt: HostRuntime) -> Result<(), Fail> {
-    let done = met(rt.alloc())?;
-    assert_eq!(rt; first_size(&done), Some((2, 2)));
+    assert_eq!(rt; size_of_met(rt.alloc())?, Some((2, 2)));
     Ok(())
+}
+
+/// Whether the rows 7 and 8 are the same item as the rows 7 and another.
+fn is_same_item(alloc: Global, number: i64) -> Result<bool, AllocError> {
+    let rows = Item::Rows(4, two(alloc, 7, 8)?);
+    let other = Item::Rows(4, two(alloc, 7, number)?);
+    Ok(same_item(&rows, &other))
 }
 
 #[test]
 fn items_are_told_apart_by_value(rt: HostRuntime) -> Result<(), Fail> {
-    let alloc = rt.alloc();
-    let rows = Item::Rows(4, two(alloc, 7, 8)?);
-    let equal = Item::Rows(4, two(alloc, 7, 8)?);
-    let other = Item::Rows(4, two(alloc, 7, 9)?);
-    assert!(rt; same_item(&rows, &equal));
-    assert!(rt; !same_item(&rows, &other));
+    assert!(rt; is_same_item(rt.alloc(), 8)?);
+    assert!(rt; !is_same_item(rt.alloc(), 9)?);
     Ok(())
+}
+
+/// Whether the node of a root is the same as one of this kind.
+fn is_same_node(alloc: Global, kind: Kind) -> Result<bool, AllocError> {
+    let other = node(alloc, Side::Left, kind)?;
+    let root = node(alloc, Side::Left, Kind::ToStream)?;
+    Ok(root.is_same(&other))
 }
 
 #[test]
 fn nodes_are_told_apart_by_value(rt: HostRuntime) -> Result<(), Fail> {
-    let alloc = rt.alloc();
-    let root = node(alloc, Side::Left, Kind::ToStream)?;
-    let equal = node(alloc, Side::Left, Kind::ToStream)?;
-    let other = node(alloc, Side::Left, Kind::RangeWindow)?;
-    assert!(rt; root.is_same(&equal));
-    assert!(rt; !root.is_same(&other));
+    assert!(rt; is_same_node(rt.alloc(), Kind::ToStream)?);
+    assert!(rt; !is_same_node(rt.alloc(), Kind::RangeWindow)?);
     Ok(())
 }
 
@@ -183,12 +237,16 @@ fn sorted(alloc: Global, number: i64) -> Result<Near, AllocError> {
     Ok(Near::Sorted(RowList { rows }))
 }
 
+/// Whether the excerpt of the row 5 is the same as that of another row.
+fn is_same_excerpt(alloc: Global, number: i64) -> Result<bool, AllocError> {
+    let five = sorted(alloc, 5)?;
+    let other = sorted(alloc, number)?;
+    Ok(five.is_same(&other))
+}
+
 #[test]
 fn excerpts_are_told_apart_by_value(rt: HostRuntime) -> Result<(), Fail> {
-    let one = sorted(rt.alloc(), 5)?;
-    let equal = sorted(rt.alloc(), 5)?;
-    let other = sorted(rt.alloc(), 6)?;
-    assert!(rt; one.is_same(&equal));
-    assert!(rt; !one.is_same(&other));
+    assert!(rt; is_same_excerpt(rt.alloc(), 5)?);
+    assert!(rt; !is_same_excerpt(rt.alloc(), 6)?);
     Ok(())
 }

@@ -134,7 +134,9 @@ pub struct ReaderSource<R> {
 impl<R: Read> ReaderSource<R> {
     /// A source of what the reader reads.
     pub fn new(reader: R) -> ReaderSource<R>
-        ensures { result.failures ≡ 0 }
+        ensures reader { result.reader ≡ reader }
+        ensures turns { result.turns ≡ 2 ^ 64 - 1 }
+        ensures sound { result.failures ≡ 0 }
     {
         ReaderSource {
             reader,
@@ -179,7 +181,8 @@ pub struct WriterSink<W> {
 impl<W: Write> WriterSink<W> {
     /// A sink that hands its bytes to the writer.
     pub fn new(writer: W) -> WriterSink<W>
-        ensures { result.failures ≡ 0 }
+        ensures writer { result.writer ≡ writer }
+        ensures sound { result.failures ≡ 0 }
     {
         WriterSink {
             writer,

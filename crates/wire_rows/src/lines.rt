@@ -2,7 +2,7 @@ ghost use Rattle.std.specs.Prelude.{◌<◌};
 
 use arrayvec::ArrayVec;
 use reference::{Fault, QueryFault};
-use std::alloc::Global;
+use std::alloc::{AllocError, Global};
 use std::test::Fail;
 use values::{Row, Value};
 use wire::{
@@ -11,7 +11,7 @@ use wire::{
 };
 
 // What each line of a source is: the letter of its request, or the digit of its fault.
-fn kinds<S: Source>(alloc: Global, source: &mut S) -> Result<String, Fail> {
+fn kinds<S: Source>(alloc: Global, source: &mut S) -> Result<String, AllocError> {
     let mut lines = Lines::new(alloc)?;
     let mut kinds = String::new(alloc);
     for _ in 0..100u8 {
@@ -121,69 +121,92 @@ impl Sink for Narrow {
     }
 }
 
+fn are_kinds<S: Source>(alloc: Global, source: &mut S, wanted: &str) -> Result<bool, AllocError> {
+    let kinds = kinds(alloc, source)?;
+    Ok(kinds.as_str() == wanted)
+}
+
+fn lines_failing_after(until_failure: u64) -> Dripping<'static> {
+    Dripping {
+        bytes: LINES,
+        until_failure,
+        failures: 0,
+    }
+}
+
 #[test]
 fn each_line_is_the_request_that_it_is_in_any_chunks(rt: HostRuntime) -> Result<(), Fail> {
-    let mut whole = MemorySource::new(LINES);
-    assert_eq!(rt; kinds(rt.alloc(), &mut whole)?.as_str(), KINDS);
-    let mut read = ReaderSource::new(LINES);
-    assert_eq!(rt; kinds(rt.alloc(), &mut read)?.as_str(), KINDS);
-    let mut dripping = Dripping {
-        bytes: LINES,
-        until_failure: u64::MAX,
-        failures: 0,
-    };
-    assert_eq!(rt; kinds(rt.alloc(), &mut dripping)?.as_str(), KINDS);
+    assert!(rt; are_kinds(rt.alloc(), &mut MemorySource::new(LINES), KINDS)?);
+    assert!(rt; are_kinds(rt.alloc(), &mut ReaderSource::new(LINES), KINDS)?);
+    assert!(rt; are_kinds(rt.alloc(), &mut lines_failing_after(u64::MAX), KINDS)?);
     Ok(())
+}
+
+// Whether the kinds before a failing read are a front of all, and the failure was told once.
+fn stops_at(alloc: Global, until_failure: u64) -> Result<bool, AllocError> {
+    let mut source = lines_failing_after(until_failure);
+    let seen = kinds(alloc, &mut source)?;
+    Ok(source.failures == 1 && KINDS.as_bytes().starts_with(seen.as_str().as_bytes()))
 }
 
 #[test]
 fn a_failing_read_is_told_once_and_what_came_before_stands(rt: HostRuntime) -> Result<(), Fail> {
     for until_failure in 0..LINES.len() as u64 {
-        let mut source = Dripping {
-            bytes: LINES,
-            until_failure,
-            failures: 0,
-        };
-        let seen = kinds(rt.alloc(), &mut source)?;
-        assert!(rt; KINDS.as_bytes().starts_with(seen.as_str().as_bytes()));
-        assert_eq!(rt; source.failures, 1);
+        assert!(rt; stops_at(rt.alloc(), until_failure)?);
     }
     Ok(())
+}
+
+// A drain with so many spaces in it, and a drain that has no end.
+fn padded(alloc: Global, spaces: u32) -> Result<String, AllocError> {
+    let mut text = String::from_str(alloc, "{\"op\":\"drain\"")?;
+    for _ in 0..spaces {
+        text.push_str(" ")?;
+    }
+    text.push_str("}\n{\"op\":\"drain\"")?;
+    Ok(text)
+}
+
+fn padded_is(alloc: Global, spaces: u32, wanted: &str) -> Result<bool, AllocError> {
+    let text = padded(alloc, spaces)?;
+    let mut source = MemorySource::new(text.as_str().as_bytes());
+    are_kinds(alloc, &mut source, wanted)
 }
 
 #[test]
 fn a_line_has_at_most_65536_bytes(rt: HostRuntime) -> Result<(), Fail> {
-    for (spaces, want) in [(65_522, "d1"), (65_523, "31")] {
-        let mut text = String::from_str(rt.alloc(), "{\"op\":\"drain\"")?;
-        for _ in 0..spaces {
-            text.push_str(" ")?;
-        }
-        text.push_str("}\n{\"op\":\"drain\"")?;
-        let mut source = MemorySource::new(text.as_str().as_bytes());
-        assert_eq!(rt; kinds(rt.alloc(), &mut source)?.as_str(), want);
-    }
+    assert!(rt; padded_is(rt.alloc(), 65_522, "d1")?);
+    assert!(rt; padded_is(rt.alloc(), 65_523, "31")?);
     Ok(())
+}
+
+// So many lists in one another.
+fn nested(alloc: Global, depth: u32) -> Result<String, AllocError> {
+    let mut text = String::new(alloc);
+    for bracket in ["[", "]"] {
+        for _ in 0..depth {
+            text.push_str(bracket)?;
+        }
+    }
+    Ok(text)
+}
+
+fn fault_of_nested(alloc: Global, depth: u32) -> Result<Option<WireFault>, AllocError> {
+    let text = nested(alloc, depth)?;
+    Ok(read_request(alloc, text.as_str().as_bytes()).err())
 }
 
 #[test]
 fn lists_nest_127_deep(rt: HostRuntime) -> Result<(), Fail> {
-    for (depth, want) in [(127, WireFault::BadRequest), (128, WireFault::NotJson)] {
-        let mut text = String::new(rt.alloc());
-        for _ in 0..depth {
-            text.push_str("[")?;
-        }
-        for _ in 0..depth {
-            text.push_str("]")?;
-        }
-        match read_request(rt.alloc(), text.as_str().as_bytes()) {
-            Ok(_) => assert!(rt; false),
-            Err(fault) => assert_eq!(rt; fault, want),
-        }
-    }
+    assert_eq!(rt;
+        fault_of_nested(rt.alloc(), 127)?,
+        Some(WireFault::BadRequest)
+    );
+    assert_eq!(rt; fault_of_nested(rt.alloc(), 128)?, Some(WireFault::NotJson));
     Ok(())
 }
 
-fn rows_of(alloc: Global, count: u16) -> Result<Reply, Fail> {
+fn rows_of(alloc: Global, count: u16) -> Result<Reply, AllocError> {
     let mut rows = Vec::new(alloc);
     for at in 0..count {
         let mut row: Row = ArrayVec::new();
@@ -194,77 +217,115 @@ fn rows_of(alloc: Global, count: u16) -> Result<Reply, Fail> {
     Ok(Reply::Rows(rows))
 }
 
+// Whether the reply is written as this line.
+fn is_line(alloc: Global, reply: &Reply, wanted: &str) -> bool {
+    let mut sink = MemorySink::new(alloc);
+    write_reply(&mut sink, reply).is_ok() && sink.bytes.as_slice() == wanted.as_bytes()
+}
+
+fn rows_are_line(alloc: Global, count: u16, wanted: &str) -> Result<bool, AllocError> {
+    let reply = rows_of(alloc, count)?;
+    Ok(is_line(alloc, &reply, wanted))
+}
+
+fn refusal_is_line(alloc: Global, fault: Fault, wanted: &str) -> bool {
+    is_line(alloc, &Reply::Refused(fault), wanted)
+}
+
 #[test]
 fn replies_are_lines(rt: HostRuntime) -> Result<(), Fail> {
-    let alloc = rt.alloc();
-    for (reply, want) in [
-        (Reply::Done, "{\"ok\":true}\n"),
-        (rows_of(alloc, 0)?, "{\"ok\":true,\"rows\":[]}\n"),
-        (
-            rows_of(alloc, 2)?,
-            "{\"ok\":true,\"rows\":[[0,0,null],[1,-1,null]]}\n",
-        ),
-        (
-            Reply::Refused(Fault::Query(QueryFault::Unexpected(4096))),
-            "{\"error\":\"Q4 Unexpected at 4096\"}\n",
-        ),
-        (Reply::Refused(Fault::Late), "{\"error\":\"E10 Late\"}\n"),
-        (
-            Reply::Unread(WireFault::OutOfMemory),
-            "{\"error\":\"E20 OutOfMemory\"}\n",
-        ),
-    ] {
-        let mut sink = MemorySink::new(alloc);
-        assert!(rt; write_reply(&mut sink, &reply).is_ok());
-        assert_eq!(rt; sink.bytes.as_slice(), want.as_bytes());
-    }
+    assert!(rt; is_line(rt.alloc(), &Reply::Done, "{\"ok\":true}\n"));
+    assert!(rt; rows_are_line(rt.alloc(), 0, "{\"ok\":true,\"rows\":[]}\n")?);
+    let rows = "{\"ok\":true,\"rows\":[[0,0,null],[1,-1,null]]}\n";
+    assert!(rt; rows_are_line(rt.alloc(), 2, rows)?);
+    let unexpected = Fault::Query(QueryFault::Unexpected(4096));
+    let line = "{\"error\":\"Q4 Unexpected at 4096\"}\n";
+    assert!(rt; refusal_is_line(rt.alloc(), unexpected, line));
+    assert!(rt; refusal_is_line(rt.alloc(), Fault::Late, "{\"error\":\"E10 Late\"}\n"));
+    let memory = Reply::Unread(WireFault::OutOfMemory);
+    assert!(rt; is_line(rt.alloc(), &memory, "{\"error\":\"E20 OutOfMemory\"}\n"));
     Ok(())
+}
+
+fn sink_of_width(alloc: Global, width: usize, until_failure: u64) -> Narrow
+    requires { 0 < width }
+{
+    Narrow {
+        sink: MemorySink::new(alloc),
+        width,
+        writes: 0,
+        until_failure,
+    }
+}
+
+// In how many writes the reply of so many rows is written.
+fn writes_of(alloc: Global, count: u16) -> Result<Option<u64>, AllocError> {
+    let reply = rows_of(alloc, count)?;
+    let mut sink = sink_of_width(alloc, usize::MAX, u64::MAX);
+    match write_reply(&mut sink, &reply) {
+        Ok(()) => Ok(Some(sink.writes)),
+        Err(_) => Ok(None),
+    }
 }
 
 #[test]
 fn a_line_of_4096_bytes_is_one_write(rt: HostRuntime) -> Result<(), Fail> {
-    for (count, writes) in [(250, 1), (500, 2)] {
-        let mut sink = Narrow {
-            sink: MemorySink::new(rt.alloc()),
-            width: usize::MAX,
-            writes: 0,
-            until_failure: u64::MAX,
-        };
-        assert!(rt; write_reply(&mut sink, &rows_of(rt.alloc(), count)?).is_ok());
-        assert_eq!(rt; sink.writes, writes);
-    }
+    assert_eq!(rt; writes_of(rt.alloc(), 250)?, Some(1));
+    assert_eq!(rt; writes_of(rt.alloc(), 500)?, Some(2));
     Ok(())
+}
+
+// The line of a reply.
+fn line(alloc: Global, reply: &Reply) -> Option<Vec<u8>> {
+    let mut sink = MemorySink::new(alloc);
+    match write_reply(&mut sink, reply) {
+        Ok(()) => Some(sink.bytes),
+        Err(_) => None,
+    }
+}
+
+// Whether a failing write leaves a front of the line and is told once.
+fn leaves_front(alloc: Global, reply: &Reply, line: &[u8], until_failure: u64) -> bool {
+    let mut sink = sink_of_width(alloc, 3, until_failure);
+    let written = write_reply(&mut sink, reply);
+    matches!(&written, Err(ScriptFault::Write))
+        && sink.sink.failures == 1
+        && line.starts_with(sink.sink.bytes.as_slice())
+}
+
+fn each_leaves_front(alloc: Global, reply: &Reply) -> bool {
+    match line(alloc, reply) {
+        Some(line) => {
+            for until_failure in 0..line.len() as u64 / 3 {
+                if !leaves_front(alloc, reply, line.as_slice(), until_failure) {
+                    return false;
+                }
+            }
+            line.len() >= 3
+        }
+        None => false,
+    }
+}
+
+fn rows_leave_fronts(alloc: Global) -> Result<bool, AllocError> {
+    let reply = rows_of(alloc, 3)?;
+    Ok(each_leaves_front(alloc, &reply))
 }
 
 #[test]
 fn a_failing_write_leaves_a_front_of_the_line(rt: HostRuntime) -> Result<(), Fail> {
-    let reply = rows_of(rt.alloc(), 3)?;
-    let mut whole = MemorySink::new(rt.alloc());
-    assert!(rt; write_reply(&mut whole, &reply).is_ok());
-    for until_failure in 0..whole.bytes.len() as u64 / 3 {
-        let mut sink = Narrow {
-            sink: MemorySink::new(rt.alloc()),
-            width: 3,
-            writes: 0,
-            until_failure,
-        };
-        let written = write_reply(&mut sink, &reply);
-        assert!(rt; matches!(&written, Err(ScriptFault::Write)));
-        assert_eq!(rt; sink.sink.failures, 1);
-        assert!(rt;
-            whole
-                .bytes
-                .as_slice()
-                .starts_with(sink.sink.bytes.as_slice())
-        );
-    }
+    assert!(rt; rows_leave_fronts(rt.alloc())?);
     Ok(())
+}
+
+fn faults_are_told(alloc: Global) -> Result<bool, AllocError> {
+    let (read, write, memory) = (ScriptFault::Read, ScriptFault::Write, ScriptFault::Memory);
+    let text = format!(in alloc; "{read}, {write}, {memory}")?;
+    Ok(text.as_str() == "read failed, write failed, out of memory")
 }
 
 #[test]
 fn faults_say_what_failed(rt: HostRuntime) -> Result<(), Fail> {
-    let (read, write, memory) = (ScriptFault::Read, ScriptFault::Write, ScriptFault::Memory);
-    let text = format!(in rt.alloc(); "{read}, {write}, {memory}")?;
-    assert_eq!(rt; text.as_str(), "read failed, write failed, out of memory");
+    assert!(rt; faults_are_told(rt.alloc())?);
     Ok(())
 }

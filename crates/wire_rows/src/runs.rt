@@ -1,7 +1,5 @@
 use programs::run;
 use std::alloc::Global;
-use std::process::Abort;
-use std::test::Fail;
 use wire::{DeviceFailed, MemorySink, MemorySource, Sink, Source};
 
 const FIRST: &str = r#"{"op":"stream","name":"S","columns":["a"],"from":0}
@@ -20,52 +18,41 @@ const FIRST_REPLIES: &str = r#"{"ok":true}
 {"ok":true,"rows":[[1,5],[3,6],[3,7]]}
 "#;
 
-// Runs `cqlrun` with a word over memory, and compares all that it does.
-fn expect_run(
-    rt: &impl Abort,
-    alloc: Global,
-    word: &str,
-    input: &[u8],
-    status: u8,
-    replies: &[u8],
-) {
+// Whether `cqlrun` with a word over memory ends so, and says something of its errors where it does not end well.
+fn runs_to(alloc: Global, word: &str, input: &[u8], status: u8, replies: &[u8]) -> bool {
     let words = ["cqlrun", word];
     let mut source = MemorySource::new(input);
     let mut sink = MemorySink::new(alloc);
     let mut errors = MemorySink::new(alloc);
     let ended = run(alloc, words.as_slice(), &mut source, &mut sink, &mut errors);
-    assert_eq!(rt; ended, status);
-    assert_eq!(rt; sink.bytes.as_slice(), replies);
-    assert_eq!(rt; errors.bytes.is_empty(), status == 0);
+    ended == status && sink.bytes.as_slice() == replies && errors.bytes.is_empty() == (status == 0)
 }
 
 #[test]
 fn scripts_are_answered_by_their_text(rt: HostRuntime) {
-    expect_run(&rt, rt.alloc(), "--plain", b"", 0, b"");
+    assert!(rt; runs_to(rt.alloc(), "--plain", b"", 0, b""));
     let (input, replies) = (FIRST.as_bytes(), FIRST_REPLIES.as_bytes());
-    expect_run(&rt, rt.alloc(), "--plain", input, 0, replies);
+    assert!(rt; runs_to(rt.alloc(), "--plain", input, 0, replies));
 }
 
 #[test]
 fn a_wrong_word_is_refused_and_nothing_is_answered(rt: HostRuntime) {
-    expect_run(&rt, rt.alloc(), "--plane", FIRST.as_bytes(), 2, b"");
+    assert!(rt; runs_to(rt.alloc(), "--plane", FIRST.as_bytes(), 2, b""));
+}
+
+// Whether help is written, and nothing of errors.
+fn is_helped(alloc: Global) -> bool {
+    let words = ["cqlrun", "--help"];
+    let mut source = MemorySource::new(FIRST.as_bytes());
+    let mut sink = MemorySink::new(alloc);
+    let mut errors = MemorySink::new(alloc);
+    let ended = run(alloc, words.as_slice(), &mut source, &mut sink, &mut errors);
+    ended == 0 && sink.bytes.len() > 0 && errors.bytes.is_empty()
 }
 
 #[test]
 fn help_is_no_error(rt: HostRuntime) {
-    let words = ["cqlrun", "--help"];
-    let mut source = MemorySource::new(FIRST.as_bytes());
-    let mut sink = MemorySink::new(rt.alloc());
-    let mut errors = MemorySink::new(rt.alloc());
-    let ended = run(
-        rt.alloc(),
-        words.as_slice(),
-        &mut source,
-        &mut sink,
-        &mut errors,
-    );
-    assert_eq!(rt; ended, 0);
-    assert!(rt; sink.bytes.len() > 0 && errors.bytes.is_empty());
+    assert!(rt; is_helped(rt.alloc()));
 }
 
 // Memory that gives or takes up to seven bytes at a time, and fails at a call.
@@ -129,52 +116,42 @@ fn device_failing_after(
     }
 }
 
+// Whether a source that fails ends the run after a front of the replies.
+fn failing_source_ends(alloc: Global, calls: u64) -> bool {
+    let words = ["cqlrun", "--plain"];
+    let mut source = device_failing_after(alloc, FIRST.as_bytes(), calls);
+    let mut sink = MemorySink::new(alloc);
+    let mut errors = MemorySink::new(alloc);
+    let ended = run(alloc, words.as_slice(), &mut source, &mut sink, &mut errors);
+    ended == 1
+        && errors.bytes.as_slice() == b"cqlrun: read failed\n".as_slice()
+        && FIRST_REPLIES.as_bytes().starts_with(sink.bytes.as_slice())
+}
+
 #[test]
 fn a_failing_source_ends_the_run_after_a_front_of_the_replies(rt: HostRuntime) {
     for calls in 0..FIRST.len() as u64 / 7 {
-        let words = ["cqlrun", "--plain"];
-        let mut source = device_failing_after(rt.alloc(), FIRST.as_bytes(), calls);
-        let mut sink = MemorySink::new(rt.alloc());
-        let mut errors = MemorySink::new(rt.alloc());
-        let ended = run(
-            rt.alloc(),
-            words.as_slice(),
-            &mut source,
-            &mut sink,
-            &mut errors,
-        );
-        assert_eq!(rt; ended, 1);
-        assert_eq!(rt;
-            errors.bytes.as_slice(),
-            b"cqlrun: read failed\n".as_slice()
-        );
-        assert!(rt; FIRST_REPLIES.as_bytes().starts_with(sink.bytes.as_slice()));
+        assert!(rt; failing_source_ends(rt.alloc(), calls));
     }
+}
+
+// Whether a sink that fails ends the run after a front of the replies.
+fn failing_sink_ends(alloc: Global, calls: u64) -> bool {
+    let words = ["cqlrun", "--plain"];
+    let mut source = MemorySource::new(FIRST.as_bytes());
+    let mut sink = device_failing_after(alloc, b"", calls);
+    let mut errors = MemorySink::new(alloc);
+    let ended = run(alloc, words.as_slice(), &mut source, &mut sink, &mut errors);
+    ended == 1
+        && errors.bytes.as_slice() == b"cqlrun: write failed\n".as_slice()
+        && FIRST_REPLIES
+            .as_bytes()
+            .starts_with(sink.sink.bytes.as_slice())
 }
 
 #[test]
 fn a_failing_sink_ends_the_run_after_a_front_of_the_replies(rt: HostRuntime) {
     for calls in 0..FIRST_REPLIES.len() as u64 / 7 {
-        let words = ["cqlrun", "--plain"];
-        let mut source = MemorySource::new(FIRST.as_bytes());
-        let mut sink = device_failing_after(rt.alloc(), b"", calls);
-        let mut errors = MemorySink::new(rt.alloc());
-        let ended = run(
-            rt.alloc(),
-            words.as_slice(),
-            &mut source,
-            &mut sink,
-            &mut errors,
-        );
-        assert_eq!(rt; ended, 1);
-        assert_eq!(rt;
-            errors.bytes.as_slice(),
-            b"cqlrun: write failed\n".as_slice()
-        );
-        assert!(rt;
-            FIRST_REPLIES
-                .as_bytes()
-                .starts_with(sink.sink.bytes.as_slice())
-        );
+        assert!(rt; failing_sink_ends(rt.alloc(), calls));
     }
 }

@@ -2,90 +2,69 @@
 ghost use Rattle.std.specs.Prelude.{◌≡◌, ◌≤◌, IfOk, length};
 ghost use Rattle.column.specs.Rows.{width};
 
+use crate::rows::{NULL, shows, two};
 use crate::samples::counted;
-use column::{Batch, Column, Mask, Side, SignedRow};
+use column::{Batch, Column, Mask, Side};
 use std::alloc::{AllocError, Global};
 use std::test::Fail;
-use values::{ANSWER_MAX, Row, Value, value_at};
-
-fn signed_row(enters: bool, a: Value, b: Value) -> SignedRow
-    ensures { length result.row.items ≡ 2 }
-{
-    let mut row = Row::new();
-    row.push(a);
-    row.push(b);
-    SignedRow { enters, row }
-}
+use values::{ANSWER_MAX, Value};
 
 /// The rows (1, 10), (2, null), (3, 30), of which the second leaves.
 fn three(alloc: Global) -> Result<Batch, AllocError>
     ensures long { IfOk result (λ b. length b ≡ 3) }
     ensures wide { IfOk result (λ b. width b ≡ 2) }
 {
-    let rows = [
-        signed_row(true, Value::clamped(1), Value::clamped(10)),
-        signed_row(false, Value::clamped(2), Value::null()),
-        signed_row(true, Value::clamped(3), Value::clamped(30)),
-    ];
+    let rows = [two(true, 1, 10), two(false, 2, NULL), two(true, 3, 30)];
     Batch::from_rows(alloc, &rows)
 }
 
-/// Whether a batch has just these rows; past a row's end is null.
-pub(crate) fn shows(batch: &Batch, rows: &[(bool, [Option<i64>; 3])]) -> bool {
-    if batch.len() != rows.len() {
-        return false;
+/// A row of a batch, with null past its end.
+type Shown = (bool, [Option<i64>; 3]);
+
+const FIRST: Shown = (true, [Some(1), Some(10), None]);
+
+const SECOND: Shown = (false, [Some(2), None, None]);
+
+const THIRD: Shown = (true, [Some(3), Some(30), None]);
+
+/// How rows are copied.
+#[derive(Clone, Copy, Drop)]
+enum Copying {
+    Cut,
+    Part,
+    Picked,
+    Projected,
+}
+
+fn copied(alloc: Global, batch: &Batch, how: Copying) -> Result<Batch, AllocError>
+    requires long { length batch.now ≡ 3 }
+    requires wide { width batch.now ≡ 2 }
+{
+    match how {
+        Copying::Cut => batch.cut(alloc, 2),
+        Copying::Part => batch.part(alloc, 1, 3),
+        Copying::Picked => batch.picked(alloc, &[1, 1]),
+        Copying::Projected => batch.project(alloc, &[1, 0]),
     }
-    for (i, (enters, numbers)) in rows.iter().enumerate() {
-        let row = batch.row(i);
-        if row.enters != *enters || !has_numbers(&row.row, numbers) {
-            return false;
-        }
-    }
-    true
 }
 
-fn has_numbers(row: &Row, numbers: &[Option<i64>; 3]) -> bool {
-    for k in 0..3 {
-        if value_at(row, k).number() != numbers[k] {
-            return false;
-        }
-    }
-    true
-}
-
-const SECOND: (bool, [Option<i64>; 3]) = (false, [Some(2), None, None]);
-
-fn cut_shows(alloc: Global) -> Result<bool, AllocError> {
-    let cut = three(alloc)?.cut(alloc, 2)?;
-    Ok(shows(&cut, &[(true, [Some(1), Some(10), None]), SECOND]))
-}
-
-fn part_shows(alloc: Global) -> Result<bool, AllocError> {
-    let part = three(alloc)?.part(alloc, 1, 3)?;
-    Ok(shows(&part, &[SECOND, (true, [Some(3), Some(30), None])]))
-}
-
-fn picked_shows(alloc: Global) -> Result<bool, AllocError> {
-    let picked = three(alloc)?.picked(alloc, &[1, 1])?;
-    Ok(shows(&picked, &[SECOND, SECOND]))
-}
-
-fn projected_shows(alloc: Global) -> Result<bool, AllocError> {
-    let projected = three(alloc)?.project(alloc, &[1, 0])?;
-    let rows = [
-        (true, [Some(10), Some(1), None]),
-        (false, [None, Some(2), None]),
-        (true, [Some(30), Some(3), None]),
-    ];
-    Ok(shows(&projected, &rows))
+fn copy_shows(alloc: Global, how: Copying, rows: &[Shown]) -> Result<bool, AllocError> {
+    let three = three(alloc)?;
+    let copy = copied(alloc, &three, how)?;
+    Ok(shows(&copy, rows))
 }
 
 #[test]
 fn rows_cut_parted_picked_and_projected(rt: HostRuntime) -> Result<(), Fail> {
-    assert!(rt; cut_shows(rt.alloc())?);
-    assert!(rt; part_shows(rt.alloc())?);
-    assert!(rt; picked_shows(rt.alloc())?);
-    assert!(rt; projected_shows(rt.alloc())?);
+    assert!(rt; copy_shows(rt.alloc(), Copying::Cut, &[FIRST, SECOND])?);
+    assert!(rt; copy_shows(rt.alloc(), Copying::Part, &[SECOND, THIRD])?);
+    assert!(rt; copy_shows(rt.alloc(), Copying::Picked, &[SECOND, SECOND])?);
+    let turned = [
+        (true, [Some(10), Some(1), None]),
+        (false, [None, Some(2), None]),
+        (true, [Some(30), Some(3), None]),
+    ];
+    assert!(rt; copy_shows(rt.alloc(), Copying::Projected, &turned)?);
     Ok(())
 }
 
@@ -96,15 +75,21 @@ fn leaving(alloc: Global, batch: &Batch) -> Result<Option<Batch>, AllocError> {
 }
 
 fn leaving_shows(alloc: Global) -> Result<bool, AllocError> {
-    match leaving(alloc, &three(alloc)?)? {
+    let three = three(alloc)?;
+    match leaving(alloc, &three)? {
         Some(batch) => Ok(shows(&batch, &[SECOND])),
         None => Ok(false),
     }
 }
 
+fn first_row(alloc: Global) -> Result<Batch, AllocError> {
+    let three = three(alloc)?;
+    three.cut(alloc, 1)
+}
+
 fn entering_leave(alloc: Global) -> Result<bool, AllocError> {
-    let cut = three(alloc)?.cut(alloc, 1)?;
-    let none = leaving(alloc, &cut)?;
+    let first = first_row(alloc)?;
+    let none = leaving(alloc, &first)?;
     Ok(none.is_some())
 }
 
@@ -116,37 +101,53 @@ fn rows_that_leave_gathered(rt: HostRuntime) -> Result<(), Fail> {
 }
 
 /// Each row beside its second value again, with the sign of the right.
-fn beside_itself(alloc: Global) -> Result<bool, AllocError> {
+fn beside_itself(alloc: Global) -> Result<Option<Batch>, AllocError> {
     let left = three(alloc)?;
     let right = left.project(alloc, &[1])?;
     if left.len() != right.len() || left.width() + right.width() != 3 {
-        return Ok(false);
+        return Ok(None);
     }
     let both = left.beside(right, Side::Right)?;
+    Ok(Some(both))
+}
+
+fn beside_itself_shows(alloc: Global) -> Result<bool, AllocError> {
     let rows = [
         (true, [Some(1), Some(10), Some(10)]),
         SECOND,
         (true, [Some(3), Some(30), Some(30)]),
     ];
-    Ok(shows(&both, &rows))
+    match beside_itself(alloc)? {
+        Some(batch) => Ok(shows(&batch, &rows)),
+        None => Ok(false),
+    }
 }
 
 #[test]
 fn rows_beside_rows(rt: HostRuntime) -> Result<(), Fail> {
-    assert!(rt; beside_itself(rt.alloc())?);
+    assert!(rt; beside_itself_shows(rt.alloc())?);
     Ok(())
+}
+
+/// Whether the second column lends these numbers and these words of its nulls, and its numbers lie in the range of a stream.
+fn lends(batch: &Batch, numbers: &[i64], valid: &[u64]) -> bool
+    requires { width batch.now ≡ 2 }
+{
+    let column = batch.column(1);
+    column.numbers() == numbers
+        && column.valid_words() == valid
+        && column.is_in_stream_range()
+        && !column.is_empty()
+}
+
+fn words_are_lent(alloc: Global) -> Result<bool, AllocError> {
+    let batch = three(alloc)?;
+    Ok(lends(&batch, &[10, 0, 30], &[5]) && batch.leaving_words() == [2].as_slice())
 }
 
 #[test]
 fn words_lent_to_lanes(rt: HostRuntime) -> Result<(), Fail> {
-    let batch = three(rt.alloc())?;
-    let column = batch.column(1);
-    assert_eq!(rt; column.numbers(), [10, 0, 30].as_slice());
-    assert_eq!(rt;
-        (column.valid_words(), batch.leaving_words()),
-        ([5].as_slice(), [2].as_slice())
-    );
-    assert!(rt; column.is_in_stream_range() && !column.is_empty());
+    assert!(rt; words_are_lent(rt.alloc())?);
     Ok(())
 }
 
@@ -160,16 +161,33 @@ fn values_in_a_column(alloc: Global) -> Result<bool, AllocError> {
     Ok(!column.is_in_stream_range() && column.get(1).number().is_none())
 }
 
-fn part_of_a_column(alloc: Global) -> Result<bool, AllocError> {
-    let part = counted(alloc, 100, 70)?.part(alloc, 69, 72)?;
-    let picked = counted(alloc, 100, 70)?.picked(alloc, &[99, 0])?;
-    Ok(part.numbers() == [70, 0, 72].as_slice() && picked.numbers() == [100, 1].as_slice())
+/// The numbers 70, null and 72 of a hundred.
+fn part_of_a_column(alloc: Global) -> Result<Column, AllocError> {
+    let column = counted(alloc, 100, 70)?;
+    column.part(alloc, 69, 72)
+}
+
+/// The last and the first of a hundred numbers.
+fn picks_of_a_column(alloc: Global) -> Result<Column, AllocError> {
+    let column = counted(alloc, 100, 70)?;
+    column.picked(alloc, &[99, 0])
+}
+
+fn part_shows(alloc: Global) -> Result<bool, AllocError> {
+    let part = part_of_a_column(alloc)?;
+    Ok(part.numbers() == [70, 0, 72].as_slice())
+}
+
+fn picks_show(alloc: Global) -> Result<bool, AllocError> {
+    let picked = picks_of_a_column(alloc)?;
+    Ok(picked.numbers() == [100, 1].as_slice())
 }
 
 #[test]
 fn values_in_columns(rt: HostRuntime) -> Result<(), Fail> {
     assert!(rt; values_in_a_column(rt.alloc())?);
-    assert!(rt; part_of_a_column(rt.alloc())?);
+    assert!(rt; part_shows(rt.alloc())?);
+    assert!(rt; picks_show(rt.alloc())?);
     Ok(())
 }
 
@@ -186,7 +204,8 @@ fn thirds(alloc: Global) -> Result<Mask, AllocError>
 
 /// The truths at the places 62 to 67: the second and the fifth are true.
 fn part_of_a_mask(alloc: Global) -> Result<bool, AllocError> {
-    let part = thirds(alloc)?.part(alloc, 62, 68)?;
+    let thirds = thirds(alloc)?;
+    let part = thirds.part(alloc, 62, 68)?;
     let places = part.places(alloc)?;
     Ok(part.words() == [18].as_slice() && places.as_slice() == [1, 4].as_slice())
 }

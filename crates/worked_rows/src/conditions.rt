@@ -18,9 +18,7 @@ fn batch_of(alloc: Global, a: Column, b: Column) -> Result<Batch, AllocError>
     requires same { length b ≡ length a }
 {
     let leaving = none_leaves(alloc, a.len())?;
-    let mut columns = Vec::with_capacity(alloc, 2)?;
-    columns.push(a)?;
-    columns.push(b)?;
+    let columns = vec![in alloc; a, b]?;
     Ok(Batch::from_columns(columns, leaving))
 }
 
@@ -77,13 +75,32 @@ fn both(batch: &Batch, above: i64) -> (u64, u64)
     first_word(&[above, BELOW_SIX, Step::And], batch)
 }
 
+/// The numbers 1 to 8 and null beside eight fives and null.
+fn nine(alloc: Global) -> Result<Batch, AllocError> {
+    let a = counted(alloc, 9, 9)?;
+    let b = fives(alloc)?;
+    batch_of(alloc, a, b)
+}
+
+/// The words of the three conditions, where the batch has nine rows of two columns.
+fn words(batch: &Batch) -> Option<[(u64, u64); 3]> {
+    if batch.len() != 9 || batch.width() != 2 {
+        return None;
+    }
+    Some([not_or(batch), both(batch, 5), both(batch, 9)])
+}
+
+fn words_of_nine(alloc: Global) -> Result<Option<[(u64, u64); 3]>, AllocError> {
+    let batch = nine(alloc)?;
+    Ok(words(&batch))
+}
+
 #[test]
 fn conditions_over_nine_rows(rt: HostRuntime) -> Result<(), Fail> {
-    let (a, b) = (counted(rt.alloc(), 9, 9)?, fives(rt.alloc())?);
-    let batch = batch_of(rt.alloc(), a, b)?;
-    assert_eq!(rt; (batch.len(), batch.width()), (9, 2));
-    let words = [not_or(&batch), both(&batch, 5), both(&batch, 9)];
-    assert_eq!(rt; words, [(255, 255), (224, 255), (0, 511)]);
+    assert_eq!(rt;
+        words_of_nine(rt.alloc())?,
+        Some([(255, 255), (224, 255), (0, 511)])
+    );
     Ok(())
 }
 
@@ -122,17 +139,32 @@ fn condition_agrees(batch: &Batch, count: usize) -> bool
     is_well_formed(&truth, &known, count)
 }
 
+/// So many samples of 7 beside those of 11.
+fn samples_beside(alloc: Global, count: usize) -> Result<Batch, AllocError>
+    requires some { 1 ≤ count }
+    requires few { count ≤ 1024 }
+{
+    let a = samples(alloc, count, 7)?;
+    let b = samples(alloc, count, 11)?;
+    batch_of(alloc, a, b)
+}
+
+fn condition_agrees_at(alloc: Global, count: usize) -> Result<bool, AllocError>
+    requires some { 1 ≤ count }
+    requires few { count ≤ 1024 }
+{
+    let batch = samples_beside(alloc, count)?;
+    if batch.len() != count || batch.width() != 2 {
+        return Ok(false);
+    }
+    Ok(condition_agrees(&batch, count))
+}
+
 #[test]
 fn conditions_of_any_length(rt: HostRuntime) -> Result<(), Fail> {
     for count in LENGTHS {
         let count = count.clamp(1, 1024);
-        let batch = batch_of(
-            rt.alloc(),
-            samples(rt.alloc(), count, 7)?,
-            samples(rt.alloc(), count, 11)?,
-        )?;
-        assert_eq!(rt; (batch.len(), batch.width()), (count, 2));
-        assert!(rt; condition_agrees(&batch, count), "at {count}");
+        assert!(rt; condition_agrees_at(rt.alloc(), count)?, "at {count}");
     }
     Ok(())
 }

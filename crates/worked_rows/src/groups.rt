@@ -2,52 +2,27 @@
 ghost use Rattle.std.specs.Prelude.{◌≡◌, ◌≤◌, length, IfOk, OnOk};
 ghost use Rattle.group.specs.Turns.{RoomFor, KeepsRoom};
 
-use column::{Batch, SignedRow};
+use crate::rows::{NULL, two};
+use column::Batch;
 use group::{Group, GroupBy, work};
 use op_queue::Item as Queued;
 use std::alloc::{AllocError, Global};
-use std::test::*;
-use values::{Column, Item, Row, Value};
+use std::test::Fail;
+use values::{Column, Item, Value};
 
-/// What stands for null below.
-const NULL: i64 = -7;
+/// Three signed rows of an instant, each a sign, a key and a number, or the tick of the instant.
+type Plain = (u64, Option<[(bool, i64, i64); 3]>);
 
-fn value(number: i64) -> Value {
-    if number == NULL {
-        Value::null()
-    } else {
-        Value::clamped(number as i128)
+fn queued(alloc: Global, plain: &Plain) -> Result<Queued, AllocError> {
+    let (instant, rows) = plain;
+    match rows {
+        Some([a, b, c]) => {
+            let rows = [two(a.0, a.1, a.2), two(b.0, b.1, b.2), two(c.0, c.1, c.2)];
+            let batch = Batch::from_rows(alloc, &rows)?;
+            Ok(Queued::Rows(*instant, batch))
+        }
+        None => Ok(Queued::Tick(*instant)),
     }
-}
-
-fn signed_row(enters: bool, key: i64, number: i64) -> SignedRow
-    ensures { length result.row.items ≡ 2 }
-{
-    let mut row = Row::new();
-    row.push(value(key));
-    row.push(value(number));
-    SignedRow { enters, row }
-}
-
-/// Three signed rows of an instant, each a sign, a key and a number.
-fn three(
-    alloc: Global,
-    instant: u64,
-    a: (bool, i64, i64),
-    b: (bool, i64, i64),
-    c: (bool, i64, i64),
-) -> Result<Queued, AllocError> {
-    let rows = [
-        signed_row(a.0, a.1, a.2),
-        signed_row(b.0, b.1, b.2),
-        signed_row(c.0, c.1, c.2),
-    ];
-    let batch = Batch::from_rows(alloc, &rows)?;
-    Ok(Queued::Rows(instant, batch))
-}
-
-fn column(column: usize) -> Column {
-    Column { source: 0, column }
 }
 
 /// A turn, and its outputs.
@@ -71,14 +46,15 @@ fn run(
     alloc: Global,
     shape: &GroupBy,
     kept: GroupBy,
-    items: &[Queued],
+    items: &[Plain],
 ) -> Result<Vec<Queued>, AllocError>
     requires { length items.now ≤ 100 }
 {
     let mut group = Group::new(alloc, kept)?;
     let mut all = Vec::new(alloc);
-    for item in items {
-        let mut outputs = turn(alloc, &mut group, shape, item)?;
+    for plain in items {
+        let item = queued(alloc, plain)?;
+        let mut outputs = turn(alloc, &mut group, shape, &item)?;
         all.append(&mut outputs)?;
     }
     Ok(all)
@@ -115,114 +91,137 @@ fn push_values(all: &mut Vec<i128>, values: &[Value]) -> Result<(), AllocError> 
     Ok(())
 }
 
+/// Whether some turns put out so many items, with these rows.
+fn puts_out(
+    alloc: Global,
+    shape: &GroupBy,
+    kept: GroupBy,
+    items: &[Plain],
+    count: usize,
+    rows: &[i128],
+) -> Result<bool, AllocError>
+    requires { length items.now ≤ 100 }
+{
+    let outputs = run(alloc, shape, kept, items)?;
+    let numbers = numbers(alloc, &outputs)?;
+    Ok(outputs.len() == count && numbers.as_slice() == rows)
+}
+
+const KEY: Column = Column {
+    source: 0,
+    column: 0,
+};
+
+const NUMBER: Column = Column {
+    source: 0,
+    column: 1,
+};
+
 /// `Select k, Min(v), Max(v) From S Group By k`.
 fn extremes(alloc: Global) -> Result<GroupBy, AllocError> {
-    let by = Vec::from_slice(alloc, &[column(0)])?;
-    let items = Vec::from_slice(
-        alloc,
-        &[Item::Key(0), Item::Min(column(1)), Item::Max(column(1))],
-    )?;
+    let by = Vec::from_slice(alloc, &[KEY])?;
+    let items = [Item::Key(0), Item::Min(NUMBER), Item::Max(NUMBER)];
+    let items = Vec::from_slice(alloc, &items)?;
     Ok(GroupBy::new(by, items))
+}
+
+fn extremes_put_out(
+    alloc: Global,
+    items: &[Plain],
+    count: usize,
+    rows: &[i128],
+) -> Result<bool, AllocError>
+    requires { length items.now ≤ 100 }
+{
+    let shape = extremes(alloc)?;
+    let kept = extremes(alloc)?;
+    puts_out(alloc, &shape, kept, items, count, rows)
 }
 
 /// `Select Count(*), Count(v), Sum(v) From S`.
 fn totals(alloc: Global) -> Result<GroupBy, AllocError> {
-    let items = Vec::from_slice(
-        alloc,
-        &[Item::CountAll, Item::Count(column(1)), Item::Sum(column(1))],
-    )?;
+    let items = [Item::CountAll, Item::Count(NUMBER), Item::Sum(NUMBER)];
+    let items = Vec::from_slice(alloc, &items)?;
     Ok(GroupBy::new(Vec::new(alloc), items))
+}
+
+fn totals_put_out(
+    alloc: Global,
+    items: &[Plain],
+    count: usize,
+    rows: &[i128],
+) -> Result<bool, AllocError>
+    requires { length items.now ≤ 100 }
+{
+    let shape = totals(alloc)?;
+    let kept = totals(alloc)?;
+    puts_out(alloc, &shape, kept, items, count, rows)
+}
+
+fn distinct_puts_out(
+    alloc: Global,
+    items: &[Plain],
+    count: usize,
+    rows: &[i128],
+) -> Result<bool, AllocError>
+    requires { length items.now ≤ 100 }
+{
+    let shape = GroupBy::distinct(alloc, 2)?;
+    let kept = GroupBy::distinct(alloc, 2)?;
+    puts_out(alloc, &shape, kept, items, count, rows)
 }
 
 #[test]
 fn least_and_greatest_follow_the_rows_that_leave(rt: HostRuntime) -> Result<(), Fail> {
-    let alloc = rt.alloc();
     let items = [
-        three(alloc, 0, (true, 1, 5), (true, 1, 7), (true, 2, NULL))?,
-        Queued::Tick(0),
-        three(alloc, 1, (false, 1, 5), (true, 1, 6), (true, 2, 3))?,
-        Queued::Tick(1),
-        three(alloc, 2, (false, 1, 7), (false, 1, 6), (false, 2, NULL))?,
-        Queued::Tick(2),
+        (0, Some([(true, 1, 5), (true, 1, 7), (true, 2, NULL)])),
+        (0, None),
+        (1, Some([(false, 1, 5), (true, 1, 6), (true, 2, 3)])),
+        (1, None),
+        (2, Some([(false, 1, 7), (false, 1, 6), (false, 2, NULL)])),
+        (2, None),
     ];
-    let outputs = run(alloc, &extremes(alloc)?, extremes(alloc)?, &items)?;
-    let expected = [
+    let rows = [
         0, 1, 1, 5, 7, 0, 1, 2, -7, -7, 1, 0, 1, 5, 7, 1, 1, 1, 6, 7, 1, 0, 2, -7, -7, 1, 1, 2, 3,
         3, 2, 0, 1, 6, 7,
     ];
-    assert_eq!(rt; numbers(alloc, &outputs)?.as_slice(), expected.as_slice());
-    assert_eq!(rt; outputs.len(), 6);
+    assert!(rt; extremes_put_out(rt.alloc(), &items, 6, &rows)?);
     Ok(())
 }
 
 #[test]
 fn one_group_is_shown_at_its_first_tick_and_its_sum_is_exact(rt: HostRuntime) -> Result<(), Fail> {
-    let alloc = rt.alloc();
     let most = 9_223_372_036_854_775_807;
     let items = [
-        Queued::Tick(0),
-        Queued::Tick(1),
-        three(alloc, 2, (true, 1, most), (true, 1, most), (true, 1, NULL))?,
-        Queued::Tick(2),
-        three(
-            alloc,
+        (0, None),
+        (1, None),
+        (2, Some([(true, 1, most), (true, 1, most), (true, 1, NULL)])),
+        (2, None),
+        (
             3,
-            (false, 1, most),
-            (true, 1, -most),
-            (false, 1, NULL),
-        )?,
-        Queued::Tick(3),
+            Some([(false, 1, most), (true, 1, -most), (false, 1, NULL)]),
+        ),
+        (3, None),
     ];
-    let outputs = run(alloc, &totals(alloc)?, totals(alloc)?, &items)?;
-    let expected = [
-        0,
-        1,
-        0,
-        0,
-        -7,
-        2,
-        0,
-        0,
-        0,
-        -7,
-        2,
-        1,
-        3,
-        2,
-        9_223_372_036_854_775_807,
-        3,
-        0,
-        3,
-        2,
-        9_223_372_036_854_775_807,
-        3,
-        1,
-        2,
-        2,
-        0,
+    let shown = most as i128;
+    let rows = [
+        0, 1, 0, 0, -7, 2, 0, 0, 0, -7, 2, 1, 3, 2, shown, 3, 0, 3, 2, shown, 3, 1, 2, 2, 0,
     ];
-    assert_eq!(rt; numbers(alloc, &outputs)?.as_slice(), expected.as_slice());
+    assert!(rt; totals_put_out(rt.alloc(), &items, 7, &rows)?);
     Ok(())
 }
 
 #[test]
 fn distinct_rows_stay_until_the_last_copy_leaves(rt: HostRuntime) -> Result<(), Fail> {
-    let alloc = rt.alloc();
     let items = [
-        three(alloc, 0, (true, 1, 1), (true, 1, 1), (true, 2, NULL))?,
-        Queued::Tick(0),
-        three(alloc, 1, (false, 1, 1), (false, 2, NULL), (true, 2, NULL))?,
-        Queued::Tick(1),
-        three(alloc, 2, (false, 1, 1), (true, 3, 1), (false, 3, 1))?,
-        Queued::Tick(2),
+        (0, Some([(true, 1, 1), (true, 1, 1), (true, 2, NULL)])),
+        (0, None),
+        (1, Some([(false, 1, 1), (false, 2, NULL), (true, 2, NULL)])),
+        (1, None),
+        (2, Some([(false, 1, 1), (true, 3, 1), (false, 3, 1)])),
+        (2, None),
     ];
-    let outputs = run(
-        alloc,
-        &GroupBy::distinct(alloc, 2)?,
-        GroupBy::distinct(alloc, 2)?,
-        &items,
-    )?;
-    let expected = [0, 1, 1, 1, 0, 1, 2, -7, 2, 0, 1, 1];
-    assert_eq!(rt; numbers(alloc, &outputs)?.as_slice(), expected.as_slice());
+    let rows = [0, 1, 1, 1, 0, 1, 2, -7, 2, 0, 1, 1];
+    assert!(rt; distinct_puts_out(rt.alloc(), &items, 5, &rows)?);
     Ok(())
 }

@@ -1,5 +1,5 @@
 //! The vectors of the kernels, and each kernel against its plain definition.
-ghost use Rattle.std.specs.Prelude.{◌≡◌, ◌≤◌, IfOk, length};
+ghost use Rattle.std.specs.Prelude.{◌≡◌, ◌≤◌, length};
 ghost use Rattle.column.specs.Bits.{word_count};
 ghost use Rattle.lane_kernels.specs.Truth.{IsKnownTruth};
 
@@ -20,76 +20,71 @@ const COMPARISONS: [Comparison; 6] = [
     Comparison::GreaterOrEqual,
 ];
 
-/// The truths of many places.
-#[derive(Drop)]
-struct Truth {
-    truth: Vec<u64>,
-    known: Vec<u64>,
-}
-
-/// So many truths, all unknown.
-fn unknown(alloc: Global, count: usize) -> Result<Truth, AllocError>
-    requires { count ≤ 1024 }
-    ensures truth { IfOk result (λ t. length t.truth.items ≡ word_count count) }
-    ensures known { IfOk result (λ t. length t.known.items ≡ word_count count) }
-{
-    let words = &[0; 16][..(count + 63) / 64];
-    let truth = Vec::from_slice(alloc, words)?;
-    let known = Vec::from_slice(alloc, words)?;
-    Ok(Truth { truth, known })
-}
-
-/// How a column compares with a number.
-fn compared_with(
-    alloc: Global,
-    column: &Column,
+/// Whether these are the truths of a comparison of the samples of 7 with 3, or with the samples of 11.
+fn is_compared(
+    truth: &[u64],
+    known: &[u64],
     how: Comparison,
-    number: i64,
-) -> Result<Truth, AllocError>
-    requires { length column.now ≤ 1024 }
-    ensures truth { IfOk result (λ t. length t.truth.items ≡ word_count (length column.now)) }
-    ensures known { IfOk result (λ t. length t.known.items ≡ word_count (length column.now)) }
-    ensures well_formed { IfOk result (λ t. IsKnownTruth t.truth.items t.known.items) }
-{
-    let mut found = unknown(alloc, column.len())?;
-    compare_const(column, how, number, &mut found.truth, &mut found.known);
-    Ok(found)
+    with_three: bool,
+    count: usize,
+) -> bool {
+    for i in 0..count {
+        let other = if with_three {
+            Value::clamped(3)
+        } else {
+            sample(i, 11)
+        };
+        if truth_at(truth, known, i) != plain::compared(sample(i, 7), how, other) {
+            return false;
+        }
+    }
+    is_well_formed(truth, known, count)
 }
 
-/// How the samples of 7 compare with those of 11.
-fn between(alloc: Global, count: usize, how: Comparison) -> Result<Truth, AllocError>
+/// Whether the kernel compares the samples of 7 with 3 as the definition does.
+fn agrees_with_three(left: &Column, how: Comparison, count: usize) -> bool
+    requires few { count ≤ 1024 }
+    requires long { length left.now ≡ count }
+{
+    let (mut truth, mut known) = ([0; 16], [0; 16]);
+    let words = (count + 63) / 64;
+    compare_const(left, how, 3, &mut truth[..words], &mut known[..words]);
+    is_compared(&truth, &known, how, true, count)
+}
+
+/// Whether the kernel compares the samples of 7 with those of 11 as the definition does.
+fn agrees_with_other(left: &Column, right: &Column, how: Comparison, count: usize) -> bool
+    requires few { count ≤ 1024 }
+    requires long { length left.now ≡ count }
+    requires same { length right.now ≡ count }
+{
+    let (mut truth, mut known) = ([0; 16], [0; 16]);
+    let words = (count + 63) / 64;
+    compare_columns(left, how, right, &mut truth[..words], &mut known[..words]);
+    is_compared(&truth, &known, how, false, count)
+}
+
+fn comparison_with_three_agrees(
+    alloc: Global,
+    how: Comparison,
+    count: usize,
+) -> Result<bool, AllocError>
     requires { count ≤ 1024 }
-    ensures truth { IfOk result (λ t. length t.truth.items ≡ word_count count) }
-    ensures known { IfOk result (λ t. length t.known.items ≡ word_count count) }
-    ensures well_formed { IfOk result (λ t. IsKnownTruth t.truth.items t.known.items) }
+{
+    let left = samples(alloc, count, 7)?;
+    Ok(agrees_with_three(&left, how, count))
+}
+
+fn comparison_of_columns_agrees(
+    alloc: Global,
+    how: Comparison,
+    count: usize,
+) -> Result<bool, AllocError>
+    requires { count ≤ 1024 }
 {
     let left = samples(alloc, count, 7)?;
     let right = samples(alloc, count, 11)?;
-    let mut found = unknown(alloc, count)?;
-    compare_columns(&left, how, &right, &mut found.truth, &mut found.known);
-    Ok(found)
-}
-
-/// Whether these are the truths of a comparison with 3.
-fn is_compared_with_three(found: &Truth, count: usize, how: Comparison) -> bool {
-    for i in 0..count {
-        let wanted = plain::compared(sample(i, 7), how, Value::clamped(3));
-        if truth_at(&found.truth, &found.known, i) != wanted {
-            return false;
-        }
-    }
-    is_well_formed(&found.truth, &found.known, count)
-}
-
-/// Whether these are the truths of a comparison of the samples of 7 with those of 11.
-fn is_between(found: &Truth, count: usize, how: Comparison) -> bool {
-    for i in 0..count {
-        let wanted = plain::compared(sample(i, 7), how, sample(i, 11));
-        if truth_at(&found.truth, &found.known, i) != wanted {
-            return false;
-        }
-    }
-    is_well_formed(&found.truth, &found.known, count)
+    Ok(agrees_with_other(&left, &right, how, count))
 }
 
 #[test]
@@ -97,14 +92,14 @@ fn comparisons_of_any_length(rt: HostRuntime) -> Result<(), Fail> {
     for count in LENGTHS {
         for how in COMPARISONS {
             let count = count.min(1024);
-            let column = samples(rt.alloc(), count, 7)?;
-            let found = compared_with(rt.alloc(), &column, how, 3)?;
             assert!(rt;
-                is_compared_with_three(&found, count, how),
+                comparison_with_three_agrees(rt.alloc(), how, count)?,
                 "with a number, at {count}"
             );
-            let found = between(rt.alloc(), count, how)?;
-            assert!(rt; is_between(&found, count, how), "of columns, at {count}");
+            assert!(rt;
+                comparison_of_columns_agrees(rt.alloc(), how, count)?,
+                "of columns, at {count}"
+            );
         }
     }
     Ok(())
@@ -118,83 +113,149 @@ enum Logic {
     Or,
 }
 
-/// The kernel of two truths, of which Not takes the first.
-fn combined(
-    alloc: Global,
-    a: &Truth,
+/// Writes the kernel of two truths, of which Not takes the first.
+fn combine(
+    a_truth: &[u64],
+    a_known: &[u64],
     logic: Logic,
-    b: &Truth,
-    count: usize,
-) -> Result<Truth, AllocError>
-    requires few { count ≤ 1024 }
-    requires same { length a.now.truth.items ≡ word_count count }
-    requires same_known { length a.now.known.items ≡ word_count count }
-    requires same_b { length b.now.truth.items ≡ word_count count }
-    requires same_b_known { length b.now.known.items ≡ word_count count }
-    requires is_a { IsKnownTruth a.now.truth.items a.now.known.items }
-    requires is_b { IsKnownTruth b.now.truth.items b.now.known.items }
+    b_truth: &[u64],
+    b_known: &[u64],
+    truth: &mut [u64],
+    known: &mut [u64],
+)
+    requires same_a { length a_known.now ≡ length a_truth.now }
+    requires same_b { length b_truth.now ≡ length a_truth.now }
+    requires same_b_known { length b_known.now ≡ length a_truth.now }
+    requires same_truth { length truth.old ≡ length a_truth.now }
+    requires same_known { length known.old ≡ length a_truth.now }
+    requires is_a { IsKnownTruth a_truth.now a_known.now }
+    requires is_b { IsKnownTruth b_truth.now b_known.now }
 {
-    let mut found = unknown(alloc, count)?;
-    let (truth, known) = (&mut found.truth, &mut found.known);
     match logic {
-        Logic::Not => not3(&a.truth, &a.known, truth, known),
-        Logic::And => and3(&a.truth, &a.known, &b.truth, &b.known, truth, known),
-        Logic::Or => or3(&a.truth, &a.known, &b.truth, &b.known, truth, known),
+        Logic::Not => not3(a_truth, a_known, truth, known),
+        Logic::And => and3(a_truth, a_known, b_truth, b_known, truth, known),
+        Logic::Or => or3(a_truth, a_known, b_truth, b_known, truth, known),
     }
-    Ok(found)
+}
+
+/// The truths of places, in words.
+#[derive(Clone, Copy)]
+struct Truth<'a> {
+    truth: &'a [u64],
+    known: &'a [u64],
 }
 
 /// Whether these are the truths of the kernel of the first two.
-fn is_combined(found: &Truth, a: &Truth, logic: Logic, b: &Truth, count: usize) -> bool {
+fn is_combined(a: Truth, logic: Logic, b: Truth, found: Truth, count: usize) -> bool {
     for i in 0..count {
-        let a = truth_at(&a.truth, &a.known, i);
-        let b = truth_at(&b.truth, &b.known, i);
+        let first = truth_at(a.truth, a.known, i);
+        let second = truth_at(b.truth, b.known, i);
         let wanted = match logic {
-            Logic::Not => plain::not(a),
-            Logic::And => plain::and(a, b),
-            Logic::Or => plain::or(a, b),
+            Logic::Not => plain::not(first),
+            Logic::And => plain::and(first, second),
+            Logic::Or => plain::or(first, second),
         };
-        if truth_at(&found.truth, &found.known, i) != wanted {
+        if truth_at(found.truth, found.known, i) != wanted {
             return false;
         }
     }
-    is_well_formed(&found.truth, &found.known, count)
+    is_well_formed(found.truth, found.known, count)
+}
+
+/// Whether the kernel combines two truths of `count` places as the definition does.
+fn combination_agrees(
+    a_truth: &[u64],
+    a_known: &[u64],
+    logic: Logic,
+    b_truth: &[u64],
+    b_known: &[u64],
+    count: usize,
+) -> bool
+    requires few { count ≤ 1024 }
+    requires long { length a_truth.now ≡ word_count count }
+    requires same_a { length a_known.now ≡ word_count count }
+    requires same_b { length b_truth.now ≡ word_count count }
+    requires same_b_known { length b_known.now ≡ word_count count }
+    requires is_a { IsKnownTruth a_truth.now a_known.now }
+    requires is_b { IsKnownTruth b_truth.now b_known.now }
+{
+    let (mut truth, mut known) = ([0; 16], [0; 16]);
+    let words = (count + 63) / 64;
+    let (truth, known) = (&mut truth[..words], &mut known[..words]);
+    combine(a_truth, a_known, logic, b_truth, b_known, truth, known);
+    let a = Truth {
+        truth: a_truth,
+        known: a_known,
+    };
+    let b = Truth {
+        truth: b_truth,
+        known: b_known,
+    };
+    is_combined(a, logic, b, Truth { truth, known }, count)
+}
+
+/// Whether the kernel combines as the definition does whether the left is above 3 with whether it is below the right.
+fn logic_agrees(left: &Column, right: &Column, logic: Logic, count: usize) -> bool
+    requires few { count ≤ 1024 }
+    requires long { length left.now ≡ count }
+    requires same { length right.now ≡ count }
+{
+    let (mut a_truth, mut a_known) = ([0; 16], [0; 16]);
+    let (mut b_truth, mut b_known) = ([0; 16], [0; 16]);
+    let words = (count + 63) / 64;
+    let (a_truth, a_known) = (&mut a_truth[..words], &mut a_known[..words]);
+    let (b_truth, b_known) = (&mut b_truth[..words], &mut b_known[..words]);
+    compare_const(left, Comparison::Greater, 3, a_truth, a_known);
+    compare_columns(left, Comparison::Less, right, b_truth, b_known);
+    combination_agrees(a_truth, a_known, logic, b_truth, b_known, count)
+}
+
+fn logic_agrees_at(alloc: Global, logic: Logic, count: usize) -> Result<bool, AllocError>
+    requires { count ≤ 1024 }
+{
+    let left = samples(alloc, count, 7)?;
+    let right = samples(alloc, count, 11)?;
+    Ok(logic_agrees(&left, &right, logic, count))
 }
 
 #[test]
 fn logic_of_any_length(rt: HostRuntime) -> Result<(), Fail> {
     for count in LENGTHS {
-        let count = count.min(1024);
-        let column = samples(rt.alloc(), count, 7)?;
-        let a = compared_with(rt.alloc(), &column, Comparison::Greater, 3)?;
-        let b = between(rt.alloc(), count, Comparison::Less)?;
         for logic in [Logic::Not, Logic::And, Logic::Or] {
-            let found = combined(rt.alloc(), &a, logic, &b, count)?;
-            assert!(rt; is_combined(&found, &a, logic, &b, count), "at {count}");
+            let count = count.min(1024);
+            assert!(rt; logic_agrees_at(rt.alloc(), logic, count)?, "at {count}");
         }
     }
     Ok(())
 }
 
-/// The words of a truth of one place.
-fn words(found: &Truth) -> Option<(u64, u64)> {
-    let truth = found.truth.first()?;
-    let known = found.known.first()?;
-    Some((*truth, *known))
+/// The words of whether the first is above a number, combined with whether the second is.
+fn with_unknown(one: &Column, nothing: &Column, logic: Logic, number: i64) -> (u64, u64)
+    requires one { length one.now ≡ 1 }
+    requires nothing { length nothing.now ≡ 1 }
+{
+    let (mut a_truth, mut a_known) = ([0], [0]);
+    compare_const(one, Comparison::Greater, number, &mut a_truth, &mut a_known);
+    let (mut b_truth, mut b_known) = ([0], [0]);
+    compare_const(
+        nothing,
+        Comparison::Greater,
+        number,
+        &mut b_truth,
+        &mut b_known,
+    );
+    let (mut truth, mut known) = ([0], [0]);
+    combine(
+        &a_truth, &a_known, logic, &b_truth, &b_known, &mut truth, &mut known,
+    );
+    (truth[0], known[0])
 }
 
-/// Whether 1 is above a number, combined with whether null is.
-fn with_unknown(
-    alloc: Global,
-    logic: Logic,
-    number: i64,
-) -> Result<Option<(u64, u64)>, AllocError> {
+/// The words of whether 1 is above a number, combined with whether null is.
+fn one_with_unknown(alloc: Global, logic: Logic, number: i64) -> Result<(u64, u64), AllocError> {
     let one = counted(alloc, 1, 1)?;
-    let a = compared_with(alloc, &one, Comparison::Greater, number)?;
     let nothing = counted(alloc, 1, 0)?;
-    let b = compared_with(alloc, &nothing, Comparison::Greater, number)?;
-    let found = combined(alloc, &a, logic, &b, 1)?;
-    Ok(words(&found))
+    Ok(with_unknown(&one, &nothing, logic, number))
 }
 
 #[test]
@@ -207,8 +268,8 @@ fn true_and_false_with_unknown(rt: HostRuntime) -> Result<(), Fail> {
     ];
     for (number, logic, wanted) in table {
         assert_eq!(rt;
-            with_unknown(rt.alloc(), logic, number)?,
-            Some(wanted),
+            one_with_unknown(rt.alloc(), logic, number)?,
+            wanted,
             "1 > {number}"
         );
     }

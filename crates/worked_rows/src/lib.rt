@@ -20,6 +20,8 @@ mod plain;
 #[cfg(test)]
 mod queues;
 #[cfg(test)]
+mod rows;
+#[cfg(test)]
 mod samples;
 #[cfg(test)]
 mod selected;

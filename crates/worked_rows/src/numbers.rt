@@ -1,7 +1,8 @@
 //! Worked values and rows.
+use crate::rows::{NULL, row, two};
 use std::cmp::Ordering;
 use std::test::Fail;
-use values::{Row, Value, compare_rows, same_rows, value_at};
+use values::{Value, compare_rows, same_rows, value_at};
 
 #[test]
 fn stream_range_ends_are_values_and_one_more_is_none(rt: HostRuntime) -> Result<(), Fail> {
@@ -30,19 +31,25 @@ fn sums_past_the_answer_range_show_its_end(rt: HostRuntime) -> Result<(), Fail> 
     Ok(())
 }
 
+/// Whether the row of null stands before the row of null and 7.
+fn short_is_first() -> bool {
+    let short = row(NULL);
+    let long = two(true, NULL, 7).row;
+    compare_rows(&short, &long) == Ordering::Less
+        && same_rows(&long, &long)
+        && !same_rows(&short, &long)
+}
+
+/// The second value of the row of null and 7, and the one past its end.
+fn last_values() -> (Option<Value>, Value) {
+    let long = two(true, NULL, 7).row;
+    (Some(value_at(&long, 1)), value_at(&long, 2))
+}
+
 #[test]
 fn rows_are_ordered_from_the_left_and_null_is_first(rt: HostRuntime) -> Result<(), Fail> {
-    let seven = Value::new(7).ok_or("in range")?;
-    let mut short = Row::new();
-    short.push(Value::null());
-    let mut long = Row::new();
-    long.push(Value::null());
-    long.push(seven);
-    assert_eq!(rt; compare_rows(&short, &long), Ordering::Less);
-    assert!(rt; same_rows(&long, &long));
-    assert!(rt; !same_rows(&short, &long));
-    assert_eq!(rt; value_at(&long, 1), seven);
-    assert_eq!(rt; value_at(&long, 2), Value::null());
+    assert!(rt; short_is_first());
+    assert_eq!(rt; last_values(), (Value::new(7), Value::null()));
     assert_eq!(rt; Value::default(), Value::null());
     Ok(())
 }

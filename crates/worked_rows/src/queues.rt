@@ -2,33 +2,15 @@
 ghost use Rattle.std.specs.Prelude.{◌≡◌, length};
 ghost use Rattle.op_queue.specs.Cursors.{IsWithin};
 
-use crate::columns::shows;
-use column::{Batch, SignedRow};
+use crate::rows::{one, row, shows};
+use column::Batch;
 use op_queue::{Arrival, Cursor, Front, Item, Log, Queue};
 use std::alloc::{AllocError, Global};
 use std::test::Fail;
-use values::{Row, Value};
-
-fn row(number: i128) -> Row
-    ensures { length result.items ≡ 1 }
-{
-    let mut row = Row::new();
-    row.push(Value::clamped(number));
-    row
-}
 
 /// The row 5 enters, and the row 6 leaves.
 fn pair(alloc: Global) -> Result<Batch, AllocError> {
-    let rows = [
-        SignedRow {
-            enters: true,
-            row: row(5),
-        },
-        SignedRow {
-            enters: false,
-            row: row(6),
-        },
-    ];
+    let rows = [one(true, 5), one(false, 6)];
     Batch::from_rows(alloc, &rows)
 }
 
@@ -42,19 +24,10 @@ fn filled(alloc: Global) -> Result<Queue, AllocError> {
     Ok(queue)
 }
 
-/// The rows at the front and their instant, of at most `count` rows.
-fn front_rows(
-    alloc: Global,
-    queue: &Queue,
-    count: usize,
-) -> Result<Option<(u64, Batch)>, AllocError> {
-    if queue.is_empty() || count == 0 {
-        return Ok(None);
-    }
-    match queue.front_cut(alloc, count)? {
-        Item::Rows(at, batch) => Ok(Some((at, batch))),
-        Item::Tick(_) => Ok(None),
-    }
+/// Whether the filled queue has five rows and ticks in three pieces, with the tick 0 at its front.
+fn five_wait(alloc: Global) -> Result<bool, AllocError> {
+    let queue = filled(alloc)?;
+    Ok(queue.len() == 5 && queue.pieces() == 3 && queue.front() == Some(Front::Tick(0)))
 }
 
 /// The first rows and ticks leave, if there are so many.
@@ -66,18 +39,43 @@ fn drop_some(queue: &mut Queue, count: usize) -> bool {
     waits
 }
 
+/// The filled queue without its first rows and ticks; as it was where there are not so many.
+fn without_first(alloc: Global, count: usize) -> Result<Queue, AllocError> {
+    let mut queue = filled(alloc)?;
+    drop_some(&mut queue, count);
+    Ok(queue)
+}
+
+/// Whether the item is these rows of the instant 2.
+fn are_rows(item: &Item, rows: &[(bool, [Option<i64>; 3])]) -> bool {
+    match item {
+        Item::Rows(at, batch) => *at == 2 && shows(batch, rows),
+        Item::Tick(_) => false,
+    }
+}
+
+/// Whether two rows and ticks are left behind the first three, of which the first is the row 6.
+fn six_is_left(alloc: Global) -> Result<bool, AllocError> {
+    let queue = without_first(alloc, 3)?;
+    if queue.len() != 2 || queue.front() != Some(Front::Row(2)) {
+        return Ok(false);
+    }
+    let item = queue.front_cut(alloc, 9)?;
+    Ok(are_rows(&item, &[(false, [Some(6), None, None])]))
+}
+
+/// Whether three, then two, and then no more leave the filled queue.
+fn all_leave(alloc: Global) -> Result<bool, AllocError> {
+    let mut queue = filled(alloc)?;
+    let (three, two) = (drop_some(&mut queue, 3), drop_some(&mut queue, 2));
+    Ok(three && two && queue.is_empty() && !drop_some(&mut queue, 1))
+}
+
 #[test]
 fn rows_and_ticks_leave_from_the_front(rt: HostRuntime) -> Result<(), Fail> {
-    let mut queue = filled(rt.alloc())?;
-    assert_eq!(rt;
-        (queue.len(), queue.pieces(), queue.front()),
-        (5, 3, Some(Front::Tick(0)))
-    );
-    assert!(rt; drop_some(&mut queue, 3));
-    assert_eq!(rt; (queue.len(), queue.front()), (2, Some(Front::Row(2))));
-    let (at, batch) = front_rows(rt.alloc(), &queue, 9)?.ok_or("no row")?;
-    assert!(rt; at == 2 && shows(&batch, &[(false, [Some(6), None, None])]));
-    assert!(rt; drop_some(&mut queue, 2) && queue.is_empty() && !drop_some(&mut queue, 1));
+    assert!(rt; five_wait(rt.alloc())?);
+    assert!(rt; six_is_left(rt.alloc())?);
+    assert!(rt; all_leave(rt.alloc())?);
     Ok(())
 }
 
@@ -93,41 +91,58 @@ fn closed(alloc: Global) -> Result<Log, AllocError> {
     Ok(log)
 }
 
-/// What stands at a cursor's front once the first one has left.
-fn after_one(cursor: Cursor, log: &Log) -> Option<Front>
+/// Whether a cursor sees so many rows and ticks, and has this at its front once the first one has left.
+fn sees(cursor: Cursor, log: &Log, count: u128, front: Front) -> bool
     requires { IsWithin cursor log.now }
 {
     let mut cursor = cursor;
-    if cursor.len(log) == 0 {
-        return None;
+    if cursor.len(log) != count || count == 0 {
+        return false;
     }
     cursor.drop_front(log, 1);
-    cursor.front(log)
+    cursor.front(log) == Some(front)
+}
+
+/// The first instant of the log that is open, and how many rows it has.
+fn log_size(alloc: Global) -> Result<(u64, usize), AllocError> {
+    let log = closed(alloc)?;
+    Ok((log.until(), log.len()))
+}
+
+/// Whether a query that was registered after so many rows sees so much of the log.
+fn sees_after(alloc: Global, place: u64, count: u128, front: Front) -> Result<bool, AllocError> {
+    let log = closed(alloc)?;
+    Ok(sees(Cursor::new(place, 0), &log, count, front))
 }
 
 #[test]
 fn a_cursor_shows_its_own_rows_alone(rt: HostRuntime) -> Result<(), Fail> {
-    let log = closed(rt.alloc())?;
-    assert_eq!(rt; (log.until(), log.len()), (4, 1));
-    assert_eq!(rt;
-        (Cursor::new(0, 0).len(&log), Cursor::new(1, 0).len(&log)),
-        (5, 4)
-    );
-    assert_eq!(rt; after_one(Cursor::new(0, 0), &log), Some(Front::Row(1)));
-    assert_eq!(rt; after_one(Cursor::new(1, 0), &log), Some(Front::Tick(1)));
+    assert_eq!(rt; log_size(rt.alloc())?, (4, 1));
+    assert!(rt; sees_after(rt.alloc(), 0, 5, Front::Row(1))?);
+    assert!(rt; sees_after(rt.alloc(), 1, 4, Front::Tick(1))?);
     Ok(())
+}
+
+/// Whether the item has just the row 5, at the instant 1.
+fn is_five(item: &Item) -> bool {
+    match item {
+        Item::Rows(at, batch) => *at == 1 && shows(batch, &[(true, [Some(5), None, None])]),
+        Item::Tick(_) => false,
+    }
+}
+
+fn five_comes(alloc: Global) -> Result<bool, AllocError> {
+    let log = closed(alloc)?;
+    let cursor = Cursor::new(0, 1);
+    if cursor.len(&log) != 4 {
+        return Ok(false);
+    }
+    let item = cursor.front_cut(alloc, &log, 9)?;
+    Ok(is_five(&item))
 }
 
 #[test]
 fn a_cursor_gives_its_rows(rt: HostRuntime) -> Result<(), Fail> {
-    let log = closed(rt.alloc())?;
-    let cursor = Cursor::new(0, 1);
-    assert_eq!(rt; cursor.len(&log), 4);
-    match cursor.front_cut(rt.alloc(), &log, 9)? {
-        Item::Rows(at, batch) => assert!(rt;
-            at == 1 && shows(&batch, &[(true, [Some(5), None, None])])
-        ),
-        Item::Tick(_) => assert!(rt; false),
-    }
+    assert!(rt; five_comes(rt.alloc())?);
     Ok(())
 }

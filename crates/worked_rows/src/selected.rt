@@ -1,86 +1,127 @@
 //! Worked rows through Select and Project.
-ghost use Rattle.std.specs.Prelude.{◌≡◌, ◌≤◌, IfOk, length};
+ghost use Rattle.std.specs.Prelude.{◌≡◌, IfOk};
 ghost use Rattle.column.specs.Rows.{width};
 
-use column::{Batch, SignedRow};
+use crate::rows::{NULL, two};
+use column::Batch;
 use lane_kernels::{Comparison, Step};
 use op_queue::Item;
 use row_nodes::{project, select, steps};
 use std::alloc::{AllocError, Global};
 use std::test::Fail;
-use values::{Column, Compare, Condition, Operand, Row, Value};
-
-fn signed_row(enters: bool, a: Value, b: Value) -> SignedRow
-    ensures { length result.row.items ≡ 2 }
-{
-    let mut row = Row::new();
-    row.push(a);
-    row.push(b);
-    SignedRow { enters, row }
-}
+use values::{Column, Compare, Condition, Operand};
 
 /// The rows (7, 70), which enters, (null, 80), and (9, 90), which leaves.
 fn three(alloc: Global) -> Result<Batch, AllocError>
     ensures { IfOk result (λ b. width b ≡ 2) }
 {
-    let rows = [
-        signed_row(true, Value::clamped(7), Value::clamped(70)),
-        signed_row(true, Value::null(), Value::clamped(80)),
-        signed_row(false, Value::clamped(9), Value::clamped(90)),
-    ];
-    let batch = Batch::from_rows(alloc, &rows)?;
-    Ok(batch)
+    let rows = [two(true, 7, 70), two(true, NULL, 80), two(false, 9, 90)];
+    Batch::from_rows(alloc, &rows)
+}
+
+/// What Select puts out for the three rows of the instant 4, where the first column is to be above a number.
+fn rows_above(alloc: Global, number: i64) -> Result<Vec<Item>, AllocError> {
+    let item = Item::Rows(4, three(alloc)?);
+    select(
+        alloc,
+        &[Step::Number(0, Comparison::Greater, number)],
+        &item,
+    )
+}
+
+/// Whether the first item has so many rows of an instant, with these words of their signs.
+fn is_first(items: &[Item], instant: u64, count: usize, leaving: &[u64]) -> bool {
+    match items.first() {
+        Some(Item::Rows(at, batch)) => {
+            *at == instant && batch.len() == count && batch.leaving_words() == leaving
+        }
+        _ => false,
+    }
+}
+
+fn two_are_above_five(alloc: Global) -> Result<bool, AllocError> {
+    let items = rows_above(alloc, 5)?;
+    Ok(is_first(&items, 4, 2, &[2]))
 }
 
 #[test]
 fn the_unknown_is_left_out_and_signs_stay(rt: HostRuntime) -> Result<(), Fail> {
-    let item = Item::Rows(4, three(rt.alloc())?);
-    let above = [Step::Number(0, Comparison::Greater, 5)];
-    match select(rt.alloc(), &above, &item)?.first() {
-        Some(Item::Rows(at, batch)) => {
-            assert_eq!(rt; (*at, batch.len()), (4, 2));
-            assert_eq!(rt; batch.leaving_words(), [2].as_slice());
-        },
-        _ => assert!(rt; false),
-    }
+    assert!(rt; two_are_above_five(rt.alloc())?);
     Ok(())
+}
+
+fn none_is_above_nine(alloc: Global) -> Result<bool, AllocError> {
+    let items = rows_above(alloc, 9)?;
+    Ok(items.is_empty())
+}
+
+fn tick_passes(alloc: Global) -> Result<bool, AllocError> {
+    let items = select(
+        alloc,
+        &[Step::Number(0, Comparison::Greater, 9)],
+        &Item::Tick(4),
+    )?;
+    Ok(matches!(items.first(), Some(Item::Tick(4))))
 }
 
 #[test]
 fn no_empty_batch_is_put_out_and_ticks_pass(rt: HostRuntime) -> Result<(), Fail> {
-    let item = Item::Rows(4, three(rt.alloc())?);
-    let above = [Step::Number(0, Comparison::Greater, 9)];
-    assert!(rt; select(rt.alloc(), &above, &item)?.is_empty());
-    let ticks = select(rt.alloc(), &above, &Item::Tick(4))?;
-    assert!(rt; matches!(ticks.first(), Some(Item::Tick(4))));
+    assert!(rt; none_is_above_nine(rt.alloc())?);
+    assert!(rt; tick_passes(rt.alloc())?);
     Ok(())
+}
+
+/// What Project puts out for the three rows, with their columns turned.
+fn turned_columns(alloc: Global) -> Result<Vec<Item>, AllocError> {
+    let item = Item::Rows(4, three(alloc)?);
+    project(alloc, &[1, 0], &item)
+}
+
+/// Whether the first item has two columns, of these numbers.
+fn has_columns(items: &[Item], first: &[i64], second: &[i64]) -> bool {
+    match items.first() {
+        Some(Item::Rows(_, batch)) if batch.width() == 2 => {
+            batch.column(0).numbers() == first && batch.column(1).numbers() == second
+        }
+        _ => false,
+    }
+}
+
+fn columns_are_turned(alloc: Global) -> Result<bool, AllocError> {
+    let items = turned_columns(alloc)?;
+    Ok(has_columns(&items, &[70, 80, 90], &[7, 0, 9]))
 }
 
 #[test]
 fn columns_go_by_the_list(rt: HostRuntime) -> Result<(), Fail> {
-    let item = Item::Rows(4, three(rt.alloc())?);
-    match project(rt.alloc(), &[1, 0], &item)?.first() {
-        Some(Item::Rows(_, batch)) if batch.width() == 2 => {
-            assert_eq!(rt; batch.column(0).numbers(), [70, 80, 90].as_slice());
-            assert_eq!(rt; batch.column(1).numbers(), [7, 0, 9].as_slice());
-        },
-        _ => assert!(rt; false),
-    }
+    assert!(rt; columns_are_turned(rt.alloc())?);
     Ok(())
 }
 
-#[test]
-fn a_number_on_the_left_turns_the_comparison(rt: HostRuntime) -> Result<(), Fail> {
-    let alloc = rt.alloc();
+/// The steps of `Not (5 < a)`.
+fn turned_steps(alloc: Global) -> Result<Vec<Step>, AllocError> {
     let a = Operand::Field(Column {
         source: 0,
         column: 0,
     });
     let below = Condition::Compared(Operand::Number(5), Compare::Below, a);
     let condition = Condition::Not(Box::new(alloc, below)?);
-    let found = steps(alloc, &condition)?;
-    assert_eq!(rt; found.len(), 2);
-    assert!(rt; matches!(found.first(), Some(Step::Number(0, Comparison::Greater, 5))));
-    assert!(rt; matches!(found.last(), Some(Step::Not)));
+    steps(alloc, &condition)
+}
+
+fn are_turned(found: &[Step]) -> bool {
+    found.len() == 2
+        && matches!(found.first(), Some(Step::Number(0, Comparison::Greater, 5)))
+        && matches!(found.last(), Some(Step::Not))
+}
+
+fn comparison_is_turned(alloc: Global) -> Result<bool, AllocError> {
+    let found = turned_steps(alloc)?;
+    Ok(are_turned(&found))
+}
+
+#[test]
+fn a_number_on_the_left_turns_the_comparison(rt: HostRuntime) -> Result<(), Fail> {
+    assert!(rt; comparison_is_turned(rt.alloc())?);
     Ok(())
 }

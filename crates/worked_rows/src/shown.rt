@@ -1,67 +1,118 @@
 //! Worked rows through the windows.
 ghost use Rattle.std.specs.Prelude.{◌≡◌, IfOk, length};
 ghost use Rattle.column.specs.Rows.{width};
+ghost use Rattle.windows.specs.Widths.{IsItemWide};
 
-use column::{Batch, SignedRow};
+use crate::rows::one;
+use column::Batch;
 use op_queue::Item;
 use std::alloc::{AllocError, Global};
-use std::test::*;
-use values::{Row, Value};
+use std::test::Fail;
 use windows::{LatestWindow, RangeWindow, latest_work, range_work};
 
-fn entering(number: i64) -> SignedRow
-    ensures { length result.row.items ≡ 1 }
-{
-    let mut row = Row::new();
-    row.push(Value::clamped(number as i128));
-    SignedRow { enters: true, row }
-}
-
-/// Rows of one number at an instant.
-fn rows(alloc: Global, first: i64, second: i64) -> Result<Batch, AllocError>
+/// The rows 7 and 8.
+fn pair(alloc: Global) -> Result<Batch, AllocError>
     ensures { IfOk result (λ b. width b ≡ 1) }
 {
-    let rows = [entering(first), entering(second)];
-    let batch = Batch::from_rows(alloc, &rows)?;
-    Ok(batch)
+    let rows = [one(true, 7), one(true, 8)];
+    Batch::from_rows(alloc, &rows)
+}
+
+/// The window of the current instant that holds the two rows of the instant 1.
+fn range_window(alloc: Global) -> Result<RangeWindow, AllocError>
+    ensures { IfOk result (λ w. w.width ≡ 1) }
+{
+    let item = Item::Rows(1, pair(alloc)?);
+    let mut window = RangeWindow::new(alloc, Some(0), 1);
+    window.apply(&item, 0)?;
+    Ok(window)
+}
+
+/// What the window puts out at the tick 2, and how many rows it drops.
+fn ticked(alloc: Global, window: &RangeWindow) -> Result<(Vec<Item>, usize), AllocError> {
+    let tick = Item::Tick(2);
+    let near = window.near(alloc, &tick)?;
+    range_work(alloc, &tick, &near)
+}
+
+/// Whether the first of two items has rows of an instant, with these words of their signs.
+fn leave_first(items: &[Item], instant: u64, leaving: &[u64]) -> bool {
+    match items.first() {
+        Some(Item::Rows(at, batch)) => {
+            items.len() == 2 && *at == instant && batch.leaving_words() == leaving
+        }
+        _ => false,
+    }
+}
+
+fn two_rows_are_dropped(alloc: Global) -> Result<bool, AllocError> {
+    let window = range_window(alloc)?;
+    if window.len() != 2 {
+        return Ok(false);
+    }
+    let (items, dropped) = ticked(alloc, &window)?;
+    Ok(dropped == 2 && leave_first(&items, 2, &[3]))
 }
 
 #[test]
 fn the_tick_drops_the_older_rows(rt: HostRuntime) -> Result<(), Fail> {
-    let alloc = rt.alloc();
-    let mut window = RangeWindow::new(alloc, Some(0), 1);
-    window.apply(&Item::Rows(1, rows(alloc, 7, 8)?), 0)?;
-    assert_eq!(rt; window.len(), 2);
-    let tick = Item::Tick(2);
-    let near = window.near(alloc, &tick)?;
-    let (outs, leave) = range_work(alloc, &tick, &near)?;
-    assert_eq!(rt; (outs.len(), leave), (2, 2));
-    match outs.first() {
-        Some(Item::Rows(2, batch)) => {
-            assert_eq!(rt; batch.leaving_words(), [3].as_slice());
-        },
-        _ => assert!(rt; false),
-    }
+    assert!(rt; two_rows_are_dropped(rt.alloc())?);
     Ok(())
+}
+
+/// What the window of the last row puts out for an item.
+fn latest(alloc: Global, window: &LatestWindow, item: &Item) -> Result<Vec<Item>, AllocError>
+    requires { IsItemWide window.now.width item.now }
+{
+    let near = window.near(alloc, item)?;
+    latest_work(alloc, item, &near)
+}
+
+/// What the window of the last row, that holds none, puts out for the two rows of the instant 1.
+fn shown_rows(alloc: Global) -> Result<Vec<Item>, AllocError> {
+    let item = Item::Rows(1, pair(alloc)?);
+    let window = LatestWindow::new(alloc, Vec::new(alloc), 1, 1);
+    latest(alloc, &window, &item)
+}
+
+/// Whether the first item has one column of these numbers at the instant 1, with these words of their signs.
+fn is_shown(items: &[Item], numbers: &[i64], leaving: &[u64]) -> bool {
+    match items.first() {
+        Some(Item::Rows(1, batch)) if batch.width() == 1 => {
+            batch.column(0).numbers() == numbers && batch.leaving_words() == leaving
+        }
+        _ => false,
+    }
+}
+
+fn the_first_falls_out(alloc: Global) -> Result<bool, AllocError> {
+    let items = shown_rows(alloc)?;
+    Ok(is_shown(&items, &[7, 8, 7], &[4]))
+}
+
+/// The window of the last row that has taken the two rows of the instant 1.
+fn latest_window(alloc: Global) -> Result<LatestWindow, AllocError> {
+    let item = Item::Rows(1, pair(alloc)?);
+    let mut window = LatestWindow::new(alloc, Vec::new(alloc), 1, 1);
+    window.apply(&item)?;
+    Ok(window)
+}
+
+/// Whether nothing falls out at the tick, which passes.
+fn tick_passes(alloc: Global) -> Result<bool, AllocError> {
+    let window = latest_window(alloc)?;
+    let tick = Item::Tick(1);
+    let near = window.near(alloc, &tick)?;
+    if !near.is_empty() {
+        return Ok(false);
+    }
+    let items = latest_work(alloc, &tick, &near)?;
+    Ok(items.len() == 1)
 }
 
 #[test]
 fn the_new_row_stands_before_the_one_that_falls_out(rt: HostRuntime) -> Result<(), Fail> {
-    let alloc = rt.alloc();
-    let mut window = LatestWindow::new(alloc, Vec::new(alloc), 1, 1);
-    let item = Item::Rows(1, rows(alloc, 7, 8)?);
-    let near = window.near(alloc, &item)?;
-    match latest_work(alloc, &item, &near)?.first() {
-        Some(Item::Rows(1, batch)) if batch.width() == 1 => {
-            assert_eq!(rt; batch.column(0).numbers(), [7, 8, 7].as_slice());
-            assert_eq!(rt; batch.leaving_words(), [4].as_slice());
-        },
-        _ => assert!(rt; false),
-    }
-    window.apply(&item)?;
-    let tick = Item::Tick(1);
-    let near = window.near(alloc, &tick)?;
-    assert!(rt; near.is_empty());
-    assert_eq!(rt; latest_work(alloc, &tick, &near)?.len(), 1);
+    assert!(rt; the_first_falls_out(rt.alloc())?);
+    assert!(rt; tick_passes(rt.alloc())?);
     Ok(())
 }

@@ -1,75 +1,92 @@
 //! Worked instants.
-ghost use Rattle.std.specs.Prelude.{◌≡◌, length};
-
-use column::{Batch, SignedRow};
+use crate::rows::{one, row};
+use column::Batch;
 use op_queue::Item;
 use std::alloc::{AllocError, Global};
-use std::test::*;
+use std::test::Fail;
 use to_stream::{ToStream, work};
-use values::{Operator, Row, Value, same_rows};
+use values::{Operator, Row, same_rows};
 
-fn row(number: i64) -> Row
-    ensures { length result.items ≡ 1 }
-{
-    let mut row = Row::new();
-    row.push(Value::clamped(number as i128));
-    row
+/// The row 7, and the row 5 that enters or leaves.
+fn pair(alloc: Global, enters: bool) -> Result<Batch, AllocError> {
+    let rows = [one(true, 7), one(enters, 5)];
+    Batch::from_rows(alloc, &rows)
 }
 
-/// A root of this operator that has taken the row 7, and the row 5 that enters or leaves.
+/// A root of this operator that has taken the pair.
 fn taken(alloc: Global, operator: Operator, enters: bool) -> Result<ToStream, AllocError> {
-    let rows = [
-        SignedRow {
-            enters: true,
-            row: row(7),
-        },
-        SignedRow {
-            enters,
-            row: row(5),
-        },
-    ];
-    let batch = Batch::from_rows(alloc, &rows)?;
+    let batch = pair(alloc, enters)?;
     let _few = batch.len();
+    let item = Item::Rows(3, batch);
     let mut root = ToStream::new(alloc, operator);
-    root.apply(&Item::Rows(3, batch))?;
+    root.apply(&item)?;
     Ok(root)
 }
 
-/// Whether the root answers the rows of these numbers at the tick 3.
-fn answers(alloc: Global, root: &ToStream, numbers: &[i64]) -> Result<bool, AllocError> {
+/// A root that has taken the pair and the tick of its instant.
+fn ticked(alloc: Global, operator: Operator, enters: bool) -> Result<ToStream, AllocError> {
+    let mut root = taken(alloc, operator, enters)?;
+    root.apply(&Item::Tick(3))?;
+    Ok(root)
+}
+
+/// What the root answers at the tick 3.
+fn answers(alloc: Global, root: &ToStream) -> Result<Vec<(u64, Row)>, AllocError> {
     let tick = Item::Tick(3);
     let near = root.near(alloc, &tick)?;
-    let answers = work(alloc, &tick, &near)?;
-    Ok(
-        answers.len() == numbers.len()
-            && answers.iter().zip(numbers).all(|(answer, number)| answer.0 == 3
-                && same_rows(&answer.1, &row(*number))),
-    )
+    work(alloc, &tick, &near)
+}
+
+/// Whether these are rows of one number at the instant 3.
+fn are(answers: &[(u64, Row)], numbers: &[i64]) -> bool {
+    for (answer, number) in answers.iter().zip(numbers) {
+        if answer.0 != 3 || !same_rows(&answer.1, &row(*number)) {
+            return false;
+        }
+    }
+    answers.len() == numbers.len()
+}
+
+fn shows(alloc: Global, root: &ToStream, numbers: &[i64]) -> Result<bool, AllocError> {
+    let answers = answers(alloc, root)?;
+    Ok(are(&answers, numbers))
+}
+
+fn first_shows(
+    alloc: Global,
+    operator: Operator,
+    enters: bool,
+    numbers: &[i64],
+) -> Result<bool, AllocError> {
+    let root = taken(alloc, operator, enters)?;
+    shows(alloc, &root, numbers)
+}
+
+fn next_shows(
+    alloc: Global,
+    operator: Operator,
+    enters: bool,
+    numbers: &[i64],
+) -> Result<bool, AllocError> {
+    let root = ticked(alloc, operator, enters)?;
+    shows(alloc, &root, numbers)
 }
 
 #[test]
 fn istream_answers_what_came(rt: HostRuntime) -> Result<(), Fail> {
-    let alloc = rt.alloc();
-    let mut root = taken(alloc, Operator::Istream, true)?;
-    let first = answers(alloc, &root, &[5, 7])?;
-    root.apply(&Item::Tick(3))?;
-    assert!(rt; first && answers(alloc, &root, &[])?);
+    assert!(rt; first_shows(rt.alloc(), Operator::Istream, true, &[5, 7])?);
+    assert!(rt; next_shows(rt.alloc(), Operator::Istream, true, &[])?);
     Ok(())
 }
 
 #[test]
 fn dstream_answers_what_left(rt: HostRuntime) -> Result<(), Fail> {
-    let alloc = rt.alloc();
-    let root = taken(alloc, Operator::Dstream, false)?;
-    assert!(rt; answers(alloc, &root, &[5])?);
+    assert!(rt; first_shows(rt.alloc(), Operator::Dstream, false, &[5])?);
     Ok(())
 }
 
 #[test]
 fn rstream_answers_the_whole(rt: HostRuntime) -> Result<(), Fail> {
-    let alloc = rt.alloc();
-    let mut root = taken(alloc, Operator::Rstream, true)?;
-    root.apply(&Item::Tick(3))?;
-    assert!(rt; answers(alloc, &root, &[5, 7])?);
+    assert!(rt; next_shows(rt.alloc(), Operator::Rstream, true, &[5, 7])?);
     Ok(())
 }

@@ -5,6 +5,7 @@ ghost use Rattle.column.specs.Bits.{word_count};
 use crate::samples::*;
 use column::Column;
 use lane_kernels::*;
+use std::alloc::{AllocError, Global};
 use std::test::Fail;
 
 /// The truth words of nine values above 5, and of its negation.
@@ -18,11 +19,16 @@ fn above_five(column: &Column) -> (u64, u64, u64, u64)
     (truth[0], known[0], not_truth[0], not_known[0])
 }
 
+/// The words of the numbers 1 to 9, with a null at a place.
+fn nine_above_five(alloc: Global, null_at: usize) -> Result<(u64, u64, u64, u64), AllocError> {
+    let column = counted(alloc, 9, null_at)?;
+    Ok(above_five(&column))
+}
+
 #[test]
 fn nine_values_compared_and_negated(rt: HostRuntime) -> Result<(), Fail> {
-    let (all, with_null) = (counted(rt.alloc(), 9, 9)?, counted(rt.alloc(), 9, 8)?);
-    assert_eq!(rt; above_five(&all), (480, 511, 31, 511));
-    assert_eq!(rt; above_five(&with_null), (224, 255, 31, 255));
+    assert_eq!(rt; nine_above_five(rt.alloc(), 9)?, (480, 511, 31, 511));
+    assert_eq!(rt; nine_above_five(rt.alloc(), 8)?, (224, 255, 31, 255));
     Ok(())
 }
 
@@ -50,10 +56,16 @@ fn sum_in_range(column: &Column, minus: &[u64]) -> Option<i64>
     }
 }
 
+/// The sum of the numbers 1 to 9, with a null at a place and the first taken away.
+fn nine_summed(alloc: Global, null_at: usize) -> Result<Option<i64>, AllocError> {
+    let column = counted(alloc, 9, null_at)?;
+    Ok(sum_in_range(&column, &[1]))
+}
+
 #[test]
 fn nine_values_summed(rt: HostRuntime) -> Result<(), Fail> {
-    assert_eq!(rt; sum_in_range(&counted(rt.alloc(), 9, 9)?, &[1]), Some(43));
-    assert_eq!(rt; sum_in_range(&counted(rt.alloc(), 9, 8)?, &[1]), Some(34));
+    assert_eq!(rt; nine_summed(rt.alloc(), 9)?, Some(43));
+    assert_eq!(rt; nine_summed(rt.alloc(), 8)?, Some(34));
     Ok(())
 }
 
@@ -67,22 +79,6 @@ fn sum_agrees(column: &Column, count: usize) -> bool
     sum_in_range(column, minus) == Some(plain_sum(column, minus))
 }
 
-#[test]
-fn sums_and_counts_of_any_length(rt: HostRuntime) -> Result<(), Fail> {
-    for count in LENGTHS {
-        let count = count.min(1024);
-        let column = samples(rt.alloc(), count, 7)?;
-        assert!(rt; sum_agrees(&column, count), "at {count}");
-        assert_eq!(rt;
-            count_set(column.valid_words()),
-            plain_count(column.valid_words()),
-            "at {count}"
-        );
-    }
-    assert_eq!(rt; count_set(&[480, 511]), 13);
-    Ok(())
-}
-
 /// How many of the bits are set.
 fn plain_count(words: &[u64]) -> u32 {
     let mut total = 0u32;
@@ -92,4 +88,30 @@ fn plain_count(words: &[u64]) -> u32 {
         }
     }
     total
+}
+
+/// Whether the sum, and then whether the count, of so many samples is that of a plain loop.
+fn sum_and_count_agree(alloc: Global, count: usize) -> Result<(bool, bool), AllocError>
+    requires { count ≤ 1024 }
+{
+    let column = samples(alloc, count, 7)?;
+    let words = column.valid_words();
+    Ok((
+        sum_agrees(&column, count),
+        count_set(words) == plain_count(words),
+    ))
+}
+
+#[test]
+fn sums_and_counts_of_any_length(rt: HostRuntime) -> Result<(), Fail> {
+    for count in LENGTHS {
+        let count = count.min(1024);
+        assert_eq!(rt;
+            sum_and_count_agree(rt.alloc(), count)?,
+            (true, true),
+            "at {count}"
+        );
+    }
+    assert_eq!(rt; count_set(&[480, 511]), 13);
+    Ok(())
 }

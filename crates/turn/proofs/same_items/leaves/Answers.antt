@@ -1,4 +1,4 @@
-use Rattle.std.proofs.Common.{arith, not, length, get_or, sym, ◌/◌}
+use Rattle.std.proofs.Common.{arith, not, get_or, sym, ◌/◌}
 use Rattle.std.proofs.lemmas.Grind.{get_or_default_zero}
 use Rattle.std.proofs.lemmas.List.{length-map}
 use Rattle.column.proofs.BitLemmas.{truth_read}

@@ -1,6 +1,4 @@
-use Rattle.std.proofs.Common.{◌≡◌, ◌∙◌, ap, map, sym}
-use Rattle.join.specs.Turns.{Matches, excerpt_of}
-use Rattle.windows.specs.Widths.{rows_of}
+use Rattle.std.proofs.Common.{sym}
 use Rattle.turn.proofs.SameLemmas.{same_matches_is}
 use Rattle.turn.proofs.same_rows.same_met.Goals as goal
 

@@ -1,0 +1,1 @@
+void operator_bench_known(void) {}

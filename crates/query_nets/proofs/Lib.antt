@@ -29,3 +29,8 @@ pub mod WindowSteps
 pub mod NodeLemmas
 pub mod RowLemmas
 pub mod LeaseLemmas
+pub mod PlanWidths
+pub mod BeginLemmas
+pub mod StartLemmas
+pub mod OtherLemmas
+pub mod NewestLemmas

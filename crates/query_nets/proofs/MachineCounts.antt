@@ -40,7 +40,7 @@ use Rattle.query_nets.specs.Machines.{IsMachine, IsQuery, IsStream, MachinesStan
 -- STREAMS after a command
 
 -- one of the list is changed
-each_changed : {X : Type 0} (P : X → Type 0) (f : X → X) (n : ℕ) (xs : List X) → ((x : X) → slice_get xs n ≡ Some x → P x → P (f x)) → AllByRecursion P xs
+pub each_changed : {X : Type 0} (P : X → Type 0) (f : X → X) (n : ℕ) (xs : List X) → ((x : X) → slice_get xs n ≡ Some x → P x → P (f x)) → AllByRecursion P xs
     → AllByRecursion P (change n f xs)
 each_changed P f n [] g h = tt
 each_changed P f zero (x ∷ xs) g h = (g x refl h.0, h.1)
@@ -221,7 +221,7 @@ found_query m given name q good None e f h =
     ok_same : (g f : Found) → ◌≡◌ {A = Result Found QueryFault} (Ok g) (Ok f) → g ≡ f
     ok_same g f h = cc
 
-text_query : (m : Machine) (given : Option (List (ℤ × ℤ))) (name source : List ℕ) (r : Result syntax.Query text.Fault) → reading source ≡ r → (f : Found)
+pub text_query : (m : Machine) (given : Option (List (ℤ × ℤ))) (name source : List ℕ) (r : Result syntax.Query text.Fault) → reading source ≡ r → (f : Found)
     → found_of (catalog_of m.streams) given r ≡ Ok f → IsQuery m.streams (registered_as m name f)
 unfolding found_by
 text_query m given name source (Err fault) e f h = cc

@@ -10,3 +10,4 @@ pub mod Examples
 pub mod Laws
 pub mod Rows
 pub mod Leases
+pub mod Registrations

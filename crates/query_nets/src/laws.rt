@@ -10,7 +10,9 @@ ghost use Rattle.query_nets.specs.Roots.{RootMay, RootStep};
 ghost use Rattle.query_nets.specs.Machines.{IsMachine, MachinesStand, QueriesStand};
 ghost use Rattle.query_nets.specs.Rows.{RowsStand};
 ghost use Rattle.query_nets.specs.Leases.{LeasesStandFirst};
-ghost use Rattle.query_nets.specs.Laws.{GivesItsAnswers, RootsRun, RunsOnAtAppends, RunsOnAtHeartbeats, TurnsRun};
+ghost use Rattle.nets.specs.Laws.{Stands};
+ghost use Rattle.query_nets.specs.Registrations.{IsFit, RegistrationsStand, Starts};
+ghost use Rattle.query_nets.specs.Laws.{GivesItsAnswers, RootsRun, RunsOnAsTaken, RunsOnAtAppends, RunsOnAtHeartbeats, RunsOnAtOthers, TurnsRun};
 
 /// A window may take whatever stands first in its queue, and a finished turn with it is a turn of a net: it puts out the rows
 /// that came, and with minus those that it no longer shows, and then its state stands for the elements that it holds.
@@ -115,4 +117,23 @@ pub fn rows_stand()
 /// before its turn is finished.
 pub fn leases_stand_first()
     ensures { LeasesStandFirst }
+{}
+
+/// A query of a plan whose columns are there, over sources with a column or more each and at most 16 together, may have its operators made,
+/// and as they are made they run: they have given nothing, and nothing of its streams counts for it.
+pub fn queries_start()
+    ensures { (vs : List ℕ) (m : Machine) (q : Registered) → IsFit vs q.meaning → Stands vs m q → Starts vs m q }
+{}
+
+/// Any other command leaves it running too: it changes no stream that is there. So does what it says of the query itself, that answers
+/// were taken, or that it was dropped.
+pub fn other_commands_keep_queries_running()
+    ensures others { (vs : List ℕ) (ws : List ℕ) (m : Machine) (q : Registered) → RunsOnAtOthers vs ws m q }
+    ensures taken { (vs : List ℕ) (ws : List ℕ) (m : Machine) (q : Registered) → RunsOnAsTaken vs ws m q }
+{}
+
+/// A query that the machine accepts runs the plan of what its text means, over streams of 1 to 8 columns each. Nothing that came before
+/// counts for it, and its first instant lies above all that is closed.
+pub fn registrations_stand()
+    ensures { RegistrationsStand }
 {}

@@ -52,6 +52,8 @@ use Rattle.nets.proofs.PlanLemmas.{Shaped}
 use Rattle.nets.proofs.StartLemmas.{machine_starts}
 use Rattle.query_nets.specs.Counts.{AreFew, count, most_rows}
 use Rattle.query_nets.specs.Queries.{HasInboxes, IsRunning, RunsAt, RunsAtRoot, log_at, no_operator, node_at, operator_at, place_of, stream_log}
+use Rattle.query_nets.specs.Machines.{columns_of, widths_of}
+use Rattle.query_nets.specs.Rows.{AreSourceWidths}
 use Rattle.query_nets.specs.Registrations.{IsCoded, IsFit, IsFresh, IsTextWindow, MayMake, Starts, lengths_of}
 use Rattle.query_nets.specs.Runs.{Runs, RunsRoot}
 use Rattle.query_nets.specs.Widths.{IsKindWide, IsWide, width_at}
@@ -328,6 +330,13 @@ module _ (vs : List ℕ) (m : Machine) (q : Registered) (fit : IsFit vs q.meanin
     makeable = λ k d l. makeable windows vs ws k (get_or nodes k d) text narrow_ws (fits_at d k l);
   }
 
+  source_widths : vs ≡ widths_of m.streams q → AreSourceWidths ws m q
+  source_widths e k s kc is =
+      let l : k < length nodes = omega (arith, kc, many) in
+      let f : FitsAt vs ws k (plan.Window s) = subst (FitsAt vs ws k) (sym (node_is (Source 0) k l) ∙ is) (fits_at (Source 0) k l) in
+      let low : s < length q.places = omega (arith, f.fits, stands.wide.places) in
+      f.width ∙ ap (λ l. get_or l s 0) e ∙ get_or-map (λ (p : Place). columns_of m.streams p.stream) q.places s (record { stream = 0; arrivals = 0 }) 0 low
+
   -- as they are made
   module _ (os : List PlainOperator) (fresh : IsFresh m q) (h : AreMade windows vs ws (lengths_of q) q.first nodes os) where
     abbrev any_node : Node
@@ -392,4 +401,4 @@ module _ (vs : List ℕ) (m : Machine) (q : Registered) (fit : IsFit vs q.meanin
     }
 
 pub queries_start : (vs : List ℕ) (m : Machine) (q : Registered) → IsFit vs q.meaning → nets.Stands vs m q → Starts vs m q
-queries_start vs m q f s = record { may = λ windows nodes c. may_make vs m q f s windows nodes c; runs = λ windows nodes os c fr h. runs_made vs m q f s windows nodes c os fr h }
+queries_start vs m q f s = record { may = λ windows nodes c. may_make vs m q f s windows nodes c; runs = λ windows nodes os c fr h. runs_made vs m q f s windows nodes c os fr h; reads = λ windows nodes c e. source_widths vs m q f s windows nodes c e }

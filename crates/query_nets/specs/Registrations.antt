@@ -79,6 +79,7 @@ pub record Starts (vs : List ℕ) (m : Machine) (q : Registered) : Type 0 where
   pub may : (windows : List Window) (nodes : List Node) → IsCoded windows nodes q → MayMake windows vs nodes
   pub runs : (windows : List Window) (nodes : List Node) (os : List PlainOperator) → IsCoded windows nodes q → IsFresh m q
       → AreMade windows vs (made.widths_of vs nodes) (lengths_of q) q.first nodes os → IsRunning vs (made.widths_of vs nodes) m q os []
+  pub reads : (windows : List Window) (nodes : List Node) → IsCoded windows nodes q → vs ≡ widths_of m.streams q → AreSourceWidths (made.widths_of vs nodes) m q
 
 -- THE STREAMS have 1 to 8 columns
 pub record HasColumnNames (s : Stream) : Type 0 where
@@ -100,3 +101,6 @@ pub record RegistrationsStand : Type 0 where
   pub newest : (m : Machine) (name source : List ℕ) (given : Option (List (ℤ × ℤ))) → first_fault m (Register name source given) ≡ None → IsMachine m → HaveRows m → IsNewest m name source given
   pub start : HaveColumnNames empty
   pub goes_on : (m : Machine) (c : Command) (count : ℕ) → first_fault m c ≡ None → HaveColumnNames m → HaveColumnNames (after m c count)
+  -- so the sources of a query have a column or more each, and at most 16 together
+  pub some : (m : Machine) (q : Registered) → HaveColumnNames m → IsQuery m.streams q → AllByRecursion (λ v. 0 < v) (widths_of m.streams q)
+  pub together : (m : Machine) (q : Registered) → HaveColumnNames m → IsQuery m.streams q → sum (widths_of m.streams q) ≤ 16

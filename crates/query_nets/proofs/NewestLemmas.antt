@@ -1,5 +1,5 @@
 -- The newest query: nothing of its streams counts for it yet.
-use Rattle.std.proofs.Common.{◌≡◌, ℕ, zero, suc, ◌+◌, ◌<◌, ◌≤◌, ◌&&◌, sum, cond, Bool, true, false, nat_le, max, not, Option, Some, None, List, [], ◌∷◌, ◌++◌, map, filter, length, get_or, refl, sym, ap, ap₂, ◌∙◌, subst, arith}
+use Rattle.std.proofs.Common.{◌≡◌, ℕ, zero, suc, ◌+◌, ◌<◌, ◌≤◌, ◌&&◌, sum, cond, Bool, true, false, nat_le, max, not, Option, None, List, [], ◌∷◌, ◌++◌, map, length, get_or, refl, ap, ◌∙◌, arith}
 use Rattle.std.specs.Prelude.{ℤ, Result, Ok, Err, slice_get, unwrap_or, nat_lt, ◌||◌, nat_abs}
 use Rattle.std.specs.List.{AllByRecursion, reduce, list_all, fold}
 use Rattle.std.specs.Option.{is_some, option_map_or}
@@ -7,16 +7,15 @@ use Rattle.std.proofs.lemmas.Bool.{lt-leb, leb-true, ltb-true}
 use Rattle.values.specs.Window.{Element, input_of}
 use Rattle.cql_reader.specs.Lexis.{is_name}
 use Rattle.names.specs.Faults.{first_of, has_repeat}
-use Rattle.reference.specs.Commands.{Append, Command, Declare, Drop, Found, Heartbeat, Register, Take, after, appended, are_columns, change, closed_to, count_undropped, first_fault, found, is_instant, place_at, query_tests, registered, registered_as}
-use Rattle.reference.specs.Machine.{Machine, Place, Registered, Stream, empty, first_for, input_at, opens, query_named, stream_named}
+use Rattle.reference.specs.Commands.{Append, Command, Declare, Drop, Found, Heartbeat, Register, Take, after, appended, are_columns, closed_to, count_undropped, first_fault, found, is_instant, place_at, query_tests, registered, registered_as}
+use Rattle.reference.specs.Machine.{Machine, Place, Stream, first_for, input_at, opens, query_named, stream_named}
 use Rattle.reference.specs.declared.fault.Fault.{Fault}
-use Rattle.reference.specs.declared.fault.Fault.TheVariants.{BadColumns, BadName, InstantRange, NameTaken, TooMany, Query}
+use Rattle.reference.specs.declared.fault.Fault.TheVariants.{BadColumns, BadName, InstantRange, NameTaken, TooMany}
 use Rattle.reference.specs.declared.fault.QueryFault.{QueryFault}
 use Rattle.reference.specs.declared.limits.TheConstants.{MAX_QUERIES, MAX_REGISTRATIONS, MAX_STREAMS, MAX_STREAM_COLUMNS}
 use Rattle.reference.proofs.StreamLemmas.{none_first, none_later}
-use Rattle.nets.specs.Plans.{inputs_of}
 use Rattle.std.proofs.lemmas.List.Sums.{sum_by-cons}
-use Rattle.query_nets.specs.Machines.{IsMachine, IsQuery, columns_of, widths_of}
+use Rattle.query_nets.specs.Machines.{IsMachine, columns_of, widths_of}
 use Rattle.query_nets.specs.Registrations.{HasColumnNames, HaveColumnNames, IsFresh, IsNewest, RegistrationsStand}
 use Rattle.query_nets.specs.Rows.{HasRows, HaveRows}
 use Rattle.query_nets.proofs.MachineCounts.{each_changed, text_query}

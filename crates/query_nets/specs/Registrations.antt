@@ -1,7 +1,6 @@
 -- A query at its registration: what its text and the machine's streams make sure of, so that the operators of its plan can be made, and run.
 use Rattle.std.specs.Prelude.{ℕ, ◌≡◌, ◌<◌, ◌≤◌, None, Ok, Option, Some, List, [], ℤ, length, map, sum, get_or}
 use Rattle.std.specs.List.{All, AllByRecursion}
-use Rattle.values.specs.Row.{Row}
 use Rattle.values.specs.Answers.{Resolved}
 use Rattle.values.specs.Condition.{Condition}
 use Rattle.values.specs.Relation.{Shape, Listed, Grouped}
@@ -14,9 +13,8 @@ use Rattle.plan.specs.Views.{nodes_of}
 use Rattle.plan.specs.declared.node.Node.{Node}
 use Rattle.compiled_plans.specs.Beginnings.{AreMade, HaveNarrowRows, IsMakeable}
 use Rattle.compiled_plans.specs.Beginnings as made
-use Rattle.reference.specs.Commands.{Command, Declare, Drop, Found, Register, Take, after, dropped, first_fault, found, registered_as, took}
+use Rattle.reference.specs.Commands.{Command, Found, Register, after, first_fault, found, registered_as}
 use Rattle.reference.specs.Machine.{Machine, Registered, Stream, empty, opens}
-use Rattle.nets.specs.Laws.{Stands}
 use Rattle.nets.specs.Plans.{inputs_of}
 use Rattle.query_nets.specs.Machines.{IsMachine, IsQuery, widths_of}
 use Rattle.query_nets.specs.Queries.{IsRunning}

@@ -1,47 +1,36 @@
 -- Operators at their beginning stand for the fresh cells of a net.
-use Rattle.std.proofs.Common.{◌≡◌, ℕ, zero, suc, ◌+◌, ◌-◌, ◌<◌, ◌≤◌, ◌==◌, Bool, true, false, cond, ◌&&◌, nat_lt, nat_le, max, Option, Some, None, List, [], ◌∷◌, ◌++◌, map, filter, flat_map, length, drop, get_or, refl, sym, ap, ap₂, ◌∙◌, subst, subst₂, arith, All}
+use Rattle.std.proofs.Common.{◌≡◌, ℕ, zero, suc, ◌+◌, ◌-◌, ◌<◌, ◌≤◌, ◌==◌, Bool, true, false, cond, ◌&&◌, nat_lt, nat_le, max, Some, List, [], ◌∷◌, ◌++◌, map, filter, flat_map, drop, get_or, refl, sym, ap, ap₂, ◌∙◌, subst, subst₂, arith, All}
 use Rattle.std.specs.List.{AllByRecursion, range_with_len}
 use Rattle.std.proofs.lemmas.Bool.{le-leb, leb-true, lt-ltb, eq-eqb}
-use Rattle.std.proofs.lemmas.List.{get_or-map, length-map}
-use Rattle.std.proofs.lemmas.List.FromFn.{length-map-range_with_len}
 use Rattle.values.specs.Row.{Row}
 use Rattle.values.specs.Condition.{Column, Condition, And, keeps, is_known_true}
-use Rattle.values.specs.Resolved.{columns_of, items_of, operator_of, window_of}
+use Rattle.values.specs.Resolved.{columns_of, window_of}
 use Rattle.values.specs.Window.{Element}
 use Rattle.values.specs.Window as shown
-use Rattle.values.specs.declared.resolved.Item as listed
 use Rattle.values.specs.declared.resolved.Operator.{Operator}
 use Rattle.values.specs.declared.resolved.Operator.TheVariants.{Istream, Dstream, Rstream}
 use Rattle.values.specs.declared.resolved.Window.{Window}
 use Rattle.values.specs.declared.resolved.Window.TheVariants as window
 use Rattle.values.proofs.Split.{keeps-and}
-use Rattle.column.specs.declared.batch.Side.TheVariants.{Left, Right}
-use Rattle.lane_kernels.specs.Steps.{StepsFit, steps_truth}
+use Rattle.lane_kernels.specs.Steps.{StepsFit}
 use Rattle.op_queue.specs.Entries.{Entry, RowAt, TickAt}
 use Rattle.op_queue.specs.Logs.{Closed, instant_entries, is_shown, log_entries, row_entries}
 use Rattle.op_queue.specs.Cursors.{cursor_entries}
 use Rattle.op_queue.specs.declared.cursor.Cursor.{Cursor}
 use Rattle.windows.specs.Latest.{LatestState}
-use Rattle.group.specs.Groups.{GroupBy, column_at, once_each}
-use Rattle.group.specs.Turns.{GroupState}
-use Rattle.group.specs.Turns as groups
-use Rattle.group.proofs.LawLemmas.{begins}
-use Rattle.join.specs.Turns as join
-use Rattle.row_nodes.specs.Steps.{IsOfOneSource, IsOver, OperandIsOfOne, OperandIsOver, truths_needed}
+use Rattle.group.specs.Groups.{column_at}
+use Rattle.row_nodes.specs.Steps.{IsOfOneSource, IsOver, OperandIsOfOne, OperandIsOver}
 use Rattle.row_nodes.proofs.StepLemmas.{whole_fits}
 use Rattle.turn.specs.declared.kinds.Kind.{Kind}
-use Rattle.turn.specs.declared.kinds.Kind.TheVariants as kind
-use Rattle.operators.specs.Inboxes.{entries_in, is_fed}
-use Rattle.operators.specs.Operators.{Belongs, PlainOperator, waiting}
+use Rattle.operators.specs.Operators.{Belongs}
 use Rattle.operators.specs.declared.inboxes.Inbox.{Inbox}
 use Rattle.operators.specs.declared.inboxes.Inbox.TheVariants.{First, Between}
 use Rattle.operators.specs.declared.states.State.{State}
-use Rattle.operators.specs.declared.states.State.TheVariants as state
 use Rattle.plan.specs.Build.{at}
 use Rattle.plan.specs.Nodes as plan
 use Rattle.plan.specs.Views.{columns_at}
 use Rattle.plan.proofs.Lists.{each-unmap}
-use Rattle.compiled_plans.specs.Beginnings.{LatestStarts, ReadsSource, WindowStarts, window_kind}
+use Rattle.compiled_plans.specs.Beginnings.{ReadsSource, WindowStarts, window_kind}
 use Rattle.compiled_plans.specs.Conjuncts.{all_steps, joined}
 use Rattle.compiled_plans.proofs.LawLemmas.{kinds_mean}
 use Rattle.nets.specs.Operators.{Tell}
@@ -50,7 +39,7 @@ use Rattle.query_nets.specs.Queries.{Reads}
 use Rattle.query_nets.specs.Registrations.{IsTextWindow}
 use Rattle.query_nets.specs.Runs.{IsSpare, WindowStands}
 use Rattle.query_nets.specs.Widths.{IsStateWide}
-use Rattle.query_nets.proofs.PlanWidths.{AreShort, NodeFits}
+use Rattle.query_nets.proofs.PlanWidths.{NodeFits}
 
 -- LISTS
 pub all_from : {X : Type 0} (P : X → Type 0) (xs : List X) → AllByRecursion P xs → All P xs

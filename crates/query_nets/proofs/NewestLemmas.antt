@@ -1,5 +1,5 @@
 -- The newest query: nothing of its streams counts for it yet.
-use Rattle.std.proofs.Common.{◌≡◌, ℕ, zero, suc, ◌<◌, ◌≤◌, ◌&&◌, cond, Bool, true, false, nat_le, max, not, Option, Some, None, List, [], ◌∷◌, ◌++◌, map, filter, length, get_or, refl, sym, ap, ap₂, ◌∙◌, subst, arith}
+use Rattle.std.proofs.Common.{◌≡◌, ℕ, zero, suc, ◌+◌, ◌<◌, ◌≤◌, ◌&&◌, sum, cond, Bool, true, false, nat_le, max, not, Option, None, List, [], ◌∷◌, ◌++◌, map, length, get_or, refl, ap, ◌∙◌, arith}
 use Rattle.std.specs.Prelude.{ℤ, Result, Ok, Err, slice_get, unwrap_or, nat_lt, ◌||◌, nat_abs}
 use Rattle.std.specs.List.{AllByRecursion, reduce, list_all, fold}
 use Rattle.std.specs.Option.{is_some, option_map_or}
@@ -7,15 +7,15 @@ use Rattle.std.proofs.lemmas.Bool.{lt-leb, leb-true, ltb-true}
 use Rattle.values.specs.Window.{Element, input_of}
 use Rattle.cql_reader.specs.Lexis.{is_name}
 use Rattle.names.specs.Faults.{first_of, has_repeat}
-use Rattle.reference.specs.Commands.{Append, Command, Declare, Drop, Found, Heartbeat, Register, Take, after, appended, are_columns, change, closed_to, count_undropped, first_fault, found, is_instant, place_at, query_tests, registered, registered_as}
-use Rattle.reference.specs.Machine.{Machine, Place, Registered, Stream, empty, first_for, input_at, opens, query_named, stream_named}
+use Rattle.reference.specs.Commands.{Append, Command, Declare, Drop, Found, Heartbeat, Register, Take, after, appended, are_columns, closed_to, count_undropped, first_fault, found, is_instant, place_at, query_tests, registered, registered_as}
+use Rattle.reference.specs.Machine.{Machine, Place, Stream, first_for, input_at, opens, query_named, stream_named}
 use Rattle.reference.specs.declared.fault.Fault.{Fault}
-use Rattle.reference.specs.declared.fault.Fault.TheVariants.{BadColumns, BadName, InstantRange, NameTaken, TooMany, Query}
+use Rattle.reference.specs.declared.fault.Fault.TheVariants.{BadColumns, BadName, InstantRange, NameTaken, TooMany}
 use Rattle.reference.specs.declared.fault.QueryFault.{QueryFault}
 use Rattle.reference.specs.declared.limits.TheConstants.{MAX_QUERIES, MAX_REGISTRATIONS, MAX_STREAMS, MAX_STREAM_COLUMNS}
 use Rattle.reference.proofs.StreamLemmas.{none_first, none_later}
-use Rattle.nets.specs.Plans.{inputs_of}
-use Rattle.query_nets.specs.Machines.{IsMachine, IsQuery}
+use Rattle.std.proofs.lemmas.List.Sums.{sum_by-cons}
+use Rattle.query_nets.specs.Machines.{IsMachine, columns_of, widths_of}
 use Rattle.query_nets.specs.Registrations.{HasColumnNames, HaveColumnNames, IsFresh, IsNewest, RegistrationsStand}
 use Rattle.query_nets.specs.Rows.{HasRows, HaveRows}
 use Rattle.query_nets.proofs.MachineCounts.{each_changed, text_query}
@@ -128,5 +128,41 @@ columns_stand m (Heartbeat n at) count e h = each_changed HasColumnNames (closed
 columns_stand m (Take n limit) count e h = h
 columns_stand m (Drop n) count e h = h
 
+-- THE SOURCES of a query
+columns_here : (ss : List Stream) (n : ℕ) → AllByRecursion HasColumnNames ss → n < length ss → (0 < columns_of ss n) × (columns_of ss n ≤ 8)
+columns_here [] n h l = absurd (omega (arith, l))
+columns_here (s ∷ ss) zero h l = (h.0.some, h.0.few)
+columns_here (s ∷ ss) (suc n) h l = columns_here ss n h.1 (omega (arith, l))
+
+each_some : (ss : List Stream) (ps : List Place) → AllByRecursion HasColumnNames ss → AllByRecursion (λ p. p.stream < length ss) ps → AllByRecursion (λ v. 0 < v) (map (λ p. columns_of ss p.stream) ps)
+each_some ss [] h k = tt
+each_some ss (p ∷ ps) h k = ((columns_here ss p.stream h k.0).0, each_some ss ps h k.1)
+
+each_few : (ss : List Stream) (ps : List Place) → AllByRecursion HasColumnNames ss → AllByRecursion (λ p. p.stream < length ss) ps → AllByRecursion (λ v. v ≤ 8) (map (λ p. columns_of ss p.stream) ps)
+each_few ss [] h k = tt
+each_few ss (p ∷ ps) h k = ((columns_here ss p.stream h k.0).1, each_few ss ps h k.1)
+
+sum_few : (vs : List ℕ) → AllByRecursion (λ v. v ≤ 8) vs → length vs ≤ 2 → sum vs ≤ 16
+sum_few [] h l = omega arith
+sum_few (u ∷ []) h l =
+    let e : sum (u ∷ []) ≡ u + sum [] = sum_by-cons (λ x. x) u [] in
+    let f : u ≤ 8 = h.0 in
+    let z : sum [] ≡ 0 = refl in
+    omega (arith, e, f, z)
+sum_few (u ∷ v ∷ []) h l =
+    let e : sum (u ∷ v ∷ []) ≡ u + sum (v ∷ []) = sum_by-cons (λ x. x) u (v ∷ []) in
+    let e2 : sum (v ∷ []) ≡ v + sum [] = sum_by-cons (λ x. x) v [] in
+    let f : u ≤ 8 = h.0 in
+    let g : v ≤ 8 = h.1.0 in
+    let z : sum [] ≡ 0 = refl in
+    omega (arith, e, e2, f, g, z)
+sum_few (u ∷ v ∷ x ∷ vs) h l = absurd (omega (arith, l))
+
 pub registrations_stand : RegistrationsStand
-registrations_stand = record { newest = newest; start = tt; goes_on = columns_stand }
+registrations_stand = record {
+  newest = newest;
+  start = tt;
+  goes_on = columns_stand;
+  some = λ m q h i. each_some m.streams q.places h i.known;
+  together = λ m q h i. sum_few (widths_of m.streams q) (each_few m.streams q.places h i.known) i.few;
+}

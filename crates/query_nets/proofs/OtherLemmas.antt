@@ -1,5 +1,5 @@
 -- A running query after a command that leaves the streams which it reads.
-use Rattle.std.proofs.Common.{◌≡◌, ℕ, zero, suc, ◌+◌, ◌-◌, ◌<◌, ◌≤◌, Option, Some, None, List, [], ◌∷◌, ◌++◌, map, length, get_or, refl, sym, ap, ap₂, ◌∙◌, subst, subst₂, arith}
+use Rattle.std.proofs.Common.{◌≡◌, ℕ, zero, suc, ◌-◌, ◌<◌, List, [], ◌∷◌, ◌++◌, length, refl, sym, ap, subst, subst₂, arith}
 use Rattle.std.specs.Prelude.{Result, Ok, Err, slice_get, nat_abs}
 use Rattle.std.specs.List.{AllByRecursion}
 use Rattle.std.specs.Option.{option_map_or}
@@ -20,13 +20,12 @@ use Rattle.reference.specs.declared.fault.QueryFault.{QueryFault}
 use Rattle.stream_store.specs.Closing.{closed_of}
 use Rattle.nets.specs.Laws as nets
 use Rattle.nets.specs.Laws.{IsGood}
-use Rattle.nets.specs.Nets.{Cell, World}
+use Rattle.nets.specs.Nets.{Cell}
 use Rattle.nets.specs.Operators.{net_of}
 use Rattle.nets.specs.Plans.{below_root, inputs_of, value_in, world_by, world_of}
 use Rattle.nets.specs.Queries.{GoodQuery}
 use Rattle.query_nets.specs.Counts.{AreFew, StaysWithin, most_rows}
 use Rattle.query_nets.specs.Laws.{LeavesStreams, RunsOnAsTaken, RunsOnAtOthers}
-use Rattle.query_nets.specs.Machines.{IsQuery}
 use Rattle.query_nets.specs.Queries.{HasInboxes, IsLeftInbox, IsRunning, RunsAt, log_at, no_log, node_at, operator_at, place_of, source_of, stream_log}
 use Rattle.query_nets.specs.Runs.{Runs, RunsRoot}
 use Rattle.query_nets.specs.Widths.{width_at}

@@ -1,5 +1,5 @@
 -- How wide the rows of a plan's operators are, and that what the operators speak of is there.
-use Rattle.std.proofs.Common.{◌≡◌, ℕ, zero, suc, ◌+◌, ◌-◌, ◌<◌, ◌≤◌, ◌==◌, Bool, true, false, cond, ◌&&◌, Option, None, Some, List, [], ◌∷◌, ◌++◌, map, filter, length, drop, sum, get_or, refl, sym, ap, ap₂, ◌∙◌, subst, arith, length-append}
+use Rattle.std.proofs.Common.{◌≡◌, ℕ, zero, suc, ◌+◌, ◌-◌, ◌<◌, ◌≤◌, ◌==◌, Bool, true, false, cond, ◌&&◌, Option, None, Some, List, [], ◌∷◌, ◌++◌, map, filter, length, drop, sum, get_or, refl, sym, ap, ◌∙◌, subst, arith, length-append}
 use Rattle.std.specs.List.{AllByRecursion, list_all, range_with_len}
 use Rattle.std.proofs.lemmas.Bool.{eqb-true, and_parts}
 use Rattle.std.proofs.lemmas.List.{length-map}
@@ -13,7 +13,7 @@ use Rattle.row_nodes.specs.Steps.{IsOver, OperandIsOver, truths_needed}
 use Rattle.plan.specs.Build.{alone, all_alone, end_nodes, join_nodes, joins_of, joins_top, key_placed, moved, nodes_over, offset, operand_moved, placed, plan_of, rest_nodes, rest_top, shape_node, source_nodes, top_of, tops}
 use Rattle.plan.specs.Nodes as plan
 use Rattle.plan.specs.Nodes.{Key, Window, Select, Join, Project, Group, Distinct, ToStream}
-use Rattle.plan.specs.Scope.{ConditionInScope, InScope, Scoped, ShapeInScope}
+use Rattle.plan.specs.Scope.{InScope, Scoped, ShapeInScope}
 use Rattle.plan.proofs.Lists.{by_test, each-append, each-filter, each-left, each-map, each-right, each-weaken}
 use Rattle.plan.proofs.Numbers.{Below, Rises}
 use Rattle.plan.proofs.Offsets.{offset-below}

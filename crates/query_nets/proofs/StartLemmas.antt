@@ -1,11 +1,8 @@
 -- A query that is registered runs.
-use Rattle.std.proofs.Common.{◌≡◌, ℕ, zero, suc, ◌+◌, ◌-◌, ◌<◌, ◌≤◌, max, false, true, List, [], ◌∷◌, ◌++◌, map, length, get_or, refl, sym, ap, ◌∙◌, subst, subst₂, arith, All}
-use Rattle.std.specs.List.{AllByRecursion, range_with_len}
+use Rattle.std.proofs.Common.{◌≡◌, ℕ, zero, suc, ◌-◌, ◌<◌, ◌≤◌, max, true, List, [], ◌∷◌, ◌++◌, map, length, get_or, refl, sym, ap, ◌∙◌, subst, subst₂, arith}
+use Rattle.std.specs.List.{AllByRecursion}
 use Rattle.std.proofs.lemmas.List.{get_or-map, length-map}
 use Rattle.std.proofs.lemmas.List.FromFn.{length-map-range_with_len}
-use Rattle.values.specs.Row.{Row}
-use Rattle.values.specs.Condition.{Condition}
-use Rattle.values.specs.Relation.{Item as TheItem}
 use Rattle.values.specs.Resolved.{condition_of, items_of, operator_of, window_of}
 use Rattle.values.specs.declared.resolved.Item.TheVariants as listed
 use Rattle.values.specs.declared.resolved.Operator.{Operator}
@@ -14,7 +11,6 @@ use Rattle.values.specs.declared.resolved.Window.TheVariants as window
 use Rattle.values.specs.Answers as cql
 use Rattle.names.specs.Views.{conditions_of}
 use Rattle.column.specs.declared.batch.Side.TheVariants.{Left, Right}
-use Rattle.op_queue.specs.Entries.{Entry}
 use Rattle.op_queue.specs.Logs.{Closed}
 use Rattle.op_queue.proofs.PathLemmas.{Leads-none}
 use Rattle.op_queue.proofs.SignedLemmas.{Same-refl}
@@ -23,17 +19,14 @@ use Rattle.group.specs.Turns.{GroupState}
 use Rattle.group.specs.Turns as groups
 use Rattle.group.proofs.LawLemmas.{begins}
 use Rattle.join.specs.Turns as join
-use Rattle.to_stream.specs.Turns as root
-use Rattle.turn.specs.declared.kinds.Kind.{Kind}
 use Rattle.turn.specs.declared.kinds.Kind.TheVariants as kind
-use Rattle.operators.specs.Inboxes.{IsInboxWithin, entries_in, is_fed}
+use Rattle.operators.specs.Inboxes.{entries_in, is_fed}
 use Rattle.operators.specs.Operators.{PlainOperator, waiting}
 use Rattle.operators.specs.declared.inboxes.Inbox.{Inbox}
-use Rattle.operators.specs.declared.states.State.{State}
 use Rattle.operators.specs.declared.states.State.TheVariants as state
 use Rattle.plan.specs.Build.{plan_of}
 use Rattle.plan.specs.Nodes as plan
-use Rattle.plan.specs.Views.{columns_at, keys_of, node_of, nodes_of}
+use Rattle.plan.specs.Views.{node_of, nodes_of}
 use Rattle.plan.specs.declared.node.Node.{Node}
 use Rattle.plan.specs.declared.node.Node.TheVariants.{Window as Source, Select, Join, Project, Group, Distinct, ToStream}
 use Rattle.plan.proofs.Lists.{each-unmap}
@@ -45,17 +38,19 @@ use Rattle.nets.specs.Laws.{IsGood}
 use Rattle.nets.specs.Laws as nets
 use Rattle.nets.specs.Nets as net
 use Rattle.nets.specs.Operators as net_nodes
-use Rattle.nets.specs.Plans.{below_root, inputs_of, value_of, world_of}
+use Rattle.nets.specs.Plans.{below_root, world_of}
 use Rattle.nets.specs.Starts.{fresh_cell, fresh_root}
 use Rattle.nets.proofs.AnswerLemmas.{shaped}
 use Rattle.nets.proofs.PlanLemmas.{Shaped}
 use Rattle.nets.proofs.StartLemmas.{machine_starts}
 use Rattle.query_nets.specs.Counts.{AreFew, count, most_rows}
 use Rattle.query_nets.specs.Queries.{HasInboxes, IsRunning, RunsAt, RunsAtRoot, log_at, no_operator, node_at, operator_at, place_of, stream_log}
+use Rattle.query_nets.specs.Machines.{columns_of, widths_of}
+use Rattle.query_nets.specs.Rows.{AreSourceWidths}
 use Rattle.query_nets.specs.Registrations.{IsCoded, IsFit, IsFresh, IsTextWindow, MayMake, Starts, lengths_of}
 use Rattle.query_nets.specs.Runs.{Runs, RunsRoot}
 use Rattle.query_nets.specs.Widths.{IsKindWide, IsWide, width_at}
-use Rattle.query_nets.proofs.BeginLemmas.{SelectFits, WindowBegins, all_from, all_none, all_one, by_same, count_none, nothing_closed, places_fit, reads_of, root_spare, select_fits, window_begins}
+use Rattle.query_nets.proofs.BeginLemmas.{SelectFits, WindowBegins, all_none, all_one, by_same, count_none, nothing_closed, places_fit, reads_of, root_spare, select_fits, window_begins}
 use Rattle.query_nets.proofs.GroupLemmas.{lean_begins}
 use Rattle.query_nets.proofs.HeartbeatLemmas.{closed_at_source}
 use Rattle.query_nets.proofs.PlanWidths.{AllFit, FitsAt, IsInner, NodeFits, all_widths, fit_at, inner_at, narrow_at, plan_fits, width_by}
@@ -328,6 +323,13 @@ module _ (vs : List ℕ) (m : Machine) (q : Registered) (fit : IsFit vs q.meanin
     makeable = λ k d l. makeable windows vs ws k (get_or nodes k d) text narrow_ws (fits_at d k l);
   }
 
+  source_widths : vs ≡ widths_of m.streams q → AreSourceWidths ws m q
+  source_widths e k s kc is =
+      let l : k < length nodes = omega (arith, kc, many) in
+      let f : FitsAt vs ws k (plan.Window s) = subst (FitsAt vs ws k) (sym (node_is (Source 0) k l) ∙ is) (fits_at (Source 0) k l) in
+      let low : s < length q.places = omega (arith, f.fits, stands.wide.places) in
+      f.width ∙ ap (λ l. get_or l s 0) e ∙ get_or-map (λ (p : Place). columns_of m.streams p.stream) q.places s (record { stream = 0; arrivals = 0 }) 0 low
+
   -- as they are made
   module _ (os : List PlainOperator) (fresh : IsFresh m q) (h : AreMade windows vs ws (lengths_of q) q.first nodes os) where
     abbrev any_node : Node
@@ -392,4 +394,4 @@ module _ (vs : List ℕ) (m : Machine) (q : Registered) (fit : IsFit vs q.meanin
     }
 
 pub queries_start : (vs : List ℕ) (m : Machine) (q : Registered) → IsFit vs q.meaning → nets.Stands vs m q → Starts vs m q
-queries_start vs m q f s = record { may = λ windows nodes c. may_make vs m q f s windows nodes c; runs = λ windows nodes os c fr h. runs_made vs m q f s windows nodes c os fr h }
+queries_start vs m q f s = record { may = λ windows nodes c. may_make vs m q f s windows nodes c; runs = λ windows nodes os c fr h. runs_made vs m q f s windows nodes c os fr h; reads = λ windows nodes c e. source_widths vs m q f s windows nodes c e }

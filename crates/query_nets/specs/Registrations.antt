@@ -1,7 +1,6 @@
 -- A query at its registration: what its text and the machine's streams make sure of, so that the operators of its plan can be made, and run.
 use Rattle.std.specs.Prelude.{ℕ, ◌≡◌, ◌<◌, ◌≤◌, None, Ok, Option, Some, List, [], ℤ, length, map, sum, get_or}
 use Rattle.std.specs.List.{All, AllByRecursion}
-use Rattle.values.specs.Row.{Row}
 use Rattle.values.specs.Answers.{Resolved}
 use Rattle.values.specs.Condition.{Condition}
 use Rattle.values.specs.Relation.{Shape, Listed, Grouped}
@@ -14,9 +13,8 @@ use Rattle.plan.specs.Views.{nodes_of}
 use Rattle.plan.specs.declared.node.Node.{Node}
 use Rattle.compiled_plans.specs.Beginnings.{AreMade, HaveNarrowRows, IsMakeable}
 use Rattle.compiled_plans.specs.Beginnings as made
-use Rattle.reference.specs.Commands.{Command, Declare, Drop, Found, Register, Take, after, dropped, first_fault, found, registered_as, took}
+use Rattle.reference.specs.Commands.{Command, Found, Register, after, first_fault, found, registered_as}
 use Rattle.reference.specs.Machine.{Machine, Registered, Stream, empty, opens}
-use Rattle.nets.specs.Laws.{Stands}
 use Rattle.nets.specs.Plans.{inputs_of}
 use Rattle.query_nets.specs.Machines.{IsMachine, IsQuery, widths_of}
 use Rattle.query_nets.specs.Queries.{IsRunning}
@@ -79,6 +77,7 @@ pub record Starts (vs : List ℕ) (m : Machine) (q : Registered) : Type 0 where
   pub may : (windows : List Window) (nodes : List Node) → IsCoded windows nodes q → MayMake windows vs nodes
   pub runs : (windows : List Window) (nodes : List Node) (os : List PlainOperator) → IsCoded windows nodes q → IsFresh m q
       → AreMade windows vs (made.widths_of vs nodes) (lengths_of q) q.first nodes os → IsRunning vs (made.widths_of vs nodes) m q os []
+  pub reads : (windows : List Window) (nodes : List Node) → IsCoded windows nodes q → vs ≡ widths_of m.streams q → AreSourceWidths (made.widths_of vs nodes) m q
 
 -- THE STREAMS have 1 to 8 columns
 pub record HasColumnNames (s : Stream) : Type 0 where
@@ -100,3 +99,6 @@ pub record RegistrationsStand : Type 0 where
   pub newest : (m : Machine) (name source : List ℕ) (given : Option (List (ℤ × ℤ))) → first_fault m (Register name source given) ≡ None → IsMachine m → HaveRows m → IsNewest m name source given
   pub start : HaveColumnNames empty
   pub goes_on : (m : Machine) (c : Command) (count : ℕ) → first_fault m c ≡ None → HaveColumnNames m → HaveColumnNames (after m c count)
+  -- so the sources of a query have a column or more each, and at most 16 together
+  pub some : (m : Machine) (q : Registered) → HaveColumnNames m → IsQuery m.streams q → AllByRecursion (λ v. 0 < v) (widths_of m.streams q)
+  pub together : (m : Machine) (q : Registered) → HaveColumnNames m → IsQuery m.streams q → sum (widths_of m.streams q) ≤ 16

@@ -11,3 +11,5 @@ pub mod StreamLemmas
 pub mod AppendedLemmas
 pub mod BeatenLemmas
 pub mod DeclaredLemmas
+pub mod RegisteredLemmas
+pub mod HistoryLemmas

@@ -7,15 +7,15 @@ use Rattle.operators.specs.Operators.{PlainOperator}
 use Rattle.operators.specs.States.{near_of}
 use Rattle.compiled_plans.specs.Wiring.{wire_from}
 use Rattle.plan.specs.Nodes as plan
-use Rattle.reference.specs.Commands.{Append, Declare, Drop, Heartbeat, Take, after, change, first_fault}
+use Rattle.reference.specs.Commands.{Append, Declare, Drop, Heartbeat, Register, Take, after, change, first_fault}
 use Rattle.reference.specs.Machine.{Machine, Registered}
 use Rattle.nets.specs.Plans.{below_root}
 use Rattle.query_nets.specs.Queries.{IsAnswered, IsRunning, IsTurned, PlainQuery, log_at, operator_at, place_of}
 use Rattle.stream_store.specs.Closing.{QueuesGain}
 use Rattle.query_nets.specs.Steps.{IsFirst, outs_at_first}
-use Rattle.ready_list.specs.Slots.{changed, first_of, without_query}
+use Rattle.ready_list.specs.Slots.{changed, first_of, put, without_query}
 use Rattle.ready_list.specs.declared.slots.Slot.{Slot}
-use Rattle.leases.specs.Engines.{Broken, Dropped, Kept, Lease, PlainEngine, Running, answers_in, instant_at, kept_at, query_at, slot_at}
+use Rattle.leases.specs.Engines.{Broken, Dropped, Goes, Kept, Lease, PlainEngine, Running, answers_in, instant_at, kept_at, query_at, slot_at}
 
 -- the slot of the operator k of the query n, which is in `old`, gets the instant that it has in `new`
 abbrev pub retold : PlainEngine → PlainEngine → ℕ → Registered → PlainQuery → PlainQuery → ℕ → List Slot → List Slot
@@ -165,3 +165,21 @@ pub record IsHeartbeat (e : PlainEngine) (s : ℕ) (at : ℤ) : Type 0 where
 -- A DECLARATION adds a stream, which no query reads yet
 abbrev pub declared : PlainEngine → List ℕ → List (List ℕ) → ℤ → PlainEngine
 declared e name columns start = record e { machine = after e.machine (Declare name columns start) 0 }
+
+-- A REGISTRATION adds a query that runs, and the slots of its operators
+abbrev pub with_query : PlainEngine → Registered → PlainQuery → PlainEngine
+with_query e q p = record e { machine = with_queries e.machine (e.machine.queries ++ q ∷ []); queries = e.queries ++ Running p ∷ [] }
+
+-- those from the operator k on
+abbrev pub with_slots : PlainEngine → ℕ → Registered → PlainQuery → ℕ → List plan.Node → List Slot → List Slot
+with_slots e n q p k [] slots = slots
+with_slots e n q p k (node ∷ nodes) slots = with_slots e n q p (suc k) nodes (put slots (slot_at e n q p k))
+
+abbrev pub registered : PlainEngine → Registered → PlainQuery → PlainEngine
+registered e q p = record (with_query e q p) { slots = with_slots (with_query e q p) (length e.machine.queries) q p 0 q.nodes e.slots }
+
+-- the query is the one that the machine registers, and runs
+pub record IsRegistration (e : PlainEngine) (name text : List ℕ) (chart : Option (List (ℤ × ℤ))) (q : Registered) (p : PlainQuery) : Type 0 where
+  pub accepted : first_fault e.machine (Register name text chart) ≡ None
+  pub registers : after e.machine (Register name text chart) 0 ≡ with_queries e.machine (e.machine.queries ++ q ∷ [])
+  pub goes : Goes (with_queries e.machine (e.machine.queries ++ q ∷ [])) q p

@@ -6,7 +6,8 @@ ghost use Rattle.query_nets.specs.Queries.{PlainQuery};
 ghost use Rattle.ready_list.specs.declared.slots.Slot.{Slot};
 ghost use Rattle.leases.specs.Engines.{GoodEngine, IsIn, Lease, PlainEngine, Running, kept_at, query_at};
 ghost use Rattle.leases.specs.Promises.{KeepsItsPromises};
-ghost use Rattle.leases.specs.Calls.{RunsOnAtTakes, IsAnsweredTurn, IsFinishedTurn, IsHeartbeat, IsLeasable, IsOf, IsTake, abandoned, answered, appended, beaten, broken, declared, dropped, finished, leased, taken};
+ghost use Rattle.leases.specs.Histories.{Call, LeadTo, empty};
+ghost use Rattle.leases.specs.Calls.{RunsOnAtTakes, IsAnsweredTurn, IsFinishedTurn, IsHeartbeat, IsLeasable, IsOf, IsRegistration, IsTake, abandoned, answered, appended, beaten, broken, declared, dropped, finished, leased, registered, taken};
 
 /// Of each query of a good engine the answers that were taken, and those that wait, are a beginning of CQL's answers for the instants
 /// that its streams' heartbeats have closed, and all of them where no operator may take anything and no turn is out; and no operator
@@ -65,4 +66,16 @@ pub fn heartbeats_keep_engines_good()
 /// So it does where a stream is declared.
 pub fn declarations_keep_engines_good()
     ensures { (e : PlainEngine) (name : List ℕ) (columns : List (List ℕ)) (start : ℤ) → GoodEngine e → first_fault e.machine (Declare name columns start) ≡ None → GoodEngine (declared e name columns start) }
+{}
+
+/// So it does where a query is registered that runs.
+pub fn registrations_keep_engines_good()
+    ensures { (e : PlainEngine) (q : Registered) (p : PlainQuery) (name : List ℕ) (text : List ℕ) (chart : Option (List (ℤ × ℤ))) → GoodEngine e → IsRegistration e name text chart q p → GoodEngine (registered e q p) }
+{}
+
+/// After any list of calls on the empty engine, whatever was declared, registered, appended, closed, taken and dropped, and whatever
+/// turns went out and came back, the answers of each query that were taken, and those that wait, are a beginning of CQL's answers for
+/// the instants that are closed, all of them where no operator may take anything and no turn is out, and the first slot is steepest.
+pub fn engines_keep_their_promises()
+    ensures { (calls : List Call) (e : PlainEngine) → LeadTo empty calls e → KeepsItsPromises e }
 {}

@@ -14,7 +14,7 @@ use Rattle.query_nets.specs.Widths.{width_at}
 use Rattle.leases.specs.Calls.{with_queries, with_taken}
 use Rattle.query_nets.specs.Queries.{HasInboxes, IsLeftInbox, IsRunning, RunsAt, log_at, node_at, operator_at, source_of, stream_log}
 
-source_again : (q : Registered) (n : ℕ) (node : plan.Node) → source_of (with_taken q n) node ≡ source_of q node
+pub source_again : (q : Registered) (n : ℕ) (node : plan.Node) → source_of (with_taken q n) node ≡ source_of q node
 source_again q n (Window s) = refl
 source_again q n (Select j cs) = refl
 source_again q n (Join i j ks) = refl
@@ -33,7 +33,7 @@ left_again q n log (Distinct j) i h = h
 left_again q n log (ToStream j op) i h = h
 
 module _ (vs ws : List ℕ) (m : Machine) (qs : List Registered) (q : Registered) (n : ℕ) where
-  log_again : (k : ℕ) → log_at (with_queries m qs) (with_taken q n) k ≡ log_at m q k
+  pub log_again : (k : ℕ) → log_at (with_queries m qs) (with_taken q n) k ≡ log_at m q k
   log_again k = ap (stream_log m.streams) (source_again q n (node_at q k))
 
   inboxes_again : (k : ℕ) (o : PlainOperator) → HasInboxes q (log_at m q k) (node_at q k) o → HasInboxes (with_taken q n) (log_at (with_queries m qs) (with_taken q n) k) (node_at q k) o

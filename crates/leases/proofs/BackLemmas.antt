@@ -145,6 +145,7 @@ module _ (e : PlainEngine) (l : Lease) (q : Registered) (p p2 : PlainQuery) (g :
   unfolding e2
   back_good slots h = record {
     machine = g.machine;
+    rows = g.rows;
     many = length-set e.queries l.query (Running p2) ∙ g.many;
     queries = back_queries;
     leases = λ a i. let is = back_lease a i in record { numbered = is.numbered; query = is.query; registered = is.registered; kept = is.kept; running = is.running; within = is.within; first = is.first; near = is.near };

@@ -94,6 +94,7 @@ module _ (e : PlainEngine) (l : Lease) (q : Registered) (p : PlainQuery) (s : Sl
   pub lease_good : GoodEngine (leased e l q p)
   lease_good = record {
     machine = g.machine;
+    rows = g.rows;
     many = g.many;
     queries = g.queries;
     leases = λ a i. ⊎_elim (λ j. old_lease a (g.leases a j)) (λ z. subst (IsLease (leased e l q p)) z new_lease) (in_push e.leases l a i);
@@ -102,14 +103,14 @@ module _ (e : PlainEngine) (l : Lease) (q : Registered) (p : PlainQuery) (s : Sl
   }
 
 -- A QUERY BREAKS
-other_turn : (n : ℕ) (ls : List Lease) (a : Lease) → IsIn (of_others n ls) a → a.query ≢ n
+pub other_turn : (n : ℕ) (ls : List Lease) (a : Lease) → IsIn (of_others n ls) a → a.query ≢ n
 other_turn n ls a i e =
     let f = in_filter (λ l. not (l.query == n)) ls a i in
     let g : (a.query == n) ≡ true = eq-eqb a.query n e in
     let bad : false ≡ true = ap not (sym g) ∙ f.1 in
     cc
 
-any_of_others : (n k j : ℕ) (ls : List Lease) → k ≢ n → list_any (is_of k j) (of_others n ls) ≡ list_any (is_of k j) ls
+pub any_of_others : (n k j : ℕ) (ls : List Lease) → k ≢ n → list_any (is_of k j) (of_others n ls) ≡ list_any (is_of k j) ls
 any_of_others n k j [] ne = refl
 any_of_others n k j (x ∷ ls) ne = by_test (x.query == n)
     (λ t. let f : is_of k j x ≡ false = is_of_other k j x (inl (λ z. ne (z ∙ eqb-true x.query n t))) in rw (t, f) (any_of_others n k j ls ne))
@@ -123,6 +124,7 @@ break_good e n q p g registered running =
     let far : (j : ℕ) → (j == n) ≡ false → j ≢ n = λ j f z. absurd (let h : (j == n) ≡ true = eq-eqb j n z in cc) in
     record {
       machine = g.machine;
+      rows = g.rows;
       many = length-set e.queries n (Broken p.answers) ∙ g.many;
       queries = λ j r at. by_test (j == n)
           (λ t. let same : j ≡ n = eqb-true j n t in

@@ -5,3 +5,11 @@ pub mod TableLemmas
 pub mod FinishLemmas
 pub mod LeaseLemmas
 pub mod AgainLemmas
+pub mod TakeLemmas
+pub mod DropLemmas
+pub mod StreamLemmas
+pub mod AppendedLemmas
+pub mod BeatenLemmas
+pub mod DeclaredLemmas
+pub mod RegisteredLemmas
+pub mod HistoryLemmas

@@ -173,3 +173,25 @@ left_slots table table2 slots query h named none others = record {
       let ne : t.query ≢ query = λ z. absurd (let g : (t.query == query) ≡ true = eq-eqb t.query query z in let bad : false ≡ true = ap not (sym g) ∙ f.1 in cc) in
       others t.query t.operator ne ∙ h.only t f.0;
 }
+
+-- AN OPERATOR COMES, of which the table had no slot
+module _ (table table2 : ℕ → ℕ → Option Slot) (slots : List Slot) (s : Slot) (h : HasSlots table slots) (before : table s.query s.operator ≡ None) (after : table2 s.query s.operator ≡ Some s)
+    (others : (n k : ℕ) → (n ≢ s.query) ⊎ (k ≢ s.operator) → table2 n k ≡ table n k) where
+  absent : (t : Slot) → IsIn slots t → (s.query ≡ t.query) → (s.operator ≡ t.operator) → ⊥
+  absent t i q o = none_some (sym before ∙ ap (λ z. table z s.operator) q ∙ ap (λ z. table t.query z) o ∙ h.only t i)
+
+  come_there : (n k : ℕ) (t : Slot) → table2 n k ≡ Some t → IsIn (put slots s) t
+  come_there n k t e = ⊎_elim
+      (λ at. let same : s ≡ t = some_slot (sym after ∙ ap (λ z. table2 z s.operator) (sym at.0) ∙ ap (λ z. table2 n z) (sym at.1) ∙ e) in
+      subst (IsIn (put slots s)) same (put_new slots s (λ x i c. let n2 = same_operator s x c in absent x i n2.0 n2.1)))
+      (λ ne. put_old slots s t (h.there n k t (sym (others n k ne) ∙ e)))
+      (numbers n k s.query s.operator)
+
+  come_only : (t : Slot) → IsIn (put slots s) t → table2 t.query t.operator ≡ Some t
+  come_only t i = ⊎_elim
+      (λ j. ⊎_elim (λ at. absurd (absent t j (sym at.0) (sym at.1))) (λ ne. others t.query t.operator ne ∙ h.only t j) (numbers t.query t.operator s.query s.operator))
+      (λ e. subst (λ z. table2 z.query z.operator ≡ Some z) e after)
+      (put_cases slots s t i)
+
+  pub come_slots : HasSlots table2 (put slots s)
+  come_slots = record { ordered = put_ordered slots s h.ordered; there = come_there; only = come_only }

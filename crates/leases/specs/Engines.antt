@@ -14,7 +14,8 @@ use Rattle.plan.specs.Paths.{plan_slopes}
 use Rattle.reference.specs.Machine.{Machine, Registered, closed_answers}
 use Rattle.reference.specs.World.{World}
 use Rattle.query_nets.specs.Machines.{IsMachine, widths_of}
-use Rattle.query_nets.specs.Queries.{IsPlainQuery, PlainQuery, ReadsRows, log_at, operator_at}
+use Rattle.query_nets.specs.Queries.{IsPlainQuery, PlainQuery, log_at, operator_at}
+use Rattle.query_nets.specs.Rows.{AreSourceWidths, HaveRows}
 use Rattle.query_nets.specs.Steps.{IsFirst}
 use Rattle.ready_list.specs.Slots.{slot, slot_cmp}
 use Rattle.ready_list.specs.declared.slots.Slot.{Slot}
@@ -111,7 +112,7 @@ pub record HasGiven (m : Machine) (q : Registered) (waiting : List (ℕ × Row))
 -- it runs, and has given those that were taken and those that wait
 pub record Goes (m : Machine) (q : Registered) (p : PlainQuery) : Type 0 where
   pub widths : List ℕ
-  pub reads : ReadsRows widths m q
+  pub sources : AreSourceWidths widths m q
   pub taken : List (ℕ × Row)
   pub counted : length taken ≡ q.taken
   pub runs : IsPlainQuery (widths_of m.streams q) widths m q taken p
@@ -141,6 +142,7 @@ pub record AreApart (ls : List Lease) : Type 0 where
 -- A GOOD ENGINE
 pub record GoodEngine (e : PlainEngine) : Type 0 where
   pub machine : IsMachine e.machine
+  pub rows : HaveRows e.machine
   pub many : length e.queries ≡ length e.machine.queries
   pub queries : (n : ℕ) (q : Registered) → query_at e n ≡ Some q → IsKept e.machine q (kept_at e n)
   pub leases : (l : Lease) → IsIn e.leases l → IsLease e l

@@ -1,3 +1,4 @@
 pub mod Engines
 pub mod Promises
 pub mod Calls
+pub mod Histories

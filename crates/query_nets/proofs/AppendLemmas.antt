@@ -82,11 +82,11 @@ come_late s rows h =
     let t4 = none_later instant InstantRange ((late, Late) ∷ (full, StreamFull) ∷ []) t3 in
     late_elements s.first_open s.arrivals rows (none_first late Late ((full, StreamFull) ∷ []) t4)
 
-abbrev ComeLate : Option Stream → List (ℤ × List (Option ℤ)) → Type 0
+abbrev pub ComeLate : Option Stream → List (ℤ × List (Option ℤ)) → Type 0
 ComeLate None rows = Unit {0}
 ComeLate (Some s) rows = AllByRecursion (λ e. s.first_open ≤ e.instant) (elements_from s.arrivals rows)
 
-come_option : (rows : List (ℤ × List (Option ℤ))) (o : Option Stream) → of_stream (λ s. append_tests s rows) o ≡ None → ComeLate o rows
+pub come_option : (rows : List (ℤ × List (Option ℤ))) (o : Option Stream) → of_stream (λ s. append_tests s rows) o ≡ None → ComeLate o rows
 come_option rows None h = tt
 come_option rows (Some s) h = come_late s rows h
 
@@ -116,6 +116,10 @@ log_same streams n rows h i = ⊎_elim
     (λ ne. ap (λ o. option_map_or closed_of o no_log) (change_there (appended rows) n i streams ne))
     (same_number i n)
 
+-- what the streams have closed is as before an append
+pub append_logs : (m : Machine) (n : ℕ) (rows : List (ℤ × List (Option ℤ))) → first_fault m (Append n rows) ≡ None → (i : ℕ) → stream_log (after m (Append n rows) 0).streams i ≡ stream_log m.streams i
+append_logs m n rows accepted i = log_same m.streams n rows (come_option rows (slice_get m.streams n) accepted) i
+
 -- WHAT COMES to each source
 map_more : (f g h : Place → List Element) → ((p : Place) → f p ≡ g p ++ h p) → (ps : List Place) (k : ℕ) → get_or (map f ps) k [] ≡ get_or (map g ps) k [] ++ get_or (map h ps) k []
 map_more f g h e [] k = refl
@@ -135,7 +139,7 @@ from_option : (rows : List (ℤ × List (Option ℤ))) (first place : ℕ) (o : 
 from_option rows first place None h = tt
 from_option rows first place (Some s) h = past_all place first s.first_open (elements_from s.arrivals rows) h
 
-from_place : (ss : List Stream) (n : ℕ) (rows : List (ℤ × List (Option ℤ))) (first : ℕ) → ComeLate (slice_get ss n) rows → (p : Place) → Each (λ e. max first (option_map_or (λ s. s.first_open) (slice_get ss p.stream) 0) ≤ e.instant) (arriving ss n rows first p)
+pub from_place : (ss : List Stream) (n : ℕ) (rows : List (ℤ × List (Option ℤ))) (first : ℕ) → ComeLate (slice_get ss n) rows → (p : Place) → Each (λ e. max first (option_map_or (λ s. s.first_open) (slice_get ss p.stream) 0) ≤ e.instant) (arriving ss n rows first p)
 from_place ss n rows first h p = here (p.stream == n) refl
   where
     here : (b : Bool) → (p.stream == n) ≡ b → Each (λ e. max first (option_map_or (λ s. s.first_open) (slice_get ss p.stream) 0) ≤ e.instant) (cond b (option_map_or (λ s. input_of p.arrivals first (elements_from s.arrivals rows)) (slice_get ss n) []) [])

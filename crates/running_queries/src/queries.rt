@@ -133,7 +133,7 @@ impl RunningQuery {
     }
 
     /// A turn of an operator has come back: its item leaves the side's queue, the state changes, and what it put out goes on. It costs the
-    /// item, the change and the outputs. After an error the query can only be dropped.
+    /// item, the change and the outputs. After an error only its answers are as they were, and it can only be given up.
     pub fn finish(
         &mut self,
         streams: &Streams,
@@ -148,6 +148,7 @@ impl RunningQuery {
         requires puts { CanPut streams.now self.old operator side item.now change.now (outs_in outputs) }
         ensures finished { OnOk result (HasFinished streams.now self.old operator side item.now change.now self.new) }
         ensures put { OnOk result (HasPut self.old operator (outs_in outputs) self.new) }
+        ensures err { OnErr result (self.new.answers ≡ self.old.answers) }
     {
         match outputs {
             Outputs::Items(items) => self.finish_and_feed(
@@ -172,6 +173,14 @@ impl RunningQuery {
         Ok(rows)
     }
 
+    /// Gives up its operators with what waits for them; its answers wait on. Takes no memory.
+    pub fn give_up(&mut self)
+        ensures operators { self.new.operators ≡ [] }
+        ensures answers { self.new.answers ≡ self.old.answers }
+    {
+        self.operators.clear();
+    }
+
     fn operator(&self, operator: usize) -> &Operator
         requires { operator < length self.now.operators }
         ensures { result.now ≡ operator_at self.now.operators operator }
@@ -179,7 +188,8 @@ impl RunningQuery {
         &self.operators[operator]
     }
 
-    fn wire(&self, operator: usize) -> Wire
+    /// Where what an operator puts out goes; from the root it goes nowhere.
+    pub fn wire(&self, operator: usize) -> Wire
         requires { operator < length self.now.wires }
         ensures { result ≡ wire_at self.now operator }
     {
@@ -215,6 +225,7 @@ impl RunningQuery {
         requires feeds { CanFeed streams.now self.old operator side item.now change.now (all_entries items.items) }
         ensures finished { OnOk result (HasFinished streams.now self.old operator side item.now change.now self.new) }
         ensures fed { OnOk result (HasFed self.old operator (all_entries items.items) self.new) }
+        ensures err { OnErr result (self.new.answers ≡ self.old.answers) }
     {
         let log = self.log(streams, operator);
         let wire = self.wire(operator);
@@ -235,10 +246,11 @@ impl RunningQuery {
         requires may { CanFinish (operator_at self.old.operators operator) (log_of streams.now self.old operator) side item.now change.now }
         ensures finished { OnOk result (HasFinished streams.now self.old operator side item.now change.now self.new) }
         ensures answered { OnOk result (HasAnswered self.old operator (answers_of answers.items) self.new) }
+        ensures err { OnErr result (self.new.answers ≡ self.old.answers) }
     {
         let log = self.log(streams, operator);
         let mut answers = VecDeque::from_vec(answers);
-        self.answers.append(&mut answers)?;
-        finish_at(&mut self.operators, log, operator, side, item, change)
+        finish_at(&mut self.operators, log, operator, side, item, change)?;
+        self.answers.append(&mut answers)
     }
 }

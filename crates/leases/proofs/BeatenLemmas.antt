@@ -222,27 +222,29 @@ module _ (e : PlainEngine) (s : ℕ) (at : ℤ) (g : GoodEngine e) (h : IsHeartb
   windows_told n k q p (node ∷ nodes) slots r kept each many part =
       windows_told n (suc k) q p nodes (cond (is_reading q s node) (retold e (closed_over e s at) n q p p k slots) slots) r kept
       (λ i. each (suc i) ∙ ap (node_at q) (omega arith)) (omega (arith, many)) (one (is_reading q s node) refl) where
-    here : node ≡ node_at q k
-    here = each 0 ∙ ap (node_at q) (omega arith)
-    within : k < length q.nodes
-    within = omega (arith, many)
-    one : (b : Bool) → is_reading q s node ≡ b → Partly e (closed_over e s at) n (suc k) (cond b (retold e (closed_over e s at) n q p p k slots) slots)
-    one true is = told_anew e (closed_over e s at) n k q p slots part r kept r kept within
-    one false is = told_same e (closed_over e s at) n k slots part (quiet_slot n k q p r kept within (sym (ap (is_reading q s) here) ∙ is))
+        here : node ≡ node_at q k
+        here = each 0 ∙ ap (node_at q) (omega arith)
+
+        within : k < length q.nodes
+        within = omega (arith, many)
+
+        one : (b : Bool) → is_reading q s node ≡ b → Partly e (closed_over e s at) n (suc k) (cond b (retold e (closed_over e s at) n q p p k slots) slots)
+        one true is = told_anew e (closed_over e s at) n k q p slots part r kept r kept within
+        one false is = told_same e (closed_over e s at) n k slots part (quiet_slot n k q p r kept within (sym (ap (is_reading q s) here) ∙ is))
 
   query_told : (n : ℕ) (q : Registered) (kept : Kept) (slots : List Slot) → query_at e n ≡ Some q → kept_at e n ≡ kept → Partly e (closed_over e s at) n 0 slots
       → Partly e (closed_over e s at) (suc n) 0 (retold_query e (closed_over e s at) s n q kept slots)
   query_told n q (Running p) slots r kept part = windows_told n 0 q p q.nodes slots r kept (λ i. ap (node_at q) (omega arith)) (omega arith) part
   query_told n q (Broken answers) slots r kept part = told_query e (closed_over e s at) n 0 slots part
       (λ j l. ap (slot_in (closed_over e s at) n j (query_at e n)) kept ∙ silent j (query_at e n) ∙ sym (ap (slot_in e n j (query_at e n)) kept)) where
-    silent : (j : ℕ) (o : Option Registered) → slot_in (closed_over e s at) n j o (Broken answers) ≡ slot_in e n j o (Broken answers)
-    silent j None = refl
-    silent j (Some x) = refl
+        silent : (j : ℕ) (o : Option Registered) → slot_in (closed_over e s at) n j o (Broken answers) ≡ slot_in e n j o (Broken answers)
+        silent j None = refl
+        silent j (Some x) = refl
   query_told n q Dropped slots r kept part = told_query e (closed_over e s at) n 0 slots part
       (λ j l. ap (slot_in (closed_over e s at) n j (query_at e n)) kept ∙ silent j (query_at e n) ∙ sym (ap (slot_in e n j (query_at e n)) kept)) where
-    silent : (j : ℕ) (o : Option Registered) → slot_in (closed_over e s at) n j o Dropped ≡ slot_in e n j o Dropped
-    silent j None = refl
-    silent j (Some x) = refl
+        silent : (j : ℕ) (o : Option Registered) → slot_in (closed_over e s at) n j o Dropped ≡ slot_in e n j o Dropped
+        silent j None = refl
+        silent j (Some x) = refl
 
   queries_told : (n : ℕ) (qs : List Registered) (slots : List Slot) → ((i : ℕ) → slice_get qs i ≡ query_at e (n + i)) → Partly e (closed_over e s at) n 0 slots
       → HasSlots (slot_of (closed_over e s at)) (retold_queries e (closed_over e s at) s n qs slots)

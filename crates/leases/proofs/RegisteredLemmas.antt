@@ -121,8 +121,8 @@ module _ (e : PlainEngine) (q : Registered) (p : PlainQuery) (name text : List �
       ap (λ z. slot_in (with_query e q p) i j z (kept_at (with_query e q p) i)) (slice_get_past (e.machine.queries ++ q ∷ []) i far)
       ∙ sym (ap (λ z. slot_in e i j z (kept_at e i)) (slice_get_past e.machine.queries i l)))
       (cases_lt i (length e.machine.queries)) where
-    further : (i : ℕ) → length e.machine.queries ≤ i → i ≢ length e.machine.queries → length (e.machine.queries ++ q ∷ []) ≤ i
-    further i l ne = ⊎_elim (λ b. absurd (ne (omega (arith, l, b)))) (λ b. omega (arith, b, length-append e.machine.queries (q ∷ []))) (cases_lt i (suc (length e.machine.queries)))
+        further : (i : ℕ) → length e.machine.queries ≤ i → i ≢ length e.machine.queries → length (e.machine.queries ++ q ∷ []) ≤ i
+        further i l ne = ⊎_elim (λ b. absurd (ne (omega (arith, l, b)))) (λ b. omega (arith, b, length-append e.machine.queries (q ∷ []))) (cases_lt i (suc (length e.machine.queries)))
 
   none_yet : (j : ℕ) → slot_of e (length e.machine.queries) j ≡ None
   none_yet j = ap (λ z. slot_in e (length e.machine.queries) j z (kept_at e (length e.machine.queries))) (slice_get_past e.machine.queries (length e.machine.queries) (omega arith))

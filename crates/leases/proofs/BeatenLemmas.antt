@@ -1,9 +1,8 @@
 -- A heartbeat leaves an engine good: what waits for the windows over its stream gains what it closes.
-use Rattle.std.proofs.Common.{◌≡◌, ◌≢◌, ℕ, ℤ, zero, suc, ◌+◌, ◌-◌, ◌<◌, ◌≤◌, ◌++◌, ◌==◌, Bool, true, false, cond, inl, inr, ◌⊎◌, ⊎_elim, Option, Some, None, List, [], ◌∷◌, get_or, length, nat_lt, refl, sym, ap, ap₂, ◌∙◌, subst, arith, append-nil, eqb-true, eq-eqb}
+use Rattle.std.proofs.Common.{◌≡◌, ◌≢◌, ℕ, ℤ, suc, ◌+◌, ◌-◌, ◌<◌, ◌≤◌, ◌++◌, ◌==◌, Bool, true, false, cond, inl, inr, ◌⊎◌, ⊎_elim, Option, Some, None, List, [], ◌∷◌, get_or, length, nat_lt, refl, sym, ap, ap₂, ◌∙◌, subst, arith, append-nil, eq-eqb}
 use Rattle.std.specs.Prelude.{slice_get}
 use Rattle.std.specs.Option.{option_map, option_map_or}
-use Rattle.std.proofs.lemmas.Bool.{cases_lt, leb-true}
-use Rattle.std.proofs.lemmas.Option.{slice_get_within}
+use Rattle.std.proofs.lemmas.Bool.{cases_lt}
 use Rattle.values.specs.Row.{Row}
 use Rattle.column.specs.declared.batch.Side.{Side}
 use Rattle.column.specs.declared.batch.Side.TheVariants.{Left, Right}
@@ -17,23 +16,22 @@ use Rattle.operators.specs.declared.inboxes.Inbox.{Inbox}
 use Rattle.operators.proofs.InboxLemmas.{entries_fed}
 use Rattle.plan.specs.Nodes as plan
 use Rattle.plan.specs.Nodes.{Window, Select, Join, Project, Group, Distinct, ToStream}
-use Rattle.reference.specs.Commands.{Heartbeat, after, change, closed_to, first_fault}
-use Rattle.reference.specs.Machine.{Machine, Registered, Stream}
+use Rattle.reference.specs.Commands.{Heartbeat, change, closed_to, first_fault}
+use Rattle.reference.specs.Machine.{Machine, Registered}
 use Rattle.stream_store.specs.Closing.{QueuesGain, closed_of}
 use Rattle.nets.specs.Plans.{below_root}
 use Rattle.query_nets.specs.Machines.{widths_of}
-use Rattle.query_nets.specs.Queries.{HasInboxes, IsByArrival, IsRunning, PlainQuery, ReadsRows, elements_at, log_at, no_log, node_at, operator_at, place_of, source_of, stream_log}
-use Rattle.query_nets.specs.Steps.{IsFirst}
+use Rattle.query_nets.specs.Queries.{HasInboxes, IsByArrival, IsRunning, PlainQuery, elements_at, log_at, no_log, node_at, operator_at, place_of, source_of, stream_log}
 use Rattle.query_nets.proofs.AppendLemmas.{accepted_later}
-use Rattle.query_nets.proofs.BeatLemmas.{change_there, place_beat, same_number}
+use Rattle.query_nets.proofs.BeatLemmas.{change_there, place_beat}
 use Rattle.query_nets.proofs.LeaseLemmas.{leases_stand_first}
 use Rattle.query_nets.proofs.MachineCounts.{machines_stand}
 use Rattle.query_nets.proofs.RowLemmas.{rows_stand}
 use Rattle.ready_list.specs.Slots.{slot}
 use Rattle.ready_list.specs.declared.slots.Slot.{Slot}
-use Rattle.leases.specs.Engines.{Broken, Dropped, Goes, GoodEngine, HasSlots, IsKept, IsLease, Kept, Lease, PlainEngine, Running, instant_at, is_leased, kept_at, query_at, ready_instant, slope_at, slot_at, slot_in, slot_of}
+use Rattle.leases.specs.Engines.{Broken, Dropped, Goes, GoodEngine, HasSlots, IsKept, IsLease, Kept, Lease, PlainEngine, Running, instant_at, is_leased, kept_at, query_at, slope_at, slot_at, slot_in, slot_of}
 use Rattle.leases.specs.Calls.{IsHeartbeat, beaten, closed_over, is_reading, retold, retold_queries, retold_query, retold_windows}
-use Rattle.leases.proofs.BackLemmas.{numbered, unequal}
+use Rattle.leases.proofs.BackLemmas.{numbered}
 use Rattle.leases.proofs.PromiseLemmas.{slot_is}
 use Rattle.leases.proofs.SlotLemmas.{AreNumbered, changed_slots, numbers}
 use Rattle.leases.proofs.StreamLemmas.{heartbeat_kept}
@@ -222,27 +220,29 @@ module _ (e : PlainEngine) (s : ℕ) (at : ℤ) (g : GoodEngine e) (h : IsHeartb
   windows_told n k q p (node ∷ nodes) slots r kept each many part =
       windows_told n (suc k) q p nodes (cond (is_reading q s node) (retold e (closed_over e s at) n q p p k slots) slots) r kept
       (λ i. each (suc i) ∙ ap (node_at q) (omega arith)) (omega (arith, many)) (one (is_reading q s node) refl) where
-    here : node ≡ node_at q k
-    here = each 0 ∙ ap (node_at q) (omega arith)
-    within : k < length q.nodes
-    within = omega (arith, many)
-    one : (b : Bool) → is_reading q s node ≡ b → Partly e (closed_over e s at) n (suc k) (cond b (retold e (closed_over e s at) n q p p k slots) slots)
-    one true is = told_anew e (closed_over e s at) n k q p slots part r kept r kept within
-    one false is = told_same e (closed_over e s at) n k slots part (quiet_slot n k q p r kept within (sym (ap (is_reading q s) here) ∙ is))
+        here : node ≡ node_at q k
+        here = each 0 ∙ ap (node_at q) (omega arith)
+
+        within : k < length q.nodes
+        within = omega (arith, many)
+
+        one : (b : Bool) → is_reading q s node ≡ b → Partly e (closed_over e s at) n (suc k) (cond b (retold e (closed_over e s at) n q p p k slots) slots)
+        one true is = told_anew e (closed_over e s at) n k q p slots part r kept r kept within
+        one false is = told_same e (closed_over e s at) n k slots part (quiet_slot n k q p r kept within (sym (ap (is_reading q s) here) ∙ is))
 
   query_told : (n : ℕ) (q : Registered) (kept : Kept) (slots : List Slot) → query_at e n ≡ Some q → kept_at e n ≡ kept → Partly e (closed_over e s at) n 0 slots
       → Partly e (closed_over e s at) (suc n) 0 (retold_query e (closed_over e s at) s n q kept slots)
   query_told n q (Running p) slots r kept part = windows_told n 0 q p q.nodes slots r kept (λ i. ap (node_at q) (omega arith)) (omega arith) part
   query_told n q (Broken answers) slots r kept part = told_query e (closed_over e s at) n 0 slots part
       (λ j l. ap (slot_in (closed_over e s at) n j (query_at e n)) kept ∙ silent j (query_at e n) ∙ sym (ap (slot_in e n j (query_at e n)) kept)) where
-    silent : (j : ℕ) (o : Option Registered) → slot_in (closed_over e s at) n j o (Broken answers) ≡ slot_in e n j o (Broken answers)
-    silent j None = refl
-    silent j (Some x) = refl
+        silent : (j : ℕ) (o : Option Registered) → slot_in (closed_over e s at) n j o (Broken answers) ≡ slot_in e n j o (Broken answers)
+        silent j None = refl
+        silent j (Some x) = refl
   query_told n q Dropped slots r kept part = told_query e (closed_over e s at) n 0 slots part
       (λ j l. ap (slot_in (closed_over e s at) n j (query_at e n)) kept ∙ silent j (query_at e n) ∙ sym (ap (slot_in e n j (query_at e n)) kept)) where
-    silent : (j : ℕ) (o : Option Registered) → slot_in (closed_over e s at) n j o Dropped ≡ slot_in e n j o Dropped
-    silent j None = refl
-    silent j (Some x) = refl
+        silent : (j : ℕ) (o : Option Registered) → slot_in (closed_over e s at) n j o Dropped ≡ slot_in e n j o Dropped
+        silent j None = refl
+        silent j (Some x) = refl
 
   queries_told : (n : ℕ) (qs : List Registered) (slots : List Slot) → ((i : ℕ) → slice_get qs i ≡ query_at e (n + i)) → Partly e (closed_over e s at) n 0 slots
       → HasSlots (slot_of (closed_over e s at)) (retold_queries e (closed_over e s at) s n qs slots)

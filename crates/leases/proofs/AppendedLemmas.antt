@@ -3,10 +3,10 @@ use Rattle.std.proofs.Common.{◌≡◌, ℕ, ℤ, cond, Option, Some, None, Lis
 use Rattle.std.specs.Option.{option_map}
 use Rattle.std.proofs.lemmas.Option.{get_or_from_slice_get, slice_get_within}
 use Rattle.operators.specs.Operators.{ready}
-use Rattle.reference.specs.Commands.{Append, after, first_fault}
-use Rattle.reference.specs.Machine.{Machine, Registered}
+use Rattle.reference.specs.Commands.{Append, first_fault}
+use Rattle.reference.specs.Machine.{Registered}
 use Rattle.query_nets.specs.Machines.{IsQuery}
-use Rattle.query_nets.specs.Queries.{log_at, node_at, operator_at, source_of, stream_log}
+use Rattle.query_nets.specs.Queries.{log_at, node_at, operator_at, source_of}
 use Rattle.query_nets.specs.Steps.{IsFirst}
 use Rattle.query_nets.proofs.AppendLemmas.{append_logs}
 use Rattle.query_nets.proofs.MachineCounts.{machines_stand, queries_stand}

@@ -1,9 +1,8 @@
 -- A heartbeat leaves an engine good: what waits for the windows over its stream gains what it closes.
-use Rattle.std.proofs.Common.{◌≡◌, ◌≢◌, ℕ, ℤ, zero, suc, ◌+◌, ◌-◌, ◌<◌, ◌≤◌, ◌++◌, ◌==◌, Bool, true, false, cond, inl, inr, ◌⊎◌, ⊎_elim, Option, Some, None, List, [], ◌∷◌, get_or, length, nat_lt, refl, sym, ap, ap₂, ◌∙◌, subst, arith, append-nil, eqb-true, eq-eqb}
+use Rattle.std.proofs.Common.{◌≡◌, ◌≢◌, ℕ, ℤ, suc, ◌+◌, ◌-◌, ◌<◌, ◌≤◌, ◌++◌, ◌==◌, Bool, true, false, cond, inl, inr, ◌⊎◌, ⊎_elim, Option, Some, None, List, [], ◌∷◌, get_or, length, nat_lt, refl, sym, ap, ap₂, ◌∙◌, subst, arith, append-nil, eq-eqb}
 use Rattle.std.specs.Prelude.{slice_get}
 use Rattle.std.specs.Option.{option_map, option_map_or}
-use Rattle.std.proofs.lemmas.Bool.{cases_lt, leb-true}
-use Rattle.std.proofs.lemmas.Option.{slice_get_within}
+use Rattle.std.proofs.lemmas.Bool.{cases_lt}
 use Rattle.values.specs.Row.{Row}
 use Rattle.column.specs.declared.batch.Side.{Side}
 use Rattle.column.specs.declared.batch.Side.TheVariants.{Left, Right}
@@ -17,23 +16,22 @@ use Rattle.operators.specs.declared.inboxes.Inbox.{Inbox}
 use Rattle.operators.proofs.InboxLemmas.{entries_fed}
 use Rattle.plan.specs.Nodes as plan
 use Rattle.plan.specs.Nodes.{Window, Select, Join, Project, Group, Distinct, ToStream}
-use Rattle.reference.specs.Commands.{Heartbeat, after, change, closed_to, first_fault}
-use Rattle.reference.specs.Machine.{Machine, Registered, Stream}
+use Rattle.reference.specs.Commands.{Heartbeat, change, closed_to, first_fault}
+use Rattle.reference.specs.Machine.{Machine, Registered}
 use Rattle.stream_store.specs.Closing.{QueuesGain, closed_of}
 use Rattle.nets.specs.Plans.{below_root}
 use Rattle.query_nets.specs.Machines.{widths_of}
-use Rattle.query_nets.specs.Queries.{HasInboxes, IsByArrival, IsRunning, PlainQuery, ReadsRows, elements_at, log_at, no_log, node_at, operator_at, place_of, source_of, stream_log}
-use Rattle.query_nets.specs.Steps.{IsFirst}
+use Rattle.query_nets.specs.Queries.{HasInboxes, IsByArrival, IsRunning, PlainQuery, elements_at, log_at, no_log, node_at, operator_at, place_of, source_of, stream_log}
 use Rattle.query_nets.proofs.AppendLemmas.{accepted_later}
-use Rattle.query_nets.proofs.BeatLemmas.{change_there, place_beat, same_number}
+use Rattle.query_nets.proofs.BeatLemmas.{change_there, place_beat}
 use Rattle.query_nets.proofs.LeaseLemmas.{leases_stand_first}
 use Rattle.query_nets.proofs.MachineCounts.{machines_stand}
 use Rattle.query_nets.proofs.RowLemmas.{rows_stand}
 use Rattle.ready_list.specs.Slots.{slot}
 use Rattle.ready_list.specs.declared.slots.Slot.{Slot}
-use Rattle.leases.specs.Engines.{Broken, Dropped, Goes, GoodEngine, HasSlots, IsKept, IsLease, Kept, Lease, PlainEngine, Running, instant_at, is_leased, kept_at, query_at, ready_instant, slope_at, slot_at, slot_in, slot_of}
+use Rattle.leases.specs.Engines.{Broken, Dropped, Goes, GoodEngine, HasSlots, IsKept, IsLease, Kept, Lease, PlainEngine, Running, instant_at, is_leased, kept_at, query_at, slope_at, slot_at, slot_in, slot_of}
 use Rattle.leases.specs.Calls.{IsHeartbeat, beaten, closed_over, is_reading, retold, retold_queries, retold_query, retold_windows}
-use Rattle.leases.proofs.BackLemmas.{numbered, unequal}
+use Rattle.leases.proofs.BackLemmas.{numbered}
 use Rattle.leases.proofs.PromiseLemmas.{slot_is}
 use Rattle.leases.proofs.SlotLemmas.{AreNumbered, changed_slots, numbers}
 use Rattle.leases.proofs.StreamLemmas.{heartbeat_kept}

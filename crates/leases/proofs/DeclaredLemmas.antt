@@ -1,5 +1,5 @@
 -- A declaration leaves an engine good: its queries read streams that were there.
-use Rattle.std.proofs.Common.{◌≡◌, ℕ, ℤ, zero, suc, nat_abs, ◌-◌, ◌<◌, ◌≤◌, ◌++◌, cond, min, nat_lt, ⊎_elim, Option, Some, None, unwrap_or, List, [], ◌∷◌, get_or, length, map, refl, sym, ap, ap₂, ◌∙◌, subst, subst₂, arith}
+use Rattle.std.proofs.Common.{◌≡◌, ℕ, ℤ, zero, suc, nat_abs, ◌-◌, ◌<◌, ◌++◌, cond, min, nat_lt, ⊎_elim, Option, Some, None, unwrap_or, List, [], ◌∷◌, length, map, refl, sym, ap, ap₂, ◌∙◌, subst, subst₂, arith}
 use Rattle.std.specs.Prelude.{slice_get}
 use Rattle.std.specs.List.{AllByRecursion, reduce}
 use Rattle.std.specs.Option.{option_map, option_map_or}
@@ -13,8 +13,8 @@ use Rattle.plan.specs.Nodes as plan
 use Rattle.plan.specs.Nodes.{Window, Select, Join, Project, Group, Distinct, ToStream}
 use Rattle.plan.specs.Scope.{Tables}
 use Rattle.plan.proofs.Lists.{each-weaken, each_at}
-use Rattle.reference.specs.Commands.{Declare, after, first_fault}
-use Rattle.reference.specs.Machine.{Machine, Place, Registered, Stream, closed_answers, input_at, opens}
+use Rattle.reference.specs.Commands.{Declare, first_fault}
+use Rattle.reference.specs.Machine.{Machine, Place, Registered, Stream, closed_answers, opens}
 use Rattle.stream_store.specs.Closing.{closed_of}
 use Rattle.nets.specs.Laws.{IsGood}
 use Rattle.nets.specs.Nets.{Cell}
@@ -23,7 +23,7 @@ use Rattle.nets.specs.Plans.{below_root, inputs_of, value_in, world_by, world_of
 use Rattle.nets.specs.Queries.{GoodQuery}
 use Rattle.query_nets.specs.Counts.{AreFew, StaysWithin, most_rows}
 use Rattle.query_nets.specs.Machines.{IsQuery, columns_of, widths_of}
-use Rattle.query_nets.specs.Queries.{HasInboxes, IsRunning, PlainQuery, RunsAt, log_at, no_log, node_at, operator_at, place_of, source_of, stream_log}
+use Rattle.query_nets.specs.Queries.{HasInboxes, IsRunning, RunsAt, log_at, no_log, node_at, operator_at, place_of, source_of}
 use Rattle.query_nets.specs.Runs.{Runs, RunsRoot}
 use Rattle.query_nets.specs.Steps.{IsFirst}
 use Rattle.query_nets.specs.Widths.{width_at}
@@ -31,7 +31,7 @@ use Rattle.query_nets.proofs.MachineCounts.{machines_stand}
 use Rattle.query_nets.proofs.QueryLemmas.{same_count}
 use Rattle.query_nets.proofs.RowLemmas.{rows_stand}
 use Rattle.ready_list.specs.Slots.{slot}
-use Rattle.leases.specs.Engines.{Broken, Dropped, Goes, GoodEngine, HasGiven, IsKept, IsLease, Kept, Lease, PlainEngine, Running, is_leased, kept_at, query_at, slope_at, slot_in, slot_of}
+use Rattle.leases.specs.Engines.{Broken, Dropped, GoodEngine, HasGiven, IsKept, IsLease, Kept, Lease, PlainEngine, Running, is_leased, kept_at, query_at, slope_at, slot_in, slot_of}
 use Rattle.leases.specs.Calls.{declared}
 use Rattle.leases.proofs.AppendedLemmas.{is_query}
 use Rattle.leases.proofs.TakeLemmas.{equal_slots}

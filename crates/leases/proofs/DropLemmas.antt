@@ -10,7 +10,7 @@ use Rattle.query_nets.specs.Steps.{IsFirst}
 use Rattle.query_nets.proofs.BeatLemmas.{same_number}
 use Rattle.query_nets.proofs.MachineCounts.{machines_stand}
 use Rattle.query_nets.proofs.RowLemmas.{rows_stand}
-use Rattle.leases.specs.Engines.{Dropped, GoodEngine, HasGiven, IsIn, IsKept, IsLease, Kept, Lease, PlainEngine, answers_in, kept_at, query_at, slot_in, slot_of}
+use Rattle.leases.specs.Engines.{Dropped, GoodEngine, HasGiven, IsKept, IsLease, Kept, Lease, PlainEngine, answers_in, kept_at, query_at, slot_in, slot_of}
 use Rattle.leases.specs.Calls.{dropped, of_others, with_queries}
 use Rattle.ready_list.specs.Slots.{without_query}
 use Rattle.leases.proofs.AgainLemmas.{log_again}

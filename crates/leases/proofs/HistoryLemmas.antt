@@ -1,5 +1,5 @@
 -- Whatever happens to an engine, it stays good, and so it keeps its promises.
-use Rattle.std.proofs.Common.{◌≡◌, ℕ, inl, inr, None, Some, List, [], ◌∷◌, refl, sym, subst}
+use Rattle.std.proofs.Common.{inl, inr, List, [], ◌∷◌, refl, sym, subst}
 use Rattle.std.specs.List.Sorted.{IsStrictlySortedBy}
 use Rattle.reference.specs.Commands.{Append, Command, Declare, Drop, Heartbeat, Register, Take}
 use Rattle.reference.specs.Machine.{Registered}

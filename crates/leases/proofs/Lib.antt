@@ -13,3 +13,4 @@ pub mod BeatenLemmas
 pub mod DeclaredLemmas
 pub mod RegisteredLemmas
 pub mod HistoryLemmas
+pub mod IdleLemmas

@@ -1,12 +1,12 @@
 -- A registration leaves an engine good, where the query that it adds runs.
-use Rattle.std.proofs.Common.{◌≡◌, ◌≢◌, ℕ, ℤ, zero, suc, ◌+◌, ◌<◌, ◌≤◌, ◌++◌, ◌⊎◌, inl, inr, ⊎_elim, cond, false, nat_lt, Option, Some, None, List, [], ◌∷◌, get_or, length, refl, sym, ap, ◌∙◌, subst, arith, length-append}
+use Rattle.std.proofs.Common.{◌≡◌, ◌≢◌, ℕ, ℤ, zero, suc, ◌+◌, ◌<◌, ◌≤◌, ◌++◌, inl, inr, ⊎_elim, false, nat_lt, Option, Some, None, List, [], ◌∷◌, get_or, length, refl, sym, ap, ◌∙◌, subst, arith, length-append}
 use Rattle.std.specs.Prelude.{slice_get}
 use Rattle.std.proofs.lemmas.Bool.{cases_lt}
 use Rattle.std.proofs.lemmas.Option.{slice_get_past, slice_get_within}
 use Rattle.plan.specs.Nodes as plan
-use Rattle.reference.specs.Commands.{Register, after, first_fault}
+use Rattle.reference.specs.Commands.{Register}
 use Rattle.reference.specs.Machine.{Registered}
-use Rattle.query_nets.specs.Queries.{PlainQuery, log_at, operator_at}
+use Rattle.query_nets.specs.Queries.{PlainQuery, operator_at}
 use Rattle.query_nets.specs.Steps.{IsFirst}
 use Rattle.query_nets.specs.Machines.{IsMachine}
 use Rattle.query_nets.specs.Rows.{HaveRows}
@@ -16,12 +16,12 @@ use Rattle.query_nets.proofs.RowLemmas.{rows_stand}
 use Rattle.ready_list.specs.Slots.{put}
 use Rattle.ready_list.specs.declared.slots.Slot.{Slot}
 use Rattle.leases.specs.Engines.{Dropped, Goes, GoodEngine, HasSlots, IsKept, IsLease, Kept, Lease, PlainEngine, Running, kept_at, query_at, slot_at, slot_in, slot_of}
-use Rattle.leases.specs.Calls.{IsRegistration, registered, with_queries, with_query, with_slots}
+use Rattle.leases.specs.Calls.{IsRegistration, registered, with_query, with_slots}
 use Rattle.leases.proofs.AgainLemmas.{log_again}
-use Rattle.leases.proofs.BackLemmas.{numbered, same_query}
+use Rattle.leases.proofs.BackLemmas.{same_query}
 use Rattle.leases.proofs.PromiseLemmas.{slot_is}
-use Rattle.leases.proofs.SlotLemmas.{AreNumbered, come_slots, numbers}
-use Rattle.leases.proofs.TableLemmas.{updated, updated_here, updated_numbered, updated_there}
+use Rattle.leases.proofs.SlotLemmas.{come_slots}
+use Rattle.leases.proofs.TableLemmas.{updated, updated_here, updated_there}
 use Rattle.leases.proofs.TakeLemmas.{equal_slots, kept_again, same_anew}
 
 -- ONE MORE stands behind a list

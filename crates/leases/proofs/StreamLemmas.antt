@@ -1,5 +1,5 @@
 -- What an append and a heartbeat leave as it was, of the machine's streams and of a query's answers.
-use Rattle.std.proofs.Common.{◌≡◌, ◌≢◌, ℕ, ℤ, zero, suc, nat_abs, ◌+◌, ◌-◌, ◌<◌, ◌≤◌, ◌++◌, fold, min, max, ⊎_elim, Option, Some, None, unwrap_or, List, [], ◌∷◌, get_or, length, map, refl, sym, ap, ap₂, ◌∙◌, subst, arith, append_assoc}
+use Rattle.std.proofs.Common.{◌≡◌, ℕ, ℤ, zero, suc, ◌-◌, ◌≤◌, ◌++◌, fold, min, max, ⊎_elim, Option, Some, None, unwrap_or, List, [], ◌∷◌, length, map, refl, sym, ap, ap₂, ◌∙◌, subst, arith, append_assoc}
 use Rattle.std.specs.Prelude.{slice_get}
 use Rattle.std.specs.List.{AllByRecursion, flat_map, range_with_len, reduce}
 use Rattle.std.specs.Option.{option_map, option_map_or}
@@ -10,16 +10,15 @@ use Rattle.values.specs.Answers.{answers, answers_at}
 use Rattle.values.proofs.Closed.{AllFrom, Longer, answers-closed}
 use Rattle.values.proofs.Worlds.{answers-more}
 use Rattle.windows.specs.Laws.{Each}
-use Rattle.operators.specs.Operators.{PlainOperator}
 use Rattle.reference.specs.Commands.{Append, Heartbeat, after, appended, change, closed_to, first_fault}
-use Rattle.reference.specs.Machine.{Machine, Place, Registered, Stream, closed_answers, input_at, opens, until_for}
+use Rattle.reference.specs.Machine.{Machine, Place, Registered, Stream, closed_answers, input_at, until_for}
 use Rattle.stream_store.specs.Closing.{QueuesGain}
 use Rattle.nets.specs.Plans.{inputs_of}
 use Rattle.nets.proofs.MachineLemmas.{append_inputs, append_opens, arriving, heartbeat_inputs}
 use Rattle.query_nets.specs.Machines.{IsMachine, columns_of, widths_of}
 use Rattle.query_nets.specs.Queries.{IsRunning, PlainQuery, place_of}
 use Rattle.query_nets.specs.Rows.{HaveRows}
-use Rattle.query_nets.proofs.AppendLemmas.{ComeLate, accepted_later, come_option, from_place}
+use Rattle.query_nets.proofs.AppendLemmas.{accepted_later, come_option, from_place}
 use Rattle.query_nets.proofs.BeatLemmas.{IsLaterIn, change_here, change_there, same_number}
 use Rattle.query_nets.proofs.MachineCounts.{machines_stand, queries_stand}
 use Rattle.query_nets.proofs.NodeLemmas.{runs_on_at_appends, runs_on_at_heartbeats}

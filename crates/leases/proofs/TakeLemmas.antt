@@ -1,5 +1,5 @@
 -- A take leaves an engine good.
-use Rattle.std.proofs.Common.{◌≡◌, ◌≢◌, ℕ, zero, suc, ℤ, ◌+◌, ◌<◌, ◌≤◌, ◌++◌, cond, inl, inr, ◌⊎◌, ⊎_elim, Option, Some, None, List, [], ◌∷◌, drop, get_or, length, map, min, nat_abs, nat_lt, take, refl, sym, ap, ap₂, ◌∙◌, subst, arith, append_assoc, length-append, take-append-drop}
+use Rattle.std.proofs.Common.{◌≡◌, ◌≢◌, ℕ, zero, suc, ℤ, ◌+◌, ◌≤◌, ◌++◌, cond, ⊎_elim, Option, Some, None, List, [], ◌∷◌, drop, get_or, length, map, nat_lt, take, refl, sym, ap, ap₂, ◌∙◌, subst, arith, append_assoc, length-append, take-append-drop}
 use Rattle.std.specs.Prelude.{slice_get}
 use Rattle.std.specs.List.{list_any}
 use Rattle.std.specs.Option.{option_map}
@@ -8,17 +8,16 @@ use Rattle.plan.specs.Nodes as plan
 use Rattle.operators.specs.Operators.{ready}
 use Rattle.ready_list.specs.Slots.{slot}
 use Rattle.ready_list.specs.declared.slots.Slot.{Slot}
-use Rattle.reference.specs.Commands.{Drop, Take, after, change, took}
-use Rattle.reference.specs.Commands as machine
+use Rattle.reference.specs.Commands.{Take, change, took}
 use Rattle.reference.specs.Machine.{Machine, Registered, closed_answers}
 use Rattle.query_nets.specs.Machines.{widths_of}
-use Rattle.query_nets.specs.Queries.{IsRunning, PlainQuery, log_at, operator_at, source_of}
+use Rattle.query_nets.specs.Queries.{IsRunning, PlainQuery, operator_at, source_of}
 use Rattle.query_nets.specs.Steps.{IsFirst}
 use Rattle.query_nets.proofs.BeatLemmas.{same_number}
 use Rattle.query_nets.proofs.MachineCounts.{machines_stand}
 use Rattle.query_nets.proofs.RowLemmas.{rows_stand}
-use Rattle.leases.specs.Engines.{AreApart, Broken, Dropped, Goes, GoodEngine, HasGiven, HasSlots, IsIn, IsKept, IsLease, Kept, Lease, PlainEngine, Running, answers_in, is_leased, is_of, kept_at, query_at, ready_instant, slope_at, slot_at, slot_in, slot_of}
-use Rattle.leases.specs.Calls.{IsTake, dropped, kept_after, of_others, taken, with_queries, with_taken}
+use Rattle.leases.specs.Engines.{Broken, Dropped, Goes, GoodEngine, HasGiven, HasSlots, IsKept, IsLease, Kept, Lease, PlainEngine, Running, answers_in, is_leased, is_of, kept_at, query_at, ready_instant, slope_at, slot_at, slot_in, slot_of}
+use Rattle.leases.specs.Calls.{IsTake, kept_after, taken, with_queries, with_taken}
 use Rattle.leases.proofs.AgainLemmas.{log_again, runs_again, source_again}
 
 -- ONE OF A LIST is changed

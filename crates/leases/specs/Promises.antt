@@ -1,5 +1,5 @@
 -- What is promised of an engine of many queries.
-use Rattle.std.specs.Prelude.{ℕ, ◌≡◌, ◌<◌, ◌++◌, Some, None, List, [], length}
+use Rattle.std.specs.Prelude.{ℕ, ◌≡◌, ◌<◌, ◌++◌, Some, None, List, [], drop, length}
 use Rattle.values.specs.Row.{Row}
 use Rattle.envelope.specs.Fraction.{NoGreater}
 use Rattle.reference.specs.Machine.{Registered, closed_answers}
@@ -41,3 +41,12 @@ pub record KeepsItsPromises (e : PlainEngine) : Type 0 where
   pub begins : GivesBeginnings e
   pub all : GivesAll e
   pub steepest : LeasesSteepest e
+
+-- IDLE: no operator may take anything, and no turn is out
+pub record IsIdle (e : PlainEngine) : Type 0 where
+  pub nothing : first_of e.slots ≡ None
+  pub returned : e.leases ≡ []
+
+-- then of each query that runs there wait just those of its answers that are closed and not yet taken
+abbrev pub HasAllWaiting : PlainEngine → Type 0
+HasAllWaiting e = (n : ℕ) (q : Registered) (p : PlainQuery) → query_at e n ≡ Some q → kept_at e n ≡ Running p → p.answers ≡ drop q.taken (closed_answers e.machine q)

@@ -5,7 +5,7 @@ ghost use Rattle.reference.specs.Machine.{Machine, Registered};
 ghost use Rattle.query_nets.specs.Queries.{PlainQuery};
 ghost use Rattle.ready_list.specs.declared.slots.Slot.{Slot};
 ghost use Rattle.leases.specs.Engines.{GoodEngine, IsIn, Lease, PlainEngine, Running, kept_at, query_at};
-ghost use Rattle.leases.specs.Promises.{KeepsItsPromises};
+ghost use Rattle.leases.specs.Promises.{HasAllWaiting, IsIdle, KeepsItsPromises};
 ghost use Rattle.leases.specs.Histories.{Call, LeadTo, empty};
 ghost use Rattle.leases.specs.Calls.{RunsOnAtTakes, IsAnsweredTurn, IsFinishedTurn, IsHeartbeat, IsLeasable, IsOf, IsRegistration, IsTake, abandoned, answered, appended, beaten, broken, declared, dropped, finished, leased, registered, taken};
 
@@ -78,4 +78,10 @@ pub fn registrations_keep_engines_good()
 /// the instants that are closed, all of them where no operator may take anything and no turn is out, and the first slot is steepest.
 pub fn engines_keep_their_promises()
     ensures { (calls : List Call) (e : PlainEngine) → LeadTo empty calls e → KeepsItsPromises e }
+{}
+
+/// Where no operator of a good engine may take anything and no turn is out, just those answers of each running query wait that are
+/// closed and not yet taken.
+pub fn idle_engines_have_all_waiting()
+    ensures { (e : PlainEngine) → GoodEngine e → IsIdle e → HasAllWaiting e }
 {}

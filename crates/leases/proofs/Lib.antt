@@ -5,3 +5,4 @@ pub mod TableLemmas
 pub mod FinishLemmas
 pub mod LeaseLemmas
 pub mod AgainLemmas
+pub mod ViewLemmas

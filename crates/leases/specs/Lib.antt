@@ -1,3 +1,5 @@
 pub mod Engines
 pub mod Promises
 pub mod Calls
+pub mod Views
+pub mod Shown

@@ -1,8 +1,13 @@
-//! An engine of many queries as a plain value: turns of their operators that go out and come back, and what is promised of it.
+//! An engine of many queries: turns of their operators that go out and come back, and what is promised of it.
 #![tactic(auto)]
 
+mod engine;
+mod given;
+mod kept;
 mod laws;
+mod registered;
 
+pub use engine::Engine;
 pub use laws::{
     abandoned_turns_keep_engines_good, broken_queries_keep_engines_good,
     finished_turns_keep_engines_good, good_engines_keep_their_promises, leases_keep_engines_good,

@@ -6,3 +6,4 @@ pub mod FinishLemmas
 pub mod LeaseLemmas
 pub mod AgainLemmas
 pub mod ViewLemmas
+pub mod AskLemmas

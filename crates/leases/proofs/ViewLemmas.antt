@@ -1,16 +1,15 @@
 -- The engine of the code before any call, and what waits at its queries.
-use Rattle.std.proofs.Common.{◌≡◌, ◌<◌, ◌≤◌, ℕ, zero, suc, Option, Some, None, List, [], ◌∷◌, length, map, get_or, slice_get, refl, sym, ap, ◌∙◌, arith}
+use Rattle.std.proofs.Common.{◌≡◌, ◌≤◌, ℕ, zero, suc, Some, None, List, [], ◌∷◌, length, map, get_or, slice_get, refl, sym, ap, arith}
 use Rattle.std.proofs.lemmas.List.{length-map}
 use Rattle.std.proofs.lemmas.Grind.{merely}
 use Rattle.ready_list.proofs.SlotLemmas.{none_ordered}
 use Rattle.ready_list.specs.declared.slots.Slot.{Slot}
 use Rattle.reference.specs.Machine.{Registered, Stream, empty}
 use Rattle.query_nets.specs.Machines.{IsMachine, MachinesStand}
-use Rattle.leases.specs.Engines.{Dropped, GoodEngine, PlainEngine, query_at, slot_of}
+use Rattle.leases.specs.Engines.{Dropped, GoodEngine, query_at, slot_of}
 use Rattle.leases.specs.Views.{IsEngine, empty_engine, engine_of, kept_of, lease_of, waiting_in}
 use Rattle.leases.specs.declared.given.Given.{Given}
 use Rattle.leases.specs.declared.kept.KeptQuery.{KeptQuery}
-use Rattle.leases.specs.declared.registered.Registration.{Registration}
 use Rattle.leases.proofs.PromiseLemmas.{is_slot}
 
 -- BEFORE ANY CALL

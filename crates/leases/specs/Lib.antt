@@ -3,3 +3,4 @@ pub mod Promises
 pub mod Calls
 pub mod Views
 pub mod Shown
+pub mod Asks

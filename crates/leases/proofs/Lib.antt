@@ -14,3 +14,5 @@ pub mod DeclaredLemmas
 pub mod RegisteredLemmas
 pub mod HistoryLemmas
 pub mod IdleLemmas
+pub mod ViewLemmas
+pub mod AskLemmas

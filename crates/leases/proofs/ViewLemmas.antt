@@ -1,0 +1,61 @@
+-- The engine of the code before any call, and what waits at its queries.
+use Rattle.std.proofs.Common.{◌≡◌, ◌≤◌, ℕ, zero, suc, Some, None, List, [], ◌∷◌, length, map, get_or, slice_get, refl, sym, ap, arith}
+use Rattle.std.proofs.lemmas.List.{length-map}
+use Rattle.std.proofs.lemmas.Grind.{merely}
+use Rattle.ready_list.proofs.SlotLemmas.{none_ordered}
+use Rattle.ready_list.specs.declared.slots.Slot.{Slot}
+use Rattle.reference.specs.Machine.{Registered, Stream, empty}
+use Rattle.query_nets.specs.Machines.{IsMachine, MachinesStand}
+use Rattle.leases.specs.Engines.{Dropped, GoodEngine, query_at, slot_of}
+use Rattle.leases.specs.Views.{IsEngine, empty_engine, engine_of, kept_of, lease_of, waiting_in}
+use Rattle.leases.specs.declared.given.Given.{Given}
+use Rattle.leases.specs.declared.kept.KeptQuery.{KeptQuery}
+use Rattle.leases.proofs.PromiseLemmas.{is_slot}
+
+-- BEFORE ANY CALL
+no_query : (n : ℕ) (q : Registered) → query_at empty_engine n ≡ Some q → ⊥
+no_query n q e = let f : None ≡ Some q = e in absurd (cc)
+
+no_slot : (n k : ℕ) (s : Slot) → slot_of empty_engine n k ≡ Some s → ⊥
+no_slot n k s e = let is = is_slot empty_engine n k s e in no_query n is.query is.registered
+
+empty_good : IsMachine empty → GoodEngine empty_engine
+empty_good h = record {
+  machine = h;
+  many = refl;
+  queries = λ n q e. absurd (no_query n q e);
+  leases = λ l i. absurd i;
+  apart = record { operators = λ a b i j q o. absurd i; numbers = λ a b i j n. absurd i };
+  slots = record { ordered = none_ordered; there = λ n k s e. absurd (no_slot n k s e); only = λ s i. absurd i };
+}
+
+empty_sound : MachinesStand → IsEngine empty_engine []
+empty_sound h = record { good = empty_good h.start; kinds = λ g i. absurd i; few = omega arith; numbers = omega arith }
+
+pub starts : (streams : List Stream) (slots : List Slot) → streams ≡ [] → slots ≡ [] → MachinesStand → ∥ IsEngine (engine_of streams [] [] [] 0 slots) [] ∥₁
+starts streams slots e f h = rw (e, f) (merely (empty_sound h))
+
+pub starts_empty : (streams : List Stream) (slots : List Slot) → streams ≡ [] → slots ≡ [] → engine_of streams [] [] [] 0 slots ≡ empty_engine
+starts_empty streams slots e f = rw (e, f) refl
+
+-- WHAT WAITS
+pub many_out : (ls : List Given) → length (map lease_of ls) ≡ length ls
+many_out ls = length-map ls lease_of
+
+pub past_kept : (ks : List KeptQuery) (n : ℕ) → length ks ≤ n → None ≡ waiting_in (get_or (map kept_of ks) n Dropped)
+past_kept [] n e = refl
+past_kept (k ∷ ks) zero e = absurd (omega (arith, e))
+past_kept (k ∷ ks) (suc n) e = past_kept ks n (omega (arith, e))
+
+pub none_kept : (ks : List KeptQuery) (n : ℕ) → slice_get ks n ≡ None → None ≡ waiting_in (get_or (map kept_of ks) n Dropped)
+none_kept [] n e = refl
+none_kept (k ∷ ks) zero e = absurd (cc)
+none_kept (k ∷ ks) (suc n) e = none_kept ks n e
+
+some_same : {X : Type 0} {a b : X} → Some a ≡ Some b → a ≡ b
+some_same e = cc
+
+pub some_kept : (ks : List KeptQuery) (n : ℕ) (k : KeptQuery) → slice_get ks n ≡ Some k → waiting_in (kept_of k) ≡ waiting_in (get_or (map kept_of ks) n Dropped)
+some_kept [] n k e = absurd (cc)
+some_kept (x ∷ ks) zero k e = let f : k ≡ x = some_same (sym e) in ap (λ z. waiting_in (kept_of z)) f
+some_kept (x ∷ ks) (suc n) k e = some_kept ks n k e

@@ -1,0 +1,71 @@
+-- The engine of the code as a plain value.
+use Rattle.std.specs.Prelude.{ℕ, ◌≡◌, ◌≤◌, Option, Some, None, List, [], length, map, string_bytes}
+use Rattle.values.specs.Resolved.{resolved_of}
+use Rattle.plan.specs.Views.{nodes_of}
+use Rattle.reference.specs.Machine as machine
+use Rattle.reference.specs.Machine.{Registered, Stream, empty}
+use Rattle.query_nets.specs.Queries.{PlainQuery, operator_at}
+use Rattle.ready_list.specs.declared.slots.Slot.{Slot}
+use Rattle.leases.specs.Engines.{Broken, Dropped, GoodEngine, IsIn, Kept, Lease, PlainEngine, Running, kept_at}
+use Rattle.leases.specs.declared.given.Given.{Given}
+use Rattle.leases.specs.declared.kept.KeptQuery.{KeptQuery}
+use Rattle.leases.specs.declared.kept.KeptQuery.TheVariants as code
+use Rattle.leases.specs.declared.registered.Place.{Place}
+use Rattle.leases.specs.declared.registered.Registration.{Registration}
+
+-- a source's place
+abbrev pub place_of : Place → machine.Place
+place_of p = record { stream = p.stream; arrivals = p.arrivals }
+
+-- a registered query
+abbrev pub query_of : Registration → Registered
+query_of r = record {
+  name = string_bytes r.name;
+  meaning = resolved_of r.plan.meaning;
+  nodes = nodes_of r.plan.nodes.items;
+  measures = r.plan.measures.items;
+  places = map place_of r.places.items;
+  first = r.first;
+  taken = r.taken;
+  is_dropped = r.is_dropped;
+}
+
+-- a turn that is out; what its operator does is known of the operator
+abbrev pub lease_of : Given → Lease
+lease_of g = record { number = g.number; query = g.node.query; operator = g.node.operator; side = g.node.side; item = g.item; excerpt = g.near }
+
+-- what is left of a query; of a broken one only what waits counts
+abbrev pub kept_of : KeptQuery → Kept
+kept_of (code.Running p) = Running p
+kept_of (code.Broken p) = Broken p.answers
+kept_of code.Dropped = Dropped
+
+abbrev pub engine_of : List Stream → List Registration → List KeptQuery → List Given → ℕ → List Slot → PlainEngine
+engine_of streams registered kept leases next slots = record {
+  machine = record { streams = streams; queries = map query_of registered };
+  queries = map kept_of kept;
+  leases = map lease_of leases;
+  next = next;
+  slots = slots;
+}
+
+-- a turn that is out does what its operator does
+abbrev pub HasKind : PlainEngine → Given → Type 0
+HasKind e g = (p : PlainQuery) → kept_at e g.node.query ≡ Running p → g.node.kind ≡ (operator_at p.operators g.node.operator).kind
+
+-- a good engine, of which few turns are out and not all numbers are given
+pub record IsEngine (e : PlainEngine) (leases : List Given) : Type 0 where
+  pub good : GoodEngine e
+  pub kinds : (g : Given) → IsIn leases g → HasKind e g
+  pub few : length leases ≤ 64
+  pub numbers : e.next ≤ 0x8000_0000_0000_0000
+
+-- before any call
+abbrev pub empty_engine : PlainEngine
+empty_engine = record { machine = empty; queries = []; leases = []; next = 0; slots = [] }
+
+-- how many answers wait; of a dropped query that is not said
+abbrev pub waiting_in : Kept → Option ℕ
+waiting_in (Running p) = Some (length p.answers)
+waiting_in (Broken answers) = Some (length answers)
+waiting_in Dropped = None

@@ -6,6 +6,7 @@ use Rattle.ready_list.proofs.SlotLemmas.{none_ordered}
 use Rattle.ready_list.specs.declared.slots.Slot.{Slot}
 use Rattle.reference.specs.Machine.{Registered, Stream, empty}
 use Rattle.query_nets.specs.Machines.{IsMachine, MachinesStand}
+use Rattle.query_nets.proofs.RowLemmas.{rows_stand}
 use Rattle.leases.specs.Engines.{Dropped, GoodEngine, query_at, slot_of}
 use Rattle.leases.specs.Views.{IsEngine, empty_engine, engine_of, kept_of, lease_of, waiting_in}
 use Rattle.leases.specs.declared.given.Given.{Given}
@@ -22,6 +23,7 @@ no_slot n k s e = let is = is_slot empty_engine n k s e in no_query n is.query i
 empty_good : IsMachine empty → GoodEngine empty_engine
 empty_good h = record {
   machine = h;
+  rows = rows_stand.start;
   many = refl;
   queries = λ n q e. absurd (no_query n q e);
   leases = λ l i. absurd i;

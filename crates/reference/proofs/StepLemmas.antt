@@ -8,13 +8,13 @@ use Rattle.reference.specs.Machine.{Stream, Registered, unless_dropped}
 use Rattle.reference.specs.declared.standing.StandingQuery.{StandingQuery}
 use Rattle.reference.specs.Standing.{query_of, waiting_of, fresh_of}
 use Rattle.reference.specs.declared.fault.Fault.{Fault}
-use Rattle.reference.specs.declared.fault.Fault.TheVariants.{Query, BadName, NameTaken, BadColumns, TooMany, UnknownStream, UnknownQuery, BadWidth, ValueRange, InstantRange, Late, Backward, Leap, StreamFull, BadLimit, OutOfMemory}
+use Rattle.reference.specs.declared.fault.Fault.TheVariants.{Query, BadName, NameTaken, BadColumns, TooMany, UnknownStream, UnknownQuery, BadWidth, ValueRange, InstantRange, Late, Backward, Leap, StreamFull, BadLimit, Broken, UnknownLease, Stranger, TooManyLeases, OutOfMemory}
 use Rattle.reference.specs.declared.fault.QueryFault.{QueryFault}
 use Rattle.reference.specs.Commands.{Found, change, query_tests, of_stream, of_query}
 use Rattle.names.specs.Faults.{first_of}
 use Rattle.reference.specs.Finds.{Finds}
 use Rattle.reference.specs.Told.{IsTold}
-use Rattle.reference.specs.World.{World, unless, Does, Drains, MayLackMemory}
+use Rattle.reference.specs.World.{World, unless, Does, MayLackMemory}
 
 module _ {A B : Type 0} (view : A → B) (w new : World) (a : B) where
   told : (f : Fault) → IsTold f → Does view w (unless (Some f) w a new) (Err f) w
@@ -33,6 +33,10 @@ module _ {A B : Type 0} (view : A → B) (w new : World) (a : B) where
   told Leap t = refl
   told StreamFull t = refl
   told BadLimit t = refl
+  told Broken t = refl
+  told UnknownLease t = refl
+  told Stranger t = refl
+  told TooManyLeases t = refl
   told OutOfMemory t = absurd t
 
   pub refused : (first : Option Fault) (f : Fault) → Some f ≡ first → IsTold f → Does view w (unless first w a new) (Err f) w
@@ -79,6 +83,10 @@ module _ {A B : Type 0} (view : A → B) (w new : World) (a : B) where
   not_found found Leap h = absurd h
   not_found found StreamFull h = absurd h
   not_found found BadLimit h = absurd h
+  not_found found Broken h = absurd h
+  not_found found UnknownLease h = absurd h
+  not_found found Stranger h = absurd h
+  not_found found TooManyLeases h = absurd h
 
   pub refused_text : (tests : List (Bool × Fault)) (found : Result Found QueryFault) (f : Fault) → None ≡ first_of tests → Finds found (Err f)
       → Does view w (unless (first_of (tests ++ query_tests found)) w a new) (Err f) w
@@ -88,28 +96,6 @@ module _ {A B : Type 0} (view : A → B) (w new : World) (a : B) where
   pub registered_first : (tests : List (Bool × Fault)) (found : Result Found QueryFault) (f : Found) → None ≡ first_of tests → found ≡ Ok f
       → None ≡ first_of (tests ++ query_tests found)
   registered_first tests found f e h = sym (passed tests (query_tests found) (sym e) ∙ ap (λ o. first_of (query_tests o)) h)
-
--- the same of a drain
-pub drained_told : (w new : World) (first : Option Fault) (f : Fault) → Some f ≡ first → IsTold f → Drains w (unless first w tt new) (Err f) w
-drained_told w new first f e t = subst (λ (o : Option Fault). Drains w (unless o w tt new) (Err f) w) e (go f t)
-  where
-    go : (f : Fault) → IsTold f → Drains w (unless (Some f) w tt new) (Err f) w
-    go (Query fault) t = refl
-    go BadName t = refl
-    go NameTaken t = refl
-    go BadColumns t = refl
-    go TooMany t = refl
-    go UnknownStream t = refl
-    go UnknownQuery t = refl
-    go BadWidth t = refl
-    go ValueRange t = refl
-    go InstantRange t = refl
-    go Late t = refl
-    go Backward t = refl
-    go Leap t = refl
-    go StreamFull t = refl
-    go BadLimit t = refl
-    go OutOfMemory t = absurd t
 
 -- the world of streams and queries
 abbrev pub made : List Stream → List StandingQuery → World

@@ -7,6 +7,7 @@ mod answering;
 mod asked;
 pub mod evaluate;
 mod fault;
+mod finding;
 mod laws;
 mod limits;
 mod new_rows;
@@ -19,6 +20,7 @@ pub use answering::Answering;
 pub use asked::answers;
 pub use envelope::Slope;
 pub use fault::{Fault, QueryFault};
+pub use finding::find_plan;
 pub use laws::{
     answers_only_grow, equal_window_bags_have_equal_answers,
     later_elements_change_no_closed_answer, order_of_arrival_matters_to_last_rows_alone,

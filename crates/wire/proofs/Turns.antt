@@ -2,13 +2,13 @@
 use Rattle.std.proofs.Common.{◌≡◌, ◌≤◌, ◌<◌, ℕ, Bool, true, false, ap, sym, ◌∙◌, [], ◌∷◌, Result, Ok, Err, map}
 use Rattle.std.specs.Prelude.{not, ◌&&◌, nat_le, None, ⊤}
 use Rattle.std.proofs.lemmas.Bool.{le-leb}
-use Rattle.reference.specs.World.{World, Step, Drains, drain_step, drain_fault, unless, untaken}
+use Rattle.reference.specs.World.{World, Step, Drains, IsPlenty, is_scarce, drain_step, drain_fault, unless, untaken}
 use Rattle.names.specs.Faults.{first_of}
 use Rattle.reference.specs.declared.limits.TheConstants.{MAX_TURN}
 use Rattle.reference.specs.declared.fault.Fault.{Fault}
-use Rattle.reference.specs.declared.fault.Fault.TheVariants.{Query, BadName, NameTaken, BadColumns, TooMany, UnknownStream, UnknownQuery, BadWidth, ValueRange, InstantRange, Late, Backward, Leap, StreamFull, BadLimit, OutOfMemory}
+use Rattle.reference.specs.declared.fault.Fault.TheVariants.{Query, BadName, NameTaken, BadColumns, TooMany, UnknownStream, UnknownQuery, BadWidth, ValueRange, InstantRange, Late, Backward, Leap, StreamFull, BadLimit, Broken, UnknownLease, Stranger, TooManyLeases, OutOfMemory}
 use Rattle.wire.specs.Calls.{drain}
-use Rattle.wire.specs.Script.{answered, done_of, done_step, is_scarce, Replies}
+use Rattle.wire.specs.Script.{answered, done_of, done_step, is_scarce_answer, Replies}
 
 legal : (rows : ℕ) → 0 < rows → rows ≤ 1024 → (nat_le 1 rows && nat_le rows MAX_TURN) ≡ true
 legal rows low high = ap (λ b. b && nat_le rows MAX_TURN) (le-leb 1 rows low) ∙ le-leb rows MAX_TURN high
@@ -36,6 +36,10 @@ refused_drain old new step Backward d plenty = d
 refused_drain old new step Leap d plenty = d
 refused_drain old new step StreamFull d plenty = d
 refused_drain old new step BadLimit d plenty = d
+refused_drain old new step Broken d plenty = d
+refused_drain old new step UnknownLease d plenty = d
+refused_drain old new step Stranger d plenty = d
+refused_drain old new step TooManyLeases d plenty = cc
 refused_drain old new step OutOfMemory d plenty = cc
 
 pub drained : (old new : World) (rows : ℕ) → 0 < rows → rows ≤ 1024 → (result : Result ⊤ Fault) → Drains old (drain_step old rows) result new
@@ -43,3 +47,8 @@ pub drained : (old new : World) (rows : ℕ) → 0 < rows → rows ≤ 1024 → 
 drained old new rows low high (Ok a) d plenty = ap done_step (sym (same_drain old rows low high) ∙ d)
 drained old new rows low high (Err fault) d plenty =
     ap done_step (sym (same_drain old rows low high) ∙ refused_drain old new (drain_step old rows) fault d plenty)
+
+-- a drain whose reply says nothing scarce
+pub drained_plenty : (result : Result ⊤ Fault) → is_scarce_answer (done_of result) ≡ false → IsPlenty result
+drained_plenty (Ok a) plenty = tt
+drained_plenty (Err fault) plenty = plenty

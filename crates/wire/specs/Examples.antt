@@ -1,5 +1,5 @@
 -- Worked lines.
-use Rattle.std.specs.Prelude.{◌≡◌, ℕ, List, [], ◌∷◌, ◌++◌, Some, None, Ok, Err, true, codes, pos, negsuc, refl}
+use Rattle.std.specs.Prelude.{◌≡◌, [], ◌∷◌, Some, None, true, codes, pos, negsuc, refl}
 use Rattle.std.specs.Fmt.{digits}
 use Rattle.envelope.specs.Fraction.{fraction}
 use Rattle.plan.specs.declared.node.Kind.TheVariants.{Window, ToStream}

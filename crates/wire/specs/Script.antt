@@ -3,7 +3,7 @@ use Rattle.std.specs.Prelude.{◌≡◌, ℕ, ℤ, Bool, true, false, List, [], 
 use Rattle.values.specs.Row.{Row}
 use Rattle.envelope.specs.Fraction.{Fraction}
 use Rattle.plan.specs.declared.node.Kind.{Kind}
-use Rattle.reference.specs.World.{World, Step, stream_named, query_named, declare_step, register_step, append_step, heartbeat_step, drain_step, take_step, drop_step, slopes_at}
+use Rattle.reference.specs.World.{World, Step, is_scarce, stream_named, query_named, declare_step, register_step, append_step, heartbeat_step, drain_step, take_step, drop_step, slopes_at}
 use Rattle.reference.specs.declared.fault.Fault.{Fault}
 use Rattle.reference.specs.declared.fault.Fault.TheVariants as in_engine
 use Rattle.wire.specs.Calls.{Call, declare, register, append, heartbeat, drain, take_rows, discard, show_plan}
@@ -60,11 +60,7 @@ replies w (request ∷ more) = line_of (served w request).0 ∷ replies (served 
 abbrev pub script : World → List ℕ → List (List ℕ)
 script w text = replies w (requests_of text)
 
--- want of memory
-abbrev pub is_scarce : Fault → Bool
-is_scarce in_engine.OutOfMemory = true
-is_scarce _ = false
-
+-- the reply says want of memory, or of numbers for turns
 abbrev pub is_scarce_answer : Answer → Bool
 is_scarce_answer done = false
 is_scarce_answer (rows taken) = false
@@ -73,11 +69,11 @@ is_scarce_answer (refused fault) = is_scarce fault
 is_scarce_answer (unread OutOfMemory) = true
 is_scarce_answer (unread _) = false
 
--- The reply and the world after it are the defined ones, unless memory was scarce.
+-- The reply and the world after it are the defined ones, unless the reply says that something was scarce.
 abbrev pub Replies : Answer × World → Answer → World → Type 0
 Replies defined answer new = is_scarce_answer answer ≡ false → defined ≡ (answer, new)
 
--- The written text is these lines, up to one that says that memory was scarce.
+-- The written text is these lines, up to one that says that memory, or numbers for turns, were scarce.
 abbrev pub Says : List (List ℕ) → List ℕ → Type 0
 Says [] written = written ≡ []
 Says (line ∷ lines) written =
@@ -89,7 +85,7 @@ abbrev pub Begins : List (List ℕ) → List ℕ → Type 0
 Begins lines written = (more : List ℕ) × Says lines (written ++ more)
 
 -- From the world `first` on these requests were answered by the written text, and this is the world after them; up to a
--- reply that says that memory was scarce.
+-- reply that says that memory, or numbers for turns, were scarce.
 abbrev pub Runs : World → List (Result Call WireFault) → List ℕ → World → Type 0
 Runs first [] written now = (written ≡ []) × (now ≡ first)
 Runs first (request ∷ more) written now =

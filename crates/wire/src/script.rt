@@ -1,10 +1,10 @@
 //! Scripts of requests.
-ghost use Rattle.std.specs.Prelude.{◌≡◌, ◌<◌, ◌≤◌, ℕ, List, Result, IfErr, OnOk, OnErr};
+ghost use Rattle.std.specs.Prelude.{◌≡◌, ◌<◌, ◌≤◌, ℕ, List, Result, IfErr, OnOk, OnErr, false};
 ghost use Rattle.wire.specs.Devices.{Puts, Rises};
 ghost use Rattle.wire.specs.Calls.{Call, append, heartbeat, take_rows, discard, show_plan, call_of};
 ghost use Rattle.wire.specs.Printed.{Answer, answer_of, line_of};
 ghost use Rattle.wire.specs.Requests.{Reads, requests_of};
-ghost use Rattle.wire.specs.Script.{answered, done_of, script, Says, Begins, Runs, Scripts, Stands, Replies, served};
+ghost use Rattle.wire.specs.Script.{answered, done_of, is_scarce_answer, script, Says, Begins, Runs, Scripts, Stands, Replies, served};
 ghost use Rattle.wire.specs.declared.request.WireFault.{WireFault};
 
 use crate::device::{Sink, Source};
@@ -27,9 +27,8 @@ fn done<T: Drop>(answer: Result<T, Fault>) -> Reply
 }
 
 fn append<E: Answering>(engine: &mut E, stream: &str, rows: &NewRows) -> Reply
-    requires { E.is_alone engine.old }
     ensures replies { Replies (answered (E.world engine.old) (append stream.now rows.now)) (answer_of result) (E.world engine.new) }
-    ensures alone { E.is_alone engine.new }
+    ensures whole { E.is_whole engine.old → E.is_whole engine.new }
 {
     match engine.stream_named(stream) {
         Some(number) => done(engine.append(number, rows)),
@@ -38,9 +37,8 @@ fn append<E: Answering>(engine: &mut E, stream: &str, rows: &NewRows) -> Reply
 }
 
 fn heartbeat<E: Answering>(engine: &mut E, stream: &str, at: i64) -> Reply
-    requires { E.is_alone engine.old }
     ensures replies { Replies (answered (E.world engine.old) (heartbeat stream.now at)) (answer_of result) (E.world engine.new) }
-    ensures alone { E.is_alone engine.new }
+    ensures whole { E.is_whole engine.old → E.is_whole engine.new }
 {
     match engine.stream_named(stream) {
         Some(number) => done(engine.heartbeat(number, at)),
@@ -49,9 +47,8 @@ fn heartbeat<E: Answering>(engine: &mut E, stream: &str, at: i64) -> Reply
 }
 
 fn take<E: Answering>(engine: &mut E, query: &str, limit: i64) -> Reply
-    requires { E.is_alone engine.old }
-    ensures replies { Replies (answered (E.world engine.old) (take_rows query.now limit)) (answer_of result) (E.world engine.new) }
-    ensures alone { E.is_alone engine.new }
+    ensures replies { E.is_whole engine.old → Replies (answered (E.world engine.old) (take_rows query.now limit)) (answer_of result) (E.world engine.new) }
+    ensures whole { E.is_whole engine.old → E.is_whole engine.new }
 {
     let Some(number) = engine.query_named(query) else {
         return Reply::Refused(Fault::UnknownQuery);
@@ -63,9 +60,8 @@ fn take<E: Answering>(engine: &mut E, query: &str, limit: i64) -> Reply
 }
 
 fn discard<E: Answering>(engine: &mut E, query: &str) -> Reply
-    requires { E.is_alone engine.old }
     ensures replies { Replies (answered (E.world engine.old) (discard query.now)) (answer_of result) (E.world engine.new) }
-    ensures alone { E.is_alone engine.new }
+    ensures whole { E.is_whole engine.old → E.is_whole engine.new }
 {
     match engine.query_named(query) {
         Some(number) => done(engine.drop_query(number)),
@@ -88,9 +84,8 @@ fn show_plan<E: Answering>(engine: &E, query: &str) -> Reply
 /// Runs a request, where a turn has at most so many rows.
 fn answer<E: Answering>(engine: &mut E, request: &Request, rows: u32) -> Reply
     requires rows { 0 < rows × rows ≤ 1024 }
-    requires alone { E.is_alone engine.old }
-    ensures replies { Replies (answered (E.world engine.old) (call_of request.now)) (answer_of result) (E.world engine.new) }
-    ensures alone { E.is_alone engine.new }
+    ensures replies { E.is_whole engine.old → Replies (answered (E.world engine.old) (call_of request.now)) (answer_of result) (E.world engine.new) }
+    ensures whole { E.is_whole engine.old → is_scarce_answer (answer_of result) ≡ false → E.is_whole engine.new }
 {
     match request {
         Request::Stream {
@@ -113,10 +108,9 @@ fn answer<E: Answering>(engine: &mut E, request: &Request, rows: u32) -> Reply
 /// Answers what was read of a line.
 fn serve<E: Answering>(engine: &mut E, read: Result<Request, WireFault>, rows: u32) -> Reply
     requires rows { 0 < rows × rows ≤ 1024 }
-    requires alone { E.is_alone engine.old }
-    ensures serves { (defined : Result Call WireFault) → Reads defined read
+    ensures serves { E.is_whole engine.old → (defined : Result Call WireFault) → Reads defined read
         → Replies (served (E.world engine.old) defined) (answer_of result) (E.world engine.new) }
-    ensures alone { E.is_alone engine.new }
+    ensures whole { E.is_whole engine.old → is_scarce_answer (answer_of result) ≡ false → E.is_whole engine.new }
 {
     match read {
         Ok(request) => answer(engine, &request, rows),
@@ -132,24 +126,23 @@ fn respond<K: Sink, E: Answering>(
     rows: u32,
 ) -> Result<(), ScriptFault>
     requires rows { 0 < rows × rows ≤ 1024 }
-    requires alone { E.is_alone engine.old }
     ensures written { (answer : Answer)
-        × ((defined : Result Call WireFault) → Reads defined read → Replies (served (E.world engine.old) defined) answer (E.world engine.new))
+        × (E.is_whole engine.old → (defined : Result Call WireFault) → Reads defined read → Replies (served (E.world engine.old) defined) answer (E.world engine.new))
+        × (E.is_whole engine.old → is_scarce_answer answer ≡ false → E.is_whole engine.new)
         × Puts (K.taken sink.old) (K.taken sink.new) (K.failures sink.old) (K.failures sink.new) result (line_of answer) }
     ensures fault { IfErr result (λ e. e ≡ ScriptFault.Write) }
-    ensures alone { E.is_alone engine.new }
 {
     let reply = serve(engine, read, rows);
     write_reply(sink, &reply)
 }
 
 /// Answers each request of the source by one line, up to the end of the source. A drain's turns have at most `rows` rows,
-/// 1 to 1,024, which changes no reply.
+/// 1 to 1,024, which changes no reply. At the start the engine has to be whole.
 ///
-/// What is written is the script's text of what the source gave, up to the first reply that says want of memory, from which
-/// on it rests with the engine. `ScriptFault::Read` and `ScriptFault::Write` where that device failed: then what is written
-/// is a beginning of that text, and the calls carried out stand: the engine is as they left it. `ScriptFault::Memory` where the line's buffers were
-/// refused, before anything was read.
+/// What is written is the script's text of what the source gave, up to the first reply that says want of memory, or of numbers
+/// for turns, from which on it rests with the engine. `ScriptFault::Read` and `ScriptFault::Write` where that device failed:
+/// then what is written is a beginning of that text, and the calls carried out stand: the engine is as they left it.
+/// `ScriptFault::Memory` where the line's buffers were refused, before anything was read.
 pub fn run_script<S: Source, K: Sink, E: Answering>(
     alloc: Global,
     source: &mut S,
@@ -158,7 +151,7 @@ pub fn run_script<S: Source, K: Sink, E: Answering>(
     rows: u32,
 ) -> Result<(), ScriptFault>
     requires rows { 0 < rows × rows ≤ 1024 }
-    requires alone { E.is_alone engine.old }
+    requires whole { E.is_whole engine.old }
     ensures text { OnOk result (Scripts (λ text written. Says (script (E.world engine.old) text) written)
         (S.left source.old) (K.taken sink.old) (K.taken sink.new)) }
     ensures begun { OnErr result (Scripts (λ text written. Begins (script (E.world engine.old) text) written)

@@ -1,4 +1,4 @@
-use programs::run;
+use programs::{run, run_options};
 use std::alloc::Global;
 use wire::{DeviceFailed, MemorySink, MemorySource, Sink, Source};
 
@@ -18,26 +18,63 @@ const FIRST_REPLIES: &str = r#"{"ok":true}
 {"ok":true,"rows":[[1,5],[3,6],[3,7]]}
 "#;
 
-// Whether `cqlrun` with a word over memory ends so, and says something of its errors where it does not end well.
-fn runs_to(alloc: Global, word: &str, input: &[u8], status: u8, replies: &[u8]) -> bool {
-    let words = ["cqlrun", word];
+// Whether `cqlrun` over memory ends so, and says something of its errors where it does not end well.
+fn runs_to(alloc: Global, words: &[&str], input: &[u8], status: u8, replies: &[u8]) -> bool {
     let mut source = MemorySource::new(input);
     let mut sink = MemorySink::new(alloc);
     let mut errors = MemorySink::new(alloc);
-    let ended = run(alloc, words.as_slice(), &mut source, &mut sink, &mut errors);
+    let ended = run(alloc, words, &mut source, &mut sink, &mut errors);
     ended == status && sink.bytes.as_slice() == replies && errors.bytes.is_empty() == (status == 0)
 }
 
 #[test]
 fn scripts_are_answered_by_their_text(rt: HostRuntime) {
-    assert!(rt; runs_to(rt.alloc(), "--plain", b"", 0, b""));
+    let plain = ["cqlrun", "--plain"];
+    assert!(rt; runs_to(rt.alloc(), plain.as_slice(), b"", 0, b""));
     let (input, replies) = (FIRST.as_bytes(), FIRST_REPLIES.as_bytes());
-    assert!(rt; runs_to(rt.alloc(), "--plain", input, 0, replies));
+    assert!(rt; runs_to(rt.alloc(), plain.as_slice(), input, 0, replies));
+    let turns = ["cqlrun", "--turn", "1"];
+    assert!(rt; runs_to(rt.alloc(), turns.as_slice(), input, 0, replies));
 }
 
 #[test]
 fn a_wrong_word_is_refused_and_nothing_is_answered(rt: HostRuntime) {
-    assert!(rt; runs_to(rt.alloc(), "--plane", FIRST.as_bytes(), 2, b""));
+    let plane = ["cqlrun", "--plane"];
+    assert!(rt; runs_to(rt.alloc(), plane.as_slice(), FIRST.as_bytes(), 2, b""));
+    let turns = ["cqlrun", "--turn", "0"];
+    assert!(rt; runs_to(rt.alloc(), turns.as_slice(), FIRST.as_bytes(), 2, b""));
+}
+
+// The most rows of a turn that the words ask for, and whether they ask for the plain engine, where they are not refused.
+fn asked(alloc: Global, words: &[&str]) -> Option<(u32, bool)> {
+    match run_options(alloc, words) {
+        Ok(options) => Some((options.turn, options.is_plain)),
+        Err(_) => None,
+    }
+}
+
+#[test]
+fn a_turn_has_from_1_to_1024_rows(rt: HostRuntime) {
+    for (text, turn) in [("1", 1), ("7", 7), ("+8", 8), ("0256", 256), ("1024", 1024)] {
+        let words = ["cqlrun", "--turn", text];
+        assert_eq!(rt; asked(rt.alloc(), words.as_slice()), Some((turn, false)));
+    }
+    for text in ["0", "1025", "4294967297", "-1", "7.5", "all", ""] {
+        let words = ["cqlrun", "--turn", text];
+        assert_eq!(rt; asked(rt.alloc(), words.as_slice()), None);
+    }
+}
+
+#[test]
+fn a_turn_is_said_once_or_has_256_rows(rt: HostRuntime) {
+    let bare = ["cqlrun"];
+    assert_eq!(rt; asked(rt.alloc(), bare.as_slice()), Some((256, false)));
+    let both = ["cqlrun", "--turn=7", "--plain"];
+    assert_eq!(rt; asked(rt.alloc(), both.as_slice()), Some((7, true)));
+    let twice = ["cqlrun", "--turn=7", "--turn=7"];
+    assert_eq!(rt; asked(rt.alloc(), twice.as_slice()), None);
+    let cut_short = ["cqlrun", "--turn"];
+    assert_eq!(rt; asked(rt.alloc(), cut_short.as_slice()), None);
 }
 
 // Whether help is written, and nothing of errors.

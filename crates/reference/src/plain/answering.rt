@@ -15,7 +15,7 @@ use values::Row;
 impl Answering for Plain {
     ghost world = { world_of };
 
-    ghost is_alone = { λ _. ⊤ };
+    ghost is_whole = { λ _. ⊤ };
 
     #[tactic(auto, unfolding(crate::specs::World::declare_step))]
     fn stream(&mut self, name: &str, columns: &[String], from: i64) -> Result<u64, Fault> {

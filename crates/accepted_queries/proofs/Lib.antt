@@ -1,0 +1,4 @@
+pub mod ConditionLemmas
+pub mod NameLemmas
+pub mod FoundLemmas
+pub mod StartLemmas

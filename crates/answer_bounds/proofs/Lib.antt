@@ -1,0 +1,4 @@
+pub mod AnswerLemmas
+pub mod InstantLemmas
+pub mod EngineLemmas
+pub mod HistoryLemmas

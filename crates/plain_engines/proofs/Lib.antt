@@ -1,0 +1,17 @@
+pub mod SlotLemmas
+pub mod PromiseLemmas
+pub mod BackLemmas
+pub mod TableLemmas
+pub mod FinishLemmas
+pub mod LeaseLemmas
+pub mod AgainLemmas
+pub mod TakeLemmas
+pub mod DropLemmas
+pub mod StreamLemmas
+pub mod AppendedLemmas
+pub mod BeatenLemmas
+pub mod DeclaredLemmas
+pub mod RegisteredLemmas
+pub mod HistoryLemmas
+pub mod IdleLemmas
+pub mod AskLemmas

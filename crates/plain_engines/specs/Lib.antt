@@ -1,0 +1,5 @@
+pub mod Engines
+pub mod Promises
+pub mod Calls
+pub mod Histories
+pub mod Asks

@@ -1,0 +1,52 @@
+-- What is promised of an engine of many queries.
+use Rattle.std.specs.Prelude.{ℕ, ◌≡◌, ◌<◌, ◌++◌, Some, None, List, [], drop, length}
+use Rattle.values.specs.Row.{Row}
+use Rattle.envelope.specs.Fraction.{NoGreater}
+use Rattle.reference.specs.Machine.{Registered, closed_answers}
+use Rattle.query_nets.specs.Queries.{PlainQuery}
+use Rattle.ready_list.specs.Slots.{first_of}
+use Rattle.ready_list.specs.declared.slots.Slot.{Slot}
+use Rattle.plain_engines.specs.Engines.{HasGiven, PlainEngine, Running, answers_in, instant_at, kept_at, query_at, slope_at}
+
+-- OF EACH QUERY the answers that were taken, and those that wait, are a beginning of CQL's answers for the instants that are closed
+abbrev pub GivesBeginnings : PlainEngine → Type 0
+GivesBeginnings e = (n : ℕ) (q : Registered) → query_at e n ≡ Some q → HasGiven e.machine q (answers_in (kept_at e n))
+
+-- they are all of them
+pub record HasGivenAll (e : PlainEngine) (q : Registered) (p : PlainQuery) : Type 0 where
+  pub taken : List (ℕ × Row)
+  pub counted : length taken ≡ q.taken
+  pub all : taken ++ p.answers ≡ closed_answers e.machine q
+
+-- of each query that runs, where no operator may take anything and no turn is out
+abbrev pub GivesAll : PlainEngine → Type 0
+GivesAll e = first_of e.slots ≡ None → e.leases ≡ [] → (n : ℕ) (q : Registered) (p : PlainQuery) → query_at e n ≡ Some q → kept_at e n ≡ Running p → HasGivenAll e q p
+
+-- THE FIRST SLOT is of an operator that may be leased, and no operator that may be leased has a greater slope
+pub record IsOfSteepest (e : PlainEngine) (s : Slot) : Type 0 where
+  pub query : Registered
+  pub registered : query_at e s.query ≡ Some query
+  pub kept : PlainQuery
+  pub running : kept_at e s.query ≡ Running kept
+  pub within : s.operator < length query.nodes
+  pub instant : instant_at e s.query query kept s.operator ≡ Some s.instant
+  pub steepest : (n k : ℕ) (q : Registered) (p : PlainQuery) (t : ℕ) → query_at e n ≡ Some q → kept_at e n ≡ Running p → k < length q.nodes → instant_at e n q p k ≡ Some t
+      → NoGreater (slope_at q k) (slope_at query s.operator)
+
+abbrev pub LeasesSteepest : PlainEngine → Type 0
+LeasesSteepest e = (s : Slot) → first_of e.slots ≡ Some s → IsOfSteepest e s
+
+-- ALL THREE
+pub record KeepsItsPromises (e : PlainEngine) : Type 0 where
+  pub begins : GivesBeginnings e
+  pub all : GivesAll e
+  pub steepest : LeasesSteepest e
+
+-- IDLE: no operator may take anything, and no turn is out
+pub record IsIdle (e : PlainEngine) : Type 0 where
+  pub nothing : first_of e.slots ≡ None
+  pub returned : e.leases ≡ []
+
+-- then of each query that runs there wait just those of its answers that are closed and not yet taken
+abbrev pub HasAllWaiting : PlainEngine → Type 0
+HasAllWaiting e = (n : ℕ) (q : Registered) (p : PlainQuery) → query_at e n ≡ Some q → kept_at e n ≡ Running p → p.answers ≡ drop q.taken (closed_answers e.machine q)

@@ -1,79 +1,131 @@
--- A drop leaves an engine good.
-use Rattle.std.proofs.Common.{◌≡◌, ◌≢◌, ℕ, ◌++◌, ⊎_elim, Option, Some, None, List, [], refl, sym, ap, ◌∙◌, subst, append-nil, append_assoc}
-use Rattle.std.specs.Prelude.{slice_get}
+-- Queries that leave an engine: its code's lists, and those of the plain engine.
+use Rattle.std.proofs.Common.{◌≡◌, ◌≢◌, ◌<◌, ℕ, zero, suc, ◌==◌, not, Bool, true, false, cond, Option, Some, None, List, [], ◌∷◌, filter, get_or, length, map, set, refl, sym, ap, ap₂, ◌∙◌, arith, eq-eqb}
+use Rattle.std.specs.Prelude.{Ok, Err, slice_get}
+use Rattle.std.specs.Option.{option_and_then}
+use Rattle.std.proofs.lemmas.List.{length-map}
+use Rattle.std.proofs.lemmas.Option.{slice_get_within}
 use Rattle.values.specs.Row.{Row}
-use Rattle.reference.specs.Commands.{Drop, after, change, first_fault}
 use Rattle.reference.specs.Commands as machine
-use Rattle.reference.specs.Machine.{Machine, Registered}
-use Rattle.query_nets.specs.Queries.{operator_at}
-use Rattle.query_nets.specs.Steps.{IsFirst}
-use Rattle.query_nets.proofs.BeatLemmas.{same_number}
-use Rattle.query_nets.proofs.MachineCounts.{machines_stand}
-use Rattle.query_nets.proofs.RowLemmas.{rows_stand}
-use Rattle.leases.specs.Engines.{Dropped, GoodEngine, HasGiven, IsKept, IsLease, Kept, Lease, PlainEngine, answers_in, kept_at, query_at, slot_in, slot_of}
-use Rattle.leases.specs.Calls.{dropped, of_others, with_queries}
+use Rattle.reference.specs.Commands.{Drop, after, change, first_fault, of_query}
+use Rattle.reference.specs.Machine.{Machine, Registered, Stream, unless_dropped}
+use Rattle.reference.specs.Named.{name_of_registered}
+use Rattle.reference.specs.World.{Step, drop_step, unless}
+use Rattle.reference.specs.declared.fault.Fault.{Fault}
 use Rattle.ready_list.specs.Slots.{without_query}
-use Rattle.leases.proofs.AgainLemmas.{log_again}
-use Rattle.leases.proofs.BackLemmas.{left_apart, numbered}
-use Rattle.leases.proofs.LeaseLemmas.{any_of_others, other_turn}
-use Rattle.leases.proofs.PromiseLemmas.{kept_given}
-use Rattle.leases.proofs.SlotLemmas.{in_filter, left_slots}
-use Rattle.leases.proofs.TakeLemmas.{Was, changed_here, changed_or_here, changed_or_there, changed_there, kept_again, many_changed, same_anew, was}
+use Rattle.ready_list.specs.declared.slots.Slot.{Slot}
+use Rattle.plain_engines.specs.Calls.{dropped, of_others}
+use Rattle.plain_engines.specs.Engines.{Dropped, GoodEngine, IsIn, Kept, Lease, PlainEngine, answers_in, world_of}
+use Rattle.plain_engines.proofs.SlotLemmas.{in_filter}
+use Rattle.leases.specs.Sound.{is_gone}
+use Rattle.leases.specs.Views.{engine_of, kept_of, lease_of, query_of}
+use Rattle.leases.specs.declared.given.Given.{Given}
+use Rattle.leases.specs.declared.kept.KeptQuery.{KeptQuery}
+use Rattle.leases.specs.declared.kept.KeptQuery.TheVariants as code
+use Rattle.leases.specs.declared.registered.Registration.{Registration}
+use Rattle.leases.proofs.LeaveLemmas.{ended}
 
--- what was taken of a dropped query is a beginning of its answers
-given_dropped : (m : Machine) (qs : List Registered) (q : Registered) (waiting : List (ℕ × Row)) → HasGiven m q waiting → HasGiven (with_queries m qs) (machine.dropped q) []
-given_dropped m qs q waiting g = record {
-  taken = g.taken;
-  counted = g.counted;
-  rest = waiting ++ g.rest;
-  begins = g.begins ∙ append_assoc g.taken waiting g.rest ∙ ap (λ z. z ++ (waiting ++ g.rest)) (sym (append-nil g.taken));
-}
+-- THE QUERY OF A NUMBER that was not dropped
+pub record IsThere (qs : List Registered) (n : ℕ) : Type 0 where
+  pub query : Registered
+  pub registered : slice_get qs n ≡ Some query
+  pub undropped : query.is_dropped ≡ false
 
-no_slot : (e : PlainEngine) (n k : ℕ) (o : Option Registered) (kept : Kept) → kept ≡ Dropped → slot_in e n k o kept ≡ None
-no_slot e n k None kept is = refl
-no_slot e n k (Some q) kept is = ap (slot_in e n k (Some q)) is
+there_by : (qs : List Registered) (n : ℕ) (o : Option Registered) → slice_get qs n ≡ o → of_query [] (option_and_then unless_dropped o) ≡ None → IsThere qs n
+there_by qs n None e h = absurd (cc)
+there_by qs n (Some q) e h = by_dropped q.is_dropped refl h where
+  by_dropped : (b : Bool) → q.is_dropped ≡ b → of_query [] (cond b None (Some q)) ≡ None → IsThere qs n
+  by_dropped true d h = absurd (cc)
+  by_dropped false d h = record { query = q; registered = e; undropped = d }
 
-module _ (e : PlainEngine) (n : ℕ) (g : GoodEngine e) (accepted : first_fault e.machine (Drop n) ≡ None) where
-  gone : kept_at (dropped e n) n ≡ Dropped
-  gone = changed_or_here (λ kept. Dropped) n e.queries Dropped refl
+pub there : (m : Machine) (n : ℕ) → first_fault m (Drop n) ≡ None → IsThere m.queries n
+there m n h = there_by m.queries n (slice_get m.queries n) refl h
 
-  drop_queries : (j : ℕ) (r : Registered) → query_at (dropped e n) j ≡ Some r → IsKept (dropped e n).machine r (kept_at (dropped e n) j)
-  drop_queries j r at = ⊎_elim
-      (λ same.
-      let w : Was machine.dropped (slice_get e.machine.queries n) r = was machine.dropped _ r (sym (changed_here machine.dropped n e.machine.queries) ∙ ap (query_at (dropped e n)) (sym same) ∙ at) in
-      subst (λ z. IsKept (dropped e n).machine r (kept_at (dropped e n) z)) (sym same)
-      (subst (IsKept (dropped e n).machine r) (sym gone)
-      (subst (λ z. HasGiven (dropped e n).machine z []) (sym w.new)
-      (given_dropped e.machine (change n machine.dropped e.machine.queries) w.old (answers_in (kept_at e n)) (kept_given e.machine w.old (kept_at e n) (g.queries n w.old w.is))))))
-      (λ ne. subst (IsKept (dropped e n).machine r) (sym (changed_or_there (λ kept. Dropped) n j e.queries Dropped ne))
-      (kept_again e.machine (change n machine.dropped e.machine.queries) r (kept_at e j) (g.queries j r (sym (changed_there machine.dropped n j e.machine.queries ne) ∙ at))))
-      (same_number j n)
+-- so the code has it
+pub registered_within : (rs : List Registration) (n : ℕ) → IsThere (map query_of rs) n → n < length rs
+registered_within rs n h = let many = length-map rs query_of in omega (arith, many, slice_get_within (map query_of rs) n h.query h.registered)
 
-  drop_lease : (a : Lease) → a.query ≢ n → IsLease e a → IsLease (dropped e n) a
-  drop_lease a ne is = record {
-    numbered = is.numbered;
-    query = is.query;
-    registered = changed_there machine.dropped n a.query e.machine.queries ne ∙ is.registered;
-    kept = is.kept;
-    running = changed_or_there (λ kept. Dropped) n a.query e.queries Dropped ne ∙ is.running;
-    within = is.within;
-    first = subst (λ z. IsFirst (operator_at is.kept.operators a.operator) z a.side a.item) (sym (log_again [] [] e.machine (change n machine.dropped e.machine.queries) is.query is.query.taken a.operator)) is.first;
-    near = is.near;
-  }
+pub kept_within : (e : PlainEngine) (ks : List KeptQuery) (n : ℕ) → GoodEngine e → e.queries ≡ map kept_of ks → IsThere e.machine.queries n → n < length ks
+kept_within e ks n g same h =
+    let many = length-map ks kept_of in
+    let all : length e.queries ≡ length (map kept_of ks) = ap (λ z. length z) same in
+    omega (arith, many, all, g.many, slice_get_within e.machine.queries n h.query h.registered)
 
-  other_slots : (j k : ℕ) → j ≢ n → slot_of (dropped e n) j k ≡ slot_of e j k
-  other_slots j k ne =
-      ap (λ z. slot_in (dropped e n) j k z (kept_at (dropped e n) j)) (changed_there machine.dropped n j e.machine.queries ne)
-      ∙ ap (slot_in (dropped e n) j k (query_at e j)) (changed_or_there (λ kept. Dropped) n j e.queries Dropped ne)
-      ∙ same_anew e (change n machine.dropped e.machine.queries) (change n (λ kept. Dropped) e.queries) (of_others n e.leases) (without_query n e.slots) j k (any_of_others n j k e.leases ne) (query_at e j) (kept_at e j)
+-- ITS NAME is free
+name_there : (b : Bool) (name : List ℕ) → b ≡ false → cond b None (Some name) ≡ Some name
+name_there true name h = absurd (cc)
+name_there false name h = refl
 
-  pub drop_good : GoodEngine (dropped e n)
-  drop_good = record {
-    machine = machines_stand.goes_on e.machine (Drop n) 0 accepted g.machine;
-    rows = rows_stand.goes_on e.machine (Drop n) 0 accepted g.rows;
-    many = many_changed (λ kept. Dropped) n e.queries ∙ g.many ∙ sym (many_changed machine.dropped n e.machine.queries);
-    queries = drop_queries;
-    leases = λ a i. drop_lease a (other_turn n e.leases a i) (g.leases a (in_filter _ e.leases a i).0);
-    apart = left_apart _ e.leases g.apart;
-    slots = left_slots (slot_of e) (slot_of (dropped e n)) e.slots n g.slots (numbered e) (λ k. no_slot (dropped e n) n k (query_at (dropped e n) n) (kept_at (dropped e n) n) gone) other_slots;
-  }
+pub named_there : (rs : List Registration) (n : ℕ) (d : Registration) → IsThere (map query_of rs) n → slice_get (map name_of_registered (map query_of rs)) n ≡ Some (Some (query_of (get_or rs n d)).name)
+named_there [] n d h = let e : None ≡ Some h.query = h.registered in absurd (cc)
+named_there (r ∷ rs) zero d h =
+    let e : Some (query_of r) ≡ Some h.query = h.registered in
+    let same : query_of r ≡ h.query = cc in
+    ap Some (name_there r.is_dropped (query_of r).name (ap (λ z. z.is_dropped) same ∙ h.undropped))
+named_there (r ∷ rs) (suc n) d h = named_there rs n d (record { query = h.query; registered = h.registered; undropped = h.undropped })
+
+pub names_dropped : (qs : List Registered) (n : ℕ) → set (map name_of_registered qs) n None ≡ map name_of_registered (change n machine.dropped qs)
+names_dropped [] n = refl
+names_dropped (q ∷ qs) zero = refl
+names_dropped (q ∷ qs) (suc n) = ap (λ z. name_of_registered q ∷ z) (names_dropped qs n)
+
+-- THE LISTS of the code
+pub registered_dropped : (rs : List Registration) (n : ℕ) (r d : Registration) → query_of r ≡ machine.dropped (query_of (get_or rs n d)) → map query_of (set rs n r) ≡ change n machine.dropped (map query_of rs)
+registered_dropped [] n r d h = refl
+registered_dropped (x ∷ rs) zero r d h = ap (λ z. z ∷ map query_of rs) h
+registered_dropped (x ∷ rs) (suc n) r d h = ap (λ z. query_of x ∷ z) (registered_dropped rs n r d h)
+
+pub kept_dropped : (ks : List KeptQuery) (n : ℕ) → map kept_of (set ks n code.Dropped) ≡ change n (λ kept. Dropped) (map kept_of ks)
+kept_dropped [] n = refl
+kept_dropped (k ∷ ks) zero = refl
+kept_dropped (k ∷ ks) (suc n) = ap (λ z. kept_of k ∷ z) (kept_dropped ks n)
+
+-- NOTHING IS LEFT of it
+pub gone_dropped : (qs : List Registered) (ks : List Kept) (n : ℕ) → map (λ q. q.is_dropped) qs ≡ map is_gone ks → map (λ q. q.is_dropped) (change n machine.dropped qs) ≡ map is_gone (change n (λ kept. Dropped) ks)
+gone_dropped [] [] n h = refl
+gone_dropped [] (k ∷ ks) n h = absurd (cc)
+gone_dropped (q ∷ qs) [] n h = absurd (cc)
+gone_dropped (q ∷ qs) (k ∷ ks) zero h = let later : map (λ z. z.is_dropped) qs ≡ map is_gone ks = cc in ap (λ z. true ∷ z) later
+gone_dropped (q ∷ qs) (k ∷ ks) (suc n) h =
+    let first : q.is_dropped ≡ is_gone k = cc in
+    let later : map (λ z. z.is_dropped) qs ≡ map is_gone ks = cc in
+    ap₂ (λ z zs. z ∷ zs) first (gone_dropped qs ks n later)
+
+pub waiting_dropped : (ks : List Kept) (n : ℕ) → map answers_in (change n (λ kept. Dropped) ks) ≡ change n (λ rows. []) (map answers_in ks)
+waiting_dropped [] n = refl
+waiting_dropped (k ∷ ks) zero = refl
+waiting_dropped (k ∷ ks) (suc n) = ap (λ z. answers_in k ∷ z) (waiting_dropped ks n)
+
+-- THE STEP of the machine
+pub drops : (e : PlainEngine) (n : ℕ) → first_fault e.machine (Drop n) ≡ None → drop_step (world_of e) n ≡ (Ok tt, world_of (dropped e n))
+unfolding drop_step
+drops e n h =
+    let new : List (List (ℕ × Row)) → Step (Unit {0}) = λ z. (Ok tt, record { machine = after e.machine (Drop n) 0; waiting = z }) in
+    ap (λ z. unless z (world_of e) tt (record { machine = after e.machine (Drop n) 0; waiting = change n (λ rows. []) (map answers_in e.queries) })) h ∙ ap new (sym (waiting_dropped e.queries n))
+
+pub refused : (e : PlainEngine) (n : ℕ) (f : Fault) → first_fault e.machine (Drop n) ≡ Some f → drop_step (world_of e) n ≡ (Err f, world_of e)
+unfolding drop_step
+refused e n f h = ap (λ z. unless z (world_of e) tt (record { machine = after e.machine (Drop n) 0; waiting = change n (λ rows. []) (map answers_in e.queries) })) h
+
+-- THE ENGINE of the code's lists
+module _ (streams : List Stream) (rs : List Registration) (ks : List KeptQuery) (gs gs2 : List Given) (next : ℕ) (slots slots2 : List Slot) (n : ℕ)
+    (turns : gs2 ≡ filter (λ g. not (g.node.query == n)) gs) (told : slots2 ≡ without_query n slots) where
+  turns_are : map lease_of gs2 ≡ of_others n (map lease_of gs)
+  turns_are = ap (λ z. map lease_of z) turns ∙ ended (λ l. not (l.query == n)) gs
+
+  pub is_dropped : (r d : Registration) → query_of r ≡ machine.dropped (query_of (get_or rs n d)) → engine_of streams (set rs n r) (set ks n code.Dropped) gs2 next slots2 ≡ dropped (engine_of streams rs ks gs next slots) n
+  is_dropped r d h =
+      let qs : List Registered = change n machine.dropped (map query_of rs) in
+      let left : List Kept = change n (λ kept. Dropped) (map kept_of ks) in
+      let one : List Registered → PlainEngine = λ z. record { machine = record { streams = streams; queries = z }; queries = map kept_of (set ks n code.Dropped); leases = map lease_of gs2; next = next; slots = slots2 } in
+      let two : List Kept → PlainEngine = λ z. record { machine = record { streams = streams; queries = qs }; queries = z; leases = map lease_of gs2; next = next; slots = slots2 } in
+      let three : List Lease → PlainEngine = λ z. record { machine = record { streams = streams; queries = qs }; queries = left; leases = z; next = next; slots = slots2 } in
+      let four : List Slot → PlainEngine = λ z. record { machine = record { streams = streams; queries = qs }; queries = left; leases = of_others n (map lease_of gs); next = next; slots = z } in
+      ap one (registered_dropped rs n r d h) ∙ ap two (kept_dropped ks n) ∙ ap three turns_are ∙ ap four told
+
+-- THE TURNS of other queries that are out
+pub another : (n : ℕ) (gs : List Given) (g : Given) → IsIn (filter (λ z. not (z.node.query == n)) gs) g → g.node.query ≢ n
+another n gs g i e =
+    let f = in_filter (λ (z : Given). not (z.node.query == n)) gs g i in
+    let t : (g.node.query == n) ≡ true = eq-eqb g.node.query n e in
+    let bad : false ≡ true = ap not (sym t) ∙ f.1 in
+    absurd (cc)

@@ -1,208 +1,239 @@
--- A finished turn leaves an engine good.
-use Rattle.std.proofs.Common.{◌≡◌, ◌≢◌, ℕ, ◌<◌, ◌++◌, ◌==◌, nat_lt, true, cond, inl, inr, ◌⊎◌, ⊎_elim, Option, Some, None, List, length, set, refl, sym, ap, ◌∙◌, subst, arith, eqb-true, eq-eqb}
-use Rattle.std.proofs.lemmas.List.{append_assoc, set-get_or}
-use Rattle.std.proofs.lemmas.Option.{get_or_from_slice_get, slice_get_within}
+-- A turn that comes back, over the engine as a plain value.
+use Rattle.std.proofs.Common.{◌≡◌, ◌≢◌, ◌<◌, ◌≤◌, ◌+◌, ℕ, inl, inr, List, ◌++◌, length, get_or, sym, ap, ◌∙◌, subst, arith}
+use Rattle.std.proofs.lemmas.List.FromFn.{get_or-map-range_with_len}
+use Rattle.std.proofs.lemmas.Option.{slice_get_within}
 use Rattle.values.specs.Row.{Row}
-use Rattle.column.specs.declared.batch.Side.{Side}
-use Rattle.column.specs.declared.batch.Side.TheVariants.{Left, Right}
+use Rattle.column.specs.declared.batch.Side.TheVariants.{Left}
 use Rattle.op_queue.specs.Entries.{Entry}
-use Rattle.op_queue.specs.Items.{entries_of}
-use Rattle.op_queue.specs.Logs.{Closed}
-use Rattle.op_queue.specs.declared.item.Item.{Item}
-use Rattle.turn.specs.Turns.{Answered}
-use Rattle.operators.specs.Inboxes.{entries_in, is_fed, queued}
-use Rattle.operators.specs.Operators.{IsFed, PlainOperator, inbox_of, waiting}
-use Rattle.operators.specs.States.{usable}
-use Rattle.operators.specs.declared.inboxes.Inbox.{Inbox}
-use Rattle.operators.specs.declared.inboxes.Inbox.TheVariants.{First, Between}
+use Rattle.turn.specs.Finished.{IsDone}
+use Rattle.turn.specs.Turns.{Answered, change_at, outs_at, outs_in}
+use Rattle.turn.specs.declared.parts.Parts.{Parts}
+use Rattle.operators.specs.Operators.{IsFed, IsFinished, PlainOperator}
+use Rattle.operators.specs.States.{near_of}
 use Rattle.compiled_plans.specs.Wiring.{wire_from}
-use Rattle.plan.proofs.Lists.{by_test}
+use Rattle.compiled_plans.specs.declared.wiring.Wire.{Wire}
 use Rattle.reference.specs.Machine.{Registered}
 use Rattle.nets.specs.Plans.{below_root}
 use Rattle.query_nets.specs.Laws.{RootsRun, TurnsRun}
-use Rattle.query_nets.specs.Machines.{IsQuery, widths_of}
-use Rattle.query_nets.specs.Queries.{IsRunning, MayFeed, PlainQuery, log_at, operator_at}
-use Rattle.query_nets.specs.Rooms.{IsBounded}
-use Rattle.query_nets.specs.Steps.{IsFirst, outs_at_first}
-use Rattle.query_nets.proofs.MachineCounts.{queries_stand}
+use Rattle.query_nets.specs.Machines.{widths_of}
+use Rattle.query_nets.specs.Queries.{IsTurned, PlainQuery, change_at_first, log_at, operator_at, stream_log}
+use Rattle.query_nets.specs.Steps.{outs_at_first}
 use Rattle.query_nets.proofs.NodeLemmas.{roots_run, turns_run}
 use Rattle.query_nets.proofs.WireLemmas.{Wired, wired}
+use Rattle.running_queries.specs.Turns.{CanFinish, CanPut, HasAnswered, HasFed, HasPut, log_of, wire_at}
 use Rattle.ready_list.specs.declared.slots.Slot.{Slot}
-use Rattle.leases.specs.Engines.{Dropped, Goes, GoodEngine, HasSlots, IsIn, IsKept, IsLease, Lease, PlainEngine, Running, instant_at, kept_at, query_at, slot_at, slot_in, slot_of}
-use Rattle.leases.specs.Calls.{IsAnsweredTurn, IsFinishedTurn, IsOf, abandoned, answered, finished, given_back, others, retold}
-use Rattle.leases.proofs.BackLemmas.{FirstStays, back_good, kept_here, kept_there, numbered, same_leased, same_plain, same_query, stays_same}
-use Rattle.leases.proofs.PromiseLemmas.{slot_is}
-use Rattle.leases.proofs.SlotLemmas.{changed_slots, numbers}
-use Rattle.leases.proofs.TableLemmas.{running_slot, same_slot_at, same_slot_in, updated, updated_here, updated_numbered, updated_there}
+use Rattle.plain_engines.specs.Asks.{IsOperator, MayAsk}
+use Rattle.plain_engines.specs.Calls.{IsAnsweredTurn, IsFinishedTurn, IsOf, answered, finished, given_back}
+use Rattle.plain_engines.specs.Engines.{Goes, GoodEngine, IsKept, IsLease, Lease, PlainEngine, Running, kept_at, slot_at}
+use Rattle.plain_engines.specs.Histories.{ComesBack}
+use Rattle.plain_engines.proofs.AskLemmas.{may_ask}
+use Rattle.plain_engines.proofs.BackLemmas.{kept_here, same_plain}
+use Rattle.plain_engines.proofs.FinishLemmas.{query_bounded}
+use Rattle.leases.specs.Applied.{HasWiredOperators, IsApplied, IsRetold, MayApply, MayApplyIn, with_kept, without_turn}
+use Rattle.leases.specs.Asked.{HasOperatorAt, IsAt}
+use Rattle.leases.specs.Turns.{IsOut, lease_of_parts}
 
--- THE ITEM of a turn stands first on its side
-pub lease_first : (e : PlainEngine) (l : Lease) (q : Registered) (p : PlainQuery) → IsLease e l → IsOf e l q p → IsFirst (operator_at p.operators l.operator) (log_at e.machine q l.operator) l.side l.item
-lease_first e l q p is of =
-    subst (λ z. IsFirst (operator_at z.operators l.operator) (log_at e.machine q l.operator) l.side l.item) (same_plain (sym is.running ∙ of.running))
-    (subst (λ z. IsFirst (operator_at is.kept.operators l.operator) (log_at e.machine z l.operator) l.side l.item) (same_query (sym is.registered ∙ of.registered)) is.first)
+-- THE EXCERPT of a turn that is out is the one of its operator's state
+lease_near : (e : PlainEngine) (l : Lease) (q : Registered) (p : PlainQuery) → IsLease e l → IsOf e l q p → l.excerpt ≡ near_of (operator_at p.operators l.operator).state l.side l.item
+lease_near e l q p is of = is.near ∙ ap (λ z. near_of (operator_at z.operators l.operator).state l.side l.item) (same_plain (sym is.running ∙ of.running))
 
--- WHAT IS FED stands behind what waits
-queued_is : (i : Inbox) (log : Closed) → is_fed i ≡ true → entries_in i log ≡ queued i
-queued_is (First c) log h = absurd (cc)
-queued_is (Between w) log h = refl
+-- fed by this wire, which leads on from the operator k
+record FedBy (w : Wire) (k : ℕ) (es : List (Entry Row)) (os os2 : List PlainOperator) : Type 0 where
+  pub fed : IsFed (operator_at os w.to) w.side es (operator_at os2 w.to)
+  pub others : (j : ℕ) → j ≢ k → j ≢ w.to → operator_at os2 j ≡ operator_at os j
 
-more : (o o2 : PlainOperator) (side : Side) (outs : List (Entry Row)) (log : Closed) → IsFed o side outs o2 → is_fed (inbox_of o side) ≡ true → waiting o2 log side ≡ waiting o log side ++ outs
-more o o2 side outs log f h = queued_is (inbox_of o2 side) log (f.fed ∙ h) ∙ f.queued ∙ ap (λ z. z ++ outs) (sym (queued_is (inbox_of o side) log h))
+-- a slot more or less, and an operator stands where it stood
+pub at_slots : (e : PlainEngine) (slots : List Slot) (n k : ℕ) (q : Registered) (p : PlainQuery) → IsAt e n k q p → IsAt (record e { slots = slots }) n k q p
+at_slots e slots n k q p at = record { registered = at.registered; running = at.running; within = at.within; operator = at.operator; log = at.log }
 
-first_more : (o o2 : PlainOperator) (log : Closed) (side : Side) (i : Item) (outs : List (Entry Row)) → o2.state ≡ o.state → waiting o2 log side ≡ waiting o log side ++ outs → IsFirst o log side i → IsFirst o2 log side i
-first_more o o2 log side i outs s w f = record {
-  rest = f.rest ++ outs;
-  some = f.some;
-  few = f.few;
-  is = w ∙ ap (λ z. z ++ outs) f.is ∙ append_assoc (entries_of i) f.rest outs;
-  usable = ap (λ z. usable z side) s ∙ f.usable;
-}
+-- A TURN THAT IS OUT of a good engine
+module _ (e : PlainEngine) (d : Parts) (q : Registered) (p : PlainQuery) (g : GoodEngine e) (out : IsOut e d q p) where
+  -- the engine may ask of its running queries what it does
+  asks : MayAsk e
+  asks = may_ask e g
 
-first_same : (o o2 : PlainOperator) (log : Closed) (side : Side) (i : Item) → o2.state ≡ o.state → inbox_of o2 side ≡ inbox_of o side → IsFirst o log side i → IsFirst o2 log side i
-first_same o o2 log side i s w f = record { rest = f.rest; some = f.some; few = f.few; is = ap (λ z. entries_in z log) w ∙ f.is; usable = ap (λ z. usable z side) s ∙ f.usable }
+  operator : (j : ℕ) → j < length q.nodes → IsOperator e d.node.query j q p
+  operator j lt = record { registered = out.of.registered; running = out.of.running; within = lt }
 
-fed_stays : (o o2 : PlainOperator) (side : Side) (outs : List (Entry Row)) (log : Closed) → IsFed o side outs o2 → is_fed (inbox_of o side) ≡ true → FirstStays o o2 log
-fed_stays o o2 side outs log f h = record { state = f.state; first = λ s i. by_sides side s f h i } where
-  by_sides : (a s : Side) → IsFed o a outs o2 → is_fed (inbox_of o a) ≡ true → (i : Item) → IsFirst o log s i → IsFirst o2 log s i
-  by_sides Left Left f h i = first_more o o2 log Left i outs f.state (more o o2 Left outs log f h)
-  by_sides Left Right f h i = first_same o o2 log Right i f.state f.other
-  by_sides Right Left f h i = first_same o o2 log Left i f.state f.other
-  by_sides Right Right f h i = first_more o o2 log Right i outs f.state (more o o2 Right outs log f h)
+  goes : Goes e.machine q p
+  goes = subst (IsKept e.machine q) out.of.running (g.queries d.node.query q out.of.registered)
 
--- A QUERY of a good engine is bounded
-pub query_bounded : (e : PlainEngine) → GoodEngine e → (n : ℕ) (q : Registered) → query_at e n ≡ Some q → IsBounded (widths_of e.machine.streams q) e.machine q
-query_bounded e g n q r =
-    let st = queries_stand e.machine g.machine in
-    st.bounded q (subst (IsQuery e.machine.streams) (get_or_from_slice_get e.machine.queries n q q r) (st.each n q (slice_get_within e.machine.queries n q r)))
+  many : length p.operators ≡ length q.nodes
+  many = goes.runs.runs.many
 
--- THE SLOTS after operators of one query have changed
-module _ (e : PlainEngine) (l : Lease) (q : Registered) (p p2 : PlainQuery) (g : GoodEngine e) (out : IsIn e.leases l) (of : IsOf e l q p) where
-  e2 : PlainEngine
-  e2 = given_back e l p2
+  -- THE OPERATORS of its query
+  pub is_at : (j : ℕ) → j < length q.nodes → IsAt e d.node.query j q p
+  is_at j lt =
+      record { registered = out.of.registered; running = out.of.running; within = lt; operator = asks.operators d.node.query j q p (operator j lt); log = asks.logs d.node.query j q p (operator j lt) }
 
-  here : kept_at e2 l.query ≡ Running p2
-  unfolding e2
-  here = kept_here e l.query (Running p2) (omega (arith, g.many, slice_get_within e.machine.queries l.query q of.registered))
+  wire_is : (j : ℕ) → j < length q.nodes → wire_at p j ≡ wire_from 0 q.nodes j
+  wire_is j lt =
+      let d : Wire = record { to = length p.wires; side = Left } in
+      let z : 0 + j ≡ j = omega arith in
+      ap (λ ws. get_or ws j d) goes.runs.wires ∙ get_or-map-range_with_len (wire_from 0 q.nodes) 0 (length q.nodes) j j d lt z
 
-  -- of another query
-  other_query : (n k : ℕ) → n ≢ l.query → slot_of e2 n k ≡ slot_of e n k
-  unfolding e2
-  other_query n k ne =
-      ap (slot_in (given_back e l p2) n k (query_at e n)) (kept_there e l.query n (Running p2) ne)
-      ∙ same_slot_in e (set e.queries l.query (Running p2)) (others l.number e.leases) e.next e.slots n k (same_leased e.leases l n k g.apart out (inl ne)) (query_at e n) (kept_at e n)
+  pub to_within : (j : ℕ) → j < below_root q.nodes → (wire_at p j).to < length q.nodes
+  to_within j lt =
+      let w : Wired q j = wired (widths_of e.machine.streams q) e.machine q goes.runs.runs.stands j lt in
+      let here : j < length q.nodes = omega (arith, lt) in
+      let to : (wire_at p j).to ≡ (wire_from 0 q.nodes j).to = ap (λ (x : Wire). x.to) (wire_is j here) in
+      omega (arith, to, w.within, here)
 
-  -- of another operator that is as it was
-  other_slot : (k : ℕ) → k ≢ l.operator → operator_at p2.operators k ≡ operator_at p.operators k → slot_of e2 l.query k ≡ slot_of e l.query k
-  unfolding e2
-  other_slot k ne o =
-      running_slot (given_back e l p2) l.query k q p2 of.registered here
-      ∙ ap (λ s. cond (nat_lt k (length q.nodes)) (Some s) None)
-      (same_slot_at e (set e.queries l.query (Running p2)) (others l.number e.leases) e.next e.slots l.query k (same_leased e.leases l l.query k g.apart out (inr ne)) q p p2 o)
-      ∙ sym (running_slot e l.query k q p of.registered of.running)
+  -- below the root, or at it, by their number
+  pub below_of : d.node.operator + 1 < length p.operators → d.node.operator < below_root q.nodes
+  below_of lt = omega (arith, lt, many)
 
-  slot_here : (k : ℕ) → k < length q.nodes → slot_of e2 l.query k ≡ Some (slot_at e2 l.query q p2 k)
-  unfolding e2
-  slot_here k within = slot_is (given_back e l p2) l.query k q p2 of.registered here within
+  pub root_of : length p.operators ≤ d.node.operator + 1 → d.node.operator ≡ below_root q.nodes
+  root_of le = let lt : d.node.operator < length q.nodes = out.of.within in omega (arith, le, lt, many)
 
-  same_by : (n k : ℕ) → (n ≢ l.query) ⊎ (k ≢ l.operator) → (n ≡ l.query → operator_at p2.operators k ≡ operator_at p.operators k) → slot_of e2 n k ≡ slot_of e n k
-  same_by n k ne o = by_test (n == l.query)
-      (λ t. let same : n ≡ l.query = eqb-true n l.query t in
-      let far : k ≢ l.operator = ⊎_elim (λ d. absurd (d same)) (λ d. d) ne in
-      subst (λ z. slot_of e2 z k ≡ slot_of e z k) (sym same) (other_slot k far (o same)))
-      (λ f. other_query n k (λ z. absurd (let h : (n == l.query) ≡ true = eq-eqb n l.query z in cc)))
+  pub wired_operators : HasWiredOperators e d.node.query
+  wired_operators j p2 running lt =
+      let same : p ≡ p2 = same_plain (sym out.of.running ∙ running) in
+      let below : j + 1 < length p.operators → j < below_root q.nodes = λ h. omega (arith, h, many) in (
+        q,
+        (
+          p,
+          is_at (wire_at p2 j).to
+              (subst (λ z. j + 1 < length z.operators → (wire_at z j).to < length q.nodes) same (λ h. to_within j (below h)) lt),
+        ),
+      )
 
-  -- one of them
-  pub one_slot : ((k : ℕ) → k ≢ l.operator → operator_at p2.operators k ≡ operator_at p.operators k) → HasSlots (slot_of (given_back e l p2)) (retold e (given_back e l p2) l.query q p p2 l.operator e.slots)
-  unfolding e2
-  one_slot o = changed_slots (slot_of e) (slot_of (given_back e l p2)) e.slots (slot_at e l.query q p l.operator) (instant_at (given_back e l p2) l.query q p2 l.operator) g.slots (numbered e)
-      (slot_is e l.query l.operator q p of.registered of.running of.within) (slot_here l.operator of.within)
-      (λ n k ne. same_by n k ne (λ same. o k (⊎_elim (λ d. absurd (d same)) (λ d. d) ne)))
+  -- WHAT THE TURN MADE is what the item at its operator's front makes
+  module _ (done : IsDone d) where
+    near_is : d.near ≡ near_of (operator_at p.operators d.node.operator).state d.node.side d.item
+    near_is = lease_near e (lease_of_parts d) q p (g.leases (lease_of_parts d) out.out) out.of
 
-  -- and the one that it feeds
-  pub two_slots : (to : ℕ) → to < length q.nodes → to ≢ l.operator → ((k : ℕ) → k ≢ l.operator → k ≢ to → operator_at p2.operators k ≡ operator_at p.operators k)
-      → HasSlots (slot_of (given_back e l p2)) (retold e (given_back e l p2) l.query q p p2 to (retold e (given_back e l p2) l.query q p p2 l.operator e.slots))
-  unfolding e2
-  two_slots to within apart o =
-      let new : Slot = slot_at (given_back e l p2) l.query q p2 l.operator in
-      let table : ℕ → ℕ → Option Slot = updated (slot_of e) l.query l.operator new in
-      let one : HasSlots table (retold e (given_back e l p2) l.query q p p2 l.operator e.slots) =
-      changed_slots (slot_of e) table e.slots (slot_at e l.query q p l.operator) (instant_at (given_back e l p2) l.query q p2 l.operator) g.slots (numbered e)
-      (slot_is e l.query l.operator q p of.registered of.running of.within) (updated_here (slot_of e) l.query l.operator new) (λ n k ne. updated_there (slot_of e) l.query l.operator new n k ne) in
-      changed_slots table (slot_of (given_back e l p2)) (retold e (given_back e l p2) l.query q p p2 l.operator e.slots) (slot_at e l.query q p to) (instant_at (given_back e l p2) l.query q p2 to) one
-      (updated_numbered (slot_of e) l.query l.operator new refl refl (numbered e))
-      (updated_there (slot_of e) l.query l.operator new l.query to (inr apart) ∙ slot_is e l.query to q p of.registered of.running within) (slot_here to within)
-      (λ n k ne. ⊎_elim
-      (λ at. ap (λ z. slot_of (given_back e l p2) z k) at.0 ∙ ap (slot_of (given_back e l p2) l.query) at.1 ∙ slot_here l.operator of.within
-      ∙ sym (ap (λ z. table z k) at.0 ∙ ap (table l.query) at.1 ∙ updated_here (slot_of e) l.query l.operator new))
-      (λ far. same_by n k far (λ same. o k (⊎_elim (λ d. absurd (d same)) (λ d. d) far) (⊎_elim (λ d. absurd (d same)) (λ d. d) ne)) ∙ sym (updated_there (slot_of e) l.query l.operator new n k far))
-      (numbers n k l.query l.operator))
+    outs_are : outs_in d.outputs ≡ outs_at_first (operator_at p.operators d.node.operator) d.node.side d.item
+    outs_are =
+        done.outputs ∙ ap (λ z. outs_at z d.node.side d.item d.near) out.kind
+        ∙ ap (outs_at (operator_at p.operators d.node.operator).kind d.node.side d.item) near_is
 
--- A FINISHED TURN below the root
-pub finish_good : (e : PlainEngine) (l : Lease) (q : Registered) (p p2 : PlainQuery) → GoodEngine e → IsIn e.leases l → IsFinishedTurn e l q p p2 → GoodEngine (finished e l q p p2)
-finish_good e l q p p2 g out t =
-    let goes : Goes e.machine q p = subst (IsKept e.machine q) t.of.running (g.queries l.query q t.of.registered) in
-    let first = lease_first e l q p (g.leases l out) t.of in
-    let turns : TurnsRun (widths_of e.machine.streams q) goes.widths e.machine q = turns_run (widths_of e.machine.streams q) goes.widths e.machine q (query_bounded e g l.query q t.of.registered) in
-    let fed : MayFeed (operator_at p.operators (wire_from 0 q.nodes l.operator).to) (wire_from 0 q.nodes l.operator).side t.outs =
-    turns.may_feed p.operators (goes.taken ++ p.answers) l.operator l.side l.item t.outs (operator_at p2.operators l.operator) goes.runs.runs t.below first t.puts t.turned.finished in
-    let w : Wired q l.operator = wired (widths_of e.machine.streams q) e.machine q goes.runs.runs.stands l.operator t.below in
-    let many : below_root q.nodes < length q.nodes = omega (arith, t.below) in
-    let goes2 : Goes e.machine q p2 = record {
-      widths = goes.widths;
-      sources = goes.sources;
-      taken = goes.taken;
-      counted = goes.counted;
-      runs = record {
-        wires = t.wires ∙ goes.runs.wires;
-        sources = t.sources ∙ goes.runs.sources;
-        runs = subst (λ z. IsRunning (widths_of e.machine.streams q) goes.widths e.machine q p2.operators (goes.taken ++ z)) (sym t.answers)
-            (turns.runs p.operators p2.operators (goes.taken ++ p.answers) l.operator l.side l.item t.outs goes.runs.runs t.below first t.puts t.turned);
-      };
-    } in
-    back_good e l q p p2 g out t.of goes2
-    (λ j ne. by_test (j == (wire_from 0 q.nodes l.operator).to)
-    (λ b. let same : j ≡ (wire_from 0 q.nodes l.operator).to = eqb-true j _ b in
-    subst (λ z. FirstStays (operator_at p.operators z) (operator_at p2.operators z) (log_at e.machine q j)) (sym same)
-    (fed_stays (operator_at p.operators (wire_from 0 q.nodes l.operator).to) (operator_at p2.operators (wire_from 0 q.nodes l.operator).to) (wire_from 0 q.nodes l.operator).side t.outs (log_at e.machine q j) t.turned.fed fed.fed))
-    (λ f. stays_same (operator_at p.operators j) (operator_at p2.operators j) (log_at e.machine q j) (t.turned.others j ne (λ z. absurd (let h : (j == (wire_from 0 q.nodes l.operator).to) ≡ true = eq-eqb j _ z in cc)))))
-    _
-    (two_slots e l q p p2 g out t.of (wire_from 0 q.nodes l.operator).to (omega (arith, w.within, many)) (λ z. absurd (omega (arith, w.later, z))) (λ k ne far. t.turned.others k ne far))
+    change_is : d.change ≡ change_at_first (operator_at p.operators d.node.operator) d.node.side d.item
+    change_is = done.change ∙ ap (λ z. change_at z d.item d.near) out.kind ∙ ap (change_at (operator_at p.operators d.node.operator).kind d.item) near_is
 
--- A FINISHED TURN of the root
-pub answer_good : (e : PlainEngine) (l : Lease) (q : Registered) (p p2 : PlainQuery) → GoodEngine e → IsIn e.leases l → IsAnsweredTurn e l q p p2 → GoodEngine (answered e l q p p2)
-answer_good e l q p p2 g out t =
-    let goes : Goes e.machine q p = subst (IsKept e.machine q) t.of.running (g.queries l.query q t.of.registered) in
-    let first0 = lease_first e l q p (g.leases l out) t.of in
-    let root : ℕ = below_root q.nodes in
-    let first : IsFirst (operator_at p.operators root) (log_at e.machine q root) l.side l.item = subst (λ k. IsFirst (operator_at p.operators k) (log_at e.machine q k) l.side l.item) t.root first0 in
-    let gives : outs_at_first (operator_at p.operators root) l.side l.item ≡ Answered t.rows = ap (λ k. outs_at_first (operator_at p.operators k) l.side l.item) (sym t.root) ∙ t.gives in
-    let roots : RootsRun (widths_of e.machine.streams q) goes.widths e.machine q = roots_run (widths_of e.machine.streams q) goes.widths e.machine q (query_bounded e g l.query q t.of.registered) in
-    let goes2 : Goes e.machine q p2 = record {
-      widths = goes.widths;
-      sources = goes.sources;
-      taken = goes.taken;
-      counted = goes.counted;
-      runs = record {
-        wires = t.wires ∙ goes.runs.wires;
-        sources = t.sources ∙ goes.runs.sources;
-        runs = subst (λ z. IsRunning (widths_of e.machine.streams q) goes.widths e.machine q p2.operators z) (append_assoc goes.taken p.answers t.rows ∙ ap (λ z. goes.taken ++ z) (sym t.answers))
-            (roots.runs p.operators p2.operators (goes.taken ++ p.answers) l.side l.item t.rows goes.runs.runs first gives t.turned);
-      };
-    } in
-    let unchanged : (k : ℕ) → k ≢ l.operator → operator_at p2.operators k ≡ operator_at p.operators k = λ k ne. t.turned.others k (λ z. ne (z ∙ sym t.root)) in
-    back_good e l q p p2 g out t.of goes2 (λ j ne. stays_same (operator_at p.operators j) (operator_at p2.operators j) (log_at e.machine q j) (unchanged j ne)) _ (one_slot e l q p p2 g out t.of unchanged)
+    -- so its query may take it
+    may_apply : MayApply e.machine.streams p d
+    may_apply = record {
+      here = asks.operators d.node.query d.node.operator q p (operator d.node.operator out.of.within);
+      may = subst (CanFinish (operator_at p.operators d.node.operator) (log_of e.machine.streams p d.node.operator) d.node.side d.item) (sym change_is) (asks.finishes (lease_of_parts d) q p out.out out.of);
+      puts = subst (λ c. CanPut e.machine.streams p d.node.operator d.node.side d.item c (outs_in d.outputs)) (sym change_is)
+          (subst (CanPut e.machine.streams p d.node.operator d.node.side d.item (change_at_first (operator_at p.operators d.node.operator) d.node.side d.item)) (sym outs_are)
+          (asks.puts (lease_of_parts d) q p out.out out.of));
+    }
 
--- AN ABANDONED TURN
-pub abandon_good : (e : PlainEngine) (l : Lease) (q : Registered) (p : PlainQuery) → GoodEngine e → IsIn e.leases l → IsOf e l q p → GoodEngine (abandoned e l q p)
-abandon_good e l q p g out of =
-    let goes : Goes e.machine q p = subst (IsKept e.machine q) of.running (g.queries l.query q of.registered) in
-    let same : set e.queries l.query (Running p) ≡ e.queries = ap (set e.queries l.query) (sym of.running) ∙ set-get_or e.queries l.query Dropped in
-    let good : GoodEngine (answered e l q p p) =
-    back_good e l q p p g out of goes (λ j ne. stays_same (operator_at p.operators j) (operator_at p.operators j) (log_at e.machine q j) refl) _ (one_slot e l q p p g out of (λ k ne. refl)) in
-    subst (λ z. GoodEngine (record {
-      machine = e.machine;
-      queries = z;
-      leases = others l.number e.leases;
-      next = e.next;
-      slots = retold e (record { machine = e.machine; queries = z; leases = others l.number e.leases; next = e.next; slots = e.slots }) l.query q p p l.operator e.slots;
-    })) same good
+    pub may_apply_in : MayApplyIn e d
+    may_apply_in = (p, (out.of.running, may_apply))
+
+    -- AND WHEN IT HAS
+    module _ (p2 : PlainQuery) (a : IsApplied e.machine.streams p d p2) where
+      at_log : IsFinished (operator_at p.operators d.node.operator) (log_at e.machine q d.node.operator) d.node.side d.item (change_at_first (operator_at p.operators d.node.operator) d.node.side d.item)
+          (operator_at p2.operators d.node.operator)
+      at_log =
+          subst (λ l. IsFinished (operator_at p.operators d.node.operator) l d.node.side d.item (change_at_first (operator_at p.operators d.node.operator) d.node.side d.item) (operator_at p2.operators d.node.operator))
+          (asks.logs d.node.query d.node.operator q p (operator d.node.operator out.of.within))
+          (subst (λ c. IsFinished (operator_at p.operators d.node.operator) (log_of e.machine.streams p d.node.operator) d.node.side d.item c (operator_at p2.operators d.node.operator)) change_is a.finished.finished)
+
+      turned : (outs : List (Entry Row)) → HasFed p d.node.operator outs p2 → IsTurned e.machine q d.node.operator d.node.side d.item outs p.operators p2.operators
+      turned outs put =
+          let t : FedBy (wire_from 0 q.nodes d.node.operator) d.node.operator outs p.operators p2.operators =
+          subst (λ w. FedBy w d.node.operator outs p.operators p2.operators) (wire_is d.node.operator out.of.within) (record { fed = put.fed; others = put.others }) in
+          record { many = a.finished.many; finished = at_log; fed = t.fed; others = t.others }
+
+      -- below the root
+      finished_turn : d.node.operator < below_root q.nodes → IsFinishedTurn e (lease_of_parts d) q p p2
+      finished_turn lt =
+          let turns : TurnsRun (widths_of e.machine.streams q) goes.widths e.machine q = turns_run (widths_of e.machine.streams q) goes.widths e.machine q (query_bounded e g d.node.query q out.of.registered) in
+          let outs = turns.puts p.operators (goes.taken ++ p.answers) d.node.operator d.node.side d.item goes.runs.runs lt in
+          let fed : HasFed p d.node.operator outs.0 p2 = subst (λ o. HasPut p d.node.operator o p2) (outs_are ∙ outs.1) a.put in
+          record {
+            of = out.of;
+            below = lt;
+            outs = outs.0;
+            puts = outs.1;
+            turned = turned outs.0 fed;
+            wires = a.finished.wires;
+            sources = a.finished.sources;
+            answers = fed.answers;
+          }
+
+      -- at the root
+      answered_turn : d.node.operator ≡ below_root q.nodes → IsAnsweredTurn e (lease_of_parts d) q p p2
+      answered_turn at =
+          let roots : RootsRun (widths_of e.machine.streams q) goes.widths e.machine q = roots_run (widths_of e.machine.streams q) goes.widths e.machine q (query_bounded e g d.node.query q out.of.registered) in
+          let gives : (rows : List (ℕ × Row)) × (outs_at_first (operator_at p.operators d.node.operator) d.node.side d.item ≡ Answered rows) =
+          subst (λ n. (rows : List (ℕ × Row)) × (outs_at_first (operator_at p.operators n) d.node.side d.item ≡ Answered rows)) (sym at) (roots.gives p.operators (goes.taken ++ p.answers) d.node.side d.item goes.runs.runs) in
+          let gave : HasAnswered p d.node.operator gives.0 p2 = subst (λ o. HasPut p d.node.operator o p2) (outs_are ∙ gives.1) a.put in
+          record {
+            of = out.of;
+            root = at;
+            rows = gives.0;
+            gives = gives.1;
+            turned = record {
+              many = a.finished.many;
+              finished = subst (λ n. IsFinished (operator_at p.operators n) (log_at e.machine q n) d.node.side d.item (change_at_first (operator_at p.operators n) d.node.side d.item) (operator_at p2.operators n)) at at_log;
+              others = λ j ne. gave.others j (λ same. ne (same ∙ at));
+            };
+            wires = a.finished.wires;
+            sources = a.finished.sources;
+            answers = gave.answers;
+          }
+
+      -- ITS OPERATORS stand where they stood
+      here : kept_at (given_back e (lease_of_parts d) p2) d.node.query ≡ Running p2
+      here = kept_here e d.node.query (Running p2) (omega (arith, g.many, slice_get_within e.machine.queries d.node.query q out.of.registered))
+
+      back_at : (j : ℕ) → j < length q.nodes → IsAt (given_back e (lease_of_parts d) p2) d.node.query j q p2
+      back_at j lt =
+          let was = is_at j lt in
+          record {
+            registered = out.of.registered;
+            running = here;
+            within = lt;
+            operator = record {
+              operator = omega (arith, was.operator.operator, a.finished.many);
+              wire = subst (λ (ws : List Wire). j < length ws) (sym a.finished.wires) was.operator.wire;
+              source = subst (λ (ss : List ℕ). j < length ss) (sym a.finished.sources) was.operator.source;
+              stream = subst (λ (ss : List ℕ). get_or ss j 0 < length e.machine.streams) (sym a.finished.sources) was.operator.stream;
+            };
+            log = ap (λ (ss : List ℕ). stream_log e.machine.streams (get_or ss j 0)) a.finished.sources ∙ was.log;
+          }
+
+      -- THE SLOTS that are told anew: that of the operator
+      pub ended : (e1 e2 : PlainEngine) → e1 ≡ with_kept e d.node.query (Running p2) → e2 ≡ without_turn e1 d.lease → e2 ≡ given_back e (lease_of_parts d) p2
+      ended e1 e2 a b = b ∙ ap (λ z. without_turn z d.lease) a
+
+      module _ (e2 : PlainEngine) (s : Slot) (back : e2 ≡ given_back e (lease_of_parts d) p2) (is : s ≡ slot_at e d.node.query q p d.node.operator) where
+        pub may_retell : HasOperatorAt e2 s.query s.operator
+        may_retell =
+            subst (λ z. HasOperatorAt z s.query s.operator) (sym back)
+            (subst (λ z. HasOperatorAt (given_back e (lease_of_parts d) p2) z.query z.operator) (sym is) (q, (p2, back_at d.node.operator out.of.within)))
+
+        pub told : (e3 : PlainEngine) → IsRetold e2 s e3 → e3 ≡ answered e (lease_of_parts d) q p p2
+        told e3 t =
+            let r : IsRetold (given_back e (lease_of_parts d) p2) (slot_at e d.node.query q p d.node.operator) e3 =
+            subst (λ z. IsRetold z (slot_at e d.node.query q p d.node.operator) e3) back (subst (λ z. IsRetold e2 z e3) is t) in
+            r q p2 out.of.registered here
+
+      -- and that of the one that it feeds
+      module _ (e3 : PlainEngine) (s : Slot) (back : e3 ≡ answered e (lease_of_parts d) q p p2) (is : s ≡ slot_at e d.node.query q p (wire_at p d.node.operator).to) where
+        pub may_retell_above : d.node.operator + 1 < length p.operators → HasOperatorAt e3 s.query s.operator
+        may_retell_above lt =
+            let at : IsAt (answered e (lease_of_parts d) q p p2) d.node.query (wire_at p d.node.operator).to q p2 =
+            at_slots (given_back e (lease_of_parts d) p2) (answered e (lease_of_parts d) q p p2).slots d.node.query (wire_at p d.node.operator).to q p2
+            (back_at (wire_at p d.node.operator).to (to_within d.node.operator (below_of lt))) in
+            subst (λ z. HasOperatorAt z s.query s.operator) (sym back)
+            (subst (λ z. HasOperatorAt (answered e (lease_of_parts d) q p p2) z.query z.operator) (sym is) (q, (p2, at)))
+
+        pub told_above : (e4 : PlainEngine) → IsRetold e3 s e4 → e4 ≡ finished e (lease_of_parts d) q p p2
+        told_above e4 t =
+            let at : s ≡ slot_at e d.node.query q p (wire_from 0 q.nodes d.node.operator).to = is ∙ ap (λ (w : Wire). slot_at e d.node.query q p w.to) (wire_is d.node.operator out.of.within) in
+            let r : IsRetold (answered e (lease_of_parts d) q p p2) (slot_at e d.node.query q p (wire_from 0 q.nodes d.node.operator).to) e4 =
+            subst (λ z. IsRetold z (slot_at e d.node.query q p (wire_from 0 q.nodes d.node.operator).to) e4) back (subst (λ z. IsRetold e3 z e4) at t) in
+            r q p2 out.of.registered here
+
+      -- SO IT HAS COME BACK
+      pub comes_back_below : (e4 : PlainEngine) → d.node.operator + 1 < length p.operators → e4 ≡ finished e (lease_of_parts d) q p p2 → ComesBack e (lease_of_parts d) q p p2 e4
+      comes_back_below e4 lt is = inl (finished_turn (below_of lt), is)
+
+      pub comes_back_root : (e4 : PlainEngine) → length p.operators ≤ d.node.operator + 1 → e4 ≡ answered e (lease_of_parts d) q p p2 → ComesBack e (lease_of_parts d) q p p2 e4
+      comes_back_root e4 le is = inr (answered_turn (root_of le), is)

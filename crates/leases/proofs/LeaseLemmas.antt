@@ -1,149 +1,252 @@
--- A turn that goes out, and a query that breaks, leave an engine good.
-use Rattle.std.proofs.Common.{◌≡◌, ◌≢◌, ℕ, ◌+◌, ◌<◌, ◌++◌, ◌||◌, ◌==◌, not, Bool, cond, true, false, inl, inr, ◌⊎◌, ⊎_elim, Option, Some, None, List, [], ◌∷◌, length, set, refl, sym, ap, ◌∙◌, subst, arith, eqb-true, eq-eqb}
+-- A turn that goes out, and the engine after it.
+use Rattle.std.proofs.Common.{◌≡◌, ℕ, ◌+◌, ◌<◌, ◌++◌, ◌||◌, ◌==◌, Bool, cond, true, false, inl, inr, ◌⊎◌, ⊎_elim, Option, Some, None, Result, Ok, List, [], ◌∷◌, length, map, min, refl, sym, ap, ◌∙◌, subst, arith, eq-eqb, length-append}
 use Rattle.std.specs.List.{list_any}
-use Rattle.std.proofs.lemmas.List.{length-set}
-use Rattle.std.proofs.lemmas.Option.{slice_get_within}
-use Rattle.plan.proofs.Lists.{by_test}
+use Rattle.std.specs.Option.{option_map}
+use Rattle.std.proofs.lemmas.List.{map-append}
+use Rattle.values.specs.Row.{Row}
+use Rattle.column.specs.declared.batch.Side.{Side}
+use Rattle.op_queue.specs.Entries.{RowAt, TickAt}
+use Rattle.op_queue.specs.Items.{entries_of}
+use Rattle.op_queue.specs.declared.item.Item.{Item}
+use Rattle.op_queue.specs.declared.item.Item.TheVariants.{Rows, Tick}
+use Rattle.turn.specs.Nodes.{PlainNode}
+use Rattle.turn.specs.declared.excerpts.Near.{Near}
+use Rattle.turn.specs.declared.turns.Turn.{Turn}
+use Rattle.operators.specs.Inboxes.{cut_of}
+use Rattle.operators.specs.Operators.{inbox_of, ready}
+use Rattle.operators.specs.States.{near_of}
 use Rattle.reference.specs.Machine.{Registered}
-use Rattle.query_nets.specs.Queries.{PlainQuery}
+use Rattle.reference.specs.declared.fault.Fault.{Fault}
+use Rattle.reference.specs.Named.{name_of_registered}
+use Rattle.query_nets.specs.Queries.{PlainQuery, log_at, operator_at}
+use Rattle.query_nets.specs.Registrations.{HaveColumnNames}
+use Rattle.query_nets.specs.Steps.{IsFirst}
+use Rattle.ready_list.specs.Slots.{changed, first_of}
 use Rattle.ready_list.specs.declared.slots.Slot.{Slot}
-use Rattle.leases.specs.Engines.{AreApart, Broken, Goes, GoodEngine, HasGiven, HasSlots, IsIn, IsKept, IsLease, Lease, PlainEngine, Running, instant_at, is_leased, is_of, kept_at, query_at, slot_at, slot_in, slot_of}
-use Rattle.leases.specs.Promises.{IsOfSteepest}
-use Rattle.leases.specs.Calls.{IsLeasable, broken, given_out, leased, of_others, retold}
-use Rattle.leases.proofs.BackLemmas.{kept_here, kept_there, left_apart, numbered, same_query, unequal}
-use Rattle.leases.proofs.PromiseLemmas.{kept_given, keeps_its_promises, slot_is}
-use Rattle.leases.proofs.SlotLemmas.{changed_slots, in_filter, left_slots}
-use Rattle.leases.proofs.TableLemmas.{same_slot_in}
+use Rattle.running_queries.specs.Turns.{HasOperator, IsLeased, log_of}
+use Rattle.answer_bounds.specs.Bounds.{HaveFewClosed}
+use Rattle.plain_engines.specs.Calls.{IsLeasable, given_out, leased, retold}
+use Rattle.plain_engines.specs.Engines.{GoodEngine, IsIn, Lease, PlainEngine, Running, instant_at, is_leased, is_of, kept_at, slot_at}
+use Rattle.plain_engines.specs.Promises.{HasAllWaiting, IsOfSteepest}
+use Rattle.plain_engines.proofs.AskLemmas.{may_ask}
+use Rattle.plain_engines.proofs.IdleLemmas.{idle_waits}
+use Rattle.plain_engines.proofs.LeaseLemmas.{lease_good}
+use Rattle.plain_engines.proofs.PromiseLemmas.{first_in, keeps_its_promises, slot_is}
+use Rattle.leases.specs.Leasing.{IsOfSide, IsReady, IsReadyAt, IsTurnOn, MayLeaseOn, node_on, turn_with}
+use Rattle.leases.specs.Shown.{engine_in}
+use Rattle.leases.specs.Sound.{IsSound, is_gone}
+use Rattle.leases.specs.Turns.{IsTurnOf, Leases}
+use Rattle.leases.specs.Views.{HasKind, engine_of, lease_of}
+use Rattle.leases.specs.declared.given.Given.{Given}
+use Rattle.leases.specs.declared.leased.Leased.{Leased}
+use Rattle.leases.specs.declared.leased.Leased.TheVariants.{Idle}
+use Rattle.leases.specs.declared.limits.TheConstants.{LEASE_NUMBERS, MAX_LEASES}
+use Rattle.leases.specs.declared.state.State.{State}
 
--- THE TURNS with one more
-in_push : (ls : List Lease) (l a : Lease) → IsIn (ls ++ l ∷ []) a → IsIn ls a ⊎ (l ≡ a)
-in_push [] l a (inl e) = inr e
-in_push [] l a (inr i) = absurd i
-in_push (x ∷ ls) l a (inl e) = inl (inl e)
-in_push (x ∷ ls) l a (inr i) = ⊎_elim (λ j. inl (inr j)) (λ e. inr e) (in_push ls l a i)
+-- AN ITEM is known by its entries
+known_rows : (t u : ℕ) (b c : List (Bool × Row)) → map (RowAt t) b ≡ map (RowAt u) c → b ≡ c
+known_rows t u [] [] e = refl
+known_rows t u [] (y ∷ c) e = absurd (cc)
+known_rows t u (x ∷ b) [] e = absurd (cc)
+known_rows t u (x ∷ b) (y ∷ c) e =
+    let f : RowAt t x ∷ map (RowAt t) b ≡ RowAt u y ∷ map (RowAt u) c = e in
+    let same : x ≡ y = cc in
+    let rest : map (RowAt t) b ≡ map (RowAt u) c = cc in
+    ap (λ z. z ∷ b) same ∙ ap (λ z. y ∷ z) (known_rows t u b c rest)
 
-any_push : (p : Lease → Bool) (ls : List Lease) (l : Lease) → p l ≡ false → list_any p (ls ++ l ∷ []) ≡ list_any p ls
-any_push p [] l f = rw f refl
-any_push p (x ∷ ls) l f = ap (λ b. p x || b) (any_push p ls l f)
+known_item : (i j : Item) → 0 < length (entries_of i) → entries_of i ≡ entries_of j → i ≡ j
+known_item (Rows t []) j h e = absurd (omega (arith, h))
+known_item (Rows t (x ∷ b)) (Rows u []) h e = absurd (cc)
+known_item (Rows t (x ∷ b)) (Rows u (y ∷ c)) h e =
+    let f : RowAt t x ∷ map (RowAt t) b ≡ RowAt u y ∷ map (RowAt u) c = e in
+    let same : t ≡ u = cc in
+    ap (λ z. Rows z (x ∷ b)) same ∙ ap (Rows u) (known_rows t u (x ∷ b) (y ∷ c) e)
+known_item (Rows t (x ∷ b)) (Tick u) h e = let f : RowAt t x ∷ map (RowAt t) b ≡ TickAt u ∷ [] = e in absurd (cc)
+known_item (Tick t) (Rows u []) h e = absurd (cc)
+known_item (Tick t) (Rows u (y ∷ c)) h e = let f : TickAt t ∷ [] ≡ RowAt u y ∷ map (RowAt u) c = e in absurd (cc)
+known_item (Tick t) (Tick u) h e = let f : TickAt t ∷ [] ≡ TickAt u ∷ [] = e in let same : t ≡ u = cc in ap Tick same
 
-any_in : (p : Lease → Bool) (ls : List Lease) (l : Lease) → IsIn ls l → p l ≡ true → list_any p ls ≡ true
-any_in p [] l i t = absurd i
-any_in p (x ∷ ls) l (inl e) t = let u : p x ≡ true = ap p e ∙ t in rw u refl
-any_in p (x ∷ ls) l (inr i) t = let u : list_any p ls ≡ true = any_in p ls l i t in by_test (p x) (λ v. rw v refl) (λ f. rw (f, u) refl)
+-- A TURN that is made twice is the same
+same_running : {p r : PlainQuery} → Running p ≡ Running r → p ≡ r
+same_running e = cc
 
-is_of_same : (n k : ℕ) (l : Lease) → l.query ≡ n → l.operator ≡ k → is_of n k l ≡ true
-is_of_same n k l e f = let u : (l.query == n) ≡ true = eq-eqb l.query n e in let v : (l.operator == k) ≡ true = eq-eqb l.operator k f in rw (u, v) refl
+made_of : (e : PlainEngine) (n k : ℕ) (side : Side) (rows : ℕ) (g : Given) (p : PlainQuery) → kept_at e n ≡ Running p → IsTurnOn e n k side rows g → IsOfSide e n k side rows g p
+made_of e n k side rows g p running made = subst (IsOfSide e n k side rows g) (same_running (sym made.1.running ∙ running)) made.1
 
-is_of_other : (n k : ℕ) (l : Lease) → (n ≢ l.query) ⊎ (k ≢ l.operator) → is_of n k l ≡ false
-is_of_other n k l (inl ne) = let u : (l.query == n) ≡ false = unequal l.query n (λ e. ne (sym e)) in rw u refl
-is_of_other n k l (inr ne) = let u : (l.operator == k) ≡ false = unequal l.operator k (λ e. ne (sym e)) in by_test (l.query == n) (λ t. rw (t, u) refl) (λ f. rw f refl)
+-- one with an item and an excerpt
+abbrev given_with : PlainEngine → PlainQuery → ℕ → ℕ → Side → Item → Near → Given
+given_with e p n k side i near = record { number = e.next; node = node_on p n k side; item = i; near = near }
 
-none_leased : (b : Bool) (o : Option ℕ) (t : ℕ) → cond b None o ≡ Some t → b ≡ false
-none_leased true o t e = absurd (cc)
-none_leased false o t e = refl
+abbrev with_number : ℕ → PlainNode → Item → Near → Given
+with_number a node i near = record { number = a; node = node; item = i; near = near }
 
--- A LEASE
-module _ (e : PlainEngine) (l : Lease) (q : Registered) (p : PlainQuery) (s : Slot) (g : GoodEngine e) (h : IsLeasable e l q p s) where
-  -- no turn of its operator is out
-  free : is_leased e l.query l.operator ≡ false
-  free =
-      let top : IsOfSteepest e s = (keeps_its_promises e g).steepest s h.first in
-      subst (λ z. is_leased e z l.operator ≡ false) (sym h.query)
-      (subst (λ z. is_leased e s.query z ≡ false) (sym h.operator) (none_leased (is_leased e s.query s.operator) _ s.instant top.instant))
+given_is : (e : PlainEngine) (n k : ℕ) (side : Side) (rows : ℕ) (g : Given) (p : PlainQuery) → IsOfSide e n k side rows g p → g ≡ given_with e p n k side g.item g.near
+given_is e n k side rows g p of = ap (λ z. with_number z g.node g.item g.near) of.number ∙ ap (λ z. with_number e.next z g.item g.near) of.node
 
-  not_one : (a : Lease) → IsIn e.leases a → l.query ≡ a.query → l.operator ≡ a.operator → ⊥
-  not_one a i eq eo =
-      let bad : true ≡ false = sym (any_in (is_of l.query l.operator) e.leases a i (is_of_same l.query l.operator a (sym eq) (sym eo))) ∙ free in
-      cc
+pub same_turn : (e : PlainEngine) (n k : ℕ) (side : Side) (rows : ℕ) (g h : Given) → IsTurnOn e n k side rows g → IsTurnOn e n k side rows h → g ≡ h
+same_turn e n k side rows g h made again =
+    let p : PlainQuery = made.0 in
+    let a : IsOfSide e n k side rows g p = made.1 in
+    let b : IsOfSide e n k side rows h p = made_of e n k side rows h p made.1.running again in
+    let item : g.item ≡ h.item = known_item g.item h.item a.leased.first.some (a.leased.cut ∙ sym b.leased.cut) in
+    let near : g.near ≡ h.near = a.leased.near ∙ ap (near_of (operator_at p.operators k).state side) item ∙ sym b.leased.near in
+    given_is e n k side rows g p a ∙ (ap (λ z. given_with e p n k side z g.near) item ∙ (ap (given_with e p n k side h.item) near ∙ sym (given_is e n k side rows h p b)))
 
-  not_number : (a : Lease) → IsIn e.leases a → l.number ≡ a.number → ⊥
-  not_number a i en = absurd (omega (arith, (g.leases a i).numbered, h.number, en))
+-- AN OPERATOR that may take something
+ready_of : (e : PlainEngine) (n k : ℕ) (p : PlainQuery) → IsReadyAt e n k → kept_at e n ≡ Running p → (q : Registered) × IsReady e n k q p
+ready_of e n k p r running = (r.0, subst (IsReady e n k r.0) (same_running (sym r.1.1.operator.running ∙ running)) r.1.1)
 
-  out_apart : AreApart (e.leases ++ l ∷ [])
-  out_apart = record {
-    operators = λ a b i j eq eo. ⊎_elim
-        (λ ia. ⊎_elim (λ ib. g.apart.operators a b ia ib eq eo) (λ z. absurd (not_one a ia (ap (λ y. y.query) z ∙ sym eq) (ap (λ y. y.operator) z ∙ sym eo))) (in_push e.leases l b j))
-        (λ y. ⊎_elim (λ ib. absurd (not_one b ib (ap (λ x. x.query) y ∙ eq) (ap (λ x. x.operator) y ∙ eo))) (λ z. sym y ∙ z) (in_push e.leases l b j))
-        (in_push e.leases l a i);
-    numbers = λ a b i j en. ⊎_elim
-        (λ ia. ⊎_elim (λ ib. g.apart.numbers a b ia ib en) (λ z. absurd (not_number a ia (ap (λ y. y.number) z ∙ sym en))) (in_push e.leases l b j))
-        (λ y. ⊎_elim (λ ib. absurd (not_number b ib (ap (λ x. x.number) y ∙ en))) (λ z. sym y ∙ z) (in_push e.leases l b j))
-        (in_push e.leases l a i);
-  }
+pub ready_operator : (e : PlainEngine) (n k : ℕ) (p : PlainQuery) → GoodEngine e → IsReadyAt e n k → kept_at e n ≡ Running p → HasOperator e.machine.streams p k
+ready_operator e n k p good r running = let is = ready_of e n k p r running in (may_ask e good).operators n k is.0 p is.1.operator
 
-  new_lease : IsLease (leased e l q p) l
-  new_lease = record {
-    numbered = omega (arith, h.number);
-    query = q;
-    registered = h.of.registered;
-    kept = p;
-    running = h.of.running;
-    within = h.of.within;
-    first = h.item;
-    near = h.near;
-  }
+some_ready : (b : Bool) (o : Option (Side × ℕ)) (t : ℕ) → cond b None (option_map (λ r. r.1) o) ≡ Some t → o ≡ None → ⊥
+some_ready true o t e f = absurd (cc)
+some_ready false None t e f = absurd (cc)
+some_ready false (Some r) t e f = absurd (cc)
 
-  old_lease : (a : Lease) → IsLease e a → IsLease (leased e l q p) a
-  old_lease a is = record { numbered = omega (arith, is.numbered); query = is.query; registered = is.registered; kept = is.kept; running = is.running; within = is.within; first = is.first; near = is.near }
+pub ready_takes : (e : PlainEngine) (n k : ℕ) (p : PlainQuery) → GoodEngine e → IsReadyAt e n k → kept_at e n ≡ Running p → ready (operator_at p.operators k) (log_of e.machine.streams p k) ≡ None → ⊥
+ready_takes e n k p good r running none =
+    let is = ready_of e n k p r running in
+    let log : log_of e.machine.streams p k ≡ log_at e.machine is.0 k = (may_ask e good).logs n k is.0 p is.1.operator in
+    some_ready (is_leased e n k) (ready (operator_at p.operators k) (log_at e.machine is.0 k)) is.1.at is.1.instant (ap (ready (operator_at p.operators k)) (sym log) ∙ none)
 
-  out_slots : HasSlots (slot_of (given_out e l)) (retold e (given_out e l) l.query q p p l.operator e.slots)
-  out_slots = changed_slots (slot_of e) (slot_of (given_out e l)) e.slots (slot_at e l.query q p l.operator) (instant_at (given_out e l) l.query q p l.operator) g.slots (numbered e)
-      (slot_is e l.query l.operator q p h.of.registered h.of.running h.of.within) (slot_is (given_out e l) l.query l.operator q p h.of.registered h.of.running h.of.within)
-      (λ n k ne. same_slot_in e e.queries (e.leases ++ l ∷ []) (e.next + 1) e.slots n k (any_push (is_of n k) e.leases l (is_of_other n k l ne)) (query_at e n) (kept_at e n))
+pub ready_leases : (e : PlainEngine) (n k : ℕ) (p : PlainQuery) (side : Side) (at rows : ℕ) → GoodEngine e → IsReadyAt e n k → kept_at e n ≡ Running p
+    → ready (operator_at p.operators k) (log_of e.machine.streams p k) ≡ Some (side, at) → 0 < rows → MayLeaseOn e n k side rows
+ready_leases e n k p side at rows good r running is some =
+    let of = ready_of e n k p r running in
+    (p, record { running = running; operator = (may_ask e good).operators n k of.0 p of.1.operator; may = (may_ask e good).leases n k of.0 p side at rows of.1.operator is some })
 
-  pub lease_good : GoodEngine (leased e l q p)
-  lease_good = record {
-    machine = g.machine;
-    rows = g.rows;
-    many = g.many;
-    queries = g.queries;
-    leases = λ a i. ⊎_elim (λ j. old_lease a (g.leases a j)) (λ z. subst (IsLease (leased e l q p)) z new_lease) (in_push e.leases l a i);
-    apart = out_apart;
-    slots = out_slots;
-  }
+pub first_ready : (e : PlainEngine) (s : Slot) (n k : ℕ) → GoodEngine e → first_of e.slots ≡ Some s → n ≡ s.query → k ≡ s.operator → IsReadyAt e n k
+first_ready e s n k good first is_query is_operator =
+    let top : IsOfSteepest e s = (keeps_its_promises e good).steepest s first in
+    let ready : IsReadyAt e s.query s.operator =
+    (top.query, (top.kept, record { operator = record { registered = top.registered; running = top.running; within = top.within }; at = s.instant; instant = top.instant })) in
+    subst (λ z. IsReadyAt e z k) (sym is_query) (subst (IsReadyAt e s.query) (sym is_operator) ready)
 
--- A QUERY BREAKS
-pub other_turn : (n : ℕ) (ls : List Lease) (a : Lease) → IsIn (of_others n ls) a → a.query ≢ n
-other_turn n ls a i e =
-    let f = in_filter (λ l. not (l.query == n)) ls a i in
-    let g : (a.query == n) ≡ true = eq-eqb a.query n e in
-    let bad : false ≡ true = ap not (sym g) ∙ f.1 in
-    cc
+-- THE ENGINE after it
+abbrev pub out_of : PlainEngine → Slot → Given → PlainEngine
+out_of e s g = record e { leases = e.leases ++ lease_of g ∷ []; next = e.next + 1; slots = changed s None e.slots }
 
-pub any_of_others : (n k j : ℕ) (ls : List Lease) → k ≢ n → list_any (is_of k j) (of_others n ls) ≡ list_any (is_of k j) ls
-any_of_others n k j [] ne = refl
-any_of_others n k j (x ∷ ls) ne = by_test (x.query == n)
-    (λ t. let f : is_of k j x ≡ false = is_of_other k j x (inl (λ z. ne (z ∙ eqb-true x.query n t))) in rw (t, f) (any_of_others n k j ls ne))
-    (λ f. rw f (ap (λ b. is_of k j x || b) (any_of_others n k j ls ne)))
+any_last : (f : Lease → Bool) (ls : List Lease) (l : Lease) → f l ≡ true → list_any f (ls ++ l ∷ []) ≡ true
+any_last f [] l t = rw t refl
+any_last f (x ∷ ls) l t = let u : list_any f (ls ++ l ∷ []) ≡ true = any_last f ls l t in by_first (f x) u where
+  by_first : (b : Bool) → list_any f (ls ++ l ∷ []) ≡ true → (b || list_any f (ls ++ l ∷ [])) ≡ true
+  by_first true u = refl
+  by_first false u = u
 
-pub break_good : (e : PlainEngine) (n : ℕ) (q : Registered) (p : PlainQuery) → GoodEngine e → query_at e n ≡ Some q → kept_at e n ≡ Running p → GoodEngine (broken e n p)
-break_good e n q p g registered running =
-    let few : n < length e.queries = omega (arith, g.many, slice_get_within e.machine.queries n q registered) in
-    let goes : Goes e.machine q p = subst (IsKept e.machine q) running (g.queries n q registered) in
-    let here : kept_at (broken e n p) n ≡ Broken p.answers = kept_here e n (Broken p.answers) few in
-    let far : (j : ℕ) → (j == n) ≡ false → j ≢ n = λ j f z. absurd (let h : (j == n) ≡ true = eq-eqb j n z in cc) in
-    record {
-      machine = g.machine;
-      rows = g.rows;
-      many = length-set e.queries n (Broken p.answers) ∙ g.many;
-      queries = λ j r at. by_test (j == n)
-          (λ t. let same : j ≡ n = eqb-true j n t in
-          let is : q ≡ r = same_query (sym registered ∙ ap (query_at e) (sym same) ∙ at) in
-          subst (λ z. IsKept e.machine r (kept_at (broken e n p) z)) (sym same) (subst (IsKept e.machine r) (sym here) (subst (λ z. HasGiven e.machine z p.answers) is (kept_given e.machine q (Running p) goes))))
-          (λ f. subst (IsKept e.machine r) (sym (kept_there e n j (Broken p.answers) (far j f))) (g.queries j r at));
-      leases = λ a i. let is : IsLease e a = g.leases a (in_filter _ e.leases a i).0 in record {
-        numbered = is.numbered;
-        query = is.query;
-        registered = is.registered;
-        kept = is.kept;
-        running = kept_there e n a.query (Broken p.answers) (other_turn n e.leases a i) ∙ is.running;
-        within = is.within;
-        first = is.first;
-        near = is.near;
-      };
-      apart = left_apart _ e.leases g.apart;
-      slots = left_slots (slot_of e) (slot_of (broken e n p)) e.slots n g.slots (numbered e)
-          (λ k. ap (λ z. slot_in (broken e n p) n k z (kept_at (broken e n p) n)) registered ∙ ap (slot_in (broken e n p) n k (Some q)) here)
-          (λ j k ne. ap (slot_in (broken e n p) j k (query_at e j)) (kept_there e n j (Broken p.answers) ne)
-          ∙ same_slot_in e (set e.queries n (Broken p.answers)) (of_others n e.leases) e.next e.slots j k (any_of_others n j k e.leases ne) (query_at e j) (kept_at e j));
+is_of_own : (l : Lease) → is_of l.query l.operator l ≡ true
+is_of_own l = let u : (l.query == l.query) ≡ true = eq-eqb l.query l.query refl in let v : (l.operator == l.operator) ≡ true = eq-eqb l.operator l.operator refl in rw (u, v) refl
+
+some_slot : {a b : Slot} → Some a ≡ Some b → a ≡ b
+some_slot e = cc
+
+module _ (e : PlainEngine) (s : Slot) (side : Side) (rows : ℕ) (good : GoodEngine e) (first : first_of e.slots ≡ Some s) where
+  top : IsOfSteepest e s
+  top = (keeps_its_promises e good).steepest s first
+
+  first_slot : slot_at e s.query top.query top.kept s.operator ≡ s
+  first_slot = some_slot (sym (slot_is e s.query s.operator top.query top.kept top.registered top.running top.within) ∙ good.slots.only s (first_in e.slots s first).0)
+
+  log_is : log_of e.machine.streams top.kept s.operator ≡ log_at e.machine top.query s.operator
+  log_is = (may_ask e good).logs s.query s.operator top.query top.kept (record { registered = top.registered; running = top.running; within = top.within })
+
+  module _ (i : Item) (near : Near) (is : IsLeased (operator_at top.kept.operators s.operator) (log_of e.machine.streams top.kept s.operator) side rows i near) where
+    abbrev made : Given
+    made = given_with e top.kept s.query s.operator side i near
+
+    item_first : IsFirst (operator_at top.kept.operators s.operator) (log_at e.machine top.query s.operator) side i
+    item_first = subst (λ z. IsFirst (operator_at top.kept.operators s.operator) z side i) log_is is.first
+
+    out_leasable : IsLeasable e (lease_of made) top.query top.kept s
+    out_leasable = record {
+      first = first;
+      query = refl;
+      operator = refl;
+      number = refl;
+      of = record { registered = top.registered; running = top.running; within = top.within };
+      item = item_first;
+      near = is.near;
     }
+
+    out_instant : instant_at (given_out e (lease_of made)) s.query top.query top.kept s.operator ≡ None
+    out_instant = let out : is_leased (given_out e (lease_of made)) s.query s.operator ≡ true = any_last (is_of s.query s.operator) e.leases (lease_of made) (is_of_own (lease_of made)) in rw out refl
+
+    out_slots : changed s None e.slots ≡ retold e (given_out e (lease_of made)) s.query top.query top.kept top.kept s.operator e.slots
+    out_slots = ap (λ z. changed z None e.slots) (sym first_slot) ∙ ap (λ z. changed (slot_at e s.query top.query top.kept s.operator) z e.slots) (sym out_instant)
+
+    out_leased : out_of e s made ≡ leased e (lease_of made) top.query top.kept
+    out_leased = ap (λ z. record (given_out e (lease_of made)) { slots = z }) out_slots
+
+    out_made : IsTurnOf e rows (turn_with made) (out_of e s made)
+    out_made = record {
+      query = top.query;
+      kept = top.kept;
+      slot = s;
+      leasable = out_leasable;
+      steepest = top;
+      kind = refl;
+      fits = is.fits;
+      cut = is.cut ∙ ap (cut_of (min rows 1024) (inbox_of (operator_at top.kept.operators s.operator) side)) log_is;
+      after = out_leased;
+    }
+
+  pub turn_out : (g : Given) → IsTurnOn e s.query s.operator side rows g → IsTurnOf e rows (turn_with g) (out_of e s g)
+  turn_out g made =
+      let of : IsOfSide e s.query s.operator side rows g top.kept = made_of e s.query s.operator side rows g top.kept top.running made in
+      subst (λ z. IsTurnOf e rows (turn_with z) (out_of e s z)) (sym (given_is e s.query s.operator side rows g top.kept of)) (out_made g.item g.near of.leased)
+
+-- THE STATE after it
+pub record HasGone (old new : State) (s : Slot) (g : Given) : Type 0 where
+  pub engine : engine_in new ≡ engine_of old.streams old.registered.items old.kept.items new.leases.items (old.next + 1) new.slots
+  pub leases : new.leases.items ≡ old.leases.items ++ g ∷ []
+  pub slots : new.slots ≡ changed s None old.slots
+  pub next : new.next ≡ old.next + 1
+  pub names : new.names ≡ old.names
+
+gone_engine : (old new : State) (s : Slot) (g : Given) → HasGone old new s g → engine_in new ≡ out_of (engine_in old) s g
+gone_engine old new s g h =
+    h.engine
+    ∙ (ap (λ z. engine_of old.streams old.registered.items old.kept.items z (old.next + 1) new.slots) h.leases
+    ∙ (ap (engine_of old.streams old.registered.items old.kept.items (old.leases.items ++ g ∷ []) (old.next + 1)) h.slots
+    ∙ ap (λ z. record (engine_in old) { leases = z; next = old.next + 1; slots = changed s None old.slots }) (map-append lease_of old.leases.items (g ∷ []))))
+
+in_last : (ls : List Given) (g a : Given) → IsIn (ls ++ g ∷ []) a → IsIn ls a ⊎ (g ≡ a)
+in_last [] g a (inl e) = inr e
+in_last [] g a (inr i) = absurd i
+in_last (x ∷ ls) g a (inl e) = inl (inl e)
+in_last (x ∷ ls) g a (inr i) = ⊎_elim (λ j. inl (inr j)) (λ e. inr e) (in_last ls g a i)
+
+-- the turn of which this is, made of the operator of the first slot
+module _ (old new : State) (s : Slot) (side : Side) (rows n k : ℕ) (g : Given) (sound : IsSound old) (first : first_of old.slots ≡ Some s)
+    (is_query : n ≡ s.query) (is_operator : k ≡ s.operator) (made : IsTurnOn (engine_in old) n k side rows g) (gone : HasGone old new s g) where
+  is : engine_in new ≡ out_of (engine_in old) s g
+  is = gone_engine old new s g gone
+
+  turn_is : IsTurnOf (engine_in old) rows (turn_with g) (out_of (engine_in old) s g)
+  turn_is = turn_out (engine_in old) s side rows sound.good first g (subst (λ z. IsTurnOn (engine_in old) s.query z side rows g) is_operator (subst (λ z. IsTurnOn (engine_in old) z k side rows g) is_query made))
+
+  pub goes_out : (t : Turn) → t ≡ turn_with g → IsTurnOf (engine_in old) rows t (engine_in new)
+  goes_out t same = subst (λ z. IsTurnOf (engine_in old) rows z (engine_in new)) (sym same) (subst (IsTurnOf (engine_in old) rows (turn_with g)) (sym is) turn_is)
+
+  new_kind : HasKind (engine_in old) g
+  new_kind p running = turn_is.kind ∙ ap (λ (z : PlainQuery). (operator_at z.operators g.node.operator).kind) (same_running (sym turn_is.leasable.of.running ∙ running))
+
+  -- the engine is sound as it was
+  pub sound_out : length old.leases.items < MAX_LEASES → old.next < LEASE_NUMBERS → IsSound new
+  sound_out few numbers = record {
+    good = subst GoodEngine (sym (is ∙ turn_is.after)) (lease_good (engine_in old) (lease_of g) turn_is.query turn_is.kept turn_is.slot sound.good turn_is.leasable);
+    kinds = λ x i. subst (λ z. HasKind z x) (sym is)
+        (⊎_elim (λ j. sound.kinds x j) (λ z. subst (HasKind (engine_in old)) z new_kind) (in_last old.leases.items g x (subst (λ z. IsIn z x) gone.leases i)));
+    few = let many : length new.leases.items ≡ length old.leases.items + 1 = ap length gone.leases ∙ length-append old.leases.items (g ∷ []) in omega (arith, many, few);
+    numbers = omega (arith, gone.next, numbers);
+    named = gone.names ∙ (sound.named ∙ ap (λ (z : PlainEngine). map name_of_registered z.machine.queries) (sym is));
+    gone = subst (λ (z : PlainEngine). map (λ q. q.is_dropped) z.machine.queries ≡ map is_gone z.queries) (sym is) sound.gone;
+    columns = subst (λ (z : PlainEngine). HaveColumnNames z.machine) (sym is) sound.columns;
+    closed = subst (λ (z : PlainEngine). HaveFewClosed z.machine) (sym is) sound.closed;
+  }
+
+-- WHERE NOTHING WENT OUT and nothing is out, the engine is idle
+pub idle_waits_for_all : (old new : PlainEngine) (rows : ℕ) (result : Result Leased Fault) → GoodEngine new → Leases old rows result new → result ≡ Ok Idle → new.leases ≡ [] → HasAllWaiting new
+idle_waits_for_all old new rows result good answers none returned =
+    let is : Leases old rows (Ok Idle) new = subst (λ z. Leases old rows z new) none answers in
+    idle_waits new good (record { nothing = ap (λ (z : PlainEngine). first_of z.slots) is.2 ∙ is.1; returned = returned })

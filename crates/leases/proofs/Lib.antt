@@ -1,18 +1,25 @@
-pub mod SlotLemmas
-pub mod PromiseLemmas
-pub mod BackLemmas
-pub mod TableLemmas
-pub mod FinishLemmas
-pub mod LeaseLemmas
-pub mod AgainLemmas
-pub mod TakeLemmas
-pub mod DropLemmas
-pub mod StreamLemmas
-pub mod AppendedLemmas
-pub mod BeatenLemmas
-pub mod DeclaredLemmas
-pub mod RegisteredLemmas
-pub mod HistoryLemmas
-pub mod IdleLemmas
 pub mod ViewLemmas
-pub mod AskLemmas
+pub mod RegisterLemmas
+mod LookLemmas
+mod LeaveLemmas
+mod DropLemmas
+pub mod AddLemmas
+pub mod LeaseLemmas
+mod FinishGivenLemmas
+mod FinishLemmas
+mod FinishSoundLemmas
+mod FinishBackLemmas
+mod StreamLemmas
+mod ReaderLemmas
+mod BeatLemmas
+pub mod RunLemmas
+pub mod DrainLemmas
+pub mod PairLemmas
+pub mod NamedLemmas
+pub mod WorldLemmas
+pub mod WholeLemmas
+pub mod BegunLemmas
+pub mod TakeLemmas
+pub mod PendingLemmas
+pub mod LengthLemmas
+pub mod QueryLemmas

@@ -1,201 +1,271 @@
--- A take leaves an engine good.
-use Rattle.std.proofs.Common.{◌≡◌, ◌≢◌, ℕ, zero, suc, ℤ, ◌+◌, ◌≤◌, ◌++◌, cond, ⊎_elim, Option, Some, None, List, [], ◌∷◌, drop, get_or, length, map, nat_lt, take, refl, sym, ap, ap₂, ◌∙◌, subst, arith, append_assoc, length-append, take-append-drop}
-use Rattle.std.specs.Prelude.{slice_get}
-use Rattle.std.specs.List.{list_any}
-use Rattle.std.specs.Option.{option_map}
+-- A take of the first answers that wait: what it makes of the lists that an engine keeps.
+use Rattle.std.proofs.Common.{◌≡◌, ◌≢◌, ◌<◌, ◌≤◌, ◌+◌, ◌^◌, ◌&&◌, not, ℕ, zero, suc, ℤ, pos, negsuc, int_le, nat_abs, Bool, true, false, Option, Some, None, option_and_then, Result, Ok, Err, List, [], ◌∷◌, drop, get_or, length, map, min, set, slice_get, take, refl, sym, ap, ◌∙◌, subst, arith, of_z, w64}
+use Rattle.std.proofs.lemmas.List.{length-map, length-take}
+use Rattle.std.proofs.lemmas.Option.{slice_get_within}
+use Rattle.std.proofs.Math.Seq.{map-set_same}
+use Rattle.answer_bounds.proofs.EngineLemmas.{taken_room, waiting_signed}
+use Rattle.answer_bounds.specs.Bounds.{HaveFewClosed}
+use Rattle.arrayvec.specs.ArrayVec.{ArrayVec}
 use Rattle.values.specs.Row.{Row}
-use Rattle.plan.specs.Nodes as plan
-use Rattle.operators.specs.Operators.{ready}
-use Rattle.ready_list.specs.Slots.{slot}
+use Rattle.names.specs.Faults.{first_of}
+use Rattle.operators.specs.Operators.{PlainOperator}
+use Rattle.reference.proofs.StepLemmas.{get_or-map, set-change}
+use Rattle.reference.specs.CallViews.{handed_of}
+use Rattle.reference.specs.Commands.{Take, change, first_fault, of_query, take_tests, took}
+use Rattle.reference.specs.Inputs.{are_signed}
+use Rattle.reference.specs.Machine as machine
+use Rattle.reference.specs.Machine.{Registered, Stream, unless_dropped}
+use Rattle.reference.specs.Named.{name_of_registered}
+use Rattle.reference.specs.World.{handed}
+use Rattle.reference.specs.declared.fault.Fault.{Fault}
+use Rattle.reference.specs.declared.fault.Fault.TheVariants as fault
+use Rattle.reference.specs.declared.fault.Fault.TheVariants.{Query, BadName, NameTaken, BadColumns, TooMany, UnknownStream, UnknownQuery, BadWidth, ValueRange, InstantRange, Late, Backward, Leap, StreamFull, BadLimit, UnknownLease, Stranger, TooManyLeases, OutOfMemory}
+use Rattle.query_nets.specs.Registrations.{HaveColumnNames}
+use Rattle.query_nets.specs.Queries.{PlainQuery, operator_at}
 use Rattle.ready_list.specs.declared.slots.Slot.{Slot}
-use Rattle.reference.specs.Commands.{Take, change, took}
-use Rattle.reference.specs.Machine.{Machine, Registered, closed_answers}
-use Rattle.query_nets.specs.Machines.{widths_of}
-use Rattle.query_nets.specs.Queries.{IsRunning, PlainQuery, operator_at, source_of}
-use Rattle.query_nets.specs.Steps.{IsFirst}
-use Rattle.query_nets.proofs.BeatLemmas.{same_number}
-use Rattle.query_nets.proofs.MachineCounts.{machines_stand}
-use Rattle.query_nets.proofs.RowLemmas.{rows_stand}
-use Rattle.leases.specs.Engines.{Broken, Dropped, Goes, GoodEngine, HasGiven, HasSlots, IsKept, IsLease, Kept, Lease, PlainEngine, Running, answers_in, is_leased, is_of, kept_at, query_at, ready_instant, slope_at, slot_at, slot_in, slot_of}
-use Rattle.leases.specs.Calls.{IsTake, kept_after, taken, with_queries, with_taken}
-use Rattle.leases.proofs.AgainLemmas.{log_again, runs_again, source_again}
+use Rattle.plain_engines.specs.Calls.{IsTake, kept_after, taken}
+use Rattle.plain_engines.specs.Engines.{Broken, Dropped, GoodEngine, IsIn, Kept, PlainEngine, Running, answers_in, kept_at, query_at}
+use Rattle.plain_engines.proofs.TakeLemmas.{take_good}
+use Rattle.leases.specs.Shown.{engine_in}
+use Rattle.leases.specs.Sound.{IsSound, is_gone}
+use Rattle.leases.specs.Takes.{HandsOut, Takes, count_in, count_of}
+use Rattle.leases.specs.Views.{HasKind, engine_of, kept_of, query_of}
+use Rattle.leases.specs.declared.given.Given.{Given}
+use Rattle.leases.specs.declared.kept.KeptQuery.{KeptQuery}
+use Rattle.leases.specs.declared.limits.TheConstants.{LEASE_NUMBERS, MAX_LEASES}
+use Rattle.leases.specs.declared.registered.Registration.{Registration}
+use Rattle.leases.specs.declared.state.State.{State}
 
--- ONE OF A LIST is changed
-pub changed_here : {X : Type 0} (f : X → X) (n : ℕ) (xs : List X) → slice_get (change n f xs) n ≡ option_map f (slice_get xs n)
-changed_here f n [] = refl
-changed_here f zero (x ∷ xs) = refl
-changed_here f (suc n) (x ∷ xs) = changed_here f n xs
+-- THE LIMIT of a take that is accepted is no negative number
+take_refused : (tests : List (Bool × Fault)) (o : Option Registered) → of_query tests o ≡ None → first_of tests ≡ None
+take_refused tests None h = absurd (cc)
+take_refused tests (Some q) h = h
 
-pub changed_there : {X : Type 0} (f : X → X) (n j : ℕ) (xs : List X) → j ≢ n → slice_get (change n f xs) j ≡ slice_get xs j
-changed_there f n j [] ne = refl
-changed_there f zero zero (x ∷ xs) ne = absurd (ne refl)
-changed_there f zero (suc j) (x ∷ xs) ne = refl
-changed_there f (suc n) zero (x ∷ xs) ne = refl
-changed_there f (suc n) (suc j) (x ∷ xs) ne = changed_there f n j xs (λ e. ne (ap suc e))
+limit_tested : (limit : ℤ) → first_of (take_tests limit) ≡ None → limit ≡ pos (of_z w64 limit)
+limit_tested (pos n) h = refl
+limit_tested (negsuc n) h = absurd (cc)
 
-pub changed_or_here : {X : Type 0} (f : X → X) (n : ℕ) (xs : List X) (d : X) → f d ≡ d → get_or (change n f xs) n d ≡ f (get_or xs n d)
-changed_or_here f n [] d e = sym e
-changed_or_here f zero (x ∷ xs) d e = refl
-changed_or_here f (suc n) (x ∷ xs) d e = changed_or_here f n xs d e
+pub limit_is : (e : PlainEngine) (n : ℕ) (limit : ℤ) → None ≡ first_fault e.machine (Take n limit) → limit ≡ pos (of_z w64 limit)
+limit_is e n limit h = limit_tested limit (take_refused (take_tests limit) (machine.query_at e.machine n) (sym h))
 
-pub changed_or_there : {X : Type 0} (f : X → X) (n j : ℕ) (xs : List X) (d : X) → j ≢ n → get_or (change n f xs) j d ≡ get_or xs j d
-changed_or_there f n j [] d ne = refl
-changed_or_there f zero zero (x ∷ xs) d ne = absurd (ne refl)
-changed_or_there f zero (suc j) (x ∷ xs) d ne = refl
-changed_or_there f (suc n) zero (x ∷ xs) d ne = refl
-changed_or_there f (suc n) (suc j) (x ∷ xs) d ne = changed_or_there f n j xs d (λ e. ne (ap suc e))
+-- THE QUERY of an accepted take is there
+there : (tests : List (Bool × Fault)) (qs : List Registered) (n : ℕ) → of_query tests (option_and_then unless_dropped (slice_get qs n)) ≡ None → (q : Registered) × (slice_get qs n ≡ Some q)
+there tests [] n h = absurd (cc)
+there tests (q ∷ qs) zero h = (q, refl)
+there tests (q ∷ qs) (suc n) h = there tests qs n h
 
-pub many_changed : {X : Type 0} (f : X → X) (n : ℕ) (xs : List X) → length (change n f xs) ≡ length xs
-many_changed f n [] = refl
-many_changed f zero (x ∷ xs) = refl
-many_changed f (suc n) (x ∷ xs) = ap suc (many_changed f n xs)
+pub query_there : (e : PlainEngine) (n : ℕ) (limit : ℤ) → first_fault e.machine (Take n limit) ≡ None → (q : Registered) × (query_at e n ≡ Some q)
+query_there e n limit h = there (take_tests limit) e.machine.queries n h
 
--- what a changed item was
-pub record Was {X : Type 0} (f : X → X) (o : Option X) (x : X) : Type 0 where
-  pub old : X
-  pub is : o ≡ Some old
-  pub new : x ≡ f old
+pub registered_within : (s : State) (n : ℕ) (limit : ℤ) → first_fault (engine_in s).machine (Take n limit) ≡ None → n < length s.registered.items
+registered_within s n limit h =
+    let q = query_there (engine_in s) n limit h in
+    let within : n < length (map query_of s.registered.items) = slice_get_within (engine_in s).machine.queries n q.0 q.1 in
+    subst (λ z. n < z) (length-map s.registered.items query_of) within
 
-pub was : {X : Type 0} (f : X → X) (o : Option X) (x : X) → option_map f o ≡ Some x → Was f o x
-was f None x e = absurd (cc)
-was f (Some y) x e = record { old = y; is = refl; new = cc }
+pub kept_within : (s : State) (n : ℕ) (limit : ℤ) → IsSound s → first_fault (engine_in s).machine (Take n limit) ≡ None → n < length s.kept.items
+kept_within s n limit sound h =
+    let a : n < length s.registered.items = registered_within s n limit h in
+    let b : length (map kept_of s.kept.items) ≡ length (map query_of s.registered.items) = sound.good.many in
+    omega (arith, a, b, length-map s.kept.items kept_of, length-map s.registered.items query_of)
 
--- SLOTS of an equal table
-pub equal_slots : (table table2 : ℕ → ℕ → Option Slot) (slots : List Slot) → ((n k : ℕ) → table2 n k ≡ table n k) → HasSlots table slots → HasSlots table2 slots
-equal_slots table table2 slots e h = record { ordered = h.ordered; there = λ n k s t. h.there n k s (sym (e n k) ∙ t); only = λ s i. e s.query s.operator ∙ h.only s i }
+-- what is left of it
+pub kept_is : (s : State) (n : ℕ) (x : KeptQuery) → n < length s.kept.items → x ≡ get_or s.kept.items n x → kept_at (engine_in s) n ≡ kept_of x
+kept_is s n x within is = get_or-map kept_of s.kept.items n x Dropped within ∙ ap kept_of (sym is)
 
--- A QUERY of which more was taken, in a machine with the same streams
-sources_again : (q : Registered) (t : ℕ) (nodes : List plan.Node) → map (source_of q) nodes ≡ map (source_of (with_taken q t)) nodes
-sources_again q t [] = refl
-sources_again q t (node ∷ nodes) = ap₂ (λ y ys. y ∷ ys) (sym (source_again q t node)) (sources_again q t nodes)
+pub signed_at : (s : State) (n : ℕ) (limit : ℤ) (x : KeptQuery) → IsSound s → first_fault (engine_in s).machine (Take n limit) ≡ None → x ≡ get_or s.kept.items n x → are_signed (answers_in (kept_of x)) ≡ true
+signed_at s n limit x sound h is =
+    let q = query_there (engine_in s) n limit h in
+    subst (λ k. are_signed (answers_in k) ≡ true) (kept_is s n x (kept_within s n limit sound h) is) (waiting_signed (engine_in s) n q.0 sound.good sound.closed q.1)
 
-goes_again : (m : Machine) (qs : List Registered) (q : Registered) (t : ℕ) (p : PlainQuery) (g : Goes m q p) (before behind : List (ℕ × Row)) → length before ≡ t → before ++ behind ≡ g.taken ++ p.answers
-    → Goes (with_queries m qs) (with_taken q t) (record p { answers = behind })
-goes_again m qs q t p g before behind counted whole = record {
-  widths = g.widths;
-  sources = g.sources;
-  taken = before;
-  counted = counted;
-  runs = record {
-    wires = g.runs.wires;
-    sources = g.runs.sources ∙ sources_again q t q.nodes;
-    runs = runs_again (widths_of m.streams q) g.widths m qs q t p.operators (before ++ behind) (subst (IsRunning (widths_of m.streams q) g.widths m q p.operators) (sym whole) g.runs.runs);
-  };
+-- HOW MANY were taken
+slice_at : {X : Type 0} (xs : List X) (n : ℕ) (x d : X) → slice_get xs n ≡ Some x → get_or xs n d ≡ x
+slice_at [] n x d h = absurd (cc)
+slice_at (y ∷ xs) zero x d h = cc
+slice_at (y ∷ xs) (suc n) x d h = slice_at xs n x d h
+
+pub taken_at : (s : State) (n : ℕ) (q : Registered) (r : Registration) → n < length s.registered.items → query_at (engine_in s) n ≡ Some q → r ≡ get_or s.registered.items n r → q ≡ query_of r
+taken_at s n q r within at is =
+    sym (slice_at (map query_of s.registered.items) n q (query_of r) at) ∙ get_or-map query_of s.registered.items n r (query_of r) within ∙ ap query_of (sym is)
+
+pub room_at : (s : State) (n : ℕ) (limit : ℤ) (x : KeptQuery) (r : Registration) (count : ℕ) → IsSound s → first_fault (engine_in s).machine (Take n limit) ≡ None → x ≡ get_or s.kept.items n x → r ≡ get_or s.registered.items n r
+    → count ≤ length (answers_in (kept_of x)) → r.taken + count < 2 ^ 101
+room_at s n limit x r count sound h is_kept is_registered few =
+    let q = query_there (engine_in s) n limit h in
+    let room = taken_room (engine_in s) n q.0 sound.good sound.closed q.1 in
+    let same : q.0.taken ≡ r.taken = ap (λ z. z.taken) (taken_at s n q.0 r (registered_within s n limit h) q.1 is_registered) in
+    let waits : length (answers_in (kept_at (engine_in s) n)) ≡ length (answers_in (kept_of x)) = ap (λ k. length (answers_in k)) (kept_is s n x (kept_within s n limit sound h) is_kept) in
+    omega (arith, room, same, waits, few)
+
+-- as many rows as were handed out
+handed_many : (rows : List (ℤ × ArrayVec (Option ℤ))) (waits : List (ℕ × Row)) (count : ℕ) → handed_of rows ≡ handed (take count waits) → count ≤ length waits → length rows ≡ count
+handed_many rows waits count h few =
+    let a : length (handed_of rows) ≡ length (handed (take count waits)) = ap length h in
+    let b : length (handed_of rows) ≡ length rows = length-map rows _ in
+    let c : length (handed (take count waits)) ≡ length (take count waits) = length-map (take count waits) _ in
+    omega (arith, a, b, c, length-take count waits)
+
+pub rows_many : (rows : List (ℤ × ArrayVec (Option ℤ))) (k : Kept) (limit : ℕ) → handed_of rows ≡ handed (take (count_in k limit) (answers_in k)) → length rows ≡ count_in k limit
+rows_many rows k limit h = handed_many rows (answers_in k) (count_in k limit) h (omega arith)
+
+pub few_handed : (k : Kept) (limit : ℕ) → count_in k limit ≤ length (answers_in k)
+few_handed k limit = omega arith
+
+-- THE ENGINE after a take that is refused is as it was
+abbrev with_kept : PlainEngine → List Kept → PlainEngine
+with_kept e ks = record e { queries = ks }
+
+pub stays : (s : State) (e2 : PlainEngine) (n : ℕ) (x y : KeptQuery) → n < length s.kept.items → x ≡ get_or s.kept.items n x → kept_of y ≡ kept_of x → e2 ≡ with_kept (engine_in s) (map kept_of (set s.kept.items n y)) → e2 ≡ engine_in s
+stays s e2 n x y within is same made = made ∙ ap (with_kept (engine_in s)) (map-set_same kept_of s.kept.items n y x (same ∙ ap kept_of is))
+
+-- after one that hands out answers it is what the take makes of it
+abbrev with_both : PlainEngine → List Registered → List Kept → PlainEngine
+with_both e qs ks = record e { machine = record { streams = e.machine.streams; queries = qs }; queries = ks }
+
+pub is_taken : (s : State) (e2 : PlainEngine) (n : ℕ) (limit : ℤ) (x y : KeptQuery) (r r2 : Registration) (count : ℕ) → n < length s.kept.items → n < length s.registered.items → x ≡ get_or s.kept.items n x → r ≡ get_or s.registered.items n r
+    → kept_of y ≡ kept_after count (kept_of x) → query_of r2 ≡ took count (query_of r) → e2 ≡ with_both (engine_in s) (map query_of (set s.registered.items n r2)) (map kept_of (set s.kept.items n y))
+    → e2 ≡ taken (engine_in s) n limit count
+is_taken s e2 n limit x y r r2 count here there is_kept is_registered keeps takes made =
+    made
+    ∙ ap (λ qs. with_both (engine_in s) qs (map kept_of (set s.kept.items n y))) (set-change query_of (took count) s.registered.items n r2 r there (takes ∙ ap (λ z. took count (query_of z)) is_registered))
+    ∙ ap (with_both (engine_in s) (change n (took count) (map query_of s.registered.items))) (set-change kept_of (kept_after count) s.kept.items n y x here (keeps ∙ ap (λ z. kept_after count (kept_of z)) is_kept))
+
+-- WHAT IT KNOWS OF ITSELF after a take
+pub sound_again : (s s2 : State) → IsSound s → engine_in s2 ≡ engine_in s → s2.leases.items ≡ s.leases.items → s2.next ≡ s.next → s2.names ≡ s.names → IsSound s2
+sound_again s s2 h same leases next names = record {
+  good = subst GoodEngine (sym same) h.good;
+  kinds = λ g i. subst (λ e. HasKind e g) (sym same) (h.kinds g (subst (λ ls. IsIn ls g) leases i));
+  few = subst (λ ls. length ls ≤ MAX_LEASES) (sym leases) h.few;
+  numbers = subst (λ n. n ≤ LEASE_NUMBERS) (sym next) h.numbers;
+  named = names ∙ h.named ∙ ap (λ e. map name_of_registered e.machine.queries) (sym same);
+  gone = subst (λ e. map (λ q. q.is_dropped) e.machine.queries ≡ map is_gone e.queries) (sym same) h.gone;
+  columns = subst (λ e. HaveColumnNames e.machine) (sym same) h.columns;
+  closed = subst (λ e. HaveFewClosed e.machine) (sym same) h.closed;
 }
 
-given_again : (m : Machine) (qs : List Registered) (q : Registered) (t : ℕ) (waiting behind before rest : List (ℕ × Row)) → HasGiven m q waiting → length before ≡ t → closed_answers m q ≡ (before ++ behind) ++ rest
-    → HasGiven (with_queries m qs) (with_taken q t) behind
-given_again m qs q t waiting behind before rest g counted begins = record { taken = before; counted = counted; rest = rest; begins = begins }
+took_by : {X : Type 0} (f : Registered → X) (count n : ℕ) (qs : List Registered) → ((q : Registered) → f (took count q) ≡ f q) → map f (change n (took count) qs) ≡ map f qs
+took_by f count n [] h = refl
+took_by f count zero (q ∷ qs) h = ap (λ z. z ∷ map f qs) (h q)
+took_by f count (suc n) (q ∷ qs) h = ap (λ zs. f q ∷ zs) (took_by f count n qs h)
 
--- as it was
-pub kept_again : (m : Machine) (qs : List Registered) (q : Registered) (kept : Kept) → IsKept m q kept → IsKept (with_queries m qs) q kept
-kept_again m qs q (Running p) g = goes_again m qs q q.taken p g g.taken p.answers g.counted refl
-kept_again m qs q (Broken answers) g = given_again m qs q q.taken answers answers g.taken g.rest g g.counted g.begins
-kept_again m qs q Dropped g = given_again m qs q q.taken [] [] g.taken g.rest g g.counted g.begins
+gone_after : (count : ℕ) (k : Kept) → is_gone (kept_after count k) ≡ is_gone k
+gone_after count (Running p) = refl
+gone_after count (Broken answers) = refl
+gone_after count Dropped = refl
 
--- the first answers that wait go to those that were taken
-moved : (before waiting : List (ℕ × Row)) (count : ℕ) → (before ++ take count waiting) ++ drop count waiting ≡ before ++ waiting
-moved before waiting count = append_assoc before (take count waiting) (drop count waiting) ∙ ap (λ z. before ++ z) (take-append-drop count waiting)
+gone_taken : (count n : ℕ) (ks : List Kept) → map is_gone (change n (kept_after count) ks) ≡ map is_gone ks
+gone_taken count n [] = refl
+gone_taken count zero (k ∷ ks) = ap (λ z. z ∷ map is_gone ks) (gone_after count k)
+gone_taken count (suc n) (k ∷ ks) = ap (λ zs. is_gone k ∷ zs) (gone_taken count n ks)
 
-many_taken : (n : ℕ) (before waiting : List (ℕ × Row)) (count : ℕ) → length before ≡ n → count ≤ length waiting → length (before ++ take count waiting) ≡ n + count
-many_taken n before waiting count e few = omega (arith, length-append before (take count waiting), e, exact waiting count few) where
-  exact : (xs : List (ℕ × Row)) (c : ℕ) → c ≤ length xs → length (take c xs) ≡ c
-  exact [] zero h = refl
-  exact [] (suc c) h = absurd (omega (arith, h))
-  exact (x ∷ xs) zero h = refl
-  exact (x ∷ xs) (suc c) h = ap suc (exact xs c (omega (arith, h)))
+-- a query that runs ran before, with the same operators
+record Ran (k : Kept) (p : PlainQuery) : Type 0 where
+  before : PlainQuery
+  ran : k ≡ Running before
+  operators : p.operators ≡ before.operators
 
-kept_taken : (m : Machine) (qs : List Registered) (q : Registered) (count : ℕ) (kept : Kept) → count ≤ length (answers_in kept) → IsKept m q kept → IsKept (with_queries m qs) (with_taken q (q.taken + count)) (kept_after count kept)
-kept_taken m qs q count (Running p) few g =
-    goes_again m qs q (q.taken + count) p g (g.taken ++ take count p.answers) (drop count p.answers) (many_taken q.taken g.taken p.answers count g.counted few) (moved g.taken p.answers count)
-kept_taken m qs q count (Broken answers) few g =
-    given_again m qs q (q.taken + count) answers (drop count answers) (g.taken ++ take count answers) g.rest g (many_taken q.taken g.taken answers count g.counted few) (g.begins ∙ ap (λ z. z ++ g.rest) (sym (moved g.taken answers count)))
-kept_taken m qs q count Dropped few g = given_again m qs q (q.taken + count) [] [] g.taken g.rest g (omega (arith, g.counted, few)) g.begins
+ran_after : (count : ℕ) (k : Kept) (p : PlainQuery) → kept_after count k ≡ Running p → Ran k p
+ran_after count (Running before) p h = record { before = before; ran = refl; operators = let e : record before { answers = drop count before.answers } ≡ p = running_same h in ap (λ z. z.operators) (sym e) }
+  where
+    running_same : {a b : PlainQuery} → Running a ≡ Running b → a ≡ b
+    running_same e = cc
+ran_after count (Broken answers) p h = absurd (cc)
+ran_after count Dropped p h = absurd (cc)
 
--- THE ENGINE over a machine with the same streams
-abbrev pub anew : PlainEngine → List Registered → List Kept → List Lease → List Slot → PlainEngine
-anew e qs queries leases slots = record { machine = with_queries e.machine qs; queries = queries; leases = leases; next = e.next; slots = slots }
+ran_at : (count n j : ℕ) (ks : List Kept) (p : PlainQuery) → get_or (change n (kept_after count) ks) j Dropped ≡ Running p → Ran (get_or ks j Dropped) p
+ran_at count n j [] p h = record { before = p; ran = h; operators = refl }
+ran_at count zero zero (k ∷ ks) p h = ran_after count k p h
+ran_at count zero (suc j) (k ∷ ks) p h = record { before = p; ran = h; operators = refl }
+ran_at count (suc n) zero (k ∷ ks) p h = record { before = p; ran = h; operators = refl }
+ran_at count (suc n) (suc j) (k ∷ ks) p h = ran_at count n j ks p h
 
-module _ (e : PlainEngine) (qs : List Registered) (queries : List Kept) (leases : List Lease) (slots : List Slot) (n k : ℕ) (leased : list_any (is_of n k) leases ≡ list_any (is_of n k) e.leases) where
-  slot_anew : (q : Registered) (t : ℕ) (p : PlainQuery) (answers : List (ℕ × Row)) → slot_at (anew e qs queries leases slots) n (with_taken q t) (record p { answers = answers }) k ≡ slot_at e n q p k
-  slot_anew q t p answers =
-      ap (λ b. slot (slope_at q k) (cond b None (ready_instant (with_queries e.machine qs) (with_taken q t) p k)) n k) leased
-      ∙ ap (λ x. slot (slope_at q k) (cond (is_leased e n k) None (option_map (λ r. r.1) (ready (operator_at p.operators k) x))) n k) (log_again [] [] e.machine qs q t k)
+kind_taken : (e : PlainEngine) (n : ℕ) (limit : ℤ) (count : ℕ) (g : Given) → HasKind e g → HasKind (taken e n limit count) g
+kind_taken e n limit count g h p running =
+    let r = ran_at count n g.node.query e.queries p running in
+    subst (λ os. g.node.kind ≡ (get_operator os g.node.operator).kind) (sym r.operators) (h r.before r.ran)
+  where
+    get_operator : List PlainOperator → ℕ → PlainOperator
+    get_operator os k = operator_at os k
 
-  pub same_anew : (o : Option Registered) (kept : Kept) → slot_in (anew e qs queries leases slots) n k o kept ≡ slot_in e n k o kept
-  same_anew None kept = refl
-  same_anew (Some q) (Running p) = ap (λ s. cond (nat_lt k (length q.nodes)) (Some s) None) (slot_anew q q.taken p p.answers)
-  same_anew (Some q) (Broken answers) = refl
-  same_anew (Some q) Dropped = refl
+pub sound_taken : (s s2 : State) (n : ℕ) (limit : ℤ) (count : ℕ) → IsSound s → IsTake (engine_in s) n limit count → engine_in s2 ≡ taken (engine_in s) n limit count → s2.leases.items ≡ s.leases.items → s2.next ≡ s.next → s2.names ≡ s.names
+    → IsSound s2
+sound_taken s s2 n limit count h t is leases next names = record {
+  good = subst GoodEngine (sym is) (take_good (engine_in s) n limit count h.good t);
+  kinds = λ g i. subst (λ e. HasKind e g) (sym is) (kind_taken (engine_in s) n limit count g (h.kinds g (subst (λ ls. IsIn ls g) leases i)));
+  few = subst (λ ls. length ls ≤ MAX_LEASES) (sym leases) h.few;
+  numbers = subst (λ k. k ≤ LEASE_NUMBERS) (sym next) h.numbers;
+  named = names ∙ h.named ∙ sym (ap (λ e. map name_of_registered e.machine.queries) is ∙ took_by name_of_registered count n (engine_in s).machine.queries (λ q. refl));
+  gone = ap (λ e. map (λ q. q.is_dropped) e.machine.queries) is ∙ took_by (λ q. q.is_dropped) count n (engine_in s).machine.queries (λ q. refl) ∙ h.gone ∙ sym (ap (λ e. map is_gone e.queries) is ∙ gone_taken count n (engine_in s).queries);
+  columns = subst (λ e. HaveColumnNames e.machine) (sym is) h.columns;
+  closed = subst (λ e. HaveFewClosed e.machine) (sym is) h.closed;
+}
 
-  taken_anew : (count : ℕ) (o : Option Registered) (kept : Kept) → slot_in (anew e qs queries leases slots) n k (option_map (took count) o) (kept_after count kept) ≡ slot_in e n k o kept
-  taken_anew count None kept = refl
-  taken_anew count (Some q) (Running p) = ap (λ s. cond (nat_lt k (length q.nodes)) (Some s) None) (slot_anew q (q.taken + count) p (drop count p.answers))
-  taken_anew count (Some q) (Broken answers) = refl
-  taken_anew count (Some q) Dropped = refl
+-- A TAKE THAT IS REFUSED
+module _ {A : Type 0} (view : A → List (ℤ × Row)) (old new : PlainEngine) (n limit : ℕ) (x y : Kept) (none : first_fault old.machine (Take n (pos limit)) ≡ None) (at : kept_at old n ≡ x) where
+  refused_so : (f : Fault) → HandsOut view x limit (Err f) y → (y ≡ x → new ≡ old) → Takes view old n (pos limit) (Err f) new
+  refused_so OutOfMemory h same = (none, same h)
+  refused_so fault.Broken h same = (none, at ∙ h.0, same h.1)
+  refused_so (Query z) h same = absurd h
+  refused_so BadName h same = absurd h
+  refused_so NameTaken h same = absurd h
+  refused_so BadColumns h same = absurd h
+  refused_so TooMany h same = absurd h
+  refused_so UnknownStream h same = absurd h
+  refused_so UnknownQuery h same = absurd h
+  refused_so BadWidth h same = absurd h
+  refused_so ValueRange h same = absurd h
+  refused_so InstantRange h same = absurd h
+  refused_so Late h same = absurd h
+  refused_so Backward h same = absurd h
+  refused_so Leap h same = absurd h
+  refused_so StreamFull h same = absurd h
+  refused_so BadLimit h same = absurd h
+  refused_so UnknownLease h same = absurd h
+  refused_so Stranger h same = absurd h
+  refused_so TooManyLeases h same = absurd h
 
--- A TAKE
-module _ (e : PlainEngine) (n : ℕ) (limit : ℤ) (count : ℕ) (g : GoodEngine e) (t : IsTake e n limit count) where
-  here_kept : kept_at (taken e n limit count) n ≡ kept_after count (kept_at e n)
-  here_kept = changed_or_here (kept_after count) n e.queries Dropped refl
+kept_by : {A : Type 0} (view : A → List (ℤ × Row)) (x y : Kept) (limit : ℕ) (f : Fault) → HandsOut view x limit (Err f) y → y ≡ x
+kept_by view x y limit OutOfMemory h = h
+kept_by view x y limit fault.Broken h = h.1
+kept_by view x y limit (Query z) h = absurd h
+kept_by view x y limit BadName h = absurd h
+kept_by view x y limit NameTaken h = absurd h
+kept_by view x y limit BadColumns h = absurd h
+kept_by view x y limit TooMany h = absurd h
+kept_by view x y limit UnknownStream h = absurd h
+kept_by view x y limit UnknownQuery h = absurd h
+kept_by view x y limit BadWidth h = absurd h
+kept_by view x y limit ValueRange h = absurd h
+kept_by view x y limit InstantRange h = absurd h
+kept_by view x y limit Late h = absurd h
+kept_by view x y limit Backward h = absurd h
+kept_by view x y limit Leap h = absurd h
+kept_by view x y limit StreamFull h = absurd h
+kept_by view x y limit BadLimit h = absurd h
+kept_by view x y limit UnknownLease h = absurd h
+kept_by view x y limit Stranger h = absurd h
+kept_by view x y limit TooManyLeases h = absurd h
 
-  few : count ≤ length (answers_in (kept_at e n))
-  few = omega (arith, t.many)
+pub refused_same : {A : Type 0} (view : A → List (ℤ × Row)) (s : State) (e2 : PlainEngine) (n limit : ℕ) (x y : KeptQuery) (f : Fault) → IsSound s → first_fault (engine_in s).machine (Take n (pos limit)) ≡ None → x ≡ get_or s.kept.items n x
+    → HandsOut view (kept_of x) limit (Err f) (kept_of y) → e2 ≡ with_kept (engine_in s) (map kept_of (set s.kept.items n y)) → e2 ≡ engine_in s
+refused_same view s e2 n limit x y f sound none is h made = stays s e2 n x y (kept_within s n (pos limit) sound none) is (kept_by view (kept_of x) (kept_of y) limit f h) made
 
-  take_queries : (j : ℕ) (r : Registered) → query_at (taken e n limit count) j ≡ Some r → IsKept (taken e n limit count).machine r (kept_at (taken e n limit count) j)
-  take_queries j r at = ⊎_elim
-      (λ same.
-      let w : Was (took count) (slice_get e.machine.queries n) r = was (took count) _ r (sym (changed_here (took count) n e.machine.queries) ∙ ap (query_at (taken e n limit count)) (sym same) ∙ at) in
-      subst (λ z. IsKept (taken e n limit count).machine r (kept_at (taken e n limit count) z)) (sym same)
-      (subst (IsKept (taken e n limit count).machine r) (sym here_kept)
-      (subst (λ z. IsKept (taken e n limit count).machine z (kept_after count (kept_at e n))) (sym w.new)
-      (kept_taken e.machine (change n (took count) e.machine.queries) w.old count (kept_at e n) few (g.queries n w.old w.is)))))
-      (λ ne. subst (IsKept (taken e n limit count).machine r) (sym (changed_or_there (kept_after count) n j e.queries Dropped ne))
-      (kept_again e.machine (change n (took count) e.machine.queries) r (kept_at e j) (g.queries j r (sym (changed_there (took count) n j e.machine.queries ne) ∙ at))))
-      (same_number j n)
+pub refused_takes : {A : Type 0} (view : A → List (ℤ × Row)) (s : State) (e2 : PlainEngine) (n limit : ℕ) (x y : KeptQuery) (f : Fault) (r : Result A Fault) → r ≡ Err f → IsSound s → first_fault (engine_in s).machine (Take n (pos limit)) ≡ None
+    → x ≡ get_or s.kept.items n x → HandsOut view (kept_of x) limit (Err f) (kept_of y) → e2 ≡ with_kept (engine_in s) (map kept_of (set s.kept.items n y)) → Takes view (engine_in s) n (pos limit) r e2
+refused_takes view s e2 n limit x y f r err sound none is h made =
+    subst (λ z. Takes view (engine_in s) n (pos limit) z e2) (sym err)
+    (refused_so view (engine_in s) e2 n limit (kept_of x) (kept_of y) none (kept_is s n x (kept_within s n (pos limit) sound none) is) f h
+    (λ same. stays s e2 n x y (kept_within s n (pos limit) sound none) is same made))
 
-  take_lease : (a : Lease) → IsLease e a → IsLease (taken e n limit count) a
-  take_lease a is = ⊎_elim
-      (λ same. record {
-        numbered = is.numbered;
-        query = took count is.query;
-        registered = ap (query_at (taken e n limit count)) same ∙ changed_here (took count) n e.machine.queries ∙ ap (option_map (took count)) (ap (query_at e) (sym same) ∙ is.registered);
-        kept = record is.kept { answers = drop count is.kept.answers };
-        running = ap (kept_at (taken e n limit count)) same ∙ here_kept ∙ ap (kept_after count) (ap (kept_at e) (sym same) ∙ is.running);
-        within = is.within;
-        first = subst (λ z. IsFirst (operator_at is.kept.operators a.operator) z a.side a.item) (sym (log_again [] [] e.machine (change n (took count) e.machine.queries) is.query (is.query.taken + count) a.operator)) is.first;
-        near = is.near;
-      })
-      (λ ne. record {
-        numbered = is.numbered;
-        query = is.query;
-        registered = changed_there (took count) n a.query e.machine.queries ne ∙ is.registered;
-        kept = is.kept;
-        running = changed_or_there (kept_after count) n a.query e.queries Dropped ne ∙ is.running;
-        within = is.within;
-        first = subst (λ z. IsFirst (operator_at is.kept.operators a.operator) z a.side a.item) (sym (log_again [] [] e.machine (change n (took count) e.machine.queries) is.query is.query.taken a.operator)) is.first;
-        near = is.near;
-      })
-      (same_number a.query n)
-
-  take_slot : (j k : ℕ) → slot_of (taken e n limit count) j k ≡ slot_of e j k
-  take_slot j k = ⊎_elim
-      (λ same. subst (λ z. slot_of (taken e n limit count) z k ≡ slot_of e z k) (sym same)
-      (ap (λ z. slot_in (taken e n limit count) n k z (kept_at (taken e n limit count) n)) (changed_here (took count) n e.machine.queries)
-      ∙ ap (slot_in (taken e n limit count) n k (option_map (took count) (query_at e n))) here_kept
-      ∙ taken_anew e (change n (took count) e.machine.queries) (change n (kept_after count) e.queries) e.leases e.slots n k refl count (query_at e n) (kept_at e n)))
-      (λ ne. ap (λ z. slot_in (taken e n limit count) j k z (kept_at (taken e n limit count) j)) (changed_there (took count) n j e.machine.queries ne)
-      ∙ ap (slot_in (taken e n limit count) j k (query_at e j)) (changed_or_there (kept_after count) n j e.queries Dropped ne)
-      ∙ same_anew e (change n (took count) e.machine.queries) (change n (kept_after count) e.queries) e.leases e.slots j k refl (query_at e j) (kept_at e j))
-      (same_number j n)
-
-  pub take_good : GoodEngine (taken e n limit count)
-  take_good = record {
-    machine = machines_stand.goes_on e.machine (Take n limit) count t.accepted g.machine;
-    rows = rows_stand.goes_on e.machine (Take n limit) count t.accepted g.rows;
-    many = many_changed (kept_after count) n e.queries ∙ g.many ∙ sym (many_changed (took count) n e.machine.queries);
-    queries = take_queries;
-    leases = λ a i. take_lease a (g.leases a i);
-    apart = g.apart;
-    slots = equal_slots (slot_of e) (slot_of (taken e n limit count)) e.slots take_slot g.slots;
-  }
+-- A TAKE THAT HANDS OUT ROWS
+pub handed_takes : {A : Type 0} (view : A → List (ℤ × Row)) (s : State) (e2 : PlainEngine) (n limit : ℕ) (x y : KeptQuery) (r r2 : Registration) (rows : A) → IsSound s → first_fault (engine_in s).machine (Take n (pos limit)) ≡ None
+    → x ≡ get_or s.kept.items n x → r ≡ get_or s.registered.items n r → HandsOut view (kept_of x) limit (Ok rows) (kept_of y) → query_of r2 ≡ took (count_in (kept_of x) limit) (query_of r)
+    → e2 ≡ with_both (engine_in s) (map query_of (set s.registered.items n r2)) (map kept_of (set s.kept.items n y)) → Takes view (engine_in s) n (pos limit) (Ok rows) e2
+handed_takes view s e2 n limit x y r r2 rows sound none is_kept is_registered h takes made =
+    let within : n < length s.kept.items = kept_within s n (pos limit) sound none in
+    let at : kept_at (engine_in s) n ≡ kept_of x = kept_is s n x within is_kept in
+    let count : count_in (kept_of x) limit ≡ count_of (engine_in s) n (pos limit) = ap (λ k. min limit (length (answers_in k))) (sym at) in (
+      none,
+      h.0 ∙ ap (λ c. handed (take c (answers_in (kept_of x)))) count ∙ ap (λ k. handed (take (count_of (engine_in s) n (pos limit)) (answers_in k))) (sym at),
+      is_taken s e2 n (pos limit) x y r r2 (count_in (kept_of x) limit) within (registered_within s n (pos limit) none) is_kept is_registered h.1 takes made ∙ ap (taken (engine_in s) n (pos limit)) count,
+    )

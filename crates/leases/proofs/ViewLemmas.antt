@@ -1,17 +1,19 @@
 -- The engine of the code before any call, and what waits at its queries.
-use Rattle.std.proofs.Common.{◌≡◌, ◌≤◌, ℕ, zero, suc, Some, None, List, [], ◌∷◌, length, map, get_or, slice_get, refl, sym, ap, arith}
+use Rattle.std.proofs.Common.{◌≡◌, ◌≤◌, ℕ, zero, suc, Some, None, List, [], ◌∷◌, length, map, get_or, slice_get, refl, sym, ap, subst, arith}
 use Rattle.std.proofs.lemmas.List.{length-map}
-use Rattle.std.proofs.lemmas.Grind.{merely}
 use Rattle.ready_list.proofs.SlotLemmas.{none_ordered}
 use Rattle.ready_list.specs.declared.slots.Slot.{Slot}
 use Rattle.reference.specs.Machine.{Registered, Stream, empty}
-use Rattle.query_nets.specs.Machines.{IsMachine, MachinesStand}
+use Rattle.query_nets.specs.Machines.{IsMachine}
 use Rattle.query_nets.proofs.RowLemmas.{rows_stand}
-use Rattle.leases.specs.Engines.{Dropped, GoodEngine, query_at, slot_of}
-use Rattle.leases.specs.Views.{IsEngine, empty_engine, engine_of, kept_of, lease_of, waiting_in}
+use Rattle.plain_engines.specs.Engines.{Broken, Dropped, GoodEngine, query_at, slot_of}
+use Rattle.leases.specs.Views.{empty_engine, engine_of, kept_of, lease_of, waiting_in}
 use Rattle.leases.specs.declared.given.Given.{Given}
+use Rattle.leases.specs.Shown.{engine_in}
+use Rattle.leases.specs.Whole.{IsWhole, IsWholeEngine}
 use Rattle.leases.specs.declared.kept.KeptQuery.{KeptQuery}
-use Rattle.leases.proofs.PromiseLemmas.{is_slot}
+use Rattle.leases.specs.declared.state.State.{State}
+use Rattle.plain_engines.proofs.PromiseLemmas.{is_slot}
 
 -- BEFORE ANY CALL
 no_query : (n : ℕ) (q : Registered) → query_at empty_engine n ≡ Some q → ⊥
@@ -20,7 +22,7 @@ no_query n q e = let f : None ≡ Some q = e in absurd (cc)
 no_slot : (n k : ℕ) (s : Slot) → slot_of empty_engine n k ≡ Some s → ⊥
 no_slot n k s e = let is = is_slot empty_engine n k s e in no_query n is.query is.registered
 
-empty_good : IsMachine empty → GoodEngine empty_engine
+pub empty_good : IsMachine empty → GoodEngine empty_engine
 empty_good h = record {
   machine = h;
   rows = rows_stand.start;
@@ -31,14 +33,14 @@ empty_good h = record {
   slots = record { ordered = none_ordered; there = λ n k s e. absurd (no_slot n k s e); only = λ s i. absurd i };
 }
 
-empty_sound : MachinesStand → IsEngine empty_engine []
-empty_sound h = record { good = empty_good h.start; kinds = λ g i. absurd i; few = omega arith; numbers = omega arith }
-
-pub starts : (streams : List Stream) (slots : List Slot) → streams ≡ [] → slots ≡ [] → MachinesStand → ∥ IsEngine (engine_of streams [] [] [] 0 slots) [] ∥₁
-starts streams slots e f h = rw (e, f) (merely (empty_sound h))
-
 pub starts_empty : (streams : List Stream) (slots : List Slot) → streams ≡ [] → slots ≡ [] → engine_of streams [] [] [] 0 slots ≡ empty_engine
 starts_empty streams slots e f = rw (e, f) refl
+
+empty_whole : IsWholeEngine empty_engine
+empty_whole = record { returned = refl; unbroken = λ n answers e. let f : Dropped ≡ Broken answers = e in absurd (cc) }
+
+pub whole_at_first : (s : State) → engine_in s ≡ empty_engine → IsWhole s
+whole_at_first s e = subst IsWholeEngine (sym e) empty_whole
 
 -- WHAT WAITS
 pub many_out : (ls : List Given) → length (map lease_of ls) ≡ length ls

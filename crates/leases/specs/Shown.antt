@@ -1,7 +1,12 @@
 -- The engine as its clients see it.
-use Rattle.leases.specs.Engines.{PlainEngine}
+use Rattle.plain_engines.specs.Engines.{PlainEngine, world_of}
+use Rattle.reference.specs.World.{World}
 use Rattle.leases.specs.Views.{engine_of}
-use Rattle.leases.specs.declared.engine.Engine.{Engine}
+use Rattle.leases.specs.declared.state.State.{State}
 
-abbrev pub engine_in : Engine → PlainEngine
-engine_in e = engine_of e.streams e.registered.items e.kept.items e.leases.items e.next e.slots
+abbrev pub engine_in : State → PlainEngine
+engine_in s = engine_of s.streams s.registered.items s.kept.items s.leases.items s.next s.slots
+
+-- the machine, and the answers that wait
+abbrev pub world_in : State → World
+world_in s = world_of (engine_in s)

@@ -6,7 +6,7 @@ use Rattle.reference.specs.Machine as machine
 use Rattle.reference.specs.Machine.{Registered, Stream, empty}
 use Rattle.query_nets.specs.Queries.{PlainQuery, operator_at}
 use Rattle.ready_list.specs.declared.slots.Slot.{Slot}
-use Rattle.leases.specs.Engines.{Broken, Dropped, GoodEngine, IsIn, Kept, Lease, PlainEngine, Running, kept_at}
+use Rattle.plain_engines.specs.Engines.{Broken, Dropped, GoodEngine, IsIn, Kept, Lease, PlainEngine, Running, kept_at}
 use Rattle.leases.specs.declared.given.Given.{Given}
 use Rattle.leases.specs.declared.kept.KeptQuery.{KeptQuery}
 use Rattle.leases.specs.declared.kept.KeptQuery.TheVariants as code
@@ -52,13 +52,6 @@ engine_of streams registered kept leases next slots = record {
 -- a turn that is out does what its operator does
 abbrev pub HasKind : PlainEngine → Given → Type 0
 HasKind e g = (p : PlainQuery) → kept_at e g.node.query ≡ Running p → g.node.kind ≡ (operator_at p.operators g.node.operator).kind
-
--- a good engine, of which few turns are out and not all numbers are given
-pub record IsEngine (e : PlainEngine) (leases : List Given) : Type 0 where
-  pub good : GoodEngine e
-  pub kinds : (g : Given) → IsIn leases g → HasKind e g
-  pub few : length leases ≤ 64
-  pub numbers : e.next ≤ 0x8000_0000_0000_0000
 
 -- before any call
 abbrev pub empty_engine : PlainEngine

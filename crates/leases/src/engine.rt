@@ -1,25 +1,30 @@
 //! The engine.
-ghost use Rattle.leases.specs.Views.{IsEngine, engine_of};
 
+mod answering;
 mod looks;
+mod turns;
 
-use crate::given::Given;
-use crate::kept::KeptQuery;
-use crate::registered::Registration;
-use ready_list::ReadyList;
-use std::alloc::Global;
-use stream_store::Streams;
+use crate::state::State;
+use std::marker::Model;
 
 /// An engine of many queries: its streams, its registered queries and what is left of each, the turns that are out, and the slots of all
 /// operators.
 #[derive(Drop)]
 pub struct Engine {
-    alloc: Global,
-    streams: Streams,
-    registered: Vec<Registration>,
-    kept: Vec<KeptQuery>,
-    leases: Vec<Given>,
-    next: u64,
-    slots: ReadyList,
-    ghost sound: { ∥ IsEngine (engine_of streams registered.items kept.items leases.items next slots) leases.items ∥₁ },
+    state: State,
+}
+
+impl Model for Engine {
+    ghost use Rattle.std.specs.Coded.{codes};
+    ghost use Rattle.values.specs.contracts.resolved.Condition as condition;
+    ghost use Rattle.leases.specs.Sound.{IsSound};
+    ghost use Rattle.leases.specs.declared.state.State.{State as PlainState};
+
+    ghost Value = { PlainState };
+
+    ghost coded = { Prim.hlevel (codes, condition.the_row.coded) };
+
+    ghost view = { λ e. e.state };
+
+    ghost invariant = { λ e. IsSound e.state };
 }

@@ -1,8 +1,11 @@
 //! What is left of a registered query.
 ghost use Rattle.std.specs.Prelude.{◌≡◌};
+ghost use Rattle.plain_engines.specs.Engines.{Broken, Running};
+ghost use Rattle.query_nets.specs.Queries.{PlainQuery};
 ghost use Rattle.leases.specs.Views.{kept_of, waiting_in};
 
 use running_queries::RunningQuery;
+use std::mem::replace;
 
 /// What is left of a registered query: it runs, or a growth that was refused broke it and its answers wait, or it was dropped.
 #[derive(Drop)]
@@ -21,6 +24,19 @@ impl KeptQuery {
             KeptQuery::Running(query) => Some(query.waiting()),
             KeptQuery::Broken(query) => Some(query.waiting()),
             KeptQuery::Dropped => None,
+        }
+    }
+
+    /// If it runs it does no longer; its answers wait on. Takes no memory.
+    pub(crate) fn give_up(&mut self)
+        ensures { (p : PlainQuery) → kept_of self.old ≡ Running p → kept_of self.new ≡ Broken p.answers }
+    {
+        match replace(self, KeptQuery::Dropped) {
+            KeptQuery::Running(mut query) => {
+                query.give_up();
+                *self = KeptQuery::Broken(query);
+            }
+            other => *self = other,
         }
     }
 }

@@ -9,20 +9,20 @@ use plan::Plan;
 /// A source of a registered query: the stream's number, and how many rows had come to it before the registration.
 #[derive(Clone, Copy)]
 pub(crate) struct Place {
-    stream: u64,
-    arrivals: u64,
+    pub(crate) stream: u64,
+    pub(crate) arrivals: u64,
 }
 
 /// A registered query: its name, its plan with the operators' slopes, the places of its sources, its first instant, how many of its
 /// answers were taken, and whether it was dropped.
 #[derive(Drop)]
 pub(crate) struct Registration {
-    name: String,
-    plan: Plan,
-    slopes: Vec<Slope>,
-    places: Vec<Place>,
-    first: u64,
-    taken: u64,
-    is_dropped: bool,
+    pub(crate) name: String,
+    pub(crate) plan: Plan,
+    pub(crate) slopes: Vec<Slope>,
+    pub(crate) places: Vec<Place>,
+    pub(crate) first: u64,
+    pub(crate) taken: u128,
+    pub(crate) is_dropped: bool,
     ghost sloped: { slopes.items ≡ plan_slopes (nodes_of plan.nodes.items) plan.measures.items },
 }

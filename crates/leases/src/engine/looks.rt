@@ -1,63 +1,56 @@
 //! The engine before any call, and what its clients may look at.
-ghost use Rattle.std.specs.Prelude.{◌≡◌, get_or, length, map};
-ghost use Rattle.leases.specs.Engines.{Dropped, kept_at};
-ghost use Rattle.leases.specs.Promises.{KeepsItsPromises};
-ghost use Rattle.leases.specs.Shown.{engine_in};
-ghost use Rattle.leases.specs.Views.{empty_engine, kept_of, waiting_in};
+ghost use Rattle.std.specs.Prelude.{◌≡◌, length};
+ghost use Rattle.plain_engines.specs.Promises.{KeepsItsPromises};
+ghost use Rattle.leases.specs.Looks.{IsPending, WaitsAt};
+ghost use Rattle.leases.specs.Shown.{engine_in, world_in};
+ghost use Rattle.leases.specs.Views.{empty_engine};
+ghost use Rattle.leases.specs.Whole.{IsWhole};
+ghost use Rattle.reference.specs.World as world;
 
 use crate::engine::Engine;
-use crate::kept::KeptQuery;
-use crate::laws::good_engines_keep_their_promises;
-use query_nets::machines_stand;
-use ready_list::ReadyList;
+use crate::state::State;
+use reference::Fault;
 use std::alloc::Global;
-use stream_store::Streams;
 
 impl Engine {
     /// An engine with no stream and no query. Takes no memory.
-    #[tactic(auto, using(crate::proofs::ViewLemmas::starts, crate::proofs::ViewLemmas::starts_empty))]
     pub fn new(alloc: Global) -> Engine
-        ensures { engine_in result ≡ empty_engine }
+        ensures empty { engine_in result ≡ empty_engine }
+        ensures world { world_in result ≡ world.empty }
+        ensures whole { IsWhole result }
     {
-        machines_stand();
         Engine {
-            alloc,
-            streams: Streams::new(alloc),
-            registered: Vec::new(alloc),
-            kept: Vec::new(alloc),
-            leases: Vec::new(alloc),
-            next: 0,
-            slots: ReadyList::new(alloc),
+            state: State::new(alloc),
         }
     }
 
     /// How many turns are out. Takes no memory.
-    #[tactic(auto, using(crate::proofs::ViewLemmas::many_out))]
     pub fn leases_out(&self) -> usize
         ensures { result ≡ length (engine_in self.now).leases }
     {
-        self.leases.len()
+        self.state.leases_out()
     }
 
-    /// How many answers of the query of a number wait; None where there is none, or it was dropped. Takes no memory.
+    /// How many answers of the query of a number wait. They stand behind those that were taken, and all together are a beginning of CQL's answers. Takes no
+    /// memory.
     ///
-    /// They stand behind those that were taken, and all together are a beginning of CQL's answers.
-    pub fn waiting(&self, query: u64) -> Option<usize>
-        ensures waiting { result ≡ waiting_in (kept_at (engine_in self.now) query) }
-        ensures promises { ∥ KeepsItsPromises (engine_in self.now) ∥₁ }
+    /// # Errors
+    /// `UnknownQuery` where there is none, or it was dropped.
+    pub fn waiting(&self, query: u64) -> Result<usize, Fault>
+        ensures waiting { WaitsAt (engine_in self.now) query result }
+        ensures promises { KeepsItsPromises (engine_in self.now) }
     {
-        good_engines_keep_their_promises();
-        waiting_at(&self.kept, query)
+        self.state.waiting(query)
     }
-}
 
-/// How many answers wait of what is kept by a number, if it was not dropped.
-#[tactic(auto, using(crate::proofs::ViewLemmas::past_kept, crate::proofs::ViewLemmas::none_kept, crate::proofs::ViewLemmas::some_kept))]
-fn waiting_at(kept: &[KeptQuery], query: u64) -> Option<usize>
-    ensures { result ≡ waiting_in (get_or (map kept_of kept.now) query Dropped) }
-{
-    match kept.get(query as usize) {
-        None => None,
-        Some(kept) => kept.waiting(),
+    /// How much waits in each queue of a query, a row and a tick each as one, by the operators' numbers, a join's left queue first. Of a broken query nothing
+    /// does.
+    ///
+    /// # Errors
+    /// `UnknownQuery` where there is none, or it was dropped; `OutOfMemory`.
+    pub fn pending(&self, query: u64) -> Result<Vec<u128>, Fault>
+        ensures { IsPending (λ v. v.items) (engine_in self.now) query result }
+    {
+        self.state.pending(query)
     }
 }

@@ -1,6 +1,8 @@
-use Rattle.std.proofs.Math.Logic.{∥∥₁_map}
+use Rattle.std.proofs.Common.{subst}
+use Rattle.plain_engines.proofs.PromiseLemmas.{keeps_its_promises}
+use Rattle.plain_engines.specs.Promises.{KeepsItsPromises}
 use Rattle.leases.specs.Shown.{engine_in}
 use Rattle.leases.proofs.engine.Engine.waiting.Goals as goal
 
 pub returns-clause-promises : goal.returns-clause-promises
-returns-clause-promises c = ∥∥₁_map c.args.self.now.sound (λ s. c.good_engines_keep_their_promises.ensures (engine_in c.args.self.now) s.good)
+returns-clause-promises c = subst (λ s. KeepsItsPromises (engine_in s)) c.self.view_is (keeps_its_promises (engine_in c.self.inside.state) c.self.invariant.good)

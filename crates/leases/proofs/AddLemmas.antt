@@ -1,0 +1,190 @@
+-- A query that is added to an engine: what was asked of it before, and what the engine knows of itself afterwards.
+use Rattle.std.proofs.Common.{◌≡◌, ◌≢◌, ℕ, zero, suc, ◌+◌, ◌<◌, ◌≤◌, ◌++◌, inl, inr, Bool, true, false, not, ◌==◌, ◌&&◌, ◌||◌, nat_le, is_some, cond, Option, Some, None, List, [], ◌∷◌, filter, map, position, get_or, length, refl, sym, ap, ◌∙◌, subst, arith, length-append}
+use Rattle.std.specs.Prelude.{slice_get}
+use Rattle.std.specs.List.{position_or_len}
+use Rattle.std.specs.Str.{bytes_eq}
+use Rattle.std.proofs.lemmas.Bool.{ne_eqb}
+use Rattle.std.proofs.lemmas.List.{map-append, length-map}
+use Rattle.std.proofs.lemmas.Option.{slice_get_within}
+use Rattle.envelope.specs.Fraction.{Fraction}
+use Rattle.name_table.specs.Names.{bears}
+use Rattle.names.specs.Faults.{first_of}
+use Rattle.plan.specs.Paths.{plan_slopes}
+use Rattle.reference.specs.Commands.{count_undropped, register_tests}
+use Rattle.reference.specs.Machine.{Machine, Registered, Stream, is_called, query_named}
+use Rattle.reference.specs.Named.{name_of_registered}
+use Rattle.reference.specs.declared.fault.Fault.{Fault}
+use Rattle.reference.specs.declared.fault.Fault.TheVariants.{BadName, NameTaken, TooMany}
+use Rattle.reference.specs.declared.limits.TheConstants.{MAX_QUERIES, MAX_REGISTRATIONS}
+use Rattle.reference.proofs.NameLemmas.{position-map}
+use Rattle.reference.proofs.StreamLemmas.{none_first, none_later}
+use Rattle.cql_reader.specs.Lexis.{is_name}
+use Rattle.query_nets.specs.Queries.{PlainQuery}
+use Rattle.query_nets.specs.Registrations.{HaveColumnNames}
+use Rattle.answer_bounds.specs.Bounds.{HaveFewClosed}
+use Rattle.ready_list.specs.Slots.{without_query}
+use Rattle.ready_list.specs.declared.slots.Slot.{Slot}
+use Rattle.plain_engines.specs.Asks.{MayAsk}
+use Rattle.plain_engines.specs.Calls.{registered, with_query}
+use Rattle.plain_engines.specs.Engines.{Dropped, GoodEngine, IsIn, Kept, Lease, PlainEngine, Running, kept_at, query_at}
+use Rattle.plain_engines.proofs.AskLemmas.{may_ask}
+use Rattle.plain_engines.proofs.PromiseLemmas.{is_slot}
+use Rattle.leases.specs.Registering.{IsNewQuery, new_slot, with_first}
+use Rattle.leases.specs.Shown.{engine_in}
+use Rattle.leases.specs.Sound.{IsSound, is_gone}
+use Rattle.leases.specs.Views.{HasKind, engine_of, kept_of, lease_of, query_of}
+use Rattle.leases.specs.declared.given.Given.{Given}
+use Rattle.leases.specs.declared.kept.KeptQuery.{KeptQuery}
+use Rattle.leases.specs.declared.kept.KeptQuery.TheVariants as code
+use Rattle.leases.specs.declared.registered.Registration.{Registration}
+use Rattle.leases.specs.declared.state.State.{State}
+use Rattle.leases.proofs.LookLemmas.{many_slopes}
+use Rattle.leases.proofs.RegisterLemmas.{all_put, new_slot_is}
+
+-- ONE MORE stands behind a list
+more_here : {X : Type 0} (xs : List X) (x : X) → slice_get (xs ++ x ∷ []) (length xs) ≡ Some x
+more_here [] x = refl
+more_here (y ∷ xs) x = more_here xs x
+
+kept_more : (ks : List Kept) (k : Kept) → get_or (ks ++ k ∷ []) (length ks) Dropped ≡ k
+kept_more [] k = refl
+kept_more (x ∷ ks) k = kept_more ks k
+
+kept_before : (ks ls : List Kept) (n : ℕ) → n < length ks → get_or (ks ++ ls) n Dropped ≡ get_or ks n Dropped
+kept_before [] ls n h = absurd (omega (arith, h))
+kept_before (x ∷ ks) ls zero h = refl
+kept_before (x ∷ ks) ls (suc n) h = kept_before ks ls n (omega (arith, h))
+
+in_map : {X Y : Type 0} (f : X → Y) (xs : List X) (x : X) → IsIn xs x → IsIn (map f xs) (f x)
+in_map f [] x i = i
+in_map f (y ∷ xs) x (inl e) = inl (ap f e)
+in_map f (y ∷ xs) x (inr i) = inr (in_map f xs x i)
+
+-- WHAT STANDS ALREADY is of other queries
+old_lease : (e : PlainEngine) → GoodEngine e → (l : Lease) → IsIn e.leases l → l.query < length e.machine.queries
+old_lease e g l i = slice_get_within e.machine.queries l.query (g.leases l i).query (g.leases l i).registered
+
+old_slot : (e : PlainEngine) → GoodEngine e → (s : Slot) → IsIn e.slots s → s.query < length e.machine.queries
+old_slot e g s i = let is = is_slot e s.query s.operator s (g.slots.only s i) in slice_get_within e.machine.queries s.query is.query is.registered
+
+all_stay : (n : ℕ) (slots : List Slot) → ((s : Slot) → IsIn slots s → s.query ≢ n) → without_query n slots ≡ slots
+all_stay n [] others = refl
+all_stay n (s ∷ slots) others =
+    let other : (s.query == n) ≡ false = ne_eqb s.query n (others s (inl refl)) in
+    rw other (ap (λ l. s ∷ l) (all_stay n slots (λ t i. others t (inr i))))
+
+pub none_there : (e : PlainEngine) → GoodEngine e → without_query (length e.machine.queries) e.slots ≡ e.slots
+none_there e g = all_stay (length e.machine.queries) e.slots (λ s i same. let l = old_slot e g s i in omega (arith, l, same))
+
+-- THE OPERATORS of the new query are there, and have their slots
+module _ (e : PlainEngine) (q : Registered) (p : PlainQuery) (slopes : List Fraction) (many : length e.queries ≡ length e.machine.queries) (good : GoodEngine (registered e q p)) (sloped : slopes ≡ plan_slopes q.nodes q.measures) where
+  n : ℕ
+  n = length e.machine.queries
+
+  here : query_at (registered e q p) (length e.machine.queries) ≡ Some q
+  here = more_here e.machine.queries q
+
+  runs : kept_at (registered e q p) (length e.machine.queries) ≡ Running p
+  runs = ap (kept_at (registered e q p)) (sym many) ∙ kept_more e.queries (Running p)
+
+  all_sloped : length slopes ≡ length q.nodes
+  all_sloped = ap (λ (ss : List Fraction). length ss) sloped ∙ many_slopes q.nodes q.measures
+
+  pub new_operators : IsNewQuery e.machine.streams p slopes
+  new_operators = record { operators = λ k l. (may_ask (registered e q p) good).operators (length e.machine.queries) k q p (record { registered = here; running = runs; within = omega (arith, l, all_sloped) }) }
+
+  pub slots_are : (old : GoodEngine e) → with_first e.machine.streams p slopes (length e.machine.queries) (length slopes) e.slots ≡ (registered e q p).slots
+  slots_are old =
+      let put = all_put (with_query e q p) (length e.machine.queries) q p slopes 0 q.nodes e.slots
+      (λ j l. new_slot_is (with_query e q p) (length e.machine.queries) q p slopes j sloped (λ a i same. let b = old_lease e old a i in omega (arith, b, same))
+      ((may_ask (registered e q p) good).logs (length e.machine.queries) j q p (record { registered = here; running = runs; within = omega (arith, l) }))) in
+      let none_before : length q.nodes ≡ 0 + length q.nodes = omega arith in
+      ap (λ c. with_first e.machine.streams p slopes (length e.machine.queries) c e.slots) (all_sloped ∙ none_before) ∙ sym put
+
+-- ITS NAME is free
+none_of : {A : Type 0} (o : Option A) → is_some o ≡ false → o ≡ None
+none_of None h = refl
+none_of (Some a) h = absurd (cc)
+
+place_agree : {X : Type 0} (p q : X → Bool) → ((x : X) → p x ≡ q x) → (xs : List X) → position_or_len p xs ≡ position_or_len q xs
+place_agree p q h [] = refl
+place_agree p q h (x ∷ xs) = rw (h x, place_agree p q h xs) refl
+
+position_agree : {X : Type 0} (p q : X → Bool) → ((x : X) → p x ≡ q x) → (xs : List X) → position p xs ≡ position q xs
+position_agree p q h xs = rw (place_agree p q h xs) refl
+
+called : (name : List ℕ) (q : Registered) → bears name (name_of_registered q) ≡ is_called name q
+called name q = by_drop q.is_dropped
+  where
+    by_drop : (b : Bool) → bears name (cond b None (Some q.name)) ≡ (not b && bytes_eq q.name name)
+    by_drop true = refl
+    by_drop false = refl
+
+pub named_place : (name : List ℕ) (qs : List Registered) → position (bears name) (map name_of_registered qs) ≡ position (is_called name) qs
+named_place name qs = position-map (bears name) name_of_registered qs ∙ position_agree (λ q. bears name (name_of_registered q)) (λ q. is_called name q) (λ q. called name q) qs
+
+pub free_name : (m : Machine) (name : List ℕ) → first_of (register_tests m name) ≡ None → position (bears name) (map name_of_registered m.queries) ≡ None
+free_name m name h =
+    let full = nat_le MAX_QUERIES (count_undropped m) || nat_le MAX_REGISTRATIONS (length m.queries) in
+    named_place name m.queries ∙ none_of (query_named m name) (none_first (is_some (query_named m name)) NameTaken ((full, TooMany) ∷ []) (none_later (not (is_name name)) BadName ((is_some (query_named m name), NameTaken) ∷ (full, TooMany) ∷ []) h))
+
+-- THE ENGINE AFTERWARDS
+abbrev columns_in : PlainEngine → Type 0
+columns_in e = HaveColumnNames e.machine
+
+abbrev closed_in : PlainEngine → Type 0
+closed_in e = HaveFewClosed e.machine
+
+-- where nothing changed
+pub sound_still : (s t : State) → t.streams ≡ s.streams → t.names ≡ s.names → t.registered.items ≡ s.registered.items → t.kept.items ≡ s.kept.items → t.leases.items ≡ s.leases.items → t.next ≡ s.next → t.slots ≡ s.slots → IsSound s → IsSound t
+sound_still s t streams names queries kept leases next slots h =
+    let same : engine_in t ≡ engine_in s = rw (streams, queries, kept, leases, next, slots) refl in
+    record {
+      good = subst GoodEngine (sym same) h.good;
+      kinds = λ g i. subst (λ e. HasKind e g) (sym same) (h.kinds g (subst (λ l. IsIn l g) leases i));
+      few = rw leases h.few;
+      numbers = rw next h.numbers;
+      named = names ∙ h.named ∙ ap (λ (e : PlainEngine). map name_of_registered e.machine.queries) (sym same);
+      gone = subst (λ (e : PlainEngine). map (λ q. q.is_dropped) e.machine.queries ≡ map is_gone e.queries) (sym same) h.gone;
+      columns = subst columns_in (sym same) h.columns;
+      closed = subst closed_in (sym same) h.closed;
+    }
+
+-- where the query was added
+pub sound_with : (s t : State) (q : Registered) (p : PlainQuery) → IsSound s → GoodEngine (registered (engine_in s) q p) → q.is_dropped ≡ false → engine_in t ≡ registered (engine_in s) q p → t.leases.items ≡ s.leases.items → t.next ≡ s.next
+    → t.names ≡ s.names ++ Some q.name ∷ [] → IsSound t
+sound_with s t q p h good live same leases next names =
+    let e = engine_in s in
+    record {
+      good = subst GoodEngine (sym same) good;
+      kinds = λ g i. let j : IsIn s.leases.items g = subst (λ l. IsIn l g) leases i in
+          let b : g.node.query < length e.machine.queries = old_lease e h.good (lease_of g) (in_map lease_of s.leases.items g j) in
+          let before : kept_at (registered e q p) g.node.query ≡ kept_at e g.node.query = kept_before e.queries (Running p ∷ []) g.node.query (omega (arith, b, h.good.many)) in
+          subst (λ (f : PlainEngine). HasKind f g) (sym same) (λ r k. h.kinds g j r (sym before ∙ k));
+      few = rw leases h.few;
+      numbers = rw next h.numbers;
+      named = names ∙ ap (λ l. l ++ Some q.name ∷ []) h.named ∙ named_more e.machine.queries ∙ ap (λ (f : PlainEngine). map name_of_registered f.machine.queries) (sym same);
+      gone = subst (λ (f : PlainEngine). map (λ r. r.is_dropped) f.machine.queries ≡ map is_gone f.queries) (sym same) (gone_more e.machine.queries e.queries h.gone);
+      columns = subst columns_in (sym same) h.columns;
+      closed = subst closed_in (sym same) h.closed;
+    }
+  where
+    named_more : (qs : List Registered) → map name_of_registered qs ++ Some q.name ∷ [] ≡ map name_of_registered (qs ++ q ∷ [])
+    named_more qs = ap (λ (b : Bool). map name_of_registered qs ++ cond b None (Some q.name) ∷ []) (sym live) ∙ sym (map-append name_of_registered qs (q ∷ []))
+
+    gone_more : (qs : List Registered) (ks : List Kept) → map (λ r. r.is_dropped) qs ≡ map is_gone ks → map (λ (r : Registered). r.is_dropped) (qs ++ q ∷ []) ≡ map is_gone (ks ++ Running p ∷ [])
+    gone_more qs ks g = map-append (λ (r : Registered). r.is_dropped) qs (q ∷ []) ∙ ap (λ l. l ++ q.is_dropped ∷ []) g ∙ ap (λ b. map is_gone ks ++ b ∷ []) live ∙ sym (map-append is_gone ks (Running p ∷ []))
+
+pub engine_with : (streams : List Stream) (rs rs2 : List Registration) (ks ks2 : List KeptQuery) (gs : List Given) (next : ℕ) (slots slots2 : List Slot) (told : Registration) (p : PlainQuery) → rs2 ≡ rs ++ told ∷ [] → ks2 ≡ ks ++ code.Running p ∷ []
+    → slots2 ≡ (registered (engine_of streams rs ks gs next slots) (query_of told) p).slots → engine_of streams rs2 ks2 gs next slots2 ≡ registered (engine_of streams rs ks gs next slots) (query_of told) p
+engine_with streams rs rs2 ks ks2 gs next slots slots2 told p queries kept put =
+    let q : map query_of rs2 ≡ map query_of rs ++ query_of told ∷ [] = ap (map query_of) queries ∙ map-append query_of rs (told ∷ []) in
+    let k : map kept_of ks2 ≡ map kept_of ks ++ Running p ∷ [] = ap (map kept_of) kept ∙ map-append kept_of ks (code.Running p ∷ []) in
+    rw (q, k, put) refl
+
+pub many_told : (rs : List Registration) → length (map query_of rs) ≡ length rs
+many_told rs = length-map rs query_of
+
+pub engine_still : (streams : List Stream) (rs rs2 : List Registration) (ks ks2 : List KeptQuery) (gs : List Given) (next : ℕ) (slots slots2 : List Slot) → rs2 ≡ rs → ks2 ≡ ks → slots2 ≡ slots
+    → engine_of streams rs2 ks2 gs next slots2 ≡ engine_of streams rs ks gs next slots
+engine_still streams rs rs2 ks ks2 gs next slots slots2 queries kept same = rw (queries, kept, same) refl

@@ -1,0 +1,128 @@
+-- The steps of a turn that comes back, one after the other.
+use Rattle.std.proofs.Common.{◌≡◌, ◌+◌, ◌<◌, ◌≤◌, ℕ, MatchOption, Option, Some, None, length, sym, ap, ◌∙◌, subst}
+use Rattle.turn.specs.Finished.{IsDone}
+use Rattle.turn.specs.declared.parts.Parts.{Parts}
+use Rattle.reference.specs.Machine.{Registered}
+use Rattle.query_nets.specs.Queries.{PlainQuery}
+use Rattle.running_queries.specs.Turns.{wire_at}
+use Rattle.ready_list.specs.declared.slots.Slot.{Slot}
+use Rattle.plain_engines.specs.Calls.{answered, given_back}
+use Rattle.plain_engines.specs.Engines.{GoodEngine, PlainEngine, Running, kept_at, query_at, slot_at}
+use Rattle.plain_engines.specs.Histories.{ComesBack}
+use Rattle.leases.specs.Applied.{GivesNothing, HasApplied, HasWiredOperators, IsAbove, IsApplied, IsBroken, IsOutIn, IsRetold, MayApplyIn, with_kept, without_turn}
+use Rattle.leases.specs.Asked.{HasOperatorAt}
+use Rattle.leases.specs.Shown.{engine_in}
+use Rattle.leases.specs.Sound.{IsSound}
+use Rattle.leases.specs.Turns.{IsOut, lease_of_parts}
+use Rattle.leases.specs.declared.state.State.{State}
+use Rattle.leases.proofs.FinishLemmas as plain
+use Rattle.leases.proofs.FinishSoundLemmas.{sound_back, sound_broken}
+
+-- ONE CALL AFTER THE OTHER gives nothing
+pub gives_on : (a b c : State) → GivesNothing a b → GivesNothing b c → GivesNothing a c
+gives_on a b c r t = record { names = t.names ∙ r.names; leases = λ g i. r.leases g (t.leases g i) }
+
+-- IT IS THERE, of an operator whose numbers are spelt in two ways
+pub may_look : (e : PlainEngine) (d : Parts) (n k : ℕ) → GoodEngine e → IsOutIn e d → n ≡ d.node.query → k ≡ d.node.operator → HasOperatorAt e n k
+may_look e d n k g out sn sk =
+    subst (λ z. HasOperatorAt e z k) (sym sn)
+    (subst (λ z. HasOperatorAt e d.node.query z) (sym sk) (out.0, (out.1.0, plain.is_at e d out.0 out.1.0 g out.1.1 d.node.operator out.1.1.of.within)))
+
+pub wired_operators : (e : PlainEngine) (d : Parts) (n : ℕ) → GoodEngine e → IsOutIn e d → n ≡ d.node.query → HasWiredOperators e n
+wired_operators e d n g out sn = subst (λ z. HasWiredOperators e z) (sym sn) (plain.wired_operators e d out.0 out.1.0 g out.1.1)
+
+pub may_apply : (e : PlainEngine) (d : Parts) → GoodEngine e → IsOutIn e d → IsDone d → MayApplyIn e d
+may_apply e d g out done = plain.may_apply_in e d out.0 out.1.0 g out.1.1 done
+
+-- IT HAS BROKEN its query
+pub broken_sound : (old new : State) (d : Parts) → IsSound old → IsOutIn (engine_in old) d → IsBroken (engine_in old) d.node.query (engine_in new) → GivesNothing old new → IsSound new
+broken_sound old new d s out is r = sound_broken old new d out.0 out.1.0 s out.1.1 r (is out.1.0 out.1.1.of.running)
+
+-- WHAT THE STEPS have told: the slots before, the query that took the turn, and the turns that are left
+pub record AreSteps (e : PlainEngine) (d : Parts) (n k lease : ℕ) (s : Slot) (above : Option Slot) (e1 e2 : PlainEngine) : Type 0 where
+  pub query : n ≡ d.node.query
+  pub operator : k ≡ d.node.operator
+  pub number : lease ≡ d.lease
+  pub slot : (q : Registered) (p : PlainQuery) → query_at e n ≡ Some q → kept_at e n ≡ Running p → s ≡ slot_at e n q p k
+  pub over : IsAbove e n k above
+  pub applied : HasApplied e d e1
+  pub ended : e2 ≡ without_turn e1 lease
+
+-- it has come back
+abbrev pub HasComeBack : PlainEngine → Parts → PlainEngine → Type 0
+HasComeBack e d new = (q : Registered) × ((p : PlainQuery) × ((p2 : PlainQuery) × (IsOut e d q p × ComesBack e (lease_of_parts d) q p p2 new)))
+
+module _ (e : PlainEngine) (d : Parts) (n k lease : ℕ) (s : Slot) (above : Option Slot) (e1 e2 : PlainEngine) (g : GoodEngine e) (done : IsDone d) (q : Registered) (p : PlainQuery) (out : IsOut e d q p)
+    (st : AreSteps e d n k lease s above e1 e2) where
+  registered : query_at e n ≡ Some q
+  registered = ap (query_at e) st.query ∙ out.of.registered
+
+  running : kept_at e n ≡ Running p
+  running = ap (kept_at e) st.query ∙ out.of.running
+
+  slot_is : s ≡ slot_at e d.node.query q p d.node.operator
+  slot_is = st.slot q p registered running ∙ ap (λ z. slot_at e z q p k) st.query ∙ ap (λ z. slot_at e d.node.query q p z) st.operator
+
+  above_is : MatchOption above (length p.operators ≤ d.node.operator + 1) (λ t. (d.node.operator + 1 < length p.operators) × (t ≡ slot_at e d.node.query q p (wire_at p d.node.operator).to))
+  above_is =
+      let is : IsAbove e d.node.query d.node.operator above = subst (λ z. IsAbove e z d.node.operator above) st.query (subst (λ z. IsAbove e n z above) st.operator st.over) in
+      is q p out.of.registered out.of.running
+
+  module _ (p2 : PlainQuery) (a : IsApplied e.machine.streams p d p2) (at : e1 ≡ with_kept e d.node.query (Running p2)) where
+    back : e2 ≡ given_back e (lease_of_parts d) p2
+    back = plain.ended e d q p g out done p2 a e1 e2 at (st.ended ∙ ap (without_turn e1) st.number)
+
+    may_retell_here : HasOperatorAt e2 s.query s.operator
+    may_retell_here = plain.may_retell e d q p g out done p2 a e2 s back slot_is
+
+    module _ (e3 : PlainEngine) (told : IsRetold e2 s e3) where
+      third : e3 ≡ answered e (lease_of_parts d) q p p2
+      third = plain.told e d q p g out done p2 a e2 s back slot_is e3 told
+
+      come_back_root : above ≡ None → ComesBack e (lease_of_parts d) q p p2 e3
+      come_back_root none =
+          let last : length p.operators ≤ d.node.operator + 1 =
+          subst (λ o. MatchOption o (length p.operators ≤ d.node.operator + 1) (λ t. (d.node.operator + 1 < length p.operators) × (t ≡ slot_at e d.node.query q p (wire_at p d.node.operator).to))) none above_is in
+          plain.comes_back_root e d q p g out done p2 a e3 last third
+
+      module _ (t : Slot) (some : above ≡ Some t) where
+        over_is : (d.node.operator + 1 < length p.operators) × (t ≡ slot_at e d.node.query q p (wire_at p d.node.operator).to)
+        over_is =
+            subst (λ o. MatchOption o (length p.operators ≤ d.node.operator + 1) (λ t. (d.node.operator + 1 < length p.operators) × (t ≡ slot_at e d.node.query q p (wire_at p d.node.operator).to))) some above_is
+
+        may_retell_over : HasOperatorAt e3 t.query t.operator
+        may_retell_over = plain.may_retell_above e d q p g out done p2 a e3 t third over_is.1 over_is.0
+
+        come_back_below : (e4 : PlainEngine) → IsRetold e3 t e4 → ComesBack e (lease_of_parts d) q p p2 e4
+        come_back_below e4 again =
+            plain.comes_back_below e d q p g out done p2 a e4 over_is.0 (plain.told_above e d q p g out done p2 a e3 t third over_is.1 e4 again)
+
+-- FROM THE STATE of an engine
+module _ (old : State) (d : Parts) (n k lease : ℕ) (s : Slot) (above : Option Slot) (e1 e2 : PlainEngine) (sound : IsSound old) (done : IsDone d) (out : IsOutIn (engine_in old) d)
+    (st : AreSteps (engine_in old) d n k lease s above e1 e2) where
+  took : (p2 : PlainQuery) × (IsApplied (engine_in old).machine.streams out.1.0 d p2 × (e1 ≡ with_kept (engine_in old) d.node.query (Running p2)))
+  took = st.applied out.1.0 out.1.1.of.running
+
+  pub retell_here : HasOperatorAt e2 s.query s.operator
+  retell_here = may_retell_here (engine_in old) d n k lease s above e1 e2 sound.good done out.0 out.1.0 out.1.1 st took.0 took.1.0 took.1.1
+
+  pub retell_over : (e3 : PlainEngine) → IsRetold e2 s e3 → (t : Slot) → above ≡ Some t → HasOperatorAt e3 t.query t.operator
+  retell_over e3 told t some = may_retell_over (engine_in old) d n k lease s above e1 e2 sound.good done out.0 out.1.0 out.1.1 st took.0 took.1.0 took.1.1 e3 told t some
+
+  root : (e3 : PlainEngine) → IsRetold e2 s e3 → above ≡ None → ComesBack (engine_in old) (lease_of_parts d) out.0 out.1.0 took.0 e3
+  root e3 told none = come_back_root (engine_in old) d n k lease s above e1 e2 sound.good done out.0 out.1.0 out.1.1 st took.0 took.1.0 took.1.1 e3 told none
+
+  below : (e3 e4 : PlainEngine) → IsRetold e2 s e3 → (t : Slot) → above ≡ Some t → IsRetold e3 t e4 → ComesBack (engine_in old) (lease_of_parts d) out.0 out.1.0 took.0 e4
+  below e3 e4 told t some again = come_back_below (engine_in old) d n k lease s above e1 e2 sound.good done out.0 out.1.0 out.1.1 st took.0 took.1.0 took.1.1 e3 told t some e4 again
+
+  pub back_root : (e3 : PlainEngine) → IsRetold e2 s e3 → above ≡ None → HasComeBack (engine_in old) d e3
+  back_root e3 told none = (out.0, (out.1.0, (took.0, (out.1.1, root e3 told none))))
+
+  pub back_below : (e3 e4 : PlainEngine) → IsRetold e2 s e3 → (t : Slot) → above ≡ Some t → IsRetold e3 t e4 → HasComeBack (engine_in old) d e4
+  back_below e3 e4 told t some again = (out.0, (out.1.0, (took.0, (out.1.1, below e3 e4 told t some again))))
+
+  pub sound_root : (new : State) → IsRetold e2 s (engine_in new) → above ≡ None → GivesNothing old new → IsSound new
+  sound_root new told none r = sound_back old new d out.0 out.1.0 sound out.1.1 r took.0 took.1.0 (root (engine_in new) told none)
+
+  pub sound_below : (e3 : PlainEngine) (new : State) → IsRetold e2 s e3 → (t : Slot) → above ≡ Some t → IsRetold e3 t (engine_in new) → GivesNothing old new → IsSound new
+  sound_below e3 new told t some again r = sound_back old new d out.0 out.1.0 sound out.1.1 r took.0 took.1.0 (below e3 (engine_in new) told t some again)

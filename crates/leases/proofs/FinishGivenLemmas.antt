@@ -1,0 +1,85 @@
+-- Turns that are out, and what is left of queries, in the lists of the code and in those of the plain engine.
+use Rattle.std.proofs.Common.{◌≡◌, ◌≢◌, ◌<◌, ◌==◌, ℕ, zero, suc, Bool, true, false, inl, inr, Some, None, List, [], ◌∷◌, filter, length, map, get_or, set, refl, sym, ap, ◌∙◌, subst, arith, eq-eqb}
+use Rattle.std.specs.List.{find}
+use Rattle.std.proofs.lemmas.List.{get_or-set_same, length-map, map-set}
+use Rattle.plan.proofs.Lists.{by_test}
+use Rattle.query_nets.specs.Queries.{PlainQuery}
+use Rattle.plain_engines.specs.Engines.{Dropped, IsIn, Kept, Lease, Running}
+use Rattle.plain_engines.proofs.SlotLemmas.{in_filter}
+use Rattle.leases.specs.Views.{kept_of, lease_of}
+use Rattle.leases.specs.declared.given.Given.{Given}
+use Rattle.leases.specs.declared.kept.KeptQuery.{KeptQuery}
+
+-- THE TURNS that are out
+pub given_in : (gs : List Given) (g : Given) → IsIn gs g → IsIn (map lease_of gs) (lease_of g)
+given_in [] g i = absurd i
+given_in (x ∷ gs) g (inl e) = inl (ap lease_of e)
+given_in (x ∷ gs) g (inr i) = inr (given_in gs g i)
+
+pub record IsOfGiven (gs : List Given) (l : Lease) : Type 0 where
+  pub given : Given
+  pub known : IsIn gs given
+  pub is : lease_of given ≡ l
+
+pub given_of : (gs : List Given) (l : Lease) → IsIn (map lease_of gs) l → IsOfGiven gs l
+given_of [] l i = absurd i
+given_of (x ∷ gs) l (inl e) = record { given = x; known = inl refl; is = e }
+given_of (x ∷ gs) l (inr i) = let r = given_of gs l i in record { given = r.given; known = inr r.known; is = r.is }
+
+-- those that pass a test
+pub leases_left : (p : Lease → Bool) (gs : List Given) → map lease_of (filter (λ g. p (lease_of g)) gs) ≡ filter p (map lease_of gs)
+leases_left p [] = refl
+leases_left p (g ∷ gs) = by_test (p (lease_of g)) (λ t. rw t (ap (λ z. lease_of g ∷ z) (leases_left p gs))) (λ f. rw f (leases_left p gs))
+
+pub left_in : (test : Given → Bool) (gs left : List Given) → left ≡ filter test gs → (g : Given) → IsIn left g → IsIn gs g
+left_in test gs left e g i = (in_filter test gs g (subst (λ z. IsIn z g) e i)).0
+
+-- the first that passes a test
+pub found_in : (p : Given → Bool) (gs : List Given) (g : Given) → Some g ≡ find p gs → IsIn gs g × (p g ≡ true)
+found_in p [] g e = absurd (cc)
+found_in p (x ∷ gs) g e = by_test (p x)
+    (λ t. let f : Some g ≡ Some x = rw t at e in let same : x ≡ g = cc in (inl same, ap p (sym same) ∙ t))
+    (λ h. let f : Some g ≡ find p gs = rw h at e in let r = found_in p gs g f in (inr r.0, r.1))
+
+pub none_found : (p : Given → Bool) (gs : List Given) → None ≡ find p gs → (g : Given) → IsIn gs g → p g ≡ false
+none_found p [] e g i = absurd i
+none_found p (x ∷ gs) e g (inl is) = by_test (p x) (λ t. let bad : None ≡ Some x = rw t at e in absurd (cc)) (λ f. ap p (sym is) ∙ f)
+none_found p (x ∷ gs) e g (inr i) = by_test (p x) (λ t. let bad : None ≡ Some x = rw t at e in absurd (cc)) (λ f. none_found p gs (rw f at e) g i)
+
+-- none has a number
+pub none_numbered : (gs : List Given) (n : ℕ) → None ≡ find (λ g. g.number == n) gs → (l : Lease) → IsIn (map lease_of gs) l → l.number ≢ n
+none_numbered gs n e l i same =
+    let r = given_of gs l i in
+    let no : (r.given.number == n) ≡ false = none_found (λ g. g.number == n) gs e r.given r.known in
+    let is : r.given.number ≡ n = ap (λ z. z.number) r.is ∙ same in
+    let bad : (r.given.number == n) ≡ true = eq-eqb r.given.number n is in
+    cc
+
+-- WHAT IS LEFT of queries
+pub item_kept : (ks : List KeptQuery) (n : ℕ) (d : KeptQuery) (p : PlainQuery) → get_or (map kept_of ks) n Dropped ≡ Running p → kept_of (get_or ks n d) ≡ Running p
+item_kept [] n d p e = absurd (cc)
+item_kept (k ∷ ks) zero d p e = e
+item_kept (k ∷ ks) (suc n) d p e = item_kept ks n d p e
+
+pub item_within : (ks : List KeptQuery) (n : ℕ) (p : PlainQuery) → get_or (map kept_of ks) n Dropped ≡ Running p → n < length ks
+item_within [] n p e = absurd (cc)
+item_within (k ∷ ks) zero p e = omega arith
+item_within (k ∷ ks) (suc n) p e = let h = item_within ks n p e in omega (arith, h)
+
+pub kept_set : (ks : List KeptQuery) (n : ℕ) (k : KeptQuery) → map kept_of (set ks n k) ≡ set (map kept_of ks) n (kept_of k)
+kept_set ks n k = map-set kept_of ks n k
+
+pub kept_set_here : (ks : List KeptQuery) (n : ℕ) (k : KeptQuery) → n < length ks → get_or (map kept_of (set ks n k)) n Dropped ≡ kept_of k
+kept_set_here ks n k h = ap (λ z. get_or z n Dropped) (kept_set ks n k) ∙ get_or-set_same (map kept_of ks) n (kept_of k) Dropped (omega (arith, h, length-map ks kept_of))
+
+-- one of them is written, at a number that is spelt in two ways
+pub kept_written : (ks : List KeptQuery) (n m : ℕ) (k : KeptQuery) (kept : Kept) → n ≡ m → kept_of k ≡ kept → map kept_of (set ks n k) ≡ set (map kept_of ks) m kept
+kept_written ks n m k kept same is = kept_set ks n k ∙ ap (λ z. set (map kept_of ks) z (kept_of k)) same ∙ ap (set (map kept_of ks) m) is
+
+pub kept_written_here : (ks : List KeptQuery) (n m : ℕ) (k : KeptQuery) (kept : Kept) (p : PlainQuery) → n ≡ m → get_or (map kept_of ks) m Dropped ≡ Running p → kept_of k ≡ kept → get_or (map kept_of (set ks n k)) n Dropped ≡ kept
+kept_written_here ks n m k kept p same running is =
+    let at : get_or (map kept_of ks) n Dropped ≡ Running p = ap (λ z. get_or (map kept_of ks) z Dropped) same ∙ running in
+    kept_set_here ks n k (item_within ks n p at) ∙ is
+
+pub item_running : (ks : List KeptQuery) (n m : ℕ) (k : KeptQuery) (p : PlainQuery) → n ≡ m → get_or (map kept_of ks) m Dropped ≡ Running p → k ≡ get_or ks n k → kept_of k ≡ Running p
+item_running ks n m k p same running is = ap kept_of is ∙ item_kept ks n k p (ap (λ z. get_or (map kept_of ks) z Dropped) same ∙ running)

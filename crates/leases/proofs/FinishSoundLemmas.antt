@@ -1,0 +1,176 @@
+-- An engine knows of itself, after a turn has come back or has broken its query, what it knew.
+use Rattle.std.proofs.Common.{◌≡◌, ◌<◌, ◌≤◌, ◌==◌, ℕ, Bool, true, false, inl, inr, List, filter, length, map, refl, sym, ap, ◌∙◌, subst, arith, eqb-true, eq-eqb}
+use Rattle.std.proofs.Math.Seq.{map-set_same}
+use Rattle.std.proofs.lemmas.List.{length-map}
+use Rattle.std.proofs.lemmas.List.Sums.{count_by-le-length, length-filter}
+use Rattle.std.proofs.lemmas.Option.{slice_get_within}
+use Rattle.column.specs.declared.batch.Side.{Side}
+use Rattle.op_queue.specs.declared.item.Item.{Item}
+use Rattle.turn.specs.Nodes.{PlainNode}
+use Rattle.turn.specs.Turns.{Answered, Outs, Put, outs_in}
+use Rattle.turn.specs.declared.excerpts.Near.{Near}
+use Rattle.turn.specs.declared.kinds.Kind.{Kind}
+use Rattle.turn.specs.declared.parts.Parts.{Parts}
+use Rattle.plan.proofs.Lists.{by_test}
+use Rattle.reference.specs.Machine.{Registered}
+use Rattle.reference.specs.Named.{name_of_registered}
+use Rattle.query_nets.specs.Queries.{PlainQuery, operator_at}
+use Rattle.query_nets.specs.Registrations.{HaveColumnNames}
+use Rattle.running_queries.specs.Turns.{HasPut, wire_at}
+use Rattle.ready_list.specs.declared.slots.Slot.{Slot}
+use Rattle.answer_bounds.specs.Bounds.{HaveFewClosed}
+use Rattle.plain_engines.specs.Calls.{answered, broken, finished, given_back}
+use Rattle.plain_engines.specs.Engines.{Broken, Dropped, GoodEngine, IsIn, IsLease, Lease, PlainEngine, Running, kept_at}
+use Rattle.plain_engines.specs.Histories.{ComesBack}
+use Rattle.plain_engines.proofs.BackLemmas.{kept_here, kept_there, same_plain}
+use Rattle.plain_engines.proofs.FinishLemmas.{answer_good, finish_good}
+use Rattle.plain_engines.proofs.LeaseLemmas.{break_good}
+use Rattle.leases.specs.Applied.{GivesNothing, IsApplied, IsOutIn, IsTurn}
+use Rattle.leases.specs.Shown.{engine_in}
+use Rattle.answer_bounds.specs.Bounds.{HaveFewClosed}
+use Rattle.leases.specs.Sound.{IsSound, is_gone}
+use Rattle.leases.specs.Turns.{IsOut, IsStranger, lease_of_parts}
+use Rattle.leases.specs.Views.{HasKind, lease_of}
+use Rattle.leases.specs.declared.given.Given.{Given}
+use Rattle.leases.specs.declared.state.State.{State}
+use Rattle.leases.proofs.FinishGivenLemmas.{given_in}
+
+-- THE REST of what an engine knows, where its machine and its next number are as they were, no turn has gone out, and no query was dropped
+record StaysBut (old new : PlainEngine) : Type 0 where
+  pub machine : new.machine ≡ old.machine
+  pub next : new.next ≡ old.next
+  pub few : length new.leases ≤ length old.leases
+  pub gone : map is_gone new.queries ≡ map is_gone old.queries
+
+sound_from : (old new : State) → IsSound old → GivesNothing old new → GoodEngine (engine_in new) → StaysBut (engine_in old) (engine_in new) → ((g : Given) → IsIn old.leases.items g → HasKind (engine_in new) g) → IsSound new
+sound_from old new s r good st kinds = record {
+  good = good;
+  kinds = λ g i. kinds g (r.leases g i);
+  few =
+      let a : length (engine_in new).leases ≡ length new.leases.items = length-map new.leases.items lease_of in
+      let b : length (engine_in old).leases ≡ length old.leases.items = length-map old.leases.items lease_of in
+      omega (arith, a, b, st.few, s.few);
+  numbers = let n : new.next ≡ old.next = st.next in omega (arith, n, s.numbers);
+  named = r.names ∙ s.named ∙ ap (λ m. map name_of_registered m.queries) (sym st.machine);
+  gone = ap (λ m. map (λ (q : Registered). q.is_dropped) m.queries) st.machine ∙ s.gone ∙ sym st.gone;
+  columns = subst HaveColumnNames (sym st.machine) s.columns;
+  closed = subst HaveFewClosed (sym st.machine) s.closed;
+}
+
+fewer : (p : Lease → Bool) (ls : List Lease) → length (filter p ls) ≤ length ls
+fewer p ls = omega (arith, length-filter p ls, count_by-le-length p ls)
+
+-- KINDS stay
+kinds_put : (p p2 : PlainQuery) (k : ℕ) (o : Outs) → (operator_at p2.operators k).kind ≡ (operator_at p.operators k).kind → HasPut p k o p2 → (j : ℕ) → (operator_at p2.operators j).kind ≡ (operator_at p.operators j).kind
+kinds_put p p2 k (Put es) h put j = by_test (j == k)
+    (λ t. let e : j ≡ k = eqb-true j k t in ap (λ z. (operator_at p2.operators z).kind) e ∙ h ∙ ap (λ z. (operator_at p.operators z).kind) (sym e))
+    (λ f. by_test (j == (wire_at p k).to)
+    (λ t. let e : j ≡ (wire_at p k).to = eqb-true j (wire_at p k).to t in ap (λ z. (operator_at p2.operators z).kind) e ∙ put.fed.kind ∙ ap (λ z. (operator_at p.operators z).kind) (sym e))
+    (λ m. ap (λ o. o.kind) (put.others j (λ z. absurd (let b : (j == k) ≡ true = eq-eqb j k z in cc)) (λ z. absurd (let b : (j == (wire_at p k).to) ≡ true = eq-eqb j (wire_at p k).to z in cc)))))
+kinds_put p p2 k (Answered rows) h put j = by_test (j == k)
+    (λ t. let e : j ≡ k = eqb-true j k t in ap (λ z. (operator_at p2.operators z).kind) e ∙ h ∙ ap (λ z. (operator_at p.operators z).kind) (sym e))
+    (λ f. ap (λ o. o.kind) (put.others j (λ z. absurd (let b : (j == k) ≡ true = eq-eqb j k z in cc))))
+
+-- A TURN THAT IS OUT
+module _ (old new : State) (d : Parts) (q : Registered) (p : PlainQuery) (s : IsSound old) (out : IsOut (engine_in old) d q p) (r : GivesNothing old new) where
+  within : d.node.query < length (engine_in old).queries
+  within = omega (arith, s.good.many, slice_get_within (engine_in old).machine.queries d.node.query q out.of.registered)
+
+  running_gone : is_gone (kept_at (engine_in old) d.node.query) ≡ false
+  running_gone = ap is_gone out.of.running
+
+  -- comes back
+  module _ (p2 : PlainQuery) (a : IsApplied (engine_in old).machine.streams p d p2) where
+    kinds_back : (slots : List Slot) (g : Given) → IsIn old.leases.items g → HasKind (record (given_back (engine_in old) (lease_of_parts d) p2) { slots = slots }) g
+    kinds_back slots g i p3 running = by_test (g.node.query == d.node.query)
+        (λ t.
+        let same : g.node.query ≡ d.node.query = eqb-true g.node.query d.node.query t in
+        let is : p2 ≡ p3 = same_plain (sym (kept_here (engine_in old) d.node.query (Running p2) within) ∙ ap (kept_at (given_back (engine_in old) (lease_of_parts d) p2)) (sym same) ∙ running) in
+        s.kinds g i p (ap (kept_at (engine_in old)) same ∙ out.of.running)
+        ∙ sym (kinds_put p p2 d.node.operator (outs_in d.outputs) a.finished.finished.kind a.put g.node.operator)
+        ∙ ap (λ (z : PlainQuery). (operator_at z.operators g.node.operator).kind) is)
+        (λ f. s.kinds g i p3 (sym (kept_there (engine_in old) d.node.query g.node.query (Running p2) (λ z. absurd (let h : (g.node.query == d.node.query) ≡ true = eq-eqb g.node.query d.node.query z in cc))) ∙ running))
+
+    stays_back : (slots : List Slot) → StaysBut (engine_in old) (record (given_back (engine_in old) (lease_of_parts d) p2) { slots = slots })
+    stays_back slots = record {
+      machine = refl;
+      next = refl;
+      few = fewer _ (engine_in old).leases;
+      gone = map-set_same is_gone (engine_in old).queries d.node.query (Running p2) Dropped (sym running_gone);
+    }
+
+    sound_at : (slots : List Slot) → engine_in new ≡ record (given_back (engine_in old) (lease_of_parts d) p2) { slots = slots } → GoodEngine (engine_in new) → IsSound new
+    sound_at slots e good =
+        sound_from old new s r good (subst (StaysBut (engine_in old)) (sym e) (stays_back slots)) (λ g i. subst (λ z. HasKind z g) (sym e) (kinds_back slots g i))
+
+    pub sound_back : ComesBack (engine_in old) (lease_of_parts d) q p p2 (engine_in new) → IsSound new
+    sound_back (inl t) = sound_at (finished (engine_in old) (lease_of_parts d) q p p2).slots t.1 (subst GoodEngine (sym t.1) (finish_good (engine_in old) (lease_of_parts d) q p p2 s.good out.out t.0))
+    sound_back (inr t) = sound_at (answered (engine_in old) (lease_of_parts d) q p p2).slots t.1 (subst GoodEngine (sym t.1) (answer_good (engine_in old) (lease_of_parts d) q p p2 s.good out.out t.0))
+
+  -- breaks its query
+  kinds_broken : (g : Given) → IsIn old.leases.items g → HasKind (broken (engine_in old) d.node.query p) g
+  kinds_broken g i p3 running = by_test (g.node.query == d.node.query)
+      (λ t.
+      let same : g.node.query ≡ d.node.query = eqb-true g.node.query d.node.query t in
+      let bad : Broken p.answers ≡ Running p3 = sym (kept_here (engine_in old) d.node.query (Broken p.answers) within) ∙ ap (kept_at (broken (engine_in old) d.node.query p)) (sym same) ∙ running in
+      absurd (cc))
+      (λ f. s.kinds g i p3 (sym (kept_there (engine_in old) d.node.query g.node.query (Broken p.answers) (λ z. absurd (let h : (g.node.query == d.node.query) ≡ true = eq-eqb g.node.query d.node.query z in cc))) ∙ running))
+
+  pub sound_broken : engine_in new ≡ broken (engine_in old) d.node.query p → IsSound new
+  sound_broken e =
+      let stays : StaysBut (engine_in old) (broken (engine_in old) d.node.query p) = record {
+        machine = refl;
+        next = refl;
+        few = fewer _ (engine_in old).leases;
+        gone = map-set_same is_gone (engine_in old).queries d.node.query (Broken p.answers) Dropped (sym running_gone);
+      } in
+      sound_from old new s r (subst GoodEngine (sym e) (break_good (engine_in old) d.node.query q p s.good out.of.registered out.of.running)) (subst (StaysBut (engine_in old)) (sym e) stays)
+      (λ g i. subst (λ z. HasKind z g) (sym e) (kinds_broken g i))
+
+-- THE TURN OF A NUMBER that is out
+abbrev lease_with : ℕ → PlainNode → Item → Near → Lease
+lease_with n v i x = record { number = n; query = v.query; operator = v.operator; side = v.side; item = i; excerpt = x }
+
+abbrev node_with : ℕ → ℕ → Side → Kind → PlainNode
+node_with n k side kind = record { query = n; operator = k; side = side; kind = kind }
+
+module _ (s : State) (d : Parts) (g : Given) (sound : IsSound s) (known : IsIn s.leases.items g) (numbered : g.number ≡ d.lease) where
+  there : IsIn (engine_in s).leases (lease_of g)
+  there = given_in s.leases.items g known
+
+  -- is this one
+  pub turn_out : IsTurn g d → IsOutIn (engine_in s) d
+  turn_out t =
+      let is : lease_of g ≡ lease_of_parts d =
+      ap (λ n. lease_with n g.node g.item g.near) numbered ∙ ap (λ v. lease_with d.lease v g.item g.near) t.node ∙ ap (λ i. lease_with d.lease d.node i g.near) t.item ∙ ap (λ x. lease_with d.lease d.node d.item x) t.near in
+      let l : IsLease (engine_in s) (lease_of_parts d) = subst (IsLease (engine_in s)) is (sound.good.leases (lease_of g) there) in (
+        l.query,
+        (
+          l.kept,
+          record {
+            out = subst (IsIn (engine_in s).leases) is there;
+            of = record { registered = l.registered; running = l.running; within = l.within };
+            kind = sym (ap (λ (v : PlainNode). v.kind) t.node) ∙ sound.kinds g known l.kept (ap (λ (v : PlainNode). kept_at (engine_in s) v.query) t.node ∙ l.running)
+                ∙ ap (λ (v : PlainNode). (operator_at l.kept.operators v.operator).kind) t.node;
+          },
+        ),
+      )
+
+  -- is another
+  turn_of : (q : Registered) (p : PlainQuery) → IsOut (engine_in s) d q p → IsTurn g d
+  turn_of q p o =
+      let same : lease_of g ≡ lease_of_parts d = sound.good.apart.numbers (lease_of g) (lease_of_parts d) there o.out numbered in
+      let query : g.node.query ≡ d.node.query = ap (λ (l : Lease). l.query) same in
+      let operator : g.node.operator ≡ d.node.operator = ap (λ (l : Lease). l.operator) same in
+      let side : g.node.side ≡ d.node.side = ap (λ (l : Lease). l.side) same in
+      let kind : g.node.kind ≡ d.node.kind = sound.kinds g known p (ap (kept_at (engine_in s)) query ∙ o.of.running) ∙ ap (λ k. (operator_at p.operators k).kind) operator ∙ sym o.kind in
+      record {
+        node =
+            ap (λ n. node_with n g.node.operator g.node.side g.node.kind) query ∙ ap (λ k. node_with d.node.query k g.node.side g.node.kind) operator
+            ∙ ap (λ z. node_with d.node.query d.node.operator z g.node.kind) side ∙ ap (λ z. node_with d.node.query d.node.operator d.node.side z) kind;
+        item = ap (λ (l : Lease). l.item) same;
+        near = ap (λ (l : Lease). l.excerpt) same;
+      }
+
+  pub stranger : (IsTurn g d → ⊥) → IsStranger (engine_in s) d
+  stranger differs = record { out = lease_of g; known = there; numbered = numbered; another = λ q p o. differs (turn_of q p o) }

@@ -1,0 +1,69 @@
+-- The operators of a query that runs, and what waits in their queues.
+use Rattle.std.proofs.Common.{◌≡◌, ◌<◌, ◌+◌, ℕ, ℤ, pos, Option, Some, None, Result, Ok, Err, IfOk, List, [], get_or, length, option_and_then, slice_get, refl, sym, ap, ◌∙◌, subst, arith}
+use Rattle.std.proofs.lemmas.List.{length-map}
+use Rattle.plan.specs.Views.{node_of, nodes_of}
+use Rattle.reference.specs.Commands.{Drop, Take, first_fault, of_query, take_tests}
+use Rattle.reference.specs.Machine as machine
+use Rattle.reference.specs.Machine.{Registered}
+use Rattle.query_nets.specs.Queries.{PlainQuery, log_at}
+use Rattle.running_queries.specs.Turns.{HasOperator, log_of}
+use Rattle.plain_engines.specs.Asks.{IsOperator}
+use Rattle.plain_engines.specs.Engines.{Running, kept_at, query_at}
+use Rattle.plain_engines.proofs.AskLemmas.{may_ask}
+use Rattle.leases.proofs.PendingLemmas.{queues_are}
+use Rattle.leases.proofs.TakeLemmas.{kept_is, kept_within, query_there, registered_within, taken_at}
+use Rattle.leases.specs.Looks.{lengths_from, lengths_in, queues_from}
+use Rattle.leases.specs.Shown.{engine_in}
+use Rattle.leases.specs.Sound.{IsSound}
+use Rattle.leases.specs.Views.{kept_of, query_of}
+use Rattle.leases.specs.declared.kept.KeptQuery.{KeptQuery}
+use Rattle.leases.specs.declared.kept.KeptQuery.TheVariants as code
+use Rattle.leases.specs.declared.registered.Registration.{Registration}
+use Rattle.leases.specs.declared.state.State.{State}
+
+-- where a drop is accepted, so is a take
+take_too : (o : Option Registered) → of_query [] o ≡ None → of_query (take_tests (pos 1)) o ≡ None
+take_too None h = absurd (cc)
+take_too (Some q) h = refl
+
+pub registered_there : (s : State) (n : ℕ) → first_fault (engine_in s).machine (Drop n) ≡ None → n < length s.registered.items
+registered_there s n h = registered_within s n (pos 1) (take_too (machine.query_at (engine_in s).machine n) h)
+
+module _ (s : State) (n : ℕ) (r : Registration) (x : KeptQuery) (p : PlainQuery) (sound : IsSound s) (accepted : first_fault (engine_in s).machine (Drop n) ≡ None) (is_registered : r ≡ get_or s.registered.items n r) (is_kept : x ≡ get_or s.kept.items n x)
+    (runs : x ≡ code.Running p) where
+  takes : first_fault (engine_in s).machine (Take n (pos 1)) ≡ None
+  takes = take_too (machine.query_at (engine_in s).machine n) accepted
+
+  running : kept_at (engine_in s) n ≡ Running p
+  running = kept_is s n x (kept_within s n (pos 1) sound takes) is_kept ∙ ap kept_of runs
+
+  same : (q : Registered) → query_at (engine_in s) n ≡ Some q → q ≡ query_of r
+  same q at = taken_at s n q r (registered_within s n (pos 1) takes) at is_registered
+
+  operator : (k : ℕ) (q : Registered) → query_at (engine_in s) n ≡ Some q → k < length q.nodes → IsOperator (engine_in s) n k q p
+  operator k q at within = record { registered = at; running = running; within = within }
+
+  there : (k : ℕ) → k < length r.plan.nodes.items → HasOperator s.streams p k
+  there k within =
+      let q = query_there (engine_in s) n (pos 1) takes in
+      let many : length (query_of r).nodes ≡ length r.plan.nodes.items = length-map r.plan.nodes.items node_of in
+      let nodes : length q.0.nodes ≡ length (query_of r).nodes = ap (λ z. length z.nodes) (same q.0 q.1) in
+      (may_ask (engine_in s) sound.good).operators n k q.0 p (operator k q.0 q.1 (omega (arith, within, many, nodes)))
+
+  lengths : (q : Registered) → query_at (engine_in s) n ≡ Some q → queues_from s.streams p 0 (nodes_of r.plan.nodes.items) ≡ lengths_in (engine_in s).machine q (kept_at (engine_in s) n)
+  lengths q at =
+      ap (λ z. queues_from s.streams p 0 z.nodes) (sym (same q at))
+      ∙ queues_are (engine_in s).machine q p 0 q.nodes
+      (λ j within. let e : j ≡ 0 + j = omega arith in
+      subst (λ i. log_of (engine_in s).machine.streams p i ≡ log_at (engine_in s).machine q i) e ((may_ask (engine_in s) sound.good).logs n j q p (operator j q at within)))
+      ∙ sym (ap (lengths_in (engine_in s).machine q) running)
+
+pub operators_there : (s : State) (n : ℕ) (r : Registration) (x : KeptQuery) (p : PlainQuery) → IsSound s → first_fault (engine_in s).machine (Drop n) ≡ None → r ≡ get_or s.registered.items n r → x ≡ get_or s.kept.items n x → x ≡ code.Running p
+    → (k : ℕ) → k < length r.plan.nodes.items → HasOperator s.streams p k
+operators_there s n r x p sound accepted is_registered is_kept runs k within = there s n r x p sound accepted is_registered is_kept runs k within
+
+pub lengths_are : {A E : Type 0} (view : A → List ℕ) (found : Result A E) (s : State) (n : ℕ) (r : Registration) (x : KeptQuery) (p : PlainQuery) → IsSound s → first_fault (engine_in s).machine (Drop n) ≡ None → r ≡ get_or s.registered.items n r
+    → x ≡ get_or s.kept.items n x → x ≡ code.Running p → IfOk found (λ v. view v ≡ queues_from s.streams p 0 (nodes_of r.plan.nodes.items))
+    → IfOk found (λ v. (q : Registered) → query_at (engine_in s) n ≡ Some q → view v ≡ lengths_in (engine_in s).machine q (kept_at (engine_in s) n))
+lengths_are view (Ok v) s n r x p sound accepted is_registered is_kept runs h = λ q at. h ∙ lengths s n r x p sound accepted is_registered is_kept runs q at
+lengths_are view (Err f) s n r x p sound accepted is_registered is_kept runs h = tt

@@ -1,0 +1,38 @@
+-- What an engine's code looks up, in its lists and in the lists of the plain engine.
+use Rattle.std.proofs.Common.{◌≡◌, ◌<◌, ◌||◌, ℕ, Bool, Some, List, [], ◌∷◌, length, map, refl, ap}
+use Rattle.std.specs.List.{list_any}
+use Rattle.std.proofs.lemmas.List.FromFn.{length-map-range_with_len}
+use Rattle.plan.specs.Nodes.{Node}
+use Rattle.plan.specs.Paths.{plan_slopes, slope_of}
+use Rattle.plan.specs.declared.chart.Measure.{Measure}
+use Rattle.reference.specs.Machine.{Registered}
+use Rattle.query_nets.specs.Queries.{PlainQuery}
+use Rattle.ready_list.specs.declared.slots.Slot.{Slot}
+use Rattle.plain_engines.specs.Asks.{IsOperator, MayAsk}
+use Rattle.plain_engines.specs.Engines.{GoodEngine, Lease, PlainEngine, Running, kept_at, query_at}
+use Rattle.plain_engines.proofs.AskLemmas.{may_ask}
+use Rattle.leases.specs.Asked.{HasOperatorAt}
+use Rattle.leases.specs.Views.{lease_of}
+use Rattle.leases.specs.declared.given.Given.{Given}
+
+-- TURNS that are out
+pub any_out : (p : Lease → Bool) (gs : List Given) → list_any p (map lease_of gs) ≡ list_any (λ g. p (lease_of g)) gs
+any_out p [] = refl
+any_out p (g ∷ gs) = ap (λ b. p (lease_of g) || b) (any_out p gs)
+
+-- SLOPES: each operator has one
+pub many_slopes : (nodes : List Node) (measures : List Measure) → length (plan_slopes nodes measures) ≡ length nodes
+many_slopes nodes measures = length-map-range_with_len (slope_of nodes measures) 0 (length nodes)
+
+-- AN OPERATOR of a running query of a good engine may be looked up
+pub asks : (e : PlainEngine) → GoodEngine e → (n k : ℕ) (q : Registered) (p : PlainQuery) → query_at e n ≡ Some q → kept_at e n ≡ Running p → k < length q.nodes → HasOperatorAt e n k
+asks e g n k q p registered running within =
+    let is : IsOperator e n k q p = record { registered = registered; running = running; within = within } in
+    let may : MayAsk e = may_ask e g in
+    (q, (p, record { registered = registered; running = running; within = within; operator = may.operators n k q p is; log = may.logs n k q p is }))
+
+-- whatever turns are out, and whatever its slots are
+pub asks_on : (e : PlainEngine) (ls : List Lease) (next : ℕ) (slots : List Slot) (n k : ℕ) → HasOperatorAt e n k → HasOperatorAt (record e { leases = ls; next = next; slots = slots }) n k
+asks_on e ls next slots n k h =
+    let is = h.1.1 in
+    (h.0, (h.1.0, record { registered = is.registered; running = is.running; within = is.within; operator = is.operator; log = is.log }))

@@ -1,0 +1,204 @@
+-- What clients see of an engine that takes and drains.
+use Rattle.std.proofs.Common.{◌≡◌, ℕ, zero, suc, ℤ, Bool, true, false, cond, Option, Some, None, Result, Ok, Err, OnOk, IfErr, List, [], ◌∷◌, drop, filter, get_or, length, map, min, nat_abs, set, take, refl, sym, ap, ap₂, ◌∙◌, subst, arith}
+use Rattle.std.specs.Prelude.{⊤, slice_get}
+use Rattle.values.specs.Row.{Row}
+use Rattle.reference.specs.Commands.{Take, after, change, first_fault}
+use Rattle.reference.specs.Machine.{Machine, Registered, closed_answers}
+use Rattle.reference.specs.World.{Does, Drains, IsPlenty, MayLackMemory, Step, World, drain_fault, drain_step, handed, take_step, unless, untaken}
+use Rattle.reference.specs.declared.fault.Fault.{Fault}
+use Rattle.reference.specs.declared.fault.Fault.TheVariants as fault
+use Rattle.reference.specs.declared.fault.Fault.TheVariants.{Query, BadName, NameTaken, BadColumns, TooMany, UnknownStream, UnknownQuery, BadWidth, ValueRange, InstantRange, Late, Backward, Leap, StreamFull, BadLimit, UnknownLease, Stranger, TooManyLeases, OutOfMemory}
+use Rattle.query_nets.specs.Queries.{PlainQuery}
+use Rattle.ready_list.specs.Slots.{first_of}
+use Rattle.plain_engines.specs.Calls.{dropped, kept_after, of_others, registered, taken}
+use Rattle.plain_engines.specs.Engines.{Broken, Dropped, GoodEngine, Kept, Lease, PlainEngine, Running, answers_in, kept_at, query_at, world_of}
+use Rattle.plain_engines.specs.Promises.{HasAllWaiting}
+use Rattle.plain_engines.proofs.IdleLemmas.{idle_waits}
+use Rattle.leases.specs.Drains.{RefusesDrain}
+use Rattle.leases.specs.Sound.{is_gone}
+use Rattle.leases.specs.Takes.{Takes, count_of}
+use Rattle.leases.specs.Whole.{IsWholeEngine, TurnsLead}
+
+-- WHAT WAITS AT EACH QUERY
+some_same : {X : Type 0} {a b : X} → Some a ≡ Some b → a ≡ b
+some_same e = cc
+
+-- of a list of queries, and what is left of each
+all_in : (m : Machine) (qs : List Registered) (ks : List Kept) → length ks ≡ length qs → ((n : ℕ) (q : Registered) → slice_get qs n ≡ Some q → answers_in (get_or ks n Dropped) ≡ untaken m q)
+    → map answers_in ks ≡ map (untaken m) qs
+all_in m [] [] many h = refl
+all_in m [] (k ∷ ks) many h = absurd (omega (arith, many))
+all_in m (q ∷ qs) [] many h = absurd (omega (arith, many))
+all_in m (q ∷ qs) (k ∷ ks) many h = ap₂ (λ y ys. y ∷ ys) (h 0 q refl) (all_in m qs ks (omega (arith, many)) (λ n r e. h (suc n) r e))
+
+-- whether it was dropped is seen on both
+gone_at : (qs : List Registered) (ks : List Kept) (n : ℕ) (q : Registered) → map (λ r. r.is_dropped) qs ≡ map is_gone ks → slice_get qs n ≡ Some q → q.is_dropped ≡ is_gone (get_or ks n Dropped)
+gone_at [] ks n q h e = absurd (cc)
+gone_at (r ∷ qs) [] n q h e = absurd (cc)
+gone_at (r ∷ qs) (k ∷ ks) zero q h e = let first : r.is_dropped ≡ is_gone k = cc in let same : r ≡ q = some_same e in ap (λ z. z.is_dropped) (sym same) ∙ first
+gone_at (r ∷ qs) (k ∷ ks) (suc n) q h e = let rest : map (λ z. z.is_dropped) qs ≡ map is_gone ks = cc in gone_at qs ks n q rest e
+
+untaken_dropped : (m : Machine) (q : Registered) → q.is_dropped ≡ true → [] ≡ untaken m q
+untaken_dropped m q e = rw e refl
+
+untaken_kept : (m : Machine) (q : Registered) → q.is_dropped ≡ false → drop q.taken (closed_answers m q) ≡ untaken m q
+untaken_kept m q e = rw e refl
+
+module _ (e : PlainEngine) (g : GoodEngine e) (whole : IsWholeEngine e) (idle : first_of e.slots ≡ None) (gone : map (λ q. q.is_dropped) e.machine.queries ≡ map is_gone e.queries) where
+  all : HasAllWaiting e
+  all = idle_waits e g (record { nothing = idle; returned = whole.returned })
+
+  waits_at : (n : ℕ) (q : Registered) (kept : Kept) → query_at e n ≡ Some q → kept_at e n ≡ kept → q.is_dropped ≡ is_gone kept → answers_in kept ≡ untaken e.machine q
+  waits_at n q (Running p) r k d = all n q p r k ∙ untaken_kept e.machine q d
+  waits_at n q (Broken answers) r k d = absurd (whole.unbroken n answers k)
+  waits_at n q Dropped r k d = untaken_dropped e.machine q d
+
+  all_wait : map answers_in e.queries ≡ map (untaken e.machine) e.machine.queries
+  all_wait = all_in e.machine e.machine.queries e.queries g.many (λ n q r. waits_at n q (kept_at e n) r refl (gone_at e.machine.queries e.queries n q gone r))
+
+-- A STEP that is done, or refused
+step_done : {A : Type 0} (o : Option Fault) (w made new : World) (a b : A) → o ≡ None → a ≡ b → made ≡ new → unless o w a made ≡ (Ok b, new)
+step_done None w made new a b none e f = cc
+step_done (Some x) w made new a b none e f = absurd (cc)
+
+step_refused : {A : Type 0} (o : Option Fault) (w made new : World) (a : A) (f : Fault) → o ≡ Some f → new ≡ w → unless o w a made ≡ (Err f, new)
+step_refused None w made new a f some e = absurd (cc)
+step_refused (Some x) w made new a f some e = cc
+
+may_lack : {A : Type 0} (o : Option Fault) (w made : World) (a : A) → o ≡ None → MayLackMemory (unless o w a made).0
+may_lack None w made a none = tt
+may_lack (Some x) w made a none = absurd (cc)
+
+-- A DRAIN
+module _ (old new : PlainEngine) (rows : ℕ) (machine : new.machine ≡ old.machine) where
+  drain_done : drain_fault rows ≡ None → map answers_in new.queries ≡ map (untaken new.machine) new.machine.queries → (u : ⊤) → drain_step (world_of old) rows ≡ (Ok u, world_of new)
+  unfolding drain_step
+  drain_done none all u =
+      step_done (drain_fault rows) (world_of old) _ (world_of new) tt u none refl
+      (let waits : map (untaken old.machine) old.machine.queries ≡ map answers_in new.queries = ap (λ m. map (untaken m) m.queries) (sym machine) ∙ sym all in
+      let m : old.machine ≡ new.machine = sym machine in cc)
+
+  drain_lacks : drain_fault rows ≡ None → MayLackMemory (drain_step (world_of old) rows).0
+  unfolding drain_step
+  drain_lacks none = may_lack (drain_fault rows) (world_of old) _ tt none
+
+  drain_refused : (f : Fault) → drain_fault rows ≡ Some f → new ≡ old → drain_step (world_of old) rows ≡ (Err f, world_of new)
+  unfolding drain_step
+  drain_refused f some same = step_refused (drain_fault rows) (world_of old) _ (world_of new) tt f some (ap world_of same)
+
+  drain_stops : (f : Fault) → RefusesDrain old rows f new → Drains (world_of old) (drain_step (world_of old) rows) (Err f) (world_of new)
+  drain_stops BadLimit h = drain_refused BadLimit h.0 h.1
+  drain_stops TooManyLeases h = (machine, drain_lacks h.0)
+  drain_stops OutOfMemory h = (machine, drain_lacks h)
+  drain_stops (Query x) h = absurd h
+  drain_stops BadName h = absurd h
+  drain_stops NameTaken h = absurd h
+  drain_stops BadColumns h = absurd h
+  drain_stops TooMany h = absurd h
+  drain_stops UnknownStream h = absurd h
+  drain_stops UnknownQuery h = absurd h
+  drain_stops BadWidth h = absurd h
+  drain_stops ValueRange h = absurd h
+  drain_stops InstantRange h = absurd h
+  drain_stops Late h = absurd h
+  drain_stops Backward h = absurd h
+  drain_stops Leap h = absurd h
+  drain_stops StreamFull h = absurd h
+  drain_stops fault.Broken h = absurd h
+  drain_stops UnknownLease h = absurd h
+  drain_stops Stranger h = absurd h
+
+-- A TAKE
+abbrev the_world : Machine → List (List (ℕ × Row)) → World
+the_world m ws = record { machine = m; waiting = ws }
+
+waiting_same : (ks : List Kept) (n : ℕ) → get_or (map answers_in ks) n [] ≡ answers_in (get_or ks n Dropped)
+waiting_same [] n = refl
+waiting_same (k ∷ ks) zero = refl
+waiting_same (k ∷ ks) (suc n) = waiting_same ks n
+
+none_dropped : (count : ℕ) → [] ≡ drop {A = ℕ × Row} count []
+none_dropped zero = refl
+none_dropped (suc count) = refl
+
+kept_dropped : (count : ℕ) (k : Kept) → answers_in (kept_after count k) ≡ drop count (answers_in k)
+kept_dropped count (Running p) = refl
+kept_dropped count (Broken answers) = refl
+kept_dropped count Dropped = none_dropped count
+
+changed_waiting : (count n : ℕ) (ks : List Kept) → change n (drop count) (map answers_in ks) ≡ map answers_in (change n (kept_after count) ks)
+changed_waiting count n [] = refl
+changed_waiting count zero (k ∷ ks) = ap (λ a. a ∷ map answers_in ks) (sym (kept_dropped count k))
+changed_waiting count (suc n) (k ∷ ks) = ap (λ rest. answers_in k ∷ rest) (changed_waiting count n ks)
+
+module _ {A : Type 0} (view : A → List (ℤ × Row)) (old : PlainEngine) (n : ℕ) (limit : ℤ) (whole : IsWholeEngine old) where
+  abbrev waits : List (ℕ × Row)
+  waits = get_or (map answers_in old.queries) n []
+
+  here : waits ≡ answers_in (kept_at old n)
+  here = waiting_same old.queries n
+
+  abbrev count : ℕ
+  count = min (nat_abs limit) (length waits)
+
+  counted : count ≡ count_of old n limit
+  counted = ap (λ ws. min (nat_abs limit) (length ws)) here
+
+  abbrev World_of : ℕ → World
+  World_of c = record { machine = after old.machine (Take n limit) c; waiting = change n (drop c) (map answers_in old.queries) }
+
+  made_same : (c : ℕ) → World_of c ≡ world_of (taken old n limit c)
+  made_same c = ap (the_world (after old.machine (Take n limit) c)) (changed_waiting c n old.queries)
+
+  take_done : (rows : A) (new : PlainEngine) → first_fault old.machine (Take n limit) ≡ None → view rows ≡ handed (take (count_of old n limit) (answers_in (kept_at old n))) → new ≡ taken old n limit (count_of old n limit)
+      → take_step (world_of old) n limit ≡ (Ok (view rows), world_of new)
+  unfolding take_step
+  take_done rows new none hands is =
+      step_done (first_fault old.machine (Take n limit)) (world_of old) _ (world_of new) (handed (take count waits)) (view rows) none
+      (ap (λ c. handed (take c waits)) counted ∙ ap (λ ws. handed (take (count_of old n limit) ws)) here ∙ sym hands)
+      (ap World_of counted ∙ made_same (count_of old n limit) ∙ ap world_of (sym is))
+
+  take_refused : (new : PlainEngine) (f : Fault) → first_fault old.machine (Take n limit) ≡ Some f → new ≡ old → take_step (world_of old) n limit ≡ (Err f, world_of new)
+  unfolding take_step
+  take_refused new f some same = step_refused (first_fault old.machine (Take n limit)) (world_of old) _ (world_of new) _ f some (ap world_of same)
+
+  take_lacks : first_fault old.machine (Take n limit) ≡ None → MayLackMemory (take_step (world_of old) n limit).0
+  unfolding take_step
+  take_lacks none = may_lack (first_fault old.machine (Take n limit)) (world_of old) _ _ none
+
+  takes : (r : Result A Fault) (new : PlainEngine) → Takes view old n limit r new → Does view (world_of old) (take_step (world_of old) n limit) r (world_of new)
+  takes (Ok rows) new h = take_done rows new h.0 h.1 h.2
+  takes (Err OutOfMemory) new h = (ap world_of h.1, take_lacks h.0)
+  takes (Err fault.Broken) new h = absurd (whole.unbroken n [] h.1)
+  takes (Err (Query x)) new h = take_refused new (Query x) h.0 h.1
+  takes (Err BadName) new h = take_refused new BadName h.0 h.1
+  takes (Err NameTaken) new h = take_refused new NameTaken h.0 h.1
+  takes (Err BadColumns) new h = take_refused new BadColumns h.0 h.1
+  takes (Err TooMany) new h = take_refused new TooMany h.0 h.1
+  takes (Err UnknownStream) new h = take_refused new UnknownStream h.0 h.1
+  takes (Err UnknownQuery) new h = take_refused new UnknownQuery h.0 h.1
+  takes (Err BadWidth) new h = take_refused new BadWidth h.0 h.1
+  takes (Err ValueRange) new h = take_refused new ValueRange h.0 h.1
+  takes (Err InstantRange) new h = take_refused new InstantRange h.0 h.1
+  takes (Err Late) new h = take_refused new Late h.0 h.1
+  takes (Err Backward) new h = take_refused new Backward h.0 h.1
+  takes (Err Leap) new h = take_refused new Leap h.0 h.1
+  takes (Err StreamFull) new h = take_refused new StreamFull h.0 h.1
+  takes (Err BadLimit) new h = take_refused new BadLimit h.0 h.1
+  takes (Err UnknownLease) new h = take_refused new UnknownLease h.0 h.1
+  takes (Err Stranger) new h = take_refused new Stranger h.0 h.1
+  takes (Err TooManyLeases) new h = take_refused new TooManyLeases h.0 h.1
+
+-- BOTH, as clients see them
+pub drains_are : (old new : PlainEngine) (rows : ℕ) (r : Result ⊤ Fault) → GoodEngine new → map (λ q. q.is_dropped) new.machine.queries ≡ map is_gone new.queries → TurnsLead old new
+    → OnOk r (drain_fault rows ≡ None) → OnOk r (first_of new.slots ≡ None) → IfErr r (λ f. RefusesDrain old rows f new) → (IsPlenty r → IsWholeEngine new) → Drains (world_of old) (drain_step (world_of old) rows) r (world_of new)
+drains_are old new rows (Ok u) g gone lead none idle err whole = drain_done old new rows lead.machine none (all_wait new g (whole tt) idle gone) u
+drains_are old new rows (Err f) g gone lead none idle err whole = drain_stops old new rows lead.machine f err
+
+pub drains_wait : {W : Type 0} (new : PlainEngine) (r : Result ⊤ Fault) → GoodEngine new → OnOk r (first_of new.slots ≡ None) → (W → IsPlenty r → IsWholeEngine new) → OnOk r (W → HasAllWaiting new)
+drains_wait new (Ok u) g idle whole = λ w. idle_waits new g (record { nothing = idle; returned = (whole w tt).returned })
+drains_wait new (Err f) g idle whole = tt
+
+pub takes_are : {A : Type 0} (view : A → List (ℤ × Row)) (old : PlainEngine) (n : ℕ) (limit : ℤ) (r : Result A Fault) (new : PlainEngine) → IsWholeEngine old → Takes view old n limit r new
+    → Does view (world_of old) (take_step (world_of old) n limit) r (world_of new)
+takes_are view old n limit r new whole h = takes view old n limit whole r new h

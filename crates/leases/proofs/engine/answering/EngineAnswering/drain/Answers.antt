@@ -1,0 +1,25 @@
+-- Where no operator may take anything and all turns are back, all that is closed and not taken waits.
+use Rattle.std.proofs.Common.{OnOk, subst}
+use Rattle.leases.proofs.WorldLemmas.{drains_are, drains_wait}
+use Rattle.plain_engines.proofs.PromiseLemmas.{keeps_its_promises}
+use Rattle.plain_engines.specs.Promises.{HasAllWaiting}
+use Rattle.reference.specs.World.{Drains, drain_step}
+use Rattle.leases.specs.Shown.{world_in}
+use Rattle.leases.specs.Shown.{engine_in}
+use Rattle.leases.specs.Whole.{IsWhole}
+use Rattle.leases.proofs.engine.answering.EngineAnswering.drain.Goals as goal
+
+pub returns-clause-does : goal.returns-clause-does
+returns-clause-does c =
+    subst (λ s. IsWhole s → Drains (world_in s) (drain_step (world_in s) c.args.rows) c.drain.result (world_in c.drain.new.self)) c.self.view_is
+    (λ whole.
+    drains_are (engine_in c.self.inside.state) (engine_in c.drain.new.self) c.args.rows c.drain.result c.drain.ensures.sound.good c.drain.ensures.sound.gone c.drain.ensures.lead c.drain.ensures.accepted c.drain.ensures.idle c.drain.ensures.err
+    (c.drain.ensures.whole whole))
+
+pub returns-clause-all : goal.returns-clause-all
+returns-clause-all c =
+    subst (λ s. OnOk c.drain.result (IsWhole s → HasAllWaiting (engine_in c.drain.new.self))) c.self.view_is
+    (drains_wait (engine_in c.drain.new.self) c.drain.result c.drain.ensures.sound.good c.drain.ensures.idle c.drain.ensures.whole)
+
+pub returns-clause-promises : goal.returns-clause-promises
+returns-clause-promises c = keeps_its_promises _ c.drain.ensures.sound.good

@@ -1,0 +1,24 @@
+use Rattle.std.proofs.Common.{subst, w64}
+use Rattle.std.proofs.lemmas.Int.{to_z-of_z}
+use Rattle.leases.proofs.WholeLemmas.{takes_whole}
+use Rattle.leases.proofs.WorldLemmas.{takes_are}
+use Rattle.plain_engines.proofs.PromiseLemmas.{keeps_its_promises}
+use Rattle.reference.specs.CallViews.{handed_of}
+use Rattle.reference.specs.World.{Does, take_step}
+use Rattle.leases.specs.Shown.{world_in}
+use Rattle.leases.specs.Shown.{engine_in}
+use Rattle.leases.specs.Whole.{IsWhole}
+use Rattle.leases.proofs.engine.answering.EngineAnswering.take.Goals as goal
+
+pub returns-clause-does : goal.returns-clause-does
+returns-clause-does c =
+    subst (λ s. IsWhole s → Does (λ v. handed_of v.items) (world_in s) (take_step (world_in s) c.args.query c.args.limit) c.take.result (world_in c.take.new.self)) c.self.view_is
+    (λ whole. takes_are (λ v. handed_of v.items) (engine_in c.self.inside.state) c.args.query c.args.limit c.take.result (engine_in c.take.new.self) whole (simp (to_z-of_z w64 c.args.limit c.ranges.limit) at c.take.ensures.takes))
+
+pub returns-clause-whole : goal.returns-clause-whole
+returns-clause-whole c =
+    subst (λ s. IsWhole s → IsWhole c.take.new.self) c.self.view_is
+    (takes_whole (λ v. handed_of v.items) (engine_in c.self.inside.state) c.args.query c.args.limit c.take.result (engine_in c.take.new.self) (simp (to_z-of_z w64 c.args.limit c.ranges.limit) at c.take.ensures.takes))
+
+pub returns-clause-promises : goal.returns-clause-promises
+returns-clause-promises c = keeps_its_promises _ c.take.ensures.sound.good

@@ -1,5 +1,0 @@
-use Rattle.leases.proofs.AppendedLemmas.{append_good}
-use Rattle.leases.proofs.laws.appends_keep_engines_good.Goals as goal
-
-pub returns : goal.returns
-returns c = append_good

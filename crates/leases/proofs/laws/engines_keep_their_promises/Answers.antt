@@ -1,5 +1,0 @@
-use Rattle.leases.proofs.HistoryLemmas.{engines_keep}
-use Rattle.leases.proofs.laws.engines_keep_their_promises.Goals as goal
-
-pub returns : goal.returns
-returns c = engines_keep

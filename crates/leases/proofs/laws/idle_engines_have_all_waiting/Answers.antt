@@ -1,5 +1,0 @@
-use Rattle.leases.proofs.IdleLemmas.{idle_waits}
-use Rattle.leases.proofs.laws.idle_engines_have_all_waiting.Goals as goal
-
-pub returns : goal.returns
-returns c = idle_waits

@@ -1,5 +1,0 @@
-use Rattle.leases.proofs.TakeLemmas.{take_good}
-use Rattle.leases.proofs.laws.takes_keep_engines_good.Goals as goal
-
-pub returns : goal.returns
-returns c = take_good

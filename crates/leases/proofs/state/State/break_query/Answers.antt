@@ -1,0 +1,31 @@
+-- What is left of the query, of the turns and of the slots.
+use Rattle.std.proofs.Common.{rules, ◌≡◌, ◌==◌, not, List, filter, map, set, refl, ap, ◌∙◌}
+use Rattle.std.proofs.lemmas.Fn.{filter_same}
+use Rattle.ready_list.specs.declared.slots.Slot.{Slot}
+use Rattle.plain_engines.specs.Calls.{of_others}
+use Rattle.plain_engines.specs.Engines.{Broken, Kept, Lease, Running}
+use Rattle.leases.specs.Shown.{engine_in}
+use Rattle.leases.specs.Views.{kept_of, lease_of}
+use Rattle.leases.specs.declared.given.Given.{Given}
+use Rattle.leases.proofs.FinishGivenLemmas.{item_kept, kept_set, leases_left, left_in}
+use Rattle.leases.proofs.state.State.break_query.Goals as goal
+
+pub returns-clause-engine : goal.returns-clause-engine
+returns-clause-engine c p running =
+    let is : c.retain.new.self.items ≡ filter (λ (g : Given). not (g.node.query == c.args.query)) c.args.self.now.leases.items =
+    filter_same _ (λ (g : Given). not (g.node.query == c.args.query)) _ (λ x b f h. search rules) _ _ c.retain.ensures.filtered in
+    let leases : map lease_of c.retain.new.self.items ≡ of_others c.args.query (engine_in c.args.self.now).leases =
+    ap (λ gs. map lease_of gs) is ∙ leases_left (λ (l : Lease). not (l.query == c.args.query)) c.args.self.now.leases.items in
+    let here : kept_of c.index_mut.result.now ≡ Running p =
+    ap kept_of c.index_mut.ensures.value ∙ item_kept c.args.self.now.kept.items c.args.query c.index_mut.result.now p running in
+    let queries : map kept_of (set c.args.self.now.kept.items c.args.query c.give_up.new.self) ≡ set (engine_in c.args.self.now).queries c.args.query (Broken p.answers) =
+    kept_set c.args.self.now.kept.items c.args.query c.give_up.new.self ∙ ap (set (engine_in c.args.self.now).queries c.args.query) (c.give_up.ensures p here) in
+    ap (λ (qs : List Kept). record (engine_in c.args.self.now) { queries = qs; leases = map lease_of c.retain.new.self.items; slots = c.drop_query.new.self }) queries
+    ∙ ap (λ (ls : List Lease). record (engine_in c.args.self.now) { queries = set (engine_in c.args.self.now).queries c.args.query (Broken p.answers); leases = ls; slots = c.drop_query.new.self }) leases
+    ∙ ap (λ (ss : List Slot). record (engine_in c.args.self.now) { queries = set (engine_in c.args.self.now).queries c.args.query (Broken p.answers); leases = of_others c.args.query (engine_in c.args.self.now).leases; slots = ss }) c.drop_query.ensures
+
+pub returns-clause-rest : goal.returns-clause-rest
+returns-clause-rest c =
+    let is : c.retain.new.self.items ≡ filter (λ (g : Given). not (g.node.query == c.args.query)) c.args.self.now.leases.items =
+    filter_same _ (λ (g : Given). not (g.node.query == c.args.query)) _ (λ x b f h. search rules) _ _ c.retain.ensures.filtered in
+    record { names = refl; leases = left_in (λ (g : Given). not (g.node.query == c.args.query)) c.args.self.now.leases.items c.retain.new.self.items is }

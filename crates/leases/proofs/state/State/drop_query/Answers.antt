@@ -1,0 +1,82 @@
+use Rattle.std.proofs.Common.{◌≡◌, ◌<◌, ◌==◌, not, None, Some, length, map, set, get_or, string_bytes, refl, sym, ap, ◌∙◌, subst, arith}
+use Rattle.std.specs.Prelude.{slice_get}
+use Rattle.plain_engines.specs.Engines.{Dropped, GoodEngine, IsIn, world_of}
+use Rattle.plain_engines.proofs.DropLemmas.{drop_good}
+use Rattle.plain_engines.proofs.SlotLemmas.{in_filter}
+use Rattle.plain_engines.proofs.TakeLemmas.{changed_or_there}
+use Rattle.reference.specs.Commands as machine
+use Rattle.reference.specs.Named.{name_of_registered}
+use Rattle.leases.specs.Shown.{engine_in}
+use Rattle.leases.specs.Sound.{is_gone}
+use Rattle.leases.specs.Views.{kept_of, query_of}
+use Rattle.leases.specs.declared.given.Given.{Given}
+use Rattle.leases.specs.declared.registered.Registration.{Registration}
+use Rattle.leases.proofs.DropLemmas.{another, drops, gone_dropped, is_dropped, kept_dropped, kept_within, named_there, names_dropped, refused, registered_dropped, registered_within, there}
+use Rattle.leases.proofs.LeaveLemmas.{fewer}
+use Rattle.leases.proofs.state.State.drop_query.Goals as goal
+
+pub returns-in-Some-clause-does : goal.returns-in-Some-clause-does
+returns-in-Some-clause-does c = sym (ap (λ z. z.0) (refused (engine_in c.args.self.now) c.args.query c.in-Some.fault (sym c.query_fault.ensures.first ∙ c.in-Some.is)))
+
+pub returns-in-Some-clause-world : goal.returns-in-Some-clause-world
+returns-in-Some-clause-world c = sym (ap (λ z. z.1) (refused (engine_in c.args.self.now) c.args.query c.in-Some.fault (sym c.query_fault.ensures.first ∙ c.in-Some.is)))
+
+pub index-requires : goal.index-requires
+index-requires c =
+    let within : c.args.query < length c.args.self.now.registered.items = registered_within c.args.self.now.registered.items c.args.query (there (engine_in c.args.self.now).machine c.args.query (sym c.query_fault.ensures.first ∙ c.in_default.is)) in
+    omega (arith, within)
+
+pub index_mut-requires : goal.index_mut-requires
+index_mut-requires c =
+    let within : c.args.query < length c.args.self.now.registered.items = registered_within c.args.self.now.registered.items c.args.query (there (engine_in c.args.self.now).machine c.args.query (sym c.query_fault.ensures.first ∙ c.in_default.is)) in
+    omega (arith, within)
+
+pub index_mut-requires-2 : goal.index_mut-requires-2
+index_mut-requires-2 c =
+    let within : c.args.query < length c.args.self.now.kept.items = kept_within (engine_in c.args.self.now) c.args.self.now.kept.items c.args.query c.requires.good refl (there (engine_in c.args.self.now).machine c.args.query (sym c.query_fault.ensures.first ∙ c.in_default.is)) in
+    omega (arith, within)
+
+pub returns-clause-does : goal.returns-clause-does
+returns-clause-does c = sym (ap (λ z. z.0) (drops (engine_in c.args.self.now) c.args.query (sym c.query_fault.ensures.first ∙ c.in_default.is)))
+
+pub returns-clause-world : goal.returns-clause-world
+returns-clause-world c =
+    ap (λ e. world_of e) (is_dropped c.args.self.now.streams c.args.self.now.registered.items c.args.self.now.kept.items c.args.self.now.leases.items c.end_turns_of.new.turns.items c.args.self.now.next c.args.self.now.slots c.drop_query.new.self c.args.query
+    c.end_turns_of.ensures c.drop_query.ensures c.leave.new.query c.index_mut.result.now (c.leave.ensures ∙ ap (λ z. machine.dropped (query_of z)) c.index_mut.ensures.value))
+    ∙ sym (ap (λ z. z.1) (drops (engine_in c.args.self.now) c.args.query (sym c.query_fault.ensures.first ∙ c.in_default.is)))
+
+pub returns-clause-engine : goal.returns-clause-engine
+returns-clause-engine c =
+    is_dropped c.args.self.now.streams c.args.self.now.registered.items c.args.self.now.kept.items c.args.self.now.leases.items c.end_turns_of.new.turns.items c.args.self.now.next c.args.self.now.slots c.drop_query.new.self c.args.query
+    c.end_turns_of.ensures c.drop_query.ensures c.leave.new.query c.index_mut.result.now (c.leave.ensures ∙ ap (λ z. machine.dropped (query_of z)) c.index_mut.ensures.value)
+
+pub returns-clause-sound : goal.returns-clause-sound
+returns-clause-sound c = record {
+  good = subst GoodEngine (sym (is_dropped c.args.self.now.streams c.args.self.now.registered.items c.args.self.now.kept.items c.args.self.now.leases.items c.end_turns_of.new.turns.items c.args.self.now.next c.args.self.now.slots c.drop_query.new.self c.args.query
+      c.end_turns_of.ensures c.drop_query.ensures c.leave.new.query c.index_mut.result.now (c.leave.ensures ∙ ap (λ z. machine.dropped (query_of z)) c.index_mut.ensures.value)))
+      (drop_good (engine_in c.args.self.now) c.args.query c.requires.good (sym c.query_fault.ensures.first ∙ c.in_default.is));
+  kinds = λ g i p runs.
+      let left = subst (λ gs. IsIn gs g) c.end_turns_of.ensures i in
+      let other = another c.args.query c.args.self.now.leases.items g left in
+      c.requires.kinds g (in_filter (λ (z : Given). not (z.node.query == c.args.query)) c.args.self.now.leases.items g left).0 p
+      (sym (changed_or_there (λ kept. Dropped) c.args.query g.node.query (map kept_of c.args.self.now.kept.items) Dropped other)
+      ∙ ap (λ ks. get_or ks g.node.query Dropped) (sym (kept_dropped c.args.self.now.kept.items c.args.query)) ∙ runs);
+  few =
+      let many : length c.end_turns_of.new.turns.items ≡ _ = ap (λ gs. length gs) c.end_turns_of.ensures in
+      let less = fewer (λ (z : Given). not (z.node.query == c.args.query)) c.args.self.now.leases.items in
+      omega (arith, many, less, c.requires.few);
+  numbers = c.requires.numbers;
+  named =
+      c.free.ensures.freed c.args.query
+      (ap (λ z. slice_get z c.args.query) c.requires.named
+      ∙ named_there c.args.self.now.registered.items c.args.query c.index.result.now (there (engine_in c.args.self.now).machine c.args.query (sym c.query_fault.ensures.first ∙ c.in_default.is))
+      ∙ ap (λ (r : Registration). Some (Some (string_bytes r.name))) (sym c.index.ensures) ∙ ap (λ z. Some (Some z)) (sym c.as_str.ensures.value))
+      ∙ ap (λ z. set z c.args.query None) c.requires.named ∙ names_dropped (map query_of c.args.self.now.registered.items) c.args.query
+      ∙ ap (λ z. map name_of_registered z) (sym (registered_dropped c.args.self.now.registered.items c.args.query c.leave.new.query c.index_mut.result.now (c.leave.ensures ∙ ap (λ z. machine.dropped (query_of z)) c.index_mut.ensures.value)));
+  gone =
+      ap (λ z. map (λ q. q.is_dropped) z) (registered_dropped c.args.self.now.registered.items c.args.query c.leave.new.query c.index_mut.result.now (c.leave.ensures ∙ ap (λ z. machine.dropped (query_of z)) c.index_mut.ensures.value))
+      ∙ gone_dropped (map query_of c.args.self.now.registered.items) (map kept_of c.args.self.now.kept.items) c.args.query c.requires.gone
+      ∙ ap (λ z. map is_gone z) (sym (kept_dropped c.args.self.now.kept.items c.args.query));
+  columns = c.requires.columns;
+  closed = c.requires.closed;
+}

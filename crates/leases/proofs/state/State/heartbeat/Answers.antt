@@ -1,0 +1,44 @@
+use Rattle.std.proofs.Common.{Vec, ◌∙◌, map, refl, w64}
+use Rattle.std.specs.Global.{Global}
+use Rattle.std.proofs.lemmas.Int.{to_z-of_z}
+use Rattle.std.proofs.lemmas.Result.{err_from_is_err_and}
+use Rattle.op_queue.specs.Tables.{element}
+use Rattle.op_queue.specs.declared.log.Arrival.{Arrival}
+use Rattle.plain_engines.specs.Calls.{IsHeartbeat}
+use Rattle.leases.specs.Shown.{engine_in}
+use Rattle.leases.proofs.BeatLemmas.{beats_does, beats_engine, beats_sound, heartbeat_lacked, heartbeat_refused, readers_asked}
+use Rattle.leases.proofs.state.State.heartbeat.Goals as goal
+
+pub returns-in_err-rows-clause-does : goal.returns-in_err-rows-clause-does
+returns-in_err-rows-clause-does c =
+    heartbeat_refused (λ (v : Vec Arrival Global). map element v.items) c.args.self.now c.args.stream c.args.at _ c.from_residual.result c.in_err-rows.field-0.0 (to_z-of_z w64 c.args.at c.ranges.at) c.from_residual.ensures.1 c.in_err-rows.ensures.looks
+
+pub returns-in_err-slots-clause-does : goal.returns-in_err-slots-clause-does
+returns-in_err-slots-clause-does c =
+    let p = err_from_is_err_and c.from_residual-in_err-slots.result c.from_residual-in_err-slots.ensures.1 in
+    rw (p.1, p.2) (heartbeat_lacked c.args.self.now c.args.self.now.streams c.args.stream c.args.at (simp (to_z-of_z w64 c.args.at c.ranges.at) at c.in_ok-rows.ensures.accepted) refl)
+
+pub returns-in_err-close-clause-does : goal.returns-in_err-close-clause-does
+returns-in_err-close-clause-does c =
+    let p = err_from_is_err_and c.from_residual-in_err-close.result c.from_residual-in_err-close.ensures.1 in
+    rw (p.1, p.2) (heartbeat_lacked c.args.self.now c.close.new.self c.args.stream c.args.at (simp (to_z-of_z w64 c.args.at c.ranges.at) at c.in_ok-rows.ensures.accepted) c.in_err-close.ensures.err)
+
+pub retell-requires : goal.retell-requires
+retell-requires c =
+    let beats : IsHeartbeat (engine_in c.args.self.now) c.args.stream c.args.at = record { accepted = simp (to_z-of_z w64 c.args.at c.ranges.at) at c.in_ok-rows.ensures.accepted; queues = simp (to_z-of_z w64 c.args.at c.ranges.at) at c.in_ok-close.ensures.queues } in
+    readers_asked c.args.self.now c.close.new.self c.args.stream c.args.at c.requires beats (simp (to_z-of_z w64 c.args.at c.ranges.at) at c.in_ok-close.ensures.ok) c.deref-2.result.now (c.deref-2.ensures.value ∙ c.in_ok-slots.ensures)
+
+pub returns-clause-does : goal.returns-clause-does
+returns-clause-does c =
+    let beats : IsHeartbeat (engine_in c.args.self.now) c.args.stream c.args.at = record { accepted = simp (to_z-of_z w64 c.args.at c.ranges.at) at c.in_ok-rows.ensures.accepted; queues = simp (to_z-of_z w64 c.args.at c.ranges.at) at c.in_ok-close.ensures.queues } in
+    beats_does c.args.self.now c.close.new.self c.args.stream c.args.at c.requires beats (simp (to_z-of_z w64 c.args.at c.ranges.at) at c.in_ok-close.ensures.ok) c.deref-2.result.now (c.deref-2.ensures.value ∙ c.in_ok-slots.ensures) c.retell.new.self c.retell.ensures
+
+pub returns-clause-engine : goal.returns-clause-engine
+returns-clause-engine c =
+    let beats : IsHeartbeat (engine_in c.args.self.now) c.args.stream c.args.at = record { accepted = simp (to_z-of_z w64 c.args.at c.ranges.at) at c.in_ok-rows.ensures.accepted; queues = simp (to_z-of_z w64 c.args.at c.ranges.at) at c.in_ok-close.ensures.queues } in
+    beats_engine c.args.self.now c.close.new.self c.args.stream c.args.at c.requires beats (simp (to_z-of_z w64 c.args.at c.ranges.at) at c.in_ok-close.ensures.ok) c.deref-2.result.now (c.deref-2.ensures.value ∙ c.in_ok-slots.ensures) c.retell.new.self c.retell.ensures
+
+pub returns-clause-sound : goal.returns-clause-sound
+returns-clause-sound c =
+    let beats : IsHeartbeat (engine_in c.args.self.now) c.args.stream c.args.at = record { accepted = simp (to_z-of_z w64 c.args.at c.ranges.at) at c.in_ok-rows.ensures.accepted; queues = simp (to_z-of_z w64 c.args.at c.ranges.at) at c.in_ok-close.ensures.queues } in
+    beats_sound c.args.self.now c.close.new.self c.args.stream c.args.at c.requires beats (simp (to_z-of_z w64 c.args.at c.ranges.at) at c.in_ok-close.ensures.ok) c.deref-2.result.now (c.deref-2.ensures.value ∙ c.in_ok-slots.ensures) c.retell.new.self c.retell.ensures

@@ -1,0 +1,79 @@
+-- A turn that comes back, step by step.
+use Rattle.std.specs.Prelude.{ℕ, ◌≡◌, ◌+◌, ◌<◌, ◌≤◌, MatchOption, Option, Some, List, length, set}
+use Rattle.turn.specs.Turns.{outs_in}
+use Rattle.turn.specs.declared.parts.Parts.{Parts}
+use Rattle.reference.specs.Machine.{Registered, Stream}
+use Rattle.query_nets.specs.Queries.{PlainQuery, operator_at}
+use Rattle.running_queries.specs.Turns.{CanFinish, CanPut, HasFinished, HasOperator, HasPut, log_of, wire_at}
+use Rattle.ready_list.specs.Slots.{changed}
+use Rattle.ready_list.specs.declared.slots.Slot.{Slot}
+use Rattle.plain_engines.specs.Calls.{broken, others}
+use Rattle.plain_engines.specs.Engines.{IsIn, Kept, PlainEngine, Running, instant_at, kept_at, query_at, slot_at}
+use Rattle.leases.specs.Asked.{HasOperatorAt}
+use Rattle.leases.specs.Turns.{IsOut}
+use Rattle.leases.specs.declared.given.Given.{Given}
+use Rattle.leases.specs.declared.state.State.{State}
+
+-- THE TURN that was run is the one that was handed out: operator, item and excerpt are the same by value
+pub record IsTurn (g : Given) (d : Parts) : Type 0 where
+  pub node : g.node ≡ d.node
+  pub item : g.item ≡ d.item
+  pub near : g.near ≡ d.near
+
+-- it is out
+abbrev pub IsOutIn : PlainEngine → Parts → Type 0
+IsOutIn e d = (q : Registered) × ((p : PlainQuery) × IsOut e d q p)
+
+-- THE QUERY TAKES IT
+-- it may
+pub record MayApply (streams : List Stream) (p : PlainQuery) (d : Parts) : Type 0 where
+  pub here : HasOperator streams p d.node.operator
+  pub may : CanFinish (operator_at p.operators d.node.operator) (log_of streams p d.node.operator) d.node.side d.item d.change
+  pub puts : CanPut streams p d.node.operator d.node.side d.item d.change (outs_in d.outputs)
+
+abbrev pub MayApplyIn : PlainEngine → Parts → Type 0
+MayApplyIn e d = (p : PlainQuery) × ((kept_at e d.node.query ≡ Running p) × MayApply e.machine.streams p d)
+
+-- it has: the operator took the item, and what it put out went on
+pub record IsApplied (streams : List Stream) (p : PlainQuery) (d : Parts) (p2 : PlainQuery) : Type 0 where
+  pub finished : HasFinished streams p d.node.operator d.node.side d.item d.change p2
+  pub put : HasPut p d.node.operator (outs_in d.outputs) p2
+
+-- only what is left of one query is another
+abbrev pub with_kept : PlainEngine → ℕ → Kept → PlainEngine
+with_kept e n kept = record e { queries = set e.queries n kept }
+
+abbrev pub HasApplied : PlainEngine → Parts → PlainEngine → Type 0
+HasApplied old d new =
+    (p : PlainQuery) → kept_at old d.node.query ≡ Running p → (p2 : PlainQuery) × (IsApplied old.machine.streams p d p2 × (new ≡ with_kept old d.node.query (Running p2)))
+
+-- it is broken
+abbrev pub IsBroken : PlainEngine → ℕ → PlainEngine → Type 0
+IsBroken old n new = (p : PlainQuery) → kept_at old n ≡ Running p → new ≡ broken old n p
+
+-- THE TURN ENDS
+abbrev pub without_turn : PlainEngine → ℕ → PlainEngine
+without_turn e n = record e { leases = others n e.leases }
+
+-- names are as they were, and no turn goes out
+pub record GivesNothing (old new : State) : Type 0 where
+  pub names : new.names ≡ old.names
+  pub leases : (g : Given) → IsIn new.leases.items g → IsIn old.leases.items g
+
+-- SLOTS THAT ARE TOLD ANEW
+-- the query's operators are there, and the wire of each but the last leads to one
+abbrev pub HasWiredOperators : PlainEngine → ℕ → Type 0
+HasWiredOperators e n = (k : ℕ) (p : PlainQuery) → kept_at e n ≡ Running p → k + 1 < length p.operators → HasOperatorAt e n (wire_at p k).to
+
+-- the slot of the operator to which the wire of the operator k leads, unless that is the last
+abbrev pub IsAbove : PlainEngine → ℕ → ℕ → Option Slot → Type 0
+IsAbove e n k above =
+    (q : Registered) (p : PlainQuery) → query_at e n ≡ Some q → kept_at e n ≡ Running p
+    → MatchOption above (length p.operators ≤ k + 1) (λ s. (k + 1 < length p.operators) × (s ≡ slot_at e n q p (wire_at p k).to))
+
+-- a slot gets the instant of its operator
+abbrev pub with_slot : PlainEngine → Slot → Registered → PlainQuery → PlainEngine
+with_slot e s q p = record e { slots = changed s (instant_at e s.query q p s.operator) e.slots }
+
+abbrev pub IsRetold : PlainEngine → Slot → PlainEngine → Type 0
+IsRetold old s new = (q : Registered) (p : PlainQuery) → query_at old s.query ≡ Some q → kept_at old s.query ≡ Running p → new ≡ with_slot old s q p

@@ -1,0 +1,21 @@
+-- What the calls of an engine ask before they look up an operator.
+use Rattle.std.specs.Prelude.{ℕ, ◌≡◌, ◌<◌, Some, length}
+use Rattle.reference.specs.Machine.{Registered}
+use Rattle.query_nets.specs.Queries.{PlainQuery, log_at}
+use Rattle.running_queries.specs.Turns.{HasOperator, log_of}
+use Rattle.plain_engines.specs.Engines.{PlainEngine, Running, kept_at, query_at}
+
+-- the query runs
+abbrev pub IsRunningAt : PlainEngine → ℕ → Type 0
+IsRunningAt e n = (p : PlainQuery) × (kept_at e n ≡ Running p)
+
+-- it has the operator k, and the stream that this reads is there
+pub record IsAt (e : PlainEngine) (n k : ℕ) (q : Registered) (p : PlainQuery) : Type 0 where
+  pub registered : query_at e n ≡ Some q
+  pub running : kept_at e n ≡ Running p
+  pub within : k < length q.nodes
+  pub operator : HasOperator e.machine.streams p k
+  pub log : log_of e.machine.streams p k ≡ log_at e.machine q k
+
+abbrev pub HasOperatorAt : PlainEngine → ℕ → ℕ → Type 0
+HasOperatorAt e n k = (q : Registered) × ((p : PlainQuery) × IsAt e n k q p)

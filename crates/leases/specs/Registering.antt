@@ -1,0 +1,23 @@
+-- What is made of a query before it is registered.
+use Rattle.std.specs.Prelude.{ℕ, zero, suc, ◌≡◌, ◌+◌, ◌<◌, List, map, length, get_or}
+use Rattle.std.specs.Option.{option_map}
+use Rattle.envelope.specs.Fraction.{Fraction, fraction}
+use Rattle.operators.specs.Operators.{ready}
+use Rattle.reference.specs.Machine.{Stream}
+use Rattle.query_nets.specs.Queries.{PlainQuery, operator_at}
+use Rattle.running_queries.specs.Turns.{HasOperator, log_of}
+use Rattle.ready_list.specs.Slots.{put, slot}
+use Rattle.ready_list.specs.declared.slots.Slot.{Slot}
+
+-- the slot of the operator k of a query n that is new, of which no turn is out
+abbrev pub new_slot : List Stream → PlainQuery → List Fraction → ℕ → ℕ → Slot
+new_slot streams p slopes n k = slot (get_or slopes k (fraction 0 1)) (option_map (λ r. r.1) (ready (operator_at p.operators k) (log_of streams p k))) n k
+
+-- the slots with those of its first `count` operators
+abbrev pub with_first : List Stream → PlainQuery → List Fraction → ℕ → ℕ → List Slot → List Slot
+with_first streams p slopes n zero slots = slots
+with_first streams p slopes n (suc count) slots = put (with_first streams p slopes n count slots) (new_slot streams p slopes n count)
+
+-- all its operators are there, each with a slope
+pub record IsNewQuery (streams : List Stream) (p : PlainQuery) (slopes : List Fraction) : Type 0 where
+  pub operators : (k : ℕ) → k < length slopes → HasOperator streams p k

@@ -1,0 +1,29 @@
+-- What an engine knows of itself.
+use Rattle.std.specs.Prelude.{◌≡◌, ◌≤◌, Bool, true, false, length, map}
+use Rattle.reference.specs.Named.{name_of_registered}
+use Rattle.query_nets.specs.Registrations.{HaveColumnNames}
+use Rattle.answer_bounds.specs.Bounds.{HaveFewClosed}
+use Rattle.plain_engines.specs.Engines.{Broken, Dropped, GoodEngine, IsIn, Kept, Running}
+use Rattle.leases.specs.Shown.{engine_in}
+use Rattle.leases.specs.Views.{HasKind}
+use Rattle.leases.specs.declared.given.Given.{Given}
+use Rattle.leases.specs.declared.limits.TheConstants.{LEASE_NUMBERS, MAX_LEASES}
+use Rattle.leases.specs.declared.state.State.{State}
+
+-- nothing is left of a query that was dropped
+abbrev pub is_gone : Kept → Bool
+is_gone (Running p) = false
+is_gone (Broken answers) = false
+is_gone Dropped = true
+
+-- it is a good engine, whose turns do what their operators do; few are out, and no number above the last was given; it finds queries by the names of
+-- those that were not dropped
+pub record IsSound (s : State) : Type 0 where
+  pub good : GoodEngine (engine_in s)
+  pub kinds : (g : Given) → IsIn s.leases.items g → HasKind (engine_in s) g
+  pub few : length s.leases.items ≤ MAX_LEASES
+  pub numbers : s.next ≤ LEASE_NUMBERS
+  pub named : s.names ≡ map name_of_registered (engine_in s).machine.queries
+  pub gone : map (λ q. q.is_dropped) (engine_in s).machine.queries ≡ map is_gone (engine_in s).queries
+  pub columns : HaveColumnNames (engine_in s).machine
+  pub closed : HaveFewClosed (engine_in s).machine

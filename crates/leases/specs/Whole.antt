@@ -1,0 +1,23 @@
+-- An engine with which nobody else has turns out, and of which no query is broken.
+use Rattle.std.specs.Prelude.{ℕ, ◌≡◌, None, Some, Ok, Err, Result, List, []}
+use Rattle.values.specs.Row.{Row}
+use Rattle.reference.specs.World.{MayLackMemory, is_scarce}
+use Rattle.reference.specs.declared.fault.Fault.{Fault}
+use Rattle.ready_list.specs.Slots.{first_of}
+use Rattle.plain_engines.specs.Engines.{Broken, PlainEngine, kept_at}
+use Rattle.plain_engines.specs.Histories.{Call, LeadTo}
+use Rattle.leases.specs.Shown.{engine_in}
+use Rattle.leases.specs.declared.state.State.{State}
+
+pub record IsWholeEngine (e : PlainEngine) : Type 0 where
+  pub returned : e.leases ≡ []
+  pub unbroken : (n : ℕ) (answers : List (ℕ × Row)) → kept_at e n ≡ Broken answers → ⊥
+
+abbrev pub IsWhole : State → Type 0
+IsWhole s = IsWholeEngine (engine_in s)
+
+-- turns went out and came back, or broke their queries; the machine is as it was
+pub record TurnsLead (old new : PlainEngine) : Type 0 where
+  pub calls : List Call
+  pub lead : LeadTo old calls new
+  pub machine : new.machine ≡ old.machine

@@ -1,0 +1,106 @@
+//! What clients call.
+ghost use Rattle.std.specs.Prelude.{◌≡◌, ℕ, IfErr, None, OnErr, OnOk};
+ghost use Rattle.std.specs.Option.{option_copied};
+ghost use Rattle.plan.specs.Chart.{given_by};
+ghost use Rattle.reference.specs.CallViews.{handed_of, texts_of};
+ghost use Rattle.reference.specs.Machine.{Registered};
+ghost use Rattle.reference.specs.World.{Does, Drains, IsPlenty, append_step, declare_step, drain_step, drop_step, heartbeat_step, register_step, take_step};
+ghost use Rattle.query_nets.specs.Queries.{PlainQuery};
+ghost use Rattle.ready_list.specs.Slots.{first_of};
+ghost use Rattle.plain_engines.specs.Calls.{IsRegistration, appended, beaten, declared, dropped, registered};
+ghost use Rattle.plain_engines.specs.Promises.{HasAllWaiting, KeepsItsPromises};
+ghost use Rattle.leases.specs.Drains.{RefusesDrain};
+ghost use Rattle.leases.specs.Shown.{engine_in, world_in};
+ghost use Rattle.leases.specs.Takes.{Takes};
+ghost use Rattle.leases.specs.Whole.{IsWhole, TurnsLead};
+
+use crate::engine::Engine;
+use envelope::Slope;
+use plan::{Chart, Kind};
+use reference::{Answering, Fault, NewRows};
+use values::Row;
+
+impl Answering for Engine {
+    ghost world = { world_in };
+
+    ghost is_whole = { IsWhole };
+
+    fn stream(&mut self, name: &str, columns: &[String], from: i64) -> Result<u64, Fault>
+        ensures does { Does (λ (n : ℕ). n) (world_in self.old) (declare_step (world_in self.old) name.now (texts_of columns.now) from) result (world_in self.new) }
+        ensures whole { IsWhole self.old → IsWhole self.new }
+        ensures engine { OnOk result (engine_in self.new ≡ declared (engine_in self.old) name.now (texts_of columns.now) from) }
+        ensures err { OnErr result (engine_in self.new ≡ engine_in self.old) }
+    {
+        self.state.declare(name, columns, from)
+    }
+
+    fn query(&mut self, name: &str, text: &str, chart: Option<&Chart>) -> Result<u64, Fault>
+        ensures does { Does (λ (n : ℕ). n) (world_in self.old) (register_step (world_in self.old) name.now text.now (given_by (option_copied chart.entry))) result (world_in self.new) }
+        ensures whole { IsWhole self.old → IsWhole self.new }
+        ensures engine { OnOk result ((q : Registered) × ((p : PlainQuery) × (IsRegistration (engine_in self.old) name.now text.now (given_by (option_copied chart.entry)) q p × (engine_in self.new ≡ registered (engine_in self.old) q p)))) }
+        ensures err { OnErr result (engine_in self.new ≡ engine_in self.old) }
+    {
+        self.state.query(name, text, chart)
+    }
+
+    fn append(&mut self, stream: u64, rows: &NewRows) -> Result<(), Fault>
+        ensures does { Does (λ u. u) (world_in self.old) (append_step (world_in self.old) stream rows.now) result (world_in self.new) }
+        ensures whole { IsWhole self.old → IsWhole self.new }
+        ensures engine { OnOk result (engine_in self.new ≡ appended (engine_in self.old) stream rows.now) }
+        ensures err { OnErr result (engine_in self.new ≡ engine_in self.old) }
+    {
+        self.state.append(stream, rows)
+    }
+
+    fn heartbeat(&mut self, stream: u64, at: i64) -> Result<(), Fault>
+        ensures does { Does (λ u. u) (world_in self.old) (heartbeat_step (world_in self.old) stream at) result (world_in self.new) }
+        ensures whole { IsWhole self.old → IsWhole self.new }
+        ensures engine { OnOk result (engine_in self.new ≡ beaten (engine_in self.old) stream at) }
+        ensures err { OnErr result (engine_in self.new ≡ engine_in self.old) }
+    {
+        self.state.heartbeat(stream, at)
+    }
+
+    fn drain(&mut self, rows: u32) -> Result<(), Fault>
+        ensures does { IsWhole self.old → Drains (world_in self.old) (drain_step (world_in self.old) rows) result (world_in self.new) }
+        ensures whole { IsWhole self.old → IsPlenty result → IsWhole self.new }
+        ensures lead { TurnsLead (engine_in self.old) (engine_in self.new) }
+        ensures idle { OnOk result (first_of (engine_in self.new).slots ≡ None) }
+        ensures all { OnOk result (IsWhole self.old → HasAllWaiting (engine_in self.new)) }
+        ensures err { IfErr result (λ f. RefusesDrain (engine_in self.old) rows f (engine_in self.new)) }
+        ensures promises { KeepsItsPromises (engine_in self.new) }
+    {
+        self.state.drain(rows)
+    }
+
+    fn take(&mut self, query: u64, limit: i64) -> Result<Vec<(i64, Row)>, Fault>
+        ensures does { IsWhole self.old → Does (λ v. handed_of v.items) (world_in self.old) (take_step (world_in self.old) query limit) result (world_in self.new) }
+        ensures whole { IsWhole self.old → IsWhole self.new }
+        ensures takes { Takes (λ v. handed_of v.items) (engine_in self.old) query limit result (engine_in self.new) }
+        ensures promises { KeepsItsPromises (engine_in self.new) }
+    {
+        self.state.take(query, limit)
+    }
+
+    fn drop_query(&mut self, query: u64) -> Result<(), Fault>
+        ensures does { result ≡ (drop_step (world_in self.old) query).0 }
+        ensures world { world_in self.new ≡ (drop_step (world_in self.old) query).1 }
+        ensures whole { IsWhole self.old → IsWhole self.new }
+        ensures engine { OnOk result (engine_in self.new ≡ dropped (engine_in self.old) query) }
+        ensures err { OnErr result (engine_in self.new ≡ engine_in self.old) }
+    {
+        self.state.drop_query(query)
+    }
+
+    fn slopes(&self, query: u64) -> Result<Vec<(Kind, Slope)>, Fault> {
+        self.state.slopes(query)
+    }
+
+    fn stream_named(&self, name: &str) -> Option<u64> {
+        self.state.stream_named(name)
+    }
+
+    fn query_named(&self, name: &str) -> Option<u64> {
+        self.state.query_named(name)
+    }
+}

@@ -1,0 +1,32 @@
+//! What an engine keeps.
+
+mod backs;
+mod drain;
+mod finish;
+mod lease;
+mod looks;
+mod register;
+mod streams;
+mod takes;
+
+use crate::given::Given;
+use crate::kept::KeptQuery;
+use crate::registered::Registration;
+use name_table::NameTable;
+use ready_list::ReadyList;
+use std::alloc::Global;
+use stream_store::Streams;
+
+/// What an engine keeps: its streams, the names of its queries, its registered queries and what is left of each, the turns that are out,
+/// the number of the next, and the slots of all operators.
+#[derive(Drop)]
+pub(crate) struct State {
+    alloc: Global,
+    streams: Streams,
+    names: NameTable,
+    registered: Vec<Registration>,
+    kept: Vec<KeptQuery>,
+    leases: Vec<Given>,
+    next: u64,
+    slots: ReadyList,
+}

@@ -1,0 +1,73 @@
+//! Turns that do not come back, and queries that leave.
+ghost use Rattle.std.specs.Prelude.{◌≡◌, ◌==◌, OnErr, OnOk, Result, ⊤, filter, not};
+ghost use Rattle.std.specs.List.{find};
+ghost use Rattle.std.specs.Option.{option_map};
+ghost use Rattle.reference.specs.Commands as machine;
+ghost use Rattle.reference.specs.World.{drop_step};
+ghost use Rattle.plain_engines.specs.Calls.{dropped};
+ghost use Rattle.leases.specs.Shown.{engine_in, world_in};
+ghost use Rattle.leases.specs.Sound.{IsSound};
+ghost use Rattle.leases.specs.Turns.{Abandons};
+ghost use Rattle.leases.specs.Views.{query_of};
+
+use crate::given::{end_turn, end_turns_of};
+use crate::kept::KeptQuery;
+use crate::registered::Registration;
+use crate::state::State;
+use reference::Fault;
+
+impl State {
+    /// The turn of a number does not come back; its operator may be leased again. Takes no memory.
+    pub(crate) fn abandon(&mut self, lease: u64) -> Result<(), Fault>
+        requires { IsSound self.old }
+        ensures abandons { Abandons (engine_in self.old) lease result (engine_in self.new) }
+        ensures sound { IsSound self.new }
+    {
+        let Some((query, operator)) = self.operator_of(lease) else {
+            return Err(Fault::UnknownLease);
+        };
+        let slot = self.slot(query, operator);
+        end_turn(&mut self.leases, lease);
+        let instant = self.instant(query, operator);
+        self.slots.change(slot, instant);
+        Ok(())
+    }
+
+    /// Drops the query of a number, with its turns and its slots. Takes no memory.
+    pub(crate) fn drop_query(&mut self, query: u64) -> Result<(), Fault>
+        requires { IsSound self.old }
+        ensures does { result ≡ (drop_step (world_in self.old) query).0 }
+        ensures world { world_in self.new ≡ (drop_step (world_in self.old) query).1 }
+        ensures engine { OnOk result (engine_in self.new ≡ dropped (engine_in self.old) query) }
+        ensures err { OnErr result (engine_in self.new ≡ engine_in self.old) }
+        ensures sound { IsSound self.new }
+    {
+        if let Some(fault) = self.query_fault(query) {
+            return Err(fault);
+        }
+        self.names
+            .free(self.registered[query as usize].name.as_str());
+        leave(&mut self.registered[query as usize]);
+        self.kept[query as usize] = KeptQuery::Dropped;
+        end_turns_of(&mut self.leases, query);
+        self.slots.drop_query(query);
+        Ok(())
+    }
+
+    /// The query and the operator that the turn of a number is of, if it is out.
+    fn operator_of(&self, lease: u64) -> Option<(u64, usize)>
+        ensures { result ≡ option_map (λ l. (l.query, l.operator)) (find (λ l. l.number == lease) (engine_in self.now).leases) }
+    {
+        match self.leases.iter().find(|given| given.number == lease) {
+            Some(given) => Some((given.node.query, given.node.operator)),
+            None => None,
+        }
+    }
+}
+
+/// The query is dropped.
+fn leave(query: &mut Registration)
+    ensures { query_of query.new ≡ machine.dropped (query_of query.old) }
+{
+    query.is_dropped = true;
+}

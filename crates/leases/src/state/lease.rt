@@ -1,0 +1,111 @@
+//! Turns that go out.
+ghost use Rattle.std.specs.Prelude.{ℕ, ◌≡◌, ◌<◌, IfOk, OnErr, Some, length};
+ghost use Rattle.ready_list.specs.Slots.{first_of};
+ghost use Rattle.leases.specs.Leasing.{IsReadyAt, IsTurnOn, MayLeaseOn, turn_with};
+ghost use Rattle.leases.specs.Shown.{engine_in};
+ghost use Rattle.leases.specs.Sound.{IsSound};
+ghost use Rattle.leases.specs.Turns.{IsTurnOf, Leases};
+
+use crate::given::Given;
+use crate::leased::Leased;
+use crate::limits::{LEASE_NUMBERS, MAX_LEASES};
+use crate::state::State;
+use column::Side;
+use ready_list::Slot;
+use reference::{Fault, MAX_TURN};
+use std::alloc::AllocError;
+use turn::{Node, Turn};
+
+impl State {
+    /// Hands out a turn of at most `rows` rows of an operator of greatest slope, if any may take something.
+    pub(crate) fn lease(&mut self, rows: u32) -> Result<Leased, Fault>
+        requires { IsSound self.old }
+        ensures leases { Leases (engine_in self.old) rows result (engine_in self.new) }
+        ensures sound { IsSound self.new }
+    {
+        if rows < 1 || MAX_TURN < rows {
+            return Err(Fault::BadLimit);
+        }
+        let Some(slot) = self.slots.first() else {
+            return Ok(Leased::Idle);
+        };
+        if MAX_LEASES <= self.leases.len() || LEASE_NUMBERS <= self.next {
+            return Err(Fault::TooManyLeases);
+        }
+        Ok(Leased::Turn(self.give_out(&slot, rows as usize)?))
+    }
+
+    /// Hands out a turn of the first slot.
+    fn give_out(&mut self, slot: &Slot, rows: usize) -> Result<Turn, AllocError>
+        requires sound { IsSound self.old }
+        requires first { first_of self.old.slots ≡ Some slot.now }
+        requires some { 0 < rows }
+        requires few { length self.old.leases.items < MAX_LEASES }
+        requires numbers { self.old.next < LEASE_NUMBERS }
+        ensures turn { IfOk result (λ turn. IsTurnOf (engine_in self.old) rows turn (engine_in self.new)) }
+        ensures err { OnErr result (engine_in self.new ≡ engine_in self.old) }
+        ensures sound { IsSound self.new }
+    {
+        let query = slot.query();
+        let operator = slot.operator();
+        let side = self.side(query, operator);
+        let turn = self.given(query, operator, side, rows)?;
+        let kept = self.given(query, operator, side, rows)?;
+        self.leases.reserve(1)?;
+        self.leases.push_reserved(kept);
+        self.next += 1;
+        self.slots.change(*slot, None);
+        Ok(turn_of(turn))
+    }
+
+    /// The side that a lease takes of an operator that may take something.
+    fn side(&self, query: u64, operator: usize) -> Side
+        requires sound { IsSound self.now }
+        requires ready { IsReadyAt (engine_in self.now) query operator }
+        ensures { (rows : ℕ) → 0 < rows → MayLeaseOn (engine_in self.now) query operator result rows }
+    {
+        match self.running(query).ready(&self.streams, operator) {
+            Some((side, _)) => side,
+            None => unreachable!(),
+        }
+    }
+
+    /// A turn of an operator, with the next number.
+    fn given(
+        &self,
+        query: u64,
+        operator: usize,
+        side: Side,
+        rows: usize,
+    ) -> Result<Given, AllocError>
+        requires { MayLeaseOn (engine_in self.now) query operator side rows }
+        ensures { IfOk result (IsTurnOn (engine_in self.now) query operator side rows) }
+    {
+        let running = self.running(query);
+        let (item, near) = running.lease(self.alloc, &self.streams, operator, side, rows)?;
+        let node = Node {
+            query,
+            operator,
+            side,
+            kind: running.kind(operator)?,
+        };
+        Ok(Given {
+            number: self.next,
+            node,
+            item,
+            near,
+        })
+    }
+}
+
+/// A turn that goes out.
+fn turn_of(given: Given) -> Turn
+    ensures { result ≡ turn_with given }
+{
+    Turn {
+        lease: given.number,
+        node: given.node,
+        item: given.item,
+        near: given.near,
+    }
+}

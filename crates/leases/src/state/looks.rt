@@ -1,0 +1,110 @@
+//! An engine's state before any call, and what its calls look up.
+ghost use Rattle.std.specs.Prelude.{◌≡◌, ◌<◌, IfSome, Some, length, slice_get};
+ghost use Rattle.reference.specs.Commands.{Drop, first_fault};
+ghost use Rattle.reference.specs.Machine.{Registered};
+ghost use Rattle.reference.specs.Told.{IsTold};
+ghost use Rattle.query_nets.specs.Queries.{PlainQuery};
+ghost use Rattle.plain_engines.specs.Engines.{Running, instant_at, is_leased, kept_at, query_at, slope_at, slot_at};
+ghost use Rattle.leases.specs.Asked.{HasOperatorAt, IsRunningAt};
+ghost use Rattle.leases.specs.Shown.{engine_in};
+ghost use Rattle.leases.specs.Views.{query_of};
+
+use crate::kept::KeptQuery;
+use crate::registered::Registration;
+use crate::state::State;
+use envelope::Slope;
+use name_table::NameTable;
+use ready_list::{ReadyList, Slot};
+use reference::Fault;
+use running_queries::RunningQuery;
+use std::alloc::Global;
+use stream_store::Streams;
+
+impl State {
+    ghost use Rattle.leases.specs.Sound.{IsSound};
+    ghost use Rattle.leases.specs.Views.{empty_engine};
+
+    /// No stream and no query.
+    pub(crate) fn new(alloc: Global) -> State
+        ensures empty { engine_in result ≡ empty_engine }
+        ensures sound { IsSound result }
+    {
+        State {
+            alloc,
+            streams: Streams::new(alloc),
+            names: NameTable::new(alloc),
+            registered: Vec::new(alloc),
+            kept: Vec::new(alloc),
+            leases: Vec::new(alloc),
+            next: 0,
+            slots: ReadyList::new(alloc),
+        }
+    }
+
+    /// The first test that a call fails which asks for a query that was not dropped.
+    pub(crate) fn query_fault(&self, query: u64) -> Option<Fault>
+        ensures first { result ≡ first_fault (engine_in self.now).machine (Drop query) }
+        ensures told { IfSome result IsTold }
+    {
+        match self.registered.get(query as usize) {
+            Some(registered) if !registered.is_dropped => None,
+            _ => Some(Fault::UnknownQuery),
+        }
+    }
+
+    /// How many turns are out.
+    pub(crate) fn leases_out(&self) -> usize
+        ensures { result ≡ length (engine_in self.now).leases }
+    {
+        self.leases.len()
+    }
+
+    /// The running query of a number.
+    pub(crate) fn running(&self, query: u64) -> &RunningQuery
+        requires { IsRunningAt (engine_in self.now) query }
+        ensures { kept_at (engine_in self.now) query ≡ Running result.now }
+    {
+        match &self.kept[query as usize] {
+            KeptQuery::Running(query) => query,
+            _ => unreachable!(),
+        }
+    }
+
+    /// Whether a turn of the operator is out.
+    pub(crate) fn is_leased(&self, query: u64, operator: usize) -> bool
+        ensures { result ≡ is_leased (engine_in self.now) query operator }
+    {
+        self.leases.iter().any(|given| given.is_of(query, operator))
+    }
+
+    /// The instant of what the operator may take next, if it may take anything and no turn of it is out.
+    pub(crate) fn instant(&self, query: u64, operator: usize) -> Option<u64>
+        requires { HasOperatorAt (engine_in self.now) query operator }
+        ensures { (q : Registered) (p : PlainQuery) → query_at (engine_in self.now) query ≡ Some q → kept_at (engine_in self.now) query ≡ Running p → result ≡ instant_at (engine_in self.now) query q p operator }
+    {
+        if self.is_leased(query, operator) {
+            return None;
+        }
+        match self.running(query).ready(&self.streams, operator) {
+            Some((_, at)) => Some(at),
+            None => None,
+        }
+    }
+
+    /// The slot of the operator.
+    pub(crate) fn slot(&self, query: u64, operator: usize) -> Slot
+        requires { HasOperatorAt (engine_in self.now) query operator }
+        ensures { (q : Registered) (p : PlainQuery) → query_at (engine_in self.now) query ≡ Some q → kept_at (engine_in self.now) query ≡ Running p → result ≡ slot_at (engine_in self.now) query q p operator }
+    {
+        let slope = slope_of(&self.registered[query as usize], operator);
+        Slot::new(slope, self.instant(query, operator), query, operator)
+    }
+}
+
+/// The slope of an operator of a registered query.
+fn slope_of(query: &Registration, operator: usize) -> Slope
+    requires { operator < length (query_of query.now).nodes }
+    ensures { result ≡ slope_at (query_of query.now) operator }
+{
+    query.slopes[operator]
+}

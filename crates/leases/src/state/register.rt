@@ -1,0 +1,305 @@
+//! Queries that are registered.
+ghost use Rattle.std.specs.Prelude.{◌≡◌, ◌<◌, ℕ, false, not, count_by, IfOk, IfSome, None, OnErr, OnOk, length, map};
+ghost use Rattle.std.specs.Option.{option_copied};
+ghost use Rattle.names.specs.Faults.{first_of};
+ghost use Rattle.plan.specs.Chart.{given_by};
+ghost use Rattle.plan.specs.Views.{nodes_of};
+ghost use Rattle.reference.specs.Commands.{found, place_at, register_tests};
+ghost use Rattle.reference.specs.Finds.{Finds};
+ghost use Rattle.reference.specs.Places.{machine_of};
+ghost use Rattle.reference.specs.Machine.{Registered, first_for};
+ghost use Rattle.reference.specs.Told.{IsTold};
+ghost use Rattle.reference.specs.World.{Does, register_step};
+ghost use Rattle.query_nets.specs.Queries.{PlainQuery};
+ghost use Rattle.query_nets.specs.Registrations.{MayMake};
+ghost use Rattle.ready_list.specs.Slots.{without_query};
+ghost use Rattle.plain_engines.specs.Calls.{IsRegistration, registered};
+ghost use Rattle.plain_engines.specs.Engines.{GoodEngine};
+ghost use Rattle.accepted_queries.specs.Accepted.{IsBegun, IsPlanOfText, newest};
+ghost use Rattle.running_queries.specs.Turns.{IsBeginning};
+ghost use Rattle.values.specs.Resolved.{resolved_of};
+ghost use Rattle.leases.specs.Registering.{IsNewQuery, new_slot, with_first};
+ghost use Rattle.leases.specs.Shown.{engine_in, world_in};
+ghost use Rattle.leases.specs.Sound.{IsSound};
+ghost use Rattle.leases.specs.Views.{place_of, query_of};
+
+use crate::kept::KeptQuery;
+use crate::registered::{Place, Registration};
+use crate::state::State;
+use cql_reader::is_name;
+use envelope::Slope;
+use plan::{Chart, Plan, slopes};
+use ready_list::{ReadyList, Slot};
+use reference::{Fault, MAX_QUERIES, MAX_REGISTRATIONS, find_plan};
+use running_queries::RunningQuery;
+use std::alloc::{AllocError, Global};
+use stream_store::Streams;
+
+impl State {
+    /// Registers a query and answers its number.
+    pub(crate) fn query(
+        &mut self,
+        name: &str,
+        text: &str,
+        chart: Option<&Chart>,
+    ) -> Result<u64, Fault>
+        requires { IsSound self.old }
+        ensures does { Does (λ (n : ℕ). n) (world_in self.old) (register_step (world_in self.old) name.now text.now (given_by (option_copied chart.entry))) result (world_in self.new) }
+        ensures engine { OnOk result ((q : Registered) × ((p : PlainQuery) × (IsRegistration (engine_in self.old) name.now text.now (given_by (option_copied chart.entry)) q p × (engine_in self.new ≡ registered (engine_in self.old) q p)))) }
+        ensures err { OnErr result (engine_in self.new ≡ engine_in self.old) }
+        ensures sound { IsSound self.new }
+    {
+        if let Some(fault) = self.register_fault(name) {
+            return Err(fault);
+        }
+        match self.find(text, chart) {
+            Err(fault) => Err(fault),
+            Ok(plan) => match self.register(name, plan) {
+                Ok(number) => Ok(number),
+                Err(AllocError) => Err(Fault::OutOfMemory),
+            },
+        }
+    }
+
+    /// The first test before that of the text.
+    fn register_fault(&self, name: &str) -> Option<Fault>
+        requires { IsSound self.now }
+        ensures first { result ≡ first_of (register_tests (engine_in self.now).machine name.now) }
+        ensures told { IfSome result IsTold }
+    {
+        if !is_name(name) {
+            return Some(Fault::BadName);
+        }
+        if self.query_number(name).is_some() {
+            return Some(Fault::NameTaken);
+        }
+        let undropped = count_undropped(&self.registered);
+        if MAX_QUERIES <= undropped || MAX_REGISTRATIONS <= self.registered.len() {
+            return Some(Fault::TooMany);
+        }
+        None
+    }
+
+    /// The plan of the text over the declared streams.
+    fn find(&self, text: &str, chart: Option<&Chart>) -> Result<Plan, Fault>
+        ensures finds { Finds (found (engine_in self.now).machine text.now (given_by (option_copied chart.entry))) result }
+        ensures plan { IfOk result (IsPlanOfText (engine_in self.now).machine text.now (given_by (option_copied chart.entry))) }
+    {
+        let catalog = self.streams.catalog()?;
+        find_plan(self.alloc, &catalog, text, chart)
+    }
+
+    /// Adds the query of the plan and answers its number. On Err all is as it was.
+    fn register(&mut self, name: &str, plan: Plan) -> Result<u64, AllocError>
+        requires sound { IsSound self.old }
+        requires fresh { first_of (register_tests (engine_in self.old).machine name.now) ≡ None }
+        requires may { MayMake plan.meaning.windows.items plan.widths.items plan.nodes.items }
+        requires good { (p : PlainQuery) → IsBegun plan (newest (engine_in self.old).machine name.now plan) p → GoodEngine (registered (engine_in self.old) (newest (engine_in self.old).machine name.now plan) p) }
+        ensures number { IfOk result (λ n. n ≡ length (engine_in self.old).machine.queries) }
+        ensures engine { OnOk result ((p : PlainQuery) × (IsBegun plan (newest (engine_in self.old).machine name.now plan) p × (engine_in self.new ≡ registered (engine_in self.old) (newest (engine_in self.old).machine name.now plan) p))) }
+        ensures err { OnErr result (engine_in self.new ≡ engine_in self.old) }
+        ensures sound { IsSound self.new }
+    {
+        let first = first_for(&self.streams, &plan.streams);
+        let places = places_of(self.alloc, &self.streams, &plan.streams)?;
+        let running = running_of(self.alloc, &plan, &places, first)?;
+        let told = registration(self.alloc, name, plan, places, first)?;
+        self.add(name, told, running)
+    }
+
+    /// The number of the next query.
+    #[tactic(auto, using(crate::proofs::AddLemmas::many_told))]
+    fn next_query(&self) -> u64
+        ensures { result ≡ length (engine_in self.now).machine.queries }
+    {
+        self.registered.len() as u64
+    }
+
+    /// Adds a query that runs and answers its number. On Err all is as it was.
+    fn add(
+        &mut self,
+        name: &str,
+        told: Registration,
+        running: RunningQuery,
+    ) -> Result<u64, AllocError>
+        requires sound { IsSound self.old }
+        requires fresh { first_of (register_tests (engine_in self.old).machine name.now) ≡ None }
+        requires named { (query_of told).name ≡ name.now }
+        requires live { (query_of told).is_dropped ≡ false }
+        requires good { GoodEngine (registered (engine_in self.old) (query_of told) running) }
+        ensures number { IfOk result (λ n. n ≡ length (engine_in self.old).machine.queries) }
+        ensures engine { OnOk result (engine_in self.new ≡ registered (engine_in self.old) (query_of told) running) }
+        ensures err { OnErr result (engine_in self.new ≡ engine_in self.old) }
+        ensures sound { IsSound self.new }
+    {
+        let number = self.next_query();
+        self.registered.reserve(1)?;
+        self.kept.reserve(1)?;
+        put_slots(
+            &mut self.slots,
+            &self.streams,
+            &running,
+            &told.slopes,
+            number,
+        )?;
+        let Ok(()) = self.names.push(name) else {
+            self.slots.drop_query(number);
+            return Err(AllocError);
+        };
+        self.registered.push_reserved(told);
+        self.kept.push_reserved(KeptQuery::Running(running));
+        Ok(number)
+    }
+}
+
+fn count_undropped(queries: &[Registration]) -> usize
+    ensures { result ≡ count_by (λ q. not q.is_dropped) (map query_of queries.now) }
+{
+    let mut count = 0;
+    for query in queries {
+        if !query.is_dropped {
+            count += 1;
+        }
+    }
+    count
+}
+
+/// The greatest of the first open instants of the streams of these numbers.
+fn first_for(streams: &Streams, numbers: &[usize]) -> u64
+    ensures { result ≡ first_for streams.now (map (place_at (machine_of streams.now)) numbers.now) }
+{
+    let mut greatest: Option<u64> = None;
+    for number in numbers {
+        let open = streams.first_open(*number as u64);
+        greatest = Some(match greatest {
+            None => open,
+            Some(so_far) => so_far.max(open),
+        });
+    }
+    greatest.unwrap_or(0)
+}
+
+/// The sources that are registered now.
+fn places_of(alloc: Global, streams: &Streams, numbers: &[usize]) -> Result<Vec<Place>, AllocError>
+    ensures { IfOk result (λ v. map place_of v.items ≡ map (place_at (machine_of streams.now)) numbers.now) }
+{
+    let mut places = Vec::new(alloc);
+    for number in numbers {
+        let stream = *number as u64;
+        places.push(Place {
+            stream,
+            arrivals: streams.arrivals(stream),
+        })?;
+    }
+    Ok(places)
+}
+
+/// The numbers of the sources' streams.
+fn numbers_of(alloc: Global, places: &[Place]) -> Result<Vec<u64>, AllocError>
+    ensures { IfOk result (λ v. v.items ≡ map (λ p. (place_of p).stream) places.now) }
+{
+    let mut numbers = Vec::new(alloc);
+    for place in places {
+        numbers.push(place.stream)?;
+    }
+    Ok(numbers)
+}
+
+/// How long the sources' streams are.
+fn lengths_of(alloc: Global, places: &[Place]) -> Result<Vec<u64>, AllocError>
+    ensures { IfOk result (λ v. v.items ≡ map (λ p. (place_of p).arrivals) places.now) }
+{
+    let mut lengths = Vec::new(alloc);
+    for place in places {
+        lengths.push(place.arrivals)?;
+    }
+    Ok(lengths)
+}
+
+/// The query of the plan before anything has come.
+fn running_of(
+    alloc: Global,
+    plan: &Plan,
+    places: &[Place],
+    first: u64,
+) -> Result<RunningQuery, AllocError>
+    requires { MayMake plan.now.meaning.windows.items plan.now.widths.items plan.now.nodes.items }
+    ensures { IfOk result (IsBeginning plan.now.meaning.windows.items plan.now.widths.items (map (λ p. (place_of p).stream) places.now) (map (λ p. (place_of p).arrivals) places.now) first plan.now.nodes.items) }
+{
+    let numbers = numbers_of(alloc, places)?;
+    let lengths = lengths_of(alloc, places)?;
+    RunningQuery::new(alloc, plan, &numbers, &lengths, first)
+}
+
+/// The query of the plan as it was told.
+fn registration(
+    alloc: Global,
+    name: &str,
+    plan: Plan,
+    places: Vec<Place>,
+    first: u64,
+) -> Result<Registration, AllocError>
+    ensures { IfOk result (λ r. query_of r ≡ record {
+      name = name.now;
+      meaning = resolved_of plan.meaning;
+      nodes = nodes_of plan.nodes.items;
+      measures = plan.measures.items;
+      places = map place_of places.items;
+      first = first;
+      taken = 0;
+      is_dropped = false;
+    }) }
+{
+    let name = String::from_str(alloc, name)?;
+    let slopes = slopes(alloc, &plan)?;
+    Ok(Registration {
+        name,
+        plan,
+        slopes,
+        places,
+        first,
+        taken: 0,
+        is_dropped: false,
+    })
+}
+
+/// The slots of a new query come to theirs. On Err none of it is among them.
+fn put_slots(
+    slots: &mut ReadyList,
+    streams: &Streams,
+    running: &RunningQuery,
+    slopes: &[Slope],
+    number: u64,
+) -> Result<(), AllocError>
+    requires operators { IsNewQuery streams.now running.now slopes.now }
+    requires new { without_query number slots.old ≡ slots.old }
+    ensures ok { OnOk result (slots.new ≡ with_first streams.now running.now slopes.now number (length slopes.now) slots.old) }
+    ensures err { OnErr result (slots.new ≡ slots.old) }
+{
+    for operator in 0..slopes.len() {
+        let Ok(()) = slots.put(new_slot(streams, running, slopes, number, operator)) else {
+            slots.drop_query(number);
+            return Err(AllocError);
+        };
+    }
+    Ok(())
+}
+
+/// The slot of an operator of a new query.
+fn new_slot(
+    streams: &Streams,
+    running: &RunningQuery,
+    slopes: &[Slope],
+    number: u64,
+    operator: usize,
+) -> Slot
+    requires operators { IsNewQuery streams.now running.now slopes.now }
+    requires within { operator < length slopes.now }
+    ensures { result ≡ new_slot streams.now running.now slopes.now number operator }
+{
+    let instant = match running.ready(streams, operator) {
+        Some((_, at)) => Some(at),
+        None => None,
+    };
+    Slot::new(slopes[operator], instant, number, operator)
+}

@@ -1,0 +1,244 @@
+//! Answers that are handed out, and what clients look at.
+ghost use Rattle.std.specs.Prelude.{ℕ, ◌≡◌, ◌+◌, ◌++◌, ◌<◌, ◌^◌, IfOk, IfSome, None, OnOk, Some, length, map, pos, true};
+ghost use Rattle.std.specs.List.{zip};
+ghost use Rattle.std.specs.Option.{option_map};
+ghost use Rattle.plan.specs.Kinds.{kind_of};
+ghost use Rattle.plan.specs.Views.{node_of, nodes_of};
+ghost use Rattle.reference.specs.CallViews.{handed_of};
+ghost use Rattle.reference.specs.Commands.{Drop, Take, first_fault, took};
+ghost use Rattle.reference.specs.Inputs.{are_signed};
+ghost use Rattle.reference.specs.Machine as machine;
+ghost use Rattle.reference.specs.Machine.{Registered};
+ghost use Rattle.reference.specs.Told.{IsTold};
+ghost use Rattle.reference.specs.World.{Looks, operators_of, query_named, slopes_at, stream_named};
+ghost use Rattle.running_queries.specs.Turns.{HasOperator};
+ghost use Rattle.plain_engines.specs.Engines.{answers_in, kept_at, query_at};
+ghost use Rattle.leases.specs.Looks.{IsPending, WaitsAt, lengths_in, queues_from, queues_of};
+ghost use Rattle.leases.specs.Shown.{engine_in, world_in};
+ghost use Rattle.leases.specs.Sound.{IsSound};
+ghost use Rattle.leases.specs.Takes.{HandsOut, Takes};
+ghost use Rattle.leases.specs.Views.{kept_of, query_of};
+
+use crate::kept::KeptQuery;
+use crate::registered::Registration;
+use crate::state::State;
+use envelope::Slope;
+use plan::{Kind, Node};
+use reference::{Fault, MAX_TAKE};
+use running_queries::RunningQuery;
+use std::alloc::{AllocError, Global};
+use stream_store::Streams;
+use values::Row;
+
+impl State {
+    /// Hands out the first answers that wait.
+    pub(crate) fn take(&mut self, query: u64, limit: i64) -> Result<Vec<(i64, Row)>, Fault>
+        requires { IsSound self.old }
+        ensures takes { Takes (λ v. handed_of v.items) (engine_in self.old) query limit result (engine_in self.new) }
+        ensures sound { IsSound self.new }
+    {
+        if let Some(fault) = self.take_fault(query, limit) {
+            return Err(fault);
+        }
+        self.take_out(query, limit as usize)
+    }
+
+    /// Hands out the first answers that wait of a query that is there, at most `limit`.
+    fn take_out(&mut self, query: u64, limit: usize) -> Result<Vec<(i64, Row)>, Fault>
+        requires sound { IsSound self.old }
+        requires accepted { first_fault (engine_in self.old).machine (Take query (pos limit)) ≡ None }
+        ensures takes { Takes (λ v. handed_of v.items) (engine_in self.old) query (pos limit) result (engine_in self.new) }
+        ensures sound { IsSound self.new }
+    {
+        let rows = hand_out(self.alloc, &mut self.kept[query as usize], limit)?;
+        count_taken(&mut self.registered[query as usize], rows.len());
+        Ok(rows)
+    }
+
+    /// The first test that a take fails, but for that of a broken query.
+    fn take_fault(&self, query: u64, limit: i64) -> Option<Fault>
+        ensures first { result ≡ first_fault (engine_in self.now).machine (Take query limit) }
+        ensures told { IfSome result IsTold }
+    {
+        if let Some(fault) = self.query_fault(query) {
+            return Some(fault);
+        }
+        if limit < 1 || MAX_TAKE < limit {
+            return Some(Fault::BadLimit);
+        }
+        None
+    }
+
+    /// How many answers of a query wait.
+    pub(crate) fn waiting(&self, query: u64) -> Result<usize, Fault>
+        requires { IsSound self.now }
+        ensures { WaitsAt (engine_in self.now) query result }
+    {
+        match self.query_fault(query) {
+            Some(fault) => Err(fault),
+            None => Ok(self.answers_waiting(query)),
+        }
+    }
+
+    /// How many answers wait at the number of a query; none do where there is no query.
+    fn answers_waiting(&self, query: u64) -> usize
+        ensures { result ≡ length (answers_in (kept_at (engine_in self.now) query)) }
+    {
+        match self.kept.get(query as usize) {
+            Some(kept) => kept.waiting().unwrap_or(0),
+            None => 0,
+        }
+    }
+
+    /// How much waits in each queue of a query.
+    pub(crate) fn pending(&self, query: u64) -> Result<Vec<u128>, Fault>
+        requires { IsSound self.now }
+        ensures { IsPending (λ v. v.items) (engine_in self.now) query result }
+    {
+        match self.query_fault(query) {
+            Some(fault) => Err(fault),
+            None => Ok(self.lengths(query)?),
+        }
+    }
+
+    /// How much waits in each queue of a query that is there; of one that does not run nothing does.
+    fn lengths(&self, query: u64) -> Result<Vec<u128>, AllocError>
+        requires sound { IsSound self.now }
+        requires accepted { first_fault (engine_in self.now).machine (Drop query) ≡ None }
+        ensures { IfOk result (λ v. (q : Registered) → query_at (engine_in self.now) query ≡ Some q → v.items ≡ lengths_in (engine_in self.now).machine q (kept_at (engine_in self.now) query)) }
+    {
+        match &self.kept[query as usize] {
+            KeptQuery::Running(running) => queues(
+                self.alloc,
+                &self.streams,
+                running,
+                &self.registered[query as usize].plan.nodes,
+            ),
+            _ => Ok(Vec::new(self.alloc)),
+        }
+    }
+
+    /// What each operator of a query does, and its slope.
+    #[tactic(auto, unfolding(reference::specs::World::slopes_at))]
+    pub(crate) fn slopes(&self, query: u64) -> Result<Vec<(Kind, Slope)>, Fault>
+        ensures { Looks (λ v. v.items) (slopes_at (world_in self.now) query) result }
+    {
+        match self.query_at(query) {
+            Some(query) => Ok(operators(self.alloc, query)?),
+            None => Err(Fault::UnknownQuery),
+        }
+    }
+
+    /// The query of a number that was not dropped.
+    fn query_at(&self, query: u64) -> Option<&Registration>
+        ensures { option_map (λ q. query_of q.now) result ≡ machine.query_at (engine_in self.now).machine query }
+    {
+        match self.registered.get(query as usize) {
+            Some(registered) if !registered.is_dropped => Some(registered),
+            _ => None,
+        }
+    }
+
+    /// The number of the stream of a name.
+    #[tactic(auto, unfolding(reference::specs::World::stream_named))]
+    pub(crate) fn stream_named(&self, name: &str) -> Option<u64>
+        ensures { result ≡ stream_named (world_in self.now) name.now }
+    {
+        self.streams.named(name)
+    }
+
+    /// The number of the query of a name that was not dropped.
+    #[tactic(auto, unfolding(reference::specs::World::query_named))]
+    pub(crate) fn query_named(&self, name: &str) -> Option<u64>
+        requires { IsSound self.now }
+        ensures { result ≡ query_named (world_in self.now) name.now }
+    {
+        self.query_number(name).map(|number| number as u64)
+    }
+
+    /// The number of the query of a name that was not dropped.
+    pub(crate) fn query_number(&self, name: &str) -> Option<usize>
+        requires { IsSound self.now }
+        ensures { result ≡ machine.query_named (engine_in self.now).machine name.now }
+    {
+        self.names.number(name)
+    }
+}
+
+/// The first answers that wait, at most `limit`; of a broken query of which nothing waits that is said.
+fn hand_out(alloc: Global, kept: &mut KeptQuery, limit: usize) -> Result<Vec<(i64, Row)>, Fault>
+    requires { are_signed (answers_in (kept_of kept.old)) ≡ true }
+    ensures { HandsOut (λ v. handed_of v.items) (kept_of kept.old) limit result (kept_of kept.new) }
+{
+    match kept {
+        KeptQuery::Running(query) => Ok(query.take(alloc, limit)?),
+        KeptQuery::Broken(query) => {
+            if query.waiting() == 0 {
+                return Err(Fault::Broken);
+            }
+            Ok(query.take(alloc, limit)?)
+        }
+        KeptQuery::Dropped => Ok(Vec::new(alloc)),
+    }
+}
+
+/// So many more of its answers were taken.
+fn count_taken(registered: &mut Registration, count: usize)
+    requires { registered.old.taken + count < 2 ^ 101 }
+    ensures { query_of registered.new ≡ took count (query_of registered.old) }
+{
+    registered.taken += count as u128;
+}
+
+/// What each operator of a query does, beside its slope.
+#[tactic(auto, unfolding(reference::specs::World::operators_of))]
+fn operators(alloc: Global, query: &Registration) -> Result<Vec<(Kind, Slope)>, AllocError>
+    ensures { IfOk result (λ v. v.items ≡ operators_of (query_of query.now)) }
+{
+    paired(alloc, &query.plan.nodes, &query.slopes)
+}
+
+/// What each operator does, beside its slope.
+fn paired(alloc: Global, nodes: &[Node], slopes: &[Slope]) -> Result<Vec<(Kind, Slope)>, AllocError>
+    ensures { IfOk result (λ v. v.items ≡ zip (map kind_of (nodes_of nodes.now)) slopes.now) }
+{
+    let mut operators = Vec::new(alloc);
+    for i in 0..nodes.len().min(slopes.len()) {
+        operators.push((nodes[i].kind(), slopes[i]))?;
+    }
+    Ok(operators)
+}
+
+/// How much waits in each queue of the operators of a running query.
+fn queues(
+    alloc: Global,
+    streams: &Streams,
+    query: &RunningQuery,
+    nodes: &[Node],
+) -> Result<Vec<u128>, AllocError>
+    requires { (k : ℕ) → k < length nodes.now → HasOperator streams.now query.now k }
+    ensures { IfOk result (λ v. v.items ≡ queues_from streams.now query.now 0 (nodes_of nodes.now)) }
+{
+    let mut lengths = Vec::new(alloc);
+    for k in 0..nodes.len() {
+        let (left, right) = query.pending(streams, k);
+        push_queues(&mut lengths, &nodes[k], left, right)?;
+    }
+    Ok(lengths)
+}
+
+/// The lengths of an operator's queues behind the others: a join has two.
+fn push_queues(
+    lengths: &mut Vec<u128>,
+    node: &Node,
+    left: u128,
+    right: u128,
+) -> Result<(), AllocError>
+    ensures { OnOk result (lengths.new.items ≡ lengths.old.items ++ queues_of (node_of node.now) left right) }
+{
+    lengths.push(left)?;
+    if let Node::Join(_, _, _) = node {
+        lengths.push(right)?;
+    }
+    Ok(())
+}

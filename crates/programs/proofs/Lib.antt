@@ -1,1 +1,3 @@
 mod Outcomes
+mod Passing
+mod Numbers

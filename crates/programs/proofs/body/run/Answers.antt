@@ -1,13 +1,20 @@
-use Rattle.std.proofs.Common.{refl, subst}
-use Rattle.reference.specs.World.{World, empty}
-use Rattle.programs.specs.Run.{Answers}
-use Rattle.programs.proofs.Outcomes.{answers_nothing}
+use Rattle.std.proofs.Common.{inl, inr}
+use Rattle.reference.specs.World.{empty}
+use Rattle.programs.proofs.Outcomes.{answers_nothing, lacks_memory, asks_no_help, asks_no_version, asks_help}
 use Rattle.programs.proofs.body.run.Goals as goal
 
-pub returns-in_default-clause-answers : goal.returns-in_default-clause-answers
-returns-in_default-clause-answers g c runs =
-    answers_nothing empty c.lack_memory.result (g.I.Source.left c.args.source.now) (g.O.Sink.taken c.args.sink.now) (g.O.Sink.taken c.args.sink.now) c.lack_memory.ensures refl
+pub returns-in-Err-clause-answers : goal.returns-in-Err-clause-answers
+returns-in-Err-clause-answers g c runs =
+    let met = c.refuse.ensures.memory (lacks_memory _ c.in-Err.error c.in-Err.ensures.refusals runs) in
+    answers_nothing empty c.refuse.result (g.I.Source.left c.args.source.now) (g.O.Sink.taken c.args.sink.now) (g.O.Sink.taken c.refuse.new.sink) met.0 met.1
 
-pub returns-clause-answers : goal.returns-clause-answers
-returns-clause-answers g c runs =
-    subst (λ (w : World). Answers w c.run_over.result (g.I.Source.left c.args.source.now) (g.O.Sink.taken c.args.sink.now) (g.O.Sink.taken c.run_over.new.sink)) c.in-Ok.ensures.empty (c.run_over.ensures.answers runs)
+pub returns-in-Err-clause-wrong : goal.returns-in-Err-clause-wrong
+returns-in-Err-clause-wrong g c wrong =
+    c.refuse.ensures.wrong (asks_no_help _ c.in-Err.error c.in-Err.ensures.refusals wrong) (asks_no_version _ c.in-Err.error c.in-Err.ensures.refusals wrong)
+
+pub returns-in-Err-clause-help : goal.returns-in-Err-clause-help
+returns-in-Err-clause-help g c is =
+    elim (asks_help _ c.in-Err.error c.in-Err.ensures.refusals is) [
+      | inl memory ↦ inr (inr (c.refuse.ensures.memory memory).0)
+      | inr help ↦ c.refuse.ensures.help help
+    ]

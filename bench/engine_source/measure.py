@@ -1,0 +1,245 @@
+"""Measures cqlrun beside plain.rs: bench/engine builds both and says what is compared.
+
+usage: measure.py CQLRUN PLAIN FOLDER [SHARE]
+"""
+
+import json
+import os
+import random
+import sys
+import time
+
+ROWS = 8
+SPANS = (10, 100, 1_000, 10_000)
+INSTANTS = 30_000
+TAKE = 4_096
+# The instants of an append, a heartbeat and a take.
+STRIDE = 64
+
+TEXTS = {
+    "filter": "Select Rstream(k, v) From A [Now] Where v > 500",
+    "range": "Select Istream(k, v) From A [Range {span}]",
+    "groups": "Select Istream(k, Count(*), Sum(v)) From A [Range {span}] Group By k",
+    "join": "Select Istream(A.v, B.v) From A [Range {span}], B [Range {span}] Where A.k = B.k",
+    "distinct": "Select Istream(Distinct k) From A [Range {span}]",
+}
+
+
+def keys_of(kind, span):
+    """How many keys there are: as many as a window has rows where an answer needs a key that is new or met, so that answers stay as many."""
+    return ROWS * (span + 1) if kind in ("join", "distinct") else 64
+
+
+def declared(streams):
+    return [{"op": "stream", "name": name, "columns": ["k", "v"], "from": 0} for name in streams]
+
+
+def script(path, kind, span, instants, stride=STRIDE):
+    """Writes the script of a query, and gives its rows and bytes. An instant has 8 rows of each stream; of a line they come in any order."""
+    draw = random.Random(1)
+    streams = ("A", "B") if kind == "join" else ("A",)
+    keys = keys_of(kind, span)
+    lines = declared(streams)
+    lines.append({"op": "query", "name": "q", "text": TEXTS[kind].format(span=span)})
+    for first in range(0, instants, stride):
+        last = min(first + stride, instants) - 1
+        for name in streams:
+            rows = [
+                [at, draw.randrange(keys), None if draw.randrange(16) == 0 else draw.randrange(-1000, 1000)]
+                for at in range(first, last + 1)
+                for _ in range(ROWS)
+            ]
+            draw.shuffle(rows)
+            lines.append({"op": "append", "stream": name, "rows": rows})
+        lines += [{"op": "heartbeat", "stream": name, "at": last} for name in streams]
+        lines += [{"op": "drain"}, {"op": "take", "query": "q", "limit": TAKE}]
+    with open(path, "w") as out:
+        for line in lines:
+            out.write(json.dumps(line, separators=(",", ":")) + "\n")
+    return instants * ROWS * len(streams)
+
+
+def run(words, script_path, replies):
+    """The seconds of the processor that a run took."""
+    with open(script_path) as source, open(replies, "w") as sink:
+        child = os.posix_spawn(words[0], words, {}, file_actions=[
+            (os.POSIX_SPAWN_DUP2, source.fileno(), 0),
+            (os.POSIX_SPAWN_DUP2, sink.fileno(), 1),
+        ])
+        _, status, used = os.wait4(child, 0)
+    if status != 0:
+        sys.exit(f"bench/engine: {' '.join(words)} ended with {status}")
+    return used.ru_utime + used.ru_stime
+
+
+def least(words, script_path, replies, times=3):
+    return min(run(words, script_path, replies) for _ in range(times))
+
+
+def peak(words, script_path, replies):
+    """The bytes that a run held at most. (What wait4 says of a child counts what its parent held as it began.)"""
+    said = replies + ".peak"
+    run(["/usr/bin/time", "-f", "%M", "-o", said, *words], script_path, replies)
+    with open(said) as text:
+        return int(text.read()) * 1024
+
+
+def compare(what, first, second):
+    """Says where the replies of two runs differ."""
+    with open(first) as one, open(second) as other:
+        for number, (mine, theirs) in enumerate(zip(one, other), 1):
+            if mine != theirs:
+                print(f"{what}: THE REPLIES DIFFER in line {number}:\n  {mine[:200].rstrip()}\n  {theirs[:200].rstrip()}", flush=True)
+                return
+        if one.read() or other.read():
+            print(f"{what}: THE REPLIES DIFFER in their number", flush=True)
+
+
+def answers_in(path):
+    with open(path) as replies:
+        return sum(len(reply.get("rows", ())) for reply in map(json.loads, replies))
+
+
+def refuse_faults(path):
+    with open(path) as replies:
+        for reply in replies:
+            if reply.startswith('{"error"'):
+                sys.exit(f"bench/engine: a request was refused: {reply.rstrip()}")
+
+
+class Bench:
+    def __init__(self, engine, plain, folder, share):
+        self.engine, self.plain, self.folder, self.share = engine, plain, folder, share
+
+    def at(self, name):
+        return os.path.join(self.folder, name)
+
+    def spans(self):
+        """Rows a second at each span, and what they are of the hand-written program's."""
+        print(f"{'query':<9} {'span':>6} {'rows':>8} {'answers':>8} {'rows/s':>10} {'by hand':>10} {'share':>6}")
+        for kind in TEXTS:
+            rates = []
+            for span in SPANS[:1] if kind == "filter" else SPANS:
+                instants = max(STRIDE, int(INSTANTS * self.share))
+                rows = script(self.at("script"), kind, span, instants)
+                mine = least([self.engine], self.at("script"), self.at("engine"))
+                hand = least([self.plain, kind, str(span)], self.at("script"), self.at("hand"))
+                refuse_faults(self.at("engine"))
+                compare(f"{kind} {span}, engine and by hand", self.at("engine"), self.at("hand"))
+                answers = answers_in(self.at("engine"))
+                rates.append(rows / mine)
+                print(f"{kind:<9} {span:>6} {rows:>8} {answers:>8} {rows / mine:>10.0f} {rows / hand:>10.0f} {hand / mine:>6.2f}", flush=True)
+            if len(rates) > 1:
+                print(f"{kind:<9} flat: the quickest span is {max(rates) / min(rates):.2f} times the slowest")
+
+    def small(self):
+        """The definition itself, the engine and the program by hand at the smallest span, on fewer instants."""
+        span, instants = SPANS[0], 256
+        print(f"\n{'query':<9} {'rows':>8} {'rows/s':>10} {'definition':>10} {'ratio':>8}   {instants} instants, span {span}")
+        for kind in TEXTS:
+            rows = script(self.at("script"), kind, span, instants, stride=32)
+            mine = least([self.engine], self.at("script"), self.at("engine"))
+            plain = least([self.engine, "--plain"], self.at("script"), self.at("definition"), times=1)
+            run([self.plain, kind, str(span)], self.at("script"), self.at("hand"))
+            compare(f"{kind} {span}, engine and definition", self.at("engine"), self.at("definition"))
+            compare(f"{kind} {span}, engine and by hand", self.at("engine"), self.at("hand"))
+            print(f"{kind:<9} {rows:>8} {rows / mine:>10.0f} {rows / plain:>10.0f} {plain / mine:>8.2f}", flush=True)
+
+    def reading(self):
+        """What the lines alone cost, with no query."""
+        instants = max(STRIDE, int(INSTANTS * self.share))
+        rows = script(self.at("script"), "filter", 0, instants)
+        with open(self.at("script")) as whole, open(self.at("alone"), "w") as alone:
+            alone.writelines(line for line in whole if not line.startswith(('{"op":"query"', '{"op":"take"')))
+        mine = least([self.engine], self.at("alone"), self.at("engine"))
+        refuse_faults(self.at("engine"))
+        print(f"\nthe same lines with no query and no take: {rows / mine:.0f} rows/s")
+
+    def instant_by_instant(self):
+        """An append, a heartbeat, a drain and a take for each instant."""
+        print(f"\n{'query':<9} {'rows':>8} {'rows/s':>10} {'by hand':>10} {'share':>6}   an append, a drain and a take for each instant, span 100")
+        for kind in TEXTS:
+            rows = script(self.at("script"), kind, 100, max(STRIDE, int(INSTANTS * self.share / 3)), stride=1)
+            mine = least([self.engine], self.at("script"), self.at("engine"))
+            hand = least([self.plain, kind, "100"], self.at("script"), self.at("hand"))
+            compare(f"{kind} 100 by instants", self.at("engine"), self.at("hand"))
+            print(f"{kind:<9} {rows:>8} {rows / mine:>10.0f} {rows / hand:>10.0f} {hand / mine:>6.2f}", flush=True)
+
+    def many(self):
+        """Heartbeats of a stream that one query reads and that 256 read: no drain comes between them."""
+        print()
+        for rows, stride, beats in ((0, 1, 50_000), (512, 64, 2_000)):
+            beats = max(100, int(beats * self.share))
+            seconds, bytes_held = {}, {}
+            for queries in (1, 256):
+                for count in (0, beats):
+                    self.beats(queries, count, stride, rows)
+                    seconds[queries, count] = least([self.engine], self.at("script"), self.at("engine"))
+                    refuse_faults(self.at("engine"))
+                bytes_held[queries] = peak([self.engine], self.at("script"), self.at("engine"))
+            one, many = ((seconds[queries, beats] - seconds[queries, 0]) / beats * 1e6 for queries in (1, 256))
+            print(f"a heartbeat over {stride} instants and the append of their {rows} rows, {beats} of them without a drain: {one:.1f} microseconds"
+                  f" with 1 query, {many:.1f} with 256; ratio {many / one:.2f}, {(many - one) / 255:.3f} for a query more;"
+                  f" peak memory {bytes_held[256] / bytes_held[1]:.2f} times", flush=True)
+
+    def beats(self, queries, count, stride, rows):
+        draw = random.Random(3)
+        with open(self.at("script"), "w") as out:
+            lines = declared("A")
+            lines += [{"op": "query", "name": f"q{n}", "text": TEXTS["range"].format(span=100)} for n in range(queries)]
+            for first in range(0, count * stride, stride):
+                if rows > 0:
+                    batch = [[first + n * stride // rows, draw.randrange(64), draw.randrange(1000)] for n in range(rows)]
+                    lines.append({"op": "append", "stream": "A", "rows": batch})
+                lines.append({"op": "heartbeat", "stream": "A", "at": first + stride - 1})
+            out.writelines(json.dumps(line, separators=(",", ":")) + "\n" for line in lines)
+
+    def memory(self):
+        """The bytes that a row takes: held by a window, and kept by the stream's log alone."""
+        few, more = 20_000, 20_000 + int(400_000 * self.share)
+        print()
+        for columns in (1, 2, 8):
+            names = [f"c{n}" for n in range(columns)]
+            for what, text in (("that a Range holds", "Select Istream(Count(*)) From A [Range 1000000]"),
+                               ("that waits to be closed", "Select Istream(Count(*)) From A [Now]")):
+                held = {}
+                for rows in (few, more):
+                    self.stored(names, text, rows, closes="holds" in what)
+                    held[rows] = peak([self.engine], self.at("script"), self.at("engine"))
+                    refuse_faults(self.at("engine"))
+                bytes_each = (held[more] - held[few]) / (more - few)
+                print(f"a row {what}, of {columns} columns: {bytes_each:.0f} bytes, {bytes_each / (8 * columns):.1f} of its values' "
+                      f"(goal: at most {3 * 8 * columns + 16})", flush=True)
+
+    def stored(self, names, text, rows, closes):
+        draw = random.Random(2)
+        with open(self.at("script"), "w") as out:
+            def say(line):
+                out.write(json.dumps(line, separators=(",", ":")) + "\n")
+            say({"op": "stream", "name": "A", "columns": names, "from": 0})
+            say({"op": "query", "name": "q", "text": text})
+            for first in range(0, rows, 512):
+                batch = [[first // ROWS + n // ROWS] + [draw.randrange(-1000, 1000) for _ in names] for n in range(min(512, rows - first))]
+                say({"op": "append", "stream": "A", "rows": batch})
+                if closes:
+                    say({"op": "heartbeat", "stream": "A", "at": batch[-1][0]})
+                    say({"op": "drain"})
+                    say({"op": "take", "query": "q", "limit": TAKE})
+
+
+def main():
+    engine, plain, folder = sys.argv[1:4]
+    share = float(sys.argv[4]) if len(sys.argv) > 4 else 1.0
+    bench = Bench(engine, plain, folder, share)
+    start = time.perf_counter()
+    bench.small()
+    print()
+    bench.spans()
+    bench.reading()
+    bench.instant_by_instant()
+    bench.many()
+    bench.memory()
+    print(f"\n{time.perf_counter() - start:.0f} seconds")
+
+
+main()

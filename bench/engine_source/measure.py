@@ -168,7 +168,7 @@ class Bench:
     def many(self):
         """Heartbeats of a stream that one query reads and that 256 read: no drain comes between them."""
         print()
-        for rows, stride, beats in ((0, 1, 50_000), (512, 64, 2_000)):
+        for rows, stride, beats in ((0, 1, 5_000), (512, 64, 1_000)):
             beats = max(100, int(beats * self.share))
             seconds, bytes_held = {}, {}
             for queries in (1, 256):
@@ -178,7 +178,8 @@ class Bench:
                     refuse_faults(self.at("engine"))
                 bytes_held[queries] = peak([self.engine], self.at("script"), self.at("engine"))
             one, many = ((seconds[queries, beats] - seconds[queries, 0]) / beats * 1e6 for queries in (1, 256))
-            print(f"a heartbeat over {stride} instants and the append of their {rows} rows, {beats} of them without a drain: {one:.1f} microseconds"
+            what = f"a heartbeat over {stride} instants and the append of their {rows} rows" if rows else "a heartbeat over 1 instant without rows"
+            print(f"{what}, {beats} of them without a drain: {one:.1f} microseconds"
                   f" with 1 query, {many:.1f} with 256; ratio {many / one:.2f}, {(many - one) / 255:.3f} for a query more;"
                   f" peak memory {bytes_held[256] / bytes_held[1]:.2f} times", flush=True)
 
@@ -195,16 +196,17 @@ class Bench:
             out.writelines(json.dumps(line, separators=(",", ":")) + "\n" for line in lines)
 
     def memory(self):
-        """The bytes that a row takes: held by a window, and kept by the stream's log alone."""
+        """The bytes that a row takes: held by a window, not yet closed, and closed and given."""
         few, more = 20_000, 20_000 + int(400_000 * self.share)
         print()
         for columns in (1, 2, 8):
             names = [f"c{n}" for n in range(columns)]
-            for what, text in (("that a Range holds", "Select Istream(Count(*)) From A [Range 1000000]"),
-                               ("that waits to be closed", "Select Istream(Count(*)) From A [Now]")):
+            for what, window, closes in (("that a Range holds", "Range 1000000", True),
+                                         ("that waits to be closed", "Now", False),
+                                         ("that is closed and that no window holds", "Now", True)):
                 held = {}
                 for rows in (few, more):
-                    self.stored(names, text, rows, closes="holds" in what)
+                    self.stored(names, f"Select Istream(Count(*)) From A [{window}]", rows, closes)
                     held[rows] = peak([self.engine], self.at("script"), self.at("engine"))
                     refuse_faults(self.at("engine"))
                 bytes_each = (held[more] - held[few]) / (more - few)

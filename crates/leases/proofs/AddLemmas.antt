@@ -1,5 +1,5 @@
 -- A query that is added to an engine: what was asked of it before, and what the engine knows of itself afterwards.
-use Rattle.std.proofs.Common.{◌≡◌, ◌≢◌, ℕ, zero, suc, ◌+◌, ◌<◌, ◌≤◌, ◌++◌, inl, inr, Bool, true, false, not, ◌==◌, ◌&&◌, ◌||◌, nat_le, is_some, cond, Option, Some, None, List, [], ◌∷◌, filter, map, position, get_or, length, refl, sym, ap, ◌∙◌, subst, arith, length-append}
+use Rattle.std.proofs.Common.{◌≡◌, ◌≢◌, ℕ, zero, suc, ◌+◌, ◌<◌, ◌++◌, inl, inr, Bool, true, false, not, ◌==◌, ◌&&◌, ◌||◌, nat_le, is_some, cond, Option, Some, None, List, [], ◌∷◌, map, position, get_or, length, refl, sym, ap, ◌∙◌, subst, arith}
 use Rattle.std.specs.Prelude.{slice_get}
 use Rattle.std.specs.List.{position_or_len}
 use Rattle.std.specs.Str.{bytes_eq}
@@ -13,7 +13,6 @@ use Rattle.plan.specs.Paths.{plan_slopes}
 use Rattle.reference.specs.Commands.{count_undropped, register_tests}
 use Rattle.reference.specs.Machine.{Machine, Registered, Stream, is_called, query_named}
 use Rattle.reference.specs.Named.{name_of_registered}
-use Rattle.reference.specs.declared.fault.Fault.{Fault}
 use Rattle.reference.specs.declared.fault.Fault.TheVariants.{BadName, NameTaken, TooMany}
 use Rattle.reference.specs.declared.limits.TheConstants.{MAX_QUERIES, MAX_REGISTRATIONS}
 use Rattle.reference.proofs.NameLemmas.{position-map}
@@ -24,12 +23,11 @@ use Rattle.query_nets.specs.Registrations.{HaveColumnNames}
 use Rattle.answer_bounds.specs.Bounds.{HaveFewClosed}
 use Rattle.ready_list.specs.Slots.{without_query}
 use Rattle.ready_list.specs.declared.slots.Slot.{Slot}
-use Rattle.plain_engines.specs.Asks.{MayAsk}
 use Rattle.plain_engines.specs.Calls.{registered, with_query}
 use Rattle.plain_engines.specs.Engines.{Dropped, GoodEngine, IsIn, Kept, Lease, PlainEngine, Running, kept_at, query_at}
 use Rattle.plain_engines.proofs.AskLemmas.{may_ask}
 use Rattle.plain_engines.proofs.PromiseLemmas.{is_slot}
-use Rattle.leases.specs.Registering.{IsNewQuery, new_slot, with_first}
+use Rattle.leases.specs.Registering.{IsNewQuery, with_first}
 use Rattle.leases.specs.Shown.{engine_in}
 use Rattle.leases.specs.Sound.{IsSound, is_gone}
 use Rattle.leases.specs.Views.{HasKind, engine_of, kept_of, lease_of, query_of}

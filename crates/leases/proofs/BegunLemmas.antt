@@ -1,5 +1,5 @@
 -- What is made of a plan is the newest query, at its beginning.
-use Rattle.std.proofs.Common.{◌≡◌, ◌∙◌, ℕ, ℤ, false, Option, List, [], ◌∷◌, map, refl, sym, ap, subst, Result, Ok, Err}
+use Rattle.std.proofs.Common.{◌≡◌, ◌∙◌, ℕ, ℤ, false, Option, List, [], ◌∷◌, map, refl, ap, subst, Result, Ok, Err}
 use Rattle.std.specs.Prelude.{IfOk, OnOk}
 use Rattle.values.specs.Resolved.{resolved_of}
 use Rattle.cql_reader.specs.Query as syntax

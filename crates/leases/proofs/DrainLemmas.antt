@@ -1,5 +1,5 @@
 -- Turns that go out and come back one after the other leave the machine as it is, and an engine that was whole whole.
-use Rattle.std.proofs.Common.{◌≡◌, ◌==◌, ◌&&◌, ◌||◌, not, ℕ, zero, suc, ◌+◌, Bool, true, false, nat_le, inl, inr, ◌⊎◌, Some, None, Result, Ok, Err, List, [], ◌∷◌, ◌++◌, filter, get_or, set, refl, sym, ap, ◌∙◌, subst, eq-eqb}
+use Rattle.std.proofs.Common.{◌≡◌, ◌==◌, ℕ, zero, suc, ◌+◌, Bool, true, false, inl, inr, Some, None, Result, Ok, Err, List, [], ◌∷◌, ◌++◌, get_or, set, refl, sym, ap, ◌∙◌, subst, eq-eqb}
 use Rattle.std.specs.Prelude.{⊤}
 use Rattle.values.specs.Row.{Row}
 use Rattle.names.specs.Faults.{first_of}
@@ -9,9 +9,8 @@ use Rattle.reference.specs.World.{IsPlenty, drain_fault, is_scarce}
 use Rattle.reference.specs.declared.fault.Fault.{Fault}
 use Rattle.reference.specs.declared.fault.Fault.TheVariants as fault
 use Rattle.reference.specs.declared.fault.Fault.TheVariants.{Query, BadName, NameTaken, BadColumns, TooMany, UnknownStream, UnknownQuery, BadWidth, ValueRange, InstantRange, Late, Backward, Leap, StreamFull, BadLimit, UnknownLease, Stranger, TooManyLeases, OutOfMemory}
-use Rattle.query_nets.specs.Queries.{PlainQuery, operator_at}
-use Rattle.ready_list.specs.Slots as slots
-use Rattle.plain_engines.specs.Calls.{IsOf, leased, others}
+use Rattle.query_nets.specs.Queries.{PlainQuery}
+use Rattle.plain_engines.specs.Calls.{leased, others}
 use Rattle.plain_engines.specs.Engines.{Broken, Dropped, IsIn, Kept, Lease, PlainEngine, Running, kept_at}
 use Rattle.plain_engines.specs.Histories as history
 use Rattle.plain_engines.specs.Histories.{Call, ComesBack, IsStep, LeadTo}

@@ -1,5 +1,5 @@
 -- The operators of a query that runs, and what waits in their queues.
-use Rattle.std.proofs.Common.{◌≡◌, ◌<◌, ◌+◌, ℕ, ℤ, pos, Option, Some, None, Result, Ok, Err, IfOk, List, [], get_or, length, option_and_then, slice_get, refl, sym, ap, ◌∙◌, subst, arith}
+use Rattle.std.proofs.Common.{◌≡◌, ◌<◌, ◌+◌, ℕ, pos, Option, Some, None, Result, Ok, Err, IfOk, List, [], get_or, length, refl, sym, ap, ◌∙◌, subst, arith}
 use Rattle.std.proofs.lemmas.List.{length-map}
 use Rattle.plan.specs.Views.{node_of, nodes_of}
 use Rattle.reference.specs.Commands.{Drop, Take, first_fault, of_query, take_tests}
@@ -12,7 +12,7 @@ use Rattle.plain_engines.specs.Engines.{Running, kept_at, query_at}
 use Rattle.plain_engines.proofs.AskLemmas.{may_ask}
 use Rattle.leases.proofs.PendingLemmas.{queues_are}
 use Rattle.leases.proofs.TakeLemmas.{kept_is, kept_within, query_there, registered_within, taken_at}
-use Rattle.leases.specs.Looks.{lengths_from, lengths_in, queues_from}
+use Rattle.leases.specs.Looks.{lengths_in, queues_from}
 use Rattle.leases.specs.Shown.{engine_in}
 use Rattle.leases.specs.Sound.{IsSound}
 use Rattle.leases.specs.Views.{kept_of, query_of}

@@ -1,5 +1,5 @@
 -- What waits in the queues of a running query.
-use Rattle.std.proofs.Common.{◌≡◌, ◌<◌, ◌+◌, ◌++◌, ℕ, zero, suc, Some, None, List, [], ◌∷◌, drop, get_or, length, map, slice_get, refl, sym, ap, ap₂, ◌∙◌, subst, arith, append_assoc, append-nil}
+use Rattle.std.proofs.Common.{◌≡◌, ◌<◌, ◌+◌, ◌++◌, ℕ, zero, suc, List, [], ◌∷◌, drop, get_or, length, map, refl, sym, ap, ap₂, ◌∙◌, subst, arith, append_assoc, append-nil}
 use Rattle.column.specs.declared.batch.Side.TheVariants.{Left, Right}
 use Rattle.op_queue.specs.Logs.{Closed}
 use Rattle.operators.specs.Operators.{waiting}
@@ -7,7 +7,7 @@ use Rattle.plan.specs.Nodes as plan
 use Rattle.reference.specs.Machine.{Machine, Registered, Stream}
 use Rattle.query_nets.specs.Queries.{PlainQuery, log_at, operator_at}
 use Rattle.running_queries.specs.Turns.{log_of}
-use Rattle.leases.specs.Looks.{lengths_at, lengths_from, queues_at, queues_from, queues_of}
+use Rattle.leases.specs.Looks.{lengths_at, lengths_from, queues_at, queues_from}
 
 -- ONE OPERATOR MORE
 module _ {N : Type 0} (streams : List Stream) (p : PlainQuery) (see : N → plan.Node) where

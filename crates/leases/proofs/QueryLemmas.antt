@@ -1,5 +1,5 @@
 -- What a registration answers, and makes of the world.
-use Rattle.std.proofs.Common.{◌≡◌, ◌∙◌, ℕ, ℤ, Option, None, Some, List, [], ◌∷◌, ◌++◌, length, map, refl, sym, ap, Result, Ok, Err}
+use Rattle.std.proofs.Common.{◌≡◌, ◌∙◌, ℕ, ℤ, Option, None, Some, List, [], ◌∷◌, ◌++◌, length, map, sym, ap, Ok, Err}
 use Rattle.std.proofs.lemmas.List.{map-append}
 use Rattle.values.specs.Row.{Row}
 use Rattle.names.specs.Faults.{first_of}

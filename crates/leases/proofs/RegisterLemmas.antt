@@ -1,5 +1,5 @@
 -- A query that is registered: its slots, and what an engine knows of itself after it.
-use Rattle.std.proofs.Common.{◌≡◌, ◌≢◌, inl, inr, ℕ, zero, suc, ◌+◌, ◌<◌, ◌≤◌, ◌++◌, Bool, true, false, not, ◌==◌, ◌&&◌, cond, Option, Some, None, List, [], ◌∷◌, filter, map, get_or, length, refl, sym, ap, ◌∙◌, subst, arith}
+use Rattle.std.proofs.Common.{◌≡◌, ◌≢◌, inl, inr, ℕ, zero, suc, ◌+◌, ◌<◌, Bool, false, not, ◌==◌, cond, None, List, [], ◌∷◌, filter, get_or, length, refl, sym, ap, ◌∙◌, arith}
 use Rattle.std.specs.List.{list_any}
 use Rattle.std.specs.Option.{option_map}
 use Rattle.std.specs.Ordering.{match_ordering}
@@ -16,7 +16,7 @@ use Rattle.running_queries.specs.Turns.{log_of}
 use Rattle.ready_list.specs.Slots.{put, slot, slot_cmp, without_query}
 use Rattle.ready_list.specs.declared.slots.Slot.{Slot}
 use Rattle.plain_engines.specs.Calls.{with_slots}
-use Rattle.plain_engines.specs.Engines.{IsIn, Lease, PlainEngine, instant_at, is_leased, is_of, slot_at}
+use Rattle.plain_engines.specs.Engines.{IsIn, Lease, PlainEngine, is_of, slot_at}
 use Rattle.leases.specs.Registering.{new_slot, with_first}
 
 -- WITHOUT THE SLOTS of a query

@@ -1,13 +1,12 @@
 -- A turn that is run and comes back at once.
-use Rattle.std.proofs.Common.{◌≡◌, inl, inr, ◌⊎◌, Result, Ok, Err, refl, sym, ap, subst}
+use Rattle.std.proofs.Common.{◌≡◌, inl, inr, Result, Ok, Err, refl, sym, subst}
 use Rattle.std.specs.Prelude.{⊤}
 use Rattle.turn.specs.Finished as turn
 use Rattle.turn.specs.declared.parts.Parts.{Parts}
 use Rattle.turn.specs.declared.turns.Turn.{Turn}
-use Rattle.reference.specs.Machine.{Registered}
 use Rattle.reference.specs.declared.fault.Fault.{Fault}
 use Rattle.reference.specs.declared.fault.Fault.TheVariants.{Query, BadName, NameTaken, BadColumns, TooMany, UnknownStream, UnknownQuery, BadWidth, ValueRange, InstantRange, Late, Backward, Leap, StreamFull, BadLimit, Broken, UnknownLease, Stranger, TooManyLeases, OutOfMemory}
-use Rattle.query_nets.specs.Queries.{PlainQuery, operator_at}
+use Rattle.query_nets.specs.Queries.{operator_at}
 use Rattle.plain_engines.specs.Calls.{IsOf}
 use Rattle.plain_engines.specs.Engines.{GoodEngine, IsIn, Lease, PlainEngine}
 use Rattle.plain_engines.specs.Histories as history

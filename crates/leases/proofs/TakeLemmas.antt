@@ -1,5 +1,5 @@
 -- A take of the first answers that wait: what it makes of the lists that an engine keeps.
-use Rattle.std.proofs.Common.{◌≡◌, ◌≢◌, ◌<◌, ◌≤◌, ◌+◌, ◌^◌, ◌&&◌, not, ℕ, zero, suc, ℤ, pos, negsuc, int_le, nat_abs, Bool, true, false, Option, Some, None, option_and_then, Result, Ok, Err, List, [], ◌∷◌, drop, get_or, length, map, min, set, slice_get, take, refl, sym, ap, ◌∙◌, subst, arith, of_z, w64}
+use Rattle.std.proofs.Common.{◌≡◌, ◌<◌, ◌≤◌, ◌+◌, ◌^◌, ℕ, zero, suc, ℤ, pos, negsuc, Bool, true, Option, Some, None, option_and_then, Result, Ok, Err, List, [], ◌∷◌, drop, get_or, length, map, min, set, slice_get, take, refl, sym, ap, ◌∙◌, subst, arith, of_z, w64}
 use Rattle.std.proofs.lemmas.List.{length-map, length-take}
 use Rattle.std.proofs.lemmas.Option.{slice_get_within}
 use Rattle.std.proofs.Math.Seq.{map-set_same}
@@ -22,14 +22,13 @@ use Rattle.reference.specs.declared.fault.Fault.TheVariants as fault
 use Rattle.reference.specs.declared.fault.Fault.TheVariants.{Query, BadName, NameTaken, BadColumns, TooMany, UnknownStream, UnknownQuery, BadWidth, ValueRange, InstantRange, Late, Backward, Leap, StreamFull, BadLimit, UnknownLease, Stranger, TooManyLeases, OutOfMemory}
 use Rattle.query_nets.specs.Registrations.{HaveColumnNames}
 use Rattle.query_nets.specs.Queries.{PlainQuery, operator_at}
-use Rattle.ready_list.specs.declared.slots.Slot.{Slot}
 use Rattle.plain_engines.specs.Calls.{IsTake, kept_after, taken}
 use Rattle.plain_engines.specs.Engines.{Broken, Dropped, GoodEngine, IsIn, Kept, PlainEngine, Running, answers_in, kept_at, query_at}
 use Rattle.plain_engines.proofs.TakeLemmas.{take_good}
 use Rattle.leases.specs.Shown.{engine_in}
 use Rattle.leases.specs.Sound.{IsSound, is_gone}
 use Rattle.leases.specs.Takes.{HandsOut, Takes, count_in, count_of}
-use Rattle.leases.specs.Views.{HasKind, engine_of, kept_of, query_of}
+use Rattle.leases.specs.Views.{HasKind, kept_of, query_of}
 use Rattle.leases.specs.declared.given.Given.{Given}
 use Rattle.leases.specs.declared.kept.KeptQuery.{KeptQuery}
 use Rattle.leases.specs.declared.limits.TheConstants.{LEASE_NUMBERS, MAX_LEASES}

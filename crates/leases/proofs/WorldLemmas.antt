@@ -1,17 +1,16 @@
 -- What clients see of an engine that takes and drains.
-use Rattle.std.proofs.Common.{◌≡◌, ℕ, zero, suc, ℤ, Bool, true, false, cond, Option, Some, None, Result, Ok, Err, OnOk, IfErr, List, [], ◌∷◌, drop, filter, get_or, length, map, min, nat_abs, set, take, refl, sym, ap, ap₂, ◌∙◌, subst, arith}
+use Rattle.std.proofs.Common.{◌≡◌, ℕ, zero, suc, ℤ, true, false, Option, Some, None, Result, Ok, Err, OnOk, IfErr, List, [], ◌∷◌, drop, get_or, length, map, min, nat_abs, take, refl, sym, ap, ap₂, ◌∙◌, arith}
 use Rattle.std.specs.Prelude.{⊤, slice_get}
 use Rattle.values.specs.Row.{Row}
 use Rattle.reference.specs.Commands.{Take, after, change, first_fault}
 use Rattle.reference.specs.Machine.{Machine, Registered, closed_answers}
-use Rattle.reference.specs.World.{Does, Drains, IsPlenty, MayLackMemory, Step, World, drain_fault, drain_step, handed, take_step, unless, untaken}
+use Rattle.reference.specs.World.{Does, Drains, IsPlenty, MayLackMemory, World, drain_fault, drain_step, handed, take_step, unless, untaken}
 use Rattle.reference.specs.declared.fault.Fault.{Fault}
 use Rattle.reference.specs.declared.fault.Fault.TheVariants as fault
 use Rattle.reference.specs.declared.fault.Fault.TheVariants.{Query, BadName, NameTaken, BadColumns, TooMany, UnknownStream, UnknownQuery, BadWidth, ValueRange, InstantRange, Late, Backward, Leap, StreamFull, BadLimit, UnknownLease, Stranger, TooManyLeases, OutOfMemory}
-use Rattle.query_nets.specs.Queries.{PlainQuery}
 use Rattle.ready_list.specs.Slots.{first_of}
-use Rattle.plain_engines.specs.Calls.{dropped, kept_after, of_others, registered, taken}
-use Rattle.plain_engines.specs.Engines.{Broken, Dropped, GoodEngine, Kept, Lease, PlainEngine, Running, answers_in, kept_at, query_at, world_of}
+use Rattle.plain_engines.specs.Calls.{kept_after, taken}
+use Rattle.plain_engines.specs.Engines.{Broken, Dropped, GoodEngine, Kept, PlainEngine, Running, answers_in, kept_at, query_at, world_of}
 use Rattle.plain_engines.specs.Promises.{HasAllWaiting}
 use Rattle.plain_engines.proofs.IdleLemmas.{idle_waits}
 use Rattle.leases.specs.Drains.{RefusesDrain}

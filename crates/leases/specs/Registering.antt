@@ -1,5 +1,5 @@
 -- What is made of a query before it is registered.
-use Rattle.std.specs.Prelude.{ℕ, zero, suc, ◌≡◌, ◌+◌, ◌<◌, List, map, length, get_or}
+use Rattle.std.specs.Prelude.{ℕ, zero, suc, ◌<◌, List, length, get_or}
 use Rattle.std.specs.Option.{option_map}
 use Rattle.envelope.specs.Fraction.{Fraction, fraction}
 use Rattle.operators.specs.Operators.{ready}

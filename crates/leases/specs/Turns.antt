@@ -1,5 +1,5 @@
 -- What calls about turns answer, and make of an engine.
-use Rattle.std.specs.Prelude.{ℕ, ⊤, ◌≡◌, ◌≢◌, ◌||◌, ◌&&◌, not, nat_le, min, is_some, Option, Some, None, List, [], ◌∷◌, length, Result, Ok, Err}
+use Rattle.std.specs.Prelude.{ℕ, ⊤, ◌≡◌, ◌≢◌, ◌||◌, ◌&&◌, not, nat_le, min, is_some, Option, Some, None, [], ◌∷◌, length, Result, Ok, Err}
 use Rattle.names.specs.Faults.{first_of}
 use Rattle.op_queue.specs.Items.{entries_of}
 use Rattle.turn.specs.Turns.{Fits}
@@ -15,7 +15,7 @@ use Rattle.query_nets.specs.Queries.{PlainQuery, log_at, operator_at}
 use Rattle.ready_list.specs.Slots as slots
 use Rattle.ready_list.specs.declared.slots.Slot.{Slot}
 use Rattle.plain_engines.specs.Calls.{IsLeasable, IsOf, abandoned, broken, leased}
-use Rattle.plain_engines.specs.Engines.{IsIn, Lease, PlainEngine, Running, kept_at}
+use Rattle.plain_engines.specs.Engines.{IsIn, Lease, PlainEngine}
 use Rattle.plain_engines.specs.Histories.{ComesBack}
 use Rattle.plain_engines.specs.Promises.{IsOfSteepest}
 use Rattle.leases.specs.declared.leased.Leased.{Leased}

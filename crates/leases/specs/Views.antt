@@ -1,12 +1,12 @@
 -- The engine of the code as a plain value.
-use Rattle.std.specs.Prelude.{ℕ, ◌≡◌, ◌≤◌, Option, Some, None, List, [], length, map, string_bytes}
+use Rattle.std.specs.Prelude.{ℕ, ◌≡◌, Option, Some, None, List, [], length, map, string_bytes}
 use Rattle.values.specs.Resolved.{resolved_of}
 use Rattle.plan.specs.Views.{nodes_of}
 use Rattle.reference.specs.Machine as machine
 use Rattle.reference.specs.Machine.{Registered, Stream, empty}
 use Rattle.query_nets.specs.Queries.{PlainQuery, operator_at}
 use Rattle.ready_list.specs.declared.slots.Slot.{Slot}
-use Rattle.plain_engines.specs.Engines.{Broken, Dropped, GoodEngine, IsIn, Kept, Lease, PlainEngine, Running, kept_at}
+use Rattle.plain_engines.specs.Engines.{Broken, Dropped, Kept, Lease, PlainEngine, Running, kept_at}
 use Rattle.leases.specs.declared.given.Given.{Given}
 use Rattle.leases.specs.declared.kept.KeptQuery.{KeptQuery}
 use Rattle.leases.specs.declared.kept.KeptQuery.TheVariants as code

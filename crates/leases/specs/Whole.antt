@@ -1,9 +1,6 @@
 -- An engine with which nobody else has turns out, and of which no query is broken.
-use Rattle.std.specs.Prelude.{ℕ, ◌≡◌, None, Some, Ok, Err, Result, List, []}
+use Rattle.std.specs.Prelude.{ℕ, ◌≡◌, List, []}
 use Rattle.values.specs.Row.{Row}
-use Rattle.reference.specs.World.{MayLackMemory, is_scarce}
-use Rattle.reference.specs.declared.fault.Fault.{Fault}
-use Rattle.ready_list.specs.Slots.{first_of}
 use Rattle.plain_engines.specs.Engines.{Broken, PlainEngine, kept_at}
 use Rattle.plain_engines.specs.Histories.{Call, LeadTo}
 use Rattle.leases.specs.Shown.{engine_in}

@@ -1,4 +1,4 @@
-use Rattle.std.proofs.Common.{◌≡◌, ◌∙◌, Some, [], ◌∷◌, ◌++◌, ap, length, map, refl, sym, subst}
+use Rattle.std.proofs.Common.{◌≡◌, ◌∙◌, Some, [], ◌∷◌, ◌++◌, ap, length, refl, sym, subst}
 use Rattle.std.specs.List.{position}
 use Rattle.name_table.specs.Names.{bears}
 use Rattle.ready_list.specs.Slots.{without_query}

@@ -1,5 +1,5 @@
 -- Its operators are there, and read the streams of the machine.
-use Rattle.std.proofs.Common.{◌≡◌, ◌<◌, IfOk, ℕ, ap, length, subst}
+use Rattle.std.proofs.Common.{◌≡◌, ◌<◌, IfOk, length, subst}
 use Rattle.plan.specs.Views.{nodes_of}
 use Rattle.leases.proofs.LengthLemmas.{lengths_are, operators_there}
 use Rattle.leases.specs.Looks.{queues_from}

@@ -1,12 +1,10 @@
-use Rattle.std.proofs.Common.{◌≡◌, ◌∙◌, None, Ok, ap, sym}
+use Rattle.std.proofs.Common.{ap, sym}
 use Rattle.std.specs.Option.{option_copied}
 use Rattle.plan.specs.Chart.{given_by}
-use Rattle.reference.specs.Commands.{Register, first_fault}
 use Rattle.reference.specs.Standing.{found_of}
-use Rattle.plan.specs.declared.operators.Plan.{Plan}
 use Rattle.plain_engines.specs.Engines.{world_of}
 use Rattle.plain_engines.proofs.RegisteredLemmas.{register_good}
-use Rattle.accepted_queries.specs.Accepted.{IsPlanOfText, newest}
+use Rattle.accepted_queries.specs.Accepted.{newest}
 use Rattle.accepted_queries.proofs.StartLemmas.{found_accepted, plans_may_be_made, registrations_run}
 use Rattle.leases.specs.Shown.{engine_in, world_in}
 use Rattle.leases.proofs.QueryLemmas.{lacks_memory, refused_early, refused_later, registers}

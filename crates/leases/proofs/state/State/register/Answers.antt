@@ -1,9 +1,8 @@
 use Rattle.std.proofs.Common.{◌≡◌, ◌∙◌, ap, map, sym, subst}
-use Rattle.std.specs.Prelude.{OnOk}
 use Rattle.reference.specs.Commands.{place_at}
 use Rattle.reference.specs.Machine.{Registered, first_for}
 use Rattle.plain_engines.specs.Calls.{registered}
-use Rattle.plain_engines.specs.Engines.{GoodEngine, PlainEngine}
+use Rattle.plain_engines.specs.Engines.{GoodEngine}
 use Rattle.accepted_queries.specs.Accepted.{IsBegun, newest}
 use Rattle.leases.specs.Shown.{engine_in}
 use Rattle.leases.specs.Views.{place_of, query_of}

@@ -1,6 +1,6 @@
 -- Each turn that goes out comes back, until no operator may take anything or something is scarce.
 use Rattle.std.proofs.Common.{◌≡◌, ◌+◌, sym, subst, arith}
-use Rattle.leases.proofs.DrainLemmas.{lease_leads, lease_refused, not_plenty, run_counts, run_leads, run_refused, stays_idle, turn_counted, turn_of, turn_out, turn_whole, turns_stay, turns_then}
+use Rattle.leases.proofs.DrainLemmas.{lease_leads, lease_refused, run_counts, run_leads, run_refused, stays_idle, turn_counted, turn_of, turn_out, turn_whole, turns_stay, turns_then}
 use Rattle.leases.specs.Shown.{engine_in}
 use Rattle.leases.specs.Turns.{IsTurnOf}
 use Rattle.leases.specs.Whole.{IsWholeEngine, TurnsLead}

@@ -1,8 +1,5 @@
 -- A query that is added to an engine: what was asked of it before, and what the engine knows of itself afterwards.
-use Rattle.std.proofs.Common.{◌≡◌, ◌≢◌, ℕ, zero, suc, ◌+◌, ◌<◌, ◌++◌, inl, inr, Bool, true, false, not, ◌==◌, ◌&&◌, ◌||◌, nat_le, is_some, cond, Option, Some, None, List, [], ◌∷◌, map, position, get_or, length, refl, sym, ap, ◌∙◌, subst, arith}
-use Rattle.std.specs.Prelude.{slice_get}
-use Rattle.std.specs.List.{position_or_len}
-use Rattle.std.specs.Str.{bytes_eq}
+use Rattle.std.proofs.Common.{◌≡◌, ◌≢◌, ℕ, ◌+◌, ◌<◌, ◌++◌, inl, inr, Bool, false, ◌==◌, cond, Some, None, List, [], ◌∷◌, map, position, length, refl, sym, ap, ◌∙◌, subst, arith}
 use Rattle.std.proofs.lemmas.Bool.{ne_eqb}
 use Rattle.std.proofs.lemmas.List.{map-append, length-map}
 use Rattle.std.proofs.lemmas.Option.{slice_get_within}
@@ -10,23 +7,20 @@ use Rattle.envelope.specs.Fraction.{Fraction}
 use Rattle.name_table.specs.Names.{bears}
 use Rattle.names.specs.Faults.{first_of}
 use Rattle.plan.specs.Paths.{plan_slopes}
-use Rattle.reference.specs.Commands.{count_undropped, register_tests}
-use Rattle.reference.specs.Machine.{Machine, Registered, Stream, is_called, query_named}
+use Rattle.reference.specs.Commands.{register_tests}
+use Rattle.reference.specs.Machine.{Machine, Registered, Stream}
 use Rattle.reference.specs.Named.{name_of_registered}
-use Rattle.reference.specs.declared.fault.Fault.TheVariants.{BadName, NameTaken, TooMany}
-use Rattle.reference.specs.declared.limits.TheConstants.{MAX_QUERIES, MAX_REGISTRATIONS}
-use Rattle.reference.proofs.NameLemmas.{position-map}
-use Rattle.reference.proofs.StreamLemmas.{none_first, none_later}
-use Rattle.cql_reader.specs.Lexis.{is_name}
+use Rattle.reference.proofs.NamedLemmas.{registered-place, registered_new}
 use Rattle.query_nets.specs.Queries.{PlainQuery}
 use Rattle.query_nets.specs.Registrations.{HaveColumnNames}
 use Rattle.answer_bounds.specs.Bounds.{HaveFewClosed}
 use Rattle.ready_list.specs.Slots.{without_query}
 use Rattle.ready_list.specs.declared.slots.Slot.{Slot}
 use Rattle.plain_engines.specs.Calls.{registered, with_query}
-use Rattle.plain_engines.specs.Engines.{Dropped, GoodEngine, IsIn, Kept, Lease, PlainEngine, Running, kept_at, query_at}
+use Rattle.plain_engines.specs.Engines.{GoodEngine, IsIn, Kept, Lease, PlainEngine, Running, kept_at, query_at}
 use Rattle.plain_engines.proofs.AskLemmas.{may_ask}
 use Rattle.plain_engines.proofs.PromiseLemmas.{is_slot}
+use Rattle.plain_engines.proofs.RegisteredLemmas.{kept_before, kept_more, more_here}
 use Rattle.leases.specs.Registering.{IsNewQuery, with_first}
 use Rattle.leases.specs.Shown.{engine_in}
 use Rattle.leases.specs.Sound.{IsSound, is_gone}
@@ -39,26 +33,12 @@ use Rattle.leases.specs.declared.state.State.{State}
 use Rattle.leases.proofs.LookLemmas.{many_slopes}
 use Rattle.leases.proofs.RegisterLemmas.{all_put, new_slot_is}
 
--- ONE MORE stands behind a list
-more_here : {X : Type 0} (xs : List X) (x : X) → slice_get (xs ++ x ∷ []) (length xs) ≡ Some x
-more_here [] x = refl
-more_here (y ∷ xs) x = more_here xs x
-
-kept_more : (ks : List Kept) (k : Kept) → get_or (ks ++ k ∷ []) (length ks) Dropped ≡ k
-kept_more [] k = refl
-kept_more (x ∷ ks) k = kept_more ks k
-
-kept_before : (ks ls : List Kept) (n : ℕ) → n < length ks → get_or (ks ++ ls) n Dropped ≡ get_or ks n Dropped
-kept_before [] ls n h = absurd (omega (arith, h))
-kept_before (x ∷ ks) ls zero h = refl
-kept_before (x ∷ ks) ls (suc n) h = kept_before ks ls n (omega (arith, h))
-
+-- WHAT STANDS ALREADY is of other queries
 in_map : {X Y : Type 0} (f : X → Y) (xs : List X) (x : X) → IsIn xs x → IsIn (map f xs) (f x)
 in_map f [] x i = i
 in_map f (y ∷ xs) x (inl e) = inl (ap f e)
 in_map f (y ∷ xs) x (inr i) = inr (in_map f xs x i)
 
--- WHAT STANDS ALREADY is of other queries
 old_lease : (e : PlainEngine) → GoodEngine e → (l : Lease) → IsIn e.leases l → l.query < length e.machine.queries
 old_lease e g l i = slice_get_within e.machine.queries l.query (g.leases l i).query (g.leases l i).registered
 
@@ -100,31 +80,8 @@ module _ (e : PlainEngine) (q : Registered) (p : PlainQuery) (slopes : List Frac
       ap (λ c. with_first e.machine.streams p slopes (length e.machine.queries) c e.slots) (all_sloped ∙ none_before) ∙ sym put
 
 -- ITS NAME is free
-none_of : {A : Type 0} (o : Option A) → is_some o ≡ false → o ≡ None
-none_of None h = refl
-none_of (Some a) h = absurd (cc)
-
-place_agree : {X : Type 0} (p q : X → Bool) → ((x : X) → p x ≡ q x) → (xs : List X) → position_or_len p xs ≡ position_or_len q xs
-place_agree p q h [] = refl
-place_agree p q h (x ∷ xs) = rw (h x, place_agree p q h xs) refl
-
-position_agree : {X : Type 0} (p q : X → Bool) → ((x : X) → p x ≡ q x) → (xs : List X) → position p xs ≡ position q xs
-position_agree p q h xs = rw (place_agree p q h xs) refl
-
-called : (name : List ℕ) (q : Registered) → bears name (name_of_registered q) ≡ is_called name q
-called name q = by_drop q.is_dropped
-  where
-    by_drop : (b : Bool) → bears name (cond b None (Some q.name)) ≡ (not b && bytes_eq q.name name)
-    by_drop true = refl
-    by_drop false = refl
-
-pub named_place : (name : List ℕ) (qs : List Registered) → position (bears name) (map name_of_registered qs) ≡ position (is_called name) qs
-named_place name qs = position-map (bears name) name_of_registered qs ∙ position_agree (λ q. bears name (name_of_registered q)) (λ q. is_called name q) (λ q. called name q) qs
-
 pub free_name : (m : Machine) (name : List ℕ) → first_of (register_tests m name) ≡ None → position (bears name) (map name_of_registered m.queries) ≡ None
-free_name m name h =
-    let full = nat_le MAX_QUERIES (count_undropped m) || nat_le MAX_REGISTRATIONS (length m.queries) in
-    named_place name m.queries ∙ none_of (query_named m name) (none_first (is_some (query_named m name)) NameTaken ((full, TooMany) ∷ []) (none_later (not (is_name name)) BadName ((is_some (query_named m name), NameTaken) ∷ (full, TooMany) ∷ []) h))
+free_name m name h = registered-place name m.queries ∙ registered_new m name h
 
 -- THE ENGINE AFTERWARDS
 abbrev columns_in : PlainEngine → Type 0

@@ -15,7 +15,6 @@ mod BeatLemmas
 pub mod RunLemmas
 pub mod DrainLemmas
 pub mod PairLemmas
-pub mod NamedLemmas
 pub mod WorldLemmas
 pub mod WholeLemmas
 pub mod BegunLemmas

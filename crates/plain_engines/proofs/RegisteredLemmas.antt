@@ -25,7 +25,7 @@ use Rattle.plain_engines.proofs.TableLemmas.{updated, updated_here, updated_ther
 use Rattle.plain_engines.proofs.TakeLemmas.{equal_slots, kept_again, same_anew}
 
 -- ONE MORE stands behind a list
-more_here : {X : Type 0} (xs : List X) (x : X) → slice_get (xs ++ x ∷ []) (length xs) ≡ Some x
+pub more_here : {X : Type 0} (xs : List X) (x : X) → slice_get (xs ++ x ∷ []) (length xs) ≡ Some x
 more_here [] x = refl
 more_here (y ∷ xs) x = more_here xs x
 
@@ -34,11 +34,11 @@ more_before [] ys n h = absurd (omega (arith, h))
 more_before (x ∷ xs) ys zero h = refl
 more_before (x ∷ xs) ys (suc n) h = more_before xs ys n (omega (arith, h))
 
-kept_more : (ks : List Kept) (k : Kept) → get_or (ks ++ k ∷ []) (length ks) Dropped ≡ k
+pub kept_more : (ks : List Kept) (k : Kept) → get_or (ks ++ k ∷ []) (length ks) Dropped ≡ k
 kept_more [] k = refl
 kept_more (x ∷ ks) k = kept_more ks k
 
-kept_before : (ks ls : List Kept) (n : ℕ) → n < length ks → get_or (ks ++ ls) n Dropped ≡ get_or ks n Dropped
+pub kept_before : (ks ls : List Kept) (n : ℕ) → n < length ks → get_or (ks ++ ls) n Dropped ≡ get_or ks n Dropped
 kept_before [] ls n h = absurd (omega (arith, h))
 kept_before (x ∷ ks) ls zero h = refl
 kept_before (x ∷ ks) ls (suc n) h = kept_before ks ls n (omega (arith, h))

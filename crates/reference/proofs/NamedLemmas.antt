@@ -38,7 +38,12 @@ called name q = by_drop q.is_dropped
     by_drop true = refl
     by_drop false = refl
 
--- and the query of a name
+-- and a query of a name that was not dropped
+pub registered-place : (name : List ℕ) (qs : List Registered) → position (bears name) (map name_of_registered qs) ≡ position (is_called name) qs
+registered-place name qs =
+    position-map (bears name) name_of_registered qs
+    ∙ position-agree (λ q. bears name (name_of_registered q)) (is_called name) (called name) qs
+
 pub query-place : (name : List ℕ) (qs : List StandingQuery) → position (bears name) (map query_name qs) ≡ position (is_called name) (map query_of qs)
 query-place name qs =
     position-map (bears name) query_name qs

@@ -6,6 +6,7 @@ use Rattle.std.proofs.lemmas.Bool.{cases_lt}
 use Rattle.std.proofs.lemmas.Bool.Decides.{nat_tests}
 use Rattle.std.proofs.lemmas.List.{get_or-drop, get_or_default, length-map}
 use Rattle.std.proofs.lemmas.List.Sorted.{IsNonDecreasingBy-push}
+use Rattle.std.proofs.lemmas.List.Sums.{length-filter, count_by-le-length}
 use Rattle.values.specs.Row.{Row}
 use Rattle.std.proofs.lemmas.List.Elements.{filter-append, All-append, All-drop, All-filter, All-head, All-map, All-tail, All-push}
 use Rattle.op_queue.specs.Items.{item_instant}
@@ -19,10 +20,10 @@ abbrev pub is_below : ℕ → ℕ × Row → Bool
 is_below n h = nat_lt h.0 n
 
 -- a filter by a test that is the same
-filter-step : {X : Type 0} (p : X → Bool) (b : Bool) (x : X) (xs : List X) → p x ≡ b → filter p (x ∷ xs) ≡ cond b (x ∷ filter p xs) (filter p xs)
+pub filter-step : {X : Type 0} (p : X → Bool) (b : Bool) (x : X) (xs : List X) → p x ≡ b → filter p (x ∷ xs) ≡ cond b (x ∷ filter p xs) (filter p xs)
 filter-step p b x xs h = ap (λ c. cond c (x ∷ filter p xs) (filter p xs)) h
 
-below-none : (n : ℕ) (hs : List (ℕ × Row)) → All (λ h. n ≤ h.0) hs → filter (is_below n) hs ≡ []
+pub below-none : (n : ℕ) (hs : List (ℕ × Row)) → All (λ h. n ≤ h.0) hs → filter (is_below n) hs ≡ []
 below-none n [] all = refl
 below-none n (h ∷ hs) all =
     let le = All-head (λ h. n ≤ h.0) h hs all in
@@ -34,10 +35,10 @@ above-all n (h ∷ hs) all =
     let le = All-head (λ h. n ≤ h.0) h hs all in
     filter-step (λ h. not (is_below n h)) true h hs (grind (arith, nat_tests)) ∙ ap (λ xs. h ∷ xs) (above-all n hs (All-tail (λ h. n ≤ h.0) h hs all))
 
-sorted-tail : (h : ℕ × Row) (hs : List (ℕ × Row)) → IsNonDecreasingBy (λ h. h.0) (h ∷ hs) → IsNonDecreasingBy (λ h. h.0) hs
+pub sorted-tail : (h : ℕ × Row) (hs : List (ℕ × Row)) → IsNonDecreasingBy (λ h. h.0) (h ∷ hs) → IsNonDecreasingBy (λ h. h.0) hs
 sorted-tail h hs s i j d le lt = s (suc i) (suc j) d (omega arith) (omega arith)
 
-sorted-head : (n : ℕ) (h : ℕ × Row) (hs : List (ℕ × Row)) → IsNonDecreasingBy (λ h. h.0) (h ∷ hs) → n ≤ h.0 → All (λ h. n ≤ h.0) (h ∷ hs)
+pub sorted-head : (n : ℕ) (h : ℕ × Row) (hs : List (ℕ × Row)) → IsNonDecreasingBy (λ h. h.0) (h ∷ hs) → n ≤ h.0 → All (λ h. n ≤ h.0) (h ∷ hs)
 sorted-head n h hs s le k d lt = let a = s 0 k d (omega arith) lt in omega arith
 
 pub sorted-drop : (k : ℕ) (hs : List (ℕ × Row)) → IsNonDecreasingBy (λ h. h.0) hs → IsNonDecreasingBy (λ h. h.0) (drop k hs)
@@ -60,20 +61,6 @@ drop-below n (h ∷ hs) s =
     let all = sorted-head n h hs s le in
     ap (λ xs. drop (length xs) (h ∷ hs)) (below-none n (h ∷ hs) all) ∙ sym (above-all n (h ∷ hs) all))
     (cases_lt h.0 n)
-
--- the scan may stop at the first row that is not older
-pub below-found : (n k : ℕ) (hs : List (ℕ × Row)) (h : ℕ × Row) → IsNonDecreasingBy (λ h. h.0) hs → k < length hs → h ≡ get_or hs k h → n ≤ h.0 → filter (is_below n) (take k hs) ≡ take k hs → filter (is_below n) hs ≡ take k hs
-below-found n k hs h s lt is le front =
-    let later : All (λ h. n ≤ h.0) (drop k hs) = λ i d in'.
-    let a = s k (k + i) h (omega arith) (omega (arith, length-drop k hs)) in
-    let b = ap (λ (x : ℕ × Row). x.0) is in
-    let c = ap (λ (x : ℕ × Row). x.0) (get_or-drop k hs i d ∙ get_or_default hs (k + i) d h (omega (arith, length-drop k hs))) in
-    omega arith in
-    ap (filter (is_below n)) (sym (take-append-drop k hs))
-    ∙ filter-append (is_below n) (take k hs) (drop k hs)
-    ∙ ap (λ xs. filter (is_below n) (take k hs) ++ xs) (below-none n (drop k hs) later)
-    ∙ append-nil (filter (is_below n) (take k hs))
-    ∙ front
 
 pub past-none : (t : ℕ) (hs : List (ℕ × Row)) → filter (is_past None t) hs ≡ []
 past-none t [] = refl
@@ -122,6 +109,13 @@ next-tick s item t leave held new is at count left sorted =
     ∙ ap (λ n. drop n held) (rw at at count)
     ∙ ap (λ hs. drop (length (map (λ h. h.1) (filter (is_past s.span t) s.held))) hs) is
     ∙ drop-past s.span t s.held (subst IsSorted is sorted))
+
+-- no more rows leave than are held
+pub change-within : (s : RangeState) (item : Item) (t leave : ℕ) (held : List (ℕ × Row)) → held ≡ s.held → item ≡ Tick t → leave ≡ change item (near s item) → leave ≤ length held
+change-within s item t leave held is at count =
+    let f : ℕ × Row → Row = λ h. h.1 in
+    let a : leave ≡ length (map f (filter (is_past s.span t) s.held)) = rw at at count in
+    omega (arith, a, length-map (filter (is_past s.span t) s.held) f, length-filter (is_past s.span t) s.held, count_by-le-length (is_past s.span t) s.held, ap (λ (hs : List (ℕ × Row)). length hs) is)
 
 -- ---- widths
 abbrev pub IsWide : ℕ → ℕ × Row → Type 0

@@ -1,4 +1,5 @@
 pub mod Widths
+pub mod Held
 pub mod Range
 pub mod Latest
 pub mod Laws

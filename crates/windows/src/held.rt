@@ -1,53 +1,89 @@
-//! A row that is held, with its instant.
-ghost use Rattle.std.specs.Prelude.{◌≡◌};
+//! Rows that are held, with their instants.
+ghost use Rattle.std.specs.Prelude.{◌≡◌, ◌≤◌, ◌++◌, [], length, map, drop, IfOk, OnOk, OnErr, nat_lt};
+ghost use Rattle.std.specs.List.{filter};
+ghost use Rattle.std.specs.List.Sorted.{IsNonDecreasingBy};
+ghost use Rattle.column.specs.Rows.{IsTable, width};
+ghost use Rattle.windows.specs.Range.{held_at};
+ghost use Rattle.windows.specs.Widths.{rows_of};
 
+use crate::flat_rows::FlatRows;
+use crate::runs::{Run, count_below, leave, lengthen};
+use column::Batch;
+use std::alloc::{AllocError, Global};
+use std::collections::VecDeque;
 use std::marker::Model;
 use values::Row;
 
-/// A row that a window holds, with its instant.
+/// Rows of one width with their instants, the oldest first.
+///
+/// A row costs eight bytes a column, and rows of one instant that stand together cost one run more.
 #[derive(Drop)]
-pub struct Held {
-    instant: u64,
-    row: Row,
+pub(crate) struct HeldRows {
+    rows: FlatRows,
+    runs: VecDeque<Run>,
 }
 
-impl Model for Held {
-    ghost use Rattle.std.specs.Prelude.{ℕ};
-    ghost use Rattle.values.specs.Row.{Row as PlainRow};
+impl Model for HeldRows {
+    ghost use Rattle.windows.specs.Held.{HeldState, IsHeld, held_in};
 
-    ghost Value = { ℕ × PlainRow };
+    ghost Value = { HeldState };
 
-    ghost view = { λ h. (h.instant, h.row.items) };
+    ghost view = { λ h. held_in h.rows h.runs.items };
+
+    ghost invariant = { λ h. IsHeld h.runs.items h.rows.rows };
 }
 
-impl Held {
-    pub(crate) fn new(instant: u64, row: Row) -> Held
-        ensures { result ≡ (instant, row.items) }
+impl HeldRows {
+    pub(crate) fn new(alloc: Global, width: usize) -> HeldRows
+        ensures width { result.width ≡ width }
+        ensures held { result.held ≡ [] }
     {
-        Held { instant, row }
+        HeldRows {
+            rows: FlatRows::new(alloc, width),
+            runs: VecDeque::new(alloc),
+        }
     }
 
-    pub(crate) fn instant(&self) -> u64
-        ensures { result ≡ self.now.0 }
+    pub(crate) fn len(&self) -> usize
+        ensures { result ≡ length self.now.held }
     {
-        self.instant
+        self.rows.len()
     }
 
-    /// A copy of the row.
-    pub(crate) fn row(&self) -> Row
-        ensures { result.items ≡ self.now.1 }
+    /// A copy of the rows of instants below `first`. It costs these rows.
+    pub(crate) fn older(&self, alloc: Global, first: u64) -> Result<Vec<Row>, AllocError>
+        requires { IsNonDecreasingBy (λ h. h.0) self.now.held }
+        ensures { IfOk result (λ rows. rows_of rows.items ≡ map (λ h. h.1) (filter (λ h. nat_lt h.0 first) self.now.held)) }
     {
-        copy_row(&self.row)
+        let _len = self.rows.len();
+        let count = count_below(&self.runs, first);
+        let rows = self.rows.first(alloc, count)?;
+        Ok(rows)
     }
-}
 
-/// The same row again, without memory.
-pub(crate) fn copy_row(row: &Row) -> Row
-    ensures { result ≡ row.now }
-{
-    let mut copy = Row::new();
-    for value in row.as_slice() {
-        copy.push(*value);
+    /// The rows of a batch enter, with this instant.
+    pub(crate) fn enter(&mut self, at: u64, batch: &Batch) -> Result<(), AllocError>
+        requires { width batch.now ≡ self.old.width }
+        ensures width { self.new.width ≡ self.old.width }
+        ensures held { OnOk result (self.new.held ≡ self.old.held ++ map (held_at at) batch.now) }
+        ensures err { OnErr result (self.new ≡ self.old) }
+        ensures table { IsTable (width batch.now) batch.now }
+    {
+        let count = batch.len();
+        self.runs.reserve(1)?;
+        self.rows.enter(batch)?;
+        let _len = self.rows.len();
+        lengthen(&mut self.runs, at, count);
+        Ok(())
     }
-    copy
+
+    /// The first `count` rows leave.
+    pub(crate) fn leave(&mut self, count: usize)
+        requires { count ≤ length self.old.held }
+        ensures width { self.new.width ≡ self.old.width }
+        ensures held { self.new.held ≡ drop count self.old.held }
+    {
+        self.rows.leave(count);
+        leave(&mut self.runs, count);
+    }
 }

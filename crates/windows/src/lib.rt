@@ -3,12 +3,14 @@
 //! `RangeWindow` holds the rows of the last instants, or all; `LatestWindow` the last rows of each partition.
 #![tactic(auto)]
 
+mod flat_rows;
 mod held;
 mod latest;
 mod laws;
 mod outputs;
 mod partitions;
 mod range;
+mod runs;
 
 pub use latest::{LatestWindow, latest_work};
 pub use laws::{latest_takes_rows, latest_takes_ticks, range_takes_rows, range_takes_ticks};

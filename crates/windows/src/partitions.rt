@@ -8,11 +8,10 @@ ghost use Rattle.std.specs.Map.{set_value};
 ghost use Rattle.windows.specs.Latest.{fallen_in, key_cmp, key_in, last_of, part, row_in};
 ghost use Rattle.windows.specs.Widths.{OneRow};
 
-use crate::held::copy_row;
 use std::alloc::{AllocError, Global};
 use std::collections::{BTreeMap, VecDeque};
 use std::marker::Model;
-use values::{MAX_COLUMNS, Row, value_at};
+use values::{MAX_COLUMNS, Row, copy_row, value_at};
 
 /// The rows of a partition, the oldest first.
 #[derive(Drop)]

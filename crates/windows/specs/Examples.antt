@@ -1,8 +1,10 @@
 -- The definitions at worked rows.
-use Rattle.std.specs.Prelude.{◌≡◌, ℕ, Bool, true, false, None, Some, pos, List, [], ◌∷◌, refl}
+use Rattle.std.specs.Prelude.{◌≡◌, ℕ, ℤ, Bool, true, false, Option, None, Some, pos, List, [], ◌∷◌, refl}
 use Rattle.values.specs.Row.{Row}
 use Rattle.op_queue.specs.Entries.{RowAt, TickAt}
 use Rattle.op_queue.specs.declared.item.Item.TheVariants.{Rows, Tick}
+use Rattle.windows.specs.declared.runs.Run.{Run}
+use Rattle.windows.specs.Held.{cut_rows, held_in}
 use Rattle.windows.specs.Latest as latest
 use Rattle.windows.specs.Range as range
 
@@ -37,6 +39,21 @@ now_forgets = refl
 
 all_stay : range.near (record { span = None; width = 1; held = (1, one 7) ∷ (2, one 8) ∷ [] }) (Tick 9) ≡ []
 all_stay = refl
+
+-- three rows of two columns as they are kept: one of the instant 1, and two of the instant 4
+abbrev six : List (Option ℤ)
+six = Some (pos 7) ∷ Some (pos 8) ∷ Some (pos 9) ∷ None ∷ None ∷ Some (pos 5) ∷ []
+
+abbrev runs : List Run
+runs = record { instant = 1; count = 1 } ∷ record { instant = 4; count = 2 } ∷ []
+
+values_and_runs : held_in (record { width = 2; rows = cut_rows 2 3 six }) runs
+    ≡ record { width = 2; held = (1, two 7 8) ∷ (4, Some (pos 9) ∷ None ∷ []) ∷ (4, None ∷ Some (pos 5) ∷ []) ∷ [] }
+values_and_runs = refl
+
+-- rows of no column have no values
+no_columns : held_in (record { width = 0; rows = cut_rows 0 3 [] }) runs ≡ record { width = 0; held = (1, []) ∷ (4, []) ∷ (4, []) ∷ [] }
+no_columns = refl
 
 -- Rows 2, with no partition, from nothing: the third row makes the first fall out, and the fourth the second
 abbrev nothing : Row → List Row

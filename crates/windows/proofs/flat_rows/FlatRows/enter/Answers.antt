@@ -1,5 +1,4 @@
-use Rattle.std.proofs.Common.{◌≡◌, ◌+◌, ap, ◌∙◌, sym, subst, arith, map, length, List, ◌++◌}
-use Rattle.values.specs.Row.{Row}
+use Rattle.std.proofs.Common.{◌≡◌, ◌+◌, ap, ◌∙◌, sym, subst, arith, map, length, ◌++◌}
 use Rattle.windows.specs.Held.{WideRows, IsFlat, cut_rows}
 use Rattle.windows.proofs.FlatLemmas.{IsFlat-enter, cut_rows-enter}
 use Rattle.windows.proofs.flat_rows.FlatRows.enter.Goals as goal

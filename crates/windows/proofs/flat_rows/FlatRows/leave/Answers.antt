@@ -1,4 +1,4 @@
-use Rattle.std.proofs.Common.{◌≡◌, ◌-◌, ◌≤◌, ap, ◌∙◌, sym, subst, arith, length, drop, List}
+use Rattle.std.proofs.Common.{◌-◌, ap, ◌∙◌, sym, subst, arith, drop}
 use Rattle.windows.specs.Held.{WideRows, IsFlat, cut_rows}
 use Rattle.windows.proofs.FlatLemmas.{IsFlat-drop, cut_rows-drop, rows_fit, rows_up_to}
 use Rattle.windows.proofs.flat_rows.FlatRows.leave.Goals as goal

@@ -1,4 +1,4 @@
-use Rattle.std.proofs.Common.{ap, ap₂, ◌∙◌, map, length, replicate, List, ℕ, ◌++◌}
+use Rattle.std.proofs.Common.{ap, ap₂, ◌∙◌, map, replicate, List, ℕ, ◌++◌}
 use Rattle.windows.specs.Held.{HeldState, instants_in}
 use Rattle.windows.specs.Range.{held_at}
 use Rattle.windows.proofs.HeldLemmas.{zip-enter}

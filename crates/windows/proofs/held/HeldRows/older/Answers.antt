@@ -1,4 +1,4 @@
-use Rattle.std.proofs.Common.{ap, sym, subst, ◌≡◌, ◌∙◌, arith, length, List, ℕ, map, nat_lt, zip}
+use Rattle.std.proofs.Common.{ap, sym, subst, ◌∙◌, arith, List, ℕ, map, nat_lt}
 use Rattle.std.specs.List.{filter}
 use Rattle.std.specs.List.Sorted.{IsNonDecreasingBy}
 use Rattle.std.proofs.lemmas.List.Sums.{prefix_len-le-length}

@@ -61,10 +61,20 @@ impl Last {
         ensures ok { OnOk result (self.new ≡ last_of count (self.old ++ row.items ∷ [])) }
         ensures err { OnErr result (self.new ≡ self.old) }
     {
-        self.rows.push_back(row)?;
-        if self.rows.len() as u64 > count {
-            self.rows.pop_front();
+        if count == 0 {
+            return Ok(());
         }
+        let len = self.rows.len();
+        if len as u64 == count {
+            self.rows.pop_front();
+            self.rows.push_back_reserved(row);
+            return Ok(());
+        }
+        if len == 0 {
+            // growth by doubling would begin with room for four
+            self.rows.reserve_exact(1)?;
+        }
+        self.rows.push_back(row)?;
         Ok(())
     }
 }

@@ -12,7 +12,8 @@ pub struct DeviceFailed;
 
 /// Where request bytes come from.
 ///
-/// A source may tell its bytes to contracts, as one over memory does. One over standard input or a connection does not.
+/// A source may tell its bytes to contracts, as one over memory does. One over a reader tells them where the reader does, so not over
+/// standard input or a connection.
 pub trait Source {
     // The bytes that it gives up to its end, where it tells them.
     ghost left: { Self → Option (List ℕ) };
@@ -123,7 +124,7 @@ impl Sink for MemorySink {
     }
 }
 
-/// A reader of the system, as standard input or a `&TcpStream`, as a source that does not tell its bytes.
+/// A reader, as standard input or a `&TcpStream`, as a source. It tells its bytes where the reader does, which these two do not.
 #[derive(Drop)]
 pub struct ReaderSource<R> {
     reader: R,
@@ -146,14 +147,24 @@ impl<R: Read> ReaderSource<R> {
     }
 }
 
+impl<R> ReaderSource<R> {
+    // One read more failed.
+    fn fail(&mut self) -> DeviceFailed
+        ensures counted { Rises self.old.failures self.new.failures }
+    {
+        self.failures = self.failures.saturating_add(1);
+        DeviceFailed
+    }
+}
+
 impl<R: Read> Source for ReaderSource<R> {
-    ghost left = { λ _. None };
+    ghost left = { λ s. R.remaining s.reader };
 
     ghost turns = { λ s. s.turns };
 
     ghost failures = { λ s. s.failures };
 
-    // A read that a signal interrupted is tried again. After 2^64 - 1 reads the source is at its end.
+    // A read that a signal interrupted is tried again. After 2^64 - 1 reads the next one fails.
     fn read(&mut self, buffer: &mut [u8]) -> Result<usize, DeviceFailed> {
         while self.turns > 0 {
             self.turns -= 1;
@@ -161,17 +172,17 @@ impl<R: Read> Source for ReaderSource<R> {
                 Ok(count) => return Ok(count),
                 Err(error) => {
                     if error.kind() != ErrorKind::Interrupted {
-                        self.failures = self.failures.saturating_add(1);
-                        return Err(DeviceFailed);
+                        return Err(self.fail());
                     }
                 }
             }
         }
-        Ok(0)
+        Err(self.fail())
     }
 }
 
-/// A writer of the system, as standard output or a `&TcpStream`, as a sink that does not tell its bytes.
+/// A writer, as standard output or a `&TcpStream`, as a sink. It tells the bytes that it took where the writer does, which these two do
+/// not.
 #[derive(Drop)]
 pub struct WriterSink<W> {
     writer: W,
@@ -191,25 +202,35 @@ impl<W: Write> WriterSink<W> {
     }
 }
 
+impl<W> WriterSink<W> {
+    // One write more failed.
+    fn fail(&mut self) -> DeviceFailed
+        ensures counted { Rises self.old.failures self.new.failures }
+        ensures kept { self.new.writer ≡ self.old.writer }
+    {
+        self.failures = self.failures.saturating_add(1);
+        DeviceFailed
+    }
+}
+
 impl<W: Write> Sink for WriterSink<W> {
-    ghost taken = { λ _. None };
+    ghost taken = { λ s. W.contents s.writer };
 
     ghost failures = { λ s. s.failures };
 
     fn write(&mut self, bytes: &[u8]) -> Result<usize, DeviceFailed> {
         for _ in 0..u64::MAX {
             match self.writer.write(bytes) {
-                Ok(0) => break,
+                Ok(0) => return Err(self.fail()),
                 Ok(count) => return Ok(count),
                 Err(error) => {
                     if error.kind() != ErrorKind::Interrupted {
-                        break;
+                        return Err(self.fail());
                     }
                 }
             }
         }
-        self.failures = self.failures.saturating_add(1);
-        Err(DeviceFailed)
+        Err(self.fail())
     }
 }
 

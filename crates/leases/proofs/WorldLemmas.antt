@@ -1,5 +1,5 @@
 -- What clients see of an engine that takes and drains.
-use Rattle.std.proofs.Common.{◌≡◌, ℕ, zero, suc, ℤ, true, false, Option, Some, None, Result, Ok, Err, OnOk, IfErr, List, [], ◌∷◌, drop, get_or, length, map, min, nat_abs, take, refl, sym, ap, ap₂, ◌∙◌, arith}
+use Rattle.std.proofs.Common.{◌≡◌, ℕ, zero, suc, ℤ, true, false, Option, Some, None, Result, Ok, Err, OnOk, List, [], ◌∷◌, drop, get_or, length, map, min, nat_abs, take, refl, sym, ap, ap₂, ◌∙◌, arith}
 use Rattle.std.specs.Prelude.{⊤, slice_get}
 use Rattle.values.specs.Row.{Row}
 use Rattle.reference.specs.Commands.{Take, after, change, first_fault}
@@ -13,10 +13,11 @@ use Rattle.plain_engines.specs.Calls.{kept_after, taken}
 use Rattle.plain_engines.specs.Engines.{Broken, Dropped, GoodEngine, Kept, PlainEngine, Running, answers_in, kept_at, query_at, world_of}
 use Rattle.plain_engines.specs.Promises.{HasAllWaiting}
 use Rattle.plain_engines.proofs.IdleLemmas.{idle_waits}
-use Rattle.leases.specs.Drains.{RefusesDrain}
+use Rattle.leases.proofs.DrainLemmas.{drain_machine}
+use Rattle.leases.specs.Drains.{RunsTurns}
 use Rattle.leases.specs.Sound.{is_gone}
 use Rattle.leases.specs.Takes.{Takes, count_of}
-use Rattle.leases.specs.Whole.{IsWholeEngine, TurnsLead}
+use Rattle.leases.specs.Whole.{IsWholeEngine}
 
 -- WHAT WAITS AT EACH QUERY
 some_same : {X : Type 0} {a b : X} → Some a ≡ Some b → a ≡ b
@@ -85,10 +86,10 @@ module _ (old new : PlainEngine) (rows : ℕ) (machine : new.machine ≡ old.mac
   unfolding drain_step
   drain_refused f some same = step_refused (drain_fault rows) (world_of old) _ (world_of new) tt f some (ap world_of same)
 
-  drain_stops : (f : Fault) → RefusesDrain old rows f new → Drains (world_of old) (drain_step (world_of old) rows) (Err f) (world_of new)
+  drain_stops : (f : Fault) → RunsTurns old rows (Err f) new → Drains (world_of old) (drain_step (world_of old) rows) (Err f) (world_of new)
   drain_stops BadLimit h = drain_refused BadLimit h.0 h.1
   drain_stops TooManyLeases h = (machine, drain_lacks h.0)
-  drain_stops OutOfMemory h = (machine, drain_lacks h)
+  drain_stops OutOfMemory h = (machine, drain_lacks h.0)
   drain_stops (Query x) h = absurd h
   drain_stops BadName h = absurd h
   drain_stops NameTaken h = absurd h
@@ -189,10 +190,10 @@ module _ {A : Type 0} (view : A → List (ℤ × Row)) (old : PlainEngine) (n : 
   takes (Err TooManyLeases) new h = take_refused new TooManyLeases h.0 h.1
 
 -- BOTH, as clients see them
-pub drains_are : (old new : PlainEngine) (rows : ℕ) (r : Result ⊤ Fault) → GoodEngine new → map (λ q. q.is_dropped) new.machine.queries ≡ map is_gone new.queries → TurnsLead old new
-    → OnOk r (drain_fault rows ≡ None) → OnOk r (first_of new.slots ≡ None) → IfErr r (λ f. RefusesDrain old rows f new) → (IsPlenty r → IsWholeEngine new) → Drains (world_of old) (drain_step (world_of old) rows) r (world_of new)
-drains_are old new rows (Ok u) g gone lead none idle err whole = drain_done old new rows lead.machine none (all_wait new g (whole tt) idle gone) u
-drains_are old new rows (Err f) g gone lead none idle err whole = drain_stops old new rows lead.machine f err
+pub drains_are : (old new : PlainEngine) (rows : ℕ) (r : Result ⊤ Fault) → GoodEngine new → map (λ q. q.is_dropped) new.machine.queries ≡ map is_gone new.queries → RunsTurns old rows r new
+    → OnOk r (first_of new.slots ≡ None) → (IsPlenty r → IsWholeEngine new) → Drains (world_of old) (drain_step (world_of old) rows) r (world_of new)
+drains_are old new rows (Ok u) g gone runs idle whole = drain_done old new rows (drain_machine old new rows (Ok u) runs) runs.0 (all_wait new g (whole tt) idle gone) u
+drains_are old new rows (Err f) g gone runs idle whole = drain_stops old new rows (drain_machine old new rows (Err f) runs) f runs
 
 pub drains_wait : {W : Type 0} (new : PlainEngine) (r : Result ⊤ Fault) → GoodEngine new → OnOk r (first_of new.slots ≡ None) → (W → IsPlenty r → IsWholeEngine new) → OnOk r (W → HasAllWaiting new)
 drains_wait new (Ok u) g idle whole = λ w. idle_waits new g (record { nothing = idle; returned = (whole w tt).returned })

@@ -1,15 +1,49 @@
--- Why a drain is refused.
-use Rattle.std.specs.Prelude.{ℕ, ◌≡◌, ◌≤◌, ◌⊎◌, None, Some, length}
+-- What a drain does: turns go out and come back.
+use Rattle.std.specs.Prelude.{ℕ, ⊤, ◌≡◌, ◌≤◌, ◌⊎◌, None, Some, List, [], ◌∷◌, length, Result, Ok, Err}
+use Rattle.values.specs.Row.{Row}
+use Rattle.turn.specs.declared.turns.Turn.{Turn}
 use Rattle.reference.specs.World.{drain_fault}
 use Rattle.reference.specs.declared.fault.Fault.{Fault}
 use Rattle.reference.specs.declared.fault.Fault.TheVariants.{BadLimit, OutOfMemory, TooManyLeases}
-use Rattle.plain_engines.specs.Engines.{PlainEngine}
+use Rattle.plain_engines.specs.Calls.{of_others}
+use Rattle.plain_engines.specs.Engines.{Broken, PlainEngine, kept_at}
+use Rattle.plain_engines.specs.Histories.{Finishes, IsStep}
+use Rattle.leases.specs.Runs.{RunsTurn}
+use Rattle.leases.specs.Turns.{IsTurnOf, lease_of_turn}
 use Rattle.leases.specs.declared.limits.TheConstants.{LEASE_NUMBERS, MAX_LEASES}
 
--- the rows of its turns are out of range, and nothing changed; or some turns were finished, and then as many are out as may be, or all numbers were
--- given; or memory was wanted
-abbrev pub RefusesDrain : PlainEngine → ℕ → Fault → PlainEngine → Type 0
-RefusesDrain old rows BadLimit new = (drain_fault rows ≡ Some BadLimit) × (new ≡ old)
-RefusesDrain old rows TooManyLeases new = (drain_fault rows ≡ None) × ((MAX_LEASES ≤ length new.leases) ⊎ (LEASE_NUMBERS ≤ new.next))
-RefusesDrain old rows OutOfMemory new = drain_fault rows ≡ None
-RefusesDrain old rows f new = ⊥
+-- TURNS of at most so many rows went out and came back, one after the other: each of an operator of greatest slope, with the next number
+abbrev pub HaveRun : ℕ → PlainEngine → List Turn → PlainEngine → Type 0
+HaveRun rows old [] new = new ≡ old
+HaveRun rows old (t ∷ turns) new = (out : PlainEngine) × ((home : PlainEngine) × (IsTurnOf old rows t out × (IsStep out (Finishes (lease_of_turn t)) home × HaveRun rows home turns new)))
+
+-- some did, and nothing else was done
+abbrev pub SomeHaveRun : ℕ → PlainEngine → PlainEngine → Type 0
+SomeHaveRun rows old new = (turns : List Turn) × HaveRun rows old turns new
+
+-- one went out, and memory was wanted: it broke its query or was abandoned
+abbrev pub OneHasFailed : ℕ → PlainEngine → PlainEngine → Type 0
+OneHasFailed rows old new = (t : Turn) × ((out : PlainEngine) × (IsTurnOf old rows t out × RunsTurn out t (Err OutOfMemory) new))
+
+-- A DRAIN by turns of at most so many rows: some have run; a refused one did nothing where that number is out of range, or ended where as many turns
+-- are out as may be, or all numbers were given, or memory was wanted for a turn
+abbrev pub RunsTurns : PlainEngine → ℕ → Result ⊤ Fault → PlainEngine → Type 0
+RunsTurns old rows (Ok u) new = (drain_fault rows ≡ None) × SomeHaveRun rows old new
+RunsTurns old rows (Err BadLimit) new = (drain_fault rows ≡ Some BadLimit) × (new ≡ old)
+RunsTurns old rows (Err TooManyLeases) new = (drain_fault rows ≡ None) × (SomeHaveRun rows old new × ((MAX_LEASES ≤ length new.leases) ⊎ (LEASE_NUMBERS ≤ new.next)))
+RunsTurns old rows (Err OutOfMemory) new = (drain_fault rows ≡ None) × ((last : PlainEngine) × (SomeHaveRun rows old last × ((new ≡ last) ⊎ OneHasFailed rows last new)))
+RunsTurns old rows (Err fault) new = ⊥
+
+-- THE TURNS OF OTHERS, that were out before
+-- just those of one query ended, and it is broken
+pub record HasBrokenOne (old new : PlainEngine) : Type 0 where
+  pub query : ℕ
+  pub answers : List (ℕ × Row)
+  pub broken : kept_at new query ≡ Broken answers
+  pub left : new.leases ≡ of_others query old.leases
+
+-- they all are out, and no more; but where memory was wanted, a query may have broken
+abbrev pub LeavesOthers : PlainEngine → Result ⊤ Fault → PlainEngine → Type 0
+LeavesOthers old (Ok u) new = new.leases ≡ old.leases
+LeavesOthers old (Err OutOfMemory) new = (new.leases ≡ old.leases) ⊎ HasBrokenOne old new
+LeavesOthers old (Err fault) new = new.leases ≡ old.leases

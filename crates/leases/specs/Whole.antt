@@ -2,7 +2,6 @@
 use Rattle.std.specs.Prelude.{ℕ, ◌≡◌, List, []}
 use Rattle.values.specs.Row.{Row}
 use Rattle.plain_engines.specs.Engines.{Broken, PlainEngine, kept_at}
-use Rattle.plain_engines.specs.Histories.{Call, LeadTo}
 use Rattle.leases.specs.Shown.{engine_in}
 use Rattle.leases.specs.declared.state.State.{State}
 
@@ -12,9 +11,3 @@ pub record IsWholeEngine (e : PlainEngine) : Type 0 where
 
 abbrev pub IsWhole : State → Type 0
 IsWhole s = IsWholeEngine (engine_in s)
-
--- turns went out and came back, or broke their queries; the machine is as it was
-pub record TurnsLead (old new : PlainEngine) : Type 0 where
-  pub calls : List Call
-  pub lead : LeadTo old calls new
-  pub machine : new.machine ≡ old.machine

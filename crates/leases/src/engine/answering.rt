@@ -1,5 +1,5 @@
 //! What clients call.
-ghost use Rattle.std.specs.Prelude.{◌≡◌, ℕ, IfErr, None, OnErr, OnOk};
+ghost use Rattle.std.specs.Prelude.{◌≡◌, ℕ, None, OnErr, OnOk};
 ghost use Rattle.std.specs.Option.{option_copied};
 ghost use Rattle.plan.specs.Chart.{given_by};
 ghost use Rattle.reference.specs.CallViews.{handed_of, texts_of};
@@ -9,10 +9,10 @@ ghost use Rattle.query_nets.specs.Queries.{PlainQuery};
 ghost use Rattle.ready_list.specs.Slots.{first_of};
 ghost use Rattle.plain_engines.specs.Calls.{IsRegistration, appended, beaten, declared, dropped, registered};
 ghost use Rattle.plain_engines.specs.Promises.{HasAllWaiting, KeepsItsPromises};
-ghost use Rattle.leases.specs.Drains.{RefusesDrain};
+ghost use Rattle.leases.specs.Drains.{LeavesOthers, RunsTurns};
 ghost use Rattle.leases.specs.Shown.{engine_in, world_in};
 ghost use Rattle.leases.specs.Takes.{Takes};
-ghost use Rattle.leases.specs.Whole.{IsWhole, TurnsLead};
+ghost use Rattle.leases.specs.Whole.{IsWhole};
 
 use crate::engine::Engine;
 use envelope::Slope;
@@ -64,10 +64,10 @@ impl Answering for Engine {
     fn drain(&mut self, rows: u32) -> Result<(), Fault>
         ensures does { IsWhole self.old → Drains (world_in self.old) (drain_step (world_in self.old) rows) result (world_in self.new) }
         ensures whole { IsWhole self.old → IsPlenty result → IsWhole self.new }
-        ensures lead { TurnsLead (engine_in self.old) (engine_in self.new) }
+        ensures runs { RunsTurns (engine_in self.old) rows result (engine_in self.new) }
+        ensures others { LeavesOthers (engine_in self.old) result (engine_in self.new) }
         ensures idle { OnOk result (first_of (engine_in self.new).slots ≡ None) }
         ensures all { OnOk result (IsWhole self.old → HasAllWaiting (engine_in self.new)) }
-        ensures err { IfErr result (λ f. RefusesDrain (engine_in self.old) rows f (engine_in self.new)) }
         ensures promises { KeepsItsPromises (engine_in self.new) }
     {
         self.state.drain(rows)

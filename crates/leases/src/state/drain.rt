@@ -1,12 +1,12 @@
 //! Turns that go out and come back until nothing is ready.
-ghost use Rattle.std.specs.Prelude.{◌≡◌, IfErr, None, OnErr, OnOk};
+ghost use Rattle.std.specs.Prelude.{◌≡◌, None, OnOk};
 ghost use Rattle.reference.specs.World.{IsPlenty, drain_fault};
 ghost use Rattle.ready_list.specs.Slots.{first_of};
-ghost use Rattle.leases.specs.Drains.{RefusesDrain};
+ghost use Rattle.leases.specs.Drains.{LeavesOthers, RunsTurns};
 ghost use Rattle.leases.specs.Runs.{IsTurnOut, RunsTurn};
 ghost use Rattle.leases.specs.Shown.{engine_in};
 ghost use Rattle.leases.specs.Sound.{IsSound};
-ghost use Rattle.leases.specs.Whole.{IsWhole, TurnsLead};
+ghost use Rattle.leases.specs.Whole.{IsWhole};
 
 use crate::leased::Leased;
 use crate::state::State;
@@ -17,10 +17,9 @@ impl State {
     /// Runs turns of at most `rows` rows until no operator may take anything.
     pub(crate) fn drain(&mut self, rows: u32) -> Result<(), Fault>
         requires { IsSound self.old }
-        ensures lead { TurnsLead (engine_in self.old) (engine_in self.new) }
-        ensures accepted { OnOk result (drain_fault rows ≡ None) }
+        ensures runs { RunsTurns (engine_in self.old) rows result (engine_in self.new) }
+        ensures others { LeavesOthers (engine_in self.old) result (engine_in self.new) }
         ensures idle { OnOk result (first_of (engine_in self.new).slots ≡ None) }
-        ensures err { IfErr result (λ f. RefusesDrain (engine_in self.old) rows f (engine_in self.new)) }
         ensures whole { IsWhole self.old → IsPlenty result → IsWhole self.new }
         ensures sound { IsSound self.new }
     {
@@ -34,9 +33,9 @@ impl State {
     fn run_turns(&mut self, rows: u32) -> Result<(), Fault>
         requires sound { IsSound self.old }
         requires accepted { drain_fault rows ≡ None }
-        ensures lead { TurnsLead (engine_in self.old) (engine_in self.new) }
+        ensures runs { RunsTurns (engine_in self.old) rows result (engine_in self.new) }
+        ensures others { LeavesOthers (engine_in self.old) result (engine_in self.new) }
         ensures idle { OnOk result (first_of (engine_in self.new).slots ≡ None) }
-        ensures err { IfErr result (λ f. RefusesDrain (engine_in self.old) rows f (engine_in self.new)) }
         ensures whole { IsWhole self.old → IsPlenty result → IsWhole self.new }
         ensures sound { IsSound self.new }
     {

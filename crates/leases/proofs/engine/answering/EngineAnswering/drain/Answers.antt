@@ -13,7 +13,7 @@ pub returns-clause-does : goal.returns-clause-does
 returns-clause-does c =
     subst (λ s. IsWhole s → Drains (world_in s) (drain_step (world_in s) c.args.rows) c.drain.result (world_in c.drain.new.self)) c.self.view_is
     (λ whole.
-    drains_are (engine_in c.self.inside.state) (engine_in c.drain.new.self) c.args.rows c.drain.result c.drain.ensures.sound.good c.drain.ensures.sound.gone c.drain.ensures.lead c.drain.ensures.accepted c.drain.ensures.idle c.drain.ensures.err
+    drains_are (engine_in c.self.inside.state) (engine_in c.drain.new.self) c.args.rows c.drain.result c.drain.ensures.sound.good c.drain.ensures.sound.gone c.drain.ensures.runs c.drain.ensures.idle
     (c.drain.ensures.whole whole))
 
 pub returns-clause-all : goal.returns-clause-all

@@ -31,9 +31,10 @@ returns-in_err-lease-clause-whole c = λ whole plenty.
 
 -- NOTHING MAY BE TAKEN
 pub returns-in-Idle-clause-runs : goal.returns-in-Idle-clause-runs
-returns-in-Idle-clause-runs c =
-    (c.requires.accepted,
-     subst (SomeHaveRun c.args.rows (engine_in c.args.self.now)) (sym (stays_idle (engine_in c.turns.self) (engine_in c.lease.new.self) c.args.rows c.in_ok-lease.field-0 c.in-Idle.is c.in_ok-lease.ensures.leases)) c.turns.invariant.runs)
+returns-in-Idle-clause-runs c = (
+  c.requires.accepted,
+  subst (SomeHaveRun c.args.rows (engine_in c.args.self.now)) (sym (stays_idle (engine_in c.turns.self) (engine_in c.lease.new.self) c.args.rows c.in_ok-lease.field-0 c.in-Idle.is c.in_ok-lease.ensures.leases)) c.turns.invariant.runs,
+)
 
 pub returns-in-Idle-clause-others : goal.returns-in-Idle-clause-others
 returns-in-Idle-clause-others c =

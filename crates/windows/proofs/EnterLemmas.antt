@@ -1,17 +1,17 @@
 -- One row more: in the partitions, in what falls out, and in what is put out.
-use Rattle.std.proofs.Common.{◌≡◌, ℕ, suc, ◌+◌, ◌-◌, ◌≤◌, ◌<◌, Bool, true, false, cond, nat_lt, Option, Some, None, List, [], ◌∷◌, ◌++◌, map, length, take, drop, get_or, refl, ap, sym, ◌∙◌, subst, arith, append-nil, append_assoc}
+use Rattle.std.proofs.Common.{◌≡◌, ℕ, ◌+◌, ◌≤◌, ◌<◌, Bool, true, false, cond, nat_lt, Option, Some, None, List, [], ◌∷◌, ◌++◌, map, length, take, get_or, refl, ap, sym, ◌∙◌, subst, arith, append-nil, append_assoc}
 use Rattle.std.specs.List.{All}
 use Rattle.std.specs.Option.{option_map}
 use Rattle.std.specs.Ordering.{is_eq}
 use Rattle.std.proofs.lemmas.List.{map-append, take_more, length-append, length-map, length-take}
-use Rattle.std.proofs.lemmas.List.Elements.{All-append, All-cons, All-drop, All-head, All-push, All-tail}
+use Rattle.std.proofs.lemmas.List.Elements.{All-cons, All-drop, All-head, All-push, All-tail}
 use Rattle.values.specs.Row.{Row, same_row}
 use Rattle.column.specs.Rows.{IsTable, signed, width}
 use Rattle.column.specs.declared.batch.SignedRow.{SignedRow}
 use Rattle.windows.specs.Latest.{AreParts, all_after, all_fallen, fallen_in, fallen_of, fallen_rows, held_after, held_in, interleaved, key_cmp, key_in, last_of, minus_of, part}
 use Rattle.windows.specs.Widths.{AreWide, HaveOneWidth, OneRow}
 use Rattle.windows.proofs.LatestLemmas.{after_push, fallen_is, fallen_push, few_after, last_of-few, length-fallen, length-like, like, like-push}
-use Rattle.windows.proofs.PartLemmas.{key_order, same_exact}
+use Rattle.windows.proofs.PartLemmas.{same_exact}
 
 -- ---- the partitions
 pub enter_is : (columns : List ℕ) (n : ℕ) (old new : List (OneRow × List Row)) (key row : OneRow)

@@ -1,5 +1,5 @@
 -- The law of one step of a window of the last rows of each partition.
-use Rattle.std.proofs.Common.{◌≡◌, ℕ, suc, ◌+◌, ◌-◌, ◌≤◌, ◌<◌, Bool, true, false, cond, List, [], ◌∷◌, ◌++◌, map, filter, length, drop, refl, ap, sym, ◌∙◌, subst, arith, append-nil, append_assoc}
+use Rattle.std.proofs.Common.{◌≡◌, ℕ, ◌+◌, ◌-◌, ◌≤◌, Bool, true, false, cond, List, [], ◌∷◌, ◌++◌, map, filter, length, drop, refl, ap, sym, ◌∙◌, subst, arith, append-nil, append_assoc}
 use Rattle.std.proofs.lemmas.List.{length-map, drop-map}
 use Rattle.std.proofs.lemmas.List.{map-append}
 use Rattle.std.proofs.lemmas.List.Elements.{filter-append}
@@ -10,12 +10,12 @@ use Rattle.op_queue.specs.Paths.{rows_in}
 use Rattle.op_queue.specs.Signed.{Same, Turns}
 use Rattle.op_queue.proofs.PathLemmas.{rows_in-batch}
 use Rattle.op_queue.proofs.SignedLemmas.{Same-refl, Turns-append, Turns-none}
-use Rattle.windows.specs.Laws.{AreUpTo, ComeAfter, Each, IsLater, IsRising, LatestStands, WindowRows, WindowTick, coming, is_of, rows_in_order, shown_of}
+use Rattle.windows.specs.Laws.{AreUpTo, Each, IsLater, IsRising, LatestStands, WindowRows, WindowTick, coming, is_of, rows_in_order, shown_of}
 use Rattle.windows.specs.Latest.{all_after, all_fallen, fallen_of, held_after, interleaved, key_in, last_of, minus_of}
 use Rattle.windows.proofs.LatestLemmas.{after_is, length-last_of, like}
-use Rattle.windows.proofs.MoveLemmas.{ArePartsOf, fallen_rows_are, minus, one_comes}
+use Rattle.windows.proofs.MoveLemmas.{ArePartsOf, fallen_rows_are, one_comes}
 use Rattle.windows.proofs.ShownLemmas.{shows_each, stays_shown}
-use Rattle.windows.proofs.WindowLemmas.{Each_append, Each_filter, Each_front, Each_map, last_each, last_each-again, last_each-part, last_each-twice}
+use Rattle.windows.proofs.WindowLemmas.{Each_append, Each_filter, Each_map, last_each, last_each-again, last_each-part, last_each-twice}
 
 -- ---- the state after rows is that of the elements that are shown
 like_is : (columns : List ℕ) (k : Row) (es : List Element) → like columns k (coming es) ≡ rows_in_order (filter (is_of columns k) es)

@@ -1,15 +1,13 @@
 -- Rows that come into a window, and rows that leave it.
-use Rattle.std.proofs.Common.{◌≡◌, ℕ, zero, suc, ◌+◌, ◌-◌, ◌≤◌, ◌<◌, Bool, true, false, cond, not, nat_lt, Option, Some, None, List, [], ◌∷◌, ◌++◌, map, filter, length, take, drop, get_or, min, refl, ap, sym, ◌∙◌, subst, arith, append-nil, append_assoc, true≢false, ltb-true, ltb-false, lt-ltb, le-ltb}
+use Rattle.std.proofs.Common.{◌≡◌, ℕ, zero, suc, ◌+◌, ◌-◌, ◌≤◌, ◌<◌, Bool, true, false, cond, not, nat_lt, Some, None, List, [], ◌∷◌, ◌++◌, map, filter, length, take, drop, min, refl, ap, sym, ◌∙◌, arith, true≢false, ltb-true, ltb-false, lt-ltb, le-ltb}
 use Rattle.std.proofs.lemmas.List.{length-append, length-map}
-use Rattle.values.specs.Row.{Row, same_row}
+use Rattle.values.specs.Row.{Row}
 use Rattle.values.specs.Window.{Element}
 use Rattle.values.proofs.Windows.{tally, tally-append}
-use Rattle.op_queue.specs.Signed.{weigh, gain, loss, up, down, Same, Adds, Legal, Turns}
-use Rattle.op_queue.proofs.SignedLemmas.{weigh-append, Same-refl, Turns-append, Turns-none, Turns-same}
+use Rattle.op_queue.specs.Signed.{weigh, loss, up, down, Turns}
 use Rattle.windows.specs.Laws.{coming, is_of, rows_in_order}
-use Rattle.windows.specs.Latest.{all_after, all_fallen, fallen_of, held_after, interleaved, key_in, last_of, minus_of}
-use Rattle.windows.proofs.LatestLemmas.{after_is, like}
-use Rattle.windows.proofs.WindowLemmas.{alike, alike_is_of, fallen_each, last_each, last_each-again, last_each-part, last_each-twice, tally-last_each, tally_same, through, turned}
+use Rattle.windows.specs.Latest.{fallen_of, key_in, minus_of}
+use Rattle.windows.proofs.WindowLemmas.{alike, alike_is_of, fallen_each, last_each, tally-last_each, tally_same, through, turned}
 
 abbrev pub minus : Row → Bool × Row
 minus r = (false, r)

@@ -1,18 +1,18 @@
 -- The law of one step of a window of the last instants.
-use Rattle.std.proofs.Common.{◌≡◌, ℕ, suc, ◌+◌, ◌-◌, ◌≤◌, ◌<◌, Bool, true, false, cond, not, ◌&&◌, nat_lt, nat_le, Option, Some, None, List, [], ◌∷◌, ◌++◌, map, filter, refl, ap, sym, ◌∙◌, subst, arith, append-nil, append_assoc, true≢false, ltb-true, ltb-false, lt-ltb, le-ltb, leb-true, leb-false, le-leb}
+use Rattle.std.proofs.Common.{◌≡◌, ℕ, ◌+◌, ◌-◌, ◌≤◌, ◌<◌, Bool, true, false, cond, not, ◌&&◌, nat_lt, nat_le, Option, Some, None, List, [], ◌∷◌, ◌++◌, map, filter, refl, ap, sym, ◌∙◌, subst, arith, append-nil, append_assoc, ltb-true, ltb-false, le-leb}
 use Rattle.std.proofs.lemmas.Bool.{lt-leb}
 use Rattle.std.proofs.lemmas.List.{map-append}
 use Rattle.std.proofs.lemmas.List.Elements.{filter-append}
 use Rattle.values.specs.Row.{Row}
-use Rattle.values.specs.Window.{Element, Range, Unbounded, plain, shows, window_rows}
+use Rattle.values.specs.Window.{Element, plain, shows, window_rows}
 use Rattle.op_queue.specs.Entries.{Entry, RowAt, TickAt}
 use Rattle.op_queue.specs.Paths.{rows_in}
 use Rattle.op_queue.specs.Signed.{Same, Turns}
 use Rattle.op_queue.proofs.PathLemmas.{rows_in-append, rows_in-batch}
 use Rattle.op_queue.proofs.SignedLemmas.{Same-refl}
-use Rattle.windows.specs.Laws.{AreUpTo, ComeAfter, Each, RangeStands, WindowRows, WindowTick, coming, range_of, rows_in_order}
+use Rattle.windows.specs.Laws.{AreUpTo, Each, RangeStands, WindowRows, WindowTick, coming, range_of, rows_in_order}
 use Rattle.windows.specs.Range.{RangeState, held_at, is_past, leaving}
-use Rattle.windows.proofs.MoveLemmas.{all_come, minus, some_leave}
+use Rattle.windows.proofs.MoveLemmas.{all_come, some_leave}
 use Rattle.windows.proofs.WindowLemmas.{Each_append, Each_filter, Each_map, filter_each, filter_through}
 
 same_of : (xs ys : List Row) → xs ≡ ys → Same xs ys

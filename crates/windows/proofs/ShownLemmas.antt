@@ -1,7 +1,6 @@
 -- What a window of the last rows of each partition shows, by what it holds.
-use Rattle.std.proofs.Common.{◌≡◌, ℕ, zero, suc, ◌+◌, ◌-◌, ◌≤◌, ◌<◌, Bool, true, false, cond, ◌&&◌, nat_lt, nat_le, List, [], ◌∷◌, ◌++◌, map, filter, refl, ap, ap₂, sym, ◌∙◌, arith, true≢false, ltb-true, ltb-false, lt-ltb, le-ltb, leb-true, le-leb}
+use Rattle.std.proofs.Common.{◌≡◌, ℕ, suc, ◌+◌, ◌≤◌, ◌<◌, Bool, true, false, cond, ◌&&◌, nat_lt, nat_le, List, [], ◌∷◌, ◌++◌, filter, refl, ap, ap₂, sym, ◌∙◌, arith, ltb-true, ltb-false, lt-ltb, le-ltb, leb-true, le-leb}
 use Rattle.std.proofs.lemmas.List.Elements.{filter-append}
-use Rattle.values.specs.Row.{Row}
 use Rattle.values.specs.Window.{Element, Window, LastRows, counts, count_later, is_later, shows, window_rows}
 use Rattle.values.proofs.Windows.{tally, tally-append, tally_is}
 use Rattle.windows.specs.Laws.{AreUpTo, ComeAfter, Each, IsLater, IsRising, rows_in_order, shown_of}

@@ -1,16 +1,12 @@
 -- What windows show of elements in order.
-use Rattle.std.proofs.Common.{◌≡◌, ℕ, zero, suc, ◌+◌, ◌-◌, ◌≤◌, ◌<◌, ◌==◌, Bool, true, false, cond, not, min, ◌&&◌, ◌||◌, nat_lt, nat_le, Option, Some, None, List, [], ◌∷◌, ◌++◌, map, filter, count_by, length, take, drop, refl, ap, ap₂, sym, ◌∙◌, subst, arith, append-nil, append_assoc, true≢false, ◌⊎◌, inl, inr, ltb-true, ltb-false, lt-ltb, le-ltb, leb-true, leb-false, le-leb, eqb-true, eq-eqb}
-use Rattle.std.proofs.lemmas.Bool.{lt-leb}
-use Rattle.std.proofs.lemmas.List.{length-append}
-use Rattle.std.proofs.lemmas.List.Elements.{filter-append}
-use Rattle.std.specs.List.{list_all}
+use Rattle.std.proofs.Common.{◌≡◌, ℕ, suc, ◌+◌, ◌-◌, ◌≤◌, ◌<◌, ◌==◌, Bool, true, false, cond, min, ◌&&◌, ◌||◌, nat_lt, List, [], ◌∷◌, ◌++◌, filter, length, drop, refl, ap, ap₂, sym, ◌∙◌, arith, append-nil, true≢false, ◌⊎◌, inl, inr, ltb-true, ltb-false, lt-ltb, le-ltb, eqb-true, eq-eqb}
 use Rattle.std.specs.declared.cmp.Ordering.{Ordering}
 use Rattle.std.specs.declared.cmp.Ordering.TheVariants.{Less, Equal, Greater}
 use Rattle.std.specs.Ordering.{is_eq, ordering_then}
 use Rattle.values.specs.Row.{Row, row_cmp, same_row, value_at, value_cmp}
-use Rattle.values.specs.Window.{Element, Window, Range, Unbounded, LastRows, counts, count_later, is_later, same_in, shows, window_rows}
-use Rattle.values.proofs.Windows.{tally, tally-append, tally_is}
-use Rattle.windows.specs.Laws.{AreUpTo, ComeAfter, Each, IsLater, IsRising, is_of, shown_of}
+use Rattle.values.specs.Window.{Element, is_later, same_in}
+use Rattle.values.proofs.Windows.{tally, tally-append}
+use Rattle.windows.specs.Laws.{Each, is_of}
 use Rattle.windows.specs.Latest.{key_in, last_of}
 use Rattle.windows.proofs.LatestLemmas.{last_of-few}
 use Rattle.windows.proofs.PartLemmas.{same_exact, same_self}

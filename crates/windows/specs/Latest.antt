@@ -1,5 +1,5 @@
 -- The turns of a window of the last rows of each partition.
-use Rattle.std.specs.Prelude.{ℕ, suc, ◌-◌, ◌+◌, ◌≡◌, ◌≤◌, Bool, true, false, cond, nat_lt, Option, Some, None, List, [], ◌∷◌, ◌++◌, map, length, drop, get_or, unwrap_or}
+use Rattle.std.specs.Prelude.{ℕ, suc, ◌-◌, ◌≡◌, ◌≤◌, Bool, false, cond, nat_lt, Option, Some, None, List, [], ◌∷◌, ◌++◌, map, length, drop, get_or, unwrap_or}
 use Rattle.std.specs.Map.{lookup}
 use Rattle.std.specs.Option.{option_map}
 use Rattle.std.specs.BTreeMap.{is_at}

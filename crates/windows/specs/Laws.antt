@@ -1,5 +1,5 @@
 -- The law of one step of a window, by the bag that the window shows (Arasu, Babu and Widom, "The CQL continuous query language", 2006).
-use Rattle.std.specs.Prelude.{ℕ, suc, ◌+◌, ◌<◌, ◌≤◌, ◌≡◌, Bool, true, Option, Some, None, List, [], ◌∷◌, ◌++◌, map, filter}
+use Rattle.std.specs.Prelude.{ℕ, ◌<◌, ◌≤◌, ◌≡◌, Bool, true, Option, Some, None, List, [], ◌∷◌, ◌++◌, map, filter}
 use Rattle.values.specs.Row.{Row, same_row}
 use Rattle.values.specs.Window.{Element, Window, Range, Unbounded, LastRows, is_later, plain, shows, window_rows}
 use Rattle.op_queue.specs.Signed.{Same, Turns}

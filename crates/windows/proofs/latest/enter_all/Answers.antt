@@ -1,7 +1,7 @@
-use Rattle.std.proofs.Common.{arith, ℕ, List, Bool}
+use Rattle.std.proofs.Common.{arith, Bool}
 use Rattle.values.specs.Row.{Row}
 use Rattle.column.specs.Rows.{signed}
-use Rattle.windows.specs.Latest.{held_in, held_after}
+use Rattle.windows.specs.Latest.{held_in}
 use Rattle.windows.proofs.EnterLemmas.{after_more, enter_is, few_more, parts_more}
 use Rattle.windows.proofs.latest.enter_all.Goals as goal
 

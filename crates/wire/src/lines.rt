@@ -11,6 +11,8 @@ const CHUNK: usize = 4096;
 
 const LONGEST_LINE: usize = 65_536;
 
+const GROUP: usize = 64;
+
 /// The buffers of a reader of lines: the bytes that it has read ahead, and the line that it read last.
 #[derive(Drop)]
 pub struct Lines {
@@ -24,13 +26,25 @@ pub struct Lines {
     ghost room: { longest_line ≤ vec_capacity line },
 }
 
+/// How many bytes in front have no line feed among them, by whole groups of `GROUP` bytes, which lanes look at together.
+fn clear_front(bytes: &[u8]) -> usize
+    ensures clear { EachOther bytes.now result }
+    ensures within { result ≤ length bytes.now }
+{
+    let mut clear = 0;
+    while bytes.len() - clear >= GROUP && !bytes[clear..clear + GROUP].contains(&b'\n') {
+        clear += GROUP;
+    }
+    clear
+}
+
 /// The place of the first line feed.
 fn feed_at(bytes: &[u8]) -> Option<usize>
     ensures { MatchOption result (EachOther bytes.now (length bytes.now))
         (λ at. (at < length bytes.now) × (slice_index bytes.now at ≡ 10) × EachOther bytes.now at) }
 {
-    for (at, byte) in bytes.iter().enumerate() {
-        if *byte == b'\n' {
+    for at in clear_front(bytes)..bytes.len() {
+        if bytes[at] == b'\n' {
             return Some(at);
         }
     }

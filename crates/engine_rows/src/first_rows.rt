@@ -1,10 +1,11 @@
 //! Rows that come, turns that go out, answers that are taken.
 
-use crate::engines::{ISTREAM, append, asked, hands_out, pends};
+use crate::engines::{ISTREAM, append, asked, finish_turns, hands_out, pends, run};
 use leases::{Engine, Leased};
 use reference::{Answering, Fault};
 use std::alloc::Global;
 use std::test::Fail;
+use turn::Done;
 
 /// An engine whose query has three rows and four ticks to take.
 fn closed(alloc: Global) -> Result<Engine, Fault> {
@@ -88,5 +89,34 @@ fn two_leases(alloc: Global) -> Result<([Option<u64>; 2], usize), Fault> {
 #[test]
 fn an_operator_is_leased_once_at_a_time(rt: HostRuntime) -> Result<(), Fail> {
     assert_eq!(rt; two_leases(rt.alloc())?, ([Some(0), None], 1));
+    Ok(())
+}
+
+/// An engine that was drained while a worker had the turn of the second operator.
+fn drained_beside_a_turn(alloc: Global) -> Result<(Engine, Done), Fault> {
+    let mut engine = closed(alloc)?;
+    finish_turns(alloc, &mut engine, 1)?;
+    let done = run(alloc, &mut engine)?;
+    engine.drain(1_024)?;
+    Ok((engine, done))
+}
+
+// four ticks, the three rows, and the row of the instant 1 once more, which leaves at 2
+fn out_over_a_drain(alloc: Global) -> Result<(usize, bool), Fault> {
+    let (engine, _done) = drained_beside_a_turn(alloc)?;
+    Ok((engine.leases_out(), pends(&engine, 0, &[0, 8, 0])?))
+}
+
+fn back_after_a_drain(alloc: Global) -> Result<bool, Fault> {
+    let (mut engine, done) = drained_beside_a_turn(alloc)?;
+    engine.finish(done)?;
+    engine.drain(1_024)?;
+    hands_out(&mut engine, 0, &[(1, 5), (3, 6), (3, 7)])
+}
+
+#[test]
+fn a_drain_leaves_the_turns_of_workers_out(rt: HostRuntime) -> Result<(), Fail> {
+    assert_eq!(rt; out_over_a_drain(rt.alloc())?, (1, true));
+    assert!(rt; back_after_a_drain(rt.alloc())?);
     Ok(())
 }

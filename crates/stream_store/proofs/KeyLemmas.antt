@@ -1,49 +1,33 @@
--- The entries of open rows: what one more leaves as it was.
-use Rattle.std.proofs.Common.{◌≡◌, ◌<◌, ◌≤◌, ◌+◌, ℕ, ℤ, suc, Bool, true, false, cond, nat_lt, nat_le, Option, List, [], ◌∷◌, ◌++◌, append-nil, append_assoc, length, map, refl, sym, ap, subst, ◌∙◌, arith, ◌⊎◌, inl, inr}
+-- The open rows of each instant, and what one more row leaves as it was.
+use Rattle.std.proofs.Common.{◌≡◌, ◌<◌, ◌≤◌, ℕ, ℤ, suc, Bool, true, false, cond, nat_lt, nat_le, Option, Some, None, List, [], ◌∷◌, ◌++◌, append-nil, append_assoc, length, take, map, refl, sym, ap, subst, ◌∙◌, arith, ◌⊎◌, inl, inr}
 use Rattle.std.specs.declared.cmp.Ordering.{Ordering}
 use Rattle.std.specs.declared.cmp.Ordering.TheVariants.{Less, Equal, Greater}
-use Rattle.std.specs.Ordering.{nat_cmp, ordering_then, match_ordering, MatchOrdering, is_gt}
-use Rattle.std.specs.Cmp.{nat_cmp_is}
-use Rattle.std.specs.BTreeMap.{insert_entry}
-use Rattle.std.specs.Map.{keys_of}
+use Rattle.std.specs.Ordering.{nat_cmp, match_ordering, MatchOrdering, is_gt, is_eq}
+use Rattle.std.specs.Cmp.{nat_cmp_is, nat_cmp_total}
+use Rattle.std.specs.BTreeMap.{insert_entry, is_at}
+use Rattle.std.specs.Map.{keys_of, lookup, set_value}
 use Rattle.std.specs.List.{AllByRecursion, All, filter}
+use Rattle.std.specs.Map.Calls.{RetainsPairs}
 use Rattle.std.specs.List.Sorted.{IsStrictlySortedBy}
 use Rattle.std.proofs.lemmas.Bool.{cases_order, lt-leb, le-leb, lt-ltb, le-ltb}
+use Rattle.std.proofs.lemmas.Map.{lookup-none}
+use Rattle.std.proofs.lemmas.Map.Entries.{none_below_head}
 use Rattle.std.proofs.lemmas.Map.Keys.{sorted_head, sorted_tail}
+use Rattle.std.proofs.lemmas.List.{map-append, take-append-le, take_all}
+use Rattle.std.proofs.lemmas.List.Elements.{filter-append}
+use Rattle.std.proofs.lemmas.List.Sums.{length-filter, count_by-le-length}
 use Rattle.arrayvec.specs.ArrayVec.{ArrayVec}
+use Rattle.values.specs.Row.{Row}
 use Rattle.values.specs.Window.{Element}
-use Rattle.std.proofs.lemmas.List.{map-append}
 use Rattle.op_queue.specs.Tables.{element}
 use Rattle.op_queue.specs.declared.log.Arrival.{Arrival}
-use Rattle.stream_store.specs.Open.{Entry, key_cmp, element_of, open_of, after_put, below, up_to, past}
+use Rattle.stream_store.specs.OpenRows.{RowsAt, none_at, with_row, first_below, has_rows}
+use Rattle.stream_store.specs.Open.{Entry, AreWide, elements_at, open_of, put_row, placed, below, instants_past, up_to, past}
 
 abbrev pub Kept : Type 0
 Kept = ArrayVec (Option ℤ)
 
-cmp_means : (a b : ℕ) → MatchOrdering (nat_cmp a b) (a < b) (a ≡ b) (b < a)
-cmp_means a b = here (cases_order a b)
-  where
-    here : (a ≡ b) ⊎ ((a < b) ⊎ (b < a)) → MatchOrdering (nat_cmp a b) (a < b) (a ≡ b) (b < a)
-    here (inl e) = subst (λ r. MatchOrdering r (a < b) (a ≡ b) (b < a)) (nat_cmp_is a b Equal e) e
-    here (inr (inl e)) = subst (λ r. MatchOrdering r (a < b) (a ≡ b) (b < a)) (nat_cmp_is a b Less e) e
-    here (inr (inr e)) = subst (λ r. MatchOrdering r (a < b) (a ≡ b) (b < a)) (nat_cmp_is a b Greater e) e
-
-pub less_means : (a b : ℕ × ℕ) → key_cmp a b ≡ Less → (a.0 ≤ b.0) × (a.0 ≡ b.0 → a.1 < b.1)
-less_means a b h = here (nat_cmp a.0 b.0) (cmp_means a.0 b.0) h
-  where
-    here : (o : Ordering) → MatchOrdering o (a.0 < b.0) (a.0 ≡ b.0) (b.0 < a.0) → ordering_then o (nat_cmp a.1 b.1) ≡ Less → (a.0 ≤ b.0) × (a.0 ≡ b.0 → a.1 < b.1)
-    here Less m g = (omega (arith, m), λ e. absurd (omega (arith, m, e)))
-    here Equal m g = (omega (arith, m), λ e. subst (λ r. MatchOrdering r (a.1 < b.1) (a.1 ≡ b.1) (b.1 < a.1)) g (cmp_means a.1 b.1))
-    here Greater m g = cc
-
-equal_means : (a b : ℕ × ℕ) → key_cmp a b ≡ Equal → a.1 ≡ b.1
-equal_means a b h = here (nat_cmp a.0 b.0) h
-  where
-    here : (o : Ordering) → ordering_then o (nat_cmp a.1 b.1) ≡ Equal → a.1 ≡ b.1
-    here Less g = cc
-    here Equal g = subst (λ r. MatchOrdering r (a.1 < b.1) (a.1 ≡ b.1) (b.1 < a.1)) g (cmp_means a.1 b.1)
-    here Greater g = cc
-
+-- ---- facts of each
 pub filter_none : {X : Type 0} (p : X → Bool) (xs : List X) → AllByRecursion (λ x. p x ≡ false) xs → filter p xs ≡ []
 filter_none p [] h = refl
 filter_none p (x ∷ xs) h = rw (h.0) (filter_none p xs h.1)
@@ -57,68 +41,10 @@ pub each_from : {X : Type 0} (P Q : X → Type 0) → ((x : X) → P x → Q x) 
 each_from P Q f [] h = tt
 each_from P Q f (x ∷ xs) h = (f x h.0, each_from P Q f xs h.1)
 
--- ---- one more row, of the number k.1
-module _ (q : ℕ → Bool) (k : ℕ × ℕ) (v : Kept) where
-  other_at : (e : Entry) (es : List Entry) → q k.1 ≡ false
-      → filter (λ (e : Entry). q e.0.1) (insert_entry key_cmp es k v) ≡ filter (λ (e : Entry). q e.0.1) es
-      → (o : Ordering) → key_cmp k e.0 ≡ o
-      → filter (λ (e : Entry). q e.0.1) (match_ordering o ((k, v) ∷ e ∷ es) ((e.0, v) ∷ es) (e ∷ insert_entry key_cmp es k v)) ≡ filter (λ (e : Entry). q e.0.1) (e ∷ es)
-  other_at e es h ih Less g = rw h refl
-  other_at e es h ih Equal g =
-      let i : q e.0.1 ≡ false = subst (λ n. q n ≡ false) (equal_means k e.0 g) h in
-      rw i refl
-  other_at e es h ih Greater g = ap (λ (xs : List Entry). cond (q e.0.1) (e ∷ xs) xs) ih
+pub each-append : {X : Type 0} (P : X → Type 0) (xs ys : List X) → AllByRecursion P xs → AllByRecursion P ys → AllByRecursion P (xs ++ ys)
+each-append P [] ys h k = k
+each-append P (x ∷ xs) ys h k = (h.0, each-append P xs ys h.1 k)
 
-  -- a test that the number fails
-  pub filter-insert_other : (es : List Entry) → q k.1 ≡ false → filter (λ (e : Entry). q e.0.1) (insert_entry key_cmp es k v) ≡ filter (λ (e : Entry). q e.0.1) es
-  filter-insert_other [] h = rw h refl
-  filter-insert_other (e ∷ es) h = other_at e es h (filter-insert_other es h) (key_cmp k e.0) refl
-
-  only_at : (e : Entry) (es : List Entry) → q k.1 ≡ true → q e.0.1 ≡ false → AllByRecursion (λ (e : Entry). q e.0.1 ≡ false) es
-      → filter (λ (e : Entry). q e.0.1) (insert_entry key_cmp es k v) ≡ (k, v) ∷ []
-      → (o : Ordering) → key_cmp k e.0 ≡ o
-      → filter (λ (e : Entry). q e.0.1) (match_ordering o ((k, v) ∷ e ∷ es) ((e.0, v) ∷ es) (e ∷ insert_entry key_cmp es k v)) ≡ (k, v) ∷ []
-  only_at e es h i none ih Less g = rw (h, i) (ap (λ (xs : List Entry). (k, v) ∷ xs) (filter_none (λ (e : Entry). q e.0.1) es none))
-  only_at e es h i none ih Equal g = let j : q e.0.1 ≡ true = subst (λ n. q n ≡ true) (equal_means k e.0 g) h in let l : true ≡ false = sym j ∙ i in cc
-  only_at e es h i none ih Greater g = rw i ih
-
-  -- a test that it alone passes
-  pub filter-insert_only : (es : List Entry) → q k.1 ≡ true → AllByRecursion (λ (e : Entry). q e.0.1 ≡ false) es → filter (λ (e : Entry). q e.0.1) (insert_entry key_cmp es k v) ≡ (k, v) ∷ []
-  filter-insert_only [] h none = rw h refl
-  filter-insert_only (e ∷ es) h none = only_at e es h none.0 none.1 (filter-insert_only es h none.1) (key_cmp k e.0) refl
-
-module _ (P : Entry → Type 0) (k : ℕ × ℕ) (v : Kept) (new : P (k, v)) (changed : (e : Entry) → P e → P (e.0, v)) where
-  each_at : (e : Entry) (es : List Entry) → P e → AllByRecursion P es → AllByRecursion P (insert_entry key_cmp es k v) → (o : Ordering)
-      → AllByRecursion P (match_ordering o ((k, v) ∷ e ∷ es) ((e.0, v) ∷ es) (e ∷ insert_entry key_cmp es k v))
-  each_at e es p ps ih Less = (new, (p, ps))
-  each_at e es p ps ih Equal = (changed e p, ps)
-  each_at e es p ps ih Greater = (p, ih)
-
-  pub each-insert : (es : List Entry) → AllByRecursion P es → AllByRecursion P (insert_entry key_cmp es k v)
-  each-insert [] h = (new, tt)
-  each-insert (e ∷ es) h = each_at e es h.0 h.1 (each-insert es h.1) (key_cmp k e.0)
-
--- a row of the number n or later leaves the rows below n as they were
-pub below-insert : (n : ℕ) (k : ℕ × ℕ) (v : Kept) (es : List Entry) → n ≤ k.1 → below n (insert_entry key_cmp es k v) ≡ below n es
-below-insert n k v es h = filter-insert_other (λ m. nat_lt m n) k v es (le-ltb k.1 n h)
-
--- ---- rows that come one after another
-module _ (until columns : ℕ) where
-  pub each-put : (n : ℕ) (rows : List (ℕ × Kept)) (es : List Entry)
-      → AllByRecursion (λ (r : ℕ × Kept). until ≤ r.0) rows → AllByRecursion (λ (r : ℕ × Kept). length r.1.items ≡ columns) rows
-      → AllByRecursion (λ (e : Entry). until ≤ e.0.0) es → AllByRecursion (λ (e : Entry). length e.1.items ≡ columns) es → AllByRecursion (λ (e : Entry). e.0.1 < n) es
-      → AllByRecursion (λ (e : Entry). until ≤ e.0.0) (after_put n rows es) × AllByRecursion (λ (e : Entry). length e.1.items ≡ columns) (after_put n rows es)
-      × AllByRecursion (λ (e : Entry). e.0.1 < n + length rows) (after_put n rows es)
-  each-put n [] es later wide opened broad numbered = (opened, broad, each_from (λ (e : Entry). e.0.1 < n) (λ (e : Entry). e.0.1 < n + 0) (λ e h. omega (arith, h)) es numbered)
-  each-put n (r ∷ rows) es later wide opened broad numbered =
-      let k : ℕ × ℕ = (r.0, n) in
-      let rest = each-put (n + 1) rows (insert_entry key_cmp es k r.1) later.1 wide.1
-      (each-insert (λ (e : Entry). until ≤ e.0.0) k r.1 later.0 (λ e h. h) es opened)
-      (each-insert (λ (e : Entry). length e.1.items ≡ columns) k r.1 wide.0 (λ e h. wide.0) es broad)
-      (each-insert (λ (e : Entry). e.0.1 < n + 1) k r.1 (omega arith) (λ e h. h) es (each_from (λ (e : Entry). e.0.1 < n) (λ (e : Entry). e.0.1 < n + 1) (λ e h. omega (arith, h)) es numbered)) in
-      (rest.0, rest.1, each_from (λ (e : Entry). e.0.1 < n + 1 + length rows) (λ (e : Entry). e.0.1 < n + suc (length rows)) (λ e h. omega (arith, h)) (after_put n (r ∷ rows) es) rest.2)
-
--- ---- rows that stay
 pub each-kept : {X : Type 0} (P : X → Type 0) (p : X → Bool) (xs : List X) → AllByRecursion P xs → AllByRecursion P (filter p xs)
 each-kept P p [] h = tt
 each-kept P p (x ∷ xs) h = here (each-kept P p xs h.1) (p x)
@@ -135,72 +61,254 @@ each_passes p (x ∷ xs) = here (each_passes p xs) (p x) refl
     here ih true h = (h, ih)
     here ih false h = ih
 
-keys_kept : (P : ℕ × ℕ → Type 0) (p : Entry → Bool) (es : List Entry) → AllByRecursion P (keys_of es) → AllByRecursion P (keys_of (filter p es))
-keys_kept P p [] h = tt
-keys_kept P p (e ∷ es) h = here (keys_kept P p es h.1) (p e)
+-- ---- keys in order
+cmp_means : (a b : ℕ) → MatchOrdering (nat_cmp a b) (a < b) (a ≡ b) (b < a)
+cmp_means a b = here (cases_order a b)
   where
-    here : AllByRecursion P (keys_of (filter p es)) → (b : Bool) → AllByRecursion P (keys_of (cond b (e ∷ filter p es) (filter p es)))
-    here ih true = (h.0, ih)
-    here ih false = ih
+    here : (a ≡ b) ⊎ ((a < b) ⊎ (b < a)) → MatchOrdering (nat_cmp a b) (a < b) (a ≡ b) (b < a)
+    here (inl e) = subst (λ r. MatchOrdering r (a < b) (a ≡ b) (b < a)) (nat_cmp_is a b Equal e) e
+    here (inr (inl e)) = subst (λ r. MatchOrdering r (a < b) (a ≡ b) (b < a)) (nat_cmp_is a b Less e) e
+    here (inr (inr e)) = subst (λ r. MatchOrdering r (a < b) (a ≡ b) (b < a)) (nat_cmp_is a b Greater e) e
 
-pub sorted-filter : (p : Entry → Bool) (es : List Entry) → IsStrictlySortedBy key_cmp (keys_of es) → IsStrictlySortedBy key_cmp (keys_of (filter p es))
-unfolding IsStrictlySortedBy
-sorted-filter p [] h = tt
-sorted-filter p (e ∷ es) h = here (sorted-filter p es h.1) (keys_kept (λ k. key_cmp e.0 k ≡ Less) p es h.0) (p e)
+less_means : (a b : ℕ) → nat_cmp a b ≡ Less → a < b
+less_means a b h = subst (λ r. MatchOrdering r (a < b) (a ≡ b) (b < a)) h (cmp_means a b)
+
+pub sorted_rest : (e : Entry) (es : List Entry) → IsStrictlySortedBy nat_cmp (keys_of (e ∷ es)) → IsStrictlySortedBy nat_cmp (keys_of es)
+sorted_rest e es h = sorted_tail nat_cmp e.0 (keys_of es) h
+
+-- what holds of all elements of an instant
+each-at : (P : Element → Type 0) (t : ℕ) → ((e : Element) → e.instant ≡ t → P e) → (rows : List (ℕ × Row)) → AllByRecursion P (elements_at t rows)
+each-at P t f [] = tt
+each-at P t f (r ∷ rows) = (f (record { arrival = r.0; instant = t; row = r.1 }) refl, each-at P t f rows)
+
+-- the elements of later instants are later
+all_later : (t : ℕ) (es : List Entry) → AllByRecursion (λ k. nat_cmp t k ≡ Less) (keys_of es) → AllByRecursion (λ (e : Element). t < e.instant) (open_of es)
+all_later t [] h = tt
+all_later t (e ∷ es) h =
+    let lt = less_means t e.0 h.0 in
+    each-append (λ (e : Element). t < e.instant) (elements_at e.0 e.1.rows) (open_of es) (each-at (λ g. t < g.instant) e.0 (λ g i. omega (arith, i, lt)) e.1.rows) (all_later t es h.1)
+
+later_rest : (t : ℕ) (e : Entry) (es : List Entry) → t ≤ e.0 → IsStrictlySortedBy nat_cmp (keys_of (e ∷ es)) → AllByRecursion (λ (g : Element). t < g.instant) (open_of es)
+later_rest t e es le h = each_from (λ (g : Element). e.0 < g.instant) (λ (g : Element). t < g.instant) (λ g lt. omega (arith, le, lt)) (open_of es) (all_later e.0 es (sorted_head nat_cmp e.0 (keys_of es) h))
+
+-- ---- one more row
+placed_first : (last : Element) (es : List Element) → AllByRecursion (λ (e : Element). last.instant < e.instant) es → placed last es ≡ last ∷ es
+placed_first last [] h = refl
+placed_first last (e ∷ es) h = rw (lt-ltb last.instant e.instant h.0) refl
+
+placed_behind : (last : Element) (xs ys : List Element) → AllByRecursion (λ (e : Element). e.instant ≤ last.instant) xs → placed last (xs ++ ys) ≡ xs ++ placed last ys
+placed_behind last [] ys h = refl
+placed_behind last (x ∷ xs) ys h = rw (le-ltb last.instant x.instant h.0) (ap (λ zs. x ∷ zs) (placed_behind last xs ys h.1))
+
+module _ (width t n : ℕ) (row : Row) where
+  abbrev last : Element
+  last = record { arrival = n; instant = t; row = row }
+
+  abbrev single : RowsAt
+  single = with_row n row (none_at width)
+
+  pub open-put_row : (es : List Entry) → IsStrictlySortedBy nat_cmp (keys_of es) → open_of (put_row width t n row es) ≡ placed last (open_of es)
+  open-put_row [] h = refl
+  open-put_row (e ∷ es) h = here (nat_cmp t e.0) (cmp_means t e.0) (open-put_row es (sorted_rest e es h))
+    where
+      here : (o : Ordering) → MatchOrdering o (t < e.0) (t ≡ e.0) (e.0 < t) → open_of (put_row width t n row es) ≡ placed last (open_of es)
+          → open_of (match_ordering o ((t, single) ∷ e ∷ es) ((e.0, with_row n row e.1) ∷ es) (e ∷ put_row width t n row es)) ≡ placed last (elements_at e.0 e.1.rows ++ open_of es)
+      here Less m ih =
+          sym (placed_first last (elements_at e.0 e.1.rows ++ open_of es) (each-append (λ (g : Element). t < g.instant) (elements_at e.0 e.1.rows) (open_of es)
+          (each-at (λ g. t < g.instant) e.0 (λ g i. omega (arith, i, m)) e.1.rows) (later_rest t e es (omega (arith, m)) h)))
+      here Equal m ih =
+          ap (λ (xs : List Element). xs ++ open_of es) (map-append (λ r. record { arrival = r.0; instant = e.0; row = r.1 }) e.1.rows ((n, row) ∷ []))
+          ∙ append_assoc (elements_at e.0 e.1.rows) (record { arrival = n; instant = e.0; row = row } ∷ []) (open_of es)
+          ∙ ap (λ k. elements_at e.0 e.1.rows ++ record { arrival = n; instant = k; row = row } ∷ open_of es) (sym m)
+          ∙ sym (placed_behind last (elements_at e.0 e.1.rows) (open_of es) (each-at (λ g. g.instant ≤ t) e.0 (λ g i. omega (arith, i, m)) e.1.rows)
+          ∙ ap (λ (xs : List Element). elements_at e.0 e.1.rows ++ xs) (placed_first last (open_of es) (later_rest t e es (omega (arith, m)) h)))
+      here Greater m ih =
+          ap (λ (xs : List Element). elements_at e.0 e.1.rows ++ xs) ih
+          ∙ sym (placed_behind last (elements_at e.0 e.1.rows) (open_of es) (each-at (λ g. g.instant ≤ t) e.0 (λ g i. omega (arith, i, m)) e.1.rows))
+
+  -- where the map has the instant
+  pub put_row-found : (es : List Entry) (o : RowsAt) → IsStrictlySortedBy nat_cmp (keys_of es) → lookup (is_at (nat_cmp t)) es ≡ Some o
+      → set_value (is_at (nat_cmp t)) es (with_row n row o) ≡ put_row width t n row es
+  put_row-found [] o s h = cc
+  put_row-found (e ∷ es) o s h = here (put_row-found es o (sorted_rest e es s)) (nat_cmp t e.0) refl h
+    where
+      here : (lookup (is_at (nat_cmp t)) es ≡ Some o → set_value (is_at (nat_cmp t)) es (with_row n row o) ≡ put_row width t n row es) → (c : Ordering) → nat_cmp t e.0 ≡ c → cond (is_eq c) (Some e.1) (lookup (is_at (nat_cmp t)) es) ≡ Some o
+          → cond (is_eq c) ((e.0, with_row n row o) ∷ es) (e ∷ set_value (is_at (nat_cmp t)) es (with_row n row o))
+          ≡ match_ordering c ((t, single) ∷ e ∷ es) ((e.0, with_row n row e.1) ∷ es) (e ∷ put_row width t n row es)
+      here ih Less g i =
+          let none = lookup-none (is_at (nat_cmp t)) es (none_below_head nat_cmp_total t e es s g).1 in
+          let wrong : None ≡ Some o = sym none ∙ i in
+          cc
+      here ih Equal g i = let same : o ≡ e.1 = cc in ap (λ (x : RowsAt). (e.0, with_row n row x) ∷ es) same
+      here ih Greater g i = ap (λ xs. e ∷ xs) (ih i)
+
+  -- where it has not
+  pub put_row-absent : (es : List Entry) → lookup (is_at (nat_cmp t)) es ≡ None → insert_entry nat_cmp es t single ≡ put_row width t n row es
+  put_row-absent [] h = refl
+  put_row-absent (e ∷ es) h = here (put_row-absent es) (nat_cmp t e.0) h
+    where
+      here : (lookup (is_at (nat_cmp t)) es ≡ None → insert_entry nat_cmp es t single ≡ put_row width t n row es) → (c : Ordering) → cond (is_eq c) (Some e.1) (lookup (is_at (nat_cmp t)) es) ≡ None
+          → match_ordering c ((t, single) ∷ e ∷ es) ((e.0, single) ∷ es) (e ∷ insert_entry nat_cmp es t single)
+          ≡ match_ordering c ((t, single) ∷ e ∷ es) ((e.0, with_row n row e.1) ∷ es) (e ∷ put_row width t n row es)
+      here ih Less i = refl
+      here ih Equal i = cc
+      here ih Greater i = ap (λ xs. e ∷ xs) (ih i)
+
+  pub wide-put_row : (es : List Entry) → AreWide width es → AreWide width (put_row width t n row es)
+  wide-put_row [] h = (refl, tt)
+  wide-put_row (e ∷ es) h = here (nat_cmp t e.0) (wide-put_row es h.1)
+    where
+      here : (c : Ordering) → AreWide width (put_row width t n row es)
+          → AreWide width (match_ordering c ((t, single) ∷ e ∷ es) ((e.0, with_row n row e.1) ∷ es) (e ∷ put_row width t n row es))
+      here Less ih = (refl, (h.0, h.1))
+      here Equal ih = (h.0, h.1)
+      here Greater ih = (h.0, ih)
+
+-- what the map has at an instant is wide
+pub wide_found : (width t : ℕ) (es : List Entry) (o : RowsAt) → AreWide width es → lookup (is_at (nat_cmp t)) es ≡ Some o → o.width ≡ width
+wide_found width t [] o h i = cc
+wide_found width t (e ∷ es) o h i = here (wide_found width t es o h.1) (is_at (nat_cmp t) e.0) i
   where
-    here : IsStrictlySortedBy key_cmp (keys_of (filter p es)) → AllByRecursion (λ k. key_cmp e.0 k ≡ Less) (keys_of (filter p es)) → (b : Bool)
-        → IsStrictlySortedBy key_cmp (keys_of (cond b (e ∷ filter p es) (filter p es)))
-    here ih first true = (first, ih)
-    here ih first false = ih
+    here : (lookup (is_at (nat_cmp t)) es ≡ Some o → o.width ≡ width) → (b : Bool) → cond b (Some e.1) (lookup (is_at (nat_cmp t)) es) ≡ Some o → o.width ≡ width
+    here ih true g = let same : o ≡ e.1 = cc in ap (λ (x : RowsAt). x.width) same ∙ h.0
+    here ih false g = ih g
+
+-- ---- the rows of a refused append
+module _ (first : ℕ) where
+  below_first : (e : Entry) (es : List Entry) → below first (e ∷ es) ≡ cond (has_rows (first_below first e.1)) ((e.0, first_below first e.1) ∷ below first es) (below first es)
+  below_first e es = refl
+
+  -- a row of the number `first` or later is not kept
+  first_below-with_row : (n : ℕ) (row : Row) (o : RowsAt) → first ≤ n → first_below first (with_row n row o) ≡ first_below first o
+  first_below-with_row n row o le =
+      let p : ℕ × Row → Bool = λ r. nat_lt r.0 first in
+      let none : filter p ((n, row) ∷ []) ≡ [] = rw (le-ltb n first le) refl in
+      let same : filter p (o.rows ++ (n, row) ∷ []) ≡ filter p o.rows = filter-append p o.rows ((n, row) ∷ []) ∙ ap (λ (xs : List (ℕ × Row)). filter p o.rows ++ xs) none ∙ append-nil (filter p o.rows) in
+      let few : length (filter p o.rows) ≤ length o.rows = omega (arith, length-filter p o.rows, count_by-le-length p o.rows) in
+      ap (λ (rows : List (ℕ × Row)). record { width = o.width; rows = rows }) (ap (λ (xs : List (ℕ × Row)). take (length xs) (o.rows ++ (n, row) ∷ [])) same ∙ take-append-le (length (filter p o.rows)) o.rows ((n, row) ∷ []) few)
+
+  none_below : (width n : ℕ) (row : Row) → first ≤ n → has_rows (first_below first (with_row n row (none_at width))) ≡ false
+  none_below width n row le = ap has_rows (first_below-with_row n row (none_at width) le)
+
+  pub below-put_row : (width t n : ℕ) (row : Row) (es : List Entry) → first ≤ n → below first (put_row width t n row es) ≡ below first es
+  below-put_row width t n row [] le = rw (none_below width n row le) refl
+  below-put_row width t n row (e ∷ es) le = here (nat_cmp t e.0) (below-put_row width t n row es le)
+    where
+      single : RowsAt
+      single = with_row n row (none_at width)
+
+      here : (c : Ordering) → below first (put_row width t n row es) ≡ below first es
+          → below first (match_ordering c ((t, single) ∷ e ∷ es) ((e.0, with_row n row e.1) ∷ es) (e ∷ put_row width t n row es)) ≡ below first (e ∷ es)
+      here Less ih = rw (none_below width n row le) refl
+      here Equal ih = ap (λ (o : RowsAt). cond (has_rows o) ((e.0, o) ∷ below first es) (below first es)) (first_below-with_row n row e.1 le)
+      here Greater ih = ap (λ xs. cond (has_rows (first_below first e.1)) ((e.0, first_below first e.1) ∷ xs) xs) ih
+
+  each-front : (P : Element → Type 0) (xs ys : List Element) → AllByRecursion P (xs ++ ys) → AllByRecursion P xs
+  each-front P [] ys h = tt
+  each-front P (x ∷ xs) ys h = (h.0, each-front P xs ys h.1)
+
+  each-back : (P : Element → Type 0) (xs ys : List Element) → AllByRecursion P (xs ++ ys) → AllByRecursion P ys
+  each-back P [] ys h = h
+  each-back P (x ∷ xs) ys h = each-back P xs ys h.1
+
+  all_below : (t : ℕ) (rows : List (ℕ × Row)) → AllByRecursion (λ (e : Element). e.arrival < first) (elements_at t rows) → filter (λ r. nat_lt r.0 first) rows ≡ rows
+  all_below t [] h = refl
+  all_below t (r ∷ rows) h = rw (lt-ltb r.0 first h.0) (ap (λ xs. r ∷ xs) (all_below t rows h.1))
+
+  -- rows of lower numbers stay
+  pub open-below : (es : List Entry) → AllByRecursion (λ (e : Element). e.arrival < first) (open_of es) → open_of (below first es) ≡ open_of es
+  open-below [] h = refl
+  open-below (e ∷ es) h =
+      let P : Element → Type 0 = λ g. g.arrival < first in
+      let kept : first_below first e.1 ≡ e.1 =
+      ap (λ (rows : List (ℕ × Row)). record { width = e.1.width; rows = rows })
+      (ap (λ (xs : List (ℕ × Row)). take (length xs) e.1.rows) (all_below e.0 e.1.rows (each-front P (elements_at e.0 e.1.rows) (open_of es) h)) ∙ take_all (length e.1.rows) e.1.rows (omega arith)) in
+      ap (λ (o : RowsAt). open_of (cond (has_rows o) ((e.0, o) ∷ below first es) (below first es))) kept
+      ∙ here e.1.rows (open-below es (each-back P (elements_at e.0 e.1.rows) (open_of es) h))
+    where
+      here : (rows : List (ℕ × Row)) → open_of (below first es) ≡ open_of es
+          → open_of (cond (nat_lt 0 (length rows)) ((e.0, record { width = e.1.width; rows = rows }) ∷ below first es) (below first es)) ≡ elements_at e.0 rows ++ open_of es
+      here [] ih = ih
+      here (r ∷ rows) ih = rw (lt-ltb 0 (length (r ∷ rows)) (omega arith)) (ap (λ (xs : List Element). elements_at e.0 (r ∷ rows) ++ xs) ih)
+
+  pub wide-below : (width : ℕ) (es : List Entry) → AreWide width es → AreWide width (below first es)
+  wide-below width es h = each-kept (λ (e : Entry). e.1.width ≡ width) (λ e. has_rows e.1) (map (λ e. (e.0, first_below first e.1)) es) (each es h)
+    where
+      each : (es : List Entry) → AreWide width es → AreWide width (map (λ e. (e.0, first_below first e.1)) es)
+      each [] h = tt
+      each (e ∷ es) h = (h.0, each es h.1)
+
+-- what a closure leaves that changes each value and then tests it
+pub changed_from_retain_pairs : {K X F : Type 0} (T : F → K → X → Bool → X → F → Type 0) (I : F → Type 0) (p : X → Bool) (g : X → X)
+    → ((f : F) (k : K) (v : X) (b : Bool) (w : X) (f' : F) → I f → T f k v b w f' → (b ≡ p w) × (w ≡ g v) × I f')
+    → (f : F) (es kept : List (K × X)) → I f → RetainsPairs T f es kept → kept ≡ filter (λ e. p e.1) (map (λ e. (e.0, g e.1)) es)
+changed_from_retain_pairs T I p g step f [] kept i r = r
+changed_from_retain_pairs T I p g step f (e ∷ es) kept i r =
+    let s = step f e.0 e.1 r.0 r.1 r.2 i r.4 in
+    let rest = changed_from_retain_pairs T I p g step r.2 es r.3 s.2 r.5 in
+    r.6 ∙ ap (λ b. cond b ((e.0, r.1) ∷ r.3) r.3) (s.0 ∙ ap p s.1) ∙ ap (λ w. cond (p (g e.1)) ((e.0, w) ∷ r.3) r.3) s.1
+    ∙ ap (λ xs. cond (p (g e.1)) ((e.0, g e.1) ∷ xs) xs) rest
 
 -- ---- the rows up to an instant stand first
-gt_means : (a b : ℕ × ℕ) → is_gt (key_cmp a b) ≡ false → a.0 ≤ b.0
-gt_means a b h = here (nat_cmp a.0 b.0) (cmp_means a.0 b.0) h
+gt_means : (a b : ℕ) → is_gt (nat_cmp a b) ≡ false → a ≤ b
+gt_means a b h = here (nat_cmp a b) (cmp_means a b) h
   where
-    here : (o : Ordering) → MatchOrdering o (a.0 < b.0) (a.0 ≡ b.0) (b.0 < a.0) → is_gt (ordering_then o (nat_cmp a.1 b.1)) ≡ false → a.0 ≤ b.0
+    here : (o : Ordering) → MatchOrdering o (a < b) (a ≡ b) (b < a) → is_gt o ≡ false → a ≤ b
     here Less m g = omega (arith, m)
     here Equal m g = omega (arith, m)
     here Greater m g = cc
 
 -- all come after a key past the instant
-pub all_past : (at : ℕ) (k : ℕ × ℕ) (es : List Entry) → at < k.0 → All (λ q. is_gt (key_cmp k q) ≡ false) (keys_of es) → past at es ≡ es
-all_past at k es lt h = filter_all (λ (e : Entry). nat_lt at e.0.0) es (each es h)
+pub all_past : (at k : ℕ) (es : List Entry) → at < k → All (λ q. is_gt (nat_cmp k q) ≡ false) (keys_of es) → instants_past at es ≡ es
+all_past at k es lt h = filter_all (λ (e : Entry). nat_lt at e.0) es (each es h)
   where
-    each : (xs : List Entry) → All (λ q. is_gt (key_cmp k q) ≡ false) (keys_of xs) → AllByRecursion (λ (e : Entry). nat_lt at e.0.0 ≡ true) xs
+    each : (xs : List Entry) → All (λ q. is_gt (nat_cmp k q) ≡ false) (keys_of xs) → AllByRecursion (λ (e : Entry). nat_lt at e.0 ≡ true) xs
     each [] h = tt
-    each (e ∷ xs) h = (let le : k.0 ≤ e.0.0 = gt_means k e.0 (h 0 e.0 (omega arith)) in lt-ltb at e.0.0 (omega (arith, lt, le)), each xs (λ i d l. h (suc i) d (omega (arith, l))))
+    each (e ∷ xs) h = (let le : k ≤ e.0 = gt_means k e.0 (h 0 e.0 (omega arith)) in lt-ltb at e.0 (omega (arith, lt, le)), each xs (λ i d l. h (suc i) d (omega (arith, l))))
 
-pub none_up_to : (at : ℕ) (k : ℕ × ℕ) (es : List Entry) → at < k.0 → AllByRecursion (λ q. key_cmp k q ≡ Less) (keys_of es) → up_to at es ≡ []
-none_up_to at k es lt h = filter_none (λ (e : Entry). nat_le e.0.0 at) es (each es h)
+pub open-past : (at : ℕ) (es : List Entry) → open_of (instants_past at es) ≡ past at (open_of es)
+open-past at [] = refl
+open-past at (e ∷ es) = here (nat_lt at e.0) refl (open-past at es)
   where
-    each : (xs : List Entry) → AllByRecursion (λ q. key_cmp k q ≡ Less) (keys_of xs) → AllByRecursion (λ (e : Entry). nat_le e.0.0 at ≡ false) xs
-    each [] h = tt
-    each (e ∷ xs) h = (let le = (less_means k e.0 h.0).0 in lt-leb e.0.0 at (omega (arith, lt, le)), each xs h.1)
+    p : Element → Bool
+    p = λ g. nat_lt at g.instant
 
-pub sorted_rest : (e : Entry) (es : List Entry) → IsStrictlySortedBy key_cmp (keys_of (e ∷ es)) → IsStrictlySortedBy key_cmp (keys_of es)
-sorted_rest e es h = sorted_tail key_cmp e.0 (keys_of es) h
+    here : (b : Bool) → nat_lt at e.0 ≡ b → open_of (instants_past at es) ≡ past at (open_of es)
+        → open_of (cond b (e ∷ instants_past at es) (instants_past at es)) ≡ past at (elements_at e.0 e.1.rows ++ open_of es)
+    here true i ih =
+        ap (λ (xs : List Element). elements_at e.0 e.1.rows ++ xs) ih
+        ∙ sym (filter-append p (elements_at e.0 e.1.rows) (open_of es)
+        ∙ ap (λ (xs : List Element). xs ++ past at (open_of es)) (filter_all p (elements_at e.0 e.1.rows) (each-at (λ g. p g ≡ true) e.0 (λ g same. ap (λ k. nat_lt at k) same ∙ i) e.1.rows)))
+    here false i ih =
+        ih ∙ sym (filter-append p (elements_at e.0 e.1.rows) (open_of es)
+        ∙ ap (λ (xs : List Element). xs ++ past at (open_of es)) (filter_none p (elements_at e.0 e.1.rows) (each-at (λ g. p g ≡ false) e.0 (λ g same. ap (λ k. nat_lt at k) same ∙ i) e.1.rows)))
 
--- one more is listed
-pub listed_more : (at : ℕ) (done wanted : List Element) (all rest : List Entry) (e : Entry) → all ≡ e ∷ rest → e.0.0 ≤ at → done ++ open_of (up_to at all) ≡ wanted
-    → (done ++ element_of e ∷ []) ++ open_of (up_to at rest) ≡ wanted
-listed_more at done wanted all rest e same le h =
-    append_assoc done (element_of e ∷ []) (open_of (up_to at rest))
-    ∙ ap (λ xs. done ++ open_of xs) (sym (ap (λ b. cond b (e ∷ up_to at rest) (up_to at rest)) (le-leb e.0.0 at le)))
-    ∙ ap (λ xs. done ++ open_of (up_to at xs)) (sym same) ∙ h
+pub wide-past : (at width : ℕ) (es : List Entry) → AreWide width es → AreWide width (instants_past at es)
+wide-past at width es h = each-kept (λ (e : Entry). e.1.width ≡ width) (λ (e : Entry). nat_lt at e.0) es h
+
+none_up_to : (at : ℕ) (e : Entry) (es : List Entry) → at < e.0 → IsStrictlySortedBy nat_cmp (keys_of (e ∷ es)) → up_to at (open_of (e ∷ es)) ≡ []
+none_up_to at e es lt s =
+    let p : Element → Bool = λ g. nat_le g.instant at in
+    filter_none p (open_of (e ∷ es)) (each-append (λ g. p g ≡ false) (elements_at e.0 e.1.rows) (open_of es)
+    (each-at (λ g. p g ≡ false) e.0 (λ g i. lt-leb g.instant at (omega (arith, i, lt))) e.1.rows)
+    (each_from (λ (g : Element). at < g.instant) (λ g. p g ≡ false) (λ g later. lt-leb g.instant at later) (open_of es) (later_rest at e es (omega (arith, lt)) s)))
+
+-- the rows of one more instant are listed
+pub listed_more : (at : ℕ) (old new : List Arrival) (wanted : List Element) (all rest : List Entry) (e : Entry) → all ≡ e ∷ rest → e.0 ≤ at → map element new ≡ map element old ++ elements_at e.0 e.1.rows
+    → map element old ++ up_to at (open_of all) ≡ wanted → map element new ++ up_to at (open_of rest) ≡ wanted
+listed_more at old new wanted all rest e same le copied h =
+    let p : Element → Bool = λ g. nat_le g.instant at in
+    let here : List Element = elements_at e.0 e.1.rows in
+    ap (λ (xs : List Element). xs ++ up_to at (open_of rest)) copied
+    ∙ append_assoc (map element old) here (up_to at (open_of rest))
+    ∙ ap (λ (xs : List Element). map element old ++ (xs ++ up_to at (open_of rest))) (sym (filter_all p here (each-at (λ g. p g ≡ true) e.0 (λ g i. le-leb g.instant at (omega (arith, i, le))) e.1.rows)))
+    ∙ ap (λ (xs : List Element). map element old ++ xs) (sym (filter-append p here (open_of rest)))
+    ∙ ap (λ (xs : List Entry). map element old ++ up_to at (open_of xs)) (sym same) ∙ h
 
 -- the next one lies past the instant
-pub listed_end : (at : ℕ) (done wanted : List Element) (all rest : List Entry) (e : Entry) → all ≡ e ∷ rest → at < e.0.0 → IsStrictlySortedBy key_cmp (keys_of all) → done ++ open_of (up_to at all) ≡ wanted → done ≡ wanted
+pub listed_end : (at : ℕ) (done wanted : List Element) (all rest : List Entry) (e : Entry) → all ≡ e ∷ rest → at < e.0 → IsStrictlySortedBy nat_cmp (keys_of all)
+    → done ++ up_to at (open_of all) ≡ wanted → done ≡ wanted
 listed_end at done wanted all rest e same lt sorted h =
-    let s : IsStrictlySortedBy key_cmp (keys_of (e ∷ rest)) = subst (λ (xs : List Entry). IsStrictlySortedBy key_cmp (keys_of xs)) same sorted in
-    let none : up_to at all ≡ [] =
-    ap (λ (xs : List Entry). up_to at xs) same ∙ ap (λ b. cond b (e ∷ up_to at rest) (up_to at rest)) (lt-leb e.0.0 at lt) ∙ none_up_to at e.0 rest lt (sorted_head key_cmp e.0 (keys_of rest) s) in
-    sym (append-nil done) ∙ ap (λ xs. done ++ open_of xs) (sym none) ∙ h
-
-pub listed_push : (at : ℕ) (wanted : List Element) (old new : List Arrival) (copied : Kept) (all rest : List Entry) (e : Entry) → all ≡ e ∷ rest → e.0.0 ≤ at
-    → new ≡ old ++ record { number = e.0.1; instant = e.0.0; row = copied } ∷ [] → copied ≡ e.1 → map element old ++ open_of (up_to at all) ≡ wanted → map element new ++ open_of (up_to at rest) ≡ wanted
-listed_push at wanted old new copied all rest e same le pushed copy h =
-    let one : Arrival = record { number = e.0.1; instant = e.0.0; row = copied } in
-    ap (λ (xs : List Arrival). map element xs ++ open_of (up_to at rest)) pushed
-    ∙ ap (λ xs. xs ++ open_of (up_to at rest)) (map-append element old (one ∷ []))
-    ∙ ap (λ (k : Kept). (map element old ++ record { arrival = e.0.1; instant = e.0.0; row = k.items } ∷ []) ++ open_of (up_to at rest)) copy
-    ∙ listed_more at (map element old) wanted all rest e same le h
+    let s : IsStrictlySortedBy nat_cmp (keys_of (e ∷ rest)) = subst (λ (xs : List Entry). IsStrictlySortedBy nat_cmp (keys_of xs)) same sorted in
+    let none : up_to at (open_of all) ≡ [] = ap (λ (xs : List Entry). up_to at (open_of xs)) same ∙ none_up_to at e rest lt s in
+    sym (append-nil done) ∙ ap (λ xs. done ++ xs) (sym none) ∙ h

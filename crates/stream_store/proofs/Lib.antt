@@ -1,5 +1,7 @@
+mod FlatLemmas
 mod KeyLemmas
 mod OrderLemmas
+mod PlacedLemmas
 mod StoredLemmas
 mod BesideLemmas
 pub mod ShownLemmas

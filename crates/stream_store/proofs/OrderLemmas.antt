@@ -7,7 +7,7 @@ use Rattle.std.proofs.lemmas.Grind.{flat_map-append}
 use Rattle.values.specs.Window.{Element}
 use Rattle.op_queue.specs.Logs.{IsInOrder}
 use Rattle.stream_store.specs.Closing.{by_key}
-use Rattle.stream_store.proofs.KeyLemmas.{filter_none, filter_all, each_from, each-kept}
+use Rattle.stream_store.proofs.KeyLemmas.{filter_none, filter_all, each_from, each-append, each-kept}
 
 -- ---- tests of lists
 pub filter-map : {X Y : Type 0} (p : Y → Bool) (f : X → Y) (xs : List X) → filter p (map f xs) ≡ map f (filter (λ x. p (f x)) xs)
@@ -175,16 +175,20 @@ by_instant_ordered a m n es h came =
     by_key_same (λ e. e.instant) a m (by_key (λ e. e.arrival) 0 n es) es (λ t le lt. same_at n t es h came)
     ∙ by_key_rising (λ e. e.instant) a m es (rising_instants es h)
 
-pub each-append : {X : Type 0} (P : X → Type 0) (xs ys : List X) → AllByRecursion P xs → AllByRecursion P ys → AllByRecursion P (xs ++ ys)
-each-append P [] ys h k = k
-each-append P (x ∷ xs) ys h k = (h.0, each-append P xs ys h.1 k)
-
 pub ordered-append : (u : ℕ) (xs ys : List Element) → Ordered xs → Ordered ys → AllByRecursion (λ e. e.instant < u) xs → AllByRecursion (λ e. u ≤ e.instant) ys → Ordered (xs ++ ys)
 ordered-append u [] ys h k low high = k
 ordered-append u (x ∷ xs) ys h k low high = (
   each-append (Before x) xs ys h.0 (each_from (λ e. u ≤ e.instant) (Before x) (λ e le. (omega (arith, low.0, le), λ same. absurd (omega (arith, low.0, le, same)))) ys high),
   ordered-append u xs ys h.1 k low.1 high,
 )
+
+pub ordered-filter : (p : Element → Bool) (es : List Element) → Ordered es → Ordered (filter p es)
+ordered-filter p [] h = tt
+ordered-filter p (e ∷ es) h = here (ordered-filter p es h.1) (each-kept (Before e) p es h.0) (p e)
+  where
+    here : Ordered (filter p es) → AllByRecursion (Before e) (filter p es) → (b : Bool) → Ordered (cond b (e ∷ filter p es) (filter p es))
+    here ih first true = (first, ih)
+    here ih first false = ih
 
 -- ---- facts by places
 pub each_from_all : {X : Type 0} (P : X → Type 0) (xs : List X) → All P xs → AllByRecursion P xs

@@ -1,3 +1,4 @@
+pub mod OpenRows
 pub mod Open
 pub mod Closing
 pub mod Stored

@@ -1,39 +1,55 @@
--- Open rows as the entries of a map from their instants and numbers.
-use Rattle.std.specs.Prelude.{ℕ, ℤ, ◌+◌, Option, nat_le, nat_lt, List, [], ◌∷◌, map}
-use Rattle.std.specs.List.{filter}
-use Rattle.std.specs.Ordering.{nat_cmp, ordering_then}
-use Rattle.std.specs.declared.cmp.Ordering.{Ordering}
-use Rattle.std.specs.BTreeMap.{insert_entry}
-use Rattle.arrayvec.specs.ArrayVec.{ArrayVec}
+-- Open rows as the entries of a map from their instants, and as elements.
+use Rattle.std.specs.Prelude.{◌≡◌, ℕ, suc, nat_le, nat_lt, if◌then◌else◌, List, [], ◌∷◌, map}
+use Rattle.std.specs.List.{AllByRecursion, filter, flat_map}
+use Rattle.std.specs.Ordering.{nat_cmp, match_ordering}
+use Rattle.values.specs.Row.{Row}
 use Rattle.values.specs.Window.{Element}
+use Rattle.stream_store.specs.OpenRows.{RowsAt, none_at, with_row, first_below, has_rows}
 
--- an instant and a number, with the row
+-- an instant and its rows
 abbrev pub Entry : Type 0
-Entry = (ℕ × ℕ) × ArrayVec (Option ℤ)
+Entry = ℕ × RowsAt
 
--- by instant, then by number
-abbrev pub key_cmp : ℕ × ℕ → ℕ × ℕ → Ordering
-key_cmp a b = ordering_then (nat_cmp a.0 b.0) (nat_cmp a.1 b.1)
+-- the rows of an instant as elements
+abbrev pub elements_at : ℕ → List (ℕ × Row) → List Element
+elements_at instant rows = map (λ r. record { arrival = r.0; instant = instant; row = r.1 }) rows
 
-abbrev pub element_of : Entry → Element
-element_of e = record { arrival = e.0.1; instant = e.0.0; row = e.1.items }
-
+-- by instant, then arrival
 abbrev pub open_of : List Entry → List Element
-open_of es = map element_of es
+open_of entries = flat_map (λ e. elements_at e.0 e.1.rows) entries
+
+-- the rows of each instant have so many columns
+abbrev pub AreWide : ℕ → List Entry → Type 0
+AreWide columns entries = AllByRecursion (λ (e : Entry). e.1.width ≡ columns) entries
+
+-- one more row, behind the others of its instant
+abbrev pub put_row : ℕ → ℕ → ℕ → Row → List Entry → List Entry
+put_row width instant number row [] = (instant, with_row number row (none_at width)) ∷ []
+put_row width instant number row (e ∷ es) =
+    match_ordering (nat_cmp instant e.0) ((instant, with_row number row (none_at width)) ∷ e ∷ es) ((e.0, with_row number row e.1) ∷ es) (e ∷ put_row width instant number row es)
+
+-- an element that came last, behind those of its instant and of earlier ones
+abbrev pub placed : Element → List Element → List Element
+placed last [] = last ∷ []
+placed last (e ∷ es) = if nat_lt last.instant e.instant then last ∷ e ∷ es else e ∷ placed last es
 
 -- rows that came one after another, with numbers from n on
-abbrev pub after_put : ℕ → List (ℕ × ArrayVec (Option ℤ)) → List Entry → List Entry
+abbrev pub after_put : ℕ → List (ℕ × Row) → List Element → List Element
 after_put n [] es = es
-after_put n (r ∷ rows) es = after_put (n + 1) rows (insert_entry key_cmp es (r.0, n) r.1)
+after_put n (r ∷ rows) es = after_put (suc n) rows (placed (record { arrival = n; instant = r.0; row = r.1 }) es)
 
--- the rows of numbers below n
+-- without the rows of the numbers from n on, which are the last ones of their instants, and without instants that have no row
 abbrev pub below : ℕ → List Entry → List Entry
-below n es = filter (λ e. nat_lt e.0.1 n) es
+below n entries = filter (λ e. has_rows e.1) (map (λ e. (e.0, first_below n e.1)) entries)
 
--- the rows up to an instant
-abbrev pub up_to : ℕ → List Entry → List Entry
-up_to at es = filter (λ e. nat_le e.0.0 at) es
+-- the instants past one
+abbrev pub instants_past : ℕ → List Entry → List Entry
+instants_past at entries = filter (λ e. nat_lt at e.0) entries
 
--- the rows past it
-abbrev pub past : ℕ → List Entry → List Entry
-past at es = filter (λ e. nat_lt at e.0.0) es
+-- the elements up to an instant
+abbrev pub up_to : ℕ → List Element → List Element
+up_to at es = filter (λ e. nat_le e.instant at) es
+
+-- the elements past it
+abbrev pub past : ℕ → List Element → List Element
+past at es = filter (λ e. nat_lt at e.instant) es

@@ -3,6 +3,7 @@
 #![tactic(auto)]
 
 mod open;
+mod open_rows;
 mod stored;
 mod streams;
 

@@ -10,6 +10,7 @@ ghost use Rattle.reference.specs.Told.{IsTold};
 ghost use Rattle.stream_store.specs.Closing.{closed_of, closing_of};
 
 use crate::open::{drop_up_to, forget_from, put_all, rows_up_to};
+use crate::open_rows::OpenRows;
 use cql_reader::Name;
 use names::Catalog;
 use op_queue::{Arrival, Log};
@@ -17,16 +18,15 @@ use reference::{Fault, MAX_APPENDED, MAX_INSTANT, MAX_LEAP, MAX_STREAM_ROWS, New
 use std::alloc::{AllocError, Global};
 use std::collections::BTreeMap;
 use std::marker::Model;
-use values::Row;
 
-/// A declared stream: its name, its columns' names, the closed rows, the open rows by instant and number, and how many came.
+/// A declared stream: its name, its columns' names, the closed rows, the open rows by instant, and how many came.
 #[derive(Drop)]
 pub(crate) struct Stored {
     alloc: Global,
     name: Name,
     columns: Vec<Name>,
     log: Log,
-    waiting: BTreeMap<(u64, u64), Row>,
+    waiting: BTreeMap<u64, OpenRows>,
     arrivals: u64,
 }
 
@@ -38,11 +38,12 @@ impl Model for Stored {
 
     ghost Value = { machine.Stream };
 
+    ghost use Rattle.stream_store.specs.Open.{AreWide, open_of};
     ghost use Rattle.stream_store.specs.Stored.{stream_in, IsStored};
 
-    ghost view = { λ s. stream_in (name_of s.name) (names_of s.columns.items) s.arrivals s.log s.waiting.entries };
+    ghost view = { λ s. stream_in (name_of s.name) (names_of s.columns.items) s.arrivals s.log (open_of s.waiting.entries) };
 
-    ghost invariant = { λ s. IsStored (length s.columns.items) s.arrivals s.log s.waiting.entries };
+    ghost invariant = { λ s. IsStored (length s.columns.items) s.arrivals s.log (open_of s.waiting.entries) × AreWide (length s.columns.items) s.waiting.entries };
 }
 
 impl Stored {
@@ -154,9 +155,9 @@ impl Stored {
         let count = rows.len();
         let mut kept = Vec::with_capacity(self.alloc, count)?;
         rows.copy_to(&mut kept);
-        match put_all(&mut self.waiting, self.arrivals, kept) {
+        let width = self.columns.len();
+        match put_all(self.alloc, &mut self.waiting, width, self.arrivals, kept) {
             Ok(()) => {
-                let _len = self.waiting.len();
                 self.arrivals += count as u64;
                 Ok(())
             }

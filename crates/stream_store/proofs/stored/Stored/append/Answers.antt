@@ -1,6 +1,5 @@
 use Rattle.std.proofs.Common.{◌≡◌, ◌≤◌, ◌∙◌, ◌+◌, ◌++◌, [], sym, ap, subst, ℕ, List, arith, None, length}
-use Rattle.std.specs.Map.{keys_of}
-use Rattle.std.specs.List.Sorted.{IsStrictlySortedBy}
+use Rattle.std.specs.List.{AllByRecursion}
 use Rattle.std.proofs.lemmas.List.{length-map}
 use Rattle.cql_reader.specs.Views.{name_of}
 use Rattle.names.specs.Views.{names_of}
@@ -10,53 +9,86 @@ use Rattle.reference.specs.Commands.{append_tests, appended}
 use Rattle.reference.specs.Appended.{kept_of}
 use Rattle.reference.specs.Views.{pairs_of}
 use Rattle.reference.proofs.StreamLemmas.{accepted_rows, kept-arrivals}
-use Rattle.stream_store.specs.Open.{Entry, key_cmp, after_put}
+use Rattle.values.specs.Row.{Row}
+use Rattle.values.specs.Window.{Element}
+use Rattle.stream_store.specs.Open.{Entry, AreWide, after_put, open_of}
 use Rattle.stream_store.specs.Stored.{IsStored, stream_in}
-use Rattle.stream_store.proofs.KeyLemmas.{Kept}
-use Rattle.stream_store.proofs.StoredLemmas.{stored_put, put_stream, below_all}
+use Rattle.stream_store.proofs.KeyLemmas.{Kept, open-below, wide-below}
+use Rattle.stream_store.proofs.StoredLemmas.{stored_put, put_stream, rows_room, rows_wide}
 use Rattle.stream_store.proofs.stored.Stored.append.Goals as goal
 
 pub copy_to-requires-clause-good : goal.copy_to-requires-clause-good
 copy_to-requires-clause-good c =
     let names = ap (λ (s : Stream). length s.columns) c.self.view_is in
-    let few : length c.args.self.now.columns ≤ 8 = omega (arith, names, length-map c.self.inside.columns.items name_of, c.self.invariant.few) in
+    let few : length c.args.self.now.columns ≤ 8 = omega (arith, names, length-map c.self.inside.columns.items name_of, c.self.invariant.0.few) in
     accepted_rows c.args.self.now c.args.rows.now few c.requires
+
+pub put_all-requires-clause-few : goal.put_all-requires-clause-few
+put_all-requires-clause-few c = omega (arith, c.len-width.ensures, c.self.inside.columns.ok.0, c.self.invariant.0.few)
+
+pub put_all-requires-clause-room : goal.put_all-requires-clause-room
+put_all-requires-clause-room c =
+    let s = c.self.inside in
+    let rows = c.args.rows.now in
+    let same : pairs_of c.copy_to.new.elements.items ≡ kept_of rows = c.copy_to.ensures ∙ ap (λ (xs : List (ℕ × Kept)). pairs_of xs ++ kept_of rows) c.in_ok-kept.ensures.items in
+    let long = kept-arrivals c.copy_to.new.elements.items [] rows same in
+    let accepted = subst (λ (s : Stream). first_of (append_tests s rows) ≡ None) (sym c.self.view_is) c.requires in
+    omega (arith, long, rows_room (name_of s.name) s.columns.items s.arrivals s.log (open_of s.waiting.entries) rows accepted)
+
+pub put_all-requires-clause-rows : goal.put_all-requires-clause-rows
+put_all-requires-clause-rows c =
+    let s = c.self.inside in
+    let rows = c.args.rows.now in
+    let width : c.len-width.result ≡ length s.columns.items = omega (arith, c.len-width.ensures, s.columns.ok.0) in
+    let same : pairs_of c.copy_to.new.elements.items ≡ kept_of rows = c.copy_to.ensures ∙ ap (λ (xs : List (ℕ × Kept)). pairs_of xs ++ kept_of rows) c.in_ok-kept.ensures.items in
+    let accepted = subst (λ (s : Stream). first_of (append_tests s rows) ≡ None) (sym c.self.view_is) c.requires in
+    let wide = rows_wide (name_of s.name) s.columns.items s.arrivals s.log (open_of s.waiting.entries) rows accepted in
+    subst (λ (k : ℕ). AllByRecursion (λ (r : ℕ × Row). length r.1 ≡ k) (pairs_of c.copy_to.new.elements.items)) (sym width)
+    (subst (λ (new : List (ℕ × Row)). AllByRecursion (λ (r : ℕ × Row). length r.1 ≡ length s.columns.items) new) (sym same) wide)
+
+pub put_all-requires-clause-wide : goal.put_all-requires-clause-wide
+put_all-requires-clause-wide c =
+    let width : c.len-width.result ≡ length c.self.inside.columns.items = omega (arith, c.len-width.ensures, c.self.inside.columns.ok.0) in
+    subst (λ (k : ℕ). AreWide k c.self.inside.waiting.entries) (sym width) c.self.invariant.1
 
 pub invariant_of-self : goal.invariant_of-self
 invariant_of-self c =
     let s = c.self.inside in
-    let kept = c.copy_to.new.elements.items in
     let rows = c.args.rows.now in
-    let same : pairs_of kept ≡ kept_of rows = c.copy_to.ensures ∙ ap (λ (xs : List (ℕ × Kept)). pairs_of xs ++ kept_of rows) c.in_ok-kept.ensures.items in
-    let long : length kept ≡ length rows = omega (arith, kept-arrivals kept [] rows same) in
-    let e = c.in-Ok.ensures.ok in
+    let old = open_of s.waiting.entries in
+    let width : c.len-width.result ≡ length s.columns.items = omega (arith, c.len-width.ensures, s.columns.ok.0) in
+    let same : pairs_of c.copy_to.new.elements.items ≡ kept_of rows = c.copy_to.ensures ∙ ap (λ (xs : List (ℕ × Kept)). pairs_of xs ++ kept_of rows) c.in_ok-kept.ensures.items in
+    let e = c.in-Ok.ensures.ok ∙ ap (λ (new : List (ℕ × Row)). after_put s.arrivals new old) same in
     let accepted = subst (λ (s : Stream). first_of (append_tests s rows) ≡ None) (sym c.self.view_is) c.requires in
-    let put = stored_put (name_of s.name) s.columns.items s.arrivals s.log s.waiting.entries kept rows c.self.invariant same long accepted
-    (subst (λ (es : List Entry). IsStrictlySortedBy key_cmp (keys_of es)) e c.len-len.ensures.ordered) in
-    subst (λ (es : List Entry). IsStored (length s.columns.items) (s.arrivals + c.len-count.result) s.log es) (sym e)
-    (subst (λ (k : ℕ). IsStored (length s.columns.items) (s.arrivals + k) s.log (after_put s.arrivals kept s.waiting.entries)) (sym c.len-count.ensures) put)
+    let put = stored_put (name_of s.name) s.columns.items s.arrivals s.log old rows accepted c.self.invariant.0 in (
+      subst (λ (es : List Element). IsStored (length s.columns.items) (s.arrivals + c.len-count.result) s.log es) (sym e)
+          (subst (λ (k : ℕ). IsStored (length s.columns.items) (s.arrivals + k) s.log (after_put s.arrivals (kept_of rows) old)) (sym c.len-count.ensures) put),
+      subst (λ (k : ℕ). AreWide k c.put_all.new.waiting.entries) width c.in-Ok.ensures.wide,
+    )
 
 pub invariant_of-self-in-Err : goal.invariant_of-self-in-Err
 invariant_of-self-in-Err c =
     let s = c.self.inside in
-    let e = c.forget_from.ensures ∙ c.in-Err.ensures.err ∙ below_all (length s.columns.items) s.arrivals s.log s.waiting.entries c.self.invariant in
-    subst (λ (es : List Entry). IsStored (length s.columns.items) s.arrivals s.log es) (sym e) c.self.invariant
+    let e = c.forget_from.ensures ∙ c.in-Err.ensures.err in
+    let rows = ap open_of e ∙ open-below s.arrivals s.waiting.entries c.self.invariant.0.numbered in (
+      subst (λ (es : List Element). IsStored (length s.columns.items) s.arrivals s.log es) (sym rows) c.self.invariant.0,
+      subst (λ (es : List Entry). AreWide (length s.columns.items) es) (sym e) (wide-below s.arrivals (length s.columns.items) s.waiting.entries c.self.invariant.1),
+    )
 
 pub returns-in-Ok-clause-ok : goal.returns-in-Ok-clause-ok
 returns-in-Ok-clause-ok c =
     let s = c.self.inside in
-    let kept = c.copy_to.new.elements.items in
     let rows = c.args.rows.now in
-    let same : pairs_of kept ≡ kept_of rows = c.copy_to.ensures ∙ ap (λ (xs : List (ℕ × Kept)). pairs_of xs ++ kept_of rows) c.in_ok-kept.ensures.items in
-    let long : length kept ≡ length rows = omega (arith, kept-arrivals kept [] rows same) in
-    ap (λ (es : List Entry). stream_in (name_of s.name) (names_of s.columns.items) (s.arrivals + c.len-count.result) s.log es) c.in-Ok.ensures.ok
-    ∙ ap (λ (k : ℕ). stream_in (name_of s.name) (names_of s.columns.items) (s.arrivals + k) s.log (after_put s.arrivals kept s.waiting.entries)) c.len-count.ensures
-    ∙ put_stream (name_of s.name) (names_of s.columns.items) s.arrivals s.log s.waiting.entries kept rows
-    c.self.invariant.numbered c.self.invariant.came same long
+    let old = open_of s.waiting.entries in
+    let same : pairs_of c.copy_to.new.elements.items ≡ kept_of rows = c.copy_to.ensures ∙ ap (λ (xs : List (ℕ × Kept)). pairs_of xs ++ kept_of rows) c.in_ok-kept.ensures.items in
+    let e = c.in-Ok.ensures.ok ∙ ap (λ (new : List (ℕ × Row)). after_put s.arrivals new old) same in
+    ap (λ (es : List Element). stream_in (name_of s.name) (names_of s.columns.items) (s.arrivals + c.len-count.result) s.log es) e
+    ∙ ap (λ (k : ℕ). stream_in (name_of s.name) (names_of s.columns.items) (s.arrivals + k) s.log (after_put s.arrivals (kept_of rows) old)) c.len-count.ensures
+    ∙ put_stream (name_of s.name) (names_of s.columns.items) s.arrivals s.log old rows c.self.invariant.0.numbered c.self.invariant.0.came
     ∙ ap (λ (s : Stream). appended rows s) c.self.view_is
 
 pub returns-in-Err-clause-err : goal.returns-in-Err-clause-err
 returns-in-Err-clause-err c =
     let s = c.self.inside in
-    let e = c.forget_from.ensures ∙ c.in-Err.ensures.err ∙ below_all (length s.columns.items) s.arrivals s.log s.waiting.entries c.self.invariant in
-    ap (λ (es : List Entry). stream_in (name_of s.name) (names_of s.columns.items) s.arrivals s.log es) e ∙ c.self.view_is
+    let rows = ap open_of (c.forget_from.ensures ∙ c.in-Err.ensures.err) ∙ open-below s.arrivals s.waiting.entries c.self.invariant.0.numbered in
+    ap (λ (es : List Element). stream_in (name_of s.name) (names_of s.columns.items) s.arrivals s.log es) rows ∙ c.self.view_is

@@ -10,7 +10,8 @@ use Rattle.stream_store.proofs.stored.Stored.closing.Goals as goal
 pub returns : goal.returns
 returns c =
     let s = c.self.inside in
-    let e = ap (λ (n : ℕ). open_of (up_to n s.waiting.entries)) (c.last_closed-last.ensures.value ∙ ap nat_abs (to_z-of_z w64 c.args.at c.ranges.at))
-    ∙ sym (closing_stream (name_of s.name) s.columns.items s.arrivals s.log s.waiting.entries c.args.at c.self.invariant c.until-until.ensures.ordered c.until-until.ensures.closed)
+    let rows = open_of s.waiting.entries in
+    let e = ap (λ (n : ℕ). up_to n rows) (c.last_closed-last.ensures.value ∙ ap nat_abs (to_z-of_z w64 c.args.at c.ranges.at))
+    ∙ sym (closing_stream (name_of s.name) s.columns.items s.arrivals s.log rows c.args.at c.self.invariant.0 c.until-until.ensures.ordered c.until-until.ensures.closed)
     ∙ ap (λ (s : Stream). closing_of c.args.at s) c.self.view_is in
     if_ok (λ v h. h ∙ e) c.rows_up_to.result c.rows_up_to.ensures

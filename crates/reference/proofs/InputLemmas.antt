@@ -1,14 +1,13 @@
 -- Inputs copied out of a stream, row by row, and answers over them.
-use Rattle.std.proofs.Common.{nat_lt, pos, drop, append_assoc, Result, Ok, Err, IfOk, ◌⊎◌, inl, inr, Vec, ◌≡◌, ◌≤◌, ◌<◌, ◌+◌, ◌-◌, ℕ, zero, suc, ℤ, Bool, true, false, cond, ◌&&◌, nat_le, Option, Some, None, List, [], ◌∷◌, ◌++◌, length, map, filter, take, get_or, min, fold, refl, sym, ap, ◌∙◌, arith}
+use Rattle.std.proofs.Common.{nat_lt, pos, drop, append_assoc, Result, Ok, Err, IfOk, ◌⊎◌, inl, inr, Vec, ◌≡◌, ◌≤◌, ◌<◌, ◌+◌, ◌-◌, ℕ, zero, suc, ℤ, Bool, true, false, ◌&&◌, nat_le, Option, Some, None, List, [], ◌∷◌, ◌++◌, length, map, take, get_or, min, fold, refl, sym, ap, ◌∙◌, arith}
 use Rattle.std.specs.List.{reduce, range_with_len, flat_map}
-use Rattle.std.proofs.lemmas.List.{map-append, append-nil, get_or_default, drop_all, length-map}
+use Rattle.std.proofs.lemmas.List.{map-append, drop_all, length-map}
 use Rattle.std.proofs.lemmas.List.Folds.{list_all-append}
 use Rattle.std.proofs.lemmas.Bool.{lt-ltb, ltb-true}
 use Rattle.std.proofs.lemmas.Grind.{take_at_read}
 use Rattle.std.specs.declared.alloc.Global.{Global}
 use Rattle.reference.specs.CallViews.{handed_of}
 use Rattle.reference.specs.World.{handed}
-use Rattle.std.proofs.lemmas.List.Elements.{filter_more}
 use Rattle.arrayvec.specs.ArrayVec.{ArrayVec}
 use Rattle.values.specs.Row.{Row}
 use Rattle.values.specs.Perm.{same}
@@ -17,52 +16,20 @@ use Rattle.values.specs.Answers.{Resolved, shown_at, answers, answers_at}
 use Rattle.values.proofs.Renumber.{increasing-numbered, increasing-filter, window_rows-plain}
 use Rattle.values.proofs.Worlds.{SameTables, same-answers}
 use Rattle.reference.specs.Inputs.{ShowsSame, EachShowsSame, are_signed}
-use Rattle.reference.specs.Views.{pairs_of, elements_of, element_at, inputs_of, blank}
-use Rattle.reference.proofs.ElementLemmas.{get_or-elements_of, length-elements_of}
+use Rattle.reference.specs.Views.{pairs_of, elements_of, inputs_of}
 
 abbrev Pairs : Type 0
 Pairs = List (ℕ × ArrayVec (Option ℤ))
 
-abbrev pair_of : Element → ℕ × Row
-pair_of e = (e.instant, e.row)
-
 abbrev counts : ℕ → ℕ → Element → Bool
 counts place from e = nat_le place e.arrival && nat_le from e.instant
 
--- one element more
-input_more : (place from : ℕ) (es : Pairs) (i : ℕ) → i < length es
-    → plain (input_of place from (take (i + 1) (elements_of es)))
-    ≡ plain (input_of place from (take i (elements_of es))) ++ map pair_of (cond (counts place from (element_at es i)) (element_at es i ∷ []) [])
-input_more place from es i h =
-    let p : Element → Bool = counts place from in
-    let e : filter p (take (i + 1) (elements_of es))
-    ≡ filter p (take i (elements_of es)) ++ cond (p (get_or (elements_of es) i (element_at es i))) (get_or (elements_of es) i (element_at es i) ∷ []) []
-    = filter_more p (elements_of es) i (element_at es i) (rw (length-elements_of es) h) in
-    let f = rw (get_or-elements_of es i (element_at es i) h) at e in
-    ap (map pair_of) f ∙ map-append pair_of (filter p (take i (elements_of es))) (cond (p (element_at es i)) (element_at es i ∷ []) [])
-
-pub input-kept : (place from : ℕ) (es new old : Pairs) (i : ℕ) (item d : ℕ × ArrayVec (Option ℤ)) → i < length es
-    → counts place from (element_at es i) ≡ true → item ≡ get_or es i d → new ≡ old ++ item ∷ []
-    → pairs_of old ≡ plain (input_of place from (take i (elements_of es)))
-    → pairs_of new ≡ plain (input_of place from (take (i + 1) (elements_of es)))
-input-kept place from es new old i item d h yes' is pushed before =
-    let whole : plain (input_of place from (take (i + 1) (elements_of es))) ≡ plain (input_of place from (take i (elements_of es))) ++ pair_of (element_at es i) ∷ []
-    = rw yes' at (input_more place from es i h) in
-    rw (pushed, is, get_or_default es i d blank h)
-    (map-append (λ (e : ℕ × ArrayVec (Option ℤ)). (e.0, e.1.items)) old (get_or es i blank ∷ []) ∙ ap (λ v. v ++ pair_of (element_at es i) ∷ []) before ∙ sym whole)
-
-pub input-passed : (place from : ℕ) (es old : Pairs) (i : ℕ) → i < length es
-    → counts place from (element_at es i) ≡ false
-    → pairs_of old ≡ plain (input_of place from (take i (elements_of es)))
-    → pairs_of old ≡ plain (input_of place from (take (i + 1) (elements_of es)))
-input-passed place from es old i h not_in before = before ∙ sym ((rw not_in at (input_more place from es i h)) ∙ append-nil (plain (input_of place from (take i (elements_of es)))))
-
 -- what was copied shows the same
-pub copied-shows : (place from : ℕ) (es copy : Pairs) → pairs_of copy ≡ plain (input_of place from (elements_of es))
-    → ShowsSame (input_of place from (elements_of es)) (elements_of copy)
+pub copied-shows : (place from : ℕ) (es : List (ℕ × Row)) (copy : Pairs) → pairs_of copy ≡ plain (input_of place from (numbered 0 es))
+    → ShowsSame (input_of place from (numbered 0 es)) (elements_of copy)
 copied-shows place from es copy h = record {
   shows = λ start w t.
-      window_rows-plain start w t (input_of place from (elements_of es)) (increasing-filter (counts place from) (elements_of es) (increasing-numbered 0 (pairs_of es)))
+      window_rows-plain start w t (input_of place from (numbered 0 es)) (increasing-filter (counts place from) (numbered 0 es) (increasing-numbered 0 es))
       ∙ ap (λ pairs. window_rows start w t (numbered 0 pairs)) (sym h);
 }
 

@@ -51,7 +51,7 @@ sum-cons width widths = sum_by-cons (λ n. n) width widths
 fits : (width : ℕ) (widths : List ℕ) (values : List (Option ℤ)) → sum (width ∷ widths) ≡ length values → width ≤ length values
 fits width widths values s = let t : width + sum widths ≡ length values = sym (sum-cons width widths) ∙ s in omega (arith, t)
 
-left : (width : ℕ) (widths : List ℕ) (values : List (Option ℤ)) → sum (width ∷ widths) ≡ length values → sum widths ≡ length (drop width values)
+pub left : (width : ℕ) (widths : List ℕ) (values : List (Option ℤ)) → sum (width ∷ widths) ≡ length values → sum widths ≡ length (drop width values)
 left width widths values s = let t : width + sum widths ≡ length values = sym (sum-cons width widths) ∙ s in rw length-drop (omega (arith, t))
 
 -- a test of the widths

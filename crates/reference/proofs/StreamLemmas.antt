@@ -1,18 +1,16 @@
 -- What the tests of an append let through, and what it makes of a stream.
-use Rattle.std.proofs.Common.{◌≡◌, ◌≤◌, ◌+◌, ℕ, ℤ, Bool, true, false, not, ◌&&◌, ◌||◌, ◌==◌, nat_le, Option, None, List, [], ◌∷◌, ◌++◌, length, refl, ap, ◌∙◌, arith, pos, int_le, int_lt, nat_lt, nat_abs, length-append}
+use Rattle.std.proofs.Common.{◌≡◌, ◌≤◌, ◌+◌, ℕ, ℤ, Bool, true, false, not, ◌&&◌, ◌||◌, ◌==◌, nat_le, Option, None, List, [], ◌∷◌, ◌++◌, length, refl, ap, arith, pos, int_le, int_lt, nat_lt, nat_abs, length-append}
 use Rattle.std.specs.List.{list_any, list_all}
 use Rattle.std.proofs.lemmas.List.{length-map}
-use Rattle.std.proofs.lemmas.Bool.{le-leb, eqb-true}
+use Rattle.std.proofs.lemmas.Bool.{le-leb, eqb-true, ltb-false}
 use Rattle.arrayvec.specs.ArrayVec.{ArrayVec}
-use Rattle.values.specs.Window.{numbered}
-use Rattle.values.proofs.Closed.{numbered-append}
 use Rattle.reference.specs.declared.fault.Fault.{Fault}
 use Rattle.reference.specs.declared.limits.TheConstants.{MAX_INSTANT, MAX_APPENDED, MAX_STREAM_ROWS}
 use Rattle.reference.specs.declared.fault.Fault.TheVariants.{TooMany, BadWidth, ValueRange, InstantRange, Late, StreamFull}
 use Rattle.names.specs.Faults.{first_of}
 use Rattle.reference.specs.Machine.{Stream}
-use Rattle.reference.specs.Commands.{append_tests, is_stream_value, is_instant, elements_from}
-use Rattle.reference.specs.Views.{pairs_of, elements_of}
+use Rattle.reference.specs.Commands.{append_tests, is_stream_value, is_instant}
+use Rattle.reference.specs.Views.{pairs_of}
 use Rattle.reference.specs.Appended.{can_be_kept, kept_of}
 
 -- where no test fails, the first does not, and none of the others
@@ -24,7 +22,7 @@ pub none_later : (b : Bool) (fault : Fault) (tests : List (Bool × Fault)) → f
 none_later true fault tests h = cc
 none_later false fault tests h = h
 
-or_left : (a b : Bool) → (a || b) ≡ false → a ≡ false
+pub or_left : (a b : Bool) → (a || b) ≡ false → a ≡ false
 or_left true b h = h
 or_left false b h = refl
 
@@ -32,7 +30,7 @@ pub or_right : (a b : Bool) → (a || b) ≡ false → b ≡ false
 or_right true b h = cc
 or_right false b h = h
 
-not_false : (b : Bool) → not b ≡ false → b ≡ true
+pub not_false : (b : Bool) → not b ≡ false → b ≡ true
 not_false true h = refl
 not_false false h = cc
 
@@ -68,6 +66,15 @@ middle a b c d e f one two three four five six h =
       none_first d four ((e, five) ∷ (f, six) ∷ []) last,
     )
 
+last : (a b c d e f : Bool) (one two three four five six : Fault)
+    → first_of ((a, one) ∷ (b, two) ∷ (c, three) ∷ (d, four) ∷ (e, five) ∷ (f, six) ∷ []) ≡ None → f ≡ false
+last a b c d e f one two three four five six h =
+    let second = none_later a one ((b, two) ∷ (c, three) ∷ (d, four) ∷ (e, five) ∷ (f, six) ∷ []) h in
+    let third = none_later b two ((c, three) ∷ (d, four) ∷ (e, five) ∷ (f, six) ∷ []) second in
+    let fourth = none_later c three ((d, four) ∷ (e, five) ∷ (f, six) ∷ []) third in
+    let fifth = none_later d four ((e, five) ∷ (f, six) ∷ []) fourth in
+    none_first f six [] (none_later e five ((f, six) ∷ []) fifth)
+
 pub accepted_rows : (s : Stream) (rows : List (ℤ × List (Option ℤ))) → length s.columns ≤ 8 → first_of (append_tests s rows) ≡ None
     → list_all can_be_kept rows ≡ true
 accepted_rows s rows few h =
@@ -76,6 +83,23 @@ accepted_rows s rows few h =
     (list_any (λ r. int_lt r.0 (pos s.first_open)) rows) (nat_lt MAX_STREAM_ROWS (s.arrivals + length rows))
     TooMany BadWidth ValueRange InstantRange Late StreamFull h in
     kept (length s.columns) few rows tests.0 tests.1 tests.2
+
+-- what an accepted append says of its rows, test by test
+pub accepted_each : (s : Stream) (rows : List (ℤ × List (Option ℤ))) → first_of (append_tests s rows) ≡ None
+    → (list_any (λ r. not (length r.1 == length s.columns)) rows ≡ false)
+    × (list_any (λ r. not (list_all is_stream_value r.1)) rows ≡ false)
+    × (list_any (λ r. not (is_instant r.0)) rows ≡ false)
+    × (s.arrivals + length rows ≤ 1073741824)
+accepted_each s rows h =
+    let tests = middle (nat_lt MAX_APPENDED (length rows)) (list_any (λ r. not (length r.1 == length s.columns)) rows)
+    (list_any (λ r. not (list_all is_stream_value r.1)) rows) (list_any (λ r. not (is_instant r.0)) rows)
+    (list_any (λ r. int_lt r.0 (pos s.first_open)) rows) (nat_lt MAX_STREAM_ROWS (s.arrivals + length rows))
+    TooMany BadWidth ValueRange InstantRange Late StreamFull h in
+    let full = last (nat_lt MAX_APPENDED (length rows)) (list_any (λ r. not (length r.1 == length s.columns)) rows)
+    (list_any (λ r. not (list_all is_stream_value r.1)) rows) (list_any (λ r. not (is_instant r.0)) rows)
+    (list_any (λ r. int_lt r.0 (pos s.first_open)) rows) (nat_lt MAX_STREAM_ROWS (s.arrivals + length rows))
+    TooMany BadWidth ValueRange InstantRange Late StreamFull h in
+    (tests.0, tests.1, tests.2, ltb-false MAX_STREAM_ROWS (s.arrivals + length rows) full)
 
 length-pairs_of : (es : List (ℕ × ArrayVec (Option ℤ))) → length (pairs_of es) ≡ length es
 length-pairs_of es = length-map es (λ (e : ℕ × ArrayVec (Option ℤ)). (e.0, e.1.items))
@@ -88,9 +112,3 @@ pub kept-arrivals : (new old : List (ℕ × ArrayVec (Option ℤ))) (rows : List
 kept-arrivals new old rows h =
     let e = ap length h in
     omega (arith, simp length-append at e, length-pairs_of new, length-pairs_of old, length-kept_of rows)
-
-pub kept-elements : (new old : List (ℕ × ArrayVec (Option ℤ))) (rows : List (ℤ × List (Option ℤ))) → pairs_of new ≡ pairs_of old ++ kept_of rows
-    → elements_of new ≡ elements_of old ++ elements_from (length old) rows
-kept-elements new old rows h =
-    let n : 0 + length (pairs_of old) ≡ length old = omega (arith, length-pairs_of old) in
-    ap (numbered 0) h ∙ numbered-append 0 (pairs_of old) (kept_of rows) ∙ ap (λ k. elements_of old ++ numbered k (kept_of rows)) n

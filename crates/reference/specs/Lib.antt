@@ -3,6 +3,7 @@ pub mod Machine
 pub mod Commands
 pub mod World
 pub mod NewRows
+pub mod Kept
 pub mod CallViews
 pub mod Views
 pub mod Totals

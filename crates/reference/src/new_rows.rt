@@ -1,9 +1,9 @@
 //! Rows on their way into a stream.
-ghost use Rattle.std.specs.Prelude.{◌≡◌, ◌↔◌, ◌+◌, ◌≤◌, ◌++◌, ◌∷◌, [], IsTrue, OnOk, OnErr, length, pos, true, sum, not, ◌==◌, int_lt, vec_len, vec_capacity};
+ghost use Rattle.std.specs.Prelude.{◌≡◌, ◌↔◌, ◌+◌, ◌≤◌, ◌++◌, ◌∷◌, [], IsTrue, OnOk, OnErr, length, map, nat_abs, pos, true, false, sum, not, ◌==◌, int_lt, vec_len, vec_capacity};
 ghost use Rattle.std.specs.List.{list_any, list_all};
 ghost use Rattle.reference.specs.NewRows.{rows_in};
 ghost use Rattle.reference.specs.Commands.{is_stream_value, is_instant};
-ghost use Rattle.reference.specs.Appended.{can_be_kept, kept_of};
+ghost use Rattle.reference.specs.Appended.{can_be_kept, kept_of, instants_of, values_of};
 ghost use Rattle.reference.specs.Views.{pairs_of};
 
 use crate::limits::MAX_INSTANT;
@@ -107,6 +107,26 @@ impl NewRows {
     {
         copy_rows(&self.instants, &self.widths, &self.values, elements)
     }
+
+    /// How many values all rows have together.
+    pub(crate) fn count_values(&self) -> usize
+        ensures { result ≡ length (values_of self.now) }
+    {
+        self.values.len()
+    }
+
+    /// Puts the instants and the values of the rows behind those of others, which have room for them.
+    pub(crate) fn copy_flat_to(&self, instants: &mut Vec<u64>, values: &mut Vec<Value>)
+        requires good_instants { list_any (λ r. not (is_instant r.0)) self.now ≡ false }
+        requires good_values { list_any (λ r. not (list_all is_stream_value r.1)) self.now ≡ false }
+        requires room_for_instants { vec_len instants.old + length self.now ≤ vec_capacity instants.old }
+        requires room_for_values { vec_len values.old + length (values_of self.now) ≤ vec_capacity values.old }
+        ensures instants { instants.new.items ≡ instants.old.items ++ instants_of self.now }
+        ensures values { values.new.items ≡ values.old.items ++ values_of self.now }
+    {
+        copy_instants(&self.instants, instants);
+        copy_values(&self.values, values);
+    }
 }
 
 fn any_differs(widths: &[usize], width: usize) -> bool
@@ -184,5 +204,25 @@ fn copy_rows(
         let (row, after) = rest.split_at(widths[i]);
         elements.push_reserved((instants[i] as u64, row_of(row)));
         rest = after;
+    }
+}
+
+fn copy_instants(instants: &[i64], kept: &mut Vec<u64>)
+    requires good { list_all is_instant instants.now ≡ true }
+    requires room { vec_len kept.old + length instants.now ≤ vec_capacity kept.old }
+    ensures { kept.new.items ≡ kept.old.items ++ map nat_abs instants.now }
+{
+    for instant in instants {
+        kept.push_reserved(*instant as u64);
+    }
+}
+
+fn copy_values(values: &[Option<i64>], kept: &mut Vec<Value>)
+    requires good { list_all is_stream_value values.now ≡ true }
+    requires room { vec_len kept.old + length values.now ≤ vec_capacity kept.old }
+    ensures { kept.new.items ≡ kept.old.items ++ values.now }
+{
+    for value in values {
+        kept.push_reserved(value_of(*value));
     }
 }

@@ -1,13 +1,14 @@
 //! A declared stream and what came to it.
-ghost use Rattle.std.specs.Prelude.{◌≡◌, ◌≤◌, [], None, OnOk, OnErr, IfOk, IfSome, length, ◌∷◌, ◌++◌, ◌<◌, ◌&&◌, nat_le};
-ghost use Rattle.values.specs.Window.{input_of, plain};
+ghost use Rattle.std.specs.Prelude.{◌≡◌, ◌≤◌, ◌*◌, [], None, OnOk, OnErr, IfOk, IfSome, length, ◌∷◌, ◌++◌, ◌&&◌, nat_le};
+ghost use Rattle.values.specs.Window.{input_of, plain, numbered};
 ghost use Rattle.reference.specs.Commands.{append_tests, heartbeat_tests, appended, closed_to, catalog_of};
 ghost use Rattle.names.specs.Faults.{first_of};
 ghost use Rattle.names.specs.Views.{names_of};
 ghost use Rattle.cql_reader.specs.Views.{name_of};
 ghost use Rattle.reference.specs.Inputs.{ShowsSame};
+ghost use Rattle.reference.specs.Kept.{kept_in};
 ghost use Rattle.reference.specs.Told.{IsTold};
-ghost use Rattle.reference.specs.Views.{pairs_of, elements_of, element_at};
+ghost use Rattle.reference.specs.Views.{pairs_of, elements_of};
 
 use crate::fault::Fault;
 use crate::limits::{MAX_APPENDED, MAX_INSTANT, MAX_LEAP, MAX_STREAM_ROWS};
@@ -16,31 +17,35 @@ use cql_reader::Name;
 use names::Catalog;
 use std::alloc::{AllocError, Global};
 use std::marker::Model;
-use values::Row;
+use values::{Row, Value};
 
 /// A declared stream: its name, its columns' names, its elements by arrival, and the first instant that no heartbeat has
 /// closed.
+///
+/// The elements are kept flat, an instant each and as many values as there are columns: 8 bytes each.
 #[derive(Drop)]
 pub(crate) struct Stream {
     name: Name,
     columns: Vec<Name>,
-    elements: Vec<(u64, Row)>,
+    instants: Vec<u64>,
+    values: Vec<Value>,
     first_open: u64,
 }
 
 impl Model for Stream {
-    ghost use Rattle.std.specs.Prelude.{◌≤◌, length};
+    ghost use Rattle.std.specs.Prelude.{◌≡◌, ◌≤◌, ◌*◌, length};
     ghost use Rattle.cql_reader.specs.Views.{name_of};
     ghost use Rattle.names.specs.Faults.{first_of};
     ghost use Rattle.names.specs.Views.{names_of};
     ghost use Rattle.reference.specs.Machine as machine;
-    ghost use Rattle.reference.specs.Views.{elements_of};
+    ghost use Rattle.reference.specs.Kept.{kept_in};
+    ghost use Rattle.values.specs.Window.{numbered};
 
     ghost Value = { machine.Stream };
 
-    ghost view = { λ s. record { name = name_of s.name; columns = names_of s.columns.items; elements = elements_of s.elements.items; arrivals = length s.elements.items; first_open = s.first_open } };
+    ghost view = { λ s. record { name = name_of s.name; columns = names_of s.columns.items; elements = numbered 0 (kept_in (length s.columns.items) s.instants.items s.values.items); arrivals = length s.instants.items; first_open = s.first_open } };
 
-    ghost invariant = { λ s. (length s.columns.items ≤ 8) × (length s.elements.items ≤ 1073741824) × (s.first_open ≤ 1099511627777) };
+    ghost invariant = { λ s. (length s.columns.items ≤ 8) × (length s.instants.items ≤ 1073741824) × (s.first_open ≤ 1099511627777) × (length s.values.items ≡ length s.instants.items * length s.columns.items) };
 }
 
 impl Stream {
@@ -53,7 +58,8 @@ impl Stream {
         Stream {
             name,
             columns,
-            elements: Vec::new(alloc),
+            instants: Vec::new(alloc),
+            values: Vec::new(alloc),
             first_open,
         }
     }
@@ -72,7 +78,7 @@ impl Stream {
     pub(crate) fn arrivals(&self) -> u64
         ensures { result ≡ self.now.arrivals }
     {
-        self.elements.len() as u64
+        self.instants.len() as u64
     }
 
     /// The first open instant.
@@ -103,7 +109,7 @@ impl Stream {
         if rows.has_late_row(self.first_open as i64) {
             return Some(Fault::Late);
         }
-        if MAX_STREAM_ROWS < self.elements.len() + rows.len() {
+        if MAX_STREAM_ROWS < self.instants.len() + rows.len() {
             return Some(Fault::StreamFull);
         }
         None
@@ -133,8 +139,9 @@ impl Stream {
         ensures ok { OnOk result (self.new ≡ appended rows.now self.old) }
         ensures err { OnErr result (self.new ≡ self.old) }
     {
-        self.elements.reserve(rows.len())?;
-        rows.copy_to(&mut self.elements);
+        self.instants.reserve(rows.len())?;
+        self.values.reserve(rows.count_values())?;
+        rows.copy_flat_to(&mut self.instants, &mut self.values);
         Ok(())
     }
 
@@ -155,37 +162,55 @@ impl Stream {
     ) -> Result<Vec<(u64, Row)>, AllocError>
         ensures { IfOk result (λ v. ShowsSame (input_of arrivals first self.now.elements) (elements_of v.items)) }
     {
-        copy_input(alloc, &self.elements, arrivals, first)
+        copy_input(
+            alloc,
+            self.columns.len(),
+            &self.instants,
+            &self.values,
+            arrivals,
+            first,
+        )
     }
 }
 
 fn copy_input(
     alloc: Global,
-    elements: &[(u64, Row)],
+    width: usize,
+    instants: &[u64],
+    values: &[Value],
     arrivals: u64,
     first: u64,
 ) -> Result<Vec<(u64, Row)>, AllocError>
-    ensures { IfOk result (λ v. pairs_of v.items ≡ plain (input_of arrivals first (elements_of elements.now))) }
+    requires few { width ≤ 8 }
+    requires all { length values.now ≡ length instants.now * width }
+    ensures { IfOk result (λ v. pairs_of v.items ≡ plain (input_of arrivals first (numbered 0 (kept_in width instants.now values.now)))) }
 {
     let mut input = Vec::new(alloc);
-    for i in 0..elements.len() {
-        if counts(elements, i, arrivals, first) {
-            input.push(copy_element(&elements[i])?)?;
+    let mut rest = values;
+    for i in 0..instants.len() {
+        let (row, after) = rest.split_at(width);
+        if counts(arrivals, first, i as u64, instants[i]) {
+            input.push((instants[i], row_of(row)))?;
         }
+        rest = after;
     }
     Ok(input)
 }
 
-/// Whether the element counts: it came after the first `arrivals`, at an instant from `first` on.
-fn counts(elements: &[(u64, Row)], i: usize, arrivals: u64, first: u64) -> bool
-    requires { i < length elements.now }
-    ensures { result ≡ (nat_le arrivals (element_at elements.now i).arrival && nat_le first (element_at elements.now i).instant) }
+/// Whether an element counts: it came after the first `arrivals`, at an instant from `first` on.
+fn counts(arrivals: u64, first: u64, arrival: u64, instant: u64) -> bool
+    ensures { result ≡ (nat_le arrivals arrival && nat_le first instant) }
 {
-    arrivals <= i as u64 && first <= elements[i].0
+    arrivals <= arrival && first <= instant
 }
 
-fn copy_element(element: &(u64, Row)) -> Result<(u64, Row), AllocError>
-    ensures { IfOk result (λ e. e ≡ element.now) }
+fn row_of(values: &[Value]) -> Row
+    requires { length values.now ≤ 8 }
+    ensures { result.items ≡ values.now }
 {
-    Ok((element.0, element.1.clone()?))
+    let mut row = Row::new();
+    for value in values {
+        row.push(*value);
+    }
+    row
 }

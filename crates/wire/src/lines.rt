@@ -7,7 +7,7 @@ ghost use Rattle.wire.specs.Lines.{EachOther, NoFeed, Keeps, longest_line, Begin
 use crate::device::{DeviceFailed, Source};
 use std::alloc::{AllocError, Global};
 
-const CHUNK: usize = 4096;
+const CHUNK: usize = 65_536;
 
 const LONGEST_LINE: usize = 65_536;
 
@@ -22,7 +22,7 @@ pub struct Lines {
     line: Vec<u8>,
     ghost ordered: { start ≤ end },
     ghost within: { end ≤ vec_len chunk },
-    ghost size: { vec_len chunk ≡ 4096 },
+    ghost size: { vec_len chunk ≡ 65536 },
     ghost room: { longest_line ≤ vec_capacity line },
 }
 

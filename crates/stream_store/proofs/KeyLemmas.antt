@@ -101,6 +101,7 @@ placed_behind last [] ys h = refl
 placed_behind last (x ∷ xs) ys h = rw (le-ltb last.instant x.instant h.0) (ap (λ zs. x ∷ zs) (placed_behind last xs ys h.1))
 
 module _ (width t n : ℕ) (row : Row) where
+  -- the row as an element, and an instant that has it alone
   abbrev last : Element
   last = record { arrival = n; instant = t; row = row }
 
@@ -175,9 +176,6 @@ wide_found width t (e ∷ es) o h i = here (wide_found width t es o h.1) (is_at 
 
 -- ---- the rows of a refused append
 module _ (first : ℕ) where
-  below_first : (e : Entry) (es : List Entry) → below first (e ∷ es) ≡ cond (has_rows (first_below first e.1)) ((e.0, first_below first e.1) ∷ below first es) (below first es)
-  below_first e es = refl
-
   -- a row of the number `first` or later is not kept
   first_below-with_row : (n : ℕ) (row : Row) (o : RowsAt) → first ≤ n → first_below first (with_row n row o) ≡ first_below first o
   first_below-with_row n row o le =

@@ -1,5 +1,5 @@
 //! Rows on their way into a stream.
-ghost use Rattle.std.specs.Prelude.{◌≡◌, ◌↔◌, ◌+◌, ◌≤◌, ◌++◌, ◌∷◌, [], IsTrue, OnOk, OnErr, length, map, nat_abs, pos, true, false, sum, not, ◌==◌, int_lt, vec_len, vec_capacity};
+ghost use Rattle.std.specs.Prelude.{◌≡◌, ◌↔◌, ◌+◌, ◌≤◌, ◌++◌, ◌∷◌, [], IsTrue, IfOk, OnOk, OnErr, length, map, nat_abs, pos, true, false, sum, not, ◌==◌, int_lt, vec_len, vec_capacity};
 ghost use Rattle.std.specs.List.{list_any, list_all};
 ghost use Rattle.reference.specs.NewRows.{rows_in};
 ghost use Rattle.reference.specs.Commands.{is_stream_value, is_instant};
@@ -42,6 +42,17 @@ impl NewRows {
             widths: Vec::new(alloc),
             values: Vec::new(alloc),
         }
+    }
+
+    /// No rows yet, with room for as many rows of one value each. `AllocError` where it was refused.
+    pub fn with_capacity(alloc: Global, rows: usize) -> Result<NewRows, AllocError>
+        ensures { IfOk result (λ made. made ≡ []) }
+    {
+        Ok(NewRows {
+            instants: Vec::with_capacity(alloc, rows)?,
+            widths: Vec::with_capacity(alloc, rows)?,
+            values: Vec::with_capacity(alloc, rows)?,
+        })
     }
 
     /// How many rows there are.

@@ -109,7 +109,7 @@ fn row_in(value: &Value, values: &mut Vec<Option<i64>>) -> Result<Option<i64>, A
 fn rows_of(alloc: Global, items: &[Value]) -> Result<Option<NewRows>, AllocError>
     ensures { IfOk result (λ o. o ≡ each row_in (items_view items.now)) }
 {
-    let mut rows = NewRows::new(alloc);
+    let mut rows = NewRows::with_capacity(alloc, items.len())?;
     let mut values = Vec::new(alloc);
     for item in items {
         let Some(at) = row_in(item, &mut values)? else {

@@ -1,5 +1,5 @@
 -- What a drain that leaves all as it was where it is refused promises.
-use Rattle.std.proofs.Common.{◌≡◌, Bool, true, false, List, [], ◌∷◌, Result, Ok, Err, ap, subst, ℕ}
+use Rattle.std.proofs.Common.{◌≡◌, Bool, true, false, [], ◌∷◌, Result, Ok, Err, ap, subst, ℕ}
 use Rattle.std.specs.Prelude.{not, ◌&&◌, nat_le, ⊤}
 use Rattle.names.specs.Faults.{first_of}
 use Rattle.reference.specs.World.{World, Step, Does, Drains, drain_step, unless}

@@ -1,5 +1,5 @@
 -- A plan has the widths of the sources of the one query that was read.
-use Rattle.std.proofs.Common.{◌≡◌, ◌∙◌, ℕ, List, Result, Ok, Err, ap, sym}
+use Rattle.std.proofs.Common.{◌≡◌, ◌∙◌, ℕ, List, Result, Ok, Err, ap}
 use Rattle.std.specs.Prelude.{IfOk}
 use Rattle.cql_reader.specs.Fault as text
 use Rattle.cql_reader.specs.Query as syntax

@@ -131,7 +131,7 @@ pub fn work(alloc: Global, item: &Item, near: &[Row]) -> Result<Vec<(u64, Row)>,
 fn at_instant(alloc: Global, at: u64, rows: &[Row]) -> Result<Vec<(u64, Row)>, AllocError>
     ensures { IfOk result (λ answers. answers_of answers.items ≡ map (λ r. (at, r)) (rows_of rows.now)) }
 {
-    let mut answers = Vec::new(alloc);
+    let mut answers = Vec::with_capacity(alloc, rows.len())?;
     for row in rows {
         answers.push((at, copy_row(row)))?;
     }

@@ -1,2 +1,3 @@
 pub mod SlotLemmas
 pub mod FirstLemmas
+pub mod MoveLemmas

@@ -1,11 +1,11 @@
 -- Slots in their order: what a search finds, and what comes and goes.
-use Rattle.std.proofs.Common.{◌≡◌, ℕ, zero, suc, ◌+◌, ◌<◌, ◌≤◌, Bool, true, false, not, ◌||◌, ◌==◌, List, [], ◌∷◌, ◌++◌, take, drop, length, filter, get_or, cond, refl, sym, ap, ◌∙◌, subst, arith}
+use Rattle.std.proofs.Common.{◌≡◌, ℕ, zero, suc, ◌+◌, ◌<◌, ◌≤◌, Bool, true, false, not, ◌||◌, ◌==◌, List, [], ◌∷◌, length, get_or, cond, refl, sym, ap, ◌∙◌, arith}
 use Rattle.std.specs.Cmp.{IsTotalOrder, nat_cmp_total, bool_cmp_total, on_total, back_total}
 use Rattle.std.proofs.lemmas.Cmp.{then_total}
 use Rattle.std.proofs.lemmas.List.Kept.{IsStrictlySortedBy-filter}
 use Rattle.std.proofs.lemmas.List.Sorted.{searchable_from_sorted}
 use Rattle.std.proofs.lemmas.Map.Keys.{Less-from_sorted}
-use Rattle.std.specs.List.{AllByRecursion, AllWithin, HoldsAt, insert, remove, list_any}
+use Rattle.std.specs.List.{AllByRecursion, AllWithin, HoldsAt, insert, remove}
 use Rattle.std.specs.List.Sorted.{IsStrictlySortedBy, IsNonDecreasingBy, IsPartitionPoint}
 use Rattle.std.specs.Ordering.{is_eq, is_lt, match_ordering, ordering_index, ordering_reverse}
 use Rattle.std.specs.declared.cmp.Ordering.{Ordering}
@@ -27,10 +27,10 @@ unfolding IsStrictlySortedBy
 rest x slots h = h.1
 
 -- what a search goes by
-lower : (a b : Slot) → slot_cmp a b ≡ Less → slot_cmp b a ≡ Greater
+pub lower : (a b : Slot) → slot_cmp a b ≡ Less → slot_cmp b a ≡ Greater
 lower a b e = slots_total.antisymm b a ∙ ap ordering_reverse e
 
-higher : (a b : Slot) → slot_cmp a b ≡ Greater → slot_cmp b a ≡ Less
+pub higher : (a b : Slot) → slot_cmp a b ≡ Greater → slot_cmp b a ≡ Less
 higher a b e = slots_total.antisymm b a ∙ ap ordering_reverse e
 
 same : (a b : Slot) → slot_cmp a b ≡ Equal → slot_cmp b a ≡ Equal
@@ -133,10 +133,10 @@ without_query_ordered slots query h = IsStrictlySortedBy-filter slot_cmp (λ s. 
 
 -- WHAT A SEARCH FINDS
 pub found_at : (slots : List Slot) (s : Slot) (i : ℕ) → IsStrictlySortedBy slot_cmp slots → i < length slots → HoldsAt (λ y. slot_cmp y s ≡ Equal) slots i → IsFound slots s i
-found_at slots s i h l e = record { within = l; there = has_at slots s i l e; stays = put_found slots s i h l e; leaves = without_at slots s i h l e }
+found_at slots s i h l e = record { within = l; there = has_at slots s i l e; stays = put_found slots s i h l e; leaves = without_at slots s i h l e; equal = e }
 
 pub missing_at : (slots : List Slot) (s : Slot) (i : ℕ) → IsStrictlySortedBy slot_cmp slots → i ≤ length slots
     → (IsNonDecreasingBy (λ y. ordering_index (slot_cmp y s)) slots → IsPartitionPoint (λ y. slot_cmp y s ≡ Less) (λ y. slot_cmp y s ≡ Greater) slots i) → IsMissing slots s i
 missing_at slots s i h l found =
     let p = found (searchable slots s h) in
-    record { within = l; absent = has_not slots s i l p; comes = put_at slots s i l p.0 p.1 }
+    record { within = l; absent = has_not slots s i l p; comes = put_at slots s i l p.0 p.1; below = p.0; above = p.1 }

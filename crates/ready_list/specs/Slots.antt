@@ -1,9 +1,10 @@
 -- The slots of operators, and the order in which they are leased.
 use Rattle.std.specs.Prelude.{◌≡◌, ℕ, true, false, not, ◌==◌, Bool, cond, Option, Some, None, unwrap_or, is_none, List, [], ◌∷◌, filter, length, ◌<◌, ◌≤◌}
-use Rattle.std.specs.List.{AllByRecursion, insert, list_any, remove}
+use Rattle.std.specs.List.{AllByRecursion, AllWithin, HoldsAt, insert, list_any, remove}
 use Rattle.std.specs.Ordering.{bool_cmp, nat_cmp, is_eq, ordering_then}
 use Rattle.std.specs.BTreeSet.{insert_key}
 use Rattle.std.specs.declared.cmp.Ordering.{Ordering}
+use Rattle.std.specs.declared.cmp.Ordering.TheVariants.{Less, Equal, Greater}
 use Rattle.envelope.specs.Fraction.{Fraction, NoGreater, fraction_cmp}
 use Rattle.ready_list.specs.declared.slots.Slot.{Slot}
 
@@ -59,8 +60,11 @@ pub record IsFound (slots : List Slot) (s : Slot) (i : ℕ) : Type 0 where
   pub there : has s slots ≡ true
   pub stays : put slots s ≡ slots
   pub leaves : without s slots ≡ remove slots i
+  pub equal : HoldsAt (λ t. slot_cmp t s ≡ Equal) slots i
 
 pub record IsMissing (slots : List Slot) (s : Slot) (i : ℕ) : Type 0 where
   pub within : i ≤ length slots
   pub absent : has s slots ≡ false
   pub comes : put slots s ≡ insert slots i s
+  pub below : AllWithin (λ t. slot_cmp t s ≡ Less) slots 0 i
+  pub above : AllWithin (λ t. slot_cmp t s ≡ Greater) slots i (length slots)

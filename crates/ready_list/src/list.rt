@@ -1,6 +1,7 @@
 //! The slots in their order.
 ghost use Rattle.std.specs.Prelude.{◌≡◌, ◌<◌, [], Some, IfOk, IfErr, OnOk, OnErr, MatchOption};
 ghost use Rattle.ready_list.specs.Slots.{changed, put, without_query, first_of, slot_cmp, IsSteepest, AreIdle, IsFound, IsMissing};
+ghost use Rattle.std.specs.List.{insert, remove};
 ghost use Rattle.std.specs.List.Sorted.{IsStrictlySortedBy};
 ghost use Rattle.std.specs.Vec.{vec_capacity, vec_len};
 
@@ -70,8 +71,7 @@ impl ReadyList {
         ensures { self.new ≡ changed slot instant self.old }
     {
         if let Ok(at) = place_of(&self.slots, &slot) {
-            self.slots.remove(at);
-            place(&mut self.slots, slot.with_instant(instant));
+            replace(&mut self.slots, at, slot.with_instant(instant));
         }
     }
 
@@ -92,6 +92,44 @@ fn place_of(slots: &[Slot], slot: &Slot) -> Result<usize, usize>
     ensures missing { IfErr result (IsMissing slots.now slot.now) }
 {
     slots.binary_search(slot)
+}
+
+/// The slot at a place leaves and another comes to its own place, unless it is there. Only those between the two places move.
+fn replace(slots: &mut Vec<Slot>, at: usize, slot: Slot)
+    requires within { at < vec_len slots.old }
+    requires ordered { IsStrictlySortedBy slot_cmp slots.old.items }
+    ensures { slots.new.items ≡ put (remove slots.old.items at) slot }
+{
+    match place_of(slots, &slot) {
+        Ok(to) => {
+            if to == at {
+                slots[at] = slot;
+            } else {
+                slots.remove(at);
+            }
+        }
+        Err(to) => {
+            if to <= at {
+                move_slot(slots, at, to, slot);
+            } else {
+                move_slot(slots, at, to - 1, slot);
+            }
+        }
+    }
+}
+
+/// The slot at a place leaves and another comes to a place among the others. Those between the two places move by one.
+fn move_slot(slots: &mut Vec<Slot>, at: usize, to: usize, slot: Slot)
+    requires leaves { at < vec_len slots.old }
+    requires comes { to < vec_len slots.old }
+    ensures { slots.new.items ≡ insert (remove slots.old.items at) to slot }
+{
+    if to < at {
+        slots.copy_within(to..at, to + 1);
+    } else {
+        slots.copy_within(at + 1..to + 1, at);
+    }
+    slots[to] = slot;
 }
 
 /// A slot comes to its place, unless it is there; there is room for it.

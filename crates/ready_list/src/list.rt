@@ -65,7 +65,8 @@ impl ReadyList {
         Ok(())
     }
 
-    /// The slot's operator has something else to take, or nothing. Takes no memory; where the slot is not in the list nothing changes.
+    /// The slot's operator has something else to take, or nothing. Takes no memory, and moves only the slots between its old place and
+    /// its new one; where the slot is not in the list nothing changes.
     #[tactic(auto, using(crate::proofs::SlotLemmas::without_ordered, crate::proofs::SlotLemmas::put_ordered))]
     pub fn change(&mut self, slot: Slot, instant: Option<u64>)
         ensures { self.new ≡ changed slot instant self.old }
@@ -94,7 +95,8 @@ fn place_of(slots: &[Slot], slot: &Slot) -> Result<usize, usize>
     slots.binary_search(slot)
 }
 
-/// The slot at a place leaves and another comes to its own place, unless it is there. Only those between the two places move.
+/// The slot at a place leaves and another comes to its own place, unless an equal one is there. It is written also where the place
+/// stays: an equal slope may be another fraction.
 fn replace(slots: &mut Vec<Slot>, at: usize, slot: Slot)
     requires within { at < vec_len slots.old }
     requires ordered { IsStrictlySortedBy slot_cmp slots.old.items }

@@ -1,5 +1,5 @@
--- Columns: numbers beside validities, one more, one read.
-use Rattle.std.proofs.Common.{ℕ, ℤ, pos, negsuc, List, [], ◌∷◌, ◌++◌, ◌≡◌, ◌<◌, cond, length, refl, sym, ◌∙◌, ap, arith, Bool, true, false, Some, None, Option, zero, suc, neg_ℤ, ◌≤ℤ◌, FitsSigned, w64, to_z, of_z, IfSome, unwrap_or, is_some, map, All, subst}
+-- Columns: numbers beside validities, one more, one read, a part.
+use Rattle.std.proofs.Common.{ℕ, ℤ, pos, negsuc, List, [], ◌∷◌, ◌++◌, ◌≡◌, ◌<◌, ◌-◌, cond, length, take, drop, slice_range, refl, sym, ◌∙◌, ap, arith, Bool, true, false, Some, None, Option, zero, suc, neg_ℤ, ◌≤ℤ◌, FitsSigned, w64, to_z, of_z, IfSome, unwrap_or, is_some, map, All, subst}
 use Rattle.std.proofs.Math.ListN.{get_or}
 use Rattle.std.proofs.lemmas.Int.{ints, int_max_is, int_min_is, to_z-of_z}
 use Rattle.std.specs.Int.{int_min}
@@ -49,6 +49,46 @@ IsColumn-push [] [] n v c d = (d, tt)
 IsColumn-push [] (w ∷ vs) n v c d = absurd c
 IsColumn-push (m ∷ ns) [] n v c d = absurd c
 IsColumn-push (m ∷ ns) (w ∷ vs) n v c d = (c.0, IsColumn-push ns vs n v c.1 d)
+
+-- ---- a part
+IsColumn-take : (k : ℕ) (numbers : List ℤ) (valid : List Bool) → IsColumn numbers valid → IsColumn (take k numbers) (take k valid)
+IsColumn-take zero numbers valid c = tt
+IsColumn-take (suc k) [] [] c = tt
+IsColumn-take (suc k) [] (v ∷ vs) c = absurd c
+IsColumn-take (suc k) (n ∷ ns) [] c = absurd c
+IsColumn-take (suc k) (n ∷ ns) (v ∷ vs) c = (c.0, IsColumn-take k ns vs c.1)
+
+IsColumn-drop : (k : ℕ) (numbers : List ℤ) (valid : List Bool) → IsColumn numbers valid → IsColumn (drop k numbers) (drop k valid)
+IsColumn-drop zero numbers valid c = c
+IsColumn-drop (suc k) [] [] c = tt
+IsColumn-drop (suc k) [] (v ∷ vs) c = absurd c
+IsColumn-drop (suc k) (n ∷ ns) [] c = absurd c
+IsColumn-drop (suc k) (n ∷ ns) (v ∷ vs) c = IsColumn-drop k ns vs c.1
+
+values_of-take : (k : ℕ) (numbers : List ℤ) (valid : List Bool) → IsColumn numbers valid → values_of (take k numbers) (take k valid) ≡ take k (values_of numbers valid)
+values_of-take zero numbers valid c = refl
+values_of-take (suc k) [] [] c = refl
+values_of-take (suc k) [] (v ∷ vs) c = absurd c
+values_of-take (suc k) (n ∷ ns) [] c = absurd c
+values_of-take (suc k) (n ∷ ns) (v ∷ vs) c = ap (λ l. cond v (Some n) None ∷ l) (values_of-take k ns vs c.1)
+
+values_of-drop : (k : ℕ) (numbers : List ℤ) (valid : List Bool) → IsColumn numbers valid → values_of (drop k numbers) (drop k valid) ≡ drop k (values_of numbers valid)
+values_of-drop zero numbers valid c = refl
+values_of-drop (suc k) [] [] c = refl
+values_of-drop (suc k) [] (v ∷ vs) c = absurd c
+values_of-drop (suc k) (n ∷ ns) [] c = absurd c
+values_of-drop (suc k) (n ∷ ns) (v ∷ vs) c = values_of-drop k ns vs c.1
+
+pub record IsParted (numbers : List ℤ) (valid : List Bool) (vs : List (Option ℤ)) : Type 0 where
+  pub column : IsColumn numbers valid
+  pub seen : values_of numbers valid ≡ vs
+
+pub parted : (numbers : List ℤ) (valid : List Bool) (vs : List (Option ℤ)) (a b : ℕ) (numbers' : List ℤ) (valid' : List Bool) → IsColumn numbers valid → values_of numbers valid ≡ vs
+    → numbers' ≡ slice_range numbers a b → valid' ≡ slice_range valid a b → IsParted numbers' valid' (slice_range vs a b)
+parted numbers valid vs a b numbers' valid' c e g f = rw (g, f) (record {
+  column = IsColumn-take (b - a) (drop a numbers) (drop a valid) (IsColumn-drop a numbers valid c);
+  seen = values_of-take (b - a) (drop a numbers) (drop a valid) (IsColumn-drop a numbers valid c) ∙ ap (take (b - a)) (values_of-drop a numbers valid c) ∙ ap (λ l. slice_range l a b) e;
+})
 
 pub clamp_answer-same : (n : ℤ) → IsAnswerNumber n → clamp_answer n ≡ n
 clamp_answer-same n h = let l : neg_ℤ answer_max ≤ℤ n = h.0 in let k : n ≤ℤ answer_max = h.1 in grind (arith, ints, int_max_is (neg_ℤ answer_max) (int_min answer_max n), int_min_is answer_max n)

@@ -1,8 +1,8 @@
 -- Ranges of a list.
-use Rattle.std.proofs.Common.{ℕ, List, [], ◌∷◌, ◌++◌, ◌≡◌, ◌<◌, ◌≤◌, ◌+◌, ◌-◌, length, sym, ◌∙◌, ap, arith, slice_range, min, take, drop, inl, inr}
+use Rattle.std.proofs.Common.{ℕ, List, [], ◌∷◌, ◌++◌, ◌≡◌, ◌<◌, ◌≤◌, ◌+◌, ◌-◌, length, refl, sym, ◌∙◌, ap, arith, slice_range, min, take, drop, inl, inr}
 use Rattle.std.proofs.Math.ListN.{get_or}
 use Rattle.std.proofs.lemmas.List.{take_more, get_or-drop, length-drop, take_all}
-use Rattle.std.proofs.lemmas.Bool.{cases_order}
+use Rattle.std.proofs.lemmas.Bool.{cases_lt, cases_order}
 
 pub slice_range_more : {X : Type 0} (xs : List X) (a i : ℕ) (d : X) → a ≤ i → i < length xs → slice_range xs a (i + 1) ≡ slice_range xs a i ++ get_or xs i d ∷ []
 slice_range_more xs a i d l h =
@@ -28,4 +28,15 @@ slice_range_cut xs a to end i e l m h k = elim (cases_order (length xs) to) [
         ] in
         ap (λ n. take n (drop a xs)) short
   ]
+]
+
+pub slice_range_none : {X : Type 0} (xs : List X) (a to end : ℕ) → end ≡ min to (length xs) → end ≤ a → [] ≡ slice_range xs a to
+slice_range_none xs a to end e h =
+    ap (λ n. take n (drop a xs)) (let none : 0 ≡ a - a = omega arith in none) ∙ slice_range_cut xs a to end a e (omega arith) h (λ l. l) (λ l. refl)
+
+-- where a range begins past the list's end, it is as empty from that end on
+pub slice_range_within : {X : Type 0} (xs : List X) (a to end start : ℕ) → end ≡ min to (length xs) → start ≡ min a end → slice_range xs start end ≡ slice_range xs a to
+slice_range_within xs a to end start e s = elim (cases_lt a end) [
+  | inl h ↦ ap (λ n. slice_range xs n end) (let l : start ≡ a = omega (arith, h) in l) ∙ slice_range_cut xs a to end end e (omega (arith, h)) (omega arith) (λ l. omega arith) (λ l. absurd (omega (arith, h)))
+  | inr h ↦ sym (slice_range_none xs start end end (omega arith) (omega (arith, h))) ∙ slice_range_none xs a to end e h
 ]

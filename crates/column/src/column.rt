@@ -95,12 +95,11 @@ impl Column {
     pub fn part(&self, alloc: Global, from: usize, to: usize) -> Result<Column, AllocError>
         ensures { IfOk result (λ c. c ≡ slice_range self.now from to) }
     {
-        let end = to.min(self.len());
-        let mut column = Column::with_capacity(alloc, end.saturating_sub(from))?;
-        for i in from..end {
-            column.push(self.get(i))?;
-        }
-        Ok(column)
+        let end = to.min(self.numbers.len());
+        let start = from.min(end);
+        let numbers = Vec::from_slice(alloc, &self.numbers[start..end])?;
+        let valid = self.valid.part(alloc, from, to)?;
+        Ok(Column { numbers, valid })
     }
 
     /// The values at these places, in their order.

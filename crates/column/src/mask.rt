@@ -1,6 +1,6 @@
 //! Lists of truths, 64 in a word.
 
-ghost use Rattle.std.specs.Prelude.{◌≡◌, ◌≢◌, ◌<◌, ◌≤◌, ◌+◌, ◌++◌, ◌∷◌, ◌==◌, ◌/◌, [], ℕ, List, IfOk, OnOk, OnErr, IfErr, length, slice_index_or, slice_range, vec_len, false, All};
+ghost use Rattle.std.specs.Prelude.{◌≡◌, ◌≢◌, ◌<◌, ◌≤◌, ◌+◌, ◌++◌, ◌∷◌, ◌==◌, ◌/◌, ◌%◌, [], ℕ, List, IfOk, OnOk, OnErr, IfErr, length, slice_index_or, slice_range, vec_len, false, All};
 ghost use Rattle.column.specs.Bits.{IsClear, at_places, bits, place, true_places, word_count};
 
 use super::MAX_ROWS;
@@ -80,6 +80,34 @@ impl Mask {
 
     /// A copy of the truths from the place `from` to below the place `to`, as far as there are any.
     pub fn part(&self, alloc: Global, from: usize, to: usize) -> Result<Mask, AllocError>
+        ensures { IfOk result (λ m. m ≡ slice_range self.now from to) }
+    {
+        if from % 64 == 0 {
+            self.part_by_words(alloc, from, to)
+        } else {
+            self.part_by_bits(alloc, from, to)
+        }
+    }
+
+    /// `part` where it begins with a word.
+    fn part_by_words(&self, alloc: Global, from: usize, to: usize) -> Result<Mask, AllocError>
+        requires { from % 64 ≡ 0 }
+        ensures { IfOk result (λ m. m ≡ slice_range self.now from to) }
+    {
+        let end = to.min(self.len);
+        if end <= from {
+            return Mask::with_capacity(alloc, 0);
+        }
+        let mut words = Vec::from_slice(alloc, &self.words[from / 64..(end + 63) / 64])?;
+        clear_past(&mut words, end - from);
+        Ok(Mask {
+            words,
+            len: end - from,
+        })
+    }
+
+    /// `part` where it begins within a word.
+    fn part_by_bits(&self, alloc: Global, from: usize, to: usize) -> Result<Mask, AllocError>
         ensures { IfOk result (λ m. m ≡ slice_range self.now from to) }
     {
         let end = to.min(self.len());
@@ -162,4 +190,15 @@ fn set_bit(words: &mut Vec<u64>, at: usize)
     ensures same { (i : ℕ) → i ≢ at → place words.new.items i ≡ place words.old.items i }
 {
     words[at / 64] |= 1 << (at % 64);
+}
+
+/// Sets the bits from `len` on to 0, in as many words as `len` bits need.
+fn clear_past(words: &mut Vec<u64>, len: usize)
+    requires { vec_len words.old ≡ word_count len }
+    ensures clear { IsClear len words.new.items }
+    ensures same { (i : ℕ) → i < len → place words.new.items i ≡ place words.old.items i }
+{
+    if len % 64 != 0 {
+        words[len / 64] &= (1 << (len % 64)) - 1;
+    }
 }

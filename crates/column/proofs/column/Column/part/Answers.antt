@@ -1,12 +1,18 @@
-use Rattle.std.proofs.Common.{arith, ◌∙◌, ap, sym, ◌++◌, ◌∷◌, [], None, min, slice_range}
-use Rattle.column.proofs.Slices.{slice_range_more, slice_range_cut}
+use Rattle.std.proofs.Common.{◌∙◌, ap, arith, slice_range}
+use Rattle.column.proofs.ColumnLemmas.{parted}
+use Rattle.column.proofs.Slices.{slice_range_within}
 use Rattle.column.proofs.column.Column.part.Goals as goal
 
-pub loop-i-preserved : goal.loop-i-preserved
-loop-i-preserved c = record {
-  seen = c.in_ok-push.ensures.ok ∙ ap (λ l. l ++ c.get.result ∷ []) c.loop-i.invariant.seen ∙ ap (λ v. slice_range c.args.self.now c.args.from c.loop-i.i ++ v ∷ []) c.get.ensures ∙ sym (slice_range_more c.args.self.now c.args.from c.loop-i.i None (omega arith) (omega arith));
-  empty = λ h. absurd (omega arith);
-}
+pub invariant_of-result : goal.invariant_of-result
+invariant_of-result c =
+    (parted c.self.inside.numbers.items c.self.inside.valid _ c.args.from c.args.to _ _ c.self.invariant c.self.view_is
+    (c.in_ok-numbers.ensures.items ∙ ap (λ l. slice_range l c.min-start.result c.min-end.result) c.deref.ensures.value
+    ∙ slice_range_within _ _ _ _ _ (omega (arith, c.min-end.ensures, c.len.ensures, c.self.inside.numbers.ok.0)) c.min-start.ensures)
+    c.in_ok-valid.ensures).column
 
 pub returns : goal.returns
-returns c = c.loop-i.invariant.seen ∙ slice_range_cut c.args.self.now c.args.from c.args.to c.min-end.result c.loop-i.i (c.min-end.ensures ∙ ap (min c.args.to) c.len.ensures.value) (omega arith) (omega arith) (λ h. omega arith) c.loop-i.invariant.empty
+returns c =
+    (parted c.self.inside.numbers.items c.self.inside.valid _ c.args.from c.args.to _ _ c.self.invariant c.self.view_is
+    (c.in_ok-numbers.ensures.items ∙ ap (λ l. slice_range l c.min-start.result c.min-end.result) c.deref.ensures.value
+    ∙ slice_range_within _ _ _ _ _ (omega (arith, c.min-end.ensures, c.len.ensures, c.self.inside.numbers.ok.0)) c.min-start.ensures)
+    c.in_ok-valid.ensures).seen

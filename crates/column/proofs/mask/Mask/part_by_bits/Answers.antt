@@ -1,6 +1,6 @@
 use Rattle.std.proofs.Common.{arith, ◌∙◌, ap, sym, ◌++◌, ◌∷◌, [], false, min, slice_range}
 use Rattle.column.proofs.Slices.{slice_range_more, slice_range_cut}
-use Rattle.column.proofs.mask.Mask.part.Goals as goal
+use Rattle.column.proofs.mask.Mask.part_by_bits.Goals as goal
 
 pub loop-i-preserved : goal.loop-i-preserved
 loop-i-preserved c = record {

@@ -5,6 +5,7 @@ use Rattle.std.proofs.lemmas.Int.{ints, int_max_is, int_min_is, to_z-of_z}
 use Rattle.std.specs.Int.{int_min}
 use mir.Syntax.{w128}
 use Rattle.values.specs.Value.{IsAnswerNumber, IsStreamNumber, clamp_answer, answer_max}
+use Rattle.column.specs.Bits.{at_places}
 use Rattle.column.specs.Columns.{IsColumn, IsCell, IsStreamValue, numbers_of, values_of}
 
 pub same_length : (numbers : List ℤ) (valid : List Bool) → IsColumn numbers valid → length numbers ≡ length valid
@@ -79,16 +80,37 @@ values_of-drop (suc k) [] (v ∷ vs) c = absurd c
 values_of-drop (suc k) (n ∷ ns) [] c = absurd c
 values_of-drop (suc k) (n ∷ ns) (v ∷ vs) c = values_of-drop k ns vs c.1
 
-pub record IsParted (numbers : List ℤ) (valid : List Bool) (vs : List (Option ℤ)) : Type 0 where
+-- a column made of another, and the values that it shows
+pub record IsMade (numbers : List ℤ) (valid : List Bool) (vs : List (Option ℤ)) : Type 0 where
   pub column : IsColumn numbers valid
   pub seen : values_of numbers valid ≡ vs
 
 pub parted : (numbers : List ℤ) (valid : List Bool) (vs : List (Option ℤ)) (a b : ℕ) (numbers' : List ℤ) (valid' : List Bool) → IsColumn numbers valid → values_of numbers valid ≡ vs
-    → numbers' ≡ slice_range numbers a b → valid' ≡ slice_range valid a b → IsParted numbers' valid' (slice_range vs a b)
+    → numbers' ≡ slice_range numbers a b → valid' ≡ slice_range valid a b → IsMade numbers' valid' (slice_range vs a b)
 parted numbers valid vs a b numbers' valid' c e g f = rw (g, f) (record {
   column = IsColumn-take (b - a) (drop a numbers) (drop a valid) (IsColumn-drop a numbers valid c);
   seen = values_of-take (b - a) (drop a numbers) (drop a valid) (IsColumn-drop a numbers valid c) ∙ ap (take (b - a)) (values_of-drop a numbers valid c) ∙ ap (λ l. slice_range l a b) e;
 })
+
+-- ---- the cells at some places
+IsColumn-at_places : (numbers : List ℤ) (valid : List Bool) (places : List ℕ) → IsColumn numbers valid → All (λ i. i < length valid) places
+    → IsColumn (at_places (pos 0) places numbers) (at_places false places valid)
+IsColumn-at_places numbers valid [] c h = tt
+IsColumn-at_places numbers valid (p ∷ ps) c h = (cell_at numbers valid p c (h zero p (omega arith)), IsColumn-at_places numbers valid ps c (λ k d l. h (suc k) d (omega arith)))
+
+values_of-at_places : (numbers : List ℤ) (valid : List Bool) (places : List ℕ) → IsColumn numbers valid → All (λ i. i < length valid) places
+    → values_of (at_places (pos 0) places numbers) (at_places false places valid) ≡ at_places None places (values_of numbers valid)
+values_of-at_places numbers valid [] c h = refl
+values_of-at_places numbers valid (p ∷ ps) c h = λ t. sym (get_or-values_of numbers valid p c (h zero p (omega arith))) t ∷ values_of-at_places numbers valid ps c (λ k d l. h (suc k) d (omega arith)) t
+
+pub picked_cells : (numbers : List ℤ) (valid : List Bool) (vs : List (Option ℤ)) (places : List ℕ) (numbers' : List ℤ) (valid' : List Bool) → IsColumn numbers valid → values_of numbers valid ≡ vs
+    → All (λ i. i < length vs) places → numbers' ≡ at_places (pos 0) places numbers → valid' ≡ at_places false places valid → IsMade numbers' valid' (at_places None places vs)
+picked_cells numbers valid vs places numbers' valid' c e h g f =
+    let l : All (λ i. i < length valid) places = λ k d b. omega (arith, h k d b, length-column numbers valid vs c e) in
+    rw (g, f) (record {
+      column = IsColumn-at_places numbers valid places c l;
+      seen = values_of-at_places numbers valid places c l ∙ ap (at_places None places) e;
+    })
 
 pub clamp_answer-same : (n : ℤ) → IsAnswerNumber n → clamp_answer n ≡ n
 clamp_answer-same n h = let l : neg_ℤ answer_max ≤ℤ n = h.0 in let k : n ≤ℤ answer_max = h.1 in grind (arith, ints, int_max_is (neg_ℤ answer_max) (int_min answer_max n), int_min_is answer_max n)

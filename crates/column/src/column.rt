@@ -108,11 +108,9 @@ impl Column {
         requires within { All (λ i. i < length self.now) places.now }
         ensures { IfOk result (λ c. c ≡ at_places None places.now self.now) }
     {
-        let mut column = Column::with_capacity(alloc, places.len())?;
-        for place in places {
-            column.push(self.get(*place))?;
-        }
-        Ok(column)
+        let numbers = numbers_at(alloc, &self.numbers, places)?;
+        let valid = self.valid.picked(alloc, places)?;
+        Ok(Column { numbers, valid })
     }
 
     /// The numbers, for the lanes: 0 at a null.
@@ -145,4 +143,16 @@ fn all_in_stream_range(numbers: &[i64]) -> bool
     numbers
         .iter()
         .all(|number| -STREAM_MAX <= *number && *number <= STREAM_MAX)
+}
+
+/// The numbers at these places, in their order.
+fn numbers_at(alloc: Global, numbers: &[i64], places: &[usize]) -> Result<Vec<i64>, AllocError>
+    requires { All (λ i. i < length numbers.now) places.now }
+    ensures { IfOk result (λ ns. ns.items ≡ at_places (pos 0) places.now numbers.now) }
+{
+    let mut picked = Vec::with_capacity(alloc, places.len())?;
+    for place in places {
+        picked.push_reserved(numbers[*place]);
+    }
+    Ok(picked)
 }

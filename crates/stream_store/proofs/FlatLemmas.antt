@@ -1,5 +1,5 @@
--- Rows that are kept flat: one more behind them, the first ones, and the rest.
-use Rattle.std.proofs.Common.{◌≡◌, ◌≤◌, ◌<◌, ◌+◌, ◌*◌, ℕ, ℤ, zero, suc, Bool, true, false, cond, nat_lt, Option, List, [], ◌∷◌, ◌++◌, take, drop, length, map, refl, sym, ap, ◌∙◌, arith, length-drop, get_or, append_assoc, drop-cons}
+-- Rows that are kept flat: more behind them, the first ones, and the rest.
+use Rattle.std.proofs.Common.{◌≡◌, ◌≤◌, ◌<◌, ◌+◌, ◌*◌, ℕ, ℤ, zero, suc, Bool, true, false, cond, nat_lt, Option, List, [], ◌∷◌, ◌++◌, take, drop, length, map, refl, sym, ap, subst, ◌∙◌, arith, length-append, length-drop, get_or, append_assoc, drop-cons}
 use Rattle.std.specs.List.{filter}
 use Rattle.std.proofs.lemmas.List.{take-append-le, drop-append-le, take_all, drop-take, map-append}
 use Rattle.values.specs.Row.{Row}
@@ -7,8 +7,9 @@ use Rattle.values.specs.Window.{Element}
 use Rattle.arrayvec.specs.ArrayVec.{ArrayVec}
 use Rattle.op_queue.specs.Tables.{element}
 use Rattle.op_queue.specs.declared.log.Arrival.{Arrival}
-use Rattle.stream_store.specs.Open.{elements_at}
-use Rattle.stream_store.specs.OpenRows.{rows_in}
+use Rattle.reference.specs.Views.{pairs_of}
+use Rattle.stream_store.specs.Open.{HaveWidth, elements_at}
+use Rattle.stream_store.specs.OpenRows.{numbered_rows, rows_in}
 
 -- the values of a first row, and of the others
 pub rest_full : (width : ℕ) (count : ℕ) (values : List (Option ℤ)) → length values ≡ suc count * width → length (drop width values) ≡ count * width
@@ -59,6 +60,44 @@ pub rows_in-take : (width k : ℕ) (numbers : List ℕ) (values : List (Option �
 rows_in-take width zero numbers values = refl
 rows_in-take width (suc k) [] values = refl
 rows_in-take width (suc k) (m ∷ numbers) values = rw (take-take_more width k values, drop-take_more width k values) (ap (λ (rs : List (ℕ × Row)). (m, take width values) ∷ rs) (rows_in-take width k numbers (drop width values)))
+
+-- ---- more rows, as far as they have come
+module _ (width i : ℕ) (rows : List (ℕ × ArrayVec (Option ℤ))) (one : ℕ × ArrayVec (Option ℤ)) (within : i < length rows) (is : one ≡ get_or rows i one) where
+  next_row : drop i rows ≡ one ∷ drop (i + 1) rows
+  next_row =
+      let next : suc i ≡ i + 1 = omega arith in
+      drop-cons rows i one within ∙ ap (λ r. r ∷ drop (suc i) rows) (sym is) ∙ ap (λ k. one ∷ drop k rows) next
+
+  pub rows_left : length (drop i rows) ≡ suc (length (drop (i + 1) rows))
+  rows_left = ap length next_row
+
+  pub values_left : length (drop i rows) * width ≡ width + length (drop (i + 1) rows) * width
+  values_left = ap (λ k. k * width) rows_left ∙ omega arith
+
+  -- the row has the width, and so have those behind it
+  pub next_wide : HaveWidth width (pairs_of (drop i rows)) → (length one.1.items ≡ width) × HaveWidth width (pairs_of (drop (i + 1) rows))
+  next_wide h = subst (λ (rs : List (ℕ × ArrayVec (Option ℤ))). HaveWidth width (pairs_of rs)) next_row h
+
+  module _ (n : ℕ) (numbers more : List ℕ) (values longer : List (Option ℤ)) (full : length values ≡ length numbers * width) (wide : HaveWidth width (pairs_of (drop i rows)))
+      (numbered : more ≡ numbers ++ n ∷ []) (valued : longer ≡ values ++ one.1.items) where
+    pub pushed_full : length longer ≡ length more * width
+    pushed_full =
+        let long : length more ≡ suc (length numbers) = ap length numbered ∙ length-append numbers (n ∷ []) ∙ omega arith in
+        let same : suc (length numbers) * width ≡ width + length numbers * width = omega arith in
+        let all : length longer ≡ length values + length one.1.items = ap length valued ∙ length-append values one.1.items in
+        all ∙ omega (arith, full, (next_wide wide).0) ∙ sym same ∙ ap (λ k. k * width) (sym long)
+
+    pub pushed_more : rows_in width more longer ++ numbered_rows (n + 1) (pairs_of (drop (i + 1) rows)) ≡ rows_in width numbers values ++ numbered_rows n (pairs_of (drop i rows))
+    pushed_more =
+        let others : List (ℕ × Row) = pairs_of (drop (i + 1) rows) in
+        let old : List (ℕ × Row) = rows_in width numbers values in
+        let next : n + 1 ≡ suc n = omega arith in
+        ap (λ ns. rows_in width ns longer ++ numbered_rows (n + 1) others) numbered
+        ∙ ap (λ vs. rows_in width (numbers ++ n ∷ []) vs ++ numbered_rows (n + 1) others) valued
+        ∙ ap (λ (rs : List (ℕ × Row)). rs ++ numbered_rows (n + 1) others) (rows_in-push width numbers values one.1.items n full (next_wide wide).0)
+        ∙ append_assoc old ((n, one.1.items) ∷ []) (numbered_rows (n + 1) others)
+        ∙ ap (λ k. old ++ (n, one.1.items) ∷ numbered_rows k others) next
+        ∙ sym (ap (λ (rs : List (ℕ × ArrayVec (Option ℤ))). old ++ numbered_rows n (pairs_of rs)) next_row)
 
 -- ---- copies of the rows, as far as they have come
 pub rest_full_at : (width i : ℕ) (numbers : List ℕ) (rest back : List (Option ℤ)) → i < length numbers → back ≡ drop width rest → length rest ≡ length (drop i numbers) * width

@@ -1,5 +1,5 @@
--- The open rows of each instant, and what one more row leaves as it was.
-use Rattle.std.proofs.Common.{◌≡◌, ◌<◌, ◌≤◌, ℕ, ℤ, suc, Bool, true, false, cond, nat_lt, nat_le, Option, Some, None, List, [], ◌∷◌, ◌++◌, append-nil, append_assoc, length, take, map, refl, sym, ap, subst, ◌∙◌, arith, ◌⊎◌, inl, inr}
+-- The open rows of each instant, and what more rows leave as it was.
+use Rattle.std.proofs.Common.{◌≡◌, ◌<◌, ◌≤◌, ℕ, ℤ, zero, suc, Bool, true, false, cond, nat_lt, nat_le, Option, Some, None, List, [], ◌∷◌, ◌++◌, append-nil, append_assoc, length, take, drop, map, refl, sym, ap, subst, ◌∙◌, arith, ◌⊎◌, inl, inr}
 use Rattle.std.specs.declared.cmp.Ordering.{Ordering}
 use Rattle.std.specs.declared.cmp.Ordering.TheVariants.{Less, Equal, Greater}
 use Rattle.std.specs.Ordering.{nat_cmp, match_ordering, MatchOrdering, is_gt, is_eq}
@@ -21,8 +21,8 @@ use Rattle.values.specs.Row.{Row}
 use Rattle.values.specs.Window.{Element}
 use Rattle.op_queue.specs.Tables.{element}
 use Rattle.op_queue.specs.declared.log.Arrival.{Arrival}
-use Rattle.stream_store.specs.OpenRows.{RowsAt, none_at, with_row, first_below, has_rows}
-use Rattle.stream_store.specs.Open.{Entry, AreWide, elements_at, open_of, put_row, placed, below, instants_past, up_to, past}
+use Rattle.stream_store.specs.OpenRows.{RowsAt, none_at, numbered_rows, with_rows, first_below, has_rows}
+use Rattle.stream_store.specs.Open.{Entry, AreWide, elements_at, open_of, put_rows, placed, after_put, below, instants_past, up_to, past}
 
 abbrev pub Kept : Type 0
 Kept = ArrayVec (Option ℤ)
@@ -52,6 +52,16 @@ each-kept P p (x ∷ xs) h = here (each-kept P p xs h.1) (p x)
     here : AllByRecursion P (filter p xs) → (b : Bool) → AllByRecursion P (cond b (x ∷ filter p xs) (filter p xs))
     here ih true = (h.0, ih)
     here ih false = ih
+
+pub each-take : {X : Type 0} (P : X → Type 0) (n : ℕ) (xs : List X) → AllByRecursion P xs → AllByRecursion P (take n xs)
+each-take P zero xs h = tt
+each-take P (suc n) [] h = tt
+each-take P (suc n) (x ∷ xs) h = (h.0, each-take P n xs h.1)
+
+pub each-drop : {X : Type 0} (P : X → Type 0) (n : ℕ) (xs : List X) → AllByRecursion P xs → AllByRecursion P (drop n xs)
+each-drop P zero xs h = h
+each-drop P (suc n) [] h = tt
+each-drop P (suc n) (x ∷ xs) h = each-drop P n xs h.1
 
 pub each_passes : {X : Type 0} (p : X → Bool) (xs : List X) → AllByRecursion (λ x. p x ≡ true) (filter p xs)
 each_passes p [] = tt
@@ -91,7 +101,7 @@ all_later t (e ∷ es) h =
 later_rest : (t : ℕ) (e : Entry) (es : List Entry) → t ≤ e.0 → IsStrictlySortedBy nat_cmp (keys_of (e ∷ es)) → AllByRecursion (λ (g : Element). t < g.instant) (open_of es)
 later_rest t e es le h = each_from (λ (g : Element). e.0 < g.instant) (λ (g : Element). t < g.instant) (λ g lt. omega (arith, le, lt)) (open_of es) (all_later e.0 es (sorted_head nat_cmp e.0 (keys_of es) h))
 
--- ---- one more row
+-- ---- more rows of an instant
 placed_first : (last : Element) (es : List Element) → AllByRecursion (λ (e : Element). last.instant < e.instant) es → placed last es ≡ last ∷ es
 placed_first last [] h = refl
 placed_first last (e ∷ es) h = rw (lt-ltb last.instant e.instant h.0) refl
@@ -100,67 +110,87 @@ placed_behind : (last : Element) (xs ys : List Element) → AllByRecursion (λ (
 placed_behind last [] ys h = refl
 placed_behind last (x ∷ xs) ys h = rw (le-ltb last.instant x.instant h.0) (ap (λ zs. x ∷ zs) (placed_behind last xs ys h.1))
 
-module _ (width t n : ℕ) (row : Row) where
-  -- the row as an element, and an instant that has it alone
-  abbrev last : Element
-  last = record { arrival = n; instant = t; row = row }
+-- the rows have this instant
+abbrev pub AreAt : ℕ → List (ℕ × Row) → Type 0
+AreAt t rows = AllByRecursion (λ (r : ℕ × Row). r.0 ≡ t) rows
 
-  abbrev single : RowsAt
-  single = with_row n row (none_at width)
+-- rows of an instant go behind what is not later, and before what is later
+put_behind : (t n : ℕ) (rows : List (ℕ × Row)) (xs ys : List Element) → AreAt t rows → AllByRecursion (λ (e : Element). e.instant ≤ t) xs → after_put n rows (xs ++ ys) ≡ xs ++ after_put n rows ys
+put_behind t n [] xs ys at h = refl
+put_behind t n (r ∷ rows) xs ys at h =
+    let last : Element = record { arrival = n; instant = r.0; row = r.1 } in
+    let early = each_from (λ (e : Element). e.instant ≤ t) (λ (e : Element). e.instant ≤ r.0) (λ e le. omega (arith, le, at.0)) xs h in
+    ap (λ es. after_put (suc n) rows es) (placed_behind last xs ys early) ∙ put_behind t (suc n) rows xs (placed last ys) at.1 h
 
-  pub open-put_row : (es : List Entry) → IsStrictlySortedBy nat_cmp (keys_of es) → open_of (put_row width t n row es) ≡ placed last (open_of es)
-  open-put_row [] h = refl
-  open-put_row (e ∷ es) h = here (nat_cmp t e.0) (cmp_means t e.0) (open-put_row es (sorted_rest e es h))
+put_before : (t n : ℕ) (rows : List (ℕ × Row)) (es : List Element) → AreAt t rows → AllByRecursion (λ (e : Element). t < e.instant) es → after_put n rows es ≡ elements_at t (numbered_rows n rows) ++ es
+put_before t n [] es at h = refl
+put_before t n (r ∷ rows) es at h =
+    let last : Element = record { arrival = n; instant = r.0; row = r.1 } in
+    let late = each_from (λ (e : Element). t < e.instant) (λ (e : Element). r.0 < e.instant) (λ e lt. omega (arith, lt, at.0)) es h in
+    let same : r.0 ≤ t = omega (arith, at.0) in
+    ap (λ xs. after_put (suc n) rows xs) (placed_first last es late)
+    ∙ put_behind t (suc n) rows (last ∷ []) es at.1 (same, tt)
+    ∙ ap (λ xs. last ∷ xs) (put_before t (suc n) rows es at.1 h)
+    ∙ ap (λ k. record { arrival = n; instant = k; row = r.1 } ∷ (elements_at t (numbered_rows (suc n) rows) ++ es)) at.0
+
+module _ (width t n : ℕ) (rows : List (ℕ × Row)) where
+  -- an instant that has these rows alone
+  abbrev alone : RowsAt
+  alone = with_rows n rows (none_at width)
+
+  pub open-put_rows : (es : List Entry) → AreAt t rows → IsStrictlySortedBy nat_cmp (keys_of es) → open_of (put_rows width t n rows es) ≡ after_put n rows (open_of es)
+  open-put_rows [] at h = sym (put_before t n rows [] at tt)
+  open-put_rows (e ∷ es) at h = here (nat_cmp t e.0) (cmp_means t e.0) (open-put_rows es at (sorted_rest e es h))
     where
-      here : (o : Ordering) → MatchOrdering o (t < e.0) (t ≡ e.0) (e.0 < t) → open_of (put_row width t n row es) ≡ placed last (open_of es)
-          → open_of (match_ordering o ((t, single) ∷ e ∷ es) ((e.0, with_row n row e.1) ∷ es) (e ∷ put_row width t n row es)) ≡ placed last (elements_at e.0 e.1.rows ++ open_of es)
+      early : e.0 ≤ t → after_put n rows (elements_at e.0 e.1.rows ++ open_of es) ≡ elements_at e.0 e.1.rows ++ after_put n rows (open_of es)
+      early le = put_behind t n rows (elements_at e.0 e.1.rows) (open_of es) at (each-at (λ g. g.instant ≤ t) e.0 (λ g i. omega (arith, i, le)) e.1.rows)
+
+      here : (o : Ordering) → MatchOrdering o (t < e.0) (t ≡ e.0) (e.0 < t) → open_of (put_rows width t n rows es) ≡ after_put n rows (open_of es)
+          → open_of (match_ordering o ((t, alone) ∷ e ∷ es) ((e.0, with_rows n rows e.1) ∷ es) (e ∷ put_rows width t n rows es)) ≡ after_put n rows (elements_at e.0 e.1.rows ++ open_of es)
       here Less m ih =
-          sym (placed_first last (elements_at e.0 e.1.rows ++ open_of es) (each-append (λ (g : Element). t < g.instant) (elements_at e.0 e.1.rows) (open_of es)
+          sym (put_before t n rows (elements_at e.0 e.1.rows ++ open_of es) at (each-append (λ (g : Element). t < g.instant) (elements_at e.0 e.1.rows) (open_of es)
           (each-at (λ g. t < g.instant) e.0 (λ g i. omega (arith, i, m)) e.1.rows) (later_rest t e es (omega (arith, m)) h)))
       here Equal m ih =
-          ap (λ (xs : List Element). xs ++ open_of es) (map-append (λ r. record { arrival = r.0; instant = e.0; row = r.1 }) e.1.rows ((n, row) ∷ []))
-          ∙ append_assoc (elements_at e.0 e.1.rows) (record { arrival = n; instant = e.0; row = row } ∷ []) (open_of es)
-          ∙ ap (λ k. elements_at e.0 e.1.rows ++ record { arrival = n; instant = k; row = row } ∷ open_of es) (sym m)
-          ∙ sym (placed_behind last (elements_at e.0 e.1.rows) (open_of es) (each-at (λ g. g.instant ≤ t) e.0 (λ g i. omega (arith, i, m)) e.1.rows)
-          ∙ ap (λ (xs : List Element). elements_at e.0 e.1.rows ++ xs) (placed_first last (open_of es) (later_rest t e es (omega (arith, m)) h)))
-      here Greater m ih =
-          ap (λ (xs : List Element). elements_at e.0 e.1.rows ++ xs) ih
-          ∙ sym (placed_behind last (elements_at e.0 e.1.rows) (open_of es) (each-at (λ g. g.instant ≤ t) e.0 (λ g i. omega (arith, i, m)) e.1.rows))
+          ap (λ (xs : List Element). xs ++ open_of es) (map-append (λ r. record { arrival = r.0; instant = e.0; row = r.1 }) e.1.rows (numbered_rows n rows))
+          ∙ append_assoc (elements_at e.0 e.1.rows) (elements_at e.0 (numbered_rows n rows)) (open_of es)
+          ∙ ap (λ k. elements_at e.0 e.1.rows ++ (elements_at k (numbered_rows n rows) ++ open_of es)) (sym m)
+          ∙ sym (early (omega (arith, m)) ∙ ap (λ (xs : List Element). elements_at e.0 e.1.rows ++ xs) (put_before t n rows (open_of es) at (later_rest t e es (omega (arith, m)) h)))
+      here Greater m ih = ap (λ (xs : List Element). elements_at e.0 e.1.rows ++ xs) ih ∙ sym (early (omega (arith, m)))
 
   -- where the map has the instant
-  pub put_row-found : (es : List Entry) (o : RowsAt) → IsStrictlySortedBy nat_cmp (keys_of es) → lookup (is_at (nat_cmp t)) es ≡ Some o
-      → set_value (is_at (nat_cmp t)) es (with_row n row o) ≡ put_row width t n row es
-  put_row-found [] o s h = cc
-  put_row-found (e ∷ es) o s h = here (put_row-found es o (sorted_rest e es s)) (nat_cmp t e.0) refl h
+  pub put_rows-found : (es : List Entry) (o : RowsAt) → IsStrictlySortedBy nat_cmp (keys_of es) → lookup (is_at (nat_cmp t)) es ≡ Some o
+      → set_value (is_at (nat_cmp t)) es (with_rows n rows o) ≡ put_rows width t n rows es
+  put_rows-found [] o s h = cc
+  put_rows-found (e ∷ es) o s h = here (put_rows-found es o (sorted_rest e es s)) (nat_cmp t e.0) refl h
     where
-      here : (lookup (is_at (nat_cmp t)) es ≡ Some o → set_value (is_at (nat_cmp t)) es (with_row n row o) ≡ put_row width t n row es) → (c : Ordering) → nat_cmp t e.0 ≡ c → cond (is_eq c) (Some e.1) (lookup (is_at (nat_cmp t)) es) ≡ Some o
-          → cond (is_eq c) ((e.0, with_row n row o) ∷ es) (e ∷ set_value (is_at (nat_cmp t)) es (with_row n row o))
-          ≡ match_ordering c ((t, single) ∷ e ∷ es) ((e.0, with_row n row e.1) ∷ es) (e ∷ put_row width t n row es)
+      here : (lookup (is_at (nat_cmp t)) es ≡ Some o → set_value (is_at (nat_cmp t)) es (with_rows n rows o) ≡ put_rows width t n rows es) → (c : Ordering) → nat_cmp t e.0 ≡ c → cond (is_eq c) (Some e.1) (lookup (is_at (nat_cmp t)) es) ≡ Some o
+          → cond (is_eq c) ((e.0, with_rows n rows o) ∷ es) (e ∷ set_value (is_at (nat_cmp t)) es (with_rows n rows o))
+          ≡ match_ordering c ((t, alone) ∷ e ∷ es) ((e.0, with_rows n rows e.1) ∷ es) (e ∷ put_rows width t n rows es)
       here ih Less g i =
           let none = lookup-none (is_at (nat_cmp t)) es (none_below_head nat_cmp_total t e es s g).1 in
           let wrong : None ≡ Some o = sym none ∙ i in
           cc
-      here ih Equal g i = let same : o ≡ e.1 = cc in ap (λ (x : RowsAt). (e.0, with_row n row x) ∷ es) same
+      here ih Equal g i = let same : o ≡ e.1 = cc in ap (λ (x : RowsAt). (e.0, with_rows n rows x) ∷ es) same
       here ih Greater g i = ap (λ xs. e ∷ xs) (ih i)
 
   -- where it has not
-  pub put_row-absent : (es : List Entry) → lookup (is_at (nat_cmp t)) es ≡ None → insert_entry nat_cmp es t single ≡ put_row width t n row es
-  put_row-absent [] h = refl
-  put_row-absent (e ∷ es) h = here (put_row-absent es) (nat_cmp t e.0) h
+  pub put_rows-absent : (es : List Entry) → lookup (is_at (nat_cmp t)) es ≡ None → insert_entry nat_cmp es t alone ≡ put_rows width t n rows es
+  put_rows-absent [] h = refl
+  put_rows-absent (e ∷ es) h = here (put_rows-absent es) (nat_cmp t e.0) h
     where
-      here : (lookup (is_at (nat_cmp t)) es ≡ None → insert_entry nat_cmp es t single ≡ put_row width t n row es) → (c : Ordering) → cond (is_eq c) (Some e.1) (lookup (is_at (nat_cmp t)) es) ≡ None
-          → match_ordering c ((t, single) ∷ e ∷ es) ((e.0, single) ∷ es) (e ∷ insert_entry nat_cmp es t single)
-          ≡ match_ordering c ((t, single) ∷ e ∷ es) ((e.0, with_row n row e.1) ∷ es) (e ∷ put_row width t n row es)
+      here : (lookup (is_at (nat_cmp t)) es ≡ None → insert_entry nat_cmp es t alone ≡ put_rows width t n rows es) → (c : Ordering) → cond (is_eq c) (Some e.1) (lookup (is_at (nat_cmp t)) es) ≡ None
+          → match_ordering c ((t, alone) ∷ e ∷ es) ((e.0, alone) ∷ es) (e ∷ insert_entry nat_cmp es t alone)
+          ≡ match_ordering c ((t, alone) ∷ e ∷ es) ((e.0, with_rows n rows e.1) ∷ es) (e ∷ put_rows width t n rows es)
       here ih Less i = refl
       here ih Equal i = cc
       here ih Greater i = ap (λ xs. e ∷ xs) (ih i)
 
-  pub wide-put_row : (es : List Entry) → AreWide width es → AreWide width (put_row width t n row es)
-  wide-put_row [] h = (refl, tt)
-  wide-put_row (e ∷ es) h = here (nat_cmp t e.0) (wide-put_row es h.1)
+  pub wide-put_rows : (es : List Entry) → AreWide width es → AreWide width (put_rows width t n rows es)
+  wide-put_rows [] h = (refl, tt)
+  wide-put_rows (e ∷ es) h = here (nat_cmp t e.0) (wide-put_rows es h.1)
     where
-      here : (c : Ordering) → AreWide width (put_row width t n row es)
-          → AreWide width (match_ordering c ((t, single) ∷ e ∷ es) ((e.0, with_row n row e.1) ∷ es) (e ∷ put_row width t n row es))
+      here : (c : Ordering) → AreWide width (put_rows width t n rows es)
+          → AreWide width (match_ordering c ((t, alone) ∷ e ∷ es) ((e.0, with_rows n rows e.1) ∷ es) (e ∷ put_rows width t n rows es))
       here Less ih = (refl, (h.0, h.1))
       here Equal ih = (h.0, h.1)
       here Greater ih = (h.0, ih)
@@ -176,29 +206,33 @@ wide_found width t (e ∷ es) o h i = here (wide_found width t es o h.1) (is_at 
 
 -- ---- the rows of a refused append
 module _ (first : ℕ) where
-  -- a row of the number `first` or later is not kept
-  first_below-with_row : (n : ℕ) (row : Row) (o : RowsAt) → first ≤ n → first_below first (with_row n row o) ≡ first_below first o
-  first_below-with_row n row o le =
+  -- rows of the number `first` or later are not kept
+  none_kept : (n : ℕ) (rows : List (ℕ × Row)) → first ≤ n → filter (λ r. nat_lt r.0 first) (numbered_rows n rows) ≡ []
+  none_kept n [] le = refl
+  none_kept n (r ∷ rows) le = rw (le-ltb n first le) (none_kept (suc n) rows (omega (arith, le)))
+
+  first_below-with_rows : (n : ℕ) (rows : List (ℕ × Row)) (o : RowsAt) → first ≤ n → first_below first (with_rows n rows o) ≡ first_below first o
+  first_below-with_rows n rows o le =
       let p : ℕ × Row → Bool = λ r. nat_lt r.0 first in
-      let none : filter p ((n, row) ∷ []) ≡ [] = rw (le-ltb n first le) refl in
-      let same : filter p (o.rows ++ (n, row) ∷ []) ≡ filter p o.rows = filter-append p o.rows ((n, row) ∷ []) ∙ ap (λ (xs : List (ℕ × Row)). filter p o.rows ++ xs) none ∙ append-nil (filter p o.rows) in
+      let more : List (ℕ × Row) = numbered_rows n rows in
+      let same : filter p (o.rows ++ more) ≡ filter p o.rows = filter-append p o.rows more ∙ ap (λ (xs : List (ℕ × Row)). filter p o.rows ++ xs) (none_kept n rows le) ∙ append-nil (filter p o.rows) in
       let few : length (filter p o.rows) ≤ length o.rows = omega (arith, length-filter p o.rows, count_by-le-length p o.rows) in
-      ap (λ (rows : List (ℕ × Row)). record { width = o.width; rows = rows }) (ap (λ (xs : List (ℕ × Row)). take (length xs) (o.rows ++ (n, row) ∷ [])) same ∙ take-append-le (length (filter p o.rows)) o.rows ((n, row) ∷ []) few)
+      ap (λ (rs : List (ℕ × Row)). record { width = o.width; rows = rs }) (ap (λ (xs : List (ℕ × Row)). take (length xs) (o.rows ++ more)) same ∙ take-append-le (length (filter p o.rows)) o.rows more few)
 
-  none_below : (width n : ℕ) (row : Row) → first ≤ n → has_rows (first_below first (with_row n row (none_at width))) ≡ false
-  none_below width n row le = ap has_rows (first_below-with_row n row (none_at width) le)
+  none_below : (width n : ℕ) (rows : List (ℕ × Row)) → first ≤ n → has_rows (first_below first (with_rows n rows (none_at width))) ≡ false
+  none_below width n rows le = ap has_rows (first_below-with_rows n rows (none_at width) le)
 
-  pub below-put_row : (width t n : ℕ) (row : Row) (es : List Entry) → first ≤ n → below first (put_row width t n row es) ≡ below first es
-  below-put_row width t n row [] le = rw (none_below width n row le) refl
-  below-put_row width t n row (e ∷ es) le = here (nat_cmp t e.0) (below-put_row width t n row es le)
+  pub below-put_rows : (width t n : ℕ) (rows : List (ℕ × Row)) (es : List Entry) → first ≤ n → below first (put_rows width t n rows es) ≡ below first es
+  below-put_rows width t n rows [] le = rw (none_below width n rows le) refl
+  below-put_rows width t n rows (e ∷ es) le = here (nat_cmp t e.0) (below-put_rows width t n rows es le)
     where
-      single : RowsAt
-      single = with_row n row (none_at width)
+      alone : RowsAt
+      alone = with_rows n rows (none_at width)
 
-      here : (c : Ordering) → below first (put_row width t n row es) ≡ below first es
-          → below first (match_ordering c ((t, single) ∷ e ∷ es) ((e.0, with_row n row e.1) ∷ es) (e ∷ put_row width t n row es)) ≡ below first (e ∷ es)
-      here Less ih = rw (none_below width n row le) refl
-      here Equal ih = ap (λ (o : RowsAt). cond (has_rows o) ((e.0, o) ∷ below first es) (below first es)) (first_below-with_row n row e.1 le)
+      here : (c : Ordering) → below first (put_rows width t n rows es) ≡ below first es
+          → below first (match_ordering c ((t, alone) ∷ e ∷ es) ((e.0, with_rows n rows e.1) ∷ es) (e ∷ put_rows width t n rows es)) ≡ below first (e ∷ es)
+      here Less ih = rw (none_below width n rows le) refl
+      here Equal ih = ap (λ (o : RowsAt). cond (has_rows o) ((e.0, o) ∷ below first es) (below first es)) (first_below-with_rows n rows e.1 le)
       here Greater ih = ap (λ xs. cond (has_rows (first_below first e.1)) ((e.0, first_below first e.1) ∷ xs) xs) ih
 
   each-front : (P : Element → Type 0) (xs ys : List Element) → AllByRecursion P (xs ++ ys) → AllByRecursion P xs

@@ -1,4 +1,5 @@
 mod FlatLemmas
+mod RunLemmas
 mod KeyLemmas
 mod OrderLemmas
 mod PlacedLemmas

@@ -4,7 +4,7 @@ use Rattle.values.specs.Row.{Row}
 use Rattle.values.specs.Window.{Element}
 use Rattle.reference.specs.Machine.{Stream}
 use Rattle.stream_store.specs.OpenRows.{rows_in}
-use Rattle.stream_store.specs.Open.{Entry, open_of, put_row, after_put, below, instants_past, up_to}
+use Rattle.stream_store.specs.Open.{Entry, open_of, put_rows, count_at, after_put, below, instants_past, up_to}
 use Rattle.stream_store.specs.Closing.{by_key, closed_of, closing_of}
 
 abbrev row : ℕ → Row
@@ -40,18 +40,22 @@ entries = (1, record { width = 1; rows = (1, row 5) ∷ (2, row 6) ∷ [] }) ∷
 open_rows : open_of entries ≡ element 1 1 5 ∷ element 2 1 6 ∷ element 0 3 7 ∷ []
 open_rows = refl
 
--- one more row at an instant that has rows, and one at an instant that has none
-one_behind : open_of (put_row 1 1 3 (row 4) entries) ≡ element 1 1 5 ∷ element 2 1 6 ∷ element 3 1 4 ∷ element 0 3 7 ∷ []
+-- one more row at an instant that has rows, and two at an instant that has none
+one_behind : open_of (put_rows 1 1 3 ((1, row 4) ∷ []) entries) ≡ element 1 1 5 ∷ element 2 1 6 ∷ element 3 1 4 ∷ element 0 3 7 ∷ []
 one_behind = refl
 
-one_between : open_of (put_row 1 2 3 (row 4) entries) ≡ element 1 1 5 ∷ element 2 1 6 ∷ element 3 2 4 ∷ element 0 3 7 ∷ []
-one_between = refl
+two_between : open_of (put_rows 1 2 3 ((2, row 4) ∷ (2, row 9) ∷ []) entries) ≡ element 1 1 5 ∷ element 2 1 6 ∷ element 3 2 4 ∷ element 4 2 9 ∷ element 0 3 7 ∷ []
+two_between = refl
+
+-- the first rows of one instant
+three_at_one : count_at 1 ((1, row 4) ∷ (1, row 4) ∷ (1, row 6) ∷ (2, row 9) ∷ (1, row 5) ∷ []) ≡ 3
+three_at_one = refl
 
 two_more : after_put 3 ((1, row 4) ∷ (2, row 9) ∷ []) (open_of entries) ≡ element 1 1 5 ∷ element 2 1 6 ∷ element 3 1 4 ∷ element 4 2 9 ∷ element 0 3 7 ∷ []
 two_more = refl
 
 -- a refused append leaves nothing, not even an instant
-none_left : below 3 (put_row 1 2 4 (row 9) (put_row 1 1 3 (row 4) entries)) ≡ entries
+none_left : below 3 (put_rows 1 2 4 ((2, row 9) ∷ []) (put_rows 1 1 3 ((1, row 4) ∷ []) entries)) ≡ entries
 none_left = refl
 
 up_to_two : up_to 2 (open_of entries) ≡ element 1 1 5 ∷ element 2 1 6 ∷ []

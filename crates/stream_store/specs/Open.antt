@@ -1,10 +1,10 @@
 -- Open rows as the entries of a map from their instants, and as elements.
-use Rattle.std.specs.Prelude.{◌≡◌, ℕ, suc, nat_le, nat_lt, if◌then◌else◌, List, [], ◌∷◌, map}
+use Rattle.std.specs.Prelude.{◌≡◌, ◌==◌, ℕ, suc, length, nat_le, nat_lt, if◌then◌else◌, List, [], ◌∷◌, map}
 use Rattle.std.specs.List.{AllByRecursion, filter, flat_map}
 use Rattle.std.specs.Ordering.{nat_cmp, match_ordering}
 use Rattle.values.specs.Row.{Row}
 use Rattle.values.specs.Window.{Element}
-use Rattle.stream_store.specs.OpenRows.{RowsAt, none_at, with_row, first_below, has_rows}
+use Rattle.stream_store.specs.OpenRows.{RowsAt, none_at, with_rows, first_below, has_rows}
 
 -- an instant and its rows
 abbrev pub Entry : Type 0
@@ -22,11 +22,20 @@ open_of entries = flat_map (λ e. elements_at e.0 e.1.rows) entries
 abbrev pub AreWide : ℕ → List Entry → Type 0
 AreWide columns entries = AllByRecursion (λ (e : Entry). e.1.width ≡ columns) entries
 
--- one more row, behind the others of its instant
-abbrev pub put_row : ℕ → ℕ → ℕ → Row → List Entry → List Entry
-put_row width instant number row [] = (instant, with_row number row (none_at width)) ∷ []
-put_row width instant number row (e ∷ es) =
-    match_ordering (nat_cmp instant e.0) ((instant, with_row number row (none_at width)) ∷ e ∷ es) ((e.0, with_row number row e.1) ∷ es) (e ∷ put_row width instant number row es)
+-- more rows of one instant, behind its others, with numbers from n on
+abbrev pub put_rows : ℕ → ℕ → ℕ → List (ℕ × Row) → List Entry → List Entry
+put_rows width instant n rows [] = (instant, with_rows n rows (none_at width)) ∷ []
+put_rows width instant n rows (e ∷ es) =
+    match_ordering (nat_cmp instant e.0) ((instant, with_rows n rows (none_at width)) ∷ e ∷ es) ((e.0, with_rows n rows e.1) ∷ es) (e ∷ put_rows width instant n rows es)
+
+-- how many of the first rows have this instant
+abbrev pub count_at : ℕ → List (ℕ × Row) → ℕ
+count_at instant [] = 0
+count_at instant (r ∷ rows) = if r.0 == instant then suc (count_at instant rows) else 0
+
+-- the rows have so many values each
+abbrev pub HaveWidth : ℕ → List (ℕ × Row) → Type 0
+HaveWidth width rows = AllByRecursion (λ (r : ℕ × Row). length r.1 ≡ width) rows
 
 -- an element that came last, behind those of its instant and of earlier ones
 abbrev pub placed : Element → List Element → List Element

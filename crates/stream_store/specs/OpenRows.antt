@@ -1,5 +1,5 @@
 -- How the open rows of an instant are kept: their numbers, and their values one row after another.
-use Rattle.std.specs.Prelude.{◌≡◌, ℕ, ℤ, ◌*◌, ◌≤◌, ◌++◌, Option, Bool, nat_lt, List, [], ◌∷◌, length, take, drop}
+use Rattle.std.specs.Prelude.{◌≡◌, ℕ, suc, ℤ, ◌*◌, ◌≤◌, ◌++◌, Option, Bool, nat_lt, List, [], ◌∷◌, length, take, drop}
 use Rattle.std.specs.List.{filter}
 use Rattle.values.specs.Row.{Row}
 
@@ -21,9 +21,14 @@ pub record IsFlat (width : ℕ) (numbers : List ℕ) (values : List (Option ℤ)
 abbrev pub none_at : ℕ → RowsAt
 none_at width = record { width = width; rows = [] }
 
--- one more row, behind the others
-abbrev pub with_row : ℕ → Row → RowsAt → RowsAt
-with_row number row open_rows = record { width = open_rows.width; rows = open_rows.rows ++ (number, row) ∷ [] }
+-- rows that came one after another, each with its number in place of its instant
+abbrev pub numbered_rows : ℕ → List (ℕ × Row) → List (ℕ × Row)
+numbered_rows n [] = []
+numbered_rows n (r ∷ rows) = (n, r.1) ∷ numbered_rows (suc n) rows
+
+-- more rows behind the others, with numbers from n on
+abbrev pub with_rows : ℕ → List (ℕ × Row) → RowsAt → RowsAt
+with_rows n rows open_rows = record { width = open_rows.width; rows = open_rows.rows ++ numbered_rows n rows }
 
 -- the first rows, as many as have numbers below n
 abbrev pub first_below : ℕ → RowsAt → RowsAt

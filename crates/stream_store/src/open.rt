@@ -1,12 +1,11 @@
 //! The open rows of a stream, by instant and then in the order of arrival.
 ghost use Rattle.std.specs.Prelude.{◌≡◌, ◌<◌, ◌≤◌, ◌+◌, ◌^◌, ◌++◌, OnOk, OnErr, IfOk, length, map};
-ghost use Rattle.std.specs.List.{AllByRecursion};
 ghost use Rattle.std.specs.List.Sorted.{IsStrictlySortedBy};
 ghost use Rattle.std.specs.Map.{keys_of};
 ghost use Rattle.std.specs.Ordering.{nat_cmp};
 ghost use Rattle.op_queue.specs.Tables.{element};
 ghost use Rattle.reference.specs.Views.{pairs_of};
-ghost use Rattle.stream_store.specs.Open.{AreWide, after_put, below, instants_past, open_of, put_row, up_to};
+ghost use Rattle.stream_store.specs.Open.{AreWide, HaveWidth, after_put, below, count_at, instants_past, open_of, put_rows, up_to};
 
 use crate::open_rows::OpenRows;
 use op_queue::Arrival;
@@ -14,51 +13,71 @@ use std::alloc::{AllocError, Global};
 use std::collections::BTreeMap;
 use values::{MAX_COLUMNS, Row};
 
-/// Puts a row behind the others of its instant. On Err all are as they were.
+/// How many of the first rows have this instant.
+fn count_at(rows: &[(u64, Row)], instant: u64) -> usize
+    ensures { result ≡ count_at instant (pairs_of rows.now) }
+{
+    let mut count = 0;
+    for (other, _) in rows {
+        if *other != instant {
+            return count;
+        }
+        count += 1;
+    }
+    count
+}
+
+/// Puts rows behind the others of their instant, numbered from `first` on, by one look-up. On Err all are as they were.
 fn put(
     alloc: Global,
     waiting: &mut BTreeMap<u64, OpenRows>,
     width: usize,
     instant: u64,
-    number: u64,
-    row: &Row,
+    first: u64,
+    rows: &[(u64, Row)],
 ) -> Result<(), AllocError>
     requires few { width ≤ MAX_COLUMNS }
-    requires row { length row.now.items ≡ width }
+    requires room { first + length rows.now < 2 ^ 32 }
+    requires rows { HaveWidth width (pairs_of rows.now) }
     requires wide { AreWide width waiting.old.entries }
-    ensures ok { OnOk result (waiting.new.entries ≡ put_row width instant number row.now.items waiting.old.entries) }
+    ensures ok { OnOk result (waiting.new.entries ≡ put_rows width instant first (pairs_of rows.now) waiting.old.entries) }
     ensures err { OnErr result (waiting.new.entries ≡ waiting.old.entries) }
     ensures ordered { IsStrictlySortedBy nat_cmp (keys_of waiting.old.entries) }
 {
     if let Some(open) = waiting.get_mut(&instant) {
-        return open.push(number, row);
+        return open.push_all(first, rows);
     }
     let mut open = OpenRows::new(alloc, width);
-    open.push(number, row)?;
+    open.push_all(first, rows)?;
     waiting.insert(instant, open)?;
     Ok(())
 }
 
 /// Adds the rows, numbered from `first` on. On Err the rows of lower numbers are as they were.
+///
+/// Rows that follow one another with one instant are put together.
 pub(crate) fn put_all(
     alloc: Global,
     waiting: &mut BTreeMap<u64, OpenRows>,
     width: usize,
     first: u64,
-    rows: Vec<(u64, Row)>,
+    rows: &[(u64, Row)],
 ) -> Result<(), AllocError>
     requires few { width ≤ MAX_COLUMNS }
-    requires room { first + length rows.items < 2 ^ 63 }
-    requires rows { AllByRecursion (λ r. length r.1 ≡ width) (pairs_of rows.items) }
+    requires room { first + length rows.now < 2 ^ 32 }
+    requires rows { HaveWidth width (pairs_of rows.now) }
     requires wide { AreWide width waiting.old.entries }
-    ensures ok { OnOk result (open_of waiting.new.entries ≡ after_put first (pairs_of rows.items) (open_of waiting.old.entries)) }
+    ensures ok { OnOk result (open_of waiting.new.entries ≡ after_put first (pairs_of rows.now) (open_of waiting.old.entries)) }
     ensures wide { AreWide width waiting.new.entries }
     ensures err { OnErr result (below first waiting.new.entries ≡ below first waiting.old.entries) }
 {
     let mut number = first;
-    for (instant, row) in rows {
-        put(alloc, waiting, width, instant, number, &row)?;
-        number += 1;
+    let mut rest = rows;
+    while let Some((instant, _)) = rest.first() {
+        let (run, after) = rest.split_at(count_at(rest, *instant));
+        put(alloc, waiting, width, *instant, number, run)?;
+        number += run.len() as u64;
+        rest = after;
     }
     Ok(())
 }

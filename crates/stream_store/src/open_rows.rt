@@ -1,9 +1,10 @@
 //! The open rows of one instant.
-ghost use Rattle.std.specs.Prelude.{◌≡◌, ℕ, ◌*◌, ◌≤◌, ◌++◌, OnOk, OnErr, length, map, nat_lt};
+ghost use Rattle.std.specs.Prelude.{◌≡◌, ℕ, ◌+◌, ◌*◌, ◌^◌, ◌<◌, ◌≤◌, ◌++◌, OnOk, OnErr, length, map, nat_lt, vec_len, vec_capacity};
 ghost use Rattle.std.specs.List.{filter};
 ghost use Rattle.op_queue.specs.Tables.{element};
-ghost use Rattle.stream_store.specs.Open.{elements_at};
-ghost use Rattle.stream_store.specs.OpenRows.{first_below, has_rows, none_at, rows_in, with_row};
+ghost use Rattle.reference.specs.Views.{pairs_of};
+ghost use Rattle.stream_store.specs.Open.{HaveWidth, elements_at};
+ghost use Rattle.stream_store.specs.OpenRows.{first_below, has_rows, none_at, numbered_rows, rows_in, with_rows};
 
 use op_queue::Arrival;
 use std::alloc::{AllocError, Global};
@@ -45,15 +46,16 @@ impl OpenRows {
         }
     }
 
-    /// Puts a row behind the others. On Err they are as they were.
-    pub(crate) fn push(&mut self, number: u64, row: &Row) -> Result<(), AllocError>
-        requires { length row.now.items ≡ self.old.width }
-        ensures ok { OnOk result (self.new ≡ with_row number row.now.items self.old) }
+    /// Puts rows behind the others, numbered from `first` on. On Err they are as they were.
+    pub(crate) fn push_all(&mut self, first: u64, rows: &[(u64, Row)]) -> Result<(), AllocError>
+        requires room { first + length rows.now < 2 ^ 32 }
+        requires rows { HaveWidth self.old.width (pairs_of rows.now) }
+        ensures ok { OnOk result (self.new ≡ with_rows first (pairs_of rows.now) self.old) }
         ensures err { OnErr result (self.new ≡ self.old) }
     {
-        self.numbers.reserve(1)?;
-        self.values.extend_from_slice(row.as_slice())?;
-        self.numbers.push_reserved(number);
+        self.numbers.reserve(rows.len())?;
+        self.values.reserve(rows.len() * self.width)?;
+        push_rows(self.width, &mut self.numbers, &mut self.values, first, rows);
         Ok(())
     }
 
@@ -83,6 +85,42 @@ fn count_below(numbers: &[u64], first: u64) -> usize
     numbers.iter().filter(|number| **number < first).count()
 }
 
+/// Puts the numbers and the values of rows behind those of others, which have room for them.
+fn push_rows(
+    width: usize,
+    numbers: &mut Vec<u64>,
+    values: &mut Vec<Value>,
+    first: u64,
+    rows: &[(u64, Row)],
+)
+    requires room { first + length rows.now < 2 ^ 32 }
+    requires room_for_numbers { vec_len numbers.old + length rows.now ≤ vec_capacity numbers.old }
+    requires room_for_values { vec_len values.old + length rows.now * width ≤ vec_capacity values.old }
+    requires rows { HaveWidth width (pairs_of rows.now) }
+    requires full { length values.old.items ≡ length numbers.old.items * width }
+    ensures rows { rows_in width numbers.new.items values.new.items ≡ rows_in width numbers.old.items values.old.items ++ numbered_rows first (pairs_of rows.now) }
+    ensures full { length values.new.items ≡ length numbers.new.items * width }
+{
+    let mut number = first;
+    for (_, row) in rows {
+        numbers.push_reserved(number);
+        push_values(values, row.as_slice());
+        number += 1;
+    }
+}
+
+/// Puts the values of a row behind others, which have room for them.
+fn push_values(values: &mut Vec<Value>, row: &[Value])
+    requires { vec_len values.old + length row.now ≤ vec_capacity values.old }
+    ensures items { values.new.items ≡ values.old.items ++ row.now }
+    ensures len { vec_len values.new ≡ vec_len values.old + length row.now }
+    ensures capacity { vec_capacity values.new ≡ vec_capacity values.old }
+{
+    for value in row {
+        values.push_reserved(*value);
+    }
+}
+
 fn row_of(values: &[Value]) -> Row
     requires { length values.now ≤ MAX_COLUMNS }
     ensures { result.items ≡ values.now }
@@ -105,14 +143,15 @@ fn copy_rows(
     requires full { length values.now ≡ length numbers.now * width }
     ensures { OnOk result (map element rows.new.items ≡ map element rows.old.items ++ elements_at instant (rows_in width numbers.now values.now)) }
 {
+    rows.reserve(numbers.len())?;
     let mut rest = values;
     for number in numbers {
         let (row, after) = rest.split_at(width);
-        rows.push(Arrival {
+        rows.push_reserved(Arrival {
             number: *number,
             instant,
             row: row_of(row),
-        })?;
+        });
         rest = after;
     }
     Ok(())

@@ -156,7 +156,7 @@ impl Stored {
         let mut kept = Vec::with_capacity(self.alloc, count)?;
         rows.copy_to(&mut kept);
         let width = self.columns.len();
-        match put_all(self.alloc, &mut self.waiting, width, self.arrivals, kept) {
+        match put_all(self.alloc, &mut self.waiting, width, self.arrivals, &kept) {
             Ok(()) => {
                 self.arrivals += count as u64;
                 Ok(())

@@ -238,7 +238,7 @@ impl Streams {
 
     /// Appends rows to the stream of a number; where one row is refused, none is appended.
     ///
-    /// It costs its rows, each with the logarithm of how many rows of the stream are open.
+    /// It costs its rows, and for all that follow one another with one instant one look-up among the instants that are open.
     ///
     /// # Errors
     /// `UnknownStream`, `TooMany`, `BadWidth`, `ValueRange`, `InstantRange`, `Late`, `StreamFull`: the first test that fails,

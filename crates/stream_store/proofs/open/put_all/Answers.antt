@@ -1,48 +1,40 @@
-use Rattle.std.proofs.Common.{◌≡◌, ◌∙◌, ◌+◌, sym, ap, subst, length, arith, List, ℕ, suc}
-use Rattle.std.specs.List.{AllByRecursion}
-use Rattle.std.proofs.lemmas.Result.{err_from_is_err_and}
-use Rattle.plan.proofs.Growing.{none_left}
+use Rattle.std.proofs.Common.{◌∙◌, ◌+◌, take, drop, sym, ap, subst, arith, ℕ, List}
 use Rattle.reference.specs.Views.{pairs_of}
 use Rattle.values.specs.Window.{Element}
-use Rattle.stream_store.specs.Open.{Entry, AreWide, after_put, below, open_of}
-use Rattle.stream_store.proofs.KeyLemmas.{Kept, below-put_row, open-put_row, wide-put_row}
+use Rattle.stream_store.specs.Open.{Entry, AreWide, HaveWidth, after_put, below, open_of, put_rows}
+use Rattle.stream_store.proofs.KeyLemmas.{Kept, below-put_rows, open-put_rows, wide-put_rows}
+use Rattle.stream_store.proofs.RunLemmas.{run_within, run_at, run_wide, rest_wide, put_rest}
 use Rattle.stream_store.proofs.open.put_all.Goals as goal
 
-pub put-requires-clause-row : goal.put-requires-clause-row
-put-requires-clause-row c =
-    (subst (λ (rows : List (ℕ × Kept)). AllByRecursion (λ r. length r.1 ≡ c.args.width) (pairs_of rows)) c.in-Some.ensures.steps.0 c.loop-instant.invariant.rows).0
+pub split_at-requires : goal.split_at-requires
+split_at-requires c = run_within c.in-Some.field-0.now.0 c.count_at.result c.loop-instant.rest.now c.count_at.ensures
 
-pub returns-in_err-put-clause-err : goal.returns-in_err-put-clause-err
-returns-in_err-put-clause-err c =
-    let p = err_from_is_err_and c.from_residual.result c.from_residual.ensures.1 in
-    rw p.1 (ap (λ (es : List Entry). below c.args.first es) c.in_err-put.ensures.err ∙ c.loop-instant.invariant.same)
-
-pub overflow_add-number : goal.overflow_add-number
-overflow_add-number c = let e = ap length c.in-Some.ensures.steps.0 in omega (arith, e, c.loop-instant.invariant.room, c.requires)
+pub put-requires-clause-rows : goal.put-requires-clause-rows
+put-requires-clause-rows c =
+    subst (λ (rows : List (ℕ × Kept)). HaveWidth c.args.width (pairs_of rows)) (sym c.split_at.ensures.front)
+    (run_wide c.args.width c.count_at.result c.loop-instant.rest.now c.loop-instant.invariant.rows)
 
 pub loop-instant-preserved : goal.loop-instant-preserved
 loop-instant-preserved c =
-    let e = c.in-Some.ensures.steps.0 in
-    let n = ap length e in
+    let t = c.in-Some.field-0.now.0 in
+    let k = c.count_at.result in
+    let rest = c.loop-instant.rest.now in
+    let n = c.loop-instant.number in
     let es = c.loop-instant.waiting.entries in
-    let row = c.in-Some.row.items in
+    let run = c.split_at.result.0.now in
+    let after = c.split_at.result.1.now in
     let put = c.in_ok-put.ensures.ok in
-    let next : c.loop-instant.number + 1 ≡ suc c.loop-instant.number = omega arith in
-    let open_rows = ap open_of put ∙ open-put_row c.args.width c.in-Some.instant c.loop-instant.number row es c.in_ok-put.ensures.ordered in
+    let same = ap (λ (rows : List (ℕ × Kept)). open_of (put_rows c.args.width t n (pairs_of rows) es)) c.split_at.ensures.front in
+    let opened = ap open_of put ∙ same ∙ open-put_rows c.args.width t n (pairs_of (take k rest)) es (run_at t k rest c.count_at.ensures) c.in_ok-put.ensures.ordered in
     record {
-      put = ap (λ k. after_put k (pairs_of c.next.new.self.rest.items) (open_of c.put.new.waiting.entries)) next
-          ∙ ap (λ (xs : List Element). after_put (suc c.loop-instant.number) (pairs_of c.next.new.self.rest.items) xs) open_rows
-          ∙ sym (ap (λ (rows : List (ℕ × Kept)). after_put c.loop-instant.number (pairs_of rows) (open_of es)) e) ∙ c.loop-instant.invariant.put;
-      same = ap (λ (es : List Entry). below c.args.first es) put
-          ∙ below-put_row c.args.first c.args.width c.in-Some.instant c.loop-instant.number row es c.loop-instant.invariant.later ∙ c.loop-instant.invariant.same;
-      rows = (subst (λ (rows : List (ℕ × Kept)). AllByRecursion (λ r. length r.1 ≡ c.args.width) (pairs_of rows)) e c.loop-instant.invariant.rows).1;
-      wide = subst (λ (es : List Entry). AreWide c.args.width es) (sym put) (wide-put_row c.args.width c.in-Some.instant c.loop-instant.number row es c.loop-instant.invariant.wide);
+      put = ap (λ m. after_put (n + m) (pairs_of after) (open_of c.put.new.waiting.entries)) c.split_at.ensures.front_len
+          ∙ ap (λ (rows : List (ℕ × Kept)). after_put (n + k) (pairs_of rows) (open_of c.put.new.waiting.entries)) c.split_at.ensures.back
+          ∙ ap (λ (xs : List Element). after_put (n + k) (pairs_of (drop k rest)) xs) opened
+          ∙ put_rest t k rest c.count_at.ensures n (open_of es) ∙ c.loop-instant.invariant.put;
+      same = ap (λ (xs : List Entry). below c.args.first xs) put
+          ∙ below-put_rows c.args.first c.args.width t n (pairs_of run) es c.loop-instant.invariant.later ∙ c.loop-instant.invariant.same;
+      rows = subst (λ (rows : List (ℕ × Kept)). HaveWidth c.args.width (pairs_of rows)) (sym c.split_at.ensures.back) (rest_wide c.args.width k rest c.loop-instant.invariant.rows);
+      wide = subst (λ (xs : List Entry). AreWide c.args.width xs) (sym put) (wide-put_rows c.args.width t n (pairs_of run) es c.loop-instant.invariant.wide);
       later = omega (arith, c.loop-instant.invariant.later);
-      room = omega (arith, n, c.loop-instant.invariant.room);
-      long = omega (arith, n, c.in-Some.ensures.steps.1, c.loop-instant.invariant.long);
+      room = omega (arith, c.split_at.ensures.front_len, c.split_at.ensures.back_len, c.loop-instant.invariant.room);
     }
-
-pub returns-clause-ok : goal.returns-clause-ok
-returns-clause-ok c =
-    let none = none_left c.loop-instant.instant-iterator.rest.items (c.loop-instant.invariant.long ∙ c.in-None.ensures.steps.0) in
-    sym (ap (λ (rows : List (ℕ × Kept)). after_put c.loop-instant.number (pairs_of rows) (open_of c.loop-instant.waiting.entries)) none) ∙ c.loop-instant.invariant.put

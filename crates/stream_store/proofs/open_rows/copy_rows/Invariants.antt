@@ -1,4 +1,4 @@
-use Rattle.std.proofs.Common.{◌≡◌, ◌*◌, ◌++◌, drop, length, map}
+use Rattle.std.proofs.Common.{◌≡◌, ◌≤◌, ◌+◌, ◌*◌, ◌++◌, drop, length, map, vec_len, vec_capacity}
 use Rattle.op_queue.specs.Tables.{element}
 use Rattle.stream_store.specs.Open.{elements_at}
 use Rattle.stream_store.specs.OpenRows.{rows_in}
@@ -10,4 +10,5 @@ invariant-loop-number l = record {
   whole : map element l.rows.items ++ elements_at l.instant (rows_in l.width (drop l.number-index l.numbers) l.rest)
       ≡ map element l.initial.rows.items ++ elements_at l.instant (rows_in l.width l.numbers l.values);
   full : length l.rest ≡ length (drop l.number-index l.numbers) * l.width;
+  room : vec_len l.rows + length (drop l.number-index l.numbers) ≤ vec_capacity l.rows;
 }

@@ -1,5 +1,4 @@
 use Rattle.std.proofs.Common.{◌≡◌, ◌≤◌, ◌∙◌, ◌+◌, ◌++◌, [], sym, ap, subst, ℕ, List, arith, None, length}
-use Rattle.std.specs.List.{AllByRecursion}
 use Rattle.std.proofs.lemmas.List.{length-map}
 use Rattle.cql_reader.specs.Views.{name_of}
 use Rattle.names.specs.Views.{names_of}
@@ -11,7 +10,7 @@ use Rattle.reference.specs.Views.{pairs_of}
 use Rattle.reference.proofs.StreamLemmas.{accepted_rows, kept-arrivals}
 use Rattle.values.specs.Row.{Row}
 use Rattle.values.specs.Window.{Element}
-use Rattle.stream_store.specs.Open.{Entry, AreWide, after_put, open_of}
+use Rattle.stream_store.specs.Open.{Entry, AreWide, HaveWidth, after_put, open_of}
 use Rattle.stream_store.specs.Stored.{IsStored, stream_in}
 use Rattle.stream_store.proofs.KeyLemmas.{Kept, open-below, wide-below}
 use Rattle.stream_store.proofs.StoredLemmas.{stored_put, put_stream, rows_room, rows_wide}
@@ -30,8 +29,8 @@ pub put_all-requires-clause-room : goal.put_all-requires-clause-room
 put_all-requires-clause-room c =
     let s = c.self.inside in
     let rows = c.args.rows.now in
-    let same : pairs_of c.copy_to.new.elements.items ≡ kept_of rows = c.copy_to.ensures ∙ ap (λ (xs : List (ℕ × Kept)). pairs_of xs ++ kept_of rows) c.in_ok-kept.ensures.items in
-    let long = kept-arrivals c.copy_to.new.elements.items [] rows same in
+    let same : pairs_of c.deref.result.now ≡ kept_of rows = ap (λ (xs : List (ℕ × Kept)). pairs_of xs) c.deref.ensures.value ∙ c.copy_to.ensures ∙ ap (λ (xs : List (ℕ × Kept)). pairs_of xs ++ kept_of rows) c.in_ok-kept.ensures.items in
+    let long = kept-arrivals c.deref.result.now [] rows same in
     let accepted = subst (λ (s : Stream). first_of (append_tests s rows) ≡ None) (sym c.self.view_is) c.requires in
     omega (arith, long, rows_room (name_of s.name) s.columns.items s.arrivals s.log (open_of s.waiting.entries) rows accepted)
 
@@ -40,11 +39,11 @@ put_all-requires-clause-rows c =
     let s = c.self.inside in
     let rows = c.args.rows.now in
     let width : c.len-width.result ≡ length s.columns.items = omega (arith, c.len-width.ensures, s.columns.ok.0) in
-    let same : pairs_of c.copy_to.new.elements.items ≡ kept_of rows = c.copy_to.ensures ∙ ap (λ (xs : List (ℕ × Kept)). pairs_of xs ++ kept_of rows) c.in_ok-kept.ensures.items in
+    let same : pairs_of c.deref.result.now ≡ kept_of rows = ap (λ (xs : List (ℕ × Kept)). pairs_of xs) c.deref.ensures.value ∙ c.copy_to.ensures ∙ ap (λ (xs : List (ℕ × Kept)). pairs_of xs ++ kept_of rows) c.in_ok-kept.ensures.items in
     let accepted = subst (λ (s : Stream). first_of (append_tests s rows) ≡ None) (sym c.self.view_is) c.requires in
     let wide = rows_wide (name_of s.name) s.columns.items s.arrivals s.log (open_of s.waiting.entries) rows accepted in
-    subst (λ (k : ℕ). AllByRecursion (λ (r : ℕ × Row). length r.1 ≡ k) (pairs_of c.copy_to.new.elements.items)) (sym width)
-    (subst (λ (new : List (ℕ × Row)). AllByRecursion (λ (r : ℕ × Row). length r.1 ≡ length s.columns.items) new) (sym same) wide)
+    subst (λ (k : ℕ). HaveWidth k (pairs_of c.deref.result.now)) (sym width)
+    (subst (λ (new : List (ℕ × Row)). HaveWidth (length s.columns.items) new) (sym same) wide)
 
 pub put_all-requires-clause-wide : goal.put_all-requires-clause-wide
 put_all-requires-clause-wide c =
@@ -57,7 +56,7 @@ invariant_of-self c =
     let rows = c.args.rows.now in
     let old = open_of s.waiting.entries in
     let width : c.len-width.result ≡ length s.columns.items = omega (arith, c.len-width.ensures, s.columns.ok.0) in
-    let same : pairs_of c.copy_to.new.elements.items ≡ kept_of rows = c.copy_to.ensures ∙ ap (λ (xs : List (ℕ × Kept)). pairs_of xs ++ kept_of rows) c.in_ok-kept.ensures.items in
+    let same : pairs_of c.deref.result.now ≡ kept_of rows = ap (λ (xs : List (ℕ × Kept)). pairs_of xs) c.deref.ensures.value ∙ c.copy_to.ensures ∙ ap (λ (xs : List (ℕ × Kept)). pairs_of xs ++ kept_of rows) c.in_ok-kept.ensures.items in
     let e = c.in-Ok.ensures.ok ∙ ap (λ (new : List (ℕ × Row)). after_put s.arrivals new old) same in
     let accepted = subst (λ (s : Stream). first_of (append_tests s rows) ≡ None) (sym c.self.view_is) c.requires in
     let put = stored_put (name_of s.name) s.columns.items s.arrivals s.log old rows accepted c.self.invariant.0 in (
@@ -80,15 +79,15 @@ returns-in-Ok-clause-ok c =
     let s = c.self.inside in
     let rows = c.args.rows.now in
     let old = open_of s.waiting.entries in
-    let same : pairs_of c.copy_to.new.elements.items ≡ kept_of rows = c.copy_to.ensures ∙ ap (λ (xs : List (ℕ × Kept)). pairs_of xs ++ kept_of rows) c.in_ok-kept.ensures.items in
+    let same : pairs_of c.deref.result.now ≡ kept_of rows = ap (λ (xs : List (ℕ × Kept)). pairs_of xs) c.deref.ensures.value ∙ c.copy_to.ensures ∙ ap (λ (xs : List (ℕ × Kept)). pairs_of xs ++ kept_of rows) c.in_ok-kept.ensures.items in
     let e = c.in-Ok.ensures.ok ∙ ap (λ (new : List (ℕ × Row)). after_put s.arrivals new old) same in
     ap (λ (es : List Element). stream_in (name_of s.name) (names_of s.columns.items) (s.arrivals + c.len-count.result) s.log es) e
     ∙ ap (λ (k : ℕ). stream_in (name_of s.name) (names_of s.columns.items) (s.arrivals + k) s.log (after_put s.arrivals (kept_of rows) old)) c.len-count.ensures
     ∙ put_stream (name_of s.name) (names_of s.columns.items) s.arrivals s.log old rows c.self.invariant.0.numbered c.self.invariant.0.came
     ∙ ap (λ (s : Stream). appended rows s) c.self.view_is
 
-pub returns-in-Err-clause-err : goal.returns-in-Err-clause-err
-returns-in-Err-clause-err c =
+pub returns-clause-err : goal.returns-clause-err
+returns-clause-err c =
     let s = c.self.inside in
     let rows = ap open_of (c.forget_from.ensures ∙ c.in-Err.ensures.err) ∙ open-below s.arrivals s.waiting.entries c.self.invariant.0.numbered in
     ap (λ (es : List Element). stream_in (name_of s.name) (names_of s.columns.items) s.arrivals s.log es) rows ∙ c.self.view_is

@@ -145,7 +145,7 @@ refused_ends e1 e2 e3 rows UnknownLease none ran h = absurd (no_other e2 rows no
 refused_ends e1 e2 e3 rows Stranger none ran h = absurd (no_other e2 rows none Stranger refl h.0)
 
 -- A TURN THAT IS RUN
-comes_machine : (e1 e2 : PlainEngine) (l : Lease) (q : Registered) (p p2 : PlainQuery) → ComesBack e1 l q p p2 e2 → e2.machine ≡ e1.machine
+pub comes_machine : (e1 e2 : PlainEngine) (l : Lease) (q : Registered) (p p2 : PlainQuery) → ComesBack e1 l q p p2 e2 → e2.machine ≡ e1.machine
 comes_machine e1 e2 l q p p2 (inl h) = ap (λ e. e.machine) h.1
 comes_machine e1 e2 l q p p2 (inr h) = ap (λ e. e.machine) h.1
 

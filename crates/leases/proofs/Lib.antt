@@ -14,6 +14,7 @@ mod ReaderLemmas
 mod BeatLemmas
 pub mod RunLemmas
 pub mod DrainLemmas
+mod MachineLemmas
 pub mod PairLemmas
 pub mod WorldLemmas
 pub mod WholeLemmas

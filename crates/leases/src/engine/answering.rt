@@ -61,11 +61,13 @@ impl Answering for Engine {
         self.state.heartbeat(stream, at)
     }
 
+    #[tactic(auto, using(crate::proofs::DrainLemmas::drain_machine))]
     fn drain(&mut self, rows: u32) -> Result<(), Fault>
         ensures does { IsWhole self.old → Drains (world_in self.old) (drain_step (world_in self.old) rows) result (world_in self.new) }
         ensures whole { IsWhole self.old → IsPlenty result → IsWhole self.new }
         ensures runs { RunsTurns (engine_in self.old) rows result (engine_in self.new) }
         ensures others { LeavesOthers (engine_in self.old) result (engine_in self.new) }
+        ensures machine { (engine_in self.new).machine ≡ (engine_in self.old).machine }
         ensures idle { OnOk result (first_of (engine_in self.new).slots ≡ None) }
         ensures all { OnOk result (IsWhole self.old → HasAllWaiting (engine_in self.new)) }
         ensures promises { KeepsItsPromises (engine_in self.new) }

@@ -21,8 +21,10 @@ impl Engine {
     /// # Errors
     /// `BadLimit` where `rows` is out of range; `TooManyLeases` where an operator may take something and 64 turns are out or all numbers of turns were given;
     /// `OutOfMemory`. Then all is as it was.
+    #[tactic(auto, using(crate::proofs::MachineLemmas::leases_keep_the_machine))]
     pub fn lease(&mut self, rows: u32) -> Result<Leased, Fault>
         ensures leases { Leases (engine_in self.old) rows result (engine_in self.new) }
+        ensures machine { (engine_in self.new).machine ≡ (engine_in self.old).machine }
         ensures idle { result ≡ Ok Idle → (engine_in self.new).leases ≡ [] → HasAllWaiting (engine_in self.new) }
         ensures promises { KeepsItsPromises (engine_in self.new) }
     {
@@ -35,8 +37,10 @@ impl Engine {
     /// # Errors
     /// `UnknownLease` where no turn of its number is out; `Stranger` where that has another operator, item or excerpt: then all is as it was.
     /// `OutOfMemory`: then its query is broken. All turns of that end, and none of its operators is ready again; what waits can be taken still.
+    #[tactic(auto, using(crate::proofs::MachineLemmas::finishes_keep_the_machine))]
     pub fn finish(&mut self, done: Done) -> Result<(), Fault>
         ensures finishes { Finishes (engine_in self.old) done result (engine_in self.new) }
+        ensures machine { (engine_in self.new).machine ≡ (engine_in self.old).machine }
         ensures promises { KeepsItsPromises (engine_in self.new) }
     {
         self.state.finish(done)
@@ -46,8 +50,10 @@ impl Engine {
     ///
     /// # Errors
     /// `UnknownLease` where no turn of the number is out: then all is as it was.
+    #[tactic(auto, using(crate::proofs::MachineLemmas::abandons_keep_the_machine))]
     pub fn abandon(&mut self, lease: u64) -> Result<(), Fault>
         ensures abandons { Abandons (engine_in self.old) lease result (engine_in self.new) }
+        ensures machine { (engine_in self.new).machine ≡ (engine_in self.old).machine }
         ensures promises { KeepsItsPromises (engine_in self.new) }
     {
         self.state.abandon(lease)

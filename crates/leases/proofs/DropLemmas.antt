@@ -22,7 +22,7 @@ use Rattle.leases.specs.declared.given.Given.{Given}
 use Rattle.leases.specs.declared.kept.KeptQuery.{KeptQuery}
 use Rattle.leases.specs.declared.kept.KeptQuery.TheVariants as code
 use Rattle.leases.specs.declared.registered.Registration.{Registration}
-use Rattle.leases.proofs.LeaveLemmas.{ended}
+use Rattle.leases.proofs.FinishGivenLemmas.{leases_left}
 
 -- THE QUERY OF A NUMBER that was not dropped
 pub record IsThere (qs : List Registered) (n : ℕ) : Type 0 where
@@ -110,7 +110,7 @@ refused e n f h = ap (λ z. unless z (world_of e) tt (record { machine = after e
 module _ (streams : List Stream) (rs : List Registration) (ks : List KeptQuery) (gs gs2 : List Given) (next : ℕ) (slots slots2 : List Slot) (n : ℕ)
     (turns : gs2 ≡ filter (λ g. not (g.node.query == n)) gs) (told : slots2 ≡ without_query n slots) where
   turns_are : map lease_of gs2 ≡ of_others n (map lease_of gs)
-  turns_are = ap (λ z. map lease_of z) turns ∙ ended (λ l. not (l.query == n)) gs
+  turns_are = ap (λ z. map lease_of z) turns ∙ leases_left (λ l. not (l.query == n)) gs
 
   pub is_dropped : (r d : Registration) → query_of r ≡ machine.dropped (query_of (get_or rs n d)) → engine_of streams (set rs n r) (set ks n code.Dropped) gs2 next slots2 ≡ dropped (engine_of streams rs ks gs next slots) n
   is_dropped r d h =

@@ -1,7 +1,5 @@
 //! Turns that do not come back, and queries that leave.
-ghost use Rattle.std.specs.Prelude.{◌≡◌, ◌==◌, OnErr, OnOk, Result, ⊤, filter, not};
-ghost use Rattle.std.specs.List.{find};
-ghost use Rattle.std.specs.Option.{option_map};
+ghost use Rattle.std.specs.Prelude.{◌≡◌, OnErr, OnOk};
 ghost use Rattle.reference.specs.Commands as machine;
 ghost use Rattle.reference.specs.World.{drop_step};
 ghost use Rattle.plain_engines.specs.Calls.{dropped};
@@ -23,9 +21,11 @@ impl State {
         ensures abandons { Abandons (engine_in self.old) lease result (engine_in self.new) }
         ensures sound { IsSound self.new }
     {
-        let Some((query, operator)) = self.operator_of(lease) else {
+        let Some(given) = self.turn_out(lease) else {
             return Err(Fault::UnknownLease);
         };
+        let query = given.node.query;
+        let operator = given.node.operator;
         let slot = self.slot(query, operator);
         end_turn(&mut self.leases, lease);
         let instant = self.instant(query, operator);
@@ -52,16 +52,6 @@ impl State {
         end_turns_of(&mut self.leases, query);
         self.slots.drop_query(query);
         Ok(())
-    }
-
-    /// The query and the operator that the turn of a number is of, if it is out.
-    fn operator_of(&self, lease: u64) -> Option<(u64, usize)>
-        ensures { result ≡ option_map (λ l. (l.query, l.operator)) (find (λ l. l.number == lease) (engine_in self.now).leases) }
-    {
-        match self.leases.iter().find(|given| given.number == lease) {
-            Some(given) => Some((given.node.query, given.node.operator)),
-            None => None,
-        }
     }
 }
 

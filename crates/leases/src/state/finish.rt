@@ -39,7 +39,7 @@ impl State {
     }
 
     /// The turn of a number, if it is out.
-    fn turn_out(&self, number: u64) -> Option<&Given>
+    pub(crate) fn turn_out(&self, number: u64) -> Option<&Given>
         ensures { option_map (λ g. g.now) result ≡ find (λ g. g.number == number) self.now.leases.items }
     {
         self.leases.iter().find(|given| given.number == number)

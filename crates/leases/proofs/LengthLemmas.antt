@@ -10,9 +10,9 @@ use Rattle.running_queries.specs.Turns.{HasOperator, log_of}
 use Rattle.plain_engines.specs.Asks.{IsOperator}
 use Rattle.plain_engines.specs.Engines.{Running, kept_at, query_at}
 use Rattle.plain_engines.proofs.AskLemmas.{may_ask}
-use Rattle.leases.proofs.PendingLemmas.{queues_are}
+use Rattle.leases.proofs.PendingLemmas.{lengths_same}
 use Rattle.leases.proofs.TakeLemmas.{kept_is, kept_within, query_there, registered_within, taken_at}
-use Rattle.leases.specs.Looks.{lengths_in, queues_from}
+use Rattle.leases.specs.Looks.{lengths_from, lengths_in}
 use Rattle.leases.specs.Shown.{engine_in}
 use Rattle.leases.specs.Sound.{IsSound}
 use Rattle.leases.specs.Views.{kept_of, query_of}
@@ -50,10 +50,10 @@ module _ (s : State) (n : ℕ) (r : Registration) (x : KeptQuery) (p : PlainQuer
       let nodes : length q.0.nodes ≡ length (query_of r).nodes = ap (λ z. length z.nodes) (same q.0 q.1) in
       (may_ask (engine_in s) sound.good).operators n k q.0 p (operator k q.0 q.1 (omega (arith, within, many, nodes)))
 
-  lengths : (q : Registered) → query_at (engine_in s) n ≡ Some q → queues_from s.streams p 0 (nodes_of r.plan.nodes.items) ≡ lengths_in (engine_in s).machine q (kept_at (engine_in s) n)
+  lengths : (q : Registered) → query_at (engine_in s) n ≡ Some q → lengths_from (log_of s.streams p) p 0 (nodes_of r.plan.nodes.items) ≡ lengths_in (engine_in s).machine q (kept_at (engine_in s) n)
   lengths q at =
-      ap (λ z. queues_from s.streams p 0 z.nodes) (sym (same q at))
-      ∙ queues_are (engine_in s).machine q p 0 q.nodes
+      ap (λ z. lengths_from (log_of s.streams p) p 0 z.nodes) (sym (same q at))
+      ∙ lengths_same p (log_of s.streams p) (log_at (engine_in s).machine q) 0 q.nodes
       (λ j within. let e : j ≡ 0 + j = omega arith in
       subst (λ i. log_of (engine_in s).machine.streams p i ≡ log_at (engine_in s).machine q i) e ((may_ask (engine_in s) sound.good).logs n j q p (operator j q at within)))
       ∙ sym (ap (lengths_in (engine_in s).machine q) running)
@@ -63,7 +63,7 @@ pub operators_there : (s : State) (n : ℕ) (r : Registration) (x : KeptQuery) (
 operators_there s n r x p sound accepted is_registered is_kept runs k within = there s n r x p sound accepted is_registered is_kept runs k within
 
 pub lengths_are : {A E : Type 0} (view : A → List ℕ) (found : Result A E) (s : State) (n : ℕ) (r : Registration) (x : KeptQuery) (p : PlainQuery) → IsSound s → first_fault (engine_in s).machine (Drop n) ≡ None → r ≡ get_or s.registered.items n r
-    → x ≡ get_or s.kept.items n x → x ≡ code.Running p → IfOk found (λ v. view v ≡ queues_from s.streams p 0 (nodes_of r.plan.nodes.items))
+    → x ≡ get_or s.kept.items n x → x ≡ code.Running p → IfOk found (λ v. view v ≡ lengths_from (log_of s.streams p) p 0 (nodes_of r.plan.nodes.items))
     → IfOk found (λ v. (q : Registered) → query_at (engine_in s) n ≡ Some q → view v ≡ lengths_in (engine_in s).machine q (kept_at (engine_in s) n))
 lengths_are view (Ok v) s n r x p sound accepted is_registered is_kept runs h = λ q at. h ∙ lengths s n r x p sound accepted is_registered is_kept runs q at
 lengths_are view (Err f) s n r x p sound accepted is_registered is_kept runs h = tt

@@ -11,9 +11,9 @@ ghost use Rattle.reference.specs.Machine as machine;
 ghost use Rattle.reference.specs.Machine.{Registered};
 ghost use Rattle.reference.specs.Told.{IsTold};
 ghost use Rattle.reference.specs.World.{Looks, operators_of, query_named, slopes_at, stream_named};
-ghost use Rattle.running_queries.specs.Turns.{HasOperator};
+ghost use Rattle.running_queries.specs.Turns.{HasOperator, log_of};
 ghost use Rattle.plain_engines.specs.Engines.{answers_in, kept_at, query_at};
-ghost use Rattle.leases.specs.Looks.{IsPending, WaitsAt, lengths_in, queues_from, queues_of};
+ghost use Rattle.leases.specs.Looks.{IsPending, WaitsAt, lengths_from, lengths_in, queues_of};
 ghost use Rattle.leases.specs.Shown.{engine_in, world_in};
 ghost use Rattle.leases.specs.Sound.{IsSound};
 ghost use Rattle.leases.specs.Takes.{HandsOut, Takes};
@@ -217,7 +217,7 @@ fn queues(
     nodes: &[Node],
 ) -> Result<Vec<u128>, AllocError>
     requires { (k : ℕ) → k < length nodes.now → HasOperator streams.now query.now k }
-    ensures { IfOk result (λ v. v.items ≡ queues_from streams.now query.now 0 (nodes_of nodes.now)) }
+    ensures { IfOk result (λ v. v.items ≡ lengths_from (log_of streams.now query.now) query.now 0 (nodes_of nodes.now)) }
 {
     let mut lengths = Vec::new(alloc);
     for k in 0..nodes.len() {

@@ -1,8 +1,9 @@
 -- Its operators are there, and read the streams of the machine.
 use Rattle.std.proofs.Common.{◌≡◌, ◌<◌, IfOk, length, subst}
 use Rattle.plan.specs.Views.{nodes_of}
+use Rattle.running_queries.specs.Turns.{log_of}
 use Rattle.leases.proofs.LengthLemmas.{lengths_are, operators_there}
-use Rattle.leases.specs.Looks.{queues_from}
+use Rattle.leases.specs.Looks.{lengths_from}
 use Rattle.leases.proofs.state.State.lengths.Goals as goal
 
 pub queues-requires : goal.queues-requires
@@ -13,4 +14,4 @@ queues-requires c = λ k within.
 pub returns-in-Running : goal.returns-in-Running
 returns-in-Running c =
     lengths_are (λ v. v.items) c.queues.result c.args.self.now c.args.query c.index-in-Running.result.now c.index.result.now c.in-Running.running c.requires.sound c.requires.accepted c.index-in-Running.ensures c.index.ensures c.in-Running.is
-    (subst (λ ns. IfOk c.queues.result (λ v. v.items ≡ queues_from c.args.self.now.streams c.in-Running.running 0 (nodes_of ns))) c.deref.ensures.value c.queues.ensures)
+    (subst (λ ns. IfOk c.queues.result (λ v. v.items ≡ lengths_from (log_of c.args.self.now.streams c.in-Running.running) c.in-Running.running 0 (nodes_of ns))) c.deref.ensures.value c.queues.ensures)

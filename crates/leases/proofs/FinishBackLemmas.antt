@@ -1,13 +1,13 @@
 -- The steps of a turn that comes back, one after the other.
-use Rattle.std.proofs.Common.{◌≡◌, ◌+◌, ◌<◌, ◌≤◌, ℕ, MatchOption, Option, Some, None, length, sym, ap, ◌∙◌, subst}
+use Rattle.std.proofs.Common.{◌≡◌, ◌==◌, ◌+◌, ◌<◌, ◌≤◌, ℕ, not, MatchOption, Option, Some, None, List, length, sym, ap, ◌∙◌, subst}
 use Rattle.turn.specs.Finished.{IsDone}
 use Rattle.turn.specs.declared.parts.Parts.{Parts}
 use Rattle.reference.specs.Machine.{Registered}
 use Rattle.query_nets.specs.Queries.{PlainQuery}
 use Rattle.running_queries.specs.Turns.{wire_at}
 use Rattle.ready_list.specs.declared.slots.Slot.{Slot}
-use Rattle.plain_engines.specs.Calls.{answered, given_back}
-use Rattle.plain_engines.specs.Engines.{GoodEngine, PlainEngine, Running, kept_at, query_at, slot_at}
+use Rattle.plain_engines.specs.Calls.{answered, given_back, others}
+use Rattle.plain_engines.specs.Engines.{GoodEngine, Lease, PlainEngine, Running, kept_at, query_at, slot_at}
 use Rattle.plain_engines.specs.Histories.{ComesBack}
 use Rattle.leases.specs.Applied.{GivesNothing, HasApplied, HasWiredOperators, IsAbove, IsApplied, IsBroken, IsOutIn, IsRetold, MayApplyIn, with_kept, without_turn}
 use Rattle.leases.specs.Asked.{HasOperatorAt}
@@ -16,7 +16,8 @@ use Rattle.leases.specs.Sound.{IsSound}
 use Rattle.leases.specs.Turns.{IsOut, lease_of_parts}
 use Rattle.leases.specs.declared.state.State.{State}
 use Rattle.leases.proofs.FinishLemmas as plain
-use Rattle.leases.proofs.FinishSoundLemmas.{sound_back, sound_broken}
+use Rattle.leases.proofs.FinishSoundLemmas.{out_with, sound_back, sound_broken}
+use Rattle.leases.proofs.LeaveLemmas.{fewer}
 
 -- ONE CALL AFTER THE OTHER gives nothing
 pub gives_on : (a b c : State) → GivesNothing a b → GivesNothing b c → GivesNothing a c
@@ -36,7 +37,8 @@ may_apply e d g out done = plain.may_apply_in e d out.0 out.1.0 g out.1.1 done
 
 -- IT HAS BROKEN its query
 pub broken_sound : (old new : State) (d : Parts) → IsSound old → IsOutIn (engine_in old) d → IsBroken (engine_in old) d.node.query (engine_in new) → GivesNothing old new → IsSound new
-broken_sound old new d s out is r = sound_broken old new d out.0 out.1.0 s out.1.1 r (is out.1.0 out.1.1.of.running)
+broken_sound old new d s out is r =
+    sound_broken old new (engine_in old).leases old.slots d out.0 out.1.0 s s.good out.1.1 r (fewer (λ l. not (l.query == d.node.query)) (engine_in old).leases) (is out.1.0 out.1.1.of.running)
 
 -- WHAT THE STEPS have told: the slots before, the query that took the turn, and the turns that are left
 pub record AreSteps (e : PlainEngine) (d : Parts) (n k lease : ℕ) (s : Slot) (above : Option Slot) (e1 e2 : PlainEngine) : Type 0 where
@@ -97,32 +99,42 @@ module _ (e : PlainEngine) (d : Parts) (n k lease : ℕ) (s : Slot) (above : Opt
         come_back_below e4 again =
             plain.comes_back_below e d q p g out done p2 a e4 over_is.0 (plain.told_above e d q p g out done p2 a e3 t third over_is.1 e4 again)
 
--- FROM THE STATE of an engine
-module _ (old : State) (d : Parts) (n k lease : ℕ) (s : Slot) (above : Option Slot) (e1 e2 : PlainEngine) (sound : IsSound old) (done : IsDone d) (out : IsOutIn (engine_in old) d)
-    (st : AreSteps (engine_in old) d n k lease s above e1 e2) where
-  took : (p2 : PlainQuery) × (IsApplied (engine_in old).machine.streams out.1.0 d p2 × (e1 ≡ with_kept (engine_in old) d.node.query (Running p2)))
+-- WHERE IT IS OUT
+module _ (e : PlainEngine) (d : Parts) (n k lease : ℕ) (s : Slot) (above : Option Slot) (e1 e2 : PlainEngine) (good : GoodEngine e) (done : IsDone d) (out : IsOutIn e d) (st : AreSteps e d n k lease s above e1 e2) where
+  took : (p2 : PlainQuery) × (IsApplied e.machine.streams out.1.0 d p2 × (e1 ≡ with_kept e d.node.query (Running p2)))
   took = st.applied out.1.0 out.1.1.of.running
 
   pub retell_here : HasOperatorAt e2 s.query s.operator
-  retell_here = may_retell_here (engine_in old) d n k lease s above e1 e2 sound.good done out.0 out.1.0 out.1.1 st took.0 took.1.0 took.1.1
+  retell_here = may_retell_here e d n k lease s above e1 e2 good done out.0 out.1.0 out.1.1 st took.0 took.1.0 took.1.1
 
   pub retell_over : (e3 : PlainEngine) → IsRetold e2 s e3 → (t : Slot) → above ≡ Some t → HasOperatorAt e3 t.query t.operator
-  retell_over e3 told t some = may_retell_over (engine_in old) d n k lease s above e1 e2 sound.good done out.0 out.1.0 out.1.1 st took.0 took.1.0 took.1.1 e3 told t some
+  retell_over e3 told t some = may_retell_over e d n k lease s above e1 e2 good done out.0 out.1.0 out.1.1 st took.0 took.1.0 took.1.1 e3 told t some
 
-  root : (e3 : PlainEngine) → IsRetold e2 s e3 → above ≡ None → ComesBack (engine_in old) (lease_of_parts d) out.0 out.1.0 took.0 e3
-  root e3 told none = come_back_root (engine_in old) d n k lease s above e1 e2 sound.good done out.0 out.1.0 out.1.1 st took.0 took.1.0 took.1.1 e3 told none
+  root : (e3 : PlainEngine) → IsRetold e2 s e3 → above ≡ None → ComesBack e (lease_of_parts d) out.0 out.1.0 took.0 e3
+  root e3 told none = come_back_root e d n k lease s above e1 e2 good done out.0 out.1.0 out.1.1 st took.0 took.1.0 took.1.1 e3 told none
 
-  below : (e3 e4 : PlainEngine) → IsRetold e2 s e3 → (t : Slot) → above ≡ Some t → IsRetold e3 t e4 → ComesBack (engine_in old) (lease_of_parts d) out.0 out.1.0 took.0 e4
-  below e3 e4 told t some again = come_back_below (engine_in old) d n k lease s above e1 e2 sound.good done out.0 out.1.0 out.1.1 st took.0 took.1.0 took.1.1 e3 told t some e4 again
+  below : (e3 e4 : PlainEngine) → IsRetold e2 s e3 → (t : Slot) → above ≡ Some t → IsRetold e3 t e4 → ComesBack e (lease_of_parts d) out.0 out.1.0 took.0 e4
+  below e3 e4 told t some again = come_back_below e d n k lease s above e1 e2 good done out.0 out.1.0 out.1.1 st took.0 took.1.0 took.1.1 e3 told t some e4 again
 
-  pub back_root : (e3 : PlainEngine) → IsRetold e2 s e3 → above ≡ None → HasComeBack (engine_in old) d e3
+  pub back_root : (e3 : PlainEngine) → IsRetold e2 s e3 → above ≡ None → HasComeBack e d e3
   back_root e3 told none = (out.0, (out.1.0, (took.0, (out.1.1, root e3 told none))))
 
-  pub back_below : (e3 e4 : PlainEngine) → IsRetold e2 s e3 → (t : Slot) → above ≡ Some t → IsRetold e3 t e4 → HasComeBack (engine_in old) d e4
+  pub back_below : (e3 e4 : PlainEngine) → IsRetold e2 s e3 → (t : Slot) → above ≡ Some t → IsRetold e3 t e4 → HasComeBack e d e4
   back_below e3 e4 told t some again = (out.0, (out.1.0, (took.0, (out.1.1, below e3 e4 told t some again))))
 
+-- THE STATE knows of itself what it knew, also where not all turns that are out are kept
+module _ (old : State) (ls : List Lease) (slots : List Slot) (d : Parts) (n k lease : ℕ) (s : Slot) (above : Option Slot) (e1 e2 : PlainEngine) (sound : IsSound old) (good : GoodEngine (out_with old ls slots))
+    (few : length (others d.lease ls) ≤ length (engine_in old).leases) (done : IsDone d) (out : IsOutIn (out_with old ls slots) d) (st : AreSteps (out_with old ls slots) d n k lease s above e1 e2) where
+  abbrev e : PlainEngine
+  e = out_with old ls slots
+
+  by_took : (new : State) → GivesNothing old new → ComesBack e (lease_of_parts d) out.0 out.1.0 (took e d n k lease s above e1 e2 good done out st).0 (engine_in new) → IsSound new
+  by_took new r back =
+      let t = took e d n k lease s above e1 e2 good done out st in
+      sound_back old new ls slots d out.0 out.1.0 sound good out.1.1 r t.0 t.1.0 few back
+
   pub sound_root : (new : State) → IsRetold e2 s (engine_in new) → above ≡ None → GivesNothing old new → IsSound new
-  sound_root new told none r = sound_back old new d out.0 out.1.0 sound out.1.1 r took.0 took.1.0 (root (engine_in new) told none)
+  sound_root new told none r = by_took new r (root e d n k lease s above e1 e2 good done out st (engine_in new) told none)
 
   pub sound_below : (e3 : PlainEngine) (new : State) → IsRetold e2 s e3 → (t : Slot) → above ≡ Some t → IsRetold e3 t (engine_in new) → GivesNothing old new → IsSound new
-  sound_below e3 new told t some again r = sound_back old new d out.0 out.1.0 sound out.1.1 r took.0 took.1.0 (below e3 (engine_in new) told t some again)
+  sound_below e3 new told t some again r = by_took new r (below e d n k lease s above e1 e2 good done out st e3 (engine_in new) told t some again)

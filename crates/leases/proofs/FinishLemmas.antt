@@ -79,6 +79,13 @@ module _ (e : PlainEngine) (d : Parts) (q : Registered) (p : PlainQuery) (g : Go
       let to : (wire_at p j).to ≡ (wire_from 0 q.nodes j).to = ap (λ (x : Wire). x.to) (wire_is j here) in
       omega (arith, to, w.within, here)
 
+  pub to_later : (j : ℕ) → j < below_root q.nodes → j < (wire_at p j).to
+  to_later j lt =
+      let w : Wired q j = wired (widths_of e.machine.streams q) e.machine q goes.runs.runs.stands j lt in
+      let here : j < length q.nodes = omega (arith, lt) in
+      let to : (wire_at p j).to ≡ (wire_from 0 q.nodes j).to = ap (λ (x : Wire). x.to) (wire_is j here) in
+      omega (arith, to, w.later)
+
   -- below the root, or at it, by their number
   pub below_of : d.node.operator + 1 < length p.operators → d.node.operator < below_root q.nodes
   below_of lt = omega (arith, lt, many)

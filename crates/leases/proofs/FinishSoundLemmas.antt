@@ -1,8 +1,7 @@
 -- An engine knows of itself, after a turn has come back or has broken its query, what it knew.
-use Rattle.std.proofs.Common.{◌≡◌, ◌<◌, ◌≤◌, ◌==◌, ℕ, Bool, true, false, inl, inr, List, filter, length, map, refl, sym, ap, ◌∙◌, subst, arith, eqb-true, eq-eqb}
+use Rattle.std.proofs.Common.{◌≡◌, ◌<◌, ◌≤◌, ◌==◌, ℕ, true, false, inl, inr, List, length, map, refl, sym, ap, ◌∙◌, subst, arith, eqb-true, eq-eqb}
 use Rattle.std.proofs.Math.Seq.{map-set_same}
 use Rattle.std.proofs.lemmas.List.{length-map}
-use Rattle.std.proofs.lemmas.List.Sums.{count_by-le-length, length-filter}
 use Rattle.std.proofs.lemmas.Option.{slice_get_within}
 use Rattle.column.specs.declared.batch.Side.{Side}
 use Rattle.op_queue.specs.declared.item.Item.{Item}
@@ -19,7 +18,7 @@ use Rattle.query_nets.specs.Registrations.{HaveColumnNames}
 use Rattle.running_queries.specs.Turns.{HasPut, wire_at}
 use Rattle.ready_list.specs.declared.slots.Slot.{Slot}
 use Rattle.answer_bounds.specs.Bounds.{HaveFewClosed}
-use Rattle.plain_engines.specs.Calls.{answered, broken, finished, given_back}
+use Rattle.plain_engines.specs.Calls.{answered, broken, finished, given_back, of_others, others}
 use Rattle.plain_engines.specs.Engines.{Broken, Dropped, GoodEngine, IsIn, IsLease, Lease, PlainEngine, Running, kept_at}
 use Rattle.plain_engines.specs.Histories.{ComesBack}
 use Rattle.plain_engines.proofs.BackLemmas.{kept_here, kept_there, same_plain}
@@ -57,9 +56,6 @@ sound_from old new s r good st kinds = record {
   closed = subst HaveFewClosed (sym st.machine) s.closed;
 }
 
-fewer : (p : Lease → Bool) (ls : List Lease) → length (filter p ls) ≤ length ls
-fewer p ls = omega (arith, length-filter p ls, count_by-le-length p ls)
-
 -- KINDS stay
 kinds_put : (p p2 : PlainQuery) (k : ℕ) (o : Outs) → (operator_at p2.operators k).kind ≡ (operator_at p.operators k).kind → HasPut p k o p2 → (j : ℕ) → (operator_at p2.operators j).kind ≡ (operator_at p.operators j).kind
 kinds_put p p2 k (Put es) h put j = by_test (j == k)
@@ -71,61 +67,69 @@ kinds_put p p2 k (Answered rows) h put j = by_test (j == k)
     (λ t. let e : j ≡ k = eqb-true j k t in ap (λ z. (operator_at p2.operators z).kind) e ∙ h ∙ ap (λ z. (operator_at p.operators z).kind) (sym e))
     (λ f. ap (λ o. o.kind) (put.others j (λ z. absurd (let b : (j == k) ≡ true = eq-eqb j k z in cc))))
 
--- A TURN THAT IS OUT
-module _ (old new : State) (d : Parts) (q : Registered) (p : PlainQuery) (s : IsSound old) (out : IsOut (engine_in old) d q p) (r : GivesNothing old new) where
-  within : d.node.query < length (engine_in old).queries
-  within = omega (arith, s.good.many, slice_get_within (engine_in old).machine.queries d.node.query q out.of.registered)
+-- THE ENGINE of a state, with other turns out and other slots
+abbrev pub out_with : State → List Lease → List Slot → PlainEngine
+out_with s ls slots = record (engine_in s) { leases = ls; slots = slots }
 
-  running_gone : is_gone (kept_at (engine_in old) d.node.query) ≡ false
+-- A TURN THAT IS OUT
+module _ (old new : State) (ls : List Lease) (slots : List Slot) (d : Parts) (q : Registered) (p : PlainQuery) (s : IsSound old) (good : GoodEngine (out_with old ls slots)) (out : IsOut (out_with old ls slots) d q p)
+    (r : GivesNothing old new) where
+  abbrev e : PlainEngine
+  e = out_with old ls slots
+
+  within : d.node.query < length e.queries
+  within = omega (arith, s.good.many, slice_get_within e.machine.queries d.node.query q out.of.registered)
+
+  running_gone : is_gone (kept_at e d.node.query) ≡ false
   running_gone = ap is_gone out.of.running
 
   -- comes back
-  module _ (p2 : PlainQuery) (a : IsApplied (engine_in old).machine.streams p d p2) where
-    kinds_back : (slots : List Slot) (g : Given) → IsIn old.leases.items g → HasKind (record (given_back (engine_in old) (lease_of_parts d) p2) { slots = slots }) g
-    kinds_back slots g i p3 running = by_test (g.node.query == d.node.query)
+  module _ (p2 : PlainQuery) (a : IsApplied e.machine.streams p d p2) (few : length (others d.lease ls) ≤ length (engine_in old).leases) where
+    kinds_back : (after : List Slot) (g : Given) → IsIn old.leases.items g → HasKind (record (given_back e (lease_of_parts d) p2) { slots = after }) g
+    kinds_back after g i p3 running = by_test (g.node.query == d.node.query)
         (λ t.
         let same : g.node.query ≡ d.node.query = eqb-true g.node.query d.node.query t in
-        let is : p2 ≡ p3 = same_plain (sym (kept_here (engine_in old) d.node.query (Running p2) within) ∙ ap (kept_at (given_back (engine_in old) (lease_of_parts d) p2)) (sym same) ∙ running) in
-        s.kinds g i p (ap (kept_at (engine_in old)) same ∙ out.of.running)
+        let is : p2 ≡ p3 = same_plain (sym (kept_here e d.node.query (Running p2) within) ∙ ap (kept_at (given_back e (lease_of_parts d) p2)) (sym same) ∙ running) in
+        s.kinds g i p (ap (kept_at e) same ∙ out.of.running)
         ∙ sym (kinds_put p p2 d.node.operator (outs_in d.outputs) a.finished.finished.kind a.put g.node.operator)
         ∙ ap (λ (z : PlainQuery). (operator_at z.operators g.node.operator).kind) is)
-        (λ f. s.kinds g i p3 (sym (kept_there (engine_in old) d.node.query g.node.query (Running p2) (λ z. absurd (let h : (g.node.query == d.node.query) ≡ true = eq-eqb g.node.query d.node.query z in cc))) ∙ running))
+        (λ f. s.kinds g i p3 (sym (kept_there e d.node.query g.node.query (Running p2) (λ z. absurd (let h : (g.node.query == d.node.query) ≡ true = eq-eqb g.node.query d.node.query z in cc))) ∙ running))
 
-    stays_back : (slots : List Slot) → StaysBut (engine_in old) (record (given_back (engine_in old) (lease_of_parts d) p2) { slots = slots })
-    stays_back slots = record {
+    stays_back : (after : List Slot) → StaysBut (engine_in old) (record (given_back e (lease_of_parts d) p2) { slots = after })
+    stays_back after = record {
       machine = refl;
       next = refl;
-      few = fewer _ (engine_in old).leases;
-      gone = map-set_same is_gone (engine_in old).queries d.node.query (Running p2) Dropped (sym running_gone);
+      few = few;
+      gone = map-set_same is_gone e.queries d.node.query (Running p2) Dropped (sym running_gone);
     }
 
-    sound_at : (slots : List Slot) → engine_in new ≡ record (given_back (engine_in old) (lease_of_parts d) p2) { slots = slots } → GoodEngine (engine_in new) → IsSound new
-    sound_at slots e good =
-        sound_from old new s r good (subst (StaysBut (engine_in old)) (sym e) (stays_back slots)) (λ g i. subst (λ z. HasKind z g) (sym e) (kinds_back slots g i))
+    sound_at : (after : List Slot) → engine_in new ≡ record (given_back e (lease_of_parts d) p2) { slots = after } → GoodEngine (engine_in new) → IsSound new
+    sound_at after is stays =
+        sound_from old new s r stays (subst (StaysBut (engine_in old)) (sym is) (stays_back after)) (λ g i. subst (λ z. HasKind z g) (sym is) (kinds_back after g i))
 
-    pub sound_back : ComesBack (engine_in old) (lease_of_parts d) q p p2 (engine_in new) → IsSound new
-    sound_back (inl t) = sound_at (finished (engine_in old) (lease_of_parts d) q p p2).slots t.1 (subst GoodEngine (sym t.1) (finish_good (engine_in old) (lease_of_parts d) q p p2 s.good out.out t.0))
-    sound_back (inr t) = sound_at (answered (engine_in old) (lease_of_parts d) q p p2).slots t.1 (subst GoodEngine (sym t.1) (answer_good (engine_in old) (lease_of_parts d) q p p2 s.good out.out t.0))
+    pub sound_back : ComesBack e (lease_of_parts d) q p p2 (engine_in new) → IsSound new
+    sound_back (inl t) = sound_at (finished e (lease_of_parts d) q p p2).slots t.1 (subst GoodEngine (sym t.1) (finish_good e (lease_of_parts d) q p p2 good out.out t.0))
+    sound_back (inr t) = sound_at (answered e (lease_of_parts d) q p p2).slots t.1 (subst GoodEngine (sym t.1) (answer_good e (lease_of_parts d) q p p2 good out.out t.0))
 
   -- breaks its query
-  kinds_broken : (g : Given) → IsIn old.leases.items g → HasKind (broken (engine_in old) d.node.query p) g
+  kinds_broken : (g : Given) → IsIn old.leases.items g → HasKind (broken e d.node.query p) g
   kinds_broken g i p3 running = by_test (g.node.query == d.node.query)
       (λ t.
       let same : g.node.query ≡ d.node.query = eqb-true g.node.query d.node.query t in
-      let bad : Broken p.answers ≡ Running p3 = sym (kept_here (engine_in old) d.node.query (Broken p.answers) within) ∙ ap (kept_at (broken (engine_in old) d.node.query p)) (sym same) ∙ running in
+      let bad : Broken p.answers ≡ Running p3 = sym (kept_here e d.node.query (Broken p.answers) within) ∙ ap (kept_at (broken e d.node.query p)) (sym same) ∙ running in
       absurd (cc))
-      (λ f. s.kinds g i p3 (sym (kept_there (engine_in old) d.node.query g.node.query (Broken p.answers) (λ z. absurd (let h : (g.node.query == d.node.query) ≡ true = eq-eqb g.node.query d.node.query z in cc))) ∙ running))
+      (λ f. s.kinds g i p3 (sym (kept_there e d.node.query g.node.query (Broken p.answers) (λ z. absurd (let h : (g.node.query == d.node.query) ≡ true = eq-eqb g.node.query d.node.query z in cc))) ∙ running))
 
-  pub sound_broken : engine_in new ≡ broken (engine_in old) d.node.query p → IsSound new
-  sound_broken e =
-      let stays : StaysBut (engine_in old) (broken (engine_in old) d.node.query p) = record {
+  pub sound_broken : length (of_others d.node.query ls) ≤ length (engine_in old).leases → engine_in new ≡ broken e d.node.query p → IsSound new
+  sound_broken few is =
+      let stays : StaysBut (engine_in old) (broken e d.node.query p) = record {
         machine = refl;
         next = refl;
-        few = fewer _ (engine_in old).leases;
-        gone = map-set_same is_gone (engine_in old).queries d.node.query (Broken p.answers) Dropped (sym running_gone);
+        few = few;
+        gone = map-set_same is_gone e.queries d.node.query (Broken p.answers) Dropped (sym running_gone);
       } in
-      sound_from old new s r (subst GoodEngine (sym e) (break_good (engine_in old) d.node.query q p s.good out.of.registered out.of.running)) (subst (StaysBut (engine_in old)) (sym e) stays)
-      (λ g i. subst (λ z. HasKind z g) (sym e) (kinds_broken g i))
+      sound_from old new s r (subst GoodEngine (sym is) (break_good e d.node.query q p good out.of.registered out.of.running)) (subst (StaysBut (engine_in old)) (sym is) stays)
+      (λ g i. subst (λ z. HasKind z g) (sym is) (kinds_broken g i))
 
 -- THE TURN OF A NUMBER that is out
 abbrev lease_with : ℕ → PlainNode → Item → Near → Lease

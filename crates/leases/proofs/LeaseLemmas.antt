@@ -127,7 +127,7 @@ first_ready e s n k good first is_query is_operator =
 abbrev pub out_of : PlainEngine → Slot → Given → PlainEngine
 out_of e s g = record e { leases = e.leases ++ lease_of g ∷ []; next = e.next + 1; slots = changed s None e.slots }
 
-any_last : (f : Lease → Bool) (ls : List Lease) (l : Lease) → f l ≡ true → list_any f (ls ++ l ∷ []) ≡ true
+pub any_last : (f : Lease → Bool) (ls : List Lease) (l : Lease) → f l ≡ true → list_any f (ls ++ l ∷ []) ≡ true
 any_last f [] l t = rw t refl
 any_last f (x ∷ ls) l t = let u : list_any f (ls ++ l ∷ []) ≡ true = any_last f ls l t in by_first (f x) u where
   by_first : (b : Bool) → list_any f (ls ++ l ∷ []) ≡ true → (b || list_any f (ls ++ l ∷ [])) ≡ true

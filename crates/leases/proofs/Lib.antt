@@ -15,6 +15,8 @@ mod BeatLemmas
 pub mod RunLemmas
 pub mod DrainLemmas
 mod MachineLemmas
+mod RetoldLemmas
+mod StepLemmas
 pub mod PairLemmas
 pub mod WorldLemmas
 pub mod WholeLemmas

@@ -1,5 +1,5 @@
 -- A turn that is run and comes back at once.
-use Rattle.std.proofs.Common.{◌≡◌, inl, inr, Result, Ok, Err, refl, sym, subst}
+use Rattle.std.proofs.Common.{◌≡◌, inl, Result, Ok, Err, refl, sym, subst}
 use Rattle.std.specs.Prelude.{⊤}
 use Rattle.turn.specs.Finished as turn
 use Rattle.turn.specs.declared.parts.Parts.{Parts}
@@ -8,10 +8,10 @@ use Rattle.reference.specs.declared.fault.Fault.{Fault}
 use Rattle.reference.specs.declared.fault.Fault.TheVariants.{Query, BadName, NameTaken, BadColumns, TooMany, UnknownStream, UnknownQuery, BadWidth, ValueRange, InstantRange, Late, Backward, Leap, StreamFull, BadLimit, Broken, UnknownLease, Stranger, TooManyLeases, OutOfMemory}
 use Rattle.query_nets.specs.Queries.{operator_at}
 use Rattle.plain_engines.specs.Calls.{IsOf}
-use Rattle.plain_engines.specs.Engines.{GoodEngine, IsIn, Lease, PlainEngine}
+use Rattle.plain_engines.specs.Engines.{IsIn, PlainEngine}
 use Rattle.plain_engines.specs.Histories as history
 use Rattle.leases.specs.Runs.{IsTurnOut, RunsTurn}
-use Rattle.leases.specs.Turns.{Abandons, Finishes, IsOut, lease_of_parts, lease_of_turn}
+use Rattle.leases.specs.Turns.{Finishes, IsOut, lease_of_parts, lease_of_turn}
 
 -- WHAT COMES BACK is the turn that was run
 same_lease : (t : Turn) (d : Parts) → turn.IsOf t d → lease_of_parts d ≡ lease_of_turn t
@@ -29,7 +29,7 @@ module _ (e : PlainEngine) (t : Turn) (d : Parts) (h : IsTurnOut e t) (o : turn.
   out : IsIn e.leases (lease_of_parts d)
   out = subst (IsIn e.leases) (sym same) h.out
 
-  is_out : IsOut e d h.query h.kept
+  pub is_out : IsOut e d h.query h.kept
   is_out = record {
     out = out;
     of = subst (λ l. IsOf e l h.query h.kept) (sym same) h.of;
@@ -61,13 +61,3 @@ module _ (e : PlainEngine) (t : Turn) (d : Parts) (h : IsTurnOut e t) (o : turn.
 
 pub finished_home : (e : PlainEngine) (t : Turn) (d : Parts) (r : Result ⊤ Fault) (new : PlainEngine) → IsTurnOut e t → turn.IsOf t d → Finishes e d r new → RunsTurn e t r new
 finished_home e t d r new h o f = comes_home e t d h o r new f
-
--- AN ABANDONED ONE is the turn of its number
-abandoned_as : (e new : PlainEngine) (t : Turn) (u : ⊤) → GoodEngine e → IsTurnOut e t → Abandons e t.lease (Ok u) new → history.IsStep e (history.Abandons (lease_of_turn t)) new
-abandoned_as e new t u g h a =
-    let l : Lease = a.0 in
-    let same : l ≡ lease_of_turn t = g.apart.numbers l (lease_of_turn t) a.1.1.1.0 h.out a.1.1.1.1.0 in
-    subst (λ z. history.IsStep e (history.Abandons z) new) same (a.1.1.1.0, (a.1.0, (a.1.1.0, (a.1.1.1.1.1.0, a.1.1.1.1.1.1))))
-
-pub abandoned_home : (e new : PlainEngine) (t back : Turn) (u : ⊤) → GoodEngine e → IsTurnOut e t → back ≡ t → Abandons e back.lease (Ok u) new → RunsTurn e t (Err OutOfMemory) new
-abandoned_home e new t back u g h same a = inr (abandoned_as e new t u g h (subst (λ z. Abandons e z.lease (Ok u) new) same a))

@@ -1,10 +1,11 @@
 -- What a drain does: turns go out and come back.
-use Rattle.std.specs.Prelude.{ℕ, ⊤, ◌≡◌, ◌≤◌, ◌⊎◌, None, Some, List, [], ◌∷◌, length, Result, Ok, Err}
+use Rattle.std.specs.Prelude.{ℕ, Bool, true, false, ⊤, ◌≡◌, ◌≤◌, ◌⊎◌, None, Some, List, [], ◌∷◌, length, Result, Ok, Err}
 use Rattle.values.specs.Row.{Row}
 use Rattle.turn.specs.declared.turns.Turn.{Turn}
 use Rattle.reference.specs.World.{drain_fault}
 use Rattle.reference.specs.declared.fault.Fault.{Fault}
 use Rattle.reference.specs.declared.fault.Fault.TheVariants.{BadLimit, OutOfMemory, TooManyLeases}
+use Rattle.ready_list.specs.Slots.{first_of}
 use Rattle.plain_engines.specs.Calls.{of_others}
 use Rattle.plain_engines.specs.Engines.{Broken, PlainEngine, kept_at}
 use Rattle.plain_engines.specs.Histories.{Finishes, IsStep}
@@ -24,6 +25,19 @@ SomeHaveRun rows old new = (turns : List Turn) × HaveRun rows old turns new
 -- one went out, and memory was wanted: it broke its query or was abandoned
 abbrev pub OneHasFailed : ℕ → PlainEngine → PlainEngine → Type 0
 OneHasFailed rows old new = (t : Turn) × ((out : PlainEngine) × (IsTurnOf old rows t out × RunsTurn out t (Err OutOfMemory) new))
+
+-- ONE STEP: one went out and came back
+abbrev pub OneHasRun : ℕ → PlainEngine → PlainEngine → Type 0
+OneHasRun rows old new = (t : Turn) × ((out : PlainEngine) × (IsTurnOf old rows t out × IsStep out (Finishes (lease_of_turn t)) new))
+
+-- or no operator may take anything; a refused step did nothing where as many turns are out as may be, or all numbers were given, or memory was wanted,
+-- unless its turn had gone out
+abbrev pub RunsFirst : PlainEngine → ℕ → Result Bool Fault → PlainEngine → Type 0
+RunsFirst old rows (Ok true) new = OneHasRun rows old new
+RunsFirst old rows (Ok false) new = (first_of old.slots ≡ None) × (new ≡ old)
+RunsFirst old rows (Err TooManyLeases) new = (new ≡ old) × ((MAX_LEASES ≤ length old.leases) ⊎ (LEASE_NUMBERS ≤ old.next))
+RunsFirst old rows (Err OutOfMemory) new = (new ≡ old) ⊎ OneHasFailed rows old new
+RunsFirst old rows (Err fault) new = ⊥
 
 -- A DRAIN by turns of at most so many rows: some have run; a refused one did nothing where that number is out of range, or ended where as many turns
 -- are out as may be, or all numbers were given, or memory was wanted for a turn

@@ -1,17 +1,20 @@
 //! Turns that go out and come back until nothing is ready.
-ghost use Rattle.std.specs.Prelude.{◌≡◌, None, OnOk};
+ghost use Rattle.std.specs.Prelude.{◌≡◌, ◌<◌, ◌⊎◌, IfOk, None, OnErr, OnOk, Some, length};
 ghost use Rattle.reference.specs.World.{IsPlenty, drain_fault};
 ghost use Rattle.ready_list.specs.Slots.{first_of};
-ghost use Rattle.leases.specs.Drains.{LeavesOthers, RunsTurns};
-ghost use Rattle.leases.specs.Runs.{IsTurnOut, RunsTurn};
+ghost use Rattle.leases.specs.Drains.{LeavesOthers, OneHasFailed, OneHasRun, RunsFirst, RunsTurns};
+ghost use Rattle.leases.specs.Runs.{IsRunOf};
 ghost use Rattle.leases.specs.Shown.{engine_in};
 ghost use Rattle.leases.specs.Sound.{IsSound};
 ghost use Rattle.leases.specs.Whole.{IsWhole};
 
-use crate::leased::Leased;
+use crate::limits::{LEASE_NUMBERS, MAX_LEASES};
 use crate::state::State;
+use crate::state::lease::turn_of;
+use ready_list::Slot;
 use reference::{Fault, MAX_TURN};
-use turn::Turn;
+use std::alloc::AllocError;
+use turn::Done;
 
 impl State {
     /// Runs turns of at most `rows` rows until no operator may take anything.
@@ -40,26 +43,67 @@ impl State {
         ensures sound { IsSound self.new }
     {
         'turns: loop {
-            match self.lease(rows)? {
-                Leased::Idle => return Ok(()),
-                Leased::Turn(turn) => self.run(turn)?,
+            if !self.run_first(rows)? {
+                return Ok(());
             }
         }
     }
 
-    /// Runs a turn that is out, and it comes back. Where memory is refused it breaks its query or is abandoned.
-    fn run(&mut self, turn: Turn) -> Result<(), Fault>
+    /// Runs one turn of at most `rows` rows of an operator of greatest slope, if any may take something.
+    fn run_first(&mut self, rows: u32) -> Result<bool, Fault>
         requires sound { IsSound self.old }
-        requires out { IsTurnOut (engine_in self.old) turn }
-        ensures runs { RunsTurn (engine_in self.old) turn result (engine_in self.new) }
+        requires accepted { drain_fault rows ≡ None }
+        ensures runs { RunsFirst (engine_in self.old) rows result (engine_in self.new) }
         ensures sound { IsSound self.new }
     {
+        let Some(slot) = self.slots.first() else {
+            return Ok(false);
+        };
+        if MAX_LEASES <= self.leases.len() || LEASE_NUMBERS <= self.next {
+            return Err(Fault::TooManyLeases);
+        }
+        self.run_slot(&slot, rows as usize)?;
+        Ok(true)
+    }
+
+    /// Runs a turn of the first slot, and its query takes it at once: nobody can see the turn meanwhile, so no copy of it is kept.
+    ///
+    /// Where memory is refused before the query takes it, all is as it was; else the query breaks.
+    fn run_slot(&mut self, slot: &Slot, rows: usize) -> Result<(), AllocError>
+        requires sound { IsSound self.old }
+        requires first { first_of self.old.slots ≡ Some slot.now }
+        requires some { 0 < rows }
+        requires few { length self.old.leases.items < MAX_LEASES }
+        requires numbers { self.old.next < LEASE_NUMBERS }
+        ensures ok { OnOk result (OneHasRun rows (engine_in self.old) (engine_in self.new)) }
+        ensures err { OnErr result ((engine_in self.new ≡ engine_in self.old) ⊎ OneHasFailed rows (engine_in self.old) (engine_in self.new)) }
+        ensures sound { IsSound self.new }
+    {
+        let done = self.run_of(slot, rows)?;
+        let above = self.above(slot.query(), slot.operator());
+        self.next += 1;
+        self.apply(done.into_parts())?;
+        self.retell_slot(slot);
+        if let Some(above) = &above {
+            self.retell_slot(above);
+        }
+        Ok(())
+    }
+
+    /// A turn of the first slot, made and run.
+    fn run_of(&self, slot: &Slot, rows: usize) -> Result<Done, AllocError>
+        requires sound { IsSound self.now }
+        requires first { first_of self.now.slots ≡ Some slot.now }
+        requires some { 0 < rows }
+        ensures { IfOk result (λ d. IsRunOf (engine_in self.now) slot.now rows d) }
+    {
+        let query = slot.query();
+        let operator = slot.operator();
+        let side = self.side(query, operator);
+        let turn = turn_of(self.given(query, operator, side, rows)?);
         match turn.run(self.alloc) {
-            Ok(done) => self.finish(done),
-            Err(turn) => {
-                self.abandon(turn.lease)?;
-                Err(Fault::OutOfMemory)
-            }
+            Ok(done) => Ok(done),
+            Err(_) => Err(AllocError),
         }
     }
 }

@@ -69,7 +69,7 @@ impl State {
     }
 
     /// The slot of the operator that takes what this one puts out; none takes what the root does, which is the last.
-    fn above(&self, query: u64, operator: usize) -> Option<Slot>
+    pub(crate) fn above(&self, query: u64, operator: usize) -> Option<Slot>
         requires here { HasOperatorAt (engine_in self.now) query operator }
         requires wired { HasWiredOperators (engine_in self.now) query }
         ensures { IsAbove (engine_in self.now) query operator result }
@@ -83,7 +83,7 @@ impl State {
     }
 
     /// The turn's query takes it; where memory is refused it breaks.
-    fn apply(&mut self, parts: Parts) -> Result<(), AllocError>
+    pub(crate) fn apply(&mut self, parts: Parts) -> Result<(), AllocError>
         requires { MayApplyIn (engine_in self.old) parts }
         ensures ok { OnOk result (HasApplied (engine_in self.old) parts (engine_in self.new)) }
         ensures err { OnErr result (IsBroken (engine_in self.old) parts.node.query (engine_in self.new)) }
@@ -108,7 +108,7 @@ impl State {
     }
 
     /// The slot's operator has something else to take, or nothing.
-    fn retell_slot(&mut self, slot: &Slot)
+    pub(crate) fn retell_slot(&mut self, slot: &Slot)
         requires { HasOperatorAt (engine_in self.old) slot.now.query slot.now.operator }
         ensures slot { IsRetold (engine_in self.old) slot.now (engine_in self.new) }
         ensures rest { GivesNothing self.old self.new }

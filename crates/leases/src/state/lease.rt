@@ -59,7 +59,7 @@ impl State {
     }
 
     /// The side that a lease takes of an operator that may take something.
-    fn side(&self, query: u64, operator: usize) -> Side
+    pub(crate) fn side(&self, query: u64, operator: usize) -> Side
         requires sound { IsSound self.now }
         requires ready { IsReadyAt (engine_in self.now) query operator }
         ensures { (rows : ℕ) → 0 < rows → MayLeaseOn (engine_in self.now) query operator result rows }
@@ -71,7 +71,7 @@ impl State {
     }
 
     /// A turn of an operator, with the next number.
-    fn given(
+    pub(crate) fn given(
         &self,
         query: u64,
         operator: usize,
@@ -99,7 +99,7 @@ impl State {
 }
 
 /// A turn that goes out.
-fn turn_of(given: Given) -> Turn
+pub(crate) fn turn_of(given: Given) -> Turn
     ensures { result ≡ turn_with given }
 {
     Turn {

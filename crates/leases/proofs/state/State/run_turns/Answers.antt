@@ -1,88 +1,66 @@
 -- Each turn that goes out comes back, until no operator may take anything or something is scarce.
 use Rattle.std.proofs.Common.{◌≡◌, ◌+◌, refl, sym, ap, ◌∙◌, subst, arith}
-use Rattle.leases.proofs.DrainLemmas.{all_stay, more_run, none_run, refused_ends, run_counts, run_ends, run_leaves, same_err, same_refused, stays_idle, turn_counted, turn_leaves, turn_of, turn_out, turn_whole}
-use Rattle.leases.specs.Drains.{LeavesOthers, RunsTurns, SomeHaveRun}
+use Rattle.reference.specs.World.{IsPlenty}
+use Rattle.ready_list.specs.Slots.{first_of}
+use Rattle.leases.proofs.DrainLemmas.{has_none, has_run, more_run, none_run, refused_leaves, same_err, step_counts, step_ends, step_lacks, step_leaves, step_whole}
+use Rattle.leases.specs.Drains.{LeavesOthers, OneHasRun, RunsTurns, SomeHaveRun}
 use Rattle.leases.specs.Shown.{engine_in}
-use Rattle.leases.specs.Turns.{IsTurnOf}
 use Rattle.leases.specs.Whole.{IsWholeEngine}
 use Rattle.leases.proofs.state.State.run_turns.Goals as goal
 
 pub turns-init : goal.turns-init
 turns-init c = record { runs = none_run c.args.rows (engine_in c.args.self.now); others = refl; whole = λ w. w; sound = c.requires.sound }
 
-pub lease-requires : goal.lease-requires
-lease-requires c = c.turns.invariant.sound
+-- THE STEP IS REFUSED
+pub returns-in_err-run_first-clause-runs : goal.returns-in_err-run_first-clause-runs
+returns-in_err-run_first-clause-runs c =
+    same_err c.from_residual.result c.in_err-run_first.field-0.0 (λ r. RunsTurns (engine_in c.args.self.now) c.args.rows r (engine_in c.run_first.new.self)) c.from_residual.ensures.1
+    (step_ends (engine_in c.args.self.now) (engine_in c.turns.self) (engine_in c.run_first.new.self) c.args.rows c.in_err-run_first.field-0.0 c.requires.accepted c.turns.invariant.runs c.in_err-run_first.ensures.runs)
 
--- THE LEASE IS REFUSED
-pub returns-in_err-lease-clause-runs : goal.returns-in_err-lease-clause-runs
-returns-in_err-lease-clause-runs c =
-    same_err c.from_residual.result c.in_err-lease.field-0.0 (λ r. RunsTurns (engine_in c.args.self.now) c.args.rows r (engine_in c.lease.new.self)) c.from_residual.ensures.1
-    (refused_ends (engine_in c.args.self.now) (engine_in c.turns.self) (engine_in c.lease.new.self) c.args.rows c.in_err-lease.field-0.0 c.requires.accepted c.turns.invariant.runs c.in_err-lease.ensures.leases)
+pub returns-in_err-run_first-clause-others : goal.returns-in_err-run_first-clause-others
+returns-in_err-run_first-clause-others c =
+    same_err c.from_residual.result c.in_err-run_first.field-0.0 (λ r. LeavesOthers (engine_in c.args.self.now) r (engine_in c.run_first.new.self)) c.from_residual.ensures.1
+    (refused_leaves (engine_in c.args.self.now) (engine_in c.turns.self) (engine_in c.run_first.new.self) c.args.rows c.in_err-run_first.field-0.0 c.turns.invariant.others c.turns.invariant.sound.good c.in_err-run_first.ensures.runs)
 
-pub returns-in_err-lease-clause-others : goal.returns-in_err-lease-clause-others
-returns-in_err-lease-clause-others c =
-    let same : engine_in c.lease.new.self ≡ engine_in c.turns.self = same_refused (engine_in c.turns.self) (engine_in c.lease.new.self) c.args.rows c.in_err-lease.field-0.0 c.in_err-lease.ensures.leases in
-    same_err c.from_residual.result c.in_err-lease.field-0.0 (λ r. LeavesOthers (engine_in c.args.self.now) r (engine_in c.lease.new.self)) c.from_residual.ensures.1
-    (all_stay (engine_in c.args.self.now) (engine_in c.lease.new.self) c.in_err-lease.field-0.0 (ap (λ e. e.leases) same ∙ c.turns.invariant.others))
-
-pub returns-in_err-lease-clause-whole : goal.returns-in_err-lease-clause-whole
-returns-in_err-lease-clause-whole c = λ whole plenty.
-    subst IsWholeEngine (sym (same_refused (engine_in c.turns.self) (engine_in c.lease.new.self) c.args.rows c.in_err-lease.field-0.0 c.in_err-lease.ensures.leases)) (c.turns.invariant.whole whole)
+pub returns-in_err-run_first-clause-whole : goal.returns-in_err-run_first-clause-whole
+returns-in_err-run_first-clause-whole c = λ whole plenty.
+    same_err c.from_residual.result c.in_err-run_first.field-0.0 (λ r. IsPlenty r → IsWholeEngine (engine_in c.run_first.new.self)) c.from_residual.ensures.1
+    (λ had. absurd (step_lacks (engine_in c.turns.self) (engine_in c.run_first.new.self) c.args.rows c.in_err-run_first.field-0.0 c.in_err-run_first.ensures.runs had)) plenty
 
 -- NOTHING MAY BE TAKEN
-pub returns-in-Idle-clause-runs : goal.returns-in-Idle-clause-runs
-returns-in-Idle-clause-runs c = (
-  c.requires.accepted,
-  subst (SomeHaveRun c.args.rows (engine_in c.args.self.now)) (sym (stays_idle (engine_in c.turns.self) (engine_in c.lease.new.self) c.args.rows c.in_ok-lease.field-0 c.in-Idle.is c.in_ok-lease.ensures.leases)) c.turns.invariant.runs,
-)
+pub returns-then-not-branch-clause-runs : goal.returns-then-not-branch-clause-runs
+returns-then-not-branch-clause-runs c =
+    let none = has_none (engine_in c.turns.self) (engine_in c.run_first.new.self) c.args.rows c.in_ok-run_first.field-0 c.if-not-branch.true c.in_ok-run_first.ensures.runs in
+    (c.requires.accepted, subst (SomeHaveRun c.args.rows (engine_in c.args.self.now)) (sym none.1) c.turns.invariant.runs)
 
-pub returns-in-Idle-clause-others : goal.returns-in-Idle-clause-others
-returns-in-Idle-clause-others c =
-    ap (λ e. e.leases) (stays_idle (engine_in c.turns.self) (engine_in c.lease.new.self) c.args.rows c.in_ok-lease.field-0 c.in-Idle.is c.in_ok-lease.ensures.leases) ∙ c.turns.invariant.others
+pub returns-then-not-branch-clause-others : goal.returns-then-not-branch-clause-others
+returns-then-not-branch-clause-others c =
+    let none = has_none (engine_in c.turns.self) (engine_in c.run_first.new.self) c.args.rows c.in_ok-run_first.field-0 c.if-not-branch.true c.in_ok-run_first.ensures.runs in
+    ap (λ e. e.leases) none.1 ∙ c.turns.invariant.others
 
-pub returns-in-Idle-clause-whole : goal.returns-in-Idle-clause-whole
-returns-in-Idle-clause-whole c = λ whole plenty.
-    subst IsWholeEngine (sym (stays_idle (engine_in c.turns.self) (engine_in c.lease.new.self) c.args.rows c.in_ok-lease.field-0 c.in-Idle.is c.in_ok-lease.ensures.leases)) (c.turns.invariant.whole whole)
+pub returns-then-not-branch-clause-idle : goal.returns-then-not-branch-clause-idle
+returns-then-not-branch-clause-idle c =
+    let none = has_none (engine_in c.turns.self) (engine_in c.run_first.new.self) c.args.rows c.in_ok-run_first.field-0 c.if-not-branch.true c.in_ok-run_first.ensures.runs in
+    ap (λ e. first_of e.slots) none.1 ∙ none.0
 
--- A TURN GOES OUT
-pub run-requires-clause-out : goal.run-requires-clause-out
-run-requires-clause-out c =
-    turn_out (engine_in c.turns.self) (engine_in c.lease.new.self) c.args.rows c.in-Turn.turn
-    (turn_of (engine_in c.turns.self) (engine_in c.lease.new.self) c.args.rows c.in_ok-lease.field-0 c.in-Turn.turn c.in-Turn.is c.in_ok-lease.ensures.leases)
+pub returns-then-not-branch-clause-whole : goal.returns-then-not-branch-clause-whole
+returns-then-not-branch-clause-whole c = λ whole plenty.
+    let none = has_none (engine_in c.turns.self) (engine_in c.run_first.new.self) c.args.rows c.in_ok-run_first.field-0 c.if-not-branch.true c.in_ok-run_first.ensures.runs in
+    subst IsWholeEngine (sym none.1) (c.turns.invariant.whole whole)
 
+-- A TURN HAS RUN
 pub turns-smaller : goal.turns-smaller
 turns-smaller c =
-    let out : IsTurnOf (engine_in c.turns.self) c.args.rows c.in-Turn.turn (engine_in c.lease.new.self) =
-    turn_of (engine_in c.turns.self) (engine_in c.lease.new.self) c.args.rows c.in_ok-lease.field-0 c.in-Turn.turn c.in-Turn.is c.in_ok-lease.ensures.leases in
-    let a : c.lease.new.self.next ≡ c.turns.self.next + 1 = turn_counted (engine_in c.turns.self) (engine_in c.lease.new.self) c.args.rows c.in-Turn.turn out in
-    let b : c.run.new.self.next ≡ c.lease.new.self.next = run_counts (engine_in c.lease.new.self) (engine_in c.run.new.self) c.in-Turn.turn c.in_ok-run-in-Turn.field-0 c.in_ok-run-in-Turn.ensures.runs in
-    omega (arith, a, b, c.in_ok-run-in-Turn.ensures.sound.numbers)
+    let one : OneHasRun c.args.rows (engine_in c.turns.self) (engine_in c.run_first.new.self) = has_run (engine_in c.turns.self) (engine_in c.run_first.new.self) c.args.rows c.in_ok-run_first.field-0 c.if-not-branch.false c.in_ok-run_first.ensures.runs in
+    let a : c.run_first.new.self.next ≡ c.turns.self.next + 1 = step_counts (engine_in c.turns.self) (engine_in c.run_first.new.self) c.args.rows one in
+    omega (arith, a, c.in_ok-run_first.ensures.sound.numbers)
 
 pub turns-preserved : goal.turns-preserved
 turns-preserved c =
-    let out : IsTurnOf (engine_in c.turns.self) c.args.rows c.in-Turn.turn (engine_in c.lease.new.self) =
-    turn_of (engine_in c.turns.self) (engine_in c.lease.new.self) c.args.rows c.in_ok-lease.field-0 c.in-Turn.turn c.in-Turn.is c.in_ok-lease.ensures.leases in
+    let one : OneHasRun c.args.rows (engine_in c.turns.self) (engine_in c.run_first.new.self) = has_run (engine_in c.turns.self) (engine_in c.run_first.new.self) c.args.rows c.in_ok-run_first.field-0 c.if-not-branch.false c.in_ok-run_first.ensures.runs in
     record {
-      runs = more_run c.args.rows (engine_in c.args.self.now) (engine_in c.turns.self) (engine_in c.lease.new.self) (engine_in c.run.new.self) c.in-Turn.turn c.in_ok-run-in-Turn.field-0 c.turns.invariant.runs out c.in_ok-run-in-Turn.ensures.runs;
-      others =
-          turn_leaves (engine_in c.turns.self) (engine_in c.lease.new.self) c.args.rows c.in-Turn.turn c.turns.invariant.sound.good out (engine_in c.run.new.self) c.in_ok-run-in-Turn.field-0 c.in_ok-run-in-Turn.ensures.runs
-          ∙ c.turns.invariant.others;
-      whole = λ whole. turn_whole (engine_in c.turns.self) (engine_in c.lease.new.self) (engine_in c.run.new.self) c.args.rows c.in-Turn.turn c.in_ok-run-in-Turn.field-0 (c.turns.invariant.whole whole) out c.in_ok-run-in-Turn.ensures.runs;
-      sound = c.in_ok-run-in-Turn.ensures.sound;
+      runs = more_run c.args.rows (engine_in c.args.self.now) (engine_in c.turns.self) (engine_in c.run_first.new.self) c.turns.invariant.runs one;
+      others = step_leaves (engine_in c.turns.self) (engine_in c.run_first.new.self) c.args.rows c.turns.invariant.sound.good one ∙ c.turns.invariant.others;
+      whole = λ whole. step_whole (engine_in c.turns.self) (engine_in c.run_first.new.self) c.args.rows (c.turns.invariant.whole whole) one;
+      sound = c.in_ok-run_first.ensures.sound;
     }
-
--- MEMORY IS WANTED for it
-pub returns-in_err-run-in-Turn-clause-runs : goal.returns-in_err-run-in-Turn-clause-runs
-returns-in_err-run-in-Turn-clause-runs c =
-    let out : IsTurnOf (engine_in c.turns.self) c.args.rows c.in-Turn.turn (engine_in c.lease.new.self) =
-    turn_of (engine_in c.turns.self) (engine_in c.lease.new.self) c.args.rows c.in_ok-lease.field-0 c.in-Turn.turn c.in-Turn.is c.in_ok-lease.ensures.leases in
-    same_err c.from_residual-in_err-run-in-Turn.result c.in_err-run-in-Turn.field-0.0 (λ r. RunsTurns (engine_in c.args.self.now) c.args.rows r (engine_in c.run.new.self)) c.from_residual-in_err-run-in-Turn.ensures.1
-    (run_ends (engine_in c.args.self.now) (engine_in c.turns.self) (engine_in c.lease.new.self) (engine_in c.run.new.self) c.args.rows c.in-Turn.turn c.in_err-run-in-Turn.field-0.0 c.requires.accepted c.turns.invariant.runs out c.in_err-run-in-Turn.ensures.runs)
-
-pub returns-in_err-run-in-Turn-clause-others : goal.returns-in_err-run-in-Turn-clause-others
-returns-in_err-run-in-Turn-clause-others c =
-    let out : IsTurnOf (engine_in c.turns.self) c.args.rows c.in-Turn.turn (engine_in c.lease.new.self) =
-    turn_of (engine_in c.turns.self) (engine_in c.lease.new.self) c.args.rows c.in_ok-lease.field-0 c.in-Turn.turn c.in-Turn.is c.in_ok-lease.ensures.leases in
-    same_err c.from_residual-in_err-run-in-Turn.result c.in_err-run-in-Turn.field-0.0 (λ r. LeavesOthers (engine_in c.args.self.now) r (engine_in c.run.new.self)) c.from_residual-in_err-run-in-Turn.ensures.1
-    (run_leaves (engine_in c.args.self.now) (engine_in c.turns.self) (engine_in c.lease.new.self) (engine_in c.run.new.self) c.args.rows c.in-Turn.turn c.in_err-run-in-Turn.field-0.0
-    c.turns.invariant.others c.turns.invariant.sound.good c.in_ok-lease.ensures.sound.good out c.in_err-run-in-Turn.ensures.runs)

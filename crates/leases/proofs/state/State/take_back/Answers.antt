@@ -1,9 +1,10 @@
 -- The steps, one after the other.
-use Rattle.std.proofs.Common.{ap}
+use Rattle.std.proofs.Common.{◌==◌, not, ap}
 use Rattle.turn.specs.declared.parts.Parts.{Parts}
 use Rattle.leases.specs.Applied.{GivesNothing}
 use Rattle.leases.specs.Shown.{engine_in}
 use Rattle.leases.proofs.FinishBackLemmas.{AreSteps, back_below, back_root, broken_sound, gives_on, may_apply, may_look, retell_here, retell_over, sound_below, sound_root, wired_operators}
+use Rattle.leases.proofs.LeaveLemmas.{fewer}
 use Rattle.leases.proofs.state.State.take_back.Goals as goal
 
 pub slot-slot-requires : goal.slot-slot-requires
@@ -32,7 +33,7 @@ retell_slot-requires c =
       applied = c.in_ok-apply.ensures.ok;
       ended = c.end_turn.ensures.engine;
     } in
-    retell_here c.args.self.now c.args.parts c.parts.inside.0.1.0.query c.parts.inside.0.1.0.operator c.parts.inside.0.0 c.slot-slot.result c.above-above.result (engine_in c.apply.new.self) (engine_in c.end_turn.new.self) c.requires.sound c.requires.done c.requires.out steps
+    retell_here (engine_in c.args.self.now) c.args.parts c.parts.inside.0.1.0.query c.parts.inside.0.1.0.operator c.parts.inside.0.0 c.slot-slot.result c.above-above.result (engine_in c.apply.new.self) (engine_in c.end_turn.new.self) c.requires.sound.good c.requires.done c.requires.out steps
 
 pub retell_slot-requires-in-Some : goal.retell_slot-requires-in-Some
 retell_slot-requires-in-Some c =
@@ -45,7 +46,7 @@ retell_slot-requires-in-Some c =
       applied = c.in_ok-apply.ensures.ok;
       ended = c.end_turn.ensures.engine;
     } in
-    retell_over c.args.self.now c.args.parts c.parts.inside.0.1.0.query c.parts.inside.0.1.0.operator c.parts.inside.0.0 c.slot-slot.result c.above-above.result (engine_in c.apply.new.self) (engine_in c.end_turn.new.self) c.requires.sound c.requires.done c.requires.out steps (engine_in c.retell_slot.new.self) c.retell_slot.ensures.slot c.in-Some.above c.in-Some.is
+    retell_over (engine_in c.args.self.now) c.args.parts c.parts.inside.0.1.0.query c.parts.inside.0.1.0.operator c.parts.inside.0.0 c.slot-slot.result c.above-above.result (engine_in c.apply.new.self) (engine_in c.end_turn.new.self) c.requires.sound.good c.requires.done c.requires.out steps (engine_in c.retell_slot.new.self) c.retell_slot.ensures.slot c.in-Some.above c.in-Some.is
 
 pub returns-in-Some-clause-back : goal.returns-in-Some-clause-back
 returns-in-Some-clause-back c =
@@ -58,7 +59,7 @@ returns-in-Some-clause-back c =
       applied = c.in_ok-apply.ensures.ok;
       ended = c.end_turn.ensures.engine;
     } in
-    back_below c.args.self.now c.args.parts c.parts.inside.0.1.0.query c.parts.inside.0.1.0.operator c.parts.inside.0.0 c.slot-slot.result c.above-above.result (engine_in c.apply.new.self) (engine_in c.end_turn.new.self) c.requires.sound c.requires.done c.requires.out steps (engine_in c.retell_slot.new.self) (engine_in c.retell_slot-in-Some.new.self) c.retell_slot.ensures.slot c.in-Some.above c.in-Some.is c.retell_slot-in-Some.ensures.slot
+    back_below (engine_in c.args.self.now) c.args.parts c.parts.inside.0.1.0.query c.parts.inside.0.1.0.operator c.parts.inside.0.0 c.slot-slot.result c.above-above.result (engine_in c.apply.new.self) (engine_in c.end_turn.new.self) c.requires.sound.good c.requires.done c.requires.out steps (engine_in c.retell_slot.new.self) (engine_in c.retell_slot-in-Some.new.self) c.retell_slot.ensures.slot c.in-Some.above c.in-Some.is c.retell_slot-in-Some.ensures.slot
 
 pub returns-in-Some-clause-sound : goal.returns-in-Some-clause-sound
 returns-in-Some-clause-sound c =
@@ -73,7 +74,7 @@ returns-in-Some-clause-sound c =
     } in
     let rest : GivesNothing c.args.self.now c.retell_slot.new.self =
     gives_on c.args.self.now c.apply.new.self c.retell_slot.new.self c.in_ok-apply.ensures.rest (gives_on c.apply.new.self c.end_turn.new.self c.retell_slot.new.self c.end_turn.ensures.rest c.retell_slot.ensures.rest) in
-    sound_below c.args.self.now c.args.parts c.parts.inside.0.1.0.query c.parts.inside.0.1.0.operator c.parts.inside.0.0 c.slot-slot.result c.above-above.result (engine_in c.apply.new.self) (engine_in c.end_turn.new.self) c.requires.sound c.requires.done c.requires.out steps (engine_in c.retell_slot.new.self) c.retell_slot-in-Some.new.self c.retell_slot.ensures.slot c.in-Some.above c.in-Some.is c.retell_slot-in-Some.ensures.slot
+    sound_below c.args.self.now (engine_in c.args.self.now).leases c.args.self.now.slots c.args.parts c.parts.inside.0.1.0.query c.parts.inside.0.1.0.operator c.parts.inside.0.0 c.slot-slot.result c.above-above.result (engine_in c.apply.new.self) (engine_in c.end_turn.new.self) c.requires.sound c.requires.sound.good (fewer (λ l. not (l.number == c.args.parts.lease)) (engine_in c.args.self.now).leases) c.requires.done c.requires.out steps (engine_in c.retell_slot.new.self) c.retell_slot-in-Some.new.self c.retell_slot.ensures.slot c.in-Some.above c.in-Some.is c.retell_slot-in-Some.ensures.slot
     (gives_on c.args.self.now c.retell_slot.new.self c.retell_slot-in-Some.new.self rest c.retell_slot-in-Some.ensures.rest)
 
 pub returns-in_default-clause-back : goal.returns-in_default-clause-back
@@ -87,7 +88,7 @@ returns-in_default-clause-back c =
       applied = c.in_ok-apply.ensures.ok;
       ended = c.end_turn.ensures.engine;
     } in
-    back_root c.args.self.now c.args.parts c.parts.inside.0.1.0.query c.parts.inside.0.1.0.operator c.parts.inside.0.0 c.slot-slot.result c.above-above.result (engine_in c.apply.new.self) (engine_in c.end_turn.new.self) c.requires.sound c.requires.done c.requires.out steps (engine_in c.retell_slot.new.self) c.retell_slot.ensures.slot c.in_default.is
+    back_root (engine_in c.args.self.now) c.args.parts c.parts.inside.0.1.0.query c.parts.inside.0.1.0.operator c.parts.inside.0.0 c.slot-slot.result c.above-above.result (engine_in c.apply.new.self) (engine_in c.end_turn.new.self) c.requires.sound.good c.requires.done c.requires.out steps (engine_in c.retell_slot.new.self) c.retell_slot.ensures.slot c.in_default.is
 
 pub returns-in_default-clause-sound : goal.returns-in_default-clause-sound
 returns-in_default-clause-sound c =
@@ -102,4 +103,4 @@ returns-in_default-clause-sound c =
     } in
     let rest : GivesNothing c.args.self.now c.retell_slot.new.self =
     gives_on c.args.self.now c.apply.new.self c.retell_slot.new.self c.in_ok-apply.ensures.rest (gives_on c.apply.new.self c.end_turn.new.self c.retell_slot.new.self c.end_turn.ensures.rest c.retell_slot.ensures.rest) in
-    sound_root c.args.self.now c.args.parts c.parts.inside.0.1.0.query c.parts.inside.0.1.0.operator c.parts.inside.0.0 c.slot-slot.result c.above-above.result (engine_in c.apply.new.self) (engine_in c.end_turn.new.self) c.requires.sound c.requires.done c.requires.out steps c.retell_slot.new.self c.retell_slot.ensures.slot c.in_default.is rest
+    sound_root c.args.self.now (engine_in c.args.self.now).leases c.args.self.now.slots c.args.parts c.parts.inside.0.1.0.query c.parts.inside.0.1.0.operator c.parts.inside.0.0 c.slot-slot.result c.above-above.result (engine_in c.apply.new.self) (engine_in c.end_turn.new.self) c.requires.sound c.requires.sound.good (fewer (λ l. not (l.number == c.args.parts.lease)) (engine_in c.args.self.now).leases) c.requires.done c.requires.out steps c.retell_slot.new.self c.retell_slot.ensures.slot c.in_default.is rest

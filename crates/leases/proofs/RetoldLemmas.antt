@@ -1,0 +1,97 @@
+-- Slots that are told something twice, or are told something before they leave: the last counts.
+use Rattle.std.proofs.Common.{◌≡◌, ◌≢◌, ℕ, ◌==◌, true, false, cond, inl, inr, ◌⊎◌, Option, Some, None, List, [], ◌∷◌, refl, sym, ap, ◌∙◌, subst, eq-eqb}
+use Rattle.std.specs.List.{AllByRecursion}
+use Rattle.std.specs.List.Sorted.{IsStrictlySortedBy}
+use Rattle.std.specs.Ordering.{ordering_reverse}
+use Rattle.std.specs.declared.cmp.Ordering.TheVariants.{Less, Greater}
+use Rattle.ready_list.specs.Slots.{changed, slot_cmp, with_instant, without_query}
+use Rattle.ready_list.specs.declared.slots.Slot.{Slot}
+use Rattle.ready_list.proofs.SlotLemmas.{slots_total}
+use Rattle.plain_engines.specs.Engines.{GoodEngine, HasSlots, IsIn, PlainEngine, slot_of}
+use Rattle.plain_engines.proofs.BackLemmas.{numbered, unequal}
+use Rattle.plain_engines.proofs.SlotLemmas.{AreNumbered, changed_slots, left_slots}
+use Rattle.plain_engines.proofs.TableLemmas.{updated, updated_here, updated_numbered, updated_there}
+
+-- A TABLE has one list of slots
+all_in : (P : Slot → Type 0) (xs : List Slot) (x : Slot) → AllByRecursion P xs → IsIn xs x → P x
+all_in P [] x h i = absurd i
+all_in P (y ∷ xs) x h (inl e) = subst P e h.0
+all_in P (y ∷ xs) x h (inr i) = all_in P xs x h.1 i
+
+not_both : (x y : Slot) → slot_cmp x y ≡ Less → slot_cmp y x ≡ Less → ⊥
+not_both x y a b = let bad : Less ≡ Greater = sym a ∙ slots_total.antisymm x y ∙ ap ordering_reverse b in cc
+
+-- of two slots that are each first in its list, and in the other's, neither is lower
+same_first : (x y : Slot) (a b : List Slot) → AllByRecursion (λ z. slot_cmp x z ≡ Less) a → AllByRecursion (λ z. slot_cmp y z ≡ Less) b → (y ≡ x) ⊎ IsIn b x → (x ≡ y) ⊎ IsIn a y → x ≡ y
+same_first x y a b above_x above_y (inl e) there = sym e
+same_first x y a b above_x above_y (inr i) (inl e) = e
+same_first x y a b above_x above_y (inr i) (inr j) = absurd (not_both x y (all_in (λ z. slot_cmp x z ≡ Less) a y above_x j) (all_in (λ z. slot_cmp y z ≡ Less) b x above_y i))
+
+-- one that stands behind the first is another
+in_rest : (x z : Slot) (a b : List Slot) → AllByRecursion (λ z. slot_cmp x z ≡ Less) a → IsIn a z → (x ≡ z) ⊎ IsIn b z → IsIn b z
+in_rest x z a b above i (inl e) = let low : slot_cmp x x ≡ Less = ap (slot_cmp x) e ∙ all_in (λ z. slot_cmp x z ≡ Less) a z above i in absurd (not_both x x low low)
+in_rest x z a b above i (inr j) = j
+
+same_sorted : (a b : List Slot) → IsStrictlySortedBy slot_cmp a → IsStrictlySortedBy slot_cmp b → ((x : Slot) → IsIn a x → IsIn b x) → ((x : Slot) → IsIn b x → IsIn a x) → a ≡ b
+unfolding IsStrictlySortedBy
+same_sorted [] [] sa sb to back = refl
+same_sorted [] (y ∷ b) sa sb to back = absurd (back y (inl refl))
+same_sorted (x ∷ a) [] sa sb to back = absurd (to x (inl refl))
+same_sorted (x ∷ a) (y ∷ b) sa sb to back =
+    let first : x ≡ y = same_first x y a b sa.0 sb.0 (to x (inl refl)) (back y (inl refl)) in
+    let rest : a ≡ b = same_sorted a b sa.1 sb.1
+    (λ z i. in_rest x z a b sa.0 i (subst (λ s. (s ≡ z) ⊎ IsIn b z) (sym first) (to z (inr i))))
+    (λ z i. in_rest y z b a sb.0 i (subst (λ s. (s ≡ z) ⊎ IsIn a z) first (back z (inr i)))) in
+    ap (λ z. z ∷ a) first ∙ ap (λ zs. y ∷ zs) rest
+
+same_slots : (table : ℕ → ℕ → Option Slot) (a b : List Slot) → HasSlots table a → HasSlots table b → a ≡ b
+same_slots table a b h g = same_sorted a b h.ordered g.ordered (λ x i. g.there x.query x.operator x (h.only x i)) (λ x i. h.there x.query x.operator x (g.only x i))
+
+-- A SLOT of a good engine
+module _ (e : PlainEngine) (s : Slot) (g : GoodEngine e) (there : IsIn e.slots s) where
+  before : slot_of e s.query s.operator ≡ Some s
+  before = g.slots.only s there
+
+  -- is told that nothing may be taken
+  told : ℕ → ℕ → Option Slot
+  told = updated (slot_of e) s.query s.operator (with_instant s None)
+
+  told_here : told s.query s.operator ≡ Some (with_instant s None)
+  unfolding told
+  told_here = updated_here (slot_of e) s.query s.operator (with_instant s None)
+
+  told_there : (n k : ℕ) → (n ≢ s.query) ⊎ (k ≢ s.operator) → told n k ≡ slot_of e n k
+  unfolding told
+  told_there n k ne = updated_there (slot_of e) s.query s.operator (with_instant s None) n k ne
+
+  told_numbered : AreNumbered told
+  unfolding told
+  told_numbered = updated_numbered (slot_of e) s.query s.operator (with_instant s None) refl refl (numbered e)
+
+  told_slots : HasSlots told (changed s None e.slots)
+  told_slots = changed_slots (slot_of e) told e.slots s None g.slots (numbered e) before told_here told_there
+
+  -- and then something else
+  pub changed_again : (instant : Option ℕ) → changed (with_instant s None) instant (changed s None e.slots) ≡ changed s instant e.slots
+  changed_again instant =
+      let here : updated told s.query s.operator (with_instant s instant) s.query s.operator ≡ Some (with_instant s instant) = updated_here told s.query s.operator (with_instant s instant) in
+      let there : (n k : ℕ) → (n ≢ s.query) ⊎ (k ≢ s.operator) → updated told s.query s.operator (with_instant s instant) n k ≡ told n k = λ n k ne.
+      updated_there told s.query s.operator (with_instant s instant) n k ne in
+      same_slots (updated told s.query s.operator (with_instant s instant)) (changed (with_instant s None) instant (changed s None e.slots)) (changed s instant e.slots)
+      (changed_slots told (updated told s.query s.operator (with_instant s instant)) (changed s None e.slots) (with_instant s None) instant told_slots told_numbered told_here here there)
+      (changed_slots (slot_of e) (updated told s.query s.operator (with_instant s instant)) e.slots s instant g.slots (numbered e) before here (λ n k ne. there n k ne ∙ told_there n k ne))
+
+  -- and then leaves, with the slots of its query
+  abbrev left : ℕ → ℕ → Option Slot
+  left n k = cond (n == s.query) None (slot_of e n k)
+
+  left_here : (k : ℕ) → left s.query k ≡ None
+  left_here k = let t : (s.query == s.query) ≡ true = eq-eqb s.query s.query refl in rw t refl
+
+  left_there : (n k : ℕ) → n ≢ s.query → left n k ≡ slot_of e n k
+  left_there n k ne = let f : (n == s.query) ≡ false = unequal n s.query ne in rw f refl
+
+  pub changed_leaves : without_query s.query (changed s None e.slots) ≡ without_query s.query e.slots
+  changed_leaves = same_slots left (without_query s.query (changed s None e.slots)) (without_query s.query e.slots)
+      (left_slots told left (changed s None e.slots) s.query told_slots told_numbered left_here (λ n k ne. left_there n k ne ∙ sym (told_there n k (inl ne))))
+      (left_slots (slot_of e) left e.slots s.query g.slots (numbered e) left_here left_there)

@@ -1,0 +1,256 @@
+-- A turn that goes out and comes back in one step: the engine that has it out is nowhere kept, and the one after the step is what follows on that.
+use Rattle.std.proofs.Common.{◌≡◌, ◌≢◌, ◌<◌, ◌≤◌, ◌+◌, ◌++◌, ◌==◌, ◌||◌, ℕ, Bool, not, true, false, inl, MatchOption, Option, Some, None, Result, Ok, Err, OnErr, List, [], ◌∷◌, length, refl, sym, ap, ◌∙◌, subst, arith, eq-eqb}
+use Rattle.std.specs.List.{list_any}
+use Rattle.turn.specs.declared.parts.Parts.{Parts}
+use Rattle.turn.specs.declared.turns.Turn.{Turn}
+use Rattle.plan.proofs.Lists.{by_test}
+use Rattle.reference.specs.Machine.{Registered}
+use Rattle.query_nets.specs.Queries.{PlainQuery}
+use Rattle.running_queries.specs.Turns.{wire_at}
+use Rattle.ready_list.specs.Slots.{changed, first_of, slot, with_instant, without_query}
+use Rattle.ready_list.specs.declared.slots.Slot.{Slot}
+use Rattle.plain_engines.specs.Calls.{broken, of_others, others}
+use Rattle.plain_engines.specs.Engines.{GoodEngine, HasSlots, IsIn, IsLease, Lease, PlainEngine, Running, instant_at, is_leased, is_of, kept_at, query_at, slope_at, slot_at, slot_of}
+use Rattle.plain_engines.proofs.BackLemmas.{same_plain, same_query, unequal}
+use Rattle.plain_engines.proofs.LeaseLemmas.{lease_good}
+use Rattle.plain_engines.proofs.PromiseLemmas.{first_in, slot_is}
+use Rattle.plain_engines.proofs.TableLemmas.{same_slot_at, same_slot_in}
+use Rattle.leases.specs.Applied.{GivesNothing, HasApplied, HasWiredOperators, IsAbove, IsBroken, IsOutIn, IsRetold, MayApplyIn, with_slot, without_turn}
+use Rattle.leases.specs.Asked.{HasOperatorAt}
+use Rattle.leases.specs.Drains.{OneHasFailed, OneHasRun}
+use Rattle.leases.specs.Leasing.{turn_with}
+use Rattle.leases.specs.Runs.{IsRunOf, given_in}
+use Rattle.leases.specs.Shown.{engine_in}
+use Rattle.leases.specs.Sound.{IsSound}
+use Rattle.leases.specs.Turns.{IsTurnOf}
+use Rattle.leases.specs.Views.{lease_of}
+use Rattle.leases.specs.declared.limits.TheConstants.{LEASE_NUMBERS}
+use Rattle.leases.specs.declared.state.State.{State}
+use Rattle.leases.proofs.DrainLemmas as drain
+use Rattle.leases.proofs.FinishBackLemmas.{AreSteps, HasComeBack, back_below, back_root, may_apply, may_look, retell_here, retell_over, sound_below, sound_root, wired_operators}
+use Rattle.leases.proofs.FinishLemmas.{below_of, to_later}
+use Rattle.leases.proofs.FinishSoundLemmas.{sound_broken}
+use Rattle.leases.proofs.LeaseLemmas.{any_last, out_of, turn_out}
+use Rattle.leases.proofs.LeaveLemmas.{fewer}
+use Rattle.leases.proofs.LookLemmas.{asks_on}
+use Rattle.leases.proofs.RetoldLemmas.{changed_again, changed_leaves}
+use Rattle.leases.proofs.RunLemmas.{is_out}
+
+-- A NUMBER is counted
+abbrev pub counted : State → State
+counted s = record s { next = s.next + 1 }
+
+counted_lease : (e : PlainEngine) (l : Lease) → IsLease e l → IsLease (record e { next = e.next + 1 }) l
+counted_lease e l is = record {
+  numbered = omega (arith, is.numbered);
+  query = is.query;
+  registered = is.registered;
+  kept = is.kept;
+  running = is.running;
+  within = is.within;
+  first = is.first;
+  near = is.near;
+}
+
+counted_slots : (e : PlainEngine) → HasSlots (slot_of e) e.slots → HasSlots (slot_of (record e { next = e.next + 1 })) e.slots
+counted_slots e h =
+    let same : (n k : ℕ) → slot_of (record e { next = e.next + 1 }) n k ≡ slot_of e n k = λ n k. same_slot_in e e.queries e.leases (e.next + 1) e.slots n k refl (query_at e n) (kept_at e n) in
+    record { ordered = h.ordered; there = λ n k s is. h.there n k s (sym (same n k) ∙ is); only = λ s i. same s.query s.operator ∙ h.only s i }
+
+counted_good : (e : PlainEngine) → GoodEngine e → GoodEngine (record e { next = e.next + 1 })
+counted_good e g = record {
+  machine = g.machine;
+  rows = g.rows;
+  many = g.many;
+  queries = g.queries;
+  leases = λ l i. counted_lease e l (g.leases l i);
+  apart = g.apart;
+  slots = counted_slots e g.slots;
+}
+
+counted_sound : (s : State) → IsSound s → s.next < LEASE_NUMBERS → IsSound (counted s)
+counted_sound s h lt = record {
+  good = counted_good (engine_in s) h.good;
+  kinds = h.kinds;
+  few = h.few;
+  numbers = omega (arith, lt);
+  named = h.named;
+  gone = h.gone;
+  columns = h.columns;
+  closed = h.closed;
+}
+
+-- ANOTHER OPERATOR is leased as before
+any_push : (test : Lease → Bool) (ls : List Lease) (l : Lease) → test l ≡ false → list_any test (ls ++ l ∷ []) ≡ list_any test ls
+any_push test [] l f = rw f refl
+any_push test (x ∷ ls) l f = ap (λ b. test x || b) (any_push test ls l f)
+
+other_operator : (n k : ℕ) (l : Lease) → l.operator ≢ k → is_of n k l ≡ false
+other_operator n k l ne = let f : (l.operator == k) ≡ false = unequal l.operator k ne in by_test (l.query == n) (λ t. rw (t, f) refl) (λ g. rw g refl)
+
+above_same : (above : Option Slot) (A B : Type 0) (s t : Slot) → (B → s ≡ t) → MatchOption above A (λ z. B × (z ≡ s)) → MatchOption above A (λ z. B × (z ≡ t))
+above_same None A B s t same h = h
+above_same (Some z) A B s t same h = (h.0, h.1 ∙ same h.0)
+
+pub held_on_err : {A E P : Type 0} (r : Result A E) → P → OnErr r P
+held_on_err (Ok a) h = tt
+held_on_err (Err e) h = h
+
+some_slot : {a b : Slot} → Some a ≡ Some b → a ≡ b
+some_slot e = cc
+
+-- THE TURN of the first slot, that was run
+module _ (old : State) (s : Slot) (rows : ℕ) (d : Parts) (sound : IsSound old) (first : first_of old.slots ≡ Some s) (numbers : old.next < LEASE_NUMBERS) (run : IsRunOf (engine_in old) s rows d) where
+  abbrev t : Turn
+  t = turn_with (given_in d)
+
+  -- THE ENGINE that has it out
+  abbrev e1 : PlainEngine
+  e1 = out_of (engine_in old) s (given_in d)
+
+  goes : IsTurnOf (engine_in old) rows t e1
+  goes = turn_out (engine_in old) s run.side rows sound.good first (given_in d) run.made
+
+  good : GoodEngine e1
+  good = subst GoodEngine (sym goes.after) (lease_good (engine_in old) (lease_of (given_in d)) goes.query goes.kept goes.slot sound.good goes.leasable)
+
+  out : IsOutIn e1 d
+  out = let o = drain.turn_out (engine_in old) e1 rows t goes in (o.query, (o.kept, is_out e1 t d o (record { lease = refl; node = refl; item = refl; near = refl })))
+
+  query_is : s.query ≡ d.node.query
+  query_is = sym (ap (λ v. v.query) run.made.1.node)
+
+  operator_is : s.operator ≡ d.node.operator
+  operator_is = sym (ap (λ v. v.operator) run.made.1.node)
+
+  number_is : d.lease ≡ old.next
+  number_is = run.made.1.number
+
+  there : IsIn old.slots s
+  there = (first_in old.slots s first).0
+
+  running : kept_at e1 s.query ≡ Running out.1.0
+  running = ap (kept_at e1) query_is ∙ out.1.1.of.running
+
+  others_left : others d.lease e1.leases ≡ (engine_in old).leases
+  others_left = drain.all_left (engine_in old).leases (lease_of (given_in d)) (λ a i. omega (arith, (sound.good.leases a i).numbered, number_is))
+
+  few_left : length (others d.lease e1.leases) ≤ length (engine_in old).leases
+  few_left = let same : length (others d.lease e1.leases) ≡ length (engine_in old).leases = ap (λ ls. length ls) others_left in omega (arith, same)
+
+  -- WHAT IS ASKED before it comes back
+  pub may_look_here : HasOperatorAt (engine_in old) s.query s.operator
+  may_look_here = asks_on e1 (engine_in old).leases old.next old.slots s.query s.operator (may_look e1 d s.query s.operator good out query_is operator_is)
+
+  pub may_look_over : HasWiredOperators (engine_in old) s.query
+  may_look_over k p is lt = asks_on e1 (engine_in old).leases old.next old.slots s.query (wire_at p k).to (wired_operators e1 d s.query good out query_is k p is lt)
+
+  pub may_take : MayApplyIn (engine_in (counted old)) d
+  may_take = may_apply e1 d good out run.done
+
+  -- ITS QUERY BREAKS
+  module _ (new : State) (broke : IsBroken (engine_in (counted old)) d.node.query (engine_in new)) where
+    slots_leave : without_query d.node.query old.slots ≡ without_query d.node.query e1.slots
+    slots_leave = subst (λ n. without_query n old.slots ≡ without_query n e1.slots) query_is (sym (changed_leaves (engine_in old) s sound.good there))
+
+    turns_end : of_others d.node.query e1.leases ≡ of_others d.node.query (engine_in old).leases
+    turns_end = drain.last_goes (engine_in old).leases (lease_of (given_in d))
+
+    is_broken : engine_in new ≡ broken e1 d.node.query out.1.0
+    is_broken =
+        broke out.1.0 out.1.1.of.running
+        ∙ ap (λ ls. record (broken (engine_in (counted old)) d.node.query out.1.0) { leases = ls }) (sym turns_end)
+        ∙ ap (λ ss. record (broken e1 d.node.query out.1.0) { slots = ss }) slots_leave
+
+    pub broke_one : OneHasFailed rows (engine_in old) (engine_in new)
+    broke_one = (t, (e1, (goes, inl (out.1.1.out, (out.0, (out.1.0, (out.1.1.of, is_broken)))))))
+
+    pub broke_sound : GivesNothing (counted old) new → IsSound new
+    broke_sound r =
+        let few : length (of_others d.node.query e1.leases) ≤ length (engine_in old).leases =
+        subst (λ ls. length ls ≤ length (engine_in old).leases) (sym turns_end) (fewer (λ l. not (l.query == d.node.query)) (engine_in old).leases) in
+        sound_broken (counted old) new e1.leases e1.slots d out.0 out.1.0 (counted_sound old sound numbers) good out.1.1 r few is_broken
+
+  -- ITS QUERY TAKES IT
+  module _ (above : Option Slot) (over : IsAbove (engine_in old) s.query s.operator above) (e2 : PlainEngine) (applied : HasApplied (engine_in (counted old)) d e2) where
+    -- the engine that has it out still, and the one where it is out no more
+    abbrev still : PlainEngine
+    still = record e2 { leases = e1.leases; slots = e1.slots }
+
+    abbrev home : PlainEngine
+    home = without_turn still d.lease
+
+    takes : HasApplied e1 d still
+    takes p is = let a = applied p is in (a.0, (a.1.0, ap (λ (e : PlainEngine). record e { leases = e1.leases; slots = e1.slots }) a.1.1))
+
+    leased_here : is_leased e1 s.query s.operator ≡ true
+    leased_here =
+        let same_query : (d.node.query == s.query) ≡ true = eq-eqb d.node.query s.query (sym query_is) in
+        let same_operator : (d.node.operator == s.operator) ≡ true = eq-eqb d.node.operator s.operator (sym operator_is) in
+        any_last (is_of s.query s.operator) (engine_in old).leases (lease_of (given_in d)) (rw (same_query, same_operator) refl)
+
+    slot_here : (q : Registered) (p : PlainQuery) → query_at e1 s.query ≡ Some q → kept_at e1 s.query ≡ Running p → with_instant s None ≡ slot_at e1 s.query q p s.operator
+    slot_here q p registered is =
+        let here = may_look_here in
+        let same : here.0 ≡ q = same_query (sym here.1.1.registered ∙ registered) in
+        let within : s.operator < length q.nodes = subst (λ (z : Registered). s.operator < length z.nodes) same here.1.1.within in
+        let was : slot_at (engine_in old) s.query q p s.operator ≡ s = some_slot (sym (slot_is (engine_in old) s.query s.operator q p registered is within) ∙ sound.good.slots.only s there) in
+        let none : instant_at e1 s.query q p s.operator ≡ None = rw leased_here refl in
+        ap (λ z. with_instant z None) (sym was) ∙ ap (λ i. slot (slope_at q s.operator) i s.query s.operator) (sym none)
+
+    later : (p : PlainQuery) → kept_at e1 s.query ≡ Running p → s.operator + 1 < length p.operators → s.operator < (wire_at p s.operator).to
+    later p is =
+        let same : out.1.0 ≡ p = same_plain (sym running ∙ is) in
+        subst (λ (z : PlainQuery). s.operator + 1 < length z.operators → s.operator < (wire_at z s.operator).to) same
+        (subst (λ k. k + 1 < length out.1.0.operators → k < (wire_at out.1.0 k).to) (sym operator_is)
+        (λ lt. to_later e1 d out.0 out.1.0 good out.1.1 d.node.operator (below_of e1 d out.0 out.1.0 good out.1.1 lt)))
+
+    over_still : IsAbove e1 s.query s.operator above
+    over_still q p registered is =
+        above_same above (length p.operators ≤ s.operator + 1) (s.operator + 1 < length p.operators) (slot_at (engine_in old) s.query q p (wire_at p s.operator).to) (slot_at e1 s.query q p (wire_at p s.operator).to)
+        (λ lt.
+        let apart : d.node.operator ≢ (wire_at p s.operator).to = λ z. absurd (omega (arith, later p is lt, operator_is, z)) in
+        let leased : list_any (is_of s.query (wire_at p s.operator).to) e1.leases ≡ list_any (is_of s.query (wire_at p s.operator).to) (engine_in old).leases =
+        any_push (is_of s.query (wire_at p s.operator).to) (engine_in old).leases (lease_of (given_in d)) (other_operator s.query (wire_at p s.operator).to (lease_of (given_in d)) apart) in
+        sym (same_slot_at (engine_in old) e1.queries e1.leases e1.next e1.slots s.query (wire_at p s.operator).to leased q p p refl))
+        (over q p registered is)
+
+    steps : AreSteps e1 d s.query s.operator d.lease (with_instant s None) above still home
+    steps = record { query = query_is; operator = operator_is; number = refl; slot = slot_here; over = over_still; applied = takes; ended = refl }
+
+    pub may_retell : HasOperatorAt e2 s.query s.operator
+    may_retell = asks_on home e2.leases e2.next e2.slots s.query s.operator (retell_here e1 d s.query s.operator d.lease (with_instant s None) above still home good run.done out steps)
+
+    -- its slot is told once, and not first that nothing may be taken
+    told_once : (e3 : PlainEngine) → IsRetold e2 s e3 → IsRetold home (with_instant s None) e3
+    told_once e3 told q p registered is =
+        let took = applied out.1.0 out.1.1.of.running in
+        let leases : e2.leases ≡ home.leases = ap (λ e. e.leases) took.1.1 ∙ sym others_left in
+        let slots : e2.slots ≡ old.slots = ap (λ e. e.slots) took.1.1 in
+        told q p registered is
+        ∙ ap (λ ss. record e2 { slots = changed s (instant_at e2 s.query q p s.operator) ss }) slots
+        ∙ ap (λ ss. record e2 { slots = ss }) (sym (changed_again (engine_in old) s sound.good there (instant_at e2 s.query q p s.operator)))
+        ∙ ap (λ ls. with_slot (record e2 { leases = ls; slots = e1.slots }) (with_instant s None) q p) leases
+
+    comes_home : (e3 : PlainEngine) → HasComeBack e1 d e3 → OneHasRun rows (engine_in old) e3
+    comes_home e3 h = (t, (e1, (goes, (out.1.1.out, (h.0, (h.1.0, (h.1.1.0, h.1.1.1.1)))))))
+
+    module _ (e3 : PlainEngine) (told : IsRetold e2 s e3) where
+      pub may_retell_over : (a : Slot) → above ≡ Some a → HasOperatorAt e3 a.query a.operator
+      may_retell_over a some = retell_over e1 d s.query s.operator d.lease (with_instant s None) above still home good run.done out steps e3 (told_once e3 told) a some
+
+      pub ran_root : above ≡ None → OneHasRun rows (engine_in old) e3
+      ran_root none = comes_home e3 (back_root e1 d s.query s.operator d.lease (with_instant s None) above still home good run.done out steps e3 (told_once e3 told) none)
+
+      pub ran_below : (e4 : PlainEngine) (a : Slot) → above ≡ Some a → IsRetold e3 a e4 → OneHasRun rows (engine_in old) e4
+      ran_below e4 a some again = comes_home e4 (back_below e1 d s.query s.operator d.lease (with_instant s None) above still home good run.done out steps e3 e4 (told_once e3 told) a some again)
+
+    pub ran_root_sound : (new : State) → IsRetold e2 s (engine_in new) → above ≡ None → GivesNothing (counted old) new → IsSound new
+    ran_root_sound new told none r =
+        sound_root (counted old) e1.leases e1.slots d s.query s.operator d.lease (with_instant s None) above still home (counted_sound old sound numbers) good few_left run.done out steps new
+        (told_once (engine_in new) told) none r
+
+    pub ran_below_sound : (e3 : PlainEngine) (new : State) → IsRetold e2 s e3 → (a : Slot) → above ≡ Some a → IsRetold e3 a (engine_in new) → GivesNothing (counted old) new → IsSound new
+    ran_below_sound e3 new told a some again r =
+        sound_below (counted old) e1.leases e1.slots d s.query s.operator d.lease (with_instant s None) above still home (counted_sound old sound numbers) good few_left run.done out steps e3 new
+        (told_once e3 told) a some again r

@@ -14,12 +14,12 @@ use Rattle.reference.specs.declared.fault.Fault.TheVariants.{Query, BadName, Nam
 use Rattle.query_nets.specs.Queries.{PlainQuery}
 use Rattle.ready_list.specs.Slots.{first_of}
 use Rattle.plain_engines.proofs.BackLemmas.{kept_here}
-use Rattle.plain_engines.specs.Calls.{leased, of_others, others}
+use Rattle.plain_engines.specs.Calls.{of_others, others}
 use Rattle.plain_engines.specs.Engines.{Broken, Dropped, GoodEngine, IsIn, Kept, Lease, PlainEngine, Running, kept_at}
 use Rattle.plain_engines.specs.Histories as history
 use Rattle.plain_engines.specs.Histories.{ComesBack, IsStep}
 use Rattle.leases.specs.Drains.{HasBrokenOne, HaveRun, LeavesOthers, OneHasFailed, OneHasRun, RunsFirst, RunsTurns, SomeHaveRun}
-use Rattle.leases.specs.Runs.{IsTurnOut, RunsTurn}
+use Rattle.leases.specs.Runs.{RunsTurn}
 use Rattle.leases.specs.Turns.{IsTurnOf, lease_of_turn}
 use Rattle.leases.specs.Whole.{IsWholeEngine}
 use Rattle.leases.specs.declared.limits.TheConstants.{LEASE_NUMBERS, MAX_LEASES}
@@ -35,25 +35,6 @@ one_more rows e1 e2 e3 e4 (s ∷ turns) t ran out home = (ran.0, (ran.1.0, (ran.
 
 pub more_run : (rows : ℕ) (e1 e2 e3 : PlainEngine) → SomeHaveRun rows e1 e2 → OneHasRun rows e2 e3 → SomeHaveRun rows e1 e3
 more_run rows e1 e2 e3 ran one = (ran.0 ++ one.0 ∷ [], one_more rows e1 e2 one.1.0 e3 ran.0 one.0 ran.1 one.1.1.0 one.1.1.1)
-
--- A LEASE
-in_end : (ls : List Lease) (l : Lease) → IsIn (ls ++ l ∷ []) l
-in_end [] l = inl refl
-in_end (x ∷ ls) l = inr (in_end ls l)
-
--- what went out is out
-leased_out : (e : PlainEngine) (rows : ℕ) (t : Turn) (e2 : PlainEngine) (h : IsTurnOf e rows t e2) → IsTurnOut (leased e (lease_of_turn t) h.query h.kept) t
-leased_out e rows t e2 h = record {
-  query = h.query;
-  kept = h.kept;
-  out = in_end e.leases (lease_of_turn t);
-  of = record { registered = h.leasable.of.registered; running = h.leasable.of.running; within = h.leasable.of.within };
-  kind = h.kind;
-  fits = h.fits;
-}
-
-pub turn_out : (e1 e2 : PlainEngine) (rows : ℕ) (t : Turn) → IsTurnOf e1 rows t e2 → IsTurnOut e2 t
-turn_out e1 e2 rows t h = subst (λ e. IsTurnOut e t) (sym h.after) (leased_out e1 rows t e2 h)
 
 -- AN ERROR that is handed on
 pub same_err : {A E : Type 0} (r : Result A E) (e : E) (Q : Result A E → Type 0) → IsErrAnd r (λ f. f ≡ e) → Q (Err e) → Q r

@@ -12,7 +12,6 @@ mod FinishBackLemmas
 mod StreamLemmas
 mod ReaderLemmas
 mod BeatLemmas
-pub mod RunLemmas
 pub mod DrainLemmas
 mod MachineLemmas
 mod RetoldLemmas

@@ -1,5 +1,5 @@
 -- A turn that goes out and comes back in one step: the engine that has it out is nowhere kept, and the one after the step is what follows on that.
-use Rattle.std.proofs.Common.{◌≡◌, ◌≢◌, ◌<◌, ◌≤◌, ◌+◌, ◌++◌, ◌==◌, ◌||◌, ℕ, Bool, not, true, false, inl, MatchOption, Option, Some, None, Result, Ok, Err, OnErr, List, [], ◌∷◌, length, refl, sym, ap, ◌∙◌, subst, arith, eq-eqb}
+use Rattle.std.proofs.Common.{◌≡◌, ◌≢◌, ◌<◌, ◌≤◌, ◌+◌, ◌++◌, ◌==◌, ◌||◌, ℕ, Bool, not, true, false, inl, inr, MatchOption, Option, Some, None, Result, Ok, Err, OnErr, List, [], ◌∷◌, length, refl, sym, ap, ◌∙◌, subst, arith, eq-eqb}
 use Rattle.std.specs.List.{list_any}
 use Rattle.turn.specs.declared.parts.Parts.{Parts}
 use Rattle.turn.specs.declared.turns.Turn.{Turn}
@@ -9,7 +9,7 @@ use Rattle.query_nets.specs.Queries.{PlainQuery}
 use Rattle.running_queries.specs.Turns.{wire_at}
 use Rattle.ready_list.specs.Slots.{changed, first_of, slot, with_instant, without_query}
 use Rattle.ready_list.specs.declared.slots.Slot.{Slot}
-use Rattle.plain_engines.specs.Calls.{broken, of_others, others}
+use Rattle.plain_engines.specs.Calls.{IsOf, broken, of_others, others}
 use Rattle.plain_engines.specs.Engines.{GoodEngine, HasSlots, IsIn, IsLease, Lease, PlainEngine, Running, instant_at, is_leased, is_of, kept_at, query_at, slope_at, slot_at, slot_of}
 use Rattle.plain_engines.proofs.BackLemmas.{same_plain, same_query, unequal}
 use Rattle.plain_engines.proofs.LeaseLemmas.{lease_good}
@@ -22,7 +22,7 @@ use Rattle.leases.specs.Leasing.{turn_with}
 use Rattle.leases.specs.Runs.{IsRunOf, given_in}
 use Rattle.leases.specs.Shown.{engine_in}
 use Rattle.leases.specs.Sound.{IsSound}
-use Rattle.leases.specs.Turns.{IsTurnOf}
+use Rattle.leases.specs.Turns.{IsTurnOf, lease_of_parts}
 use Rattle.leases.specs.Views.{lease_of}
 use Rattle.leases.specs.declared.limits.TheConstants.{LEASE_NUMBERS}
 use Rattle.leases.specs.declared.state.State.{State}
@@ -34,7 +34,6 @@ use Rattle.leases.proofs.LeaseLemmas.{any_last, out_of, turn_out}
 use Rattle.leases.proofs.LeaveLemmas.{fewer}
 use Rattle.leases.proofs.LookLemmas.{asks_on}
 use Rattle.leases.proofs.RetoldLemmas.{changed_again, changed_leaves}
-use Rattle.leases.proofs.RunLemmas.{is_out}
 
 -- A NUMBER is counted
 abbrev pub counted : State → State
@@ -88,6 +87,10 @@ any_push test (x ∷ ls) l f = ap (λ b. test x || b) (any_push test ls l f)
 other_operator : (n k : ℕ) (l : Lease) → l.operator ≢ k → is_of n k l ≡ false
 other_operator n k l ne = let f : (l.operator == k) ≡ false = unequal l.operator k ne in by_test (l.query == n) (λ t. rw (t, f) refl) (λ g. rw g refl)
 
+in_end : (ls : List Lease) (l : Lease) → IsIn (ls ++ l ∷ []) l
+in_end [] l = inl refl
+in_end (x ∷ ls) l = inr (in_end ls l)
+
 above_same : (above : Option Slot) (A B : Type 0) (s t : Slot) → (B → s ≡ t) → MatchOption above A (λ z. B × (z ≡ s)) → MatchOption above A (λ z. B × (z ≡ t))
 above_same None A B s t same h = h
 above_same (Some z) A B s t same h = (h.0, h.1 ∙ same h.0)
@@ -115,7 +118,9 @@ module _ (old : State) (s : Slot) (rows : ℕ) (d : Parts) (sound : IsSound old)
   good = subst GoodEngine (sym goes.after) (lease_good (engine_in old) (lease_of (given_in d)) goes.query goes.kept goes.slot sound.good goes.leasable)
 
   out : IsOutIn e1 d
-  out = let o = drain.turn_out (engine_in old) e1 rows t goes in (o.query, (o.kept, is_out e1 t d o (record { lease = refl; node = refl; item = refl; near = refl })))
+  out =
+      let of : IsOf e1 (lease_of_parts d) goes.query goes.kept = record { registered = goes.leasable.of.registered; running = goes.leasable.of.running; within = goes.leasable.of.within } in
+      (goes.query, (goes.kept, record { out = in_end (engine_in old).leases (lease_of (given_in d)); of = of; kind = goes.kind }))
 
   query_is : s.query ≡ d.node.query
   query_is = sym (ap (λ v. v.query) run.made.1.node)

@@ -1,30 +1,17 @@
 -- A turn that is run and comes back at once.
-use Rattle.std.specs.Prelude.{ℕ, ⊤, ◌≡◌, ◌⊎◌, Result, Ok, Err}
+use Rattle.std.specs.Prelude.{ℕ, ⊤, ◌⊎◌, Result, Ok, Err}
 use Rattle.column.specs.declared.batch.Side.{Side}
 use Rattle.turn.specs.Finished.{IsDone}
-use Rattle.turn.specs.Turns.{Fits}
 use Rattle.turn.specs.declared.parts.Parts.{Parts}
 use Rattle.turn.specs.declared.turns.Turn.{Turn}
-use Rattle.reference.specs.Machine.{Registered}
 use Rattle.reference.specs.declared.fault.Fault.{Fault}
 use Rattle.reference.specs.declared.fault.Fault.TheVariants.{OutOfMemory}
-use Rattle.query_nets.specs.Queries.{PlainQuery, operator_at}
 use Rattle.ready_list.specs.declared.slots.Slot.{Slot}
-use Rattle.plain_engines.specs.Calls.{IsOf}
-use Rattle.plain_engines.specs.Engines.{IsIn, PlainEngine}
+use Rattle.plain_engines.specs.Engines.{PlainEngine}
 use Rattle.plain_engines.specs.Histories.{Abandons, Breaks, Finishes, IsStep}
 use Rattle.leases.specs.Leasing.{IsTurnOn}
 use Rattle.leases.specs.Turns.{lease_of_turn}
 use Rattle.leases.specs.declared.given.Given.{Given}
-
--- it is out, of a running query, does what its operator does, and may be run
-pub record IsTurnOut (e : PlainEngine) (t : Turn) : Type 0 where
-  pub query : Registered
-  pub kept : PlainQuery
-  pub out : IsIn e.leases (lease_of_turn t)
-  pub of : IsOf e (lease_of_turn t) query kept
-  pub kind : t.node.kind ≡ (operator_at kept.operators t.node.operator).kind
-  pub fits : Fits t.node t.item t.near
 
 -- it came back finished; or memory was wanted, and then it broke its query or was abandoned
 abbrev pub RunsTurn : PlainEngine → Turn → Result ⊤ Fault → PlainEngine → Type 0

@@ -19,7 +19,7 @@ fn rows(alloc: Global, pairs: &[(i64, i64)]) -> Result<NewRows, AllocError> {
 }
 
 /// Columns of these names.
-pub(crate) fn columns(alloc: Global, names: &[&str]) -> Result<Vec<String>, AllocError> {
+fn columns(alloc: Global, names: &[&str]) -> Result<Vec<String>, AllocError> {
     let mut columns = Vec::new(alloc);
     for name in names {
         columns.push(String::from_str(alloc, name)?)?;

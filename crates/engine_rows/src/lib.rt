@@ -1,4 +1,4 @@
-//! Worked rows of the engine, as tests: turns that go out and come back, their order, strangers, refusals, and the answers of scripts.
+//! Worked rows of the engine, as tests: turns that go out and come back, their order, strangers, refusals.
 //!
 //! They stand in a crate of their own because a crate's tests are proved with all of the crate once more.
 #![tactic(auto)]
@@ -15,7 +15,5 @@ mod orders;
 mod pairs;
 #[cfg(test)]
 mod refusals;
-#[cfg(test)]
-mod scripts;
 #[cfg(test)]
 mod strangers;

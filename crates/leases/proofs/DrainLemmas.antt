@@ -18,9 +18,9 @@ use Rattle.plain_engines.specs.Calls.{of_others, others}
 use Rattle.plain_engines.specs.Engines.{Broken, Dropped, GoodEngine, IsIn, Kept, Lease, PlainEngine, Running, kept_at}
 use Rattle.plain_engines.specs.Histories as history
 use Rattle.plain_engines.specs.Histories.{ComesBack, IsStep}
-use Rattle.leases.specs.Drains.{HasBrokenOne, HaveRun, LeavesOthers, OneHasFailed, OneHasRun, RunsFirst, RunsTurns, SomeHaveRun}
+use Rattle.leases.specs.Drains.{HasBrokenOne, HasWanted, HaveRun, LeavesOthers, OneHasRun, RunsFirst, RunsTurns, SomeHaveRun}
 use Rattle.leases.specs.Runs.{RunsTurn}
-use Rattle.leases.specs.Turns.{IsTurnOf, lease_of_turn}
+use Rattle.leases.specs.Turns.{HasReady, IsTurnOf, lease_of_turn}
 use Rattle.leases.specs.Whole.{IsWholeEngine}
 use Rattle.leases.specs.declared.limits.TheConstants.{LEASE_NUMBERS, MAX_LEASES}
 
@@ -51,7 +51,8 @@ has_none e1 e2 rows ran is h = subst (λ b. RunsFirst e1 rows (Ok b) e2) is h
 -- A STEP THAT IS REFUSED ends a drain
 pub step_ends : (e1 e2 e3 : PlainEngine) (rows : ℕ) (f : Fault) → drain_fault rows ≡ None → SomeHaveRun rows e1 e2 → RunsFirst e2 rows (Err f) e3 → RunsTurns e1 rows (Err f) e3
 step_ends e1 e2 e3 rows OutOfMemory none ran h = (none, (e2, (ran, h)))
-step_ends e1 e2 e3 rows TooManyLeases none ran h = (none, (subst (SomeHaveRun rows e1) (sym h.0) ran, subst (λ e. (MAX_LEASES ≤ length e.leases) ⊎ (LEASE_NUMBERS ≤ e.next)) (sym h.0) h.1))
+step_ends e1 e2 e3 rows TooManyLeases none ran h =
+    (none, (subst (SomeHaveRun rows e1) (sym h.0) ran, subst (λ e. (MAX_LEASES ≤ length e.leases) ⊎ (LEASE_NUMBERS ≤ e.next)) (sym h.0) h.1, subst HasReady (sym h.0) h.2))
 step_ends e1 e2 e3 rows (Query x) none ran h = absurd h
 step_ends e1 e2 e3 rows BadName none ran h = absurd h
 step_ends e1 e2 e3 rows NameTaken none ran h = absurd h
@@ -128,8 +129,8 @@ fails_machine : (e1 e2 : PlainEngine) (t : Turn) → RunsTurn e1 t (Err OutOfMem
 fails_machine e1 e2 t (inl h) = ap (λ e. e.machine) h.1.1.1.1
 fails_machine e1 e2 t (inr h) = ap (λ e. e.machine) h.1.1.1.1
 
-last_machine : (rows : ℕ) (e1 e2 : PlainEngine) → (e2 ≡ e1) ⊎ OneHasFailed rows e1 e2 → e2.machine ≡ e1.machine
-last_machine rows e1 e2 (inl same) = ap (λ e. e.machine) same
+last_machine : (rows : ℕ) (e1 e2 : PlainEngine) → HasWanted rows e1 e2 → e2.machine ≡ e1.machine
+last_machine rows e1 e2 (inl h) = ap (λ e. e.machine) h.0
 last_machine rows e1 e2 (inr h) = fails_machine h.1.0 e2 h.0 h.1.1.1 ∙ ap (λ e. e.machine) h.1.1.0.after
 
 pub drain_machine : (old new : PlainEngine) (rows : ℕ) (r : Result ⊤ Fault) → RunsTurns old rows r new → new.machine ≡ old.machine
@@ -210,8 +211,8 @@ since : (old e1 e2 : PlainEngine) → e1.leases ≡ old.leases → (e2.leases �
 since old e1 e2 same (inl h) = inl (h ∙ same)
 since old e1 e2 same (inr h) = inr (broken_since old e1 e2 same h)
 
-wanted : (e1 e2 : PlainEngine) (rows : ℕ) → GoodEngine e1 → (e2 ≡ e1) ⊎ OneHasFailed rows e1 e2 → (e2.leases ≡ e1.leases) ⊎ HasBrokenOne e1 e2
-wanted e1 e2 rows good (inl same) = inl (ap (λ e. e.leases) same)
+wanted : (e1 e2 : PlainEngine) (rows : ℕ) → GoodEngine e1 → HasWanted rows e1 e2 → (e2.leases ≡ e1.leases) ⊎ HasBrokenOne e1 e2
+wanted e1 e2 rows good (inl h) = inl (ap (λ e. e.leases) h.0)
 wanted e1 e2 rows good (inr h) = fails e1 h.1.0 rows h.0 good h.1.1.0 e2 h.1.1.1
 
 pub refused_leaves : (old e1 e2 : PlainEngine) (rows : ℕ) (f : Fault) → e1.leases ≡ old.leases → GoodEngine e1 → RunsFirst e1 rows (Err f) e2 → LeavesOthers old (Err f) e2

@@ -6,10 +6,33 @@ use Rattle.reference.specs.declared.fault.Fault.{Fault}
 use Rattle.reference.specs.declared.fault.Fault.TheVariants as fault
 use Rattle.reference.specs.declared.fault.Fault.TheVariants.{Query, BadName, NameTaken, BadColumns, TooMany, UnknownStream, UnknownQuery, BadWidth, ValueRange, InstantRange, Late, Backward, Leap, StreamFull, BadLimit, UnknownLease, Stranger, TooManyLeases, OutOfMemory}
 use Rattle.plain_engines.specs.Engines.{PlainEngine}
-use Rattle.leases.proofs.DrainLemmas.{comes_machine, same_refused}
+use Rattle.leases.proofs.DrainLemmas.{comes_machine}
 use Rattle.leases.specs.Turns.{Abandons, Finishes, Leases, lease_of_parts}
 use Rattle.leases.specs.declared.leased.Leased.{Leased}
 use Rattle.leases.specs.declared.leased.Leased.TheVariants as answer
+
+-- a lease that is refused leaves all as it was
+same_refused : (e1 e2 : PlainEngine) (rows : ℕ) (f : Fault) → Leases e1 rows (Err f) e2 → e2 ≡ e1
+same_refused e1 e2 rows OutOfMemory h = h.1
+same_refused e1 e2 rows TooManyLeases h = h.1
+same_refused e1 e2 rows (Query x) h = h.1
+same_refused e1 e2 rows BadName h = h.1
+same_refused e1 e2 rows NameTaken h = h.1
+same_refused e1 e2 rows BadColumns h = h.1
+same_refused e1 e2 rows TooMany h = h.1
+same_refused e1 e2 rows UnknownStream h = h.1
+same_refused e1 e2 rows UnknownQuery h = h.1
+same_refused e1 e2 rows BadWidth h = h.1
+same_refused e1 e2 rows ValueRange h = h.1
+same_refused e1 e2 rows InstantRange h = h.1
+same_refused e1 e2 rows Late h = h.1
+same_refused e1 e2 rows Backward h = h.1
+same_refused e1 e2 rows Leap h = h.1
+same_refused e1 e2 rows StreamFull h = h.1
+same_refused e1 e2 rows BadLimit h = h.1
+same_refused e1 e2 rows fault.Broken h = h.1
+same_refused e1 e2 rows UnknownLease h = h.1
+same_refused e1 e2 rows Stranger h = h.1
 
 pub leases_keep_the_machine : (old new : PlainEngine) (rows : ℕ) (r : Result Leased Fault) → Leases old rows r new → new.machine ≡ old.machine
 leases_keep_the_machine old new rows (Ok (answer.Turn t)) h = ap (λ e. e.machine) h.1.after

@@ -267,4 +267,5 @@ handed_takes view s e2 n limit x y r r2 rows sound none is_kept is_registered h 
       none,
       h.0 ∙ ap (λ c. handed (take c (answers_in (kept_of x)))) count ∙ ap (λ k. handed (take (count_of (engine_in s) n (pos limit)) (answers_in k))) (sym at),
       is_taken s e2 n (pos limit) x y r r2 (count_in (kept_of x) limit) within (registered_within s n (pos limit) none) is_kept is_registered h.1 takes made ∙ ap (taken (engine_in s) n (pos limit)) count,
+      (λ b. h.2 (sym at ∙ b)),
     )

@@ -10,7 +10,7 @@ use Rattle.plain_engines.specs.Calls.{of_others}
 use Rattle.plain_engines.specs.Engines.{Broken, PlainEngine, kept_at}
 use Rattle.plain_engines.specs.Histories.{Finishes, IsStep}
 use Rattle.leases.specs.Runs.{RunsTurn}
-use Rattle.leases.specs.Turns.{IsTurnOf, lease_of_turn}
+use Rattle.leases.specs.Turns.{HasReady, IsTurnOf, lease_of_turn}
 use Rattle.leases.specs.declared.limits.TheConstants.{LEASE_NUMBERS, MAX_LEASES}
 
 -- TURNS of at most so many rows went out and came back, one after the other: each of an operator of greatest slope, with the next number
@@ -26,26 +26,30 @@ SomeHaveRun rows old new = (turns : List Turn) × HaveRun rows old turns new
 abbrev pub OneHasFailed : ℕ → PlainEngine → PlainEngine → Type 0
 OneHasFailed rows old new = (t : Turn) × ((out : PlainEngine) × (IsTurnOf old rows t out × RunsTurn out t (Err OutOfMemory) new))
 
+-- memory was wanted for a turn of an operator that may be leased: nothing was done, or its turn had gone out
+abbrev pub HasWanted : ℕ → PlainEngine → PlainEngine → Type 0
+HasWanted rows old new = ((new ≡ old) × HasReady old) ⊎ OneHasFailed rows old new
+
 -- ONE STEP: one went out and came back
 abbrev pub OneHasRun : ℕ → PlainEngine → PlainEngine → Type 0
 OneHasRun rows old new = (t : Turn) × ((out : PlainEngine) × (IsTurnOf old rows t out × IsStep out (Finishes (lease_of_turn t)) new))
 
--- or no operator may take anything; a refused step did nothing where as many turns are out as may be, or all numbers were given, or memory was wanted,
--- unless its turn had gone out
+-- or no operator may take anything; a refused step did nothing where an operator may be leased and as many turns are out as may be, or all numbers were given;
+-- or memory was wanted
 abbrev pub RunsFirst : PlainEngine → ℕ → Result Bool Fault → PlainEngine → Type 0
 RunsFirst old rows (Ok true) new = OneHasRun rows old new
 RunsFirst old rows (Ok false) new = (first_of old.slots ≡ None) × (new ≡ old)
-RunsFirst old rows (Err TooManyLeases) new = (new ≡ old) × ((MAX_LEASES ≤ length old.leases) ⊎ (LEASE_NUMBERS ≤ old.next))
-RunsFirst old rows (Err OutOfMemory) new = (new ≡ old) ⊎ OneHasFailed rows old new
+RunsFirst old rows (Err TooManyLeases) new = (new ≡ old) × ((MAX_LEASES ≤ length old.leases) ⊎ (LEASE_NUMBERS ≤ old.next)) × HasReady old
+RunsFirst old rows (Err OutOfMemory) new = HasWanted rows old new
 RunsFirst old rows (Err fault) new = ⊥
 
--- A DRAIN by turns of at most so many rows: some have run; a refused one did nothing where that number is out of range, or ended where as many turns
--- are out as may be, or all numbers were given, or memory was wanted for a turn
+-- A DRAIN by turns of at most so many rows: some have run; a refused one did nothing where that number is out of range, or ended where an operator may be
+-- leased and as many turns are out as may be, or all numbers were given, or memory was wanted for a turn
 abbrev pub RunsTurns : PlainEngine → ℕ → Result ⊤ Fault → PlainEngine → Type 0
 RunsTurns old rows (Ok u) new = (drain_fault rows ≡ None) × SomeHaveRun rows old new
 RunsTurns old rows (Err BadLimit) new = (drain_fault rows ≡ Some BadLimit) × (new ≡ old)
-RunsTurns old rows (Err TooManyLeases) new = (drain_fault rows ≡ None) × (SomeHaveRun rows old new × ((MAX_LEASES ≤ length new.leases) ⊎ (LEASE_NUMBERS ≤ new.next)))
-RunsTurns old rows (Err OutOfMemory) new = (drain_fault rows ≡ None) × ((last : PlainEngine) × (SomeHaveRun rows old last × ((new ≡ last) ⊎ OneHasFailed rows last new)))
+RunsTurns old rows (Err TooManyLeases) new = (drain_fault rows ≡ None) × (SomeHaveRun rows old new × ((MAX_LEASES ≤ length new.leases) ⊎ (LEASE_NUMBERS ≤ new.next)) × HasReady new)
+RunsTurns old rows (Err OutOfMemory) new = (drain_fault rows ≡ None) × ((last : PlainEngine) × (SomeHaveRun rows old last × HasWanted rows last new))
 RunsTurns old rows (Err fault) new = ⊥
 
 -- THE TURNS OF OTHERS, that were out before

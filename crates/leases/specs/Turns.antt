@@ -1,5 +1,5 @@
 -- What calls about turns answer, and make of an engine.
-use Rattle.std.specs.Prelude.{ℕ, ⊤, ◌≡◌, ◌≢◌, ◌||◌, ◌&&◌, not, nat_le, min, is_some, Option, Some, None, [], ◌∷◌, length, Result, Ok, Err}
+use Rattle.std.specs.Prelude.{ℕ, ⊤, ◌≡◌, ◌≢◌, ◌||◌, ◌&&◌, not, nat_le, min, is_some, true, Option, Some, None, [], ◌∷◌, length, Result, Ok, Err}
 use Rattle.names.specs.Faults.{first_of}
 use Rattle.op_queue.specs.Items.{entries_of}
 use Rattle.turn.specs.Turns.{Fits}
@@ -30,6 +30,10 @@ lease_fault e rows = first_of (
     ∷ (is_some (slots.first_of e.slots) && (nat_le MAX_LEASES (length e.leases) || nat_le LEASE_NUMBERS e.next), TooManyLeases)
     ∷ [])
 
+-- an operator may be leased
+abbrev pub HasReady : PlainEngine → Type 0
+HasReady e = is_some (slots.first_of e.slots) ≡ true
+
 -- the turn that was handed out
 abbrev pub lease_of_turn : Turn → Lease
 lease_of_turn t = record { number = t.lease; query = t.node.query; operator = t.node.operator; side = t.node.side; item = t.item; excerpt = t.near }
@@ -49,7 +53,7 @@ pub record IsTurnOf (old : PlainEngine) (rows : ℕ) (t : Turn) (new : PlainEngi
 abbrev pub Leases : PlainEngine → ℕ → Result Leased Fault → PlainEngine → Type 0
 Leases old rows (Ok (answer.Turn t)) new = (lease_fault old rows ≡ None) × IsTurnOf old rows t new
 Leases old rows (Ok answer.Idle) new = (lease_fault old rows ≡ None) × (slots.first_of old.slots ≡ None) × (new ≡ old)
-Leases old rows (Err OutOfMemory) new = (lease_fault old rows ≡ None) × (new ≡ old)
+Leases old rows (Err OutOfMemory) new = (lease_fault old rows ≡ None) × (new ≡ old) × HasReady old
 Leases old rows (Err fault) new = (lease_fault old rows ≡ Some fault) × (new ≡ old)
 
 -- A TURN THAT COMES BACK

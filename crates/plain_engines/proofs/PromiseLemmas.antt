@@ -13,7 +13,7 @@ use Rattle.ready_list.specs.Slots.{AreIdle, IsSteepest, first_of}
 use Rattle.ready_list.specs.declared.slots.Slot.{Slot}
 use Rattle.ready_list.proofs.FirstLemmas.{first_is_steepest}
 use Rattle.plain_engines.specs.Engines.{Broken, Dropped, Goes, GoodEngine, HasGiven, IsIn, IsKept, Kept, PlainEngine, Running, answers_in, instant_at, is_leased, kept_at, query_at, ready_instant, slope_at, slot_at, slot_in, slot_of}
-use Rattle.plain_engines.specs.Promises.{GivesAll, GivesBeginnings, KeepsItsPromises, LeasesSteepest}
+use Rattle.plain_engines.specs.Promises.{GivesAll, GivesBeginnings, KeepsItsPromises, LeasesSteepest, TellsIdleness}
 
 -- WHAT WAS GIVEN
 pub kept_given : (m : Machine) (q : Registered) (kept : Kept) → IsKept m q kept → HasGiven m q (answers_in kept)
@@ -70,6 +70,16 @@ none_by : (o : Option (Side × ℕ)) → is_none (option_map (λ r. r.1) o) ≡ 
 none_by None h = refl
 none_by (Some r) h = absurd (cc)
 
+none_at : (o : Option ℕ) → is_none o ≡ true → o ≡ None
+none_at None h = refl
+none_at (Some t) h = absurd (cc)
+
+tells_idleness : (e : PlainEngine) → GoodEngine e → TellsIdleness e
+tells_idleness e g first n k q p r kept within =
+    let idle : AreIdle e.slots = all_idle e.slots None first (first_is_steepest e.slots g.slots.ordered) in
+    let at : (slot_at e n q p k).is_idle ≡ true = idle_in e.slots (slot_at e n q p k) idle (g.slots.there n k (slot_at e n q p k) (slot_is e n k q p r kept within)) in
+    none_at (instant_at e n q p k) at
+
 gives_all : (e : PlainEngine) → GoodEngine e → GivesAll e
 gives_all e g first none n q p r kept =
     let goes : Goes e.machine q p = subst (IsKept e.machine q) kept (g.queries n q r) in
@@ -120,4 +130,4 @@ steepest e g s first =
     }
 
 pub keeps_its_promises : (e : PlainEngine) → GoodEngine e → KeepsItsPromises e
-keeps_its_promises e g = record { begins = begins e g; all = gives_all e g; steepest = steepest e g }
+keeps_its_promises e g = record { begins = begins e g; all = gives_all e g; steepest = steepest e g; idle = tells_idleness e g }

@@ -36,11 +36,16 @@ pub record IsOfSteepest (e : PlainEngine) (s : Slot) : Type 0 where
 abbrev pub LeasesSteepest : PlainEngine → Type 0
 LeasesSteepest e = (s : Slot) → first_of e.slots ≡ Some s → IsOfSteepest e s
 
--- ALL THREE
+-- WHERE THERE IS NO FIRST SLOT no operator may be leased
+abbrev pub TellsIdleness : PlainEngine → Type 0
+TellsIdleness e = first_of e.slots ≡ None → (n k : ℕ) (q : Registered) (p : PlainQuery) → query_at e n ≡ Some q → kept_at e n ≡ Running p → k < length q.nodes → instant_at e n q p k ≡ None
+
+-- ALL FOUR
 pub record KeepsItsPromises (e : PlainEngine) : Type 0 where
   pub begins : GivesBeginnings e
   pub all : GivesAll e
   pub steepest : LeasesSteepest e
+  pub idle : TellsIdleness e
 
 -- IDLE: no operator may take anything, and no turn is out
 pub record IsIdle (e : PlainEngine) : Type 0 where

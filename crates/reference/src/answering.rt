@@ -66,7 +66,8 @@ pub trait Answering {
     /// Hands out the first answers that wait at the query of a number, at most `limit`, each with its instant. They wait no
     /// longer.
     ///
-    /// `UnknownQuery`, `BadLimit` where `limit` is not 1 to 4,096.
+    /// `UnknownQuery`, `BadLimit` where `limit` is not 1 to 4,096; `Broken` of an engine whose query a refused growth broke, once
+    /// none of its answers waits.
     fn take(&mut self, query: u64, limit: i64) -> Result<Vec<(i64, Row)>, Fault>
         ensures does { is_whole self.old → Does (λ v. handed_of v.items) (world self.old) (take_step (world self.old) query limit) result (world self.new) }
         ensures whole { is_whole self.old → is_whole self.new };

@@ -1,8 +1,8 @@
 //! Turns that go out and come back until nothing is ready.
-ghost use Rattle.std.specs.Prelude.{◌≡◌, ◌<◌, ◌⊎◌, IfOk, None, OnErr, OnOk, Some, length};
+ghost use Rattle.std.specs.Prelude.{◌≡◌, ◌<◌, IfOk, None, OnErr, OnOk, Some, length};
 ghost use Rattle.reference.specs.World.{IsPlenty, drain_fault};
 ghost use Rattle.ready_list.specs.Slots.{first_of};
-ghost use Rattle.leases.specs.Drains.{LeavesOthers, OneHasFailed, OneHasRun, RunsFirst, RunsTurns};
+ghost use Rattle.leases.specs.Drains.{HasWanted, LeavesOthers, OneHasRun, RunsFirst, RunsTurns};
 ghost use Rattle.leases.specs.Runs.{IsRunOf};
 ghost use Rattle.leases.specs.Shown.{engine_in};
 ghost use Rattle.leases.specs.Sound.{IsSound};
@@ -76,7 +76,7 @@ impl State {
         requires few { length self.old.leases.items < MAX_LEASES }
         requires numbers { self.old.next < LEASE_NUMBERS }
         ensures ok { OnOk result (OneHasRun rows (engine_in self.old) (engine_in self.new)) }
-        ensures err { OnErr result ((engine_in self.new ≡ engine_in self.old) ⊎ OneHasFailed rows (engine_in self.old) (engine_in self.new)) }
+        ensures err { OnErr result (HasWanted rows (engine_in self.old) (engine_in self.new)) }
         ensures sound { IsSound self.new }
     {
         let done = self.run_of(slot, rows)?;

@@ -114,7 +114,7 @@ pub ready_leases : (e : PlainEngine) (n k : ℕ) (p : PlainQuery) (side : Side) 
     → ready (operator_at p.operators k) (log_of e.machine.streams p k) ≡ Some (side, at) → 0 < rows → MayLeaseOn e n k side rows
 ready_leases e n k p side at rows good r running is some =
     let of = ready_of e n k p r running in
-    (p, record { running = running; operator = (may_ask e good).operators n k of.0 p of.1.operator; may = (may_ask e good).leases n k of.0 p side at rows of.1.operator is some })
+    (p, record { running = running; operator = (may_ask e good).operators n k of.0 p of.1.operator; may = (may_ask e good).leases n k of.0 p side at rows of.1.operator is some; at = at; takes = is })
 
 pub first_ready : (e : PlainEngine) (s : Slot) (n k : ℕ) → GoodEngine e → first_of e.slots ≡ Some s → n ≡ s.query → k ≡ s.operator → IsReadyAt e n k
 first_ready e s n k good first is_query is_operator =
@@ -140,6 +140,15 @@ is_of_own l = let u : (l.query == l.query) ≡ true = eq-eqb l.query l.query ref
 some_slot : {a b : Slot} → Some a ≡ Some b → a ≡ b
 some_slot e = cc
 
+-- what is ready is of the slot's instant
+ready_since : (b : Bool) (o : Option (Side × ℕ)) (side : Side) (at t : ℕ) → cond b None (option_map (λ r. r.1) o) ≡ Some t → o ≡ Some (side, at) → at ≡ t
+ready_since true o side at t e f = absurd (cc)
+ready_since false None side at t e f = absurd (cc)
+ready_since false (Some r) side at t e f =
+    let one : r ≡ (side, at) = cc in
+    let two : r.1 ≡ t = cc in
+    ap (λ z. z.1) (sym one) ∙ two
+
 module _ (e : PlainEngine) (s : Slot) (side : Side) (rows : ℕ) (good : GoodEngine e) (first : first_of e.slots ≡ Some s) where
   top : IsOfSteepest e s
   top = (keeps_its_promises e good).steepest s first
@@ -150,7 +159,8 @@ module _ (e : PlainEngine) (s : Slot) (side : Side) (rows : ℕ) (good : GoodEng
   log_is : log_of e.machine.streams top.kept s.operator ≡ log_at e.machine top.query s.operator
   log_is = (may_ask e good).logs s.query s.operator top.query top.kept (record { registered = top.registered; running = top.running; within = top.within })
 
-  module _ (i : Item) (near : Near) (is : IsLeased (operator_at top.kept.operators s.operator) (log_of e.machine.streams top.kept s.operator) side rows i near) where
+  module _ (i : Item) (near : Near) (is : IsLeased (operator_at top.kept.operators s.operator) (log_of e.machine.streams top.kept s.operator) side rows i near)
+      (at : ℕ) (takes : ready (operator_at top.kept.operators s.operator) (log_of e.machine.streams top.kept s.operator) ≡ Some (side, at)) where
     abbrev made : Given
     made = given_with e top.kept s.query s.operator side i near
 
@@ -177,6 +187,11 @@ module _ (e : PlainEngine) (s : Slot) (side : Side) (rows : ℕ) (good : GoodEng
     out_leased : out_of e s made ≡ leased e (lease_of made) top.query top.kept
     out_leased = ap (λ z. record (given_out e (lease_of made)) { slots = z }) out_slots
 
+    out_takes : ready (operator_at top.kept.operators s.operator) (log_at e.machine top.query s.operator) ≡ Some (side, s.instant)
+    out_takes =
+        let here : ready (operator_at top.kept.operators s.operator) (log_at e.machine top.query s.operator) ≡ Some (side, at) = ap (ready (operator_at top.kept.operators s.operator)) (sym log_is) ∙ takes in
+        here ∙ ap (λ z. Some (side, z)) (ready_since (is_leased e s.query s.operator) _ side at s.instant top.instant here)
+
     out_made : IsTurnOf e rows (turn_with made) (out_of e s made)
     out_made = record {
       query = top.query;
@@ -184,6 +199,7 @@ module _ (e : PlainEngine) (s : Slot) (side : Side) (rows : ℕ) (good : GoodEng
       slot = s;
       leasable = out_leasable;
       steepest = top;
+      takes = out_takes;
       kind = refl;
       fits = is.fits;
       cut = is.cut ∙ ap (cut_of (min rows 1024) (inbox_of (operator_at top.kept.operators s.operator) side)) log_is;
@@ -193,7 +209,7 @@ module _ (e : PlainEngine) (s : Slot) (side : Side) (rows : ℕ) (good : GoodEng
   pub turn_out : (g : Given) → IsTurnOn e s.query s.operator side rows g → IsTurnOf e rows (turn_with g) (out_of e s g)
   turn_out g made =
       let of : IsOfSide e s.query s.operator side rows g top.kept = made_of e s.query s.operator side rows g top.kept top.running made in
-      subst (λ z. IsTurnOf e rows (turn_with z) (out_of e s z)) (sym (given_is e s.query s.operator side rows g top.kept of)) (out_made g.item g.near of.leased)
+      subst (λ z. IsTurnOf e rows (turn_with z) (out_of e s z)) (sym (given_is e s.query s.operator side rows g top.kept of)) (out_made g.item g.near of.leased of.at of.takes)
 
 -- THE STATE after it
 pub record HasGone (old new : State) (s : Slot) (g : Given) : Type 0 where

@@ -3,6 +3,7 @@ use Rattle.std.specs.Prelude.{ℕ, ◌≡◌, Some}
 use Rattle.column.specs.declared.batch.Side.{Side}
 use Rattle.turn.specs.Nodes.{PlainNode}
 use Rattle.turn.specs.declared.turns.Turn.{Turn}
+use Rattle.operators.specs.Operators.{ready}
 use Rattle.reference.specs.Machine.{Registered}
 use Rattle.query_nets.specs.Queries.{PlainQuery, operator_at}
 use Rattle.running_queries.specs.Turns.{CanLease, HasOperator, IsLeased, log_of}
@@ -19,11 +20,13 @@ pub record IsReady (e : PlainEngine) (n k : ℕ) (q : Registered) (p : PlainQuer
 abbrev pub IsReadyAt : PlainEngine → ℕ → ℕ → Type 0
 IsReadyAt e n k = (q : Registered) × ((p : PlainQuery) × IsReady e n k q p)
 
--- it may be leased on the side
+-- it may be leased on the side, which is the one that is ready, the left one where both are
 pub record IsLeasableOn (e : PlainEngine) (n k : ℕ) (side : Side) (rows : ℕ) (p : PlainQuery) : Type 0 where
   pub running : kept_at e n ≡ Running p
   pub operator : HasOperator e.machine.streams p k
   pub may : CanLease (operator_at p.operators k) (log_of e.machine.streams p k) side rows
+  pub at : ℕ
+  pub takes : ready (operator_at p.operators k) (log_of e.machine.streams p k) ≡ Some (side, at)
 
 abbrev pub MayLeaseOn : PlainEngine → ℕ → ℕ → Side → ℕ → Type 0
 MayLeaseOn e n k side rows = (p : PlainQuery) × IsLeasableOn e n k side rows p
@@ -38,6 +41,8 @@ pub record IsOfSide (e : PlainEngine) (n k : ℕ) (side : Side) (rows : ℕ) (g 
   pub number : g.number ≡ e.next
   pub node : g.node ≡ node_on p n k side
   pub leased : IsLeased (operator_at p.operators k) (log_of e.machine.streams p k) side rows g.item g.near
+  pub at : ℕ
+  pub takes : ready (operator_at p.operators k) (log_of e.machine.streams p k) ≡ Some (side, at)
 
 abbrev pub IsTurnOn : PlainEngine → ℕ → ℕ → Side → ℕ → Given → Type 0
 IsTurnOn e n k side rows g = (p : PlainQuery) × IsOfSide e n k side rows g p

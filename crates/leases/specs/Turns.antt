@@ -6,7 +6,7 @@ use Rattle.turn.specs.Turns.{Fits}
 use Rattle.turn.specs.declared.parts.Parts.{Parts}
 use Rattle.turn.specs.declared.turns.Turn.{Turn}
 use Rattle.operators.specs.Inboxes.{cut_of}
-use Rattle.operators.specs.Operators.{inbox_of}
+use Rattle.operators.specs.Operators.{inbox_of, ready}
 use Rattle.reference.specs.Machine.{Registered}
 use Rattle.reference.specs.declared.fault.Fault.{Fault}
 use Rattle.reference.specs.declared.fault.Fault.TheVariants.{BadLimit, OutOfMemory, Stranger, TooManyLeases, UnknownLease}
@@ -38,13 +38,15 @@ HasReady e = is_some (slots.first_of e.slots) ≡ true
 abbrev pub lease_of_turn : Turn → Lease
 lease_of_turn t = record { number = t.lease; query = t.node.query; operator = t.node.operator; side = t.node.side; item = t.item; excerpt = t.near }
 
--- it is of an operator of greatest slope, with the next number and what comes out at once of what waits there, at most so many rows; it may be run
+-- it is of an operator of greatest slope, on the side that is ready, the left one where both are, with the next number and what comes out at once of what
+-- waits there, at most so many rows; it may be run
 pub record IsTurnOf (old : PlainEngine) (rows : ℕ) (t : Turn) (new : PlainEngine) : Type 0 where
   pub query : Registered
   pub kept : PlainQuery
   pub slot : Slot
   pub leasable : IsLeasable old (lease_of_turn t) query kept slot
   pub steepest : IsOfSteepest old slot
+  pub takes : ready (operator_at kept.operators t.node.operator) (log_at old.machine query t.node.operator) ≡ Some (t.node.side, slot.instant)
   pub kind : t.node.kind ≡ (operator_at kept.operators t.node.operator).kind
   pub fits : Fits t.node t.item t.near
   pub cut : entries_of t.item ≡ cut_of (min rows 1024) (inbox_of (operator_at kept.operators t.node.operator) t.node.side) (log_at old.machine query t.node.operator)

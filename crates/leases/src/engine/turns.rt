@@ -13,14 +13,14 @@ use turn::Done;
 
 impl Engine {
     /// Hands out a turn, of an operator of greatest slope among those that may take something; of these of the one with the earliest instant,
-    /// then the lowest numbers of query and operator. It has at most `rows` rows, 1 to 1,024, of one instant, or a tick. They wait on until the turn is
-    /// finished.
+    /// then the lowest numbers of query and operator; of a join on the left side where both may be taken. It has at most `rows` rows, 1 to 1,024, of one
+    /// instant, or a tick. They wait on until the turn is finished.
     ///
     /// It costs these rows, the excerpt of the operator's state that they need, and look-ups.
     ///
     /// # Errors
     /// `BadLimit` where `rows` is out of range; `TooManyLeases` where an operator may take something and 64 turns are out or all numbers of turns were given;
-    /// `OutOfMemory`. Then all is as it was.
+    /// `OutOfMemory`, where one may too. Then all is as it was.
     #[tactic(auto, using(crate::proofs::MachineLemmas::leases_keep_the_machine))]
     pub fn lease(&mut self, rows: u32) -> Result<Leased, Fault>
         ensures leases { Leases (engine_in self.old) rows result (engine_in self.new) }

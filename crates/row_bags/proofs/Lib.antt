@@ -1,8 +1,9 @@
 pub mod SpreadLemmas
+pub mod LastLemmas
 pub mod RowLemmas
 pub mod AfterLemmas
 pub mod FrontLemmas
+pub mod ShortLemmas
 pub mod OrderLemmas
 pub mod BagLaws
 pub mod NetLaws
-pub mod EndLemmas

@@ -14,7 +14,7 @@ use Rattle.std.proofs.lemmas.List.Elements.{All-head, All-tail}
 use Rattle.values.specs.Bag.{IsExactOrder, insert_in_order, without}
 use Rattle.row_bags.specs.Bags.{spread, is_in}
 
-by_ordering : {P : Type 0} (o : Ordering) → (o ≡ Less → P) → (o ≡ Equal → P) → (o ≡ Greater → P) → P
+pub by_ordering : {P : Type 0} (o : Ordering) → (o ≡ Less → P) → (o ≡ Equal → P) → (o ≡ Greater → P) → P
 by_ordering Less l e g = l refl
 by_ordering Equal l e g = e refl
 by_ordering Greater l e g = g refl

@@ -1,3 +1,4 @@
 pub mod Bags
 pub mod Nets
+pub mod Rooms
 pub mod Examples

@@ -12,10 +12,10 @@ ghost use Rattle.to_stream.specs.Law.{Stands, StepLaw};
 
 use column::Batch;
 use op_queue::Item;
-use row_bags::{Net, RowBag, copy_row};
+use row_bags::{Net, RowBag};
 use std::alloc::{AllocError, Global};
 use std::marker::Model;
-use values::{Operator, Row};
+use values::{Operator, Row, copy_row};
 
 /// The state of a root: what entered and left since the last tick (Istream and Dstream), or the whole relation (Rstream).
 #[derive(Drop)]

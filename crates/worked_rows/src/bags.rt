@@ -1,10 +1,10 @@
 //! Worked bags of rows.
 use crate::rows::{are, one, row};
 use column::Batch;
-use row_bags::{Net, RowBag, begins_with, copy_row};
+use row_bags::{Net, RowBag, begins_with};
 use std::alloc::{AllocError, Global};
 use std::test::Fail;
-use values::same_rows;
+use values::{Row, Value};
 
 /// A batch of three rows of one number, of which the first leaves or enters and the others enter.
 fn three(alloc: Global, enters: bool, numbers: (i64, i64, i64)) -> Result<Batch, AllocError> {
@@ -30,20 +30,8 @@ fn shows(alloc: Global, bag: &RowBag, numbers: &[i64]) -> Result<bool, AllocErro
     Ok(are(&rows, numbers))
 }
 
-fn ends_are(bag: &RowBag, first: i64, last: i64) -> bool {
-    match (bag.first(), bag.last()) {
-        (Some(one), Some(other)) => {
-            same_rows(one, &row(first)) && same_rows(other, &copy_row(&row(last)))
-        }
-        _ => false,
-    }
-}
-
 fn whole(alloc: Global) -> Result<bool, AllocError> {
     let bag = filled(alloc)?;
-    if !ends_are(&bag, 5, 7) {
-        return Ok(false);
-    }
     shows(alloc, &bag, &[5, 5, 7])
 }
 
@@ -98,6 +86,64 @@ fn four_is_added(alloc: Global) -> Result<bool, AllocError> {
 #[test]
 fn one_row_more(rt: HostRuntime) -> Result<(), Fail> {
     assert!(rt; four_is_added(rt.alloc())?);
+    Ok(())
+}
+
+/// A row that has the number 1 as often as that, at most 16 times.
+fn ones(count: usize) -> Row {
+    let mut row = Row::new();
+    for _ in 0..count {
+        let _ = row.try_push(Value::clamped(1));
+    }
+    row
+}
+
+/// The rows 7, then of 3, 9 and 16 ones, then 5.
+fn widened(alloc: Global) -> Result<RowBag, AllocError> {
+    let mut bag = RowBag::new(alloc);
+    bag.add(row(7))?;
+    for count in [3, 9, 16] {
+        bag.add(ones(count))?;
+    }
+    bag.add(row(5))?;
+    Ok(bag)
+}
+
+/// Whether the rows of the bag have that many values, one after the other.
+fn widths_are(alloc: Global, bag: &RowBag, widths: &[usize]) -> Result<bool, AllocError> {
+    let rows = bag.rows(alloc)?;
+    Ok(
+        rows.len() == widths.len()
+            && rows
+                .iter()
+                .zip(widths)
+                .all(|(row, width)| row.len() == *width),
+    )
+}
+
+fn wide_rows_come(alloc: Global) -> Result<bool, AllocError> {
+    let mut bag = widened(alloc)?;
+    if !widths_are(alloc, &bag, &[3, 9, 16, 1, 1])? {
+        return Ok(false);
+    }
+    bag.take(&ones(9));
+    bag.take(&ones(4));
+    widths_are(alloc, &bag, &[3, 16, 1, 1])
+}
+
+/// Whether a bag of rows of one value has none of 16.
+fn has_no_wide_row(alloc: Global) -> Result<bool, AllocError> {
+    let mut bag = filled(alloc)?;
+    let mut rows = Vec::new(alloc);
+    bag.take(&ones(16));
+    bag.push_rows_with(&ones(16), &mut rows)?;
+    Ok(!bag.has(&ones(16)) && rows.is_empty())
+}
+
+#[test]
+fn rows_of_other_widths_stand_side_by_side(rt: HostRuntime) -> Result<(), Fail> {
+    assert!(rt; wide_rows_come(rt.alloc())?);
+    assert!(rt; has_no_wide_row(rt.alloc())?);
     Ok(())
 }
 

@@ -1,5 +1,5 @@
 -- Turns that go out and come back one after the other leave the machine as it is, the turns of others out, and an engine that was whole whole.
-use Rattle.std.proofs.Common.{◌≡◌, ◌==◌, ◌≤◌, ◌<◌, ◌⊎◌, ℕ, zero, suc, ◌+◌, Bool, true, false, inl, inr, None, IsErrAnd, Result, Ok, Err, List, [], ◌∷◌, ◌++◌, length, get_or, set, refl, sym, ap, ◌∙◌, subst, arith, eq-eqb}
+use Rattle.std.proofs.Common.{◌≡◌, ◌≢◌, ◌==◌, ◌≤◌, ◌<◌, ◌⊎◌, ℕ, zero, suc, ◌+◌, Bool, true, false, inl, inr, None, IsErrAnd, Result, Ok, Err, List, [], ◌∷◌, ◌++◌, length, get_or, set, refl, sym, ap, ◌∙◌, subst, arith, eq-eqb}
 use Rattle.std.specs.Prelude.{⊤}
 use Rattle.std.proofs.lemmas.Bool.{ne_eqb}
 use Rattle.std.proofs.lemmas.Option.{slice_get_within}
@@ -7,7 +7,7 @@ use Rattle.values.specs.Row.{Row}
 use Rattle.turn.specs.declared.turns.Turn.{Turn}
 use Rattle.plan.proofs.Lists.{by_test}
 use Rattle.reference.specs.Machine.{Registered}
-use Rattle.reference.specs.World.{drain_fault, is_scarce}
+use Rattle.reference.specs.World.{drain_fault}
 use Rattle.reference.specs.declared.fault.Fault.{Fault}
 use Rattle.reference.specs.declared.fault.Fault.TheVariants as fault
 use Rattle.reference.specs.declared.fault.Fault.TheVariants.{Query, BadName, NameTaken, BadColumns, TooMany, UnknownStream, UnknownQuery, BadWidth, ValueRange, InstantRange, Late, Backward, Leap, StreamFull, BadLimit, UnknownLease, Stranger, TooManyLeases, OutOfMemory}
@@ -19,7 +19,6 @@ use Rattle.plain_engines.specs.Engines.{Broken, Dropped, GoodEngine, IsIn, Kept,
 use Rattle.plain_engines.specs.Histories as history
 use Rattle.plain_engines.specs.Histories.{ComesBack, IsStep}
 use Rattle.leases.specs.Drains.{HasBrokenOne, HasWanted, HaveRun, LeavesOthers, OneHasRun, RunsFirst, RunsTurns, SomeHaveRun}
-use Rattle.leases.specs.Runs.{RunsTurn}
 use Rattle.leases.specs.Turns.{HasReady, IsTurnOf, lease_of_turn}
 use Rattle.leases.specs.Whole.{IsWholeEngine}
 use Rattle.leases.specs.declared.limits.TheConstants.{LEASE_NUMBERS, MAX_LEASES}
@@ -72,28 +71,28 @@ step_ends e1 e2 e3 rows fault.Broken none ran h = absurd h
 step_ends e1 e2 e3 rows UnknownLease none ran h = absurd h
 step_ends e1 e2 e3 rows Stranger none ran h = absurd h
 
--- since something was scarce
-pub step_lacks : (e1 e2 : PlainEngine) (rows : ℕ) (f : Fault) → RunsFirst e1 rows (Err f) e2 → is_scarce f ≡ false → ⊥
-step_lacks e1 e2 rows OutOfMemory h plenty = cc
-step_lacks e1 e2 rows TooManyLeases h plenty = cc
-step_lacks e1 e2 rows (Query x) h plenty = absurd h
-step_lacks e1 e2 rows BadName h plenty = absurd h
-step_lacks e1 e2 rows NameTaken h plenty = absurd h
-step_lacks e1 e2 rows BadColumns h plenty = absurd h
-step_lacks e1 e2 rows TooMany h plenty = absurd h
-step_lacks e1 e2 rows UnknownStream h plenty = absurd h
-step_lacks e1 e2 rows UnknownQuery h plenty = absurd h
-step_lacks e1 e2 rows BadWidth h plenty = absurd h
-step_lacks e1 e2 rows ValueRange h plenty = absurd h
-step_lacks e1 e2 rows InstantRange h plenty = absurd h
-step_lacks e1 e2 rows Late h plenty = absurd h
-step_lacks e1 e2 rows Backward h plenty = absurd h
-step_lacks e1 e2 rows Leap h plenty = absurd h
-step_lacks e1 e2 rows StreamFull h plenty = absurd h
-step_lacks e1 e2 rows BadLimit h plenty = absurd h
-step_lacks e1 e2 rows fault.Broken h plenty = absurd h
-step_lacks e1 e2 rows UnknownLease h plenty = absurd h
-step_lacks e1 e2 rows Stranger h plenty = absurd h
+-- where memory was not wanted it did nothing
+pub step_stays : (e1 e2 : PlainEngine) (rows : ℕ) (f : Fault) → RunsFirst e1 rows (Err f) e2 → f ≢ OutOfMemory → e2 ≡ e1
+step_stays e1 e2 rows OutOfMemory h had = absurd (had refl)
+step_stays e1 e2 rows TooManyLeases h had = h.0
+step_stays e1 e2 rows (Query x) h had = absurd h
+step_stays e1 e2 rows BadName h had = absurd h
+step_stays e1 e2 rows NameTaken h had = absurd h
+step_stays e1 e2 rows BadColumns h had = absurd h
+step_stays e1 e2 rows TooMany h had = absurd h
+step_stays e1 e2 rows UnknownStream h had = absurd h
+step_stays e1 e2 rows UnknownQuery h had = absurd h
+step_stays e1 e2 rows BadWidth h had = absurd h
+step_stays e1 e2 rows ValueRange h had = absurd h
+step_stays e1 e2 rows InstantRange h had = absurd h
+step_stays e1 e2 rows Late h had = absurd h
+step_stays e1 e2 rows Backward h had = absurd h
+step_stays e1 e2 rows Leap h had = absurd h
+step_stays e1 e2 rows StreamFull h had = absurd h
+step_stays e1 e2 rows BadLimit h had = absurd h
+step_stays e1 e2 rows fault.Broken h had = absurd h
+step_stays e1 e2 rows UnknownLease h had = absurd h
+step_stays e1 e2 rows Stranger h had = absurd h
 
 -- A TURN THAT IS RUN
 pub comes_machine : (e1 e2 : PlainEngine) (l : Lease) (q : Registered) (p p2 : PlainQuery) → ComesBack e1 l q p p2 e2 → e2.machine ≡ e1.machine
@@ -125,13 +124,12 @@ have_machine rows (t ∷ turns) e1 e2 ran =
     let home = ran.1.1.1.0 in
     have_machine rows turns ran.1.0 e2 ran.1.1.1.1 ∙ comes_machine ran.0 ran.1.0 (lease_of_turn t) home.1.0 home.1.1.0 home.1.1.1.0 home.1.1.1.1 ∙ ap (λ e. e.machine) ran.1.1.0.after
 
-fails_machine : (e1 e2 : PlainEngine) (t : Turn) → RunsTurn e1 t (Err OutOfMemory) e2 → e2.machine ≡ e1.machine
-fails_machine e1 e2 t (inl h) = ap (λ e. e.machine) h.1.1.1.1
-fails_machine e1 e2 t (inr h) = ap (λ e. e.machine) h.1.1.1.1
+breaks_machine : (e1 e2 : PlainEngine) (l : Lease) → IsStep e1 (history.Breaks l) e2 → e2.machine ≡ e1.machine
+breaks_machine e1 e2 l h = ap (λ e. e.machine) h.1.1.1.1
 
 last_machine : (rows : ℕ) (e1 e2 : PlainEngine) → HasWanted rows e1 e2 → e2.machine ≡ e1.machine
-last_machine rows e1 e2 (inl h) = ap (λ e. e.machine) h.0
-last_machine rows e1 e2 (inr h) = fails_machine h.1.0 e2 h.0 h.1.1.1 ∙ ap (λ e. e.machine) h.1.1.0.after
+last_machine rows e1 e2 (inl h) = ap (λ e. e.machine) h.2
+last_machine rows e1 e2 (inr h) = breaks_machine h.1.0 e2 (lease_of_turn h.0) h.1.1.1 ∙ ap (λ e. e.machine) h.1.1.0.after
 
 pub drain_machine : (old new : PlainEngine) (rows : ℕ) (r : Result ⊤ Fault) → RunsTurns old rows r new → new.machine ≡ old.machine
 drain_machine old new rows (Ok u) h = have_machine rows h.1.0 old new h.1.1
@@ -197,10 +195,6 @@ module _ (e1 e2 : PlainEngine) (rows : ℕ) (t : Turn) (good : GoodEngine e1) (o
         left = ap (λ e. e.leases) h.1.1.1.1 ∙ ap (λ e. of_others t.node.query e.leases) out.after ∙ last_goes e1.leases turn;
       }
 
-  fails : (e3 : PlainEngine) → RunsTurn e2 t (Err OutOfMemory) e3 → (e3.leases ≡ e1.leases) ⊎ HasBrokenOne e1 e3
-  fails e3 (inl h) = inr (breaks e3 h)
-  fails e3 (inr h) = inl (ap (λ e. e.leases) h.1.1.1.1 ∙ others_left)
-
 pub step_leaves : (e1 e2 : PlainEngine) (rows : ℕ) → GoodEngine e1 → OneHasRun rows e1 e2 → e2.leases ≡ e1.leases
 step_leaves e1 e2 rows good one = leaves e1 one.1.0 rows one.0 good one.1.1.0 e2 one.1.1.1
 
@@ -212,8 +206,8 @@ since old e1 e2 same (inl h) = inl (h ∙ same)
 since old e1 e2 same (inr h) = inr (broken_since old e1 e2 same h)
 
 wanted : (e1 e2 : PlainEngine) (rows : ℕ) → GoodEngine e1 → HasWanted rows e1 e2 → (e2.leases ≡ e1.leases) ⊎ HasBrokenOne e1 e2
-wanted e1 e2 rows good (inl h) = inl (ap (λ e. e.leases) h.0)
-wanted e1 e2 rows good (inr h) = fails e1 h.1.0 rows h.0 good h.1.1.0 e2 h.1.1.1
+wanted e1 e2 rows good (inl h) = inl (ap (λ e. e.leases) h.2)
+wanted e1 e2 rows good (inr h) = inr (breaks e1 h.1.0 rows h.0 good h.1.1.0 e2 h.1.1.1)
 
 pub refused_leaves : (old e1 e2 : PlainEngine) (rows : ℕ) (f : Fault) → e1.leases ≡ old.leases → GoodEngine e1 → RunsFirst e1 rows (Err f) e2 → LeavesOthers old (Err f) e2
 refused_leaves old e1 e2 rows OutOfMemory same good h = since old e1 e2 same (wanted e1 e2 rows good h)

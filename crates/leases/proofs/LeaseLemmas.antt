@@ -35,7 +35,7 @@ use Rattle.plain_engines.proofs.PromiseLemmas.{first_in, keeps_its_promises, slo
 use Rattle.leases.specs.Leasing.{IsOfSide, IsReady, IsReadyAt, IsTurnOn, MayLeaseOn, node_on, turn_with}
 use Rattle.leases.specs.Shown.{engine_in}
 use Rattle.leases.specs.Sound.{IsSound, is_gone}
-use Rattle.leases.specs.Turns.{IsTurnOf, Leases}
+use Rattle.leases.specs.Turns.{IsTurnOf, Leases, lease_fault}
 use Rattle.leases.specs.Views.{HasKind, engine_of, lease_of}
 use Rattle.leases.specs.declared.given.Given.{Given}
 use Rattle.leases.specs.declared.leased.Leased.{Leased}
@@ -149,7 +149,7 @@ ready_since false (Some r) side at t e f =
     let two : r.1 ≡ t = cc in
     ap (λ z. z.1) (sym one) ∙ two
 
-module _ (e : PlainEngine) (s : Slot) (side : Side) (rows : ℕ) (good : GoodEngine e) (first : first_of e.slots ≡ Some s) where
+module _ (e : PlainEngine) (s : Slot) (side : Side) (rows : ℕ) (good : GoodEngine e) (first : first_of e.slots ≡ Some s) (allowed : lease_fault e rows ≡ None) where
   top : IsOfSteepest e s
   top = (keeps_its_promises e good).steepest s first
 
@@ -197,6 +197,7 @@ module _ (e : PlainEngine) (s : Slot) (side : Side) (rows : ℕ) (good : GoodEng
       query = top.query;
       kept = top.kept;
       slot = s;
+      allowed = allowed;
       leasable = out_leasable;
       steepest = top;
       takes = out_takes;
@@ -233,13 +234,13 @@ in_last (x ∷ ls) g a (inl e) = inl (inl e)
 in_last (x ∷ ls) g a (inr i) = ⊎_elim (λ j. inl (inr j)) (λ e. inr e) (in_last ls g a i)
 
 -- the turn of which this is, made of the operator of the first slot
-module _ (old new : State) (s : Slot) (side : Side) (rows n k : ℕ) (g : Given) (sound : IsSound old) (first : first_of old.slots ≡ Some s)
+module _ (old new : State) (s : Slot) (side : Side) (rows n k : ℕ) (g : Given) (sound : IsSound old) (first : first_of old.slots ≡ Some s) (allowed : lease_fault (engine_in old) rows ≡ None)
     (is_query : n ≡ s.query) (is_operator : k ≡ s.operator) (made : IsTurnOn (engine_in old) n k side rows g) (gone : HasGone old new s g) where
   is : engine_in new ≡ out_of (engine_in old) s g
   is = gone_engine old new s g gone
 
   turn_is : IsTurnOf (engine_in old) rows (turn_with g) (out_of (engine_in old) s g)
-  turn_is = turn_out (engine_in old) s side rows sound.good first g (subst (λ z. IsTurnOn (engine_in old) s.query z side rows g) is_operator (subst (λ z. IsTurnOn (engine_in old) z k side rows g) is_query made))
+  turn_is = turn_out (engine_in old) s side rows sound.good first allowed g (subst (λ z. IsTurnOn (engine_in old) s.query z side rows g) is_operator (subst (λ z. IsTurnOn (engine_in old) z k side rows g) is_query made))
 
   pub goes_out : (t : Turn) → t ≡ turn_with g → IsTurnOf (engine_in old) rows t (engine_in new)
   goes_out t same = subst (λ z. IsTurnOf (engine_in old) rows z (engine_in new)) (sym same) (subst (IsTurnOf (engine_in old) rows (turn_with g)) (sym is) turn_is)
@@ -261,8 +262,8 @@ module _ (old new : State) (s : Slot) (side : Side) (rows n k : ℕ) (g : Given)
     closed = subst (λ (z : PlainEngine). HaveFewClosed z.machine) (sym is) sound.closed;
   }
 
--- WHERE NOTHING WENT OUT and nothing is out, the engine is idle
-pub idle_waits_for_all : (old new : PlainEngine) (rows : ℕ) (result : Result Leased Fault) → GoodEngine new → Leases old rows result new → result ≡ Ok Idle → new.leases ≡ [] → HasAllWaiting new
-idle_waits_for_all old new rows result good answers none returned =
+-- WHERE NOTHING WENT OUT there is nothing that may
+pub idle_waits_for_all : (old new : PlainEngine) (rows : ℕ) (result : Result Leased Fault) → GoodEngine new → Leases old rows result new → result ≡ Ok Idle → HasAllWaiting new
+idle_waits_for_all old new rows result good answers none =
     let is : Leases old rows (Ok Idle) new = subst (λ z. Leases old rows z new) none answers in
-    idle_waits new good (record { nothing = ap (λ (z : PlainEngine). first_of z.slots) is.2 ∙ is.1; returned = returned })
+    idle_waits new good (ap (λ (z : PlainEngine). first_of z.slots) is.2 ∙ is.1)

@@ -12,7 +12,7 @@ use Rattle.plain_engines.specs.Engines.{Running, kept_at, query_at}
 use Rattle.plain_engines.proofs.AskLemmas.{may_ask}
 use Rattle.leases.proofs.PendingLemmas.{lengths_same}
 use Rattle.leases.proofs.TakeLemmas.{kept_is, kept_within, query_there, registered_within, taken_at}
-use Rattle.leases.specs.Looks.{lengths_from, lengths_in}
+use Rattle.leases.specs.Looks.{lengths_from, lengths_in, noughts_of}
 use Rattle.leases.specs.Shown.{engine_in}
 use Rattle.leases.specs.Sound.{IsSound}
 use Rattle.leases.specs.Views.{kept_of, query_of}
@@ -67,3 +67,14 @@ pub lengths_are : {A E : Type 0} (view : A → List ℕ) (found : Result A E) (s
     → IfOk found (λ v. (q : Registered) → query_at (engine_in s) n ≡ Some q → view v ≡ lengths_in (engine_in s).machine q (kept_at (engine_in s) n))
 lengths_are view (Ok v) s n r x p sound accepted is_registered is_kept runs h = λ q at. h ∙ lengths s n r x p sound accepted is_registered is_kept runs q at
 lengths_are view (Err f) s n r x p sound accepted is_registered is_kept runs h = tt
+
+-- IN THOSE OF A BROKEN QUERY nothing does
+pub noughts_are : {A E : Type 0} (view : A → List ℕ) (found : Result A E) (s : State) (n : ℕ) (r : Registration) (x : KeptQuery) (p : PlainQuery) → IsSound s → first_fault (engine_in s).machine (Drop n) ≡ None → r ≡ get_or s.registered.items n r
+    → x ≡ get_or s.kept.items n x → x ≡ code.Broken p → IfOk found (λ v. view v ≡ noughts_of (nodes_of r.plan.nodes.items))
+    → IfOk found (λ v. (q : Registered) → query_at (engine_in s) n ≡ Some q → view v ≡ lengths_in (engine_in s).machine q (kept_at (engine_in s) n))
+noughts_are view (Ok v) s n r x p sound accepted is_registered is_kept broke h = λ q at.
+    let takes : first_fault (engine_in s).machine (Take n (pos 1)) ≡ None = take_too (machine.query_at (engine_in s).machine n) accepted in
+    let same_query : q ≡ query_of r = taken_at s n q r (registered_within s n (pos 1) takes) at is_registered in
+    let broken : kept_at (engine_in s) n ≡ kept_of (code.Broken p) = kept_is s n x (kept_within s n (pos 1) sound takes) is_kept ∙ ap kept_of broke in
+    h ∙ ap (λ z. noughts_of z.nodes) (sym same_query) ∙ sym (ap (lengths_in (engine_in s).machine q) broken)
+noughts_are view (Err f) s n r x p sound accepted is_registered is_kept broke h = tt

@@ -35,7 +35,7 @@ same_refused e1 e2 rows UnknownLease h = h.1
 same_refused e1 e2 rows Stranger h = h.1
 
 pub leases_keep_the_machine : (old new : PlainEngine) (rows : ℕ) (r : Result Leased Fault) → Leases old rows r new → new.machine ≡ old.machine
-leases_keep_the_machine old new rows (Ok (answer.Turn t)) h = ap (λ e. e.machine) h.1.after
+leases_keep_the_machine old new rows (Ok (answer.Turn t)) h = ap (λ e. e.machine) h.after
 leases_keep_the_machine old new rows (Ok answer.Idle) h = ap (λ e. e.machine) h.2
 leases_keep_the_machine old new rows (Err f) h = ap (λ e. e.machine) (same_refused old new rows f h)
 

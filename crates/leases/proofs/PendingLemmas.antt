@@ -5,7 +5,7 @@ use Rattle.op_queue.specs.Logs.{Closed}
 use Rattle.operators.specs.Operators.{waiting}
 use Rattle.plan.specs.Nodes as plan
 use Rattle.query_nets.specs.Queries.{PlainQuery, operator_at}
-use Rattle.leases.specs.Looks.{lengths_at, lengths_from, queues_of}
+use Rattle.leases.specs.Looks.{lengths_at, lengths_from, noughts_of, queues_of}
 
 -- ONE OPERATOR MORE
 module _ {N : Type 0} (logs : ℕ → Closed) (p : PlainQuery) (see : N → plan.Node) where
@@ -29,6 +29,29 @@ module _ {N : Type 0} (logs : ℕ → Closed) (p : PlainQuery) (see : N → plan
 
   pub lengths_all : (found : List ℕ) (k : ℕ) (nodes : List N) (all : List ℕ) → length nodes ≡ k → found ++ lengths_from logs p k (map see (drop k nodes)) ≡ all → found ≡ all
   lengths_all found k nodes all e h = sym (append-nil found) ∙ ap (λ xs. found ++ xs) (sym (none_next k nodes k e)) ∙ h
+
+-- AND OF A BROKEN QUERY
+module _ {N : Type 0} (see : N → plan.Node) where
+  nought_next : (k : ℕ) (nodes : List N) (d : N) → k < length nodes → noughts_of (map see (drop k nodes)) ≡ queues_of (see (get_or nodes k d)) 0 0 ++ noughts_of (map see (drop (suc k) nodes))
+  nought_next k [] d within = absurd (omega arith)
+  nought_next zero (node ∷ nodes) d within = refl
+  nought_next (suc k) (node ∷ nodes) d within = nought_next k nodes d (omega arith)
+
+  pub noughts_next : (before after : List ℕ) (k : ℕ) (nodes : List N) (d : N) (all : List ℕ) → k < length nodes → before ++ noughts_of (map see (drop k nodes)) ≡ all → after ≡ before ++ queues_of (see (get_or nodes k d)) 0 0
+      → after ++ noughts_of (map see (drop (suc k) nodes)) ≡ all
+  noughts_next before after k nodes d all within h is =
+      ap (λ xs. xs ++ noughts_of (map see (drop (suc k) nodes))) is
+      ∙ append_assoc before (queues_of (see (get_or nodes k d)) 0 0) (noughts_of (map see (drop (suc k) nodes)))
+      ∙ ap (λ xs. before ++ xs) (sym (nought_next k nodes d within)) ∙ h
+
+  no_nought : (k : ℕ) (nodes : List N) → length nodes ≡ k → noughts_of (map see (drop k nodes)) ≡ []
+  no_nought zero [] e = refl
+  no_nought (suc k) [] e = refl
+  no_nought zero (node ∷ nodes) e = absurd (omega (arith, e))
+  no_nought (suc k) (node ∷ nodes) e = no_nought k nodes (omega (arith, e))
+
+  pub noughts_all : (found : List ℕ) (k : ℕ) (nodes : List N) (all : List ℕ) → length nodes ≡ k → found ++ noughts_of (map see (drop k nodes)) ≡ all → found ≡ all
+  noughts_all found k nodes all e h = sym (append-nil found) ∙ ap (λ xs. found ++ xs) (sym (no_nought k nodes e)) ∙ h
 
 -- LOGS that are the same at the operators
 module _ (p : PlainQuery) (logs others : ℕ → Closed) where

@@ -22,7 +22,7 @@ use Rattle.leases.specs.Leasing.{turn_with}
 use Rattle.leases.specs.Runs.{IsRunOf, given_in}
 use Rattle.leases.specs.Shown.{engine_in}
 use Rattle.leases.specs.Sound.{IsSound}
-use Rattle.leases.specs.Turns.{IsTurnOf, lease_of_parts}
+use Rattle.leases.specs.Turns.{IsTurnOf, lease_fault, lease_of_parts}
 use Rattle.leases.specs.Views.{lease_of}
 use Rattle.leases.specs.declared.limits.TheConstants.{LEASE_NUMBERS}
 use Rattle.leases.specs.declared.state.State.{State}
@@ -103,7 +103,7 @@ some_slot : {a b : Slot} → Some a ≡ Some b → a ≡ b
 some_slot e = cc
 
 -- THE TURN of the first slot, that was run
-module _ (old : State) (s : Slot) (rows : ℕ) (d : Parts) (sound : IsSound old) (first : first_of old.slots ≡ Some s) (numbers : old.next < LEASE_NUMBERS) (run : IsRunOf (engine_in old) s rows d) where
+module _ (old : State) (s : Slot) (rows : ℕ) (d : Parts) (sound : IsSound old) (first : first_of old.slots ≡ Some s) (allowed : lease_fault (engine_in old) rows ≡ None) (numbers : old.next < LEASE_NUMBERS) (run : IsRunOf (engine_in old) s rows d) where
   abbrev t : Turn
   t = turn_with (given_in d)
 
@@ -112,7 +112,7 @@ module _ (old : State) (s : Slot) (rows : ℕ) (d : Parts) (sound : IsSound old)
   e1 = out_of (engine_in old) s (given_in d)
 
   goes : IsTurnOf (engine_in old) rows t e1
-  goes = turn_out (engine_in old) s run.side rows sound.good first (given_in d) run.made
+  goes = turn_out (engine_in old) s run.side rows sound.good first allowed (given_in d) run.made
 
   good : GoodEngine e1
   good = subst GoodEngine (sym goes.after) (lease_good (engine_in old) (lease_of (given_in d)) goes.query goes.kept goes.slot sound.good goes.leasable)
@@ -168,7 +168,7 @@ module _ (old : State) (s : Slot) (rows : ℕ) (d : Parts) (sound : IsSound old)
         ∙ ap (λ ss. record (broken e1 d.node.query out.1.0) { slots = ss }) slots_leave
 
     pub broke_one : OneHasFailed rows (engine_in old) (engine_in new)
-    broke_one = (t, (e1, (goes, inl (out.1.1.out, (out.0, (out.1.0, (out.1.1.of, is_broken)))))))
+    broke_one = (t, (e1, (goes, (out.1.1.out, (out.0, (out.1.0, (out.1.1.of, is_broken)))))))
 
     pub broke_sound : GivesNothing (counted old) new → IsSound new
     broke_sound r =

@@ -202,7 +202,7 @@ sound_taken s s2 n limit count h t is leases next names = record {
 -- A TAKE THAT IS REFUSED
 module _ {A : Type 0} (view : A → List (ℤ × Row)) (old new : PlainEngine) (n limit : ℕ) (x y : Kept) (none : first_fault old.machine (Take n (pos limit)) ≡ None) (at : kept_at old n ≡ x) where
   refused_so : (f : Fault) → HandsOut view x limit (Err f) y → (y ≡ x → new ≡ old) → Takes view old n (pos limit) (Err f) new
-  refused_so OutOfMemory h same = (none, same h)
+  refused_so OutOfMemory h same = (none, same h.0, λ broken. h.1 (sym at ∙ broken))
   refused_so fault.Broken h same = (none, at ∙ h.0, same h.1)
   refused_so (Query z) h same = absurd h
   refused_so BadName h same = absurd h
@@ -224,7 +224,7 @@ module _ {A : Type 0} (view : A → List (ℤ × Row)) (old new : PlainEngine) (
   refused_so TooManyLeases h same = absurd h
 
 kept_by : {A : Type 0} (view : A → List (ℤ × Row)) (x y : Kept) (limit : ℕ) (f : Fault) → HandsOut view x limit (Err f) y → y ≡ x
-kept_by view x y limit OutOfMemory h = h
+kept_by view x y limit OutOfMemory h = h.0
 kept_by view x y limit fault.Broken h = h.1
 kept_by view x y limit (Query z) h = absurd h
 kept_by view x y limit BadName h = absurd h

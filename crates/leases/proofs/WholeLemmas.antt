@@ -7,8 +7,9 @@ use Rattle.reference.specs.declared.fault.Fault.{Fault}
 use Rattle.reference.specs.declared.fault.Fault.TheVariants as fault
 use Rattle.reference.specs.declared.fault.Fault.TheVariants.{Query, BadName, NameTaken, BadColumns, TooMany, UnknownStream, UnknownQuery, BadWidth, ValueRange, InstantRange, Late, Backward, Leap, StreamFull, BadLimit, UnknownLease, Stranger, TooManyLeases, OutOfMemory}
 use Rattle.query_nets.specs.Queries.{PlainQuery}
-use Rattle.plain_engines.specs.Calls.{IsRegistration, dropped, kept_after, of_others, registered, taken}
+use Rattle.plain_engines.specs.Calls.{dropped, kept_after, of_others, registered, taken}
 use Rattle.plain_engines.specs.Engines.{Broken, Dropped, Kept, PlainEngine, Running}
+use Rattle.leases.specs.Registering.{IsRegistered}
 use Rattle.leases.specs.Takes.{Takes, count_of}
 use Rattle.leases.specs.Whole.{IsWholeEngine}
 
@@ -33,7 +34,7 @@ registered_whole : (e : PlainEngine) (q : Registered) (p : PlainQuery) → IsWho
 registered_whole e q p w = record { returned = w.returned; unbroken = λ n answers h. w.unbroken n answers (unbroken_more e.queries n p answers h) }
 
 pub registration_whole : (r : Result ℕ Fault) (old new : PlainEngine) (name text : List ℕ) (chart : Option (List (ℤ × ℤ)))
-    → OnOk r ((q : Registered) × ((p : PlainQuery) × (IsRegistration old name text chart q p × (new ≡ registered old q p)))) → OnErr r (new ≡ old) → IsWholeEngine old → IsWholeEngine new
+    → OnOk r ((q : Registered) × ((p : PlainQuery) × (IsRegistered old name text chart q p × (new ≡ registered old q p)))) → OnErr r (new ≡ old) → IsWholeEngine old → IsWholeEngine new
 registration_whole (Ok a) old new name text chart ok err w = subst IsWholeEngine (sym ok.1.1.1) (registered_whole old ok.0 ok.1.0 w)
 registration_whole (Err f) old new name text chart ok err w = subst IsWholeEngine (sym err) w
 

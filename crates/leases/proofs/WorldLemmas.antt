@@ -1,5 +1,5 @@
 -- What clients see of an engine that takes and drains.
-use Rattle.std.proofs.Common.{◌≡◌, ℕ, zero, suc, ℤ, true, false, Option, Some, None, Result, Ok, Err, OnOk, List, [], ◌∷◌, drop, get_or, length, map, min, nat_abs, take, refl, sym, ap, ap₂, ◌∙◌, arith}
+use Rattle.std.proofs.Common.{◌≡◌, ◌≢◌, ℕ, zero, suc, ℤ, true, false, Option, Some, None, Result, Ok, Err, OnOk, List, [], ◌∷◌, drop, get_or, length, map, min, nat_abs, take, refl, sym, ap, ap₂, subst, ◌∙◌, arith}
 use Rattle.std.specs.Prelude.{⊤, slice_get}
 use Rattle.values.specs.Row.{Row}
 use Rattle.reference.specs.Commands.{Take, after, change, first_fault}
@@ -46,10 +46,10 @@ untaken_kept m q e = rw e refl
 
 module _ (e : PlainEngine) (g : GoodEngine e) (whole : IsWholeEngine e) (idle : first_of e.slots ≡ None) (gone : map (λ q. q.is_dropped) e.machine.queries ≡ map is_gone e.queries) where
   all : HasAllWaiting e
-  all = idle_waits e g (record { nothing = idle; returned = whole.returned })
+  all = idle_waits e g idle
 
   waits_at : (n : ℕ) (q : Registered) (kept : Kept) → query_at e n ≡ Some q → kept_at e n ≡ kept → q.is_dropped ≡ is_gone kept → answers_in kept ≡ untaken e.machine q
-  waits_at n q (Running p) r k d = all n q p r k ∙ untaken_kept e.machine q d
+  waits_at n q (Running p) r k d = all n q p r k (λ j. rw whole.returned refl) ∙ untaken_kept e.machine q d
   waits_at n q (Broken answers) r k d = absurd (whole.unbroken n answers k)
   waits_at n q Dropped r k d = untaken_dropped e.machine q d
 
@@ -191,13 +191,17 @@ module _ {A : Type 0} (view : A → List (ℤ × Row)) (old : PlainEngine) (n : 
 
 -- BOTH, as clients see them
 pub drains_are : (old new : PlainEngine) (rows : ℕ) (r : Result ⊤ Fault) → GoodEngine new → map (λ q. q.is_dropped) new.machine.queries ≡ map is_gone new.queries → RunsTurns old rows r new
-    → OnOk r (first_of new.slots ≡ None) → (IsPlenty r → IsWholeEngine new) → Drains (world_of old) (drain_step (world_of old) rows) r (world_of new)
-drains_are old new rows (Ok u) g gone runs idle whole = drain_done old new rows (drain_machine old new rows (Ok u) runs) runs.0 (all_wait new g (whole tt) idle gone) u
+    → OnOk r (first_of new.slots ≡ None) → (r ≢ Err OutOfMemory → IsWholeEngine new) → Drains (world_of old) (drain_step (world_of old) rows) r (world_of new)
+drains_are old new rows (Ok u) g gone runs idle whole = drain_done old new rows (drain_machine old new rows (Ok u) runs) runs.0 (all_wait new g (whole (λ e. cc)) idle gone) u
 drains_are old new rows (Err f) g gone runs idle whole = drain_stops old new rows (drain_machine old new rows (Err f) runs) f runs
 
-pub drains_wait : {W : Type 0} (new : PlainEngine) (r : Result ⊤ Fault) → GoodEngine new → OnOk r (first_of new.slots ≡ None) → (W → IsPlenty r → IsWholeEngine new) → OnOk r (W → HasAllWaiting new)
-drains_wait new (Ok u) g idle whole = λ w. idle_waits new g (record { nothing = idle; returned = (whole w tt).returned })
-drains_wait new (Err f) g idle whole = tt
+pub drains_wait : (new : PlainEngine) (r : Result ⊤ Fault) → GoodEngine new → OnOk r (first_of new.slots ≡ None) → OnOk r (HasAllWaiting new)
+drains_wait new (Ok u) g idle = idle_waits new g idle
+drains_wait new (Err f) g idle = tt
+
+-- want of memory is one of the wants
+pub plenty_has : (r : Result ⊤ Fault) → IsPlenty r → r ≢ Err OutOfMemory
+plenty_has r plenty e = let lacks : true ≡ false = subst IsPlenty e plenty in cc
 
 pub takes_are : {A : Type 0} (view : A → List (ℤ × Row)) (old : PlainEngine) (n : ℕ) (limit : ℤ) (r : Result A Fault) (new : PlainEngine) → IsWholeEngine old → Takes view old n limit r new
     → Does view (world_of old) (take_step (world_of old) n limit) r (world_of new)

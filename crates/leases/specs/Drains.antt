@@ -8,9 +8,8 @@ use Rattle.reference.specs.declared.fault.Fault.TheVariants.{BadLimit, OutOfMemo
 use Rattle.ready_list.specs.Slots.{first_of}
 use Rattle.plain_engines.specs.Calls.{of_others}
 use Rattle.plain_engines.specs.Engines.{Broken, PlainEngine, kept_at}
-use Rattle.plain_engines.specs.Histories.{Finishes, IsStep}
-use Rattle.leases.specs.Runs.{RunsTurn}
-use Rattle.leases.specs.Turns.{HasReady, IsTurnOf, lease_of_turn}
+use Rattle.plain_engines.specs.Histories.{Breaks, Finishes, IsStep}
+use Rattle.leases.specs.Turns.{HasReady, IsTurnOf, lease_fault, lease_of_turn}
 use Rattle.leases.specs.declared.limits.TheConstants.{LEASE_NUMBERS, MAX_LEASES}
 
 -- TURNS of at most so many rows went out and came back, one after the other: each of an operator of greatest slope, with the next number
@@ -22,13 +21,13 @@ HaveRun rows old (t ∷ turns) new = (out : PlainEngine) × ((home : PlainEngine
 abbrev pub SomeHaveRun : ℕ → PlainEngine → PlainEngine → Type 0
 SomeHaveRun rows old new = (turns : List Turn) × HaveRun rows old turns new
 
--- one went out, and memory was wanted: it broke its query or was abandoned
+-- one went out, and memory was wanted when it came back: its query is broken
 abbrev pub OneHasFailed : ℕ → PlainEngine → PlainEngine → Type 0
-OneHasFailed rows old new = (t : Turn) × ((out : PlainEngine) × (IsTurnOf old rows t out × RunsTurn out t (Err OutOfMemory) new))
+OneHasFailed rows old new = (t : Turn) × ((out : PlainEngine) × (IsTurnOf old rows t out × IsStep out (Breaks (lease_of_turn t)) new))
 
--- memory was wanted for a turn of an operator that may be leased: nothing was done, or its turn had gone out
+-- memory was wanted for a turn that might go out: nothing was done, or it had gone out and broke its query
 abbrev pub HasWanted : ℕ → PlainEngine → PlainEngine → Type 0
-HasWanted rows old new = ((new ≡ old) × HasReady old) ⊎ OneHasFailed rows old new
+HasWanted rows old new = ((lease_fault old rows ≡ None) × HasReady old × (new ≡ old)) ⊎ OneHasFailed rows old new
 
 -- ONE STEP: one went out and came back
 abbrev pub OneHasRun : ℕ → PlainEngine → PlainEngine → Type 0

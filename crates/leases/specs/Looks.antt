@@ -30,10 +30,14 @@ abbrev pub lengths_from : (ℕ → Closed) → PlainQuery → ℕ → List plan.
 lengths_from logs p k [] = []
 lengths_from logs p k (node ∷ nodes) = lengths_at logs p k node ++ lengths_from logs p (suc k) nodes
 
--- of a query that is broken or dropped nothing does
+-- in those of a broken query nothing does
+abbrev pub noughts_of : List plan.Node → List ℕ
+noughts_of [] = []
+noughts_of (node ∷ nodes) = queues_of node 0 0 ++ noughts_of nodes
+
 abbrev pub lengths_in : Machine → Registered → Kept → List ℕ
 lengths_in m q (Running p) = lengths_from (log_at m q) p 0 q.nodes
-lengths_in m q (Broken answers) = []
+lengths_in m q (Broken answers) = noughts_of q.nodes
 lengths_in m q Dropped = []
 
 -- what a look at them answers

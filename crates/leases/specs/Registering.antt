@@ -1,13 +1,17 @@
 -- What is made of a query before it is registered.
-use Rattle.std.specs.Prelude.{ℕ, zero, suc, ◌<◌, List, length, get_or}
+use Rattle.std.specs.Prelude.{ℕ, ℤ, zero, suc, ◌≡◌, ◌<◌, Option, List, length, get_or}
 use Rattle.std.specs.Option.{option_map}
 use Rattle.envelope.specs.Fraction.{Fraction, fraction}
 use Rattle.operators.specs.Operators.{ready}
-use Rattle.reference.specs.Machine.{Stream}
+use Rattle.plan.specs.declared.operators.Plan.{Plan}
+use Rattle.reference.specs.Machine.{Registered, Stream}
 use Rattle.query_nets.specs.Queries.{PlainQuery, operator_at}
 use Rattle.running_queries.specs.Turns.{HasOperator, log_of}
 use Rattle.ready_list.specs.Slots.{put, slot}
 use Rattle.ready_list.specs.declared.slots.Slot.{Slot}
+use Rattle.plain_engines.specs.Calls.{IsRegistration}
+use Rattle.plain_engines.specs.Engines.{PlainEngine}
+use Rattle.accepted_queries.specs.Accepted.{IsBegun, IsPlanOfText, newest}
 
 -- the slot of the operator k of a query n that is new, of which no turn is out
 abbrev pub new_slot : List Stream → PlainQuery → List Fraction → ℕ → ℕ → Slot
@@ -17,6 +21,14 @@ new_slot streams p slopes n k = slot (get_or slopes k (fraction 0 1)) (option_ma
 abbrev pub with_first : List Stream → PlainQuery → List Fraction → ℕ → ℕ → List Slot → List Slot
 with_first streams p slopes n zero slots = slots
 with_first streams p slopes n (suc count) slots = put (with_first streams p slopes n count slots) (new_slot streams p slopes n count)
+
+-- THE QUERY THAT IS REGISTERED is the one of the plan of its text, and runs as it begins: nothing has come to its operators but what its streams close from now on
+pub record IsRegistered (e : PlainEngine) (name text : List ℕ) (chart : Option (List (ℤ × ℤ))) (q : Registered) (p : PlainQuery) : Type 0 where
+  pub registration : IsRegistration e name text chart q p
+  pub plan : Plan
+  pub of_text : IsPlanOfText e.machine text chart plan
+  pub is : q ≡ newest e.machine name plan
+  pub begun : IsBegun plan q p
 
 -- all its operators are there, each with a slope
 pub record IsNewQuery (streams : List Stream) (p : PlainQuery) (slopes : List Fraction) : Type 0 where

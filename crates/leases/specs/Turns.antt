@@ -38,12 +38,13 @@ HasReady e = is_some (slots.first_of e.slots) ≡ true
 abbrev pub lease_of_turn : Turn → Lease
 lease_of_turn t = record { number = t.lease; query = t.node.query; operator = t.node.operator; side = t.node.side; item = t.item; excerpt = t.near }
 
--- it is of an operator of greatest slope, on the side that is ready, the left one where both are, with the next number and what comes out at once of what
--- waits there, at most so many rows; it may be run
+-- no test fails, and it is of an operator of greatest slope, on the side that is ready, the left one where both are, with the next number and what comes out at
+-- once of what waits there, at most so many rows; it may be run
 pub record IsTurnOf (old : PlainEngine) (rows : ℕ) (t : Turn) (new : PlainEngine) : Type 0 where
   pub query : Registered
   pub kept : PlainQuery
   pub slot : Slot
+  pub allowed : lease_fault old rows ≡ None
   pub leasable : IsLeasable old (lease_of_turn t) query kept slot
   pub steepest : IsOfSteepest old slot
   pub takes : ready (operator_at kept.operators t.node.operator) (log_at old.machine query t.node.operator) ≡ Some (t.node.side, slot.instant)
@@ -53,7 +54,7 @@ pub record IsTurnOf (old : PlainEngine) (rows : ℕ) (t : Turn) (new : PlainEngi
   pub after : new ≡ leased old (lease_of_turn t) query kept
 
 abbrev pub Leases : PlainEngine → ℕ → Result Leased Fault → PlainEngine → Type 0
-Leases old rows (Ok (answer.Turn t)) new = (lease_fault old rows ≡ None) × IsTurnOf old rows t new
+Leases old rows (Ok (answer.Turn t)) new = IsTurnOf old rows t new
 Leases old rows (Ok answer.Idle) new = (lease_fault old rows ≡ None) × (slots.first_of old.slots ≡ None) × (new ≡ old)
 Leases old rows (Err OutOfMemory) new = (lease_fault old rows ≡ None) × (new ≡ old) × HasReady old
 Leases old rows (Err fault) new = (lease_fault old rows ≡ Some fault) × (new ≡ old)

@@ -1,6 +1,9 @@
 -- A good engine keeps its promises.
-use Rattle.std.proofs.Common.{◌≡◌, ℕ, Bool, true, false, ◌<◌, ◌++◌, cond, inl, inr, Option, Some, None, MatchOption, is_none, unwrap_or, List, [], ◌∷◌, length, nat_lt, lt-ltb, ltb-true, refl, sym, ap, ◌∙◌, subst}
+use Rattle.std.proofs.Common.{◌≡◌, ℕ, Bool, true, false, ◌<◌, ◌++◌, ◌⊎◌, cond, inl, inr, Option, Some, None, MatchOption, is_none, unwrap_or, List, [], ◌∷◌, length, nat_lt, lt-ltb, ltb-true, refl, sym, ap, ◌∙◌, subst}
+use Rattle.std.specs.List.{AllByRecursion}
+use Rattle.std.specs.List.Sorted.{IsStrictlySortedBy}
 use Rattle.std.specs.Option.{option_map}
+use Rattle.std.specs.declared.cmp.Ordering.TheVariants.{Less}
 use Rattle.column.specs.declared.batch.Side.{Side}
 use Rattle.envelope.specs.Fraction.{NoGreater}
 use Rattle.operators.specs.Operators.{ready}
@@ -9,7 +12,7 @@ use Rattle.reference.specs.Machine.{Machine, Registered}
 use Rattle.query_nets.specs.Machines.{widths_of}
 use Rattle.query_nets.specs.Queries.{NoneReady, PlainQuery, log_at, operator_at}
 use Rattle.query_nets.proofs.NodeLemmas.{gives_its_answers}
-use Rattle.ready_list.specs.Slots.{AreIdle, IsSteepest, first_of}
+use Rattle.ready_list.specs.Slots.{AreIdle, IsSteepest, first_of, slot_cmp}
 use Rattle.ready_list.specs.declared.slots.Slot.{Slot}
 use Rattle.ready_list.proofs.FirstLemmas.{first_is_steepest}
 use Rattle.plain_engines.specs.Engines.{Broken, Dropped, Goes, GoodEngine, HasGiven, IsIn, IsKept, Kept, PlainEngine, Running, answers_in, instant_at, is_leased, kept_at, query_at, ready_instant, slope_at, slot_at, slot_in, slot_of}
@@ -81,14 +84,12 @@ tells_idleness e g first n k q p r kept within =
     none_at (instant_at e n q p k) at
 
 gives_all : (e : PlainEngine) → GoodEngine e → GivesAll e
-gives_all e g first none n q p r kept =
+gives_all e g n q p r kept ran =
     let goes : Goes e.machine q p = subst (IsKept e.machine q) kept (g.queries n q r) in
-    let idle : AreIdle e.slots = all_idle e.slots None first (first_is_steepest e.slots g.slots.ordered) in
     let unready : NoneReady e.machine q p.operators = λ k within.
-    let at : (slot_at e n q p k).is_idle ≡ true = idle_in e.slots (slot_at e n q p k) idle (g.slots.there n k (slot_at e n q p k) (slot_is e n k q p r kept within)) in
-    let out : is_leased e n k ≡ false = rw none refl in
+    let out : is_leased e n k ≡ false = ran.returned k in
     let is : instant_at e n q p k ≡ ready_instant e.machine q p k = rw out refl in
-    none_by (ready (operator_at p.operators k) (log_at e.machine q k)) (ap is_none (sym is) ∙ at) in
+    none_by (ready (operator_at p.operators k) (log_at e.machine q k)) (ap is_none (sym is ∙ ran.unready k within)) in
     record {
       taken = goes.taken;
       counted = goes.counted;
@@ -107,6 +108,22 @@ steepest_in : (slots : List Slot) (s t : Slot) → IsSteepest slots s → IsIn s
 steepest_in [] s t h i f = absurd i
 steepest_in (x ∷ slots) s t h (inl e) f = subst (λ z. NoGreater z.slope.0 s.slope.0) e (h.0 (ap (λ z. z.is_idle) e ∙ f))
 steepest_in (x ∷ slots) s t h (inr i) f = steepest_in slots s t h.1 i f
+
+-- each other slot stands behind it
+behind_in : (s : Slot) (slots : List Slot) (t : Slot) → AllByRecursion (λ t. slot_cmp s t ≡ Less) slots → IsIn slots t → slot_cmp s t ≡ Less
+behind_in s [] t h i = absurd i
+behind_in s (x ∷ slots) t h (inl e) = subst (λ z. slot_cmp s z ≡ Less) e h.0
+behind_in s (x ∷ slots) t h (inr i) = behind_in s slots t h.1 i
+
+head_is : (b : Bool) (x s : Slot) → cond b None (Some x) ≡ Some s → x ≡ s
+head_is true x s e = absurd (cc)
+head_is false x s e = cc
+
+behind_first : (slots : List Slot) (s t : Slot) → IsStrictlySortedBy slot_cmp slots → first_of slots ≡ Some s → IsIn slots t → (t ≡ s) ⊎ (slot_cmp s t ≡ Less)
+unfolding IsStrictlySortedBy
+behind_first [] s t h e i = absurd i
+behind_first (x ∷ slots) s t h e (inl same) = inl (sym same ∙ head_is x.is_idle x s e)
+behind_first (x ∷ slots) s t h e (inr i) = inr (subst (λ z. slot_cmp z t ≡ Less) (head_is x.is_idle x s e) (behind_in x slots t h.0 i))
 
 some_by : (o : Option ℕ) (t : ℕ) → is_none o ≡ false → unwrap_or o 0 ≡ t → o ≡ Some t
 some_by None t f e = absurd (cc)
@@ -127,6 +144,7 @@ steepest e g s first =
       steepest = λ n k q p t r kept within ready_at.
           subst (λ z. NoGreater (slope_at q k) z.slope.0) (sym is.is)
           (steepest_in e.slots s (slot_at e n q p k) most (g.slots.there n k (slot_at e n q p k) (slot_is e n k q p r kept within)) (ap is_none ready_at));
+      first = λ n k q p t r kept within ready_at. behind_first e.slots s (slot_at e n q p k) g.slots.ordered first (g.slots.there n k (slot_at e n q p k) (slot_is e n k q p r kept within));
     }
 
 pub keeps_its_promises : (e : PlainEngine) → GoodEngine e → KeepsItsPromises e

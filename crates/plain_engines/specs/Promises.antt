@@ -1,12 +1,13 @@
 -- What is promised of an engine of many queries.
-use Rattle.std.specs.Prelude.{ℕ, ◌≡◌, ◌<◌, ◌++◌, Some, None, List, [], drop, length}
+use Rattle.std.specs.Prelude.{ℕ, false, ◌≡◌, ◌<◌, ◌++◌, ◌⊎◌, Some, None, List, drop, length}
+use Rattle.std.specs.declared.cmp.Ordering.TheVariants.{Less}
 use Rattle.values.specs.Row.{Row}
 use Rattle.envelope.specs.Fraction.{NoGreater}
 use Rattle.reference.specs.Machine.{Registered, closed_answers}
 use Rattle.query_nets.specs.Queries.{PlainQuery}
-use Rattle.ready_list.specs.Slots.{first_of}
+use Rattle.ready_list.specs.Slots.{first_of, slot_cmp}
 use Rattle.ready_list.specs.declared.slots.Slot.{Slot}
-use Rattle.plain_engines.specs.Engines.{HasGiven, PlainEngine, Running, answers_in, instant_at, kept_at, query_at, slope_at}
+use Rattle.plain_engines.specs.Engines.{HasGiven, PlainEngine, Running, answers_in, instant_at, is_leased, kept_at, query_at, slope_at, slot_at}
 
 -- OF EACH QUERY the answers that were taken, and those that wait, are a beginning of CQL's answers for the instants that are closed
 abbrev pub GivesBeginnings : PlainEngine → Type 0
@@ -18,11 +19,17 @@ pub record HasGivenAll (e : PlainEngine) (q : Registered) (p : PlainQuery) : Typ
   pub counted : length taken ≡ q.taken
   pub all : taken ++ p.answers ≡ closed_answers e.machine q
 
--- of each query that runs, where no operator may take anything and no turn is out
-abbrev pub GivesAll : PlainEngine → Type 0
-GivesAll e = first_of e.slots ≡ None → e.leases ≡ [] → (n : ℕ) (q : Registered) (p : PlainQuery) → query_at e n ≡ Some q → kept_at e n ≡ Running p → HasGivenAll e q p
+-- none of the query's operators may be leased, and none is
+pub record HasNothingToRun (e : PlainEngine) (n : ℕ) (q : Registered) (p : PlainQuery) : Type 0 where
+  pub unready : (k : ℕ) → k < length q.nodes → instant_at e n q p k ≡ None
+  pub returned : (k : ℕ) → is_leased e n k ≡ false
 
--- THE FIRST SLOT is of an operator that may be leased, and no operator that may be leased has a greater slope
+-- so of each query that runs of which nothing is left to run, whatever others have
+abbrev pub GivesAll : PlainEngine → Type 0
+GivesAll e = (n : ℕ) (q : Registered) (p : PlainQuery) → query_at e n ≡ Some q → kept_at e n ≡ Running p → HasNothingToRun e n q p → HasGivenAll e q p
+
+-- THE FIRST SLOT is of an operator that may be leased; no operator that may be leased has a greater slope, and each other one stands behind it in the order of
+-- slots: by slope, then by the earlier instant, then by the lower number of the query, then by that of the operator
 pub record IsOfSteepest (e : PlainEngine) (s : Slot) : Type 0 where
   pub query : Registered
   pub registered : query_at e s.query ≡ Some query
@@ -32,6 +39,8 @@ pub record IsOfSteepest (e : PlainEngine) (s : Slot) : Type 0 where
   pub instant : instant_at e s.query query kept s.operator ≡ Some s.instant
   pub steepest : (n k : ℕ) (q : Registered) (p : PlainQuery) (t : ℕ) → query_at e n ≡ Some q → kept_at e n ≡ Running p → k < length q.nodes → instant_at e n q p k ≡ Some t
       → NoGreater (slope_at q k) (slope_at query s.operator)
+  pub first : (n k : ℕ) (q : Registered) (p : PlainQuery) (t : ℕ) → query_at e n ≡ Some q → kept_at e n ≡ Running p → k < length q.nodes → instant_at e n q p k ≡ Some t
+      → (slot_at e n q p k ≡ s) ⊎ (slot_cmp s (slot_at e n q p k) ≡ Less)
 
 abbrev pub LeasesSteepest : PlainEngine → Type 0
 LeasesSteepest e = (s : Slot) → first_of e.slots ≡ Some s → IsOfSteepest e s
@@ -47,11 +56,6 @@ pub record KeepsItsPromises (e : PlainEngine) : Type 0 where
   pub steepest : LeasesSteepest e
   pub idle : TellsIdleness e
 
--- IDLE: no operator may take anything, and no turn is out
-pub record IsIdle (e : PlainEngine) : Type 0 where
-  pub nothing : first_of e.slots ≡ None
-  pub returned : e.leases ≡ []
-
--- then of each query that runs there wait just those of its answers that are closed and not yet taken
+-- THERE WAIT, of each query that runs and of which no turn is out, just those of its answers that are closed and not yet taken
 abbrev pub HasAllWaiting : PlainEngine → Type 0
-HasAllWaiting e = (n : ℕ) (q : Registered) (p : PlainQuery) → query_at e n ≡ Some q → kept_at e n ≡ Running p → p.answers ≡ drop q.taken (closed_answers e.machine q)
+HasAllWaiting e = (n : ℕ) (q : Registered) (p : PlainQuery) → query_at e n ≡ Some q → kept_at e n ≡ Running p → ((k : ℕ) → is_leased e n k ≡ false) → p.answers ≡ drop q.taken (closed_answers e.machine q)

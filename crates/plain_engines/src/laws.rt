@@ -3,14 +3,15 @@ ghost use Rattle.std.specs.Prelude.{ℕ, ℤ, ◌≡◌, List, None, Option, Som
 ghost use Rattle.reference.specs.Commands.{Append, Declare, Drop, first_fault};
 ghost use Rattle.reference.specs.Machine.{Machine, Registered};
 ghost use Rattle.query_nets.specs.Queries.{PlainQuery};
+ghost use Rattle.ready_list.specs.Slots.{first_of};
 ghost use Rattle.ready_list.specs.declared.slots.Slot.{Slot};
 ghost use Rattle.plain_engines.specs.Engines.{GoodEngine, IsIn, Lease, PlainEngine, Running, kept_at, query_at};
-ghost use Rattle.plain_engines.specs.Promises.{HasAllWaiting, IsIdle, KeepsItsPromises};
+ghost use Rattle.plain_engines.specs.Promises.{HasAllWaiting, KeepsItsPromises};
 ghost use Rattle.plain_engines.specs.Histories.{Call, LeadTo, empty};
 ghost use Rattle.plain_engines.specs.Calls.{RunsOnAtTakes, IsAnsweredTurn, IsFinishedTurn, IsHeartbeat, IsLeasable, IsOf, IsRegistration, IsTake, abandoned, answered, appended, beaten, broken, declared, dropped, finished, leased, registered, taken};
 
 /// Of each query of a good engine the answers that were taken, and those that wait, are a beginning of CQL's answers for the instants
-/// that its streams' heartbeats have closed, and all of them where no operator may take anything and no turn is out; and no operator
+/// that its streams' heartbeats have closed, and all of them where none of its operators may be leased or is; and no operator
 /// that may be leased has a greater slope than that of the first slot.
 pub fn good_engines_keep_their_promises()
     ensures { (e : PlainEngine) → GoodEngine e → KeepsItsPromises e }
@@ -75,13 +76,13 @@ pub fn registrations_keep_engines_good()
 
 /// After any list of calls on the empty engine, whatever was declared, registered, appended, closed, taken and dropped, and whatever
 /// turns went out and came back, the answers of each query that were taken, and those that wait, are a beginning of CQL's answers for
-/// the instants that are closed, all of them where no operator may take anything and no turn is out, and the first slot is steepest.
+/// the instants that are closed, all of them where none of its operators may be leased or is, and the first slot is steepest.
 pub fn engines_keep_their_promises()
     ensures { (calls : List Call) (e : PlainEngine) → LeadTo empty calls e → KeepsItsPromises e }
 {}
 
-/// Where no operator of a good engine may take anything and no turn is out, just those answers of each running query wait that are
+/// Where no operator of a good engine may be leased, just those answers of each running query of which no turn is out wait that are
 /// closed and not yet taken.
 pub fn idle_engines_have_all_waiting()
-    ensures { (e : PlainEngine) → GoodEngine e → IsIdle e → HasAllWaiting e }
+    ensures { (e : PlainEngine) → GoodEngine e → first_of e.slots ≡ None → HasAllWaiting e }
 {}

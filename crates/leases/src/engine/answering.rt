@@ -1,15 +1,18 @@
 //! What clients call.
-ghost use Rattle.std.specs.Prelude.{◌≡◌, ℕ, None, OnErr, OnOk};
+ghost use Rattle.std.specs.Prelude.{◌≡◌, ◌≢◌, ℕ, Err, None, OnErr, OnOk, slice_get};
 ghost use Rattle.std.specs.Option.{option_copied};
 ghost use Rattle.plan.specs.Chart.{given_by};
 ghost use Rattle.reference.specs.CallViews.{handed_of, texts_of};
 ghost use Rattle.reference.specs.Machine.{Registered};
 ghost use Rattle.reference.specs.World.{Does, Drains, IsPlenty, append_step, declare_step, drain_step, drop_step, heartbeat_step, register_step, take_step};
+ghost use Rattle.reference.specs.declared.fault.Fault.TheVariants.{OutOfMemory};
+ghost use Rattle.stream_store.specs.Closing.{QueuesGain};
 ghost use Rattle.query_nets.specs.Queries.{PlainQuery};
 ghost use Rattle.ready_list.specs.Slots.{first_of};
-ghost use Rattle.plain_engines.specs.Calls.{IsRegistration, appended, beaten, declared, dropped, registered};
+ghost use Rattle.plain_engines.specs.Calls.{appended, beaten, declared, dropped, registered};
 ghost use Rattle.plain_engines.specs.Promises.{HasAllWaiting, KeepsItsPromises};
 ghost use Rattle.leases.specs.Drains.{LeavesOthers, RunsTurns};
+ghost use Rattle.leases.specs.Registering.{IsRegistered};
 ghost use Rattle.leases.specs.Shown.{engine_in, world_in};
 ghost use Rattle.leases.specs.Takes.{Takes};
 ghost use Rattle.leases.specs.Whole.{IsWhole};
@@ -37,7 +40,7 @@ impl Answering for Engine {
     fn query(&mut self, name: &str, text: &str, chart: Option<&Chart>) -> Result<u64, Fault>
         ensures does { Does (λ (n : ℕ). n) (world_in self.old) (register_step (world_in self.old) name.now text.now (given_by (option_copied chart.entry))) result (world_in self.new) }
         ensures whole { IsWhole self.old → IsWhole self.new }
-        ensures engine { OnOk result ((q : Registered) × ((p : PlainQuery) × (IsRegistration (engine_in self.old) name.now text.now (given_by (option_copied chart.entry)) q p × (engine_in self.new ≡ registered (engine_in self.old) q p)))) }
+        ensures engine { OnOk result ((q : Registered) × ((p : PlainQuery) × (IsRegistered (engine_in self.old) name.now text.now (given_by (option_copied chart.entry)) q p × (engine_in self.new ≡ registered (engine_in self.old) q p)))) }
         ensures err { OnErr result (engine_in self.new ≡ engine_in self.old) }
     {
         self.state.query(name, text, chart)
@@ -56,6 +59,7 @@ impl Answering for Engine {
         ensures does { Does (λ u. u) (world_in self.old) (heartbeat_step (world_in self.old) stream at) result (world_in self.new) }
         ensures whole { IsWhole self.old → IsWhole self.new }
         ensures engine { OnOk result (engine_in self.new ≡ beaten (engine_in self.old) stream at) }
+        ensures queues { OnOk result (QueuesGain (slice_get (engine_in self.old).machine.streams stream) at) }
         ensures err { OnErr result (engine_in self.new ≡ engine_in self.old) }
     {
         self.state.heartbeat(stream, at)
@@ -65,11 +69,12 @@ impl Answering for Engine {
     fn drain(&mut self, rows: u32) -> Result<(), Fault>
         ensures does { IsWhole self.old → Drains (world_in self.old) (drain_step (world_in self.old) rows) result (world_in self.new) }
         ensures whole { IsWhole self.old → IsPlenty result → IsWhole self.new }
+        ensures stays_whole { IsWhole self.old → result ≢ Err OutOfMemory → IsWhole self.new }
         ensures runs { RunsTurns (engine_in self.old) rows result (engine_in self.new) }
         ensures others { LeavesOthers (engine_in self.old) result (engine_in self.new) }
         ensures machine { (engine_in self.new).machine ≡ (engine_in self.old).machine }
         ensures idle { OnOk result (first_of (engine_in self.new).slots ≡ None) }
-        ensures all { OnOk result (IsWhole self.old → HasAllWaiting (engine_in self.new)) }
+        ensures all { OnOk result (HasAllWaiting (engine_in self.new)) }
         ensures promises { KeepsItsPromises (engine_in self.new) }
     {
         self.state.drain(rows)

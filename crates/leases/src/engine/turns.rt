@@ -25,7 +25,7 @@ impl Engine {
     pub fn lease(&mut self, rows: u32) -> Result<Leased, Fault>
         ensures leases { Leases (engine_in self.old) rows result (engine_in self.new) }
         ensures machine { (engine_in self.new).machine ≡ (engine_in self.old).machine }
-        ensures idle { result ≡ Ok Idle → (engine_in self.new).leases ≡ [] → HasAllWaiting (engine_in self.new) }
+        ensures idle { result ≡ Ok Idle → HasAllWaiting (engine_in self.new) }
         ensures promises { KeepsItsPromises (engine_in self.new) }
     {
         self.state.lease(rows)

@@ -1,11 +1,13 @@
 //! Turns that go out and come back until nothing is ready.
-ghost use Rattle.std.specs.Prelude.{◌≡◌, ◌<◌, IfOk, None, OnErr, OnOk, Some, length};
-ghost use Rattle.reference.specs.World.{IsPlenty, drain_fault};
+ghost use Rattle.std.specs.Prelude.{◌≡◌, ◌≢◌, ◌<◌, Err, IfOk, None, OnErr, OnOk, Some, length};
+ghost use Rattle.reference.specs.World.{drain_fault};
+ghost use Rattle.reference.specs.declared.fault.Fault.TheVariants.{OutOfMemory};
 ghost use Rattle.ready_list.specs.Slots.{first_of};
 ghost use Rattle.leases.specs.Drains.{HasWanted, LeavesOthers, OneHasRun, RunsFirst, RunsTurns};
 ghost use Rattle.leases.specs.Runs.{IsRunOf};
 ghost use Rattle.leases.specs.Shown.{engine_in};
 ghost use Rattle.leases.specs.Sound.{IsSound};
+ghost use Rattle.leases.specs.Turns.{lease_fault};
 ghost use Rattle.leases.specs.Whole.{IsWhole};
 
 use crate::limits::{LEASE_NUMBERS, MAX_LEASES};
@@ -23,7 +25,7 @@ impl State {
         ensures runs { RunsTurns (engine_in self.old) rows result (engine_in self.new) }
         ensures others { LeavesOthers (engine_in self.old) result (engine_in self.new) }
         ensures idle { OnOk result (first_of (engine_in self.new).slots ≡ None) }
-        ensures whole { IsWhole self.old → IsPlenty result → IsWhole self.new }
+        ensures whole { IsWhole self.old → result ≢ Err OutOfMemory → IsWhole self.new }
         ensures sound { IsSound self.new }
     {
         if rows < 1 || MAX_TURN < rows {
@@ -39,7 +41,7 @@ impl State {
         ensures runs { RunsTurns (engine_in self.old) rows result (engine_in self.new) }
         ensures others { LeavesOthers (engine_in self.old) result (engine_in self.new) }
         ensures idle { OnOk result (first_of (engine_in self.new).slots ≡ None) }
-        ensures whole { IsWhole self.old → IsPlenty result → IsWhole self.new }
+        ensures whole { IsWhole self.old → result ≢ Err OutOfMemory → IsWhole self.new }
         ensures sound { IsSound self.new }
     {
         'turns: loop {
@@ -75,6 +77,7 @@ impl State {
         requires some { 0 < rows }
         requires few { length self.old.leases.items < MAX_LEASES }
         requires numbers { self.old.next < LEASE_NUMBERS }
+        requires allowed { lease_fault (engine_in self.old) rows ≡ None }
         ensures ok { OnOk result (OneHasRun rows (engine_in self.old) (engine_in self.new)) }
         ensures err { OnErr result (HasWanted rows (engine_in self.old) (engine_in self.new)) }
         ensures sound { IsSound self.new }

@@ -4,7 +4,7 @@ ghost use Rattle.ready_list.specs.Slots.{first_of};
 ghost use Rattle.leases.specs.Leasing.{IsReadyAt, IsTurnOn, MayLeaseOn, turn_with};
 ghost use Rattle.leases.specs.Shown.{engine_in};
 ghost use Rattle.leases.specs.Sound.{IsSound};
-ghost use Rattle.leases.specs.Turns.{IsTurnOf, Leases};
+ghost use Rattle.leases.specs.Turns.{IsTurnOf, Leases, lease_fault};
 
 use crate::given::Given;
 use crate::leased::Leased;
@@ -42,6 +42,7 @@ impl State {
         requires some { 0 < rows }
         requires few { length self.old.leases.items < MAX_LEASES }
         requires numbers { self.old.next < LEASE_NUMBERS }
+        requires allowed { lease_fault (engine_in self.old) rows ≡ None }
         ensures turn { IfOk result (λ turn. IsTurnOf (engine_in self.old) rows turn (engine_in self.new)) }
         ensures err { OnErr result (engine_in self.new ≡ engine_in self.old) }
         ensures sound { IsSound self.new }

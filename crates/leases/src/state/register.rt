@@ -13,12 +13,12 @@ ghost use Rattle.reference.specs.World.{Does, register_step};
 ghost use Rattle.query_nets.specs.Queries.{PlainQuery};
 ghost use Rattle.query_nets.specs.Registrations.{MayMake};
 ghost use Rattle.ready_list.specs.Slots.{without_query};
-ghost use Rattle.plain_engines.specs.Calls.{IsRegistration, registered};
+ghost use Rattle.plain_engines.specs.Calls.{registered};
 ghost use Rattle.plain_engines.specs.Engines.{GoodEngine};
 ghost use Rattle.accepted_queries.specs.Accepted.{IsBegun, IsPlanOfText, newest};
 ghost use Rattle.running_queries.specs.Turns.{IsBeginning};
 ghost use Rattle.values.specs.Resolved.{resolved_of};
-ghost use Rattle.leases.specs.Registering.{IsNewQuery, new_slot, with_first};
+ghost use Rattle.leases.specs.Registering.{IsNewQuery, IsRegistered, new_slot, with_first};
 ghost use Rattle.leases.specs.Shown.{engine_in, world_in};
 ghost use Rattle.leases.specs.Sound.{IsSound};
 ghost use Rattle.leases.specs.Views.{place_of, query_of};
@@ -45,7 +45,7 @@ impl State {
     ) -> Result<u64, Fault>
         requires { IsSound self.old }
         ensures does { Does (λ (n : ℕ). n) (world_in self.old) (register_step (world_in self.old) name.now text.now (given_by (option_copied chart.entry))) result (world_in self.new) }
-        ensures engine { OnOk result ((q : Registered) × ((p : PlainQuery) × (IsRegistration (engine_in self.old) name.now text.now (given_by (option_copied chart.entry)) q p × (engine_in self.new ≡ registered (engine_in self.old) q p)))) }
+        ensures engine { OnOk result ((q : Registered) × ((p : PlainQuery) × (IsRegistered (engine_in self.old) name.now text.now (given_by (option_copied chart.entry)) q p × (engine_in self.new ≡ registered (engine_in self.old) q p)))) }
         ensures err { OnErr result (engine_in self.new ≡ engine_in self.old) }
         ensures sound { IsSound self.new }
     {

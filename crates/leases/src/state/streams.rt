@@ -1,9 +1,10 @@
 //! Streams that are declared, lengthened and closed.
-ghost use Rattle.std.specs.Prelude.{◌≡◌, ◌<◌, ◌++◌, ℕ, IfOk, OnErr, OnOk, Some, length};
+ghost use Rattle.std.specs.Prelude.{◌≡◌, ◌<◌, ◌++◌, ℕ, IfOk, OnErr, OnOk, Some, length, slice_get};
 ghost use Rattle.std.specs.List.{AllByRecursion};
 ghost use Rattle.reference.specs.CallViews.{texts_of};
 ghost use Rattle.reference.specs.Machine.{Registered};
 ghost use Rattle.reference.specs.World.{Does, append_step, declare_step, heartbeat_step};
+ghost use Rattle.stream_store.specs.Closing.{QueuesGain};
 ghost use Rattle.query_nets.specs.Queries.{PlainQuery, node_at};
 ghost use Rattle.plain_engines.specs.Calls.{appended, beaten, declared, is_reading};
 ghost use Rattle.plain_engines.specs.Engines.{GoodEngine, Running, kept_at, query_at};
@@ -56,6 +57,7 @@ impl State {
         requires { IsSound self.old }
         ensures does { Does (λ u. u) (world_in self.old) (heartbeat_step (world_in self.old) stream at) result (world_in self.new) }
         ensures engine { OnOk result (engine_in self.new ≡ beaten (engine_in self.old) stream at) }
+        ensures queues { OnOk result (QueuesGain (slice_get (engine_in self.old).machine.streams stream) at) }
         ensures err { OnErr result (engine_in self.new ≡ engine_in self.old) }
         ensures sound { IsSound self.new }
     {

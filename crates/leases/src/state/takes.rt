@@ -13,7 +13,7 @@ ghost use Rattle.reference.specs.Told.{IsTold};
 ghost use Rattle.reference.specs.World.{Looks, operators_of, query_named, slopes_at, stream_named};
 ghost use Rattle.running_queries.specs.Turns.{HasOperator, log_of};
 ghost use Rattle.plain_engines.specs.Engines.{answers_in, kept_at, query_at};
-ghost use Rattle.leases.specs.Looks.{IsPending, WaitsAt, lengths_from, lengths_in, queues_of};
+ghost use Rattle.leases.specs.Looks.{IsPending, WaitsAt, lengths_from, lengths_in, noughts_of, queues_of};
 ghost use Rattle.leases.specs.Shown.{engine_in, world_in};
 ghost use Rattle.leases.specs.Sound.{IsSound};
 ghost use Rattle.leases.specs.Takes.{HandsOut, Takes};
@@ -101,7 +101,7 @@ impl State {
         }
     }
 
-    /// How much waits in each queue of a query that is there; of one that does not run nothing does.
+    /// How much waits in each queue of a query that is there; in those of a broken one nothing does.
     fn lengths(&self, query: u64) -> Result<Vec<u128>, AllocError>
         requires sound { IsSound self.now }
         requires accepted { first_fault (engine_in self.now).machine (Drop query) ≡ None }
@@ -114,7 +114,10 @@ impl State {
                 running,
                 &self.registered[query as usize].plan.nodes,
             ),
-            _ => Ok(Vec::new(self.alloc)),
+            KeptQuery::Broken(_) => {
+                empty_queues(self.alloc, &self.registered[query as usize].plan.nodes)
+            },
+            KeptQuery::Dropped => Ok(Vec::new(self.alloc)),
         }
     }
 
@@ -223,6 +226,17 @@ fn queues(
     for k in 0..nodes.len() {
         let (left, right) = query.pending(streams, k);
         push_queues(&mut lengths, &nodes[k], left, right)?;
+    }
+    Ok(lengths)
+}
+
+/// A nought for each queue of the operators of a broken query.
+fn empty_queues(alloc: Global, nodes: &[Node]) -> Result<Vec<u128>, AllocError>
+    ensures { IfOk result (λ v. v.items ≡ noughts_of (nodes_of nodes.now)) }
+{
+    let mut lengths = Vec::new(alloc);
+    for k in 0..nodes.len() {
+        push_queues(&mut lengths, &nodes[k], 0, 0)?;
     }
     Ok(lengths)
 }

@@ -40,10 +40,10 @@ gone c retold = record {
 
 pub returns-clause-turn : goal.returns-clause-turn
 returns-clause-turn c =
-    goes_out c.args.self.now (after c) c.args.slot.now c.side-side.result c.args.rows c.query-query.result c.operator-operator.result c.in_ok-turn.turn c.requires.sound c.requires.first
+    goes_out c.args.self.now (after c) c.args.slot.now c.side-side.result c.args.rows c.query-query.result c.operator-operator.result c.in_ok-turn.turn c.requires.sound c.requires.first c.requires.allowed
     c.query-query.ensures c.operator-operator.ensures c.in_ok-turn.ensures (gone c c.change.ensures) c.turn_of.result c.turn_of.ensures
 
 pub returns-clause-sound : goal.returns-clause-sound
 returns-clause-sound c =
-    sound_out c.args.self.now (after c) c.args.slot.now c.side-side.result c.args.rows c.query-query.result c.operator-operator.result c.in_ok-turn.turn c.requires.sound c.requires.first
+    sound_out c.args.self.now (after c) c.args.slot.now c.side-side.result c.args.rows c.query-query.result c.operator-operator.result c.in_ok-turn.turn c.requires.sound c.requires.first c.requires.allowed
     c.query-query.ensures c.operator-operator.ensures c.in_ok-turn.ensures (gone c c.change.ensures) c.requires.few c.requires.numbers

@@ -38,6 +38,9 @@ returns-clause-engine c =
     let beats : IsHeartbeat (engine_in c.args.self.now) c.args.stream c.args.at = record { accepted = simp (to_z-of_z w64 c.args.at c.ranges.at) at c.in_ok-rows.ensures.accepted; queues = simp (to_z-of_z w64 c.args.at c.ranges.at) at c.in_ok-close.ensures.queues } in
     beats_engine c.args.self.now c.close.new.self c.args.stream c.args.at c.requires beats (simp (to_z-of_z w64 c.args.at c.ranges.at) at c.in_ok-close.ensures.ok) c.deref-2.result.now (c.deref-2.ensures.value ∙ c.in_ok-slots.ensures) c.retell.new.self c.retell.ensures
 
+pub returns-clause-queues : goal.returns-clause-queues
+returns-clause-queues c = simp (to_z-of_z w64 c.args.at c.ranges.at) at c.in_ok-close.ensures.queues
+
 pub returns-clause-sound : goal.returns-clause-sound
 returns-clause-sound c =
     let beats : IsHeartbeat (engine_in c.args.self.now) c.args.stream c.args.at = record { accepted = simp (to_z-of_z w64 c.args.at c.ranges.at) at c.in_ok-rows.ensures.accepted; queues = simp (to_z-of_z w64 c.args.at c.ranges.at) at c.in_ok-close.ensures.queues } in

@@ -1,4 +1,4 @@
-use Rattle.std.proofs.Common.{ap, sym}
+use Rattle.std.proofs.Common.{ap, refl, sym}
 use Rattle.std.specs.Option.{option_copied}
 use Rattle.plan.specs.Chart.{given_by}
 use Rattle.reference.specs.Standing.{found_of}
@@ -47,7 +47,19 @@ returns-in-Ok-register-clause-engine c =
     let accepted = found_accepted e.machine c.args.name.now c.args.text.now given (found_of c.in-Ok.plan) (sym c.in_default.ensures.first) c.in-Ok.ensures.finds in
     let r = c.in-Ok-register.ensures.engine in (
       newest e.machine c.args.name.now c.in-Ok.plan,
-      (r.0, (registrations_run e c.args.name.now c.args.text.now given c.in-Ok.plan r.0 c.requires.good c.requires.columns accepted c.in-Ok.ensures.plan r.1.0, r.1.1)),
+      (
+        r.0,
+        (
+          record {
+            registration = registrations_run e c.args.name.now c.args.text.now given c.in-Ok.plan r.0 c.requires.good c.requires.columns accepted c.in-Ok.ensures.plan r.1.0;
+            plan = c.in-Ok.plan;
+            of_text = c.in-Ok.ensures.plan;
+            is = refl;
+            begun = r.1.0;
+          },
+          r.1.1,
+        ),
+      ),
     )
 
 pub returns-in-Err-register-clause-does : goal.returns-in-Err-register-clause-does

@@ -1,8 +1,8 @@
 -- Each turn that goes out comes back, until no operator may take anything or something is scarce.
-use Rattle.std.proofs.Common.{◌≡◌, ◌+◌, refl, sym, ap, ◌∙◌, subst, arith}
-use Rattle.reference.specs.World.{IsPlenty}
+use Rattle.std.proofs.Common.{◌≡◌, ◌≢◌, ◌+◌, Err, refl, sym, ap, ◌∙◌, subst, arith}
+use Rattle.reference.specs.declared.fault.Fault.TheVariants.{OutOfMemory}
 use Rattle.ready_list.specs.Slots.{first_of}
-use Rattle.leases.proofs.DrainLemmas.{has_none, has_run, more_run, none_run, refused_leaves, same_err, step_counts, step_ends, step_lacks, step_leaves, step_whole}
+use Rattle.leases.proofs.DrainLemmas.{has_none, has_run, more_run, none_run, refused_leaves, same_err, step_counts, step_ends, step_leaves, step_stays, step_whole}
 use Rattle.leases.specs.Drains.{LeavesOthers, OneHasRun, RunsTurns, SomeHaveRun}
 use Rattle.leases.specs.Shown.{engine_in}
 use Rattle.leases.specs.Whole.{IsWholeEngine}
@@ -23,9 +23,11 @@ returns-in_err-run_first-clause-others c =
     (refused_leaves (engine_in c.args.self.now) (engine_in c.turns.self) (engine_in c.run_first.new.self) c.args.rows c.in_err-run_first.field-0.0 c.turns.invariant.others c.turns.invariant.sound.good c.in_err-run_first.ensures.runs)
 
 pub returns-in_err-run_first-clause-whole : goal.returns-in_err-run_first-clause-whole
-returns-in_err-run_first-clause-whole c = λ whole plenty.
-    same_err c.from_residual.result c.in_err-run_first.field-0.0 (λ r. IsPlenty r → IsWholeEngine (engine_in c.run_first.new.self)) c.from_residual.ensures.1
-    (λ had. absurd (step_lacks (engine_in c.turns.self) (engine_in c.run_first.new.self) c.args.rows c.in_err-run_first.field-0.0 c.in_err-run_first.ensures.runs had)) plenty
+returns-in_err-run_first-clause-whole c = λ whole had.
+    same_err c.from_residual.result c.in_err-run_first.field-0.0 (λ r. r ≢ Err OutOfMemory → IsWholeEngine (engine_in c.run_first.new.self)) c.from_residual.ensures.1
+    (λ had_one.
+    let same : engine_in c.run_first.new.self ≡ engine_in c.turns.self = step_stays (engine_in c.turns.self) (engine_in c.run_first.new.self) c.args.rows c.in_err-run_first.field-0.0 c.in_err-run_first.ensures.runs (λ e. had_one (ap Err e)) in
+    subst IsWholeEngine (sym same) (c.turns.invariant.whole whole)) had
 
 -- NOTHING MAY BE TAKEN
 pub returns-then-not-branch-clause-runs : goal.returns-then-not-branch-clause-runs
@@ -44,7 +46,7 @@ returns-then-not-branch-clause-idle c =
     ap (λ e. first_of e.slots) none.1 ∙ none.0
 
 pub returns-then-not-branch-clause-whole : goal.returns-then-not-branch-clause-whole
-returns-then-not-branch-clause-whole c = λ whole plenty.
+returns-then-not-branch-clause-whole c = λ whole had.
     let none = has_none (engine_in c.turns.self) (engine_in c.run_first.new.self) c.args.rows c.in_ok-run_first.field-0 c.if-not-branch.true c.in_ok-run_first.ensures.runs in
     subst IsWholeEngine (sym none.1) (c.turns.invariant.whole whole)
 

@@ -1,6 +1,6 @@
 -- Where no operator may take anything and all turns are back, all that is closed and not taken waits.
-use Rattle.std.proofs.Common.{OnOk, subst}
-use Rattle.leases.proofs.WorldLemmas.{drains_are, drains_wait}
+use Rattle.std.proofs.Common.{OnOk, subst, sym}
+use Rattle.leases.proofs.WorldLemmas.{drains_are, drains_wait, plenty_has}
 use Rattle.plain_engines.proofs.PromiseLemmas.{keeps_its_promises}
 use Rattle.plain_engines.specs.Promises.{HasAllWaiting}
 use Rattle.reference.specs.World.{Drains, drain_step}
@@ -16,10 +16,11 @@ returns-clause-does c =
     drains_are (engine_in c.self.inside.state) (engine_in c.drain.new.self) c.args.rows c.drain.result c.drain.ensures.sound.good c.drain.ensures.sound.gone c.drain.ensures.runs c.drain.ensures.idle
     (c.drain.ensures.whole whole))
 
+pub returns-clause-whole : goal.returns-clause-whole
+returns-clause-whole c = λ whole plenty. c.drain.ensures.whole (subst IsWhole (sym c.self.view_is) whole) (plenty_has c.drain.result plenty)
+
 pub returns-clause-all : goal.returns-clause-all
-returns-clause-all c =
-    subst (λ s. OnOk c.drain.result (IsWhole s → HasAllWaiting (engine_in c.drain.new.self))) c.self.view_is
-    (drains_wait (engine_in c.drain.new.self) c.drain.result c.drain.ensures.sound.good c.drain.ensures.idle c.drain.ensures.whole)
+returns-clause-all c = drains_wait (engine_in c.drain.new.self) c.drain.result c.drain.ensures.sound.good c.drain.ensures.idle
 
 pub returns-clause-promises : goal.returns-clause-promises
 returns-clause-promises c = keeps_its_promises _ c.drain.ensures.sound.good

@@ -137,7 +137,7 @@ any_last f (x ∷ ls) l t = let u : list_any f (ls ++ l ∷ []) ≡ true = any_l
 is_of_own : (l : Lease) → is_of l.query l.operator l ≡ true
 is_of_own l = let u : (l.query == l.query) ≡ true = eq-eqb l.query l.query refl in let v : (l.operator == l.operator) ≡ true = eq-eqb l.operator l.operator refl in rw (u, v) refl
 
-some_slot : {a b : Slot} → Some a ≡ Some b → a ≡ b
+pub some_slot : {a b : Slot} → Some a ≡ Some b → a ≡ b
 some_slot e = cc
 
 -- what is ready is of the slot's instant

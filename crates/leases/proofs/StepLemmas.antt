@@ -30,7 +30,7 @@ use Rattle.leases.proofs.DrainLemmas as drain
 use Rattle.leases.proofs.FinishBackLemmas.{AreSteps, HasComeBack, back_below, back_root, may_apply, may_look, retell_here, retell_over, sound_below, sound_root, wired_operators}
 use Rattle.leases.proofs.FinishLemmas.{below_of, to_later}
 use Rattle.leases.proofs.FinishSoundLemmas.{sound_broken}
-use Rattle.leases.proofs.LeaseLemmas.{any_last, out_of, turn_out}
+use Rattle.leases.proofs.LeaseLemmas.{any_last, out_of, some_slot, turn_out}
 use Rattle.leases.proofs.LeaveLemmas.{fewer}
 use Rattle.leases.proofs.LookLemmas.{asks_on}
 use Rattle.leases.proofs.RetoldLemmas.{changed_again, changed_leaves}
@@ -98,9 +98,6 @@ above_same (Some z) A B s t same h = (h.0, h.1 ∙ same h.0)
 pub held_on_err : {A E P : Type 0} (r : Result A E) → P → OnErr r P
 held_on_err (Ok a) h = tt
 held_on_err (Err e) h = h
-
-some_slot : {a b : Slot} → Some a ≡ Some b → a ≡ b
-some_slot e = cc
 
 -- THE TURN of the first slot, that was run
 module _ (old : State) (s : Slot) (rows : ℕ) (d : Parts) (sound : IsSound old) (first : first_of old.slots ≡ Some s) (allowed : lease_fault (engine_in old) rows ≡ None) (numbers : old.next < LEASE_NUMBERS) (run : IsRunOf (engine_in old) s rows d) where

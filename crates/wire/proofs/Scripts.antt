@@ -1,12 +1,12 @@
 -- A script along its requests.
-use Rattle.std.proofs.Common.{◌≡◌, ℕ, Bool, true, false, List, [], ◌∷◌, ◌++◌, Option, Some, None, Result, Ok, Err, refl, ap, sym, ◌∙◌, subst, append_assoc, inl, inr}
+use Rattle.std.proofs.Common.{◌≡◌, ℕ, Bool, true, false, List, [], ◌∷◌, ◌++◌, Option, Some, None, Result, Ok, Err, refl, ap, sym, ◌∙◌, subst, append_assoc, ◌⊎◌, inl, inr}
 use Rattle.std.specs.Io.KnownBytes.{Appends, prepend_known}
 use Rattle.wire.specs.Devices.{AppendsFront}
 use Rattle.wire.specs.Calls.{Call, call_of}
 use Rattle.wire.specs.Printed.{Answer, unread, line_of}
 use Rattle.wire.specs.Requests.{requests_of, Reads, BeginsWithRequest, HasNoRequest}
 use Rattle.reference.specs.World.{World}
-use Rattle.wire.specs.Script.{answered, replies, script, Says, Begins, Scripts, Replies, Runs, Stands, served, is_scarce_answer}
+use Rattle.wire.specs.Script.{answered, replies, script, Says, Begins, Scripts, Replies, Runs, Stands, TellsScarcity, served, is_scarce_answer}
 use Rattle.wire.specs.declared.request.Request.{Request}
 use Rattle.wire.specs.declared.request.WireFault.{WireFault}
 use Rattle.wire.specs.declared.request.WireFault.TheVariants.{NotJson, BadRequest, LineTooLong, OutOfMemory}
@@ -41,6 +41,7 @@ Goes false w later more now = Runs w later more now
 pub record SoFar (W : Type 0) (first : World) (text : List ℕ) (w : World) (rest : List ℕ) (written : List ℕ) : Type 0 where
   pub scarce : Bool
   pub whole : scarce ≡ false → W
+  pub tells : scarce ≡ true → TellsScarcity written
   pub goes_on : (more : List ℕ) → Follows scarce (script w rest) more → Says (script first text) (written ++ more)
   pub carried : List (Result Call WireFault)
   pub split : requests_of text ≡ carried ++ requests_of rest
@@ -115,12 +116,22 @@ runs_past first carried defined later written line more now run =
     subst (λ rs. Runs first rs ((written ++ line) ++ more) now) (sym (append_assoc carried (defined ∷ []) later))
     (subst (λ t. Runs first (carried ++ defined ∷ later) t now) (sym (append_assoc written line more)) run)
 
+tells_before : (written line : List ℕ) → TellsScarcity written → TellsScarcity (written ++ line)
+tells_before written line t = (
+  t.0,
+  t.1,
+  t.2 ++ line,
+  t.3,
+  ap (λ l. l ++ line) t.4 ∙ append_assoc (t.0 ++ line_of t.1) t.2 line,
+)
+
 more_by : (W W' : Type 0) (first : World) (text : List ℕ) (w new : World) (rest left written : List ℕ) (defined : Result Call WireFault) (answer : Answer) (b : Bool) → is_scarce_answer answer ≡ b
     → SoFar W first text w rest written → requests_of rest ≡ defined ∷ requests_of left → (W → Replies (served w defined) answer new) → (W → is_scarce_answer answer ≡ false → W')
     → SoFar W' first text new left (written ++ line_of answer)
 more_by W W' first text w new rest left written defined answer true is so e s keeps = record {
   scarce = true;
   whole = λ plenty. absurd (cc);
+  tells = λ scarce. (written, answer, [], is, sym (append_nothing (written ++ line_of answer)));
   goes_on = λ more f. subst (λ t. Says (script first text) t) (sym (append_assoc written (line_of answer) more))
       (so.goes_on (line_of answer ++ more) (follows_scarce so.scarce w rest left defined answer more e is));
   carried = so.carried ++ defined ∷ [];
@@ -131,6 +142,7 @@ more_by W W' first text w new rest left written defined answer true is so e s ke
 more_by W W' first text w new rest left written defined answer false is so e s keeps = record {
   scarce = so.scarce;
   whole = λ plenty. keeps (so.whole plenty) is;
+  tells = λ scarce. tells_before written (line_of answer) (so.tells scarce);
   goes_on = λ more f. subst (λ t. Says (script first text) t) (sym (append_assoc written (line_of answer) more))
       (so.goes_on (line_of answer ++ more) (follows_line so.scarce w new rest left defined answer more e (λ plenty. s (so.whole plenty)) is f));
   carried = so.carried ++ defined ∷ [];
@@ -157,7 +169,7 @@ progress_none W first source sink pending whole e text held is told = (
   [],
   ap (prepend_known pending) is ∙ ap (λ p. Some (p ++ text)) e,
   told ∙ ap Some (sym (append_nothing held)),
-  record { scarce = false; whole = λ plenty. whole; goes_on = λ more f. f; carried = []; split = refl; runs_on = λ later more now f. f },
+  record { scarce = false; whole = λ plenty. whole; tells = λ scarce. absurd (cc); goes_on = λ more f. f; carried = []; split = refl; runs_on = λ later more now f. f },
 )
 
 some_same : (x y : List ℕ) → Some x ≡ Some y → x ≡ y
@@ -258,3 +270,16 @@ ran_all W first source old w before sink p none text held is told =
     let so = q.4 in
     let all : so.carried ≡ requests_of text = sym (so.split ∙ ap (λ l. so.carried ++ l) (no_request before q.0 none q.2) ∙ append_none so.carried) in
     (q.1, q.3, subst (λ rs. Runs first rs q.1 w) all (runs_so_far W first text w q.0 q.1 so))
+
+-- ---- the same, of the engine
+
+whole_or : (W : Type 0) (written : List ℕ) (scarce : Bool) → (scarce ≡ false → W) → (scarce ≡ true → TellsScarcity written) → W ⊎ TellsScarcity written
+whole_or W written true whole tells = inr (tells refl)
+whole_or W written false whole tells = inl (whole refl)
+
+pub whole_so_far : (W : Type 0) (first : World) (source old : Option (List ℕ)) (w : World) (before sink : Option (List ℕ)) → Progress W first source old w before sink
+    → Scripts (λ _ written. W ⊎ TellsScarcity written) source old sink
+whole_so_far W first source old w before sink p text held is told =
+    let q = p text held is told in
+    let so = q.4 in
+    (q.1, q.3, whole_or W q.1 so.scarce so.whole so.tells)

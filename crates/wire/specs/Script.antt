@@ -98,6 +98,11 @@ Stands first requests written now =
     (carried : List (Result Call WireFault)) × (rest : List (Result Call WireFault)) × (more : List ℕ)
     × (requests ≡ carried ++ rest) × Runs first carried (written ++ more) now
 
+-- A line of the written text says that memory, or numbers for turns, were scarce.
+abbrev pub TellsScarcity : List ℕ → Type 0
+TellsScarcity written =
+    (front : List ℕ) × (answer : Answer) × (rest : List ℕ) × (is_scarce_answer answer ≡ true) × (written ≡ front ++ line_of answer ++ rest)
+
 -- What a sink took is a text that P holds of, where source and sink tell their bytes.
 abbrev pub Scripts : (List ℕ → List ℕ → Type 0) → Option (List ℕ) → Option (List ℕ) → Option (List ℕ) → Type 0
 Scripts P source old new =

@@ -9,7 +9,8 @@ use std::alloc::{AllocError, Global};
 
 const CHUNK: usize = 65_536;
 
-const LONGEST_LINE: usize = 65_536;
+/// The most bytes of a line, without its line feed.
+pub(crate) const LONGEST_LINE: usize = 65_536;
 
 const GROUP: usize = 64;
 

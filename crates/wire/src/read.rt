@@ -9,7 +9,7 @@ ghost use Rattle.wire.specs.Requests.{is_blank_byte, asked_in, call_in, json_of,
 use crate::decode::request_of;
 use crate::device::Source;
 use crate::fault::ScriptFault;
-use crate::lines::Lines;
+use crate::lines::{LONGEST_LINE, Lines};
 use crate::request::{Request, WireFault};
 use serde_json::Value;
 use std::alloc::Global;
@@ -48,7 +48,7 @@ fn short_request(alloc: Global, line: &[u8]) -> Result<Request, WireFault>
 pub fn read_request(alloc: Global, line: &[u8]) -> Result<Request, WireFault>
     ensures { Reads (asked_in line.now) result }
 {
-    if line.len() > 65_536 {
+    if line.len() > LONGEST_LINE {
         return Err(WireFault::LineTooLong);
     }
     short_request(alloc, line)
@@ -57,7 +57,8 @@ pub fn read_request(alloc: Global, line: &[u8]) -> Result<Request, WireFault>
 /// The next request of the source or what is wrong with its line, or none at the end. Blank lines are skipped.
 ///
 /// A line that is no request is used up, as is one for which memory was refused: the next call goes on behind it.
-/// `ScriptFault::Read` where the source failed.
+/// `ScriptFault::Read` where the source failed. What it had given of a line by then is lost, and the next call would take the rest
+/// for a line of its own: a caller has to stop there, as `run_script` does.
 pub fn next_request<S: Source>(
     alloc: Global,
     lines: &mut Lines,

@@ -1,10 +1,10 @@
 //! Scripts of requests.
-ghost use Rattle.std.specs.Prelude.{◌≡◌, ◌<◌, ◌≤◌, ℕ, List, Result, IfErr, OnOk, OnErr, false};
+ghost use Rattle.std.specs.Prelude.{◌≡◌, ◌<◌, ◌≤◌, ℕ, List, Result, IfErr, OnOk, OnErr, false, ◌⊎◌};
 ghost use Rattle.wire.specs.Devices.{Puts, Rises};
 ghost use Rattle.wire.specs.Calls.{Call, append, heartbeat, take_rows, discard, show_plan, call_of};
 ghost use Rattle.wire.specs.Printed.{Answer, answer_of, line_of};
 ghost use Rattle.wire.specs.Requests.{Reads, requests_of};
-ghost use Rattle.wire.specs.Script.{answered, done_of, is_scarce_answer, script, Says, Begins, Runs, Scripts, Stands, Replies, served};
+ghost use Rattle.wire.specs.Script.{answered, done_of, is_scarce_answer, script, Says, Begins, Runs, Scripts, Stands, TellsScarcity, Replies, served};
 ghost use Rattle.wire.specs.declared.request.WireFault.{WireFault};
 
 use crate::device::{Sink, Source};
@@ -140,9 +140,10 @@ fn respond<K: Sink, E: Answering>(
 /// 1 to 1,024, which changes no reply. At the start the engine has to be whole.
 ///
 /// What is written is the script's text of what the source gave, up to the first reply that says want of memory, or of numbers
-/// for turns, from which on it rests with the engine. `ScriptFault::Read` and `ScriptFault::Write` where that device failed:
-/// then what is written is a beginning of that text, and the calls carried out stand: the engine is as they left it.
-/// `ScriptFault::Memory` where the line's buffers were refused, before anything was read.
+/// for turns, from which on it rests with the engine. Where no reply says so, the engine is whole at the end.
+/// `ScriptFault::Read` and `ScriptFault::Write` where that device failed: then what is written is a beginning of that text, and
+/// the calls carried out stand: the engine is as they left it. `ScriptFault::Memory` where the line's buffers were refused,
+/// before anything was read: all is as it was.
 pub fn run_script<S: Source, K: Sink, E: Answering>(
     alloc: Global,
     source: &mut S,
@@ -160,12 +161,15 @@ pub fn run_script<S: Source, K: Sink, E: Answering>(
         (S.left source.old) (K.taken sink.old) (K.taken sink.new)) }
     ensures stands { OnErr result (Scripts (λ text written. Stands (E.world engine.old) (requests_of text) written (E.world engine.new))
         (S.left source.old) (K.taken sink.old) (K.taken sink.new)) }
+    ensures kept { OnOk result (Scripts (λ _ written. E.is_whole engine.new ⊎ TellsScarcity written)
+        (S.left source.old) (K.taken sink.old) (K.taken sink.new)) }
     ensures read { IfErr result (λ e. e ≡ ScriptFault.Read
         → Rises (S.failures source.old) (S.failures source.new) × (K.failures sink.new ≡ K.failures sink.old)) }
     ensures write { IfErr result (λ e. e ≡ ScriptFault.Write
         → Rises (K.failures sink.old) (K.failures sink.new) × (S.failures source.new ≡ S.failures source.old)) }
+    ensures sound { OnOk result ((S.failures source.new ≡ S.failures source.old) × (K.failures sink.new ≡ K.failures sink.old)) }
     ensures memory { IfErr result (λ e. e ≡ ScriptFault.Memory
-        → (K.taken sink.new ≡ K.taken sink.old) × (E.world engine.new ≡ E.world engine.old)) }
+        → (source.new ≡ source.old) × (sink.new ≡ sink.old) × (engine.new ≡ engine.old)) }
 {
     let Ok(mut lines) = Lines::new(alloc) else {
         return Err(ScriptFault::Memory);

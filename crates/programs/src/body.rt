@@ -3,69 +3,58 @@ ghost use Rattle.std.specs.Prelude.{◌≡◌, ◌≢◌, ◌<◌, ◌≤◌, �
 ghost use Rattle.clap.specs.Words.{kind_of};
 ghost use Rattle.reference.specs.World as world;
 ghost use Rattle.wire.specs.Devices.{Rises};
+ghost use Rattle.wire.specs.Script.{Scripts, TellsScarcity};
 ghost use Rattle.programs.specs.CommandLine.{refusals};
-ghost use Rattle.programs.specs.Run.{Answers, IsWrong, status_of};
+ghost use Rattle.programs.specs.Run.{Answers, Leads, Failed, Told, ToldSome, IsWrong, fault_line};
 
+use crate::faults::{WRONG_WORDS, fail, lack_memory, tell};
 use crate::options::run_options;
-use arrayvec::ArrayString;
 use clap::Error;
 use clap::error::ErrorKind;
 use leases::Engine;
 use reference::{Answering, Fault, Plain};
 use std::alloc::Global;
 use std::convert::AsStr;
-use std::fmt::Write;
 use wire::{ScriptFault, Sink, Source, put, run_script};
 
-// Says a fault behind the program's name. A sink of errors that fails is left alone.
-fn tell<E: Sink>(errors: &mut E, fault: &ScriptFault) {
-    let mut text: ArrayString<64> = ArrayString::new();
-    let _ = write!(text, "cqlrun: {fault}\n");
-    let _ = put(errors, text.as_str().as_bytes());
-}
-
-fn status_of(fault: &ScriptFault) -> u8
-    ensures { result ≡ status_of fault.now }
+// Says clap's text of a wrong command line, or where memory is refused for it, a line of our own.
+fn correct<E: Sink>(alloc: Global, error: &Error, errors: &mut E) -> u8
+    ensures status { result ≡ 2 }
+    ensures told { ToldSome (E.taken errors.old) (E.taken errors.new) (E.failures errors.old) (E.failures errors.new) }
 {
-    match fault {
-        ScriptFault::Read | ScriptFault::Write => 1,
-        ScriptFault::Memory => 3,
+    match format!(in alloc; "{error}") {
+        Ok(text) if !text.is_empty() => tell(errors, text.as_str()),
+        _ => tell(errors, "cqlrun: wrong command line\n"),
     }
-}
-
-// Ends with a fault.
-fn fail<E: Sink>(errors: &mut E, fault: &ScriptFault) -> u8
-    ensures { result ≡ status_of fault.now }
-{
-    tell(errors, fault);
-    status_of(fault)
-}
-
-/// Says that memory was refused at the start, and gives the program's status.
-pub fn lack_memory<E: Sink>(errors: &mut E) -> u8
-    ensures { result ≡ 3 }
-{
-    fail(errors, &ScriptFault::Memory)
+    WRONG_WORDS
 }
 
 // Answers words that ask for no run.
 fn refuse<O: Sink, E: Sink>(alloc: Global, error: &Error, sink: &mut O, errors: &mut E) -> u8
-    ensures memory { kind_of error.now ≡ ErrorKind.OutOfMemory → (result ≡ 3) × (O.taken sink.new ≡ O.taken sink.old) }
+    ensures lacks { kind_of error.now ≡ ErrorKind.OutOfMemory → result ≡ 3 }
     ensures wrong { kind_of error.now ≢ ErrorKind.DisplayHelp → kind_of error.now ≢ ErrorKind.DisplayVersion
-        → ((result ≡ 2) ⊎ (result ≡ 3)) × (O.taken sink.new ≡ O.taken sink.old) }
+        → ((result ≡ 2) ⊎ (result ≡ 3)) × (sink.new ≡ sink.old) }
+    ensures mistaken { kind_of error.now ≢ ErrorKind.OutOfMemory → kind_of error.now ≢ ErrorKind.DisplayHelp
+        → kind_of error.now ≢ ErrorKind.DisplayVersion → result ≡ 2 }
     ensures help { kind_of error.now ≡ ErrorKind.DisplayHelp → (result ≡ 0) ⊎ (result ≡ 1) ⊎ (result ≡ 3) }
-    ensures failed { result ≡ 1 → Rises (O.failures sink.old) (O.failures sink.new) }
+    ensures silent { result ≡ 0 → errors.new ≡ errors.old }
+    ensures sound { result ≢ 1 → O.failures sink.new ≡ O.failures sink.old }
+    ensures failed { result ≡ 1 → Rises (O.failures sink.old) (O.failures sink.new)
+        × Told (E.taken errors.old) (E.taken errors.new) (E.failures errors.old) (E.failures errors.new) (fault_line ScriptFault.Write) }
+    ensures told { result ≡ 2 → (sink.new ≡ sink.old)
+        × ToldSome (E.taken errors.old) (E.taken errors.new) (E.failures errors.old) (E.failures errors.new) }
+    ensures memory { result ≡ 3 → (sink.new ≡ sink.old)
+        × Told (E.taken errors.old) (E.taken errors.new) (E.failures errors.old) (E.failures errors.new) (fault_line ScriptFault.Memory) }
 {
     if error.kind() == ErrorKind::OutOfMemory {
-        return fail(errors, &ScriptFault::Memory);
+        return lack_memory(errors);
+    }
+    if error.use_stderr() {
+        return correct(alloc, error, errors);
     }
     let Ok(text) = format!(in alloc; "{error}") else {
-        return fail(errors, &ScriptFault::Memory);
+        return lack_memory(errors);
     };
-    if error.use_stderr() {
-        let _ = put(errors, text.as_str().as_bytes());
-        return 2;
-    }
     match put(sink, text.as_str().as_bytes()) {
         Ok(()) => 0,
         Err(_) => fail(errors, &ScriptFault::Write),
@@ -84,8 +73,16 @@ fn run_lines<N: Answering, I: Source, O: Sink, E: Sink>(
     requires turn { 0 < turn × turn ≤ 1024 }
     requires whole { N.is_whole engine.old }
     ensures answers { Answers (N.world engine.old) result (I.left source.old) (O.taken sink.old) (O.taken sink.new) }
+    ensures leads { Leads (N.world engine.old) (N.world engine.new) result (I.left source.old) (O.taken sink.old) (O.taken sink.new) }
+    ensures kept { result ≡ 0 → Scripts (λ _ written. N.is_whole engine.new ⊎ TellsScarcity written)
+        (I.left source.old) (O.taken sink.old) (O.taken sink.new) }
     ensures status { (result ≡ 0) ⊎ (result ≡ 1) ⊎ (result ≡ 3) }
-    ensures failed { result ≡ 1 → Rises (I.failures source.old) (I.failures source.new) ⊎ Rises (O.failures sink.old) (O.failures sink.new) }
+    ensures silent { result ≡ 0 → errors.new ≡ errors.old }
+    ensures sound { result ≢ 1 → (I.failures source.new ≡ I.failures source.old) × (O.failures sink.new ≡ O.failures sink.old) }
+    ensures failed { result ≡ 1 → Failed (λ fault. Told (E.taken errors.old) (E.taken errors.new) (E.failures errors.old) (E.failures errors.new) (fault_line fault))
+        (I.failures source.old) (I.failures source.new) (O.failures sink.old) (O.failures sink.new) }
+    ensures memory { result ≡ 3 → (source.new ≡ source.old) × (sink.new ≡ sink.old) × (engine.new ≡ engine.old)
+        × Told (E.taken errors.old) (E.taken errors.new) (E.failures errors.old) (E.failures errors.new) (fault_line ScriptFault.Memory) }
 {
     match run_script(alloc, source, sink, engine, turn) {
         Ok(()) => 0,
@@ -110,10 +107,21 @@ pub fn run_over<'a, S: AsStr, N: Answering, I: Source, O: Sink, E: Sink>(
     requires { N.is_whole engine.old }
     ensures answers { refusals (map S.text words.entry.now) ≡ []
         → Answers (N.world engine.old) result (I.left source.old) (O.taken sink.old) (O.taken sink.new) }
+    ensures leads { refusals (map S.text words.entry.now) ≡ []
+        → Leads (N.world engine.old) (N.world engine.new) result (I.left source.old) (O.taken sink.old) (O.taken sink.new) }
+    ensures kept { refusals (map S.text words.entry.now) ≡ [] → result ≡ 0 → Scripts (λ _ written. N.is_whole engine.new ⊎ TellsScarcity written)
+        (I.left source.old) (O.taken sink.old) (O.taken sink.new) }
     ensures status { refusals (map S.text words.entry.now) ≡ [] → (result ≡ 0) ⊎ (result ≡ 1) ⊎ (result ≡ 3) }
-    ensures failed { result ≡ 1 → Rises (I.failures source.old) (I.failures source.new) ⊎ Rises (O.failures sink.old) (O.failures sink.new) }
     ensures help { refusals (map S.text words.entry.now) ≡ ErrorKind.DisplayHelp ∷ [] → (result ≡ 0) ⊎ (result ≡ 1) ⊎ (result ≡ 3) }
-    ensures wrong { IsWrong (refusals (map S.text words.entry.now)) → ((result ≡ 2) ⊎ (result ≡ 3)) × (O.taken sink.new ≡ O.taken sink.old) }
+    ensures wrong { IsWrong (refusals (map S.text words.entry.now)) → ((result ≡ 2) ⊎ (result ≡ 3)) × (sink.new ≡ sink.old) }
+    ensures unread { refusals (map S.text words.entry.now) ≢ [] → (source.new ≡ source.old) × (engine.new ≡ engine.old) }
+    ensures silent { result ≡ 0 → errors.new ≡ errors.old }
+    ensures sound { result ≢ 1 → (I.failures source.new ≡ I.failures source.old) × (O.failures sink.new ≡ O.failures sink.old) }
+    ensures failed { result ≡ 1 → Failed (λ fault. Told (E.taken errors.old) (E.taken errors.new) (E.failures errors.old) (E.failures errors.new) (fault_line fault))
+        (I.failures source.old) (I.failures source.new) (O.failures sink.old) (O.failures sink.new) }
+    ensures told { result ≡ 2 → ToldSome (E.taken errors.old) (E.taken errors.new) (E.failures errors.old) (E.failures errors.new) }
+    ensures memory { result ≡ 3 → (source.new ≡ source.old) × (sink.new ≡ sink.old) × (engine.new ≡ engine.old)
+        × Told (E.taken errors.old) (E.taken errors.new) (E.failures errors.old) (E.failures errors.new) (fault_line ScriptFault.Memory) }
 {
     match run_options(alloc, words) {
         Ok(options) => run_lines(alloc, options.turn, engine, source, sink, errors),
@@ -134,7 +142,12 @@ fn run_made<N: Answering + Drop, I: Source, O: Sink, E: Sink>(
     requires made { IfOk made (λ engine. N.is_whole engine × (N.world engine ≡ world.empty)) }
     ensures answers { Answers world.empty result (I.left source.old) (O.taken sink.old) (O.taken sink.new) }
     ensures status { (result ≡ 0) ⊎ (result ≡ 1) ⊎ (result ≡ 3) }
-    ensures failed { result ≡ 1 → Rises (I.failures source.old) (I.failures source.new) ⊎ Rises (O.failures sink.old) (O.failures sink.new) }
+    ensures silent { result ≡ 0 → errors.new ≡ errors.old }
+    ensures sound { result ≢ 1 → (I.failures source.new ≡ I.failures source.old) × (O.failures sink.new ≡ O.failures sink.old) }
+    ensures failed { result ≡ 1 → Failed (λ fault. Told (E.taken errors.old) (E.taken errors.new) (E.failures errors.old) (E.failures errors.new) (fault_line fault))
+        (I.failures source.old) (I.failures source.new) (O.failures sink.old) (O.failures sink.new) }
+    ensures memory { result ≡ 3 → (source.new ≡ source.old) × (sink.new ≡ sink.old)
+        × Told (E.taken errors.old) (E.taken errors.new) (E.failures errors.old) (E.failures errors.new) (fault_line ScriptFault.Memory) }
 {
     match made {
         Ok(mut engine) => run_lines(alloc, turn, &mut engine, source, sink, errors),
@@ -154,9 +167,16 @@ pub fn run<'a, S: AsStr, I: Source, O: Sink, E: Sink>(
     ensures answers { refusals (map S.text words.entry.now) ≡ []
         → Answers world.empty result (I.left source.old) (O.taken sink.old) (O.taken sink.new) }
     ensures status { refusals (map S.text words.entry.now) ≡ [] → (result ≡ 0) ⊎ (result ≡ 1) ⊎ (result ≡ 3) }
-    ensures failed { result ≡ 1 → Rises (I.failures source.old) (I.failures source.new) ⊎ Rises (O.failures sink.old) (O.failures sink.new) }
     ensures help { refusals (map S.text words.entry.now) ≡ ErrorKind.DisplayHelp ∷ [] → (result ≡ 0) ⊎ (result ≡ 1) ⊎ (result ≡ 3) }
-    ensures wrong { IsWrong (refusals (map S.text words.entry.now)) → ((result ≡ 2) ⊎ (result ≡ 3)) × (O.taken sink.new ≡ O.taken sink.old) }
+    ensures wrong { IsWrong (refusals (map S.text words.entry.now)) → ((result ≡ 2) ⊎ (result ≡ 3)) × (sink.new ≡ sink.old) }
+    ensures unread { refusals (map S.text words.entry.now) ≢ [] → source.new ≡ source.old }
+    ensures silent { result ≡ 0 → errors.new ≡ errors.old }
+    ensures sound { result ≢ 1 → (I.failures source.new ≡ I.failures source.old) × (O.failures sink.new ≡ O.failures sink.old) }
+    ensures failed { result ≡ 1 → Failed (λ fault. Told (E.taken errors.old) (E.taken errors.new) (E.failures errors.old) (E.failures errors.new) (fault_line fault))
+        (I.failures source.old) (I.failures source.new) (O.failures sink.old) (O.failures sink.new) }
+    ensures told { result ≡ 2 → ToldSome (E.taken errors.old) (E.taken errors.new) (E.failures errors.old) (E.failures errors.new) }
+    ensures memory { result ≡ 3 → (source.new ≡ source.old) × (sink.new ≡ sink.old)
+        × Told (E.taken errors.old) (E.taken errors.new) (E.failures errors.old) (E.failures errors.new) (fault_line ScriptFault.Memory) }
 {
     match run_options(alloc, words) {
         Ok(options) if options.is_plain => {

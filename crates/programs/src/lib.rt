@@ -2,8 +2,10 @@
 #![tactic(auto)]
 
 mod body;
+mod faults;
 mod options;
 
-pub use body::{lack_memory, run, run_over};
+pub use body::{run, run_over};
+pub use faults::{lack_memory, lack_words};
 pub use options::{RunOptions, run_options};
 pub use wire::{ReaderSource, WriterSink};

@@ -4,6 +4,7 @@ ghost use Rattle.clap.specs.Words.{FailsBy};
 ghost use Rattle.programs.specs.CommandLine.{refusals, plain_text, turn_text, turn_of};
 
 use clap::{Arg, ArgAction, Command, Error, value_parser};
+use reference::MAX_TURN;
 use std::alloc::Global;
 use std::convert::AsStr;
 
@@ -37,7 +38,7 @@ pub fn run_options<'a, S: AsStr>(alloc: Global, words: &'a [S]) -> Result<RunOpt
     let turn = Arg::new(alloc, "turn")
         .long("turn")
         .value_name("R")
-        .value_parser(value_parser!(u32).range(1..=1024))
+        .value_parser(value_parser!(u32).range(1..=MAX_TURN as i64))
         .help("The most rows of a turn of a drain, 1 to 1024 [default: 256]");
     let command = Command::new(alloc, "cqlrun").arg(plain)?.arg(turn)?;
     match command.try_get_matches_from(words) {

@@ -1,12 +1,12 @@
-use Rattle.std.proofs.Common.{inl, inr}
+use Rattle.std.proofs.Common.{ap, inl, inr}
 use Rattle.reference.specs.World.{empty}
 use Rattle.programs.proofs.Outcomes.{answers_nothing, lacks_memory, asks_no_help, asks_no_version, asks_help}
 use Rattle.programs.proofs.body.run.Goals as goal
 
 pub returns-in-Err-clause-answers : goal.returns-in-Err-clause-answers
 returns-in-Err-clause-answers g c runs =
-    let met = c.refuse.ensures.memory (lacks_memory _ c.in-Err.error c.in-Err.ensures.refusals runs) in
-    answers_nothing empty c.refuse.result (g.I.Source.left c.args.source.now) (g.O.Sink.taken c.args.sink.now) (g.O.Sink.taken c.refuse.new.sink) met.0 met.1
+    let lacks = c.refuse.ensures.lacks (lacks_memory _ c.in-Err.error c.in-Err.ensures.refusals runs) in
+    answers_nothing empty c.refuse.result (g.I.Source.left c.args.source.now) (g.O.Sink.taken c.args.sink.now) (g.O.Sink.taken c.refuse.new.sink) lacks (ap g.O.Sink.taken (c.refuse.ensures.memory lacks).0)
 
 pub returns-in-Err-clause-wrong : goal.returns-in-Err-clause-wrong
 returns-in-Err-clause-wrong g c wrong =
@@ -15,6 +15,6 @@ returns-in-Err-clause-wrong g c wrong =
 pub returns-in-Err-clause-help : goal.returns-in-Err-clause-help
 returns-in-Err-clause-help g c is =
     elim (asks_help _ c.in-Err.error c.in-Err.ensures.refusals is) [
-      | inl memory ↦ inr (inr (c.refuse.ensures.memory memory).0)
+      | inl memory ↦ inr (inr (c.refuse.ensures.lacks memory))
       | inr help ↦ c.refuse.ensures.help help
     ]

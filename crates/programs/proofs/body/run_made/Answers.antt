@@ -10,4 +10,4 @@ returns-in-Ok-clause-answers g c =
 
 pub returns-in-Err-clause-answers : goal.returns-in-Err-clause-answers
 returns-in-Err-clause-answers g c =
-    answers_nothing empty c.lack_memory.result (g.I.Source.left c.args.source.now) (g.O.Sink.taken c.args.sink.now) (g.O.Sink.taken c.args.sink.now) c.lack_memory.ensures refl
+    answers_nothing empty c.lack_memory.result (g.I.Source.left c.args.source.now) (g.O.Sink.taken c.args.sink.now) (g.O.Sink.taken c.args.sink.now) c.lack_memory.ensures.status refl

@@ -1,11 +1,11 @@
-use Rattle.std.proofs.Common.{inl, inr}
-use Rattle.programs.proofs.Outcomes.{answers_nothing, lacks_memory, asks_no_help, asks_no_version, asks_help}
+use Rattle.std.proofs.Common.{ap, inl, inr}
+use Rattle.programs.proofs.Outcomes.{answers_nothing, leads_nowhere, lacks_memory, asks_no_help, asks_no_version, asks_help}
 use Rattle.programs.proofs.body.run_over.Goals as goal
 
 pub returns-in-Err-clause-answers : goal.returns-in-Err-clause-answers
 returns-in-Err-clause-answers g c runs =
-    let met = c.refuse.ensures.memory (lacks_memory _ c.in-Err.error c.in-Err.ensures.refusals runs) in
-    answers_nothing (g.N.Answering.world c.args.engine.now) c.refuse.result (g.I.Source.left c.args.source.now) (g.O.Sink.taken c.args.sink.now) (g.O.Sink.taken c.refuse.new.sink) met.0 met.1
+    let lacks = c.refuse.ensures.lacks (lacks_memory _ c.in-Err.error c.in-Err.ensures.refusals runs) in
+    answers_nothing (g.N.Answering.world c.args.engine.now) c.refuse.result (g.I.Source.left c.args.source.now) (g.O.Sink.taken c.args.sink.now) (g.O.Sink.taken c.refuse.new.sink) lacks (ap g.O.Sink.taken (c.refuse.ensures.memory lacks).0)
 
 pub returns-in-Err-clause-wrong : goal.returns-in-Err-clause-wrong
 returns-in-Err-clause-wrong g c wrong =
@@ -14,6 +14,11 @@ returns-in-Err-clause-wrong g c wrong =
 pub returns-in-Err-clause-help : goal.returns-in-Err-clause-help
 returns-in-Err-clause-help g c is =
     elim (asks_help _ c.in-Err.error c.in-Err.ensures.refusals is) [
-      | inl memory ↦ inr (inr (c.refuse.ensures.memory memory).0)
+      | inl memory ↦ inr (inr (c.refuse.ensures.lacks memory))
       | inr help ↦ c.refuse.ensures.help help
     ]
+
+pub returns-in-Err-clause-leads : goal.returns-in-Err-clause-leads
+returns-in-Err-clause-leads g c runs =
+    let lacks = c.refuse.ensures.lacks (lacks_memory _ c.in-Err.error c.in-Err.ensures.refusals runs) in
+    rw (ap g.O.Sink.taken (c.refuse.ensures.memory lacks).0) (leads_nowhere (g.N.Answering.world c.args.engine.now) c.refuse.result (g.I.Source.left c.args.source.now) (g.O.Sink.taken c.args.sink.now) lacks)

@@ -1,0 +1,72 @@
+//! What the program says of a fault, and its status then.
+ghost use Rattle.std.specs.Prelude.{◌≡◌, ◌≢◌};
+ghost use Rattle.std.specs.IoError.{error_kind};
+ghost use Rattle.programs.specs.Run.{Told, fault_line, no_text_line, status_of};
+
+use std::io::{Error, ErrorKind};
+use wire::{ScriptFault, Sink, put};
+
+/// The status after a wrong command line.
+pub(crate) const WRONG_WORDS: u8 = 2;
+
+/// Gives a sink of errors this text. One that fails is left alone.
+pub(crate) fn tell<E: Sink>(errors: &mut E, text: &str)
+    ensures { Told (E.taken errors.old) (E.taken errors.new) (E.failures errors.old) (E.failures errors.new) text.now }
+{
+    let _ = put(errors, text.as_bytes());
+}
+
+fn line_of(fault: &ScriptFault) -> &'static str
+    ensures { result.now ≡ fault_line fault.now }
+{
+    match fault {
+        ScriptFault::Read => "cqlrun: read failed\n",
+        ScriptFault::Write => "cqlrun: write failed\n",
+        ScriptFault::Memory => "cqlrun: out of memory\n",
+    }
+}
+
+fn status_of(fault: &ScriptFault) -> u8
+    ensures { result ≡ status_of fault.now }
+{
+    match fault {
+        ScriptFault::Read | ScriptFault::Write => 1,
+        ScriptFault::Memory => 3,
+    }
+}
+
+/// Says a fault behind the program's name, and gives the program's status.
+pub(crate) fn fail<E: Sink>(errors: &mut E, fault: &ScriptFault) -> u8
+    ensures status { result ≡ status_of fault.now }
+    ensures told { Told (E.taken errors.old) (E.taken errors.new) (E.failures errors.old) (E.failures errors.new)
+        (fault_line fault.now) }
+{
+    tell(errors, line_of(fault));
+    status_of(fault)
+}
+
+/// Says that memory was refused at the start, and gives the program's status.
+pub fn lack_memory<E: Sink>(errors: &mut E) -> u8
+    ensures status { result ≡ 3 }
+    ensures told { Told (E.taken errors.old) (E.taken errors.new) (E.failures errors.old) (E.failures errors.new)
+        (fault_line ScriptFault.Memory) }
+{
+    fail(errors, &ScriptFault::Memory)
+}
+
+/// Says why the program's words could not be read, and gives the program's status: 3 where memory was refused, and else 2,
+/// since a word that is not UTF-8 is a wrong command line. The error is that of `std::env::args`.
+pub fn lack_words<E: Sink>(errors: &mut E, error: &Error) -> u8
+    ensures memory { error_kind error.now ≡ ErrorKind.OutOfMemory → result ≡ 3 }
+    ensures lacks { result ≡ 3 → Told (E.taken errors.old) (E.taken errors.new) (E.failures errors.old) (E.failures errors.new)
+        (fault_line ScriptFault.Memory) }
+    ensures wrong { error_kind error.now ≢ ErrorKind.OutOfMemory → result ≡ 2 }
+    ensures told { result ≡ 2 → Told (E.taken errors.old) (E.taken errors.new) (E.failures errors.old) (E.failures errors.new)
+        no_text_line }
+{
+    if error.kind() == ErrorKind::OutOfMemory {
+        return lack_memory(errors);
+    }
+    tell(errors, "cqlrun: a word is not UTF-8\n");
+    WRONG_WORDS
+}

@@ -75,7 +75,7 @@ struct Moved {
 }
 
 impl Lines {
-    ghost use Rattle.wire.specs.Held.{pending, ahead, work, Moves, feed_len};
+    ghost use Rattle.wire.specs.Held.{pending, ahead, work, HoldsNothing, Moves, feed_len};
 
     /// Takes the buffers, after which reading lines takes no memory. `AllocError` where they were refused.
     pub fn new(alloc: Global) -> Result<Lines, AllocError>
@@ -132,6 +132,7 @@ impl Lines {
         ensures kept { OnOk result (self.new.line ≡ self.old.line) }
         ensures ok { OnOk result (S.failures source.new ≡ S.failures source.old) }
         ensures failed { OnErr result (Rises (S.failures source.old) (S.failures source.new)) }
+        ensures lost { OnErr result (HoldsNothing self.new) }
     {
         let count = source.read(&mut self.chunk)?;
         self.start = 0;
@@ -148,6 +149,7 @@ impl Lines {
         ensures kept { OnOk result (self.new.line ≡ self.old.line) }
         ensures ok { OnOk result (S.failures source.new ≡ S.failures source.old) }
         ensures failed { OnErr result (Rises (S.failures source.old) (S.failures source.new)) }
+        ensures lost { OnErr result (HoldsNothing self.new) }
     {
         if self.start < self.end {
             return Ok(true);
@@ -168,6 +170,7 @@ impl Lines {
             (λ _. work self.new (S.turns source.new) < work self.old (S.turns source.old))) }
         ensures ok { OnOk result (S.failures source.new ≡ S.failures source.old) }
         ensures failed { OnErr result (Rises (S.failures source.old) (S.failures source.new)) }
+        ensures lost { OnErr result (HoldsNothing self.new) }
     {
         self.line.clear();
         let mut fits = true;

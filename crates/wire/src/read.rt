@@ -3,7 +3,7 @@ ghost use Rattle.std.specs.Prelude.{◌≡◌, ◌<◌, ◌≤◌, IfOk, IfErr, 
 ghost use Rattle.std.specs.List.{list_all};
 ghost use Rattle.wire.specs.Devices.{Rises};
 ghost use Rattle.wire.specs.Lines.{longest_line};
-ghost use Rattle.wire.specs.Held.{ahead, work};
+ghost use Rattle.wire.specs.Held.{ahead, work, HoldsNothing};
 ghost use Rattle.wire.specs.Requests.{is_blank_byte, asked_in, call_in, json_of, Reads, BeginsWithRequest, HasNoRequest};
 
 use crate::decode::request_of;
@@ -71,6 +71,7 @@ pub fn next_request<S: Source>(
         (λ _. work lines.new (S.turns source.new) < work lines.old (S.turns source.old))) }
     ensures ok { OnOk result (S.failures source.new ≡ S.failures source.old) }
     ensures failed { OnErr result (Rises (S.failures source.old) (S.failures source.new)) }
+    ensures lost { OnErr result (HoldsNothing lines.new) }
     ensures fault { IfErr result (λ e. e ≡ ScriptFault.Read) }
 {
     'blanks: loop {

@@ -55,10 +55,10 @@ fn refuse<O: Sink, E: Sink>(alloc: Global, error: &Error, sink: &mut O, errors: 
     let Ok(text) = format!(in alloc; "{error}") else {
         return lack_memory(errors);
     };
-    match put(sink, text.as_str().as_bytes()) {
-        Ok(()) => 0,
-        Err(_) => fail(errors, &ScriptFault::Write),
-    }
+    let Ok(()) = put(sink, text.as_str().as_bytes()) else {
+        return fail(errors, &ScriptFault::Write);
+    };
+    0
 }
 
 // Answers the lines of the source, by turns of at most so many rows.
@@ -94,8 +94,10 @@ fn run_lines<N: Answering, I: Source, O: Sink, E: Sink>(
 /// many rows as the words say, and gives the program's status.
 ///
 /// 0 at the end of the input, also where requests were refused, and after help, which goes to the sink; 1 where the source
-/// or the sink failed; 2 for a wrong command line; 3 where memory was refused at the start. What is not 0 is said on
-/// `errors`, in one line for 1 and 3, whose own failures change nothing. The first of the words is the program's own name.
+/// or the sink failed; 2 for a wrong command line; 3 where memory was refused at the start: then source, sink and engine are as
+/// they were. What is not 0 is said on `errors`, in one line for 1 and 3, whose own failures change nothing. Afterwards the engine
+/// is in the world that the requests lead to, and as it was where the words ask for no run. The first of the words is the
+/// program's own name.
 pub fn run_over<'a, S: AsStr, N: Answering, I: Source, O: Sink, E: Sink>(
     alloc: Global,
     words: &'a [S],

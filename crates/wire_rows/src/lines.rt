@@ -142,6 +142,13 @@ fn each_line_is_the_request_that_it_is_in_any_chunks(rt: HostRuntime) -> Result<
     Ok(())
 }
 
+// In how many reads all lines are read.
+fn reads_of_lines(alloc: Global) -> Result<u64, AllocError> {
+    let mut source = lines_failing_after(u64::MAX);
+    kinds(alloc, &mut source)?;
+    Ok(u64::MAX.saturating_sub(source.until_failure))
+}
+
 // Whether the kinds before a failing read are a front of all, and the failure was told once.
 fn stops_at(alloc: Global, until_failure: u64) -> Result<bool, AllocError> {
     let mut source = lines_failing_after(until_failure);
@@ -151,9 +158,12 @@ fn stops_at(alloc: Global, until_failure: u64) -> Result<bool, AllocError> {
 
 #[test]
 fn a_failing_read_is_told_once_and_what_came_before_stands(rt: HostRuntime) -> Result<(), Fail> {
-    for until_failure in 0..LINES.len() as u64 {
+    let reads = reads_of_lines(rt.alloc())?;
+    assert!(rt; reads > LINES.len() as u64);
+    for until_failure in 0..reads {
         assert!(rt; stops_at(rt.alloc(), until_failure)?);
     }
+    assert!(rt; !stops_at(rt.alloc(), reads)?);
     Ok(())
 }
 
@@ -242,9 +252,19 @@ fn replies_are_lines(rt: HostRuntime) -> Result<(), Fail> {
     let line = "{\"error\":\"Q4 Unexpected at 4096\"}\n";
     assert!(rt; refusal_is_line(rt.alloc(), unexpected, line));
     assert!(rt; refusal_is_line(rt.alloc(), Fault::Late, "{\"error\":\"E10 Late\"}\n"));
-    let memory = Reply::Unread(WireFault::OutOfMemory);
-    assert!(rt; is_line(rt.alloc(), &memory, "{\"error\":\"E20 OutOfMemory\"}\n"));
     Ok(())
+}
+
+#[test]
+fn faults_of_lines_are_lines(rt: HostRuntime) {
+    for (fault, wanted) in [
+        (WireFault::NotJson, "{\"error\":\"N1 NotJson\"}\n"),
+        (WireFault::BadRequest, "{\"error\":\"N2 BadRequest\"}\n"),
+        (WireFault::LineTooLong, "{\"error\":\"N3 LineTooLong\"}\n"),
+        (WireFault::OutOfMemory, "{\"error\":\"E20 OutOfMemory\"}\n"),
+    ] {
+        assert!(rt; is_line(rt.alloc(), &Reply::Unread(fault), wanted));
+    }
 }
 
 fn sink_of_width(alloc: Global, width: usize, until_failure: u64) -> Narrow
@@ -293,15 +313,25 @@ fn leaves_front(alloc: Global, reply: &Reply, line: &[u8], until_failure: u64) -
         && line.starts_with(sink.sink.bytes.as_slice())
 }
 
+// In how many writes of three bytes the reply is written.
+fn writes_by_threes(alloc: Global, reply: &Reply) -> u64 {
+    let mut sink = sink_of_width(alloc, 3, u64::MAX);
+    match write_reply(&mut sink, reply) {
+        Ok(()) => sink.writes,
+        Err(_) => 0,
+    }
+}
+
 fn each_leaves_front(alloc: Global, reply: &Reply) -> bool {
     match line(alloc, reply) {
         Some(line) => {
-            for until_failure in 0..line.len() as u64 / 3 {
+            let writes = writes_by_threes(alloc, reply);
+            for until_failure in 0..writes {
                 if !leaves_front(alloc, reply, line.as_slice(), until_failure) {
                     return false;
                 }
             }
-            line.len() >= 3
+            writes > line.len() as u64 / 3
         }
         None => false,
     }

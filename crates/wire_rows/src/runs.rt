@@ -1,8 +1,12 @@
-use programs::{run, run_options};
-use std::alloc::Global;
-use wire::{DeviceFailed, MemorySink, MemorySource, Sink, Source};
+use programs::{lack_memory, lack_words, run, run_options, run_over};
+use reference::{Answering, Plain};
+use std::alloc::{AllocError, Global};
+use std::io;
+use std::io::ErrorKind;
+use std::test::Fail;
+use wire::{DeviceFailed, MemorySink, MemorySource, Sink, Source, put};
 
-const FIRST: &str = r#"{"op":"stream","name":"S","columns":["a"],"from":0}
+pub(crate) const FIRST: &str = r#"{"op":"stream","name":"S","columns":["a"],"from":0}
 {"op":"query","name":"q","text":"Select Istream(*) From S [Now]"}
 {"op":"append","stream":"S","rows":[[3,7],[1,5],[3,6]]}
 {"op":"heartbeat","stream":"S","at":3}
@@ -10,7 +14,7 @@ const FIRST: &str = r#"{"op":"stream","name":"S","columns":["a"],"from":0}
 {"op":"take","query":"q","limit":100}
 "#;
 
-const FIRST_REPLIES: &str = r#"{"ok":true}
+pub(crate) const FIRST_REPLIES: &str = r#"{"ok":true}
 {"ok":true}
 {"ok":true}
 {"ok":true}
@@ -153,6 +157,16 @@ fn device_failing_after(
     }
 }
 
+// In how many reads a run reads all of the first script.
+fn reads_of(alloc: Global) -> u64 {
+    let words = ["cqlrun", "--plain"];
+    let mut source = device_failing_after(alloc, FIRST.as_bytes(), u64::MAX);
+    let mut sink = MemorySink::new(alloc);
+    let mut errors = MemorySink::new(alloc);
+    run(alloc, words.as_slice(), &mut source, &mut sink, &mut errors);
+    u64::MAX.saturating_sub(source.until_failure)
+}
+
 // Whether a source that fails ends the run after a front of the replies.
 fn failing_source_ends(alloc: Global, calls: u64) -> bool {
     let words = ["cqlrun", "--plain"];
@@ -166,10 +180,23 @@ fn failing_source_ends(alloc: Global, calls: u64) -> bool {
 }
 
 #[test]
-fn a_failing_source_ends_the_run_after_a_front_of_the_replies(rt: HostRuntime) {
-    for calls in 0..FIRST.len() as u64 / 7 {
+fn a_source_that_fails_at_any_read_ends_the_run_after_a_front_of_the_replies(rt: HostRuntime) {
+    let reads = reads_of(rt.alloc());
+    assert!(rt; reads > FIRST.len() as u64 / 7);
+    for calls in 0..reads {
         assert!(rt; failing_source_ends(rt.alloc(), calls));
     }
+    assert!(rt; !failing_source_ends(rt.alloc(), reads));
+}
+
+// In how many writes a run writes all of the first replies.
+fn writes_of(alloc: Global) -> u64 {
+    let words = ["cqlrun", "--plain"];
+    let mut source = MemorySource::new(FIRST.as_bytes());
+    let mut sink = device_failing_after(alloc, b"", u64::MAX);
+    let mut errors = MemorySink::new(alloc);
+    run(alloc, words.as_slice(), &mut source, &mut sink, &mut errors);
+    u64::MAX.saturating_sub(sink.until_failure)
 }
 
 // Whether a sink that fails ends the run after a front of the replies.
@@ -187,8 +214,115 @@ fn failing_sink_ends(alloc: Global, calls: u64) -> bool {
 }
 
 #[test]
-fn a_failing_sink_ends_the_run_after_a_front_of_the_replies(rt: HostRuntime) {
-    for calls in 0..FIRST_REPLIES.len() as u64 / 7 {
+fn a_sink_that_fails_at_any_write_ends_the_run_after_a_front_of_the_replies(rt: HostRuntime) {
+    let writes = writes_of(rt.alloc());
+    assert!(rt; writes > FIRST_REPLIES.len() as u64 / 7);
+    for calls in 0..writes {
         assert!(rt; failing_sink_ends(rt.alloc(), calls));
     }
+    assert!(rt; !failing_sink_ends(rt.alloc(), writes));
+}
+
+// What the program says of want of memory, with its status.
+fn memory_is_told(alloc: Global) -> bool {
+    let mut errors = MemorySink::new(alloc);
+    let status = lack_memory(&mut errors);
+    status == 3 && errors.bytes.as_slice() == b"cqlrun: out of memory\n".as_slice()
+}
+
+// Whether words that could not be read for such an error are told so.
+fn words_are_told(alloc: Global, kind: ErrorKind, status: u8, line: &str) -> bool {
+    let mut errors = MemorySink::new(alloc);
+    let ended = lack_words(&mut errors, &io::Error::from(kind));
+    ended == status && errors.bytes.as_slice() == line.as_bytes()
+}
+
+#[test]
+fn words_that_cannot_be_read_are_told(rt: HostRuntime) {
+    assert!(rt; memory_is_told(rt.alloc()));
+    let memory = ErrorKind::OutOfMemory;
+    assert!(rt; words_are_told(rt.alloc(), memory, 3, "cqlrun: out of memory\n"));
+    let no_text = ErrorKind::InvalidData;
+    assert!(rt; words_are_told(rt.alloc(), no_text, 2, "cqlrun: a word is not UTF-8\n"));
+}
+
+// Whether a line is put by sevens: all of it, or a front of so many bytes where the sink fails after so many writes.
+fn puts(alloc: Global, calls: u64, front: usize) -> bool {
+    let line = b"cqlrun: out of memory\n".as_slice();
+    let mut sink = device_failing_after(alloc, b"", calls);
+    let all = put(&mut sink, line).is_ok();
+    all == (front == line.len()) && sink.sink.bytes.as_slice() == &line[..front.min(line.len())]
+}
+
+#[test]
+fn a_text_is_put_whole_or_in_front(rt: HostRuntime) {
+    for (calls, front) in [(0, 0), (1, 7), (2, 14), (3, 21), (4, 22), (5, 22)] {
+        assert!(rt; puts(rt.alloc(), calls, front));
+    }
+}
+
+// Whether an engine that knows of the first script's stream answers what stands behind that script's first line.
+fn is_answered_over(alloc: Global) -> Result<bool, AllocError> {
+    let mut columns = Vec::new(alloc);
+    columns.push(String::from_str(alloc, "a")?)?;
+    let Ok(mut engine) = Plain::new(alloc) else {
+        return Ok(false);
+    };
+    if engine.stream("S", columns.as_slice(), 0).is_err() {
+        return Ok(false);
+    }
+    let (Some((_, input)), Some((_, replies))) = (
+        FIRST.split_once('\n'),
+        FIRST_REPLIES.split_once('\n'),
+    ) else {
+        return Ok(false);
+    };
+    let words = ["cqlrun", "--turn=7"];
+    let mut source = MemorySource::new(input.as_bytes());
+    let mut sink = MemorySink::new(alloc);
+    let mut errors = MemorySink::new(alloc);
+    let ended = run_over(
+        alloc,
+        words.as_slice(),
+        &mut engine,
+        &mut source,
+        &mut sink,
+        &mut errors,
+    );
+    Ok(
+        ended == 0
+            && sink.bytes.as_slice() == replies.as_bytes()
+            && engine.query_named("q") == Some(0),
+    )
+}
+
+// Whether wrong words leave the engine and the source alone.
+fn wrong_words_leave_all(alloc: Global) -> bool {
+    let words = ["cqlrun", "--plane"];
+    let Ok(mut engine) = Plain::new(alloc) else {
+        return false;
+    };
+    let mut source = MemorySource::new(FIRST.as_bytes());
+    let mut sink = MemorySink::new(alloc);
+    let mut errors = MemorySink::new(alloc);
+    let ended = run_over(
+        alloc,
+        words.as_slice(),
+        &mut engine,
+        &mut source,
+        &mut sink,
+        &mut errors,
+    );
+    ended == 2
+        && source.bytes.len() == FIRST.len()
+        && sink.bytes.is_empty()
+        && engine.stream_named("S").is_none()
+        && errors.bytes.as_slice().starts_with(b"error: ".as_slice())
+}
+
+#[test]
+fn a_run_goes_on_over_the_engine_that_it_is_given(rt: HostRuntime) -> Result<(), Fail> {
+    assert!(rt; is_answered_over(rt.alloc())?);
+    assert!(rt; wrong_words_leave_all(rt.alloc()));
+    Ok(())
 }

@@ -70,6 +70,12 @@ fn count_set(words: &[u64]) -> u32 {
     words.iter().map(|word| word.count_ones()).sum()
 }
 
+#[inline(never)]
+fn count_signed(valid: &[u64], minus: &[u64]) -> i64 {
+    let signs = |(word, minus): (&u64, &u64)| word.count_ones() as i64 - 2 * (word & minus).count_ones() as i64;
+    valid.iter().zip(minus).map(signs).sum()
+}
+
 /// `x > c And y < d Or x = y`, row by row; it is unknown where it is neither true nor false.
 #[inline(never)]
 fn run_condition(xs: &[i64], xv: &[u64], ys: &[i64], yv: &[u64], c: i64, d: i64, truth: &mut [u64], known: &mut [u64]) {
@@ -116,6 +122,9 @@ fn main() {
     });
     report("count_set", |_| {
         black_box(count_set(black_box(&t)));
+    });
+    report("count_signed", |_| {
+        black_box(count_signed(black_box(&valid), &minus));
     });
     report("run_condition", |i| run_condition(black_box(&a), &valid, &b, &valid, i as i64, black_box(1000), black_box(&mut truth), &mut known));
 }

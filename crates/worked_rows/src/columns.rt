@@ -213,7 +213,8 @@ fn part_of_a_mask(alloc: Global) -> Result<bool, AllocError> {
 fn picks_of_a_mask(alloc: Global) -> Result<bool, AllocError> {
     let mask = thirds(alloc)?;
     let picked = mask.picked(alloc, &[63, 64, 0])?;
-    Ok(mask.get(69) && !mask.get(64) && !mask.is_empty() && picked.words() == [5].as_slice())
+    let is_whole = mask.len() == 70 && !mask.is_empty();
+    Ok(is_whole && mask.get(69) && !mask.get(64) && picked.words() == [5].as_slice())
 }
 
 #[test]

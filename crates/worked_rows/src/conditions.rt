@@ -75,7 +75,7 @@ fn both(batch: &Batch, above: i64) -> (u64, u64)
     first_word(&[above, BELOW_SIX, Step::And], batch)
 }
 
-/// The numbers 1 to 8 and null beside eight fives and null.
+/// The numbers 1 to 9 beside eight fives and null.
 fn nine(alloc: Global) -> Result<Batch, AllocError> {
     let a = counted(alloc, 9, 9)?;
     let b = fives(alloc)?;

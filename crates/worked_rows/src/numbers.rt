@@ -40,6 +40,11 @@ fn short_is_first() -> bool {
         && !same_rows(&short, &long)
 }
 
+/// How a row of two numbers stands to another.
+fn stands(a: (i64, i64), b: (i64, i64)) -> Ordering {
+    compare_rows(&two(true, a.0, a.1).row, &two(true, b.0, b.1).row)
+}
+
 /// The second value of the row of null and 7, and the one past its end.
 fn last_values() -> (Option<Value>, Value) {
     let long = two(true, NULL, 7).row;
@@ -49,6 +54,16 @@ fn last_values() -> (Option<Value>, Value) {
 #[test]
 fn rows_are_ordered_from_the_left_and_null_is_first(rt: HostRuntime) -> Result<(), Fail> {
     assert!(rt; short_is_first());
+    let cases = [
+        ((NULL, 9), (-3, 0), Ordering::Less),
+        ((3, 0), (2, 9), Ordering::Greater),
+        ((2, 9), (2, 10), Ordering::Less),
+        ((2, -4), (2, NULL), Ordering::Greater),
+        ((NULL, 5), (NULL, 5), Ordering::Equal),
+    ];
+    for (a, b, order) in cases {
+        assert_eq!(rt; stands(a, b), order);
+    }
     assert_eq!(rt; last_values(), (Value::new(7), Value::null()));
     assert_eq!(rt; Value::default(), Value::null());
     Ok(())

@@ -1,6 +1,7 @@
 //! Worked queues, and the queues of two queries over one log.
-ghost use Rattle.std.specs.Prelude.{◌≡◌, length};
+ghost use Rattle.std.specs.Prelude.{◌≡◌, ◌<◌, length};
 ghost use Rattle.op_queue.specs.Cursors.{IsWithin};
+ghost use Rattle.op_queue.specs.Logs.{Closed};
 
 use crate::rows::{one, row, shows};
 use column::Batch;
@@ -46,22 +47,47 @@ fn without_first(alloc: Global, count: usize) -> Result<Queue, AllocError> {
     Ok(queue)
 }
 
-/// Whether the item is these rows of the instant 2.
-fn are_rows(item: &Item, rows: &[(bool, [Option<i64>; 3])]) -> bool {
+/// A row of one number that enters or leaves.
+type Shown = (bool, [Option<i64>; 3]);
+
+const FIVE: Shown = (true, [Some(5), None, None]);
+
+const SIX: Shown = (true, [Some(6), None, None]);
+
+const SIX_LEAVES: Shown = (false, [Some(6), None, None]);
+
+const SEVEN: Shown = (true, [Some(7), None, None]);
+
+/// Whether the item has just these rows of the instant; where there are none, whether it is the instant's tick.
+fn is_item(item: &Item, instant: u64, rows: &[Shown]) -> bool {
     match item {
-        Item::Rows(at, batch) => *at == 2 && shows(batch, rows),
-        Item::Tick(_) => false,
+        Item::Rows(at, batch) => *at == instant && shows(batch, rows),
+        Item::Tick(at) => *at == instant && rows.is_empty(),
     }
 }
 
-/// Whether two rows and ticks are left behind the first three, of which the first is the row 6.
-fn six_is_left(alloc: Global) -> Result<bool, AllocError> {
-    let queue = without_first(alloc, 3)?;
-    if queue.len() != 2 || queue.front() != Some(Front::Row(2)) {
+/// Whether this comes out of the filled queue without its first rows and ticks, where at most `count` rows are asked for.
+fn comes_out(
+    alloc: Global,
+    left: usize,
+    count: usize,
+    instant: u64,
+    rows: &[Shown],
+) -> Result<bool, AllocError>
+    requires { 0 < count }
+{
+    let queue = without_first(alloc, left)?;
+    if queue.len() == 0 {
         return Ok(false);
     }
-    let item = queue.front_cut(alloc, 9)?;
-    Ok(are_rows(&item, &[(false, [Some(6), None, None])]))
+    let item = queue.front_cut(alloc, count)?;
+    Ok(is_item(&item, instant, rows))
+}
+
+/// Whether two rows and ticks are left behind the first three, with a row at the front.
+fn two_are_left(alloc: Global) -> Result<bool, AllocError> {
+    let queue = without_first(alloc, 3)?;
+    Ok(queue.len() == 2 && queue.front() == Some(Front::Row(2)))
 }
 
 /// Whether three, then two, and then no more leave the filled queue.
@@ -74,19 +100,37 @@ fn all_leave(alloc: Global) -> Result<bool, AllocError> {
 #[test]
 fn rows_and_ticks_leave_from_the_front(rt: HostRuntime) -> Result<(), Fail> {
     assert!(rt; five_wait(rt.alloc())?);
-    assert!(rt; six_is_left(rt.alloc())?);
+    assert!(rt; two_are_left(rt.alloc())?);
     assert!(rt; all_leave(rt.alloc())?);
     Ok(())
 }
 
-/// A log of one column whose instants 0 to 3 are closed, with one row at the instant 1.
+#[test]
+fn a_tick_or_the_first_rows_of_a_batch_come_out(rt: HostRuntime) -> Result<(), Fail> {
+    assert!(rt; comes_out(rt.alloc(), 0, 9, 0, &[])?);
+    assert!(rt; comes_out(rt.alloc(), 2, 1, 2, &[FIVE])?);
+    assert!(rt; comes_out(rt.alloc(), 2, 9, 2, &[FIVE, SIX_LEAVES])?);
+    assert!(rt; comes_out(rt.alloc(), 3, 9, 2, &[SIX_LEAVES])?);
+    Ok(())
+}
+
+fn arrival(number: u64, instant: u64, value: i64) -> Arrival
+    ensures number { result.number ≡ number }
+    ensures instant { result.instant ≡ instant }
+    ensures wide { length result.row.items ≡ 1 }
+{
+    let row = row(value);
+    Arrival {
+        number,
+        instant,
+        row,
+    }
+}
+
+/// A log of one column whose instants 0 to 3 are closed: the row 5 came first and then 7, at a later instant than 6, which came last.
 fn closed(alloc: Global) -> Result<Log, AllocError> {
     let mut log = Log::new(alloc, 1, 0)?;
-    let rows = [Arrival {
-        number: 0,
-        instant: 1,
-        row: row(5),
-    }];
+    let rows = [arrival(0, 1, 5), arrival(2, 1, 6), arrival(1, 3, 7)];
     log.close(&rows, 4)?;
     Ok(log)
 }
@@ -117,32 +161,54 @@ fn sees_after(alloc: Global, place: u64, count: u128, front: Front) -> Result<bo
 
 #[test]
 fn a_cursor_shows_its_own_rows_alone(rt: HostRuntime) -> Result<(), Fail> {
-    assert_eq!(rt; log_size(rt.alloc())?, (4, 1));
-    assert!(rt; sees_after(rt.alloc(), 0, 5, Front::Row(1))?);
-    assert!(rt; sees_after(rt.alloc(), 1, 4, Front::Tick(1))?);
+    assert_eq!(rt; log_size(rt.alloc())?, (4, 3));
+    assert!(rt; sees_after(rt.alloc(), 0, 7, Front::Row(1))?);
+    assert!(rt; sees_after(rt.alloc(), 1, 6, Front::Row(1))?);
+    assert!(rt; sees_after(rt.alloc(), 3, 4, Front::Tick(1))?);
     Ok(())
 }
 
-/// Whether the item has just the row 5, at the instant 1.
-fn is_five(item: &Item) -> bool {
-    match item {
-        Item::Rows(at, batch) => *at == 1 && shows(batch, &[(true, [Some(5), None, None])]),
-        Item::Tick(_) => false,
-    }
-}
-
-fn five_comes(alloc: Global) -> Result<bool, AllocError> {
+/// Whether this comes out of the log for a cursor whose first rows and ticks have left, where at most `count` rows are asked for.
+fn gives(
+    alloc: Global,
+    cursor: Cursor,
+    left: usize,
+    count: usize,
+    instant: u64,
+    rows: &[Shown],
+) -> Result<bool, AllocError>
+    requires some { 0 < count }
+    requires within { (log : Closed) → IsWithin cursor log }
+{
     let log = closed(alloc)?;
-    let cursor = Cursor::new(0, 1);
-    if cursor.len(&log) != 4 {
+    let mut cursor = cursor;
+    if cursor.len(&log) < left as u128 {
         return Ok(false);
     }
-    let item = cursor.front_cut(alloc, &log, 9)?;
-    Ok(is_five(&item))
+    cursor.drop_front(&log, left);
+    if cursor.len(&log) == 0 {
+        return Ok(false);
+    }
+    let item = cursor.front_cut(alloc, &log, count)?;
+    Ok(is_item(&item, instant, rows))
 }
 
 #[test]
-fn a_cursor_gives_its_rows(rt: HostRuntime) -> Result<(), Fail> {
-    assert!(rt; five_comes(rt.alloc())?);
+fn a_cursor_gives_its_rows_by_instant_then_arrival(rt: HostRuntime) -> Result<(), Fail> {
+    let cursor = Cursor::new(0, 0);
+    assert!(rt; gives(rt.alloc(), cursor, 0, 9, 0, &[])?);
+    assert!(rt; gives(rt.alloc(), cursor, 1, 1, 1, &[FIVE])?);
+    assert!(rt; gives(rt.alloc(), cursor, 1, 9, 1, &[FIVE, SIX])?);
+    assert!(rt; gives(rt.alloc(), cursor, 2, 9, 1, &[SIX])?);
+    assert!(rt; gives(rt.alloc(), cursor, 4, 9, 2, &[])?);
+    assert!(rt; gives(rt.alloc(), cursor, 5, 9, 3, &[SEVEN])?);
+    Ok(())
+}
+
+#[test]
+fn a_row_at_the_base_or_below_is_not_shown(rt: HostRuntime) -> Result<(), Fail> {
+    assert!(rt; gives(rt.alloc(), Cursor::new(0, 2), 0, 9, 2, &[])?);
+    assert!(rt; gives(rt.alloc(), Cursor::new(0, 2), 1, 9, 3, &[SEVEN])?);
+    assert!(rt; !gives(rt.alloc(), Cursor::new(0, 4), 0, 9, 4, &[])?);
     Ok(())
 }

@@ -62,10 +62,18 @@ fn nine_summed(alloc: Global, null_at: usize) -> Result<Option<i64>, AllocError>
     Ok(sum_in_range(&column, &[1]))
 }
 
+/// How many of the numbers 1 to 9 are no nulls, with a null at a place and the first taken away.
+fn nine_counted(alloc: Global, null_at: usize) -> Result<i64, AllocError> {
+    let column = counted(alloc, 9, null_at)?;
+    Ok(count_signed(&column, &[1]))
+}
+
 #[test]
-fn nine_values_summed(rt: HostRuntime) -> Result<(), Fail> {
+fn nine_values_summed_and_counted(rt: HostRuntime) -> Result<(), Fail> {
     assert_eq!(rt; nine_summed(rt.alloc(), 9)?, Some(43));
     assert_eq!(rt; nine_summed(rt.alloc(), 8)?, Some(34));
+    assert_eq!(rt; nine_counted(rt.alloc(), 9)?, 7);
+    assert_eq!(rt; nine_counted(rt.alloc(), 8)?, 6);
     Ok(())
 }
 
@@ -79,6 +87,25 @@ fn sum_agrees(column: &Column, count: usize) -> bool
     sum_in_range(column, minus) == Some(plain_sum(column, minus))
 }
 
+/// How many values are no nulls; those with a set bit are taken away.
+fn plain_signed_count(valid: &[u64], minus: &[u64]) -> i64 {
+    let mut total = 0i64;
+    for i in 0..1024 {
+        if bit(valid, i) {
+            total = total.wrapping_add(if bit(minus, i) { -1 } else { 1 });
+        }
+    }
+    total
+}
+
+fn signed_count_agrees(column: &Column, count: usize) -> bool
+    requires few { count ≤ 1024 }
+    requires long { length column.now ≡ count }
+{
+    let minus = &SIGNS[..(count + 63) / 64];
+    count_signed(column, minus) == plain_signed_count(column.valid_words(), minus)
+}
+
 /// How many of the bits are set.
 fn plain_count(words: &[u64]) -> u32 {
     let mut total = 0u32;
@@ -90,8 +117,8 @@ fn plain_count(words: &[u64]) -> u32 {
     total
 }
 
-/// Whether the sum, and then whether the count, of so many samples is that of a plain loop.
-fn sum_and_count_agree(alloc: Global, count: usize) -> Result<(bool, bool), AllocError>
+/// Whether the sum, then whether the count, and then whether the signed count of so many samples is that of a plain loop.
+fn sum_and_counts_agree(alloc: Global, count: usize) -> Result<(bool, bool, bool), AllocError>
     requires { count ≤ 1024 }
 {
     let column = samples(alloc, count, 7)?;
@@ -99,6 +126,7 @@ fn sum_and_count_agree(alloc: Global, count: usize) -> Result<(bool, bool), Allo
     Ok((
         sum_agrees(&column, count),
         count_set(words) == plain_count(words),
+        signed_count_agrees(&column, count),
     ))
 }
 
@@ -107,8 +135,8 @@ fn sums_and_counts_of_any_length(rt: HostRuntime) -> Result<(), Fail> {
     for count in LENGTHS {
         let count = count.min(1024);
         assert_eq!(rt;
-            sum_and_count_agree(rt.alloc(), count)?,
-            (true, true),
+            sum_and_counts_agree(rt.alloc(), count)?,
+            (true, true, true),
             "at {count}"
         );
     }

@@ -122,7 +122,7 @@ before_next-pieces (p ∷ ps) h = piece p (All-head IsPiece p ps h)
     piece (Rows t b) s = one (piece_begins (Rows t b)) (omega (arith, length-piece_begins (Rows t b), length-piece_entries (Rows t b), s.some)) (starts (piece_entries (Rows t b)))
     piece (Ticks first last) s = one (piece_begins (Ticks first last)) (omega (arith, length-piece_begins (Ticks first last), length-piece_entries (Ticks first last), s.0)) (before_next-each (piece_entries (Ticks first last)))
 
-queue_begins-cons : (taken : ℕ) (p : Piece) (ps : List Piece) → taken < piece_size p → queue_begins taken (p ∷ ps) ≡ drop taken (piece_begins p) ++ flat_map piece_begins ps
+pub queue_begins-cons : (taken : ℕ) (p : Piece) (ps : List Piece) → taken < piece_size p → queue_begins taken (p ∷ ps) ≡ drop taken (piece_begins p) ++ flat_map piece_begins ps
 queue_begins-cons taken p ps part =
     drop-append-le taken (piece_begins p) (flat_map piece_begins ps) (omega (arith, length-piece_begins p, length-piece_entries p))
 

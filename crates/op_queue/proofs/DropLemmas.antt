@@ -1,12 +1,13 @@
 -- A queue while rows and ticks leave its front.
-use Rattle.std.proofs.Common.{◌≡◌, ℕ, ◌+◌, ◌-◌, ◌<◌, ◌≤◌, Bool, List, [], ◌∷◌, ◌++◌, length, drop, get_or, refl, ap, sym, ◌∙◌, arith, length-append}
+use Rattle.std.proofs.Common.{◌≡◌, ℕ, ◌+◌, ◌-◌, ◌<◌, ◌≤◌, Bool, None, List, [], ◌∷◌, ◌++◌, length, drop, get_or, refl, ap, sym, ◌∙◌, arith, length-append}
 use Rattle.std.specs.List.{flat_map, All}
 use Rattle.std.proofs.lemmas.List.{drop-drop, drop_at}
 use Rattle.std.proofs.lemmas.List.Elements.{All-head, All-tail}
 use Rattle.values.specs.Row.{Row}
 use Rattle.op_queue.specs.Entries.{Entry}
-use Rattle.op_queue.specs.Pieces.{piece_begins, piece_size, piece_entries, queue_begins, queue_entries, IsPiece, IsTaken, IsQueue}
+use Rattle.op_queue.specs.Pieces.{piece_begins, piece_size, piece_entries, queue_begins, queue_entries, end_of, IsPiece, IsTaken, AreApart, IsQueue}
 use Rattle.op_queue.specs.declared.queue.Piece.{Piece}
+use Rattle.op_queue.proofs.ApartLemmas.{AreApart-none}
 use Rattle.op_queue.proofs.BeginLemmas.{length-piece_begins}
 use Rattle.op_queue.proofs.PieceLemmas.{length-piece_entries, piece_size-some, IsForward-drop}
 
@@ -14,6 +15,7 @@ use Rattle.op_queue.proofs.PieceLemmas.{length-piece_entries, piece_size-some, I
 pub record IsDropping (old : List (Entry Row)) (begun : List Bool) (most count left taken len : ℕ) (ps : List Piece) : Type 0 where
   pub shaped : All IsPiece ps
   pub started : IsTaken taken ps
+  pub apart : AreApart None ps
   pub counted : taken + len + left ≡ length (flat_map piece_entries ps) + count
   pub within : left + taken ≤ length (flat_map piece_entries ps)
   pub fewer : length ps ≤ most
@@ -24,6 +26,7 @@ pub IsDropping-start : {taken len : ℕ} (ps : List Piece) (count : ℕ) → IsQ
 IsDropping-start ps count h few = record {
   shaped = h.shaped;
   started = h.started;
+  apart = h.apart;
   counted = omega (arith, h.counted);
   within = omega (arith, h.counted);
   fewer = omega arith;
@@ -37,6 +40,7 @@ IsDropping-part [] p some is h few = absurd (omega arith)
 IsDropping-part {left = left} {taken = taken} (q ∷ ps) p some is h few = record {
   shaped = h.shaped;
   started = let e = ap piece_size is in omega arith;
+  apart = h.apart;
   counted = omega (arith, h.counted);
   within = omega (arith, h.within);
   fewer = h.fewer;
@@ -65,6 +69,7 @@ IsDropping-piece {left = left} {taken = taken} ps qs p is h much =
     record {
       shaped = All-tail IsPiece p qs g.shaped;
       started = IsTaken-none qs (All-tail IsPiece p qs g.shaped);
+      apart = AreApart-none (end_of p) qs g.apart.1;
       counted = omega (arith, g.counted, g.started);
       within = omega (arith, g.within, g.started);
       fewer = omega (arith, g.fewer);
@@ -77,6 +82,7 @@ IsDropping-end {taken0 = taken0} {count = count} {taken = taken} ps0 ps before h
   shaped = h.shaped;
   counted = omega (arith, h.counted, h.within);
   started = h.started;
+  apart = h.apart;
   forward =
       let e : drop taken (flat_map piece_entries ps) ≡ drop count (queue_entries taken0 ps0) = ap (λ n. drop n (queue_entries taken ps)) (sym none) ∙ h.rest in
       rw e (IsForward-drop count (queue_entries taken0 ps0) before.forward);

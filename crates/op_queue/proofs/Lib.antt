@@ -1,3 +1,4 @@
+pub mod ApartLemmas
 pub mod PieceLemmas
 pub mod RunLemmas
 pub mod FrontLemmas
@@ -13,3 +14,4 @@ pub mod SignedLemmas
 pub mod PathLemmas
 pub mod ForwardLemmas
 pub mod BeginLemmas
+pub mod CountLemmas

@@ -1,5 +1,5 @@
 -- Lemmas on the pieces of a queue.
-use Rattle.std.proofs.Common.{◌≡◌, ℕ, ◌+◌, ◌-◌, ◌*◌, ◌^◌, ◌<◌, ◌≤◌, Bool, List, [], ◌∷◌, ◌++◌, length, drop, ap, sym, ◌∙◌, arith, subst, append-nil, length-append, length-drop}
+use Rattle.std.proofs.Common.{◌≡◌, ℕ, ◌+◌, ◌-◌, ◌*◌, ◌^◌, ◌<◌, ◌≤◌, Bool, None, List, [], ◌∷◌, ◌++◌, length, drop, ap, sym, ◌∙◌, arith, subst, append-nil, length-append, length-drop}
 use Rattle.std.specs.List.{flat_map, All}
 use Rattle.std.proofs.lemmas.List.Concat.{flat_map-append}
 use Rattle.std.proofs.lemmas.List.{length-map, drop-append-le, get_or-drop}
@@ -8,9 +8,10 @@ use Rattle.std.proofs.lemmas.List.Elements.{All-head, All-tail, All-push}
 use Rattle.values.specs.Row.{Row}
 use Rattle.op_queue.specs.Entries.{Entry, RowAt, TickAt, IsForward}
 use Rattle.op_queue.specs.Queues.{Waiting}
-use Rattle.op_queue.specs.Pieces.{piece_size, piece_entries, queue_entries, waiting_in, IsPiece, IsTaken, IsQueue}
+use Rattle.op_queue.specs.Pieces.{piece_size, piece_entries, queue_entries, waiting_in, end_of_pieces, IsPiece, IsTaken, IsApart, IsQueue}
 use Rattle.op_queue.specs.declared.queue.Piece.{Piece}
 use Rattle.op_queue.specs.declared.queue.Piece.TheVariants.{Rows, Ticks}
+use Rattle.op_queue.proofs.ApartLemmas.{AreApart-push}
 
 pub length-piece_entries : (p : Piece) → length (piece_entries p) ≡ piece_size p
 length-piece_entries (Rows t b) = let f : Bool × Row → Entry Row = RowAt t in length-map b f
@@ -47,8 +48,8 @@ pub queue_entries-push : {taken len : ℕ} (ps : List Piece) (p : Piece) → IsQ
 queue_entries-push {taken} ps p h =
     ap (drop taken) (flat_map-pieces_push ps p) ∙ drop-append-le taken (flat_map piece_entries ps) (piece_entries p) (omega (arith, h.counted))
 
-pub IsQueue-push : {taken len : ℕ} (ps : List Piece) (p : Piece) (size : ℕ) (w : Waiting) → waiting_in taken ps ≡ w → size ≡ piece_size p → 0 < size → IsQueue taken len ps → IsPiece p → IsForward (w.entries ++ piece_entries p) → IsQueue taken (len + size) (ps ++ p ∷ [])
-IsQueue-push {taken} {len} ps p size w seen is some h shaped forward = record {
+pub IsQueue-push : {taken len : ℕ} (ps : List Piece) (p : Piece) (size : ℕ) (w : Waiting) → waiting_in taken ps ≡ w → size ≡ piece_size p → 0 < size → IsQueue taken len ps → IsPiece p → IsApart (end_of_pieces None ps) p → IsForward (w.entries ++ piece_entries p) → IsQueue taken (len + size) (ps ++ p ∷ [])
+IsQueue-push {taken} {len} ps p size w seen is some h shaped apart forward = record {
   shaped = All-push IsPiece ps p h.shaped shaped;
   counted =
       let a = ap length (flat_map-pieces_push ps p) in
@@ -56,6 +57,7 @@ IsQueue-push {taken} {len} ps p size w seen is some h shaped forward = record {
       let c = length-piece_entries p in
       omega (arith, h.counted);
   started = IsTaken-push taken ps p (omega arith) h.started;
+  apart = AreApart-push None ps p h.apart apart;
   forward = let P : List (Entry Row) → Type 0 = IsForward in subst P (sym (queue_entries-push ps p h ∙ ap (λ (v : Waiting). v.entries ++ piece_entries p) seen)) forward;
 }
 

@@ -1,5 +1,5 @@
 -- A run of ticks that grows at the back of a queue.
-use Rattle.std.proofs.Common.{◌≡◌, ℕ, suc, ◌+◌, ◌-◌, ◌*◌, ◌^◌, ◌<◌, ◌≤◌, List, [], ◌∷◌, ◌++◌, length, map, take, drop, get_or, set, ap, sym, ◌∙◌, arith, subst, append_assoc, length-append, add-zero, zero-add}
+use Rattle.std.proofs.Common.{◌≡◌, ℕ, suc, ◌+◌, ◌-◌, ◌*◌, ◌^◌, ◌<◌, ◌≤◌, None, List, [], ◌∷◌, ◌++◌, length, map, take, drop, get_or, set, ap, sym, ◌∙◌, arith, subst, append_assoc, length-append, add-zero, zero-add}
 use Prim.Native.Nat.{zero}
 use Rattle.std.specs.List.{flat_map, range_with_len, All}
 use Rattle.std.proofs.lemmas.List.{set_split, take_more, take_all, drop_all, map-append, drop-append-le}
@@ -11,6 +11,7 @@ use Rattle.op_queue.specs.Queues.{Waiting}
 use Rattle.op_queue.specs.Pieces.{piece_entries, queue_entries, waiting_in, IsPiece, IsTaken, IsQueue, IsLongerRun}
 use Rattle.op_queue.specs.declared.queue.Piece.{Piece}
 use Rattle.op_queue.specs.declared.queue.Piece.TheVariants.{Ticks}
+use Rattle.op_queue.proofs.ApartLemmas.{AreApart-longer}
 use Rattle.op_queue.proofs.PieceLemmas.{length-piece_entries, length-pieces, flat_map-pieces_push}
 
 pub IsLongerRun-set : (ps : List Piece) (n first last from to : ℕ) (p : Piece) → n + 1 ≡ length ps → p ≡ get_or ps n p → p ≡ Ticks from to → to + 1 ≡ first → IsLongerRun first last ps (set ps n (Ticks from last))
@@ -78,6 +79,7 @@ IsQueue-longer {taken} {len} first last ps qs w seen h some fits forward (init, 
       shaped = l.0;
       counted = l.1;
       started = rw is (IsTaken-longer taken first last from to init next some (rw was at h.started));
+      apart = rw is (AreApart-longer None init from to last (rw was at h.apart));
       forward =
           let P : List (Entry Row) → Type 0 = IsForward in
           subst P (sym (queue_entries-longer first last ps qs h some longer ∙ ap (λ (v : Waiting). v.entries ++ ticks first last) seen)) forward;

@@ -6,7 +6,7 @@ use Rattle.op_queue.specs.Cursors.{cursor_entries}
 use Rattle.op_queue.specs.Entries.{RowAt, TickAt}
 use Rattle.op_queue.specs.Items.{entries_of, front_of, ticks}
 use Rattle.op_queue.specs.Logs.{Closed, log_entries}
-use Rattle.op_queue.specs.Queues.{at_once, each_begins, first_begins}
+use Rattle.op_queue.specs.Queues.{at_once, each_begins, first_begins, last_entry, pieces_of, run_pieces}
 use Rattle.op_queue.specs.declared.item.Item.TheVariants.{Rows}
 use Rattle.op_queue.specs.declared.queue.Front.TheVariants as front
 
@@ -58,3 +58,16 @@ the_rest_of_a_batch_comes_out = refl
 
 a_batch_and_two_ticks : first_begins (entries_of (Rows 2 ((true, row 5) ∷ (false, row 6) ∷ []))) ++ each_begins (ticks 2 3) ≡ true ∷ false ∷ true ∷ true ∷ []
 a_batch_and_two_ticks = refl
+
+-- two batches, a run of two ticks, and a tick that does not follow them
+two_batches_and_two_runs : pieces_of (RowAt 2 (true, row 5) ∷ RowAt 2 (false, row 6) ∷ RowAt 2 (true, row 7) ∷ TickAt 2 ∷ TickAt 3 ∷ TickAt 5 ∷ []) (true ∷ false ∷ true ∷ true ∷ true ∷ true ∷ []) ≡ 4
+two_batches_and_two_runs = refl
+
+the_rest_of_a_batch_is_a_piece : pieces_of (RowAt 2 (false, row 6) ∷ TickAt 2 ∷ []) (false ∷ true ∷ []) ≡ 2
+the_rest_of_a_batch_is_a_piece = refl
+
+a_run_goes_on : run_pieces (last_entry (ticks 3 5)) 6 ≡ 0
+a_run_goes_on = refl
+
+a_run_of_its_own : run_pieces (last_entry (ticks 3 5)) 7 ≡ 1
+a_run_of_its_own = refl

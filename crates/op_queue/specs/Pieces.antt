@@ -1,11 +1,11 @@
 -- How a queue is kept: pieces, of the first of which some rows or ticks have left.
-use Rattle.std.specs.Prelude.{◌≡◌, ℕ, Bool, ◌+◌, ◌-◌, ◌^◌, ◌<◌, ◌≤◌, List, [], ◌∷◌, ◌++◌, map, length, drop}
-use Rattle.std.specs.List.{flat_map, All}
+use Rattle.std.specs.Prelude.{◌≡◌, ℕ, Bool, Option, None, Some, ◌+◌, ◌-◌, ◌^◌, ◌<◌, ◌≤◌, List, [], ◌∷◌, ◌++◌, map, length, drop}
+use Rattle.std.specs.List.{flat_map, last_or, All}
 use Rattle.values.specs.Row.{Row}
 use Rattle.column.specs.Rows.{IsBatch}
-use Rattle.op_queue.specs.Entries.{Entry, RowAt, IsForward}
+use Rattle.op_queue.specs.Entries.{Entry, RowAt, TickAt, IsForward}
 use Rattle.op_queue.specs.Items.{ticks}
-use Rattle.op_queue.specs.Queues.{Waiting, first_begins, each_begins}
+use Rattle.op_queue.specs.Queues.{Waiting, first_begins, each_begins, run_pieces}
 use Rattle.op_queue.specs.declared.queue.Piece.{Piece}
 use Rattle.op_queue.specs.declared.queue.Piece.TheVariants.{Rows, Ticks}
 
@@ -41,10 +41,31 @@ abbrev pub IsTaken : ℕ → List Piece → Type 0
 IsTaken taken [] = taken ≡ 0
 IsTaken taken (p ∷ ps) = taken < piece_size p
 
+-- the last entry of a piece
+abbrev pub end_of : Piece → Option (Entry Row)
+end_of (Rows t b) = last_or None (piece_entries (Rows t b))
+end_of (Ticks first last) = Some (TickAt last)
+
+-- the last entry of some pieces, or else the one before them
+abbrev pub end_of_pieces : Option (Entry Row) → List Piece → Option (Entry Row)
+end_of_pieces before [] = before
+end_of_pieces before (p ∷ ps) = end_of_pieces (end_of p) ps
+
+-- the piece is no run that goes on behind the entry before it
+abbrev pub IsApart : Option (Entry Row) → Piece → Type 0
+IsApart before (Rows t b) = Unit {0}
+IsApart before (Ticks first last) = run_pieces before first ≡ 1
+
+-- no two runs that could be one
+abbrev pub AreApart : Option (Entry Row) → List Piece → Type 0
+AreApart before [] = Unit {0}
+AreApart before (p ∷ ps) = IsApart before p × AreApart (end_of p) ps
+
 pub record IsQueue (taken waiting : ℕ) (ps : List Piece) : Type 0 where
   pub shaped : All IsPiece ps
   pub counted : taken + waiting ≡ length (flat_map piece_entries ps)
   pub started : IsTaken taken ps
+  pub apart : AreApart None ps
   pub forward : IsForward (queue_entries taken ps)
 
 -- the last piece is a run that ends just before `first`, and then ends at `last`

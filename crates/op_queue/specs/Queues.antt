@@ -1,7 +1,10 @@
 -- A queue as its callers see it.
-use Rattle.std.specs.Prelude.{ℕ, ◌+◌, Bool, true, false, List, [], ◌∷◌, map}
+use Rattle.std.specs.Prelude.{ℕ, ◌+◌, ◌==◌, Bool, true, false, cond, Option, None, Some, List, [], ◌∷◌, map}
+use Rattle.std.specs.List.{last_or}
 use Rattle.values.specs.Row.{Row}
-use Rattle.op_queue.specs.Entries.{Entry}
+use Rattle.op_queue.specs.Entries.{Entry, RowAt, TickAt}
+use Rattle.op_queue.specs.declared.item.Item.{Item}
+use Rattle.op_queue.specs.declared.item.Item.TheVariants as item
 
 -- what waits, which entries begin an item that comes out at once, and in how many pieces all is kept
 pub record Waiting : Type 0 where
@@ -28,3 +31,32 @@ before_next (false ∷ bs) = 1 + before_next bs
 abbrev pub at_once : List Bool → ℕ
 at_once [] = 0
 at_once (b ∷ bs) = 1 + before_next bs
+
+abbrev pub last_entry : {X : Type 0} → List (Entry X) → Option (Entry X)
+last_entry es = last_or None es
+
+-- how many pieces more a run of ticks from `first` on takes behind the last entry: none where that is the tick of the instant before
+abbrev pub run_pieces : {X : Type 0} → Option (Entry X) → ℕ → ℕ
+run_pieces None first = 1
+run_pieces (Some (RowAt t s)) first = 1
+run_pieces (Some (TickAt t)) first = cond (t + 1 == first) 0 1
+
+-- the same of an item: a batch takes one
+abbrev pub item_pieces : Option (Entry Row) → Item → ℕ
+item_pieces last (item.Rows t b) = 1
+item_pieces last (item.Tick t) = run_pieces last t
+
+-- how many pieces more an entry takes behind another: a row one where it begins a batch, and the first of all one
+abbrev pub entry_pieces : {X : Type 0} → Entry X → Bool → Option (Entry X) → ℕ
+entry_pieces (TickAt t) b last = run_pieces last t
+entry_pieces (RowAt t s) b None = 1
+entry_pieces (RowAt t s) b (Some e) = cond b 1 0
+
+abbrev pub pieces_behind : {X : Type 0} → Option (Entry X) → List (Entry X) → List Bool → ℕ
+pieces_behind last [] bs = 0
+pieces_behind last (e ∷ es) [] = 0
+pieces_behind last (e ∷ es) (b ∷ bs) = entry_pieces e b last + pieces_behind (Some e) es bs
+
+-- in how many pieces entries are kept: one for each batch, and one for each run of ticks of instants that follow one another
+abbrev pub pieces_of : {X : Type 0} → List (Entry X) → List Bool → ℕ
+pieces_of es bs = pieces_behind None es bs

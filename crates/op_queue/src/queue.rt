@@ -3,8 +3,8 @@ ghost use Rattle.std.specs.Prelude.{◌≡◌, ◌↔◌, IsTrue, Some, ◌+◌,
 ghost use Rattle.std.specs.Bool.{OnTrue, OnFalse};
 ghost use Rattle.op_queue.specs.Entries.{IsForward};
 ghost use Rattle.op_queue.specs.Items.{entries_of, front_of, ticks, IsFrontPart};
-ghost use Rattle.op_queue.specs.Queues.{at_once, each_begins, first_begins};
-ghost use Rattle.op_queue.specs.Pieces.{piece_begins, piece_entries, piece_size, IsLongerRun, IsPiece};
+ghost use Rattle.op_queue.specs.Queues.{at_once, each_begins, first_begins, item_pieces, last_entry, pieces_of, run_pieces};
+ghost use Rattle.op_queue.specs.Pieces.{end_of_pieces, piece_begins, piece_entries, piece_size, IsApart, IsLongerRun, IsPiece};
 
 use crate::item::Item;
 use column::Batch;
@@ -84,6 +84,7 @@ impl Queue {
     /// In how many pieces rows and ticks are kept: one for each batch and each run of ticks.
     pub fn pieces(&self) -> usize
         ensures value { result ≡ self.now.pieces }
+        ensures counted { result ≡ pieces_of self.now.entries self.now.begins }
         ensures few { result ≤ length self.now.entries }
     {
         self.pieces.len()
@@ -94,7 +95,7 @@ impl Queue {
         requires { IsForward (self.old.entries ++ entries_of item) }
         ensures entries { OnOk result (self.new.entries ≡ self.old.entries ++ entries_of item) }
         ensures begins { OnOk result (self.new.begins ≡ self.old.begins ++ first_begins (entries_of item)) }
-        ensures pieces { OnOk result (self.new.pieces ≤ self.old.pieces + 1) }
+        ensures pieces { OnOk result (self.new.pieces ≡ self.old.pieces + item_pieces (last_entry self.old.entries) item) }
         ensures err { OnErr result (self.new ≡ self.old) }
     {
         match item {
@@ -112,7 +113,7 @@ impl Queue {
         requires forward { IsForward (self.old.entries ++ ticks first last) }
         ensures entries { OnOk result (self.new.entries ≡ self.old.entries ++ ticks first last) }
         ensures begins { OnOk result (self.new.begins ≡ self.old.begins ++ each_begins (ticks first last)) }
-        ensures pieces { OnOk result (self.new.pieces ≤ self.old.pieces + 1) }
+        ensures pieces { OnOk result (self.new.pieces ≡ self.old.pieces + run_pieces (last_entry self.old.entries) first) }
         ensures err { OnErr result (self.new ≡ self.old) }
     {
         let size = last as u128 + 1 - first as u128;
@@ -151,6 +152,7 @@ impl Queue {
         ensures entries { self.new.entries ≡ drop count self.old.entries }
         ensures begins { self.new.begins ≡ drop count self.old.begins }
         ensures pieces { self.new.pieces ≤ self.old.pieces }
+        ensures counted { self.new.pieces ≡ pieces_of (drop count self.old.entries) (drop count self.old.begins) }
     {
         let mut left = count as u64;
         while left > 0
@@ -172,9 +174,10 @@ impl Queue {
     fn push_piece(&mut self, piece: Piece) -> Result<(), AllocError>
         requires forward { IsForward (self.old.entries ++ piece_entries piece) }
         requires shaped { IsPiece piece }
+        requires apart { IsApart (last_entry self.old.entries) piece }
         ensures entries { OnOk result (self.new.entries ≡ self.old.entries ++ piece_entries piece) }
         ensures begins { OnOk result (self.new.begins ≡ self.old.begins ++ piece_begins piece) }
-        ensures pieces { OnOk result (self.new.pieces ≤ self.old.pieces + 1) }
+        ensures pieces { OnOk result (self.new.pieces ≡ self.old.pieces + 1) }
         ensures err { OnErr result (self.new ≡ self.old) }
     {
         let size = piece.size();
@@ -236,6 +239,7 @@ impl Piece {
 fn extend_run(pieces: &mut VecDeque<Piece>, first: u64, last: u64) -> bool
     ensures longer { OnTrue result (IsLongerRun first last pieces.old.items pieces.new.items) }
     ensures same { OnFalse result (pieces.new.items ≡ pieces.old.items) }
+    ensures apart { OnFalse result (run_pieces (end_of_pieces None pieces.old.items) first ≡ 1) }
 {
     let count = pieces.len();
     if count == 0 {

@@ -1,5 +1,6 @@
 use Rattle.std.proofs.Common.{arith, ◌<◌, length}
 use Rattle.std.proofs.lemmas.Grind.{common_steps}
+use Rattle.op_queue.proofs.CountLemmas.{pieces_dropped}
 use Rattle.op_queue.proofs.DropLemmas.{IsDropping-pop, IsDropping-end, dropped_all}
 use Rattle.op_queue.proofs.queue.Queue.drop_front.Goals as goal
 use Rattle.op_queue.proofs.queue.Queue.drop_front.Goals.{else-loop-left-test, then-loop-left-test+in-None-1}
@@ -13,6 +14,14 @@ loop-left-preserved c =
 pub invariant_of-self : goal.invariant_of-self
 invariant_of-self c =
     let end = IsDropping-end c.self.inside.pieces.items c.loop-left.self-inside.pieces.items c.self.invariant c.loop-left.invariant in
+    elim c.loop-left-test.branch [
+      | else-loop-left-test w ↦ end (omega arith)
+      | then-loop-left-test+in-None-1 w ↦ end (dropped_all c.loop-left.self-inside.pieces.items c.loop-left.invariant (grind (arith, common_steps)))
+    ]
+
+pub returns-clause-counted : goal.returns-clause-counted
+returns-clause-counted c =
+    let end = pieces_dropped c.self.inside.pieces.items c.loop-left.self-inside.pieces.items _ c.self.view_is c.self.invariant c.loop-left.invariant in
     elim c.loop-left-test.branch [
       | else-loop-left-test w ↦ end (omega arith)
       | then-loop-left-test+in-None-1 w ↦ end (dropped_all c.loop-left.self-inside.pieces.items c.loop-left.invariant (grind (arith, common_steps)))

@@ -114,6 +114,33 @@ fn a_tick_or_the_first_rows_of_a_batch_come_out(rt: HostRuntime) -> Result<(), F
     Ok(())
 }
 
+/// The ticks 0 and 1, then 2 to 5, and then 7.
+fn runs(alloc: Global) -> Result<Queue, AllocError> {
+    let mut queue = Queue::new(alloc);
+    queue.push_ticks(0, 1)?;
+    queue.push_ticks(2, 5)?;
+    queue.push(Item::Tick(7))?;
+    Ok(queue)
+}
+
+/// In how many pieces the ticks are kept once so many have left.
+fn pieces_left(alloc: Global, left: usize) -> Result<Option<usize>, AllocError> {
+    let mut queue = runs(alloc)?;
+    if drop_some(&mut queue, left) {
+        Ok(Some(queue.pieces()))
+    } else {
+        Ok(None)
+    }
+}
+
+#[test]
+fn ticks_that_follow_one_another_are_one_piece(rt: HostRuntime) -> Result<(), Fail> {
+    for (left, pieces) in [(0, 2), (5, 2), (6, 1), (7, 0)] {
+        assert_eq!(rt; pieces_left(rt.alloc(), left)?, Some(pieces));
+    }
+    Ok(())
+}
+
 fn arrival(number: u64, instant: u64, value: i64) -> Arrival
     ensures number { result.number ≡ number }
     ensures instant { result.instant ≡ instant }

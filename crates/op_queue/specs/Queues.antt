@@ -32,6 +32,7 @@ abbrev pub at_once : List Bool → ℕ
 at_once [] = 0
 at_once (b ∷ bs) = 1 + before_next bs
 
+-- the last of some entries, if there is any
 abbrev pub last_entry : {X : Type 0} → List (Entry X) → Option (Entry X)
 last_entry es = last_or None es
 
@@ -52,6 +53,7 @@ entry_pieces (TickAt t) b last = run_pieces last t
 entry_pieces (RowAt t s) b None = 1
 entry_pieces (RowAt t s) b (Some e) = cond b 1 0
 
+-- how many pieces more entries take behind another
 abbrev pub pieces_behind : {X : Type 0} → Option (Entry X) → List (Entry X) → List Bool → ℕ
 pieces_behind last [] bs = 0
 pieces_behind last (e ∷ es) [] = 0

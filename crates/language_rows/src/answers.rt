@@ -6,7 +6,7 @@ ghost use Rattle.values.specs.Resolved.{FitsRows};
 use reference::evaluate::evaluate;
 use std::alloc::{AllocError, Global};
 use std::test::Fail;
-use values::{Column, Operator, Resolved, Row, Shape, Value, Window};
+use values::{Column, Operator, Resolved, Row, Shape, Value, Window, copy_row};
 
 /// A row of one number.
 pub(crate) fn row(number: i128) -> Row {
@@ -77,14 +77,28 @@ fn rows_of_now_are_shown(alloc: Global) -> Result<bool, AllocError> {
     listing_answers(alloc, Operator::Istream, Window::Range(0), 4, rows, &wanted)
 }
 
-fn seven_is_printed(alloc: Global) -> Result<bool, AllocError> {
-    let text = format!(in alloc; "{}", Value::clamped(7))?;
-    Ok(text.as_str() == "7")
+/// Whether the value is printed so, also to a programmer.
+fn is_printed(alloc: Global, value: Value, wanted: &str) -> Result<bool, AllocError> {
+    let text = format!(in alloc; "{value} {value:?}")?;
+    Ok(text.as_str() == wanted)
+}
+
+fn row_is_copied() -> bool {
+    let copy = copy_row(&row(7));
+    copy.as_slice() == [Value::clamped(7)].as_slice()
 }
 
 #[test]
 fn the_rows_of_an_instant_are_shown_in_order(rt: HostRuntime) -> Result<(), Fail> {
     assert!(rt; rows_of_now_are_shown(rt.alloc())?);
-    assert!(rt; seven_is_printed(rt.alloc())?);
+    Ok(())
+}
+
+#[test]
+fn values_are_printed_and_rows_copied(rt: HostRuntime) -> Result<(), Fail> {
+    assert!(rt; is_printed(rt.alloc(), Value::clamped(7), "7 7")?);
+    assert!(rt; is_printed(rt.alloc(), Value::clamped(-5), "-5 -5")?);
+    assert!(rt; is_printed(rt.alloc(), Value::null(), "null null")?);
+    assert!(rt; row_is_copied());
     Ok(())
 }

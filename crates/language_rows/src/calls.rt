@@ -4,20 +4,29 @@ use crate::answers::{are, row};
 use cql_reader::{Name, Query, read};
 use names::{Catalog, resolve};
 use plan::fits_a_row;
-use reference::{Answering, Fault, NewRows, Plain, QueryFault, answers};
+use reference::{
+    Answering, Chart, Fault, Kind, NewRows, Plain, QueryFault, Slope, answers, answers_only_grow,
+    are_columns, equal_window_bags_have_equal_answers, find_plan,
+    later_elements_change_no_closed_answer, names_of, order_of_arrival_matters_to_last_rows_alone,
+    order_of_arrival_matters_within_an_instant_alone,
+};
 use std::alloc::{AllocError, Global};
 use std::test::Fail;
 use values::Row;
 
 const ISTREAM: &str = "Select Istream(*) From S [Now]";
 
+fn texts(alloc: Global, each: &[&str]) -> Result<Vec<String>, AllocError> {
+    let mut texts = Vec::new(alloc);
+    for text in each {
+        texts.push(String::from_str(alloc, text)?)?;
+    }
+    Ok(texts)
+}
+
 /// The columns a and b.
 fn columns(alloc: Global) -> Result<Vec<String>, AllocError> {
-    let mut columns = Vec::new(alloc);
-    for name in ["a", "b"] {
-        columns.push(String::from_str(alloc, name)?)?;
-    }
-    Ok(columns)
+    texts(alloc, &["a", "b"])
 }
 
 /// Declares a stream S(a, b) from 0 and registers a query q on it: their numbers.
@@ -189,7 +198,153 @@ fn text_is_answered(alloc: Global, text: &str, wanted: &[(u64, i64)]) -> Result<
 
 #[test]
 fn answers_are_those_of_the_closed_instants(rt: HostRuntime) -> Result<(), Fail> {
+    answers_only_grow();
+    equal_window_bags_have_equal_answers();
+    later_elements_change_no_closed_answer();
+    order_of_arrival_matters_to_last_rows_alone();
+    order_of_arrival_matters_within_an_instant_alone();
     let wanted = [(1, 5), (3, 6), (3, 7)];
     assert!(rt; text_is_answered(rt.alloc(), ISTREAM, &wanted)?);
+    Ok(())
+}
+
+/// How many operators the plan of a text over S has.
+fn plan_len(alloc: Global, text: &str) -> Result<usize, Fault> {
+    let columns = Vec::from_slice(alloc, &[Name::new(b"a")])?;
+    let mut catalog = Catalog::new(alloc);
+    catalog.declare(Name::new(b"S"), columns)?;
+    let plan = find_plan(alloc, &catalog, text, None)?;
+    Ok(plan.nodes.len())
+}
+
+/// Whether a text over S is refused for this.
+fn is_refused(alloc: Global, text: &str, wanted: QueryFault) -> bool {
+    match plan_len(alloc, text) {
+        Ok(_) => false,
+        Err(fault) => fault == Fault::Query(wanted),
+    }
+}
+
+#[test]
+fn texts_are_planned_or_refused(rt: HostRuntime) -> Result<(), Fail> {
+    assert_eq!(rt; plan_len(rt.alloc(), ISTREAM)?, 3);
+    assert!(rt; is_refused(rt.alloc(), "Select", QueryFault::Unexpected(6)));
+    assert!(rt;
+        is_refused(
+            rt.alloc(),
+            "Select Istream(*) From T",
+            QueryFault::UnknownStream
+        )
+    );
+    Ok(())
+}
+
+/// Whether these may be the columns of a stream.
+fn are_good(alloc: Global, names: &[&str]) -> Result<bool, AllocError> {
+    let texts = texts(alloc, names)?;
+    Ok(are_columns(&texts))
+}
+
+/// The names of the columns a and b.
+fn column_names(alloc: Global) -> Result<Vec<Name>, AllocError> {
+    let columns = columns(alloc)?;
+    if are_columns(&columns) {
+        names_of(alloc, &columns)
+    } else {
+        Ok(Vec::new(alloc))
+    }
+}
+
+fn columns_are_named(alloc: Global) -> Result<bool, AllocError> {
+    let names = column_names(alloc)?;
+    Ok(match names.as_slice() {
+        [first, second] => first.as_bytes() == b"a".as_slice()
+            && second.as_bytes() == b"b".as_slice(),
+        _ => false,
+    })
+}
+
+#[test]
+fn columns_have_good_names_and_none_twice(rt: HostRuntime) -> Result<(), Fail> {
+    assert!(rt; are_good(rt.alloc(), &["a", "b"])?);
+    assert!(rt; !are_good(rt.alloc(), &["a", "a"])?);
+    assert!(rt; !are_good(rt.alloc(), &["a", "From"])?);
+    assert!(rt; !are_good(rt.alloc(), &[])?);
+    assert!(rt; columns_are_named(rt.alloc())?);
+    Ok(())
+}
+
+/// Whether the operators and their slopes are told so.
+fn are_told(
+    alloc: Global,
+    operators: &[(Kind, Slope)],
+    wanted: &[&str],
+) -> Result<bool, AllocError> {
+    for ((kind, slope), told) in operators.iter().zip(wanted) {
+        let text = format!(in alloc; "{kind} {slope}")?;
+        if text.as_str() != *told {
+            return Ok(false);
+        }
+    }
+    Ok(operators.len() == wanted.len())
+}
+
+/// Whether an engine tells so of the operators of a query over S.
+fn slopes_are(
+    alloc: Global,
+    text: &str,
+    chart: Option<&Chart>,
+    wanted: &[&str],
+) -> Result<bool, Fault> {
+    let columns = columns(alloc)?;
+    let mut plain = Plain::new(alloc)?;
+    plain.stream("S", columns.as_slice(), 0)?;
+    let query = plain.query("q", text, chart)?;
+    let operators = plain.slopes(query)?;
+    Ok(are_told(alloc, &operators, wanted)?)
+}
+
+fn charted_slopes_are(alloc: Global, wanted: &[&str]) -> Result<bool, Fault> {
+    let chart = Chart {
+        operators: Vec::from_slice(alloc, &[(1, 900_000), (1, 100_000), (1, 0)])?,
+    };
+    slopes_are(alloc, ISTREAM, Some(&chart), wanted)
+}
+
+#[test]
+fn slopes_follow_a_chart_or_the_default_one(rt: HostRuntime) -> Result<(), Fail> {
+    let charted = ["Window 450000/1", "Project 450000/1", "ToStream 100000/1"];
+    let defaults: [(&str, &[&str]); 4] = [
+        (
+            ISTREAM,
+            &["Window 250000/1", "Project 250000/1", "ToStream 250000/1"],
+        ),
+        (
+            "Select Istream(Distinct a) From S [Now]",
+            &[
+                "Window 200000/1",
+                "Project 200000/1",
+                "Distinct 150000/1",
+                "ToStream 100000/1",
+            ],
+        ),
+        (
+            "Select Istream(a, Count(*)) From S [Now] Group By a",
+            &["Window 500000/3", "Group 500000/3", "ToStream 500000/3"],
+        ),
+        (
+            "Select Istream(Distinct a, Count(*)) From S [Now] Group By a",
+            &[
+                "Window 160000/1",
+                "Group 160000/1",
+                "Distinct 200000/3",
+                "ToStream 200000/3",
+            ],
+        ),
+    ];
+    assert!(rt; charted_slopes_are(rt.alloc(), &charted)?);
+    for (text, wanted) in defaults {
+        assert!(rt; slopes_are(rt.alloc(), text, None, wanted)?, "{text}");
+    }
     Ok(())
 }

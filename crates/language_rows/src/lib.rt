@@ -15,4 +15,6 @@ mod plans;
 #[cfg(test)]
 mod references;
 #[cfg(test)]
+mod rows;
+#[cfg(test)]
 mod texts;

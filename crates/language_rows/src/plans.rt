@@ -1,7 +1,7 @@
-use cql_reader::{Entries, Name, Query, Source, Window};
+use cql_reader::{Entries, Name, Query, Source, Window, read};
 use envelope::Slope;
 use names::Catalog;
-use plan::{Chart, Node, Plan, fits_a_row, plan, slopes};
+use plan::{Chart, Key, Measure, Node, Plan, fits_a_row, plan, plans_are_right, slopes};
 use std::alloc::{AllocError, Global};
 use std::test::Fail;
 use values::Operator;
@@ -93,6 +93,122 @@ fn charted_plan_is_told(alloc: Global) -> Result<bool, AllocError> {
 
 #[test]
 fn slopes_follow_the_chart(rt: HostRuntime) -> Result<(), Fail> {
+    plans_are_right();
     assert!(rt; charted_plan_is_told(rt.alloc())?);
+    Ok(())
+}
+
+/// The streams A(k) and B(k, v).
+fn both(alloc: Global) -> Result<Catalog, AllocError> {
+    let first = vec![in alloc; name(b'k')]?;
+    let second = vec![in alloc; name(b'k'), name(b'v')]?;
+    let mut catalog = Catalog::new(alloc);
+    catalog.declare(name(b'A'), first)?;
+    catalog.declare(name(b'B'), second)?;
+    Ok(catalog)
+}
+
+/// Whether the operator joins the operators 0 and 1, on the places 0 and 0.
+fn is_join(node: &Node) -> bool {
+    match node {
+        Node::Join(left, right, keys) => {
+            *left == 0 && *right == 1 && keys.as_slice() == [Key { left: 0, right: 0 }].as_slice()
+        }
+        _ => false,
+    }
+}
+
+/// Whether the operator lists the places 0 and 2 of the operator 2.
+fn is_list(node: &Node) -> bool {
+    match node {
+        Node::Project(input, places) => *input == 2 && places.as_slice() == [0, 2].as_slice(),
+        _ => false,
+    }
+}
+
+/// Whether the operator makes a stream of what comes into the relation of the operator 3.
+fn is_root(node: &Node) -> bool {
+    match node {
+        Node::ToStream(input, operator) => *input == 3 && *operator == Operator::Istream,
+        _ => false,
+    }
+}
+
+/// Whether the operator is the window of the source.
+fn is_window_of(node: &Node, source: usize) -> bool {
+    match node {
+        Node::Window(own) => *own == source && node.is_window(),
+        _ => false,
+    }
+}
+
+/// Whether the third operator takes the rows of the first two alone, and no window is one of the others.
+fn are_fed(nodes: &[Node]) -> bool {
+    match nodes {
+        [_, second, join, list, _] => {
+            !second.takes(0)
+                && join.takes(0)
+                && join.takes(1)
+                && !join.takes(2)
+                && !list.is_window()
+        }
+        _ => false,
+    }
+}
+
+/// Whether the operators are two windows, their join, the list and the root.
+fn are_joined(nodes: &[Node]) -> bool {
+    match nodes {
+        [first, second, join, list, root] => {
+            is_window_of(first, 0)
+                && is_window_of(second, 1)
+                && is_join(join)
+                && is_list(list)
+                && is_root(root)
+        }
+        _ => false,
+    }
+}
+
+fn measure(cost: u64, size: u64) -> Measure {
+    Measure { cost, size }
+}
+
+/// Whether these are the default measures of two windows, a join, a list and a root.
+fn are_default(measures: &[Measure]) -> bool {
+    let window = measure(2, 1_000_000);
+    let rest = [measure(4, 800_000), measure(1, 400_000), measure(1, 0)];
+    match measures {
+        [first, second, others @ ..] => {
+            *first == window && *second == window && others == rest.as_slice()
+        }
+        _ => false,
+    }
+}
+
+fn query_is_joined(alloc: Global, query: &Query) -> Result<bool, AllocError> {
+    let catalog = both(alloc)?;
+    if !fits_a_row(query, &catalog) {
+        return Ok(false);
+    }
+    match plan(alloc, query, &catalog, None) {
+        Ok(plan) => Ok(
+            are_joined(&plan.nodes) && are_fed(&plan.nodes) && are_default(&plan.measures),
+        ),
+        Err(_) => Ok(false),
+    }
+}
+
+fn text_is_joined(alloc: Global, text: &str) -> Result<bool, AllocError> {
+    match read(alloc, text.as_bytes()) {
+        Ok(query) => query_is_joined(alloc, &query),
+        Err(_) => Ok(false),
+    }
+}
+
+#[test]
+fn join_is_fed_by_its_windows_and_feeds_the_list(rt: HostRuntime) -> Result<(), Fail> {
+    let text = "Select Istream(A.k, B.v) From A [Now], B [Now] Where A.k = B.k";
+    assert!(rt; text_is_joined(rt.alloc(), text)?);
     Ok(())
 }

@@ -1,8 +1,8 @@
 use cql_reader::{Condition, Entries, Name, Operand, Query, Reference, Source, Window};
-use names::{Catalog, Named, ResolveFault, resolve};
+use names::{Catalog, Key, Named, ResolveFault, matches_bear_the_name, resolve};
 use std::alloc::{AllocError, Global};
 use std::test::Fail;
-use values::{Compare, Operator};
+use values::{Column, Compare, Operator};
 
 /// A name of one letter.
 fn name(letter: u8) -> Name {
@@ -24,10 +24,10 @@ fn source(stream: u8) -> Source {
     }
 }
 
-/// `Select Istream(*) From A [Now], B [Now] Where B.k = A.k`.
+/// `Select Istream(*) From A [Now], B [Now] Where B.v = A.k`.
 fn joined(alloc: Global) -> Result<Query, AllocError> {
     let sources = vec![in alloc; source(b'A'), source(b'B')]?;
-    let condition = Condition::Compared(dotted(b'B', b'k'), Compare::Equals, dotted(b'A', b'k'));
+    let condition = Condition::Compared(dotted(b'B', b'v'), Compare::Equals, dotted(b'A', b'k'));
     Ok(Query {
         operator: Operator::Istream,
         is_distinct: false,
@@ -57,12 +57,32 @@ fn catalog(alloc: Global) -> Result<Catalog, AllocError> {
     Ok(catalog)
 }
 
-/// Whether the query has the streams 1 and 2, of one and of two columns, and one key that joins them.
+/// Whether the one key joins column 1 of the second source with column 0 of the first.
+fn is_keyed(keys: &[Vec<Key>]) -> bool {
+    let earlier = Column {
+        source: 0,
+        column: 0,
+    };
+    match keys {
+        [keys] => keys.as_slice() == [Key { earlier, column: 1 }].as_slice(),
+        _ => false,
+    }
+}
+
+/// Whether no condition is one source's own, nor remains.
+fn has_keys_alone(named: &Named) -> bool {
+    match named.own.as_slice() {
+        [first, second] => first.is_empty() && second.is_empty() && named.rest.is_empty(),
+        _ => false,
+    }
+}
+
+/// Whether the query has the streams 1 and 2, of one and of two columns, and the key that joins them alone.
 fn is_joined(named: &Named) -> bool {
-    let (own, keys, rest) = (named.own.len(), named.keys.len(), named.rest.len());
     named.streams.as_slice() == [1, 2].as_slice()
         && named.widths.as_slice() == [1, 2].as_slice()
-        && (own, keys, rest) == (2, 1, 0)
+        && is_keyed(&named.keys)
+        && has_keys_alone(named)
 }
 
 fn join_is_resolved(alloc: Global) -> Result<bool, AllocError> {
@@ -76,6 +96,7 @@ fn join_is_resolved(alloc: Global) -> Result<bool, AllocError> {
 
 #[test]
 fn resolved_query_has_its_streams_widths_and_keys(rt: HostRuntime) -> Result<(), Fail> {
+    matches_bear_the_name();
     assert!(rt; join_is_resolved(rt.alloc())?);
     Ok(())
 }

@@ -7,8 +7,8 @@ use plan::fits_a_row;
 use reference::{
     Answering, Chart, Fault, Kind, NewRows, Plain, QueryFault, Slope, answers, answers_only_grow,
     are_columns, equal_window_bags_have_equal_answers, find_plan,
-    later_elements_change_no_closed_answer, names_of, order_of_arrival_matters_to_last_rows_alone,
-    order_of_arrival_matters_within_an_instant_alone,
+    later_elements_change_no_closed_answer, names_of,
+    order_of_arrival_matters_to_last_rows_within_an_instant_alone,
 };
 use std::alloc::{AllocError, Global};
 use std::test::Fail;
@@ -201,8 +201,7 @@ fn answers_are_those_of_the_closed_instants(rt: HostRuntime) -> Result<(), Fail>
     answers_only_grow();
     equal_window_bags_have_equal_answers();
     later_elements_change_no_closed_answer();
-    order_of_arrival_matters_to_last_rows_alone();
-    order_of_arrival_matters_within_an_instant_alone();
+    order_of_arrival_matters_to_last_rows_within_an_instant_alone();
     let wanted = [(1, 5), (3, 6), (3, 7)];
     assert!(rt; text_is_answered(rt.alloc(), ISTREAM, &wanted)?);
     Ok(())

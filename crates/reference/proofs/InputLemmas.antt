@@ -14,7 +14,8 @@ use Rattle.values.specs.Perm.{same}
 use Rattle.values.specs.Window.{Element, Window, numbered, plain, input_of, window_rows}
 use Rattle.values.specs.Answers.{Resolved, shown_at, answers, answers_at}
 use Rattle.values.proofs.Renumber.{increasing-numbered, increasing-filter, window_rows-plain}
-use Rattle.values.proofs.Worlds.{SameTables, same-answers}
+use Rattle.values.specs.Tables.{SameTables}
+use Rattle.values.proofs.Worlds.{same-answers}
 use Rattle.reference.specs.Inputs.{ShowsSame, EachShowsSame, are_signed}
 use Rattle.reference.specs.Views.{pairs_of, elements_of, inputs_of}
 

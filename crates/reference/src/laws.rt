@@ -1,35 +1,34 @@
 //! Laws of answers that hold for every query and every input.
 ghost use Rattle.std.specs.Prelude.{◌≡◌, ◌≤◌, ◌<◌, ℕ, List, ◌++◌, map};
 ghost use Rattle.values.specs.Row.{Row};
-ghost use Rattle.values.specs.Arrivals.{AllSameAtInstants, AllReordered, AllByInstants};
+ghost use Rattle.values.specs.Tables.{SameTables};
+ghost use Rattle.values.specs.Arrivals.{Longer, AllCameAlike};
 ghost use Rattle.values.specs.Window.{Element, numbered};
 ghost use Rattle.values.specs.Answers.{Resolved, answers, shown_at};
-ghost use Rattle.values.proofs.Worlds.{SameTables};
-ghost use Rattle.values.proofs.Closed.{Longer};
 
 /// Answers only grow: those of a shorter run are the beginning of those of a longer one.
 pub fn answers_only_grow()
-    ensures { (q : Resolved) (start : ℕ) (until : ℕ) (later : ℕ) (inputs : List (List Element)) → start ≤ until → until ≤ later → (rest : List (ℕ × Row)) × (answers q start later inputs ≡ answers q start until inputs ++ rest) }
+    ensures { (q : Resolved) (start : ℕ) (until : ℕ) (later : ℕ) (inputs : List (List Element)) → start ≤ until → until ≤ later
+        → (rest : List (ℕ × Row)) × (answers q start later inputs ≡ answers q start until inputs ++ rest) }
 {}
 
 /// The law of two worlds: inputs whose windows show the same bags at every instant have the same answers.
 pub fn equal_window_bags_have_equal_answers()
-    ensures { (q : Resolved) (start : ℕ) (until : ℕ) (inputs : List (List Element)) (others : List (List Element)) → ((t : ℕ) → start ≤ t → t < until → SameTables (shown_at start q.windows t inputs) (shown_at start q.windows t others)) → answers q start until inputs ≡ answers q start until others }
+    ensures { (q : Resolved) (start : ℕ) (until : ℕ) (inputs : List (List Element)) (others : List (List Element))
+        → ((t : ℕ) → start ≤ t → t < until → SameTables (shown_at start q.windows t inputs) (shown_at start q.windows t others))
+        → answers q start until inputs ≡ answers q start until others }
 {}
 
 /// Elements that come later, at instants that are not closed yet, change no answer of a closed instant.
 pub fn later_elements_change_no_closed_answer()
-    ensures { (q : Resolved) (start : ℕ) (until : ℕ) (inputs : List (List Element)) (longer : List (List Element)) → Longer until inputs longer → answers q start until inputs ≡ answers q start until longer }
+    ensures { (q : Resolved) (start : ℕ) (until : ℕ) (inputs : List (List Element)) (longer : List (List Element))
+        → Longer until inputs longer → answers q start until inputs ≡ answers q start until longer }
 {}
 
-/// The order in which elements came matters within an instant alone: inputs in which the elements of each instant came in the
-/// same order have the same answers.
-pub fn order_of_arrival_matters_within_an_instant_alone()
-    ensures { (q : Resolved) (start : ℕ) (until : ℕ) (inputs : List (List (ℕ × Row))) (others : List (List (ℕ × Row))) → AllSameAtInstants inputs others → answers q start until (map (numbered 0) inputs) ≡ answers q start until (map (numbered 0) others) }
-{}
-
-/// And there it matters to windows of last rows alone: where no window of the query is one, inputs of the same elements in
-/// whatever order have the same answers.
-pub fn order_of_arrival_matters_to_last_rows_alone()
-    ensures { (q : Resolved) (start : ℕ) (until : ℕ) (inputs : List (List (ℕ × Row))) (others : List (List (ℕ × Row))) → AllByInstants q.windows → AllReordered inputs others → answers q start until (map (numbered 0) inputs) ≡ answers q start until (map (numbered 0) others) }
+/// The order in which elements came matters to windows of last rows within an instant alone: of two inputs with the same
+/// elements at each window, those of each instant in the same order where it is one of last rows, the answers are the same.
+pub fn order_of_arrival_matters_to_last_rows_within_an_instant_alone()
+    ensures { (q : Resolved) (start : ℕ) (until : ℕ) (inputs : List (List (ℕ × Row))) (others : List (List (ℕ × Row)))
+        → AllCameAlike q.windows inputs others
+        → answers q start until (map (numbered 0) inputs) ≡ answers q start until (map (numbered 0) others) }
 {}

@@ -23,8 +23,8 @@ pub use fault::{Fault, QueryFault};
 pub use finding::find_plan;
 pub use laws::{
     answers_only_grow, equal_window_bags_have_equal_answers,
-    later_elements_change_no_closed_answer, order_of_arrival_matters_to_last_rows_alone,
-    order_of_arrival_matters_within_an_instant_alone,
+    later_elements_change_no_closed_answer,
+    order_of_arrival_matters_to_last_rows_within_an_instant_alone,
 };
 pub use limits::{
     MAX_APPENDED, MAX_INSTANT, MAX_LEAP, MAX_QUERIES, MAX_REGISTRATIONS, MAX_STREAM_COLUMNS,

@@ -6,10 +6,11 @@ use Rattle.values.specs.Row.{Row}
 use Rattle.values.specs.Perm.{Perm, same, keep, flip, join}
 use Rattle.values.specs.Window.{Element, Window, Range, RangeSlide, Unbounded, LastRows, is_later, numbered, shows, window_rows}
 use Rattle.values.specs.Answers.{Resolved, shown_at, answers}
-use Rattle.values.specs.Arrivals.{SameAtInstants, AllSameAtInstants, AllReordered, GoesByInstants, AllByInstants}
+use Rattle.values.specs.Tables.{SameTables}
+use Rattle.values.specs.Arrivals.{SameAtInstants, CameAlike, AllCameAlike}
 use Rattle.values.proofs.Perms.{perm-filter, perm-map}
 use Rattle.values.proofs.Windows.{perm-window_rows}
-use Rattle.values.proofs.Worlds.{SameTables, same-answers}
+use Rattle.values.proofs.Worlds.{same-answers}
 use Rattle.values.proofs.Renumber.{Alike, Tests, AllTests, first_tests, extend, itself_tests, numbers_rise, window_rows-alike}
 
 by_test : {P : Type 0} (b : Bool) → (b ≡ true → P) → (b ≡ false → P) → P
@@ -189,20 +190,14 @@ window_exchanged start w t xs ys (then_flip front x y rest us h e) =
     (window_exchanged start w t us before e)
     (rw same_rows (perm-window_rows start w t a.elements (numbered 0 after) a.moved))
 
-tables_exchanged : (start : ℕ) (ws : List Window) (t : ℕ) (xss yss : List (List (ℕ × Row))) → AllSameAtInstants xss yss → SameTables (shown_at start ws t (map (numbered 0) xss)) (shown_at start ws t (map (numbered 0) yss))
-tables_exchanged start [] t xss yss h = tt
-tables_exchanged start (w ∷ ws) t [] [] h = tt
-tables_exchanged start (w ∷ ws) t [] (ys ∷ yss) h = absurd h
-tables_exchanged start (w ∷ ws) t (xs ∷ xss) [] h = absurd h
-tables_exchanged start (w ∷ ws) t (xs ∷ xss) (ys ∷ yss) h = (window_exchanged start w t xs ys (exchanged xs ys h.0), tables_exchanged start ws t xss yss h.1)
-
--- inputs in which the elements of each instant came in the same order have the same answers
-pub answers-same_at_instants : (q : Resolved) (start until : ℕ) (xss yss : List (List (ℕ × Row))) → AllSameAtInstants xss yss
-    → answers q start until (map (numbered 0) xss) ≡ answers q start until (map (numbered 0) yss)
-answers-same_at_instants q start until xss yss h =
-    same-answers q start (map (numbered 0) xss) (map (numbered 0) yss) until (λ t le lt. tables_exchanged start q.windows t xss yss h)
-
 -- WINDOWS BY INSTANTS
+
+-- the window goes by instants, not by a number of rows
+abbrev GoesByInstants : Window → Type 0
+GoesByInstants (Range n) = Unit {0}
+GoesByInstants (RangeSlide n l) = Unit {0}
+GoesByInstants Unbounded = Unit {0}
+GoesByInstants (LastRows columns n) = ⊥
 
 -- the element without its number, which such a window does not ask for
 abbrev plainly : ℕ × Row → Element
@@ -227,15 +222,23 @@ window_reordered start w t g xs ys p =
     rw (rows_plainly start w t g (numbered 0 xs) 0 xs, rows_plainly start w t g (numbered 0 ys) 0 ys)
     (perm-map (λ (x : ℕ × Row). x.1) (filter (λ x. shows start w t [] (plainly x)) xs) (filter (λ x. shows start w t [] (plainly x)) ys) (perm-filter (λ x. shows start w t [] (plainly x)) xs ys p))
 
-tables_reordered : (start : ℕ) (ws : List Window) (t : ℕ) → AllByInstants ws → (xss yss : List (List (ℕ × Row))) → AllReordered xss yss → SameTables (shown_at start ws t (map (numbered 0) xss)) (shown_at start ws t (map (numbered 0) yss))
-tables_reordered start [] t g xss yss h = tt
-tables_reordered start (w ∷ ws) t g [] [] h = tt
-tables_reordered start (w ∷ ws) t g [] (ys ∷ yss) h = absurd h
-tables_reordered start (w ∷ ws) t g (xs ∷ xss) [] h = absurd h
-tables_reordered start (w ∷ ws) t g (xs ∷ xss) (ys ∷ yss) h = (window_reordered start w t g.0 xs ys h.0, tables_reordered start ws t g.1 xss yss h.1)
+-- EACH WINDOW AT ITS INPUT
 
--- where all windows go by instants, inputs of the same elements have the same answers
-pub answers-reordered : (q : Resolved) (start until : ℕ) (xss yss : List (List (ℕ × Row))) → AllByInstants q.windows → AllReordered xss yss
+window_alike : (start : ℕ) (w : Window) (t : ℕ) (xs ys : List (ℕ × Row)) → CameAlike w xs ys → Perm (window_rows start w t (numbered 0 xs)) (window_rows start w t (numbered 0 ys))
+window_alike start (Range n) t xs ys h = window_reordered start (Range n) t tt xs ys h
+window_alike start (RangeSlide n l) t xs ys h = window_reordered start (RangeSlide n l) t tt xs ys h
+window_alike start Unbounded t xs ys h = window_reordered start Unbounded t tt xs ys h
+window_alike start (LastRows columns n) t xs ys h = window_exchanged start (LastRows columns n) t xs ys (exchanged xs ys h)
+
+tables_alike : (start : ℕ) (ws : List Window) (t : ℕ) (xss yss : List (List (ℕ × Row))) → AllCameAlike ws xss yss → SameTables (shown_at start ws t (map (numbered 0) xss)) (shown_at start ws t (map (numbered 0) yss))
+tables_alike start [] t xss yss h = tt
+tables_alike start (w ∷ ws) t [] [] h = tt
+tables_alike start (w ∷ ws) t [] (ys ∷ yss) h = absurd h
+tables_alike start (w ∷ ws) t (xs ∷ xss) [] h = absurd h
+tables_alike start (w ∷ ws) t (xs ∷ xss) (ys ∷ yss) h = (window_alike start w t xs ys h.0, tables_alike start ws t xss yss h.1)
+
+-- inputs in which the same elements came to each window, in an order that it does not tell apart, have the same answers
+pub answers-came_alike : (q : Resolved) (start until : ℕ) (xss yss : List (List (ℕ × Row))) → AllCameAlike q.windows xss yss
     → answers q start until (map (numbered 0) xss) ≡ answers q start until (map (numbered 0) yss)
-answers-reordered q start until xss yss g h =
-    same-answers q start (map (numbered 0) xss) (map (numbered 0) yss) until (λ t le lt. tables_reordered start q.windows t g xss yss h)
+answers-came_alike q start until xss yss h =
+    same-answers q start (map (numbered 0) xss) (map (numbered 0) yss) until (λ t le lt. tables_alike start q.windows t xss yss h)

@@ -2,21 +2,12 @@
 use Rattle.std.proofs.Common.{◌≡◌, ℕ, suc, ◌+◌, ◌<◌, ◌≤◌, List, [], ◌∷◌, ◌++◌, length, ap, ◌∙◌, arith}
 use Rattle.values.specs.Row.{Row}
 use Rattle.values.specs.Perm.{same}
+use Rattle.values.specs.Tables.{SameTables}
+pub use Rattle.values.specs.Arrivals.{AllFrom, Longer}
 use Rattle.values.specs.Window.{Element, Window, numbered, window_rows}
 use Rattle.values.specs.Answers.{Resolved, shown_at, answers}
 use Rattle.values.proofs.Windows.{AllAfter, window_rows-later}
-use Rattle.values.proofs.Worlds.{SameTables, same-answers}
-
--- the second inputs are the first with elements of instants from `until` on behind them
-abbrev pub AllFrom : ℕ → List Element → Type 0
-AllFrom until [] = Unit {0}
-AllFrom until (e ∷ es) = (until ≤ e.instant) × AllFrom until es
-
-abbrev pub Longer : ℕ → List (List Element) → List (List Element) → Type 0
-Longer until [] [] = Unit {0}
-Longer until [] (g ∷ gs) = ⊥
-Longer until (e ∷ es) [] = ⊥
-Longer until (e ∷ es) (g ∷ gs) = ((more : List Element) × ((g ≡ e ++ more) × AllFrom until more)) × Longer until es gs
+use Rattle.values.proofs.Worlds.{same-answers}
 
 all_after : (until t : ℕ) (es : List Element) → t < until → AllFrom until es → AllAfter t es
 all_after until t [] lt h = tt

@@ -11,18 +11,12 @@ use Rattle.values.specs.Row.{Row, row_cmp, same_row}
 use Rattle.values.proofs.Order.{row_order}
 use Rattle.values.specs.Bag.{distinct}
 use Rattle.values.specs.Perm.{Perm, same, keep, flip, join}
+use Rattle.values.specs.Tables.{SameTables}
 use Rattle.values.specs.Window.{Element}
 use Rattle.values.specs.Condition.{Column, field, keeps}
 use Rattle.values.specs.Relation.{Shape, Item, Listed, Grouped, Key, CountAll, Count, Sum, Min, Max, combinations, numbers, item_value, key_of, keys_of, group_row, shaped}
 use Rattle.values.specs.Answers.{Resolved, Operator, Istream, Dstream, Rstream, body, shown_at, relation, relation_before, streamed, answers_at, answers}
 use Rattle.values.proofs.Perms.{perm-filter, perm-map, perm-flat_map, perm-flat_map_each, perm-distinct, perm-bag_minus, perm-in_order}
-
--- the tables are in pairs the same bags
-abbrev pub SameTables : List (List Row) → List (List Row) → Type 0
-SameTables [] [] = Unit {0}
-SameTables [] (v ∷ vs) = ⊥
-SameTables (w ∷ ws) [] = ⊥
-SameTables (w ∷ ws) (v ∷ vs) = Perm w v × SameTables ws vs
 
 module _ {X : Type 0} where
   perm-length : (xs ys : List X) → Perm xs ys → length xs ≡ length ys

@@ -1,34 +1,36 @@
--- Inputs that differ in the order of arrival alone.
-use Rattle.std.specs.Prelude.{◌≡◌, ℕ, ◌==◌, List, [], ◌∷◌, filter}
+-- Inputs that differ by later elements, or in the order of arrival alone.
+use Rattle.std.specs.Prelude.{◌≡◌, ℕ, ◌==◌, ◌≤◌, List, [], ◌∷◌, ◌++◌, filter}
 use Rattle.values.specs.Row.{Row}
 use Rattle.values.specs.Perm.{Perm}
-use Rattle.values.specs.Window.{Window, Range, RangeSlide, Unbounded, LastRows}
+use Rattle.values.specs.Window.{Element, Window, Range, RangeSlide, Unbounded, LastRows}
+
+-- elements of instants from `until` on
+abbrev pub AllFrom : ℕ → List Element → Type 0
+AllFrom until [] = Unit {0}
+AllFrom until (e ∷ es) = (until ≤ e.instant) × AllFrom until es
+
+-- the second inputs are the first with elements of instants from `until` on behind them
+abbrev pub Longer : ℕ → List (List Element) → List (List Element) → Type 0
+Longer until [] [] = Unit {0}
+Longer until [] (g ∷ gs) = ⊥
+Longer until (e ∷ es) [] = ⊥
+Longer until (e ∷ es) (g ∷ gs) = ((more : List Element) × ((g ≡ e ++ more) × AllFrom until more)) × Longer until es gs
 
 -- the elements of each instant came in the same order
 abbrev pub SameAtInstants : List (ℕ × Row) → List (ℕ × Row) → Type 0
 SameAtInstants xs ys = (t : ℕ) → filter (λ e. e.0 == t) xs ≡ filter (λ e. e.0 == t) ys
 
--- so of each source
-abbrev pub AllSameAtInstants : List (List (ℕ × Row)) → List (List (ℕ × Row)) → Type 0
-AllSameAtInstants [] [] = Unit {0}
-AllSameAtInstants [] (ys ∷ others) = ⊥
-AllSameAtInstants (xs ∷ inputs) [] = ⊥
-AllSameAtInstants (xs ∷ inputs) (ys ∷ others) = SameAtInstants xs ys × AllSameAtInstants inputs others
+-- the same elements came to a window: where it is one of last rows, those of each instant in the same order; else in any order
+abbrev pub CameAlike : Window → List (ℕ × Row) → List (ℕ × Row) → Type 0
+CameAlike (Range n) xs ys = Perm xs ys
+CameAlike (RangeSlide n l) xs ys = Perm xs ys
+CameAlike Unbounded xs ys = Perm xs ys
+CameAlike (LastRows columns n) xs ys = SameAtInstants xs ys
 
--- the elements of each source came in any order
-abbrev pub AllReordered : List (List (ℕ × Row)) → List (List (ℕ × Row)) → Type 0
-AllReordered [] [] = Unit {0}
-AllReordered [] (ys ∷ others) = ⊥
-AllReordered (xs ∷ inputs) [] = ⊥
-AllReordered (xs ∷ inputs) (ys ∷ others) = Perm xs ys × AllReordered inputs others
-
--- the window goes by instants, not by a number of rows
-abbrev pub GoesByInstants : Window → Type 0
-GoesByInstants (Range n) = Unit {0}
-GoesByInstants (RangeSlide n l) = Unit {0}
-GoesByInstants Unbounded = Unit {0}
-GoesByInstants (LastRows columns n) = ⊥
-
-abbrev pub AllByInstants : List Window → Type 0
-AllByInstants [] = Unit {0}
-AllByInstants (w ∷ ws) = GoesByInstants w × AllByInstants ws
+-- so at each window, of which each has an input in both lists, or in neither
+abbrev pub AllCameAlike : List Window → List (List (ℕ × Row)) → List (List (ℕ × Row)) → Type 0
+AllCameAlike [] inputs others = Unit {0}
+AllCameAlike (w ∷ ws) [] [] = Unit {0}
+AllCameAlike (w ∷ ws) [] (ys ∷ others) = ⊥
+AllCameAlike (w ∷ ws) (xs ∷ inputs) [] = ⊥
+AllCameAlike (w ∷ ws) (xs ∷ inputs) (ys ∷ others) = CameAlike w xs ys × AllCameAlike ws inputs others

@@ -1,6 +1,9 @@
 -- The definitions at worked examples.
-use Rattle.std.specs.Prelude.{◌≡◌, ℕ, true, false, Option, Some, None, ℤ, pos, [], ◌∷◌, refl}
-use Rattle.values.specs.Row.{Row}
+use Rattle.std.specs.Prelude.{◌≡◌, ℕ, true, false, Option, Some, None, ℤ, pos, negsuc, neg_ℤ, ◌*ℤ◌, [], ◌∷◌, codes, refl}
+use Rattle.std.specs.Fmt.{digits}
+use Rattle.std.specs.declared.cmp.Ordering.TheVariants.{Less, Equal, Greater}
+use Rattle.values.specs.Value.{stream_max, answer_max, clamp_answer, value_text}
+use Rattle.values.specs.Row.{Row, row_cmp}
 use Rattle.values.specs.Window.{input_of, Window, numbered, Range, RangeSlide, LastRows}
 use Rattle.values.specs.Condition.{Column, Field, Number, Compared, Not, And, Equals, Above}
 use Rattle.values.specs.Relation.{Listed, Grouped, Key, CountAll, Sum}
@@ -15,6 +18,39 @@ one n = num n ∷ []
 
 abbrev two : ℕ → ℕ → Row
 two m n = num m ∷ num n ∷ []
+
+-- rows are compared column by column from the left, and null is below every number
+null_first : row_cmp (None ∷ []) ((Some (negsuc 0)) ∷ []) ≡ Less
+null_first = refl
+
+nulls_are_equal : row_cmp (None ∷ num 2 ∷ []) (None ∷ num 2 ∷ []) ≡ Equal
+nulls_are_equal = refl
+
+below_nought : row_cmp (Some (negsuc 1) ∷ []) (Some (negsuc 0) ∷ []) ≡ Less
+below_nought = refl
+
+from_the_left : row_cmp (two 1 9) (two 2 0) ≡ Less
+from_the_left = refl
+
+then_the_next : row_cmp (two 1 9) (two 1 8) ≡ Greater
+then_the_next = refl
+
+-- the greatest number of a stream, 8,388,608 times: in the answer range; once more: clamped
+just_in_range : clamp_answer (stream_max *ℤ pos 8388608) ≡ pos 9223372036846387200
+just_in_range = refl
+
+clamped_above : clamp_answer (stream_max *ℤ pos 8388609) ≡ answer_max
+clamped_above = refl
+
+clamped_below : clamp_answer (neg_ℤ stream_max *ℤ pos 8388609) ≡ neg_ℤ answer_max
+clamped_below = refl
+
+null_shown : value_text None ≡ codes "null"
+null_shown = refl
+
+negative_shown : value_text (Some (negsuc 4)) ≡ codes "-5"
+unfolding digits
+negative_shown = refl
 
 -- column k of source s
 abbrev at : ℕ → ℕ → Column

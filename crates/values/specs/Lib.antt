@@ -10,5 +10,6 @@ pub mod Condition
 pub mod Relation
 pub mod Answers
 pub mod Resolved
+pub mod Tables
 pub mod Arrivals
 pub mod Examples

@@ -156,6 +156,11 @@ impl Ord for Value {
 }
 
 impl fmt::Display for Value {
+    ghost use Rattle.std.specs.Prelude.{Some};
+    ghost use Rattle.values.specs.Value.{value_text};
+
+    ghost output = { λ value. Some (value_text value) };
+
     fn fmt<W: fmt::Write>(&self, f: &mut fmt::Formatter<W>) -> fmt::Result {
         match self.number() {
             Some(number) => write!(f, "{number}"),
@@ -165,6 +170,11 @@ impl fmt::Display for Value {
 }
 
 impl fmt::Debug for Value {
+    ghost use Rattle.std.specs.Prelude.{Some};
+    ghost use Rattle.values.specs.Value.{value_text};
+
+    ghost debug_output = { λ value. Some (value_text value) };
+
     fn fmt<W: fmt::Write>(&self, f: &mut fmt::Formatter<W>) -> fmt::Result {
         write!(f, "{self}")
     }

@@ -2,7 +2,7 @@
 //! connection.
 //!
 //! They stand in a crate of their own because a crate's tests are proved with all of the crate once more. Rows that are whole
-//! scripts are the stored run of `language_scripts`.
+//! scripts are the stored run of `example_scripts`.
 #![tactic(auto)]
 
 #[cfg(test)]

@@ -22,7 +22,7 @@ use Rattle.row_nodes.specs.Select.{FitItem}
 use Rattle.turn.specs.declared.kinds.Kind.{Kind}
 use Rattle.turn.specs.declared.kinds.Kind.TheVariants as kind
 use Rattle.turn.specs.declared.outcomes.Change.{Change}
-use Rattle.operators.specs.Inboxes.{IsDropped, entries_in, is_fed, queued}
+use Rattle.operators.specs.Inboxes.{IsDropped, all_begins, begins_in, entries_in, is_fed, queued}
 use Rattle.operators.specs.States.{IsNext, usable}
 use Rattle.operators.specs.declared.inboxes.Inbox.{Inbox}
 use Rattle.operators.specs.declared.states.State.{State}
@@ -113,3 +113,7 @@ pub record IsFed (o : PlainOperator) (side : Side) (es : List (Entry Row)) (new 
   pub queued : queued (inbox_of new side) ≡ queued (inbox_of o side) ++ es
   pub fed : is_fed (inbox_of new side) ≡ is_fed (inbox_of o side)
   pub other : inbox_of new (other side) ≡ inbox_of o (other side)
+
+-- and each of these items came as a batch or a tick of its own, behind the batches that waited
+pub record KeepsBatches (o : PlainOperator) (side : Side) (items : List Item) (new : PlainOperator) : Type 0 where
+  pub begins : begins_in (inbox_of new side) ≡ begins_in (inbox_of o side) ++ all_begins items

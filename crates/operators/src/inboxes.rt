@@ -2,7 +2,7 @@
 ghost use Rattle.std.specs.Prelude.{◌≡◌, ◌<◌, ◌≤◌, ◌++◌, [], true, length, drop, IfOk, OnOk};
 ghost use Rattle.op_queue.specs.Entries.{IsForward};
 ghost use Rattle.op_queue.specs.Items.{IsFrontPart, entries_of, front_of};
-ghost use Rattle.operators.specs.Inboxes.{IsInboxWithin, ReadsOn, all_entries, cut_of, entries_in, is_fed, queued};
+ghost use Rattle.operators.specs.Inboxes.{IsInboxWithin, ReadsOn, all_begins, all_entries, begins_in, cut_of, entries_in, is_fed, queued};
 
 use op_queue::{Cursor, Front, Item, Log, Queue};
 use std::alloc::{AllocError, Global};
@@ -48,6 +48,7 @@ impl Inbox {
         requires waits { count ≤ length (entries_in self.old log.now) }
         requires within { IsInboxWithin self.old log.now }
         ensures entries { entries_in self.new log.now ≡ drop count (entries_in self.old log.now) }
+        ensures begins { begins_in self.new ≡ drop count (begins_in self.old) }
         ensures within { IsInboxWithin self.new log.now }
         ensures same { is_fed self.new ≡ is_fed self.old }
         ensures reads_on { ReadsOn log.now self.old self.new }
@@ -63,6 +64,7 @@ impl Inbox {
         requires fed { is_fed self.old ≡ true }
         requires forward { IsForward (queued self.old ++ all_entries items.items) }
         ensures entries { OnOk result (queued self.new ≡ queued self.old ++ all_entries items.items) }
+        ensures begins { OnOk result (begins_in self.new ≡ begins_in self.old ++ all_begins items.items) }
         ensures same { OnOk result (is_fed self.new ≡ is_fed self.old) }
     {
         match self {
@@ -84,7 +86,8 @@ impl Inbox {
 
 fn push_all(queue: &mut Queue, items: Vec<Item>) -> Result<(), AllocError>
     requires { IsForward (queue.old.entries ++ all_entries items.items) }
-    ensures { OnOk result (queue.new.entries ≡ queue.old.entries ++ all_entries items.items) }
+    ensures entries { OnOk result (queue.new.entries ≡ queue.old.entries ++ all_entries items.items) }
+    ensures begins { OnOk result (queue.new.begins ≡ queue.old.begins ++ all_begins items.items) }
 {
     for item in items {
         queue.push(item)?;

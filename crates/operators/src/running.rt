@@ -5,7 +5,7 @@ ghost use Rattle.op_queue.specs.Entries.{IsForward};
 ghost use Rattle.op_queue.specs.Items.{IsFrontPart, entries_of};
 ghost use Rattle.turn.specs.Turns.{FitsKind};
 ghost use Rattle.operators.specs.Inboxes.{IsDropped, IsInboxWithin, all_entries, cut_of, entries_in, is_fed, queued};
-ghost use Rattle.operators.specs.Operators.{Belongs, HasNamedColumns, IsFed, IsFinished, front_instant, inbox_of, other, ready, ready_at, waiting};
+ghost use Rattle.operators.specs.Operators.{Belongs, HasNamedColumns, IsFed, IsFinished, KeepsBatches, front_instant, inbox_of, other, ready, ready_at, waiting};
 ghost use Rattle.operators.specs.States.{HasColumns, IsNext, Takes, near_of, usable};
 ghost use Rattle.operators.specs.declared.inboxes.Inbox.TheVariants.{Between};
 
@@ -125,7 +125,8 @@ impl Operator {
     pub fn feed(&mut self, side: Side, items: Vec<Item>) -> Result<(), AllocError>
         requires fed { is_fed (inbox_of self.old side) ≡ true }
         requires forward { IsForward (queued (inbox_of self.old side) ++ all_entries items.items) }
-        ensures { OnOk result (IsFed self.old side (all_entries items.items) self.new) }
+        ensures fed { OnOk result (IsFed self.old side (all_entries items.items) self.new) }
+        ensures batches { OnOk result (KeepsBatches self.old side items.items self.new) }
     {
         match side {
             Side::Left => self.left.push(items),

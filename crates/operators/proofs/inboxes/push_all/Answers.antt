@@ -2,4 +2,4 @@ use Rattle.operators.proofs.InboxLemmas.{forward_push}
 use Rattle.operators.proofs.inboxes.push_all.Goals as goal
 
 pub push-requires : goal.push-requires
-push-requires c = forward_push c.loop-item.queue.entries c.in-Some.item c.loop-item.item-iterator.rest.items c.next.new.self.rest.items _ c.loop-item.invariant c.in-Some.ensures.steps.0 c.requires
+push-requires c = forward_push c.loop-item.queue.entries c.in-Some.item c.loop-item.item-iterator.rest.items c.next.new.self.rest.items _ c.loop-item.invariant.entries c.in-Some.ensures.steps.0 c.requires

@@ -11,8 +11,10 @@ use Rattle.op_queue.specs.declared.item.Item.{Item}
 use Rattle.turn.specs.Turns.{FitsKind, Outs, Put, Answered}
 use Rattle.turn.specs.declared.excerpts.Near.{Near}
 use Rattle.turn.specs.declared.outcomes.Change.{Change}
+use Rattle.turn.specs.declared.outcomes.Outputs.{Outputs}
+use Rattle.turn.specs.declared.outcomes.Outputs.TheVariants.{Answers, Items}
 use Rattle.operators.specs.Inboxes.{IsInboxWithin, cut_of}
-use Rattle.operators.specs.Operators.{IsFed, IsFinished, PlainOperator, inbox_of, waiting}
+use Rattle.operators.specs.Operators.{IsFed, IsFinished, KeepsBatches, PlainOperator, inbox_of, waiting}
 use Rattle.operators.specs.States.{Takes, near_of, usable}
 use Rattle.plan.specs.Nodes as plan
 use Rattle.plan.specs.Views.{nodes_of}
@@ -114,6 +116,11 @@ pub record HasAnswered (p : PlainQuery) (k : ℕ) (given : List (ℕ × Row)) (p
 abbrev pub HasPut : PlainQuery → ℕ → Outs → PlainQuery → Type 0
 HasPut p k (Put es) p2 = HasFed p k es p2
 HasPut p k (Answered answers) p2 = HasAnswered p k answers p2
+
+-- items that it put out wait there in the batches in which they came
+abbrev pub HasBatches : PlainQuery → ℕ → Outputs → PlainQuery → Type 0
+HasBatches p k (Items items) p2 = KeepsBatches (operator_at p.operators (wire_at p k).to) (wire_at p k).side items.items (operator_at p2.operators (wire_at p k).to)
+HasBatches p k (Answers answers) p2 = Unit {0}
 
 -- only the operator of this number is another
 pub record OnlyAt (k : ℕ) (os os2 : List PlainOperator) : Type 0 where

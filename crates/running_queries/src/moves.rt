@@ -3,7 +3,7 @@ ghost use Rattle.std.specs.Prelude.{◌≡◌, ◌<◌, ◌≤◌, ◌+◌, ◌+
 ghost use Rattle.std.specs.VecDeque.{deque_len};
 ghost use Rattle.to_stream.specs.Turns.{answers_of};
 ghost use Rattle.operators.specs.Inboxes.{all_entries};
-ghost use Rattle.operators.specs.Operators.{IsFed, IsFinished};
+ghost use Rattle.operators.specs.Operators.{IsFed, IsFinished, KeepsBatches};
 ghost use Rattle.reference.specs.CallViews.{handed_of};
 ghost use Rattle.reference.specs.Inputs.{are_signed};
 ghost use Rattle.reference.specs.World.{handed};
@@ -79,6 +79,7 @@ pub(crate) fn feed_at(
     requires here { number < length operators.old.items }
     requires may { MayFeed (operator_at operators.old.items number) side (all_entries items.items) }
     ensures fed { OnOk result (IsFed (operator_at operators.old.items number) side (all_entries items.items) (operator_at operators.new.items number)) }
+    ensures batches { OnOk result (KeepsBatches (operator_at operators.old.items number) side items.items (operator_at operators.new.items number)) }
     ensures only { OnOk result (OnlyAt number operators.old.items operators.new.items) }
 {
     operators[number].feed(side, items)

@@ -4,7 +4,7 @@ ghost use Rattle.std.specs.Arc.{arc_value};
 ghost use Rattle.op_queue.specs.Items.{entries_of};
 ghost use Rattle.turn.specs.Turns.{outs_in};
 ghost use Rattle.operators.specs.Inboxes.{all_entries};
-ghost use Rattle.operators.specs.Operators.{ready, waiting};
+ghost use Rattle.operators.specs.Operators.{KeepsBatches, ready, waiting};
 ghost use Rattle.column.specs.declared.batch.Side.TheVariants.{Left, Right};
 ghost use Rattle.compiled_plans.specs.Beginnings.{HaveNarrowRows, IsMakeable, widths_of};
 ghost use Rattle.to_stream.specs.Turns.{answers_of};
@@ -12,7 +12,7 @@ ghost use Rattle.reference.specs.CallViews.{handed_of};
 ghost use Rattle.reference.specs.Inputs.{are_signed};
 ghost use Rattle.reference.specs.World.{handed};
 ghost use Rattle.query_nets.specs.Queries.{operator_at};
-ghost use Rattle.running_queries.specs.Turns.{CanFeed, CanFinish, CanLease, CanPut, HasAnswered, HasFed, HasFinished, HasOperator, HasPut, IsBeginning, IsLeased, handed_out, log_of, source_at, taken, wire_at};
+ghost use Rattle.running_queries.specs.Turns.{CanFeed, CanFinish, CanLease, CanPut, HasAnswered, HasFed, HasFinished, HasBatches, HasOperator, HasPut, IsBeginning, IsLeased, handed_out, log_of, source_at, taken, wire_at};
 
 use crate::moves::{feed_at, finish_at, leased, log_at, move_front};
 use crate::sources::sources_of;
@@ -148,6 +148,7 @@ impl RunningQuery {
         requires puts { CanPut streams.now self.old operator side item.now change.now (outs_in outputs) }
         ensures finished { OnOk result (HasFinished streams.now self.old operator side item.now change.now self.new) }
         ensures put { OnOk result (HasPut self.old operator (outs_in outputs) self.new) }
+        ensures batches { OnOk result (HasBatches self.old operator outputs self.new) }
         ensures err { OnErr result (self.new.answers ≡ self.old.answers) }
     {
         match outputs {
@@ -225,6 +226,7 @@ impl RunningQuery {
         requires feeds { CanFeed streams.now self.old operator side item.now change.now (all_entries items.items) }
         ensures finished { OnOk result (HasFinished streams.now self.old operator side item.now change.now self.new) }
         ensures fed { OnOk result (HasFed self.old operator (all_entries items.items) self.new) }
+        ensures batches { OnOk result (KeepsBatches (operator_at self.old.operators (wire_at self.old operator).to) (wire_at self.old operator).side items.items (operator_at self.new.operators (wire_at self.old operator).to)) }
         ensures err { OnErr result (self.new.answers ≡ self.old.answers) }
     {
         let log = self.log(streams, operator);

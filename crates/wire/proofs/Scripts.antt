@@ -6,7 +6,7 @@ use Rattle.wire.specs.Calls.{Call, call_of}
 use Rattle.wire.specs.Printed.{Answer, unread, line_of}
 use Rattle.wire.specs.Requests.{requests_of, Reads, BeginsWithRequest, HasNoRequest}
 use Rattle.reference.specs.World.{World}
-use Rattle.wire.specs.Script.{answered, replies, script, Says, Begins, Scripts, Replies, Runs, Stands, TellsScarcity, served, is_scarce_answer}
+use Rattle.wire.specs.Script.{replies, script, Says, Begins, Scripts, Replies, Runs, Stands, TellsScarcity, served, is_scarce_reply}
 use Rattle.wire.specs.declared.request.Request.{Request}
 use Rattle.wire.specs.declared.request.WireFault.{WireFault}
 use Rattle.wire.specs.declared.request.WireFault.TheVariants.{NotJson, BadRequest, LineTooLong, OutOfMemory}
@@ -15,10 +15,10 @@ use Rattle.wire.proofs.Sinks.{append_nothing}
 -- ---- one request
 
 pub serves_call : (w : World) (request : Request) (answer : Answer) (new : World) (defined : Result Call WireFault) → defined ≡ Ok (call_of request)
-    → Replies (answered w (call_of request)) answer new → Replies (served w defined) answer new
-serves_call w request answer new defined is met plenty = ap (served w) is ∙ met plenty
+    → Replies w (Ok (call_of request)) answer new → Replies w defined answer new
+serves_call w request answer new defined is met = subst (λ d. Replies w d answer new) (sym is) met
 
-pub serves_fault : (w : World) (fault : WireFault) (defined : Result Call WireFault) → Reads defined (Err fault) → Replies (served w defined) (unread fault) w
+pub serves_fault : (w : World) (fault : WireFault) (defined : Result Call WireFault) → Reads defined (Err fault) → Replies w defined (unread fault) w
 serves_fault w NotJson defined is plenty = ap (served w) is
 serves_fault w BadRequest defined is plenty = ap (served w) is
 serves_fault w LineTooLong defined is plenty = ap (served w) is
@@ -26,10 +26,10 @@ serves_fault w OutOfMemory defined is plenty = cc
 
 -- ---- what was said so far
 
--- more text may follow: any, once something was scarce
-abbrev pub Follows : Bool → List (List ℕ) → List ℕ → Type 0
-Follows true lines more = Unit {0}
-Follows false lines more = Says lines more
+-- more text may follow, in answer to these requests from the state w on: any, once something was scarce
+abbrev pub Follows : Bool → World → List (Result Call WireFault) → List ℕ → Type 0
+Follows true w requests more = Unit {0}
+Follows false w requests more = Says requests (replies w requests) more
 
 -- more requests may be answered so from the state w on: in any way, once something was scarce
 abbrev pub Goes : Bool → World → List (Result Call WireFault) → List ℕ → World → Type 0
@@ -41,32 +41,36 @@ Goes false w later more now = Runs w later more now
 pub record SoFar (W : Type 0) (first : World) (text : List ℕ) (w : World) (rest : List ℕ) (written : List ℕ) : Type 0 where
   pub scarce : Bool
   pub whole : scarce ≡ false → W
-  pub tells : scarce ≡ true → TellsScarcity written
-  pub goes_on : (more : List ℕ) → Follows scarce (script w rest) more → Says (script first text) (written ++ more)
+  pub goes_on : (more : List ℕ) → Follows scarce w (requests_of rest) more → Says (requests_of text) (script first text) (written ++ more)
   pub carried : List (Result Call WireFault)
+  pub tells : scarce ≡ true → (later : List (Result Call WireFault)) (more : List ℕ) → TellsScarcity (carried ++ later) (written ++ more)
+  pub tells_on : (later : List (Result Call WireFault)) (more : List ℕ) → TellsScarcity later more → TellsScarcity (carried ++ later) (written ++ more)
   pub split : requests_of text ≡ carried ++ requests_of rest
   pub runs_on : (later : List (Result Call WireFault)) (more : List ℕ) (now : World) → Goes scarce w later more now → Runs first (carried ++ later) (written ++ more) now
 
-pub says_all : (lines : List (List ℕ)) → (more : List ℕ) × Says lines more
-says_all [] = ([], refl)
-says_all (line ∷ lines) = let rest = says_all lines in (line ++ rest.0, inl (rest.0, refl, rest.1))
+pub says_all : (w : World) (requests : List (Result Call WireFault)) → (more : List ℕ) × Says requests (replies w requests) more
+says_all w [] = ([], refl)
+says_all w (request ∷ requests) =
+    let rest = says_all (served w request).1 requests in (line_of (served w request).0 ++ rest.0, inl (rest.0, refl, rest.1))
 
-follows_some : (scarce : Bool) (lines : List (List ℕ)) → (more : List ℕ) × Follows scarce lines more
-follows_some true lines = ([], tt)
-follows_some false lines = says_all lines
+follows_some : (scarce : Bool) (w : World) (requests : List (Result Call WireFault)) → (more : List ℕ) × Follows scarce w requests more
+follows_some true w requests = ([], tt)
+follows_some false w requests = says_all w requests
 
 -- some text can follow
-pub begins_so_far : (W : Type 0) (first : World) (text : List ℕ) (w : World) (rest written : List ℕ) → SoFar W first text w rest written → Begins (script first text) written
-begins_so_far W first text w rest written so = let more = follows_some so.scarce (script w rest) in (more.0, so.goes_on more.0 more.1)
+pub begins_so_far : (W : Type 0) (first : World) (text : List ℕ) (w : World) (rest written : List ℕ) → SoFar W first text w rest written
+    → Begins (requests_of text) (script first text) written
+begins_so_far W first text w rest written so = let more = follows_some so.scarce w (requests_of rest) in (more.0, so.goes_on more.0 more.1)
 
-follows_nothing : (scarce : Bool) (lines : List (List ℕ)) → lines ≡ [] → Follows scarce lines []
-follows_nothing true lines e = tt
-follows_nothing false lines e = subst (λ l. Says l []) (sym e) refl
+follows_nothing : (scarce : Bool) (w : World) (requests : List (Result Call WireFault)) → requests ≡ [] → Follows scarce w requests []
+follows_nothing true w requests e = tt
+follows_nothing false w requests e = subst (λ rs. Says rs (replies w rs) []) (sym e) refl
 
 -- all was said
-pub says_so_far : (W : Type 0) (first : World) (text : List ℕ) (w : World) (rest written : List ℕ) → SoFar W first text w rest written → requests_of rest ≡ [] → Says (script first text) written
+pub says_so_far : (W : Type 0) (first : World) (text : List ℕ) (w : World) (rest written : List ℕ) → SoFar W first text w rest written → requests_of rest ≡ []
+    → Says (requests_of text) (script first text) written
 says_so_far W first text w rest written so e =
-    subst (λ t. Says (script first text) t) (append_nothing written) (so.goes_on [] (follows_nothing so.scarce (script w rest) (ap (replies w) e)))
+    subst (λ t. Says (requests_of text) (script first text) t) (append_nothing written) (so.goes_on [] (follows_nothing so.scarce w (requests_of rest) e))
 
 append_none : (xs : List (Result Call WireFault)) → xs ++ [] ≡ xs
 append_none [] = refl
@@ -82,31 +86,25 @@ runs_so_far W first text w rest written so =
     subst (λ rs. Runs first rs written w) (append_none so.carried)
     (subst (λ t. Runs first (so.carried ++ []) t w) (append_nothing written) (so.runs_on [] [] w (goes_nowhere so.scarce w)))
 
--- a request's reply begins what the rest says
-scarce_says : (w : World) (defined : Result Call WireFault) (more : List (Result Call WireFault)) (answer : Answer) (text : List ℕ) → is_scarce_answer answer ≡ true
-    → Says (replies w (defined ∷ more)) (line_of answer ++ text)
-scarce_says w defined more answer text e = inr (answer, text, e, refl)
+follows_line : (scarce : Bool) (w new : World) (requests : List (Result Call WireFault)) (defined : Result Call WireFault) (answer : Answer) (more : List ℕ)
+    → (scarce ≡ false → Replies w defined answer new) → is_scarce_reply defined answer ≡ false → Follows scarce new requests more → Follows scarce w (defined ∷ requests) (line_of answer ++ more)
+follows_line true w new requests defined answer more s plenty f = tt
+follows_line false w new requests defined answer more s plenty f =
+    let step = sym (s refl plenty) in inl (more, ap (λ p. line_of p.0 ++ more) step, subst (λ p. Says requests (replies p.1 requests) more) step f)
 
-follows_line : (scarce : Bool) (w new : World) (rest left : List ℕ) (defined : Result Call WireFault) (answer : Answer) (more : List ℕ) → requests_of rest ≡ defined ∷ requests_of left
-    → (scarce ≡ false → Replies (served w defined) answer new) → is_scarce_answer answer ≡ false → Follows scarce (script new left) more → Follows scarce (script w rest) (line_of answer ++ more)
-follows_line true w new rest left defined answer more e s plenty f = tt
-follows_line false w new rest left defined answer more e s plenty f =
-    subst (λ l. Says l (line_of answer ++ more)) (sym (ap (replies w) e ∙ ap (λ p. line_of p.0 ∷ replies p.1 (requests_of left)) (s refl plenty))) (inl (more, refl, f))
-
-follows_scarce : (scarce : Bool) (w : World) (rest left : List ℕ) (defined : Result Call WireFault) (answer : Answer) (more : List ℕ) → requests_of rest ≡ defined ∷ requests_of left
-    → is_scarce_answer answer ≡ true → Follows scarce (script w rest) (line_of answer ++ more)
-follows_scarce true w rest left defined answer more e short = tt
-follows_scarce false w rest left defined answer more e short =
-    subst (λ l. Says l (line_of answer ++ more)) (sym (ap (replies w) e)) (scarce_says w defined (requests_of left) answer more short)
+follows_scarce : (scarce : Bool) (w : World) (requests : List (Result Call WireFault)) (defined : Result Call WireFault) (answer : Answer) (more : List ℕ)
+    → is_scarce_reply defined answer ≡ true → Follows scarce w (defined ∷ requests) (line_of answer ++ more)
+follows_scarce true w requests defined answer more short = tt
+follows_scarce false w requests defined answer more short = inr (answer, more, short, refl)
 
 goes_line : (scarce : Bool) (w new : World) (defined : Result Call WireFault) (answer : Answer) (later : List (Result Call WireFault)) (more : List ℕ) (now : World)
-    → (scarce ≡ false → Replies (served w defined) answer new) → is_scarce_answer answer ≡ false → Goes scarce new later more now → Goes scarce w (defined ∷ later) (line_of answer ++ more) now
+    → (scarce ≡ false → Replies w defined answer new) → is_scarce_reply defined answer ≡ false → Goes scarce new later more now → Goes scarce w (defined ∷ later) (line_of answer ++ more) now
 goes_line true w new defined answer later more now s plenty f = tt
 goes_line false w new defined answer later more now s plenty f =
     let step = sym (s refl plenty) in inl (more, ap (λ p. line_of p.0 ++ more) step, subst (λ p. Runs p.1 later more now) step f)
 
 goes_scarce : (scarce : Bool) (w : World) (defined : Result Call WireFault) (answer : Answer) (later : List (Result Call WireFault)) (more : List ℕ) (now : World)
-    → is_scarce_answer answer ≡ true → Goes scarce w (defined ∷ later) (line_of answer ++ more) now
+    → is_scarce_reply defined answer ≡ true → Goes scarce w (defined ∷ later) (line_of answer ++ more) now
 goes_scarce true w defined answer later more now short = tt
 goes_scarce false w defined answer later more now short = inr (answer, more, short, refl)
 
@@ -116,24 +114,24 @@ runs_past first carried defined later written line more now run =
     subst (λ rs. Runs first rs ((written ++ line) ++ more) now) (sym (append_assoc carried (defined ∷ []) later))
     (subst (λ t. Runs first (carried ++ defined ∷ later) t now) (sym (append_assoc written line more)) run)
 
-tells_before : (written line : List ℕ) → TellsScarcity written → TellsScarcity (written ++ line)
-tells_before written line t = (
-  t.0,
-  t.1,
-  t.2 ++ line,
-  t.3,
-  ap (λ l. l ++ line) t.4 ∙ append_assoc (t.0 ++ line_of t.1) t.2 line,
-)
+tells_past : (carried : List (Result Call WireFault)) (defined : Result Call WireFault) (later : List (Result Call WireFault)) (written line more : List ℕ)
+    → TellsScarcity (carried ++ defined ∷ later) (written ++ (line ++ more)) → TellsScarcity ((carried ++ defined ∷ []) ++ later) ((written ++ line) ++ more)
+tells_past carried defined later written line more t =
+    subst (λ rs. TellsScarcity rs ((written ++ line) ++ more)) (sym (append_assoc carried (defined ∷ []) later))
+    (subst (λ l. TellsScarcity (carried ++ defined ∷ later) l) (sym (append_assoc written line more)) t)
 
-more_by : (W W' : Type 0) (first : World) (text : List ℕ) (w new : World) (rest left written : List ℕ) (defined : Result Call WireFault) (answer : Answer) (b : Bool) → is_scarce_answer answer ≡ b
-    → SoFar W first text w rest written → requests_of rest ≡ defined ∷ requests_of left → (W → Replies (served w defined) answer new) → (W → is_scarce_answer answer ≡ false → W')
+more_by : (W W' : Type 0) (first : World) (text : List ℕ) (w new : World) (rest left written : List ℕ) (defined : Result Call WireFault) (answer : Answer) (b : Bool) → is_scarce_reply defined answer ≡ b
+    → SoFar W first text w rest written → requests_of rest ≡ defined ∷ requests_of left → (W → Replies w defined answer new) → (W → is_scarce_reply defined answer ≡ false → W')
     → SoFar W' first text new left (written ++ line_of answer)
 more_by W W' first text w new rest left written defined answer true is so e s keeps = record {
   scarce = true;
   whole = λ plenty. absurd (cc);
-  tells = λ scarce. (written, answer, [], is, sym (append_nothing (written ++ line_of answer)));
-  goes_on = λ more f. subst (λ t. Says (script first text) t) (sym (append_assoc written (line_of answer) more))
-      (so.goes_on (line_of answer ++ more) (follows_scarce so.scarce w rest left defined answer more e is));
+  tells = λ scarce later more. tells_past so.carried defined later written (line_of answer) more
+      (so.tells_on (defined ∷ later) (line_of answer ++ more) (inl (answer, more, is, refl)));
+  tells_on = λ later more t. tells_past so.carried defined later written (line_of answer) more
+      (so.tells_on (defined ∷ later) (line_of answer ++ more) (inr (answer, more, refl, t)));
+  goes_on = λ more f. subst (λ t. Says (requests_of text) (script first text) t) (sym (append_assoc written (line_of answer) more))
+      (so.goes_on (line_of answer ++ more) (subst (λ rs. Follows so.scarce w rs (line_of answer ++ more)) (sym e) (follows_scarce so.scarce w (requests_of left) defined answer more is)));
   carried = so.carried ++ defined ∷ [];
   split = so.split ∙ ap (λ l. so.carried ++ l) e ∙ sym (append_assoc so.carried (defined ∷ []) (requests_of left));
   runs_on = λ later more now f. runs_past first so.carried defined later written (line_of answer) more now
@@ -142,9 +140,12 @@ more_by W W' first text w new rest left written defined answer true is so e s ke
 more_by W W' first text w new rest left written defined answer false is so e s keeps = record {
   scarce = so.scarce;
   whole = λ plenty. keeps (so.whole plenty) is;
-  tells = λ scarce. tells_before written (line_of answer) (so.tells scarce);
-  goes_on = λ more f. subst (λ t. Says (script first text) t) (sym (append_assoc written (line_of answer) more))
-      (so.goes_on (line_of answer ++ more) (follows_line so.scarce w new rest left defined answer more e (λ plenty. s (so.whole plenty)) is f));
+  tells = λ scarce later more. tells_past so.carried defined later written (line_of answer) more
+      (so.tells scarce (defined ∷ later) (line_of answer ++ more));
+  tells_on = λ later more t. tells_past so.carried defined later written (line_of answer) more
+      (so.tells_on (defined ∷ later) (line_of answer ++ more) (inr (answer, more, refl, t)));
+  goes_on = λ more f. subst (λ t. Says (requests_of text) (script first text) t) (sym (append_assoc written (line_of answer) more))
+      (so.goes_on (line_of answer ++ more) (subst (λ rs. Follows so.scarce w rs (line_of answer ++ more)) (sym e) (follows_line so.scarce w new (requests_of left) defined answer more (λ plenty. s (so.whole plenty)) is f)));
   carried = so.carried ++ defined ∷ [];
   split = so.split ∙ ap (λ l. so.carried ++ l) e ∙ sym (append_assoc so.carried (defined ∷ []) (requests_of left));
   runs_on = λ later more now f. runs_past first so.carried defined later written (line_of answer) more now
@@ -153,9 +154,9 @@ more_by W W' first text w new rest left written defined answer false is so e s k
 
 -- one more request
 pub more_so_far : (W W' : Type 0) (first : World) (text : List ℕ) (w new : World) (rest left written : List ℕ) (defined : Result Call WireFault) (answer : Answer)
-    → SoFar W first text w rest written → requests_of rest ≡ defined ∷ requests_of left → (W → Replies (served w defined) answer new) → (W → is_scarce_answer answer ≡ false → W')
+    → SoFar W first text w rest written → requests_of rest ≡ defined ∷ requests_of left → (W → Replies w defined answer new) → (W → is_scarce_reply defined answer ≡ false → W')
     → SoFar W' first text new left (written ++ line_of answer)
-more_so_far W W' first text w new rest left written defined answer = more_by W W' first text w new rest left written defined answer (is_scarce_answer answer) refl
+more_so_far W W' first text w new rest left written defined answer = more_by W W' first text w new rest left written defined answer (is_scarce_reply defined answer) refl
 
 -- ---- over a source and a sink that tell their bytes
 
@@ -169,7 +170,7 @@ progress_none W first source sink pending whole e text held is told = (
   [],
   ap (prepend_known pending) is ∙ ap (λ p. Some (p ++ text)) e,
   told ∙ ap Some (sym (append_nothing held)),
-  record { scarce = false; whole = λ plenty. whole; tells = λ scarce. absurd (cc); goes_on = λ more f. f; carried = []; split = refl; runs_on = λ later more now f. f },
+  record { scarce = false; whole = λ plenty. whole; goes_on = λ more f. f; carried = []; tells = λ scarce. absurd (cc); tells_on = λ later more t. t; split = refl; runs_on = λ later more now f. f },
 )
 
 some_same : (x y : List ℕ) → Some x ≡ Some y → x ≡ y
@@ -192,8 +193,8 @@ no_request (Some text) rest h e = ap requests_of (some_same rest text (sym e)) �
 
 -- one more reply was written
 pub progress_more : (W W' : Type 0) (first : World) (source old : Option (List ℕ)) (w new : World) (before after : Option (List ℕ)) (sink sink' : Option (List ℕ)) (read : Result Request WireFault) (answer : Answer)
-    → Progress W first source old w before sink → BeginsWithRequest before after read → (W → (defined : Result Call WireFault) → Reads defined read → Replies (served w defined) answer new)
-    → (W → is_scarce_answer answer ≡ false → W')
+    → Progress W first source old w before sink → BeginsWithRequest before after read → (W → (defined : Result Call WireFault) → Reads defined read → Replies w defined answer new)
+    → (W → (defined : Result Call WireFault) → Reads defined read → is_scarce_reply defined answer ≡ false → W')
     → Appends sink sink' (line_of answer) → Progress W' first source old new after sink'
 progress_more W W' first source old w new before after sink sink' read answer p b s keeps a text held is told =
     let q = p text held is told in
@@ -202,34 +203,34 @@ progress_more W W' first source old w new before after sink sink' read answer p 
       q.1 ++ line_of answer,
       r.2,
       appends_to sink sink' (line_of answer) (held ++ q.1) a q.3 ∙ ap Some (append_assoc held q.1 (line_of answer)),
-      more_so_far W W' first text w new q.0 r.0 q.1 r.1 answer q.4 r.3 (λ whole. s whole r.1 r.4) keeps,
+      more_so_far W W' first text w new q.0 r.0 q.1 r.1 answer q.4 r.3 (λ whole. s whole r.1 r.4) (λ whole. keeps whole r.1 r.4),
     )
 
 -- a front of one more reply was written
 pub progress_failed : (W W' : Type 0) (first : World) (source old : Option (List ℕ)) (w new : World) (before after : Option (List ℕ)) (sink sink' : Option (List ℕ)) (read : Result Request WireFault) (answer : Answer)
-    → Progress W first source old w before sink → BeginsWithRequest before after read → (W → (defined : Result Call WireFault) → Reads defined read → Replies (served w defined) answer new)
-    → (W → is_scarce_answer answer ≡ false → W')
-    → AppendsFront sink sink' (line_of answer) → Scripts (λ text written. Begins (script first text) written) source old sink'
+    → Progress W first source old w before sink → BeginsWithRequest before after read → (W → (defined : Result Call WireFault) → Reads defined read → Replies w defined answer new)
+    → (W → (defined : Result Call WireFault) → Reads defined read → is_scarce_reply defined answer ≡ false → W')
+    → AppendsFront sink sink' (line_of answer) → Scripts (λ text written. Begins (requests_of text) (script first text) written) source old sink'
 progress_failed W W' first source old w new before after sink sink' read answer p b s keeps a text held is told =
     let q = p text held is told in
     let r = begins_with before after read q.0 b q.2 in
-    let so = more_so_far W W' first text w new q.0 r.0 q.1 r.1 answer q.4 r.3 (λ whole. s whole r.1 r.4) keeps in
+    let so = more_so_far W W' first text w new q.0 r.0 q.1 r.1 answer q.4 r.3 (λ whole. s whole r.1 r.4) (λ whole. keeps whole r.1 r.4) in
     let begun = begins_so_far W' first text new r.0 (q.1 ++ line_of answer) so in
     let whole : (q.1 ++ line_of answer) ++ begun.0 ≡ (q.1 ++ a.0) ++ (a.1 ++ begun.0) =
     ap (λ l. (q.1 ++ l) ++ begun.0) a.2 ∙ ap (λ l. l ++ begun.0) (sym (append_assoc q.1 a.0 a.1)) ∙ append_assoc (q.1 ++ a.0) a.1 begun.0 in (
       q.1 ++ a.0,
       appends_to sink sink' a.0 (held ++ q.1) a.3 q.3 ∙ ap Some (append_assoc held q.1 a.0),
-      (a.1 ++ begun.0, subst (λ t. Says (script first text) t) whole begun.1),
+      (a.1 ++ begun.0, subst (λ t. Says (requests_of text) (script first text) t) whole begun.1),
     )
 
 -- nothing more is written
 pub progress_begins : (W : Type 0) (first : World) (source old : Option (List ℕ)) (w : World) (before sink : Option (List ℕ)) → Progress W first source old w before sink
-    → Scripts (λ text written. Begins (script first text) written) source old sink
+    → Scripts (λ text written. Begins (requests_of text) (script first text) written) source old sink
 progress_begins W first source old w before sink p text held is told =
     let q = p text held is told in (q.1, q.3, begins_so_far W first text w q.0 q.1 q.4)
 
 pub progress_ends : (W : Type 0) (first : World) (source old : Option (List ℕ)) (w : World) (before sink : Option (List ℕ)) → Progress W first source old w before sink → HasNoRequest before
-    → Scripts (λ text written. Says (script first text) written) source old sink
+    → Scripts (λ text written. Says (requests_of text) (script first text) written) source old sink
 progress_ends W first source old w before sink p none text held is told =
     let q = p text held is told in (q.1, q.3, says_so_far W first text w q.0 q.1 q.4 (no_request before q.0 none q.2))
 
@@ -237,13 +238,13 @@ progress_ends W first source old w before sink p none text held is told =
 
 -- a front of one more reply was written
 pub stands_failed : (W W' : Type 0) (first : World) (source old : Option (List ℕ)) (w new : World) (before after : Option (List ℕ)) (sink sink' : Option (List ℕ)) (read : Result Request WireFault) (answer : Answer)
-    → Progress W first source old w before sink → BeginsWithRequest before after read → (W → (defined : Result Call WireFault) → Reads defined read → Replies (served w defined) answer new)
-    → (W → is_scarce_answer answer ≡ false → W')
+    → Progress W first source old w before sink → BeginsWithRequest before after read → (W → (defined : Result Call WireFault) → Reads defined read → Replies w defined answer new)
+    → (W → (defined : Result Call WireFault) → Reads defined read → is_scarce_reply defined answer ≡ false → W')
     → AppendsFront sink sink' (line_of answer) → Scripts (λ text written. Stands first (requests_of text) written new) source old sink'
 stands_failed W W' first source old w new before after sink sink' read answer p b s keeps a text held is told =
     let q = p text held is told in
     let r = begins_with before after read q.0 b q.2 in
-    let so = more_so_far W W' first text w new q.0 r.0 q.1 r.1 answer q.4 r.3 (λ whole. s whole r.1 r.4) keeps in (
+    let so = more_so_far W W' first text w new q.0 r.0 q.1 r.1 answer q.4 r.3 (λ whole. s whole r.1 r.4) (λ whole. keeps whole r.1 r.4) in (
       q.1 ++ a.0,
       appends_to sink sink' a.0 (held ++ q.1) a.3 q.3 ∙ ap Some (append_assoc held q.1 a.0),
       (
@@ -263,23 +264,35 @@ stands_so_far W first source old w before sink p text held is told =
     let so = q.4 in
     (q.1, q.3, (so.carried, requests_of q.0, [], so.split, subst (λ t. Runs first so.carried t w) (sym (append_nothing q.1)) (runs_so_far W first text w q.0 q.1 so)))
 
+-- every request was carried out
+carried_all : (W : Type 0) (first : World) (text : List ℕ) (w : World) (rest written : List ℕ) (so : SoFar W first text w rest written) → requests_of rest ≡ [] → so.carried ≡ requests_of text
+carried_all W first text w rest written so none = sym (so.split ∙ ap (λ l. so.carried ++ l) none ∙ append_none so.carried)
+
 pub ran_all : (W : Type 0) (first : World) (source old : Option (List ℕ)) (w : World) (before sink : Option (List ℕ)) → Progress W first source old w before sink → HasNoRequest before
     → Scripts (λ text written. Runs first (requests_of text) written w) source old sink
 ran_all W first source old w before sink p none text held is told =
     let q = p text held is told in
     let so = q.4 in
-    let all : so.carried ≡ requests_of text = sym (so.split ∙ ap (λ l. so.carried ++ l) (no_request before q.0 none q.2) ∙ append_none so.carried) in
+    let all = carried_all W first text w q.0 q.1 so (no_request before q.0 none q.2) in
     (q.1, q.3, subst (λ rs. Runs first rs q.1 w) all (runs_so_far W first text w q.0 q.1 so))
 
 -- ---- the same, of the engine
 
-whole_or : (W : Type 0) (written : List ℕ) (scarce : Bool) → (scarce ≡ false → W) → (scarce ≡ true → TellsScarcity written) → W ⊎ TellsScarcity written
-whole_or W written true whole tells = inr (tells refl)
-whole_or W written false whole tells = inl (whole refl)
+whole_or : (W : Type 0) (requests : List (Result Call WireFault)) (written : List ℕ) (scarce : Bool) → (scarce ≡ false → W) → (scarce ≡ true → TellsScarcity requests written)
+    → W ⊎ TellsScarcity requests written
+whole_or W requests written true whole tells = inr (tells refl)
+whole_or W requests written false whole tells = inl (whole refl)
 
-pub whole_so_far : (W : Type 0) (first : World) (source old : Option (List ℕ)) (w : World) (before sink : Option (List ℕ)) → Progress W first source old w before sink
-    → Scripts (λ _ written. W ⊎ TellsScarcity written) source old sink
-whole_so_far W first source old w before sink p text held is told =
+-- one of the lines written so far says so
+tells_so_far : (W : Type 0) (first : World) (text : List ℕ) (w : World) (rest written : List ℕ) (so : SoFar W first text w rest written) → so.scarce ≡ true → so.carried ≡ requests_of text
+    → TellsScarcity (requests_of text) written
+tells_so_far W first text w rest written so scarce all =
+    subst (λ rs. TellsScarcity rs written) (append_none so.carried ∙ all)
+    (subst (λ t. TellsScarcity (so.carried ++ []) t) (append_nothing written) (so.tells scarce [] []))
+
+pub whole_so_far : (W : Type 0) (first : World) (source old : Option (List ℕ)) (w : World) (before sink : Option (List ℕ)) → Progress W first source old w before sink → HasNoRequest before
+    → Scripts (λ text written. W ⊎ TellsScarcity (requests_of text) written) source old sink
+whole_so_far W first source old w before sink p none text held is told =
     let q = p text held is told in
     let so = q.4 in
-    (q.1, q.3, whole_or W q.1 so.scarce so.whole so.tells)
+    (q.1, q.3, whole_or W (requests_of text) q.1 so.scarce so.whole (λ scarce. tells_so_far W first text w q.0 q.1 so scarce (carried_all W first text w q.0 q.1 so (no_request before q.0 none q.2))))

@@ -1,5 +1,5 @@
 -- The rows of a drain's turns change nothing.
-use Rattle.std.proofs.Common.{◌≡◌, ◌≤◌, ◌<◌, ℕ, Bool, true, false, ap, sym, ◌∙◌, [], ◌∷◌, Result, Ok, Err, map}
+use Rattle.std.proofs.Common.{◌≡◌, ◌≤◌, ◌<◌, ℕ, Bool, true, false, refl, ap, sym, ◌∙◌, [], ◌∷◌, Result, Ok, Err, map}
 use Rattle.std.specs.Prelude.{not, ◌&&◌, nat_le, None, ⊤}
 use Rattle.std.proofs.lemmas.Bool.{le-leb}
 use Rattle.reference.specs.World.{World, Step, Drains, IsPlenty, is_scarce, drain_step, drain_fault, unless, untaken}
@@ -8,7 +8,8 @@ use Rattle.reference.specs.declared.limits.TheConstants.{MAX_TURN}
 use Rattle.reference.specs.declared.fault.Fault.{Fault}
 use Rattle.reference.specs.declared.fault.Fault.TheVariants.{Query, BadName, NameTaken, BadColumns, TooMany, UnknownStream, UnknownQuery, BadWidth, ValueRange, InstantRange, Late, Backward, Leap, StreamFull, BadLimit, Broken, UnknownLease, Stranger, TooManyLeases, OutOfMemory}
 use Rattle.wire.specs.Calls.{drain}
-use Rattle.wire.specs.Script.{answered, done_of, done_step, is_scarce_answer, Replies}
+use Rattle.wire.specs.Printed.{refused}
+use Rattle.wire.specs.Script.{done_of, done_step, is_scarce_reply, Replies}
 
 legal : (rows : ℕ) → 0 < rows → rows ≤ 1024 → (nat_le 1 rows && nat_le rows MAX_TURN) ≡ true
 legal rows low high = ap (λ b. b && nat_le rows MAX_TURN) (le-leb 1 rows low) ∙ le-leb rows MAX_TURN high
@@ -42,13 +43,36 @@ refused_drain old new step Stranger d plenty = d
 refused_drain old new step TooManyLeases d plenty = cc
 refused_drain old new step OutOfMemory d plenty = cc
 
+-- of a drain's faults those are scarce that say so
+scarce_drain : (fault : Fault) → is_scarce_reply (Ok drain) (refused fault) ≡ is_scarce fault
+scarce_drain (Query f) = refl
+scarce_drain BadName = refl
+scarce_drain NameTaken = refl
+scarce_drain BadColumns = refl
+scarce_drain TooMany = refl
+scarce_drain UnknownStream = refl
+scarce_drain UnknownQuery = refl
+scarce_drain BadWidth = refl
+scarce_drain ValueRange = refl
+scarce_drain InstantRange = refl
+scarce_drain Late = refl
+scarce_drain Backward = refl
+scarce_drain Leap = refl
+scarce_drain StreamFull = refl
+scarce_drain BadLimit = refl
+scarce_drain Broken = refl
+scarce_drain UnknownLease = refl
+scarce_drain Stranger = refl
+scarce_drain TooManyLeases = refl
+scarce_drain OutOfMemory = refl
+
 pub drained : (old new : World) (rows : ℕ) → 0 < rows → rows ≤ 1024 → (result : Result ⊤ Fault) → Drains old (drain_step old rows) result new
-    → Replies (answered old drain) (done_of result) new
+    → Replies old (Ok drain) (done_of result) new
 drained old new rows low high (Ok a) d plenty = ap done_step (sym (same_drain old rows low high) ∙ d)
 drained old new rows low high (Err fault) d plenty =
-    ap done_step (sym (same_drain old rows low high) ∙ refused_drain old new (drain_step old rows) fault d plenty)
+    ap done_step (sym (same_drain old rows low high) ∙ refused_drain old new (drain_step old rows) fault d (sym (scarce_drain fault) ∙ plenty))
 
 -- a drain whose reply says nothing scarce
-pub drained_plenty : (result : Result ⊤ Fault) → is_scarce_answer (done_of result) ≡ false → IsPlenty result
+pub drained_plenty : (result : Result ⊤ Fault) → is_scarce_reply (Ok drain) (done_of result) ≡ false → IsPlenty result
 drained_plenty (Ok a) plenty = tt
-drained_plenty (Err fault) plenty = plenty
+drained_plenty (Err fault) plenty = sym (scarce_drain fault) ∙ plenty

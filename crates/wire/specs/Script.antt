@@ -3,9 +3,10 @@ use Rattle.std.specs.Prelude.{◌≡◌, ℕ, ℤ, Bool, true, false, List, [], 
 use Rattle.values.specs.Row.{Row}
 use Rattle.envelope.specs.Fraction.{Fraction}
 use Rattle.plan.specs.declared.node.Kind.{Kind}
-use Rattle.reference.specs.World.{World, Step, is_scarce, stream_named, query_named, declare_step, register_step, append_step, heartbeat_step, drain_step, take_step, drop_step, slopes_at}
+use Rattle.reference.specs.World.{World, Step, stream_named, query_named, declare_step, register_step, append_step, heartbeat_step, drain_step, take_step, drop_step, slopes_at}
 use Rattle.reference.specs.declared.fault.Fault.{Fault}
 use Rattle.reference.specs.declared.fault.Fault.TheVariants as in_engine
+use Rattle.reference.specs.declared.fault.Fault.TheVariants.{TooManyLeases}
 use Rattle.wire.specs.Calls.{Call, declare, register, append, heartbeat, drain, take_rows, discard, show_plan}
 use Rattle.wire.specs.Printed.{Answer, done, rows, operators, refused, unread, line_of}
 use Rattle.wire.specs.Requests.{requests_of}
@@ -60,37 +61,41 @@ replies w (request ∷ more) = line_of (served w request).0 ∷ replies (served 
 abbrev pub script : World → List ℕ → List (List ℕ)
 script w text = replies w (requests_of text)
 
--- the reply says want of memory, or of numbers for turns
-abbrev pub is_scarce_answer : Answer → Bool
-is_scarce_answer done = false
-is_scarce_answer (rows taken) = false
-is_scarce_answer (operators found) = false
-is_scarce_answer (refused fault) = is_scarce fault
-is_scarce_answer (unread OutOfMemory) = true
-is_scarce_answer (unread _) = false
+-- The reply to this request says want of memory, which any request may meet, or of numbers for turns, which a drain alone may.
+abbrev pub is_scarce_reply : Result Call WireFault → Answer → Bool
+is_scarce_reply request (refused in_engine.OutOfMemory) = true
+is_scarce_reply request (unread OutOfMemory) = true
+is_scarce_reply (Ok drain) (refused TooManyLeases) = true
+is_scarce_reply request answer = false
 
 -- The reply and the world after it are the defined ones, unless the reply says that something was scarce.
-abbrev pub Replies : Answer × World → Answer → World → Type 0
-Replies defined answer new = is_scarce_answer answer ≡ false → defined ≡ (answer, new)
+abbrev pub Replies : World → Result Call WireFault → Answer → World → Type 0
+Replies old request answer new = is_scarce_reply request answer ≡ false → served old request ≡ (answer, new)
 
--- The written text is these lines, up to one that says that memory, or numbers for turns, were scarce.
-abbrev pub Says : List (List ℕ) → List ℕ → Type 0
-Says [] written = written ≡ []
-Says (line ∷ lines) written =
-    ((rest : List ℕ) × (written ≡ line ++ rest) × Says lines rest)
-    ⊎ ((answer : Answer) × (rest : List ℕ) × (is_scarce_answer answer ≡ true) × (written ≡ line_of answer ++ rest))
+-- The text begins with a reply to this request that says that memory, or numbers for a drain's turns, were scarce.
+abbrev pub BeginsScarce : Result Call WireFault → List ℕ → Type 0
+BeginsScarce request written =
+    (answer : Answer) × (rest : List ℕ) × (is_scarce_reply request answer ≡ true) × (written ≡ line_of answer ++ rest)
+
+-- The text written in answer to these requests is these lines, one a request, up to one that says that memory, or numbers
+-- for a drain's turns, were scarce.
+abbrev pub Says : List (Result Call WireFault) → List (List ℕ) → List ℕ → Type 0
+Says [] [] written = written ≡ []
+Says (request ∷ requests) (line ∷ lines) written =
+    ((rest : List ℕ) × (written ≡ line ++ rest) × Says requests lines rest) ⊎ BeginsScarce request written
+Says requests lines written = ⊥
 
 -- The written text begins as such a text.
-abbrev pub Begins : List (List ℕ) → List ℕ → Type 0
-Begins lines written = (more : List ℕ) × Says lines (written ++ more)
+abbrev pub Begins : List (Result Call WireFault) → List (List ℕ) → List ℕ → Type 0
+Begins requests lines written = (more : List ℕ) × Says requests lines (written ++ more)
 
 -- From the world `first` on these requests were answered by the written text, and this is the world after them; up to a
--- reply that says that memory, or numbers for turns, were scarce.
+-- reply that says that memory, or numbers for a drain's turns, were scarce.
 abbrev pub Runs : World → List (Result Call WireFault) → List ℕ → World → Type 0
 Runs first [] written now = (written ≡ []) × (now ≡ first)
 Runs first (request ∷ more) written now =
     ((rest : List ℕ) × (written ≡ line_of (served first request).0 ++ rest) × Runs (served first request).1 more rest now)
-    ⊎ ((answer : Answer) × (rest : List ℕ) × (is_scarce_answer answer ≡ true) × (written ≡ line_of answer ++ rest))
+    ⊎ BeginsScarce request written
 
 -- The first of these requests were carried out, and stand: the written text begins what they are answered.
 abbrev pub Stands : World → List (Result Call WireFault) → List ℕ → World → Type 0
@@ -98,10 +103,13 @@ Stands first requests written now =
     (carried : List (Result Call WireFault)) × (rest : List (Result Call WireFault)) × (more : List ℕ)
     × (requests ≡ carried ++ rest) × Runs first carried (written ++ more) now
 
--- A line of the written text says that memory, or numbers for turns, were scarce.
-abbrev pub TellsScarcity : List ℕ → Type 0
-TellsScarcity written =
-    (front : List ℕ) × (answer : Answer) × (rest : List ℕ) × (is_scarce_answer answer ≡ true) × (written ≡ front ++ line_of answer ++ rest)
+-- Of the lines written in answer to these requests, one a request, one says that memory, or numbers for a drain's turns, were
+-- scarce.
+abbrev pub TellsScarcity : List (Result Call WireFault) → List ℕ → Type 0
+TellsScarcity [] written = ⊥
+TellsScarcity (request ∷ more) written =
+    BeginsScarce request written
+    ⊎ ((answer : Answer) × (rest : List ℕ) × (written ≡ line_of answer ++ rest) × TellsScarcity more rest)
 
 -- What a sink took is a text that P holds of, where source and sink tell their bytes.
 abbrev pub Scripts : (List ℕ → List ℕ → Type 0) → Option (List ℕ) → Option (List ℕ) → Option (List ℕ) → Type 0

@@ -1,10 +1,10 @@
 //! Scripts of requests.
-ghost use Rattle.std.specs.Prelude.{◌≡◌, ◌<◌, ◌≤◌, ℕ, List, Result, IfErr, OnOk, OnErr, false, ◌⊎◌};
+ghost use Rattle.std.specs.Prelude.{◌≡◌, ◌<◌, ◌≤◌, ℕ, List, Result, Ok, IfErr, OnOk, OnErr, false, ◌⊎◌};
 ghost use Rattle.wire.specs.Devices.{Puts, Rises};
 ghost use Rattle.wire.specs.Calls.{Call, append, heartbeat, take_rows, discard, show_plan, call_of};
 ghost use Rattle.wire.specs.Printed.{Answer, answer_of, line_of};
 ghost use Rattle.wire.specs.Requests.{Reads, requests_of};
-ghost use Rattle.wire.specs.Script.{answered, done_of, is_scarce_answer, script, Says, Begins, Runs, Scripts, Stands, TellsScarcity, Replies, served};
+ghost use Rattle.wire.specs.Script.{answered, done_of, is_scarce_reply, script, Says, Begins, Runs, Scripts, Stands, TellsScarcity, Replies, served};
 ghost use Rattle.wire.specs.declared.request.WireFault.{WireFault};
 
 use crate::device::{Sink, Source};
@@ -27,7 +27,7 @@ fn done<T: Drop>(answer: Result<T, Fault>) -> Reply
 }
 
 fn append<E: Answering>(engine: &mut E, stream: &str, rows: &NewRows) -> Reply
-    ensures replies { Replies (answered (E.world engine.old) (append stream.now rows.now)) (answer_of result) (E.world engine.new) }
+    ensures replies { Replies (E.world engine.old) (Ok (append stream.now rows.now)) (answer_of result) (E.world engine.new) }
     ensures whole { E.is_whole engine.old → E.is_whole engine.new }
 {
     match engine.stream_named(stream) {
@@ -37,7 +37,7 @@ fn append<E: Answering>(engine: &mut E, stream: &str, rows: &NewRows) -> Reply
 }
 
 fn heartbeat<E: Answering>(engine: &mut E, stream: &str, at: i64) -> Reply
-    ensures replies { Replies (answered (E.world engine.old) (heartbeat stream.now at)) (answer_of result) (E.world engine.new) }
+    ensures replies { Replies (E.world engine.old) (Ok (heartbeat stream.now at)) (answer_of result) (E.world engine.new) }
     ensures whole { E.is_whole engine.old → E.is_whole engine.new }
 {
     match engine.stream_named(stream) {
@@ -47,7 +47,7 @@ fn heartbeat<E: Answering>(engine: &mut E, stream: &str, at: i64) -> Reply
 }
 
 fn take<E: Answering>(engine: &mut E, query: &str, limit: i64) -> Reply
-    ensures replies { E.is_whole engine.old → Replies (answered (E.world engine.old) (take_rows query.now limit)) (answer_of result) (E.world engine.new) }
+    ensures replies { E.is_whole engine.old → Replies (E.world engine.old) (Ok (take_rows query.now limit)) (answer_of result) (E.world engine.new) }
     ensures whole { E.is_whole engine.old → E.is_whole engine.new }
 {
     let Some(number) = engine.query_named(query) else {
@@ -60,7 +60,7 @@ fn take<E: Answering>(engine: &mut E, query: &str, limit: i64) -> Reply
 }
 
 fn discard<E: Answering>(engine: &mut E, query: &str) -> Reply
-    ensures replies { Replies (answered (E.world engine.old) (discard query.now)) (answer_of result) (E.world engine.new) }
+    ensures replies { Replies (E.world engine.old) (Ok (discard query.now)) (answer_of result) (E.world engine.new) }
     ensures whole { E.is_whole engine.old → E.is_whole engine.new }
 {
     match engine.query_named(query) {
@@ -70,7 +70,7 @@ fn discard<E: Answering>(engine: &mut E, query: &str) -> Reply
 }
 
 fn show_plan<E: Answering>(engine: &E, query: &str) -> Reply
-    ensures { Replies (answered (E.world engine.now) (show_plan query.now)) (answer_of result) (E.world engine.now) }
+    ensures { Replies (E.world engine.now) (Ok (show_plan query.now)) (answer_of result) (E.world engine.now) }
 {
     let Some(number) = engine.query_named(query) else {
         return Reply::Refused(Fault::UnknownQuery);
@@ -84,8 +84,8 @@ fn show_plan<E: Answering>(engine: &E, query: &str) -> Reply
 /// Runs a request, where a turn has at most so many rows.
 fn answer<E: Answering>(engine: &mut E, request: &Request, rows: u32) -> Reply
     requires rows { 0 < rows × rows ≤ 1024 }
-    ensures replies { E.is_whole engine.old → Replies (answered (E.world engine.old) (call_of request.now)) (answer_of result) (E.world engine.new) }
-    ensures whole { E.is_whole engine.old → is_scarce_answer (answer_of result) ≡ false → E.is_whole engine.new }
+    ensures replies { E.is_whole engine.old → Replies (E.world engine.old) (Ok (call_of request.now)) (answer_of result) (E.world engine.new) }
+    ensures whole { E.is_whole engine.old → is_scarce_reply (Ok (call_of request.now)) (answer_of result) ≡ false → E.is_whole engine.new }
 {
     match request {
         Request::Stream {
@@ -109,8 +109,9 @@ fn answer<E: Answering>(engine: &mut E, request: &Request, rows: u32) -> Reply
 fn serve<E: Answering>(engine: &mut E, read: Result<Request, WireFault>, rows: u32) -> Reply
     requires rows { 0 < rows × rows ≤ 1024 }
     ensures serves { E.is_whole engine.old → (defined : Result Call WireFault) → Reads defined read
-        → Replies (served (E.world engine.old) defined) (answer_of result) (E.world engine.new) }
-    ensures whole { E.is_whole engine.old → is_scarce_answer (answer_of result) ≡ false → E.is_whole engine.new }
+        → Replies (E.world engine.old) defined (answer_of result) (E.world engine.new) }
+    ensures whole { E.is_whole engine.old → (defined : Result Call WireFault) → Reads defined read
+        → is_scarce_reply defined (answer_of result) ≡ false → E.is_whole engine.new }
 {
     match read {
         Ok(request) => answer(engine, &request, rows),
@@ -127,8 +128,8 @@ fn respond<K: Sink, E: Answering>(
 ) -> Result<(), ScriptFault>
     requires rows { 0 < rows × rows ≤ 1024 }
     ensures written { (answer : Answer)
-        × (E.is_whole engine.old → (defined : Result Call WireFault) → Reads defined read → Replies (served (E.world engine.old) defined) answer (E.world engine.new))
-        × (E.is_whole engine.old → is_scarce_answer answer ≡ false → E.is_whole engine.new)
+        × (E.is_whole engine.old → (defined : Result Call WireFault) → Reads defined read → Replies (E.world engine.old) defined answer (E.world engine.new))
+        × (E.is_whole engine.old → (defined : Result Call WireFault) → Reads defined read → is_scarce_reply defined answer ≡ false → E.is_whole engine.new)
         × Puts (K.taken sink.old) (K.taken sink.new) (K.failures sink.old) (K.failures sink.new) result (line_of answer) }
     ensures fault { IfErr result (λ e. e ≡ ScriptFault.Write) }
 {
@@ -139,8 +140,8 @@ fn respond<K: Sink, E: Answering>(
 /// Answers each request of the source by one line, up to the end of the source. A drain's turns have at most `rows` rows,
 /// 1 to 1,024, which changes no reply. At the start the engine has to be whole.
 ///
-/// What is written is the script's text of what the source gave, up to the first reply that says want of memory, or of numbers
-/// for turns, from which on it rests with the engine. Where no reply says so, the engine is whole at the end.
+/// What is written is the script's text of what the source gave, up to the first reply that says want of memory, or, to a
+/// drain, of numbers for turns, from which on it rests with the engine. Where no reply says so, the engine is whole at the end.
 /// `ScriptFault::Read` and `ScriptFault::Write` where that device failed: then what is written is a beginning of that text, and
 /// the calls carried out stand: the engine is as they left it. `ScriptFault::Memory` where the line's buffers were refused,
 /// before anything was read: all is as it was.
@@ -153,15 +154,15 @@ pub fn run_script<S: Source, K: Sink, E: Answering>(
 ) -> Result<(), ScriptFault>
     requires rows { 0 < rows × rows ≤ 1024 }
     requires whole { E.is_whole engine.old }
-    ensures text { OnOk result (Scripts (λ text written. Says (script (E.world engine.old) text) written)
+    ensures text { OnOk result (Scripts (λ text written. Says (requests_of text) (script (E.world engine.old) text) written)
         (S.left source.old) (K.taken sink.old) (K.taken sink.new)) }
-    ensures begun { OnErr result (Scripts (λ text written. Begins (script (E.world engine.old) text) written)
+    ensures begun { OnErr result (Scripts (λ text written. Begins (requests_of text) (script (E.world engine.old) text) written)
         (S.left source.old) (K.taken sink.old) (K.taken sink.new)) }
     ensures ran { OnOk result (Scripts (λ text written. Runs (E.world engine.old) (requests_of text) written (E.world engine.new))
         (S.left source.old) (K.taken sink.old) (K.taken sink.new)) }
     ensures stands { OnErr result (Scripts (λ text written. Stands (E.world engine.old) (requests_of text) written (E.world engine.new))
         (S.left source.old) (K.taken sink.old) (K.taken sink.new)) }
-    ensures kept { OnOk result (Scripts (λ _ written. E.is_whole engine.new ⊎ TellsScarcity written)
+    ensures kept { OnOk result (Scripts (λ text written. E.is_whole engine.new ⊎ TellsScarcity (requests_of text) written)
         (S.left source.old) (K.taken sink.old) (K.taken sink.new)) }
     ensures read { IfErr result (λ e. e ≡ ScriptFault.Read
         → Rises (S.failures source.old) (S.failures source.new) × (K.failures sink.new ≡ K.failures sink.old)) }

@@ -1,5 +1,6 @@
-use Rattle.std.proofs.Common.{◌∙◌, ap, sym}
-use Rattle.wire.specs.Script.{is_scarce_answer}
+use Rattle.std.proofs.Common.{◌∙◌, Ok, ap, sym}
+use Rattle.wire.specs.Calls.{drain}
+use Rattle.wire.specs.Script.{is_scarce_reply}
 use Rattle.wire.proofs.Turns.{drained, drained_plenty}
 use Rattle.wire.proofs.script.answer.Goals as goal
 
@@ -10,4 +11,4 @@ returns-in-Drain-clause-replies g c whole =
 
 pub returns-in-Drain-clause-whole : goal.returns-in-Drain-clause-whole
 returns-in-Drain-clause-whole g c whole plenty =
-    c.drain.ensures.whole whole (drained_plenty c.drain.result (ap is_scarce_answer (sym c.done-in-Drain.ensures) ∙ plenty))
+    c.drain.ensures.whole whole (drained_plenty c.drain.result (ap (is_scarce_reply (Ok drain)) (sym c.done-in-Drain.ensures) ∙ rw c.in-Drain.is at plenty))

@@ -10,6 +10,7 @@ mod FinishLemmas
 mod FinishSoundLemmas
 mod FinishBackLemmas
 mod StreamLemmas
+mod QueueLemmas
 mod ReaderLemmas
 mod BeatLemmas
 pub mod DrainLemmas

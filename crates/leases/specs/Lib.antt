@@ -12,3 +12,4 @@ pub mod Registering
 pub mod Leasing
 pub mod Readers
 pub mod Runs
+pub mod Queues

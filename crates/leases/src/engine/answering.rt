@@ -12,6 +12,7 @@ ghost use Rattle.ready_list.specs.Slots.{first_of};
 ghost use Rattle.plain_engines.specs.Calls.{appended, beaten, declared, dropped, registered};
 ghost use Rattle.plain_engines.specs.Promises.{HasAllWaiting, KeepsItsPromises};
 ghost use Rattle.leases.specs.Drains.{LeavesOthers, RunsTurns};
+ghost use Rattle.leases.specs.Queues.{LeavesQueues};
 ghost use Rattle.leases.specs.Registering.{IsRegistered};
 ghost use Rattle.leases.specs.Shown.{engine_in, world_in};
 ghost use Rattle.leases.specs.Takes.{Takes};
@@ -50,6 +51,7 @@ impl Answering for Engine {
         ensures does { Does (λ u. u) (world_in self.old) (append_step (world_in self.old) stream rows.now) result (world_in self.new) }
         ensures whole { IsWhole self.old → IsWhole self.new }
         ensures engine { OnOk result (engine_in self.new ≡ appended (engine_in self.old) stream rows.now) }
+        ensures queues { LeavesQueues (engine_in self.old) (engine_in self.new) }
         ensures err { OnErr result (engine_in self.new ≡ engine_in self.old) }
     {
         self.state.append(stream, rows)

@@ -9,6 +9,7 @@ ghost use Rattle.query_nets.specs.Queries.{PlainQuery, node_at};
 ghost use Rattle.plain_engines.specs.Calls.{appended, beaten, declared, is_reading};
 ghost use Rattle.plain_engines.specs.Engines.{GoodEngine, Running, kept_at, query_at};
 ghost use Rattle.leases.specs.Asked.{HasOperatorAt, IsRunningAt};
+ghost use Rattle.leases.specs.Queues.{LeavesQueues};
 ghost use Rattle.leases.specs.Readers.{HasSource, readers_from, readers_in, told, told_all, windows_from, with_slots};
 ghost use Rattle.leases.specs.Shown.{engine_in, world_in};
 ghost use Rattle.leases.specs.Sound.{IsSound};
@@ -44,6 +45,7 @@ impl State {
         requires { IsSound self.old }
         ensures does { Does (λ u. u) (world_in self.old) (append_step (world_in self.old) stream rows.now) result (world_in self.new) }
         ensures engine { OnOk result (engine_in self.new ≡ appended (engine_in self.old) stream rows.now) }
+        ensures queues { LeavesQueues (engine_in self.old) (engine_in self.new) }
         ensures err { OnErr result (engine_in self.new ≡ engine_in self.old) }
         ensures sound { IsSound self.new }
     {

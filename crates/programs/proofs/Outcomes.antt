@@ -12,10 +12,10 @@ use Rattle.wire.proofs.Sinks.{append_nothing}
 use Rattle.wire.proofs.Scripts.{says_all}
 use Rattle.programs.specs.Run.{Answers, IsWrong, Leads}
 
-pub says_begins : (w : World) (source old new : Option (List ℕ)) → Scripts (λ text written. Says (script w text) written) source old new
-    → Scripts (λ text written. Begins (script w text) written) source old new
+pub says_begins : (w : World) (source old new : Option (List ℕ)) → Scripts (λ text written. Says (requests_of text) (script w text) written) source old new
+    → Scripts (λ text written. Begins (requests_of text) (script w text) written) source old new
 says_begins w source old new s text held is told =
-    let r = s text held is told in (r.0, r.1, ([], subst (λ t. Says (script w text) t) (sym (append_nothing r.0)) r.2))
+    let r = s text held is told in (r.0, r.1, ([], subst (λ t. Says (requests_of text) (script w text) t) (sym (append_nothing r.0)) r.2))
 
 append_none : (requests : List (Result Call WireFault)) → requests ++ [] ≡ requests
 append_none [] = refl
@@ -40,7 +40,7 @@ leads_nowhere w status source old is = (
 pub answers_nothing : (w : World) (status : ℕ) (source old new : Option (List ℕ)) → status ≡ 3 → new ≡ old → Answers w status source old new
 answers_nothing w status source old new is same = (
   λ none. absurd (cc),
-  λ text held is told. ([], same ∙ told ∙ ap Some (sym (append_nothing held)), says_all (script w text)),
+  λ text held is told. ([], same ∙ told ∙ ap Some (sym (append_nothing held)), says_all w (requests_of text)),
 )
 
 -- words that ask for a run fail for want of memory alone

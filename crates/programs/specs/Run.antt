@@ -14,8 +14,8 @@ use Rattle.wire.specs.Script.{script, Says, Begins, Runs, Scripts, Stands}
 -- turn, which the words may say, stand nowhere in it: they change no reply.
 abbrev pub Answers : World → ℕ → Option (List ℕ) → Option (List ℕ) → Option (List ℕ) → Type 0
 Answers world status source old new =
-    (status ≡ 0 → Scripts (λ text written. Says (script world text) written) source old new)
-    × Scripts (λ text written. Begins (script world text) written) source old new
+    (status ≡ 0 → Scripts (λ text written. Says (requests_of text) (script world text) written) source old new)
+    × Scripts (λ text written. Begins (requests_of text) (script world text) written) source old new
 
 -- The requests lead from the world `first` to the world `now`: at the status 0 all of them, and else those carried out.
 abbrev pub Leads : World → World → ℕ → Option (List ℕ) → Option (List ℕ) → Option (List ℕ) → Type 0

@@ -3,6 +3,7 @@ ghost use Rattle.std.specs.Prelude.{◌≡◌, ◌≢◌, ◌<◌, ◌≤◌, �
 ghost use Rattle.clap.specs.Words.{kind_of};
 ghost use Rattle.reference.specs.World as world;
 ghost use Rattle.wire.specs.Devices.{Rises};
+ghost use Rattle.wire.specs.Requests.{requests_of};
 ghost use Rattle.wire.specs.Script.{Scripts, TellsScarcity};
 ghost use Rattle.programs.specs.CommandLine.{refusals};
 ghost use Rattle.programs.specs.Run.{Answers, Leads, Failed, Told, ToldSome, IsWrong, fault_line};
@@ -74,7 +75,7 @@ fn run_lines<N: Answering, I: Source, O: Sink, E: Sink>(
     requires whole { N.is_whole engine.old }
     ensures answers { Answers (N.world engine.old) result (I.left source.old) (O.taken sink.old) (O.taken sink.new) }
     ensures leads { Leads (N.world engine.old) (N.world engine.new) result (I.left source.old) (O.taken sink.old) (O.taken sink.new) }
-    ensures kept { result ≡ 0 → Scripts (λ _ written. N.is_whole engine.new ⊎ TellsScarcity written)
+    ensures kept { result ≡ 0 → Scripts (λ text written. N.is_whole engine.new ⊎ TellsScarcity (requests_of text) written)
         (I.left source.old) (O.taken sink.old) (O.taken sink.new) }
     ensures status { (result ≡ 0) ⊎ (result ≡ 1) ⊎ (result ≡ 3) }
     ensures silent { result ≡ 0 → errors.new ≡ errors.old }
@@ -111,7 +112,7 @@ pub fn run_over<'a, S: AsStr, N: Answering, I: Source, O: Sink, E: Sink>(
         → Answers (N.world engine.old) result (I.left source.old) (O.taken sink.old) (O.taken sink.new) }
     ensures leads { refusals (map S.text words.entry.now) ≡ []
         → Leads (N.world engine.old) (N.world engine.new) result (I.left source.old) (O.taken sink.old) (O.taken sink.new) }
-    ensures kept { refusals (map S.text words.entry.now) ≡ [] → result ≡ 0 → Scripts (λ _ written. N.is_whole engine.new ⊎ TellsScarcity written)
+    ensures kept { refusals (map S.text words.entry.now) ≡ [] → result ≡ 0 → Scripts (λ text written. N.is_whole engine.new ⊎ TellsScarcity (requests_of text) written)
         (I.left source.old) (O.taken sink.old) (O.taken sink.new) }
     ensures status { refusals (map S.text words.entry.now) ≡ [] → (result ≡ 0) ⊎ (result ≡ 1) ⊎ (result ≡ 3) }
     ensures help { refusals (map S.text words.entry.now) ≡ ErrorKind.DisplayHelp ∷ [] → (result ≡ 0) ⊎ (result ≡ 1) ⊎ (result ≡ 3) }

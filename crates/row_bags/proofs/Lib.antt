@@ -7,3 +7,4 @@ pub mod ShortLemmas
 pub mod OrderLemmas
 pub mod BagLaws
 pub mod NetLaws
+pub mod ListLaws

@@ -19,7 +19,7 @@ abbrev count : Row → List Row → ℕ
 count = copies row_cmp
 
 -- lists in order are one where their counts are
-by_counts : (xs ys : List Row) → ((q : Row) → count q xs ≡ count q ys) → in_order row_cmp xs ≡ in_order row_cmp ys
+pub by_counts : (xs ys : List Row) → ((q : Row) → count q xs ≡ count q ys) → in_order row_cmp xs ≡ in_order row_cmp ys
 by_counts = in_order-same row_cmp row_order
 
 -- the count of a row that is r, or of one that is not

@@ -1,0 +1,43 @@
+-- Rows in a list, and what it becomes when rows leave and enter.
+use Rattle.std.specs.Prelude.{◌≡◌, ℕ, ℤ, ◌≤◌, Bool, false, cond, Option, List, [], ◌∷◌, ◌++◌, length, take, drop}
+use Rattle.values.specs.Row.{Row, row_cmp}
+use Rattle.values.specs.Bag.{is_same, is_above}
+use Rattle.row_bags.specs.Nets.{Netted}
+
+-- rows of these widths, their values one behind the other
+abbrev pub rows_by : List ℕ → List (Option ℤ) → List Row
+rows_by [] values = []
+rows_by (w ∷ ws) values = take w values ∷ rows_by ws (drop w values)
+
+-- each row has its values, and no more than a row may have; none are left over
+abbrev pub AreCut : List ℕ → List (Option ℤ) → Type 0
+AreCut [] values = values ≡ []
+AreCut (w ∷ ws) values = (w ≤ 16) × (w ≤ length values) × AreCut ws (drop w values)
+
+-- whether the row stands first in the list
+abbrev pub is_first : Row → List Row → Bool
+is_first x [] = false
+is_first x (y ∷ ys) = is_same row_cmp x y
+
+-- rows without those that left, each of which is found where it stands in order
+abbrev pub staying : List Row → List Row → List Row
+staying [] left = []
+staying (x ∷ xs) left = cond (is_first x left) (staying xs (drop 1 left)) (x ∷ staying xs left)
+
+-- from the front on, the rows that are not above x, and those behind them
+abbrev pub up_to : Row → List Row → List Row
+up_to x [] = []
+up_to x (y ∷ ys) = cond (is_above row_cmp y x) [] (y ∷ up_to x ys)
+
+abbrev pub past : Row → List Row → List Row
+past x [] = []
+past x (y ∷ ys) = cond (is_above row_cmp y x) (y ∷ ys) (past x ys)
+
+-- two lists in order as one
+abbrev pub merged : List Row → List Row → List Row
+merged [] ys = ys
+merged (x ∷ xs) ys = up_to x ys ++ x ∷ merged xs (past x ys)
+
+-- the rows that stay and those that entered
+abbrev pub renewed : List Row → Netted → List Row
+renewed rows n = merged (staying rows n.left) n.entered

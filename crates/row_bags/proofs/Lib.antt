@@ -8,3 +8,4 @@ pub mod OrderLemmas
 pub mod BagLaws
 pub mod NetLaws
 pub mod ListLaws
+pub mod ListLemmas

@@ -1,5 +1,5 @@
 -- What a list of rows in order becomes is, in order, the bag that it stands for after what left and entered.
-use Rattle.std.proofs.Common.{◌≡◌, ℕ, suc, ◌+◌, ◌-◌, ◌≤◌, Bool, true, false, cond, ◌||◌, List, [], ◌∷◌, ◌++◌, drop, refl, ap, ap₂, sym, subst, ◌∙◌, arith}
+use Rattle.std.proofs.Common.{◌≡◌, ℕ, suc, ◌+◌, Bool, true, false, cond, List, [], ◌∷◌, ◌++◌, refl, ap, ap₂, sym, subst, ◌∙◌, arith}
 use Rattle.std.specs.declared.cmp.Ordering.{Ordering}
 use Rattle.std.specs.declared.cmp.Ordering.TheVariants.{Less, Equal, Greater}
 use Rattle.std.specs.Ordering.{is_gt, ordering_reverse}
@@ -8,7 +8,7 @@ use Rattle.values.specs.Row.{Row, row_cmp}
 use Rattle.values.specs.Bag.{is_same, is_above, copies, bag_minus, insert_in_order, in_order}
 use Rattle.values.proofs.Bags.{same_is, same_itself, copies-bag_minus}
 use Rattle.values.proofs.Order.{row_order}
-use Rattle.row_bags.specs.Nets.{Netted, net_of, net_between}
+use Rattle.row_bags.specs.Nets.{net_of, net_between}
 use Rattle.row_bags.specs.Lists.{is_first, staying, up_to, past, merged, renewed}
 use Rattle.row_bags.proofs.SpreadLemmas.{by_bool}
 use Rattle.row_bags.proofs.NetLaws.{by_counts}

@@ -12,7 +12,9 @@ mod counts;
 mod held;
 mod net;
 mod row_bag;
+mod row_list;
 
 pub use counts::begins_with;
 pub use net::Net;
 pub use row_bag::RowBag;
+pub use row_list::RowList;

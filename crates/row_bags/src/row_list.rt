@@ -1,0 +1,171 @@
+//! Rows in a list.
+ghost use Rattle.std.specs.Prelude.{◌≡◌, ◌≤◌, ◌++◌, [], length, drop, IfOk, OnOk};
+ghost use Rattle.row_bags.specs.Bags.{rows_of};
+ghost use Rattle.row_bags.specs.Lists.{is_first, staying, up_to, past, merged, renewed};
+
+use crate::net::Net;
+use std::alloc::{AllocError, Global};
+use std::marker::Model;
+use values::{MAX_COLUMNS, Row, Value, compare_rows, copy_row, same_rows};
+
+/// Rows one after the other, in as little room as they need: eight bytes for each value, and one more for each row.
+///
+/// It is made for lists in order, which change seldom and then by a walk over all of it.
+#[derive(Drop)]
+pub struct RowList {
+    widths: Vec<u8>,
+    values: Vec<Value>,
+}
+
+impl Model for RowList {
+    ghost use Rattle.std.specs.Prelude.{List};
+    ghost use Rattle.values.specs.Row.{Row as OneRow};
+    ghost use Rattle.row_bags.specs.Lists.{AreCut, rows_by};
+
+    ghost Value = { List OneRow };
+
+    ghost view = { λ l. rows_by l.widths.items l.values.items };
+
+    ghost invariant = { λ l. AreCut l.widths.items l.values.items };
+}
+
+impl RowList {
+    /// No rows.
+    pub fn new(alloc: Global) -> RowList
+        ensures { result ≡ [] }
+    {
+        RowList {
+            widths: Vec::new(alloc),
+            values: Vec::new(alloc),
+        }
+    }
+
+    /// The rows after what left and entered. A row that left and does not stand where it comes in order is not found.
+    pub fn renewed(&self, alloc: Global, net: &Net) -> Result<Vec<Row>, AllocError>
+        ensures { IfOk result (λ rows. rows_of rows.items ≡ renewed self.now net.now) }
+    {
+        let left = net.left(alloc)?;
+        let entered = net.entered(alloc)?;
+        let rows = self.merged(alloc, &left, &entered)?;
+        Ok(rows)
+    }
+
+    /// Becomes the rows after what left and entered. Where nothing did, this is all that it looks at.
+    pub fn renew(&mut self, alloc: Global, net: &Net) -> Result<(), AllocError>
+        ensures { OnOk result (self.new ≡ renewed self.old net.now) }
+    {
+        let left = net.left(alloc)?;
+        let entered = net.entered(alloc)?;
+        if left.is_empty() && entered.is_empty() {
+            return Ok(());
+        }
+        let rows = self.merged(alloc, &left, &entered)?;
+        *self = list_of(alloc, &rows)?;
+        Ok(())
+    }
+
+    /// The rows without those that left, and with those that entered: one walk over the three lists.
+    fn merged(&self, alloc: Global, left: &[Row], entered: &[Row]) -> Result<Vec<Row>, AllocError>
+        ensures { IfOk result (λ rows. rows_of rows.items ≡ merged (staying self.now (rows_of left.now)) (rows_of entered.now)) }
+    {
+        let mut rows = Vec::with_capacity(alloc, self.widths.len().saturating_add(entered.len()))?;
+        let mut start = 0;
+        let mut gone = 0;
+        let mut came = 0;
+        for width in &self.widths {
+            let end = start + *width as usize;
+            let row = row_of(&self.values[start..end]);
+            start = end;
+            if is_next(left, gone, &row) {
+                gone += 1;
+                continue;
+            }
+            came = push_up_to(&mut rows, &row, entered, came)?;
+            rows.push(row)?;
+        }
+        push_rest(&mut rows, entered, came)?;
+        Ok(rows)
+    }
+}
+
+/// These rows as a list.
+fn list_of(alloc: Global, rows: &[Row]) -> Result<RowList, AllocError>
+    ensures { IfOk result (λ list. list ≡ rows_of rows.now) }
+{
+    let mut widths = Vec::with_capacity(alloc, rows.len())?;
+    let mut values = Vec::with_capacity(alloc, room_for(rows))?;
+    for row in rows {
+        values.extend_from_slice(row.as_slice())?;
+        widths.push(width_of(row))?;
+    }
+    Ok(RowList { widths, values })
+}
+
+/// How many values rows have that are all as wide as the first.
+fn room_for(rows: &[Row]) -> usize {
+    match rows.first() {
+        Some(row) => rows.len().saturating_mul(row.len()),
+        None => 0,
+    }
+}
+
+fn width_of(row: &Row) -> u8
+    ensures is { result ≡ length row.now.items }
+    ensures few { result ≤ MAX_COLUMNS }
+{
+    row.len() as u8
+}
+
+fn row_of(values: &[Value]) -> Row
+    requires { length values.now ≤ MAX_COLUMNS }
+    ensures { result.items ≡ values.now }
+{
+    let mut row = Row::new();
+    for value in values {
+        row.push(*value);
+    }
+    row
+}
+
+/// Whether the row stands first in the rest of the rows.
+fn is_next(rows: &[Row], start: usize, row: &Row) -> bool
+    ensures { result ≡ is_first row.now.items (drop start (rows_of rows.now)) }
+{
+    match rows.get(start) {
+        Some(next) => same_rows(row, next),
+        None => false,
+    }
+}
+
+/// Writes of the rest of those that entered the rows up to the last one behind the others; the place of the next.
+fn push_up_to(
+    rows: &mut Vec<Row>,
+    last: &Row,
+    entered: &[Row],
+    start: usize,
+) -> Result<usize, AllocError>
+    requires { start ≤ length entered.now }
+    ensures rows { OnOk result (rows_of rows.new.items ≡ rows_of rows.old.items ++ up_to last.now.items (drop start (rows_of entered.now))) }
+    ensures rest { IfOk result (λ place. drop place (rows_of entered.now) ≡ past last.now.items (drop start (rows_of entered.now))) }
+    ensures within { IfOk result (λ place. place ≤ length entered.now) }
+{
+    for place in start..entered.len() {
+        let next = &entered[place];
+        if compare_rows(next, last).is_gt() {
+            return Ok(place);
+        }
+        rows.push(copy_row(next))?;
+    }
+    Ok(entered.len())
+}
+
+/// Writes the rest of those that entered behind the others.
+fn push_rest(rows: &mut Vec<Row>, entered: &[Row], start: usize) -> Result<(), AllocError>
+    requires { start ≤ length entered.now }
+    ensures { OnOk result (rows_of rows.new.items ≡ rows_of rows.old.items ++ drop start (rows_of entered.now)) }
+{
+    for place in start..entered.len() {
+        rows.push(copy_row(&entered[place]))?;
+    }
+    Ok(())
+}

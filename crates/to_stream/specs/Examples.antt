@@ -29,5 +29,9 @@ came = refl
 gone : out (Tick 4) (near (at_four Dstream) (Tick 4)) ≡ (4, row 5) ∷ []
 gone = refl
 
+-- the instant 4 of Rstream: 5 left, and 7 came once; at the instant 5 nothing changes
 whole : out (Tick 4) (near (at_four Rstream) (Tick 4)) ≡ (4, row 6) ∷ (4, row 7) ∷ []
 whole = refl
+
+unchanged : out (Tick 5) (near (next (at_four Rstream) (Tick 4)) (Tick 5)) ≡ (5, row 6) ∷ (5, row 7) ∷ []
+unchanged = refl

@@ -1,5 +1,5 @@
 -- What a root's state stands for, and the law of one step.
-use Rattle.std.specs.Prelude.{◌≡◌, List, map}
+use Rattle.std.specs.Prelude.{◌≡◌, List, [], map}
 use Rattle.values.specs.Row.{Row, row_cmp}
 use Rattle.values.specs.Bag.{in_order}
 use Rattle.values.specs.Answers.{streamed}
@@ -12,14 +12,16 @@ use Rattle.op_queue.specs.declared.item.Item.TheVariants.{Rows, Tick}
 use Rattle.row_bags.specs.Nets.{net_between}
 use Rattle.to_stream.specs.Turns.{State, near, out}
 
--- `before` is the relation that was taken at the last tick, `now` the one that is taken
-abbrev pub StandsAs : Operator → State → List Row → List Row → Type 0
-StandsAs Istream s before now = s.net ≡ net_between before now
-StandsAs Dstream s before now = s.net ≡ net_between before now
-StandsAs Rstream s before now = s.whole ≡ in_order row_cmp now
+-- the relation at the last tick, which Rstream alone asks for
+abbrev pub whole_of : Operator → List Row → List Row
+whole_of Istream before = []
+whole_of Dstream before = []
+whole_of Rstream before = in_order row_cmp before
 
+-- `before` is the relation that was taken at the last tick, `now` the one that is taken
 pub record Stands (s : State) (before now : List Row) : Type 0 where
-  pub stands : StandsAs s.operator s before now
+  pub net : s.net ≡ net_between before now
+  pub whole : s.whole ≡ whole_of s.operator before
 
 -- after rows the state stands for the relation with them; at a tick the answers are those of the definition, and the relation now is that of the instant before
 abbrev pub StepLaw : State → Item → State → Type 0

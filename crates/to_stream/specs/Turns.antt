@@ -6,10 +6,10 @@ use Rattle.values.specs.declared.resolved.Operator.{Operator}
 use Rattle.values.specs.declared.resolved.Operator.TheVariants.{Istream, Dstream, Rstream}
 use Rattle.op_queue.specs.declared.item.Item.{Item}
 use Rattle.op_queue.specs.declared.item.Item.TheVariants.{Rows, Tick}
-use Rattle.row_bags.specs.Bags.{bag_after}
 use Rattle.row_bags.specs.Nets.{Netted, nets_after}
+use Rattle.row_bags.specs.Lists.{renewed}
 
--- Istream and Dstream keep what entered and left since the last tick, Rstream the whole relation; what is not asked for stays empty
+-- what entered and left since the last tick; of Rstream also the relation of the last tick, in order, which stays empty where it is not asked for
 pub record State : Type 0 where
   pub operator : Operator
   pub net : Netted
@@ -19,7 +19,7 @@ pub record State : Type 0 where
 abbrev pub shown : Operator → State → List Row
 shown Istream s = s.net.entered
 shown Dstream s = s.net.left
-shown Rstream s = s.whole
+shown Rstream s = renewed s.whole s.net
 
 -- the excerpt
 abbrev pub near : State → Item → List Row
@@ -32,19 +32,27 @@ out (Rows t b) rows = []
 out (Tick t) rows = map (λ r. (t, r)) rows
 
 -- the state after signed rows
-abbrev pub taken : Operator → State → List (Bool × Row) → State
-taken Istream s b = record { operator = s.operator; net = nets_after s.net b; whole = s.whole }
-taken Dstream s b = record { operator = s.operator; net = nets_after s.net b; whole = s.whole }
-taken Rstream s b = record { operator = s.operator; net = s.net; whole = bag_after s.whole b }
+abbrev pub taken : State → List (Bool × Row) → State
+taken s b = record { operator = s.operator; net = nets_after s.net b; whole = s.whole }
+
+-- the relation that is kept from one tick to the next
+abbrev pub kept : Operator → State → List Row
+kept Istream s = s.whole
+kept Dstream s = s.whole
+kept Rstream s = renewed s.whole s.net
+
+-- the state after a tick, from which on nothing has entered or left
+abbrev pub ticked : State → State
+ticked s = record { operator = s.operator; net = record { entered = []; left = [] }; whole = kept s.operator s }
 
 -- the state after an item
 abbrev pub next : State → Item → State
-next s (Rows t b) = taken s.operator s b
-next s (Tick t) = record { operator = s.operator; net = record { entered = []; left = [] }; whole = s.whole }
+next s (Rows t b) = taken s b
+next s (Tick t) = ticked s
 
 -- counts stay below 2^62 in the middle of the rows too
 abbrev pub HasRoomFor : State → List (Bool × Row) → Type 0
-HasRoomFor s b = (length s.net.entered + length s.net.left + length b < 2 ^ 62) × (length s.whole + length b < 2 ^ 62)
+HasRoomFor s b = length s.net.entered + length s.net.left + length b < 2 ^ 62
 
 abbrev pub HasRoom : State → Item → Type 0
 HasRoom s (Rows t b) = HasRoomFor s b

@@ -3,26 +3,29 @@
 //! A root takes the signed rows of its relation, and at the tick of an instant answers with rows in order, each with the
 //! instant: with what the relation has beyond that of the instant before (Istream), with what it has lost of it (Dstream), or
 //! with the whole (Rstream). What a turn needs of the state is `near`, what it puts out is `work`, and `apply` is the change.
+//!
+//! Between ticks all three keep what entered and left alone. The whole of Rstream, which answers with all of it, stands in a list
+//! that becomes the next one at a tick, so a row costs the same however many are held.
 #![tactic(auto)]
 
 ghost use Rattle.std.specs.Prelude.{◌≡◌, [], map, IfOk, OnOk};
 ghost use Rattle.row_bags.specs.Bags.{rows_of};
-ghost use Rattle.to_stream.specs.Turns.{State, shown, near, out, taken, next, HasRoom, HasRoomFor, answers_of};
+ghost use Rattle.to_stream.specs.Turns.{State, shown, near, out, ticked, next, HasRoom, answers_of};
 ghost use Rattle.to_stream.specs.Law.{Stands, StepLaw};
 
 use column::Batch;
 use op_queue::Item;
-use row_bags::{Net, RowBag};
+use row_bags::{Net, RowList};
 use std::alloc::{AllocError, Global};
 use std::marker::Model;
 use values::{Operator, Row, copy_row};
 
-/// The state of a root: what entered and left since the last tick (Istream and Dstream), or the whole relation (Rstream).
+/// The state of a root: what entered and left since the last tick, and of Rstream the whole relation at that tick.
 #[derive(Drop)]
 pub struct ToStream {
     operator: Operator,
     net: Net,
-    whole: RowBag,
+    whole: RowList,
     alloc: Global,
 }
 
@@ -43,7 +46,7 @@ impl ToStream {
         ToStream {
             operator,
             net: Net::new(alloc),
-            whole: RowBag::new(alloc),
+            whole: RowList::new(alloc),
             alloc,
         }
     }
@@ -85,7 +88,7 @@ impl ToStream {
                 Ok(rows)
             }
             Operator::Rstream => {
-                let rows = self.whole.rows(alloc)?;
+                let rows = self.whole.renewed(alloc, &self.net)?;
                 Ok(rows)
             }
         }
@@ -96,21 +99,20 @@ impl ToStream {
         ensures { OnOk result (self.new ≡ next self.old item.now) }
     {
         match item {
-            Item::Rows(_, batch) => self.take(batch)?,
-            Item::Tick(_) => self.net = Net::new(self.alloc),
+            Item::Rows(_, batch) => self.net.apply(batch)?,
+            Item::Tick(_) => self.tick()?,
         }
         Ok(())
     }
 
-    fn take(&mut self, batch: &Batch) -> Result<(), AllocError>
-        requires { HasRoomFor self.old batch.now }
-        ensures { OnOk result (self.new ≡ taken self.old.operator self.old batch.now) }
+    /// The relation now is that of the last tick.
+    fn tick(&mut self) -> Result<(), AllocError>
+        ensures { OnOk result (self.new ≡ ticked self.old) }
     {
-        match self.operator {
-            Operator::Istream => self.net.apply(batch)?,
-            Operator::Dstream => self.net.apply(batch)?,
-            Operator::Rstream => self.whole.apply(batch)?,
+        if let Operator::Rstream = self.operator {
+            self.whole.renew(self.alloc, &self.net)?;
         }
+        self.net = Net::new(self.alloc);
         Ok(())
     }
 }

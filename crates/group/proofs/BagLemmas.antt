@@ -1,5 +1,5 @@
 -- Bags of rows: their counts, and signed rows that turn some parts of a bag into others.
-use Rattle.std.proofs.Common.{◌≡◌, ℕ, zero, suc, ◌+◌, ◌-◌, ◌<◌, ◌≤◌, Bool, true, false, cond, not, ◌||◌, List, [], ◌∷◌, ◌++◌, map, filter, take, length, ◌⊎◌, inl, inr, ⊎_elim, refl, sym, ap, ap₂, ◌∙◌, subst, arith, append_assoc, append-nil, true≢false}
+use Rattle.std.proofs.Common.{◌≡◌, ℕ, zero, suc, ◌+◌, ◌<◌, ◌≤◌, Bool, true, false, cond, ◌||◌, List, [], ◌∷◌, ◌++◌, filter, take, refl, sym, ap, ap₂, ◌∙◌, subst, arith, append_assoc, true≢false}
 use Rattle.std.specs.List.{flat_map, list_any}
 use Rattle.values.specs.Row.{Row, row_cmp}
 use Rattle.values.specs.Bag.{is_same, copies, distinct, without}
@@ -7,8 +7,8 @@ use Rattle.values.specs.Perm.{Perm, same, keep, flip, join}
 use Rattle.values.proofs.Order.{row_order}
 use Rattle.values.proofs.Bags.{same_is, same_itself}
 use Rattle.values.proofs.Perms.{perm-same_bag, copies-distinct, capped}
-use Rattle.op_queue.specs.Signed.{weigh, gain, loss, up, down, Same, Adds, Legal, Turns}
-use Rattle.op_queue.proofs.SignedLemmas.{weigh-append, weigh-map, Same-refl, Same-sym, Same-trans, Turns-none, Turns-append, Turns-same}
+use Rattle.op_queue.specs.Signed.{weigh, up, down, Same, Adds, Legal, Turns}
+use Rattle.op_queue.proofs.SignedLemmas.{weigh-append, Same-refl, Same-trans, Turns-none, Turns-append, Turns-same}
 use Rattle.group.specs.Laws.{count}
 
 -- COUNTS

@@ -1,25 +1,24 @@
 -- What is kept of a group counts its rows, through each row that enters or leaves.
-use Rattle.std.proofs.Common.{◌≡◌, ℕ, ℤ, zero, suc, ◌+◌, ◌-◌, ◌<◌, ◌≤◌, pos, negsuc, neg_ℤ, ◌+ℤ◌, ◌-ℤ◌, Bool, true, false, cond, nat_lt, Option, Some, None, unwrap_or, List, [], ◌∷◌, map, filter, length, replicate, refl, sym, ap, ap₂, ◌∙◌, subst, arith, true≢false, ltb-true, ltb-false}
+use Rattle.std.proofs.Common.{◌≡◌, ℕ, ℤ, zero, suc, ◌+◌, ◌-◌, ◌<◌, ◌≤◌, pos, negsuc, neg_ℤ, ◌+ℤ◌, ◌-ℤ◌, Bool, true, false, cond, nat_lt, Option, Some, None, unwrap_or, List, [], ◌∷◌, length, replicate, refl, sym, ap, ap₂, ◌∙◌, subst, arith, ltb-true, ltb-false}
 use Rattle.std.specs.declared.cmp.Ordering.{Ordering}
 use Rattle.std.specs.declared.cmp.Ordering.TheVariants.{Less, Equal, Greater}
-use Rattle.std.specs.Ordering.{is_eq, eq_by_cmp, match_ordering, ordering_reverse}
+use Rattle.std.specs.Ordering.{is_eq, match_ordering, ordering_reverse}
 use Rattle.std.specs.Map.{lookup, set_value, remove_entry, keys_of}
 use Rattle.std.specs.BTreeMap.{is_at, insert_entry}
-use Rattle.std.specs.Option.{is_some, IsSome}
-use Rattle.std.specs.Cmp.{eq_by_cmp_equiv, IsTotalOrder}
+use Rattle.std.specs.Option.{is_some}
+use Rattle.std.specs.Cmp.{eq_by_cmp_equiv}
 use Rattle.std.specs.List.{AllByRecursion}
 use Rattle.std.specs.List.Sorted.{IsStrictlySortedBy}
 use Rattle.std.proofs.lemmas.Map.{lookup-set_value, lookup-remove_entry, keys-set_value}
 use Rattle.std.proofs.lemmas.Map.Keys.{IsDistinct-from_sorted}
 use Rattle.std.proofs.lemmas.Int.{ints}
-use Rattle.values.specs.Bag.{IsExactOrder, is_same}
-use Rattle.values.specs.Row.{Row, row_cmp, same_row, value_cmp}
+use Rattle.values.specs.Bag.{IsExactOrder}
+use Rattle.values.specs.Row.{Row, same_row, value_cmp}
 use Rattle.values.proofs.Order.{value_order}
 use Rattle.values.specs.declared.resolved.Item.{Item}
-use Rattle.op_queue.specs.Signed.{weigh, gain, loss, up, down, Same, Adds}
-use Rattle.op_queue.proofs.SignedLemmas.{Same-refl}
+use Rattle.op_queue.specs.Signed.{weigh, Same, Adds}
 use Rattle.group.specs.Groups.{GroupBy, key_in}
-use Rattle.group.specs.Cells.{Values, count_of, one_more, one_less, values_by, TallyState, tally_zero, tally_by, tally_after, partly, tallies_after, number_of, keeps, signed_by, CellState, cell_zero, cell_after}
+use Rattle.group.specs.Cells.{Values, count_of, one_more, one_less, values_by, TallyState, tally_zero, tally_by, tally_after, tallies_after, number_of, keeps, CellState, cell_zero, cell_after}
 use Rattle.group.specs.Laws.{members, some_by, over_by, under_by, copy_by, some_count, HoldsNumbers, Tallies, AllTally, Counts}
 use Rattle.group.proofs.KeyLemmas.{lookup-insert_entry, same_test, same_turned, same_key, key_itself}
 use Rattle.group.proofs.BagLemmas.{weigh-filter}

@@ -1,17 +1,14 @@
 -- The groups of all columns are each row once.
-use Rattle.std.proofs.Common.{◌≡◌, ℕ, ℤ, zero, suc, ◌+◌, ◌<◌, ◌≤◌, Bool, true, false, cond, Option, Some, None, List, [], ◌∷◌, map, length, get_or, refl, sym, ap, ap₂, ◌∙◌, subst, arith}
+use Rattle.std.proofs.Common.{◌≡◌, ℕ, zero, suc, ◌<◌, Bool, true, false, cond, None, List, [], ◌∷◌, map, length, refl, sym, ap, ap₂, ◌∙◌, arith}
 use Rattle.std.specs.List.{range_with_len, All, list_any}
 use Rattle.std.proofs.lemmas.List.{ext_get_or}
 use Rattle.std.proofs.lemmas.List.FromFn.{length-map-range_with_len, get_or-map-range_with_len}
 use Rattle.values.specs.Row.{Row, row_cmp, value_at}
 use Rattle.values.specs.Bag.{is_same, distinct}
-use Rattle.values.specs.Relation.{item_value, key_of, keys_of as keys_in}
-use Rattle.values.specs.Relation as relations
-use Rattle.values.specs.Resolved.{column_of, columns_of, items_of}
-use Rattle.values.specs.declared.resolved.Column.{Column}
-use Rattle.values.specs.declared.resolved.Item.{Item}
+use Rattle.values.specs.Relation.{item_value, key_of}
+use Rattle.values.specs.Resolved.{columns_of, items_of}
 use Rattle.values.specs.declared.resolved.Item.TheVariants.{Key}
-use Rattle.group.specs.Groups.{GroupBy, grouped, key_in, column_at, once_each}
+use Rattle.group.specs.Groups.{grouped, key_in, column_at, once_each}
 use Rattle.group.specs.Laws.{row_at}
 use Rattle.group.proofs.ValueLemmas.{key-alone}
 

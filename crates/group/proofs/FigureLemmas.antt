@@ -1,7 +1,6 @@
 -- The figures of a group are the values of the list's items.
-use Rattle.std.proofs.Common.{◌≡◌, ℕ, ℤ, zero, suc, ◌+◌, ◌-◌, ◌<◌, ◌≤◌, ◌^◌, pos, negsuc, neg_ℤ, ◌+ℤ◌, ◌-ℤ◌, ◌≤ℤ◌, ◌<ℤ◌, Bool, true, false, cond, Option, Some, None, unwrap_or, List, [], ◌∷◌, map, filter, length, fold, filter_map, ◌⊎◌, ⊎_elim, inl, inr, refl, sym, ap, ap₂, ◌∙◌, subst, arith, true≢false}
-use Rattle.std.specs.declared.cmp.Ordering.{Ordering}
-use Rattle.std.specs.declared.cmp.Ordering.TheVariants.{Less, Equal, Greater}
+use Rattle.std.proofs.Common.{◌≡◌, ℕ, ℤ, zero, suc, ◌+◌, ◌-◌, ◌<◌, ◌≤◌, ◌^◌, pos, negsuc, ◌+ℤ◌, ◌-ℤ◌, ◌≤ℤ◌, ◌<ℤ◌, Bool, true, false, cond, Option, Some, None, unwrap_or, List, [], ◌∷◌, map, length, fold, ◌⊎◌, ⊎_elim, inl, inr, refl, sym, ap, ap₂, ◌∙◌, subst, arith}
+use Rattle.std.specs.declared.cmp.Ordering.TheVariants.{Less, Greater}
 use Rattle.std.specs.Ordering.{is_eq, int_cmp, int_eq, ordering_reverse}
 use Rattle.std.specs.Map.{lookup, keys_of}
 use Rattle.std.specs.BTreeMap.{is_at}
@@ -10,12 +9,11 @@ use Rattle.std.specs.List.Sorted.{IsStrictlySortedBy}
 use Rattle.std.specs.Int.{int_min, int_max}
 use Rattle.std.specs.Option.{option_map}
 use Rattle.std.specs.Cmp.{int_cmp_is}
-use Rattle.std.proofs.lemmas.Cmp.{int_ranked, tied_itself}
+use Rattle.std.proofs.lemmas.Cmp.{int_ranked}
 use Rattle.std.proofs.lemmas.Int.{ints, clamps, fold-int_min_bounds, fold-int_min_reached, fold-int_max_bounds, fold-int_max_reached}
-use Rattle.values.specs.Bag.{IsExactOrder}
-use Rattle.values.specs.Row.{Row, value_cmp, value_at}
+use Rattle.values.specs.Row.{Row, value_cmp}
 use Rattle.values.specs.Value.{clamp_answer}
-use Rattle.values.specs.Condition.{Column as PlainColumn, field}
+use Rattle.values.specs.Condition.{field}
 use Rattle.values.specs.Relation.{numbers, item_value}
 use Rattle.values.specs.Resolved.{column_of, item_of, items_of}
 use Rattle.values.specs.declared.resolved.Column.{Column}
@@ -23,9 +21,8 @@ use Rattle.values.specs.declared.resolved.Item.{Item}
 use Rattle.values.specs.declared.resolved.Item.TheVariants.{Key, CountAll, Count, Sum, Min, Max}
 use Rattle.values.proofs.Order.{value_order}
 use Rattle.op_queue.specs.Signed.{weigh}
-use Rattle.group.specs.declared.cells.Figure.{Figure}
-use Rattle.group.specs.Cells.{Values, TallyState, number_of, figure, figures, sum_figure, least, greatest, key_or_null, shown_figure, clamped_or, CellState}
-use Rattle.group.specs.Laws.{some_by, over_by, under_by, copy_by, some_count, HoldsNumbers, Tallies, AllTally, Counts}
+use Rattle.group.specs.Cells.{Values, TallyState, number_of, figure, figures, sum_figure, least, greatest, key_or_null, shown_figure}
+use Rattle.group.specs.Laws.{some_by, over_by, under_by, copy_by, some_count, HoldsNumbers, Tallies, AllTally}
 use Rattle.group.proofs.KeyLemmas.{same_key, key_itself}
 use Rattle.group.proofs.CountLemmas.{total_more}
 

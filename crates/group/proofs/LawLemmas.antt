@@ -1,25 +1,23 @@
 -- The law of one step: rows, and ticks.
-use Rattle.std.proofs.Common.{◌≡◌, ℕ, ℤ, zero, suc, ◌+◌, ◌<◌, ◌≤◌, ◌^◌, pos, Bool, true, false, cond, not, nat_lt, ◌||◌, Option, Some, None, List, [], ◌∷◌, ◌++◌, map, filter, length, fold, get_or, ⊎_elim, refl, sym, ap, ap₂, ◌∙◌, subst, arith, true≢false, lt-ltb, ltb-false}
-use Rattle.std.specs.declared.cmp.Ordering.TheVariants.{Less, Equal, Greater}
+use Rattle.std.proofs.Common.{◌≡◌, ℕ, ℤ, zero, suc, ◌+◌, ◌<◌, ◌≤◌, ◌^◌, pos, Bool, true, false, cond, not, nat_lt, ◌||◌, Option, Some, None, List, [], ◌∷◌, ◌++◌, map, filter, length, ⊎_elim, refl, sym, ap, ap₂, ◌∙◌, subst, arith, true≢false, lt-ltb, ltb-false}
+use Rattle.std.specs.declared.cmp.Ordering.TheVariants.{Less, Equal}
 use Rattle.std.specs.Ordering.{is_eq, is_lt, int_cmp}
 use Rattle.std.specs.Cmp.{int_cmp_is}
-use Rattle.std.specs.List.{flat_map, list_any, range_with_len}
+use Rattle.std.specs.List.{flat_map, list_any}
 use Rattle.std.specs.List.Sorted.{IsStrictlySortedBy}
-use Rattle.std.specs.Map.{keys_of}
 use Rattle.std.proofs.lemmas.Int.{ints}
 use Rattle.std.proofs.lemmas.List.{ext_get_or, length-map}
 use Rattle.std.proofs.lemmas.List.FromFn.{length-map-range_with_len, get_or-map-range_with_len}
 use Rattle.values.specs.Row.{Row, row_cmp, same_row, value_at}
-use Rattle.values.specs.Bag.{is_same, distinct}
+use Rattle.values.specs.Bag.{is_same}
 use Rattle.values.specs.declared.resolved.Column.{Column}
 use Rattle.values.specs.declared.resolved.Item.{Item}
 use Rattle.op_queue.specs.Signed.{weigh, Same, Adds, Legal, Turns}
 use Rattle.op_queue.proofs.SignedLemmas.{weigh-append, Same-refl, Same-sym, Same-trans, Same-from_none, Adds-rest, Legal-front, Legal-rest, Turns-none, Turns-append, Turns-same}
-use Rattle.group.specs.declared.cells.Figure.{Figure}
 use Rattle.group.specs.Groups.{GroupBy, grouped, key_in, no_columns}
-use Rattle.group.specs.Cells.{Held, held, held_cmp, TallyState, CellState, cell_zero, cell_after, showing, figures, shown_figure}
-use Rattle.group.specs.Turns.{GroupState, cell_of, row_key, row_after, rows_after, TouchedState, ShownState, excerpt, near_at, row_now, fitted, same_shown, signed_row, swap_of, outputs, shown_now, shown_after, first_touched, beginning, closed_state}
-use Rattle.group.specs.Laws.{count, members, keys_at, is_key, row_of, AllTally, Counts, shown_list, shown_rows, touched_keys, IsWide, Stands}
+use Rattle.group.specs.Cells.{Held, held, held_cmp, TallyState, CellState, cell_zero, cell_after, figures, shown_figure}
+use Rattle.group.specs.Turns.{GroupState, cell_of, row_key, row_after, rows_after, excerpt, near_at, row_now, fitted, same_shown, signed_row, swap_of, outputs, shown_now, first_touched, beginning, closed_state}
+use Rattle.group.specs.Laws.{count, members, keys_at, row_of, AllTally, Counts, shown_list, shown_rows, touched_keys, IsWide, Stands}
 use Rattle.group.proofs.KeyLemmas.{held_order, same_key, same_turned, cell-taken_in}
 use Rattle.group.proofs.BagLemmas.{row_is, row_itself, any_count, count_any, weigh-filter, count-filter, reread, flat_map-append, flat_map-chosen, turns_leave, turns_enter, turns_parts, after_row}
 use Rattle.group.proofs.CountLemmas.{counts_same, counts_at, counts_zero, members_same, members_other}

@@ -1,23 +1,23 @@
 -- The state after a row and after a tick, key by key.
-use Rattle.std.proofs.Common.{◌≡◌, ℕ, ℤ, zero, suc, ◌+◌, ◌<◌, ◌≤◌, pos, Bool, true, false, cond, ◌||◌, Option, Some, None, unwrap_or, List, [], ◌∷◌, ◌++◌, map, length, fold, ◌⊎◌, ⊎_elim, inl, inr, refl, sym, ap, ap₂, ◌∙◌, subst, arith, true≢false}
+use Rattle.std.proofs.Common.{◌≡◌, ℕ, zero, ◌+◌, ◌<◌, ◌≤◌, Bool, true, false, cond, ◌||◌, Option, Some, None, List, [], ◌∷◌, ◌++◌, map, length, fold, ◌⊎◌, ⊎_elim, inl, inr, refl, sym, ap, ◌∙◌, subst, arith}
 use Rattle.std.specs.declared.cmp.Ordering.{Ordering}
 use Rattle.std.specs.declared.cmp.Ordering.TheVariants.{Less, Equal, Greater}
 use Rattle.std.specs.Ordering.{is_eq, match_ordering, ordering_reverse}
-use Rattle.std.specs.Map.{lookup, set_value, remove_entry, keys_of}
+use Rattle.std.specs.Map.{set_value, keys_of}
 use Rattle.std.specs.BTreeMap.{is_at, insert_entry}
 use Rattle.std.specs.BTreeSet.{insert_key}
 use Rattle.std.specs.List.{AllByRecursion, flat_map, list_any}
 use Rattle.std.specs.List.Sorted.{IsStrictlySortedBy}
-use Rattle.values.specs.Row.{Row, row_cmp, same_row}
+use Rattle.values.specs.Row.{Row, row_cmp}
 use Rattle.values.specs.Bag.{is_same}
 use Rattle.values.specs.declared.resolved.Item.{Item}
 use Rattle.op_queue.specs.Signed.{weigh}
 use Rattle.group.specs.Groups.{GroupBy}
 use Rattle.group.specs.Cells.{Held, held, held_cmp, CellState, cell_zero, cell_after, showing}
-use Rattle.group.specs.Turns.{GroupState, has_key, cell_of, with_cell, taken_in, shown_in, shown_at, shown_after, TouchedState, ShownState, excerpt, near_at, row_now, shown_now, swap_of, outputs}
+use Rattle.group.specs.Turns.{has_key, cell_of, with_cell, taken_in, shown_at, shown_after, ShownState, excerpt, near_at, row_now, shown_now, swap_of, outputs}
 use Rattle.group.specs.Laws.{count}
-use Rattle.group.proofs.KeyLemmas.{held_order, same_key, key_itself, same_turned, at-remove_entry, cell-shown_in}
-use Rattle.group.proofs.BagLemmas.{row_is, row_itself}
+use Rattle.group.proofs.KeyLemmas.{held_order, same_key, same_turned, at-remove_entry, cell-shown_in}
+use Rattle.group.proofs.BagLemmas.{row_is}
 use Rattle.group.proofs.CountLemmas.{above_all, sorted-insert_entry, sorted-remove_entry, sorted-set_value}
 
 -- TOUCHED KEYS

@@ -1,17 +1,17 @@
 -- The groups of the definition, key by key, from the rows of each.
-use Rattle.std.proofs.Common.{◌≡◌, ℕ, ℤ, zero, suc, ◌+◌, ◌<◌, ◌≤◌, ◌^◌, pos, Bool, true, false, cond, nat_lt, ◌||◌, Option, Some, None, List, [], ◌∷◌, ◌++◌, map, filter, length, refl, sym, ap, ap₂, ◌∙◌, subst, arith, true≢false, le-ltb, lt-ltb}
+use Rattle.std.proofs.Common.{◌≡◌, ℕ, ℤ, zero, suc, ◌+◌, ◌<◌, ◌≤◌, Bool, true, false, cond, nat_lt, ◌||◌, Option, List, [], ◌∷◌, ◌++◌, map, filter, refl, sym, ap, ap₂, ◌∙◌, arith, lt-ltb}
 use Rattle.std.specs.List.{list_any, flat_map}
 use Rattle.values.specs.Row.{Row, row_cmp, same_row}
-use Rattle.values.specs.Bag.{is_same, copies, distinct}
+use Rattle.values.specs.Bag.{is_same, distinct}
 use Rattle.values.specs.Perm.{Perm}
-use Rattle.values.specs.Condition.{Column as PlainColumn, field}
-use Rattle.values.specs.Relation.{Item as PlainItem, item_value, key_of, keys_of as keys_in, group_row}
+use Rattle.values.specs.Condition.{field}
+use Rattle.values.specs.Relation.{Item as PlainItem, item_value, key_of, keys_of as keys_in}
 use Rattle.values.specs.Resolved.{column_of, columns_of, items_of}
 use Rattle.values.specs.declared.resolved.Column.{Column}
 use Rattle.values.proofs.Worlds.{same-item_value}
 use Rattle.values.proofs.Perms.{perm-map, capped}
 use Rattle.op_queue.specs.Signed.{weigh, Same}
-use Rattle.group.specs.Groups.{GroupBy, grouped, key_in, no_columns}
+use Rattle.group.specs.Groups.{GroupBy, grouped, key_in}
 use Rattle.group.specs.Laws.{count, members, keys_at, row_at, is_key, row_of}
 use Rattle.group.proofs.BagLemmas.{perm-of_counts, distinct_once, any_count, count_any, count-distinct, row_itself}
 

@@ -1,5 +1,5 @@
 -- What a state of groups stands for: the bag of rows that it has taken in, and the bag of rows that it has put out.
-use Rattle.std.specs.Prelude.{ℕ, zero, suc, ◌+◌, ◌<◌, ◌≤◌, ◌≡◌, ◌^◌, ℤ, pos, negsuc, ◌-ℤ◌, Option, Some, None, List, [], ◌∷◌, map, filter, length, Bool, true, false, cond}
+use Rattle.std.specs.Prelude.{ℕ, zero, suc, ◌<◌, ◌≤◌, ◌≡◌, ◌^◌, ℤ, pos, negsuc, ◌-ℤ◌, Option, Some, None, List, [], ◌∷◌, map, filter, length, Bool, true, cond}
 use Rattle.std.specs.List.{All, list_any, flat_map}
 use Rattle.std.specs.List.Sorted.{IsStrictlySortedBy}
 use Rattle.std.specs.Map.{lookup, keys_of}

@@ -1,12 +1,12 @@
 -- The turns of a group on plain states: its excerpt, outputs, change and next state.
-use Rattle.std.specs.Prelude.{ℕ, suc, ◌+◌, ◌<◌, ◌≤◌, ◌≡◌, ◌^◌, ℤ, pos, Option, Some, None, unwrap_or, List, [], ◌∷◌, ◌++◌, map, length, fold, Bool, true, false, cond, ◌||◌}
-use Rattle.std.specs.Option.{is_some, option_to_list, option_map}
+use Rattle.std.specs.Prelude.{ℕ, ◌+◌, ◌^◌, ℤ, pos, Option, Some, None, unwrap_or, List, [], ◌∷◌, ◌++◌, map, length, fold, Bool, true, false, cond, ◌||◌}
+use Rattle.std.specs.Option.{is_some}
 use Rattle.std.specs.Ordering.{int_cmp, is_lt}
 use Rattle.std.specs.Map.{lookup, set_value, remove_entry, values_of}
 use Rattle.std.specs.BTreeMap.{is_at, insert_entry}
 use Rattle.std.specs.BTreeSet.{insert_key}
 use Rattle.std.specs.List.{All, range_with_len}
-use Rattle.values.specs.Row.{Row, row_cmp, same_row, value_at}
+use Rattle.values.specs.Row.{Row, same_row, value_at}
 use Rattle.values.specs.declared.resolved.Column.{Column}
 use Rattle.values.specs.declared.resolved.Item.{Item}
 use Rattle.op_queue.specs.Entries.{Entry, RowAt, TickAt}

@@ -1,5 +1,4 @@
-use Rattle.std.proofs.Common.{◌≡◌, ◌∙◌, ◌++◌, ◌∷◌, [], ◌+◌, suc, sym, ap, ap₂, arith, get_or, List, take, length}
-use Rattle.values.specs.declared.resolved.Item.{Item}
+use Rattle.std.proofs.Common.{◌≡◌, ◌∙◌, ◌++◌, ◌∷◌, [], ◌+◌, suc, ap, ap₂, arith, get_or, List, take}
 use Rattle.values.specs.declared.resolved.Item.TheVariants.{Key}
 use Rattle.group.specs.declared.cells.Figure.{Figure}
 use Rattle.group.specs.Cells.{figure, figures}

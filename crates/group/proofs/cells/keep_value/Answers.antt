@@ -1,4 +1,4 @@
-use Rattle.std.proofs.Common.{◌≤◌, ◌+◌, ◌^◌}
+use Rattle.std.proofs.Common.{◌+◌, ◌^◌}
 use Rattle.group.proofs.RoomLemmas.{count_of-le}
 use Rattle.group.proofs.cells.keep_value.Goals as goal
 

@@ -1,4 +1,4 @@
-use Rattle.std.proofs.Common.{◌≡◌, ◌≤◌, ◌∙◌, ◌++◌, ◌-◌, ◌∷◌, [], ap, arith, List, map, drop}
+use Rattle.std.proofs.Common.{◌≤◌, ◌∙◌, ◌++◌, ◌-◌, ap, arith, List, map, drop}
 use Rattle.std.specs.List.{flat_map}
 use Rattle.column.specs.Rows.{signed}
 use Rattle.op_queue.specs.Entries.{RowAt}

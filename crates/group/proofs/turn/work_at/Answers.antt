@@ -1,5 +1,4 @@
-use Rattle.std.proofs.Common.{◌≡◌, ◌∙◌, sym, ap, subst, length, List, map}
-use Rattle.values.specs.Row.{Row}
+use Rattle.std.proofs.Common.{sym, subst, length, List, map}
 use Rattle.values.specs.declared.resolved.Item.{Item}
 use Rattle.column.specs.declared.batch.SignedRow.{SignedRow}
 use Rattle.column.specs.Rows.{signed, IsTable}

@@ -1,4 +1,4 @@
-use Rattle.std.proofs.Common.{◌∙◌, sym, subst, length, arith, ℤ}
+use Rattle.std.proofs.Common.{◌∙◌, sym, subst, arith, ℤ}
 use Rattle.std.proofs.lemmas.Int.{to_z-of_z}
 use Rattle.lane_kernels.specs.Lanes.{IsWithin}
 use Rattle.group.proofs.BatchLemmas.{count_within}

@@ -37,7 +37,7 @@ use Rattle.nets.specs.Operators.{Tell}
 use Rattle.query_nets.specs.Counts.{count}
 use Rattle.query_nets.specs.Queries.{Reads}
 use Rattle.query_nets.specs.Registrations.{IsTextWindow}
-use Rattle.query_nets.specs.Runs.{IsSpare, WindowStands}
+use Rattle.query_nets.specs.Runs.{WindowStands}
 use Rattle.query_nets.specs.Widths.{IsStateWide}
 use Rattle.query_nets.proofs.PlanWidths.{NodeFits}
 
@@ -208,9 +208,3 @@ reads_of place first log (First c) r =
     let up : c.place ≤ place = leb-true c.place place (same place ∙ le-leb place place (omega arith)) in
     let down : place ≤ c.place = leb-true place c.place (sym (same c.place) ∙ le-leb c.place c.place (omega arith)) in
     (omega (arith, up, down), ap (λ t. max t log.until) at_is)
-
--- THE ROOT
-pub root_spare : (op op2 : Operator) → IsSpare op (record { operator = op2; net = record { entered = []; left = [] }; whole = [] })
-root_spare Istream op2 = refl
-root_spare Dstream op2 = refl
-root_spare Rstream op2 = refl

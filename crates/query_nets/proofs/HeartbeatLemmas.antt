@@ -281,7 +281,7 @@ module _ (vs ws : List ℕ) (m : Machine) (q : Registered) (n : ℕ) (at : ℤ) 
         good = good2;
         inner = λ k kc. inner_beats k (operator_at os k) (r.cells k) kc (r.inner k kc);
         last = record {
-          runs = record { kind = r.last.runs.kind; state = r.last.runs.state; spare = r.last.runs.spare; queue = r.last.runs.queue ∙ relog o.left (log_at m q rootn) (log_at (after m (Heartbeat n at) 0) q rootn) fed };
+          runs = record { kind = r.last.runs.kind; state = r.last.runs.state; queue = r.last.runs.queue ∙ relog o.left (log_at m q rootn) (log_at (after m (Heartbeat n at) 0) q rootn) fed };
           operator = r.last.operator;
           wide = r.last.wide;
           few = subst (λ x. StaysWithin (most_rows q.nodes (rootn - 1)) x r.queue)

@@ -88,7 +88,6 @@ module _ (ws : List ℕ) (m : Machine) (q : Registered) where
         runs = record {
           kind = f.kind ∙ l.runs.kind;
           state = f.state ∙ l.runs.state;
-          spare = l.runs.spare;
           queue = ap (λ x. x ++ outs) l.runs.queue ∙ sym (left_more o o2 side outs (log_at m q (below_root q.nodes)) t.1 f (fed_side q (log_at m q (below_root q.nodes)) k (node_at q (below_root q.nodes)) o side takes l.inboxes));
         };
         operator = l.operator;

@@ -2,8 +2,6 @@
 use Rattle.std.proofs.Common.{◌≡◌, ℕ, zero, suc, ◌<◌, ◌≤◌, ◌^◌, Bool, true, false, cond, nat_le, List, [], ◌∷◌, ◌++◌, length, inl, inr, refl, sym, ap, ap₂, ◌∙◌, subst, arith, append-nil}
 use Rattle.std.proofs.lemmas.List.{length-map}
 use Rattle.values.specs.Row.{Row}
-use Rattle.values.specs.declared.resolved.Operator.{Operator}
-use Rattle.values.specs.declared.resolved.Operator.TheVariants.{Istream, Dstream, Rstream}
 use Rattle.column.specs.declared.batch.Side.{Side}
 use Rattle.column.specs.declared.batch.Side.TheVariants.{Left}
 use Rattle.op_queue.specs.Entries.{Entry, RowAt, TickAt}
@@ -14,10 +12,8 @@ use Rattle.op_queue.specs.Signed.{weigh, Legal}
 use Rattle.op_queue.specs.declared.item.Item.{Item}
 use Rattle.op_queue.specs.declared.item.Item.TheVariants.{Rows, Tick}
 use Rattle.op_queue.proofs.PathLemmas.{Leads-front_legal, Leads-take_rows, Leads-take_tick}
-use Rattle.row_bags.specs.Nets.{net_of}
-use Rattle.to_stream.specs.Turns.{HasRoom, State, near, next, out, taken}
-use Rattle.to_stream.specs.Law.{StandsAs}
-use Rattle.to_stream.proofs.StepLemmas.{Keeps, has_room, step_law}
+use Rattle.to_stream.specs.Turns.{HasRoom, State, near, next, out}
+use Rattle.to_stream.proofs.StepLemmas.{has_room, step_law}
 use Rattle.turn.specs.Turns.{Outs, Put, Answered, change_at, outs_at}
 use Rattle.turn.specs.declared.outcomes.Change.{Change}
 use Rattle.operators.specs.Operators.{PlainOperator, HasNamedColumns, IsFinished, waiting}
@@ -26,7 +22,7 @@ use Rattle.nets.specs.Nets.{Input, batch}
 use Rattle.nets.specs.Queries.{GoodRoot, before}
 use Rattle.nets.proofs.FrontLemmas.{front_instant}
 use Rattle.nets.proofs.RootLemmas.{After, after, root_takes_rows, root_takes_tick}
-use Rattle.query_nets.specs.Runs.{IsSpare, RunsRoot}
+use Rattle.query_nets.specs.Runs.{RunsRoot}
 use Rattle.query_nets.specs.Counts.{StaysWithin, count}
 use Rattle.query_nets.specs.Steps.{IsFirst, outs_at_first}
 use Rattle.query_nets.specs.Roots.{RootMay, RootStands, RootStep}
@@ -35,11 +31,6 @@ use Rattle.query_nets.proofs.ItemLemmas.{left_side, rest_waits}
 use Rattle.query_nets.proofs.PlanCounts.{count_is}
 
 -- ROOM
-
-keeps : (op : Operator) (s : State) (old now : List Row) → StandsAs op s old now → IsSpare op s → Keeps s old now
-keeps Istream s old now h e = record { net = inl h; whole = inr e }
-keeps Dstream s old now h e = record { net = inl h; whole = inr e }
-keeps Rstream s old now h e = record { net = inr e; whole = inl h }
 
 few_if : (b : Bool) (most : ℕ) (rows : List Row) → count rows ≤ most → count (cond b rows []) ≤ most
 unfolding weigh
@@ -58,7 +49,7 @@ has_item_room first start earlier d most o log s q given (Rows t b) r few =
     let g : GoodRoot first start earlier d.values s q d.bag d.opens given = r.good in
     let now : count g.whole ≤ most = stays_now q r.few in
     let old : count (before first d.values g.opens) ≤ 2 ^ 60 = few_before first (2 ^ 60) d.values r.room.at_ticks g.opens in
-    has_room s b g.last g.whole (keeps s.operator s g.last g.whole g.stands.stands r.runs.spare)
+    has_room s b g.last g.whole g.stands
     (omega (arith, count_is g.whole, count_is g.last, g.last_is.weighs (λ x. 1), now, old, r.room.always, few, length-map b (RowAt t)))
 
 pub root_may : RootMay
@@ -70,28 +61,9 @@ root_may first start earlier d most o log s q given side i r f = record {
 
 -- THE NEXT STATE
 
-same_operator : (op : Operator) (s : State) (b : List (Bool × Row)) → (taken op s b).operator ≡ s.operator
-same_operator Istream s b = refl
-same_operator Dstream s b = refl
-same_operator Rstream s b = refl
-
 next_operator : (s : State) (i : Item) → (next s i).operator ≡ s.operator
-next_operator s (Rows t b) = same_operator s.operator s b
+next_operator s (Rows t b) = refl
 next_operator s (Tick t) = refl
-
-spare_taken : (op : Operator) (s : State) (b : List (Bool × Row)) → IsSpare op s → IsSpare op (taken op s b)
-spare_taken Istream s b h = h
-spare_taken Dstream s b h = h
-spare_taken Rstream s b h = h
-
-spare_closed : (op : Operator) (s : State) → IsSpare op s → IsSpare op (record { operator = s.operator; net = net_of [] []; whole = s.whole })
-spare_closed Istream s h = h
-spare_closed Dstream s h = h
-spare_closed Rstream s h = refl
-
-spare_next : (s : State) (i : Item) → IsSpare s.operator s → IsSpare (next s i).operator (next s i)
-spare_next s (Rows t b) h = subst (λ op. IsSpare op (taken s.operator s b)) (sym (same_operator s.operator s b)) (spare_taken s.operator s b h)
-spare_next s (Tick t) h = spare_closed s.operator s h
 
 -- the operator after the turn
 runs_next : (o o2 : PlainOperator) (log : Closed) (s : State) (q : List (Entry Row)) (side : Side) (i : Item) (c : Change) → RunsRoot o log s q → side ≡ Left
@@ -99,7 +71,6 @@ runs_next : (o o2 : PlainOperator) (log : Closed) (s : State) (q : List (Entry R
 runs_next o o2 log s q side i c r l f h = record {
   kind = h.kind ∙ r.kind;
   state = subst (λ z. IsNext z side i c o2.state) r.state h.state;
-  spare = spare_next s i r.spare;
   queue = rest_waits o o2 log side i c f h ∙ ap (waiting o2 log) l;
 }
 
@@ -132,7 +103,7 @@ takes_item first start earlier d most s (Rows t b) rest given some h =
     let legal : Legal g.whole b = Leads-front_legal t b rest g.edge in
     let a : After g.whole b = after b g.whole legal in
     let made : GoodRoot first start earlier d.values (next s (Rows t b)) rest d.bag d.opens given =
-    root_takes_rows first start earlier d.values s (next s (Rows t b)) t b rest d.bag d.opens given (step_law s (Rows t b)) (same_operator s.operator s b) g (sym at) in
+    root_takes_rows first start earlier d.values s (next s (Rows t b)) t b rest d.bag d.opens given (step_law s (Rows t b)) refl g (sym at) in
     let few : StaysWithin most (count made.whole) rest =
     subst (λ n. StaysWithin most n rest) (same_count rest (Leads-take_rows t b rest a.adds g.edge) made.edge) (stays_after most t b rest g.whole a.bag legal a.adds h.few) in
     subst (λ z. Good first start earlier d most (next s (Rows t b)) rest z) (sym (append-nil given)) (record { good = made; few = few })

@@ -50,7 +50,7 @@ use Rattle.query_nets.specs.Rows.{AreSourceWidths}
 use Rattle.query_nets.specs.Registrations.{IsCoded, IsFit, IsFresh, IsTextWindow, MayMake, Starts, lengths_of}
 use Rattle.query_nets.specs.Runs.{Runs, RunsRoot}
 use Rattle.query_nets.specs.Widths.{IsKindWide, IsWide, width_at}
-use Rattle.query_nets.proofs.BeginLemmas.{SelectFits, WindowBegins, all_none, all_one, by_same, count_none, nothing_closed, places_fit, reads_of, root_spare, select_fits, window_begins}
+use Rattle.query_nets.proofs.BeginLemmas.{SelectFits, WindowBegins, all_none, all_one, by_same, count_none, nothing_closed, places_fit, reads_of, select_fits, window_begins}
 use Rattle.query_nets.proofs.GroupLemmas.{lean_begins}
 use Rattle.query_nets.proofs.HeartbeatLemmas.{closed_at_source}
 use Rattle.query_nets.proofs.PlanWidths.{AllFit, FitsAt, IsInner, NodeFits, all_widths, fit_at, inner_at, narrow_at, plan_fits, width_by}
@@ -385,7 +385,7 @@ module _ (vs : List ℕ) (m : Machine) (q : Registered) (fit : IsFit vs q.meanin
       good = good_here;
       inner = λ k kc. (let b = inner_here k kc in record { runs = b.runs; wide = b.wide; few = b.few; inboxes = b.inboxes });
       last = record {
-        runs = record { kind = root_here.kind; state = root_here.state; spare = root_spare root_here.told root_here.told; queue = nothing (operator_at os rootn) (log_at m q rootn) root_here.left };
+        runs = record { kind = root_here.kind; state = root_here.state; queue = nothing (operator_at os rootn) (log_at m q rootn) root_here.left };
         operator = root_here.is;
         wide = tt;
         few = omega (arith, whole_none, count_none);

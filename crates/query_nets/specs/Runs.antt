@@ -5,8 +5,6 @@ use Rattle.values.specs.Condition.{Column, Condition}
 use Rattle.values.specs.Relation.{Item}
 use Rattle.values.specs.Resolved.{columns_of, items_of}
 use Rattle.values.specs.declared.resolved.Item as listed
-use Rattle.values.specs.declared.resolved.Operator.{Operator}
-use Rattle.values.specs.declared.resolved.Operator.TheVariants.{Istream, Dstream, Rstream}
 use Rattle.values.specs.Window.{Element, Window, LastRows}
 use Rattle.column.specs.declared.batch.Side.TheVariants.{Left, Right}
 use Rattle.lane_kernels.specs.declared.condition.Step.{Step}
@@ -21,7 +19,6 @@ use Rattle.group.specs.Laws as groups
 use Rattle.join.specs.Pairs as pairs
 use Rattle.join.specs.Turns.{JoinState}
 use Rattle.join.specs.Laws as joins
-use Rattle.row_bags.specs.Nets.{net_of}
 use Rattle.to_stream.specs.Turns as root
 use Rattle.turn.specs.declared.kinds.Kind.TheVariants as kind
 use Rattle.operators.specs.Operators.{Belongs, PlainOperator, waiting}
@@ -128,14 +125,8 @@ Runs w width (plan.Distinct i) o log (at_unary q t b n) = RunsDistinct width o l
 Runs w width (plan.Distinct i) o log (at_join q r l m b n x y) = ⊥
 Runs w width (plan.ToStream i op) o log c = ⊥
 
--- THE ROOT, with its state and its queue; what its operator does not ask for stays empty
-abbrev pub IsSpare : Operator → root.State → Type 0
-IsSpare Istream s = s.whole ≡ []
-IsSpare Dstream s = s.whole ≡ []
-IsSpare Rstream s = s.net ≡ net_of [] []
-
+-- THE ROOT, with its state and its queue
 pub record RunsRoot (o : PlainOperator) (log : Closed) (s : root.State) (q : List (Entry Row)) : Type 0 where
   pub kind : o.kind ≡ kind.ToStream
   pub state : o.state ≡ state.Root s
-  pub spare : IsSpare s.operator s
   pub queue : q ≡ waiting o log Left

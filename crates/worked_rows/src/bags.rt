@@ -1,7 +1,7 @@
 //! Worked bags of rows.
 use crate::rows::{are, one, row};
-use column::Batch;
-use row_bags::{Net, RowBag, begins_with};
+use column::{Batch, SignedRow};
+use row_bags::{Net, RowBag, RowList, begins_with};
 use std::alloc::{AllocError, Global};
 use std::test::Fail;
 use values::{Row, Value};
@@ -18,10 +18,10 @@ fn three(alloc: Global, enters: bool, numbers: (i64, i64, i64)) -> Result<Batch,
 
 /// The rows 7, 5 and 5.
 fn filled(alloc: Global) -> Result<RowBag, AllocError> {
-    let batch = three(alloc, true, (7, 5, 5))?;
-    let _few = batch.len();
     let mut bag = RowBag::new(alloc);
-    bag.apply(&batch)?;
+    bag.add(row(7))?;
+    bag.add(row(5))?;
+    bag.add(row(5))?;
     Ok(bag)
 }
 
@@ -145,13 +145,18 @@ fn rows_of_other_widths_stand_side_by_side(rt: HostRuntime) -> Result<(), Fail> 
     Ok(())
 }
 
-/// The row 5 leaves, 6 and 5 come.
-fn net(alloc: Global) -> Result<Net, AllocError> {
-    let batch = three(alloc, false, (5, 6, 5))?;
+/// What entered and left with the first row, which leaves or enters, and the others, which enter.
+fn netted(alloc: Global, enters: bool, numbers: (i64, i64, i64)) -> Result<Net, AllocError> {
+    let batch = three(alloc, enters, numbers)?;
     let _few = batch.len();
     let mut net = Net::new(alloc);
     net.apply(&batch)?;
     Ok(net)
+}
+
+/// The row 5 leaves, 6 and 5 come.
+fn net(alloc: Global) -> Result<Net, AllocError> {
+    netted(alloc, false, (5, 6, 5))
 }
 
 fn entered_are(alloc: Global, net: &Net, numbers: &[i64]) -> Result<bool, AllocError> {
@@ -192,5 +197,94 @@ fn eight_left(alloc: Global) -> Result<bool, AllocError> {
 #[test]
 fn what_leaves_is_kept(rt: HostRuntime) -> Result<(), Fail> {
     assert!(rt; eight_left(rt.alloc())?);
+    Ok(())
+}
+
+/// The rows 5, 5 and 7 in a list.
+fn listed(alloc: Global) -> Result<RowList, AllocError> {
+    let net = netted(alloc, true, (7, 5, 5))?;
+    let mut list = RowList::new(alloc);
+    list.renew(alloc, &net)?;
+    Ok(list)
+}
+
+/// Whether the list with what entered and left is these rows.
+fn list_shows(
+    alloc: Global,
+    list: &RowList,
+    net: &Net,
+    numbers: &[i64],
+) -> Result<bool, AllocError> {
+    let rows = list.renewed(alloc, net)?;
+    Ok(are(&rows, numbers))
+}
+
+fn nothing_changes(alloc: Global) -> Result<bool, AllocError> {
+    let mut list = listed(alloc)?;
+    let none = Net::new(alloc);
+    list.renew(alloc, &none)?;
+    list_shows(alloc, &list, &none, &[5, 5, 7])
+}
+
+/// One of the two rows 5 leaves, 6 and 9 come.
+fn one_of_two_leaves(alloc: Global) -> Result<bool, AllocError> {
+    let list = listed(alloc)?;
+    let net = netted(alloc, false, (5, 6, 9))?;
+    list_shows(alloc, &list, &net, &[5, 6, 7, 9])
+}
+
+/// All rows leave.
+fn none_is_left(alloc: Global) -> Result<bool, AllocError> {
+    let mut list = listed(alloc)?;
+    let batch = Batch::from_rows(alloc, &[one(false, 7), one(false, 5), one(false, 5)])?;
+    let _few = batch.len();
+    let mut net = Net::new(alloc);
+    net.apply(&batch)?;
+    list.renew(alloc, &net)?;
+    let none = Net::new(alloc);
+    list_shows(alloc, &list, &none, &[])
+}
+
+#[test]
+fn a_list_becomes_what_left_and_entered_make_of_it(rt: HostRuntime) -> Result<(), Fail> {
+    assert!(rt; nothing_changes(rt.alloc())?);
+    assert!(rt; one_of_two_leaves(rt.alloc())?);
+    assert!(rt; none_is_left(rt.alloc())?);
+    Ok(())
+}
+
+/// The row comes to the list, or leaves it.
+fn takes(alloc: Global, list: &mut RowList, signed_row: SignedRow) -> Result<(), AllocError> {
+    let mut net = Net::new(alloc);
+    net.apply_one(signed_row)?;
+    list.renew(alloc, &net)
+}
+
+/// The rows of nine, of one and of no values, after each other; then the one of one value leaves.
+fn wide_rows_are_listed(alloc: Global) -> Result<usize, AllocError> {
+    let mut list = RowList::new(alloc);
+    takes(alloc, &mut list, one(true, 7))?;
+    for count in [9, 0] {
+        let row = ones(count);
+        takes(alloc, &mut list, SignedRow { enters: true, row })?;
+    }
+    takes(alloc, &mut list, one(false, 7))?;
+    let none = Net::new(alloc);
+    let rows = list.renewed(alloc, &none)?;
+    Ok(place_value(&rows))
+}
+
+/// The numbers of values of the rows as the digits of one number, the first row's last.
+fn place_value(rows: &[Row]) -> usize {
+    let mut number = 0_usize;
+    for row in rows.iter().rev() {
+        number = number.saturating_mul(10).saturating_add(row.len());
+    }
+    number
+}
+
+#[test]
+fn rows_of_other_widths_stand_in_one_list(rt: HostRuntime) -> Result<(), Fail> {
+    assert_eq!(rt; wide_rows_are_listed(rt.alloc())?, 90);
     Ok(())
 }

@@ -1,6 +1,9 @@
 //! Worked instants.
+ghost use Rattle.std.specs.Prelude.{◌≡◌, [], IfOk};
+ghost use Rattle.row_bags.specs.Nets.{net_of};
+
 use crate::rows::{one, row};
-use column::Batch;
+use column::{Batch, SignedRow};
 use op_queue::Item;
 use std::alloc::{AllocError, Global};
 use std::test::Fail;
@@ -24,7 +27,9 @@ fn taken(alloc: Global, operator: Operator, enters: bool) -> Result<ToStream, Al
 }
 
 /// A root that has taken the pair and the tick of its instant.
-fn ticked(alloc: Global, operator: Operator, enters: bool) -> Result<ToStream, AllocError> {
+fn ticked(alloc: Global, operator: Operator, enters: bool) -> Result<ToStream, AllocError>
+    ensures { IfOk result (λ root. root.net ≡ net_of [] []) }
+{
     let mut root = taken(alloc, operator, enters)?;
     root.apply(&Item::Tick(3))?;
     Ok(root)
@@ -88,5 +93,32 @@ fn dstream_answers_what_left(rt: HostRuntime) -> Result<(), Fail> {
 #[test]
 fn rstream_answers_the_whole(rt: HostRuntime) -> Result<(), Fail> {
     assert!(rt; next_shows(rt.alloc(), Operator::Rstream, true, &[5, 7])?);
+    Ok(())
+}
+
+/// What Rstream answers once it has shown 5 and 7, and these rows have come or left.
+fn whole_shows(alloc: Global, rows: &[SignedRow], numbers: &[i64]) -> Result<bool, AllocError> {
+    let mut root = ticked(alloc, Operator::Rstream, true)?;
+    let batch = Batch::from_rows(alloc, rows)?;
+    let _few = batch.len();
+    root.apply(&Item::Rows(4, batch))?;
+    shows(alloc, &root, numbers)
+}
+
+/// 5 leaves and comes again, and 6 comes twice.
+fn comes_again(alloc: Global) -> Result<bool, AllocError> {
+    let rows = [one(false, 5), one(true, 6), one(true, 5), one(true, 6)];
+    whole_shows(alloc, &rows, &[5, 6, 6, 7])
+}
+
+fn all_leave(alloc: Global) -> Result<bool, AllocError> {
+    let rows = [one(false, 7), one(false, 5)];
+    whole_shows(alloc, &rows, &[])
+}
+
+#[test]
+fn rstream_answers_the_whole_after_rows_that_leave_and_come(rt: HostRuntime) -> Result<(), Fail> {
+    assert!(rt; comes_again(rt.alloc())?);
+    assert!(rt; all_leave(rt.alloc())?);
     Ok(())
 }

@@ -7,8 +7,6 @@ use Rattle.values.specs.Condition.{Column, Condition, And, keeps, is_known_true}
 use Rattle.values.specs.Resolved.{columns_of, window_of}
 use Rattle.values.specs.Window.{Element}
 use Rattle.values.specs.Window as shown
-use Rattle.values.specs.declared.resolved.Operator.{Operator}
-use Rattle.values.specs.declared.resolved.Operator.TheVariants.{Istream, Dstream, Rstream}
 use Rattle.values.specs.declared.resolved.Window.{Window}
 use Rattle.values.specs.declared.resolved.Window.TheVariants as window
 use Rattle.values.proofs.Split.{keeps-and}

@@ -138,7 +138,7 @@ ready_by o log log2 l r = ap₂ first_ready (ap (λ es. cond (usable o.state Lef
 
 -- A HEARTBEAT
 module _ (m : Machine) (s : ℕ) (at : ℤ) (accepted : first_fault m (Heartbeat s at) ≡ None) (queues : QueuesGain (slice_get m.streams s) at) (arrival : (n : ℕ) → IsByArrival (elements_at m.streams n)) (q : Registered) where
-  left_more : (node : plan.Node) (o : PlainOperator) → HasInboxes q (stream_log m.streams (source_of q node)) node o
+  pub left_more : (node : plan.Node) (o : PlainOperator) → HasInboxes q (stream_log m.streams (source_of q node)) node o
       → (more : List (Entry Row)) × (entries_in o.left (stream_log (change s (closed_to at) m.streams) (source_of q node)) ≡ entries_in o.left (stream_log m.streams (source_of q node)) ++ more)
   left_more (Window j) o h =
       let b = place_beat m.streams s at queues (accepted_later m s at accepted) arrival q.first (place_of q j) in
@@ -170,13 +170,13 @@ module _ (m : Machine) (s : ℕ) (at : ℤ) (accepted : first_fault m (Heartbeat
   quiet (ToStream j op) o h away = ready_by o _ _ (fed_same o.left _ _ h.left) (fed_same o.right _ _ h.right)
 
 module _ (e : PlainEngine) (s : ℕ) (at : ℤ) (g : GoodEngine e) (h : IsHeartbeat e s at) where
-  arrivals : (ws : List ℕ) (q : Registered) (p : PlainQuery) → Goes e.machine q p → (n : ℕ) → IsByArrival (elements_at e.machine.streams n)
+  pub arrivals : (ws : List ℕ) (q : Registered) (p : PlainQuery) → Goes e.machine q p → (n : ℕ) → IsByArrival (elements_at e.machine.streams n)
   arrivals ws q p goes = (rows_stand.reads goes.widths e.machine q g.rows g.machine goes.sources).arrival
 
-  goes_at : (n : ℕ) (q : Registered) (p : PlainQuery) → query_at e n ≡ Some q → kept_at e n ≡ Running p → Goes e.machine q p
+  pub goes_at : (n : ℕ) (q : Registered) (p : PlainQuery) → query_at e n ≡ Some q → kept_at e n ≡ Running p → Goes e.machine q p
   goes_at n q p r kept = subst (IsKept e.machine q) kept (g.queries n q r)
 
-  inboxes : (n k : ℕ) (q : Registered) (p : PlainQuery) → query_at e n ≡ Some q → kept_at e n ≡ Running p → k < length q.nodes → HasInboxes q (log_at e.machine q k) (node_at q k) (operator_at p.operators k)
+  pub inboxes : (n k : ℕ) (q : Registered) (p : PlainQuery) → query_at e n ≡ Some q → kept_at e n ≡ Running p → k < length q.nodes → HasInboxes q (log_at e.machine q k) (node_at q k) (operator_at p.operators k)
   inboxes n k q p r kept within = let goes = goes_at n q p r kept in inboxes_of (widths_of e.machine.streams q) goes.widths e.machine q p.operators (goes.taken ++ p.answers) k goes.runs.runs within
 
   beaten_lease : (slots : List Slot) (a : Lease) → IsLease e a → IsLease (record (closed_over e s at) { slots = slots }) a
@@ -196,14 +196,14 @@ module _ (e : PlainEngine) (s : ℕ) (at : ℤ) (g : GoodEngine e) (h : IsHeartb
       }
 
   -- slots of no operator
-  beyond_in : (n k : ℕ) (q : Registered) (kept : Kept) → length q.nodes ≤ k → slot_in (closed_over e s at) n k (Some q) kept ≡ slot_in e n k (Some q) kept
+  pub beyond_in : (n k : ℕ) (q : Registered) (kept : Kept) → length q.nodes ≤ k → slot_in (closed_over e s at) n k (Some q) kept ≡ slot_in e n k (Some q) kept
   beyond_in n k q (Running p) l = let f : nat_lt k (length q.nodes) ≡ false = not_less k (length q.nodes) l in rw f refl where
     not_less : (a b : ℕ) → b ≤ a → nat_lt a b ≡ false
     not_less a b l = grind (arith, l)
   beyond_in n k q (Broken answers) l = refl
   beyond_in n k q Dropped l = refl
 
-  quiet_slot : (n k : ℕ) (q : Registered) (p : PlainQuery) → query_at e n ≡ Some q → kept_at e n ≡ Running p → k < length q.nodes → is_reading q s (node_at q k) ≡ false → slot_of (closed_over e s at) n k ≡ slot_of e n k
+  pub quiet_slot : (n k : ℕ) (q : Registered) (p : PlainQuery) → query_at e n ≡ Some q → kept_at e n ≡ Running p → k < length q.nodes → is_reading q s (node_at q k) ≡ false → slot_of (closed_over e s at) n k ≡ slot_of e n k
   quiet_slot n k q p r kept within away =
       let goes = goes_at n q p r kept in
       slot_is (closed_over e s at) n k q p r kept within

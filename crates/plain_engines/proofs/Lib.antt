@@ -15,3 +15,4 @@ pub mod RegisteredLemmas
 pub mod HistoryLemmas
 pub mod IdleLemmas
 pub mod AskLemmas
+pub mod RestingLemmas

@@ -1,5 +1,5 @@
 -- Slots of a table, of which one changes or those of a query leave.
-use Rattle.std.proofs.Common.{◌≡◌, ◌≢◌, ℕ, ◌<◌, Bool, true, false, not, ◌==◌, cond, inl, inr, ◌⊎◌, ⊎_elim, Option, Some, None, List, [], ◌∷◌, filter, refl, sym, ap, ◌∙◌, subst, eqb-true, eq-eqb}
+use Rattle.std.proofs.Common.{◌≡◌, ◌≢◌, ℕ, ◌<◌, Bool, true, false, not, ◌==◌, cond, inl, inr, ◌⊎◌, ⊎_elim, Option, Some, None, List, [], ◌∷◌, filter, is_none, unwrap_or, refl, sym, ap, ap₂, ◌∙◌, subst, eqb-true, eq-eqb}
 use Rattle.std.specs.Cmp.{ranks}
 use Rattle.envelope.specs.Fraction.{fraction_cmp}
 use Rattle.std.specs.Ordering.{MatchOrdering, bool_cmp, is_eq, match_ordering, nat_cmp, ordering_then, ordering_reverse}
@@ -156,6 +156,36 @@ module _ (table table2 : ℕ → ℕ → Option Slot) (slots : List Slot) (s : S
         only = put_only;
       } in
       subst (λ b. HasSlots table2 (cond b (put (without s slots) (with_instant s instant)) slots)) (sym t) new
+
+-- ONE OPERATOR that was told already is told again
+has_one : (slots : List Slot) (s : Slot) → has s slots ≡ true → (t : Slot) × (IsIn slots t × (slot_cmp t s ≡ Equal))
+has_one [] s h = absurd (cc)
+has_one (y ∷ slots) s h = by_test (is_eq (slot_cmp y s))
+    (λ b. (y, (inl refl, equal_by (slot_cmp y s) b)))
+    (λ f. let g : has s slots ≡ true = rw f at h in let later = has_one slots s g in (later.0, (inr later.1.0, later.1.1)))
+
+bool_equal : (a b : Bool) → bool_cmp a b ≡ Equal → a ≡ b
+bool_equal true true e = refl
+bool_equal true false e = absurd (cc)
+bool_equal false true e = absurd (cc)
+bool_equal false false e = refl
+
+same_instant : (s : Slot) (instant : Option ℕ) → slot_cmp (with_instant s instant) s ≡ Equal → with_instant s instant ≡ s
+same_instant s instant e =
+    let one = then_equal (bool_cmp (is_none instant) s.is_idle) _ e in
+    let two = then_equal (fraction_cmp s.slope.0 s.slope.0) _ one.1 in
+    let three = then_equal (nat_cmp (unwrap_or instant 0) s.instant) _ two.1 in
+    ap₂ (λ b t. record s { is_idle = b; instant = t }) (bool_equal (is_none instant) s.is_idle one.0) (nat_equal (unwrap_or instant 0) s.instant three.0)
+
+pub told_again : (table : ℕ → ℕ → Option Slot) (slots : List Slot) (s : Slot) (instant : Option ℕ) → HasSlots table slots → AreNumbered table → table s.query s.operator ≡ Some (with_instant s instant) → HasSlots table (changed s instant slots)
+told_again table slots s instant h named after = by_test (has s slots)
+    (λ b.
+    let one = has_one slots s b in
+    let same = same_operator one.0 s one.1.1 in
+    let is : with_instant s instant ≡ one.0 = some_slot (sym after ∙ ap (λ z. table z s.operator) (sym same.0) ∙ ap (λ z. table one.0.query z) (sym same.1) ∙ h.only one.0 one.1.0) in
+    let old : with_instant s instant ≡ s = same_instant s instant (ap (λ z. slot_cmp z s) is ∙ one.1.1) in
+    changed_slots table table slots s instant h named (after ∙ ap Some old) after (λ n k ne. refl))
+    (λ f. rw f h)
 
 -- A QUERY'S SLOTS leave
 pub left_slots : (table table2 : ℕ → ℕ → Option Slot) (slots : List Slot) (query : ℕ) → HasSlots table slots → AreNumbered table → ((k : ℕ) → table2 query k ≡ None) → ((n k : ℕ) → n ≢ query → table2 n k ≡ table n k)

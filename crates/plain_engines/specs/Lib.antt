@@ -3,3 +3,4 @@ pub mod Promises
 pub mod Calls
 pub mod Histories
 pub mod Asks
+pub mod Resting

@@ -1,5 +1,6 @@
 -- A query that is added to an engine: what was asked of it before, and what the engine knows of itself afterwards.
-use Rattle.std.proofs.Common.{◌≡◌, ◌≢◌, ℕ, ◌+◌, ◌<◌, ◌++◌, inl, inr, Bool, false, ◌==◌, cond, Some, None, List, [], ◌∷◌, map, position, length, refl, sym, ap, ◌∙◌, subst, arith}
+use Rattle.std.proofs.Common.{◌≡◌, ◌≢◌, ℕ, ◌+◌, ◌<◌, ◌++◌, ◌⊎◌, ⊎_elim, zero, suc, inl, inr, Bool, true, false, ◌==◌, cond, Some, None, List, [], ◌∷◌, map, position, length, refl, sym, ap, ◌∙◌, subst, arith}
+use Rattle.std.specs.Prelude.{slice_get}
 use Rattle.std.proofs.lemmas.Bool.{ne_eqb}
 use Rattle.std.proofs.lemmas.List.{map-append, length-map}
 use Rattle.std.proofs.lemmas.Option.{slice_get_within}
@@ -11,16 +12,17 @@ use Rattle.reference.specs.Commands.{register_tests}
 use Rattle.reference.specs.Machine.{Machine, Registered, Stream}
 use Rattle.reference.specs.Named.{name_of_registered}
 use Rattle.reference.proofs.NamedLemmas.{registered-place, registered_new}
-use Rattle.query_nets.specs.Queries.{PlainQuery}
+use Rattle.query_nets.specs.Queries.{PlainQuery, node_at}
 use Rattle.query_nets.specs.Registrations.{HaveColumnNames}
 use Rattle.answer_bounds.specs.Bounds.{HaveFewClosed}
 use Rattle.ready_list.specs.Slots.{without_query}
 use Rattle.ready_list.specs.declared.slots.Slot.{Slot}
-use Rattle.plain_engines.specs.Calls.{registered, with_query}
+use Rattle.plain_engines.specs.Calls.{is_reading, registered, with_query}
 use Rattle.plain_engines.specs.Engines.{GoodEngine, IsIn, Kept, Lease, PlainEngine, Running, kept_at, query_at}
 use Rattle.plain_engines.proofs.AskLemmas.{may_ask}
 use Rattle.plain_engines.proofs.PromiseLemmas.{is_slot}
 use Rattle.plain_engines.proofs.RegisteredLemmas.{kept_before, kept_more, more_here}
+use Rattle.leases.specs.Readers.{HasSource, HaveCome, ListsReaders, reader}
 use Rattle.leases.specs.Registering.{IsNewQuery, with_first}
 use Rattle.leases.specs.Shown.{engine_in}
 use Rattle.leases.specs.Sound.{IsSound, is_gone}
@@ -28,9 +30,11 @@ use Rattle.leases.specs.Views.{HasKind, engine_of, kept_of, lease_of, query_of}
 use Rattle.leases.specs.declared.given.Given.{Given}
 use Rattle.leases.specs.declared.kept.KeptQuery.{KeptQuery}
 use Rattle.leases.specs.declared.kept.KeptQuery.TheVariants as code
+use Rattle.leases.specs.declared.reader.Reader.{Reader}
 use Rattle.leases.specs.declared.registered.Registration.{Registration}
 use Rattle.leases.specs.declared.state.State.{State}
 use Rattle.leases.proofs.LookLemmas.{many_slopes}
+use Rattle.leases.proofs.ReaderLemmas.{has_source}
 use Rattle.leases.proofs.RegisterLemmas.{all_put, new_slot_is}
 
 -- WHAT STANDS ALREADY is of other queries
@@ -71,6 +75,9 @@ module _ (e : PlainEngine) (q : Registered) (p : PlainQuery) (slopes : List Frac
   pub new_operators : IsNewQuery e.machine.streams p slopes
   new_operators = record { operators = λ k l. (may_ask (registered e q p) good).operators (length e.machine.queries) k q p (record { registered = here; running = runs; within = omega (arith, l, all_sloped) }) }
 
+  pub new_sources : (k : ℕ) → k < length q.nodes → HasSource q (node_at q k)
+  new_sources k within = has_source (registered e q p) good (length e.machine.queries) k q p here runs within
+
   pub slots_are : (old : GoodEngine e) → with_first e.machine.streams p slopes (length e.machine.queries) (length slopes) e.slots ≡ (registered e q p).slots
   slots_are old =
       let put = all_put (with_query e q p) (length e.machine.queries) q p slopes 0 q.nodes e.slots
@@ -91,8 +98,8 @@ abbrev closed_in : PlainEngine → Type 0
 closed_in e = HaveFewClosed e.machine
 
 -- where nothing changed
-pub sound_still : (s t : State) → t.streams ≡ s.streams → t.names ≡ s.names → t.registered.items ≡ s.registered.items → t.kept.items ≡ s.kept.items → t.leases.items ≡ s.leases.items → t.next ≡ s.next → t.slots ≡ s.slots → IsSound s → IsSound t
-sound_still s t streams names queries kept leases next slots h =
+pub sound_still : (s t : State) → t.streams ≡ s.streams → t.names ≡ s.names → t.registered.items ≡ s.registered.items → t.kept.items ≡ s.kept.items → t.leases.items ≡ s.leases.items → t.next ≡ s.next → t.slots ≡ s.slots → t.readers.items ≡ s.readers.items → IsSound s → IsSound t
+sound_still s t streams names queries kept leases next slots readers h =
     let same : engine_in t ≡ engine_in s = rw (streams, queries, kept, leases, next, slots) refl in
     record {
       good = subst GoodEngine (sym same) h.good;
@@ -103,12 +110,31 @@ sound_still s t streams names queries kept leases next slots h =
       gone = subst (λ (e : PlainEngine). map (λ q. q.is_dropped) e.machine.queries ≡ map is_gone e.queries) (sym same) h.gone;
       columns = subst columns_in (sym same) h.columns;
       closed = subst closed_in (sym same) h.closed;
+      readers = subst (λ e. ListsReaders e t.readers.items) (sym same) (subst (ListsReaders (engine_in s)) (sym readers) h.readers);
     }
+
+-- the windows of a query that was added, and of those before it, are listed
+get_last : {X : Type 0} (xs : List X) (x y : X) (n : ℕ) → slice_get (xs ++ x ∷ []) n ≡ Some y → (slice_get xs n ≡ Some y) ⊎ ((n ≡ length xs) × (x ≡ y))
+get_last [] x y zero h = inr (refl, cc)
+get_last [] x y (suc n) h = absurd (cc)
+get_last (z ∷ xs) x y zero h = inl h
+get_last (z ∷ xs) x y (suc n) h = ⊎_elim (λ a. inl a) (λ a. inr (ap suc a.0, a.1)) (get_last xs x y n h)
+
+readers_with : (e : PlainEngine) (q : Registered) (p : PlainQuery) (old new : List Reader) → GoodEngine e → ListsReaders e old → HaveCome q (length e.machine.queries) (length q.nodes) old new → ListsReaders (registered e q p) new
+readers_with e q p old new g h come s n k is = ⊎_elim
+    (λ before.
+    let within : n < length e.machine.queries = slice_get_within e.machine.queries n is.query before in
+    let kept : kept_at (registered e q p) n ≡ kept_at e n = kept_before e.queries (Running p ∷ []) n (omega (arith, within, g.many)) in
+    come.stay (reader s n k) (h s n k (record { query = is.query; registered = before; kept = is.kept; running = sym kept ∙ is.running; within = is.within; reads = is.reads })))
+    (λ last.
+    subst (λ z. IsIn new (reader s z k)) (sym last.0)
+    (come.come s k (subst (λ (z : Registered). k < length z.nodes) (sym last.1) is.within) (subst (λ (z : Registered). is_reading z s (node_at z k) ≡ true) (sym last.1) is.reads)))
+    (get_last e.machine.queries q is.query n is.registered)
 
 -- where the query was added
 pub sound_with : (s t : State) (q : Registered) (p : PlainQuery) → IsSound s → GoodEngine (registered (engine_in s) q p) → q.is_dropped ≡ false → engine_in t ≡ registered (engine_in s) q p → t.leases.items ≡ s.leases.items → t.next ≡ s.next
-    → t.names ≡ s.names ++ Some q.name ∷ [] → IsSound t
-sound_with s t q p h good live same leases next names =
+    → t.names ≡ s.names ++ Some q.name ∷ [] → HaveCome q (length (engine_in s).machine.queries) (length q.nodes) s.readers.items t.readers.items → IsSound t
+sound_with s t q p h good live same leases next names readers =
     let e = engine_in s in
     record {
       good = subst GoodEngine (sym same) good;
@@ -122,6 +148,7 @@ sound_with s t q p h good live same leases next names =
       gone = subst (λ (f : PlainEngine). map (λ r. r.is_dropped) f.machine.queries ≡ map is_gone f.queries) (sym same) (gone_more e.machine.queries e.queries h.gone);
       columns = subst columns_in (sym same) h.columns;
       closed = subst closed_in (sym same) h.closed;
+      readers = subst (λ (f : PlainEngine). ListsReaders f t.readers.items) (sym same) (readers_with e q p s.readers.items t.readers.items h.good h.readers readers);
     }
   where
     named_more : (qs : List Registered) → map name_of_registered qs ++ Some q.name ∷ [] ≡ map name_of_registered (qs ++ q ∷ [])

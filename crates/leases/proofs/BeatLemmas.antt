@@ -1,10 +1,11 @@
--- A heartbeat: the slots of the windows over its stream, told one after the other, are what the engine's heartbeat makes of them.
-use Rattle.std.proofs.Common.{◌≡◌, ℕ, ℤ, suc, ◌+◌, ◌<◌, Bool, true, false, cond, Option, Some, None, Ok, Err, Result, List, [], ◌∷◌, ◌++◌, length, refl, sym, ap, ◌∙◌, subst, arith}
-use Rattle.std.specs.Prelude.{⊤, slice_get}
+-- A heartbeat: with the slots of the windows over its stream told that had nothing to take, one after the other, all are what the engine's heartbeat makes of
+-- them.
+use Rattle.std.proofs.Common.{◌≡◌, ◌≢◌, ℕ, ℤ, ◌==◌, true, cond, inl, inr, ◌⊎◌, ⊎_elim, Option, Some, None, Ok, Err, Result, List, [], ◌∷◌, ◌++◌, refl, sym, ap, ◌∙◌, subst, eq-eqb}
+use Rattle.std.specs.Prelude.{⊤}
 use Rattle.std.specs.List.{AllByRecursion}
+use Rattle.std.specs.Option.{option_to_list}
 use Rattle.std.specs.Result.{IsErrAnd}
 use Rattle.values.specs.Window.{Element}
-use Rattle.plan.specs.Nodes as plan
 use Rattle.reference.specs.Commands.{Heartbeat, after, change, closed_to, first_fault}
 use Rattle.reference.specs.Machine.{Registered, Stream}
 use Rattle.reference.specs.Places.{machine_of}
@@ -15,109 +16,187 @@ use Rattle.reference.proofs.StepLemmas.{lacked}
 use Rattle.stream_store.specs.Closing.{closing_at, closing_in, unless_faulty}
 use Rattle.query_nets.proofs.NewestLemmas.{registrations_stand}
 use Rattle.query_nets.specs.Queries.{PlainQuery}
-use Rattle.ready_list.specs.Slots.{changed}
+use Rattle.ready_list.specs.Slots.{slot, with_instant}
 use Rattle.ready_list.specs.declared.slots.Slot.{Slot}
 use Rattle.plain_engines.specs.Asks.{IsOperator}
-use Rattle.plain_engines.specs.Calls.{IsHeartbeat, beaten, closed_over, is_reading, retold, retold_queries, retold_query, retold_windows}
-use Rattle.plain_engines.specs.Engines as engines
-use Rattle.plain_engines.specs.Engines.{Dropped, GoodEngine, Kept, PlainEngine, Running, instant_at, kept_at, query_at, slot_at}
+use Rattle.plain_engines.specs.Calls.{IsHeartbeat, beaten, closed_over}
+use Rattle.plain_engines.specs.Engines.{GoodEngine, HasSlots, IsIn, PlainEngine, Running, instant_at, kept_at, query_at, slope_at, slot_at, slot_of}
+use Rattle.plain_engines.specs.Resting.{IsResting}
 use Rattle.answer_bounds.proofs.InstantLemmas.{few_closed_stand}
 use Rattle.plain_engines.proofs.AskLemmas.{may_ask}
+use Rattle.plain_engines.proofs.BackLemmas.{numbered}
 use Rattle.plain_engines.proofs.BeatenLemmas.{heartbeat_good}
+use Rattle.plain_engines.proofs.PromiseLemmas.{is_slot, slot_is}
+use Rattle.plain_engines.proofs.RestingLemmas.{beat_or_rest}
+use Rattle.plain_engines.proofs.SlotLemmas.{AreNumbered, changed_slots, numbers, told_again}
+use Rattle.plain_engines.proofs.TableLemmas.{updated, updated_here, updated_numbered, updated_there}
+use Rattle.plain_engines.proofs.TakeLemmas.{equal_slots}
+use Rattle.plan.proofs.Lists.{by_test}
 use Rattle.leases.specs.Asked.{HasOperatorAt}
-use Rattle.leases.specs.Readers.{instant_in, instant_of, readers_from, readers_in, told, told_all, windows_from, with_slots}
+use Rattle.leases.specs.Readers.{ListsReaders, instant_in, instant_of, reader, resting_slot, resting_slots, rests, told, told_all, with_slots}
 use Rattle.leases.specs.Shown.{engine_in, world_in}
 use Rattle.leases.specs.Sound.{IsSound}
+use Rattle.leases.specs.declared.reader.Reader.{Reader}
 use Rattle.leases.specs.declared.state.State.{State}
+use Rattle.leases.proofs.ReaderLemmas.{reads_on, resting_rests}
+use Rattle.leases.proofs.RetoldLemmas.{same_slots}
 use Rattle.leases.proofs.StreamLemmas.{at_streams}
 
--- WHAT IS TOLD
-told_append : (e : PlainEngine) (xs ys slots : List Slot) → told_all e (xs ++ ys) slots ≡ told_all e ys (told_all e xs slots)
-told_append e [] ys slots = refl
-told_append e (x ∷ xs) ys slots = told_append e xs ys (told e x slots)
+-- LISTS OF SLOTS
+in_left : {X : Type 0} (xs ys : List X) (x : X) → IsIn xs x → IsIn (xs ++ ys) x
+in_left [] ys x h = absurd h
+in_left (y ∷ xs) ys x (inl e) = inl e
+in_left (y ∷ xs) ys x (inr i) = inr (in_left xs ys x i)
+
+in_right : {X : Type 0} (xs ys : List X) (x : X) → IsIn ys x → IsIn (xs ++ ys) x
+in_right [] ys x h = h
+in_right (y ∷ xs) ys x h = inr (in_right xs ys x h)
+
+in_either : {X : Type 0} (xs ys : List X) (x : X) → IsIn (xs ++ ys) x → IsIn xs x ⊎ IsIn ys x
+in_either [] ys x h = inr h
+in_either (y ∷ xs) ys x (inl e) = inl (inl e)
+in_either (y ∷ xs) ys x (inr i) = ⊎_elim (λ j. inl (inr j)) (λ j. inr j) (in_either xs ys x i)
+
+all_of : (P : Slot → Type 0) (xs : List Slot) → ((x : Slot) → IsIn xs x → P x) → AllByRecursion P xs
+all_of P [] h = tt
+all_of P (x ∷ xs) h = (h x (inl refl), all_of P xs (λ y i. h y (inr i)))
+
+-- THE SLOTS that are told are slots of the engine
+resting_is : (e : PlainEngine) (n k : ℕ) (x : Slot) → IsIn (resting_slot e n k) x → slot_of e x.query x.operator ≡ Some x
+resting_is e n k x i = by_test (rests e n k)
+    (λ t. let j : IsIn (option_to_list (slot_of e n k)) x = rw t at i in of_slot (slot_of e n k) refl j)
+    (λ f. let j : IsIn [] x = rw f at i in absurd j)
+  where
+    of_slot : (o : Option Slot) → slot_of e n k ≡ o → IsIn (option_to_list o) x → slot_of e x.query x.operator ≡ Some x
+    of_slot None same j = absurd j
+    of_slot (Some y) same (inr j) = absurd j
+    of_slot (Some y) same (inl is) =
+        let here : slot_of e n k ≡ Some x = same ∙ ap Some is in
+        let at = numbered e n k x here in
+        ap (λ z. slot_of e z x.operator) at.0 ∙ ap (slot_of e n) at.1 ∙ here
+
+slots_are : (e : PlainEngine) (s : ℕ) (rs : List Reader) (x : Slot) → IsIn (resting_slots e s rs) x → slot_of e x.query x.operator ≡ Some x
+slots_are e s [] x i = absurd i
+slots_are e s (r ∷ rs) x i = ⊎_elim
+    (λ j. by_test (r.stream == s)
+    (λ t. let k : IsIn (resting_slot e r.query r.operator) x = rw t at j in resting_is e r.query r.operator x k)
+    (λ f. let k : IsIn [] x = rw f at j in absurd k))
+    (λ j. slots_are e s rs x j)
+    (in_either (cond (r.stream == s) (resting_slot e r.query r.operator) []) (resting_slots e s rs) x i)
+
+-- that of a window that rests is among them
+slot_comes : (e : PlainEngine) (s n k : ℕ) (rs : List Reader) (x : Slot) → IsIn rs (reader s n k) → rests e n k ≡ true → slot_of e n k ≡ Some x → IsIn (resting_slots e s rs) x
+slot_comes e s n k [] x i r is = absurd i
+slot_comes e s n k (y ∷ rs) x (inl same) r is =
+    let here : IsIn (cond (s == s) (resting_slot e n k) []) x = let t : (s == s) ≡ true = eq-eqb s s refl in rw (t, r, is) (inl refl) in
+    in_left (cond (y.stream == s) (resting_slot e y.query y.operator) []) (resting_slots e s rs) x
+    (subst (λ (z : Reader). IsIn (cond (z.stream == s) (resting_slot e z.query z.operator) []) x) (sym same) here)
+slot_comes e s n k (y ∷ rs) x (inr i) r is = in_right (cond (y.stream == s) (resting_slot e y.query y.operator) []) (resting_slots e s rs) x (slot_comes e s n k rs x i r is)
+
+-- WHAT IS TOLD: of each operator the slot is the one before or the one after, and it is the one before of those alone that are told still
+abbrev HasOne : List Slot → ℕ → ℕ → Type 0
+HasOne todo n k = (x : Slot) × (IsIn todo x × ((x.query ≡ n) × (x.operator ≡ k)))
+
+record ArePartly (e e2 : PlainEngine) (todo slots : List Slot) : Type 0 where
+  table : ℕ → ℕ → Option Slot
+  named : AreNumbered table
+  has : HasSlots table slots
+  each : (n k : ℕ) → (table n k ≡ slot_of e2 n k) ⊎ ((table n k ≡ slot_of e n k) × HasOne todo n k)
 
 instant_is : (e : PlainEngine) (n k : ℕ) (q : Registered) (p : PlainQuery) → query_at e n ≡ Some q → kept_at e n ≡ Running p → instant_of e n k ≡ instant_at e n q p k
 instant_is e n k q p r running = ap (λ z. instant_in e n k z (kept_at e n)) r ∙ ap (instant_in e n k (Some q)) running
 
 module _ (e : PlainEngine) (s : ℕ) (at : ℤ) where
-  told_here : (n k : ℕ) (q : Registered) (p : PlainQuery) (slots : List Slot) → query_at e n ≡ Some q → kept_at e n ≡ Running p → told (closed_over e s at) (slot_at e n q p k) slots ≡ retold e (closed_over e s at) n q p p k slots
-  told_here n k q p slots r running = ap (λ t. changed (slot_at e n q p k) t slots) (instant_is (closed_over e s at) n k q p r running)
+  -- a slot with what its operator may take after the heartbeat
+  new_slot : (x : Slot) → slot_of e x.query x.operator ≡ Some x → slot_of (closed_over e s at) x.query x.operator ≡ Some (with_instant x (instant_of (closed_over e s at) x.query x.operator))
+  new_slot x is =
+      let o = is_slot e x.query x.operator x is in
+      slot_is (closed_over e s at) x.query x.operator o.query o.kept o.registered o.running o.within
+      ∙ ap (λ t. Some (slot (slope_at o.query x.operator) t x.query x.operator)) (sym (instant_is (closed_over e s at) x.query x.operator o.query o.kept o.registered o.running))
+      ∙ ap (λ z. Some (with_instant z (instant_of (closed_over e s at) x.query x.operator))) o.is
 
-  windows_told : (n k : ℕ) (q : Registered) (p : PlainQuery) (nodes : List plan.Node) (slots : List Slot) → query_at e n ≡ Some q → kept_at e n ≡ Running p
-      → told_all (closed_over e s at) (windows_from e s n q p k nodes) slots ≡ retold_windows e (closed_over e s at) s n q p k nodes slots
-  windows_told n k q p [] slots r running = refl
-  windows_told n k q p (node ∷ nodes) slots r running = one (is_reading q s node) (λ told_slots. windows_told n (suc k) q p nodes told_slots r running) where
-    one : (b : Bool) → ((told_slots : List Slot) → told_all (closed_over e s at) (windows_from e s n q p (suc k) nodes) told_slots ≡ retold_windows e (closed_over e s at) s n q p (suc k) nodes told_slots)
-        → told_all (closed_over e s at) (cond b (slot_at e n q p k ∷ []) [] ++ windows_from e s n q p (suc k) nodes) slots
-        ≡ retold_windows e (closed_over e s at) s n q p (suc k) nodes (cond b (retold e (closed_over e s at) n q p p k slots) slots)
-    one true rest =
-        ap (told_all (closed_over e s at) (windows_from e s n q p (suc k) nodes)) (told_here n k q p slots r running)
-        ∙ rest (retold e (closed_over e s at) n q p p k slots)
-    one false rest = rest slots
+  one_told : (x : Slot) (todo slots : List Slot) → slot_of e x.query x.operator ≡ Some x → ArePartly e (closed_over e s at) (x ∷ todo) slots → ArePartly e (closed_over e s at) todo (told (closed_over e s at) x slots)
+  one_told x todo slots is p =
+      let instant = instant_of (closed_over e s at) x.query x.operator in
+      let new = with_instant x instant in
+      let table2 : ℕ → ℕ → Option Slot = updated p.table x.query x.operator new in
+      record {
+        table = table2;
+        named = updated_numbered p.table x.query x.operator new refl refl p.named;
+        has = ⊎_elim
+            (λ done.
+            let here : p.table x.query x.operator ≡ Some new = done ∙ new_slot x is in
+            equal_slots p.table table2 (told (closed_over e s at) x slots)
+            (λ n k. ⊎_elim
+            (λ same. ap (λ z. table2 z k) same.0 ∙ ap (table2 x.query) same.1 ∙ updated_here p.table x.query x.operator new ∙ sym here ∙ sym (ap (λ z. p.table z k) same.0 ∙ ap (p.table x.query) same.1))
+            (λ ne. updated_there p.table x.query x.operator new n k ne)
+            (numbers n k x.query x.operator))
+            (told_again p.table slots x instant p.has p.named here))
+            (λ todo. changed_slots p.table table2 slots x instant p.has p.named (todo.0 ∙ is) (updated_here p.table x.query x.operator new) (λ n k ne. updated_there p.table x.query x.operator new n k ne))
+            (p.each x.query x.operator);
+        each = λ n k. ⊎_elim
+            (λ same. inl (ap (λ z. table2 z k) same.0 ∙ ap (table2 x.query) same.1 ∙ updated_here p.table x.query x.operator new ∙ sym (new_slot x is)
+            ∙ sym (ap (λ z. slot_of (closed_over e s at) z k) same.0 ∙ ap (slot_of (closed_over e s at) x.query) same.1)))
+            (λ ne. ⊎_elim
+            (λ done. inl (updated_there p.table x.query x.operator new n k ne ∙ done))
+            (λ left. inr (updated_there p.table x.query x.operator new n k ne ∙ left.0, still n k ne left.1))
+            (p.each n k))
+            (numbers n k x.query x.operator);
+      }
+    where
+      still : (n k : ℕ) → (n ≢ x.query) ⊎ (k ≢ x.operator) → HasOne (x ∷ todo) n k → HasOne todo n k
+      still n k ne one = by_place one.1.0 where
+        by_place : IsIn (x ∷ todo) one.0 → HasOne todo n k
+        by_place (inl same) = absurd (⊎_elim (λ d. d (sym one.1.1.0 ∙ ap (λ z. z.query) (sym same))) (λ d. d (sym one.1.1.1 ∙ ap (λ z. z.operator) (sym same))) ne)
+        by_place (inr i) = (one.0, (i, one.1.1))
 
-  query_told : (n : ℕ) (q : Registered) (kept : Kept) (slots : List Slot) → query_at e n ≡ Some q → kept_at e n ≡ kept → told_all (closed_over e s at) (readers_in e s n q kept) slots ≡ retold_query e (closed_over e s at) s n q kept slots
-  query_told n q (Running p) slots r running = windows_told n 0 q p q.nodes slots r running
-  query_told n q (engines.Broken answers) slots r kept = refl
-  query_told n q Dropped slots r kept = refl
+  each_told : (todo slots : List Slot) → ((x : Slot) → IsIn todo x → slot_of e x.query x.operator ≡ Some x) → ArePartly e (closed_over e s at) todo slots → HasSlots (slot_of (closed_over e s at)) (told_all (closed_over e s at) todo slots)
+  each_told [] slots are p = equal_slots p.table (slot_of (closed_over e s at)) slots (λ n k. ⊎_elim (λ done. sym done) (λ left. absurd left.1.1.0) (p.each n k)) p.has
+  each_told (x ∷ todo) slots are p = each_told todo (told (closed_over e s at) x slots) (λ y i. are y (inr i)) (one_told x todo slots (are x (inl refl)) p)
 
-  queries_told : (n : ℕ) (qs : List Registered) (slots : List Slot) → ((i : ℕ) → slice_get qs i ≡ query_at e (n + i)) → told_all (closed_over e s at) (readers_from e s n qs) slots ≡ retold_queries e (closed_over e s at) s n qs slots
-  queries_told n [] slots each = refl
-  queries_told n (q ∷ qs) slots each =
-      told_append (closed_over e s at) (readers_in e s n q (kept_at e n)) (readers_from e s (suc n) qs) slots
-      ∙ ap (told_all (closed_over e s at) (readers_from e s (suc n) qs)) (query_told n q (kept_at e n) slots (ap (query_at e) (omega arith) ∙ sym (each 0)) refl)
-      ∙ queries_told (suc n) qs (retold_query e (closed_over e s at) s n q (kept_at e n) slots) (λ i. each (suc i) ∙ ap (query_at e) (omega arith))
-
-  pub all_told : told_all (closed_over e s at) (readers_from e s 0 e.machine.queries) e.slots ≡ (beaten e s at).slots
-  all_told = queries_told 0 e.machine.queries e.slots (λ i. ap (query_at e) (omega arith))
-
--- EACH SLOT is of an operator that may be asked
-all_append : (P : Slot → Type 0) (xs ys : List Slot) → AllByRecursion P xs → AllByRecursion P ys → AllByRecursion P (xs ++ ys)
-all_append P [] ys h k = k
-all_append P (x ∷ xs) ys h k = (h.0, all_append P xs ys h.1 k)
-
-module _ (e : PlainEngine) (s : ℕ) (at : ℤ) (g : GoodEngine e) (h : IsHeartbeat e s at) where
-  asked : (n k : ℕ) (q : Registered) (p : PlainQuery) → query_at e n ≡ Some q → kept_at e n ≡ Running p → k < length q.nodes → HasOperatorAt (closed_over e s at) n k
-  asked n k q p r running within =
-      let o : IsOperator (beaten e s at) n k q p = record { registered = r; running = running; within = within } in
+module _ (e : PlainEngine) (s : ℕ) (at : ℤ) (g : GoodEngine e) (h : IsHeartbeat e s at) (rs : List Reader) where
+  pub all_asked : AllByRecursion (λ slot. HasOperatorAt (closed_over e s at) slot.query slot.operator) (resting_slots e s rs)
+  all_asked = all_of (λ slot. HasOperatorAt (closed_over e s at) slot.query slot.operator) (resting_slots e s rs)
+      (λ x i.
+      let o = is_slot e x.query x.operator x (slots_are e s rs x i) in
+      let is : IsOperator (beaten e s at) x.query x.operator o.query o.kept = record { registered = o.registered; running = o.running; within = o.within } in
       let may = may_ask (beaten e s at) (heartbeat_good e s at g h) in
-      (q, (p, record { registered = r; running = running; within = within; operator = may.operators n k q p o; log = may.logs n k q p o }))
+      (o.query, (o.kept, record { registered = o.registered; running = o.running; within = o.within; operator = may.operators x.query x.operator o.query o.kept is; log = may.logs x.query x.operator o.query o.kept is })))
 
-  windows_asked : (n k : ℕ) (q : Registered) (p : PlainQuery) (nodes : List plan.Node) → query_at e n ≡ Some q → kept_at e n ≡ Running p → k + length nodes ≡ length q.nodes
-      → AllByRecursion (λ slot. HasOperatorAt (closed_over e s at) slot.query slot.operator) (windows_from e s n q p k nodes)
-  windows_asked n k q p [] r running many = tt
-  windows_asked n k q p (node ∷ nodes) r running many = one (is_reading q s node) (windows_asked n (suc k) q p nodes r running (omega (arith, many))) where
-    one : (b : Bool) → AllByRecursion (λ slot. HasOperatorAt (closed_over e s at) slot.query slot.operator) (windows_from e s n q p (suc k) nodes)
-        → AllByRecursion (λ slot. HasOperatorAt (closed_over e s at) slot.query slot.operator) (cond b (slot_at e n q p k ∷ []) [] ++ windows_from e s n q p (suc k) nodes)
-    one true rest = (asked n k q p r running (omega (arith, many)), rest)
-    one false rest = rest
+  module _ (lists : ListsReaders e rs) where
+    waking : (n k : ℕ) → IsResting e s n k → HasOne (resting_slots e s rs) n k
+    waking n k is =
+        let here : slot_of e n k ≡ Some (slot_at e n is.query is.kept k) = slot_is e n k is.query is.kept is.registered is.running is.within in
+        let idle : rests e n k ≡ true = resting_rests e g s n k is in (
+          slot_at e n is.query is.kept k,
+          (slot_comes e s n k rs (slot_at e n is.query is.kept k) (lists s n k (record { query = is.query; registered = is.registered; kept = is.kept; running = is.running; within = is.within; reads = is.reads })) idle here, (refl, refl)),
+        )
 
-  query_asked : (n : ℕ) (q : Registered) (kept : Kept) → query_at e n ≡ Some q → kept_at e n ≡ kept → AllByRecursion (λ slot. HasOperatorAt (closed_over e s at) slot.query slot.operator) (readers_in e s n q kept)
-  query_asked n q (Running p) r running = windows_asked n 0 q p q.nodes r running (omega arith)
-  query_asked n q (engines.Broken answers) r kept = tt
-  query_asked n q Dropped r kept = tt
-
-  queries_asked : (n : ℕ) (qs : List Registered) → ((i : ℕ) → slice_get qs i ≡ query_at e (n + i)) → AllByRecursion (λ slot. HasOperatorAt (closed_over e s at) slot.query slot.operator) (readers_from e s n qs)
-  queries_asked n [] each = tt
-  queries_asked n (q ∷ qs) each = all_append (λ slot. HasOperatorAt (closed_over e s at) slot.query slot.operator) (readers_in e s n q (kept_at e n)) (readers_from e s (suc n) qs)
-      (query_asked n q (kept_at e n) (ap (query_at e) (omega arith) ∙ sym (each 0)) refl) (queries_asked (suc n) qs (λ i. each (suc i) ∙ ap (query_at e) (omega arith)))
-
-  pub all_asked : AllByRecursion (λ slot. HasOperatorAt (closed_over e s at) slot.query slot.operator) (readers_from e s 0 e.machine.queries)
-  all_asked = queries_asked 0 e.machine.queries (λ i. ap (query_at e) (omega arith))
+    pub all_told : told_all (closed_over e s at) (resting_slots e s rs) e.slots ≡ (beaten e s at).slots
+    all_told =
+        let start : ArePartly e (closed_over e s at) (resting_slots e s rs) e.slots = record {
+          table = slot_of e;
+          named = numbered e;
+          has = g.slots;
+          each = λ n k. ⊎_elim (λ is. inr (refl, waking n k is)) (λ same. inl (sym same)) (beat_or_rest e s at g h n k);
+        } in
+        same_slots (slot_of (closed_over e s at)) (told_all (closed_over e s at) (resting_slots e s rs) e.slots) (beaten e s at).slots
+        (each_told e s at (resting_slots e s rs) e.slots (λ x i. slots_are e s rs x i) start) (heartbeat_good e s at g h).slots
 
 -- THE CALL: rows that the stream's heartbeat closes, the readers' slots, the streams closed, the slots told
 module _ (s : State) (streams : List Stream) (n : ℕ) (at : ℤ) (h : IsSound s) (beats : IsHeartbeat (engine_in s) n at) (closes : streams ≡ change n (closed_to at) s.streams) where
-  pub readers_asked : (slots : List Slot) → slots ≡ readers_from (engine_in s) n 0 (engine_in s).machine.queries → AllByRecursion (λ slot. HasOperatorAt (engine_in (at_streams s streams)) slot.query slot.operator) slots
+  pub readers_asked : (slots : List Slot) → slots ≡ resting_slots (engine_in s) n s.readers.items → AllByRecursion (λ slot. HasOperatorAt (engine_in (at_streams s streams)) slot.query slot.operator) slots
   readers_asked slots are =
       subst (λ z. AllByRecursion (λ slot. HasOperatorAt (engine_in (at_streams s z)) slot.query slot.operator) slots) (sym closes)
-      (subst (AllByRecursion (λ slot. HasOperatorAt (closed_over (engine_in s) n at) slot.query slot.operator)) (sym are) (all_asked (engine_in s) n at h.good beats))
+      (subst (AllByRecursion (λ slot. HasOperatorAt (closed_over (engine_in s) n at) slot.query slot.operator)) (sym are) (all_asked (engine_in s) n at h.good beats s.readers.items))
 
-  module _ (slots : List Slot) (are : slots ≡ readers_from (engine_in s) n 0 (engine_in s).machine.queries) (s2 : State) (tells : s2 ≡ with_slots (at_streams s streams) (told_all (engine_in (at_streams s streams)) slots s.slots)) where
+  module _ (slots : List Slot) (are : slots ≡ resting_slots (engine_in s) n s.readers.items) (s2 : State) (tells : s2 ≡ with_slots (at_streams s streams) (told_all (engine_in (at_streams s streams)) slots s.slots)) where
     state_is : s2 ≡ with_slots (at_streams s (change n (closed_to at) s.streams)) (beaten (engine_in s) n at).slots
     state_is =
         tells
         ∙ ap (λ z. with_slots (at_streams s z) (told_all (engine_in (at_streams s z)) slots s.slots)) closes
         ∙ ap (λ z. with_slots (at_streams s (change n (closed_to at) s.streams)) (told_all (closed_over (engine_in s) n at) z s.slots)) are
-        ∙ ap (with_slots (at_streams s (change n (closed_to at) s.streams))) (all_told (engine_in s) n at)
+        ∙ ap (with_slots (at_streams s (change n (closed_to at) s.streams))) (all_told (engine_in s) n at h.good beats s.readers.items h.readers)
 
     pub beats_engine : engine_in s2 ≡ beaten (engine_in s) n at
     beats_engine = ap engine_in state_is
@@ -132,6 +211,7 @@ module _ (s : State) (streams : List Stream) (n : ℕ) (at : ℤ) (h : IsSound s
       gone = h.gone;
       columns = registrations_stand.goes_on (engine_in s).machine (Heartbeat n at) 0 beats.accepted h.columns;
       closed = few_closed_stand.goes_on (engine_in s).machine (Heartbeat n at) 0 beats.accepted h.closed;
+      readers = reads_on (engine_in s) (beaten (engine_in s) n at) refl refl s.readers.items h.readers;
     })
 
     pub beats_does : heartbeat_step (world_in s) n at ≡ (Ok tt, world_in s2)

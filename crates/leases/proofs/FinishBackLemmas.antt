@@ -21,7 +21,7 @@ use Rattle.leases.proofs.LeaveLemmas.{fewer}
 
 -- ONE CALL AFTER THE OTHER gives nothing
 pub gives_on : (a b c : State) → GivesNothing a b → GivesNothing b c → GivesNothing a c
-gives_on a b c r t = record { names = t.names ∙ r.names; leases = λ g i. r.leases g (t.leases g i) }
+gives_on a b c r t = record { names = t.names ∙ r.names; readers = t.readers ∙ r.readers; leases = λ g i. r.leases g (t.leases g i) }
 
 -- IT IS THERE, of an operator whose numbers are spelt in two ways
 pub may_look : (e : PlainEngine) (d : Parts) (n k : ℕ) → GoodEngine e → IsOutIn e d → n ≡ d.node.query → k ≡ d.node.operator → HasOperatorAt e n k

@@ -1,30 +1,39 @@
--- The windows that read a stream: their slots found one after the other, and told one after the other.
-use Rattle.std.proofs.Common.{◌≡◌, ℕ, zero, suc, ◌+◌, ◌<◌, ◌≤◌, true, false, cond, ⊎_elim, Some, List, [], ◌∷◌, ◌++◌, drop, get_or, length, map, refl, sym, ap, ◌∙◌, subst, arith, append_assoc, append-nil, drop-cons}
+-- The windows that read streams: what is known of their operators, and their slots, told one after the other.
+use Rattle.std.proofs.Common.{◌≡◌, ℕ, zero, suc, ◌+◌, ◌<◌, ◌≤◌, true, false, cond, ⊎_elim, Some, List, [], ◌∷◌, ◌++◌, drop, get_or, length, map, refl, sym, ap, ◌∙◌, subst, arith, append_assoc, append-nil, drop-cons, nat_lt, ltb-true, lt-ltb, eqb-true, is_none, Option, None, ◌&&◌, inl, inr, ap₂, ◌==◌}
 use Rattle.std.specs.Prelude.{slice_get}
 use Rattle.std.specs.List.{AllByRecursion}
 use Rattle.std.specs.Option.{option_map}
 use Rattle.std.proofs.lemmas.Bool.{cases_lt}
-use Rattle.std.proofs.lemmas.List.{drop_all, length-map}
-use Rattle.std.proofs.lemmas.Option.{slice_get-map, get_or_from_slice_get, slice_get_read, slice_get_within}
+use Rattle.std.proofs.lemmas.List.{drop_all}
+use Rattle.std.proofs.lemmas.Option.{slice_get-map, slice_get_read}
 use Rattle.values.specs.Row.{Row}
 use Rattle.op_queue.specs.Logs.{Closed}
 use Rattle.operators.specs.Operators.{PlainOperator}
 use Rattle.operators.specs.declared.inboxes.Inbox.{Inbox}
 use Rattle.plan.specs.Nodes as plan
 use Rattle.plan.specs.Nodes.{Window, Select, Join, Project, Group, Distinct, ToStream}
-use Rattle.reference.specs.Machine.{Machine, Registered}
+use Rattle.reference.specs.Machine.{Machine, Registered, Stream}
 use Rattle.nets.specs.Plans.{below_root}
 use Rattle.query_nets.specs.Machines.{widths_of}
-use Rattle.query_nets.specs.Queries.{IsLeftInbox, IsRunning, PlainQuery, log_at, node_at, operator_at}
+use Rattle.query_nets.specs.Queries.{IsLeftInbox, IsRunning, PlainQuery, log_at, node_at, operator_at, place_of}
 use Rattle.ready_list.specs.declared.slots.Slot.{Slot}
 use Rattle.plain_engines.specs.Asks.{IsOperator}
+use Rattle.plain_engines.specs.Engines.{Broken, Dropped, Goes, GoodEngine, IsIn, IsKept, Kept, PlainEngine, Running, kept_at, query_at, slot_at, slot_of}
 use Rattle.plain_engines.specs.Calls.{is_reading}
-use Rattle.plain_engines.specs.Engines.{Goes, GoodEngine, IsKept, PlainEngine, Running, kept_at, query_at, slot_at}
 use Rattle.plain_engines.proofs.AskLemmas.{may_ask}
+use Rattle.plain_engines.proofs.PromiseLemmas.{slot_is}
+use Rattle.plan.proofs.Lists.{by_test}
+use Rattle.running_queries.specs.Turns.{HasOperator, log_of}
+use Rattle.plain_engines.specs.Resting.{IsResting}
+use Rattle.operators.specs.Operators.{ready}
+use Rattle.column.specs.declared.batch.Side.{Side}
 use Rattle.leases.specs.Asked.{HasOperatorAt}
-use Rattle.leases.specs.Readers.{HasSource, readers_from, readers_in, told, told_all, windows_from, with_slots}
+use Rattle.reference.proofs.StepLemmas.{get_or-map}
+use Rattle.leases.specs.Readers.{HasSource, HaveCome, ListsReaders, reader, reader_in, resting_slot, resting_slots, rests, rests_in, told, told_all, with_slots}
 use Rattle.leases.specs.Shown.{engine_in}
-use Rattle.leases.specs.Views.{query_of}
+use Rattle.leases.specs.Views.{kept_of, query_of}
+use Rattle.leases.specs.declared.kept.KeptQuery.{KeptQuery}
+use Rattle.leases.specs.declared.reader.Reader.{Reader}
 use Rattle.leases.specs.declared.registered.Registration.{Registration}
 use Rattle.leases.specs.declared.state.State.{State}
 
@@ -49,11 +58,6 @@ source_of_running vs ws m q os given k r within = ⊎_elim
 pub registered_at : (rs : List Registration) (n : ℕ) (r : Registration) → n < length rs → r ≡ get_or rs n r → slice_get (map query_of rs) n ≡ Some (query_of r)
 registered_at rs n r lt is = slice_get-map query_of rs n ∙ ap (option_map query_of) (slice_get_read rs (length rs) n r refl lt is)
 
-pub some_registered : (rs : List Registration) (n : ℕ) → n < length rs → (q : Registered) × (slice_get (map query_of rs) n ≡ Some q)
-some_registered [] n lt = absurd (omega (arith, lt))
-some_registered (r ∷ rs) zero lt = (query_of r, refl)
-some_registered (r ∷ rs) (suc n) lt = some_registered rs n (omega (arith, lt))
-
 pub some_query : {a b : Registered} → Some a ≡ Some b → a ≡ b
 some_query e = cc
 
@@ -69,49 +73,163 @@ module _ (e : PlainEngine) (g : GoodEngine e) (n k : ℕ) (q : Registered) (p : 
       let o : IsOperator e n k q p = record { registered = r; running = running; within = within } in
       (q, (p, record { registered = r; running = running; within = within; operator = (may_ask e g).operators n k q p o; log = (may_ask e g).logs n k q p o }))
 
--- THE NEXT OPERATOR: its slot comes where it is a window over the stream
-module _ (e : PlainEngine) (s n : ℕ) (q : Registered) (p : PlainQuery) (k : ℕ) (within : k < length q.nodes) where
-  next_window : windows_from e s n q p k (drop k q.nodes) ≡ cond (is_reading q s (node_at q k)) (slot_at e n q p k ∷ []) [] ++ windows_from e s n q p (k + 1) (drop (k + 1) q.nodes)
-  next_window =
-      let one : suc k ≡ k + 1 = omega arith in
-      ap (windows_from e s n q p k) (drop-cons q.nodes k (Window 0) within)
-      ∙ ap (λ i. cond (is_reading q s (node_at q k)) (slot_at e n q p k ∷ []) [] ++ windows_from e s n q p i (drop i q.nodes)) one
+-- A QUERY OF THIS NUMBER, if one runs there: it is registered, and has as many operators as its plan has nodes
+pub runs_at : (e : PlainEngine) → GoodEngine e → (n : ℕ) (p : PlainQuery) → kept_at e n ≡ Running p → (q : Registered) × ((query_at e n ≡ Some q) × (length p.operators ≡ length q.nodes))
+runs_at e g n p running =
+    let within : n < length e.queries = there e.queries n running in
+    let r = some_at e.machine.queries n (omega (arith, within, g.many)) in
+    let goes : Goes e.machine r.0 p = subst (IsKept e.machine r.0) running (g.queries n r.0 r.1) in
+    (r.0, (r.1, goes.runs.runs.many))
+  where
+    there : (ks : List Kept) (i : ℕ) → get_or ks i Dropped ≡ Running p → i < length ks
+    there [] i h = absurd (cc)
+    there (k ∷ ks) zero h = omega arith
+    there (k ∷ ks) (suc i) h = let l : i < length ks = there ks i h in omega (arith, l)
 
-  pub window_comes : (slots new all : List Slot) → is_reading q s (node_at q k) ≡ true → new ≡ slots ++ slot_at e n q p k ∷ [] → slots ++ windows_from e s n q p k (drop k q.nodes) ≡ all
-      → new ++ windows_from e s n q p (k + 1) (drop (k + 1) q.nodes) ≡ all
-  window_comes slots new all is push h =
-      ap (λ z. z ++ windows_from e s n q p (k + 1) (drop (k + 1) q.nodes)) push
-      ∙ append_assoc slots (slot_at e n q p k ∷ []) (windows_from e s n q p (k + 1) (drop (k + 1) q.nodes))
-      ∙ sym (ap (λ z. slots ++ z) (next_window ∙ ap (λ b. cond b (slot_at e n q p k ∷ []) [] ++ windows_from e s n q p (k + 1) (drop (k + 1) q.nodes)) is))
+    some_at : (qs : List Registered) (i : ℕ) → i < length qs → (q : Registered) × (slice_get qs i ≡ Some q)
+    some_at [] i l = absurd (omega (arith, l))
+    some_at (q ∷ qs) zero l = (q, refl)
+    some_at (q ∷ qs) (suc i) l = some_at qs i (omega (arith, l))
+
+module _ (e : PlainEngine) (g : GoodEngine e) (n k : ℕ) (p : PlainQuery) (running : kept_at e n ≡ Running p) (within : k < length p.operators) where
+  abbrev found : (q : Registered) × ((query_at e n ≡ Some q) × (length p.operators ≡ length q.nodes))
+  found = runs_at e g n p running
+
+  is_operator : IsOperator e n k found.0 p
+  is_operator = let many = found.1.1 in record { registered = found.1.0; running = running; within = omega (arith, many, within) }
+
+  pub has_operator : HasOperator e.machine.streams p k
+  has_operator = (may_ask e g).operators n k found.0 p is_operator
+
+  pub has_slot : (q : Registered) × ((query_at e n ≡ Some q) × (k < length q.nodes))
+  has_slot = (found.0, (found.1.0, is_operator.within))
+
+-- one that has nothing to take is there
+rests_running : (streams : List Stream) (k : ℕ) (kept : Kept) → rests_in streams k kept ≡ true → (p : PlainQuery) × ((kept ≡ Running p) × (k < length p.operators))
+rests_running streams k (Running p) h = by_test (nat_lt k (length p.operators))
+    (λ t. (p, (refl, ltb-true k (length p.operators) t)))
+    (λ f. let bad : false ≡ true = rw f at h in absurd (cc))
+rests_running streams k (Broken answers) h = absurd (cc)
+rests_running streams k Dropped h = absurd (cc)
+
+pub resting_asked : (e : PlainEngine) → GoodEngine e → (n k : ℕ) → rests e n k ≡ true → HasOperatorAt e n k
+resting_asked e g n k h =
+    let r = rests_running e.machine.streams k (kept_at e n) h in
+    let s = has_slot e g n k r.0 r.1.0 r.1.1 in
+    has_operator_at e g n k s.0 r.0 s.1.0 r.1.0 s.1.1
+
+pub resting_comes : (e : PlainEngine) → GoodEngine e → (n k : ℕ) (x : Slot) → rests e n k ≡ true → ((q : Registered) (p : PlainQuery) → query_at e n ≡ Some q → kept_at e n ≡ Running p → x ≡ slot_at e n q p k) → resting_slot e n k ≡ x ∷ []
+resting_comes e g n k x h is =
+    let r = rests_running e.machine.streams k (kept_at e n) h in
+    let s = has_slot e g n k r.0 r.1.0 r.1.1 in
+    let here : slot_of e n k ≡ Some x = slot_is e n k s.0 r.0 s.1.0 r.1.0 s.1.1 ∙ ap Some (sym (is s.0 r.0 s.1.0 r.1.0)) in
+    rw (h, here) refl
+
+none_by : (o : Option (Side × ℕ)) → option_map (λ z. z.1) o ≡ None → o ≡ None
+none_by None h = refl
+none_by (Some z) h = absurd (cc)
+
+pub resting_rests : (e : PlainEngine) → GoodEngine e → (s n k : ℕ) → IsResting e s n k → rests e n k ≡ true
+resting_rests e g s n k is =
+    let found = runs_at e g n is.kept is.running in
+    let same : found.0 ≡ is.query = some_query (sym found.1.0 ∙ is.registered) in
+    let many : length is.kept.operators ≡ length is.query.nodes = found.1.1 ∙ ap (λ (z : Registered). length z.nodes) same in
+    let within : k < length is.kept.operators = omega (arith, many, is.within) in
+    let inside : nat_lt k (length is.kept.operators) ≡ true = lt-ltb k (length is.kept.operators) within in
+    let log = (may_ask e g).logs n k is.query is.kept (record { registered = is.registered; running = is.running; within = is.within }) in
+    let nothing : is_none (ready (operator_at is.kept.operators k) (log_of e.machine.streams is.kept k)) ≡ true =
+    ap (λ x. is_none (ready (operator_at is.kept.operators k) x)) log ∙ ap is_none (none_by (ready (operator_at is.kept.operators k) (log_at e.machine is.query k)) is.empty) in
+    ap (rests_in e.machine.streams k) is.running ∙ ap₂ (λ a b. a && b) inside nothing
+
+pub kept_looked : (ks vs : List KeptQuery) (n : ℕ) (k : KeptQuery) → vs ≡ ks → true ≡ nat_lt n (length vs) → k ≡ get_or vs n k → get_or (map kept_of ks) n Dropped ≡ kept_of k
+kept_looked ks vs n k same within is = ap (λ z. get_or (map kept_of z) n Dropped) (sym same) ∙ get_or-map kept_of vs n k Dropped (ltb-true n (length vs) (sym within)) ∙ ap kept_of (sym is)
+
+-- A WINDOW of a new query comes to the readers
+reader_is : (q : Registered) (s n k : ℕ) (node : plan.Node) (x : Reader) → is_reading q s node ≡ true → reader_in q n k node ≡ Some x → x ≡ reader s n k
+reader_is q s n k (Window j) x is h =
+    let same : reader (place_of q j).stream n k ≡ x = cc in
+    sym same ∙ ap (λ z. reader z n k) (eqb-true (place_of q j).stream s is)
+reader_is q s n k (Select i cs) x is h = absurd (cc)
+reader_is q s n k (Join i j ks) x is h = absurd (cc)
+reader_is q s n k (Project i columns) x is h = absurd (cc)
+reader_is q s n k (Group i by items) x is h = absurd (cc)
+reader_is q s n k (Distinct i) x is h = absurd (cc)
+reader_is q s n k (ToStream i op) x is h = absurd (cc)
+
+no_reader : (q : Registered) (s n k : ℕ) (node : plan.Node) → is_reading q s node ≡ true → reader_in q n k node ≡ None → ⊥
+no_reader q s n k (Window j) is h = absurd (cc)
+no_reader q s n k (Select i cs) is h = absurd (cc)
+no_reader q s n k (Join i j ks) is h = absurd (cc)
+no_reader q s n k (Project i columns) is h = absurd (cc)
+no_reader q s n k (Group i by items) is h = absurd (cc)
+no_reader q s n k (Distinct i) is h = absurd (cc)
+no_reader q s n k (ToStream i op) is h = absurd (cc)
+
+in_front : (xs : List Reader) (x y : Reader) → IsIn xs y → IsIn (xs ++ x ∷ []) y
+in_front [] x y h = absurd h
+in_front (z ∷ xs) x y (inl e) = inl e
+in_front (z ∷ xs) x y (inr i) = inr (in_front xs x y i)
+
+at_end : (xs : List Reader) (x : Reader) → IsIn (xs ++ x ∷ []) x
+at_end [] x = inl refl
+at_end (z ∷ xs) x = inr (at_end xs x)
+
+pub window_comes : (q : Registered) (n k : ℕ) (old mid new : List Reader) (x : Reader) → HaveCome q n k old mid → reader_in q n k (node_at q k) ≡ Some x → new ≡ mid ++ x ∷ [] → HaveCome q n (k + 1) old new
+window_comes q n k old mid new x h is push = record {
+  stay = λ r i. subst (λ z. IsIn z r) (sym push) (in_front mid x r (h.stay r i));
+  come = λ s j lt reads. subst (λ z. IsIn z (reader s n j)) (sym push) (⊎_elim
+      (λ l. in_front mid x (reader s n j) (h.come s j l reads))
+      (λ l.
+      let last : j ≡ k = omega (arith, lt, l) in
+      let same : x ≡ reader s n j = reader_is q s n k (node_at q k) x (subst (λ z. is_reading q s (node_at q z) ≡ true) last reads) is ∙ ap (reader s n) (sym last) in
+      subst (λ z. IsIn (mid ++ x ∷ []) z) same (at_end mid x))
+      (cases_lt j k));
+}
+
+pub other_passes : (q : Registered) (n k : ℕ) (old mid new : List Reader) → HaveCome q n k old mid → reader_in q n k (node_at q k) ≡ None → new ≡ mid → HaveCome q n (k + 1) old new
+other_passes q n k old mid new h is same = record {
+  stay = λ r i. subst (λ z. IsIn z r) (sym same) (h.stay r i);
+  come = λ s j lt reads. subst (λ z. IsIn z (reader s n j)) (sym same) (⊎_elim
+      (λ l. h.come s j l reads)
+      (λ l. let last : j ≡ k = omega (arith, lt, l) in absurd (no_reader q s n k (node_at q k) (subst (λ z. is_reading q s (node_at q z) ≡ true) last reads) is))
+      (cases_lt j k));
+}
+
+-- WINDOWS THAT READ, of two engines whose queries are the same
+pub reads_on : (e e2 : PlainEngine) → e2.machine.queries ≡ e.machine.queries → e2.queries ≡ e.queries → (rs : List Reader) → ListsReaders e rs → ListsReaders e2 rs
+reads_on e e2 queries kept rs h s n k is = h s n k (record {
+  query = is.query;
+  registered = ap (λ qs. slice_get qs n) (sym queries) ∙ is.registered;
+  kept = is.kept;
+  running = ap (λ ks. get_or ks n Dropped) (sym kept) ∙ is.running;
+  within = is.within;
+  reads = is.reads;
+})
+
+-- THE NEXT READER: its slot comes where it reads the stream
+module _ (e : PlainEngine) (s : ℕ) (rs : List Reader) (k : ℕ) (r : Reader) (within : k < length rs) (is : r ≡ get_or rs k r) where
+  next_reader : resting_slots e s (drop k rs) ≡ cond (r.stream == s) (resting_slot e r.query r.operator) [] ++ resting_slots e s (drop (k + 1) rs)
+  next_reader =
+      let one : suc k ≡ k + 1 = omega arith in
+      ap (resting_slots e s) (drop-cons rs k r within ∙ ap (λ x. x ∷ drop (suc k) rs) (sym is))
+      ∙ ap (λ i. cond (r.stream == s) (resting_slot e r.query r.operator) [] ++ resting_slots e s (drop i rs)) one
+
+  pub reader_comes : (slots new all : List Slot) → (r.stream == s) ≡ true → new ≡ slots ++ resting_slot e r.query r.operator → slots ++ resting_slots e s (drop k rs) ≡ all → new ++ resting_slots e s (drop (k + 1) rs) ≡ all
+  reader_comes slots new all reads push h =
+      ap (λ z. z ++ resting_slots e s (drop (k + 1) rs)) push
+      ∙ append_assoc slots (resting_slot e r.query r.operator) (resting_slots e s (drop (k + 1) rs))
+      ∙ sym (ap (λ z. slots ++ z) (next_reader ∙ ap (λ b. cond b (resting_slot e r.query r.operator) [] ++ resting_slots e s (drop (k + 1) rs)) reads))
       ∙ h
 
-  pub other_passes : (slots new all : List Slot) → is_reading q s (node_at q k) ≡ false → new ≡ slots → slots ++ windows_from e s n q p k (drop k q.nodes) ≡ all → new ++ windows_from e s n q p (k + 1) (drop (k + 1) q.nodes) ≡ all
-  other_passes slots new all is same h =
-      ap (λ z. z ++ windows_from e s n q p (k + 1) (drop (k + 1) q.nodes)) same
-      ∙ sym (ap (λ z. slots ++ z) (next_window ∙ ap (λ b. cond b (slot_at e n q p k ∷ []) [] ++ windows_from e s n q p (k + 1) (drop (k + 1) q.nodes)) is))
+  pub reader_passes : (slots new all : List Slot) → (r.stream == s) ≡ false → new ≡ slots → slots ++ resting_slots e s (drop k rs) ≡ all → new ++ resting_slots e s (drop (k + 1) rs) ≡ all
+  reader_passes slots new all reads same h =
+      ap (λ z. z ++ resting_slots e s (drop (k + 1) rs)) same
+      ∙ sym (ap (λ z. slots ++ z) (next_reader ∙ ap (λ b. cond b (resting_slot e r.query r.operator) [] ++ resting_slots e s (drop (k + 1) rs)) reads))
       ∙ h
 
 -- past the last
-pub windows_all : (e : PlainEngine) (s n : ℕ) (q : Registered) (p : PlainQuery) (k : ℕ) (slots all : List Slot) → length q.nodes ≤ k → slots ++ windows_from e s n q p k (drop k q.nodes) ≡ all → slots ≡ all
-windows_all e s n q p k slots all l h = sym (append-nil slots) ∙ sym (ap (λ z. slots ++ windows_from e s n q p k z) (drop_all k q.nodes l)) ∙ h
-
--- THE NEXT QUERY
-pub query_comes : (e : PlainEngine) (s n : ℕ) (qs : List Registered) (q : Registered) (slots new all : List Slot) → slice_get qs n ≡ Some q → new ≡ slots ++ readers_in e s n q (kept_at e n) → slots ++ readers_from e s n (drop n qs) ≡ all
-    → new ++ readers_from e s (n + 1) (drop (n + 1) qs) ≡ all
-query_comes e s n qs q slots new all r come h =
-    let one : suc n ≡ n + 1 = omega arith in
-    let next : readers_from e s n (drop n qs) ≡ readers_in e s n q (kept_at e n) ++ readers_from e s (n + 1) (drop (n + 1) qs) =
-    ap (readers_from e s n) (drop-cons qs n q (slice_get_within qs n q r) ∙ ap (λ x. x ∷ drop (suc n) qs) (get_or_from_slice_get qs n q q r))
-    ∙ ap (λ i. readers_in e s n q (kept_at e n) ++ readers_from e s i (drop i qs)) one in
-    ap (λ z. z ++ readers_from e s (n + 1) (drop (n + 1) qs)) come
-    ∙ append_assoc slots (readers_in e s n q (kept_at e n)) (readers_from e s (n + 1) (drop (n + 1) qs))
-    ∙ sym (ap (λ z. slots ++ z) next)
-    ∙ h
-
-pub queries_all : (e : PlainEngine) (s n : ℕ) (rs : List Registration) (slots all : List Slot) → length rs ≤ n → slots ++ readers_from e s n (drop n (map query_of rs)) ≡ all → slots ≡ all
-queries_all e s n rs slots all l h =
-    let many : length (map query_of rs) ≡ length rs = length-map rs query_of in
-    sym (append-nil slots) ∙ sym (ap (λ z. slots ++ readers_from e s n z) (drop_all n (map query_of rs) (omega (arith, l, many)))) ∙ h
+pub readers_all : (e : PlainEngine) (s : ℕ) (rs : List Reader) (k : ℕ) (slots all : List Slot) → length rs ≤ k → slots ++ resting_slots e s (drop k rs) ≡ all → slots ≡ all
+readers_all e s rs k slots all l h = sym (append-nil slots) ∙ sym (ap (λ z. slots ++ resting_slots e s z) (drop_all k rs l)) ∙ h
 
 -- TOLD: the next of the slots
 pub told_next : (e : PlainEngine) (ss : List Slot) (k : ℕ) (s : Slot) (slots : List Slot) → k < length ss → s ≡ get_or ss k s → told_all e (drop k ss) slots ≡ told_all e (drop (k + 1) ss) (told e s slots)

@@ -44,7 +44,7 @@ same_sorted (x ∷ a) (y ∷ b) sa sb to back =
     (λ z i. in_rest y z b a sb.0 i (subst (λ s. (s ≡ z) ⊎ IsIn a z) first (back z (inr i)))) in
     ap (λ z. z ∷ a) first ∙ ap (λ zs. y ∷ zs) rest
 
-same_slots : (table : ℕ → ℕ → Option Slot) (a b : List Slot) → HasSlots table a → HasSlots table b → a ≡ b
+pub same_slots : (table : ℕ → ℕ → Option Slot) (a b : List Slot) → HasSlots table a → HasSlots table b → a ≡ b
 same_slots table a b h g = same_sorted a b h.ordered g.ordered (λ x i. g.there x.query x.operator x (h.only x i)) (λ x i. h.there x.query x.operator x (g.only x i))
 
 -- A SLOT of a good engine

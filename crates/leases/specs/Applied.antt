@@ -55,9 +55,10 @@ IsBroken old n new = (p : PlainQuery) → kept_at old n ≡ Running p → new �
 abbrev pub without_turn : PlainEngine → ℕ → PlainEngine
 without_turn e n = record e { leases = others n e.leases }
 
--- names are as they were, and no turn goes out
+-- names and readers are as they were, and no turn goes out
 pub record GivesNothing (old new : State) : Type 0 where
   pub names : new.names ≡ old.names
+  pub readers : new.readers.items ≡ old.readers.items
   pub leases : (g : Given) → IsIn new.leases.items g → IsIn old.leases.items g
 
 -- SLOTS THAT ARE TOLD ANEW

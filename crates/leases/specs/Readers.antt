@@ -1,12 +1,16 @@
 -- The windows of running queries that read a stream, and what they are told.
-use Rattle.std.specs.Prelude.{ℕ, suc, ◌<◌, ⊤, cond, Option, Some, None, List, [], ◌∷◌, ◌++◌, length}
+use Rattle.std.specs.Prelude.{ℕ, ◌≡◌, ◌<◌, ◌==◌, ◌&&◌, ⊤, Bool, true, false, cond, nat_lt, is_none, Option, Some, None, List, [], ◌∷◌, ◌++◌, length}
+use Rattle.std.specs.Option.{option_to_list}
 use Rattle.plan.specs.Nodes as plan
-use Rattle.reference.specs.Machine.{Registered}
-use Rattle.query_nets.specs.Queries.{PlainQuery}
+use Rattle.operators.specs.Operators.{ready}
+use Rattle.reference.specs.Machine.{Registered, Stream}
+use Rattle.query_nets.specs.Queries.{PlainQuery, node_at, operator_at, place_of}
+use Rattle.running_queries.specs.Turns.{log_of}
 use Rattle.ready_list.specs.Slots.{changed}
 use Rattle.ready_list.specs.declared.slots.Slot.{Slot}
 use Rattle.plain_engines.specs.Calls.{is_reading}
-use Rattle.plain_engines.specs.Engines.{Broken, Dropped, Kept, PlainEngine, Running, instant_at, kept_at, query_at, slot_at}
+use Rattle.plain_engines.specs.Engines.{Broken, Dropped, IsIn, Kept, PlainEngine, Running, instant_at, kept_at, query_at, slot_of}
+use Rattle.leases.specs.declared.reader.Reader.{Reader}
 use Rattle.leases.specs.declared.state.State.{State}
 
 -- the source of a window is one of the query
@@ -19,21 +23,53 @@ HasSource q (plan.Group i by items) = ⊤
 HasSource q (plan.Distinct i) = ⊤
 HasSource q (plan.ToStream i op) = ⊤
 
--- THE SLOTS of the windows over the stream s among the operators of the query n, from the operator k on
-abbrev pub windows_from : PlainEngine → ℕ → ℕ → Registered → PlainQuery → ℕ → List plan.Node → List Slot
-windows_from e s n q p k [] = []
-windows_from e s n q p k (node ∷ nodes) = cond (is_reading q s node) (slot_at e n q p k ∷ []) [] ++ windows_from e s n q p (suc k) nodes
+-- THE READERS
+abbrev pub reader : ℕ → ℕ → ℕ → Reader
+reader s n k = record { stream = s; query = n; operator = k }
 
--- of a query that is broken or dropped nothing reads
-abbrev pub readers_in : PlainEngine → ℕ → ℕ → Registered → Kept → List Slot
-readers_in e s n q (Running p) = windows_from e s n q p 0 q.nodes
-readers_in e s n q (Broken answers) = []
-readers_in e s n q Dropped = []
+-- the operator k of a query n, if it is a window
+abbrev pub reader_in : Registered → ℕ → ℕ → plan.Node → Option Reader
+reader_in q n k (plan.Window j) = Some (reader (place_of q j).stream n k)
+reader_in q n k (plan.Select i cs) = None
+reader_in q n k (plan.Join i j ks) = None
+reader_in q n k (plan.Project i columns) = None
+reader_in q n k (plan.Group i by items) = None
+reader_in q n k (plan.Distinct i) = None
+reader_in q n k (plan.ToStream i op) = None
 
--- those of the queries from the number n on
-abbrev pub readers_from : PlainEngine → ℕ → ℕ → List Registered → List Slot
-readers_from e s n [] = []
-readers_from e s n (q ∷ qs) = readers_in e s n q (kept_at e n) ++ readers_from e s (suc n) qs
+-- the operator k of the query n, which runs, is a window over the stream s
+pub record IsReading (e : PlainEngine) (s n k : ℕ) : Type 0 where
+  pub query : Registered
+  pub registered : query_at e n ≡ Some query
+  pub kept : PlainQuery
+  pub running : kept_at e n ≡ Running kept
+  pub within : k < length query.nodes
+  pub reads : is_reading query s (node_at query k) ≡ true
+
+-- all that do are listed
+abbrev pub ListsReaders : PlainEngine → List Reader → Type 0
+ListsReaders e rs = (s n k : ℕ) → IsReading e s n k → IsIn rs (reader s n k)
+
+-- the windows among the first operators of a query n have come to them, and the others stayed
+pub record HaveCome (q : Registered) (n count : ℕ) (old new : List Reader) : Type 0 where
+  pub stay : (r : Reader) → IsIn old r → IsIn new r
+  pub come : (s k : ℕ) → k < count → is_reading q s (node_at q k) ≡ true → IsIn new (reader s n k)
+
+-- THE SLOTS of the readers of the stream s that have nothing to take
+abbrev pub rests_in : List Stream → ℕ → Kept → Bool
+rests_in streams k (Running p) = nat_lt k (length p.operators) && is_none (ready (operator_at p.operators k) (log_of streams p k))
+rests_in streams k (Broken answers) = false
+rests_in streams k Dropped = false
+
+abbrev pub rests : PlainEngine → ℕ → ℕ → Bool
+rests e n k = rests_in e.machine.streams k (kept_at e n)
+
+abbrev pub resting_slot : PlainEngine → ℕ → ℕ → List Slot
+resting_slot e n k = cond (rests e n k) (option_to_list (slot_of e n k)) []
+
+abbrev pub resting_slots : PlainEngine → ℕ → List Reader → List Slot
+resting_slots e s [] = []
+resting_slots e s (r ∷ rs) = cond (r.stream == s) (resting_slot e r.query r.operator) [] ++ resting_slots e s rs
 
 -- WHAT AN OPERATOR MAY TAKE, by its number
 abbrev pub instant_in : PlainEngine → ℕ → ℕ → Option Registered → Kept → Option ℕ

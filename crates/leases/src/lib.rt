@@ -6,6 +6,7 @@ mod given;
 mod kept;
 mod leased;
 mod limits;
+mod reader;
 mod registered;
 mod state;
 

@@ -11,14 +11,15 @@ mod takes;
 
 use crate::given::Given;
 use crate::kept::KeptQuery;
+use crate::reader::Reader;
 use crate::registered::Registration;
 use name_table::NameTable;
 use ready_list::ReadyList;
 use std::alloc::Global;
 use stream_store::Streams;
 
-/// What an engine keeps: its streams, the names of its queries, its registered queries and what is left of each, the turns that are out,
-/// the number of the next, and the slots of all operators.
+/// What an engine keeps: its streams, the names of its queries, its registered queries and what is left of each, their readers of
+/// streams, the turns that are out, the number of the next, and the slots of all operators.
 #[derive(Drop)]
 pub(crate) struct State {
     alloc: Global,
@@ -26,6 +27,7 @@ pub(crate) struct State {
     names: NameTable,
     registered: Vec<Registration>,
     kept: Vec<KeptQuery>,
+    readers: Vec<Reader>,
     leases: Vec<Given>,
     next: u64,
     slots: ReadyList,

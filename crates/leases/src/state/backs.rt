@@ -10,6 +10,7 @@ ghost use Rattle.leases.specs.Views.{query_of};
 
 use crate::given::{end_turn, end_turns_of};
 use crate::kept::KeptQuery;
+use crate::reader::forget_readers;
 use crate::registered::Registration;
 use crate::state::State;
 use reference::Fault;
@@ -50,6 +51,7 @@ impl State {
         leave(&mut self.registered[query as usize]);
         self.kept[query as usize] = KeptQuery::Dropped;
         end_turns_of(&mut self.leases, query);
+        forget_readers(&mut self.readers, query);
         self.slots.drop_query(query);
         Ok(())
     }

@@ -35,6 +35,7 @@ impl State {
             names: NameTable::new(alloc),
             registered: Vec::new(alloc),
             kept: Vec::new(alloc),
+            readers: Vec::new(alloc),
             leases: Vec::new(alloc),
             next: 0,
             slots: ReadyList::new(alloc),

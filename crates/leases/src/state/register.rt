@@ -1,6 +1,7 @@
 //! Queries that are registered.
-ghost use Rattle.std.specs.Prelude.{◌≡◌, ◌<◌, ℕ, false, not, count_by, IfOk, IfSome, None, OnErr, OnOk, length, map};
+ghost use Rattle.std.specs.Prelude.{◌≡◌, ◌<◌, ◌≤◌, ◌+◌, ℕ, false, not, count_by, IfOk, IfSome, None, OnErr, OnOk, length, map};
 ghost use Rattle.std.specs.Option.{option_copied};
+ghost use Rattle.std.specs.Vec.{vec_capacity, vec_len};
 ghost use Rattle.names.specs.Faults.{first_of};
 ghost use Rattle.plan.specs.Chart.{given_by};
 ghost use Rattle.plan.specs.Views.{nodes_of};
@@ -10,7 +11,7 @@ ghost use Rattle.reference.specs.Places.{machine_of};
 ghost use Rattle.reference.specs.Machine.{Registered, first_for};
 ghost use Rattle.reference.specs.Told.{IsTold};
 ghost use Rattle.reference.specs.World.{Does, register_step};
-ghost use Rattle.query_nets.specs.Queries.{PlainQuery};
+ghost use Rattle.query_nets.specs.Queries.{PlainQuery, node_at};
 ghost use Rattle.query_nets.specs.Registrations.{MayMake};
 ghost use Rattle.ready_list.specs.Slots.{without_query};
 ghost use Rattle.plain_engines.specs.Calls.{registered};
@@ -18,17 +19,19 @@ ghost use Rattle.plain_engines.specs.Engines.{GoodEngine};
 ghost use Rattle.accepted_queries.specs.Accepted.{IsBegun, IsPlanOfText, newest};
 ghost use Rattle.running_queries.specs.Turns.{IsBeginning};
 ghost use Rattle.values.specs.Resolved.{resolved_of};
+ghost use Rattle.leases.specs.Readers.{HasSource, HaveCome, reader_in};
 ghost use Rattle.leases.specs.Registering.{IsNewQuery, IsRegistered, new_slot, with_first};
 ghost use Rattle.leases.specs.Shown.{engine_in, world_in};
 ghost use Rattle.leases.specs.Sound.{IsSound};
 ghost use Rattle.leases.specs.Views.{place_of, query_of};
 
 use crate::kept::KeptQuery;
+use crate::reader::Reader;
 use crate::registered::{Place, Registration};
 use crate::state::State;
 use cql_reader::is_name;
 use envelope::Slope;
-use plan::{Chart, Plan, slopes};
+use plan::{Chart, Node, Plan, slopes};
 use ready_list::{ReadyList, Slot};
 use reference::{Fault, MAX_QUERIES, MAX_REGISTRATIONS, find_plan};
 use running_queries::RunningQuery;
@@ -135,6 +138,7 @@ impl State {
         let number = self.next_query();
         self.registered.reserve(1)?;
         self.kept.reserve(1)?;
+        self.readers.reserve(told.plan.nodes.len())?;
         put_slots(
             &mut self.slots,
             &self.streams,
@@ -146,6 +150,7 @@ impl State {
             self.slots.drop_query(number);
             return Err(AllocError);
         };
+        put_readers(&mut self.readers, &told, number);
         self.registered.push_reserved(told);
         self.kept.push_reserved(KeptQuery::Running(running));
         Ok(number)
@@ -302,4 +307,33 @@ fn new_slot(
         None => None,
     };
     Slot::new(slopes[operator], instant, number, operator)
+}
+
+/// The windows of a new query are listed as readers behind the others. There is room for them.
+fn put_readers(readers: &mut Vec<Reader>, query: &Registration, number: u64)
+    requires room { vec_len readers.old + length (query_of query.now).nodes ≤ vec_capacity readers.old }
+    requires sources { (k : ℕ) → k < length (query_of query.now).nodes → HasSource (query_of query.now) (node_at (query_of query.now) k) }
+    ensures { HaveCome (query_of query.now) number (length (query_of query.now).nodes) readers.old.items readers.new.items }
+{
+    for operator in 0..query.plan.nodes.len() {
+        if let Some(reader) = reader_of(query, number, operator) {
+            readers.push_reserved(reader);
+        }
+    }
+}
+
+/// The operator of a query of this number as a reader, if it is a window.
+fn reader_of(query: &Registration, number: u64, operator: usize) -> Option<Reader>
+    requires within { operator < length (query_of query.now).nodes }
+    requires source { HasSource (query_of query.now) (node_at (query_of query.now) operator) }
+    ensures { result ≡ reader_in (query_of query.now) number operator (node_at (query_of query.now) operator) }
+{
+    match &query.plan.nodes[operator] {
+        Node::Window(source) => Some(Reader {
+            stream: query.places[*source].stream,
+            query: number,
+            operator,
+        }),
+        _ => None,
+    }
 }

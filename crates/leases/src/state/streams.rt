@@ -1,27 +1,27 @@
 //! Streams that are declared, lengthened and closed.
-ghost use Rattle.std.specs.Prelude.{◌≡◌, ◌<◌, ◌++◌, ℕ, IfOk, OnErr, OnOk, Some, length, slice_get};
+ghost use Rattle.std.specs.Prelude.{◌≡◌, ◌<◌, ◌++◌, ℕ, IfOk, OnErr, OnOk, length, slice_get};
 ghost use Rattle.std.specs.List.{AllByRecursion};
 ghost use Rattle.reference.specs.CallViews.{texts_of};
-ghost use Rattle.reference.specs.Machine.{Registered};
 ghost use Rattle.reference.specs.World.{Does, append_step, declare_step, heartbeat_step};
 ghost use Rattle.stream_store.specs.Closing.{QueuesGain};
-ghost use Rattle.query_nets.specs.Queries.{PlainQuery, node_at};
-ghost use Rattle.plain_engines.specs.Calls.{appended, beaten, declared, is_reading};
-ghost use Rattle.plain_engines.specs.Engines.{GoodEngine, Running, kept_at, query_at};
-ghost use Rattle.leases.specs.Asked.{HasOperatorAt, IsRunningAt};
+ghost use Rattle.plain_engines.specs.Calls.{appended, beaten, declared};
+ghost use Rattle.query_nets.specs.Queries.{PlainQuery};
+ghost use Rattle.plain_engines.specs.Engines.{GoodEngine, Running};
+ghost use Rattle.leases.specs.Asked.{HasOperatorAt};
+ghost use Rattle.running_queries.specs.Turns.{HasOperator};
 ghost use Rattle.leases.specs.Queues.{LeavesQueues};
-ghost use Rattle.leases.specs.Readers.{HasSource, readers_from, readers_in, told, told_all, windows_from, with_slots};
+ghost use Rattle.leases.specs.Readers.{resting_slot, resting_slots, rests, rests_in, told, told_all, with_slots};
 ghost use Rattle.leases.specs.Shown.{engine_in, world_in};
 ghost use Rattle.leases.specs.Sound.{IsSound};
-ghost use Rattle.leases.specs.Views.{query_of};
+ghost use Rattle.leases.specs.Views.{kept_of};
 
 use crate::kept::KeptQuery;
-use crate::registered::Registration;
+use crate::reader::Reader;
 use crate::state::State;
-use plan::Node;
 use ready_list::Slot;
 use reference::{Fault, NewRows};
 use std::alloc::AllocError;
+use stream_store::Streams;
 
 impl State {
     /// Declares a stream.
@@ -54,7 +54,8 @@ impl State {
 
     /// Closes all instants of the stream up to `at`.
     ///
-    /// It costs the rows, and the operators of the queries that run; of the others a test each.
+    /// It costs the rows, a look at each window of the queries that were not dropped, and a change of the slots of those over the stream that
+    /// had nothing to take.
     pub(crate) fn heartbeat(&mut self, stream: u64, at: i64) -> Result<(), Fault>
         requires { IsSound self.old }
         ensures does { Does (λ u. u) (world_in self.old) (heartbeat_step (world_in self.old) stream at) result (world_in self.new) }
@@ -64,50 +65,47 @@ impl State {
         ensures sound { IsSound self.new }
     {
         let rows = self.streams.closing(stream, at)?;
-        let slots = self.readers(stream)?;
+        let slots = self.resting(stream)?;
         self.streams.close(stream, at, &rows)?;
         self.retell(&slots);
         Ok(())
     }
 
-    /// The slots of the windows of running queries that read the stream.
-    fn readers(&self, stream: u64) -> Result<Vec<Slot>, AllocError>
+    /// The slots of the readers of the stream that have nothing to take.
+    fn resting(&self, stream: u64) -> Result<Vec<Slot>, AllocError>
         requires { GoodEngine (engine_in self.now) }
-        ensures { IfOk result (λ slots. slots.items ≡ readers_from (engine_in self.now) stream 0 (engine_in self.now).machine.queries) }
+        ensures { IfOk result (λ slots. slots.items ≡ resting_slots (engine_in self.now) stream self.now.readers.items) }
     {
         let mut slots = Vec::new(self.alloc);
-        for query in 0..self.registered.len() {
-            self.push_readers(query as u64, stream, &mut slots)?;
+        for place in 0..self.readers.len() {
+            if self.readers[place].reads(stream) {
+                self.push_resting(&self.readers[place], &mut slots)?;
+            }
         }
         Ok(slots)
     }
 
-    /// Those of one query come behind the slots.
-    fn push_readers(&self, query: u64, stream: u64, slots: &mut Vec<Slot>) -> Result<(), AllocError>
-        requires good { GoodEngine (engine_in self.now) }
-        requires within { query < length self.now.registered.items }
-        ensures { OnOk result ((q : Registered) → query_at (engine_in self.now) query ≡ Some q → slots.new.items ≡ slots.old.items ++ readers_in (engine_in self.now) stream query q (kept_at (engine_in self.now) query)) }
+    /// That of one comes behind the slots, if it has nothing to take.
+    fn push_resting(&self, reader: &Reader, slots: &mut Vec<Slot>) -> Result<(), AllocError>
+        requires { GoodEngine (engine_in self.now) }
+        ensures { OnOk result (slots.new.items ≡ slots.old.items ++ resting_slot (engine_in self.now) reader.now.query reader.now.operator) }
     {
-        match &self.kept[query as usize] {
-            KeptQuery::Running(_) => self.push_windows(query, stream, slots),
-            _ => Ok(()),
+        if !self.rests(reader.query, reader.operator) {
+            return Ok(());
         }
+        slots.push(self.slot(reader.query, reader.operator))?;
+        Ok(())
     }
 
-    /// Those of a query that runs.
-    fn push_windows(&self, query: u64, stream: u64, slots: &mut Vec<Slot>) -> Result<(), AllocError>
-        requires good { GoodEngine (engine_in self.now) }
-        requires within { query < length self.now.registered.items }
-        requires running { IsRunningAt (engine_in self.now) query }
-        ensures { OnOk result ((q : Registered) (p : PlainQuery) → query_at (engine_in self.now) query ≡ Some q → kept_at (engine_in self.now) query ≡ Running p → slots.new.items ≡ slots.old.items ++ windows_from (engine_in self.now) stream query q p 0 q.nodes) }
+    /// Whether an operator is one of a query that runs, and has nothing to take.
+    fn rests(&self, query: u64, operator: usize) -> bool
+        requires { GoodEngine (engine_in self.now) }
+        ensures { result ≡ rests (engine_in self.now) query operator }
     {
-        let registered = &self.registered[query as usize];
-        for operator in 0..registered.plan.nodes.len() {
-            if is_window_over(registered, operator, stream) {
-                slots.push(self.slot(query, operator))?;
-            }
+        match self.kept.get(query as usize) {
+            Some(kept) => rests_in(&self.streams, operator, kept),
+            None => false,
         }
-        Ok(())
     }
 
     /// Tells the slots, one after the other, what their operators may take now.
@@ -130,14 +128,15 @@ impl State {
     }
 }
 
-/// Whether the operator is a window over the stream.
-fn is_window_over(query: &Registration, operator: usize, stream: u64) -> bool
-    requires within { operator < length (query_of query.now).nodes }
-    requires source { HasSource (query_of query.now) (node_at (query_of query.now) operator) }
-    ensures { result ≡ is_reading (query_of query.now) stream (node_at (query_of query.now) operator) }
+/// Whether an operator is one of a query that runs, and has nothing to take.
+fn rests_in(streams: &Streams, operator: usize, kept: &KeptQuery) -> bool
+    requires { (p : PlainQuery) → kept_of kept.now ≡ Running p → operator < length p.operators → HasOperator streams.now p operator }
+    ensures { result ≡ rests_in streams.now operator (kept_of kept.now) }
 {
-    match &query.plan.nodes[operator] {
-        Node::Window(source) => query.places[*source].stream == stream,
+    match kept {
+        KeptQuery::Running(running) => {
+            operator < running.len() && running.ready(streams, operator).is_none()
+        }
         _ => false,
     }
 }

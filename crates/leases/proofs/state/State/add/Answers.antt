@@ -1,13 +1,14 @@
-use Rattle.std.proofs.Common.{◌≡◌, ◌∙◌, Some, [], ◌∷◌, ◌++◌, ap, length, refl, sym, subst}
+use Rattle.std.proofs.Common.{◌≡◌, ◌∙◌, Some, [], ◌∷◌, ◌++◌, ap, length, refl, sym, subst, subst₂}
 use Rattle.std.specs.List.{position}
 use Rattle.name_table.specs.Names.{bears}
 use Rattle.ready_list.specs.Slots.{without_query}
 use Rattle.plain_engines.specs.Calls.{registered}
+use Rattle.leases.specs.Readers.{HaveCome}
 use Rattle.leases.specs.Registering.{with_first}
 use Rattle.leases.specs.Shown.{engine_in}
 use Rattle.leases.specs.Views.{query_of}
 use Rattle.leases.specs.declared.kept.KeptQuery.TheVariants as code
-use Rattle.leases.proofs.AddLemmas.{engine_still, engine_with, free_name, new_operators, none_there, slots_are, sound_still, sound_with}
+use Rattle.leases.proofs.AddLemmas.{engine_still, engine_with, free_name, new_operators, new_sources, none_there, slots_are, sound_still, sound_with}
 use Rattle.leases.proofs.RegisterLemmas.{left_again}
 use Rattle.leases.proofs.state.State.add.Goals as goal
 
@@ -36,6 +37,7 @@ returns-clause-sound c =
     let s = c.args.self.now in
     sound_with s _ (query_of c.args.told) c.args.running c.requires.sound c.requires.good c.requires.live (returns-clause-engine c) refl refl
     (c.in-Ok.ensures.ok ∙ ap (λ n. s.names ++ Some n ∷ []) (sym c.requires.named))
+    (subst₂ (λ n rs. HaveCome (query_of c.args.told) n (length (query_of c.args.told).nodes) rs c.put_readers.new.readers.items) c.next_query-number.ensures c.reserve-3.ensures.items c.put_readers.ensures)
 
 pub returns-in_default-clause-err : goal.returns-in_default-clause-err
 returns-in_default-clause-err c =
@@ -50,4 +52,8 @@ returns-in_default-clause-sound c =
     let none : without_query c.next_query-number.result s.slots ≡ s.slots = subst (λ n. without_query n s.slots ≡ s.slots) (sym c.next_query-number.ensures) (none_there (engine_in s) c.requires.sound.good) in
     sound_still s _ refl c.in_default.ensures.err c.reserve.ensures.items c.reserve-2.ensures.items refl refl
     (left_again s.streams c.args.running c.deref.result.now c.next_query-number.result (length c.deref.result.now) s.slots c.put_slots.new.slots c.drop_query.new.self c.in_ok-put_slots.ensures.ok none c.drop_query.ensures)
-    c.requires.sound
+    c.reserve-3.ensures.items c.requires.sound
+
+pub put_readers-requires-clause-sources : goal.put_readers-requires-clause-sources
+put_readers-requires-clause-sources c =
+    new_sources (engine_in c.args.self.now) (query_of c.args.told) c.args.running c.deref.result.now c.requires.sound.good.many c.requires.good (c.deref.ensures.value ∙ c.args.told.sloped)

@@ -28,4 +28,4 @@ pub returns-clause-rest : goal.returns-clause-rest
 returns-clause-rest c =
     let is : c.retain.new.self.items ≡ filter (λ (g : Given). not (g.node.query == c.args.query)) c.args.self.now.leases.items =
     filter_same _ (λ (g : Given). not (g.node.query == c.args.query)) _ (λ x b f h. search rules) _ _ c.retain.ensures.filtered in
-    record { names = refl; leases = left_in (λ (g : Given). not (g.node.query == c.args.query)) c.args.self.now.leases.items c.retain.new.self.items is }
+    record { names = refl; readers = refl; leases = left_in (λ (g : Given). not (g.node.query == c.args.query)) c.args.self.now.leases.items c.retain.new.self.items is }

@@ -6,12 +6,14 @@ use Rattle.plain_engines.proofs.SlotLemmas.{in_filter}
 use Rattle.plain_engines.proofs.TakeLemmas.{changed_or_there}
 use Rattle.reference.specs.Commands as machine
 use Rattle.reference.specs.Named.{name_of_registered}
+use Rattle.plain_engines.specs.Calls.{dropped}
+use Rattle.leases.specs.Readers.{ListsReaders}
 use Rattle.leases.specs.Shown.{engine_in}
 use Rattle.leases.specs.Sound.{is_gone}
 use Rattle.leases.specs.Views.{kept_of, query_of}
 use Rattle.leases.specs.declared.given.Given.{Given}
 use Rattle.leases.specs.declared.registered.Registration.{Registration}
-use Rattle.leases.proofs.DropLemmas.{another, drops, gone_dropped, is_dropped, kept_dropped, kept_within, named_there, names_dropped, refused, registered_dropped, registered_within, there}
+use Rattle.leases.proofs.DropLemmas.{another, drops, gone_dropped, is_dropped, kept_dropped, kept_within, named_there, names_dropped, readers_dropped, refused, registered_dropped, registered_within, there}
 use Rattle.leases.proofs.LeaveLemmas.{fewer}
 use Rattle.leases.proofs.state.State.drop_query.Goals as goal
 
@@ -79,4 +81,6 @@ returns-clause-sound c = record {
       ∙ ap (λ z. map is_gone z) (sym (kept_dropped c.args.self.now.kept.items c.args.query));
   columns = c.requires.columns;
   closed = c.requires.closed;
+  readers = subst (λ z. ListsReaders z c.forget_readers.new.readers.items) (sym (returns-clause-engine c))
+      (subst (ListsReaders (dropped (engine_in c.args.self.now) c.args.query)) (sym c.forget_readers.ensures) (readers_dropped (engine_in c.args.self.now) c.args.query c.args.self.now.readers.items c.requires.readers));
 }

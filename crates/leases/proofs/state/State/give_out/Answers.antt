@@ -18,6 +18,7 @@ after c = record {
   names = c.args.self.now.names;
   registered = c.args.self.now.registered;
   kept = c.args.self.now.kept;
+  readers = c.args.self.now.readers;
   leases = c.push_reserved.new.self;
   next = c.args.self.now.next + 1;
   slots = c.change.new.self;
@@ -36,6 +37,7 @@ gone c retold = record {
   slots = retold;
   next = refl;
   names = refl;
+  readers = refl;
 }
 
 pub returns-clause-turn : goal.returns-clause-turn

@@ -24,7 +24,7 @@ pub returns-in_err-rows-clause-sound : goal.returns-in_err-rows-clause-sound
 returns-in_err-rows-clause-sound c =
     sound_again c.args.self.now _ c.requires.sound
     (refused_same (λ (v : Vec (ℤ × ArrayVec (Option ℤ)) Global). handed_of v.items) c.args.self.now _ c.args.query c.args.limit c.index_mut.result.now c.hand_out.new.kept c.in_err-rows.field-0.0 c.requires.sound c.requires.accepted c.index_mut.ensures.value c.in_err-rows.ensures refl)
-    refl refl refl
+    refl refl refl refl
 
 pub index_mut-requires-2 : goal.index_mut-requires-2
 index_mut-requires-2 c = let within = registered_within c.args.self.now c.args.query (pos c.args.limit) c.requires.accepted in omega (arith, within, c.args.self.now.registered.ok)
@@ -46,4 +46,4 @@ returns-clause-takes c =
 pub returns-clause-sound : goal.returns-clause-sound
 returns-clause-sound c =
     sound_taken c.args.self.now _ c.args.query (pos c.args.limit) (count_of (engine_in c.args.self.now) c.args.query (pos c.args.limit)) c.requires.sound (record { accepted = c.requires.accepted; many = refl }) (returns-clause-takes c).2
-    refl refl refl
+    refl refl refl refl

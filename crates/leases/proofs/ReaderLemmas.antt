@@ -1,5 +1,5 @@
 -- The windows that read streams: what is known of their operators, and their slots, told one after the other.
-use Rattle.std.proofs.Common.{◌≡◌, ℕ, zero, suc, ◌+◌, ◌<◌, ◌≤◌, true, false, cond, ⊎_elim, Some, List, [], ◌∷◌, ◌++◌, drop, get_or, length, map, refl, sym, ap, ◌∙◌, subst, arith, append_assoc, append-nil, drop-cons, nat_lt, ltb-true, lt-ltb, eqb-true, is_none, Option, None, ◌&&◌, inl, inr, ap₂, ◌==◌}
+use Rattle.std.proofs.Common.{◌≡◌, ℕ, zero, suc, ◌+◌, ◌<◌, ◌≤◌, true, false, ⊎_elim, Some, List, [], ◌∷◌, ◌++◌, drop, get_or, length, map, refl, sym, ap, ◌∙◌, subst, arith, drop-cons, nat_lt, ltb-true, lt-ltb, eqb-true, is_none, Option, None, ◌&&◌, inl, inr, ap₂}
 use Rattle.std.specs.Prelude.{slice_get}
 use Rattle.std.specs.List.{AllByRecursion}
 use Rattle.std.specs.Option.{option_map}
@@ -29,7 +29,7 @@ use Rattle.operators.specs.Operators.{ready}
 use Rattle.column.specs.declared.batch.Side.{Side}
 use Rattle.leases.specs.Asked.{HasOperatorAt}
 use Rattle.reference.proofs.StepLemmas.{get_or-map}
-use Rattle.leases.specs.Readers.{HasSource, HaveCome, ListsReaders, reader, reader_in, resting_slot, resting_slots, rests, rests_in, told, told_all, with_slots}
+use Rattle.leases.specs.Readers.{HasSource, HaveCome, ListsReaders, reader, reader_in, resting_slot, rests, rests_in, told, told_all, with_slots}
 use Rattle.leases.specs.Shown.{engine_in}
 use Rattle.leases.specs.Views.{kept_of, query_of}
 use Rattle.leases.specs.declared.kept.KeptQuery.{KeptQuery}
@@ -205,31 +205,6 @@ reads_on e e2 queries kept rs h s n k is = h s n k (record {
   within = is.within;
   reads = is.reads;
 })
-
--- THE NEXT READER: its slot comes where it reads the stream
-module _ (e : PlainEngine) (s : ℕ) (rs : List Reader) (k : ℕ) (r : Reader) (within : k < length rs) (is : r ≡ get_or rs k r) where
-  next_reader : resting_slots e s (drop k rs) ≡ cond (r.stream == s) (resting_slot e r.query r.operator) [] ++ resting_slots e s (drop (k + 1) rs)
-  next_reader =
-      let one : suc k ≡ k + 1 = omega arith in
-      ap (resting_slots e s) (drop-cons rs k r within ∙ ap (λ x. x ∷ drop (suc k) rs) (sym is))
-      ∙ ap (λ i. cond (r.stream == s) (resting_slot e r.query r.operator) [] ++ resting_slots e s (drop i rs)) one
-
-  pub reader_comes : (slots new all : List Slot) → (r.stream == s) ≡ true → new ≡ slots ++ resting_slot e r.query r.operator → slots ++ resting_slots e s (drop k rs) ≡ all → new ++ resting_slots e s (drop (k + 1) rs) ≡ all
-  reader_comes slots new all reads push h =
-      ap (λ z. z ++ resting_slots e s (drop (k + 1) rs)) push
-      ∙ append_assoc slots (resting_slot e r.query r.operator) (resting_slots e s (drop (k + 1) rs))
-      ∙ sym (ap (λ z. slots ++ z) (next_reader ∙ ap (λ b. cond b (resting_slot e r.query r.operator) [] ++ resting_slots e s (drop (k + 1) rs)) reads))
-      ∙ h
-
-  pub reader_passes : (slots new all : List Slot) → (r.stream == s) ≡ false → new ≡ slots → slots ++ resting_slots e s (drop k rs) ≡ all → new ++ resting_slots e s (drop (k + 1) rs) ≡ all
-  reader_passes slots new all reads same h =
-      ap (λ z. z ++ resting_slots e s (drop (k + 1) rs)) same
-      ∙ sym (ap (λ z. slots ++ z) (next_reader ∙ ap (λ b. cond b (resting_slot e r.query r.operator) [] ++ resting_slots e s (drop (k + 1) rs)) reads))
-      ∙ h
-
--- past the last
-pub readers_all : (e : PlainEngine) (s : ℕ) (rs : List Reader) (k : ℕ) (slots all : List Slot) → length rs ≤ k → slots ++ resting_slots e s (drop k rs) ≡ all → slots ≡ all
-readers_all e s rs k slots all l h = sym (append-nil slots) ∙ sym (ap (λ z. slots ++ resting_slots e s z) (drop_all k rs l)) ∙ h
 
 -- TOLD: the next of the slots
 pub told_next : (e : PlainEngine) (ss : List Slot) (k : ℕ) (s : Slot) (slots : List Slot) → k < length ss → s ≡ get_or ss k s → told_all e (drop k ss) slots ≡ told_all e (drop (k + 1) ss) (told e s slots)

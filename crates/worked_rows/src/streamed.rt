@@ -3,7 +3,7 @@ ghost use Rattle.std.specs.Prelude.{◌≡◌, [], IfOk};
 ghost use Rattle.row_bags.specs.Nets.{net_of};
 
 use crate::rows::{one, row};
-use column::{Batch, SignedRow};
+use column::Batch;
 use op_queue::Item;
 use std::alloc::{AllocError, Global};
 use std::test::Fail;
@@ -97,9 +97,8 @@ fn rstream_answers_the_whole(rt: HostRuntime) -> Result<(), Fail> {
 }
 
 /// What Rstream answers once it has shown 5 and 7, and these rows have come or left.
-fn whole_shows(alloc: Global, rows: &[SignedRow], numbers: &[i64]) -> Result<bool, AllocError> {
+fn whole_shows(alloc: Global, batch: Batch, numbers: &[i64]) -> Result<bool, AllocError> {
     let mut root = ticked(alloc, Operator::Rstream, true)?;
-    let batch = Batch::from_rows(alloc, rows)?;
     let _few = batch.len();
     root.apply(&Item::Rows(4, batch))?;
     shows(alloc, &root, numbers)
@@ -108,12 +107,13 @@ fn whole_shows(alloc: Global, rows: &[SignedRow], numbers: &[i64]) -> Result<boo
 /// 5 leaves and comes again, and 6 comes twice.
 fn comes_again(alloc: Global) -> Result<bool, AllocError> {
     let rows = [one(false, 5), one(true, 6), one(true, 5), one(true, 6)];
-    whole_shows(alloc, &rows, &[5, 6, 6, 7])
+    let batch = Batch::from_rows(alloc, &rows)?;
+    whole_shows(alloc, batch, &[5, 6, 6, 7])
 }
 
 fn all_leave(alloc: Global) -> Result<bool, AllocError> {
-    let rows = [one(false, 7), one(false, 5)];
-    whole_shows(alloc, &rows, &[])
+    let batch = Batch::from_rows(alloc, &[one(false, 7), one(false, 5)])?;
+    whole_shows(alloc, batch, &[])
 }
 
 #[test]

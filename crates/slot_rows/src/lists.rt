@@ -250,6 +250,8 @@ fn a_slot_that_is_not_there_changes_nothing(rt: HostRuntime) -> Result<(), Fail>
         (flat(Some(4)), None, Some(flat(Some(3)))),
     ];
     assert!(rt; follow(rt.alloc(), &slots, &changes)?);
+    let none = [(slot(0, None, 0, 0), Some(0), None)];
+    assert!(rt; follow(rt.alloc(), &[], &none)?);
     Ok(())
 }
 

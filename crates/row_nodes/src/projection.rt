@@ -11,7 +11,7 @@ use values::MAX_COLUMNS;
 
 /// What Project puts out at an item: each row with these columns alone, in this order, and ticks as they are.
 ///
-/// Columns are copied whole.
+/// Columns are copied whole. An error says that memory was refused; nothing is changed.
 pub fn project(alloc: Global, columns: &[usize], item: &Item) -> Result<Vec<Item>, AllocError>
     requires narrow { length columns.now ≤ MAX_COLUMNS }
     requires within { AreColumns columns.now item.now }

@@ -39,6 +39,7 @@ impl GroupBy {
     }
 
     /// Distinct over rows of this many columns: the groups of all columns, which list their key.
+    /// An error says that memory was refused.
     pub fn distinct(alloc: Global, width: usize) -> Result<GroupBy, AllocError>
         requires { width ≤ MAX_COLUMNS }
         ensures { IfOk result (λ g. g ≡ once_each width) }

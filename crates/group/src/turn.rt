@@ -270,6 +270,7 @@ fn nothing(alloc: Global) -> (Vec<Item>, Change)
 ///
 /// At a tick each touched group whose row differs from the one that was shown puts that one out with minus and its own with plus;
 /// then follows the tick. Rows put out nothing and change nothing that is shown. It costs the excerpt and the outputs.
+/// An error says that memory was refused; nothing is changed.
 pub fn work(
     alloc: Global,
     group: &GroupBy,

@@ -52,6 +52,7 @@ impl ToStream {
     }
 
     /// What a turn needs of the state: at a tick the rows that answer, in order. It costs as much as these.
+    /// An error says that memory was refused; nothing is changed.
     pub fn near(&self, alloc: Global, item: &Item) -> Result<Vec<Row>, AllocError>
         ensures { IfOk result (λ rows. rows_of rows.items ≡ near self.now item.now) }
     {
@@ -64,7 +65,7 @@ impl ToStream {
         }
     }
 
-    /// The state after the item. After an error it can only be dropped: some of the rows may have been taken in.
+    /// The state after the item. Where memory is refused it can only be dropped: some of the rows may have been taken in.
     pub fn apply(&mut self, item: &Item) -> Result<(), AllocError>
         requires { HasRoom self.old item.now }
         ensures state { OnOk result (self.new ≡ next self.old item.now) }
@@ -118,6 +119,8 @@ impl ToStream {
 }
 
 /// The answers of a turn, each a row with the item's instant; they wait from then on. Rows alone answer nothing.
+///
+/// An error says that memory was refused; nothing is changed.
 pub fn work(alloc: Global, item: &Item, near: &[Row]) -> Result<Vec<(u64, Row)>, AllocError>
     ensures { IfOk result (λ answers. answers_of answers.items ≡ out item.now (rows_of near.now)) }
 {

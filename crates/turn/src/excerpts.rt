@@ -8,6 +8,7 @@ use values::Row;
 /// A list of rows.
 #[derive(Drop)]
 pub struct RowList {
+    /// The rows, in their order.
     pub rows: Vec<Row>,
 }
 
@@ -24,6 +25,7 @@ impl Model for RowList {
 /// For each row of an item the row that falls out of its partition after it, if one does.
 #[derive(Drop)]
 pub struct FallenRows {
+    /// In the order of the item's rows; None for one after which no row falls out.
     pub rows: Vec<Option<Row>>,
 }
 
@@ -40,6 +42,7 @@ impl Model for FallenRows {
 /// Of rows the rows of the other side that each meets, of a tick whether the other side has ticked.
 #[derive(Drop)]
 pub struct MetRows {
+    /// The join's own excerpt.
     pub near: join::Near,
 }
 

@@ -9,6 +9,7 @@ use values::MAX_COLUMNS;
 /// The steps of a condition in postfix order.
 #[derive(Drop)]
 pub struct StepList {
+    /// The steps, in the order in which they are run.
     pub steps: Vec<Step>,
 }
 

@@ -15,6 +15,7 @@ pub enum Outputs {
 /// What a turn changes of its operator's state beyond what the item itself says.
 #[derive(Drop)]
 pub enum Change {
+    /// Nothing more.
     Nothing,
     /// How many rows leave the front of a window of the last instants.
     Leave(usize),

@@ -16,8 +16,11 @@ use std::marker::Model;
 pub struct Turn {
     /// The number of the lease.
     pub lease: u64,
+    /// The operator, and at a join the side that the item is of.
     pub node: Node,
+    /// The item of the operator's queue.
     pub item: Item,
+    /// The excerpt of the operator's state.
     pub near: Near,
 }
 

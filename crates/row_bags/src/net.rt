@@ -36,7 +36,7 @@ impl Net {
         }
     }
 
-    /// What entered, in order.
+    /// What entered, in order. An error says that memory was refused; nothing is changed.
     pub fn entered(&self, alloc: Global) -> Result<Vec<Row>, AllocError>
         ensures { IfOk result (λ rows. rows_of rows.items ≡ self.now.entered) }
     {
@@ -44,7 +44,7 @@ impl Net {
         Ok(rows)
     }
 
-    /// What left, in order.
+    /// What left, in order. An error says that memory was refused; nothing is changed.
     pub fn left(&self, alloc: Global) -> Result<Vec<Row>, AllocError>
         ensures { IfOk result (λ rows. rows_of rows.items ≡ self.now.left) }
     {
@@ -52,7 +52,7 @@ impl Net {
         Ok(rows)
     }
 
-    /// What entered and left after one signed row more.
+    /// What entered and left after one signed row more. An error says that memory was refused; nothing is changed.
     pub fn apply_one(&mut self, signed_row: SignedRow) -> Result<(), AllocError>
         requires entered { length self.old.entered < 2 ^ 62 }
         requires left { length self.old.left < 2 ^ 62 }
@@ -67,7 +67,7 @@ impl Net {
         Ok(())
     }
 
-    /// What entered and left after the signed rows. After an error only some of them may have been taken in.
+    /// What entered and left after the signed rows. Where memory is refused, only some of them may have been taken in.
     pub fn apply(&mut self, batch: &Batch) -> Result<(), AllocError>
         requires { length self.old.entered + length self.old.left + length batch.now < 2 ^ 62 }
         ensures { OnOk result (self.new ≡ nets_after self.old batch.now) }

@@ -41,6 +41,7 @@ impl RowList {
     }
 
     /// The rows after what left and entered. A row that left and does not stand where it comes in order is not found.
+    /// An error says that memory was refused; nothing is changed.
     pub fn renewed(&self, alloc: Global, net: &Net) -> Result<Vec<Row>, AllocError>
         ensures { IfOk result (λ rows. rows_of rows.items ≡ renewed self.now net.now) }
     {
@@ -51,6 +52,7 @@ impl RowList {
     }
 
     /// Becomes the rows after what left and entered. Where nothing did, this is all that it looks at.
+    /// Where memory is refused, the list is one to be dropped.
     pub fn renew(&mut self, alloc: Global, net: &Net) -> Result<(), AllocError>
         ensures { OnOk result (self.new ≡ renewed self.old net.now) }
     {

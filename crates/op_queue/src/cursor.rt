@@ -52,6 +52,7 @@ impl Cursor {
     }
 
     /// A copy of the front: a tick, or the rows that are left of its instant, at most `count` of them and at most `MAX_ROWS`.
+    /// An error says that memory was refused; nothing is changed.
     pub fn front_cut(&self, alloc: Global, log: &Log, count: usize) -> Result<Item, AllocError>
         requires waits { 0 < length (cursor_entries self.now log.now) }
         requires some { 0 < count }

@@ -14,8 +14,11 @@ use values::{MAX_COLUMNS, Row, Value, value_at};
 /// A row that came to a stream, with its instant and its number in the order of arrival.
 #[derive(Drop)]
 pub struct Arrival {
+    /// Its number in the order of arrival, from 0 on.
     pub number: u64,
+    /// Its instant.
     pub instant: u64,
+    /// Its values.
     pub row: Row,
 }
 
@@ -47,6 +50,7 @@ impl Model for Log {
 
 impl Log {
     /// A log of a stream with so many columns, whose instants from `until` on are open.
+    /// An error says that memory was refused.
     pub fn new(alloc: Global, width: usize, until: u64) -> Result<Log, AllocError>
         requires { width ≤ MAX_COLUMNS }
         ensures width { IfOk result (λ log. log.width ≡ width) }
@@ -67,6 +71,7 @@ impl Log {
     }
 
     /// Closes the instants below `until`, which have these rows.
+    /// An error says that memory was refused; nothing is changed.
     pub fn close(&mut self, rows: &[Arrival], until: u64) -> Result<(), AllocError>
         requires { IsClosing self.old (map element rows.now) until }
         ensures elements { OnOk result (self.new.elements ≡ self.old.elements ++ map element rows.now) }

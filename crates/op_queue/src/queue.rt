@@ -22,7 +22,9 @@ pub(crate) enum Piece {
 /// What stands at the front of a queue, with its instant.
 #[derive(Clone, Copy, PartialEq, Eq, Debug)]
 pub enum Front {
+    /// A row of this instant.
     Row(u64),
+    /// The tick of this instant.
     Tick(u64),
 }
 
@@ -90,7 +92,7 @@ impl Queue {
         self.pieces.len()
     }
 
-    /// Adds an item at the back.
+    /// Adds an item at the back. An error says that memory was refused; the queue is as it was, and the item is dropped.
     pub fn push(&mut self, item: Item) -> Result<(), AllocError>
         requires { IsForward (self.old.entries ++ entries_of item) }
         ensures entries { OnOk result (self.new.entries ≡ self.old.entries ++ entries_of item) }
@@ -108,6 +110,7 @@ impl Queue {
     }
 
     /// Adds the ticks from the first to the last at the back, as a part of one piece.
+    /// An error says that memory was refused; nothing is changed.
     pub fn push_ticks(&mut self, first: u64, last: u64) -> Result<(), AllocError>
         requires some { first ≤ last }
         requires forward { IsForward (self.old.entries ++ ticks first last) }
@@ -135,6 +138,7 @@ impl Queue {
     }
 
     /// A copy of the front: a tick, or what is left of a batch, at most `count` rows of it.
+    /// An error says that memory was refused; nothing is changed.
     pub fn front_cut(&self, alloc: Global, count: usize) -> Result<Item, AllocError>
         requires waits { 0 < length self.now.entries }
         requires some { 0 < count }

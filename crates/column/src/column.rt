@@ -30,7 +30,7 @@ impl Model for Column {
 }
 
 impl Column {
-    /// No values, with room for this many.
+    /// No values, with room for this many. An error says that memory was refused.
     pub fn with_capacity(alloc: Global, count: usize) -> Result<Column, AllocError>
         ensures { IfOk result (λ c. c ≡ []) }
     {
@@ -39,7 +39,7 @@ impl Column {
         Ok(Column { numbers, valid })
     }
 
-    /// A column of these values.
+    /// A column of these values. An error says that memory was refused; nothing is changed.
     pub fn from_values(alloc: Global, values: &[Value]) -> Result<Column, AllocError>
         requires { length values.now ≤ MAX_ROWS }
         ensures { IfOk result (λ c. c ≡ values.now) }
@@ -51,7 +51,7 @@ impl Column {
         Ok(column)
     }
 
-    /// One value more.
+    /// One value more. An error says that memory was refused; nothing is changed.
     pub fn push(&mut self, value: Value) -> Result<(), AllocError>
         requires { length self.old < MAX_ROWS }
         ensures ok { OnOk result (self.new ≡ self.old ++ value ∷ []) }
@@ -92,6 +92,7 @@ impl Column {
     }
 
     /// A copy of the values from the place `from` to below the place `to`, as far as there are any.
+    /// An error says that memory was refused; nothing is changed.
     pub fn part(&self, alloc: Global, from: usize, to: usize) -> Result<Column, AllocError>
         ensures { IfOk result (λ c. c ≡ slice_range self.now from to) }
     {
@@ -102,7 +103,7 @@ impl Column {
         Ok(Column { numbers, valid })
     }
 
-    /// The values at these places, in their order.
+    /// The values at these places, in their order. An error says that memory was refused; nothing is changed.
     pub fn picked(&self, alloc: Global, places: &[usize]) -> Result<Column, AllocError>
         requires few { length places.now ≤ MAX_ROWS }
         requires within { All (λ i. i < length self.now) places.now }

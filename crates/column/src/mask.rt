@@ -26,7 +26,7 @@ impl Model for Mask {
 }
 
 impl Mask {
-    /// No truths, with room for this many.
+    /// No truths, with room for this many. An error says that memory was refused.
     pub fn with_capacity(alloc: Global, count: usize) -> Result<Mask, AllocError>
         ensures { IfOk result (λ m. m ≡ []) }
     {
@@ -34,7 +34,7 @@ impl Mask {
         Ok(Mask { words, len: 0 })
     }
 
-    /// The first `len` bits of these words.
+    /// The first `len` bits of these words. An error says that memory was refused; nothing is changed.
     pub fn from_words(alloc: Global, words: &[u64], len: usize) -> Result<Mask, AllocError>
         requires few { len ≤ MAX_ROWS }
         requires clear { IsClear len words.now }
@@ -44,7 +44,7 @@ impl Mask {
         Ok(Mask { words, len })
     }
 
-    /// One truth more.
+    /// One truth more. An error says that memory was refused; nothing is changed.
     pub fn push(&mut self, truth: bool) -> Result<(), AllocError>
         requires { length self.old < MAX_ROWS }
         ensures ok { OnOk result (self.new ≡ self.old ++ truth ∷ []) }
@@ -79,6 +79,7 @@ impl Mask {
     }
 
     /// A copy of the truths from the place `from` to below the place `to`, as far as there are any.
+    /// An error says that memory was refused; nothing is changed.
     pub fn part(&self, alloc: Global, from: usize, to: usize) -> Result<Mask, AllocError>
         ensures { IfOk result (λ m. m ≡ slice_range self.now from to) }
     {
@@ -118,7 +119,7 @@ impl Mask {
         Ok(mask)
     }
 
-    /// The truths at these places, in their order.
+    /// The truths at these places, in their order. An error says that memory was refused; nothing is changed.
     pub fn picked(&self, alloc: Global, places: &[usize]) -> Result<Mask, AllocError>
         requires few { length places.now ≤ MAX_ROWS }
         requires within { All (λ i. i < length self.now) places.now }
@@ -131,7 +132,7 @@ impl Mask {
         Ok(mask)
     }
 
-    /// The places that are true, in order.
+    /// The places that are true, in order. An error says that memory was refused; nothing is changed.
     pub fn places(&self, alloc: Global) -> Result<Vec<usize>, AllocError>
         ensures value { IfOk result (λ ps. ps.items ≡ true_places self.now) }
         ensures few { IfOk result (λ ps. length ps.items ≤ MAX_ROWS) }

@@ -31,6 +31,7 @@ impl Inbox {
     }
 
     /// A copy of the front: a tick, or at most `rows` of the rows that stand there together.
+    /// An error says that memory was refused; nothing is changed.
     pub fn front_cut(&self, alloc: Global, log: &Log, rows: usize) -> Result<Item, AllocError>
         requires waits { 0 < length (entries_in self.now log.now) }
         requires some { 0 < rows }
@@ -59,7 +60,8 @@ impl Inbox {
         }
     }
 
-    /// Items come to the back of a queue between operators. After an error some of them have come.
+    /// Items come to the back of a queue between operators. Where memory is refused some of them may have come, and it can only be
+    /// dropped.
     pub fn push(&mut self, items: Vec<Item>) -> Result<(), AllocError>
         requires fed { is_fed self.old ≡ true }
         requires forward { IsForward (queued self.old ++ all_entries items.items) }

@@ -52,7 +52,7 @@ impl Operator {
         }
     }
 
-    /// What it does, shared with its turns.
+    /// What it does, shared with its turns. It takes no memory; an error says that no more owners can be counted, and nothing is changed.
     pub fn kind(&self) -> Result<Arc<Kind>, AllocError>
         ensures { IfOk result (λ kind. arc_value kind ≡ self.now.kind) }
     {
@@ -81,6 +81,7 @@ impl Operator {
     }
 
     /// A copy of the front of a side: a tick, or at most `rows` of the rows that stand there together.
+    /// An error says that memory was refused; nothing is changed.
     pub fn cut(&self, alloc: Global, log: &Log, side: Side, rows: usize) -> Result<Item, AllocError>
         requires waits { 0 < length (waiting self.now log.now side) }
         requires some { 0 < rows }
@@ -91,6 +92,7 @@ impl Operator {
     }
 
     /// The excerpt that a turn with the item needs of the state, which is one of the operator's kind.
+    /// An error says that memory was refused; nothing is changed.
     pub fn near(&self, alloc: Global, side: Side, item: &Item) -> Result<Near, AllocError>
         requires belongs { Belongs self.now.kind self.now.state }
         requires columns { HasColumns self.now.state side item.now }
@@ -102,8 +104,8 @@ impl Operator {
         Ok(near)
     }
 
-    /// The operator after a turn with an item of the side's front: the item leaves, and the state changes. After an error the operator can
-    /// only be dropped.
+    /// The operator after a turn with an item of the side's front: the item leaves, and the state changes. Where memory is refused the
+    /// operator can only be dropped.
     pub fn finish_item(
         &mut self,
         log: &Log,
@@ -121,7 +123,8 @@ impl Operator {
         Ok(())
     }
 
-    /// Items come from the operator below, to the back of the side's queue. After an error some of them have come.
+    /// Items come from the operator below, to the back of the side's queue. Where memory is refused some of them may have come, and
+    /// the operator can only be dropped.
     pub fn feed(&mut self, side: Side, items: Vec<Item>) -> Result<(), AllocError>
         requires fed { is_fed (inbox_of self.old side) ≡ true }
         requires forward { IsForward (queued (inbox_of self.old side) ++ all_entries items.items) }

@@ -11,11 +11,13 @@ use std::alloc::{AllocError, Global};
 /// there the number is how many operators the plan has.
 #[derive(Clone, Copy, Drop)]
 pub struct Wire {
+    /// The operator's number.
     pub to: usize,
+    /// The operator's side; the left one where it has one input, and of a root.
     pub side: Side,
 }
 
-/// Where the outputs of each operator of a plan go.
+/// Where the outputs of each operator of a plan go. An error says that memory was refused; nothing is changed.
 pub fn wires(alloc: Global, nodes: &[Node]) -> Result<Vec<Wire>, AllocError>
     ensures { IfOk result (λ wires. wires.items ≡ wires_of (nodes_of nodes.now)) }
 {

@@ -50,6 +50,7 @@ impl Model for RunningQuery {
 impl RunningQuery {
     /// The query of a plan before anything has come. `streams` has the number of each source's stream and `places` how many rows
     /// that stream had when the query was registered; `start` is the query's first instant.
+    /// An error says that memory was refused; nothing is changed.
     pub fn new(
         alloc: Global,
         plan: &Plan,
@@ -106,7 +107,8 @@ impl RunningQuery {
         )
     }
 
-    /// What an operator does, shared with its turns.
+    /// What an operator does, shared with its turns. It takes no memory; an error says that no more owners can be counted, and nothing is
+    /// changed.
     pub fn kind(&self, operator: usize) -> Result<Arc<Kind>, AllocError>
         requires { operator < length self.now.operators }
         ensures { IfOk result (λ kind. arc_value kind ≡ (operator_at self.now.operators operator).kind) }
@@ -115,7 +117,7 @@ impl RunningQuery {
     }
 
     /// A copy of what stands first on a side of an operator, at most `rows` rows and no more than a batch has, or a tick, and the excerpt that a turn with it needs. It
-    /// costs these two, and look-ups.
+    /// costs these two, and look-ups. An error says that memory was refused; nothing is changed.
     pub fn lease(
         &self,
         alloc: Global,
@@ -133,7 +135,7 @@ impl RunningQuery {
     }
 
     /// A turn of an operator has come back: its item leaves the side's queue, the state changes, and what it put out goes on. It costs the
-    /// item, the change and the outputs. After an error only its answers are as they were, and it can only be given up.
+    /// item, the change and the outputs. Where memory is refused only its answers are as they were, and it can only be given up.
     pub fn finish(
         &mut self,
         streams: &Streams,
@@ -161,7 +163,7 @@ impl RunningQuery {
         }
     }
 
-    /// Hands out the first answers that wait, at most `limit`, at the cost of these. On Err it is as it was.
+    /// Hands out the first answers that wait, at most `limit`, at the cost of these. Where memory is refused it is as it was.
     pub fn take(&mut self, alloc: Global, limit: usize) -> Result<Vec<(i64, Row)>, AllocError>
         requires { are_signed self.old.answers ≡ true }
         ensures handed { IfOk result (λ rows. handed_of rows.items ≡ handed (taken limit self.old.answers)) }

@@ -226,7 +226,8 @@ impl Streams {
     /// Declares a stream, whose first open instant is `from`, and answers its number, from 0 on.
     ///
     /// # Errors
-    /// `BadName`, `NameTaken`, `BadColumns`, `InstantRange`, `TooMany`: the first test that fails, and then all is as it was.
+    /// `BadName`, `NameTaken`, `BadColumns`, `InstantRange`, `TooMany`: the first test that fails; `OutOfMemory` where none does and
+    /// memory is refused. Then all is as it was.
     pub fn declare(&mut self, name: &str, columns: &[String], from: i64) -> Result<u64, Fault>
         ensures { DoesBeside (λ (n : ℕ). n) (λ w. declare_step w name.now (texts_of columns.now) from) self.old result self.new }
     {
@@ -241,8 +242,8 @@ impl Streams {
     /// It costs its rows, and for all that follow one another with one instant one look-up among the instants that are open.
     ///
     /// # Errors
-    /// `UnknownStream`, `TooMany`, `BadWidth`, `ValueRange`, `InstantRange`, `Late`, `StreamFull`: the first test that fails,
-    /// and then all is as it was.
+    /// `UnknownStream`, `TooMany`, `BadWidth`, `ValueRange`, `InstantRange`, `Late`, `StreamFull`: the first test that fails;
+    /// `OutOfMemory` where none does and memory is refused. Then all is as it was.
     pub fn append(&mut self, stream: u64, rows: &NewRows) -> Result<(), Fault>
         ensures { DoesBeside (λ u. u) (λ w. append_step w stream rows.now) self.old result self.new }
     {
@@ -255,7 +256,7 @@ impl Streams {
     /// The rows that a heartbeat at this instant closes, by instant, then arrival; with them `close` does what the heartbeat does.
     ///
     /// # Errors
-    /// `UnknownStream`, `InstantRange`, `Backward`, `Leap`: the first test that fails.
+    /// `UnknownStream`, `InstantRange`, `Backward`, `Leap`: the first test that fails; `OutOfMemory` where none does and memory is refused.
     pub fn closing(&self, stream: u64, at: i64) -> Result<Vec<Arrival>, Fault>
         ensures looks { Looks (λ v. map element v.items) (closing_in self.now stream at) result }
         ensures accepted { OnOk result (first_fault (machine_of self.now) (Heartbeat stream at) ≡ None) }
@@ -270,7 +271,8 @@ impl Streams {
     /// Closes all instants of the stream up to `at`.
     ///
     /// # Errors
-    /// `UnknownStream`, `InstantRange`, `Backward`, `Leap`: the first test that fails, and then all is as it was.
+    /// `UnknownStream`, `InstantRange`, `Backward`, `Leap`: the first test that fails; `OutOfMemory` where none does and memory is refused.
+    /// Then all is as it was.
     pub fn heartbeat(&mut self, stream: u64, at: i64) -> Result<(), Fault>
         ensures does { DoesBeside (λ u. u) (λ w. heartbeat_step w stream at) self.old result self.new }
         ensures queues { OnOk result (QueuesGain (slice_get self.old stream) at) }

@@ -196,7 +196,7 @@ class Bench:
             out.writelines(json.dumps(line, separators=(",", ":")) + "\n" for line in lines)
 
     def memory(self):
-        """The bytes that a row takes: held by a window, not yet closed, and closed and given."""
+        """The bytes that a row takes: held by a window, not yet closed, and closed and given; one of 8 of its instant, and alone there."""
         few, more = 20_000, 20_000 + int(400_000 * self.share)
         print()
         for columns in (1, 2, 8):
@@ -204,16 +204,17 @@ class Bench:
             for what, window, closes in (("that a Range holds", "Range 1000000", True),
                                          ("that waits to be closed", "Now", False),
                                          ("that is closed and that no window holds", "Now", True)):
-                held = {}
-                for rows in (few, more):
-                    self.stored(names, f"Select Istream(Count(*)) From A [{window}]", rows, closes)
-                    held[rows] = peak([self.engine], self.at("script"), self.at("engine"))
-                    refuse_faults(self.at("engine"))
-                bytes_each = (held[more] - held[few]) / (more - few)
-                print(f"a row {what}, of {columns} columns: {bytes_each:.0f} bytes, {bytes_each / (8 * columns):.1f} of its values' "
-                      f"(goal: at most {3 * 8 * columns + 16})", flush=True)
+                for at_once in (ROWS, 1):
+                    held = {}
+                    for rows in (few, more):
+                        self.stored(names, f"Select Istream(Count(*)) From A [{window}]", rows, closes, at_once)
+                        held[rows] = peak([self.engine], self.at("script"), self.at("engine"))
+                        refuse_faults(self.at("engine"))
+                    bytes_each = (held[more] - held[few]) / (more - few)
+                    print(f"a row {what}, of {columns} columns, {at_once} at an instant: {bytes_each:.0f} bytes, "
+                          f"{bytes_each / (8 * columns):.1f} of its values' (goal: at most {3 * 8 * columns + 16})", flush=True)
 
-    def stored(self, names, text, rows, closes):
+    def stored(self, names, text, rows, closes, at_once):
         draw = random.Random(2)
         with open(self.at("script"), "w") as out:
             def say(line):
@@ -221,7 +222,7 @@ class Bench:
             say({"op": "stream", "name": "A", "columns": names, "from": 0})
             say({"op": "query", "name": "q", "text": text})
             for first in range(0, rows, 512):
-                batch = [[first // ROWS + n // ROWS] + [draw.randrange(-1000, 1000) for _ in names] for n in range(min(512, rows - first))]
+                batch = [[(first + n) // at_once] + [draw.randrange(-1000, 1000) for _ in names] for n in range(min(512, rows - first))]
                 say({"op": "append", "stream": "A", "rows": batch})
                 if closes:
                     say({"op": "heartbeat", "stream": "A", "at": batch[-1][0]})

@@ -15,7 +15,7 @@ use turn::{
 use values::{Row, Value};
 use windows::RangeWindow;
 
-fn row(number: i64) -> Row
+pub(crate) fn row(number: i64) -> Row
     ensures { length result.items ≡ 1 }
 {
     let mut row = Row::new();
@@ -23,7 +23,7 @@ fn row(number: i64) -> Row
     row
 }
 
-fn entering(number: i64) -> SignedRow
+pub(crate) fn entering(number: i64) -> SignedRow
     ensures { length result.row.items ≡ 1 }
 {
     SignedRow {
@@ -33,7 +33,7 @@ fn entering(number: i64) -> SignedRow
 }
 
 /// Two rows that enter.
-fn two(alloc: Global, first: i64, second: i64) -> Result<Batch, AllocError>
+pub(crate) fn two(alloc: Global, first: i64, second: i64) -> Result<Batch, AllocError>
     ensures width { IfOk result (λ b. width b ≡ 1) }
     ensures few { IfOk result (λ b. length b ≤ 1024) }
 {
@@ -44,7 +44,7 @@ fn two(alloc: Global, first: i64, second: i64) -> Result<Batch, AllocError>
 }
 
 /// The operator 3 of the query 2.
-fn node(alloc: Global, side: Side, kind: Kind) -> Result<Node, AllocError>
+pub(crate) fn node(alloc: Global, side: Side, kind: Kind) -> Result<Node, AllocError>
     ensures { IfOk result (λ n. n.kind ≡ kind) }
 {
     let kind = Arc::new(alloc, kind)?;
@@ -64,7 +64,7 @@ fn sent<T: Send>(value: T) -> T
 }
 
 /// The turn of the lease 9, run as if in another thread.
-fn run(alloc: Global, node: Node, item: Item, near: Near) -> Result<Done, AllocError>
+pub(crate) fn run(alloc: Global, node: Node, item: Item, near: Near) -> Result<Done, AllocError>
     requires { Fits node item near }
 {
     let turn = sent(Turn {

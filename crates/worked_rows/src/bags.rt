@@ -83,9 +83,20 @@ fn four_is_added(alloc: Global) -> Result<bool, AllocError> {
     Ok(bag.has(&row(4)))
 }
 
+/// The rows 4 and 6 come, one after the other; then 4 leaves, and 9, which is not there.
+fn one_at_a_time(alloc: Global) -> Result<bool, AllocError> {
+    let mut bag = RowBag::new(alloc);
+    bag.apply_one(one(true, 4))?;
+    bag.apply_one(one(true, 6))?;
+    bag.apply_one(one(false, 4))?;
+    bag.apply_one(one(false, 9))?;
+    shows(alloc, &bag, &[6])
+}
+
 #[test]
 fn one_row_more(rt: HostRuntime) -> Result<(), Fail> {
     assert!(rt; four_is_added(rt.alloc())?);
+    assert!(rt; one_at_a_time(rt.alloc())?);
     Ok(())
 }
 

@@ -66,8 +66,13 @@ fn registrations_are_refused(engine: &mut Engine) -> bool {
     true
 }
 
-/// Whether each text is refused by its fault.
-fn texts_are_refused(engine: &mut Engine) -> bool {
+/// Whether the text is refused by this fault.
+fn text_is_refused(engine: &mut Engine, text: &str, fault: QueryFault) -> bool {
+    engine.query("r", text, None).err() == Some(Fault::Query(fault))
+}
+
+/// Whether each text that is none of the grammar is refused by its fault.
+fn wrong_texts_are_refused(engine: &mut Engine) -> bool {
     for (text, fault) in [
         (
             "Select Istream(*) From S [Now] \u{e9}",
@@ -83,6 +88,17 @@ fn texts_are_refused(engine: &mut Engine) -> bool {
             "Select Istream(*) From S [Now] Where (((((((((((((((((((((((((((((((((",
             QueryFault::TooDeep(69),
         ),
+    ] {
+        if !text_is_refused(engine, text, fault) {
+            return false;
+        }
+    }
+    true
+}
+
+/// Whether each text whose names or list fail a test is refused by its fault.
+fn wrong_names_are_refused(engine: &mut Engine) -> bool {
+    for (text, fault) in [
         ("Select Istream(*) From T [Now]", QueryFault::UnknownStream),
         ("Select Istream(b) From S [Now]", QueryFault::UnknownColumn),
         (
@@ -106,11 +122,16 @@ fn texts_are_refused(engine: &mut Engine) -> bool {
             QueryFault::TooWide,
         ),
     ] {
-        if engine.query("r", text, None).err() != Some(Fault::Query(fault)) {
+        if !text_is_refused(engine, text, fault) {
             return false;
         }
     }
     true
+}
+
+/// Whether each text is refused by its fault.
+fn texts_are_refused(engine: &mut Engine) -> bool {
+    wrong_texts_are_refused(engine) && wrong_names_are_refused(engine)
 }
 
 /// What a text of 4,097 spaces is refused for.

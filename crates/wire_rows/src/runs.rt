@@ -4,7 +4,7 @@ use std::alloc::{AllocError, Global};
 use std::io;
 use std::io::ErrorKind;
 use std::test::Fail;
-use wire::{DeviceFailed, MemorySink, MemorySource, Sink, Source, put};
+use wire::{DeviceFailed, MemorySink, MemorySource, Sink, Source, put, run_script};
 
 pub(crate) const FIRST: &str = r#"{"op":"stream","name":"S","columns":["a"],"from":0}
 {"op":"query","name":"q","text":"Select Istream(*) From S [Now]"}
@@ -294,6 +294,24 @@ fn is_answered_over(alloc: Global) -> Result<bool, AllocError> {
             && sink.bytes.as_slice() == replies.as_bytes()
             && engine.query_named("q") == Some(0),
     )
+}
+
+// Whether the first script, answered line by line over an engine of its own, gives its replies, and the engine has its query.
+fn is_answered_by_lines(alloc: Global) -> bool {
+    let Ok(mut engine) = Plain::new(alloc) else {
+        return false;
+    };
+    let mut source = MemorySource::new(FIRST.as_bytes());
+    let mut sink = MemorySink::new(alloc);
+    let ended = run_script(alloc, &mut source, &mut sink, &mut engine, 256);
+    ended.is_ok()
+        && sink.bytes.as_slice() == FIRST_REPLIES.as_bytes()
+        && engine.query_named("q") == Some(0)
+}
+
+#[test]
+fn a_script_is_answered_over_the_engine_that_it_is_given(rt: HostRuntime) {
+    assert!(rt; is_answered_by_lines(rt.alloc()));
 }
 
 // Whether wrong words leave the engine and the source alone.

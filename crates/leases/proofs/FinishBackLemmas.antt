@@ -13,7 +13,7 @@ use Rattle.leases.specs.Applied.{GivesNothing, HasApplied, HasWiredOperators, Is
 use Rattle.leases.specs.Asked.{HasOperatorAt}
 use Rattle.leases.specs.Shown.{engine_in}
 use Rattle.leases.specs.Sound.{IsSound}
-use Rattle.leases.specs.Turns.{IsOut, lease_of_parts}
+use Rattle.leases.specs.Turns.{HasPutOut, IsOut, lease_of_parts}
 use Rattle.leases.specs.declared.state.State.{State}
 use Rattle.leases.proofs.FinishLemmas as plain
 use Rattle.leases.proofs.FinishSoundLemmas.{out_with, sound_back, sound_broken}
@@ -52,7 +52,7 @@ pub record AreSteps (e : PlainEngine) (d : Parts) (n k lease : ℕ) (s : Slot) (
 
 -- it has come back
 abbrev pub HasComeBack : PlainEngine → Parts → PlainEngine → Type 0
-HasComeBack e d new = (q : Registered) × ((p : PlainQuery) × ((p2 : PlainQuery) × (IsOut e d q p × ComesBack e (lease_of_parts d) q p p2 new)))
+HasComeBack e d new = (q : Registered) × ((p : PlainQuery) × ((p2 : PlainQuery) × (IsOut e d q p × ComesBack e (lease_of_parts d) q p p2 new × HasPutOut d p p2)))
 
 module _ (e : PlainEngine) (d : Parts) (n k lease : ℕ) (s : Slot) (above : Option Slot) (e1 e2 : PlainEngine) (g : GoodEngine e) (done : IsDone d) (q : Registered) (p : PlainQuery) (out : IsOut e d q p)
     (st : AreSteps e d n k lease s above e1 e2) where
@@ -116,11 +116,14 @@ module _ (e : PlainEngine) (d : Parts) (n k lease : ℕ) (s : Slot) (above : Opt
   below : (e3 e4 : PlainEngine) → IsRetold e2 s e3 → (t : Slot) → above ≡ Some t → IsRetold e3 t e4 → ComesBack e (lease_of_parts d) out.0 out.1.0 took.0 e4
   below e3 e4 told t some again = come_back_below e d n k lease s above e1 e2 good done out.0 out.1.0 out.1.1 st took.0 took.1.0 took.1.1 e3 told t some e4 again
 
+  put_out : HasPutOut d out.1.0 took.0
+  put_out = record { put = took.1.0.put; batches = took.1.0.batches }
+
   pub back_root : (e3 : PlainEngine) → IsRetold e2 s e3 → above ≡ None → HasComeBack e d e3
-  back_root e3 told none = (out.0, (out.1.0, (took.0, (out.1.1, root e3 told none))))
+  back_root e3 told none = (out.0, (out.1.0, (took.0, (out.1.1, root e3 told none, put_out))))
 
   pub back_below : (e3 e4 : PlainEngine) → IsRetold e2 s e3 → (t : Slot) → above ≡ Some t → IsRetold e3 t e4 → HasComeBack e d e4
-  back_below e3 e4 told t some again = (out.0, (out.1.0, (took.0, (out.1.1, below e3 e4 told t some again))))
+  back_below e3 e4 told t some again = (out.0, (out.1.0, (took.0, (out.1.1, below e3 e4 told t some again, put_out))))
 
 -- THE STATE knows of itself what it knew, also where not all turns that are out are kept
 module _ (old : State) (ls : List Lease) (slots : List Slot) (d : Parts) (n k lease : ℕ) (s : Slot) (above : Option Slot) (e1 e2 : PlainEngine) (sound : IsSound old) (good : GoodEngine (out_with old ls slots))

@@ -13,6 +13,7 @@ mod StreamLemmas
 mod QueueLemmas
 mod ReaderLemmas
 mod BeatLemmas
+mod LengthenLemmas
 pub mod DrainLemmas
 mod MachineLemmas
 mod RetoldLemmas

@@ -4,7 +4,7 @@ use Rattle.turn.specs.Turns.{outs_in}
 use Rattle.turn.specs.declared.parts.Parts.{Parts}
 use Rattle.reference.specs.Machine.{Registered, Stream}
 use Rattle.query_nets.specs.Queries.{PlainQuery, operator_at}
-use Rattle.running_queries.specs.Turns.{CanFinish, CanPut, HasFinished, HasOperator, HasPut, log_of, wire_at}
+use Rattle.running_queries.specs.Turns.{CanFinish, CanPut, HasBatches, HasFinished, HasOperator, HasPut, log_of, wire_at}
 use Rattle.ready_list.specs.Slots.{changed}
 use Rattle.ready_list.specs.declared.slots.Slot.{Slot}
 use Rattle.plain_engines.specs.Calls.{broken, others}
@@ -38,6 +38,7 @@ MayApplyIn e d = (p : PlainQuery) × ((kept_at e d.node.query ≡ Running p) × 
 pub record IsApplied (streams : List Stream) (p : PlainQuery) (d : Parts) (p2 : PlainQuery) : Type 0 where
   pub finished : HasFinished streams p d.node.operator d.node.side d.item d.change p2
   pub put : HasPut p d.node.operator (outs_in d.outputs) p2
+  pub batches : HasBatches p d.node.operator d.outputs p2
 
 -- only what is left of one query is another
 abbrev pub with_kept : PlainEngine → ℕ → Kept → PlainEngine

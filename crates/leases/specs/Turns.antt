@@ -2,7 +2,7 @@
 use Rattle.std.specs.Prelude.{ℕ, ⊤, ◌≡◌, ◌≢◌, ◌||◌, ◌&&◌, not, nat_le, min, is_some, true, Option, Some, None, [], ◌∷◌, length, Result, Ok, Err}
 use Rattle.names.specs.Faults.{first_of}
 use Rattle.op_queue.specs.Items.{entries_of}
-use Rattle.turn.specs.Turns.{Fits}
+use Rattle.turn.specs.Turns.{Fits, outs_in}
 use Rattle.turn.specs.declared.parts.Parts.{Parts}
 use Rattle.turn.specs.declared.turns.Turn.{Turn}
 use Rattle.operators.specs.Inboxes.{cut_of}
@@ -12,6 +12,7 @@ use Rattle.reference.specs.declared.fault.Fault.{Fault}
 use Rattle.reference.specs.declared.fault.Fault.TheVariants.{BadLimit, OutOfMemory, Stranger, TooManyLeases, UnknownLease}
 use Rattle.reference.specs.declared.limits.TheConstants.{MAX_TURN}
 use Rattle.query_nets.specs.Queries.{PlainQuery, log_at, operator_at}
+use Rattle.running_queries.specs.Turns.{HasBatches, HasPut}
 use Rattle.ready_list.specs.Slots as slots
 use Rattle.ready_list.specs.declared.slots.Slot.{Slot}
 use Rattle.plain_engines.specs.Calls.{IsLeasable, IsOf, abandoned, broken, leased}
@@ -80,9 +81,14 @@ pub record IsStranger (e : PlainEngine) (d : Parts) : Type 0 where
   pub numbered : out.number ≡ d.lease
   pub another : (q : Registered) (p : PlainQuery) → IsOut e d q p → ⊥
 
+-- what it put out went on: items to the next operator, where each stands as a batch or a tick of its own behind what waited, or answers behind those that waited
+pub record HasPutOut (d : Parts) (p p2 : PlainQuery) : Type 0 where
+  pub put : HasPut p d.node.operator (outs_in d.outputs) p2
+  pub batches : HasBatches p d.node.operator d.outputs p2
+
 -- accepted, it comes back; a growth that is refused breaks its query
 abbrev pub Finishes : PlainEngine → Parts → Result ⊤ Fault → PlainEngine → Type 0
-Finishes old d (Ok u) new = (q : Registered) × ((p : PlainQuery) × ((p2 : PlainQuery) × (IsOut old d q p × ComesBack old (lease_of_parts d) q p p2 new)))
+Finishes old d (Ok u) new = (q : Registered) × ((p : PlainQuery) × ((p2 : PlainQuery) × (IsOut old d q p × ComesBack old (lease_of_parts d) q p p2 new × HasPutOut d p p2)))
 Finishes old d (Err OutOfMemory) new = (q : Registered) × ((p : PlainQuery) × (IsOut old d q p × (new ≡ broken old d.node.query p)))
 Finishes old d (Err UnknownLease) new = IsUnknown old d.lease × (new ≡ old)
 Finishes old d (Err Stranger) new = IsStranger old d × (new ≡ old)

@@ -12,7 +12,7 @@ ghost use Rattle.ready_list.specs.Slots.{first_of};
 ghost use Rattle.plain_engines.specs.Calls.{appended, beaten, declared, dropped, registered};
 ghost use Rattle.plain_engines.specs.Promises.{HasAllWaiting, KeepsItsPromises};
 ghost use Rattle.leases.specs.Drains.{LeavesOthers, RunsTurns};
-ghost use Rattle.leases.specs.Queues.{LeavesQueues};
+ghost use Rattle.leases.specs.Queues.{LeavesQueues, LengthensQueues};
 ghost use Rattle.leases.specs.Registering.{IsRegistered};
 ghost use Rattle.leases.specs.Shown.{engine_in, world_in};
 ghost use Rattle.leases.specs.Takes.{Takes};
@@ -61,7 +61,8 @@ impl Answering for Engine {
         ensures does { Does (λ u. u) (world_in self.old) (heartbeat_step (world_in self.old) stream at) result (world_in self.new) }
         ensures whole { IsWhole self.old → IsWhole self.new }
         ensures engine { OnOk result (engine_in self.new ≡ beaten (engine_in self.old) stream at) }
-        ensures queues { OnOk result (QueuesGain (slice_get (engine_in self.old).machine.streams stream) at) }
+        ensures closes { OnOk result (QueuesGain (slice_get (engine_in self.old).machine.streams stream) at) }
+        ensures queues { OnOk result (LengthensQueues stream at (engine_in self.old) (engine_in self.new)) }
         ensures err { OnErr result (engine_in self.new ≡ engine_in self.old) }
     {
         self.state.heartbeat(stream, at)

@@ -9,7 +9,7 @@ ghost use Rattle.query_nets.specs.Queries.{PlainQuery};
 ghost use Rattle.plain_engines.specs.Engines.{GoodEngine, Running};
 ghost use Rattle.leases.specs.Asked.{HasOperatorAt};
 ghost use Rattle.running_queries.specs.Turns.{HasOperator};
-ghost use Rattle.leases.specs.Queues.{LeavesQueues};
+ghost use Rattle.leases.specs.Queues.{LeavesQueues, LengthensQueues};
 ghost use Rattle.leases.specs.Readers.{resting_slot, resting_slots, rests, rests_in, told, told_all, with_slots};
 ghost use Rattle.leases.specs.Shown.{engine_in, world_in};
 ghost use Rattle.leases.specs.Sound.{IsSound};
@@ -60,7 +60,8 @@ impl State {
         requires { IsSound self.old }
         ensures does { Does (λ u. u) (world_in self.old) (heartbeat_step (world_in self.old) stream at) result (world_in self.new) }
         ensures engine { OnOk result (engine_in self.new ≡ beaten (engine_in self.old) stream at) }
-        ensures queues { OnOk result (QueuesGain (slice_get (engine_in self.old).machine.streams stream) at) }
+        ensures closes { OnOk result (QueuesGain (slice_get (engine_in self.old).machine.streams stream) at) }
+        ensures queues { OnOk result (LengthensQueues stream at (engine_in self.old) (engine_in self.new)) }
         ensures err { OnErr result (engine_in self.new ≡ engine_in self.old) }
         ensures sound { IsSound self.new }
     {

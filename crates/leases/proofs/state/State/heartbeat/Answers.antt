@@ -1,12 +1,14 @@
-use Rattle.std.proofs.Common.{Vec, ◌∙◌, map, refl, w64}
+use Rattle.std.proofs.Common.{Vec, ◌∙◌, map, refl, subst, sym, w64}
 use Rattle.std.specs.Global.{Global}
 use Rattle.std.proofs.lemmas.Int.{to_z-of_z}
 use Rattle.std.proofs.lemmas.Result.{err_from_is_err_and}
 use Rattle.op_queue.specs.Tables.{element}
 use Rattle.op_queue.specs.declared.log.Arrival.{Arrival}
 use Rattle.plain_engines.specs.Calls.{IsHeartbeat}
+use Rattle.leases.specs.Queues.{LengthensQueues}
 use Rattle.leases.specs.Shown.{engine_in}
 use Rattle.leases.proofs.BeatLemmas.{beats_does, beats_engine, beats_sound, heartbeat_lacked, heartbeat_refused, readers_asked}
+use Rattle.leases.proofs.LengthenLemmas.{heartbeat_lengthens}
 use Rattle.leases.proofs.state.State.heartbeat.Goals as goal
 
 pub returns-in_err-rows-clause-does : goal.returns-in_err-rows-clause-does
@@ -38,8 +40,15 @@ returns-clause-engine c =
     let beats : IsHeartbeat (engine_in c.args.self.now) c.args.stream c.args.at = record { accepted = simp (to_z-of_z w64 c.args.at c.ranges.at) at c.in_ok-rows.ensures.accepted; queues = simp (to_z-of_z w64 c.args.at c.ranges.at) at c.in_ok-close.ensures.queues } in
     beats_engine c.args.self.now c.close.new.self c.args.stream c.args.at c.requires beats (simp (to_z-of_z w64 c.args.at c.ranges.at) at c.in_ok-close.ensures.ok) c.deref-2.result.now (c.deref-2.ensures.value ∙ c.in_ok-slots.ensures) c.retell.new.self c.retell.ensures
 
+pub returns-clause-closes : goal.returns-clause-closes
+returns-clause-closes c = simp (to_z-of_z w64 c.args.at c.ranges.at) at c.in_ok-close.ensures.queues
+
 pub returns-clause-queues : goal.returns-clause-queues
-returns-clause-queues c = simp (to_z-of_z w64 c.args.at c.ranges.at) at c.in_ok-close.ensures.queues
+returns-clause-queues c =
+    let beats : IsHeartbeat (engine_in c.args.self.now) c.args.stream c.args.at = record { accepted = simp (to_z-of_z w64 c.args.at c.ranges.at) at c.in_ok-rows.ensures.accepted; queues = simp (to_z-of_z w64 c.args.at c.ranges.at) at c.in_ok-close.ensures.queues } in
+    subst (LengthensQueues c.args.stream c.args.at (engine_in c.args.self.now))
+    (sym (beats_engine c.args.self.now c.close.new.self c.args.stream c.args.at c.requires beats (simp (to_z-of_z w64 c.args.at c.ranges.at) at c.in_ok-close.ensures.ok) c.deref-2.result.now (c.deref-2.ensures.value ∙ c.in_ok-slots.ensures) c.retell.new.self c.retell.ensures))
+    (heartbeat_lengthens (engine_in c.args.self.now) c.args.stream c.args.at c.requires.good beats)
 
 pub returns-clause-sound : goal.returns-clause-sound
 returns-clause-sound c =

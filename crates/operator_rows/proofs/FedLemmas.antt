@@ -1,11 +1,11 @@
 -- What the operators' contracts say of queues that others feed.
 use Rattle.std.proofs.Common.{◌≡◌, ◌∙◌, ◌++◌, ◌∷◌, [], ◌≤◌, ℕ, List, length, Bool, true, true≢false, sym, ap, subst, refl, arith}
-use Rattle.std.proofs.lemmas.List.{append_assoc}
+use Rattle.std.proofs.lemmas.List.{length-take, append_assoc}
 use Rattle.values.specs.Row.{Row}
 use Rattle.column.specs.declared.batch.Side.{Side}
 use Rattle.column.specs.declared.batch.Side.TheVariants.{Left, Right}
-use Rattle.op_queue.specs.Entries.{IsForward}
-use Rattle.op_queue.specs.Items.{entries_of}
+use Rattle.op_queue.specs.Entries.{Entry, IsForward}
+use Rattle.op_queue.specs.Items.{IsFrontPart, entries_of}
 use Rattle.op_queue.specs.Logs.{Closed}
 use Rattle.op_queue.specs.declared.item.Item.{Item}
 use Rattle.op_queue.specs.declared.item.Item.TheVariants.{Rows, Tick}
@@ -26,6 +26,13 @@ within_fed (Between q) log h = _
 pub within_side : (o : PlainOperator) (side : Side) (log : Closed) → is_fed o.left ≡ true → is_fed o.right ≡ true → IsInboxWithin (inbox_of o side) log
 within_side o Left log l r = within_fed o.left log l
 within_side o Right log l r = within_fed o.right log r
+
+-- no more is cut than waits
+pub cut_waits : (k : ℕ) (es : List (Entry Row)) (i : Item) → IsFrontPart k es i → length (entries_of i) ≤ length es
+cut_waits k es i h =
+    let same = ap length h.first in
+    let taken = length-take (length (entries_of i)) es in
+    omega arith
 
 -- two batches of an instant and its tick go forward
 pub rows_forward : (t : ℕ) (b c : List (Bool × Row)) → IsForward (all_entries (Rows t b ∷ Rows t c ∷ Tick t ∷ []))

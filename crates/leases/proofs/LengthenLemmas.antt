@@ -1,10 +1,9 @@
 -- A heartbeat lengthens the queues of the windows over its stream by what it closes, and no other.
-use Rattle.std.proofs.Common.{◌≡◌, ◌≢◌, ℕ, ℤ, suc, ◌<◌, ◌≤◌, ◌++◌, ◌==◌, ⊎_elim, Bool, true, false, cond, max, nat_lt, Option, Some, None, List, [], length, refl, sym, ap, ap₂, ◌∙◌, subst, arith, append-nil, eq-eqb, eqb-true}
+use Rattle.std.proofs.Common.{◌≡◌, ◌≢◌, ℕ, ℤ, suc, ◌<◌, ◌≤◌, ◌++◌, ◌==◌, ⊎_elim, true, false, cond, nat_lt, Option, Some, None, [], length, refl, sym, ap, ap₂, ◌∙◌, subst, arith, append-nil, eq-eqb, eqb-true}
 use Rattle.std.specs.Prelude.{nat_abs, slice_get}
 use Rattle.std.specs.Option.{option_map, option_map_or}
 use Rattle.std.proofs.lemmas.Bool.{cases_lt}
 use Rattle.std.proofs.lemmas.List.{get_or_past}
-use Rattle.values.specs.Row.{Row}
 use Rattle.column.specs.declared.batch.Side.{Side}
 use Rattle.column.specs.declared.batch.Side.TheVariants.{Left, Right}
 use Rattle.op_queue.specs.Cursors.{cursor_entries}
@@ -20,12 +19,12 @@ use Rattle.plan.proofs.Lists.{by_test}
 use Rattle.reference.specs.Commands.{change, closed_to}
 use Rattle.reference.specs.Machine.{Machine, Registered, Stream}
 use Rattle.stream_store.specs.Closing.{QueuesGain, closed_of, closing_of}
-use Rattle.query_nets.specs.Queries.{HasInboxes, IsLeftInbox, PlainQuery, Reads, log_at, no_log, no_operator, node_at, operator_at, place_of, source_of, stream_log}
+use Rattle.query_nets.specs.Queries.{HasInboxes, Reads, log_at, no_log, no_operator, node_at, operator_at, place_of, source_of, stream_log}
 use Rattle.query_nets.proofs.BeatLemmas.{change_here, change_there}
 use Rattle.plain_engines.specs.Calls.{IsHeartbeat, beaten, closed_over}
 use Rattle.plain_engines.specs.Engines.{Broken, Dropped, GoodEngine, Kept, PlainEngine, Running, kept_at, query_at}
 use Rattle.plain_engines.proofs.BeatenLemmas.{goes_at, inboxes}
-use Rattle.leases.specs.Queues.{LengthensQueues, brought_at, brought_in, brought_to, closed_entries, queue_at, queue_in}
+use Rattle.leases.specs.Queues.{LengthensQueues, brought_in, brought_to, closed_entries, queue_in}
 
 -- A CURSOR over the stream
 first_gains : (place first : ℕ) (at : ℤ) (o : Option Stream) → QueuesGain o at → (i : Inbox) → Reads place first (option_map_or closed_of o no_log) i → IsInboxWithin i (option_map_or closed_of o no_log)

@@ -2,7 +2,7 @@
 use Rattle.std.proofs.Common.{◌≡◌, ◌≢◌, ℕ, ℤ, suc, ◌<◌, ◌≤◌, ◌++◌, ◌==◌, ⊎_elim, true, false, cond, nat_lt, Option, Some, None, [], length, refl, sym, ap, ap₂, ◌∙◌, subst, arith, append-nil, eq-eqb, eqb-true}
 use Rattle.std.specs.Prelude.{nat_abs, slice_get}
 use Rattle.std.specs.Option.{option_map, option_map_or}
-use Rattle.std.proofs.lemmas.Bool.{cases_lt}
+use Rattle.std.proofs.lemmas.Bool.{cases_lt, le-ltb, lt-ltb}
 use Rattle.std.proofs.lemmas.List.{get_or_past}
 use Rattle.column.specs.declared.batch.Side.{Side}
 use Rattle.column.specs.declared.batch.Side.TheVariants.{Left, Right}
@@ -66,39 +66,33 @@ module _ (m : Machine) (s : ℕ) (at : ℤ) (queues : QueuesGain (slice_get m.st
   left_gains (Distinct j) o h = fed_gains o.left _ _ h.left
   left_gains (ToStream j op) o h = fed_gains o.left _ _ h.left
 
-  right_is_fed : (node : plan.Node) → brought_to m s at q node Right ≡ []
-  right_is_fed (Window j) = refl
-  right_is_fed (Select j cs) = refl
-  right_is_fed (Join i j ks) = refl
-  right_is_fed (Project j columns) = refl
-  right_is_fed (Group j by items) = refl
-  right_is_fed (Distinct j) = refl
-  right_is_fed (ToStream j op) = refl
+  nothing_to_the_right : (node : plan.Node) → brought_to m s at q node Right ≡ []
+  nothing_to_the_right (Window j) = refl
+  nothing_to_the_right (Select j cs) = refl
+  nothing_to_the_right (Join i j ks) = refl
+  nothing_to_the_right (Project j columns) = refl
+  nothing_to_the_right (Group j by items) = refl
+  nothing_to_the_right (Distinct j) = refl
+  nothing_to_the_right (ToStream j op) = refl
 
   side_gains : (node : plan.Node) (o : PlainOperator) (side : Side) → HasInboxes q (stream_log m.streams (source_of q node)) node o
       → waiting o (stream_log (change s (closed_to at) m.streams) (source_of q node)) side ≡ waiting o (stream_log m.streams (source_of q node)) side ++ brought_to m s at q node side
   side_gains node o Left h = left_gains node o h
-  side_gains node o Right h = fed_gains o.right _ _ h.right ∙ sym (ap (λ es. waiting o (stream_log m.streams (source_of q node)) Right ++ es) (right_is_fed node))
+  side_gains node o Right h = fed_gains o.right _ _ h.right ∙ sym (ap (λ es. waiting o (stream_log m.streams (source_of q node)) Right ++ es) (nothing_to_the_right node))
 
 -- nothing waits for an operator that a query lacks
 none_waits : (side : Side) (log log2 : Closed) → waiting no_operator log2 side ≡ waiting no_operator log side ++ []
 none_waits Left log log2 = refl
 none_waits Right log log2 = refl
 
-less : (a b : ℕ) → a < b → nat_lt a b ≡ true
-less a b l = grind (arith, l)
-
-not_less : (a b : ℕ) → b ≤ a → nat_lt a b ≡ false
-not_less a b l = grind (arith, l)
-
 -- THE QUEUES OF AN ENGINE
 module _ (e : PlainEngine) (s : ℕ) (at : ℤ) (g : GoodEngine e) (h : IsHeartbeat e s at) where
   kept_gains : (n k : ℕ) (side : Side) (q : Registered) (kept : Kept) → query_at e n ≡ Some q → kept_at e n ≡ kept
       → queue_in (closed_over e s at).machine q kept k side ≡ queue_in e.machine q kept k side ++ brought_in e.machine s at q kept k side
   kept_gains n k side q (Running p) r kept = ⊎_elim
-      (λ l. let t : nat_lt k (length q.nodes) ≡ true = less k (length q.nodes) l in
+      (λ l. let t : nat_lt k (length q.nodes) ≡ true = lt-ltb k (length q.nodes) l in
       rw t (side_gains e.machine s at h.queues q (node_at q k) (operator_at p.operators k) side (inboxes e s at g h n k q p r kept l)))
-      (λ l. let f : nat_lt k (length q.nodes) ≡ false = not_less k (length q.nodes) l in
+      (λ l. let f : nat_lt k (length q.nodes) ≡ false = le-ltb k (length q.nodes) l in
       rw f (subst (λ o. waiting o (log_at (closed_over e s at).machine q k) side ≡ waiting o (log_at e.machine q k) side ++ [])
       (sym (get_or_past p.operators k no_operator (omega (arith, l, (goes_at e s at g h n q p r kept).runs.runs.many))))
       (none_waits side (log_at e.machine q k) (log_at (closed_over e s at).machine q k))))

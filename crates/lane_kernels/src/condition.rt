@@ -24,8 +24,11 @@ pub enum Step {
     Columns(usize, Comparison, usize),
     /// A truth that is known.
     Known(bool),
+    /// Whether both of the two last truths hold: unknown where neither is false and one is unknown.
     And,
+    /// Whether one of the two last truths holds: unknown where neither is true and one is unknown.
     Or,
+    /// Whether the last truth does not hold: unknown where it is.
     Not,
 }
 

@@ -10,11 +10,12 @@
 
 mod counts;
 mod held;
+mod keys;
 mod net;
 mod row_bag;
 mod row_list;
 
-pub use counts::begins_with;
+pub use keys::{begins_with, copied, fitted};
 pub use net::Net;
 pub use row_bag::RowBag;
 pub use row_list::RowList;

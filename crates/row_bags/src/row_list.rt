@@ -1,5 +1,5 @@
 //! Rows in a list.
-ghost use Rattle.std.specs.Prelude.{◌≡◌, ◌≤◌, ◌++◌, [], length, drop, IfOk, OnOk};
+ghost use Rattle.std.specs.Prelude.{◌≡◌, ◌≤◌, ◌++◌, [], length, drop, IfOk, OnErr, OnOk};
 ghost use Rattle.row_bags.specs.Bags.{rows_of};
 ghost use Rattle.row_bags.specs.Lists.{is_first, staying, up_to, past, merged, renewed};
 
@@ -52,9 +52,10 @@ impl RowList {
     }
 
     /// Becomes the rows after what left and entered. Where nothing did, this is all that it looks at.
-    /// Where memory is refused, the list is one to be dropped.
+    /// An error says that memory was refused; the list is as it was.
     pub fn renew(&mut self, alloc: Global, net: &Net) -> Result<(), AllocError>
-        ensures { OnOk result (self.new ≡ renewed self.old net.now) }
+        ensures ok { OnOk result (self.new ≡ renewed self.old net.now) }
+        ensures err { OnErr result (self.new ≡ self.old) }
     {
         let left = net.left(alloc)?;
         let entered = net.entered(alloc)?;

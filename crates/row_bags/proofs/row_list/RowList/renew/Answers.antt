@@ -7,8 +7,8 @@ use Rattle.std.proofs.lemmas.List.{nil_from_length}
 use Rattle.row_bags.proofs.ListLaws.{renewed-none}
 use Rattle.row_bags.proofs.row_list.RowList.renew.Goals as goal
 
-pub returns-then-is_empty-2 : goal.returns-then-is_empty-2
-returns-then-is_empty-2 c =
+pub returns-then-is_empty-2-clause-ok : goal.returns-then-is_empty-2-clause-ok
+returns-then-is_empty-2-clause-ok c =
     let left_empty : length c.in_ok-left.left.items ≡ 0 = grind (arith, common_steps) in
     let entered_empty : length c.in_ok-entered.entered.items ≡ 0 = grind (arith, common_steps) in
     let none_left : c.args.net.now.left ≡ [] = sym c.in_ok-left.ensures ∙ ap rows_of (nil_from_length c.in_ok-left.left.items left_empty) in

@@ -4,7 +4,7 @@ use Rattle.std.specs.List.{All}
 use Rattle.std.specs.Option.{option_map}
 use Rattle.std.specs.Ordering.{is_eq}
 use Rattle.std.proofs.lemmas.List.{map-append, take_more, length-append, length-map, length-take}
-use Rattle.std.proofs.lemmas.List.Elements.{All-cons, All-drop, All-head, All-push, All-tail}
+use Rattle.std.proofs.lemmas.List.Elements.{All-cons, All-drop, All-head, All-push, All-tail, All-take}
 use Rattle.values.specs.Row.{Row, same_row}
 use Rattle.column.specs.Rows.{IsTable, signed, width}
 use Rattle.column.specs.declared.batch.SignedRow.{SignedRow}
@@ -43,8 +43,25 @@ AreParts-same n w held new e h =
     let Q : List Row → Type 0 = λ rs. AreWide w rs in
     record { few = λ k. subst P (sym (e k)) (h.few k); wide = λ k. subst Q (sym (e k)) (h.wide k) }
 
-row_wide : (b : List (Bool × Row)) (p w : ℕ) (x : Bool × Row) → x ≡ get_or b p (true, []) → p < length b → IsTable (width b) b → width b ≡ w → length x.1 ≡ w
-row_wide b p w x e lt table wide = ap (λ (s : Bool × Row). length s.1) e ∙ table p (true, []) lt ∙ wide
+row_wide : (b : List (Bool × Row)) (p : ℕ) (x : Bool × Row) → x ≡ get_or b p (true, []) → p < length b → IsTable (width b) b → length x.1 ≡ width b
+row_wide b p x e lt table = ap (λ (s : Bool × Row). length s.1) e ∙ table p (true, []) lt
+
+-- rows of the width of a batch are as wide as each of its rows
+pub wide_as : (b : List (Bool × Row)) (p : ℕ) (x : Bool × Row) (rows : List Row) → x ≡ get_or b p (true, []) → p < length b → IsTable (width b) b → AreWide (width b) rows → AreWide (length x.1) rows
+wide_as b p x rows e lt table wide = subst (λ (w : ℕ). AreWide w rows) (sym (row_wide b p x e lt table)) wide
+
+like_wide : (columns : List ℕ) (k : Row) (w : ℕ) (xs : List (Bool × Row)) → All (λ s. length s.1 ≡ w) xs → AreWide w (like columns k xs)
+like_wide columns k w [] all = λ i d lt. absurd (omega (arith, lt))
+like_wide columns k w (x ∷ xs) all = here (same_row (key_in columns x.1) k) (like_wide columns k w xs (All-tail (λ (s : Bool × Row). length s.1 ≡ w) x xs all))
+  where
+    here : (b : Bool) → AreWide w (like columns k xs) → AreWide w (cond b (x.1 ∷ like columns k xs) (like columns k xs))
+    here true h = All-cons (λ (r : Row). length r ≡ w) x.1 _ (All-head (λ (s : Bool × Row). length s.1 ≡ w) x xs all) h
+    here false h = h
+
+-- so are those of them that came
+pub came_wide : (columns : List ℕ) (k : Row) (b : List (Bool × Row)) (p : ℕ) (x : Bool × Row) (rows : List Row) → x ≡ get_or b p (true, []) → p < length b → IsTable (width b) b → rows ≡ like columns k (take p b) → AreWide (length x.1) rows
+came_wide columns k b p x rows e lt table is =
+    wide_as b p x rows e lt table (subst (λ (rs : List Row). AreWide (width b) rs) (sym is) (like_wide columns k (width b) (take p b) (All-take (λ (s : Bool × Row). length s.1 ≡ width b) p b table)))
 
 module _ (columns : List ℕ) (n : ℕ) (b : List (Bool × Row)) (p : ℕ) (x : Bool × Row) (is : x ≡ get_or b p (true, [])) (lt : p < length b) where
   taken : take (p + 1) b ≡ take p b ++ x ∷ []
@@ -57,13 +74,8 @@ module _ (columns : List ℕ) (n : ℕ) (b : List (Bool × Row)) (p : ℕ) (x : 
       ∙ sym (after_push columns n held (take p b) x k)
       ∙ ap (λ xs. all_after columns n held xs k) (sym taken)
 
-  pub parts_more : (w : ℕ) (held old new : Row → List Row) → ((k : Row) → new k ≡ held_after columns n old x.1 k) → IsTable (width b) b
-      → (width b ≡ w → AreParts n w held → AreParts n w old) → width b ≡ w → AreParts n w held → AreParts n w new
-  parts_more w held old new e table o wide h =
-      AreParts-same n w (held_after columns n old x.1) new e (AreParts-after columns n w old x.1 (o wide h) (row_wide b p w x is lt table wide))
-
-  pub few_more : (old new : Row → List Row) → ((k : Row) → new k ≡ held_after columns n old x.1 k) → ((k : Row) → length (old k) ≤ n) → (k : Row) → length (new k) ≤ n
-  few_more old new e few k = let P : List Row → Type 0 = λ rs. length rs ≤ n in subst P (sym (e k)) (few_after columns n old x.1 k (few k))
+  pub parts_more : (old new : Row → List Row) → ((k : Row) → new k ≡ held_after columns n old x.1 k) → IsTable (width b) b → AreParts n (width b) old → AreParts n (width b) new
+  parts_more old new e table h = AreParts-same n (width b) (held_after columns n old x.1) new e (AreParts-after columns n (width b) old x.1 h (row_wide b p x is lt table))
 
   pub like_more : (most : ℕ) (old new : Row → List Row) → length b ≤ 1024 → 1025 ≤ most → ((k : Row) → old k ≡ like columns k (take p b)) → ((k : Row) → new k ≡ held_after columns most old x.1 k)
       → (k : Row) → new k ≡ like columns k (take (p + 1) b)

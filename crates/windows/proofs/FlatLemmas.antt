@@ -2,11 +2,12 @@
 use Rattle.std.proofs.Common.{◌≡◌, ℕ, zero, suc, ◌+◌, ◌-◌, ◌*◌, ◌<◌, ◌≤◌, Bool, ℤ, add-mul, Option, List, [], ◌∷◌, ◌++◌, length, map, take, drop, get_or, refl, ap, ap₂, sym, ◌∙◌, arith, subst, length-append, length-drop, drop-drop, zero-add, zero-mul, suc-add, suc-mul, mul-le-mul_right, get_or-drop}
 use Rattle.std.proofs.Math.Seq.{take-append_seam, drop-append_seam}
 use Rattle.std.specs.List.{flat_map}
-use Rattle.std.proofs.lemmas.List.{take-append-le, drop-append-le, take_more}
+use Rattle.std.proofs.lemmas.List.{take-append-le, drop-append-le, take_more, take_all, length-take-le}
 use Rattle.std.proofs.lemmas.List.Elements.{All-head, All-tail}
 use Rattle.values.specs.Row.{Row}
 use Rattle.column.specs.Rows.{IsBatch, IsTable, width}
 use Rattle.windows.specs.Held.{IsFlat, cut_rows}
+use Rattle.windows.specs.Widths.{AreWide}
 
 pub length-cut_rows : (w n : ℕ) (values : List (Option ℤ)) → length (cut_rows w n values) ≡ n
 length-cut_rows w zero values = refl
@@ -55,6 +56,50 @@ IsFlat-enter w n values new batch flat wide is entered =
       size = ap length entered ∙ length-append values (flat_map (λ r. r.1) batch) ∙ ap₂ (λ (a b : ℕ). a + b) flat.size (length-flat w batch table) ∙ sym (add-mul n (length batch) w);
       narrow = λ some. omega (arith, is.narrow, wide);
     }
+
+-- one row enters behind the others
+pub cut_rows-push : (w n : ℕ) (values : List (Option ℤ)) (row : Row) → length values ≡ n * w → length row ≡ w → cut_rows w (n + 1) (values ++ row) ≡ cut_rows w n values ++ row ∷ []
+cut_rows-push w n values row size e =
+    cut_rows-append w n 1 values row size
+    ∙ ap (λ (r : Row). cut_rows w n values ++ r ∷ []) (take_all w row (omega (arith, e)))
+
+pub IsFlat-push : (w n : ℕ) (values : List (Option ℤ)) (row : Row) → IsFlat w n values → length row ≡ w → w ≤ 16 → IsFlat w (n + 1) (values ++ row)
+IsFlat-push w n values row flat e narrow = record {
+  size = length-append values row ∙ omega (arith, flat.size, e, add-mul n 1 w);
+  narrow = λ some. narrow;
+}
+
+-- no rows are so whatever the width
+pub IsFlat-none : (w n v : ℕ) (values : List (Option ℤ)) → IsFlat w n values → cut_rows w n values ≡ [] → IsFlat v 0 values
+IsFlat-none w n v values flat is =
+    let none : n ≡ 0 = sym (length-cut_rows w n values) ∙ ap (λ (rows : List Row). length rows) is in
+    record { size = flat.size ∙ ap (λ k. k * w) none ∙ zero-mul w ∙ sym (zero-mul v); narrow = λ some. absurd (omega (arith, some)) }
+
+-- one row enters and the first leaves
+size_moved : (w m : ℕ) (values : List (Option ℤ)) → length values ≡ suc m * w → length (drop w values) ≡ m * w
+size_moved w m values size = length-drop w values ∙ omega (arith, size, suc-mul m w)
+
+pub cut_rows-move : (w n : ℕ) (values : List (Option ℤ)) (row : Row) → 0 < n → IsFlat w n values → length row ≡ w → cut_rows w n (drop w values ++ row) ≡ drop 1 (cut_rows w n values) ++ row ∷ []
+cut_rows-move w zero values row some flat e = absurd (omega (arith, some))
+cut_rows-move w (suc m) values row some flat e =
+    let one : suc m ≡ m + 1 = omega arith in
+    ap (λ k. cut_rows w k (drop w values ++ row)) one ∙ cut_rows-push w m (drop w values) row (size_moved w m values flat.size) e
+
+pub IsFlat-move : (w n : ℕ) (values : List (Option ℤ)) (row : Row) → 0 < n → IsFlat w n values → length row ≡ w → IsFlat w n (drop w values ++ row)
+IsFlat-move w zero values row some flat e = absurd (omega (arith, some))
+IsFlat-move w (suc m) values row some flat e = record {
+  size = length-append (drop w values) row ∙ omega (arith, size_moved w m values flat.size, e, suc-mul m w);
+  narrow = flat.narrow;
+}
+
+-- rows that have k columns have the width
+pub width_is : (w n k : ℕ) (values : List (Option ℤ)) (rows : List Row) → IsFlat w n values → cut_rows w n values ≡ rows → 0 < n → AreWide k rows → k ≡ w
+width_is w zero k values rows flat is some wide = absurd (omega (arith, some))
+width_is w (suc m) k values rows flat is some wide =
+    let first : take w values ≡ get_or rows 0 [] = ap (λ (rs : List Row). get_or rs 0 []) is in
+    let has : 0 < length rows = omega (arith, length-cut_rows w (suc m) values, ap (λ (rs : List Row). length rs) is) in
+    let le : w ≤ length values = omega (arith, flat.size, suc-mul m w) in
+    sym (wide 0 [] has) ∙ ap (λ (r : Row). length r) (sym first) ∙ length-take-le w values le
 
 -- the first rows leave with their values
 pub cut_rows-drop : (w n k : ℕ) (values : List (Option ℤ)) → k ≤ n → cut_rows w (n - k) (drop (k * w) values) ≡ drop k (cut_rows w n values)

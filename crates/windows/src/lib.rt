@@ -5,10 +5,12 @@
 
 mod flat_rows;
 mod held;
+mod keyed_parts;
+mod last;
 mod latest;
 mod laws;
 mod outputs;
-mod partitions;
+mod parts;
 mod range;
 mod runs;
 

@@ -6,10 +6,10 @@ use Rattle.std.proofs.lemmas.Map.Steps.{set_value_same}
 use Rattle.std.proofs.lemmas.Result.{err_from_is_err_and}
 use Rattle.values.specs.Row.{Row}
 use Rattle.windows.specs.Latest.{key_cmp}
-use Rattle.windows.proofs.partitions.enter_at.Goals as goal
+use Rattle.windows.proofs.keyed_parts.enter_at.Goals as goal
 
 pub returns-in_err-enter-in-Some-clause-err : goal.returns-in_err-enter-in-Some-clause-err
-returns-in_err-enter-in-Some-clause-err c =
+returns-in_err-enter-in-Some-clause-err g c =
     let p = err_from_is_err_and c.from_residual.result c.from_residual.ensures.1 in
     let test = is_at (key_cmp c.args.key.now) in
     let es = c.args.parts.now.entries in

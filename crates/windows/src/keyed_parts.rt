@@ -1,0 +1,198 @@
+//! The last rows of each partition, for keys of at most `N` values.
+ghost use Rattle.std.specs.Prelude.{◌≡◌, ◌≤◌, ◌++◌, ◌∷◌, [], cond, length, IfOk, OnOk, OnErr, IsSome};
+ghost use Rattle.std.specs.Option.{option_map};
+ghost use Rattle.std.specs.Ordering.{is_eq};
+ghost use Rattle.std.specs.BTreeMap as tree;
+ghost use Rattle.std.specs.BTreeMap.{is_at};
+ghost use Rattle.std.specs.Map.{set_value};
+ghost use Rattle.column.specs.Rows.{IsTable, width};
+ghost use Rattle.values.specs.Row.{Row as PlainRow};
+ghost use Rattle.windows.specs.Latest.{AreParts, all_after, all_fallen, fallen_in, fallen_rows, held_in, key_cmp, key_in, last_of, part, row_in};
+ghost use Rattle.windows.specs.Widths.{AreWide, OneRow};
+
+use crate::last::Last;
+use arrayvec::ArrayVec;
+use column::Batch;
+use std::alloc::{AllocError, Global};
+use std::collections::BTreeMap;
+use std::marker::Model;
+use values::{MAX_COLUMNS, Row, Value, copy_row, value_at};
+
+/// The rows of each partition by its key, which has at most `N` values and takes some `8 * N` bytes.
+#[derive(Drop)]
+pub(crate) struct KeyedParts<const N: usize> {
+    parts: BTreeMap<ArrayVec<Value, N>, Last>,
+}
+
+impl<const N: usize> Model for KeyedParts<N> {
+    ghost use Rattle.std.specs.Prelude.{List, ◌≤◌};
+    ghost use Rattle.values.specs.Row.{Row as PlainRow};
+    ghost use Rattle.windows.specs.Widths.{OneRow};
+
+    ghost Value = { List (OneRow × List PlainRow) };
+
+    ghost view = { λ p. p.parts.entries };
+
+    ghost invariant = { λ _. N ≤ 16 };
+}
+
+impl<const N: usize> KeyedParts<N> {
+    /// No rows.
+    pub(crate) fn new(alloc: Global) -> KeyedParts<N>
+        requires { N ≤ MAX_COLUMNS }
+        ensures { result ≡ [] }
+    {
+        KeyedParts {
+            parts: BTreeMap::new(alloc),
+        }
+    }
+
+    /// A row enters the partition of its key, and the oldest falls out where there are more than `count`.
+    fn enter(
+        &mut self,
+        alloc: Global,
+        count: u64,
+        key: ArrayVec<Value, N>,
+        row: &Row,
+    ) -> Result<(), AllocError>
+        requires few { length (part key self.old) ≤ count }
+        requires wide { AreWide (length row.now.items) (part key self.old) }
+        ensures ok { OnOk result ((k : OneRow) → part k self.new ≡ cond (is_eq (key_cmp key.entry k)) (last_of count (part key.entry self.old ++ row.now.items ∷ [])) (part k self.old)) }
+        ensures err { OnErr result (self.new ≡ self.old) }
+    {
+        if self.parts.contains_key(&key) {
+            enter_at(&mut self.parts, count, &key, row)?;
+            return Ok(());
+        }
+        let mut last = Last::new(alloc);
+        last.enter(count, row)?;
+        self.parts.insert(key, last)?;
+        Ok(())
+    }
+
+    /// How many rows the partition of a key has, none where there is no such partition.
+    fn len_at(&self, key: &ArrayVec<Value, N>) -> usize
+        ensures { result ≡ length (part key.now self.now) }
+    {
+        match self.parts.get(key) {
+            Some(last) => last.len(),
+            None => 0,
+        }
+    }
+
+    /// A copy of the row at a place of the partition of a key, if there is one.
+    fn row_at(&self, key: &ArrayVec<Value, N>, place: u128) -> Option<Row>
+        ensures { option_map (λ r. r.items) result ≡ row_in (part key.now self.now) place }
+    {
+        match self.parts.get(key) {
+            Some(last) => last.row(place),
+            None => None,
+        }
+    }
+
+    /// The rows that fall out of the last `count` at the rows of a batch.
+    pub(crate) fn fallen_rows(
+        &self,
+        alloc: Global,
+        columns: &[usize],
+        count: u64,
+        batch: &Batch,
+    ) -> Result<Vec<Option<Row>>, AllocError>
+        requires narrow { length columns.now ≤ N }
+        requires few { (k : PlainRow) → length (held_in self.now k) ≤ count }
+        ensures value { IfOk result (λ fallen. fallen_rows fallen.items ≡ all_fallen columns.now count (held_in self.now) batch.now) }
+        ensures table { IsTable (width batch.now) batch.now }
+    {
+        let _ = &self.parts;
+        let mut rows = Vec::with_capacity(alloc, batch.len())?;
+        let mut came = KeyedParts::<N>::new(alloc);
+        for place in 0..batch.len() {
+            let row = batch.row(place).row;
+            let key = key_in(columns, &row);
+            rows.push(fallen(self, &came, count, &key, &row))?;
+            came.enter(alloc, u64::MAX, key, &row)?;
+        }
+        Ok(rows)
+    }
+
+    /// The rows of a batch enter their partitions, and the oldest fall out where there are more than `count`.
+    pub(crate) fn enter_all(
+        &mut self,
+        alloc: Global,
+        columns: &[usize],
+        count: u64,
+        batch: &Batch,
+    ) -> Result<(), AllocError>
+        requires narrow { length columns.now ≤ N }
+        requires parts { AreParts count (width batch.now) (held_in self.old) }
+        ensures ok { OnOk result ((k : PlainRow) → held_in self.new k ≡ all_after columns.now count (held_in self.old) batch.now k) }
+        ensures parts { AreParts count (width batch.now) (held_in self.new) }
+    {
+        let _ = &self.parts;
+        for place in 0..batch.len() {
+            let row = batch.row(place).row;
+            let key = key_in(columns, &row);
+            self.enter(alloc, count, key, &row)?;
+        }
+        Ok(())
+    }
+}
+
+/// The key of the partition that a row is in.
+fn key_in<const N: usize>(columns: &[usize], row: &Row) -> ArrayVec<Value, N>
+    requires { length columns.now ≤ N }
+    ensures { result.items ≡ key_in columns.now row.now.items }
+{
+    let mut key = ArrayVec::new();
+    for column in columns {
+        key.push(value_at(row, *column));
+    }
+    key
+}
+
+/// A row enters a partition that the map has.
+fn enter_at<const N: usize>(
+    parts: &mut BTreeMap<ArrayVec<Value, N>, Last>,
+    count: u64,
+    key: &ArrayVec<Value, N>,
+    row: &Row,
+) -> Result<(), AllocError>
+    requires has { IsSome (tree.get key_cmp parts.old key.now) }
+    requires few { length (part key.now parts.old.entries) ≤ count }
+    requires wide { AreWide (length row.now.items) (part key.now parts.old.entries) }
+    ensures ok { OnOk result (parts.new.entries ≡ set_value (is_at (key_cmp key.now)) parts.old.entries (last_of count (part key.now parts.old.entries ++ row.now.items ∷ []))) }
+    ensures err { OnErr result (parts.new.entries ≡ parts.old.entries) }
+{
+    match parts.get_mut(key) {
+        Some(last) => {
+            last.enter(count, row)?;
+            Ok(())
+        },
+        None => Ok(()),
+    }
+}
+
+/// The row that a new row of this key makes fall out of the last `count`: of those held, those that came before it, and itself.
+fn fallen<const N: usize>(
+    held: &KeyedParts<N>,
+    came: &KeyedParts<N>,
+    count: u64,
+    key: &ArrayVec<Value, N>,
+    row: &Row,
+) -> Option<Row>
+    ensures { option_map (λ r. r.items) result ≡ fallen_in count (part key.now held.now ++ (part key.now came.now ++ row.now.items ∷ [])) }
+{
+    let first = held.len_at(key) as u128;
+    let before = first + came.len_at(key) as u128;
+    if before < count as u128 {
+        return None;
+    }
+    let place = before - count as u128;
+    if place < first {
+        return held.row_at(key, place);
+    }
+    if place < before {
+        return came.row_at(key, place - first);
+    }
+    Some(copy_row(row))
+}

@@ -1,0 +1,70 @@
+//! The last rows of a partition.
+ghost use Rattle.std.specs.Prelude.{◌≡◌, ◌≤◌, ◌++◌, ◌∷◌, [], length, OnOk, OnErr};
+ghost use Rattle.std.specs.Option.{option_map};
+ghost use Rattle.windows.specs.Latest.{last_of, row_in};
+ghost use Rattle.windows.specs.Widths.{AreWide};
+
+use crate::flat_rows::FlatRows;
+use std::alloc::{AllocError, Global};
+use std::marker::Model;
+use values::Row;
+
+/// The rows of a partition, the oldest first, with eight bytes for each value.
+#[derive(Drop)]
+pub(crate) struct Last {
+    rows: FlatRows,
+}
+
+impl Model for Last {
+    ghost use Rattle.std.specs.Prelude.{List};
+    ghost use Rattle.values.specs.Row.{Row as PlainRow};
+
+    ghost Value = { List PlainRow };
+
+    ghost view = { λ l. l.rows.rows };
+}
+
+impl Last {
+    pub(crate) fn new(alloc: Global) -> Last
+        ensures { result ≡ [] }
+    {
+        // the first row that enters says the width
+        Last {
+            rows: FlatRows::new(alloc, 0),
+        }
+    }
+
+    pub(crate) fn len(&self) -> usize
+        ensures { result ≡ length self.now }
+    {
+        self.rows.len()
+    }
+
+    /// A copy of the row at a place, if there is one.
+    pub(crate) fn row(&self, place: u128) -> Option<Row>
+        ensures { option_map (λ r. r.items) result ≡ row_in self.now place }
+    {
+        if place < self.rows.len() as u128 {
+            Some(self.rows.row(place as usize))
+        } else {
+            None
+        }
+    }
+
+    /// A row as wide as the others enters, and the oldest falls out where there are more than `count`.
+    pub(crate) fn enter(&mut self, count: u64, row: &Row) -> Result<(), AllocError>
+        requires few { length self.old ≤ count }
+        requires wide { AreWide (length row.now.items) self.old }
+        ensures ok { OnOk result (self.new ≡ last_of count (self.old ++ row.now.items ∷ [])) }
+        ensures err { OnErr result (self.new ≡ self.old) }
+    {
+        if count == 0 {
+            return Ok(());
+        }
+        if self.rows.len() as u64 == count {
+            self.rows.push_for_first(row);
+            return Ok(());
+        }
+        self.rows.push(row)
+    }
+}

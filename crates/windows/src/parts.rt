@@ -1,0 +1,82 @@
+//! The last rows of each partition, with keys in as little room as they need.
+ghost use Rattle.std.specs.Prelude.{◌≡◌, ◌≤◌, [], length, IfOk, OnOk};
+ghost use Rattle.column.specs.Rows.{IsTable, width};
+ghost use Rattle.values.specs.Row.{Row as PlainRow};
+ghost use Rattle.windows.specs.Latest.{AreParts, all_after, all_fallen, fallen_rows, held_in};
+ghost use Rattle.windows.specs.Rooms.{entries_in, room_of};
+
+use crate::keyed_parts::KeyedParts;
+use column::Batch;
+use std::alloc::{AllocError, Global};
+use values::{MAX_COLUMNS, Row};
+
+/// The rows of each partition, by how many values the keys may have.
+#[derive(Drop)]
+pub(crate) enum Parts {
+    Two(KeyedParts<2>),
+    Four(KeyedParts<4>),
+    Eight(KeyedParts<8>),
+    Sixteen(KeyedParts<16>),
+}
+
+impl Parts {
+    /// No rows, with the least room for keys of so many columns.
+    pub(crate) fn new(alloc: Global, columns: usize) -> Parts
+        requires { columns ≤ MAX_COLUMNS }
+        ensures entries { entries_in result ≡ [] }
+        ensures room { columns ≤ room_of result }
+    {
+        if columns <= 2 {
+            Parts::Two(KeyedParts::new(alloc))
+        } else if columns <= 4 {
+            Parts::Four(KeyedParts::new(alloc))
+        } else if columns <= 8 {
+            Parts::Eight(KeyedParts::new(alloc))
+        } else {
+            Parts::Sixteen(KeyedParts::new(alloc))
+        }
+    }
+
+    /// The rows that fall out of the last `count` at the rows of a batch.
+    pub(crate) fn fallen_rows(
+        &self,
+        alloc: Global,
+        columns: &[usize],
+        count: u64,
+        batch: &Batch,
+    ) -> Result<Vec<Option<Row>>, AllocError>
+        requires narrow { length columns.now ≤ room_of self.now }
+        requires few { (k : PlainRow) → length (held_in (entries_in self.now) k) ≤ count }
+        ensures value { IfOk result (λ fallen. fallen_rows fallen.items ≡ all_fallen columns.now count (held_in (entries_in self.now)) batch.now) }
+        ensures table { IsTable (width batch.now) batch.now }
+    {
+        match self {
+            Parts::Two(parts) => parts.fallen_rows(alloc, columns, count, batch),
+            Parts::Four(parts) => parts.fallen_rows(alloc, columns, count, batch),
+            Parts::Eight(parts) => parts.fallen_rows(alloc, columns, count, batch),
+            Parts::Sixteen(parts) => parts.fallen_rows(alloc, columns, count, batch),
+        }
+    }
+
+    /// The rows of a batch enter their partitions, and the oldest fall out where there are more than `count`.
+    pub(crate) fn enter_all(
+        &mut self,
+        alloc: Global,
+        columns: &[usize],
+        count: u64,
+        batch: &Batch,
+    ) -> Result<(), AllocError>
+        requires narrow { length columns.now ≤ room_of self.old }
+        requires parts { AreParts count (width batch.now) (held_in (entries_in self.old)) }
+        ensures ok { OnOk result ((k : PlainRow) → held_in (entries_in self.new) k ≡ all_after columns.now count (held_in (entries_in self.old)) batch.now k) }
+        ensures parts { AreParts count (width batch.now) (held_in (entries_in self.new)) }
+        ensures room { room_of self.new ≡ room_of self.old }
+    {
+        match self {
+            Parts::Two(parts) => parts.enter_all(alloc, columns, count, batch),
+            Parts::Four(parts) => parts.enter_all(alloc, columns, count, batch),
+            Parts::Eight(parts) => parts.enter_all(alloc, columns, count, batch),
+            Parts::Sixteen(parts) => parts.enter_all(alloc, columns, count, batch),
+        }
+    }
+}

@@ -1,5 +1,6 @@
 pub mod TallyLemmas
 pub mod KeyLemmas
+pub mod ShortLemmas
 pub mod RoomLemmas
 pub mod BagLemmas
 pub mod CountLemmas

@@ -14,13 +14,13 @@ ghost use Rattle.column.specs.Bits.{bits, word_count, place as place_of};
 ghost use Rattle.column.specs.Columns.{IsStreamValue};
 ghost use Rattle.group.specs.Batches.{rows_counted, leaving, fields, tally_values, tally_sums, tally_rows, numbers_read, AllInRange};
 
-use crate::rows::field_of;
+use crate::rows::{field_of, row_with, written};
 use column::{Batch, Column as Lane, SignedRow};
 use lane_kernels::{count_set, count_signed, sum_signed};
 use std::alloc::{AllocError, Global};
 use std::collections::BTreeMap;
 use std::marker::Model;
-use values::{Column, Item, Row, Value, copy_row, value_at};
+use values::{Column, Item, Row, Value, value_at};
 
 /// The number that an item reads in a row; null where it reads none.
 fn number_of(item: Item, row: &Row) -> Value
@@ -358,20 +358,25 @@ fn greatest(values: &BTreeMap<Value, u64>) -> Value
     }
 }
 
-/// What is kept of a group: how many rows it has, a tally for each item of the list, and the row that was shown of it last.
+/// What is kept of a group: how many rows it has, a tally for each item of the list, and the row that was shown of it last,
+/// in room for its values.
 #[derive(Drop)]
 pub(crate) struct Cell {
     rows: i64,
     tallies: Vec<Tally>,
-    shown: Option<Row>,
+    shown: Option<Vec<Value>>,
 }
 
 impl Model for Cell {
-    ghost use Rattle.group.specs.Cells.{CellState as State};
+    ghost use Rattle.std.specs.Prelude.{◌≤◌, length, IfSome};
+    ghost use Rattle.std.specs.Option.{option_map};
+    ghost use Rattle.group.specs.Cells.{CellState as State, held};
 
     ghost Value = { State };
 
-    ghost view = { λ c. record { rows = c.rows; tallies = c.tallies.items; shown = c.shown } };
+    ghost view = { λ c. record { rows = c.rows; tallies = c.tallies.items; shown = option_map (λ values. held values.items) c.shown } };
+
+    ghost invariant = { λ c. IfSome c.shown (λ values. length values.items ≤ 16) };
 }
 
 /// A row enters or leaves: each tally takes it.
@@ -482,11 +487,16 @@ impl Cell {
         Ok(())
     }
 
-    /// This row is the one that was shown last.
-    pub(crate) fn show(&mut self, row: Row)
-        ensures { self.new ≡ showing self.old (Some row) }
+    /// This row is the one that was shown last. It takes no memory where one of as many values was.
+    pub(crate) fn show(&mut self, alloc: Global, row: &Row) -> Result<(), AllocError>
+        ensures { OnOk result (self.new ≡ showing self.old (Some row.now)) }
     {
-        self.shown = Some(row);
+        let values = match self.shown.take() {
+            Some(values) => values,
+            None => Vec::new(alloc),
+        };
+        self.shown = Some(written(values, row)?);
+        Ok(())
     }
 
     /// The exact figures, one for each item of the list.
@@ -515,7 +525,7 @@ impl Cell {
         ensures { result ≡ self.now.shown }
     {
         match &self.shown {
-            Some(row) => Some(copy_row(row)),
+            Some(values) => Some(row_with(values)),
             None => None,
         }
     }

@@ -6,6 +6,8 @@
 #![tactic(auto)]
 
 mod cells;
+mod held_cells;
+mod keyed;
 mod laws;
 mod rows;
 mod same;

@@ -62,7 +62,8 @@ impl GroupBy {
 
     /// Group By's columns.
     pub(crate) fn by(&self) -> &[Column]
-        ensures { result.now ≡ self.now.by }
+        ensures value { result.now ≡ self.now.by }
+        ensures few { length result.now ≤ MAX_COLUMNS }
     {
         &self.by
     }

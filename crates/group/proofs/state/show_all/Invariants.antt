@@ -1,6 +1,7 @@
 use Rattle.std.proofs.Common.{◌≡◌, fold, drop}
+use Rattle.group.specs.Rooms.{cells_in}
 use Rattle.group.specs.Turns.{shown_after}
 use Rattle.group.proofs.state.show_all.Given as goal
 
 abbrev pub invariant-loop-shown : goal.invariant-loop-shown
-invariant-loop-shown l = fold (shown_after l.count) l.cells.entries (drop l.shown-index l.all) ≡ fold (shown_after l.count) l.initial.cells.entries l.all
+invariant-loop-shown l = fold (shown_after l.count) (cells_in l.cells) (drop l.shown-index l.all) ≡ fold (shown_after l.count) (cells_in l.initial.cells) l.all

@@ -225,6 +225,89 @@ fn rows_are_closed_by_instant_and_then_arrival(rt: HostRuntime) -> Result<(), Fa
     Ok(())
 }
 
+// Whether the rows are these, each an instant, a number and a value.
+fn are_rows(rows: &[Arrival], expected: &[(u64, u64, i128)]) -> bool {
+    if rows.len() != expected.len() {
+        return false;
+    }
+    for (row, (instant, number, value)) in rows.iter().zip(expected) {
+        if !is_row(row, *instant, *number, *value) {
+            return false;
+        }
+    }
+    true
+}
+
+// Whether these rows are closed up to the instant, in this order; then they are closed.
+fn close_rows(
+    streams: &mut Streams,
+    at: i64,
+    expected: &[(u64, u64, i128)],
+) -> Result<bool, Fault> {
+    let are_closing = match streams.closing(0, at) {
+        Ok(closing) => are_rows(&closing, expected),
+        Err(_) => false,
+    };
+    let is_closed = heartbeat(streams, at)?;
+    Ok(are_closing && is_closed)
+}
+
+// Rows in order, rows below the instant that they reached, and rows of one instant from both.
+fn first_rows_are_closed(alloc: Global, streams: &mut Streams) -> Result<bool, Fault> {
+    let came = append(
+        alloc,
+        streams,
+        &[
+            (2, 10),
+            (4, 11),
+            (3, 12),
+            (4, 13),
+            (3, 14),
+            (6, 15),
+            (2, 16),
+        ],
+    )?;
+    let are_closed = close_rows(
+        streams,
+        3,
+        &[(2, 0, 10), (2, 6, 16), (3, 2, 12), (3, 4, 14)],
+    )?;
+    Ok(came && are_closed)
+}
+
+// More of both between two closings.
+fn rows_between_are_closed(alloc: Global, streams: &mut Streams) -> Result<bool, Fault> {
+    let came = append(alloc, streams, &[(5, 17), (6, 18), (4, 19)])?;
+    let are_closed = close_rows(
+        streams,
+        5,
+        &[(4, 1, 11), (4, 3, 13), (4, 9, 19), (5, 7, 17)],
+    )?;
+    Ok(came && are_closed)
+}
+
+// The rest, and rows that come after all was closed.
+fn last_rows_are_closed(alloc: Global, streams: &mut Streams) -> Result<bool, Fault> {
+    let first = close_rows(streams, 9, &[(6, 5, 15), (6, 8, 18)])?;
+    let came = append(alloc, streams, &[(12, 20), (11, 21), (12, 22)])?;
+    let second = close_rows(streams, 12, &[(11, 11, 21), (12, 10, 20), (12, 12, 22)])?;
+    Ok(first && came && second)
+}
+
+fn late_rows_are_closed(alloc: Global) -> Result<[bool; 3], Fault> {
+    let mut streams = streams(alloc)?;
+    let first = first_rows_are_closed(alloc, &mut streams)?;
+    let between = rows_between_are_closed(alloc, &mut streams)?;
+    let last = last_rows_are_closed(alloc, &mut streams)?;
+    Ok([first, between, last])
+}
+
+#[test]
+fn late_rows_are_closed_among_those_in_order(rt: HostRuntime) -> Result<(), Fail> {
+    assert_eq!(rt; late_rows_are_closed(rt.alloc())?, [true, true, true]);
+    Ok(())
+}
+
 // Closes the instants up to 1 in two halves.
 fn close(streams: &mut Streams) -> Result<(), Fault> {
     let closing = streams.closing(0, 1)?;

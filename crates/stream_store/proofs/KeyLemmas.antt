@@ -1,5 +1,5 @@
 -- The open rows of each instant, and what more rows leave as it was.
-use Rattle.std.proofs.Common.{◌≡◌, ◌<◌, ◌≤◌, ℕ, ℤ, zero, suc, Bool, true, false, cond, nat_lt, nat_le, Option, Some, None, List, [], ◌∷◌, ◌++◌, append-nil, append_assoc, length, take, drop, map, refl, sym, ap, subst, ◌∙◌, arith, ◌⊎◌, inl, inr}
+use Rattle.std.proofs.Common.{◌≡◌, ◌<◌, ◌≤◌, ℕ, ℤ, zero, suc, Bool, true, false, cond, nat_lt, Option, Some, None, List, [], ◌∷◌, ◌++◌, append-nil, append_assoc, length, take, drop, map, refl, sym, ap, subst, ◌∙◌, arith, ◌⊎◌, inl, inr}
 use Rattle.std.specs.declared.cmp.Ordering.{Ordering}
 use Rattle.std.specs.declared.cmp.Ordering.TheVariants.{Less, Equal, Greater}
 use Rattle.std.specs.Ordering.{nat_cmp, match_ordering, MatchOrdering, is_gt, is_eq}
@@ -9,7 +9,7 @@ use Rattle.std.specs.Map.{keys_of, lookup, set_value}
 use Rattle.std.specs.List.{AllByRecursion, All, filter}
 use Rattle.std.specs.Map.Calls.{RetainsPairs}
 use Rattle.std.specs.List.Sorted.{IsStrictlySortedBy}
-use Rattle.std.proofs.lemmas.Bool.{cases_order, lt-leb, le-leb, lt-ltb, le-ltb}
+use Rattle.std.proofs.lemmas.Bool.{cases_order, lt-ltb, le-ltb}
 use Rattle.std.proofs.lemmas.Map.{lookup-none}
 use Rattle.std.proofs.lemmas.Map.Entries.{none_below_head}
 use Rattle.std.proofs.lemmas.Map.Keys.{sorted_head, sorted_tail}
@@ -19,10 +19,8 @@ use Rattle.std.proofs.lemmas.List.Sums.{length-filter, count_by-le-length}
 use Rattle.arrayvec.specs.ArrayVec.{ArrayVec}
 use Rattle.values.specs.Row.{Row}
 use Rattle.values.specs.Window.{Element}
-use Rattle.op_queue.specs.Tables.{element}
-use Rattle.op_queue.specs.declared.log.Arrival.{Arrival}
 use Rattle.stream_store.specs.OpenRows.{RowsAt, none_at, numbered_rows, with_rows, first_below, has_rows}
-use Rattle.stream_store.specs.Open.{Entry, AreWide, elements_at, open_of, put_rows, placed, after_put, below, instants_past, up_to, past}
+use Rattle.stream_store.specs.Open.{Entry, AreAt, AreWide, elements_at, open_of, put_rows, placed, after_put, below, instants_past, past}
 
 abbrev pub Kept : Type 0
 Kept = ArrayVec (Option ℤ)
@@ -87,7 +85,7 @@ pub sorted_rest : (e : Entry) (es : List Entry) → IsStrictlySortedBy nat_cmp (
 sorted_rest e es h = sorted_tail nat_cmp e.0 (keys_of es) h
 
 -- what holds of all elements of an instant
-each-at : (P : Element → Type 0) (t : ℕ) → ((e : Element) → e.instant ≡ t → P e) → (rows : List (ℕ × Row)) → AllByRecursion P (elements_at t rows)
+pub each-at : (P : Element → Type 0) (t : ℕ) → ((e : Element) → e.instant ≡ t → P e) → (rows : List (ℕ × Row)) → AllByRecursion P (elements_at t rows)
 each-at P t f [] = tt
 each-at P t f (r ∷ rows) = (f (record { arrival = r.0; instant = t; row = r.1 }) refl, each-at P t f rows)
 
@@ -98,31 +96,27 @@ all_later t (e ∷ es) h =
     let lt = less_means t e.0 h.0 in
     each-append (λ (e : Element). t < e.instant) (elements_at e.0 e.1.rows) (open_of es) (each-at (λ g. t < g.instant) e.0 (λ g i. omega (arith, i, lt)) e.1.rows) (all_later t es h.1)
 
-later_rest : (t : ℕ) (e : Entry) (es : List Entry) → t ≤ e.0 → IsStrictlySortedBy nat_cmp (keys_of (e ∷ es)) → AllByRecursion (λ (g : Element). t < g.instant) (open_of es)
+pub later_rest : (t : ℕ) (e : Entry) (es : List Entry) → t ≤ e.0 → IsStrictlySortedBy nat_cmp (keys_of (e ∷ es)) → AllByRecursion (λ (g : Element). t < g.instant) (open_of es)
 later_rest t e es le h = each_from (λ (g : Element). e.0 < g.instant) (λ (g : Element). t < g.instant) (λ g lt. omega (arith, le, lt)) (open_of es) (all_later e.0 es (sorted_head nat_cmp e.0 (keys_of es) h))
 
 -- ---- more rows of an instant
-placed_first : (last : Element) (es : List Element) → AllByRecursion (λ (e : Element). last.instant < e.instant) es → placed last es ≡ last ∷ es
+pub placed_first : (last : Element) (es : List Element) → AllByRecursion (λ (e : Element). last.instant < e.instant) es → placed last es ≡ last ∷ es
 placed_first last [] h = refl
 placed_first last (e ∷ es) h = rw (lt-ltb last.instant e.instant h.0) refl
 
-placed_behind : (last : Element) (xs ys : List Element) → AllByRecursion (λ (e : Element). e.instant ≤ last.instant) xs → placed last (xs ++ ys) ≡ xs ++ placed last ys
+pub placed_behind : (last : Element) (xs ys : List Element) → AllByRecursion (λ (e : Element). e.instant ≤ last.instant) xs → placed last (xs ++ ys) ≡ xs ++ placed last ys
 placed_behind last [] ys h = refl
 placed_behind last (x ∷ xs) ys h = rw (le-ltb last.instant x.instant h.0) (ap (λ zs. x ∷ zs) (placed_behind last xs ys h.1))
 
--- the rows have this instant
-abbrev pub AreAt : ℕ → List (ℕ × Row) → Type 0
-AreAt t rows = AllByRecursion (λ (r : ℕ × Row). r.0 ≡ t) rows
-
 -- rows of an instant go behind what is not later, and before what is later
-put_behind : (t n : ℕ) (rows : List (ℕ × Row)) (xs ys : List Element) → AreAt t rows → AllByRecursion (λ (e : Element). e.instant ≤ t) xs → after_put n rows (xs ++ ys) ≡ xs ++ after_put n rows ys
+pub put_behind : (t n : ℕ) (rows : List (ℕ × Row)) (xs ys : List Element) → AreAt t rows → AllByRecursion (λ (e : Element). e.instant ≤ t) xs → after_put n rows (xs ++ ys) ≡ xs ++ after_put n rows ys
 put_behind t n [] xs ys at h = refl
 put_behind t n (r ∷ rows) xs ys at h =
     let last : Element = record { arrival = n; instant = r.0; row = r.1 } in
     let early = each_from (λ (e : Element). e.instant ≤ t) (λ (e : Element). e.instant ≤ r.0) (λ e le. omega (arith, le, at.0)) xs h in
     ap (λ es. after_put (suc n) rows es) (placed_behind last xs ys early) ∙ put_behind t (suc n) rows xs (placed last ys) at.1 h
 
-put_before : (t n : ℕ) (rows : List (ℕ × Row)) (es : List Element) → AreAt t rows → AllByRecursion (λ (e : Element). t < e.instant) es → after_put n rows es ≡ elements_at t (numbered_rows n rows) ++ es
+pub put_before : (t n : ℕ) (rows : List (ℕ × Row)) (es : List Element) → AreAt t rows → AllByRecursion (λ (e : Element). t < e.instant) es → after_put n rows es ≡ elements_at t (numbered_rows n rows) ++ es
 put_before t n [] es at h = refl
 put_before t n (r ∷ rows) es at h =
     let last : Element = record { arrival = n; instant = r.0; row = r.1 } in
@@ -317,30 +311,3 @@ open-past at (e ∷ es) = here (nat_lt at e.0) refl (open-past at es)
 
 pub wide-past : (at width : ℕ) (es : List Entry) → AreWide width es → AreWide width (instants_past at es)
 wide-past at width es h = each-kept (λ (e : Entry). e.1.width ≡ width) (λ (e : Entry). nat_lt at e.0) es h
-
-none_up_to : (at : ℕ) (e : Entry) (es : List Entry) → at < e.0 → IsStrictlySortedBy nat_cmp (keys_of (e ∷ es)) → up_to at (open_of (e ∷ es)) ≡ []
-none_up_to at e es lt s =
-    let p : Element → Bool = λ g. nat_le g.instant at in
-    filter_none p (open_of (e ∷ es)) (each-append (λ g. p g ≡ false) (elements_at e.0 e.1.rows) (open_of es)
-    (each-at (λ g. p g ≡ false) e.0 (λ g i. lt-leb g.instant at (omega (arith, i, lt))) e.1.rows)
-    (each_from (λ (g : Element). at < g.instant) (λ g. p g ≡ false) (λ g later. lt-leb g.instant at later) (open_of es) (later_rest at e es (omega (arith, lt)) s)))
-
--- the rows of one more instant are listed
-pub listed_more : (at : ℕ) (old new : List Arrival) (wanted : List Element) (all rest : List Entry) (e : Entry) → all ≡ e ∷ rest → e.0 ≤ at → map element new ≡ map element old ++ elements_at e.0 e.1.rows
-    → map element old ++ up_to at (open_of all) ≡ wanted → map element new ++ up_to at (open_of rest) ≡ wanted
-listed_more at old new wanted all rest e same le copied h =
-    let p : Element → Bool = λ g. nat_le g.instant at in
-    let here : List Element = elements_at e.0 e.1.rows in
-    ap (λ (xs : List Element). xs ++ up_to at (open_of rest)) copied
-    ∙ append_assoc (map element old) here (up_to at (open_of rest))
-    ∙ ap (λ (xs : List Element). map element old ++ (xs ++ up_to at (open_of rest))) (sym (filter_all p here (each-at (λ g. p g ≡ true) e.0 (λ g i. le-leb g.instant at (omega (arith, i, le))) e.1.rows)))
-    ∙ ap (λ (xs : List Element). map element old ++ xs) (sym (filter-append p here (open_of rest)))
-    ∙ ap (λ (xs : List Entry). map element old ++ up_to at (open_of xs)) (sym same) ∙ h
-
--- the next one lies past the instant
-pub listed_end : (at : ℕ) (done wanted : List Element) (all rest : List Entry) (e : Entry) → all ≡ e ∷ rest → at < e.0 → IsStrictlySortedBy nat_cmp (keys_of all)
-    → done ++ up_to at (open_of all) ≡ wanted → done ≡ wanted
-listed_end at done wanted all rest e same lt sorted h =
-    let s : IsStrictlySortedBy nat_cmp (keys_of (e ∷ rest)) = subst (λ (xs : List Entry). IsStrictlySortedBy nat_cmp (keys_of xs)) same sorted in
-    let none : up_to at (open_of all) ≡ [] = ap (λ (xs : List Entry). up_to at (open_of xs)) same ∙ none_up_to at e rest lt s in
-    sym (append-nil done) ∙ ap (λ xs. done ++ xs) (sym none) ∙ h

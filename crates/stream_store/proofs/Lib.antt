@@ -3,6 +3,9 @@ mod RunLemmas
 mod KeyLemmas
 mod OrderLemmas
 mod PlacedLemmas
+mod LateLemmas
+mod RisingLemmas
+mod WaitingLemmas
 mod StoredLemmas
 mod BesideLemmas
 pub mod ShownLemmas

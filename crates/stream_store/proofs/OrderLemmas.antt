@@ -7,6 +7,7 @@ use Rattle.std.proofs.lemmas.Grind.{flat_map-append}
 use Rattle.values.specs.Window.{Element}
 use Rattle.op_queue.specs.Logs.{IsInOrder}
 use Rattle.stream_store.specs.Closing.{by_key}
+use Rattle.stream_store.specs.Waiting.{Rising}
 use Rattle.stream_store.proofs.KeyLemmas.{filter_none, filter_all, each_from, each-append, each-kept}
 
 -- ---- tests of lists
@@ -60,10 +61,6 @@ filter-by_key p f a (suc n) es =
     ∙ ap (λ xs. filter (λ e. f e == a) (filter p es) ++ xs) (filter-by_key p f (a + 1) n es)
 
 -- ---- elements that rise by a key
-abbrev pub Rising : (Element → ℕ) → List Element → Type 0
-Rising f [] = Unit {0}
-Rising f (e ∷ es) = AllByRecursion (λ g. f e ≤ f g) es × Rising f es
-
 -- what passes a first test comes before what passes a second one
 joined : (f : Element → ℕ) (p q r : ℕ → Bool) → ((m : ℕ) → r m ≡ (p m || q m)) → ((m n : ℕ) → m ≤ n → q m ≡ true → p n ≡ false) → (es : List Element) → Rising f es
     → filter (λ e. p (f e)) es ++ filter (λ e. q (f e)) es ≡ filter (λ e. r (f e)) es

@@ -19,7 +19,7 @@ each-placed P last p (e ∷ es) h = here (each-placed P last p es h.1) (nat_lt l
     here ih false = (h.0, ih)
 
 -- a test that it fails
-filter-placed_other : (q : Element → Bool) (last : Element) → q last ≡ false → (es : List Element) → filter q (placed last es) ≡ filter q es
+pub filter-placed_other : (q : Element → Bool) (last : Element) → q last ≡ false → (es : List Element) → filter q (placed last es) ≡ filter q es
 filter-placed_other q last h [] = rw h refl
 filter-placed_other q last h (e ∷ es) = here (filter-placed_other q last h es) (nat_lt last.instant e.instant)
   where

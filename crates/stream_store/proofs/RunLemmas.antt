@@ -5,8 +5,8 @@ use Rattle.std.proofs.lemmas.List.{length-map, length-take-le, map-append, take-
 use Rattle.values.specs.Row.{Row}
 use Rattle.values.specs.Window.{Element}
 use Rattle.reference.specs.Views.{pairs_of}
-use Rattle.stream_store.specs.Open.{HaveWidth, placed, after_put, count_at}
-use Rattle.stream_store.proofs.KeyLemmas.{AreAt, Kept, each-take, each-drop}
+use Rattle.stream_store.specs.Open.{AreAt, HaveWidth, placed, after_put, count_at}
+use Rattle.stream_store.proofs.KeyLemmas.{Kept, each-take, each-drop}
 
 pub count_within : (t : ℕ) (rows : List (ℕ × Row)) → count_at t rows ≤ length rows
 count_within t [] = omega arith

@@ -5,8 +5,9 @@ use Rattle.std.proofs.lemmas.Bool.{eqb-true, and_parts, le-leb, lt-ltb}
 use Rattle.values.specs.Window.{Element}
 use Rattle.op_queue.specs.Logs.{is_shown, shown}
 use Rattle.stream_store.specs.Closing.{by_instant}
+use Rattle.stream_store.specs.Waiting.{Rising}
 use Rattle.stream_store.proofs.KeyLemmas.{each_from, each_passes, filter_all}
-use Rattle.stream_store.proofs.OrderLemmas.{Rising, within, by_key_rising, filter-by_key}
+use Rattle.stream_store.proofs.OrderLemmas.{within, by_key_rising, filter-by_key}
 
 one_key : (f : Element → ℕ) (t : ℕ) (es : List Element) → AllByRecursion (λ e. f e ≡ t) es → Rising f es
 one_key f t [] h = tt

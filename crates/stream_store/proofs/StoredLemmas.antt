@@ -1,5 +1,5 @@
 -- A stored stream as the machine knows it: what is closed of it, what a heartbeat closes, and what rows make of it.
-use Rattle.std.proofs.Common.{◌≡◌, ◌<◌, ◌≤◌, ◌+◌, ◌-◌, ◌==◌, ℕ, ℤ, pos, negsuc, suc, Bool, true, false, not, ◌||◌, cond, nat_lt, nat_le, int_lt, nat_abs, Option, None, Result, Ok, Err, IfOk, List, [], ◌∷◌, ◌++◌, length, refl, sym, ap, subst, ◌∙◌, arith, append-nil, append_assoc}
+use Rattle.std.proofs.Common.{◌≡◌, ◌<◌, ◌≤◌, ◌+◌, ◌-◌, ◌==◌, ℕ, ℤ, pos, negsuc, suc, Bool, true, false, not, ◌||◌, nat_lt, nat_le, int_lt, nat_abs, Option, None, Result, Ok, Err, IfOk, List, [], ◌∷◌, ◌++◌, length, refl, sym, ap, subst, ◌∙◌, arith, append-nil, append_assoc}
 use Rattle.std.specs.List.{AllByRecursion, All, filter, list_any, list_all}
 use Rattle.std.proofs.lemmas.Bool.{lt-leb, le-leb, lt-ltb, le-ltb, ltb-true, ltb-false, leb-true, leb-false, eqb-true}
 use Rattle.std.proofs.lemmas.List.{length-map}
@@ -21,7 +21,8 @@ use Rattle.stream_store.specs.Open.{after_put, up_to, past}
 use Rattle.stream_store.specs.Closing.{by_key, closed_of, closing_of}
 use Rattle.stream_store.specs.Stored.{stream_in, IsStored}
 use Rattle.stream_store.proofs.KeyLemmas.{filter_none, filter_all, each_from, each-append, each-kept, each_passes}
-use Rattle.stream_store.proofs.OrderLemmas.{filter_same_each, within, Before, Ordered, by_instant_ordered, ordered-append, ordered-filter, each_from_all, all_from_each, ordered_from, in_order}
+use Rattle.stream_store.proofs.OrderLemmas.{filter_same_each, within, Ordered, by_instant_ordered, rising_instants, ordered-append, ordered-filter, each_from_all, all_from_each, ordered_from, in_order}
+use Rattle.stream_store.proofs.LateLemmas.{up_past}
 use Rattle.stream_store.proofs.PlacedLemmas.{came_after, ordered-put, each-put, each-numbered, numbered_below}
 
 module _ (columns arrivals : ℕ) (closed : Closed) (es : List Element) (stored : IsStored columns arrivals closed es) (order : IsInOrder closed.elements) (done : All (λ e. e.instant < closed.until) closed.elements) where
@@ -109,17 +110,6 @@ pub closing_stream : (name : List ℕ) (columns : List Name) (n : ℕ) (closed :
 closing_stream name columns n closed es at stored order done = closing_rows (length columns) n closed es stored order done (nat_abs at)
 
 -- ---- after a heartbeat
-up_past : (at : ℕ) (es : List Element) → Ordered es → up_to at es ++ past at es ≡ es
-up_past at [] h = refl
-up_past at (e ∷ es) h = here (up_past at es h.1) (nat_le e.instant at) refl
-  where
-    here : up_to at es ++ past at es ≡ es → (b : Bool) → nat_le e.instant at ≡ b → cond b (e ∷ up_to at es) (up_to at es) ++ cond (nat_lt at e.instant) (e ∷ past at es) (past at es) ≡ e ∷ es
-    here ih true i = let le : e.instant ≤ at = leb-true e.instant at i in rw (le-ltb at e.instant le) (ap (λ xs. e ∷ xs) ih)
-    here ih false i =
-        let lt : at < e.instant = leb-false e.instant at i in
-        let none : up_to at es ≡ [] = filter_none (λ (g : Element). nat_le g.instant at) es (each_from (Before e) (λ (g : Element). nat_le g.instant at ≡ false) (λ g b. lt-leb g.instant at (omega (arith, lt, b.0))) es h.0) in
-        rw (lt-ltb at e.instant lt) (ap (λ xs. xs ++ (e ∷ past at es)) none ∙ ap (λ xs. e ∷ xs) (sym (ap (λ xs. xs ++ past at es) none) ∙ ih))
-
 module _ (columns n m : ℕ) (closed next : Closed) (es : List Element) (stored : IsStored columns n closed es) (more : next.elements ≡ closed.elements ++ up_to m es) (until : next.until ≡ m + 1) where
   abbrev later : Element → Bool
   later e = nat_lt m e.instant
@@ -141,7 +131,7 @@ module _ (columns n m : ℕ) (closed next : Closed) (es : List Element) (stored 
   same_rows : next.elements ++ past m es ≡ closed.elements ++ es
   same_rows =
       ap (λ xs. xs ++ past m es) more ∙ append_assoc closed.elements (up_to m es) (past m es)
-      ∙ ap (λ xs. closed.elements ++ xs) (up_past m es (ordered_from es stored.ordered))
+      ∙ ap (λ xs. closed.elements ++ xs) (sym (up_past m es (rising_instants es (ordered_from es stored.ordered))))
 
   pub closed_stream_to : (name : List ℕ) (names : List (List ℕ)) (at : ℤ) → m ≡ nat_abs at → stream_in name names n next (past m es) ≡ closed_to at (stream_in name names n closed es)
   closed_stream_to name names at same = rw (same_rows, until) (ap (λ k. record (stream_in name names n closed es) { first_open = k }) (omega (arith, same)))

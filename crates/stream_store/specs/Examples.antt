@@ -5,6 +5,7 @@ use Rattle.values.specs.Window.{Element}
 use Rattle.reference.specs.Machine.{Stream}
 use Rattle.stream_store.specs.OpenRows.{rows_in}
 use Rattle.stream_store.specs.Open.{Entry, open_of, put_rows, count_at, after_put, below, instants_past, up_to}
+use Rattle.stream_store.specs.Waiting.{risen_in, with_late}
 use Rattle.stream_store.specs.Closing.{by_key, closed_of, closing_of}
 
 abbrev row : ℕ → Row
@@ -30,7 +31,7 @@ by_arrival : by_key (λ e. e.arrival) 0 3 (element 1 1 5 ∷ element 2 1 6 ∷ e
 by_arrival = refl
 
 -- rows of two columns, kept flat
-flat_rows : rows_in 2 (0 ∷ 4 ∷ []) (Some (pos 7) ∷ Some (pos 8) ∷ Some (pos 5) ∷ Some (pos 6) ∷ []) ≡ (0, Some (pos 7) ∷ Some (pos 8) ∷ []) ∷ (4, Some (pos 5) ∷ Some (pos 6) ∷ []) ∷ []
+flat_rows : rows_in {K = ℕ} 2 (0 ∷ 4 ∷ []) (Some (pos 7) ∷ Some (pos 8) ∷ Some (pos 5) ∷ Some (pos 6) ∷ []) ≡ (0, Some (pos 7) ∷ Some (pos 8) ∷ []) ∷ (4, Some (pos 5) ∷ Some (pos 6) ∷ []) ∷ []
 flat_rows = refl
 
 -- the open rows of the instants 1 and 3
@@ -63,3 +64,12 @@ up_to_two = refl
 
 past_two : open_of (instants_past 2 entries) ≡ element 0 3 7 ∷ []
 past_two = refl
+
+-- ---- both parts
+-- rows of one column that came in the order of their instants
+risen_rows : risen_in 1 (record { high = 0; low = 3; number = 0 } ∷ record { high = 2; low = 1; number = 4 } ∷ []) (Some (pos 7) ∷ Some (pos 5) ∷ []) ≡ element 0 3 7 ∷ element 4 8589934593 5 ∷ []
+risen_rows = refl
+
+-- the rows 0, 1 and 4 rose; the rows 2 and 3 came late, the row 2 at an instant that has the row 0
+both_parts : with_late (element 2 3 6 ∷ element 3 4 1 ∷ []) (element 0 3 7 ∷ element 1 5 8 ∷ element 4 5 9 ∷ []) ≡ element 0 3 7 ∷ element 2 3 6 ∷ element 3 4 1 ∷ element 1 5 8 ∷ element 4 5 9 ∷ []
+both_parts = refl

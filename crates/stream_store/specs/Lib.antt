@@ -1,5 +1,6 @@
 pub mod OpenRows
 pub mod Open
+pub mod Waiting
 pub mod Closing
 pub mod Stored
 pub mod Beside

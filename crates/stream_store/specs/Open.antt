@@ -33,6 +33,10 @@ abbrev pub count_at : ℕ → List (ℕ × Row) → ℕ
 count_at instant [] = 0
 count_at instant (r ∷ rows) = if r.0 == instant then suc (count_at instant rows) else 0
 
+-- the rows have this instant
+abbrev pub AreAt : ℕ → List (ℕ × Row) → Type 0
+AreAt instant rows = AllByRecursion (λ (r : ℕ × Row). r.0 ≡ instant) rows
+
 -- the rows have so many values each
 abbrev pub HaveWidth : ℕ → List (ℕ × Row) → Type 0
 HaveWidth width rows = AllByRecursion (λ (r : ℕ × Row). length r.1 ≡ width) rows

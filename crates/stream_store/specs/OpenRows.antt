@@ -1,4 +1,4 @@
--- How the open rows of an instant are kept: their numbers, and their values one row after another.
+-- How open rows are kept: their heads, and their values one row after another.
 use Rattle.std.specs.Prelude.{◌≡◌, ℕ, suc, ℤ, ◌*◌, ◌≤◌, ◌++◌, Option, Bool, nat_lt, List, [], ◌∷◌, length, take, drop}
 use Rattle.std.specs.List.{filter}
 use Rattle.values.specs.Row.{Row}
@@ -8,14 +8,15 @@ pub record RowsAt : Type 0 where
   pub width : ℕ
   pub rows : List (ℕ × Row)
 
-abbrev pub rows_in : ℕ → List ℕ → List (Option ℤ) → List (ℕ × Row)
+-- each head, be it a number or more, with the values of its row
+abbrev pub rows_in : {K : Type 0} → ℕ → List K → List (Option ℤ) → List (K × Row)
 rows_in width [] values = []
-rows_in width (number ∷ numbers) values = (number, take width values) ∷ rows_in width numbers (drop width values)
+rows_in width (head ∷ heads) values = (head, take width values) ∷ rows_in width heads (drop width values)
 
 -- as many values as the rows have
-pub record IsFlat (width : ℕ) (numbers : List ℕ) (values : List (Option ℤ)) : Type 0 where
+pub record IsFlat {K : Type 0} (width : ℕ) (heads : List K) (values : List (Option ℤ)) : Type 0 where
   pub few : width ≤ 16
-  pub full : length values ≡ length numbers * width
+  pub full : length values ≡ length heads * width
 
 -- no rows of so many columns
 abbrev pub none_at : ℕ → RowsAt

@@ -2,10 +2,12 @@
 //! by cursors, and the open rows by instant. Each call does to the streams what the machine of `reference` says.
 #![tactic(auto)]
 
-mod open;
+mod late;
 mod open_rows;
+mod rising_rows;
 mod stored;
 mod streams;
+mod waiting;
 
 pub use op_queue::{Arrival, Log};
 pub use streams::Streams;

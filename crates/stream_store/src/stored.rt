@@ -9,41 +9,38 @@ ghost use Rattle.reference.specs.Commands.{append_tests, heartbeat_tests, append
 ghost use Rattle.reference.specs.Told.{IsTold};
 ghost use Rattle.stream_store.specs.Closing.{closed_of, closing_of};
 
-use crate::open::{drop_up_to, forget_from, put_all, rows_up_to};
-use crate::open_rows::OpenRows;
+use crate::waiting::Waiting;
 use cql_reader::Name;
 use names::Catalog;
 use op_queue::{Arrival, Log};
 use reference::{Fault, MAX_APPENDED, MAX_INSTANT, MAX_LEAP, MAX_STREAM_ROWS, NewRows};
 use std::alloc::{AllocError, Global};
-use std::collections::BTreeMap;
 use std::marker::Model;
 
-/// A declared stream: its name, its columns' names, the closed rows, the open rows by instant, and how many came.
+/// A declared stream: its name, its columns' names, the closed rows, the open ones, and how many came.
 #[derive(Drop)]
 pub(crate) struct Stored {
     alloc: Global,
     name: Name,
     columns: Vec<Name>,
     log: Log,
-    waiting: BTreeMap<u64, OpenRows>,
+    waiting: Waiting,
     arrivals: u64,
 }
 
 impl Model for Stored {
-    ghost use Rattle.std.specs.Prelude.{length};
+    ghost use Rattle.std.specs.Prelude.{◌≡◌, length};
     ghost use Rattle.cql_reader.specs.Views.{name_of};
     ghost use Rattle.names.specs.Views.{names_of};
     ghost use Rattle.reference.specs.Machine as machine;
 
     ghost Value = { machine.Stream };
 
-    ghost use Rattle.stream_store.specs.Open.{AreWide, open_of};
     ghost use Rattle.stream_store.specs.Stored.{stream_in, IsStored};
 
-    ghost view = { λ s. stream_in (name_of s.name) (names_of s.columns.items) s.arrivals s.log (open_of s.waiting.entries) };
+    ghost view = { λ s. stream_in (name_of s.name) (names_of s.columns.items) s.arrivals s.log s.waiting.rows };
 
-    ghost invariant = { λ s. IsStored (length s.columns.items) s.arrivals s.log (open_of s.waiting.entries) × AreWide (length s.columns.items) s.waiting.entries };
+    ghost invariant = { λ s. IsStored (length s.columns.items) s.arrivals s.log s.waiting.rows × (s.waiting.width ≡ length s.columns.items) };
 }
 
 impl Stored {
@@ -59,12 +56,13 @@ impl Stored {
         ensures { IfOk result (λ s. s ≡ record { name = name_of name; columns = names_of columns.items; elements = []; arrivals = 0; first_open = first_open }) }
     {
         let log = Log::new(alloc, columns.len(), first_open)?;
+        let waiting = Waiting::new(alloc, columns.len());
         Ok(Stored {
             alloc,
             name,
             columns,
             log,
-            waiting: BTreeMap::new(alloc),
+            waiting,
             arrivals: 0,
         })
     }
@@ -155,17 +153,9 @@ impl Stored {
         let count = rows.len();
         let mut kept = Vec::with_capacity(self.alloc, count)?;
         rows.copy_to(&mut kept);
-        let width = self.columns.len();
-        match put_all(self.alloc, &mut self.waiting, width, self.arrivals, &kept) {
-            Ok(()) => {
-                self.arrivals += count as u64;
-                Ok(())
-            }
-            Err(error) => {
-                forget_from(&mut self.waiting, self.arrivals);
-                Err(error)
-            }
-        }
+        self.waiting.put_all(self.arrivals, &kept)?;
+        self.arrivals += count as u64;
+        Ok(())
     }
 
     /// The last instant that an accepted heartbeat closes.
@@ -185,7 +175,7 @@ impl Stored {
     {
         let last = self.last_closed(at);
         let _until = self.log.until();
-        rows_up_to(self.alloc, &self.waiting, last)
+        self.waiting.rows_up_to(last)
     }
 
     /// Closes all instants up to `at`, which have these rows. On Err it is as it was.
@@ -200,7 +190,7 @@ impl Stored {
         let _until = self.log.until();
         self.log.close(rows, last + 1)?;
         let _closed = self.log.until();
-        drop_up_to(&mut self.waiting, last);
+        self.waiting.drop_up_to(last);
         Ok(())
     }
 }

@@ -1,10 +1,10 @@
 //! Worked bags of rows.
 use crate::rows::{are, one, row};
 use column::{Batch, SignedRow};
-use row_bags::{Net, RowBag, RowList, begins_with};
+use row_bags::{Net, RowBag, RowList, begins_with, copied, fitted};
 use std::alloc::{AllocError, Global};
 use std::test::Fail;
-use values::{Row, Value};
+use values::{Row, Value, same_rows};
 
 /// A batch of three rows of one number, of which the first leaves or enters and the others enter.
 fn three(alloc: Global, enters: bool, numbers: (i64, i64, i64)) -> Result<Batch, AllocError> {
@@ -153,6 +153,30 @@ fn has_no_wide_row(alloc: Global) -> Result<bool, AllocError> {
 fn rows_of_other_widths_stand_side_by_side(rt: HostRuntime) -> Result<(), Fail> {
     assert!(rt; wide_rows_come(rt.alloc())?);
     assert!(rt; has_no_wide_row(rt.alloc())?);
+    Ok(())
+}
+
+/// Whether a row of so many ones gets a key with room for two values, which then has its values.
+fn fits_two(count: usize) -> bool {
+    let row = ones(count);
+    match fitted::<2>(&row) {
+        Some(key) => key.len() == count && begins_with(&key, &row),
+        None => false,
+    }
+}
+
+/// The row 7 in less room, and back.
+fn seven_again() -> Row {
+    let seven = row(7);
+    let key = copied::<16, 4>(&seven);
+    copied::<4, 16>(&key)
+}
+
+#[test]
+fn keys_have_the_values_of_their_rows(rt: HostRuntime) -> Result<(), Fail> {
+    assert!(rt; fits_two(2) && fits_two(0));
+    assert!(rt; !fits_two(3));
+    assert!(rt; same_rows(&seven_again(), &row(7)));
     Ok(())
 }
 

@@ -8,17 +8,16 @@ use Rattle.op_queue.specs.Logs.{Closed, IsClosing}
 use Rattle.op_queue.specs.Tables.{element}
 use Rattle.reference.specs.Machine.{Stream}
 use Rattle.reference.specs.Commands.{closed_to}
-use Rattle.stream_store.specs.Open.{Entry, AreWide, open_of, up_to}
+use Rattle.stream_store.specs.Open.{up_to}
 use Rattle.stream_store.specs.Closing.{closed_of, closing_of}
 use Rattle.stream_store.specs.Stored.{IsStored, stream_in}
-use Rattle.stream_store.proofs.KeyLemmas.{open-past, wide-past}
 use Rattle.stream_store.proofs.StoredLemmas.{closed_stream, closing_stream, is_closing, stored_closed, closed_stream_to}
 use Rattle.stream_store.proofs.stored.Stored.close.Goals as goal
 
 pub close-requires : goal.close-requires
 close-requires c =
     let s = c.self.inside in
-    let rows = open_of s.waiting.entries in
+    let rows = s.waiting.rows in
     let last : c.last_closed-last.result ≡ nat_abs c.args.at = c.last_closed-last.ensures.value ∙ ap nat_abs (to_z-of_z w64 c.args.at c.ranges.at) in
     let e = c.requires.closing ∙ ap (λ (s : Stream). closing_of c.args.at s) (sym c.self.view_is)
     ∙ closing_stream (name_of s.name) s.columns.items s.arrivals s.log rows c.args.at c.self.invariant.0 c.until-until.ensures.ordered c.until-until.ensures.closed
@@ -30,30 +29,30 @@ close-requires c =
 pub invariant_of-self-2 : goal.invariant_of-self-2
 invariant_of-self-2 c =
     let s = c.self.inside in
-    let rows = open_of s.waiting.entries in
+    let rows = s.waiting.rows in
     let m = c.last_closed-last.result in
     let last : m ≡ nat_abs c.args.at = c.last_closed-last.ensures.value ∙ ap nat_abs (to_z-of_z w64 c.args.at c.ranges.at) in
     let e = c.requires.closing ∙ ap (λ (s : Stream). closing_of c.args.at s) (sym c.self.view_is)
     ∙ closing_stream (name_of s.name) s.columns.items s.arrivals s.log rows c.args.at c.self.invariant.0 c.until-until.ensures.ordered c.until-until.ensures.closed
     ∙ ap (λ (n : ℕ). up_to n rows) (sym last) in
     let more = c.in_ok-close.ensures.elements ∙ ap (λ (rows : List Element). s.log.elements ++ rows) e in
-    let left = ap open_of c.drop_up_to.ensures ∙ open-past m s.waiting.entries in (
+    let left = c.drop_up_to.ensures.rows in (
       subst (λ (es : List Element). IsStored (length s.columns.items) s.arrivals c.close.new.self es) (sym left)
           (stored_closed (length s.columns.items) s.arrivals m s.log c.close.new.self rows c.self.invariant.0 more c.in_ok-close.ensures.until c.in_ok-close.ensures.width c.last_closed-last.ensures.range),
-      subst (λ (es : List Entry). AreWide (length s.columns.items) es) (sym c.drop_up_to.ensures) (wide-past m (length s.columns.items) s.waiting.entries c.self.invariant.1),
+      c.drop_up_to.ensures.width ∙ c.self.invariant.1,
     )
 
 pub returns-clause-ok : goal.returns-clause-ok
 returns-clause-ok c =
     let s = c.self.inside in
-    let rows = open_of s.waiting.entries in
+    let rows = s.waiting.rows in
     let m = c.last_closed-last.result in
     let last : m ≡ nat_abs c.args.at = c.last_closed-last.ensures.value ∙ ap nat_abs (to_z-of_z w64 c.args.at c.ranges.at) in
     let e = c.requires.closing ∙ ap (λ (s : Stream). closing_of c.args.at s) (sym c.self.view_is)
     ∙ closing_stream (name_of s.name) s.columns.items s.arrivals s.log rows c.args.at c.self.invariant.0 c.until-until.ensures.ordered c.until-until.ensures.closed
     ∙ ap (λ (n : ℕ). up_to n rows) (sym last) in
     let more = c.in_ok-close.ensures.elements ∙ ap (λ (rows : List Element). s.log.elements ++ rows) e in
-    let left = ap open_of c.drop_up_to.ensures ∙ open-past m s.waiting.entries in
+    let left = c.drop_up_to.ensures.rows in
     ap (λ (es : List Element). stream_in (name_of s.name) (names_of s.columns.items) s.arrivals c.close.new.self es) left
     ∙ closed_stream_to (length s.columns.items) s.arrivals m s.log c.close.new.self rows c.self.invariant.0 more c.in_ok-close.ensures.until
     (name_of s.name) (names_of s.columns.items) c.args.at last
@@ -62,20 +61,20 @@ returns-clause-ok c =
 pub returns-clause-queues : goal.returns-clause-queues
 returns-clause-queues c =
     let s = c.self.inside in
-    let rows = open_of s.waiting.entries in
+    let rows = s.waiting.rows in
     let m = c.last_closed-last.result in
     let last : m ≡ nat_abs c.args.at = c.last_closed-last.ensures.value ∙ ap nat_abs (to_z-of_z w64 c.args.at c.ranges.at) in
     let e = c.requires.closing ∙ ap (λ (s : Stream). closing_of c.args.at s) (sym c.self.view_is)
     ∙ closing_stream (name_of s.name) s.columns.items s.arrivals s.log rows c.args.at c.self.invariant.0 c.until-until.ensures.ordered c.until-until.ensures.closed
     ∙ ap (λ (n : ℕ). up_to n rows) (sym last) in
     let more = c.in_ok-close.ensures.elements ∙ ap (λ (rows : List Element). s.log.elements ++ rows) e in
-    let left = ap open_of c.drop_up_to.ensures ∙ open-past m s.waiting.entries in
+    let left = c.drop_up_to.ensures.rows in
     let kept = subst (λ (es : List Element). IsStored (length s.columns.items) s.arrivals c.close.new.self es) (sym left)
     (stored_closed (length s.columns.items) s.arrivals m s.log c.close.new.self rows c.self.invariant.0 more c.in_ok-close.ensures.until c.in_ok-close.ensures.width c.last_closed-last.ensures.range) in
     let before : s.log ≡ closed_of c.args.self.now =
     sym (closed_stream (name_of s.name) s.columns.items s.arrivals s.log rows c.self.invariant.0 c.until-until.ensures.ordered c.until-until.ensures.closed)
     ∙ ap (λ (s : Stream). closed_of s) c.self.view_is in
-    let after = sym (closed_stream (name_of s.name) s.columns.items s.arrivals c.close.new.self (open_of c.drop_up_to.new.waiting.entries) kept c.until-closed.ensures.ordered c.until-closed.ensures.closed) in
+    let after = sym (closed_stream (name_of s.name) s.columns.items s.arrivals c.close.new.self c.drop_up_to.new.self.rows kept c.until-closed.ensures.ordered c.until-closed.ensures.closed) in
     let one = subst (λ (l : Closed). GainsClosed l (map element c.args.rows.now) (m + 1) c.close.new.self) before c.in_ok-close.ensures.queues in
     let two = subst (λ (rows : List Element). GainsClosed (closed_of c.args.self.now) rows (m + 1) c.close.new.self) c.requires.closing one in
     let next : m + 1 ≡ suc (nat_abs c.args.at) = omega (arith, last) in

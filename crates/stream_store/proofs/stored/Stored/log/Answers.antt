@@ -2,12 +2,11 @@ use Rattle.std.proofs.Common.{◌∙◌, sym, ap}
 use Rattle.cql_reader.specs.Views.{name_of}
 use Rattle.reference.specs.Machine.{Stream}
 use Rattle.stream_store.specs.Closing.{closed_of}
-use Rattle.stream_store.specs.Open.{open_of}
 use Rattle.stream_store.proofs.StoredLemmas.{closed_stream}
 use Rattle.stream_store.proofs.stored.Stored.log.Goals as goal
 
 pub returns : goal.returns
 returns c =
     let s = c.self.inside in
-    sym (closed_stream (name_of s.name) s.columns.items s.arrivals s.log (open_of s.waiting.entries) c.self.invariant.0 c.until-until.ensures.ordered c.until-until.ensures.closed)
+    sym (closed_stream (name_of s.name) s.columns.items s.arrivals s.log s.waiting.rows c.self.invariant.0 c.until-until.ensures.ordered c.until-until.ensures.closed)
     ∙ ap (λ (s : Stream). closed_of s) c.self.view_is

@@ -1,0 +1,170 @@
+//! The open rows of a stream.
+ghost use Rattle.std.specs.Prelude.{◌≡◌, ◌≤◌, ◌<◌, ◌+◌, ◌^◌, ◌++◌, [], IfOk, OnOk, OnErr, length, map, take, drop};
+ghost use Rattle.std.specs.List.{AllByRecursion};
+ghost use Rattle.op_queue.specs.Tables.{element};
+ghost use Rattle.reference.specs.Views.{pairs_of};
+ghost use Rattle.stream_store.specs.Open.{AreAt, HaveWidth, after_put, below, open_of, past, up_to};
+ghost use Rattle.stream_store.specs.Waiting.{IsMore, IsWaiting, with_late};
+
+use crate::late::{count_at, drop_up_to, forget_from, put};
+use crate::open_rows::OpenRows;
+use crate::rising_rows::RisingRows;
+use op_queue::Arrival;
+use std::alloc::{AllocError, Global};
+use std::collections::BTreeMap;
+use std::marker::Model;
+use values::{MAX_COLUMNS, Row};
+
+/// The open rows of a stream, by instant, then arrival.
+///
+/// Rows whose instants never fall stand flat, one behind the other. A row that comes below the instant that they have reached is
+/// late: it stands in a map by instants, behind the others of its instant. What is late is therefore earlier than what comes next.
+#[derive(Drop)]
+pub(crate) struct Waiting {
+    alloc: Global,
+    rising: RisingRows,
+    late: BTreeMap<u64, OpenRows>,
+}
+
+impl Model for Waiting {
+    ghost use Rattle.stream_store.specs.Waiting.{WaitingRows};
+
+    ghost Value = { WaitingRows };
+
+    ghost use Rattle.stream_store.specs.Waiting.{IsWaiting, waiting_in};
+
+    ghost view = { λ w. waiting_in w.rising w.late.entries };
+
+    ghost invariant = { λ w. IsWaiting w.rising w.late.entries };
+}
+
+impl Waiting {
+    /// No rows of so many columns. Takes no memory.
+    pub(crate) fn new(alloc: Global, width: usize) -> Waiting
+        requires { width ≤ MAX_COLUMNS }
+        ensures width { result.width ≡ width }
+        ensures rows { result.rows ≡ [] }
+    {
+        Waiting {
+            alloc,
+            rising: RisingRows::new(alloc, width),
+            late: BTreeMap::new(alloc),
+        }
+    }
+
+    /// Adds rows, numbered from `first` on, which is above the numbers of all others. On Err they are as they were.
+    ///
+    /// Rows that follow one another with one instant are put together.
+    pub(crate) fn put_all(&mut self, first: u64, rows: &[(u64, Row)]) -> Result<(), AllocError>
+        requires room { first + length rows.now < 2 ^ 32 }
+        requires rows { HaveWidth self.old.width (pairs_of rows.now) }
+        requires numbered { AllByRecursion (λ e. e.arrival < first) self.old.rows }
+        ensures width { self.new.width ≡ self.old.width }
+        ensures ok { OnOk result (self.new.rows ≡ after_put first (pairs_of rows.now) self.old.rows) }
+        ensures err { OnErr result (self.new ≡ self.old) }
+    {
+        let count = self.rising.len();
+        let reached = self.rising.reached();
+        match put_runs(self.alloc, &mut self.rising, &mut self.late, first, rows) {
+            Ok(()) => Ok(()),
+            Err(error) => {
+                self.rising.keep_first(count, reached);
+                forget_from(&mut self.late, first);
+                Err(error)
+            }
+        }
+    }
+
+    /// Copies of the rows up to the instant, by instant, then arrival.
+    pub(crate) fn rows_up_to(&self, at: u64) -> Result<Vec<Arrival>, AllocError>
+        ensures { IfOk result (λ v. map element v.items ≡ up_to at self.now.rows) }
+    {
+        let mut rows = Vec::new(self.alloc);
+        let place = copy_late(&self.rising, &self.late, at, &mut rows)?;
+        self.rising.copy_to(place, at, &mut rows)?;
+        Ok(rows)
+    }
+
+    /// Takes out the rows up to the instant.
+    pub(crate) fn drop_up_to(&mut self, at: u64)
+        ensures width { self.new.width ≡ self.old.width }
+        ensures rows { self.new.rows ≡ past at self.old.rows }
+    {
+        self.rising.drop_up_to(at);
+        drop_up_to(&mut self.late, at);
+    }
+}
+
+/// Puts rows of one instant behind the others of their instant and of earlier ones, numbered from `first` on.
+fn put_run(
+    alloc: Global,
+    rising: &mut RisingRows,
+    late: &mut BTreeMap<u64, OpenRows>,
+    instant: u64,
+    first: u64,
+    rows: &[(u64, Row)],
+) -> Result<(), AllocError>
+    requires room { first + length rows.now < 2 ^ 32 }
+    requires rows { HaveWidth rising.old.width (pairs_of rows.now) }
+    requires at { AreAt instant (pairs_of rows.now) }
+    requires waiting { IsWaiting rising.old late.old.entries }
+    ensures ok { OnOk result (IsMore first (pairs_of rows.now) rising.old late.old.entries rising.new late.new.entries) }
+    ensures rising { OnErr result (rising.new ≡ rising.old) }
+    ensures late { OnErr result (late.new.entries ≡ late.old.entries) }
+{
+    if rising.reached() <= instant {
+        return rising.push_all(instant, first, rows);
+    }
+    put(alloc, late, rising.width(), instant, first, rows)
+}
+
+/// Adds rows, numbered from `first` on. On Err only more rows, of these numbers, stand behind those that were there.
+fn put_runs(
+    alloc: Global,
+    rising: &mut RisingRows,
+    late: &mut BTreeMap<u64, OpenRows>,
+    first: u64,
+    rows: &[(u64, Row)],
+) -> Result<(), AllocError>
+    requires room { first + length rows.now < 2 ^ 32 }
+    requires rows { HaveWidth rising.old.width (pairs_of rows.now) }
+    requires waiting { IsWaiting rising.old late.old.entries }
+    ensures ok { OnOk result (with_late (open_of late.new.entries) rising.new.rows ≡ after_put first (pairs_of rows.now) (with_late (open_of late.old.entries) rising.old.rows)) }
+    ensures waiting { IsWaiting rising.new late.new.entries }
+    ensures width { rising.new.width ≡ rising.old.width }
+    ensures longer { length rising.old.rows ≤ length rising.new.rows }
+    ensures rising { take (length rising.old.rows) rising.new.rows ≡ rising.old.rows }
+    ensures late { below first late.new.entries ≡ below first late.old.entries }
+{
+    let mut number = first;
+    let mut rest = rows;
+    while let Some((instant, _)) = rest.first() {
+        let (run, after) = rest.split_at(count_at(rest, *instant));
+        put_run(alloc, rising, late, *instant, number, run)?;
+        number += run.len() as u64;
+        rest = after;
+    }
+    Ok(())
+}
+
+/// Puts copies of the late rows up to the instant, and of those that stand before them, behind others. The place of the next row
+/// that is not late.
+fn copy_late(
+    rising: &RisingRows,
+    late: &BTreeMap<u64, OpenRows>,
+    at: u64,
+    rows: &mut Vec<Arrival>,
+) -> Result<usize, AllocError>
+    ensures within { IfOk result (λ place. place ≤ length rising.now.rows) }
+    ensures rows { IfOk result (λ place. map element rows.new.items ++ up_to at (drop place rising.now.rows) ≡ map element rows.old.items ++ up_to at (with_late (open_of late.now.entries) rising.now.rows)) }
+{
+    let mut place = 0;
+    for (instant, open) in late.iter() {
+        if at < *instant {
+            return Ok(place);
+        }
+        place = rising.copy_to(place, *instant, rows)?;
+        open.copy_to(*instant, rows)?;
+    }
+    Ok(place)
+}

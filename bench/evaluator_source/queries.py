@@ -1,0 +1,101 @@
+"""Random queries, and their texts."""
+
+from evaluate import COMPARISONS
+
+
+class Window:
+    """Rows of the last `span` instants; or, where that is None, the `last` rows of each partition, or all where that is None too."""
+
+    def __init__(self, random, columns):
+        self.span, self.last, self.partition = None, None, ()
+        kind = random.choice(["", "Now", "Range", "Range", "Range Unbounded", "Rows", "Rows Unbounded", "Partition By"])
+        self.text = f"[{kind}]" if kind else ""
+        if kind == "Now":
+            self.span = 0
+        elif kind == "Range":
+            self.span = random.choice([0, 1, 2, 5, 20])
+            self.text = f"[Range {self.span}]"
+        elif kind == "Rows":
+            self.last = random.choice([1, 2, 3, 7])
+            self.text = f"[Rows {self.last}]"
+        elif kind == "Partition By":
+            self.last = random.choice([1, 2, 3])
+            self.partition = random.sample(range(len(columns)), random.randint(1, min(3, len(columns))))
+            self.text = f"[Partition By {', '.join(columns[it] for it in self.partition)} Rows {self.last}]"
+
+
+def condition_of(random, width, depth=0):
+    """A condition over columns, as evaluate.truth takes it."""
+    kind = random.choices(["or", "and", "not", "compare"], [20, 15, 15, 50])[0] if depth < 3 else "compare"
+    if kind == "compare":
+        second = (True, random.randrange(width)) if random.random() < 0.4 else (False, random.randint(-3, 6))
+        return (kind, random.choice([*COMPARISONS]), (True, random.randrange(width)), second)
+    return (kind, *(condition_of(random, width, depth + 1) for _ in range(1 if kind == "not" else 2)))
+
+
+def condition_text(condition, names):
+    kind, *parts = condition
+    if kind == "compare":
+        sign, *operands = parts
+        a, b = (names[it] if is_column else it for is_column, it in operands)
+        return f"{a} {sign} {b}"
+    texts = [f"({condition_text(it, names)})" for it in parts]
+    return f"Not {texts[0]}" if kind == "not" else f" {kind} ".join(texts)
+
+
+class Query:
+    """A query over one or two streams, which `columns` has with their columns' names."""
+
+    def __init__(self, random, columns):
+        self.operator = random.choice(["Istream", "Dstream", "Rstream"])
+        self.is_distinct = random.random() < 0.25
+        self.streams = random.choices([*columns], k=random.choices([1, 2], [60, 40])[0])
+        self.windows = [Window(random, columns[it]) for it in self.streams]
+        sides = [columns[it] for it in self.streams]
+        self.names = sides[0] if len(sides) == 1 else [f"{side}.{it}" for side, names in zip("xy", sides) for it in names]
+        self.conditions = []
+        if len(sides) == 2:
+            for _ in range(random.choice([1, 1, 1, 2])):
+                right = len(sides[0]) + random.randrange(len(sides[1]))
+                self.conditions.append(("compare", "=", (True, random.randrange(len(sides[0]))), (True, right)))
+        if random.random() < 0.5:
+            self.conditions.append(condition_of(random, len(self.names)))
+        random.shuffle(self.conditions)
+        self.choose_items(random)
+
+    def choose_items(self, random):
+        width = len(self.names)
+        some = lambda least, most: [
+            (random.choice(["Count", "Sum", "Min", "Max"]), random.randrange(width)) for _ in range(random.randint(least, most))
+        ] + [("Count", None)] * random.randint(0, 1)
+        kind = random.choices(["by groups", "all in one", "*", "columns"], [35, 15, 15, 35])[0]
+        self.is_grouped = kind in ("by groups", "all in one")
+        self.has_all = kind == "*"
+        self.group_by = random.sample(range(width), random.randint(1, min(3, width))) if kind == "by groups" else []
+        if kind == "by groups":
+            self.items = [(None, it) for it in self.group_by if random.random() < 0.5] + some(0, 3) or [(None, self.group_by[0])]
+            random.shuffle(self.items)
+        elif kind == "all in one":
+            self.items = some(1, 3)
+        elif kind == "*":
+            self.items = [(None, it) for it in range(width)]
+        else:
+            self.items = [(None, random.randrange(width)) for _ in range(random.randint(1, 4))]
+
+    def item_text(self, item):
+        function, column = item
+        name = "*" if column is None else self.names[column]
+        return f"{function}({name})" if function else name
+
+    def text(self, random):
+        body = "*" if self.has_all else ", ".join(self.item_text(it) for it in self.items)
+        body = "Distinct " * self.is_distinct + body
+        aliases = [""] if len(self.streams) == 1 else ["x", "y"]
+        rest = " From " + ", ".join(f"{name} {it.text} {alias}" for name, it, alias in zip(self.streams, self.windows, aliases))
+        if self.conditions:
+            rest += " Where " + " And ".join(f"({condition_text(it, self.names)})" if it[0] == "or" else condition_text(it, self.names) for it in self.conditions)
+        if self.group_by:
+            rest += " Group By " + ", ".join(self.names[it] for it in self.group_by)
+        if random.random() < 0.5:
+            return f"Select {self.operator}({body}){rest}"
+        return f"{self.operator}(Select {body}{rest});"

@@ -12,16 +12,16 @@ use Rattle.reference.specs.Commands.{register_tests}
 use Rattle.reference.specs.Machine.{Machine, Registered, Stream}
 use Rattle.reference.specs.Named.{name_of_registered}
 use Rattle.reference.proofs.NamedLemmas.{registered-place, registered_new}
-use Rattle.query_nets.specs.Queries.{PlainQuery, node_at}
-use Rattle.query_nets.specs.Registrations.{HaveColumnNames}
-use Rattle.answer_bounds.specs.Bounds.{HaveFewClosed}
-use Rattle.ready_list.specs.Slots.{without_query}
-use Rattle.ready_list.specs.declared.slots.Slot.{Slot}
-use Rattle.plain_engines.specs.Calls.{is_reading, registered, with_query}
-use Rattle.plain_engines.specs.Engines.{GoodEngine, IsIn, Kept, Lease, PlainEngine, Running, kept_at, query_at}
-use Rattle.plain_engines.proofs.AskLemmas.{may_ask}
-use Rattle.plain_engines.proofs.PromiseLemmas.{is_slot}
-use Rattle.plain_engines.proofs.RegisteredLemmas.{kept_before, kept_more, more_here}
+use Rattle.laws_queries.specs.Queries.{PlainQuery, node_at}
+use Rattle.laws_queries.specs.Registrations.{HaveColumnNames}
+use Rattle.laws_engine_bounds.specs.Bounds.{HaveFewClosed}
+use Rattle.run_queue.specs.Slots.{without_query}
+use Rattle.run_queue.specs.declared.slots.Slot.{Slot}
+use Rattle.laws_engine.specs.Calls.{is_reading, registered, with_query}
+use Rattle.laws_engine.specs.Engines.{GoodEngine, IsIn, Kept, Lease, PlainEngine, Running, kept_at, query_at}
+use Rattle.laws_engine.proofs.AskLemmas.{may_ask}
+use Rattle.laws_engine.proofs.PromiseLemmas.{is_slot}
+use Rattle.laws_engine.proofs.RegisteredLemmas.{kept_before, kept_more, more_here}
 use Rattle.leases.specs.Readers.{HasSource, HaveCome, ListsReaders, reader}
 use Rattle.leases.specs.Registering.{IsNewQuery, with_first}
 use Rattle.leases.specs.Shown.{engine_in}

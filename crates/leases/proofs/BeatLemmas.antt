@@ -14,23 +14,23 @@ use Rattle.reference.specs.declared.fault.Fault.TheVariants.{Query, BadName, Nam
 use Rattle.reference.specs.World.{Does, Looks, MayLackMemory, Step, World, heartbeat_step, unless}
 use Rattle.reference.proofs.StepLemmas.{lacked}
 use Rattle.stream_store.specs.Closing.{closing_at, closing_in, unless_faulty}
-use Rattle.query_nets.proofs.NewestLemmas.{registrations_stand}
-use Rattle.query_nets.specs.Queries.{PlainQuery}
-use Rattle.ready_list.specs.Slots.{slot, with_instant}
-use Rattle.ready_list.specs.declared.slots.Slot.{Slot}
-use Rattle.plain_engines.specs.Asks.{IsOperator}
-use Rattle.plain_engines.specs.Calls.{IsHeartbeat, beaten, closed_over}
-use Rattle.plain_engines.specs.Engines.{GoodEngine, HasSlots, IsIn, PlainEngine, Running, instant_at, kept_at, query_at, slope_at, slot_at, slot_of}
-use Rattle.plain_engines.specs.Resting.{IsResting}
-use Rattle.answer_bounds.proofs.InstantLemmas.{few_closed_stand}
-use Rattle.plain_engines.proofs.AskLemmas.{may_ask}
-use Rattle.plain_engines.proofs.BackLemmas.{numbered}
-use Rattle.plain_engines.proofs.BeatenLemmas.{heartbeat_good}
-use Rattle.plain_engines.proofs.PromiseLemmas.{is_slot, slot_is}
-use Rattle.plain_engines.proofs.RestingLemmas.{beat_or_rest}
-use Rattle.plain_engines.proofs.SlotLemmas.{AreNumbered, changed_slots, numbers, told_again}
-use Rattle.plain_engines.proofs.TableLemmas.{updated, updated_here, updated_numbered, updated_there}
-use Rattle.plain_engines.proofs.TakeLemmas.{equal_slots}
+use Rattle.laws_queries.proofs.NewestLemmas.{registrations_stand}
+use Rattle.laws_queries.specs.Queries.{PlainQuery}
+use Rattle.run_queue.specs.Slots.{slot, with_instant}
+use Rattle.run_queue.specs.declared.slots.Slot.{Slot}
+use Rattle.laws_engine.specs.Asks.{IsOperator}
+use Rattle.laws_engine.specs.Calls.{IsHeartbeat, beaten, closed_over}
+use Rattle.laws_engine.specs.Engines.{GoodEngine, HasSlots, IsIn, PlainEngine, Running, instant_at, kept_at, query_at, slope_at, slot_at, slot_of}
+use Rattle.laws_engine.specs.Resting.{IsResting}
+use Rattle.laws_engine_bounds.proofs.InstantLemmas.{few_closed_stand}
+use Rattle.laws_engine.proofs.AskLemmas.{may_ask}
+use Rattle.laws_engine.proofs.BackLemmas.{numbered}
+use Rattle.laws_engine.proofs.BeatenLemmas.{heartbeat_good}
+use Rattle.laws_engine.proofs.PromiseLemmas.{is_slot, slot_is}
+use Rattle.laws_engine.proofs.RestingLemmas.{beat_or_rest}
+use Rattle.laws_engine.proofs.SlotLemmas.{AreNumbered, changed_slots, numbers, told_again}
+use Rattle.laws_engine.proofs.TableLemmas.{updated, updated_here, updated_numbered, updated_there}
+use Rattle.laws_engine.proofs.TakeLemmas.{equal_slots}
 use Rattle.plan.proofs.Lists.{by_test}
 use Rattle.leases.specs.Asked.{HasOperatorAt}
 use Rattle.leases.specs.Readers.{ListsReaders, instant_in, instant_of, reader, resting_slot, resting_slots, rests, told, told_all, with_slots}

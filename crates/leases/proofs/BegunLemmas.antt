@@ -12,11 +12,11 @@ use Rattle.reference.specs.Finds.{Finds}
 use Rattle.reference.specs.Machine as machine
 use Rattle.reference.specs.Machine.{Machine, Registered, first_for}
 use Rattle.reference.specs.declared.fault.Fault.{Fault}
-use Rattle.query_nets.specs.Queries.{PlainQuery}
-use Rattle.query_nets.specs.Registrations.{lengths_of}
-use Rattle.running_queries.specs.Turns.{IsBeginning}
-use Rattle.accepted_queries.specs.Accepted.{IsBegun, IsPlanOfText, newest}
-use Rattle.accepted_queries.proofs.FoundLemmas.{plan_of_text}
+use Rattle.laws_queries.specs.Queries.{PlainQuery}
+use Rattle.laws_queries.specs.Registrations.{lengths_of}
+use Rattle.query_runtime.specs.Turns.{IsBeginning}
+use Rattle.laws_engine_accepted.specs.Accepted.{IsBegun, IsPlanOfText, newest}
+use Rattle.laws_engine_accepted.proofs.FoundLemmas.{plan_of_text}
 use Rattle.leases.specs.Views.{place_of}
 use Rattle.leases.specs.declared.registered.Place.{Place}
 

@@ -11,13 +11,13 @@ use Rattle.reference.specs.World.{drain_fault}
 use Rattle.reference.specs.declared.fault.Fault.{Fault}
 use Rattle.reference.specs.declared.fault.Fault.TheVariants as fault
 use Rattle.reference.specs.declared.fault.Fault.TheVariants.{Query, BadName, NameTaken, BadColumns, TooMany, UnknownStream, UnknownQuery, BadWidth, ValueRange, InstantRange, Late, Backward, Leap, StreamFull, BadLimit, UnknownLease, Stranger, TooManyLeases, OutOfMemory}
-use Rattle.query_nets.specs.Queries.{PlainQuery}
-use Rattle.ready_list.specs.Slots.{first_of}
-use Rattle.plain_engines.proofs.BackLemmas.{kept_here}
-use Rattle.plain_engines.specs.Calls.{of_others, others}
-use Rattle.plain_engines.specs.Engines.{Broken, Dropped, GoodEngine, IsIn, Kept, Lease, PlainEngine, Running, kept_at}
-use Rattle.plain_engines.specs.Histories as history
-use Rattle.plain_engines.specs.Histories.{ComesBack, IsStep}
+use Rattle.laws_queries.specs.Queries.{PlainQuery}
+use Rattle.run_queue.specs.Slots.{first_of}
+use Rattle.laws_engine.proofs.BackLemmas.{kept_here}
+use Rattle.laws_engine.specs.Calls.{of_others, others}
+use Rattle.laws_engine.specs.Engines.{Broken, Dropped, GoodEngine, IsIn, Kept, Lease, PlainEngine, Running, kept_at}
+use Rattle.laws_engine.specs.Histories as history
+use Rattle.laws_engine.specs.Histories.{ComesBack, IsStep}
 use Rattle.leases.specs.Drains.{HasBrokenOne, HasWanted, HaveRun, LeavesOthers, OneHasRun, RunsFirst, RunsTurns, SomeHaveRun}
 use Rattle.leases.specs.Turns.{HasReady, IsTurnOf, lease_of_turn}
 use Rattle.leases.specs.Whole.{IsWholeEngine}

@@ -11,13 +11,13 @@ use Rattle.reference.specs.Machine.{Machine, Registered, Stream, unless_dropped}
 use Rattle.reference.specs.Named.{name_of_registered}
 use Rattle.reference.specs.World.{Step, drop_step, unless}
 use Rattle.reference.specs.declared.fault.Fault.{Fault}
-use Rattle.ready_list.specs.Slots.{without_query}
-use Rattle.ready_list.specs.declared.slots.Slot.{Slot}
-use Rattle.plain_engines.specs.Calls.{dropped, of_others}
-use Rattle.plain_engines.specs.Engines.{Dropped, GoodEngine, IsIn, Kept, Lease, PlainEngine, Running, answers_in, world_of}
-use Rattle.plain_engines.proofs.BackLemmas.{unequal}
-use Rattle.plain_engines.proofs.SlotLemmas.{filter_in, in_filter}
-use Rattle.plain_engines.proofs.TakeLemmas.{changed_or_there, changed_there}
+use Rattle.run_queue.specs.Slots.{without_query}
+use Rattle.run_queue.specs.declared.slots.Slot.{Slot}
+use Rattle.laws_engine.specs.Calls.{dropped, of_others}
+use Rattle.laws_engine.specs.Engines.{Dropped, GoodEngine, IsIn, Kept, Lease, PlainEngine, Running, answers_in, world_of}
+use Rattle.laws_engine.proofs.BackLemmas.{unequal}
+use Rattle.laws_engine.proofs.SlotLemmas.{filter_in, in_filter}
+use Rattle.laws_engine.proofs.TakeLemmas.{changed_or_there, changed_there}
 use Rattle.leases.specs.Readers.{ListsReaders, reader}
 use Rattle.leases.specs.Sound.{is_gone}
 use Rattle.leases.specs.Views.{engine_of, kept_of, lease_of, query_of}

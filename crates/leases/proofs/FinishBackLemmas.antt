@@ -3,12 +3,12 @@ use Rattle.std.proofs.Common.{◌≡◌, ◌==◌, ◌+◌, ◌<◌, ◌≤◌, 
 use Rattle.turn.specs.Finished.{IsDone}
 use Rattle.turn.specs.declared.parts.Parts.{Parts}
 use Rattle.reference.specs.Machine.{Registered}
-use Rattle.query_nets.specs.Queries.{PlainQuery}
-use Rattle.running_queries.specs.Turns.{wire_at}
-use Rattle.ready_list.specs.declared.slots.Slot.{Slot}
-use Rattle.plain_engines.specs.Calls.{answered, given_back, others}
-use Rattle.plain_engines.specs.Engines.{GoodEngine, Lease, PlainEngine, Running, kept_at, query_at, slot_at}
-use Rattle.plain_engines.specs.Histories.{ComesBack}
+use Rattle.laws_queries.specs.Queries.{PlainQuery}
+use Rattle.query_runtime.specs.Turns.{wire_at}
+use Rattle.run_queue.specs.declared.slots.Slot.{Slot}
+use Rattle.laws_engine.specs.Calls.{answered, given_back, others}
+use Rattle.laws_engine.specs.Engines.{GoodEngine, Lease, PlainEngine, Running, kept_at, query_at, slot_at}
+use Rattle.laws_engine.specs.Histories.{ComesBack}
 use Rattle.leases.specs.Applied.{GivesNothing, HasApplied, HasWiredOperators, IsAbove, IsApplied, IsBroken, IsOutIn, IsRetold, MayApplyIn, with_kept, without_turn}
 use Rattle.leases.specs.Asked.{HasOperatorAt}
 use Rattle.leases.specs.Shown.{engine_in}

@@ -3,9 +3,9 @@ use Rattle.std.proofs.Common.{◌≡◌, ◌≢◌, ◌<◌, ◌==◌, ℕ, zero
 use Rattle.std.specs.List.{find}
 use Rattle.std.proofs.lemmas.List.{get_or-set_same, length-map, map-set}
 use Rattle.plan.proofs.Lists.{by_test}
-use Rattle.query_nets.specs.Queries.{PlainQuery}
-use Rattle.plain_engines.specs.Engines.{Dropped, IsIn, Kept, Lease, Running}
-use Rattle.plain_engines.proofs.SlotLemmas.{in_filter}
+use Rattle.laws_queries.specs.Queries.{PlainQuery}
+use Rattle.laws_engine.specs.Engines.{Dropped, IsIn, Kept, Lease, Running}
+use Rattle.laws_engine.proofs.SlotLemmas.{in_filter}
 use Rattle.leases.specs.Views.{kept_of, lease_of}
 use Rattle.leases.specs.declared.given.Given.{Given}
 use Rattle.leases.specs.declared.kept.KeptQuery.{KeptQuery}

@@ -10,25 +10,25 @@ use Rattle.turn.specs.Turns.{Answered, change_at, outs_at, outs_in}
 use Rattle.turn.specs.declared.parts.Parts.{Parts}
 use Rattle.operators.specs.Operators.{IsFed, IsFinished, PlainOperator}
 use Rattle.operators.specs.States.{near_of}
-use Rattle.compiled_plans.specs.Wiring.{wire_from}
-use Rattle.compiled_plans.specs.declared.wiring.Wire.{Wire}
+use Rattle.physical_plans.specs.Wiring.{wire_from}
+use Rattle.physical_plans.specs.declared.wiring.Wire.{Wire}
 use Rattle.reference.specs.Machine.{Registered}
-use Rattle.nets.specs.Plans.{below_root}
-use Rattle.query_nets.specs.Laws.{RootsRun, TurnsRun}
-use Rattle.query_nets.specs.Machines.{widths_of}
-use Rattle.query_nets.specs.Queries.{IsTurned, PlainQuery, change_at_first, log_at, operator_at, stream_log}
-use Rattle.query_nets.specs.Steps.{outs_at_first}
-use Rattle.query_nets.proofs.NodeLemmas.{roots_run, turns_run}
-use Rattle.query_nets.proofs.WireLemmas.{Wired, wired}
-use Rattle.running_queries.specs.Turns.{CanFinish, CanPut, HasAnswered, HasFed, HasPut, log_of, wire_at}
-use Rattle.ready_list.specs.declared.slots.Slot.{Slot}
-use Rattle.plain_engines.specs.Asks.{IsOperator, MayAsk}
-use Rattle.plain_engines.specs.Calls.{IsAnsweredTurn, IsFinishedTurn, IsOf, answered, finished, given_back}
-use Rattle.plain_engines.specs.Engines.{Goes, GoodEngine, IsKept, IsLease, Lease, PlainEngine, Running, kept_at, slot_at}
-use Rattle.plain_engines.specs.Histories.{ComesBack}
-use Rattle.plain_engines.proofs.AskLemmas.{may_ask}
-use Rattle.plain_engines.proofs.BackLemmas.{kept_here, same_plain}
-use Rattle.plain_engines.proofs.FinishLemmas.{query_bounded}
+use Rattle.laws_dataflow.specs.Plans.{below_root}
+use Rattle.laws_queries.specs.Laws.{RootsRun, TurnsRun}
+use Rattle.laws_queries.specs.Machines.{widths_of}
+use Rattle.laws_queries.specs.Queries.{IsTurned, PlainQuery, change_at_first, log_at, operator_at, stream_log}
+use Rattle.laws_queries.specs.Steps.{outs_at_first}
+use Rattle.laws_queries.proofs.NodeLemmas.{roots_run, turns_run}
+use Rattle.laws_queries.proofs.WireLemmas.{Wired, wired}
+use Rattle.query_runtime.specs.Turns.{CanFinish, CanPut, HasAnswered, HasFed, HasPut, log_of, wire_at}
+use Rattle.run_queue.specs.declared.slots.Slot.{Slot}
+use Rattle.laws_engine.specs.Asks.{IsOperator, MayAsk}
+use Rattle.laws_engine.specs.Calls.{IsAnsweredTurn, IsFinishedTurn, IsOf, answered, finished, given_back}
+use Rattle.laws_engine.specs.Engines.{Goes, GoodEngine, IsKept, IsLease, Lease, PlainEngine, Running, kept_at, slot_at}
+use Rattle.laws_engine.specs.Histories.{ComesBack}
+use Rattle.laws_engine.proofs.AskLemmas.{may_ask}
+use Rattle.laws_engine.proofs.BackLemmas.{kept_here, same_plain}
+use Rattle.laws_engine.proofs.FinishLemmas.{query_bounded}
 use Rattle.leases.specs.Applied.{HasWiredOperators, IsApplied, IsRetold, MayApply, MayApplyIn, with_kept, without_turn}
 use Rattle.leases.specs.Asked.{HasOperatorAt, IsAt}
 use Rattle.leases.specs.Turns.{IsOut, lease_of_parts}

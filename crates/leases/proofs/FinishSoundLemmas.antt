@@ -14,21 +14,21 @@ use Rattle.turn.specs.declared.parts.Parts.{Parts}
 use Rattle.plan.proofs.Lists.{by_test}
 use Rattle.reference.specs.Machine.{Registered}
 use Rattle.reference.specs.Named.{name_of_registered}
-use Rattle.query_nets.specs.Queries.{PlainQuery, operator_at}
-use Rattle.query_nets.specs.Registrations.{HaveColumnNames}
-use Rattle.running_queries.specs.Turns.{HasPut, wire_at}
-use Rattle.ready_list.specs.declared.slots.Slot.{Slot}
-use Rattle.answer_bounds.specs.Bounds.{HaveFewClosed}
-use Rattle.plain_engines.specs.Calls.{answered, broken, finished, given_back, of_others, others}
-use Rattle.plain_engines.specs.Engines.{Broken, Dropped, GoodEngine, IsIn, IsLease, Kept, Lease, PlainEngine, Running, kept_at}
-use Rattle.plain_engines.specs.Histories.{ComesBack}
-use Rattle.plain_engines.proofs.BackLemmas.{kept_here, kept_there, same_plain}
-use Rattle.plain_engines.proofs.FinishLemmas.{answer_good, finish_good}
-use Rattle.plain_engines.proofs.LeaseLemmas.{break_good}
+use Rattle.laws_queries.specs.Queries.{PlainQuery, operator_at}
+use Rattle.laws_queries.specs.Registrations.{HaveColumnNames}
+use Rattle.query_runtime.specs.Turns.{HasPut, wire_at}
+use Rattle.run_queue.specs.declared.slots.Slot.{Slot}
+use Rattle.laws_engine_bounds.specs.Bounds.{HaveFewClosed}
+use Rattle.laws_engine.specs.Calls.{answered, broken, finished, given_back, of_others, others}
+use Rattle.laws_engine.specs.Engines.{Broken, Dropped, GoodEngine, IsIn, IsLease, Kept, Lease, PlainEngine, Running, kept_at}
+use Rattle.laws_engine.specs.Histories.{ComesBack}
+use Rattle.laws_engine.proofs.BackLemmas.{kept_here, kept_there, same_plain}
+use Rattle.laws_engine.proofs.FinishLemmas.{answer_good, finish_good}
+use Rattle.laws_engine.proofs.LeaseLemmas.{break_good}
 use Rattle.leases.specs.Applied.{GivesNothing, IsApplied, IsOutIn, IsTurn}
 use Rattle.leases.specs.Readers.{ListsReaders}
 use Rattle.leases.specs.Shown.{engine_in}
-use Rattle.answer_bounds.specs.Bounds.{HaveFewClosed}
+use Rattle.laws_engine_bounds.specs.Bounds.{HaveFewClosed}
 use Rattle.leases.specs.Sound.{IsSound, is_gone}
 use Rattle.leases.specs.Turns.{IsOut, IsStranger, lease_of_parts}
 use Rattle.leases.specs.Views.{HasKind, lease_of}

@@ -18,20 +18,20 @@ use Rattle.operators.specs.States.{near_of}
 use Rattle.reference.specs.Machine.{Registered}
 use Rattle.reference.specs.declared.fault.Fault.{Fault}
 use Rattle.reference.specs.Named.{name_of_registered}
-use Rattle.query_nets.specs.Queries.{PlainQuery, log_at, operator_at}
-use Rattle.query_nets.specs.Registrations.{HaveColumnNames}
-use Rattle.query_nets.specs.Steps.{IsFirst}
-use Rattle.ready_list.specs.Slots.{changed, first_of}
-use Rattle.ready_list.specs.declared.slots.Slot.{Slot}
-use Rattle.running_queries.specs.Turns.{HasOperator, IsLeased, log_of}
-use Rattle.answer_bounds.specs.Bounds.{HaveFewClosed}
-use Rattle.plain_engines.specs.Calls.{IsLeasable, given_out, leased, retold}
-use Rattle.plain_engines.specs.Engines.{GoodEngine, IsIn, Lease, PlainEngine, Running, instant_at, is_leased, is_of, kept_at, slot_at}
-use Rattle.plain_engines.specs.Promises.{HasAllWaiting, IsOfSteepest}
-use Rattle.plain_engines.proofs.AskLemmas.{may_ask}
-use Rattle.plain_engines.proofs.IdleLemmas.{idle_waits}
-use Rattle.plain_engines.proofs.LeaseLemmas.{lease_good}
-use Rattle.plain_engines.proofs.PromiseLemmas.{first_in, keeps_its_promises, slot_is}
+use Rattle.laws_queries.specs.Queries.{PlainQuery, log_at, operator_at}
+use Rattle.laws_queries.specs.Registrations.{HaveColumnNames}
+use Rattle.laws_queries.specs.Steps.{IsFirst}
+use Rattle.run_queue.specs.Slots.{changed, first_of}
+use Rattle.run_queue.specs.declared.slots.Slot.{Slot}
+use Rattle.query_runtime.specs.Turns.{HasOperator, IsLeased, log_of}
+use Rattle.laws_engine_bounds.specs.Bounds.{HaveFewClosed}
+use Rattle.laws_engine.specs.Calls.{IsLeasable, given_out, leased, retold}
+use Rattle.laws_engine.specs.Engines.{GoodEngine, IsIn, Lease, PlainEngine, Running, instant_at, is_leased, is_of, kept_at, slot_at}
+use Rattle.laws_engine.specs.Promises.{HasAllWaiting, IsOfSteepest}
+use Rattle.laws_engine.proofs.AskLemmas.{may_ask}
+use Rattle.laws_engine.proofs.IdleLemmas.{idle_waits}
+use Rattle.laws_engine.proofs.LeaseLemmas.{lease_good}
+use Rattle.laws_engine.proofs.PromiseLemmas.{first_in, keeps_its_promises, slot_is}
 use Rattle.leases.specs.Leasing.{IsOfSide, IsReady, IsReadyAt, IsTurnOn, MayLeaseOn, node_on, turn_with}
 use Rattle.leases.specs.Readers.{ListsReaders}
 use Rattle.leases.specs.Shown.{engine_in}

@@ -4,12 +4,12 @@ use Rattle.std.specs.Prelude.{Ok}
 use Rattle.std.specs.List.{find}
 use Rattle.plan.proofs.Lists.{by_test}
 use Rattle.reference.specs.Machine.{Registered}
-use Rattle.query_nets.specs.Queries.{PlainQuery}
-use Rattle.ready_list.specs.Slots.{changed}
-use Rattle.ready_list.specs.declared.slots.Slot.{Slot}
-use Rattle.plain_engines.specs.Calls.{IsOf, abandoned, others}
-use Rattle.plain_engines.proofs.FinishLemmas.{abandon_good}
-use Rattle.plain_engines.specs.Engines.{GoodEngine, IsIn, IsLease, Lease, PlainEngine, Running, instant_at, kept_at, query_at, slot_at}
+use Rattle.laws_queries.specs.Queries.{PlainQuery}
+use Rattle.run_queue.specs.Slots.{changed}
+use Rattle.run_queue.specs.declared.slots.Slot.{Slot}
+use Rattle.laws_engine.specs.Calls.{IsOf, abandoned, others}
+use Rattle.laws_engine.proofs.FinishLemmas.{abandon_good}
+use Rattle.laws_engine.specs.Engines.{GoodEngine, IsIn, IsLease, Lease, PlainEngine, Running, instant_at, kept_at, query_at, slot_at}
 use Rattle.leases.specs.Asked.{HasOperatorAt}
 use Rattle.leases.specs.Shown.{engine_in}
 use Rattle.leases.specs.Turns.{Abandons}

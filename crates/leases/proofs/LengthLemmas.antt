@@ -5,11 +5,11 @@ use Rattle.plan.specs.Views.{node_of, nodes_of}
 use Rattle.reference.specs.Commands.{Drop, Take, first_fault, of_query, take_tests}
 use Rattle.reference.specs.Machine as machine
 use Rattle.reference.specs.Machine.{Registered}
-use Rattle.query_nets.specs.Queries.{PlainQuery, log_at}
-use Rattle.running_queries.specs.Turns.{HasOperator, log_of}
-use Rattle.plain_engines.specs.Asks.{IsOperator}
-use Rattle.plain_engines.specs.Engines.{Running, kept_at, query_at}
-use Rattle.plain_engines.proofs.AskLemmas.{may_ask}
+use Rattle.laws_queries.specs.Queries.{PlainQuery, log_at}
+use Rattle.query_runtime.specs.Turns.{HasOperator, log_of}
+use Rattle.laws_engine.specs.Asks.{IsOperator}
+use Rattle.laws_engine.specs.Engines.{Running, kept_at, query_at}
+use Rattle.laws_engine.proofs.AskLemmas.{may_ask}
 use Rattle.leases.proofs.PendingLemmas.{lengths_same}
 use Rattle.leases.proofs.TakeLemmas.{kept_is, kept_within, query_there, registered_within, taken_at}
 use Rattle.leases.specs.Looks.{lengths_from, lengths_in, noughts_of}

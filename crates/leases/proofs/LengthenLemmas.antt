@@ -19,11 +19,11 @@ use Rattle.plan.proofs.Lists.{by_test}
 use Rattle.reference.specs.Commands.{change, closed_to}
 use Rattle.reference.specs.Machine.{Machine, Registered, Stream}
 use Rattle.stream_store.specs.Closing.{QueuesGain, closed_of, closing_of}
-use Rattle.query_nets.specs.Queries.{HasInboxes, Reads, log_at, no_log, no_operator, node_at, operator_at, place_of, source_of, stream_log}
-use Rattle.query_nets.proofs.BeatLemmas.{change_here, change_there}
-use Rattle.plain_engines.specs.Calls.{IsHeartbeat, beaten, closed_over}
-use Rattle.plain_engines.specs.Engines.{Broken, Dropped, GoodEngine, Kept, PlainEngine, Running, kept_at, query_at}
-use Rattle.plain_engines.proofs.BeatenLemmas.{goes_at, inboxes}
+use Rattle.laws_queries.specs.Queries.{HasInboxes, Reads, log_at, no_log, no_operator, node_at, operator_at, place_of, source_of, stream_log}
+use Rattle.laws_queries.proofs.BeatLemmas.{change_here, change_there}
+use Rattle.laws_engine.specs.Calls.{IsHeartbeat, beaten, closed_over}
+use Rattle.laws_engine.specs.Engines.{Broken, Dropped, GoodEngine, Kept, PlainEngine, Running, kept_at, query_at}
+use Rattle.laws_engine.proofs.BeatenLemmas.{goes_at, inboxes}
 use Rattle.leases.specs.Queues.{LengthensQueues, brought_in, brought_to, closed_entries, queue_in}
 
 -- A CURSOR over the stream

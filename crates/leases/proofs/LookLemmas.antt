@@ -6,11 +6,11 @@ use Rattle.plan.specs.Nodes.{Node}
 use Rattle.plan.specs.Paths.{plan_slopes, slope_of}
 use Rattle.plan.specs.declared.chart.Measure.{Measure}
 use Rattle.reference.specs.Machine.{Registered}
-use Rattle.query_nets.specs.Queries.{PlainQuery}
-use Rattle.ready_list.specs.declared.slots.Slot.{Slot}
-use Rattle.plain_engines.specs.Asks.{IsOperator, MayAsk}
-use Rattle.plain_engines.specs.Engines.{GoodEngine, Lease, PlainEngine, Running, kept_at, query_at}
-use Rattle.plain_engines.proofs.AskLemmas.{may_ask}
+use Rattle.laws_queries.specs.Queries.{PlainQuery}
+use Rattle.run_queue.specs.declared.slots.Slot.{Slot}
+use Rattle.laws_engine.specs.Asks.{IsOperator, MayAsk}
+use Rattle.laws_engine.specs.Engines.{GoodEngine, Lease, PlainEngine, Running, kept_at, query_at}
+use Rattle.laws_engine.proofs.AskLemmas.{may_ask}
 use Rattle.leases.specs.Asked.{HasOperatorAt}
 use Rattle.leases.specs.Views.{lease_of}
 use Rattle.leases.specs.declared.given.Given.{Given}

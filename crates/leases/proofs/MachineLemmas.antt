@@ -5,7 +5,7 @@ use Rattle.turn.specs.declared.parts.Parts.{Parts}
 use Rattle.reference.specs.declared.fault.Fault.{Fault}
 use Rattle.reference.specs.declared.fault.Fault.TheVariants as fault
 use Rattle.reference.specs.declared.fault.Fault.TheVariants.{Query, BadName, NameTaken, BadColumns, TooMany, UnknownStream, UnknownQuery, BadWidth, ValueRange, InstantRange, Late, Backward, Leap, StreamFull, BadLimit, UnknownLease, Stranger, TooManyLeases, OutOfMemory}
-use Rattle.plain_engines.specs.Engines.{PlainEngine}
+use Rattle.laws_engine.specs.Engines.{PlainEngine}
 use Rattle.leases.proofs.DrainLemmas.{comes_machine}
 use Rattle.leases.specs.Turns.{Abandons, Finishes, Leases, lease_of_parts}
 use Rattle.leases.specs.declared.leased.Leased.{Leased}

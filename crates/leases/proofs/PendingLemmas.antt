@@ -4,7 +4,7 @@ use Rattle.column.specs.declared.batch.Side.TheVariants.{Left, Right}
 use Rattle.op_queue.specs.Logs.{Closed}
 use Rattle.operators.specs.Operators.{waiting}
 use Rattle.plan.specs.Nodes as plan
-use Rattle.query_nets.specs.Queries.{PlainQuery, operator_at}
+use Rattle.laws_queries.specs.Queries.{PlainQuery, operator_at}
 use Rattle.leases.specs.Looks.{lengths_at, lengths_from, noughts_of, queues_of}
 
 -- ONE OPERATOR MORE

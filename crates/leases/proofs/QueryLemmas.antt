@@ -11,9 +11,9 @@ use Rattle.reference.specs.World.{Does, Step, World, register_step, unless}
 use Rattle.reference.specs.declared.fault.Fault.{Fault}
 use Rattle.reference.specs.declared.fault.Fault.TheVariants.{OutOfMemory}
 use Rattle.reference.proofs.StepLemmas.{lacked, refused_before, refused_text}
-use Rattle.query_nets.specs.Queries.{PlainQuery}
-use Rattle.plain_engines.specs.Calls.{IsRegistration, registered}
-use Rattle.plain_engines.specs.Engines.{PlainEngine, Running, answers_in, world_of}
+use Rattle.laws_queries.specs.Queries.{PlainQuery}
+use Rattle.laws_engine.specs.Calls.{IsRegistration, registered}
+use Rattle.laws_engine.specs.Engines.{PlainEngine, Running, answers_in, world_of}
 
 module _ (w : World) (name source : List ℕ) (given : Option (List (ℤ × ℤ))) where
   pub refused_early : (f : Fault) → Some f ≡ first_of (register_tests w.machine name) → IsTold f → Does (λ (n : ℕ). n) w (register_step w name source given) (Err f) w

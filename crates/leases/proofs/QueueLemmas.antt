@@ -8,10 +8,10 @@ use Rattle.reference.specs.Commands.{Append, after, first_fault}
 use Rattle.reference.specs.Machine.{Registered, Stream}
 use Rattle.reference.specs.World.{Does, Step, World, append_step, unless}
 use Rattle.reference.specs.declared.fault.Fault.{Fault}
-use Rattle.query_nets.specs.Queries.{node_at, operator_at, source_of}
-use Rattle.query_nets.proofs.AppendLemmas.{append_logs}
-use Rattle.plain_engines.specs.Calls.{appended}
-use Rattle.plain_engines.specs.Engines.{Broken, Dropped, Kept, PlainEngine, Running, kept_at, query_at, world_of}
+use Rattle.laws_queries.specs.Queries.{node_at, operator_at, source_of}
+use Rattle.laws_queries.proofs.AppendLemmas.{append_logs}
+use Rattle.laws_engine.specs.Calls.{appended}
+use Rattle.laws_engine.specs.Engines.{Broken, Dropped, Kept, PlainEngine, Running, kept_at, query_at, world_of}
 use Rattle.leases.specs.Queues.{LeavesQueues, queue_in}
 use Rattle.leases.specs.Shown.{engine_in}
 use Rattle.leases.specs.declared.state.State.{State}

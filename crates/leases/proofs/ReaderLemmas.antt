@@ -13,18 +13,18 @@ use Rattle.operators.specs.declared.inboxes.Inbox.{Inbox}
 use Rattle.plan.specs.Nodes as plan
 use Rattle.plan.specs.Nodes.{Window, Select, Join, Project, Group, Distinct, ToStream}
 use Rattle.reference.specs.Machine.{Machine, Registered, Stream}
-use Rattle.nets.specs.Plans.{below_root}
-use Rattle.query_nets.specs.Machines.{widths_of}
-use Rattle.query_nets.specs.Queries.{IsLeftInbox, IsRunning, PlainQuery, log_at, node_at, operator_at, place_of}
-use Rattle.ready_list.specs.declared.slots.Slot.{Slot}
-use Rattle.plain_engines.specs.Asks.{IsOperator}
-use Rattle.plain_engines.specs.Engines.{Broken, Dropped, Goes, GoodEngine, IsIn, IsKept, Kept, PlainEngine, Running, kept_at, query_at, slot_at, slot_of}
-use Rattle.plain_engines.specs.Calls.{is_reading}
-use Rattle.plain_engines.proofs.AskLemmas.{may_ask}
-use Rattle.plain_engines.proofs.PromiseLemmas.{slot_is}
+use Rattle.laws_dataflow.specs.Plans.{below_root}
+use Rattle.laws_queries.specs.Machines.{widths_of}
+use Rattle.laws_queries.specs.Queries.{IsLeftInbox, IsRunning, PlainQuery, log_at, node_at, operator_at, place_of}
+use Rattle.run_queue.specs.declared.slots.Slot.{Slot}
+use Rattle.laws_engine.specs.Asks.{IsOperator}
+use Rattle.laws_engine.specs.Engines.{Broken, Dropped, Goes, GoodEngine, IsIn, IsKept, Kept, PlainEngine, Running, kept_at, query_at, slot_at, slot_of}
+use Rattle.laws_engine.specs.Calls.{is_reading}
+use Rattle.laws_engine.proofs.AskLemmas.{may_ask}
+use Rattle.laws_engine.proofs.PromiseLemmas.{slot_is}
 use Rattle.plan.proofs.Lists.{by_test}
-use Rattle.running_queries.specs.Turns.{HasOperator, log_of}
-use Rattle.plain_engines.specs.Resting.{IsResting}
+use Rattle.query_runtime.specs.Turns.{HasOperator, log_of}
+use Rattle.laws_engine.specs.Resting.{IsResting}
 use Rattle.operators.specs.Operators.{ready}
 use Rattle.column.specs.declared.batch.Side.{Side}
 use Rattle.leases.specs.Asked.{HasOperatorAt}

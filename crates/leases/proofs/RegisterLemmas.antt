@@ -11,12 +11,12 @@ use Rattle.operators.specs.Operators.{ready}
 use Rattle.plan.specs.Nodes as plan
 use Rattle.plan.specs.Paths.{plan_slopes}
 use Rattle.reference.specs.Machine.{Registered, Stream}
-use Rattle.query_nets.specs.Queries.{PlainQuery, log_at, operator_at}
-use Rattle.running_queries.specs.Turns.{log_of}
-use Rattle.ready_list.specs.Slots.{put, slot, slot_cmp, without_query}
-use Rattle.ready_list.specs.declared.slots.Slot.{Slot}
-use Rattle.plain_engines.specs.Calls.{with_slots}
-use Rattle.plain_engines.specs.Engines.{IsIn, Lease, PlainEngine, is_of, slot_at}
+use Rattle.laws_queries.specs.Queries.{PlainQuery, log_at, operator_at}
+use Rattle.query_runtime.specs.Turns.{log_of}
+use Rattle.run_queue.specs.Slots.{put, slot, slot_cmp, without_query}
+use Rattle.run_queue.specs.declared.slots.Slot.{Slot}
+use Rattle.laws_engine.specs.Calls.{with_slots}
+use Rattle.laws_engine.specs.Engines.{IsIn, Lease, PlainEngine, is_of, slot_at}
 use Rattle.leases.specs.Registering.{new_slot, with_first}
 
 -- WITHOUT THE SLOTS of a query

@@ -4,13 +4,13 @@ use Rattle.std.specs.List.{AllByRecursion}
 use Rattle.std.specs.List.Sorted.{IsStrictlySortedBy}
 use Rattle.std.specs.Ordering.{ordering_reverse}
 use Rattle.std.specs.declared.cmp.Ordering.TheVariants.{Less, Greater}
-use Rattle.ready_list.specs.Slots.{changed, slot_cmp, with_instant, without_query}
-use Rattle.ready_list.specs.declared.slots.Slot.{Slot}
-use Rattle.ready_list.proofs.SlotLemmas.{slots_total}
-use Rattle.plain_engines.specs.Engines.{GoodEngine, HasSlots, IsIn, PlainEngine, slot_of}
-use Rattle.plain_engines.proofs.BackLemmas.{numbered, unequal}
-use Rattle.plain_engines.proofs.SlotLemmas.{AreNumbered, changed_slots, left_slots}
-use Rattle.plain_engines.proofs.TableLemmas.{updated, updated_here, updated_numbered, updated_there}
+use Rattle.run_queue.specs.Slots.{changed, slot_cmp, with_instant, without_query}
+use Rattle.run_queue.specs.declared.slots.Slot.{Slot}
+use Rattle.run_queue.proofs.SlotLemmas.{slots_total}
+use Rattle.laws_engine.specs.Engines.{GoodEngine, HasSlots, IsIn, PlainEngine, slot_of}
+use Rattle.laws_engine.proofs.BackLemmas.{numbered, unequal}
+use Rattle.laws_engine.proofs.SlotLemmas.{AreNumbered, changed_slots, left_slots}
+use Rattle.laws_engine.proofs.TableLemmas.{updated, updated_here, updated_numbered, updated_there}
 
 -- A TABLE has one list of slots
 all_in : (P : Slot → Type 0) (xs : List Slot) (x : Slot) → AllByRecursion P xs → IsIn xs x → P x

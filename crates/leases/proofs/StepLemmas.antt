@@ -5,16 +5,16 @@ use Rattle.turn.specs.declared.parts.Parts.{Parts}
 use Rattle.turn.specs.declared.turns.Turn.{Turn}
 use Rattle.plan.proofs.Lists.{by_test}
 use Rattle.reference.specs.Machine.{Registered}
-use Rattle.query_nets.specs.Queries.{PlainQuery}
-use Rattle.running_queries.specs.Turns.{wire_at}
-use Rattle.ready_list.specs.Slots.{changed, first_of, slot, with_instant, without_query}
-use Rattle.ready_list.specs.declared.slots.Slot.{Slot}
-use Rattle.plain_engines.specs.Calls.{IsOf, broken, of_others, others}
-use Rattle.plain_engines.specs.Engines.{GoodEngine, HasSlots, IsIn, IsLease, Lease, PlainEngine, Running, instant_at, is_leased, is_of, kept_at, query_at, slope_at, slot_at, slot_of}
-use Rattle.plain_engines.proofs.BackLemmas.{same_plain, same_query, unequal}
-use Rattle.plain_engines.proofs.LeaseLemmas.{lease_good}
-use Rattle.plain_engines.proofs.PromiseLemmas.{first_in, slot_is}
-use Rattle.plain_engines.proofs.TableLemmas.{same_slot_at, same_slot_in}
+use Rattle.laws_queries.specs.Queries.{PlainQuery}
+use Rattle.query_runtime.specs.Turns.{wire_at}
+use Rattle.run_queue.specs.Slots.{changed, first_of, slot, with_instant, without_query}
+use Rattle.run_queue.specs.declared.slots.Slot.{Slot}
+use Rattle.laws_engine.specs.Calls.{IsOf, broken, of_others, others}
+use Rattle.laws_engine.specs.Engines.{GoodEngine, HasSlots, IsIn, IsLease, Lease, PlainEngine, Running, instant_at, is_leased, is_of, kept_at, query_at, slope_at, slot_at, slot_of}
+use Rattle.laws_engine.proofs.BackLemmas.{same_plain, same_query, unequal}
+use Rattle.laws_engine.proofs.LeaseLemmas.{lease_good}
+use Rattle.laws_engine.proofs.PromiseLemmas.{first_in, slot_is}
+use Rattle.laws_engine.proofs.TableLemmas.{same_slot_at, same_slot_in}
 use Rattle.leases.specs.Applied.{GivesNothing, HasApplied, HasWiredOperators, IsAbove, IsBroken, IsOutIn, IsRetold, MayApplyIn, with_slot, without_turn}
 use Rattle.leases.specs.Asked.{HasOperatorAt}
 use Rattle.leases.specs.Drains.{OneHasFailed, OneHasRun}

@@ -6,14 +6,14 @@ use Rattle.reference.specs.Machine.{Stream}
 use Rattle.reference.specs.declared.fault.Fault.{Fault}
 use Rattle.reference.specs.declared.fault.Fault.TheVariants.{Query, BadName, NameTaken, BadColumns, TooMany, UnknownStream, UnknownQuery, BadWidth, ValueRange, InstantRange, Late, Backward, Leap, StreamFull, BadLimit, Broken, UnknownLease, Stranger, TooManyLeases, OutOfMemory}
 use Rattle.reference.specs.World.{Does, Step, World, append_step, declare_step, unless}
-use Rattle.query_nets.specs.Registrations.{HaveColumnNames}
-use Rattle.query_nets.proofs.NewestLemmas.{registrations_stand}
-use Rattle.answer_bounds.specs.Bounds.{HaveFewClosed}
-use Rattle.answer_bounds.proofs.InstantLemmas.{few_closed_stand}
-use Rattle.plain_engines.specs.Calls.{appended, declared}
-use Rattle.plain_engines.specs.Engines.{GoodEngine, PlainEngine, world_of}
-use Rattle.plain_engines.proofs.AppendedLemmas.{append_good}
-use Rattle.plain_engines.proofs.DeclaredLemmas.{declare_good}
+use Rattle.laws_queries.specs.Registrations.{HaveColumnNames}
+use Rattle.laws_queries.proofs.NewestLemmas.{registrations_stand}
+use Rattle.laws_engine_bounds.specs.Bounds.{HaveFewClosed}
+use Rattle.laws_engine_bounds.proofs.InstantLemmas.{few_closed_stand}
+use Rattle.laws_engine.specs.Calls.{appended, declared}
+use Rattle.laws_engine.specs.Engines.{GoodEngine, PlainEngine, world_of}
+use Rattle.laws_engine.proofs.AppendedLemmas.{append_good}
+use Rattle.laws_engine.proofs.DeclaredLemmas.{declare_good}
 use Rattle.leases.specs.Shown.{engine_in}
 use Rattle.leases.specs.Sound.{IsSound}
 use Rattle.leases.specs.declared.state.State.{State}

@@ -3,8 +3,8 @@ use Rattle.std.proofs.Common.{◌≡◌, ◌<◌, ◌≤◌, ◌+◌, ◌^◌, �
 use Rattle.std.proofs.lemmas.List.{length-map, length-take}
 use Rattle.std.proofs.lemmas.Option.{slice_get_within}
 use Rattle.std.proofs.Math.Seq.{map-set_same}
-use Rattle.answer_bounds.proofs.EngineLemmas.{taken_room, waiting_signed}
-use Rattle.answer_bounds.specs.Bounds.{HaveFewClosed}
+use Rattle.laws_engine_bounds.proofs.EngineLemmas.{taken_room, waiting_signed}
+use Rattle.laws_engine_bounds.specs.Bounds.{HaveFewClosed}
 use Rattle.arrayvec.specs.ArrayVec.{ArrayVec}
 use Rattle.values.specs.Row.{Row}
 use Rattle.names.specs.Faults.{first_of}
@@ -21,11 +21,11 @@ use Rattle.reference.specs.World.{handed}
 use Rattle.reference.specs.declared.fault.Fault.{Fault}
 use Rattle.reference.specs.declared.fault.Fault.TheVariants as fault
 use Rattle.reference.specs.declared.fault.Fault.TheVariants.{Query, BadName, NameTaken, BadColumns, TooMany, UnknownStream, UnknownQuery, BadWidth, ValueRange, InstantRange, Late, Backward, Leap, StreamFull, BadLimit, UnknownLease, Stranger, TooManyLeases, OutOfMemory}
-use Rattle.query_nets.specs.Registrations.{HaveColumnNames}
-use Rattle.query_nets.specs.Queries.{PlainQuery, node_at, operator_at}
-use Rattle.plain_engines.specs.Calls.{IsTake, is_reading, kept_after, taken, with_taken}
-use Rattle.plain_engines.specs.Engines.{Broken, Dropped, GoodEngine, IsIn, Kept, PlainEngine, Running, answers_in, kept_at, query_at}
-use Rattle.plain_engines.proofs.TakeLemmas.{take_good}
+use Rattle.laws_queries.specs.Registrations.{HaveColumnNames}
+use Rattle.laws_queries.specs.Queries.{PlainQuery, node_at, operator_at}
+use Rattle.laws_engine.specs.Calls.{IsTake, is_reading, kept_after, taken, with_taken}
+use Rattle.laws_engine.specs.Engines.{Broken, Dropped, GoodEngine, IsIn, Kept, PlainEngine, Running, answers_in, kept_at, query_at}
+use Rattle.laws_engine.proofs.TakeLemmas.{take_good}
 use Rattle.leases.specs.Readers.{ListsReaders}
 use Rattle.leases.specs.Shown.{engine_in}
 use Rattle.leases.specs.Sound.{IsSound, is_gone}

@@ -1,19 +1,19 @@
 -- The engine of the code before any call, and what waits at its queries.
 use Rattle.std.proofs.Common.{◌≡◌, ◌≤◌, ℕ, zero, suc, Some, None, List, [], ◌∷◌, length, map, get_or, slice_get, refl, sym, ap, subst, arith}
 use Rattle.std.proofs.lemmas.List.{length-map}
-use Rattle.ready_list.proofs.SlotLemmas.{none_ordered}
-use Rattle.ready_list.specs.declared.slots.Slot.{Slot}
+use Rattle.run_queue.proofs.SlotLemmas.{none_ordered}
+use Rattle.run_queue.specs.declared.slots.Slot.{Slot}
 use Rattle.reference.specs.Machine.{Registered, Stream, empty}
-use Rattle.query_nets.specs.Machines.{IsMachine}
-use Rattle.query_nets.proofs.RowLemmas.{rows_stand}
-use Rattle.plain_engines.specs.Engines.{Broken, Dropped, GoodEngine, query_at, slot_of}
+use Rattle.laws_queries.specs.Machines.{IsMachine}
+use Rattle.laws_queries.proofs.RowLemmas.{rows_stand}
+use Rattle.laws_engine.specs.Engines.{Broken, Dropped, GoodEngine, query_at, slot_of}
 use Rattle.leases.specs.Views.{empty_engine, engine_of, kept_of, lease_of, waiting_in}
 use Rattle.leases.specs.declared.given.Given.{Given}
 use Rattle.leases.specs.Shown.{engine_in}
 use Rattle.leases.specs.Whole.{IsWhole, IsWholeEngine}
 use Rattle.leases.specs.declared.kept.KeptQuery.{KeptQuery}
 use Rattle.leases.specs.declared.state.State.{State}
-use Rattle.plain_engines.proofs.PromiseLemmas.{is_slot}
+use Rattle.laws_engine.proofs.PromiseLemmas.{is_slot}
 
 -- BEFORE ANY CALL
 no_query : (n : ℕ) (q : Registered) → query_at empty_engine n ≡ Some q → ⊥

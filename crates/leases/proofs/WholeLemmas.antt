@@ -6,9 +6,9 @@ use Rattle.reference.specs.Machine.{Registered}
 use Rattle.reference.specs.declared.fault.Fault.{Fault}
 use Rattle.reference.specs.declared.fault.Fault.TheVariants as fault
 use Rattle.reference.specs.declared.fault.Fault.TheVariants.{Query, BadName, NameTaken, BadColumns, TooMany, UnknownStream, UnknownQuery, BadWidth, ValueRange, InstantRange, Late, Backward, Leap, StreamFull, BadLimit, UnknownLease, Stranger, TooManyLeases, OutOfMemory}
-use Rattle.query_nets.specs.Queries.{PlainQuery}
-use Rattle.plain_engines.specs.Calls.{dropped, kept_after, of_others, registered, taken}
-use Rattle.plain_engines.specs.Engines.{Broken, Dropped, Kept, PlainEngine, Running}
+use Rattle.laws_queries.specs.Queries.{PlainQuery}
+use Rattle.laws_engine.specs.Calls.{dropped, kept_after, of_others, registered, taken}
+use Rattle.laws_engine.specs.Engines.{Broken, Dropped, Kept, PlainEngine, Running}
 use Rattle.leases.specs.Registering.{IsRegistered}
 use Rattle.leases.specs.Takes.{Takes, count_of}
 use Rattle.leases.specs.Whole.{IsWholeEngine}

@@ -8,11 +8,11 @@ use Rattle.reference.specs.World.{Does, Drains, IsPlenty, MayLackMemory, World, 
 use Rattle.reference.specs.declared.fault.Fault.{Fault}
 use Rattle.reference.specs.declared.fault.Fault.TheVariants as fault
 use Rattle.reference.specs.declared.fault.Fault.TheVariants.{Query, BadName, NameTaken, BadColumns, TooMany, UnknownStream, UnknownQuery, BadWidth, ValueRange, InstantRange, Late, Backward, Leap, StreamFull, BadLimit, UnknownLease, Stranger, TooManyLeases, OutOfMemory}
-use Rattle.ready_list.specs.Slots.{first_of}
-use Rattle.plain_engines.specs.Calls.{kept_after, taken}
-use Rattle.plain_engines.specs.Engines.{Broken, Dropped, GoodEngine, Kept, PlainEngine, Running, answers_in, kept_at, query_at, world_of}
-use Rattle.plain_engines.specs.Promises.{HasAllWaiting}
-use Rattle.plain_engines.proofs.IdleLemmas.{idle_waits}
+use Rattle.run_queue.specs.Slots.{first_of}
+use Rattle.laws_engine.specs.Calls.{kept_after, taken}
+use Rattle.laws_engine.specs.Engines.{Broken, Dropped, GoodEngine, Kept, PlainEngine, Running, answers_in, kept_at, query_at, world_of}
+use Rattle.laws_engine.specs.Promises.{HasAllWaiting}
+use Rattle.laws_engine.proofs.IdleLemmas.{idle_waits}
 use Rattle.leases.proofs.DrainLemmas.{drain_machine}
 use Rattle.leases.specs.Drains.{RunsTurns}
 use Rattle.leases.specs.Sound.{is_gone}

@@ -3,12 +3,12 @@ use Rattle.std.specs.Prelude.{ℕ, ◌≡◌, ◌+◌, ◌<◌, ◌≤◌, Match
 use Rattle.turn.specs.Turns.{outs_in}
 use Rattle.turn.specs.declared.parts.Parts.{Parts}
 use Rattle.reference.specs.Machine.{Registered, Stream}
-use Rattle.query_nets.specs.Queries.{PlainQuery, operator_at}
-use Rattle.running_queries.specs.Turns.{CanFinish, CanPut, HasBatches, HasFinished, HasOperator, HasPut, log_of, wire_at}
-use Rattle.ready_list.specs.Slots.{changed}
-use Rattle.ready_list.specs.declared.slots.Slot.{Slot}
-use Rattle.plain_engines.specs.Calls.{broken, others}
-use Rattle.plain_engines.specs.Engines.{IsIn, Kept, PlainEngine, Running, instant_at, kept_at, query_at, slot_at}
+use Rattle.laws_queries.specs.Queries.{PlainQuery, operator_at}
+use Rattle.query_runtime.specs.Turns.{CanFinish, CanPut, HasBatches, HasFinished, HasOperator, HasPut, log_of, wire_at}
+use Rattle.run_queue.specs.Slots.{changed}
+use Rattle.run_queue.specs.declared.slots.Slot.{Slot}
+use Rattle.laws_engine.specs.Calls.{broken, others}
+use Rattle.laws_engine.specs.Engines.{IsIn, Kept, PlainEngine, Running, instant_at, kept_at, query_at, slot_at}
 use Rattle.leases.specs.Asked.{HasOperatorAt}
 use Rattle.leases.specs.Turns.{IsOut}
 use Rattle.leases.specs.declared.given.Given.{Given}

@@ -1,9 +1,9 @@
 -- What the calls of an engine ask before they look up an operator.
 use Rattle.std.specs.Prelude.{ℕ, ◌≡◌, ◌<◌, Some, length}
 use Rattle.reference.specs.Machine.{Registered}
-use Rattle.query_nets.specs.Queries.{PlainQuery, log_at}
-use Rattle.running_queries.specs.Turns.{HasOperator, log_of}
-use Rattle.plain_engines.specs.Engines.{PlainEngine, Running, kept_at, query_at}
+use Rattle.laws_queries.specs.Queries.{PlainQuery, log_at}
+use Rattle.query_runtime.specs.Turns.{HasOperator, log_of}
+use Rattle.laws_engine.specs.Engines.{PlainEngine, Running, kept_at, query_at}
 
 -- the query runs
 abbrev pub IsRunningAt : PlainEngine → ℕ → Type 0

@@ -5,10 +5,10 @@ use Rattle.turn.specs.declared.turns.Turn.{Turn}
 use Rattle.reference.specs.World.{drain_fault}
 use Rattle.reference.specs.declared.fault.Fault.{Fault}
 use Rattle.reference.specs.declared.fault.Fault.TheVariants.{BadLimit, OutOfMemory, TooManyLeases}
-use Rattle.ready_list.specs.Slots.{first_of}
-use Rattle.plain_engines.specs.Calls.{of_others}
-use Rattle.plain_engines.specs.Engines.{Broken, PlainEngine, kept_at}
-use Rattle.plain_engines.specs.Histories.{Breaks, Finishes, IsStep}
+use Rattle.run_queue.specs.Slots.{first_of}
+use Rattle.laws_engine.specs.Calls.{of_others}
+use Rattle.laws_engine.specs.Engines.{Broken, PlainEngine, kept_at}
+use Rattle.laws_engine.specs.Histories.{Breaks, Finishes, IsStep}
 use Rattle.leases.specs.Turns.{HasReady, IsTurnOf, lease_fault, lease_of_turn}
 use Rattle.leases.specs.declared.limits.TheConstants.{LEASE_NUMBERS, MAX_LEASES}
 

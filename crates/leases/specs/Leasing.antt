@@ -5,10 +5,10 @@ use Rattle.turn.specs.Nodes.{PlainNode}
 use Rattle.turn.specs.declared.turns.Turn.{Turn}
 use Rattle.operators.specs.Operators.{ready}
 use Rattle.reference.specs.Machine.{Registered}
-use Rattle.query_nets.specs.Queries.{PlainQuery, operator_at}
-use Rattle.running_queries.specs.Turns.{CanLease, HasOperator, IsLeased, log_of}
-use Rattle.plain_engines.specs.Asks.{IsOperator}
-use Rattle.plain_engines.specs.Engines.{PlainEngine, Running, instant_at, kept_at}
+use Rattle.laws_queries.specs.Queries.{PlainQuery, operator_at}
+use Rattle.query_runtime.specs.Turns.{CanLease, HasOperator, IsLeased, log_of}
+use Rattle.laws_engine.specs.Asks.{IsOperator}
+use Rattle.laws_engine.specs.Engines.{PlainEngine, Running, instant_at, kept_at}
 use Rattle.leases.specs.declared.given.Given.{Given}
 
 -- the operator k of the query n may take something, and no turn of it is out

@@ -8,8 +8,8 @@ use Rattle.reference.specs.Commands.{Drop, first_fault}
 use Rattle.reference.specs.Machine.{Machine, Registered}
 use Rattle.reference.specs.declared.fault.Fault.{Fault}
 use Rattle.reference.specs.declared.fault.Fault.TheVariants as fault
-use Rattle.query_nets.specs.Queries.{PlainQuery, log_at, operator_at}
-use Rattle.plain_engines.specs.Engines.{Broken, Dropped, Kept, PlainEngine, Running, answers_in, kept_at, query_at}
+use Rattle.laws_queries.specs.Queries.{PlainQuery, log_at, operator_at}
+use Rattle.laws_engine.specs.Engines.{Broken, Dropped, Kept, PlainEngine, Running, answers_in, kept_at, query_at}
 
 -- HOW MANY ANSWERS WAIT
 abbrev pub WaitsAt : PlainEngine → ℕ → Result ℕ Fault → Type 0

@@ -10,8 +10,8 @@ use Rattle.operators.specs.Operators.{waiting}
 use Rattle.plan.specs.Nodes as plan
 use Rattle.reference.specs.Machine.{Machine, Registered, Stream}
 use Rattle.stream_store.specs.Closing.{closing_of}
-use Rattle.query_nets.specs.Queries.{log_at, node_at, operator_at, place_of}
-use Rattle.plain_engines.specs.Engines.{Broken, Dropped, Kept, PlainEngine, Running, answers_in, kept_at, query_at}
+use Rattle.laws_queries.specs.Queries.{log_at, node_at, operator_at, place_of}
+use Rattle.laws_engine.specs.Engines.{Broken, Dropped, Kept, PlainEngine, Running, answers_in, kept_at, query_at}
 
 -- what stands in the queue of the operator k on a side, of a query of which this is left: only a running query has queues
 abbrev pub queue_in : Machine → Registered → Kept → ℕ → Side → List (Entry Row)

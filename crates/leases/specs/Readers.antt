@@ -4,12 +4,12 @@ use Rattle.std.specs.Option.{option_to_list}
 use Rattle.plan.specs.Nodes as plan
 use Rattle.operators.specs.Operators.{ready}
 use Rattle.reference.specs.Machine.{Registered, Stream}
-use Rattle.query_nets.specs.Queries.{PlainQuery, node_at, operator_at, place_of}
-use Rattle.running_queries.specs.Turns.{log_of}
-use Rattle.ready_list.specs.Slots.{changed}
-use Rattle.ready_list.specs.declared.slots.Slot.{Slot}
-use Rattle.plain_engines.specs.Calls.{is_reading}
-use Rattle.plain_engines.specs.Engines.{Broken, Dropped, IsIn, Kept, PlainEngine, Running, instant_at, kept_at, query_at, slot_of}
+use Rattle.laws_queries.specs.Queries.{PlainQuery, node_at, operator_at, place_of}
+use Rattle.query_runtime.specs.Turns.{log_of}
+use Rattle.run_queue.specs.Slots.{changed}
+use Rattle.run_queue.specs.declared.slots.Slot.{Slot}
+use Rattle.laws_engine.specs.Calls.{is_reading}
+use Rattle.laws_engine.specs.Engines.{Broken, Dropped, IsIn, Kept, PlainEngine, Running, instant_at, kept_at, query_at, slot_of}
 use Rattle.leases.specs.declared.reader.Reader.{Reader}
 use Rattle.leases.specs.declared.state.State.{State}
 

@@ -5,13 +5,13 @@ use Rattle.envelope.specs.Fraction.{Fraction, fraction}
 use Rattle.operators.specs.Operators.{ready}
 use Rattle.plan.specs.declared.operators.Plan.{Plan}
 use Rattle.reference.specs.Machine.{Registered, Stream}
-use Rattle.query_nets.specs.Queries.{PlainQuery, operator_at}
-use Rattle.running_queries.specs.Turns.{HasOperator, log_of}
-use Rattle.ready_list.specs.Slots.{put, slot}
-use Rattle.ready_list.specs.declared.slots.Slot.{Slot}
-use Rattle.plain_engines.specs.Calls.{IsRegistration}
-use Rattle.plain_engines.specs.Engines.{PlainEngine}
-use Rattle.accepted_queries.specs.Accepted.{IsBegun, IsPlanOfText, newest}
+use Rattle.laws_queries.specs.Queries.{PlainQuery, operator_at}
+use Rattle.query_runtime.specs.Turns.{HasOperator, log_of}
+use Rattle.run_queue.specs.Slots.{put, slot}
+use Rattle.run_queue.specs.declared.slots.Slot.{Slot}
+use Rattle.laws_engine.specs.Calls.{IsRegistration}
+use Rattle.laws_engine.specs.Engines.{PlainEngine}
+use Rattle.laws_engine_accepted.specs.Accepted.{IsBegun, IsPlanOfText, newest}
 
 -- the slot of the operator k of a query n that is new, of which no turn is out
 abbrev pub new_slot : List Stream → PlainQuery → List Fraction → ℕ → ℕ → Slot

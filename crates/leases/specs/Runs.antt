@@ -3,8 +3,8 @@ use Rattle.std.specs.Prelude.{ℕ}
 use Rattle.column.specs.declared.batch.Side.{Side}
 use Rattle.turn.specs.Finished.{IsDone}
 use Rattle.turn.specs.declared.parts.Parts.{Parts}
-use Rattle.ready_list.specs.declared.slots.Slot.{Slot}
-use Rattle.plain_engines.specs.Engines.{PlainEngine}
+use Rattle.run_queue.specs.declared.slots.Slot.{Slot}
+use Rattle.laws_engine.specs.Engines.{PlainEngine}
 use Rattle.leases.specs.Leasing.{IsTurnOn}
 use Rattle.leases.specs.declared.given.Given.{Given}
 

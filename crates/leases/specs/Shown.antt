@@ -1,5 +1,5 @@
 -- The engine as its clients see it.
-use Rattle.plain_engines.specs.Engines.{PlainEngine, world_of}
+use Rattle.laws_engine.specs.Engines.{PlainEngine, world_of}
 use Rattle.reference.specs.World.{World}
 use Rattle.leases.specs.Views.{engine_of}
 use Rattle.leases.specs.declared.state.State.{State}

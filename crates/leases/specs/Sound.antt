@@ -1,9 +1,9 @@
 -- What an engine knows of itself.
 use Rattle.std.specs.Prelude.{◌≡◌, ◌≤◌, Bool, true, false, length, map}
 use Rattle.reference.specs.Named.{name_of_registered}
-use Rattle.query_nets.specs.Registrations.{HaveColumnNames}
-use Rattle.answer_bounds.specs.Bounds.{HaveFewClosed}
-use Rattle.plain_engines.specs.Engines.{Broken, Dropped, GoodEngine, IsIn, Kept, Running}
+use Rattle.laws_queries.specs.Registrations.{HaveColumnNames}
+use Rattle.laws_engine_bounds.specs.Bounds.{HaveFewClosed}
+use Rattle.laws_engine.specs.Engines.{Broken, Dropped, GoodEngine, IsIn, Kept, Running}
 use Rattle.leases.specs.Readers.{ListsReaders}
 use Rattle.leases.specs.Shown.{engine_in}
 use Rattle.leases.specs.Views.{HasKind}

@@ -5,8 +5,8 @@ use Rattle.reference.specs.Commands.{Take, first_fault}
 use Rattle.reference.specs.World.{handed}
 use Rattle.reference.specs.declared.fault.Fault.{Fault}
 use Rattle.reference.specs.declared.fault.Fault.TheVariants as fault
-use Rattle.plain_engines.specs.Calls.{kept_after, taken}
-use Rattle.plain_engines.specs.Engines.{Broken, Kept, PlainEngine, answers_in, kept_at}
+use Rattle.laws_engine.specs.Calls.{kept_after, taken}
+use Rattle.laws_engine.specs.Engines.{Broken, Kept, PlainEngine, answers_in, kept_at}
 
 -- how many answers are handed out
 abbrev pub count_of : PlainEngine → ℕ → ℤ → ℕ

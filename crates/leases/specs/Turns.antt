@@ -11,14 +11,14 @@ use Rattle.reference.specs.Machine.{Registered}
 use Rattle.reference.specs.declared.fault.Fault.{Fault}
 use Rattle.reference.specs.declared.fault.Fault.TheVariants.{BadLimit, OutOfMemory, Stranger, TooManyLeases, UnknownLease}
 use Rattle.reference.specs.declared.limits.TheConstants.{MAX_TURN}
-use Rattle.query_nets.specs.Queries.{PlainQuery, log_at, operator_at}
-use Rattle.running_queries.specs.Turns.{HasBatches, HasPut}
-use Rattle.ready_list.specs.Slots as slots
-use Rattle.ready_list.specs.declared.slots.Slot.{Slot}
-use Rattle.plain_engines.specs.Calls.{IsLeasable, IsOf, abandoned, broken, leased}
-use Rattle.plain_engines.specs.Engines.{IsIn, Lease, PlainEngine}
-use Rattle.plain_engines.specs.Histories.{ComesBack}
-use Rattle.plain_engines.specs.Promises.{IsOfSteepest}
+use Rattle.laws_queries.specs.Queries.{PlainQuery, log_at, operator_at}
+use Rattle.query_runtime.specs.Turns.{HasBatches, HasPut}
+use Rattle.run_queue.specs.Slots as slots
+use Rattle.run_queue.specs.declared.slots.Slot.{Slot}
+use Rattle.laws_engine.specs.Calls.{IsLeasable, IsOf, abandoned, broken, leased}
+use Rattle.laws_engine.specs.Engines.{IsIn, Lease, PlainEngine}
+use Rattle.laws_engine.specs.Histories.{ComesBack}
+use Rattle.laws_engine.specs.Promises.{IsOfSteepest}
 use Rattle.leases.specs.declared.leased.Leased.{Leased}
 use Rattle.leases.specs.declared.leased.Leased.TheVariants as answer
 use Rattle.leases.specs.declared.limits.TheConstants.{LEASE_NUMBERS, MAX_LEASES}

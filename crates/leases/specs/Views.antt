@@ -4,9 +4,9 @@ use Rattle.values.specs.Resolved.{resolved_of}
 use Rattle.plan.specs.Views.{nodes_of}
 use Rattle.reference.specs.Machine as machine
 use Rattle.reference.specs.Machine.{Registered, Stream, empty}
-use Rattle.query_nets.specs.Queries.{PlainQuery, operator_at}
-use Rattle.ready_list.specs.declared.slots.Slot.{Slot}
-use Rattle.plain_engines.specs.Engines.{Broken, Dropped, Kept, Lease, PlainEngine, Running, kept_at}
+use Rattle.laws_queries.specs.Queries.{PlainQuery, operator_at}
+use Rattle.run_queue.specs.declared.slots.Slot.{Slot}
+use Rattle.laws_engine.specs.Engines.{Broken, Dropped, Kept, Lease, PlainEngine, Running, kept_at}
 use Rattle.leases.specs.declared.given.Given.{Given}
 use Rattle.leases.specs.declared.kept.KeptQuery.{KeptQuery}
 use Rattle.leases.specs.declared.kept.KeptQuery.TheVariants as code

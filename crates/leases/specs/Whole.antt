@@ -1,7 +1,7 @@
 -- An engine with which nobody else has turns out, and of which no query is broken.
 use Rattle.std.specs.Prelude.{ℕ, ◌≡◌, List, []}
 use Rattle.values.specs.Row.{Row}
-use Rattle.plain_engines.specs.Engines.{Broken, PlainEngine, kept_at}
+use Rattle.laws_engine.specs.Engines.{Broken, PlainEngine, kept_at}
 use Rattle.leases.specs.Shown.{engine_in}
 use Rattle.leases.specs.declared.state.State.{State}
 

@@ -14,7 +14,7 @@ pub(crate) struct Given {
 }
 
 impl Given {
-    ghost use Rattle.plain_engines.specs.Engines.{is_of};
+    ghost use Rattle.laws_engine.specs.Engines.{is_of};
     ghost use Rattle.leases.specs.Views.{lease_of};
 
     /// Whether it is of this operator.

@@ -1,10 +1,10 @@
 //! What is left of a registered query.
 ghost use Rattle.std.specs.Prelude.{◌≡◌};
-ghost use Rattle.plain_engines.specs.Engines.{Broken, Running};
-ghost use Rattle.query_nets.specs.Queries.{PlainQuery};
+ghost use Rattle.laws_engine.specs.Engines.{Broken, Running};
+ghost use Rattle.laws_queries.specs.Queries.{PlainQuery};
 ghost use Rattle.leases.specs.Views.{kept_of, waiting_in};
 
-use running_queries::RunningQuery;
+use query_runtime::RunningQuery;
 use std::mem::replace;
 
 /// What is left of a registered query: it runs, or a growth that was refused broke it and its answers wait, or it was dropped.

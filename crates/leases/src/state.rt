@@ -14,7 +14,7 @@ use crate::kept::KeptQuery;
 use crate::reader::Reader;
 use crate::registered::Registration;
 use name_table::NameTable;
-use ready_list::ReadyList;
+use run_queue::ReadyList;
 use std::alloc::Global;
 use stream_store::Streams;
 

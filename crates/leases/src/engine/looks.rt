@@ -1,6 +1,6 @@
 //! The engine before any call, and what its clients may look at.
 ghost use Rattle.std.specs.Prelude.{◌≡◌, length};
-ghost use Rattle.plain_engines.specs.Promises.{KeepsItsPromises};
+ghost use Rattle.laws_engine.specs.Promises.{KeepsItsPromises};
 ghost use Rattle.leases.specs.Looks.{IsPending, WaitsAt};
 ghost use Rattle.leases.specs.Shown.{engine_in, world_in};
 ghost use Rattle.leases.specs.Views.{empty_engine};

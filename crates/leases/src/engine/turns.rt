@@ -1,7 +1,7 @@
 //! What workers call: turns that go out and come back.
 ghost use Rattle.std.specs.Prelude.{◌≡◌, None, Ok, OnOk, []};
-ghost use Rattle.ready_list.specs.Slots.{first_of};
-ghost use Rattle.plain_engines.specs.Promises.{HasAllWaiting, KeepsItsPromises};
+ghost use Rattle.run_queue.specs.Slots.{first_of};
+ghost use Rattle.laws_engine.specs.Promises.{HasAllWaiting, KeepsItsPromises};
 ghost use Rattle.leases.specs.Shown.{engine_in};
 ghost use Rattle.leases.specs.Turns.{Abandons, Finishes, Leases};
 ghost use Rattle.leases.specs.declared.leased.Leased.TheVariants.{Idle};

@@ -2,7 +2,7 @@
 ghost use Rattle.std.specs.Prelude.{◌≡◌, OnErr, OnOk};
 ghost use Rattle.reference.specs.Commands as machine;
 ghost use Rattle.reference.specs.World.{drop_step};
-ghost use Rattle.plain_engines.specs.Calls.{dropped};
+ghost use Rattle.laws_engine.specs.Calls.{dropped};
 ghost use Rattle.leases.specs.Shown.{engine_in, world_in};
 ghost use Rattle.leases.specs.Sound.{IsSound};
 ghost use Rattle.leases.specs.Turns.{Abandons};

@@ -2,7 +2,7 @@
 ghost use Rattle.std.specs.Prelude.{◌≡◌, ◌≢◌, ◌<◌, Err, IfOk, None, OnErr, OnOk, Some, length};
 ghost use Rattle.reference.specs.World.{drain_fault};
 ghost use Rattle.reference.specs.declared.fault.Fault.TheVariants.{OutOfMemory};
-ghost use Rattle.ready_list.specs.Slots.{first_of};
+ghost use Rattle.run_queue.specs.Slots.{first_of};
 ghost use Rattle.leases.specs.Drains.{HasWanted, LeavesOthers, OneHasRun, RunsFirst, RunsTurns};
 ghost use Rattle.leases.specs.Runs.{IsRunOf};
 ghost use Rattle.leases.specs.Shown.{engine_in};
@@ -13,8 +13,8 @@ ghost use Rattle.leases.specs.Whole.{IsWhole};
 use crate::limits::{LEASE_NUMBERS, MAX_LEASES};
 use crate::state::State;
 use crate::state::lease::turn_of;
-use ready_list::Slot;
 use reference::{Fault, MAX_TURN};
+use run_queue::Slot;
 use std::alloc::AllocError;
 use turn::Done;
 

@@ -1,6 +1,6 @@
 //! Turns that go out.
 ghost use Rattle.std.specs.Prelude.{ℕ, ◌≡◌, ◌<◌, IfOk, OnErr, Some, length};
-ghost use Rattle.ready_list.specs.Slots.{first_of};
+ghost use Rattle.run_queue.specs.Slots.{first_of};
 ghost use Rattle.leases.specs.Leasing.{IsReadyAt, IsTurnOn, MayLeaseOn, turn_with};
 ghost use Rattle.leases.specs.Shown.{engine_in};
 ghost use Rattle.leases.specs.Sound.{IsSound};
@@ -11,8 +11,8 @@ use crate::leased::Leased;
 use crate::limits::{LEASE_NUMBERS, MAX_LEASES};
 use crate::state::State;
 use column::Side;
-use ready_list::Slot;
 use reference::{Fault, MAX_TURN};
+use run_queue::Slot;
 use std::alloc::AllocError;
 use turn::{Node, Turn};
 

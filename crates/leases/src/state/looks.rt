@@ -3,8 +3,8 @@ ghost use Rattle.std.specs.Prelude.{◌≡◌, ◌<◌, IfSome, Some, length, sl
 ghost use Rattle.reference.specs.Commands.{Drop, first_fault};
 ghost use Rattle.reference.specs.Machine.{Registered};
 ghost use Rattle.reference.specs.Told.{IsTold};
-ghost use Rattle.query_nets.specs.Queries.{PlainQuery};
-ghost use Rattle.plain_engines.specs.Engines.{Running, instant_at, is_leased, kept_at, query_at, slope_at, slot_at};
+ghost use Rattle.laws_queries.specs.Queries.{PlainQuery};
+ghost use Rattle.laws_engine.specs.Engines.{Running, instant_at, is_leased, kept_at, query_at, slope_at, slot_at};
 ghost use Rattle.leases.specs.Asked.{HasOperatorAt, IsRunningAt};
 ghost use Rattle.leases.specs.Shown.{engine_in};
 ghost use Rattle.leases.specs.Views.{query_of};
@@ -14,9 +14,9 @@ use crate::registered::Registration;
 use crate::state::State;
 use envelope::Slope;
 use name_table::NameTable;
-use ready_list::{ReadyList, Slot};
+use query_runtime::RunningQuery;
 use reference::Fault;
-use running_queries::RunningQuery;
+use run_queue::{ReadyList, Slot};
 use std::alloc::Global;
 use stream_store::Streams;
 

@@ -1,5 +1,5 @@
 -- A sound engine is good, and a good one keeps its promises.
-use Rattle.plain_engines.proofs.PromiseLemmas.{keeps_its_promises}
+use Rattle.laws_engine.proofs.PromiseLemmas.{keeps_its_promises}
 use Rattle.leases.specs.Shown.{engine_in}
 use Rattle.leases.proofs.engine.Engine.finish.Goals as goal
 

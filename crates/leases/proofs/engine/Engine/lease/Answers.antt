@@ -1,4 +1,4 @@
-use Rattle.plain_engines.proofs.PromiseLemmas.{keeps_its_promises}
+use Rattle.laws_engine.proofs.PromiseLemmas.{keeps_its_promises}
 use Rattle.leases.proofs.LeaseLemmas.{idle_waits_for_all}
 use Rattle.leases.specs.Shown.{engine_in}
 use Rattle.leases.proofs.engine.Engine.lease.Goals as goal

@@ -1,5 +1,5 @@
 use Rattle.std.proofs.Common.{ap}
-use Rattle.plain_engines.specs.Engines.{world_of}
+use Rattle.laws_engine.specs.Engines.{world_of}
 use Rattle.leases.proofs.ViewLemmas.{whole_at_first}
 use Rattle.leases.proofs.engine.Engine.new.Goals as goal
 

@@ -1,6 +1,6 @@
 use Rattle.std.proofs.Common.{subst}
-use Rattle.plain_engines.proofs.PromiseLemmas.{keeps_its_promises}
-use Rattle.plain_engines.specs.Promises.{KeepsItsPromises}
+use Rattle.laws_engine.proofs.PromiseLemmas.{keeps_its_promises}
+use Rattle.laws_engine.specs.Promises.{KeepsItsPromises}
 use Rattle.leases.specs.Shown.{engine_in}
 use Rattle.leases.proofs.engine.Engine.waiting.Goals as goal
 

@@ -1,7 +1,7 @@
 -- No turn of the number is out, or that is abandoned whose number it is.
 use Rattle.std.proofs.Common.{◌≡◌, ◌==◌, not, length, map, refl, ap, ◌∙◌, subst, arith}
-use Rattle.plain_engines.specs.Engines.{IsIn, Lease}
-use Rattle.plain_engines.proofs.SlotLemmas.{in_filter}
+use Rattle.laws_engine.specs.Engines.{IsIn, Lease}
+use Rattle.laws_engine.proofs.SlotLemmas.{in_filter}
 use Rattle.leases.specs.Shown.{engine_in}
 use Rattle.leases.specs.Views.{lease_of}
 use Rattle.leases.specs.declared.given.Given.{Given}

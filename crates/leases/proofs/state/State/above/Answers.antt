@@ -1,8 +1,8 @@
 -- The number is of an operator of the query, and the wire of each but the last leads to another.
 use Rattle.std.proofs.Common.{◌≡◌, ◌<◌, ◌+◌, length, sym, ◌∙◌, subst, arith}
-use Rattle.query_nets.specs.Queries.{PlainQuery}
-use Rattle.compiled_plans.specs.declared.wiring.Wire.{Wire}
-use Rattle.plain_engines.proofs.BackLemmas.{same_plain}
+use Rattle.laws_queries.specs.Queries.{PlainQuery}
+use Rattle.physical_plans.specs.declared.wiring.Wire.{Wire}
+use Rattle.laws_engine.proofs.BackLemmas.{same_plain}
 use Rattle.leases.specs.Asked.{HasOperatorAt}
 use Rattle.leases.specs.Shown.{engine_in}
 use Rattle.leases.proofs.state.State.above.Goals as goal

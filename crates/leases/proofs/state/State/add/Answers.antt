@@ -1,8 +1,8 @@
 use Rattle.std.proofs.Common.{◌≡◌, ◌∙◌, Some, [], ◌∷◌, ◌++◌, ap, length, refl, sym, subst, subst₂}
 use Rattle.std.specs.List.{position}
 use Rattle.name_table.specs.Names.{bears}
-use Rattle.ready_list.specs.Slots.{without_query}
-use Rattle.plain_engines.specs.Calls.{registered}
+use Rattle.run_queue.specs.Slots.{without_query}
+use Rattle.laws_engine.specs.Calls.{registered}
 use Rattle.leases.specs.Readers.{HaveCome}
 use Rattle.leases.specs.Registering.{with_first}
 use Rattle.leases.specs.Shown.{engine_in}

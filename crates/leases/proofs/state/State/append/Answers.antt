@@ -1,5 +1,5 @@
 use Rattle.std.proofs.Common.{map}
-use Rattle.plain_engines.specs.Engines.{answers_in}
+use Rattle.laws_engine.specs.Engines.{answers_in}
 use Rattle.leases.specs.Shown.{engine_in}
 use Rattle.leases.proofs.QueueLemmas.{append_leaves_queues}
 use Rattle.leases.proofs.StreamLemmas.{append_changes, append_changes_not, append_sound}

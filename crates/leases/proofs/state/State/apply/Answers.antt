@@ -2,9 +2,9 @@
 use Rattle.std.proofs.Common.{◌≡◌, List, map, set, ap, ◌∙◌, get_or}
 use Rattle.std.proofs.lemmas.List.{set-set}
 use Rattle.turn.specs.declared.parts.Parts.{Parts}
-use Rattle.ready_list.specs.Slots.{without_query}
-use Rattle.plain_engines.specs.Calls.{of_others}
-use Rattle.plain_engines.specs.Engines.{Broken, Dropped, Kept, Running}
+use Rattle.run_queue.specs.Slots.{without_query}
+use Rattle.laws_engine.specs.Calls.{of_others}
+use Rattle.laws_engine.specs.Engines.{Broken, Dropped, Kept, Running}
 use Rattle.leases.specs.Shown.{engine_in}
 use Rattle.leases.specs.Views.{kept_of}
 use Rattle.leases.proofs.FinishGivenLemmas.{item_running, kept_written, kept_written_here}

@@ -1,9 +1,9 @@
 -- What is left of the query, of the turns and of the slots.
 use Rattle.std.proofs.Common.{rules, ◌≡◌, ◌==◌, not, List, filter, map, set, refl, ap, ◌∙◌}
 use Rattle.std.proofs.lemmas.Fn.{filter_same}
-use Rattle.ready_list.specs.declared.slots.Slot.{Slot}
-use Rattle.plain_engines.specs.Calls.{of_others}
-use Rattle.plain_engines.specs.Engines.{Broken, Kept, Lease, Running}
+use Rattle.run_queue.specs.declared.slots.Slot.{Slot}
+use Rattle.laws_engine.specs.Calls.{of_others}
+use Rattle.laws_engine.specs.Engines.{Broken, Kept, Lease, Running}
 use Rattle.leases.specs.Shown.{engine_in}
 use Rattle.leases.specs.Views.{kept_of, lease_of}
 use Rattle.leases.specs.declared.given.Given.{Given}

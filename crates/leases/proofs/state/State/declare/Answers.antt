@@ -1,7 +1,7 @@
 use Rattle.std.proofs.Common.{map, w64}
 use Rattle.std.proofs.lemmas.Int.{to_z-of_z}
 use Rattle.reference.specs.CallViews.{texts_of}
-use Rattle.plain_engines.specs.Engines.{answers_in}
+use Rattle.laws_engine.specs.Engines.{answers_in}
 use Rattle.leases.specs.Shown.{engine_in}
 use Rattle.leases.proofs.StreamLemmas.{declare_changes, declare_changes_not, declare_sound}
 use Rattle.leases.proofs.state.State.declare.Goals as goal

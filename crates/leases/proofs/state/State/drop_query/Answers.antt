@@ -1,12 +1,12 @@
 use Rattle.std.proofs.Common.{◌≡◌, ◌<◌, ◌==◌, not, None, Some, length, map, set, get_or, string_bytes, refl, sym, ap, ◌∙◌, subst, arith}
 use Rattle.std.specs.Prelude.{slice_get}
-use Rattle.plain_engines.specs.Engines.{Dropped, GoodEngine, IsIn, world_of}
-use Rattle.plain_engines.proofs.DropLemmas.{drop_good}
-use Rattle.plain_engines.proofs.SlotLemmas.{in_filter}
-use Rattle.plain_engines.proofs.TakeLemmas.{changed_or_there}
+use Rattle.laws_engine.specs.Engines.{Dropped, GoodEngine, IsIn, world_of}
+use Rattle.laws_engine.proofs.DropLemmas.{drop_good}
+use Rattle.laws_engine.proofs.SlotLemmas.{in_filter}
+use Rattle.laws_engine.proofs.TakeLemmas.{changed_or_there}
 use Rattle.reference.specs.Commands as machine
 use Rattle.reference.specs.Named.{name_of_registered}
-use Rattle.plain_engines.specs.Calls.{dropped}
+use Rattle.laws_engine.specs.Calls.{dropped}
 use Rattle.leases.specs.Readers.{ListsReaders}
 use Rattle.leases.specs.Shown.{engine_in}
 use Rattle.leases.specs.Sound.{is_gone}

@@ -1,7 +1,7 @@
 -- What is left of the turns.
 use Rattle.std.proofs.Common.{rules, ◌≡◌, ◌==◌, not, filter, map, refl, ap, ◌∙◌}
 use Rattle.std.proofs.lemmas.Fn.{filter_same}
-use Rattle.plain_engines.specs.Engines.{Lease}
+use Rattle.laws_engine.specs.Engines.{Lease}
 use Rattle.leases.specs.Shown.{engine_in}
 use Rattle.leases.specs.Views.{lease_of}
 use Rattle.leases.specs.declared.given.Given.{Given}

@@ -1,5 +1,5 @@
 use Rattle.std.proofs.Common.{None, ◌≡◌, ◌+◌, ◌∷◌, [], ◌++◌, refl, ap, ◌∙◌}
-use Rattle.ready_list.specs.Slots.{changed}
+use Rattle.run_queue.specs.Slots.{changed}
 use Rattle.leases.proofs.LeaseLemmas.{HasGone, first_ready, goes_out, same_turn, sound_out}
 use Rattle.leases.specs.Shown.{engine_in}
 use Rattle.leases.specs.declared.given.Given.{Given}

@@ -4,7 +4,7 @@ use Rattle.std.proofs.lemmas.Int.{to_z-of_z}
 use Rattle.std.proofs.lemmas.Result.{err_from_is_err_and}
 use Rattle.op_queue.specs.Tables.{element}
 use Rattle.op_queue.specs.declared.log.Arrival.{Arrival}
-use Rattle.plain_engines.specs.Calls.{IsHeartbeat}
+use Rattle.laws_engine.specs.Calls.{IsHeartbeat}
 use Rattle.leases.specs.Queues.{LengthensQueues}
 use Rattle.leases.specs.Shown.{engine_in}
 use Rattle.leases.proofs.BeatLemmas.{beats_does, beats_engine, beats_sound, heartbeat_lacked, heartbeat_refused, readers_asked}

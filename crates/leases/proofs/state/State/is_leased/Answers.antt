@@ -2,7 +2,7 @@ use Rattle.std.proofs.Common.{rules, ◌≡◌, ap, sym, ◌∙◌}
 use Rattle.std.specs.List.{list_any}
 use Rattle.std.proofs.lemmas.Iterator.{YieldsList-from_slice}
 use Rattle.std.proofs.lemmas.Iterator.Search.{any_from_yields_List}
-use Rattle.plain_engines.specs.Engines.{is_of}
+use Rattle.laws_engine.specs.Engines.{is_of}
 use Rattle.leases.specs.Views.{lease_of}
 use Rattle.leases.proofs.LookLemmas.{any_out}
 use Rattle.leases.proofs.state.State.is_leased.Goals as goal

@@ -1,7 +1,7 @@
 -- Its operators are there, and read the streams of the machine.
 use Rattle.std.proofs.Common.{◌≡◌, ◌<◌, IfOk, length, subst}
 use Rattle.plan.specs.Views.{nodes_of}
-use Rattle.running_queries.specs.Turns.{log_of}
+use Rattle.query_runtime.specs.Turns.{log_of}
 use Rattle.leases.proofs.LengthLemmas.{lengths_are, noughts_are, operators_there}
 use Rattle.leases.specs.Looks.{lengths_from, noughts_of}
 use Rattle.leases.proofs.state.State.lengths.Goals as goal

@@ -1,9 +1,9 @@
 use Rattle.std.proofs.Common.{◌≡◌, ◌∙◌, ap, map, sym, subst}
 use Rattle.reference.specs.Commands.{place_at}
 use Rattle.reference.specs.Machine.{Registered, first_for}
-use Rattle.plain_engines.specs.Calls.{registered}
-use Rattle.plain_engines.specs.Engines.{GoodEngine}
-use Rattle.accepted_queries.specs.Accepted.{IsBegun, newest}
+use Rattle.laws_engine.specs.Calls.{registered}
+use Rattle.laws_engine.specs.Engines.{GoodEngine}
+use Rattle.laws_engine_accepted.specs.Accepted.{IsBegun, newest}
 use Rattle.leases.specs.Shown.{engine_in}
 use Rattle.leases.specs.Views.{place_of, query_of}
 use Rattle.leases.proofs.BegunLemmas.{begun, on_ok, told_is}

@@ -1,5 +1,5 @@
 use Rattle.std.proofs.Common.{◌≡◌, ◌+◌, ◌∙◌, ap, drop, refl, subst, sym}
-use Rattle.ready_list.specs.declared.slots.Slot.{Slot}
+use Rattle.run_queue.specs.declared.slots.Slot.{Slot}
 use Rattle.leases.specs.Asked.{HasOperatorAt}
 use Rattle.leases.specs.Readers.{told, told_all, with_slots}
 use Rattle.leases.specs.Shown.{engine_in}

@@ -1,7 +1,7 @@
 -- Each turn that goes out comes back, until no operator may take anything or something is scarce.
 use Rattle.std.proofs.Common.{◌≡◌, ◌≢◌, ◌+◌, Err, refl, sym, ap, ◌∙◌, subst, arith}
 use Rattle.reference.specs.declared.fault.Fault.TheVariants.{OutOfMemory}
-use Rattle.ready_list.specs.Slots.{first_of}
+use Rattle.run_queue.specs.Slots.{first_of}
 use Rattle.leases.proofs.DrainLemmas.{has_none, has_run, more_run, none_run, refused_leaves, same_err, step_counts, step_ends, step_leaves, step_stays, step_whole}
 use Rattle.leases.specs.Drains.{LeavesOthers, OneHasRun, RunsTurns, SomeHaveRun}
 use Rattle.leases.specs.Shown.{engine_in}

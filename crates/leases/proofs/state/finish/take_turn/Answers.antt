@@ -1,7 +1,7 @@
 -- A query that runs is one running query; after an error only its answers are as they were.
 use Rattle.std.proofs.Common.{refl, sym, ap, ◌∙◌}
 use Rattle.std.proofs.lemmas.Result.{on_err_weaker}
-use Rattle.plain_engines.proofs.BackLemmas.{same_plain}
+use Rattle.laws_engine.proofs.BackLemmas.{same_plain}
 use Rattle.leases.specs.Views.{kept_of}
 use Rattle.leases.proofs.state.finish.take_turn.Goals as goal
 

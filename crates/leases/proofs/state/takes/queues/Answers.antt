@@ -1,7 +1,7 @@
 -- One operator's queues after the other's.
 use Rattle.std.proofs.Common.{◌≡◌, ◌∙◌, ◌+◌, ◌++◌, ℕ, suc, drop, ap, ap₂, sym, subst, arith}
 use Rattle.plan.specs.Views.{node_of, nodes_of}
-use Rattle.running_queries.specs.Turns.{log_of}
+use Rattle.query_runtime.specs.Turns.{log_of}
 use Rattle.leases.proofs.PendingLemmas.{lengths_all, lengths_next}
 use Rattle.leases.specs.Looks.{lengths_at, lengths_from, queues_of}
 use Rattle.leases.proofs.state.takes.queues.Goals as goal

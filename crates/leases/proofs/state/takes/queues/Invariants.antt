@@ -1,7 +1,7 @@
 -- What the operators up to here have, and those from here on.
 use Rattle.std.proofs.Common.{◌≡◌, ◌++◌, drop}
 use Rattle.plan.specs.Views.{nodes_of}
-use Rattle.running_queries.specs.Turns.{log_of}
+use Rattle.query_runtime.specs.Turns.{log_of}
 use Rattle.leases.specs.Looks.{lengths_from}
 use Rattle.leases.proofs.state.takes.queues.Given as goal
 

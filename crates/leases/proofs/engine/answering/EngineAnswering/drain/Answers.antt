@@ -1,8 +1,8 @@
 -- Where no operator may take anything and all turns are back, all that is closed and not taken waits.
 use Rattle.std.proofs.Common.{OnOk, subst, sym}
 use Rattle.leases.proofs.WorldLemmas.{drains_are, drains_wait, plenty_has}
-use Rattle.plain_engines.proofs.PromiseLemmas.{keeps_its_promises}
-use Rattle.plain_engines.specs.Promises.{HasAllWaiting}
+use Rattle.laws_engine.proofs.PromiseLemmas.{keeps_its_promises}
+use Rattle.laws_engine.specs.Promises.{HasAllWaiting}
 use Rattle.reference.specs.World.{Drains, drain_step}
 use Rattle.leases.specs.Shown.{world_in}
 use Rattle.leases.specs.Shown.{engine_in}

@@ -2,7 +2,7 @@ use Rattle.std.proofs.Common.{subst, w64}
 use Rattle.std.proofs.lemmas.Int.{to_z-of_z}
 use Rattle.leases.proofs.WholeLemmas.{takes_whole}
 use Rattle.leases.proofs.WorldLemmas.{takes_are}
-use Rattle.plain_engines.proofs.PromiseLemmas.{keeps_its_promises}
+use Rattle.laws_engine.proofs.PromiseLemmas.{keeps_its_promises}
 use Rattle.reference.specs.CallViews.{handed_of}
 use Rattle.reference.specs.World.{Does, take_step}
 use Rattle.leases.specs.Shown.{world_in}

@@ -1,5 +1,0 @@
-use Rattle.std.proofs.Common.{length}
-use Rattle.compiled_plans.proofs.conjuncts.+add_further.Given as goal
-
-abbrev pub decreases-add_further : goal.decreases-add_further
-decreases-add_further l = length l.conditions.now

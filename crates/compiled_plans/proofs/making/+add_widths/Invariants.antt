@@ -1,5 +1,0 @@
-use Rattle.std.proofs.Common.{length}
-use Rattle.compiled_plans.proofs.making.+add_widths.Given as goal
-
-abbrev pub decreases-add_widths : goal.decreases-add_widths
-decreases-add_widths l = length l.nodes.now

@@ -1,5 +1,0 @@
-use Rattle.std.proofs.Common.{length}
-use Rattle.compiled_plans.proofs.wiring.+wire_from.Given as goal
-
-abbrev pub decreases-wire_from : goal.decreases-wire_from
-decreases-wire_from l = length l.nodes.now

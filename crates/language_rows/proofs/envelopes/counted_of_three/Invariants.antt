@@ -1,4 +1,0 @@
-use Rattle.language_rows.proofs.envelopes.counted_of_three.Given as goal
-
-abbrev pub ghosts-counted : goal.ghosts-counted
-ghosts-counted a = record { name = a.blank.name; parts = a.blank.parts }

@@ -1,0 +1,150 @@
+-- An engine of many queries, as a plain value.
+use Rattle.std.specs.Prelude.{ℕ, Bool, ◌≡◌, ◌<◌, ◌==◌, ◌&&◌, ◌⊎◌, nat_lt, cond, Option, Some, None, List, [], ◌∷◌, ◌++◌, length, map, get_or, slice_get}
+use Rattle.std.specs.List.{list_any}
+use Rattle.std.specs.List.Sorted.{IsStrictlySortedBy}
+use Rattle.std.specs.Option.{option_map}
+use Rattle.values.specs.Row.{Row}
+use Rattle.column.specs.declared.batch.Side.{Side}
+use Rattle.op_queue.specs.declared.item.Item.{Item}
+use Rattle.turn.specs.declared.excerpts.Near.{Near}
+use Rattle.operators.specs.Operators.{ready}
+use Rattle.operators.specs.States.{near_of}
+use Rattle.envelope.specs.Fraction.{Fraction, fraction}
+use Rattle.plan.specs.Paths.{plan_slopes}
+use Rattle.reference.specs.Machine.{Machine, Registered, closed_answers}
+use Rattle.reference.specs.World.{World}
+use Rattle.laws_queries.specs.Machines.{IsMachine, widths_of}
+use Rattle.laws_queries.specs.Queries.{IsPlainQuery, PlainQuery, log_at, operator_at}
+use Rattle.laws_queries.specs.Rows.{AreSourceWidths, HaveRows}
+use Rattle.laws_queries.specs.Steps.{IsFirst}
+use Rattle.run_queue.specs.Slots.{slot, slot_cmp}
+use Rattle.run_queue.specs.declared.slots.Slot.{Slot}
+
+-- x is one of the list
+abbrev pub IsIn : {X : Type 0} → List X → X → Type 0
+IsIn [] x = ⊥
+IsIn (y ∷ ys) x = (y ≡ x) ⊎ IsIn ys x
+
+-- what is left of a registered query: it runs, or was broken by a growth that was refused, or was dropped
+pub data Kept : Type 0 where
+  Running : PlainQuery → Kept
+  Broken : List (ℕ × Row) → Kept
+  Dropped : Kept
+
+-- the answers that wait
+abbrev pub answers_in : Kept → List (ℕ × Row)
+answers_in (Running p) = p.answers
+answers_in (Broken answers) = answers
+answers_in Dropped = []
+
+-- a turn that is out: its number, the operator of a query that it is of, and the item of a side with the excerpt
+pub record Lease : Type 0 where
+  pub number : ℕ
+  pub query : ℕ
+  pub operator : ℕ
+  pub side : Side
+  pub item : Item
+  pub excerpt : Near
+
+-- the streams and queries, what is left of each query by its number, the turns that are out, the number of the next, and the slots of all operators
+pub record PlainEngine : Type 0 where
+  pub machine : Machine
+  pub queries : List Kept
+  pub leases : List Lease
+  pub next : ℕ
+  pub slots : List Slot
+
+abbrev pub kept_at : PlainEngine → ℕ → Kept
+kept_at e n = get_or e.queries n Dropped
+
+abbrev pub query_at : PlainEngine → ℕ → Option Registered
+query_at e n = slice_get e.machine.queries n
+
+-- the machine with the answers that wait
+abbrev pub world_of : PlainEngine → World
+world_of e = record { machine = e.machine; waiting = map answers_in e.queries }
+
+-- THE SLOTS
+abbrev pub is_of : ℕ → ℕ → Lease → Bool
+is_of n k l = (l.query == n) && (l.operator == k)
+
+abbrev pub is_leased : PlainEngine → ℕ → ℕ → Bool
+is_leased e n k = list_any (is_of n k) e.leases
+
+abbrev pub slope_at : Registered → ℕ → Fraction
+slope_at q k = get_or (plan_slopes q.nodes q.measures) k (fraction 0 1)
+
+-- the instant of what the operator k of a running query may take next
+abbrev pub ready_instant : Machine → Registered → PlainQuery → ℕ → Option ℕ
+ready_instant m q p k = option_map (λ r. r.1) (ready (operator_at p.operators k) (log_at m q k))
+
+-- it may not be leased twice
+abbrev pub instant_at : PlainEngine → ℕ → Registered → PlainQuery → ℕ → Option ℕ
+instant_at e n q p k = cond (is_leased e n k) None (ready_instant e.machine q p k)
+
+abbrev pub slot_at : PlainEngine → ℕ → Registered → PlainQuery → ℕ → Slot
+slot_at e n q p k = slot (slope_at q k) (instant_at e n q p k) n k
+
+-- the slot of the operator k of the query n, if that runs and has such an operator
+abbrev pub slot_in : PlainEngine → ℕ → ℕ → Option Registered → Kept → Option Slot
+slot_in e n k None kept = None
+slot_in e n k (Some q) (Running p) = cond (nat_lt k (length q.nodes)) (Some (slot_at e n q p k)) None
+slot_in e n k (Some q) (Broken answers) = None
+slot_in e n k (Some q) Dropped = None
+
+abbrev pub slot_of : PlainEngine → ℕ → ℕ → Option Slot
+slot_of e n k = slot_in e n k (query_at e n) (kept_at e n)
+
+-- a list of the slots that a table has
+pub record HasSlots (table : ℕ → ℕ → Option Slot) (slots : List Slot) : Type 0 where
+  pub ordered : IsStrictlySortedBy slot_cmp slots
+  pub there : (n k : ℕ) (s : Slot) → table n k ≡ Some s → IsIn slots s
+  pub only : (s : Slot) → IsIn slots s → table s.query s.operator ≡ Some s
+
+-- THE QUERIES
+-- the answers that were taken and those that wait are a beginning of the query's answers for the instants that are closed
+pub record HasGiven (m : Machine) (q : Registered) (waiting : List (ℕ × Row)) : Type 0 where
+  pub taken : List (ℕ × Row)
+  pub counted : length taken ≡ q.taken
+  pub rest : List (ℕ × Row)
+  pub begins : closed_answers m q ≡ (taken ++ waiting) ++ rest
+
+-- it runs, and has given those that were taken and those that wait
+pub record Goes (m : Machine) (q : Registered) (p : PlainQuery) : Type 0 where
+  pub widths : List ℕ
+  pub sources : AreSourceWidths widths m q
+  pub taken : List (ℕ × Row)
+  pub counted : length taken ≡ q.taken
+  pub runs : IsPlainQuery (widths_of m.streams q) widths m q taken p
+
+abbrev pub IsKept : Machine → Registered → Kept → Type 0
+IsKept m q (Running p) = Goes m q p
+IsKept m q (Broken answers) = HasGiven m q answers
+IsKept m q Dropped = HasGiven m q []
+
+-- THE TURNS THAT ARE OUT
+-- the item stands first on its side of an operator of a running query, and the excerpt is what it needs of that operator's state
+pub record IsLease (e : PlainEngine) (l : Lease) : Type 0 where
+  pub numbered : l.number < e.next
+  pub query : Registered
+  pub registered : query_at e l.query ≡ Some query
+  pub kept : PlainQuery
+  pub running : kept_at e l.query ≡ Running kept
+  pub within : l.operator < length query.nodes
+  pub first : IsFirst (operator_at kept.operators l.operator) (log_at e.machine query l.operator) l.side l.item
+  pub near : l.excerpt ≡ near_of (operator_at kept.operators l.operator).state l.side l.item
+
+-- no two are of one operator or of one number
+pub record AreApart (ls : List Lease) : Type 0 where
+  pub operators : (a b : Lease) → IsIn ls a → IsIn ls b → a.query ≡ b.query → a.operator ≡ b.operator → a ≡ b
+  pub numbers : (a b : Lease) → IsIn ls a → IsIn ls b → a.number ≡ b.number → a ≡ b
+
+-- A GOOD ENGINE
+pub record GoodEngine (e : PlainEngine) : Type 0 where
+  pub machine : IsMachine e.machine
+  pub rows : HaveRows e.machine
+  pub many : length e.queries ≡ length e.machine.queries
+  pub queries : (n : ℕ) (q : Registered) → query_at e n ≡ Some q → IsKept e.machine q (kept_at e n)
+  pub leases : (l : Lease) → IsIn e.leases l → IsLease e l
+  pub apart : AreApart e.leases
+  pub slots : HasSlots (slot_of e) e.slots

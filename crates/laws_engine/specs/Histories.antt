@@ -1,0 +1,48 @@
+-- What may happen to an engine, one call after the other.
+use Rattle.std.specs.Prelude.{ℕ, ◌≡◌, ◌⊎◌, None, List, [], ◌∷◌}
+use Rattle.reference.specs.Commands.{Append, Command, Declare, Drop, Heartbeat, Register, Take, first_fault}
+use Rattle.reference.specs.Machine as machine
+use Rattle.reference.specs.Machine.{Registered}
+use Rattle.laws_queries.specs.Queries.{PlainQuery}
+use Rattle.run_queue.specs.declared.slots.Slot.{Slot}
+use Rattle.laws_engine.specs.Engines.{IsIn, Lease, PlainEngine}
+use Rattle.laws_engine.specs.Calls.{IsAnsweredTurn, IsFinishedTurn, IsHeartbeat, IsLeasable, IsOf, IsRegistration, IsTake, abandoned, answered, appended, beaten, broken, declared, dropped, finished, leased, registered, taken}
+
+-- THE EMPTY ENGINE
+abbrev pub empty : PlainEngine
+empty = record { machine = machine.empty; queries = []; leases = []; next = 0; slots = [] }
+
+-- a command of the machine; a turn that goes out, or comes back finished or abandoned, or whose finish a refused growth stops; and a call that is refused, or looks
+pub data Call : Type 0 where
+  Told : Command → Call
+  Leases : Lease → Call
+  Finishes : Lease → Call
+  Abandons : Lease → Call
+  Breaks : Lease → Call
+  Stays : Call
+
+-- WHAT IT MAKES OF AN ENGINE
+abbrev pub IsTold : PlainEngine → Command → PlainEngine → Type 0
+IsTold e (Declare name columns start) e2 = (first_fault e.machine (Declare name columns start) ≡ None) × (e2 ≡ declared e name columns start)
+IsTold e (Register name text chart) e2 = (q : Registered) × ((p : PlainQuery) × (IsRegistration e name text chart q p × (e2 ≡ registered e q p)))
+IsTold e (Append s rows) e2 = (first_fault e.machine (Append s rows) ≡ None) × (e2 ≡ appended e s rows)
+IsTold e (Heartbeat s at) e2 = IsHeartbeat e s at × (e2 ≡ beaten e s at)
+IsTold e (Take n limit) e2 = (count : ℕ) × (IsTake e n limit count × (e2 ≡ taken e n limit count))
+IsTold e (Drop n) e2 = (first_fault e.machine (Drop n) ≡ None) × (e2 ≡ dropped e n)
+
+-- below the root, or at it
+abbrev pub ComesBack : PlainEngine → Lease → Registered → PlainQuery → PlainQuery → PlainEngine → Type 0
+ComesBack e l q p p2 e2 = (IsFinishedTurn e l q p p2 × (e2 ≡ finished e l q p p2)) ⊎ (IsAnsweredTurn e l q p p2 × (e2 ≡ answered e l q p p2))
+
+abbrev pub IsStep : PlainEngine → Call → PlainEngine → Type 0
+IsStep e (Told c) e2 = IsTold e c e2
+IsStep e (Leases l) e2 = (q : Registered) × ((p : PlainQuery) × ((s : Slot) × (IsLeasable e l q p s × (e2 ≡ leased e l q p))))
+IsStep e (Finishes l) e2 = IsIn e.leases l × ((q : Registered) × ((p : PlainQuery) × ((p2 : PlainQuery) × ComesBack e l q p p2 e2)))
+IsStep e (Abandons l) e2 = IsIn e.leases l × ((q : Registered) × ((p : PlainQuery) × (IsOf e l q p × (e2 ≡ abandoned e l q p))))
+IsStep e (Breaks l) e2 = IsIn e.leases l × ((q : Registered) × ((p : PlainQuery) × (IsOf e l q p × (e2 ≡ broken e l.query p))))
+IsStep e Stays e2 = e2 ≡ e
+
+-- ONE CALL AFTER THE OTHER
+abbrev pub LeadTo : PlainEngine → List Call → PlainEngine → Type 0
+LeadTo e [] e2 = e2 ≡ e
+LeadTo e (c ∷ calls) e3 = (e2 : PlainEngine) × (IsStep e c e2 × LeadTo e2 calls e3)

@@ -1,0 +1,152 @@
+-- The operators of a plan at their beginning.
+use Rattle.std.specs.Prelude.{ℕ, ◌+◌, ◌≡◌, ◌≤◌, Option, Some, None, false, List, [], ◌∷◌, ◌++◌, map, length, get_or}
+use Rattle.std.specs.List.{AllByRecursion}
+use Rattle.values.specs.Row.{Row}
+use Rattle.values.specs.Resolved.{condition_of}
+use Rattle.values.specs.declared.resolved.Item.{Item}
+use Rattle.values.specs.declared.resolved.Window.{Window}
+use Rattle.values.specs.declared.resolved.Window.TheVariants as window
+use Rattle.names.specs.Views.{conditions_of}
+use Rattle.op_queue.specs.Logs.{Closed, log_entries}
+use Rattle.group.specs.Groups.{GroupBy, column_at, once_each}
+use Rattle.group.specs.Turns as groups
+use Rattle.join.specs.Turns as join
+use Rattle.row_nodes.specs.Steps.{IsOfOneSource}
+use Rattle.windows.specs.Latest.{LatestState, held_in}
+use Rattle.turn.specs.declared.kinds.Kind.{Kind}
+use Rattle.turn.specs.declared.kinds.Kind.TheVariants as kind
+use Rattle.operators.specs.Inboxes.{IsInboxWithin, entries_in, is_fed}
+use Rattle.operators.specs.Operators.{PlainOperator}
+use Rattle.operators.specs.declared.inboxes.Inbox.{Inbox}
+use Rattle.operators.specs.declared.inboxes.Inbox.TheVariants.{Between}
+use Rattle.operators.specs.declared.states.State.{State}
+use Rattle.operators.specs.declared.states.State.TheVariants as state
+use Rattle.plan.specs.declared.node.Key.{Key}
+use Rattle.plan.specs.declared.node.Node.{Node}
+use Rattle.plan.specs.declared.node.Node.TheVariants.{Window as Source, Select, Join, Project, Group, Distinct, ToStream}
+use Rattle.physical_plans.specs.Conjuncts.{all_steps}
+
+-- HOW MANY COLUMNS the rows of an operator have, from those of the sources and of the operators before it
+abbrev pub width_made : List ℕ → List ℕ → Node → ℕ
+width_made vs done (Source s) = get_or vs s 0
+width_made vs done (Select i cs) = get_or done i 0
+width_made vs done (Join i j keys) = get_or done i 0 + get_or done j 0
+width_made vs done (Project i places) = length places.items
+width_made vs done (Group i by items) = length items.items
+width_made vs done (Distinct i) = get_or done i 0
+width_made vs done (ToStream i op) = get_or done i 0
+
+abbrev pub widths_from : List ℕ → List ℕ → List Node → List ℕ
+widths_from vs done [] = done
+widths_from vs done (n ∷ nodes) = widths_from vs (done ++ width_made vs done n ∷ []) nodes
+
+abbrev pub widths_of : List ℕ → List Node → List ℕ
+widths_of vs nodes = widths_from vs [] nodes
+
+-- WHAT IT DOES
+abbrev pub window_at : List Window → ℕ → Window
+window_at ws s = get_or ws s window.Unbounded
+
+abbrev pub window_kind : Window → Kind
+window_kind (window.Range n) = kind.RangeWindow
+window_kind (window.RangeSlide n l) = kind.RangeWindow
+window_kind window.Unbounded = kind.RangeWindow
+window_kind (window.LastRows columns n) = kind.LatestWindow
+
+abbrev pub grouping : List ℕ → List Item → GroupBy
+grouping by items = record { by = map column_at by; items = items }
+
+abbrev pub kind_made : List Window → List ℕ → Node → Kind
+kind_made ws widths (Source s) = window_kind (window_at ws s)
+kind_made ws widths (Select i cs) = kind.Select (all_steps (conditions_of cs.items))
+kind_made ws widths (Join i j keys) = kind.Join
+kind_made ws widths (Project i places) = kind.Project places.items
+kind_made ws widths (Group i by items) = kind.Group (grouping by.items items.items)
+kind_made ws widths (Distinct i) = kind.Group (once_each (get_or widths i 0))
+kind_made ws widths (ToStream i op) = kind.ToStream
+
+-- WHAT IT HOLDS: nothing has come yet
+abbrev pub range_made : Option ℕ → ℕ → State
+range_made span w = state.Range (record { span = span; width = w; held = [] })
+
+pub record IsLatestMade (by : List ℕ) (n w : ℕ) (s : LatestState) : Type 0 where
+  pub columns : s.columns ≡ by
+  pub count : s.count ≡ n
+  pub width : s.width ≡ w
+  pub held : (k : Row) → held_in s.entries k ≡ []
+
+abbrev pub LatestStarts : List ℕ → ℕ → ℕ → State → Type 0
+LatestStarts columns n w s = (held : LatestState) × (s ≡ state.Latest held) × IsLatestMade columns n w held
+
+abbrev pub WindowStarts : Window → ℕ → State → Type 0
+WindowStarts (window.Range n) w s = s ≡ range_made (Some n) w
+WindowStarts (window.RangeSlide n l) w s = s ≡ range_made (Some n) w
+WindowStarts window.Unbounded w s = s ≡ range_made None w
+WindowStarts (window.LastRows columns n) w s = LatestStarts columns.items n w s
+
+abbrev pub key_pair : Key → ℕ × ℕ
+key_pair k = (k.left, k.right)
+
+abbrev pub StateStarts : List Window → List ℕ → List ℕ → Node → State → Type 0
+StateStarts ws vs widths (Source i) s = WindowStarts (window_at ws i) (get_or vs i 0) s
+StateStarts ws vs widths (Select i cs) s = s ≡ state.Nothing
+StateStarts ws vs widths (Join i j keys) s = s ≡ state.Join (join.beginning (map key_pair keys.items) (get_or widths i 0) (get_or widths j 0))
+StateStarts ws vs widths (Project i places) s = s ≡ state.Nothing
+StateStarts ws vs widths (Group i by items) s = s ≡ state.Groups (groups.beginning (grouping by.items items.items))
+StateStarts ws vs widths (Distinct i) s = s ≡ state.Groups (groups.beginning (once_each (get_or widths i 0)))
+StateStarts ws vs widths (ToStream i op) s = s ≡ state.Root (record { operator = op; net = record { entered = []; left = [] }; whole = [] })
+
+-- WHAT WAITS FOR IT: at a window what its source's log has of the query's input, else nothing
+abbrev pub nothing_waits : Inbox
+nothing_waits = Between (record { entries = []; begins = []; pieces = 0 })
+
+pub record ReadsSource (place start : ℕ) (i : Inbox) : Type 0 where
+  pub entries : (log : Closed) → entries_in i log ≡ log_entries place start log
+  pub within : (log : Closed) → IsInboxWithin i log
+  pub unfed : is_fed i ≡ false
+
+abbrev pub InboxStarts : List ℕ → ℕ → Node → Inbox → Type 0
+InboxStarts places start (Source s) i = ReadsSource (get_or places s 0) start i
+InboxStarts places start (Select j cs) i = i ≡ nothing_waits
+InboxStarts places start (Join j k keys) i = i ≡ nothing_waits
+InboxStarts places start (Project j columns) i = i ≡ nothing_waits
+InboxStarts places start (Group j by items) i = i ≡ nothing_waits
+InboxStarts places start (Distinct j) i = i ≡ nothing_waits
+InboxStarts places start (ToStream j op) i = i ≡ nothing_waits
+
+-- an operator of a plan at its beginning, for a query whose first instant is `start` and whose sources' streams were so long when it was
+-- registered
+pub record IsMade (ws : List Window) (vs widths places : List ℕ) (start : ℕ) (node : Node) (o : PlainOperator) : Type 0 where
+  pub kind : o.kind ≡ kind_made ws widths node
+  pub state : StateStarts ws vs widths node o.state
+  pub left : InboxStarts places start node o.left
+  pub right : o.right ≡ nothing_waits
+
+-- THE CALLER'S CONDITIONS, which the plan of a query that a row has room for meets: lists of columns are of at most 16, and conditions speak of
+-- the one row that goes between operators
+abbrev pub IsNarrowWindow : Window → Type 0
+IsNarrowWindow (window.Range n) = Unit {0}
+IsNarrowWindow (window.RangeSlide n l) = Unit {0}
+IsNarrowWindow window.Unbounded = Unit {0}
+IsNarrowWindow (window.LastRows columns n) = length columns.items ≤ 16
+
+abbrev pub IsMakeable : List Window → List ℕ → Node → Type 0
+IsMakeable ws widths (Source s) = IsNarrowWindow (window_at ws s)
+IsMakeable ws widths (Select i cs) = AllByRecursion (λ c. IsOfOneSource (condition_of c)) cs.items
+IsMakeable ws widths (Join i j keys) = get_or widths i 0 + get_or widths j 0 ≤ 16
+IsMakeable ws widths (Project i places) = length places.items ≤ 16
+IsMakeable ws widths (Group i by items) = (length by.items ≤ 16) × (length items.items ≤ 16)
+IsMakeable ws widths (Distinct i) = get_or widths i 0 ≤ 16
+IsMakeable ws widths (ToStream i op) = Unit {0}
+
+-- each operator of the plan in its place
+abbrev pub AreMade : List Window → List ℕ → List ℕ → List ℕ → ℕ → List Node → List PlainOperator → Type 0
+AreMade ws vs widths places start [] [] = Unit {0}
+AreMade ws vs widths places start [] (o ∷ os) = ⊥
+AreMade ws vs widths places start (n ∷ nodes) [] = ⊥
+AreMade ws vs widths places start (n ∷ nodes) (o ∷ os) = IsMade ws vs widths places start n o × AreMade ws vs widths places start nodes os
+
+-- the rows of each operator have at most 16 columns
+abbrev pub HaveNarrowRows : List ℕ → List ℕ → List Node → Type 0
+HaveNarrowRows vs done [] = Unit {0}
+HaveNarrowRows vs done (n ∷ nodes) = (width_made vs done n ≤ 16) × HaveNarrowRows vs (done ++ width_made vs done n ∷ []) nodes

@@ -1,5 +1,0 @@
-use Rattle.plain_engines.proofs.PromiseLemmas.{keeps_its_promises}
-use Rattle.plain_engines.proofs.laws.good_engines_keep_their_promises.Goals as goal
-
-pub returns : goal.returns
-returns c = keeps_its_promises

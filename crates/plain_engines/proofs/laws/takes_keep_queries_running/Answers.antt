@@ -1,5 +1,0 @@
-use Rattle.plain_engines.proofs.AgainLemmas.{runs_again}
-use Rattle.plain_engines.proofs.laws.takes_keep_queries_running.Goals as goal
-
-pub returns : goal.returns
-returns c = λ vs ws m q qs n os given r. runs_again vs ws m qs q n os given r

@@ -1,5 +1,0 @@
-use Rattle.query_nets.proofs.JoinSteps.{join_may, join_steps}
-use Rattle.query_nets.proofs.laws.joins_take_their_turns.Goals as goal
-
-pub returns : goal.returns
-returns c = record { may = join_may; steps = join_steps }

@@ -1,5 +1,0 @@
-use Rattle.query_nets.proofs.RootSteps.{root_may, root_step}
-use Rattle.query_nets.proofs.laws.roots_take_their_turns.Goals as goal
-
-pub returns : goal.returns
-returns c = record { may = root_may; step = root_step }

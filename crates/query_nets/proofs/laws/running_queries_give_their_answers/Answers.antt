@@ -1,5 +1,0 @@
-use Rattle.query_nets.proofs.NodeLemmas.{gives_its_answers}
-use Rattle.query_nets.proofs.laws.running_queries_give_their_answers.Goals as goal
-
-pub returns : goal.returns
-returns c = λ vs ws m q. gives_its_answers vs ws m q

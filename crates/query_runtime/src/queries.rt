@@ -1,0 +1,260 @@
+//! Running queries.
+ghost use Rattle.std.specs.Prelude.{◌≡◌, ◌<◌, ◌≤◌, [], true, length, min, All, IfOk, OnOk, OnErr};
+ghost use Rattle.std.specs.Arc.{arc_value};
+ghost use Rattle.op_queue.specs.Items.{entries_of};
+ghost use Rattle.turn.specs.Turns.{outs_in};
+ghost use Rattle.operators.specs.Inboxes.{all_entries};
+ghost use Rattle.operators.specs.Operators.{KeepsBatches, ready, waiting};
+ghost use Rattle.column.specs.declared.batch.Side.TheVariants.{Left, Right};
+ghost use Rattle.physical_plans.specs.Beginnings.{HaveNarrowRows, IsMakeable, widths_of};
+ghost use Rattle.to_stream.specs.Turns.{answers_of};
+ghost use Rattle.reference.specs.CallViews.{handed_of};
+ghost use Rattle.reference.specs.Inputs.{are_signed};
+ghost use Rattle.reference.specs.World.{handed};
+ghost use Rattle.laws_queries.specs.Queries.{operator_at};
+ghost use Rattle.query_runtime.specs.Turns.{CanFeed, CanFinish, CanLease, CanPut, HasAnswered, HasFed, HasFinished, HasBatches, HasOperator, HasPut, IsBeginning, IsLeased, handed_out, log_of, source_at, taken, wire_at};
+
+use crate::moves::{feed_at, finish_at, leased, log_at, move_front};
+use crate::sources::sources_of;
+use column::Side;
+use op_queue::{Item, Log};
+use operators::Operator;
+use physical_plans::{Wire, operators_of, wires};
+use plan::Plan;
+use std::alloc::{AllocError, Global};
+use std::collections::VecDeque;
+use std::marker::Model;
+use std::sync::Arc;
+use stream_store::Streams;
+use turn::{Change, Kind, Near, Outputs};
+use values::Row;
+
+/// A running query: its operators, by the number of each where its outputs go and which stream it reads, and the answers that wait.
+#[derive(Drop)]
+pub struct RunningQuery {
+    operators: Vec<Operator>,
+    wires: Vec<Wire>,
+    sources: Vec<u64>,
+    answers: VecDeque<(u64, Row)>,
+}
+
+impl Model for RunningQuery {
+    ghost use Rattle.to_stream.specs.Turns.{answers_of};
+    ghost use Rattle.laws_queries.specs.Queries.{PlainQuery};
+
+    ghost Value = { PlainQuery };
+
+    ghost view = { λ q. record { operators = q.operators.items; wires = q.wires.items; sources = q.sources.items; answers = answers_of q.answers.items } };
+}
+
+impl RunningQuery {
+    /// The query of a plan before anything has come. `streams` has the number of each source's stream and `places` how many rows
+    /// that stream had when the query was registered; `start` is the query's first instant.
+    /// An error says that memory was refused; nothing is changed.
+    pub fn new(
+        alloc: Global,
+        plan: &Plan,
+        streams: &[u64],
+        places: &[u64],
+        start: u64,
+    ) -> Result<RunningQuery, AllocError>
+        requires narrow { HaveNarrowRows plan.now.widths.items [] plan.now.nodes.items }
+        requires makeable { All (IsMakeable plan.now.meaning.windows.items (widths_of plan.now.widths.items plan.now.nodes.items)) plan.now.nodes.items }
+        ensures { IfOk result (λ query. IsBeginning plan.now.meaning.windows.items plan.now.widths.items streams.now places.now start plan.now.nodes.items query) }
+    {
+        Ok(RunningQuery {
+            operators: operators_of(alloc, plan, places, start)?,
+            wires: wires(alloc, &plan.nodes)?,
+            sources: sources_of(alloc, streams, &plan.nodes)?,
+            answers: VecDeque::new(alloc),
+        })
+    }
+
+    /// How many operators it has.
+    pub fn len(&self) -> usize
+        ensures { result ≡ length self.now.operators }
+    {
+        self.operators.len()
+    }
+
+    /// How many answers wait to be taken.
+    pub fn waiting(&self) -> usize
+        ensures { result ≡ length self.now.answers }
+    {
+        self.answers.len()
+    }
+
+    /// The side of an operator that a lease takes, and the instant at its front; None where it has nothing to take.
+    pub fn ready(&self, streams: &Streams, operator: usize) -> Option<(Side, u64)>
+        requires { HasOperator streams.now self.now operator }
+        ensures { result ≡ ready (operator_at self.now.operators operator) (log_of streams.now self.now operator) }
+    {
+        let log = self.log(streams, operator);
+        self.operator(operator).ready(log)
+    }
+
+    /// How many rows and ticks wait on the sides of an operator. At a window it costs the rows that wait, else nothing.
+    pub fn pending(&self, streams: &Streams, operator: usize) -> (u128, u128)
+        requires { HasOperator streams.now self.now operator }
+        ensures left { result.0 ≡ length (waiting (operator_at self.now.operators operator) (log_of streams.now self.now operator) Left) }
+        ensures right { result.1 ≡ length (waiting (operator_at self.now.operators operator) (log_of streams.now self.now operator) Right) }
+    {
+        let log = self.log(streams, operator);
+        let operator = self.operator(operator);
+        (
+            operator.pending(log, Side::Left),
+            operator.pending(log, Side::Right),
+        )
+    }
+
+    /// What an operator does, shared with its turns. It takes no memory; an error says that no more owners can be counted, and nothing is
+    /// changed.
+    pub fn kind(&self, operator: usize) -> Result<Arc<Kind>, AllocError>
+        requires { operator < length self.now.operators }
+        ensures { IfOk result (λ kind. arc_value kind ≡ (operator_at self.now.operators operator).kind) }
+    {
+        self.operator(operator).kind()
+    }
+
+    /// A copy of what stands first on a side of an operator, at most `rows` rows and no more than a batch has, or a tick, and the excerpt that a turn with it needs. It
+    /// costs these two, and look-ups. An error says that memory was refused; nothing is changed.
+    pub fn lease(
+        &self,
+        alloc: Global,
+        streams: &Streams,
+        operator: usize,
+        side: Side,
+        rows: usize,
+    ) -> Result<(Item, Near), AllocError>
+        requires here { HasOperator streams.now self.now operator }
+        requires may { CanLease (operator_at self.now.operators operator) (log_of streams.now self.now operator) side rows }
+        ensures { IfOk result (λ leased. IsLeased (operator_at self.now.operators operator) (log_of streams.now self.now operator) side rows leased.0 leased.1) }
+    {
+        let log = self.log(streams, operator);
+        leased(alloc, self.operator(operator), log, side, rows)
+    }
+
+    /// A turn of an operator has come back: its item leaves the side's queue, the state changes, and what it put out goes on. It costs the
+    /// item, the change and the outputs. Where memory is refused only its answers are as they were, and it can only be given up.
+    pub fn finish(
+        &mut self,
+        streams: &Streams,
+        operator: usize,
+        side: Side,
+        item: &Item,
+        change: &Change,
+        outputs: Outputs,
+    ) -> Result<(), AllocError>
+        requires here { HasOperator streams.now self.old operator }
+        requires may { CanFinish (operator_at self.old.operators operator) (log_of streams.now self.old operator) side item.now change.now }
+        requires puts { CanPut streams.now self.old operator side item.now change.now (outs_in outputs) }
+        ensures finished { OnOk result (HasFinished streams.now self.old operator side item.now change.now self.new) }
+        ensures put { OnOk result (HasPut self.old operator (outs_in outputs) self.new) }
+        ensures batches { OnOk result (HasBatches self.old operator outputs self.new) }
+        ensures err { OnErr result (self.new.answers ≡ self.old.answers) }
+    {
+        match outputs {
+            Outputs::Items(items) => self.finish_and_feed(
+                streams, operator, side, item, change, items,
+            ),
+            Outputs::Answers(answers) => self.finish_and_answer(
+                streams, operator, side, item, change, answers,
+            ),
+        }
+    }
+
+    /// Hands out the first answers that wait, at most `limit`, at the cost of these. Where memory is refused it is as it was.
+    pub fn take(&mut self, alloc: Global, limit: usize) -> Result<Vec<(i64, Row)>, AllocError>
+        requires { are_signed self.old.answers ≡ true }
+        ensures handed { IfOk result (λ rows. handed_of rows.items ≡ handed (taken limit self.old.answers)) }
+        ensures rest { OnOk result (self.new ≡ handed_out limit self.old) }
+        ensures err { OnErr result (self.new ≡ self.old) }
+    {
+        let count = limit.min(self.answers.len());
+        let mut rows = Vec::with_capacity(alloc, count)?;
+        move_front(&mut self.answers, &mut rows, count);
+        Ok(rows)
+    }
+
+    /// Gives up its operators with what waits for them; its answers wait on. Takes no memory.
+    pub fn give_up(&mut self)
+        ensures operators { self.new.operators ≡ [] }
+        ensures answers { self.new.answers ≡ self.old.answers }
+    {
+        self.operators.clear();
+    }
+
+    fn operator(&self, operator: usize) -> &Operator
+        requires { operator < length self.now.operators }
+        ensures { result.now ≡ operator_at self.now.operators operator }
+    {
+        &self.operators[operator]
+    }
+
+    /// Where what an operator puts out goes; from the root it goes nowhere.
+    pub fn wire(&self, operator: usize) -> Wire
+        requires { operator < length self.now.wires }
+        ensures { result ≡ wire_at self.now operator }
+    {
+        self.wires[operator]
+    }
+
+    fn source(&self, operator: usize) -> u64
+        requires { operator < length self.now.sources }
+        ensures { result ≡ source_at self.now operator }
+    {
+        self.sources[operator]
+    }
+
+    /// What the stream has closed that an operator reads.
+    fn log<'a>(&self, streams: &'a Streams, operator: usize) -> &'a Log
+        requires { HasOperator streams.now self.now operator }
+        ensures { result.now ≡ log_of streams.now self.now operator }
+    {
+        log_at(streams, self.source(operator))
+    }
+
+    fn finish_and_feed(
+        &mut self,
+        streams: &Streams,
+        operator: usize,
+        side: Side,
+        item: &Item,
+        change: &Change,
+        items: Vec<Item>,
+    ) -> Result<(), AllocError>
+        requires here { HasOperator streams.now self.old operator }
+        requires may { CanFinish (operator_at self.old.operators operator) (log_of streams.now self.old operator) side item.now change.now }
+        requires feeds { CanFeed streams.now self.old operator side item.now change.now (all_entries items.items) }
+        ensures finished { OnOk result (HasFinished streams.now self.old operator side item.now change.now self.new) }
+        ensures fed { OnOk result (HasFed self.old operator (all_entries items.items) self.new) }
+        ensures batches { OnOk result (KeepsBatches (operator_at self.old.operators (wire_at self.old operator).to) (wire_at self.old operator).side items.items (operator_at self.new.operators (wire_at self.old operator).to)) }
+        ensures err { OnErr result (self.new.answers ≡ self.old.answers) }
+    {
+        let log = self.log(streams, operator);
+        let wire = self.wire(operator);
+        finish_at(&mut self.operators, log, operator, side, item, change)?;
+        feed_at(&mut self.operators, wire.to, wire.side, items)
+    }
+
+    fn finish_and_answer(
+        &mut self,
+        streams: &Streams,
+        operator: usize,
+        side: Side,
+        item: &Item,
+        change: &Change,
+        answers: Vec<(u64, Row)>,
+    ) -> Result<(), AllocError>
+        requires here { HasOperator streams.now self.old operator }
+        requires may { CanFinish (operator_at self.old.operators operator) (log_of streams.now self.old operator) side item.now change.now }
+        ensures finished { OnOk result (HasFinished streams.now self.old operator side item.now change.now self.new) }
+        ensures answered { OnOk result (HasAnswered self.old operator (answers_of answers.items) self.new) }
+        ensures err { OnErr result (self.new.answers ≡ self.old.answers) }
+    {
+        let log = self.log(streams, operator);
+        let mut answers = VecDeque::from_vec(answers);
+        finish_at(&mut self.operators, log, operator, side, item, change)?;
+        self.answers.append(&mut answers)
+    }
+}

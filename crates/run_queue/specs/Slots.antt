@@ -1,0 +1,70 @@
+-- The slots of operators, and the order in which they are leased.
+use Rattle.std.specs.Prelude.{◌≡◌, ℕ, true, false, not, ◌==◌, Bool, cond, Option, Some, None, unwrap_or, is_none, List, [], ◌∷◌, filter, length, ◌<◌, ◌≤◌}
+use Rattle.std.specs.List.{AllByRecursion, AllWithin, HoldsAt, insert, list_any, remove}
+use Rattle.std.specs.Ordering.{bool_cmp, nat_cmp, is_eq, ordering_then}
+use Rattle.std.specs.BTreeSet.{insert_key}
+use Rattle.std.specs.declared.cmp.Ordering.{Ordering}
+use Rattle.std.specs.declared.cmp.Ordering.TheVariants.{Less, Equal, Greater}
+use Rattle.envelope.specs.Fraction.{Fraction, NoGreater, fraction_cmp}
+use Rattle.run_queue.specs.declared.slots.Slot.{Slot}
+
+-- an operator's slot; the instant is that of what it may take next, if it may take anything
+abbrev pub slot : Fraction → Option ℕ → ℕ → ℕ → Slot
+slot slope instant query operator = record { is_idle = is_none instant; slope = record { 0 = slope }; instant = unwrap_or instant 0; query = query; operator = operator }
+
+-- those with something to take first, the greater slope first, then the earlier instant, then the lower number of a query, then the lower number of
+-- an operator
+abbrev pub slot_cmp : Slot → Slot → Ordering
+slot_cmp a b = ordering_then (bool_cmp a.is_idle b.is_idle) (ordering_then (fraction_cmp b.slope.0 a.slope.0)
+    (ordering_then (nat_cmp a.instant b.instant) (ordering_then (nat_cmp a.query b.query) (nat_cmp a.operator b.operator))))
+
+-- the operator's slot with what it may take next
+abbrev pub with_instant : Slot → Option ℕ → Slot
+with_instant s instant = slot s.slope.0 instant s.query s.operator
+
+-- with a slot at its place, unless it is there
+abbrev pub put : List Slot → Slot → List Slot
+put slots s = insert_key slot_cmp slots s
+
+-- the slot is there, and the others
+abbrev pub has : Slot → List Slot → Bool
+has s slots = list_any (λ t. is_eq (slot_cmp t s)) slots
+
+abbrev pub without : Slot → List Slot → List Slot
+without s slots = filter (λ t. not (is_eq (slot_cmp t s))) slots
+
+-- with something else to take for the slot's operator, or nothing, where the slot is there
+abbrev pub changed : Slot → Option ℕ → List Slot → List Slot
+changed s instant slots = cond (has s slots) (put (without s slots) (with_instant s instant)) slots
+
+-- without the slots of a query
+abbrev pub without_query : ℕ → List Slot → List Slot
+without_query query slots = filter (λ s. not (s.query == query)) slots
+
+-- THE FIRST with something to take
+abbrev pub first_of : List Slot → Option Slot
+first_of [] = None
+first_of (s ∷ slots) = cond s.is_idle None (Some s)
+
+-- no slot with something to take has a greater slope
+abbrev pub IsSteepest : List Slot → Slot → Type 0
+IsSteepest slots s = AllByRecursion (λ t. t.is_idle ≡ false → NoGreater t.slope.0 s.slope.0) slots
+
+-- none has anything to take
+abbrev pub AreIdle : List Slot → Type 0
+AreIdle slots = AllByRecursion (λ s. s.is_idle ≡ true) slots
+
+-- WHERE A SLOT STANDS, and where it belongs
+pub record IsFound (slots : List Slot) (s : Slot) (i : ℕ) : Type 0 where
+  pub within : i < length slots
+  pub there : has s slots ≡ true
+  pub stays : put slots s ≡ slots
+  pub leaves : without s slots ≡ remove slots i
+  pub equal : HoldsAt (λ t. slot_cmp t s ≡ Equal) slots i
+
+pub record IsMissing (slots : List Slot) (s : Slot) (i : ℕ) : Type 0 where
+  pub within : i ≤ length slots
+  pub absent : has s slots ≡ false
+  pub comes : put slots s ≡ insert slots i s
+  pub below : AllWithin (λ t. slot_cmp t s ≡ Less) slots 0 i
+  pub above : AllWithin (λ t. slot_cmp t s ≡ Greater) slots i (length slots)

@@ -1,5 +1,0 @@
-use Rattle.running_queries.proofs.RunLemmas.{plain_queries_run}
-use Rattle.running_queries.proofs.laws.plain_queries_run.Goals as goal
-
-pub returns : goal.returns
-returns c = λ vs ws m q h. plain_queries_run vs ws m q (c.turns_keep_queries_running.ensures vs ws m q h) (c.roots_keep_queries_running.ensures vs ws m q h)

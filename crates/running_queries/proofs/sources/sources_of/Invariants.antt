@@ -1,7 +1,0 @@
-use Rattle.std.proofs.Common.{◌≡◌, map, take}
-use Rattle.plan.specs.Views.{nodes_of}
-use Rattle.running_queries.specs.Turns.{source_among}
-use Rattle.running_queries.proofs.sources.sources_of.Given as goal
-
-abbrev pub invariant-loop-node : goal.invariant-loop-node
-invariant-loop-node l = l.sources.items ≡ map (source_among l.streams) (nodes_of (take l.node-index l.nodes))

@@ -1,0 +1,13 @@
+//! Worked rows of request lines and of the program's runs, as tests: lines in any chunks, replies, devices that fail, a
+//! connection.
+//!
+//! They stand in a crate of their own because a crate's tests are proved with all of the crate once more. Rows that are whole
+//! scripts are the stored run of `tests_examples`.
+#![tactic(auto)]
+
+#[cfg(test)]
+mod connections;
+#[cfg(test)]
+mod lines;
+#[cfg(test)]
+mod runs;

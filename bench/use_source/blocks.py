@@ -1,0 +1,95 @@
+"""Runs the blocks of docs/use.md and README.md over a built cqlrun: bench/use says what is compared."""
+import json
+import os
+import re
+import subprocess
+import sys
+import tempfile
+from pathlib import Path
+
+program = sys.argv[1]
+failures = []
+
+
+def check(what, found, wanted):
+    """Counts a difference and prints it."""
+    if found != wanted:
+        failures.append(what)
+        print(f"{what}\n--- wanted\n{wanted}\n--- found\n{found}")
+
+
+def fenced(text):
+    """The fenced blocks of a page, each with its kind and its line."""
+    for block in re.finditer(r"^```(\w+)\n(.*?)^```$", text, re.M | re.S):
+        yield block.group(1), text[:block.start()].count("\n") + 1, block.group(2)
+
+
+def run_blocks(page, folder):
+    """Runs the shell and Python blocks of a page in order, and compares each with the text behind it."""
+    environment = {**os.environ, "PATH": f"{folder}/bin:{os.environ['PATH']}"}
+    blocks = list(fenced(page.read_text())) + [("", 0, "")]
+    tried = 0
+    for (kind, line, code), (next_kind, _, wanted) in zip(blocks, blocks[1:]):
+        words = {"sh": ["bash", "-euo", "pipefail", "-c", code], "python": ["python3", "-c", code]}.get(kind)
+        if not words:
+            continue
+        told = subprocess.run(words, cwd=folder, env=environment, capture_output=True, text=True, timeout=60)
+        check(f"{page}:{line}", told.stderr + told.stdout, wanted if next_kind == "text" else "")
+        tried += 1
+    print(f"{page}: {tried} blocks run")
+
+
+def first_query():
+    """README's first query, asked by README's own lines of Python, and its script."""
+    readme = Path("README.md").read_text()
+    code = re.search(r"^    from json import.*?(?=^\S)", readme, re.M | re.S).group()
+    code = re.sub("^    ", "", code, flags=re.M).replace("crates/cqlrun/out/cqlrun", program)
+    asked = {}
+    exec(code, asked)
+    shown = re.search(r'^    \{"op":"stream".*?\n\n', readme, re.M | re.S).group()
+    text = " ".join(re.search(r"^    (Select Rstream.*?)\n\n", readme, re.M | re.S).group(1).split())
+    requests = Path("examples/trades.jsonl").read_text().split("\n")[:-1]
+    replies = []
+    for line in shown.strip().split("\n"):
+        if line.strip().startswith("→"):
+            replies[-1] = json.loads(line.strip()[1:])
+        else:
+            line = re.sub(r'"Select Rstream\(symbol, \.\. as above .*?"', json.dumps(text), line.strip())
+            check("a request of README's first query", line, requests[len(replies)])
+            replies.append({"ok": True})
+    check("requests of README's first query", len(replies), len(requests))
+    check("README's first query", [asked["ask"](json.loads(line)) for line in requests], replies)
+    asked["engine"].communicate()
+    print("README.md: its first query asked")
+
+
+def tables(page):
+    """Each query of a table stands in the example that its line names."""
+    rows = re.findall(r"^\| [^|]* \| `(Select [^`]*)` \| `(\w+)` \|$", Path(page).read_text(), re.M)
+    for text, name in rows:
+        texts = re.findall(r'"text":"([^"]*)"', Path(f"examples/{name}.jsonl").read_text())
+        check(f"{page}: `{text}` in examples/{name}.jsonl", text in texts, True)
+    print(f"{page}: {len(rows)} queries sought in the examples")
+
+
+def stored_run():
+    """The input and output of tests_examples are made of the scripts and replies of examples/."""
+    scripts = sorted(Path("examples").glob("*.jsonl"))
+    crate = Path("crates/tests_examples")
+    check("crates/tests_examples/stdin", (crate / "stdin").read_bytes(),
+          b"".join(script.read_bytes() + b"\x1e\n" for script in scripts))
+    check("crates/tests_examples/stdout", (crate / "stdout").read_bytes(),
+          4 * b"".join(Path(f"{script}.stdout").read_bytes() for script in scripts))
+    print(f"tests_examples: its input is that of {len(scripts)} examples")
+
+
+with tempfile.TemporaryDirectory() as folder:
+    os.mkdir(f"{folder}/bin")
+    os.symlink(program, f"{folder}/bin/cqlrun")
+    run_blocks(Path("docs/use.md"), folder)
+first_query()
+tables("README.md")
+tables("docs/use.md")
+stored_run()
+print("bench/use: " + (f"{len(failures)} differ" if failures else "all as the documents say"))
+sys.exit(1 if failures else 0)

@@ -83,6 +83,21 @@ def stored_run():
     print(f"tests_examples: its input is that of {len(scripts)} examples")
 
 
+def paths():
+    """The files that the documents link to or name are there."""
+    found = 0
+    for page in [Path("README.md"), *sorted(Path("docs").glob("*.md"))]:
+        text = page.read_text()
+        linked = [page.parent / link for link in re.findall(r"\]\(([^):#]+)\)", text)]
+        below = Path("crates") if page.name == "proofs.md" else Path()
+        pattern = r"`(\w+/(?:src|specs|proofs)/[\w/.]*)`" if below.name else r"`((?:bench|crates|examples|docs)/[\w/.]+)`"
+        named = [below / name for name in re.findall(pattern, text) if "NAME" not in name and "/out" not in name]
+        for path in linked + named:
+            check(f"{page}: {path} is there", path.exists(), True)
+        found += len(linked + named)
+    print(f"documents: {found} paths sought")
+
+
 with tempfile.TemporaryDirectory() as folder:
     os.mkdir(f"{folder}/bin")
     os.symlink(program, f"{folder}/bin/cqlrun")
@@ -91,5 +106,6 @@ first_query()
 tables("README.md")
 tables("docs/use.md")
 stored_run()
+paths()
 print("bench/use: " + (f"{len(failures)} differ" if failures else "all as the documents say"))
 sys.exit(1 if failures else 0)

@@ -2,6 +2,7 @@
 import json
 import os
 import re
+import shutil
 import subprocess
 import sys
 import tempfile
@@ -98,6 +99,37 @@ def paths():
     print(f"documents: {found} paths sought")
 
 
+def pictures():
+    """Each picture is what its script draws."""
+    scripts = [script for script in sorted(Path("docs").glob("*.py")) if script.with_suffix(".svg").exists()]
+    with tempfile.TemporaryDirectory() as folder:
+        shutil.copytree("docs", f"{folder}/docs")
+        for script in scripts:
+            drawn = Path(folder) / script.with_suffix(".svg")
+            drawn.unlink()
+            subprocess.run([sys.executable, "-B", script], cwd=folder, check=True)
+            check(f"{script} draws its picture", drawn.read_bytes() == script.with_suffix(".svg").read_bytes(), True)
+    print(f"documents: {len(scripts)} pictures drawn")
+
+
+def windows():
+    """The windows of docs/windows.svg hold what the engine says that they hold."""
+    sys.path.insert(0, "docs")
+    import windows as page
+    at, requests = page.AT, [{"op": "stream", "name": "S", "columns": ["k", "v"], "from": 0}]
+    for number, (text, _) in enumerate(page.WINDOWS):
+        requests.append({"op": "query", "name": f"q{number}", "text": f"Select Rstream(*) From S {text}"})
+    requests += [{"op": "append", "stream": "S", "rows": [list(row) for row in page.ROWS]},
+                 {"op": "heartbeat", "stream": "S", "at": at}, {"op": "drain"}]
+    requests += [{"op": "take", "query": f"q{number}", "limit": 100} for number in range(len(page.WINDOWS))]
+    told = subprocess.run([program], input="".join(json.dumps(r) + "\n" for r in requests), capture_output=True, text=True)
+    replies = [json.loads(line) for line in told.stdout.split("\n")[-1 - len(page.WINDOWS):-1]]
+    for (text, holds), reply in zip(page.WINDOWS, replies):
+        shown = [row[1:] for row in reply["rows"] if row[0] == at]
+        check(f"docs/windows.svg: {text}", shown, sorted([k, v] for _, k, v in holds(page.ROWS)))
+    print(f"docs/windows.svg: {len(replies)} windows asked")
+
+
 with tempfile.TemporaryDirectory() as folder:
     os.mkdir(f"{folder}/bin")
     os.symlink(program, f"{folder}/bin/cqlrun")
@@ -107,5 +139,7 @@ tables("README.md")
 tables("docs/use.md")
 stored_run()
 paths()
+pictures()
+windows()
 print("bench/use: " + (f"{len(failures)} differ" if failures else "all as the documents say"))
 sys.exit(1 if failures else 0)

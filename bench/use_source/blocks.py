@@ -1,0 +1,145 @@
+"""Runs the blocks of docs/use.md and README.md over a built cqlrun: bench/use says what is compared."""
+import json
+import os
+import re
+import shutil
+import subprocess
+import sys
+import tempfile
+from pathlib import Path
+
+program = sys.argv[1]
+failures = []
+
+
+def check(what, found, wanted):
+    """Counts a difference and prints it."""
+    if found != wanted:
+        failures.append(what)
+        print(f"{what}\n--- wanted\n{wanted}\n--- found\n{found}")
+
+
+def fenced(text):
+    """The fenced blocks of a page, each with its kind and its line."""
+    for block in re.finditer(r"^```(\w+)\n(.*?)^```$", text, re.M | re.S):
+        yield block.group(1), text[:block.start()].count("\n") + 1, block.group(2)
+
+
+def run_blocks(page, folder):
+    """Runs the shell and Python blocks of a page in order, and compares each with the text behind it."""
+    environment = {**os.environ, "PATH": f"{folder}/bin:{os.environ['PATH']}"}
+    blocks = list(fenced(page.read_text())) + [("", 0, "")]
+    tried = 0
+    for (kind, line, code), (next_kind, _, wanted) in zip(blocks, blocks[1:]):
+        words = {"sh": ["bash", "-euo", "pipefail", "-c", code], "python": ["python3", "-c", code]}.get(kind)
+        if not words:
+            continue
+        told = subprocess.run(words, cwd=folder, env=environment, capture_output=True, text=True, timeout=60)
+        check(f"{page}:{line}", told.stderr + told.stdout, wanted if next_kind == "text" else "")
+        tried += 1
+    print(f"{page}: {tried} blocks run")
+
+
+def first_query():
+    """README's first query, asked by README's own lines of Python, and its script."""
+    readme = Path("README.md").read_text()
+    code = re.search(r"^    from json import.*?(?=^\S)", readme, re.M | re.S).group()
+    code = re.sub("^    ", "", code, flags=re.M).replace("crates/cqlrun/out/cqlrun", program)
+    asked = {}
+    exec(code, asked)
+    shown = re.search(r'^    \{"op":"stream".*?\n\n', readme, re.M | re.S).group()
+    text = " ".join(re.search(r"^    (Select Rstream.*?)\n\n", readme, re.M | re.S).group(1).split())
+    requests = Path("examples/trades.jsonl").read_text().split("\n")[:-1]
+    replies = []
+    for line in shown.strip().split("\n"):
+        if line.strip().startswith("→"):
+            replies[-1] = json.loads(line.strip()[1:])
+        else:
+            line = re.sub(r'"Select Rstream\(symbol, \.\. as above .*?"', json.dumps(text), line.strip())
+            check("a request of README's first query", line, requests[len(replies)])
+            replies.append({"ok": True})
+    check("requests of README's first query", len(replies), len(requests))
+    check("README's first query", [asked["ask"](json.loads(line)) for line in requests], replies)
+    asked["engine"].communicate()
+    print("README.md: its first query asked")
+
+
+def tables(page):
+    """Each query of a table stands in the example that its line names."""
+    rows = re.findall(r"^\| [^|]* \| `(Select [^`]*)` \| `(\w+)` \|$", Path(page).read_text(), re.M)
+    for text, name in rows:
+        texts = re.findall(r'"text":"([^"]*)"', Path(f"examples/{name}.jsonl").read_text())
+        check(f"{page}: `{text}` in examples/{name}.jsonl", text in texts, True)
+    print(f"{page}: {len(rows)} queries sought in the examples")
+
+
+def stored_run():
+    """The input and output of tests_examples are made of the scripts and replies of examples/."""
+    scripts = sorted(Path("examples").glob("*.jsonl"))
+    crate = Path("crates/tests_examples")
+    check("crates/tests_examples/stdin", (crate / "stdin").read_bytes(),
+          b"".join(script.read_bytes() + b"\x1e\n" for script in scripts))
+    check("crates/tests_examples/stdout", (crate / "stdout").read_bytes(),
+          4 * b"".join(Path(f"{script}.stdout").read_bytes() for script in scripts))
+    print(f"tests_examples: its input is that of {len(scripts)} examples")
+
+
+def paths():
+    """The files that the documents link to or name are there."""
+    found = 0
+    for page in [Path("README.md"), *sorted(Path("docs").glob("*.md"))]:
+        text = page.read_text()
+        linked = [page.parent / link for link in re.findall(r"\]\(([^):#]+)\)", text)]
+        below = Path("crates") if page.name == "proofs.md" else Path()
+        pattern = r"`(\w+/(?:src|specs|proofs)/[\w/.]*)`" if below.name else r"`((?:bench|crates|examples|docs)/[\w/.]+)`"
+        named = [below / name for name in re.findall(pattern, text) if "NAME" not in name and "/out" not in name]
+        for path in linked + named:
+            check(f"{page}: {path} is there", path.exists(), True)
+        found += len(linked + named)
+    print(f"documents: {found} paths sought")
+
+
+def pictures():
+    """Each picture is what its script draws."""
+    scripts = [script for script in sorted(Path("docs").glob("*.py")) if script.with_suffix(".svg").exists()]
+    with tempfile.TemporaryDirectory() as folder:
+        shutil.copytree("docs", f"{folder}/docs")
+        for script in scripts:
+            drawn = Path(folder) / script.with_suffix(".svg")
+            drawn.unlink()
+            subprocess.run([sys.executable, "-B", script], cwd=folder, check=True)
+            check(f"{script} draws its picture", drawn.read_bytes() == script.with_suffix(".svg").read_bytes(), True)
+    print(f"documents: {len(scripts)} pictures drawn")
+
+
+def windows():
+    """The windows of docs/windows.svg hold what the engine says that they hold."""
+    sys.path.insert(0, "docs")
+    import windows as page
+    at, requests = page.AT, [{"op": "stream", "name": "S", "columns": ["k", "v"], "from": 0}]
+    for number, (text, _) in enumerate(page.WINDOWS):
+        requests.append({"op": "query", "name": f"q{number}", "text": f"Select Rstream(*) From S {text}"})
+    requests += [{"op": "append", "stream": "S", "rows": [list(row) for row in page.ROWS]},
+                 {"op": "heartbeat", "stream": "S", "at": at}, {"op": "drain"}]
+    requests += [{"op": "take", "query": f"q{number}", "limit": 100} for number in range(len(page.WINDOWS))]
+    told = subprocess.run([program], input="".join(json.dumps(r) + "\n" for r in requests), capture_output=True, text=True)
+    replies = [json.loads(line) for line in told.stdout.split("\n")[-1 - len(page.WINDOWS):-1]]
+    for (text, holds), reply in zip(page.WINDOWS, replies):
+        shown = [row[1:] for row in reply["rows"] if row[0] == at]
+        check(f"docs/windows.svg: {text}", shown, sorted([k, v] for _, k, v in holds(page.ROWS)))
+    print(f"docs/windows.svg: {len(replies)} windows asked")
+
+
+with tempfile.TemporaryDirectory() as folder:
+    os.mkdir(f"{folder}/bin")
+    os.symlink(program, f"{folder}/bin/cqlrun")
+    run_blocks(Path("docs/use.md"), folder)
+first_query()
+tables("README.md")
+tables("docs/use.md")
+stored_run()
+paths()
+pictures()
+windows()
+print("bench/use: " + (f"{len(failures)} differ" if failures else "all as the documents say"))
+sys.exit(1 if failures else 0)

@@ -2,7 +2,7 @@
 ghost use Rattle.std.specs.Prelude.{◌≡◌, ◌+◌, ◌^◌, ◌<◌, [], length, IfOk, OnOk, OnErr};
 ghost use Rattle.column.specs.Rows.{signed};
 ghost use Rattle.row_bags.specs.Bags.{rows_of};
-ghost use Rattle.row_bags.specs.Nets.{cancelled, net_after, nets_after};
+ghost use Rattle.row_bags.specs.Deltas.{cancelled, delta_after, deltas_after};
 
 use crate::row_bag::RowBag;
 use column::{Batch, SignedRow};
@@ -12,25 +12,25 @@ use values::Row;
 
 /// What entered and what left, each cut by the other: a row that entered and left again is in neither.
 #[derive(Drop)]
-pub struct Net {
+pub struct Delta {
     entered: RowBag,
     left: RowBag,
 }
 
-impl Model for Net {
-    ghost use Rattle.row_bags.specs.Nets.{Netted};
+impl Model for Delta {
+    ghost use Rattle.row_bags.specs.Deltas.{PlainDelta};
 
-    ghost Value = { Netted };
+    ghost Value = { PlainDelta };
 
     ghost view = { λ n. record { entered = n.entered; left = n.left } };
 }
 
-impl Net {
+impl Delta {
     /// Nothing entered or left.
-    pub fn new(alloc: Global) -> Net
+    pub fn new(alloc: Global) -> Delta
         ensures { result ≡ record { entered = []; left = [] } }
     {
-        Net {
+        Delta {
             entered: RowBag::new(alloc),
             left: RowBag::new(alloc),
         }
@@ -56,7 +56,7 @@ impl Net {
     pub fn apply_one(&mut self, signed_row: SignedRow) -> Result<(), AllocError>
         requires entered { length self.old.entered < 2 ^ 62 }
         requires left { length self.old.left < 2 ^ 62 }
-        ensures ok { OnOk result (self.new ≡ net_after self.old (signed signed_row)) }
+        ensures ok { OnOk result (self.new ≡ delta_after self.old (signed signed_row)) }
         ensures err { OnErr result (self.new ≡ self.old) }
     {
         if signed_row.enters {
@@ -70,7 +70,7 @@ impl Net {
     /// What entered and left after the signed rows. Where memory is refused, only some of them may have been taken in.
     pub fn apply(&mut self, batch: &Batch) -> Result<(), AllocError>
         requires { length self.old.entered + length self.old.left + length batch.now < 2 ^ 62 }
-        ensures { OnOk result (self.new ≡ nets_after self.old batch.now) }
+        ensures { OnOk result (self.new ≡ deltas_after self.old batch.now) }
     {
         for place in 0..batch.len() {
             self.apply_one(batch.row(place))?;

@@ -7,7 +7,7 @@ use Rattle.values.proofs.Order.{row_order}
 use Rattle.op_queue.specs.Signed.{Same, Adds, Legal}
 use Rattle.op_queue.proofs.SignedLemmas.{Same-refl, Same-from_none}
 use Rattle.row_bags.specs.Bags.{is_in}
-use Rattle.row_bags.specs.Nets.{Netted, net_of, net_between, cancelled, net_after, nets_after}
+use Rattle.row_bags.specs.Deltas.{PlainDelta, delta_of, delta_between, cancelled, delta_after, deltas_after}
 use Rattle.row_bags.proofs.SpreadLemmas.{by_bool}
 use Rattle.row_bags.proofs.OrderLemmas.{copies-same, is_in-in_order, out-in_order, without-in_order}
 use Rattle.row_bags.proofs.BagLaws.{adds-entered, legal-entered, there, adds-left, legal-left}
@@ -37,8 +37,8 @@ at_each r P one none q =
     (λ t. let e : q ≡ r = same_is row_cmp row_order q r t in subst (λ n. P q n) (sym (ap {B = ℕ} (λ b. cond b 1 0) t)) (subst (λ x. P x 1) (sym e) one))
     (λ f. subst (λ n. P q n) (sym (ap {B = ℕ} (λ b. cond b 1 0) f)) (none q))
 
-both : {a b c d : List Row} → a ≡ c → b ≡ d → net_of a b ≡ net_of c d
-both {b = b} {c = c} e f = ap (λ x. net_of x b) e ∙ ap (net_of c) f
+both : {a b c d : List Row} → a ≡ c → b ≡ d → delta_of a b ≡ delta_of c d
+both {b = b} {c = c} e f = ap (λ x. delta_of x b) e ∙ ap (delta_of c) f
 
 -- a row comes to one bag, which the other has more often, or not: xs is the bag that it comes to
 module _ (r : Row) (xs ys : List Row) where
@@ -96,13 +96,13 @@ cancels r xs ys = by_bool (is_in row_cmp r gone) (λ t. ap shape t ∙ in_both t
         ap (λ a. pair_of a (insert_in_order row_cmp r came)) (comes_rest r xs ys (omega (arith, h))) ∙ ap (pair_of (in_order row_cmp (minus ys (r ∷ xs)))) (comes_more r xs ys (omega (arith, h)))
 
 -- a row enters
-pub net-entered : (r : Row) (before now : List Row) → net_after (net_between before now) (true, r) ≡ net_between before (r ∷ now)
-net-entered r before now = ap (λ (p : List Row × List Row). net_of p.1 p.0) (cancels r now before)
+pub delta-entered : (r : Row) (before now : List Row) → delta_after (delta_between before now) (true, r) ≡ delta_between before (r ∷ now)
+delta-entered r before now = ap (λ (p : List Row × List Row). delta_of p.1 p.0) (cancels r now before)
 
 -- a row leaves that was there
-pub net-left : (r : Row) (before now : List Row) → 0 < count r now → net_after (net_between before now) (false, r) ≡ net_between before (without row_cmp r now)
-net-left r before now h =
-    ap (λ (p : List Row × List Row). net_of p.0 p.1) (cancels r before now)
+pub delta-left : (r : Row) (before now : List Row) → 0 < count r now → delta_after (delta_between before now) (false, r) ≡ delta_between before (without row_cmp r now)
+delta-left r before now h =
+    ap (λ (p : List Row × List Row). delta_of p.0 p.1) (cancels r before now)
     ∙ both
     (by_counts (minus now (r ∷ before)) (minus (without row_cmp r now) before) (λ q.
     let e : count q now - (m q + count q before) ≡ (count q now - m q) - count q before = omega arith in
@@ -116,23 +116,23 @@ net-left r before now h =
 
 -- THE LAW
 
-pub net_between-same : {before b now n : List Row} → Same before b → Same now n → net_between before now ≡ net_between b n
-net_between-same {before = before} {b = b} {now = now} {n = n} h k =
+pub delta_between-same : {before b now n : List Row} → Same before b → Same now n → delta_between before now ≡ delta_between b n
+delta_between-same {before = before} {b = b} {now = now} {n = n} h k =
     both
     (by_counts (minus now before) (minus n b) (λ q. copies-bag_minus row_cmp row_order q now before ∙ ap (λ i. i - count q before) (copies-same row_cmp row_order now n k q) ∙ ap (λ i. count q n - i) (copies-same row_cmp row_order before b h q) ∙ sym (copies-bag_minus row_cmp row_order q n b)))
     (by_counts (minus before now) (minus b n) (λ q. copies-bag_minus row_cmp row_order q before now ∙ ap (λ i. i - count q now) (copies-same row_cmp row_order before b h q) ∙ ap (λ i. count q b - i) (copies-same row_cmp row_order now n k q) ∙ sym (copies-bag_minus row_cmp row_order q b n)))
 
 -- nothing between a bag and itself
-pub net_between-none : (b : List Row) → net_between b b ≡ net_of [] []
-net_between-none b = both (nothing b) (nothing b)
+pub delta_between-none : (b : List Row) → delta_between b b ≡ delta_of [] []
+delta_between-none b = both (nothing b) (nothing b)
   where
     nothing : (xs : List Row) → in_order row_cmp (minus xs xs) ≡ []
     nothing xs = by_counts (minus xs xs) [] (λ q. copies-bag_minus row_cmp row_order q xs xs ∙ omega arith)
 
-pub nets-between : (ss : List (Bool × Row)) (before now next : List Row) → Legal now ss → Adds now ss next → nets_after (net_between before now) ss ≡ net_between before next
-nets-between [] before now next l a = net_between-same (Same-refl before) (Same-from_none a)
-nets-between ((true, r) ∷ ss) before now next l a =
-    ap (λ (n : Netted). nets_after n ss) (net-entered r before now) ∙ nets-between ss before (r ∷ now) next (legal-entered r ss l) (adds-entered r ss a)
-nets-between ((false, r) ∷ ss) before now next l a =
+pub deltas-between : (ss : List (Bool × Row)) (before now next : List Row) → Legal now ss → Adds now ss next → deltas_after (delta_between before now) ss ≡ delta_between before next
+deltas-between [] before now next l a = delta_between-same (Same-refl before) (Same-from_none a)
+deltas-between ((true, r) ∷ ss) before now next l a =
+    ap (λ (n : PlainDelta). deltas_after n ss) (delta-entered r before now) ∙ deltas-between ss before (r ∷ now) next (legal-entered r ss l) (adds-entered r ss a)
+deltas-between ((false, r) ∷ ss) before now next l a =
     let h : 0 < count r now = there r ss l in
-    ap (λ (n : Netted). nets_after n ss) (net-left r before now h) ∙ nets-between ss before (without row_cmp r now) next (legal-left r ss h l) (adds-left r ss h a)
+    ap (λ (n : PlainDelta). deltas_after n ss) (delta-left r before now h) ∙ deltas-between ss before (without row_cmp r now) next (legal-left r ss h l) (adds-left r ss h a)

@@ -11,3 +11,4 @@ pub mod StateLemmas
 pub mod LawLemmas
 pub mod DistinctLemmas
 pub mod BatchLemmas
+pub mod SameLemmas

@@ -5,3 +5,4 @@ pub mod Rooms
 pub mod Turns
 pub mod Laws
 pub mod Batches
+pub mod Same

@@ -293,7 +293,7 @@ impl Tally {
 }
 
 /// The exact figure of an item of the list: a number that counts or sums, or else a value that stands in a row.
-#[derive(Clone, Copy, Drop)]
+#[derive(Clone, Copy, PartialEq, Eq, Drop)]
 pub(crate) struct Figure {
     pub(crate) number: Option<i128>,
     pub(crate) value: Value,

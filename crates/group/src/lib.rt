@@ -10,7 +10,6 @@ mod held_cells;
 mod keyed;
 mod laws;
 mod rows;
-mod same;
 mod shape;
 mod state;
 mod turn;

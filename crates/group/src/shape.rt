@@ -1,6 +1,6 @@
 //! What is grouped by, and what is listed of each group.
 
-ghost use Rattle.std.specs.Prelude.{◌≡◌, ◌≤◌, length, map, IfOk};
+ghost use Rattle.std.specs.Prelude.{◌≡◌, ◌↔◌, ◌≤◌, IsTrue, length, map, IfOk};
 ghost use Rattle.group.specs.Cells.{held};
 ghost use Rattle.group.specs.Groups.{once_each, key_in, no_columns};
 
@@ -74,6 +74,13 @@ impl GroupBy {
         ensures few { length result.now ≤ MAX_COLUMNS }
     {
         &self.items
+    }
+
+    /// Whether Group By's columns are the same, and the lists.
+    pub fn is_same(&self, other: &GroupBy) -> bool
+        ensures { IsTrue result ↔ (self.now ≡ other.now) }
+    {
+        self.by == other.by && self.items == other.items
     }
 
     /// Whether there is no column of Group By: then there is one group, also over no rows.

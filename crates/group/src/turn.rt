@@ -1,12 +1,12 @@
 //! What a turn of a group reads, puts out and changes.
 
-ghost use Rattle.std.specs.Prelude.{◌≡◌, ◌≤◌, ◌<◌, ◌++◌, [], ◌∷◌, List, length, map, IfOk, OnOk};
+ghost use Rattle.std.specs.Prelude.{◌≡◌, ◌↔◌, ◌≤◌, ◌<◌, ◌++◌, [], ◌∷◌, IsTrue, List, length, map, IfOk, OnOk};
 ghost use Rattle.std.specs.List.{flat_map};
 ghost use Rattle.column.specs.Rows.{signed, IsTable};
 ghost use Rattle.op_queue.specs.Entries.{RowAt, TickAt};
 ghost use Rattle.op_queue.specs.Items.{entries_of};
 ghost use Rattle.group.specs.Cells.{held, shown_figure};
-ghost use Rattle.group.specs.Turns.{row_now, swap_of, signed_row, same_shown, outputs, out, change, shown_now};
+ghost use Rattle.group.specs.Turns.{row_now, swap_of, signed_row, outputs, out, change, shown_now};
 
 use crate::cells::Figure;
 use crate::rows::fitted;
@@ -15,7 +15,7 @@ use column::{Batch, SignedRow};
 use op_queue::Item;
 use std::alloc::{AllocError, Global};
 use std::marker::Model;
-use values::{Row, copy_row, same_rows};
+use values::{Row, copy_row};
 
 /// The most rows of a batch.
 const BATCH: usize = 1024;
@@ -38,6 +38,28 @@ impl Model for Touched {
     ghost view = { λ t. record { key = t.key; shown = t.shown; rows = t.rows; figures = t.figures.items } };
 
     ghost invariant = { λ t. length t.figures.items ≤ 16 };
+}
+
+impl PartialEq for Touched {
+    ghost use Rattle.std.specs.Cmp.{partial_equiv_from_equiv};
+    ghost use Rattle.group.specs.Same.{touched_eq, touched_equiv};
+
+    ghost eq = { touched_eq };
+
+    ghost laws = { partial_equiv_from_equiv touched_equiv };
+
+    fn eq(&self, other: &Self) -> bool {
+        self.key == other.key
+            && self.shown == other.shown
+            && self.rows == other.rows
+            && self.figures == other.figures
+    }
+}
+
+impl Eq for Touched {
+    ghost use Rattle.group.specs.Same.{touched_equiv};
+
+    ghost laws = { touched_equiv };
 }
 
 /// The excerpt of a turn: each touched group where the item is a tick, else none.
@@ -97,6 +119,14 @@ impl Near {
     {
         &self.groups
     }
+
+    /// Whether the excerpts are equal: the same groups with the same rows shown and the same
+    /// figures, in the same order.
+    pub fn is_same(&self, other: &Near) -> bool
+        ensures { IsTrue result ↔ (self.now ≡ other.now) }
+    {
+        self.groups == other.groups
+    }
 }
 
 impl Change {
@@ -131,16 +161,6 @@ impl Touched {
     }
 }
 
-fn same_shown(old: &Option<Row>, now: &Option<Row>) -> bool
-    ensures { result ≡ same_shown old.now now.now }
-{
-    match (old, now) {
-        (None, None) => true,
-        (Some(old), Some(now)) => same_rows(old, now),
-        _ => false,
-    }
-}
-
 /// Adds the row with its sign, if there is one.
 fn push_row(
     rows: &mut Vec<SignedRow>,
@@ -164,6 +184,7 @@ fn push_row(
 }
 
 /// Adds the row that was shown as one that leaves, then the other as one that enters, unless they are equal.
+#[tactic(auto, using(crate::proofs::SameLemmas::shown_eq))]
 fn push_swap(
     rows: &mut Vec<SignedRow>,
     width: usize,
@@ -173,7 +194,7 @@ fn push_swap(
     requires { width ≤ 16 }
     ensures { OnOk result (map signed rows.new.items ≡ map signed rows.old.items ++ swap_of width old.now now.now) }
 {
-    if same_shown(old, now) {
+    if old == now {
         return Ok(());
     }
     push_row(rows, width, false, old)?;

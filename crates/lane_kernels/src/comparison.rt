@@ -8,7 +8,7 @@ ghost use Rattle.lane_kernels.specs.Lanes.{IsEight, test_of};
 use std::simd::prelude::*;
 
 /// How two numbers are compared.
-#[derive(Clone, Copy, Drop)]
+#[derive(Clone, Copy, PartialEq, Eq, Drop)]
 pub enum Comparison {
     Equal,
     NotEqual,

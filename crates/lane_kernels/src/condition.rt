@@ -16,7 +16,7 @@ use arrayvec::ArrayVec;
 use column::{Batch, Column};
 
 /// A step of a condition in postfix order.
-#[derive(Clone, Copy, Drop)]
+#[derive(Clone, Copy, PartialEq, Eq, Drop)]
 pub enum Step {
     /// A comparison of a column with a number.
     Number(usize, Comparison, i64),

@@ -4,7 +4,7 @@ use Rattle.std.specs.Ordering.{is_eq, is_gt}
 use Rattle.values.specs.Row.{Row, row_cmp}
 use Rattle.values.specs.Bag.{insert_in_order, without}
 use Rattle.row_bags.specs.Bags.{one_after, is_in}
-use Rattle.row_bags.specs.Nets.{Netted, cancelled, net_after}
+use Rattle.row_bags.specs.Deltas.{PlainDelta, cancelled, delta_after}
 
 length-cond : (b : Bool) (n : ℕ) (xs ys : List Row) → length xs ≤ n → length ys ≤ n → length (cond b xs ys) ≤ n
 length-cond true n xs ys a c = a
@@ -33,6 +33,6 @@ length-cancelled xs ys r = here (is_in row_cmp r xs)
     here true = omega (arith, length-without r xs)
     here false = omega (arith, length-insert r ys)
 
-pub length-net_after : (n : Netted) (s : Bool × Row) → length (net_after n s).entered + length (net_after n s).left ≤ suc (length n.entered + length n.left)
-length-net_after n (true, r) = omega (arith, length-cancelled n.left n.entered r)
-length-net_after n (false, r) = omega (arith, length-cancelled n.entered n.left r)
+pub length-delta_after : (n : PlainDelta) (s : Bool × Row) → length (delta_after n s).entered + length (delta_after n s).left ≤ suc (length n.entered + length n.left)
+length-delta_after n (true, r) = omega (arith, length-cancelled n.left n.entered r)
+length-delta_after n (false, r) = omega (arith, length-cancelled n.entered n.left r)

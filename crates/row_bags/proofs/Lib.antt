@@ -6,6 +6,6 @@ pub mod FrontLemmas
 pub mod ShortLemmas
 pub mod OrderLemmas
 pub mod BagLaws
-pub mod NetLaws
+pub mod DeltaLaws
 pub mod ListLaws
 pub mod ListLemmas

@@ -8,10 +8,10 @@ use Rattle.values.specs.Row.{Row, row_cmp}
 use Rattle.values.specs.Bag.{is_same, is_above, copies, bag_minus, insert_in_order, in_order}
 use Rattle.values.proofs.Bags.{same_is, same_itself, copies-bag_minus}
 use Rattle.values.proofs.Order.{row_order}
-use Rattle.row_bags.specs.Nets.{net_of, net_between}
+use Rattle.row_bags.specs.Deltas.{delta_of, delta_between}
 use Rattle.row_bags.specs.Lists.{is_first, staying, up_to, past, merged, renewed}
 use Rattle.row_bags.proofs.SpreadLemmas.{by_bool}
-use Rattle.row_bags.proofs.NetLaws.{by_counts}
+use Rattle.row_bags.proofs.DeltaLaws.{by_counts}
 
 -- TWO LISTS AS ONE
 
@@ -24,7 +24,7 @@ staying-none [] = refl
 staying-none (x ∷ xs) = ap (λ (zs : List Row). x ∷ zs) (staying-none xs)
 
 -- where nothing left or entered the rows stay
-pub renewed-none : (xs : List Row) → renewed xs (net_of [] []) ≡ xs
+pub renewed-none : (xs : List Row) → renewed xs (delta_of [] []) ≡ xs
 renewed-none xs = ap (λ (zs : List Row). merged zs []) (staying-none xs) ∙ merged-none xs
 
 -- what is not above
@@ -203,7 +203,7 @@ count-append q (x ∷ xs) ys = here (is_same row_cmp q x) (count-append q xs ys)
     here false h = h
 
 -- the list of the bag before, with what left and entered up to now, is that of the bag now
-pub renewed-between : (before now : List Row) → renewed (in_order row_cmp before) (net_between before now) ≡ in_order row_cmp now
+pub renewed-between : (before now : List Row) → renewed (in_order row_cmp before) (delta_between before now) ≡ in_order row_cmp now
 renewed-between before now =
     ap (λ (xs : List Row). merged (staying xs (in_order row_cmp left)) (in_order row_cmp entered)) split
     ∙ ap (λ (xs : List Row). merged xs (in_order row_cmp entered)) (staying-in_order left stayed)

@@ -1,5 +1,5 @@
 pub mod Bags
-pub mod Nets
+pub mod Deltas
 pub mod Rooms
 pub mod Lists
 pub mod Examples

@@ -2,7 +2,7 @@
 use Rattle.std.specs.Prelude.{◌≡◌, ℕ, ℤ, ◌≤◌, Bool, false, cond, Option, List, [], ◌∷◌, ◌++◌, length, take, drop}
 use Rattle.values.specs.Row.{Row, row_cmp}
 use Rattle.values.specs.Bag.{is_same, is_above}
-use Rattle.row_bags.specs.Nets.{Netted}
+use Rattle.row_bags.specs.Deltas.{PlainDelta}
 
 -- rows of these widths, their values one behind the other
 abbrev pub rows_by : List ℕ → List (Option ℤ) → List Row
@@ -39,5 +39,5 @@ merged [] ys = ys
 merged (x ∷ xs) ys = up_to x ys ++ x ∷ merged xs (past x ys)
 
 -- the rows that stay and those that entered
-abbrev pub renewed : List Row → Netted → List Row
+abbrev pub renewed : List Row → PlainDelta → List Row
 renewed rows n = merged (staying rows n.left) n.entered

@@ -1,21 +1,21 @@
 //! Bags of rows, kept in order by the count of each row.
 //!
-//! A `RowBag` is seen as the list of its rows in order, with their repeats. A `Net` is what entered and what left since it was
+//! A `RowBag` is seen as the list of its rows in order, with their repeats. A `Delta` is what entered and what left since it was
 //! new, each cut by the other. What enters, leaves or is looked up costs a logarithm of the number of rows that differ. A row that
 //! is held takes the room of the widest that came, rounded up to 2, 4, 8 or 16 values.
 //!
-//! The theory of `proofs/BagLaws.antt` and `proofs/NetLaws.antt` says what these lists are of the bags that signed rows turn
+//! The theory of `proofs/BagLaws.antt` and `proofs/DeltaLaws.antt` says what these lists are of the bags that signed rows turn
 //! into one another.
 #![tactic(auto)]
 
 mod counts;
 mod held;
 mod keys;
-mod net;
+mod delta;
 mod row_bag;
 mod row_list;
 
 pub use keys::{begins_with, copied, fitted};
-pub use net::Net;
+pub use delta::Delta;
 pub use row_bag::RowBag;
 pub use row_list::RowList;

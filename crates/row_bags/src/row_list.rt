@@ -3,7 +3,7 @@ ghost use Rattle.std.specs.Prelude.{◌≡◌, ◌≤◌, ◌++◌, [], length, 
 ghost use Rattle.row_bags.specs.Bags.{rows_of};
 ghost use Rattle.row_bags.specs.Lists.{is_first, staying, up_to, past, merged, renewed};
 
-use crate::net::Net;
+use crate::delta::Delta;
 use std::alloc::{AllocError, Global};
 use std::marker::Model;
 use values::{MAX_COLUMNS, Row, Value, compare_rows, copy_row, same_rows};
@@ -42,23 +42,23 @@ impl RowList {
 
     /// The rows after what left and entered. A row that left and does not stand where it comes in order is not found.
     /// An error says that memory was refused; nothing is changed.
-    pub fn renewed(&self, alloc: Global, net: &Net) -> Result<Vec<Row>, AllocError>
-        ensures { IfOk result (λ rows. rows_of rows.items ≡ renewed self.now net.now) }
+    pub fn renewed(&self, alloc: Global, delta: &Delta) -> Result<Vec<Row>, AllocError>
+        ensures { IfOk result (λ rows. rows_of rows.items ≡ renewed self.now delta.now) }
     {
-        let left = net.left(alloc)?;
-        let entered = net.entered(alloc)?;
+        let left = delta.left(alloc)?;
+        let entered = delta.entered(alloc)?;
         let rows = self.merged(alloc, &left, &entered)?;
         Ok(rows)
     }
 
     /// Becomes the rows after what left and entered. Where nothing did, this is all that it looks at.
     /// An error says that memory was refused; the list is as it was.
-    pub fn renew(&mut self, alloc: Global, net: &Net) -> Result<(), AllocError>
-        ensures ok { OnOk result (self.new ≡ renewed self.old net.now) }
+    pub fn renew(&mut self, alloc: Global, delta: &Delta) -> Result<(), AllocError>
+        ensures ok { OnOk result (self.new ≡ renewed self.old delta.now) }
         ensures err { OnErr result (self.new ≡ self.old) }
     {
-        let left = net.left(alloc)?;
-        let entered = net.entered(alloc)?;
+        let left = delta.left(alloc)?;
+        let entered = delta.entered(alloc)?;
         if left.is_empty() && entered.is_empty() {
             return Ok(());
         }

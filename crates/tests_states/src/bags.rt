@@ -1,7 +1,7 @@
 //! Worked bags of rows.
 use crate::rows::{are, one, row};
 use column::{Batch, SignedRow};
-use row_bags::{Net, RowBag, RowList, begins_with, copied, fitted};
+use row_bags::{Delta, RowBag, RowList, begins_with, copied, fitted};
 use std::alloc::{AllocError, Global};
 use std::test::Fail;
 use values::{Row, Value, same_rows};
@@ -181,40 +181,40 @@ fn keys_have_the_values_of_their_rows(rt: HostRuntime) -> Result<(), Fail> {
 }
 
 /// What entered and left with the first row, which leaves or enters, and the others, which enter.
-fn netted(alloc: Global, enters: bool, numbers: (i64, i64, i64)) -> Result<Net, AllocError> {
+fn delta_from(alloc: Global, enters: bool, numbers: (i64, i64, i64)) -> Result<Delta, AllocError> {
     let batch = three(alloc, enters, numbers)?;
     let _few = batch.len();
-    let mut net = Net::new(alloc);
-    net.apply(&batch)?;
-    Ok(net)
+    let mut delta = Delta::new(alloc);
+    delta.apply(&batch)?;
+    Ok(delta)
 }
 
 /// The row 5 leaves, 6 and 5 come.
-fn net(alloc: Global) -> Result<Net, AllocError> {
-    netted(alloc, false, (5, 6, 5))
+fn delta(alloc: Global) -> Result<Delta, AllocError> {
+    delta_from(alloc, false, (5, 6, 5))
 }
 
-fn entered_are(alloc: Global, net: &Net, numbers: &[i64]) -> Result<bool, AllocError> {
-    let rows = net.entered(alloc)?;
+fn entered_are(alloc: Global, delta: &Delta, numbers: &[i64]) -> Result<bool, AllocError> {
+    let rows = delta.entered(alloc)?;
     Ok(are(&rows, numbers))
 }
 
-fn left_are(alloc: Global, net: &Net, numbers: &[i64]) -> Result<bool, AllocError> {
-    let rows = net.left(alloc)?;
+fn left_are(alloc: Global, delta: &Delta, numbers: &[i64]) -> Result<bool, AllocError> {
+    let rows = delta.left(alloc)?;
     Ok(are(&rows, numbers))
 }
 
-/// Whether a net has these rows alone.
-fn shows_net(alloc: Global, net: &Net, entered: &[i64], left: &[i64]) -> Result<bool, AllocError> {
-    if !entered_are(alloc, net, entered)? {
+/// Whether a delta has these rows alone.
+fn shows_delta(alloc: Global, delta: &Delta, entered: &[i64], left: &[i64]) -> Result<bool, AllocError> {
+    if !entered_are(alloc, delta, entered)? {
         return Ok(false);
     }
-    left_are(alloc, net, left)
+    left_are(alloc, delta, left)
 }
 
 fn six_came(alloc: Global) -> Result<bool, AllocError> {
-    let net = net(alloc)?;
-    shows_net(alloc, &net, &[6], &[])
+    let delta = delta(alloc)?;
+    shows_delta(alloc, &delta, &[6], &[])
 }
 
 #[test]
@@ -224,9 +224,9 @@ fn what_leaves_and_comes_again_is_in_neither(rt: HostRuntime) -> Result<(), Fail
 }
 
 fn eight_left(alloc: Global) -> Result<bool, AllocError> {
-    let mut net = Net::new(alloc);
-    net.apply_one(one(false, 8))?;
-    shows_net(alloc, &net, &[], &[8])
+    let mut delta = Delta::new(alloc);
+    delta.apply_one(one(false, 8))?;
+    shows_delta(alloc, &delta, &[], &[8])
 }
 
 #[test]
@@ -237,9 +237,9 @@ fn what_leaves_is_kept(rt: HostRuntime) -> Result<(), Fail> {
 
 /// The rows 5, 5 and 7 in a list.
 fn listed(alloc: Global) -> Result<RowList, AllocError> {
-    let net = netted(alloc, true, (7, 5, 5))?;
+    let delta = delta_from(alloc, true, (7, 5, 5))?;
     let mut list = RowList::new(alloc);
-    list.renew(alloc, &net)?;
+    list.renew(alloc, &delta)?;
     Ok(list)
 }
 
@@ -247,16 +247,16 @@ fn listed(alloc: Global) -> Result<RowList, AllocError> {
 fn list_shows(
     alloc: Global,
     list: &RowList,
-    net: &Net,
+    delta: &Delta,
     numbers: &[i64],
 ) -> Result<bool, AllocError> {
-    let rows = list.renewed(alloc, net)?;
+    let rows = list.renewed(alloc, delta)?;
     Ok(are(&rows, numbers))
 }
 
 fn nothing_changes(alloc: Global) -> Result<bool, AllocError> {
     let mut list = listed(alloc)?;
-    let none = Net::new(alloc);
+    let none = Delta::new(alloc);
     list.renew(alloc, &none)?;
     list_shows(alloc, &list, &none, &[5, 5, 7])
 }
@@ -264,8 +264,8 @@ fn nothing_changes(alloc: Global) -> Result<bool, AllocError> {
 /// One of the two rows 5 leaves, 6 and 9 come.
 fn one_of_two_leaves(alloc: Global) -> Result<bool, AllocError> {
     let list = listed(alloc)?;
-    let net = netted(alloc, false, (5, 6, 9))?;
-    list_shows(alloc, &list, &net, &[5, 6, 7, 9])
+    let delta = delta_from(alloc, false, (5, 6, 9))?;
+    list_shows(alloc, &list, &delta, &[5, 6, 7, 9])
 }
 
 /// All rows leave.
@@ -273,10 +273,10 @@ fn none_is_left(alloc: Global) -> Result<bool, AllocError> {
     let mut list = listed(alloc)?;
     let batch = Batch::from_rows(alloc, &[one(false, 7), one(false, 5), one(false, 5)])?;
     let _few = batch.len();
-    let mut net = Net::new(alloc);
-    net.apply(&batch)?;
-    list.renew(alloc, &net)?;
-    let none = Net::new(alloc);
+    let mut delta = Delta::new(alloc);
+    delta.apply(&batch)?;
+    list.renew(alloc, &delta)?;
+    let none = Delta::new(alloc);
     list_shows(alloc, &list, &none, &[])
 }
 
@@ -290,9 +290,9 @@ fn a_list_becomes_what_left_and_entered_make_of_it(rt: HostRuntime) -> Result<()
 
 /// The row comes to the list, or leaves it.
 fn takes(alloc: Global, list: &mut RowList, signed_row: SignedRow) -> Result<(), AllocError> {
-    let mut net = Net::new(alloc);
-    net.apply_one(signed_row)?;
-    list.renew(alloc, &net)
+    let mut delta = Delta::new(alloc);
+    delta.apply_one(signed_row)?;
+    list.renew(alloc, &delta)
 }
 
 /// The rows of nine, of one and of no values, after each other; then the one of one value leaves.
@@ -304,7 +304,7 @@ fn wide_rows_are_listed(alloc: Global) -> Result<usize, AllocError> {
         takes(alloc, &mut list, SignedRow { enters: true, row })?;
     }
     takes(alloc, &mut list, one(false, 7))?;
-    let none = Net::new(alloc);
+    let none = Delta::new(alloc);
     let rows = list.renewed(alloc, &none)?;
     Ok(place_value(&rows))
 }

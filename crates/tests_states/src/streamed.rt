@@ -1,6 +1,6 @@
 //! Worked instants.
 ghost use Rattle.std.specs.Prelude.{◌≡◌, [], IfOk};
-ghost use Rattle.row_bags.specs.Nets.{net_of};
+ghost use Rattle.row_bags.specs.Deltas.{delta_of};
 
 use crate::rows::{one, row};
 use column::Batch;
@@ -28,7 +28,7 @@ fn taken(alloc: Global, operator: Operator, enters: bool) -> Result<ToStream, Al
 
 /// A root that has taken the pair and the tick of its instant.
 fn ticked(alloc: Global, operator: Operator, enters: bool) -> Result<ToStream, AllocError>
-    ensures { IfOk result (λ root. root.net ≡ net_of [] []) }
+    ensures { IfOk result (λ root. root.delta ≡ delta_of [] []) }
 {
     let mut root = taken(alloc, operator, enters)?;
     root.apply(&Item::Tick(3))?;

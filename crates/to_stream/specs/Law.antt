@@ -9,7 +9,7 @@ use Rattle.values.specs.declared.resolved.Operator.TheVariants.{Istream, Dstream
 use Rattle.op_queue.specs.Signed.{Adds, Legal}
 use Rattle.op_queue.specs.declared.item.Item.{Item}
 use Rattle.op_queue.specs.declared.item.Item.TheVariants.{Rows, Tick}
-use Rattle.row_bags.specs.Nets.{net_between}
+use Rattle.row_bags.specs.Deltas.{delta_between}
 use Rattle.to_stream.specs.Turns.{State, near, out}
 
 -- the relation at the last tick, which Rstream alone asks for
@@ -20,7 +20,7 @@ whole_of Rstream before = in_order row_cmp before
 
 -- `before` is the relation that was taken at the last tick, `now` the one that is taken
 pub record Stands (s : State) (before now : List Row) : Type 0 where
-  pub net : s.net ≡ net_between before now
+  pub net : s.net ≡ delta_between before now
   pub whole : s.whole ≡ whole_of s.operator before
 
 -- after rows the state stands for the relation with them; at a tick the answers are those of the definition, and the relation now is that of the instant before

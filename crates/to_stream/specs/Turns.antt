@@ -6,13 +6,13 @@ use Rattle.values.specs.declared.resolved.Operator.{Operator}
 use Rattle.values.specs.declared.resolved.Operator.TheVariants.{Istream, Dstream, Rstream}
 use Rattle.op_queue.specs.declared.item.Item.{Item}
 use Rattle.op_queue.specs.declared.item.Item.TheVariants.{Rows, Tick}
-use Rattle.row_bags.specs.Nets.{Netted, nets_after}
+use Rattle.row_bags.specs.Deltas.{PlainDelta, deltas_after}
 use Rattle.row_bags.specs.Lists.{renewed}
 
 -- what entered and left since the last tick; of Rstream also the relation of the last tick, in order, which stays empty where it is not asked for
 pub record State : Type 0 where
   pub operator : Operator
-  pub net : Netted
+  pub net : PlainDelta
   pub whole : List Row
 
 -- the rows that answer at a tick, in order
@@ -33,7 +33,7 @@ out (Tick t) rows = map (λ r. (t, r)) rows
 
 -- the state after signed rows
 abbrev pub taken : State → List (Bool × Row) → State
-taken s b = record { operator = s.operator; net = nets_after s.net b; whole = s.whole }
+taken s b = record { operator = s.operator; net = deltas_after s.net b; whole = s.whole }
 
 -- the relation that is kept from one tick to the next
 abbrev pub kept : Operator → State → List Row

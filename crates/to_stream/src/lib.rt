@@ -15,7 +15,7 @@ ghost use Rattle.to_stream.specs.Law.{Stands, StepLaw};
 
 use column::Batch;
 use op_queue::Item;
-use row_bags::{Net, RowList};
+use row_bags::{Delta, RowList};
 use std::alloc::{AllocError, Global};
 use std::marker::Model;
 use values::{Operator, Row, copy_row};
@@ -24,7 +24,7 @@ use values::{Operator, Row, copy_row};
 #[derive(Drop)]
 pub struct ToStream {
     operator: Operator,
-    net: Net,
+    net: Delta,
     whole: RowList,
     alloc: Global,
 }
@@ -45,7 +45,7 @@ impl ToStream {
     {
         ToStream {
             operator,
-            net: Net::new(alloc),
+            net: Delta::new(alloc),
             whole: RowList::new(alloc),
             alloc,
         }
@@ -113,7 +113,7 @@ impl ToStream {
         if let Operator::Rstream = self.operator {
             self.whole.renew(self.alloc, &self.net)?;
         }
-        self.net = Net::new(self.alloc);
+        self.net = Delta::new(self.alloc);
         Ok(())
     }
 }

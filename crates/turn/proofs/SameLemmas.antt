@@ -1,16 +1,10 @@
--- Rows and batches that are equal.
+-- Batches that are equal.
 use Rattle.std.proofs.Common.{ℕ, None, List, [], Bool, true, false, not, ◌≡◌, ◌<◌, ◌↔◌, length, ap, refl, sym, ◌∙◌, arith}
 use Rattle.std.proofs.Math.ListN.{get_or}
 use Rattle.std.proofs.lemmas.List.{ext_get_or, get_or-map, length-map}
-use Rattle.values.specs.Row.{Row, row_cmp, same_row, value_at}
-use Rattle.values.proofs.Order.{row_order}
-use Rattle.values.proofs.Bags.{same_is, same_itself}
+use Rattle.values.specs.Row.{Row, value_at}
 use Rattle.column.specs.Rows.{IsBatch, width}
-use Rattle.join.specs.Turns.{Excerpt, Matches, Ticked}
 use Rattle.turn.specs.Same.{HaveSameColumns, leaving}
-
-pub same_row_is : (a b : Row) → (same_row a b ≡ true) ↔ (a ≡ b)
-same_row_is a b = (same_is row_cmp row_order a b, λ e. ap (same_row a) (sym e) ∙ same_itself row_cmp row_order a)
 
 not_same : (x y : Bool) → not x ≡ not y → x ≡ y
 not_same true true h = refl
@@ -43,10 +37,3 @@ same_length a b e = length-map a (λ r. not r.0) ∙ e ∙ sym (length-map b (λ
 
 pub length-leaving : (a : List (Bool × Row)) → length (leaving a) ≡ length a
 length-leaving a = length-map a (λ r. not r.0)
-
-abbrev matched : Excerpt → List (List Row)
-matched (Matches ms) = ms
-matched (Ticked yet) = []
-
-pub same_matches_is : (ms ns : List (List Row)) (r : Bool) → (r ≡ true) ↔ (ms ≡ ns) → (r ≡ true) ↔ (Matches ms ≡ Matches ns)
-same_matches_is ms ns r h = (λ t. ap Matches (h.0 t), λ e. h.1 (ap matched e))

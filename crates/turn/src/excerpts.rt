@@ -1,7 +1,6 @@
 //! What turns need of the states of operators.
 ghost use Rattle.std.specs.Prelude.{◌≡◌, ◌↔◌, IsTrue};
 
-use crate::same_rows::{same_fallen_rows, same_met, same_row_lists};
 use std::marker::Model;
 use values::Row;
 
@@ -22,6 +21,15 @@ impl Model for RowList {
     ghost view = { λ l. rows_of l.rows.items };
 }
 
+impl RowList {
+    /// Whether the lists have the same rows.
+    fn is_same(&self, other: &RowList) -> bool
+        ensures { IsTrue result ↔ (self.now ≡ other.now) }
+    {
+        self.rows == other.rows
+    }
+}
+
 /// For each row of an item the row that falls out of its partition after it, if one does.
 #[derive(Drop)]
 pub struct FallenRows {
@@ -37,6 +45,15 @@ impl Model for FallenRows {
     ghost Value = { List (Option PlainRow) };
 
     ghost view = { λ f. fallen_rows f.rows.items };
+}
+
+impl FallenRows {
+    /// Whether the lists have the same rows at the same places.
+    fn is_same(&self, other: &FallenRows) -> bool
+        ensures { IsTrue result ↔ (self.now ≡ other.now) }
+    {
+        self.rows == other.rows
+    }
 }
 
 /// Of rows the rows of the other side that each meets, of a tick whether the other side has ticked.
@@ -78,11 +95,11 @@ impl Near {
     {
         match (self, other) {
             (Near::Nothing, Near::Nothing) => true,
-            (Near::Leaving(a), Near::Leaving(b)) => same_row_lists(&a.rows, &b.rows),
-            (Near::Fallen(a), Near::Fallen(b)) => same_fallen_rows(&a.rows, &b.rows),
-            (Near::Met(a), Near::Met(b)) => same_met(&a.near, &b.near),
-            (Near::Groups(a), Near::Groups(b)) => a.is_same(b),
-            (Near::Sorted(a), Near::Sorted(b)) => same_row_lists(&a.rows, &b.rows),
+            (Near::Leaving(rows), Near::Leaving(others)) => rows.is_same(others),
+            (Near::Fallen(rows), Near::Fallen(others)) => rows.is_same(others),
+            (Near::Met(met), Near::Met(other)) => met.near.is_same(&other.near),
+            (Near::Groups(groups), Near::Groups(others)) => groups.is_same(others),
+            (Near::Sorted(rows), Near::Sorted(others)) => rows.is_same(others),
             _ => false,
         }
     }

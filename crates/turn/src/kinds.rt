@@ -1,5 +1,5 @@
 //! What the operators of a plan do.
-ghost use Rattle.std.specs.Prelude.{◌≡◌, ◌≤◌, length};
+ghost use Rattle.std.specs.Prelude.{◌≡◌, ◌↔◌, ◌≤◌, IsTrue, length};
 
 use group::GroupBy;
 use lane_kernels::Step;
@@ -20,6 +20,15 @@ impl Model for StepList {
     ghost Value = { List OneStep };
 
     ghost view = { λ s. s.steps.items };
+}
+
+impl StepList {
+    /// Whether the steps are the same, in the same order.
+    fn is_same(&self, other: &StepList) -> bool
+        ensures { IsTrue result ↔ (self.now ≡ other.now) }
+    {
+        self.steps == other.steps
+    }
 }
 
 /// At most `MAX_COLUMNS` places of columns.
@@ -45,6 +54,13 @@ impl ColumnList {
         ensures { result ≡ columns.items }
     {
         ColumnList { columns }
+    }
+
+    /// Whether the columns are the same, in the same order.
+    fn is_same(&self, other: &ColumnList) -> bool
+        ensures { IsTrue result ↔ (self.now ≡ other.now) }
+    {
+        self.columns == other.columns
     }
 
     /// The columns, lent.
@@ -73,4 +89,22 @@ pub enum Kind {
     Group(GroupBy),
     /// The root of a query.
     ToStream,
+}
+
+impl Kind {
+    /// Whether the kinds are the same, with the same steps, columns or groups.
+    pub(crate) fn is_same(&self, other: &Kind) -> bool
+        ensures { IsTrue result ↔ (self.now ≡ other.now) }
+    {
+        match (self, other) {
+            (Kind::RangeWindow, Kind::RangeWindow) => true,
+            (Kind::LatestWindow, Kind::LatestWindow) => true,
+            (Kind::Select(steps), Kind::Select(others)) => steps.is_same(others),
+            (Kind::Project(columns), Kind::Project(others)) => columns.is_same(others),
+            (Kind::Join, Kind::Join) => true,
+            (Kind::Group(group), Kind::Group(other)) => group.is_same(other),
+            (Kind::ToStream, Kind::ToStream) => true,
+            _ => false,
+        }
+    }
 }

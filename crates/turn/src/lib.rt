@@ -5,20 +5,11 @@
 #![tactic(auto)]
 
 mod excerpts;
-mod group_turn;
-mod join_turn;
 mod kinds;
-mod latest_turn;
 mod nodes;
 mod outcomes;
 mod parts;
-mod project_turn;
-mod range_turn;
-mod root_turn;
 mod same_items;
-mod same_kinds;
-mod same_rows;
-mod select_turn;
 mod turns;
 mod works;
 

@@ -2,7 +2,6 @@
 ghost use Rattle.std.specs.Prelude.{◌≡◌, ◌↔◌, IsTrue};
 
 use crate::kinds::Kind;
-use crate::same_kinds::{same_kind, same_side};
 use column::Side;
 use std::marker::Model;
 use std::sync::Arc;
@@ -32,19 +31,14 @@ impl Model for Node {
 }
 
 impl Node {
-    /// Whether the nodes are equal: the same operator of the same query, the same side, and the same kind with all that it carries.
+    /// Whether the nodes are equal: the same operator of the same query, the same side, and the
+    /// same kind with all that it carries.
     pub fn is_same(&self, other: &Node) -> bool
         ensures { IsTrue result ↔ (self.now ≡ other.now) }
     {
-        if self.query != other.query {
-            return false;
-        }
-        if self.operator != other.operator {
-            return false;
-        }
-        if !same_side(self.side, other.side) {
-            return false;
-        }
-        same_kind(&self.kind, &other.kind)
+        self.query == other.query
+            && self.operator == other.operator
+            && self.side == other.side
+            && self.kind.is_same(&other.kind)
     }
 }

@@ -5,17 +5,6 @@ ghost use Rattle.turn.specs.Same.{HaveSameColumns, leaving};
 
 use column::{Batch, Column};
 use op_queue::Item;
-use values::Value;
-
-fn same_value(a: Value, b: Value) -> bool
-    ensures { IsTrue result ↔ (a ≡ b) }
-{
-    match (a.number(), b.number()) {
-        (Some(x), Some(y)) => x == y,
-        (None, None) => true,
-        _ => false,
-    }
-}
 
 fn same_column(a: &Column, b: &Column) -> bool
     ensures { IsTrue result ↔ (a.now ≡ b.now) }
@@ -24,7 +13,7 @@ fn same_column(a: &Column, b: &Column) -> bool
         return false;
     }
     for place in 0..a.len() {
-        if !same_value(a.get(place), b.get(place)) {
+        if a.get(place) != b.get(place) {
             return false;
         }
     }

@@ -51,7 +51,7 @@ pub enum Window {
 }
 
 /// An item of the list of a grouped query.
-#[derive(Clone, Copy)]
+#[derive(Clone, Copy, PartialEq, Eq)]
 pub enum Item {
     /// A column of Group By, by its place there.
     Key(usize),

@@ -1,7 +1,8 @@
 -- The definitions at worked texts.
 use Rattle.std.specs.Prelude.{◌≡◌, ℕ, List, [], ◌∷◌, Option, Some, None, Result, Ok, Err, codes, refl, true, false, pos, negsuc}
 use Rattle.values.specs.Answers.{Operator, Istream, Dstream, Rstream}
-use Rattle.values.specs.Condition.{Compare, Equals, Differs, Below, AtMost, Above, AtLeast}
+use Rattle.values.specs.declared.resolved.Compare.{Compare}
+use Rattle.values.specs.declared.resolved.Compare.TheVariants.{Equals, Differs, Below, AtMost, Above, AtLeast}
 use Rattle.cql_reader.specs.Lexis.{is_name, reserved, same_bytes, same_letters, kind_in, word_kind, all_word, all_ascii, token_at, decimal, number_of}
 use Rattle.cql_reader.specs.Tokens.{scan}
 use Rattle.cql_reader.specs.Query.{Query, Reference, Column, CountAll, Sum, All, Each, Window, Now, Range, Unbounded, Rows, Partition, Source, Operand, Named, Number, Condition, Compared, Not, And, Or}

@@ -3,18 +3,19 @@ ghost use Rattle.std.specs.Prelude.{◌≡◌, ◌↔◌, IsTrue};
 
 use crate::kinds::Kind;
 use column::Side;
-use lane_kernels::{Comparison, Step};
+use lane_kernels::Step;
+use values::Compare;
 
-fn same_comparison(a: Comparison, b: Comparison) -> bool
+fn same_comparison(a: Compare, b: Compare) -> bool
     ensures { IsTrue result ↔ (a ≡ b) }
 {
     match (a, b) {
-        (Comparison::Equal, Comparison::Equal) => true,
-        (Comparison::NotEqual, Comparison::NotEqual) => true,
-        (Comparison::Less, Comparison::Less) => true,
-        (Comparison::LessOrEqual, Comparison::LessOrEqual) => true,
-        (Comparison::Greater, Comparison::Greater) => true,
-        (Comparison::GreaterOrEqual, Comparison::GreaterOrEqual) => true,
+        (Compare::Equals, Compare::Equals) => true,
+        (Compare::Differs, Compare::Differs) => true,
+        (Compare::Below, Compare::Below) => true,
+        (Compare::AtMost, Compare::AtMost) => true,
+        (Compare::Above, Compare::Above) => true,
+        (Compare::AtLeast, Compare::AtLeast) => true,
         _ => false,
     }
 }

@@ -5,7 +5,8 @@ use Rattle.std.specs.declared.cmp.Ordering.TheVariants.{Less, Equal, Greater}
 use Rattle.values.specs.Value.{stream_max, answer_max, clamp_answer, value_text}
 use Rattle.values.specs.Row.{Row, row_cmp}
 use Rattle.values.specs.Window.{input_of, Window, numbered, Range, RangeSlide, LastRows}
-use Rattle.values.specs.Condition.{Column, Field, Number, Compared, Not, And, Equals, Above}
+use Rattle.values.specs.Condition.{Column, Field, Number, Compared, Not, And}
+use Rattle.values.specs.declared.resolved.Compare.TheVariants.{Equals, Above}
 use Rattle.values.specs.Relation.{Listed, Grouped, Key, CountAll, Sum}
 use Rattle.values.specs.Answers.{Resolved, Operator, Istream, Dstream, Rstream, answers}
 

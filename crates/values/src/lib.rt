@@ -81,6 +81,14 @@ impl Value {
         Value { word: i64::MIN }
     }
 
+    /// A number of the answer range.
+    pub fn answer(number: i64) -> Value
+        requires { IsAnswerNumber number }
+        ensures { result ≡ Some number }
+    {
+        Value { word: number }
+    }
+
     /// The number of the answer range that is nearest to this one: a sum that has left the range shows its end.
     pub fn clamped(number: i128) -> Value
         ensures { result ≡ Some (clamp_answer number) }

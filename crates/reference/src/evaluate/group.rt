@@ -149,8 +149,8 @@ pub(crate) fn item_value(item: Item, key: &Row, group: &[Vec<&Row>]) -> Value
 {
     match item {
         Item::Key(place) => value_at(key, place),
-        Item::CountAll => Value::clamped(group.len() as i128),
-        Item::Count(column) => Value::clamped(count_of(column, group) as i128),
+        Item::CountAll => Value::answer(group.len() as i64),
+        Item::Count(column) => Value::answer(count_of(column, group) as i64),
         Item::Sum(column) => sum_of(column, group),
         Item::Min(column) => min_of(column, group),
         Item::Max(column) => max_of(column, group),

@@ -1,9 +1,9 @@
 -- The grammar of query texts, and the query that a derivation builds.
 use Rattle.std.specs.Prelude.{◌≡◌, ℕ, ◌+◌, ◌-◌, Bool, true, false, ◌&&◌, not, ◌⊎◌, List, [], ◌∷◌, ◌++◌, Option, Some, None, cond, nat_lt, ℤ, pos, negsuc, int_lt, nat_abs}
-use Rattle.values.specs.Answers.{Operator, Istream}
+use Rattle.values.specs.Answers.{StreamOperator, Istream}
 use Rattle.values.specs.declared.resolved.Compare.{Compare}
 use Rattle.values.specs.Resolved.{operator_of}
-use Rattle.values.specs.declared.resolved.Operator.TheVariants as o
+use Rattle.values.specs.declared.resolved.StreamOperator.TheVariants as o
 use Rattle.values.specs.declared.resolved.Compare.TheVariants as c
 use Rattle.cql_reader.specs.declared.tokens.Kind.{Kind}
 use Rattle.cql_reader.specs.declared.tokens.Kind.TheVariants as k
@@ -96,7 +96,7 @@ pub record Terms : Type 0 where
 
 -- a query as far as it is read
 pub record Draft : Type 0 where
-  pub operator : Operator
+  pub operator : StreamOperator
   pub is_distinct : Bool
   pub entries : List Entry
   -- the column that is read, and the list of columns

@@ -5,7 +5,7 @@ ghost use Rattle.std.specs.Prelude.{◌≡◌, ◌↔◌, IsTrue};
 use crate::cells::Figure;
 use crate::shape::GroupBy;
 use crate::turn::{Near, Touched};
-use values::{Column, Item, Row, Value, same_rows};
+use values::{Column, ListItem, Row, Value, same_rows};
 
 fn same_value(a: Value, b: Value) -> bool
     ensures { IsTrue result ↔ (a ≡ b) }
@@ -131,21 +131,21 @@ fn same_columns(a: &[Column], b: &[Column]) -> bool
     right.is_empty()
 }
 
-fn same_item(a: Item, b: Item) -> bool
+fn same_item(a: ListItem, b: ListItem) -> bool
     ensures { IsTrue result ↔ (a ≡ b) }
 {
     match (a, b) {
-        (Item::Key(x), Item::Key(y)) => x == y,
-        (Item::CountAll, Item::CountAll) => true,
-        (Item::Count(x), Item::Count(y)) => same_column(x, y),
-        (Item::Sum(x), Item::Sum(y)) => same_column(x, y),
-        (Item::Min(x), Item::Min(y)) => same_column(x, y),
-        (Item::Max(x), Item::Max(y)) => same_column(x, y),
+        (ListItem::Key(x), ListItem::Key(y)) => x == y,
+        (ListItem::CountAll, ListItem::CountAll) => true,
+        (ListItem::Count(x), ListItem::Count(y)) => same_column(x, y),
+        (ListItem::Sum(x), ListItem::Sum(y)) => same_column(x, y),
+        (ListItem::Min(x), ListItem::Min(y)) => same_column(x, y),
+        (ListItem::Max(x), ListItem::Max(y)) => same_column(x, y),
         _ => false,
     }
 }
 
-fn same_items(a: &[Item], b: &[Item]) -> bool
+fn same_items(a: &[ListItem], b: &[ListItem]) -> bool
     ensures { IsTrue result ↔ (a.now ≡ b.now) }
 {
     let mut left = a;

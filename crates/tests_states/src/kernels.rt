@@ -21,13 +21,7 @@ const COMPARISONS: [Compare; 6] = [
 ];
 
 /// Whether these are the truths of a comparison of the samples of 7 with 3, or with the samples of 11.
-fn is_compared(
-    truth: &[u64],
-    known: &[u64],
-    how: Compare,
-    with_three: bool,
-    count: usize,
-) -> bool {
+fn is_compared(truth: &[u64], known: &[u64], how: Compare, with_three: bool, count: usize) -> bool {
     for i in 0..count {
         let other = if with_three {
             Value::clamped(3)
@@ -237,13 +231,7 @@ fn with_unknown(one: &Column, nothing: &Column, logic: Logic, number: i64) -> (u
     let (mut a_truth, mut a_known) = ([0], [0]);
     compare_const(one, Compare::Above, number, &mut a_truth, &mut a_known);
     let (mut b_truth, mut b_known) = ([0], [0]);
-    compare_const(
-        nothing,
-        Compare::Above,
-        number,
-        &mut b_truth,
-        &mut b_known,
-    );
+    compare_const(nothing, Compare::Above, number, &mut b_truth, &mut b_known);
     let (mut truth, mut known) = ([0], [0]);
     combine(
         &a_truth, &a_known, logic, &b_truth, &b_known, &mut truth, &mut known,

@@ -9,7 +9,7 @@ use std::alloc::{AllocError, Global};
 use std::test::Fail;
 use to_stream::ToStream;
 use turn::{Done, FallenRows, Kind, Near, Outputs, RowList, StepList, same_item};
-use values::{Compare, Operator, Row, same_rows};
+use values::{Compare, Row, StreamOperator, same_rows};
 use windows::LatestWindow;
 
 fn leaving(number: i64) -> SignedRow
@@ -93,7 +93,7 @@ fn each_row_puts_the_last_one_out(rt: HostRuntime) -> Result<(), Fail> {
 fn answered(alloc: Global) -> Result<Done, AllocError> {
     let node = node(alloc, Side::Left, Kind::ToStream)?;
     let rows = Item::Rows(3, two(alloc, 8, 7)?);
-    let mut root = ToStream::new(alloc, Operator::Istream);
+    let mut root = ToStream::new(alloc, StreamOperator::Istream);
     root.apply(&rows)?;
     let tick = Item::Tick(3);
     let rows = root.near(alloc, &tick)?;

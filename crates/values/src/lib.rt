@@ -17,7 +17,9 @@ ghost use Rattle.values.specs.Value.{IsStreamNumber, IsAnswerNumber, clamp_answe
 mod resolved;
 
 use arrayvec::ArrayVec;
-pub use resolved::{Column, Compare, Condition, Item, Operand, Operator, Resolved, Shape, Window};
+pub use resolved::{
+    Column, Compare, Condition, ListItem, Operand, Resolved, Shape, StreamOperator, Window,
+};
 use std::cmp::Ordering;
 use std::fmt;
 use std::marker::Model;

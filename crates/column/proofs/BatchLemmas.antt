@@ -8,6 +8,7 @@ use Rattle.std.proofs.lemmas.List.FromFn.{length-map-range_with_len, get_or-map-
 use Rattle.std.proofs.lemmas.List.Elements.{filter-append, All-filter}
 use Rattle.std.proofs.lemmas.List.Filters.{length-filter_both}
 use Rattle.std.proofs.lemmas.Bool.Decides.{Decides-eqb}
+use Rattle.values.specs.declared.TheConstants.{MAX_COLUMNS}
 use Rattle.values.specs.Row.{Row, value_at}
 use Rattle.column.specs.Bits.{at_places, chosen, true_places}
 use Rattle.column.specs.Rows.{IsBatch, IsLaidOut, IsTable, beside, column_of, of_side, row_at, signed, signed_rows, width}
@@ -146,7 +147,7 @@ row_at-columns : (rows : List (Bool × Row)) (i : ℕ) (ks : List ℕ) → i < l
 row_at-columns rows i [] h = refl
 row_at-columns rows i (k ∷ ks) h = λ t. get_or-map (λ r. value_at r.1 k) rows i (true, []) None h t ∷ row_at-columns rows i ks h t
 
-pub rows_made : (rows : List (Bool × Row)) (w : ℕ) (columns : List (List (Option ℤ))) (leaving : List Bool) → 1 ≤ length rows → length rows ≤ 1024 → w ≤ 16 → IsTable w rows
+pub rows_made : (rows : List (Bool × Row)) (w : ℕ) (columns : List (List (Option ℤ))) (leaving : List Bool) → 1 ≤ length rows → length rows ≤ 1024 → w ≤ MAX_COLUMNS → IsTable w rows
     → columns ≡ map (column_of rows) (range_with_len 0 w) → leaving ≡ map (λ r. not r.0) rows → IsRemade columns leaving rows
 rows_made rows w columns leaving some few narrow table made signs =
     rw (made, signs) (record {
@@ -259,7 +260,7 @@ row_at-places columns [] i = refl
 row_at-places columns (k ∷ ks) i = λ t. value_in columns k i t ∷ row_at-places columns ks i t
 
 pub columns_chosen : (columns : List (List (Option ℤ))) (leaving : List Bool) (rows : List (Bool × Row)) (ks : List ℕ) (columns' : List (List (Option ℤ))) (leaving' : List Bool)
-    → IsLaidOut columns leaving → signed_rows columns leaving ≡ rows → length ks ≤ 16 → All (λ k. k < width rows) ks → columns' ≡ at_places [] ks columns → leaving' ≡ leaving
+    → IsLaidOut columns leaving → signed_rows columns leaving ≡ rows → length ks ≤ MAX_COLUMNS → All (λ k. k < width rows) ks → columns' ≡ at_places [] ks columns → leaving' ≡ leaving
     → IsRemade columns' leaving' (map (λ r. (r.0, at_places None ks r.1)) rows)
 columns_chosen columns leaving rows ks columns' leaving' laid seen narrow within made signs =
     let m : length leaving ≡ length rows = length-batch columns leaving rows seen in
@@ -310,7 +311,7 @@ long cl cr n k d left right h = elim (cases_order k (length cl)) [
 ]
 
 pub beside_made : (side : Side) (cl cr : List (List (Option ℤ))) (sl sr : List Bool) (ls rs : List (Bool × Row)) (columns' : List (List (Option ℤ))) (leaving' : List Bool)
-    → IsLaidOut cl sl → signed_rows cl sl ≡ ls → IsLaidOut cr sr → signed_rows cr sr ≡ rs → length rs ≡ length ls → width ls + width rs ≤ 16
+    → IsLaidOut cl sl → signed_rows cl sl ≡ ls → IsLaidOut cr sr → signed_rows cr sr ≡ rs → length rs ≡ length ls → width ls + width rs ≤ MAX_COLUMNS
     → columns' ≡ cl ++ cr → leaving' ≡ of_side side sl sr → IsRemade columns' leaving' (beside side ls rs)
 beside_made side cl cr sl sr ls rs columns' leaving' ll el lr er same narrow made signs =
     let ml : length sl ≡ length ls = length-batch cl sl ls el in

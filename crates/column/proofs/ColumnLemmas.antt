@@ -1,10 +1,8 @@
 -- Columns: numbers beside validities, one more, one read, a part.
 use Rattle.std.proofs.Common.{ℕ, ℤ, pos, negsuc, List, [], ◌∷◌, ◌++◌, ◌≡◌, ◌<◌, ◌-◌, cond, length, take, drop, slice_range, refl, sym, ◌∙◌, ap, arith, Bool, true, false, Some, None, Option, zero, suc, neg_ℤ, ◌≤ℤ◌, FitsSigned, w64, to_z, of_z, IfSome, unwrap_or, is_some, map, All, subst}
 use Rattle.std.proofs.Math.ListN.{get_or}
-use Rattle.std.proofs.lemmas.Int.{ints, int_max_is, int_min_is, to_z-of_z}
-use Rattle.std.specs.Int.{int_min}
-use mir.Syntax.{w128}
-use Rattle.values.specs.Value.{IsAnswerNumber, IsStreamNumber, clamp_answer, answer_max}
+use Rattle.std.proofs.lemmas.Int.{ints, to_z-of_z}
+use Rattle.values.specs.Value.{IsAnswerNumber, IsStreamNumber, answer_max}
 use Rattle.column.specs.Bits.{at_places}
 use Rattle.column.specs.Columns.{IsColumn, IsCell, IsStreamValue, numbers_of, values_of}
 
@@ -112,9 +110,6 @@ picked_cells numbers valid vs places numbers' valid' c e h g f =
       seen = values_of-at_places numbers valid places c l ∙ ap (at_places None places) e;
     })
 
-pub clamp_answer-same : (n : ℤ) → IsAnswerNumber n → clamp_answer n ≡ n
-clamp_answer-same n h = let l : neg_ℤ answer_max ≤ℤ n = h.0 in let k : n ≤ℤ answer_max = h.1 in grind (arith, ints, int_max_is (neg_ℤ answer_max) (int_min answer_max n), int_min_is answer_max n)
-
 -- ---- what a value brings
 pub cell_of : (v : Option ℤ) → IfSome v IsAnswerNumber → IsCell (unwrap_or v (pos 0)) (is_some v)
 cell_of None h = record { range = (omega (arith, ints), omega (arith, ints)); zero = λ e. refl }
@@ -133,20 +128,33 @@ word_fits : (n : ℤ) → IsAnswerNumber n → FitsSigned w64 n
 word_fits (pos a) h = let k : pos a ≤ℤ answer_max = h.1 in record { sfits = omega (arith, ints) }
 word_fits (negsuc a) h = let l : neg_ℤ answer_max ≤ℤ negsuc a = h.0 in record { sfits = omega (arith, ints) }
 
-wide_fits : (n : ℤ) → IsAnswerNumber n → FitsSigned w128 n
-wide_fits (pos a) h = let k : pos a ≤ℤ answer_max = h.1 in record { sfits = omega (arith, ints) }
-wide_fits (negsuc a) h = let l : neg_ℤ answer_max ≤ℤ negsuc a = h.0 in record { sfits = omega (arith, ints) }
+-- the number that stands at a place
+record StandsAt (numbers : List ℤ) (i : ℕ) (x : ℤ) : Type 0 where
+  same : x ≡ get_or numbers i (pos 0)
+  range : IsAnswerNumber (get_or numbers i (pos 0))
+  whole : to_z w64 (of_z w64 x) ≡ get_or numbers i (pos 0)
 
-pub some_there : (numbers : List ℤ) (valid : List Bool) (vs : List (Option ℤ)) (i : ℕ) (v : Bool) (x : ℤ) (r : Option ℤ) → IsColumn numbers valid → values_of numbers valid ≡ vs → i < length vs
-    → v ≡ get_or valid i false → v ≡ true → x ≡ get_or numbers i x → r ≡ Some (clamp_answer (to_z w128 (of_z w128 (to_z w64 (of_z w64 x))))) → r ≡ get_or vs i None
-some_there numbers valid vs i v x r c e h g f t n =
+stands_at : (numbers : List ℤ) (valid : List Bool) (vs : List (Option ℤ)) (i : ℕ) (x : ℤ) → IsColumn numbers valid → values_of numbers valid ≡ vs → i < length vs
+    → x ≡ get_or numbers i x → StandsAt numbers i x
+stands_at numbers valid vs i x c e h t =
     let l : i < length valid = omega (arith, h, length-column numbers valid vs c e) in
     let same : x ≡ get_or numbers i (pos 0) = t ∙ get_or_any numbers i x (pos 0) (omega (arith, l, same_length numbers valid c)) in
     let range : IsAnswerNumber (get_or numbers i (pos 0)) = (cell_at numbers valid i c l).range in
-    n ∙ ap (λ z. Some (clamp_answer (to_z w128 (of_z w128 (to_z w64 (of_z w64 z)))))) same
-    ∙ ap (λ z. Some (clamp_answer (to_z w128 (of_z w128 z)))) (to_z-of_z w64 (get_or numbers i (pos 0)) (word_fits (get_or numbers i (pos 0)) range))
-    ∙ ap (λ z. Some (clamp_answer z)) (to_z-of_z w128 (get_or numbers i (pos 0)) (wide_fits (get_or numbers i (pos 0)) range))
-    ∙ ap Some (clamp_answer-same (get_or numbers i (pos 0)) range) ∙ ap (λ b. cond b (Some (get_or numbers i (pos 0))) None) (sym f ∙ g) ∙ sym (get_or-values_of numbers valid i c l) ∙ ap (λ w. get_or w i None) e
+    record { same = same; range = range; whole = ap (λ z. to_z w64 (of_z w64 z)) same ∙ to_z-of_z w64 (get_or numbers i (pos 0)) (word_fits (get_or numbers i (pos 0)) range) }
+
+pub number_there : (numbers : List ℤ) (valid : List Bool) (vs : List (Option ℤ)) (i : ℕ) (x : ℤ) → IsColumn numbers valid → values_of numbers valid ≡ vs → i < length vs
+    → x ≡ get_or numbers i x → IsAnswerNumber (to_z w64 (of_z w64 x))
+number_there numbers valid vs i x c e h t =
+    let at : StandsAt numbers i x = stands_at numbers valid vs i x c e h t in
+    let P : ℤ → Type 0 = λ z. IsAnswerNumber z in
+    subst P (sym at.whole) at.range
+
+pub some_there : (numbers : List ℤ) (valid : List Bool) (vs : List (Option ℤ)) (i : ℕ) (v : Bool) (x : ℤ) (r : Option ℤ) → IsColumn numbers valid → values_of numbers valid ≡ vs → i < length vs
+    → v ≡ get_or valid i false → v ≡ true → x ≡ get_or numbers i x → r ≡ Some (to_z w64 (of_z w64 x)) → r ≡ get_or vs i None
+some_there numbers valid vs i v x r c e h g f t n =
+    let l : i < length valid = omega (arith, h, length-column numbers valid vs c e) in
+    n ∙ ap Some (stands_at numbers valid vs i x c e h t).whole
+    ∙ ap (λ b. cond b (Some (get_or numbers i (pos 0))) None) (sym f ∙ g) ∙ sym (get_or-values_of numbers valid i c l) ∙ ap (λ w. get_or w i None) e
 
 pub none_there : (numbers : List ℤ) (valid : List Bool) (vs : List (Option ℤ)) (i : ℕ) (v : Bool) (r : Option ℤ) → IsColumn numbers valid → values_of numbers valid ≡ vs → i < length vs
     → v ≡ get_or valid i false → v ≡ false → r ≡ None → r ≡ get_or vs i None

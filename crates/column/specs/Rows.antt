@@ -1,6 +1,7 @@
 -- Batches: signed rows laid out in columns.
 use Rattle.std.specs.Prelude.{ℕ, ℤ, Bool, false, not, Option, None, List, [], ◌∷◌, ◌++◌, ◌≡◌, ◌≤◌, map, length, get_or, All}
 use Rattle.std.specs.List.{range_with_len}
+use Rattle.values.specs.declared.TheConstants.{MAX_COLUMNS}
 use Rattle.values.specs.Row.{Row, value_at}
 use Rattle.column.specs.declared.batch.SignedRow.{SignedRow}
 use Rattle.column.specs.declared.batch.Side.{Side}
@@ -31,18 +32,18 @@ column_of rows k = map (λ r. value_at r.1 k) rows
 abbrev pub IsTable : ℕ → List (Bool × Row) → Type 0
 IsTable n rows = All (λ r. length r.1 ≡ n) rows
 
--- 1 to 1,024 rows of one width, which is at most 16
+-- 1 to 1,024 rows of one width, which is at most MAX_COLUMNS
 pub record IsBatch (rows : List (Bool × Row)) : Type 0 where
   pub some : 1 ≤ length rows
   pub few : length rows ≤ 1024
-  pub narrow : width rows ≤ 16
+  pub narrow : width rows ≤ MAX_COLUMNS
   pub one_width : IsTable (width rows) rows
 
 -- the same of columns
 pub record IsLaidOut (columns : List (List (Option ℤ))) (leaving : List Bool) : Type 0 where
   pub some : 1 ≤ length leaving
   pub few : length leaving ≤ 1024
-  pub narrow : length columns ≤ 16
+  pub narrow : length columns ≤ MAX_COLUMNS
   pub same : All (λ c. length c ≡ length leaving) columns
 
 -- the one of two that belongs to a side

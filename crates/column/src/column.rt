@@ -85,7 +85,7 @@ impl Column {
         ensures { result ≡ slice_index_or self.now i None }
     {
         if self.valid.get(i) {
-            Value::clamped(self.numbers[i] as i128)
+            Value::answer(self.numbers[i])
         } else {
             Value::null()
         }

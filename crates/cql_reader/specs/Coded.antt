@@ -9,7 +9,7 @@ use Rattle.cql_reader.specs.declared.ReadFault.{ReadFault}
 use Rattle.cql_reader.specs.declared.ReadFault.TheVariants as faults
 use Rattle.cql_reader.specs.Lexis.{number_of}
 use Rattle.cql_reader.specs.Tokens.{Token, Scan, End, Bad, Then, scan_from}
-use Rattle.values.specs.Resolved.{operator_of, compare_of}
+use Rattle.values.specs.Resolved.{operator_of}
 use Rattle.cql_reader.specs.Query.{Condition}
 use Rattle.cql_reader.specs.Views.{reference_of, references_of, entry_of, source_of, sources_of, operand_of, condition_of}
 use Rattle.cql_reader.specs.declared.query.Condition.{Condition as CodedCondition}
@@ -24,7 +24,7 @@ abbrev pub standing_of : List CodedCondition → List Condition
 standing_of conditions = reverse (map condition_of conditions)
 
 abbrev pub terms_of : CodedTerms → Terms
-terms_of t = record { left = operand_of t.left; right = operand_of t.right; how = compare_of t.how; standing = standing_of t.standing.items }
+terms_of t = record { left = operand_of t.left; right = operand_of t.right; how = t.how; standing = standing_of t.standing.items }
 
 abbrev pub draft_of : CodedDraft → Draft
 draft_of d = record {

@@ -1,7 +1,8 @@
 -- The definitions at worked texts.
 use Rattle.std.specs.Prelude.{◌≡◌, ℕ, List, [], ◌∷◌, Option, Some, None, Result, Ok, Err, codes, refl, true, false, pos, negsuc}
-use Rattle.values.specs.Answers.{Operator, Istream, Dstream, Rstream}
-use Rattle.values.specs.Condition.{Compare, Equals, Differs, Below, AtMost, Above, AtLeast}
+use Rattle.values.specs.Answers.{StreamOperator, Istream, Dstream, Rstream}
+use Rattle.values.specs.declared.resolved.Compare.{Compare}
+use Rattle.values.specs.declared.resolved.Compare.TheVariants.{Equals, Differs, Below, AtMost, Above, AtLeast}
 use Rattle.cql_reader.specs.Lexis.{is_name, reserved, same_bytes, same_letters, kind_in, word_kind, all_word, all_ascii, token_at, decimal, number_of}
 use Rattle.cql_reader.specs.Tokens.{scan}
 use Rattle.cql_reader.specs.Query.{Query, Reference, Column, CountAll, Sum, All, Each, Window, Now, Range, Unbounded, Rows, Partition, Source, Operand, Named, Number, Condition, Compared, Not, And, Or}
@@ -11,7 +12,7 @@ use Rattle.cql_reader.specs.Prediction.{first, nullable, has, firsts, ends, pick
 use Rattle.cql_reader.specs.Reading.{reading}
 
 -- a query of `*`
-abbrev all : Operator → List Source → Option Condition → Query
+abbrev all : StreamOperator → List Source → Option Condition → Query
 all operator sources condition =
     record { operator = operator; is_distinct = false; entries = All; sources = sources; condition = condition; group = [] }
 

@@ -1,9 +1,9 @@
 -- The grammar of query texts, and the query that a derivation builds.
 use Rattle.std.specs.Prelude.{◌≡◌, ℕ, ◌+◌, ◌-◌, Bool, true, false, ◌&&◌, not, ◌⊎◌, List, [], ◌∷◌, ◌++◌, Option, Some, None, cond, nat_lt, ℤ, pos, negsuc, int_lt, nat_abs}
-use Rattle.values.specs.Answers.{Operator, Istream}
-use Rattle.values.specs.Condition.{Compare, Equals}
-use Rattle.values.specs.Resolved.{operator_of, compare_of}
-use Rattle.values.specs.declared.resolved.Operator.TheVariants as o
+use Rattle.values.specs.Answers.{StreamOperator, Istream}
+use Rattle.values.specs.declared.resolved.Compare.{Compare}
+use Rattle.values.specs.Resolved.{operator_of}
+use Rattle.values.specs.declared.resolved.StreamOperator.TheVariants as o
 use Rattle.values.specs.declared.resolved.Compare.TheVariants as c
 use Rattle.cql_reader.specs.declared.tokens.Kind.{Kind}
 use Rattle.cql_reader.specs.declared.tokens.Kind.TheVariants as k
@@ -96,7 +96,7 @@ pub record Terms : Type 0 where
 
 -- a query as far as it is read
 pub record Draft : Type 0 where
-  pub operator : Operator
+  pub operator : StreamOperator
   pub is_distinct : Bool
   pub entries : List Entry
   -- the column that is read, and the list of columns
@@ -115,7 +115,7 @@ abbrev pub no_source : Source
 no_source = record { stream = []; window = Unbounded; alias = None }
 
 abbrev pub no_terms : Terms
-no_terms = record { left = Number (pos 0); right = Number (pos 0); how = Equals; standing = [] }
+no_terms = record { left = Number (pos 0); right = Number (pos 0); how = c.Equals; standing = [] }
 
 -- before the first token
 abbrev pub start : Draft
@@ -207,7 +207,7 @@ took r.Rows bytes d = record d { source = windowed (Rows (nat_abs (number_of byt
 took r.Partition bytes d = parted (nat_abs (number_of bytes)) d
 took r.Number bytes d = record d { terms = sided (Number (number_of bytes)) d.terms }
 took (r.Compare how) bytes d =
-    record d { terms = record { left = d.terms.left; right = d.terms.right; how = compare_of how; standing = d.terms.standing } }
+    record d { terms = record { left = d.terms.left; right = d.terms.right; how = how; standing = d.terms.standing } }
 took (r.Deeper kind) bytes d = record d { depth = d.depth + 1 }
 
 -- the list with one more item

@@ -1,7 +1,7 @@
 -- The query that a text names, before its names are looked up.
 use Rattle.std.specs.Prelude.{ℕ, ℤ, Bool, List, Option}
-use Rattle.values.specs.Answers.{Operator}
-use Rattle.values.specs.Condition.{Compare}
+use Rattle.values.specs.Answers.{StreamOperator}
+use Rattle.values.specs.declared.resolved.Compare.{Compare}
 
 -- a column as the text names it: the bytes of its source's name, where they stand, and of its own
 pub record Reference : Type 0 where
@@ -47,7 +47,7 @@ pub data Condition : Type 0 where
   Or : Condition → Condition → Condition
 
 pub record Query : Type 0 where
-  pub operator : Operator
+  pub operator : StreamOperator
   pub is_distinct : Bool
   pub entries : Entries
   pub sources : List Source

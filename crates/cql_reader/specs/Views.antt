@@ -1,6 +1,6 @@
 -- What the values of the program say.
 use Rattle.std.specs.Prelude.{ℕ, List, map, take, Option, Some, None}
-use Rattle.values.specs.Resolved.{operator_of, compare_of}
+use Rattle.values.specs.Resolved.{operator_of}
 use Rattle.cql_reader.specs.declared.name.Name.{Name}
 use Rattle.cql_reader.specs.declared.query.Reference.{Reference}
 use Rattle.cql_reader.specs.declared.query.Entry.{Entry}
@@ -59,7 +59,7 @@ operand_of (operands.Column r) = syntax.Named (reference_of r)
 operand_of (operands.Number z) = syntax.Number z
 
 abbrev pub condition_of : Condition → syntax.Condition
-condition_of (Compared a how b) = syntax.Compared (operand_of a) (compare_of how) (operand_of b)
+condition_of (Compared a how b) = syntax.Compared (operand_of a) how (operand_of b)
 condition_of (Not' p c) = syntax.Not (condition_of c)
 condition_of (And' p c q d) = syntax.And (condition_of c) (condition_of d)
 condition_of (Or' p c q d) = syntax.Or (condition_of c) (condition_of d)

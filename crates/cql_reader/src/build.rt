@@ -15,12 +15,12 @@ use crate::stack::Terms;
 use crate::symbols::{Mark, Role};
 use std::alloc::{AllocError, Global};
 use std::mem;
-use values::Operator;
+use values::StreamOperator;
 
 /// What is complete of a query, and what is at work.
 #[derive(Drop)]
 pub struct Draft {
-    pub operator: Operator,
+    pub operator: StreamOperator,
     pub is_distinct: bool,
     pub entries: Vec<Entry>,
     // the column that is read, and the list of columns
@@ -41,7 +41,7 @@ impl Draft {
         ensures { draft_of result ≡ start }
     {
         Draft {
-            operator: Operator::Istream,
+            operator: StreamOperator::Istream,
             is_distinct: false,
             entries: Vec::new(alloc),
             reference: Reference {

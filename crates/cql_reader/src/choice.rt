@@ -7,7 +7,7 @@ ghost use Rattle.cql_reader.specs.Prediction.{chosen, ends, firsts, has, nullabl
 use crate::symbols::{Part, Role, Symbol};
 use crate::tables::{alternatives_of, first_of};
 use crate::tokens::Kind;
-use values::{Compare, Operator};
+use values::{Compare, StreamOperator};
 
 /// The alternative that a part has before this kind of token, or at the end of the text.
 pub fn choose(part: Part, next: Option<Kind>) -> Option<&'static [Symbol]>
@@ -150,9 +150,9 @@ pub fn kind_of_role(role: Role) -> Kind
 {
     match role {
         Role::Fixed(kind) => kind,
-        Role::Operator(Operator::Istream) => Kind::Istream,
-        Role::Operator(Operator::Dstream) => Kind::Dstream,
-        Role::Operator(Operator::Rstream) => Kind::Rstream,
+        Role::Operator(StreamOperator::Istream) => Kind::Istream,
+        Role::Operator(StreamOperator::Dstream) => Kind::Dstream,
+        Role::Operator(StreamOperator::Rstream) => Kind::Rstream,
         Role::Distinct => Kind::Distinct,
         Role::Column => Kind::Name,
         Role::Qualified => Kind::Name,

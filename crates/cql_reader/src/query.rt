@@ -1,6 +1,6 @@
 //! The syntax tree of a query: what its text says, before its names are looked up.
 use crate::name::Name;
-use values::{Compare, Operator};
+use values::{Compare, StreamOperator};
 
 /// A column as a text names it: by its name alone, or with the name of its source in front.
 #[derive(Clone, Copy, Debug)]
@@ -74,7 +74,7 @@ pub enum Condition {
 #[derive(Debug, Drop)]
 pub struct Query {
     /// How the query's relation becomes a stream.
-    pub operator: Operator,
+    pub operator: StreamOperator,
     pub is_distinct: bool,
     pub entries: Entries,
     /// The sources of the `From`, in order: one or two.

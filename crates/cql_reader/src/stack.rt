@@ -1,7 +1,6 @@
 // The condition as far as it is read.
 
 ghost use Rattle.std.specs.Prelude.{◌≡◌, OnOk};
-ghost use Rattle.values.specs.Resolved.{compare_of};
 ghost use Rattle.cql_reader.specs.Views.{operand_of};
 ghost use Rattle.cql_reader.specs.Grammar.{no_terms, sided, compared, negated, conjoined, disjoined, standing_by};
 ghost use Rattle.cql_reader.specs.Coded.{terms_of, standing_of};

@@ -1,7 +1,7 @@
 // The symbols of the grammar.
 
 use crate::tokens::Kind;
-use values::{Compare, Operator};
+use values::{Compare, StreamOperator};
 
 /// The parts of a query.
 #[derive(Clone, Copy)]
@@ -50,7 +50,7 @@ pub enum Role {
     /// A token of this kind, which says nothing more.
     Fixed(Kind),
     /// The word of an operator.
-    Operator(Operator),
+    Operator(StreamOperator),
     /// The word that wants each row once.
     Distinct,
     /// The name of a column, or of the source of one: a reference begins.

@@ -6,7 +6,7 @@ ghost use Rattle.cql_reader.specs.Prediction.{first};
 
 use crate::symbols::{Mark, Part, Role, Symbol};
 use crate::tokens::Kind;
-use values::{Compare, Operator};
+use values::{Compare, StreamOperator};
 
 /// The alternatives of a part.
 #[tactic(auto, unfolding(crate::specs::Grammar::alternatives))]
@@ -34,9 +34,9 @@ pub fn alternatives_of(part: Part) -> &'static [&'static [Symbol]]
             ],
         ],
         Part::Op => &[
-            &[Symbol::Read(Role::Operator(Operator::Istream))],
-            &[Symbol::Read(Role::Operator(Operator::Dstream))],
-            &[Symbol::Read(Role::Operator(Operator::Rstream))],
+            &[Symbol::Read(Role::Operator(StreamOperator::Istream))],
+            &[Symbol::Read(Role::Operator(StreamOperator::Dstream))],
+            &[Symbol::Read(Role::Operator(StreamOperator::Rstream))],
         ],
         Part::Body => &[&[Symbol::Rule(Part::OptDistinct), Symbol::Rule(Part::List)]],
         Part::OptDistinct => &[&[Symbol::Read(Role::Distinct)], &[]],

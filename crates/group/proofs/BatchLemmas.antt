@@ -24,7 +24,7 @@ use Rattle.values.specs.Resolved.{column_of}
 use Rattle.values.specs.Row.{Row, value_at}
 use Rattle.values.specs.Value.{IsAnswerValue}
 use Rattle.values.specs.declared.resolved.Column.{Column}
-use Rattle.values.specs.declared.resolved.Item.{Item}
+use Rattle.values.specs.declared.resolved.ListItem.{ListItem}
 use Rattle.lane_kernels.specs.Lanes.{IsWithin}
 use Rattle.lane_kernels.specs.Truth.{signed_count, signed_total}
 use Rattle.group.specs.Groups.{GroupBy, key_in, no_columns}
@@ -62,7 +62,7 @@ own_fields c (s ∷ rs) e = ap₂ (λ (v : Option ℤ) (vs : List (Option ℤ)).
 pub nulls_in_range : (vs : List (Option ℤ)) → All (λ v. v ≡ None) vs → All IsAnswerValue vs
 nulls_in_range vs h = λ k d lt. subst IsAnswerValue (sym (h k d lt)) tt
 
-pub none_in_range : (i : Item) (rs : List (Bool × Row)) → ((r : Row) → number_of i r ≡ None) → All IsAnswerValue (numbers_read i rs)
+pub none_in_range : (i : ListItem) (rs : List (Bool × Row)) → ((r : Row) → number_of i r ≡ None) → All IsAnswerValue (numbers_read i rs)
 none_in_range i rs h = nulls_in_range (numbers_read i rs) (All-map (λ v. v ≡ None) (λ s. number_of i s.1) rs (λ k d lt. h (get_or rs k d).1))
 
 -- A TALLY
@@ -89,14 +89,14 @@ not_twice true = refl
 not_twice false = refl
 
 -- the rows are their numbers with their signs
-pub rows_are_values : (i : Item) (rs : List (Bool × Row)) (t : TallyState) → tally_values (keeps i) (leaving rs) (numbers_read i rs) t ≡ tally_rows rs i t
+pub rows_are_values : (i : ListItem) (rs : List (Bool × Row)) (t : TallyState) → tally_values (keeps i) (leaving rs) (numbers_read i rs) t ≡ tally_rows rs i t
 rows_are_values i [] t = refl
 rows_are_values i (s ∷ rs) t =
     ap (λ (b : Bool). tally_values (keeps i) (leaving rs) (numbers_read i rs) (tally_by b (keeps i) (number_of i s.1) t)) (not_twice s.0)
     ∙ rows_are_values i rs (tally_after s i t)
 
 -- rows in which the item reads nothing change nothing
-pub none_read : (i : Item) (rs : List (Bool × Row)) (t : TallyState) → ((r : Row) → number_of i r ≡ None) → tally_rows rs i t ≡ t
+pub none_read : (i : ListItem) (rs : List (Bool × Row)) (t : TallyState) → ((r : Row) → number_of i r ≡ None) → tally_rows rs i t ≡ t
 none_read i [] t h = refl
 none_read i (s ∷ rs) t h = ap (λ (o : Option ℤ). tally_rows rs i (tally_by s.0 (keeps i) o t)) (h s.1) ∙ none_read i rs t h
 
@@ -150,12 +150,12 @@ pub few_within : (rs : List (Bool × Row)) → length rs ≤ 1024 → IsWithin 1
 few_within rs h = weaker (length rs) 1024 _ h (rows_within rs)
 
 -- ALL TALLIES OF A GROUP
-each_none : (is : List Item) (ts : List TallyState) → length ts ≡ length is → each (tally_rows []) is ts ≡ ts
+each_none : (is : List ListItem) (ts : List TallyState) → length ts ≡ length is → each (tally_rows []) is ts ≡ ts
 each_none [] ts l = refl
 each_none (i ∷ is) [] l = refl
 each_none (i ∷ is) (t ∷ ts) l = ap (λ (us : List TallyState). t ∷ us) (each_none is ts (omega (arith, l)))
 
-each_more : (s : Bool × Row) (rs : List (Bool × Row)) (is : List Item) (ts : List TallyState) → each (tally_rows rs) is (tallies_after s is ts) ≡ each (tally_rows (s ∷ rs)) is ts
+each_more : (s : Bool × Row) (rs : List (Bool × Row)) (is : List ListItem) (ts : List TallyState) → each (tally_rows rs) is (tallies_after s is ts) ≡ each (tally_rows (s ∷ rs)) is ts
 each_more s rs [] ts = refl
 each_more s rs (i ∷ is) [] = refl
 each_more s rs (i ∷ is) (t ∷ ts) = ap (λ (us : List TallyState). tally_rows rs i (tally_after s i t) ∷ us) (each_more s rs is ts)
@@ -164,12 +164,12 @@ each_more s rs (i ∷ is) (t ∷ ts) = ap (λ (us : List TallyState). tally_rows
 abbrev grown : CellState → ℤ → List TallyState → CellState
 grown c n ts = record { rows = n; tallies = ts; shown = c.shown }
 
-length-tallies_after : (s : Bool × Row) (is : List Item) (ts : List TallyState) → length (tallies_after s is ts) ≡ length ts
+length-tallies_after : (s : Bool × Row) (is : List ListItem) (ts : List TallyState) → length (tallies_after s is ts) ≡ length ts
 length-tallies_after s [] ts = refl
 length-tallies_after s (i ∷ is) [] = refl
 length-tallies_after s (i ∷ is) (t ∷ ts) = ap suc (length-tallies_after s is ts)
 
-pub cell_of_batch : (is : List Item) (rs : List (Bool × Row)) (c : CellState) → length c.tallies ≡ length is → grown c (c.rows +ℤ rows_counted rs) (each (tally_rows rs) is c.tallies) ≡ fold (cell_after is) c rs
+pub cell_of_batch : (is : List ListItem) (rs : List (Bool × Row)) (c : CellState) → length c.tallies ≡ length is → grown c (c.rows +ℤ rows_counted rs) (each (tally_rows rs) is c.tallies) ≡ fold (cell_after is) c rs
 cell_of_batch is [] c l = ap₂ (λ (n : ℤ) (ts : List TallyState). grown c n ts) (sym (plus_zero c.rows)) (each_none is c.tallies l)
 cell_of_batch is (s ∷ rs) c l =
     ap₂ (λ (n : ℤ) (ts : List TallyState). grown c n ts) (sym (regroup c.rows (signed_by s.0 (pos 1)) (rows_counted rs))) (sym (each_more s rs is c.tallies))
@@ -241,7 +241,7 @@ key_again k (j ∷ ks) = here (key_again k ks) (held_cmp k j) refl
     here i Greater h = ap (λ (o : Ordering). match_ordering o (k ∷ j ∷ insert_key held_cmp ks k) (j ∷ insert_key held_cmp ks k) (j ∷ insert_key held_cmp (insert_key held_cmp ks k) k)) h ∙ ap (λ (xs : List Held). j ∷ xs) i
 
 -- one more row of a group of which a cell was just put
-next_in : (is : List Item) (k : Held) (s : Bool × Row) (c d : CellState) (es : List (Held × CellState)) → taken_in is k s (with_cell k c d es) ≡ with_cell k (cell_after is c s) (cell_after is d s) es
+next_in : (is : List ListItem) (k : Held) (s : Bool × Row) (c d : CellState) (es : List (Held × CellState)) → taken_in is k s (with_cell k c d es) ≡ with_cell k (cell_after is c s) (cell_after is d s) es
 next_in is k s c d es = here (has_key k es) refl
   where
     here : (b : Bool) → has_key k es ≡ b → taken_in is k s (cond b (set_value (is_at (held_cmp k)) es c) (insert_entry held_cmp es k d)) ≡ cond b (set_value (is_at (held_cmp k)) es (cell_after is c s)) (insert_entry held_cmp es k (cell_after is d s))
@@ -282,18 +282,18 @@ whole_batch s (r ∷ rs) h l =
     ∙ ap (λ (k : Held). rows_after (state_at s.group (taken_in s.group.items k r s.cells) (insert_key held_cmp s.touched k)) rs) (sym (whole_key s.group r h))
 
 -- ROOM
-read_rest : (is : List Item) (s : Bool × Row) (rs : List (Bool × Row)) → AllInRange is (s ∷ rs) → AllInRange is rs
+read_rest : (is : List ListItem) (s : Bool × Row) (rs : List (Bool × Row)) → AllInRange is (s ∷ rs) → AllInRange is rs
 read_rest is s rs h = λ k l j d lt. h k l (suc j) d (omega (arith, lt))
 
-read_first : (is : List Item) (s : Bool × Row) (rs : List (Bool × Row)) → AllInRange is (s ∷ rs) → ReadsInRange is s
+read_first : (is : List ListItem) (s : Bool × Row) (rs : List (Bool × Row)) → AllInRange is (s ∷ rs) → ReadsInRange is s
 read_first is s rs h = λ k l. h k l 0 None (omega arith)
 
-rows_room : (is : List Item) (rs : List (Bool × Row)) (n : ℕ) (s : GroupState) → s.group.items ≡ is → AllInRange is rs → CountsUpTo n s → CountsUpTo (n + length rs) (rows_after s rs)
+rows_room : (is : List ListItem) (rs : List (Bool × Row)) (n : ℕ) (s : GroupState) → s.group.items ≡ is → AllInRange is rs → CountsUpTo n s → CountsUpTo (n + length rs) (rows_after s rs)
 rows_room is [] n s e h a = let z : n ≡ n + 0 = omega arith in subst (λ (m : ℕ). CountsUpTo m s) z a
 rows_room is (r ∷ rs) n s e h a =
     let z : n + 1 + length rs ≡ n + suc (length rs) = omega arith in
     subst (λ (m : ℕ). CountsUpTo m (rows_after (row_after s r) rs)) z
-    (rows_room is rs (n + 1) (row_after s r) e (read_rest is r rs h) (room_after n s r (subst (λ (js : List Item). ReadsInRange js r) (sym e) (read_first is r rs h)) a))
+    (rows_room is rs (n + 1) (row_after s r) e (read_rest is r rs h) (room_after n s r (subst (λ (js : List ListItem). ReadsInRange js r) (sym e) (read_first is r rs h)) a))
 
 pub batch_keeps_room : (s : GroupState) (rs : List (Bool × Row)) → length rs ≤ 1024 → AllInRange s.group.items rs → KeepsRoom s (rows_after s rs)
 batch_keeps_room s rs few h = λ n a. all_room_le (n + length rs) (n + 1024) (rows_after s rs).group.items (rows_after s rs).cells (omega (arith, few)) (rows_room s.group.items rs n s refl h a)

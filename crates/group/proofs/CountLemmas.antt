@@ -15,7 +15,7 @@ use Rattle.std.proofs.lemmas.Int.{ints}
 use Rattle.values.specs.Bag.{IsExactOrder}
 use Rattle.values.specs.Row.{Row, same_row, value_cmp}
 use Rattle.values.proofs.Order.{value_order}
-use Rattle.values.specs.declared.resolved.Item.{Item}
+use Rattle.values.specs.declared.resolved.ListItem.{ListItem}
 use Rattle.op_queue.specs.Signed.{weigh, Same, Adds}
 use Rattle.group.specs.Groups.{GroupBy, key_in}
 use Rattle.group.specs.Cells.{Values, count_of, one_more, one_less, values_by, TallyState, tally_zero, tally_by, tally_after, tallies_after, number_of, keeps, CellState, cell_zero, cell_after}
@@ -156,21 +156,21 @@ total_less (pos k) m n o u h g = omega (arith, ints, h, g)
 total_less (negsuc k) m n o u h g = omega (arith, ints, h, g)
 
 -- the same weights: a tally of one bag is one of the other
-tally_same : (i : Item) (t : TallyState) (xs ys : List Row) → Same xs ys → Tallies i t xs → Tallies i t ys
+tally_same : (i : ListItem) (t : TallyState) (xs ys : List Row) → Same xs ys → Tallies i t xs → Tallies i t ys
 tally_same i t xs ys s h = record {
   numbers = h.numbers ∙ ap pos (s.weighs (λ x. some_by (number_of i x)));
   total = h.total ∙ ap₂ (λ (m n : ℕ). pos m -ℤ pos n) (s.weighs (λ x. over_by (number_of i x))) (s.weighs (λ x. under_by (number_of i x)));
   values = λ k. let v = h.values k in record { counts = λ q. v.counts q ∙ ap some_count (s.weighs (λ x. copy_by q (number_of i x))); sorted = v.sorted };
 }
 
-none_same : (i : Item) (t : TallyState) (r : Row) (xs ys : List Row) → number_of i r ≡ None → ((w : Row → ℕ) → w r ≡ 0 → weigh w ys ≡ weigh w xs) → Tallies i t xs → Tallies i t ys
+none_same : (i : ListItem) (t : TallyState) (r : Row) (xs ys : List Row) → number_of i r ≡ None → ((w : Row → ℕ) → w r ≡ 0 → weigh w ys ≡ weigh w xs) → Tallies i t xs → Tallies i t ys
 none_same i t r xs ys e s h = record {
   numbers = h.numbers ∙ ap pos (sym (s (λ x. some_by (number_of i x)) (ap some_by e)));
   total = h.total ∙ ap₂ (λ (m n : ℕ). pos m -ℤ pos n) (sym (s (λ x. over_by (number_of i x)) (ap over_by e))) (sym (s (λ x. under_by (number_of i x)) (ap under_by e)));
   values = λ k. let v = h.values k in record { counts = λ q. v.counts q ∙ ap some_count (sym (s (λ x. copy_by q (number_of i x)) (ap (copy_by q) e))); sorted = v.sorted };
 }
 
-tally_enters : (i : Item) (t : TallyState) (r : Row) (xs ys : List Row) (o : Option ℤ) → number_of i r ≡ o → ((w : Row → ℕ) → weigh w ys ≡ w r + weigh w xs) → Tallies i t xs → Tallies i (tally_by true (keeps i) o t) ys
+tally_enters : (i : ListItem) (t : TallyState) (r : Row) (xs ys : List Row) (o : Option ℤ) → number_of i r ≡ o → ((w : Row → ℕ) → weigh w ys ≡ w r + weigh w xs) → Tallies i t xs → Tallies i (tally_by true (keeps i) o t) ys
 tally_enters i t r xs ys None e s h = none_same i t r xs ys e (λ w z. omega (arith, s w, z)) h
 tally_enters i t r xs ys (Some z) e s h = record {
   numbers = ap (λ (n : ℤ). n +ℤ pos 1) h.numbers ∙ numbers_more (weigh (λ x. some_by (number_of i x)) xs) (weigh (λ x. some_by (number_of i x)) ys) (omega (arith, s (λ x. some_by (number_of i x)), ap some_by e));
@@ -185,7 +185,7 @@ tally_enters i t r xs ys (Some z) e s h = record {
       sorted = sorted-insert_entry value_cmp value_order (Some z) (count_of (Some z) t.values + 1) t.values v.sorted;
     }
 
-tally_leaves : (i : Item) (t : TallyState) (r : Row) (xs ys : List Row) (o : Option ℤ) → number_of i r ≡ o → ((w : Row → ℕ) → weigh w xs ≡ w r + weigh w ys) → Tallies i t xs → Tallies i (tally_by false (keeps i) o t) ys
+tally_leaves : (i : ListItem) (t : TallyState) (r : Row) (xs ys : List Row) (o : Option ℤ) → number_of i r ≡ o → ((w : Row → ℕ) → weigh w xs ≡ w r + weigh w ys) → Tallies i t xs → Tallies i (tally_by false (keeps i) o t) ys
 tally_leaves i t r xs ys None e s h = none_same i t r xs ys e (λ w z. omega (arith, s w, z)) h
 tally_leaves i t r xs ys (Some z) e s h = record {
   numbers = ap (λ (n : ℤ). n +ℤ neg_ℤ (pos 1)) h.numbers ∙ numbers_less (weigh (λ x. some_by (number_of i x)) xs) (weigh (λ x. some_by (number_of i x)) ys) (omega (arith, s (λ x. some_by (number_of i x)), ap some_by e));
@@ -209,27 +209,27 @@ minus_weighs : {xs ys : List Row} {r : Row} → Adds xs ((false, r) ∷ []) ys �
 unfolding weigh
 minus_weighs a w = omega (arith, a.weighs w)
 
-tally_row : (i : Item) (t : TallyState) (s : Bool × Row) (xs ys : List Row) → Adds xs (s ∷ []) ys → Tallies i t xs → Tallies i (tally_after s i t) ys
+tally_row : (i : ListItem) (t : TallyState) (s : Bool × Row) (xs ys : List Row) → Adds xs (s ∷ []) ys → Tallies i t xs → Tallies i (tally_after s i t) ys
 tally_row i t (true, r) xs ys a h = tally_enters i t r xs ys (number_of i r) refl (plus_weighs a) h
 tally_row i t (false, r) xs ys a h = tally_leaves i t r xs ys (number_of i r) refl (minus_weighs a) h
 
 -- A GROUP
-tallies_row : (is : List Item) (ts : List TallyState) (s : Bool × Row) (xs ys : List Row) → Adds xs (s ∷ []) ys → AllTally is ts xs → AllTally is (tallies_after s is ts) ys
+tallies_row : (is : List ListItem) (ts : List TallyState) (s : Bool × Row) (xs ys : List Row) → Adds xs (s ∷ []) ys → AllTally is ts xs → AllTally is (tallies_after s is ts) ys
 tallies_row [] [] s xs ys a h = tt
 tallies_row [] (t ∷ ts) s xs ys a h = absurd h
 tallies_row (i ∷ is) [] s xs ys a h = absurd h
 tallies_row (i ∷ is) (t ∷ ts) s xs ys a h = (tally_row i t s xs ys a h.0, tallies_row is ts s xs ys a h.1)
 
-tallies_same : (is : List Item) (ts : List TallyState) (xs ys : List Row) → Same xs ys → AllTally is ts xs → AllTally is ts ys
+tallies_same : (is : List ListItem) (ts : List TallyState) (xs ys : List Row) → Same xs ys → AllTally is ts xs → AllTally is ts ys
 tallies_same [] [] xs ys a h = tt
 tallies_same [] (t ∷ ts) xs ys a h = absurd h
 tallies_same (i ∷ is) [] xs ys a h = absurd h
 tallies_same (i ∷ is) (t ∷ ts) xs ys a h = (tally_same i t xs ys a h.0, tallies_same is ts xs ys a h.1)
 
-pub counts_same : (is : List Item) (c : CellState) (xs ys : List Row) → Same xs ys → Counts is c xs → Counts is c ys
+pub counts_same : (is : List ListItem) (c : CellState) (xs ys : List Row) → Same xs ys → Counts is c xs → Counts is c ys
 counts_same is c xs ys s h = record { rows = h.rows ∙ ap pos (s.weighs (λ x. 1)); tallies = tallies_same is c.tallies xs ys s h.tallies }
 
-counts_row : (is : List Item) (c : CellState) (s : Bool × Row) (xs ys : List Row) → Adds xs (s ∷ []) ys → Counts is c xs → Counts is (cell_after is c s) ys
+counts_row : (is : List ListItem) (c : CellState) (s : Bool × Row) (xs ys : List Row) → Adds xs (s ∷ []) ys → Counts is c xs → Counts is (cell_after is c s) ys
 counts_row is c (true, r) xs ys a h = record { rows = ap (λ (n : ℤ). n +ℤ pos 1) h.rows ∙ numbers_more (weigh (λ x. 1) xs) (weigh (λ x. 1) ys) (plus_weighs a (λ x. 1)); tallies = tallies_row is c.tallies (true, r) xs ys a h.tallies }
 counts_row is c (false, r) xs ys a h = record { rows = ap (λ (n : ℤ). n +ℤ neg_ℤ (pos 1)) h.rows ∙ numbers_less (weigh (λ x. 1) xs) (weigh (λ x. 1) ys) (minus_weighs a (λ x. 1)); tallies = tallies_row is c.tallies (false, r) xs ys a h.tallies }
 
@@ -237,12 +237,12 @@ no_values : IsStrictlySortedBy value_cmp (keys_of tally_zero.values)
 unfolding IsStrictlySortedBy
 no_values = tt
 
-zero_tallies : (is : List Item) → AllTally is (replicate (length is) tally_zero) []
+zero_tallies : (is : List ListItem) → AllTally is (replicate (length is) tally_zero) []
 unfolding weigh
 zero_tallies [] = tt
 zero_tallies (i ∷ is) = (record { numbers = refl; total = refl; values = λ k. record { counts = λ q. refl; sorted = no_values } }, zero_tallies is)
 
-pub counts_zero : (is : List Item) → Counts is (cell_zero (length is)) []
+pub counts_zero : (is : List ListItem) → Counts is (cell_zero (length is)) []
 unfolding weigh
 counts_zero is = record { rows = refl; tallies = zero_tallies is }
 

@@ -7,7 +7,7 @@ use Rattle.values.specs.Row.{Row, row_cmp, value_at}
 use Rattle.values.specs.Bag.{is_same, distinct}
 use Rattle.values.specs.Relation.{item_value, key_of}
 use Rattle.values.specs.Resolved.{columns_of, items_of}
-use Rattle.values.specs.declared.resolved.Item.TheVariants.{Key}
+use Rattle.values.specs.declared.resolved.ListItem.TheVariants.{Key}
 use Rattle.group.specs.Groups.{grouped, key_in, column_at, once_each}
 use Rattle.group.specs.Laws.{row_at}
 use Rattle.group.proofs.ValueLemmas.{key-alone}

@@ -17,8 +17,8 @@ use Rattle.values.specs.Condition.{field}
 use Rattle.values.specs.Relation.{numbers, item_value}
 use Rattle.values.specs.Resolved.{column_of, item_of, items_of}
 use Rattle.values.specs.declared.resolved.Column.{Column}
-use Rattle.values.specs.declared.resolved.Item.{Item}
-use Rattle.values.specs.declared.resolved.Item.TheVariants.{Key, CountAll, Count, Sum, Min, Max}
+use Rattle.values.specs.declared.resolved.ListItem.{ListItem}
+use Rattle.values.specs.declared.resolved.ListItem.TheVariants.{Key, CountAll, Count, Sum, Min, Max}
 use Rattle.values.proofs.Order.{value_order}
 use Rattle.op_queue.specs.Signed.{weigh}
 use Rattle.group.specs.Cells.{Values, TallyState, number_of, figure, figures, sum_figure, least, greatest, key_or_null, shown_figure}
@@ -271,10 +271,10 @@ greatest_is (e ∷ es) ns h s =
     at_most z a e = omega (arith, ints, e)
 
 -- THE VALUE OF AN ITEM
-holds_times : (i : Item) (c : Column) → ((x : Row) → number_of i x ≡ field (x ∷ []) (column_of c)) → (es : Values) (xs : List Row) → HoldsNumbers i es xs → HoldsTimes es (numbers_at c xs)
+holds_times : (i : ListItem) (c : Column) → ((x : Row) → number_of i x ≡ field (x ∷ []) (column_of c)) → (es : Values) (xs : List Row) → HoldsNumbers i es xs → HoldsTimes es (numbers_at c xs)
 holds_times i c e es xs h v = h.counts v ∙ ap some_count (weigh-ext (λ x. copy_by v (number_of i x)) (λ x. copy_by v (field (x ∷ []) (column_of c))) (λ x. ap (copy_by v) (e x)) xs ∙ numbers-weigh c (copy_by v) refl xs)
 
-pub figure_is : (k : Row) (n : ℤ) (i : Item) (t : TallyState) (xs : List Row) → n ≡ pos (weigh (λ x. 1) xs) → weigh (λ x. 1) xs ≤ 2 ^ 62 → Tallies i t xs → shown_figure (figure k n i t) ≡ item_value k (of_rows xs) (item_of i)
+pub figure_is : (k : Row) (n : ℤ) (i : ListItem) (t : TallyState) (xs : List Row) → n ≡ pos (weigh (λ x. 1) xs) → weigh (λ x. 1) xs ≤ 2 ^ 62 → Tallies i t xs → shown_figure (figure k n i t) ≡ item_value k (of_rows xs) (item_of i)
 figure_is k n (Key j) t xs e l h = refl
 figure_is k n CountAll t xs e l h = ap (λ (z : ℤ). Some (clamp_answer z)) e ∙ ap (λ (z : ℤ). Some z) (clamp_small _ l) ∙ ap (λ (m : ℕ). Some (pos m)) (sym (length-rows xs))
 figure_is k n (Count c) t xs e l h =
@@ -288,7 +288,7 @@ figure_is k n (Sum c) t xs e l h = sum_shown (numbers_at c xs) t.numbers t.total
 figure_is k n (Min c) t xs e l h = let v = h.values refl in least_is t.values (numbers_at c xs) (holds_times (Min c) c (λ x. refl) t.values xs v) v.sorted
 figure_is k n (Max c) t xs e l h = let v = h.values refl in greatest_is t.values (numbers_at c xs) (holds_times (Max c) c (λ x. refl) t.values xs v) v.sorted
 
-pub figures_are : (k : Row) (n : ℤ) (is : List Item) (ts : List TallyState) (xs : List Row) → n ≡ pos (weigh (λ x. 1) xs) → weigh (λ x. 1) xs ≤ 2 ^ 62 → AllTally is ts xs → map shown_figure (figures k n is ts) ≡ map (item_value k (of_rows xs)) (items_of is)
+pub figures_are : (k : Row) (n : ℤ) (is : List ListItem) (ts : List TallyState) (xs : List Row) → n ≡ pos (weigh (λ x. 1) xs) → weigh (λ x. 1) xs ≤ 2 ^ 62 → AllTally is ts xs → map shown_figure (figures k n is ts) ≡ map (item_value k (of_rows xs)) (items_of is)
 figures_are k n [] [] xs e l h = refl
 figures_are k n [] (t ∷ ts) xs e l h = absurd h
 figures_are k n (i ∷ is) [] xs e l h = absurd h

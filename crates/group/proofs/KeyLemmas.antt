@@ -14,7 +14,7 @@ use Rattle.std.proofs.lemmas.Cmp.{on_total, tied_itself}
 use Rattle.values.specs.Bag.{IsExactOrder}
 use Rattle.values.specs.Row.{Row, same_row}
 use Rattle.values.proofs.Order.{row_order}
-use Rattle.values.specs.declared.resolved.Item.{Item}
+use Rattle.values.specs.declared.resolved.ListItem.{ListItem}
 use Rattle.group.specs.Cells.{Held, held, held_cmp, CellState, cell_zero, cell_after, showing}
 use Rattle.group.specs.Turns.{has_key, cell_of, with_cell, taken_in, shown_in}
 
@@ -106,7 +106,7 @@ cell-with_cell n k q f es = here (has_key k es) refl
     here true h = at-set_value held_cmp held_order (cell_zero n) k q (f (cell_of n k es)) es h
     here false h = at-insert_entry held_cmp held_order (cell_zero n) k q (f (cell_zero n)) es ∙ ap (λ (c : CellState). cond (is_eq (held_cmp k q)) (f c) (cell_of n q es)) (sym (none_at (cell_zero n) (lookup (is_at (held_cmp k)) es) h))
 
-pub cell-taken_in : (is : List Item) (k q : Held) (r : Bool × Row) (es : List (Held × CellState)) → cell_of (length is) q (taken_in is k r es) ≡ cond (is_eq (held_cmp k q)) (cell_after is (cell_of (length is) k es) r) (cell_of (length is) q es)
+pub cell-taken_in : (is : List ListItem) (k q : Held) (r : Bool × Row) (es : List (Held × CellState)) → cell_of (length is) q (taken_in is k r es) ≡ cond (is_eq (held_cmp k q)) (cell_after is (cell_of (length is) k es) r) (cell_of (length is) q es)
 cell-taken_in is k q r es = cell-with_cell (length is) k q (λ c. cell_after is c r) es
 
 pub cell-shown_in : (n : ℕ) (k q r : Held) (es : List (Held × CellState)) → cell_of n q (shown_in n k r es) ≡ cond (is_eq (held_cmp k q)) (showing (cell_of n k es) (Some r)) (cell_of n q es)

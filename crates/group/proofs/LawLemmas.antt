@@ -11,7 +11,7 @@ use Rattle.std.proofs.lemmas.List.FromFn.{length-map-range_with_len, get_or-map-
 use Rattle.values.specs.Row.{Row, row_cmp, same_row, value_at}
 use Rattle.values.specs.Bag.{is_same}
 use Rattle.values.specs.declared.resolved.Column.{Column}
-use Rattle.values.specs.declared.resolved.Item.{Item}
+use Rattle.values.specs.declared.resolved.ListItem.{ListItem}
 use Rattle.op_queue.specs.Signed.{weigh, Same, Adds, Legal, Turns}
 use Rattle.op_queue.proofs.SignedLemmas.{weigh-append, Same-refl, Same-sym, Same-trans, Same-from_none, Adds-rest, Legal-front, Legal-rest, Turns-none, Turns-append, Turns-same}
 use Rattle.group.specs.Groups.{GroupBy, grouped, key_in, no_columns}
@@ -116,7 +116,7 @@ members_le g k b = omega (arith, weigh-filter (λ x. 1) (λ r. same_row k (key_i
     at_most true = omega arith
     at_most false = omega arith
 
-figures_len : (k : Row) (n : ℤ) (is : List Item) (ts : List TallyState) (xs : List Row) → AllTally is ts xs → length (figures k n is ts) ≡ length is
+figures_len : (k : Row) (n : ℤ) (is : List ListItem) (ts : List TallyState) (xs : List Row) → AllTally is ts xs → length (figures k n is ts) ≡ length is
 figures_len k n [] [] xs h = refl
 figures_len k n [] (t ∷ ts) xs h = absurd h
 figures_len k n (i ∷ is) [] xs h = absurd h

@@ -10,7 +10,7 @@ use Rattle.lane_kernels.specs.Lanes.{IsWithin}
 use Rattle.lane_kernels.proofs.SumLemmas.{within_add, within_neg}
 use Rattle.values.specs.Row.{Row, value_cmp}
 use Rattle.values.specs.Value.{IsAnswerValue, IsAnswerNumber, answer_max}
-use Rattle.values.specs.declared.resolved.Item.{Item}
+use Rattle.values.specs.declared.resolved.ListItem.{ListItem}
 use Rattle.group.specs.Cells.{Held, held_cmp, Values, count_of, values_by, TallyState, tally_zero, tally_by, tally_after, tallies_after, keeps, number_of, signed_by, CellState, cell_zero, cell_after, showing, TallyRoom, CellRoom, ReadsInRange}
 use Rattle.op_queue.specs.declared.item.Item as queue
 use Rattle.op_queue.specs.declared.item.Item.TheVariants.{Rows, Tick}
@@ -76,7 +76,7 @@ first_and : (P : TallyState → Type 0) (t : TallyState) (ts : List TallyState) 
 first_and P t ts p a zero d lt = p
 first_and P t ts p a (suc k) d lt = a k d (omega (arith, lt))
 
-tallies_room : (n : ℕ) (s : Bool × Row) (is : List Item) (ts : List TallyState) → length ts ≡ length is → ReadsInRange is s → All (TallyRoom n) ts → All (TallyRoom (n + 1)) (tallies_after s is ts)
+tallies_room : (n : ℕ) (s : Bool × Row) (is : List ListItem) (ts : List TallyState) → length ts ≡ length is → ReadsInRange is s → All (TallyRoom n) ts → All (TallyRoom (n + 1)) (tallies_after s is ts)
 tallies_room n s [] [] l h a = λ k d lt. absurd (omega (arith, lt))
 tallies_room n s [] (t ∷ ts) l h a = absurd (omega (arith, l))
 tallies_room n s (i ∷ is) [] l h a = λ k d lt. absurd (omega (arith, lt))
@@ -85,14 +85,14 @@ tallies_room n s (i ∷ is) (t ∷ ts) l h a =
     (tally_room n s.0 (keeps i) (number_of i s.1) t (h 0 (omega arith)) (a 0 t (omega arith)))
     (tallies_room n s is ts (omega (arith, l)) (λ j lj. h (suc j) (omega (arith, lj))) (λ j e lj. a (suc j) e (omega (arith, lj))))
 
-pub cell_room_le : (m n : ℕ) (is : List Item) (c : CellState) → m ≤ n → CellRoom m is c → CellRoom n is c
+pub cell_room_le : (m n : ℕ) (is : List ListItem) (c : CellState) → m ≤ n → CellRoom m is c → CellRoom n is c
 cell_room_le m n is c h r = record {
   rows = within_le m n c.rows h r.rows;
   aligned = r.aligned;
   tallies = λ k d lt. tally_room_le m n _ h (r.tallies k d lt);
 }
 
-cell_room : (n : ℕ) (is : List Item) (c : CellState) (s : Bool × Row) → ReadsInRange is s → CellRoom n is c → CellRoom (n + 1) is (cell_after is c s)
+cell_room : (n : ℕ) (is : List ListItem) (c : CellState) (s : Bool × Row) → ReadsInRange is s → CellRoom n is c → CellRoom (n + 1) is (cell_after is c s)
 cell_room n is c s h r = record {
   rows = within_add n 1 c.rows (signed_by s.0 (pos 1)) r.rows (signed_within 1 s.0 (pos 1) one_within);
   aligned = length-partly (tally_after s) (length is) is c.tallies ∙ r.aligned;
@@ -106,21 +106,21 @@ zero_tallies : (n m : ℕ) → All (TallyRoom n) (replicate m tally_zero)
 zero_tallies n zero = λ k d lt. absurd (omega (arith, lt))
 zero_tallies n (suc m) = first_and (TallyRoom n) tally_zero (replicate m tally_zero) (record { numbers = nought_within n; total = nought_within (n * 2 ^ 63); values = λ k d lt. absurd (omega (arith, lt)) }) (zero_tallies n m)
 
-pub zero_room : (n : ℕ) (is : List Item) → CellRoom n is (cell_zero (length is))
+pub zero_room : (n : ℕ) (is : List ListItem) → CellRoom n is (cell_zero (length is))
 zero_room n is = record { rows = nought_within n; aligned = length-replicate (length is) tally_zero; tallies = zero_tallies n (length is) }
 
 -- ALL GROUPS
-or_room : (n : ℕ) (is : List Item) (o : Option CellState) → IfSome o (CellRoom n is) → CellRoom n is (unwrap_or o (cell_zero (length is)))
+or_room : (n : ℕ) (is : List ListItem) (o : Option CellState) → IfSome o (CellRoom n is) → CellRoom n is (unwrap_or o (cell_zero (length is)))
 or_room n is None h = zero_room n is
 or_room n is (Some c) h = h
 
-pub room_at : (n : ℕ) (is : List Item) (k : Held) (es : List (Held × CellState)) → All (CellRoom n is) (values_of es) → CellRoom n is (cell_of (length is) k es)
+pub room_at : (n : ℕ) (is : List ListItem) (k : Held) (es : List (Held × CellState)) → All (CellRoom n is) (values_of es) → CellRoom n is (cell_of (length is) k es)
 room_at n is k es h = or_room n is (lookup (is_at (held_cmp k)) es) (IfSome-lookup_from_All (CellRoom n is) (is_at (held_cmp k)) es h)
 
-pub all_room_le : (m n : ℕ) (is : List Item) (es : List (Held × CellState)) → m ≤ n → All (CellRoom m is) (values_of es) → All (CellRoom n is) (values_of es)
+pub all_room_le : (m n : ℕ) (is : List ListItem) (es : List (Held × CellState)) → m ≤ n → All (CellRoom m is) (values_of es) → All (CellRoom n is) (values_of es)
 all_room_le m n is es h a = λ k d lt. cell_room_le m n is _ h (a k d lt)
 
-with_room : (n : ℕ) (is : List Item) (k : Held) (c d : CellState) (es : List (Held × CellState)) → All (CellRoom n is) (values_of es) → CellRoom n is c → CellRoom n is d → All (CellRoom n is) (values_of (with_cell k c d es))
+with_room : (n : ℕ) (is : List ListItem) (k : Held) (c d : CellState) (es : List (Held × CellState)) → All (CellRoom n is) (values_of es) → CellRoom n is c → CellRoom n is d → All (CellRoom n is) (values_of (with_cell k c d es))
 with_room n is k c d es h p q = here (has_key k es)
   where
     here : (b : Bool) → All (CellRoom n is) (values_of (cond b (set_value (is_at (held_cmp k)) es c) (insert_entry held_cmp es k d)))
@@ -137,16 +137,16 @@ room_after n s r range h =
     (cell_room n is (cell_of (length is) k s.cells) r range (room_at n is k s.cells h))
     (cell_room n is (cell_zero (length is)) r range (zero_room n is))
 
-showing_room : (n : ℕ) (is : List Item) (c : CellState) (o : Option Held) → CellRoom n is c → CellRoom n is (showing c o)
+showing_room : (n : ℕ) (is : List ListItem) (c : CellState) (o : Option Held) → CellRoom n is c → CellRoom n is (showing c o)
 showing_room n is c o h = record { rows = h.rows; aligned = h.aligned; tallies = h.tallies }
 
-shown_room : (n : ℕ) (is : List Item) (k : Held) (o : Option Held) (es : List (Held × CellState)) → All (CellRoom n is) (values_of es) → All (CellRoom n is) (values_of (shown_at (length is) k o es))
+shown_room : (n : ℕ) (is : List ListItem) (k : Held) (o : Option Held) (es : List (Held × CellState)) → All (CellRoom n is) (values_of es) → All (CellRoom n is) (values_of (shown_at (length is) k o es))
 shown_room n is k None es h = All-map-remove_entry (is_at (held_cmp k)) (λ e. e.1) (CellRoom n is) es h
 shown_room n is k (Some r) es h =
     with_room n is k (showing (cell_of (length is) k es) (Some r)) (showing (cell_zero (length is)) (Some r)) es h
     (showing_room n is (cell_of (length is) k es) (Some r) (room_at n is k es h)) (showing_room n is (cell_zero (length is)) (Some r) (zero_room n is))
 
-closing_room : (n : ℕ) (is : List Item) (cs : List ShownState) (es : List (Held × CellState)) → All (CellRoom n is) (values_of es) → All (CellRoom n is) (values_of (fold (shown_after (length is)) es cs))
+closing_room : (n : ℕ) (is : List ListItem) (cs : List ShownState) (es : List (Held × CellState)) → All (CellRoom n is) (values_of es) → All (CellRoom n is) (values_of (fold (shown_after (length is)) es cs))
 closing_room n is [] es h = h
 closing_room n is (c ∷ cs) es h = closing_room n is cs (shown_at (length is) c.key c.row es) (shown_room n is c.key c.row es h)
 

@@ -10,7 +10,7 @@ use Rattle.std.specs.List.{AllByRecursion, flat_map, list_any}
 use Rattle.std.specs.List.Sorted.{IsStrictlySortedBy}
 use Rattle.values.specs.Row.{Row, row_cmp}
 use Rattle.values.specs.Bag.{is_same}
-use Rattle.values.specs.declared.resolved.Item.{Item}
+use Rattle.values.specs.declared.resolved.ListItem.{ListItem}
 use Rattle.op_queue.specs.Signed.{weigh}
 use Rattle.group.specs.Groups.{GroupBy}
 use Rattle.group.specs.Cells.{Held, held, held_cmp, CellState, cell_zero, cell_after, showing}
@@ -112,7 +112,7 @@ sorted-with_cell k c d es s = here (has_key k es)
     here true = sorted-set_value held_cmp held_order (is_at (held_cmp k)) c es s
     here false = sorted-insert_entry held_cmp held_order k d es s
 
-pub sorted-taken_in : (is : List Item) (k : Held) (r : Bool × Row) (es : List (Held × CellState)) → IsStrictlySortedBy held_cmp (keys_of es) → IsStrictlySortedBy held_cmp (keys_of (taken_in is k r es))
+pub sorted-taken_in : (is : List ListItem) (k : Held) (r : Bool × Row) (es : List (Held × CellState)) → IsStrictlySortedBy held_cmp (keys_of es) → IsStrictlySortedBy held_cmp (keys_of (taken_in is k r es))
 sorted-taken_in is k r es s = sorted-with_cell k (cell_after is (cell_of (length is) k es) r) (cell_after is (cell_zero (length is)) r) es s
 
 sorted-shown_at : (n : ℕ) (k : Held) (o : Option Held) (es : List (Held × CellState)) → IsStrictlySortedBy held_cmp (keys_of es) → IsStrictlySortedBy held_cmp (keys_of (shown_at n k o es))

@@ -1,36 +1,36 @@
 -- The tallies of a group, one after the other.
 use Rattle.std.proofs.Common.{◌≡◌, ℕ, ℤ, zero, suc, ◌<◌, List, [], ◌∷◌, ◌++◌, take, length, get_or, refl, ap, arith, slice_set, Bool, true, false, nat_lt, ltb-true, ltb-false, subst, min}
 use Rattle.values.specs.Row.{Row}
-use Rattle.values.specs.declared.resolved.Item.{Item}
+use Rattle.values.specs.declared.resolved.ListItem.{ListItem}
 use Rattle.group.specs.Cells.{TallyState, partly, figure, figures}
 
-pub partly-at : (f : Item → TallyState → TallyState) (p : ℕ) (is : List Item) (ts : List TallyState) (d : TallyState) → get_or (partly f p is ts) p d ≡ get_or ts p d
+pub partly-at : (f : ListItem → TallyState → TallyState) (p : ℕ) (is : List ListItem) (ts : List TallyState) (d : TallyState) → get_or (partly f p is ts) p d ≡ get_or ts p d
 partly-at f zero is ts d = refl
 partly-at f (suc p) [] ts d = refl
 partly-at f (suc p) (i ∷ is) [] d = refl
 partly-at f (suc p) (i ∷ is) (t ∷ ts) d = partly-at f p is ts d
 
-pub partly-more : (f : Item → TallyState → TallyState) (p : ℕ) (is : List Item) (ts : List TallyState) (d : Item) (e : TallyState) → p < length is → length ts ≡ length is → slice_set (partly f p is ts) p (f (get_or is p d) (get_or ts p e)) ≡ partly f (suc p) is ts
+pub partly-more : (f : ListItem → TallyState → TallyState) (p : ℕ) (is : List ListItem) (ts : List TallyState) (d : ListItem) (e : TallyState) → p < length is → length ts ≡ length is → slice_set (partly f p is ts) p (f (get_or is p d) (get_or ts p e)) ≡ partly f (suc p) is ts
 partly-more f p [] ts d e h l = absurd (omega arith)
 partly-more f p (i ∷ is) [] d e h l = absurd (omega arith)
 partly-more f zero (i ∷ is) (t ∷ ts) d e h l = refl
 partly-more f (suc p) (i ∷ is) (t ∷ ts) d e h l = ap (λ us. f i t ∷ us) (partly-more f p is ts d e (omega arith) (omega arith))
 
-pub length-partly : (f : Item → TallyState → TallyState) (p : ℕ) (is : List Item) (ts : List TallyState) → length (partly f p is ts) ≡ length ts
+pub length-partly : (f : ListItem → TallyState → TallyState) (p : ℕ) (is : List ListItem) (ts : List TallyState) → length (partly f p is ts) ≡ length ts
 length-partly f zero is ts = refl
 length-partly f (suc p) [] ts = refl
 length-partly f (suc p) (i ∷ is) [] = refl
 length-partly f (suc p) (i ∷ is) (t ∷ ts) = ap suc (length-partly f p is ts)
 
 -- the figures of the first p items and one more
-pub figures-more : (k : Row) (n : ℤ) (p : ℕ) (is : List Item) (ts : List TallyState) (d : Item) (e : TallyState) → p < length is → p < length ts → figures k n (take p is) ts ++ figure k n (get_or is p d) (get_or ts p e) ∷ [] ≡ figures k n (take (suc p) is) ts
+pub figures-more : (k : Row) (n : ℤ) (p : ℕ) (is : List ListItem) (ts : List TallyState) (d : ListItem) (e : TallyState) → p < length is → p < length ts → figures k n (take p is) ts ++ figure k n (get_or is p d) (get_or ts p e) ∷ [] ≡ figures k n (take (suc p) is) ts
 figures-more k n p [] ts d e h l = absurd (omega arith)
 figures-more k n p (i ∷ is) [] d e h l = absurd (omega arith)
 figures-more k n zero (i ∷ is) (t ∷ ts) d e h l = refl
 figures-more k n (suc p) (i ∷ is) (t ∷ ts) d e h l = ap (λ us. figure k n i t ∷ us) (figures-more k n p is ts d e (omega arith) (omega arith))
 
 -- the figures stop where the items or the tallies do
-pub figures-all : (k : Row) (n : ℤ) (p : ℕ) (is : List Item) (ts : List TallyState) → p ≡ min (length is) (length ts) → figures k n (take p is) ts ≡ figures k n is ts
+pub figures-all : (k : Row) (n : ℤ) (p : ℕ) (is : List ListItem) (ts : List TallyState) → p ≡ min (length is) (length ts) → figures k n (take p is) ts ≡ figures k n is ts
 figures-all k n zero [] ts h = refl
 figures-all k n (suc p) [] ts h = refl
 figures-all k n zero (i ∷ is) [] h = refl

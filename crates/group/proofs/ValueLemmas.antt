@@ -5,7 +5,7 @@ use Rattle.values.specs.Row.{Row, row_cmp, same_row}
 use Rattle.values.specs.Bag.{is_same, distinct}
 use Rattle.values.specs.Perm.{Perm}
 use Rattle.values.specs.Condition.{field}
-use Rattle.values.specs.Relation.{Item as PlainItem, item_value, key_of, keys_of as keys_in}
+use Rattle.values.specs.Relation.{ListItem as PlainItem, item_value, key_of, keys_of as keys_in}
 use Rattle.values.specs.Resolved.{column_of, columns_of, items_of}
 use Rattle.values.specs.declared.resolved.Column.{Column}
 use Rattle.values.proofs.Worlds.{same-item_value}

@@ -5,8 +5,8 @@ use Rattle.values.specs.Value.{IsAnswerValue}
 use Rattle.values.specs.Condition.{field}
 use Rattle.values.specs.Resolved.{column_of}
 use Rattle.values.specs.declared.resolved.Column.{Column}
-use Rattle.values.specs.declared.resolved.Item.{Item}
-use Rattle.values.specs.declared.resolved.Item.TheVariants.{Key}
+use Rattle.values.specs.declared.resolved.ListItem.{ListItem}
+use Rattle.values.specs.declared.resolved.ListItem.TheVariants.{Key}
 use Rattle.lane_kernels.specs.Truth.{signed_count, signed_total}
 use Rattle.group.specs.Cells.{Held, TallyState, number_of, signed_by, tally_by, tally_after, CellState, cell_zero, cell_after}
 use Rattle.group.specs.Turns.{cell_of, with_cell}
@@ -25,7 +25,7 @@ abbrev pub fields : Column → List (Bool × Row) → List (Option ℤ)
 fields c rs = map (λ s. field (s.1 ∷ []) (column_of c)) rs
 
 -- the numbers that an item reads in the rows
-abbrev pub numbers_read : Item → List (Bool × Row) → List (Option ℤ)
+abbrev pub numbers_read : ListItem → List (Bool × Row) → List (Option ℤ)
 numbers_read i rs = map (λ s. number_of i s.1) rs
 
 -- a tally after these values, those with a true sign leaving
@@ -39,14 +39,14 @@ abbrev pub tally_sums : List Bool → List (Option ℤ) → TallyState → Tally
 tally_sums ms vs t = record { numbers = t.numbers +ℤ signed_count ms vs; total = t.total +ℤ signed_total ms vs; values = t.values }
 
 -- a tally after the rows
-abbrev pub tally_rows : List (Bool × Row) → Item → TallyState → TallyState
+abbrev pub tally_rows : List (Bool × Row) → ListItem → TallyState → TallyState
 tally_rows [] i t = t
 tally_rows (s ∷ rs) i t = tally_rows rs i (tally_after s i t)
 
 -- the numbers that the items read in the rows are of the answer range
-abbrev pub AllInRange : List Item → List (Bool × Row) → Type 0
+abbrev pub AllInRange : List ListItem → List (Bool × Row) → Type 0
 AllInRange is rs = (k : ℕ) → k < length is → All IsAnswerValue (numbers_read (get_or is k (Key 0)) rs)
 
 -- the groups after a batch of rows of the group k
-abbrev pub batch_in : List Item → Held → List (Bool × Row) → List (Held × CellState) → List (Held × CellState)
+abbrev pub batch_in : List ListItem → Held → List (Bool × Row) → List (Held × CellState) → List (Held × CellState)
 batch_in is k rs es = with_cell k (fold (cell_after is) (cell_of (length is) k es) rs) (fold (cell_after is) (cell_zero (length is)) rs) es

@@ -10,8 +10,8 @@ use Rattle.values.specs.Row.{Row, row_cmp, value_cmp, value_at}
 use Rattle.values.specs.Value.{clamp_answer, IsAnswerValue}
 use Rattle.values.specs.Condition.{field}
 use Rattle.values.specs.Resolved.{column_of}
-use Rattle.values.specs.declared.resolved.Item.{Item}
-use Rattle.values.specs.declared.resolved.Item.TheVariants.{Key, CountAll, Count, Sum, Min, Max}
+use Rattle.values.specs.declared.resolved.ListItem.{ListItem}
+use Rattle.values.specs.declared.resolved.ListItem.TheVariants.{Key, CountAll, Count, Sum, Min, Max}
 use Rattle.group.specs.declared.cells.Figure.{Figure}
 use Rattle.lane_kernels.specs.Lanes.{IsWithin}
 
@@ -54,7 +54,7 @@ abbrev pub keeping : TallyState → Values → TallyState
 keeping t vs = record { numbers = t.numbers; total = t.total; values = vs }
 
 -- the number that an item reads in a row
-abbrev pub number_of : Item → Row → Option ℤ
+abbrev pub number_of : ListItem → Row → Option ℤ
 number_of (Key k) r = None
 number_of CountAll r = None
 number_of (Count c) r = field (r ∷ []) (column_of c)
@@ -63,7 +63,7 @@ number_of (Min c) r = field (r ∷ []) (column_of c)
 number_of (Max c) r = field (r ∷ []) (column_of c)
 
 -- whether each of them is kept
-abbrev pub keeps : Item → Bool
+abbrev pub keeps : ListItem → Bool
 keeps (Key k) = false
 keeps CountAll = false
 keeps (Count c) = false
@@ -83,20 +83,20 @@ tally_by enters kept (Some z) t = record {
   values = cond kept (values_by enters (Some z) t.values) t.values;
 }
 
-abbrev pub tally_after : Bool × Row → Item → TallyState → TallyState
+abbrev pub tally_after : Bool × Row → ListItem → TallyState → TallyState
 tally_after s i t = tally_by s.0 (keeps i) (number_of i s.1) t
 
 -- the first p tallies are changed, each by its item
-abbrev pub partly : (Item → TallyState → TallyState) → ℕ → List Item → List TallyState → List TallyState
+abbrev pub partly : (ListItem → TallyState → TallyState) → ℕ → List ListItem → List TallyState → List TallyState
 partly f zero is ts = ts
 partly f (suc p) [] ts = ts
 partly f (suc p) (i ∷ is) [] = []
 partly f (suc p) (i ∷ is) (t ∷ ts) = f i t ∷ partly f p is ts
 
-abbrev pub each : (Item → TallyState → TallyState) → List Item → List TallyState → List TallyState
+abbrev pub each : (ListItem → TallyState → TallyState) → List ListItem → List TallyState → List TallyState
 each f is ts = partly f (length is) is ts
 
-abbrev pub tallies_after : Bool × Row → List Item → List TallyState → List TallyState
+abbrev pub tallies_after : Bool × Row → List ListItem → List TallyState → List TallyState
 tallies_after s is ts = each (tally_after s) is ts
 
 -- how many rows the group has, a tally for each item of the list, and the row that was shown of it last
@@ -109,7 +109,7 @@ pub record CellState : Type 0 where
 abbrev pub cell_zero : ℕ → CellState
 cell_zero n = record { rows = pos 0; tallies = replicate n tally_zero; shown = None }
 
-abbrev pub cell_after : List Item → CellState → Bool × Row → CellState
+abbrev pub cell_after : List ListItem → CellState → Bool × Row → CellState
 cell_after is c s = record { rows = c.rows +ℤ signed_by s.0 (pos 1); tallies = tallies_after s is c.tallies; shown = c.shown }
 
 abbrev pub showing : CellState → Option Held → CellState
@@ -137,7 +137,7 @@ least es = key_or_null (slice_get es 0)
 abbrev pub greatest : Values → Option ℤ
 greatest es = key_or_null (slice_get es (length es - 1))
 
-abbrev pub figure : Row → ℤ → Item → TallyState → Figure
+abbrev pub figure : Row → ℤ → ListItem → TallyState → Figure
 figure key rows (Key k) t = value_figure (value_at key k)
 figure key rows CountAll t = number_figure rows
 figure key rows (Count c) t = number_figure t.numbers
@@ -145,7 +145,7 @@ figure key rows (Sum c) t = sum_figure t.numbers t.total
 figure key rows (Min c) t = value_figure (least t.values)
 figure key rows (Max c) t = value_figure (greatest t.values)
 
-abbrev pub figures : Row → ℤ → List Item → List TallyState → List Figure
+abbrev pub figures : Row → ℤ → List ListItem → List TallyState → List Figure
 figures key rows [] ts = []
 figures key rows (i ∷ is) [] = []
 figures key rows (i ∷ is) (t ∷ ts) = figure key rows i t ∷ figures key rows is ts
@@ -165,11 +165,11 @@ pub record TallyRoom (n : ℕ) (t : TallyState) : Type 0 where
   pub total : IsWithin (n * 2 ^ 63) t.total
   pub values : All (λ m. m ≤ n) (values_of t.values)
 
-pub record CellRoom (n : ℕ) (is : List Item) (c : CellState) : Type 0 where
+pub record CellRoom (n : ℕ) (is : List ListItem) (c : CellState) : Type 0 where
   pub rows : IsWithin n c.rows
   pub aligned : length c.tallies ≡ length is
   pub tallies : All (TallyRoom n) c.tallies
 
 -- the numbers that the items read in a row are of the answer range
-abbrev pub ReadsInRange : List Item → Bool × Row → Type 0
+abbrev pub ReadsInRange : List ListItem → Bool × Row → Type 0
 ReadsInRange is s = (k : ℕ) → k < length is → IsAnswerValue (number_of (get_or is k (Key 0)) s.1)

@@ -6,13 +6,13 @@ use Rattle.values.specs.Condition.{field}
 use Rattle.values.specs.Relation.{Grouped, shaped}
 use Rattle.values.specs.Resolved.{column_of, columns_of, items_of}
 use Rattle.values.specs.declared.resolved.Column.{Column}
-use Rattle.values.specs.declared.resolved.Item.{Item}
-use Rattle.values.specs.declared.resolved.Item.TheVariants.{Key}
+use Rattle.values.specs.declared.resolved.ListItem.{ListItem}
+use Rattle.values.specs.declared.resolved.ListItem.TheVariants.{Key}
 
 -- Group By's columns, none where it is missing, and the list
 pub record GroupBy : Type 0 where
   pub by : List Column
-  pub items : List Item
+  pub items : List ListItem
 
 -- the relation of the groups of a bag
 abbrev pub grouped : GroupBy → List Row → List Row

@@ -9,7 +9,7 @@ use Rattle.values.specs.Row.{Row, row_cmp, same_row, value_cmp}
 use Rattle.values.specs.Bag.{is_same, distinct}
 use Rattle.values.specs.Relation.{keys_of as keys_in, group_row}
 use Rattle.values.specs.Resolved.{columns_of, items_of}
-use Rattle.values.specs.declared.resolved.Item.{Item}
+use Rattle.values.specs.declared.resolved.ListItem.{ListItem}
 use Rattle.op_queue.specs.Signed.{weigh, Same, Adds, Legal, Turns}
 use Rattle.op_queue.specs.declared.item.Item.TheVariants.{Rows, Tick}
 use Rattle.group.specs.Groups.{GroupBy, grouped, key_in, no_columns, once_each}
@@ -64,24 +64,24 @@ some_count zero = None
 some_count (suc n) = Some (suc n)
 
 -- the values have each number of the column as often as the rows do
-pub record HoldsNumbers (i : Item) (es : Values) (xs : List Row) : Type 0 where
+pub record HoldsNumbers (i : ListItem) (es : Values) (xs : List Row) : Type 0 where
   pub counts : (v : Option ℤ) → lookup (is_at (value_cmp v)) es ≡ some_count (weigh (λ x. copy_by v (number_of i x)) xs)
   pub sorted : IsStrictlySortedBy value_cmp (keys_of es)
 
 -- the tally of an item counts the rows xs
-pub record Tallies (i : Item) (t : TallyState) (xs : List Row) : Type 0 where
+pub record Tallies (i : ListItem) (t : TallyState) (xs : List Row) : Type 0 where
   pub numbers : t.numbers ≡ pos (weigh (λ x. some_by (number_of i x)) xs)
   pub total : t.total ≡ pos (weigh (λ x. over_by (number_of i x)) xs) -ℤ pos (weigh (λ x. under_by (number_of i x)) xs)
   pub values : keeps i ≡ true → HoldsNumbers i t.values xs
 
-abbrev pub AllTally : List Item → List TallyState → List Row → Type 0
+abbrev pub AllTally : List ListItem → List TallyState → List Row → Type 0
 AllTally [] [] xs = Unit {0}
 AllTally [] (t ∷ ts) xs = ⊥
 AllTally (i ∷ is) [] xs = ⊥
 AllTally (i ∷ is) (t ∷ ts) xs = Tallies i t xs × AllTally is ts xs
 
 -- what is kept of a group counts the rows xs
-pub record Counts (is : List Item) (c : CellState) (xs : List Row) : Type 0 where
+pub record Counts (is : List ListItem) (c : CellState) (xs : List Row) : Type 0 where
   pub rows : c.rows ≡ pos (weigh (λ x. 1) xs)
   pub tallies : AllTally is c.tallies xs
 

@@ -8,7 +8,7 @@ use Rattle.std.specs.BTreeSet.{insert_key}
 use Rattle.std.specs.List.{All, range_with_len}
 use Rattle.values.specs.Row.{Row, same_row, value_at}
 use Rattle.values.specs.declared.resolved.Column.{Column}
-use Rattle.values.specs.declared.resolved.Item.{Item}
+use Rattle.values.specs.declared.resolved.ListItem.{ListItem}
 use Rattle.op_queue.specs.Entries.{Entry, RowAt, TickAt}
 use Rattle.op_queue.specs.declared.item.Item as queue
 use Rattle.op_queue.specs.declared.item.Item.TheVariants.{Rows, Tick}
@@ -34,7 +34,7 @@ abbrev pub with_cell : Held → CellState → CellState → List (Held × CellSt
 with_cell k there fresh es = cond (has_key k es) (set_value (is_at (held_cmp k)) es there) (insert_entry held_cmp es k fresh)
 
 -- after a row of the group k
-abbrev pub taken_in : List Item → Held → Bool × Row → List (Held × CellState) → List (Held × CellState)
+abbrev pub taken_in : List ListItem → Held → Bool × Row → List (Held × CellState) → List (Held × CellState)
 taken_in is k r es = with_cell k (cell_after is (cell_of (length is) k es) r) (cell_after is (cell_zero (length is)) r) es
 
 -- after the row r of the group k was shown
@@ -70,10 +70,10 @@ pub record TouchedState : Type 0 where
   pub rows : ℤ
   pub figures : List Figure
 
-abbrev pub excerpt : List Item → Held → CellState → TouchedState
+abbrev pub excerpt : List ListItem → Held → CellState → TouchedState
 excerpt is k c = record { key = k; shown = c.shown; rows = c.rows; figures = figures k.items c.rows is c.tallies }
 
-abbrev pub near_at : List Item → List (Held × CellState) → List Held → List TouchedState
+abbrev pub near_at : List ListItem → List (Held × CellState) → List Held → List TouchedState
 near_at is es ks = map (λ k. excerpt is k (cell_of (length is) k es)) ks
 
 abbrev pub near : GroupState → queue.Item → List TouchedState

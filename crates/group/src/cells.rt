@@ -20,29 +20,29 @@ use lane_kernels::{count_set, count_signed, sum_signed};
 use std::alloc::{AllocError, Global};
 use std::collections::BTreeMap;
 use std::marker::Model;
-use values::{Column, Item, Row, Value, value_at};
+use values::{Column, ListItem, Row, Value, value_at};
 
 /// The number that an item reads in a row; null where it reads none.
-fn number_of(item: Item, row: &Row) -> Value
+fn number_of(item: ListItem, row: &Row) -> Value
     ensures { result ≡ number_of item row.now.items }
 {
     match item {
-        Item::Key(_) => Value::null(),
-        Item::CountAll => Value::null(),
-        Item::Count(column) => field_of(row, column),
-        Item::Sum(column) => field_of(row, column),
-        Item::Min(column) => field_of(row, column),
-        Item::Max(column) => field_of(row, column),
+        ListItem::Key(_) => Value::null(),
+        ListItem::CountAll => Value::null(),
+        ListItem::Count(column) => field_of(row, column),
+        ListItem::Sum(column) => field_of(row, column),
+        ListItem::Min(column) => field_of(row, column),
+        ListItem::Max(column) => field_of(row, column),
     }
 }
 
 /// Whether each number is kept: a least or greatest one may leave.
-fn keeps(item: Item) -> bool
+fn keeps(item: ListItem) -> bool
     ensures { result ≡ keeps item }
 {
     match item {
-        Item::Min(_) => true,
-        Item::Max(_) => true,
+        ListItem::Min(_) => true,
+        ListItem::Max(_) => true,
         _ => false,
     }
 }
@@ -262,32 +262,32 @@ impl Tally {
     }
 
     /// The rows of a batch enter and leave.
-    fn take_batch(&mut self, item: Item, batch: &Batch) -> Result<(), AllocError>
+    fn take_batch(&mut self, item: ListItem, batch: &Batch) -> Result<(), AllocError>
         requires { TallyRoom (2 ^ 62) self.old }
         ensures tally { OnOk result (self.new ≡ tally_rows batch.now item self.old) }
         ensures range { OnOk result (All IsAnswerValue (numbers_read item batch.now)) }
     {
         match item {
-            Item::Key(_) => Ok(()),
-            Item::CountAll => Ok(()),
-            Item::Count(column) => self.take_fields(column, false, batch),
-            Item::Sum(column) => self.take_fields(column, false, batch),
-            Item::Min(column) => self.take_fields(column, true, batch),
-            Item::Max(column) => self.take_fields(column, true, batch),
+            ListItem::Key(_) => Ok(()),
+            ListItem::CountAll => Ok(()),
+            ListItem::Count(column) => self.take_fields(column, false, batch),
+            ListItem::Sum(column) => self.take_fields(column, false, batch),
+            ListItem::Min(column) => self.take_fields(column, true, batch),
+            ListItem::Max(column) => self.take_fields(column, true, batch),
         }
     }
 
     /// The exact figure of an item of the list, in a group with this key and so many rows.
-    fn figure(&self, item: Item, key: &Row, rows: i64) -> Figure
+    fn figure(&self, item: ListItem, key: &Row, rows: i64) -> Figure
         ensures { result ≡ figure key.now.items rows item self.now }
     {
         match item {
-            Item::Key(column) => value_figure(value_at(key, column)),
-            Item::CountAll => number_figure(rows as i128),
-            Item::Count(_) => number_figure(self.numbers as i128),
-            Item::Sum(_) => sum_figure(self.numbers, self.total),
-            Item::Min(_) => value_figure(least(&self.values)),
-            Item::Max(_) => value_figure(greatest(&self.values)),
+            ListItem::Key(column) => value_figure(value_at(key, column)),
+            ListItem::CountAll => number_figure(rows as i128),
+            ListItem::Count(_) => number_figure(self.numbers as i128),
+            ListItem::Sum(_) => sum_figure(self.numbers, self.total),
+            ListItem::Min(_) => value_figure(least(&self.values)),
+            ListItem::Max(_) => value_figure(greatest(&self.values)),
         }
     }
 }
@@ -380,7 +380,11 @@ impl Model for Cell {
 }
 
 /// A row enters or leaves: each tally takes it.
-fn take_tallies(tallies: &mut Vec<Tally>, items: &[Item], row: &SignedRow) -> Result<(), AllocError>
+fn take_tallies(
+    tallies: &mut Vec<Tally>,
+    items: &[ListItem],
+    row: &SignedRow,
+) -> Result<(), AllocError>
     requires aligned { length tallies.old.items ≡ length items.now }
     requires room { All (TallyRoom (2 ^ 62 + 1024)) tallies.old.items }
     ensures tallies { OnOk result (tallies.new.items ≡ tallies_after (signed row.now) items.now tallies.old.items) }
@@ -418,7 +422,11 @@ fn rows_counted(batch: &Batch) -> i64
 }
 
 /// The rows of a batch enter and leave: each tally takes them.
-fn take_batches(tallies: &mut Vec<Tally>, items: &[Item], batch: &Batch) -> Result<(), AllocError>
+fn take_batches(
+    tallies: &mut Vec<Tally>,
+    items: &[ListItem],
+    batch: &Batch,
+) -> Result<(), AllocError>
     requires aligned { length tallies.old.items ≡ length items.now }
     requires room { All (TallyRoom (2 ^ 62)) tallies.old.items }
     ensures tallies { OnOk result (tallies.new.items ≡ each (tally_rows batch.now) items.now tallies.old.items) }
@@ -434,7 +442,7 @@ fn take_batches(tallies: &mut Vec<Tally>, items: &[Item], batch: &Batch) -> Resu
 fn figures_of(
     alloc: Global,
     tallies: &[Tally],
-    items: &[Item],
+    items: &[ListItem],
     key: &Row,
     rows: i64,
 ) -> Result<Vec<Figure>, AllocError>
@@ -466,7 +474,7 @@ impl Cell {
     }
 
     /// A row of the group enters or leaves.
-    pub(crate) fn take(&mut self, items: &[Item], row: &SignedRow) -> Result<(), AllocError>
+    pub(crate) fn take(&mut self, items: &[ListItem], row: &SignedRow) -> Result<(), AllocError>
         requires { CellRoom (2 ^ 62 + 1024) items.now self.old }
         ensures cell { OnOk result (self.new ≡ cell_after items.now self.old (signed row.now)) }
         ensures range { OnOk result (ReadsInRange items.now (signed row.now)) }
@@ -477,7 +485,7 @@ impl Cell {
     }
 
     /// The rows of a batch enter and leave, all of this group.
-    pub(crate) fn take_batch(&mut self, items: &[Item], batch: &Batch) -> Result<(), AllocError>
+    pub(crate) fn take_batch(&mut self, items: &[ListItem], batch: &Batch) -> Result<(), AllocError>
         requires { CellRoom (2 ^ 62) items.now self.old }
         ensures cell { OnOk result (self.new ≡ fold (cell_after items.now) self.old batch.now) }
         ensures range { OnOk result (AllInRange items.now batch.now) }
@@ -503,7 +511,7 @@ impl Cell {
     pub(crate) fn figures(
         &self,
         alloc: Global,
-        items: &[Item],
+        items: &[ListItem],
         key: &Row,
     ) -> Result<Vec<Figure>, AllocError>
         ensures figures { IfOk result (λ fs. fs.items ≡ figures key.now.items self.now.rows items.now self.now.tallies) }

@@ -13,7 +13,7 @@ use crate::keyed::Keyed;
 use crate::turn::Touched;
 use column::{Batch, SignedRow};
 use std::alloc::{AllocError, Global};
-use values::{Item, MAX_COLUMNS, Row};
+use values::{ListItem, MAX_COLUMNS, Row};
 
 /// What is kept of each group, by how many values a key may have.
 #[derive(Drop)]
@@ -80,7 +80,7 @@ impl HeldCells {
     pub(crate) fn take_in(
         &mut self,
         alloc: Global,
-        items: &[Item],
+        items: &[ListItem],
         key: &Row,
         row: &SignedRow,
     ) -> Result<(), AllocError>
@@ -101,7 +101,7 @@ impl HeldCells {
     pub(crate) fn take_batch_in(
         &mut self,
         alloc: Global,
-        items: &[Item],
+        items: &[ListItem],
         key: &Row,
         batch: &Batch,
     ) -> Result<(), AllocError>
@@ -153,7 +153,7 @@ impl HeldCells {
     pub(crate) fn excerpt_at(
         &self,
         alloc: Global,
-        items: &[Item],
+        items: &[ListItem],
         key: &Row,
     ) -> Result<Touched, AllocError>
         requires { length items.now ≤ 16 }

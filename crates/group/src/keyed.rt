@@ -17,7 +17,7 @@ use row_bags::{copied, fitted};
 use std::alloc::{AllocError, Global};
 use std::collections::BTreeMap;
 use std::marker::Model;
-use values::{Item, MAX_COLUMNS, Row, Value, copy_row};
+use values::{ListItem, MAX_COLUMNS, Row, Value, copy_row};
 
 /// What is kept of each group, by keys of at most `N` values: a key takes some `8 * N` bytes.
 #[derive(Drop)]
@@ -52,7 +52,7 @@ impl<const N: usize> Keyed<N> {
     pub(crate) fn take_in(
         &mut self,
         alloc: Global,
-        items: &[Item],
+        items: &[ListItem],
         key: &Row,
         row: &SignedRow,
     ) -> Result<(), AllocError>
@@ -76,7 +76,7 @@ impl<const N: usize> Keyed<N> {
     pub(crate) fn take_batch_in(
         &mut self,
         alloc: Global,
-        items: &[Item],
+        items: &[ListItem],
         key: &Row,
         batch: &Batch,
     ) -> Result<(), AllocError>
@@ -143,7 +143,7 @@ impl<const N: usize> Keyed<N> {
     pub(crate) fn excerpt_at(
         &self,
         alloc: Global,
-        items: &[Item],
+        items: &[ListItem],
         key: &Row,
     ) -> Result<Touched, AllocError>
         requires { length items.now ≤ 16 }
@@ -195,7 +195,12 @@ fn put(cells: &mut BTreeMap<Row, Cell>, key: Row, cell: Cell) -> Result<(), Allo
 }
 
 /// What a touched group has to show.
-fn excerpt_of(alloc: Global, items: &[Item], key: &Row, cell: &Cell) -> Result<Touched, AllocError>
+fn excerpt_of(
+    alloc: Global,
+    items: &[ListItem],
+    key: &Row,
+    cell: &Cell,
+) -> Result<Touched, AllocError>
     requires { length items.now ≤ 16 }
     ensures { IfOk result (λ t. t ≡ excerpt items.now key.now cell.now) }
 {

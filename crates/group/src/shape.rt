@@ -7,14 +7,14 @@ ghost use Rattle.group.specs.Groups.{once_each, key_in, no_columns};
 use crate::rows::field_of;
 use std::alloc::{AllocError, Global};
 use std::marker::Model;
-use values::{Column, Item, MAX_COLUMNS, Row};
+use values::{Column, ListItem, MAX_COLUMNS, Row};
 
 /// Group By's columns, none where it is missing, and the list of a grouped query. A row that goes between operators counts as
 /// the one row of a combination: its columns are those of source 0.
 #[derive(Drop)]
 pub struct GroupBy {
     by: Vec<Column>,
-    items: Vec<Item>,
+    items: Vec<ListItem>,
 }
 
 impl Model for GroupBy {
@@ -30,7 +30,7 @@ impl Model for GroupBy {
 
 impl GroupBy {
     /// Groups by these columns, with this list.
-    pub fn new(by: Vec<Column>, items: Vec<Item>) -> GroupBy
+    pub fn new(by: Vec<Column>, items: Vec<ListItem>) -> GroupBy
         requires by { length by.items ≤ MAX_COLUMNS }
         requires items { length items.items ≤ MAX_COLUMNS }
         ensures { result ≡ record { by = by.items; items = items.items } }
@@ -48,7 +48,7 @@ impl GroupBy {
         let mut items = Vec::new(alloc);
         for column in 0..width {
             by.push(Column { source: 0, column })?;
-            items.push(Item::Key(column))?;
+            items.push(ListItem::Key(column))?;
         }
         Ok(GroupBy { by, items })
     }
@@ -69,7 +69,7 @@ impl GroupBy {
     }
 
     /// The list.
-    pub(crate) fn items(&self) -> &[Item]
+    pub(crate) fn items(&self) -> &[ListItem]
         ensures value { result.now ≡ self.now.items }
         ensures few { length result.now ≤ MAX_COLUMNS }
     {

@@ -8,7 +8,8 @@ use Rattle.std.proofs.lemmas.Simd.{mask_l-lt, get_or-zip2}
 use Rattle.std.proofs.lemmas.Nat.Bits.{bit_at_and, bit_at_or, bit_at_not, bit_at-lt, bit_at-zero, bit_at_ones}
 use Rattle.std.proofs.lemmas.List.{length-map, length-take, take_more, drop_more, get_or-set_same, get_or-set_other}
 use Rattle.values.specs.Row.{Row}
-use Rattle.values.specs.Condition.{Compare, compared, not3, and3, or3}
+use Rattle.values.specs.Condition.{compared, not3, and3, or3}
+use Rattle.values.specs.declared.resolved.Compare.{Compare}
 use Rattle.column.specs.Bits.{bits, place, word_count}
 use Rattle.column.specs.Columns.{numbers_of}
 use Rattle.lane_kernels.specs.Lanes.{test_of, value_at}

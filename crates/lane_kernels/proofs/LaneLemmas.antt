@@ -16,7 +16,7 @@ use Rattle.std.specs.declared.cmp.Ordering.{Ordering}
 use Rattle.std.specs.declared.cmp.Ordering.TheVariants.{Less, Equal, Greater}
 use Rattle.std.proofs.lemmas.Bool.Decides.{nat_tests}
 use Rattle.std.proofs.lemmas.Bool.{cases_lt}
-use Rattle.values.specs.Condition.{Differs, Below, AtMost, Above, AtLeast}
+use Rattle.values.specs.declared.resolved.Compare.TheVariants.{Differs, Below, AtMost, Above, AtLeast}
 use Rattle.lane_kernels.specs.Lanes.{IsEight, test_of}
 use mir.Val.{bool_byte, SFits, hbits, bits}
 use mir.Syntax.{w64}

@@ -11,7 +11,8 @@ use Rattle.std.proofs.lemmas.List.{length-map}
 use Rattle.std.proofs.lemmas.List.FromFn.{fill_by_all}
 use Rattle.std.proofs.lemmas.Simd.{length-zip2, get_or-zip2}
 use Rattle.std.specs.Simd.Lanes.{zip2}
-use Rattle.values.specs.Condition.{Compare, compared}
+use Rattle.values.specs.Condition.{compared}
+use Rattle.values.specs.declared.resolved.Compare.{Compare}
 use Rattle.column.specs.Bits.{bits}
 use Rattle.column.specs.Columns.{numbers_of}
 use Rattle.column.proofs.BitLemmas.{get_or-bits}

@@ -1,13 +1,13 @@
 -- The definitions at worked examples: nine values 1 to 9, and the same with the last one null.
 use Rattle.std.specs.Prelude.{◌≡◌, ℕ, ℤ, pos, Bool, true, false, Option, Some, None, List, [], ◌∷◌, ◌++◌, map, count_by, refl}
 use Rattle.values.specs.Row.{Row}
-use Rattle.values.specs.Condition.{compared, not3, Above}
+use Rattle.values.specs.Condition.{compared, not3}
+use Rattle.values.specs.declared.resolved.Compare.TheVariants.{Above, Below}
 use Rattle.column.specs.Bits.{bits}
 use Rattle.lane_kernels.specs.Steps.{steps_truth}
 use Rattle.lane_kernels.specs.Truth.{signed_total, truths}
 use Rattle.lane_kernels.specs.declared.condition.Step.{Step}
 use Rattle.lane_kernels.specs.declared.condition.Step.TheVariants.{Number, Columns, Known, And, Or, Not}
-use Rattle.lane_kernels.specs.declared.comparison.Comparison.TheVariants.{Greater, Less}
 
 abbrev number : ℕ → Option ℤ
 number n = Some (pos n)
@@ -52,24 +52,24 @@ rows = map row eight ++ (number 9 ∷ None ∷ []) ∷ []
 
 -- Not (a > 5) Or b < 6
 abbrev not_or : List Step
-not_or = Number 0 Greater (pos 5) ∷ Not ∷ Number 1 Less (pos 6) ∷ Or ∷ []
+not_or = Number 0 Above (pos 5) ∷ Not ∷ Number 1 Below (pos 6) ∷ Or ∷ []
 
 not_or_at_nine : map (steps_truth not_or) rows ≡ truths 9 (255 ∷ []) (255 ∷ [])
 not_or_at_nine = refl
 
 -- a > 5 And b < 6
 abbrev both : List Step
-both = Number 0 Greater (pos 5) ∷ Number 1 Less (pos 6) ∷ And ∷ []
+both = Number 0 Above (pos 5) ∷ Number 1 Below (pos 6) ∷ And ∷ []
 
 both_at_nine : map (steps_truth both) rows ≡ truths 9 (224 ∷ []) (255 ∷ [])
 both_at_nine = refl
 
 -- a > 9 And b < 6: a false side decides beside an unknown one
 abbrev none : List Step
-none = Number 0 Greater (pos 9) ∷ Number 1 Less (pos 6) ∷ And ∷ []
+none = Number 0 Above (pos 9) ∷ Number 1 Below (pos 6) ∷ And ∷ []
 
 none_at_nine : map (steps_truth none) rows ≡ truths 9 (0 ∷ []) (511 ∷ [])
 none_at_nine = refl
 
-columns_compared : steps_truth (Columns 0 Less 1 ∷ Known false ∷ Or ∷ []) (number 4 ∷ number 5 ∷ []) ≡ Some true
+columns_compared : steps_truth (Columns 0 Below 1 ∷ Known false ∷ Or ∷ []) (number 4 ∷ number 5 ∷ []) ≡ Some true
 columns_compared = refl

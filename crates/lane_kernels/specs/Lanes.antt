@@ -2,7 +2,8 @@
 use Rattle.std.specs.Prelude.{ℕ, ℤ, pos, ◌+ℤ◌, neg_ℤ, ◌≤ℤ◌, Bool, List, [], ◌∷◌, map, ◌≡◌, ◌^◌, cond, ◌==◌, length, Option, Some, None, get_or}
 use Rattle.std.specs.List.{range_with_len}
 use Rattle.std.specs.Ordering.{int_cmp}
-use Rattle.values.specs.Condition.{Compare, passes}
+use Rattle.values.specs.Condition.{passes}
+use Rattle.values.specs.declared.resolved.Compare.{Compare}
 use Rattle.std.specs.Int.{bit_at}
 use Rattle.std.specs.Simd.Lanes.{Each1}
 use Rattle.column.specs.Bits.{place}

@@ -3,15 +3,14 @@ use Rattle.std.specs.Prelude.{ℕ, ◌+◌, ◌-◌, ◌<◌, ◌≤◌, ◌≡�
 use Rattle.std.specs.Int.{bit_at}
 use Rattle.values.specs.Row.{Row, value_at}
 use Rattle.values.specs.Condition.{compared, not3, and3, or3}
-use Rattle.lane_kernels.specs.How.{compare_of}
 use Rattle.lane_kernels.specs.declared.condition.Step.{Step}
 use Rattle.lane_kernels.specs.declared.condition.Step.TheVariants.{Number, Columns, Known, And, Or, Not}
 use Rattle.lane_kernels.specs.declared.condition.Word.{Word}
 
 -- the truths that a row has after a step, the last one first
 abbrev pub after : Step → Row → List (Option Bool) → List (Option Bool)
-after (Number k how c) row ts = compared (compare_of how) (value_at row k) (Some c) ∷ ts
-after (Columns k how j) row ts = compared (compare_of how) (value_at row k) (value_at row j) ∷ ts
+after (Number k how c) row ts = compared how (value_at row k) (Some c) ∷ ts
+after (Columns k how j) row ts = compared how (value_at row k) (value_at row j) ∷ ts
 after (Known b) row ts = Some b ∷ ts
 after And row [] = []
 after And row (b ∷ []) = []

@@ -5,7 +5,6 @@ ghost use Rattle.std.specs.Simd.Lanes.{mask_l, zip2, Each1};
 ghost use Rattle.std.specs.Int.{w64};
 ghost use Rattle.values.specs.Condition.{compared};
 ghost use Rattle.column.specs.Bits.{word_count};
-ghost use Rattle.lane_kernels.specs.How.{compare_of};
 ghost use Rattle.lane_kernels.specs.Lanes.{value_at, test3, test_of};
 ghost use Rattle.lane_kernels.specs.Truth.{IsClearFrom};
 ghost use Rattle.lane_kernels.specs.Truth.{IsTruth, truth_at, truths};
@@ -13,29 +12,30 @@ ghost use Rattle.lane_kernels.specs.Truth.{IsTruth, truth_at, truths};
 use super::comparison::*;
 use column::Column;
 use std::simd::prelude::*;
+use values::Compare;
 
 /// Compares each value of a column with a number; a comparison with null is unknown.
 ///
 /// The lent words are as many as the column needs.
 pub fn compare_const(
     column: &Column,
-    how: Comparison,
+    how: Compare,
     number: i64,
     truth: &mut [u64],
     known: &mut [u64],
 )
     requires truth_fits { length truth.old ≡ word_count (length column.now) }
     requires known_fits { length known.old ≡ word_count (length column.now) }
-    ensures value { truths (length column.now) truth.new known.new ≡ map (λ v. compared (compare_of how) v (Some number)) column.now }
+    ensures value { truths (length column.now) truth.new known.new ≡ map (λ v. compared how v (Some number)) column.now }
     ensures well_formed { IsTruth (length column.now) truth.new known.new }
 {
     match how {
-        Comparison::Equal => const_by::<Equal>(column, number, truth, known),
-        Comparison::NotEqual => const_by::<NotEqual>(column, number, truth, known),
-        Comparison::Less => const_by::<Less>(column, number, truth, known),
-        Comparison::LessOrEqual => const_by::<LessOrEqual>(column, number, truth, known),
-        Comparison::Greater => const_by::<Greater>(column, number, truth, known),
-        Comparison::GreaterOrEqual => const_by::<GreaterOrEqual>(column, number, truth, known),
+        Compare::Equals => const_by::<Equals>(column, number, truth, known),
+        Compare::Differs => const_by::<Differs>(column, number, truth, known),
+        Compare::Below => const_by::<Below>(column, number, truth, known),
+        Compare::AtMost => const_by::<AtMost>(column, number, truth, known),
+        Compare::Above => const_by::<Above>(column, number, truth, known),
+        Compare::AtLeast => const_by::<AtLeast>(column, number, truth, known),
     }
 }
 
@@ -44,7 +44,7 @@ pub fn compare_const(
 /// The lent words are as many as each column needs.
 pub fn compare_columns(
     left: &Column,
-    how: Comparison,
+    how: Compare,
     right: &Column,
     truth: &mut [u64],
     known: &mut [u64],
@@ -52,16 +52,16 @@ pub fn compare_columns(
     requires same { length right.now ≡ length left.now }
     requires truth_fits { length truth.old ≡ word_count (length left.now) }
     requires known_fits { length known.old ≡ word_count (length left.now) }
-    ensures value { truths (length left.now) truth.new known.new ≡ zip2 (compared (compare_of how)) left.now right.now }
+    ensures value { truths (length left.now) truth.new known.new ≡ zip2 (compared how) left.now right.now }
     ensures well_formed { IsTruth (length left.now) truth.new known.new }
 {
     match how {
-        Comparison::Equal => columns_by::<Equal>(left, right, truth, known),
-        Comparison::NotEqual => columns_by::<NotEqual>(left, right, truth, known),
-        Comparison::Less => columns_by::<Less>(left, right, truth, known),
-        Comparison::LessOrEqual => columns_by::<LessOrEqual>(left, right, truth, known),
-        Comparison::Greater => columns_by::<Greater>(left, right, truth, known),
-        Comparison::GreaterOrEqual => columns_by::<GreaterOrEqual>(left, right, truth, known),
+        Compare::Equals => columns_by::<Equals>(left, right, truth, known),
+        Compare::Differs => columns_by::<Differs>(left, right, truth, known),
+        Compare::Below => columns_by::<Below>(left, right, truth, known),
+        Compare::AtMost => columns_by::<AtMost>(left, right, truth, known),
+        Compare::Above => columns_by::<Above>(left, right, truth, known),
+        Compare::AtLeast => columns_by::<AtLeast>(left, right, truth, known),
     }
 }
 

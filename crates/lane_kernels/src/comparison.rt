@@ -2,21 +2,11 @@
 
 ghost use Rattle.std.specs.Prelude.{◌≡◌};
 ghost use Rattle.std.specs.Simd.Lanes.{mask_l, zip2};
-ghost use Rattle.values.specs.Condition.{Compare, Equals, Differs, Below, AtMost, Above, AtLeast};
+ghost use Rattle.values.specs.declared.resolved.Compare.{Compare};
+ghost use Rattle.values.specs.declared.resolved.Compare.TheVariants as compare;
 ghost use Rattle.lane_kernels.specs.Lanes.{IsEight, test_of};
 
 use std::simd::prelude::*;
-
-/// How two numbers are compared.
-#[derive(Clone, Copy, PartialEq, Eq, Drop)]
-pub enum Comparison {
-    Equal,
-    NotEqual,
-    Less,
-    LessOrEqual,
-    Greater,
-    GreaterOrEqual,
-}
 
 /// A comparison of numbers, one pair or eight at a time.
 pub trait Test {
@@ -30,10 +20,10 @@ pub trait Test {
         ensures { result ≡ mask_l (zip2 (test_of how) xs ys) };
 }
 
-pub struct Equal;
+pub struct Equals;
 
-impl Test for Equal {
-    ghost how = { Equals };
+impl Test for Equals {
+    ghost how = { compare.Equals };
 
     fn one(x: i64, y: i64) -> bool {
         x == y
@@ -44,10 +34,10 @@ impl Test for Equal {
     }
 }
 
-pub struct NotEqual;
+pub struct Differs;
 
-impl Test for NotEqual {
-    ghost how = { Differs };
+impl Test for Differs {
+    ghost how = { compare.Differs };
 
     fn one(x: i64, y: i64) -> bool {
         x != y
@@ -58,10 +48,10 @@ impl Test for NotEqual {
     }
 }
 
-pub struct Less;
+pub struct Below;
 
-impl Test for Less {
-    ghost how = { Below };
+impl Test for Below {
+    ghost how = { compare.Below };
 
     fn one(x: i64, y: i64) -> bool {
         x < y
@@ -72,10 +62,10 @@ impl Test for Less {
     }
 }
 
-pub struct LessOrEqual;
+pub struct AtMost;
 
-impl Test for LessOrEqual {
-    ghost how = { AtMost };
+impl Test for AtMost {
+    ghost how = { compare.AtMost };
 
     fn one(x: i64, y: i64) -> bool {
         x <= y
@@ -86,10 +76,10 @@ impl Test for LessOrEqual {
     }
 }
 
-pub struct Greater;
+pub struct Above;
 
-impl Test for Greater {
-    ghost how = { Above };
+impl Test for Above {
+    ghost how = { compare.Above };
 
     fn one(x: i64, y: i64) -> bool {
         x > y
@@ -100,10 +90,10 @@ impl Test for Greater {
     }
 }
 
-pub struct GreaterOrEqual;
+pub struct AtLeast;
 
-impl Test for GreaterOrEqual {
-    ghost how = { AtLeast };
+impl Test for AtLeast {
+    ghost how = { compare.AtLeast };
 
     fn one(x: i64, y: i64) -> bool {
         x >= y

@@ -6,7 +6,6 @@ ghost use Rattle.std.specs.Int.{bit_at};
 ghost use Rattle.values.specs.Row.{Row};
 ghost use Rattle.column.specs.Bits.{word_count};
 ghost use Rattle.column.specs.Rows.{width};
-ghost use Rattle.lane_kernels.specs.How.{compare_of};
 ghost use Rattle.lane_kernels.specs.Steps.{IsHeld, AreHeld, StepFits, StepsFit, after, height_after, steps_truth};
 ghost use Rattle.lane_kernels.specs.Truth.{IsTruth, truths};
 
@@ -14,14 +13,15 @@ use super::compare::{word_columns, word_const};
 use super::comparison::*;
 use arrayvec::ArrayVec;
 use column::{Batch, Column};
+use values::Compare;
 
 /// A step of a condition in postfix order.
 #[derive(Clone, Copy, PartialEq, Eq, Drop)]
 pub enum Step {
     /// A comparison of a column with a number.
-    Number(usize, Comparison, i64),
+    Number(usize, Compare, i64),
     /// A comparison of two columns.
-    Columns(usize, Comparison, usize),
+    Columns(usize, Compare, usize),
     /// A truth that is known.
     Known(bool),
     /// Whether both of the two last truths hold: unknown where neither is false and one is unknown.
@@ -120,32 +120,32 @@ fn columns_word<T: Test>(left: &Column, right: &Column, w: usize) -> Word
     }
 }
 
-fn compared_number(column: &Column, how: Comparison, number: i64, w: usize) -> Word
+fn compared_number(column: &Column, how: Compare, number: i64, w: usize) -> Word
     requires { w * 64 < length column.now }
-    ensures { (k : ℕ) → k < 64 → 64 * w + k < length column.now → IsHeld k result (compared (compare_of how) (get_or column.now (64 * w + k) None) (Some number)) }
+    ensures { (k : ℕ) → k < 64 → 64 * w + k < length column.now → IsHeld k result (compared how (get_or column.now (64 * w + k) None) (Some number)) }
 {
     match how {
-        Comparison::Equal => const_word::<Equal>(column, number, w),
-        Comparison::NotEqual => const_word::<NotEqual>(column, number, w),
-        Comparison::Less => const_word::<Less>(column, number, w),
-        Comparison::LessOrEqual => const_word::<LessOrEqual>(column, number, w),
-        Comparison::Greater => const_word::<Greater>(column, number, w),
-        Comparison::GreaterOrEqual => const_word::<GreaterOrEqual>(column, number, w),
+        Compare::Equals => const_word::<Equals>(column, number, w),
+        Compare::Differs => const_word::<Differs>(column, number, w),
+        Compare::Below => const_word::<Below>(column, number, w),
+        Compare::AtMost => const_word::<AtMost>(column, number, w),
+        Compare::Above => const_word::<Above>(column, number, w),
+        Compare::AtLeast => const_word::<AtLeast>(column, number, w),
     }
 }
 
-fn compared_columns(left: &Column, how: Comparison, right: &Column, w: usize) -> Word
+fn compared_columns(left: &Column, how: Compare, right: &Column, w: usize) -> Word
     requires within { w * 64 < length left.now }
     requires same { length right.now ≡ length left.now }
-    ensures { (k : ℕ) → k < 64 → 64 * w + k < length left.now → IsHeld k result (compared (compare_of how) (get_or left.now (64 * w + k) None) (get_or right.now (64 * w + k) None)) }
+    ensures { (k : ℕ) → k < 64 → 64 * w + k < length left.now → IsHeld k result (compared how (get_or left.now (64 * w + k) None) (get_or right.now (64 * w + k) None)) }
 {
     match how {
-        Comparison::Equal => columns_word::<Equal>(left, right, w),
-        Comparison::NotEqual => columns_word::<NotEqual>(left, right, w),
-        Comparison::Less => columns_word::<Less>(left, right, w),
-        Comparison::LessOrEqual => columns_word::<LessOrEqual>(left, right, w),
-        Comparison::Greater => columns_word::<Greater>(left, right, w),
-        Comparison::GreaterOrEqual => columns_word::<GreaterOrEqual>(left, right, w),
+        Compare::Equals => columns_word::<Equals>(left, right, w),
+        Compare::Differs => columns_word::<Differs>(left, right, w),
+        Compare::Below => columns_word::<Below>(left, right, w),
+        Compare::AtMost => columns_word::<AtMost>(left, right, w),
+        Compare::Above => columns_word::<Above>(left, right, w),
+        Compare::AtLeast => columns_word::<AtLeast>(left, right, w),
     }
 }
 

@@ -13,7 +13,6 @@ mod logic;
 mod sum;
 
 pub use compare::{compare_columns, compare_const};
-pub use comparison::Comparison;
 pub use condition::{MAX_TRUTHS, Step, run_condition};
 pub use count::{count_set, count_signed};
 pub use logic::{and3, not3, or3};

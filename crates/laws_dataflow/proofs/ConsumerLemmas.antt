@@ -3,7 +3,7 @@ use Rattle.std.proofs.Common.{◌≡◌, ◌≢◌, ℕ, zero, suc, ◌+◌, ◌
 use Rattle.std.proofs.lemmas.Bool.{eqb-false, lt-ltb, le-ltb, ltb-true, ltb-false}
 use Rattle.values.specs.Condition.{Column, Condition}
 use Rattle.values.specs.Relation.{Shape, Listed, Grouped}
-use Rattle.values.specs.Answers.{Operator}
+use Rattle.values.specs.Answers.{StreamOperator}
 use Rattle.plan.specs.Nodes.{Key, Window, Select, Join, Project, Group, Distinct, ToStream}
 use Rattle.plan.specs.Nodes as plan
 use Rattle.plan.specs.Build.{source_nodes, tops, join_nodes, joins_top, joins_of, top_of, rest_nodes, rest_top, shape_node, end_nodes, nodes_over}
@@ -53,7 +53,7 @@ under_next n i = by_test (n == i)
 under_none : (i : ℕ) → under 0 i ≡ 0
 under_none i = let a : nat_lt i 0 ≡ false = le-ltb i 0 (omega arith) in rw a refl
 
-end_some : (b : Bool) (shape : plan.Node) (op : Operator) (k : ℕ) → 1 ≤ length (end_nodes b shape op k)
+end_some : (b : Bool) (shape : plan.Node) (op : StreamOperator) (k : ℕ) → 1 ≤ length (end_nodes b shape op k)
 end_some true shape op k = omega arith
 end_some false shape op k = omega arith
 
@@ -87,13 +87,13 @@ shape-uses : (i : ℕ) (f : Column → Column) (top : ℕ) (shape : Shape) → u
 shape-uses i f top (Listed columns) = refl
 shape-uses i f top (Grouped by items) = refl
 
-ends-times : (i : ℕ) (b : Bool) (shape : plan.Node) (op : Operator) (k last : ℕ) → uses i shape ≡ one last i
+ends-times : (i : ℕ) (b : Bool) (shape : plan.Node) (op : StreamOperator) (k last : ℕ) → uses i shape ≡ one last i
     → times i (end_nodes b shape op k) + under k i ≡ one last i + under (k + (length (end_nodes b shape op k) - 1)) i
 ends-times i true shape op k last e = omega (arith, e, under_next k i, under_next (suc k) i, under_same (suc (suc k)) (k + 2) i (omega arith))
 ends-times i false shape op k last e = omega (arith, e, under_next k i, under_same (suc k) (k + 1) i (omega arith))
 
 -- EACH OPERATOR BELOW THE ROOT is an input once, and the root is the input of none
-pub nodes-times : (i : ℕ) (own : List (List Condition)) (keys : List (List Key)) (rest : List Condition) (b : Bool) (f : Column → Column) (shape : Shape) (op : Operator) → 0 < length (tops 0 own) → length keys ≡ length (tops 0 own) - 1
+pub nodes-times : (i : ℕ) (own : List (List Condition)) (keys : List (List Key)) (rest : List Condition) (b : Bool) (f : Column → Column) (shape : Shape) (op : StreamOperator) → 0 < length (tops 0 own) → length keys ≡ length (tops 0 own) - 1
     → times i (nodes_over own keys rest b (λ top. shape_node f top shape) op) ≡ under (length (nodes_over own keys rest b (λ top. shape_node f top shape) op) - 1) i
 nodes-times i own keys rest b f shape op some e =
     let sources : List plan.Node = source_nodes 0 0 own in
@@ -232,7 +232,7 @@ rises_at n (x ∷ xs) zero d r h = let e : n ≡ n + 0 = omega arith in subst (�
 rises_at n (x ∷ xs) (suc k) d r h = let e : suc n + k ≡ n + suc k = omega arith in subst (λ i. Below i (get_or xs k d)) e (rises_at (suc n) xs k d r.1 (omega (arith, h)))
 
 -- the root is the last, over the one before it
-pub laid : (ns : List plan.Node) (op : Operator) → 2 ≤ length ns → get_or ns (length ns - 1) (Window 0) ≡ ToStream (length ns - 2) op → Rises 0 ns
+pub laid : (ns : List plan.Node) (op : StreamOperator) → 2 ≤ length ns → get_or ns (length ns - 1) (Window 0) ≡ ToStream (length ns - 2) op → Rises 0 ns
     → ((i : ℕ) → i < length ns - 1 → times i ns ≡ 1) → Laid (net_of ns) (length ns - 1) (consumer_of ns)
 laid ns op two root rises once = record {
   some = omega (arith, two);

@@ -5,7 +5,7 @@ use Rattle.std.proofs.lemmas.List.{get_or_append_left}
 use Rattle.std.proofs.Math.Seq.{get_or-append_seam}
 use Rattle.values.specs.Condition.{Column, Condition}
 use Rattle.values.specs.Relation.{Shape, Listed, Grouped}
-use Rattle.values.specs.Answers.{Operator}
+use Rattle.values.specs.Answers.{StreamOperator}
 use Rattle.plan.specs.Nodes as plan
 use Rattle.plan.specs.Nodes.{Key, Window, Select, Join, Project, Group, Distinct, ToStream}
 use Rattle.plan.specs.Build.{source_nodes, tops, join_nodes, joins_top, joins_of, top_of, rest_nodes, rest_top, shape_node, end_nodes, nodes_over}
@@ -19,7 +19,7 @@ abbrev pub least_all : List ℕ → ℕ
 least_all [] = 0
 least_all (o ∷ os) = fold min o os
 
-pub end-some : (b : Bool) (shape : plan.Node) (op : Operator) (k : ℕ) → 2 ≤ length (end_nodes b shape op k)
+pub end-some : (b : Bool) (shape : plan.Node) (op : StreamOperator) (k : ℕ) → 2 ≤ length (end_nodes b shape op k)
 end-some true shape op k = omega arith
 end-some false shape op k = omega arith
 
@@ -124,7 +124,7 @@ module _ (closed : ℕ → ℕ) where
   shape-least done f top (Listed columns) = refl
   shape-least done f top (Grouped by items) = refl
 
-  ends-least : (done : List ℕ) (b : Bool) (shape : plan.Node) (op : Operator) (k last : ℕ) → length done ≡ k → least_by closed done shape ≡ get_or done last 0
+  ends-least : (done : List ℕ) (b : Bool) (shape : plan.Node) (op : StreamOperator) (k last : ℕ) → length done ≡ k → least_by closed done shape ≡ get_or done last 0
       → get_or (leasts_of closed done (end_nodes b shape op k)) (k + (length (end_nodes b shape op k) - 1)) 0 ≡ get_or done last 0
   ends-least done true shape op k last e h =
       let x : ℕ = least_by closed done shape in
@@ -145,7 +145,7 @@ module _ (closed : ℕ → ℕ) where
       rw p (at_end more y (suc k) long ∙ at_end done x k e ∙ h)
 
   -- THE LEAST INSTANT OF THE ROOT is the least of all sources
-  pub nodes-least : (own : List (List Condition)) (keys : List (List Key)) (rest : List Condition) (b : Bool) (f : Column → Column) (shape : Shape) (op : Operator) → 0 < length (tops 0 own) → length keys ≡ length (tops 0 own) - 1
+  pub nodes-least : (own : List (List Condition)) (keys : List (List Key)) (rest : List Condition) (b : Bool) (f : Column → Column) (shape : Shape) (op : StreamOperator) → 0 < length (tops 0 own) → length keys ≡ length (tops 0 own) - 1
       → get_or (leasts_of closed [] (nodes_over own keys rest b (λ top. shape_node f top shape) op)) (length (nodes_over own keys rest b (λ top. shape_node f top shape) op) - 1) 0 ≡ least_all (closed_from 0 (length own))
   nodes-least own keys rest b f shape op some e =
       let sources : List plan.Node = source_nodes 0 0 own in

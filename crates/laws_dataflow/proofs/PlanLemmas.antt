@@ -8,7 +8,7 @@ use Rattle.values.specs.Window.{Element, Window, Unbounded, window_rows}
 use Rattle.values.specs.Bag.{distinct}
 use Rattle.values.specs.Condition.{Column, Condition}
 use Rattle.values.specs.Relation.{Shape, Listed, Grouped}
-use Rattle.values.specs.Answers.{Operator, Resolved, shown_at}
+use Rattle.values.specs.Answers.{StreamOperator, Resolved, shown_at}
 use Rattle.names.specs.Split.{all_conjuncts, join_keys, join_keys_of, own, own_of, remaining}
 use Rattle.plan.specs.Nodes as plan
 use Rattle.plan.specs.Nodes.{Key, Window as WindowNode, Select, Join, Project, Group, Distinct, ToStream, node_value, values_of, last_of, plan_value}
@@ -70,11 +70,11 @@ window_bags first t (w ∷ ws) (es ∷ inputs) e (suc k) = window_bags first t w
 
 -- THE ROOT
 
-end_root : (b : Bool) (shape : plan.Node) (op : Operator) (k : ℕ) → get_or (end_nodes b shape op k) (length (end_nodes b shape op k) - 1) (WindowNode 0) ≡ ToStream (k + (length (end_nodes b shape op k) - 2)) op
+end_root : (b : Bool) (shape : plan.Node) (op : StreamOperator) (k : ℕ) → get_or (end_nodes b shape op k) (length (end_nodes b shape op k) - 1) (WindowNode 0) ≡ ToStream (k + (length (end_nodes b shape op k) - 2)) op
 end_root true shape op k = let e : suc k ≡ k + 1 = omega arith in ap (λ i. ToStream i op) e
 end_root false shape op k = let e : k ≡ k + 0 = omega arith in ap (λ i. ToStream i op) e
 
-nodes-root : (own : List (List Condition)) (keys : List (List Key)) (rest : List Condition) (b : Bool) (f : Column → Column) (shape : Shape) (op : Operator)
+nodes-root : (own : List (List Condition)) (keys : List (List Key)) (rest : List Condition) (b : Bool) (f : Column → Column) (shape : Shape) (op : StreamOperator)
     → (2 ≤ length (nodes_over own keys rest b (λ top. shape_node f top shape) op))
     × (get_or (nodes_over own keys rest b (λ top. shape_node f top shape) op) (length (nodes_over own keys rest b (λ top. shape_node f top shape) op) - 1) (WindowNode 0) ≡ ToStream (length (nodes_over own keys rest b (λ top. shape_node f top shape) op) - 2) op)
 nodes-root own keys rest b f shape op =
@@ -137,7 +137,7 @@ last_at (x ∷ []) = refl
 last_at (x ∷ y ∷ xs) = let e : suc (length (y ∷ xs) - 1) ≡ length (x ∷ y ∷ xs) - 1 = omega arith in last_at (y ∷ xs) ∙ ap (λ i. get_or (x ∷ y ∷ xs) i []) e
 
 -- the operator below the root has the value of the plan
-pub top_value : (ws : List (List Row)) (ns : List plan.Node) (op : Operator) → 2 ≤ length ns → get_or ns (length ns - 1) (WindowNode 0) ≡ ToStream (length ns - 2) op → Rises 0 ns
+pub top_value : (ws : List (List Row)) (ns : List plan.Node) (op : StreamOperator) → 2 ≤ length ns → get_or ns (length ns - 1) (WindowNode 0) ≡ ToStream (length ns - 2) op → Rises 0 ns
     → get_or (values_of ws [] ns) (length ns - 1 - 1) [] ≡ plan_value ns ws
 top_value ws ns op two root rises =
     let all : List (List Row) = values_of ws [] ns in
@@ -146,7 +146,7 @@ top_value ws ns op two root rises =
     let f : length ns - 2 ≡ length ns - 1 - 1 = omega arith in
     sym (last_at all ∙ ap (λ k. get_or all (k - 1) []) long ∙ ap (λ k. get_or all k []) (sym e) ∙ value-at ws [] ns 0 (length ns - 1) (WindowNode 0) refl rises (omega (arith, two)) ∙ ap (node_value ws all) root ∙ ap (λ k. get_or all k []) f)
 
-pub top_least : (closed : ℕ → ℕ) (ns : List plan.Node) (op : Operator) → 2 ≤ length ns → get_or ns (length ns - 1) (WindowNode 0) ≡ ToStream (length ns - 2) op → Rises 0 ns
+pub top_least : (closed : ℕ → ℕ) (ns : List plan.Node) (op : StreamOperator) → 2 ≤ length ns → get_or ns (length ns - 1) (WindowNode 0) ≡ ToStream (length ns - 2) op → Rises 0 ns
     → least_in ns closed (length ns - 1 - 1) ≡ least_in ns closed (length ns - 1)
 top_least closed ns op two root rises =
     let all : List ℕ = leasts_of closed [] ns in

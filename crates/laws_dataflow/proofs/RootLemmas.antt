@@ -5,7 +5,7 @@ use Rattle.std.proofs.lemmas.Grind.{flat_map-append}
 use Rattle.values.specs.Row.{Row, row_cmp}
 use Rattle.values.specs.Perm.{Perm}
 use Rattle.values.specs.Bag.{in_order, without}
-use Rattle.values.specs.Answers.{Operator, Istream, Dstream, Rstream, streamed}
+use Rattle.values.specs.Answers.{StreamOperator, Istream, Dstream, Rstream, streamed}
 use Rattle.values.specs.Resolved.{operator_of}
 use Rattle.values.proofs.Order.{row_order}
 use Rattle.values.proofs.Perms.{perm-bag_minus, perm-in_order}
@@ -55,12 +55,12 @@ before_same first v u (suc t) h = here (nat_le first t) refl
     here true e = h t (leb-true first t e) (omega arith)
     here false e = Same-refl []
 
-streamed_same : (op : Operator) (a b c d : List Row) → Same a c → Same b d → Perm (streamed op a b) (streamed op c d)
+streamed_same : (op : StreamOperator) (a b c d : List Row) → Same a c → Same b d → Perm (streamed op a b) (streamed op c d)
 streamed_same Istream a b c d h k = perm-bag_minus row_cmp row_order b d a c (same_perm b d k) (same_perm a c h)
 streamed_same Dstream a b c d h k = perm-bag_minus row_cmp row_order a c b d (same_perm a c h) (same_perm b d k)
 streamed_same Rstream a b c d h k = same_perm b d k
 
-pub listed_same : (op : Operator) (a b c d : List Row) → Same a c → Same b d → in_order row_cmp (streamed op a b) ≡ in_order row_cmp (streamed op c d)
+pub listed_same : (op : StreamOperator) (a b c d : List Row) → Same a c → Same b d → in_order row_cmp (streamed op a b) ≡ in_order row_cmp (streamed op c d)
 listed_same op a b c d h k = perm-in_order row_cmp row_order (streamed op a b) (streamed op c d) (streamed_same op a b c d h k)
 
 range_split : (a m n : ℕ) → range_with_len a (m + n) ≡ range_with_len a m ++ range_with_len (a + m) n
@@ -70,17 +70,17 @@ range_split a (suc m) n =
     ap (range_with_len a) e ∙ ap (λ v. a ∷ v) (range_split (a + 1) m n ∙ ap (λ b. range_with_len (a + 1) m ++ range_with_len b n) k)
 
 -- answers only grow
-pub given_more : (op : Operator) (first : ℕ) (v : ℕ → List Row) (start u until : ℕ) → start ≤ u → u ≤ until → given_from op first v start until ≡ given_from op first v start u ++ given_from op first v u until
+pub given_more : (op : StreamOperator) (first : ℕ) (v : ℕ → List Row) (start u until : ℕ) → start ≤ u → u ≤ until → given_from op first v start until ≡ given_from op first v start u ++ given_from op first v u until
 given_more op first v start u until h k =
     let e : until - start ≡ (u - start) + (until - u) = omega (arith, h, k) in let f : start + (u - start) ≡ u = omega (arith, h) in
     ap (λ n. flat_map (given_at op first v) (range_with_len start n)) e
     ∙ ap (flat_map (given_at op first v)) (range_split start (u - start) (until - u) ∙ ap (λ b. range_with_len start (u - start) ++ range_with_len b (until - u)) f)
     ∙ flat_map-append (given_at op first v) (range_with_len start (u - start)) (range_with_len u (until - u))
 
-given_one : (op : Operator) (first : ℕ) (v : ℕ → List Row) (t : ℕ) → given_from op first v t (t + 1) ≡ given_at op first v t
+given_one : (op : StreamOperator) (first : ℕ) (v : ℕ → List Row) (t : ℕ) → given_from op first v t (t + 1) ≡ given_at op first v t
 given_one op first v t = let e : t + 1 - t ≡ 1 = omega arith in ap (λ n. flat_map (given_at op first v) (range_with_len t n)) e ∙ append-nil (given_at op first v t)
 
-pub given_same : (op : Operator) (first : ℕ) (v u : ℕ → List Row) (start n : ℕ) → first ≤ start → ((t : ℕ) → start ≤ t + 1 → t < start + n → Same (v t) (u t))
+pub given_same : (op : StreamOperator) (first : ℕ) (v u : ℕ → List Row) (start n : ℕ) → first ≤ start → ((t : ℕ) → start ≤ t + 1 → t < start + n → Same (v t) (u t))
     → flat_map (given_at op first v) (range_with_len start n) ≡ flat_map (given_at op first u) (range_with_len start n)
 given_same op first v u start zero f h = refl
 given_same op first v u start (suc n) f h =
@@ -116,7 +116,7 @@ module _ (first start : ℕ) (earlier : List (ℕ × Row)) (v : ℕ → List Row
   root_takes_tick s new n q below m given law same g =
       let k : (n ≡ g.opens) × Same g.whole (v g.opens) × Leads v g.whole (g.opens + 1) q below m = Leads-take_tick g.edge in
       let l : (out (Tick n) (near s (Tick n)) ≡ map (λ r. (n, r)) (in_order row_cmp (streamed (operator_of s.operator) g.last g.whole))) × Stands new g.whole g.whole = law g.last g.whole g.stands in
-      let op : Operator = operator_of s.operator in
+      let op : StreamOperator = operator_of s.operator in
       let now : out (Tick n) (near s (Tick n)) ≡ given_at op first v g.opens =
       l.0 ∙ ap (λ i. map (λ r. (i, r)) (in_order row_cmp (streamed op g.last g.whole))) k.0 ∙ ap (map (λ r. (g.opens, r))) (listed_same op g.last g.whole (before first v g.opens) (v g.opens) g.last_is k.1) in
       record {
@@ -144,7 +144,7 @@ module _ (first start : ℕ) (earlier : List (ℕ × Row)) (v : ℕ → List Row
   pub root_begins : (s : State) (q : List (Entry Row)) (below : List Row) (m until : ℕ) (given : List (ℕ × Row)) → m ≤ until
       → (g : GoodRoot first start earlier v s q below m given) → earlier ++ given_from (operator_of s.operator) first v start until ≡ given ++ given_from (operator_of s.operator) first v g.opens until
   root_begins s q below m until given h g =
-      let op : Operator = operator_of s.operator in
+      let op : StreamOperator = operator_of s.operator in
       ap (λ z. earlier ++ z) (given_more op first v start g.opens until g.going (omega (arith, h, Leads-after g.edge)))
       ∙ sym (append_assoc earlier (given_from op first v start g.opens) (given_from op first v g.opens until))
       ∙ ap (λ z. z ++ given_from op first v g.opens until) (sym g.given_is)

@@ -3,7 +3,7 @@ use Rattle.std.proofs.Common.{◌≡◌, ℕ, zero, suc, ◌-◌, ◌<◌, ◌�
 use Rattle.std.specs.List.{flat_map, range_with_len}
 use Rattle.values.specs.Row.{Row}
 use Rattle.values.specs.Window.{Window}
-use Rattle.values.specs.declared.resolved.Operator.{Operator as Told}
+use Rattle.values.specs.declared.resolved.StreamOperator.{StreamOperator as Told}
 use Rattle.op_queue.specs.Signed.{Same}
 use Rattle.op_queue.proofs.PathLemmas.{Leads-none}
 use Rattle.op_queue.proofs.SignedLemmas.{Same-refl}

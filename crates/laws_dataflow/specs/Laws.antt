@@ -4,7 +4,7 @@ use Rattle.values.specs.Row.{Row}
 use Rattle.values.specs.Window.{Element}
 use Rattle.values.specs.Answers.{body}
 use Rattle.values.specs.Resolved.{operator_of}
-use Rattle.values.specs.declared.resolved.Operator.{Operator}
+use Rattle.values.specs.declared.resolved.StreamOperator.{StreamOperator}
 use Rattle.op_queue.specs.Entries.{Entry, TickAt}
 use Rattle.op_queue.specs.declared.item.Item.TheVariants.{Rows, Tick}
 use Rattle.to_stream.specs.Turns.{State, near, out}
@@ -75,5 +75,5 @@ AppendsKeep m m2 q =
 -- A QUERY STARTS GOOD: nothing counts for it that came before its registration, and its first instant lies above all that is closed
 abbrev pub StartsGood : Machine → Registered → Type 0
 StartsGood m q =
-    (op : Operator) → ((k : ℕ) → get_or (inputs_of m q) k [] ≡ []) → ((k : ℕ) → get_or (opens m.streams q.places) k 0 ≤ q.first)
+    (op : StreamOperator) → ((k : ℕ) → get_or (inputs_of m q) k [] ≡ []) → ((k : ℕ) → get_or (opens m.streams q.places) k 0 ≤ q.first)
     → IsGood m q (λ k. fresh_cell q.first (net_of q.nodes k)) (fresh_root op) [] []

@@ -3,7 +3,7 @@ use Rattle.std.specs.Prelude.{ℕ, zero, suc, ◌-◌, ◌<◌, ◌≤◌, ◌�
 use Rattle.std.specs.List.{flat_map, range_with_len}
 use Rattle.values.specs.Row.{Row, row_cmp}
 use Rattle.values.specs.Bag.{in_order}
-use Rattle.values.specs.Answers.{Operator, streamed}
+use Rattle.values.specs.Answers.{StreamOperator, streamed}
 use Rattle.values.specs.Resolved.{operator_of}
 use Rattle.op_queue.specs.Entries.{Entry}
 use Rattle.op_queue.specs.Paths.{Leads}
@@ -19,11 +19,11 @@ before first v zero = []
 before first v (suc t) = cond (nat_le first t) (v t) []
 
 -- the answers at the instant t
-abbrev pub given_at : Operator → ℕ → (ℕ → List Row) → ℕ → List (ℕ × Row)
+abbrev pub given_at : StreamOperator → ℕ → (ℕ → List Row) → ℕ → List (ℕ × Row)
 given_at op first v t = map (λ r. (t, r)) (in_order row_cmp (streamed op (before first v t) (v t)))
 
 -- the answers at the instants from `start` to below `until`
-abbrev pub given_from : Operator → ℕ → (ℕ → List Row) → ℕ → ℕ → List (ℕ × Row)
+abbrev pub given_from : StreamOperator → ℕ → (ℕ → List Row) → ℕ → ℕ → List (ℕ × Row)
 given_from op first v start until = flat_map (given_at op first v) (range_with_len start (until - start))
 
 -- THE ROOT: its state and queue, over an operator that has put out the bag `below` and stands at the open instant m. It has given `earlier`, and

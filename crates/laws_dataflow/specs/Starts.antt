@@ -1,6 +1,6 @@
 -- A query at its registration.
 use Rattle.std.specs.Prelude.{◌≡◌, ℕ, true, false, []}
-use Rattle.values.specs.declared.resolved.Operator.{Operator}
+use Rattle.values.specs.declared.resolved.StreamOperator.{StreamOperator}
 use Rattle.op_queue.specs.Signed.{Same}
 use Rattle.to_stream.specs.Turns.{State}
 use Rattle.laws_dataflow.specs.Nets.{Node, window, unary, join, Cell, at_window, at_unary, at_join}
@@ -11,7 +11,7 @@ fresh_cell n (window k) = at_window [] [] [] [] n
 fresh_cell n (unary f x) = at_unary [] [] [] n
 fresh_cell n (join f x y) = at_join [] [] [] [] [] n false false
 
-abbrev pub fresh_root : Operator → State
+abbrev pub fresh_root : StreamOperator → State
 fresh_root op = record { operator = op; net = record { entered = []; left = [] }; whole = [] }
 
 -- what puts out at once has put out what it makes of nothing

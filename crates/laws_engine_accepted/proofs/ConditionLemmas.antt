@@ -4,6 +4,7 @@ use Rattle.std.specs.List.{AllByRecursion}
 use Rattle.std.specs.Option.{option_map}
 use Rattle.std.proofs.lemmas.Bool.{and_parts, ltb-true}
 use Rattle.values.specs.Condition as meant
+use Rattle.values.specs.declared.resolved.Compare.{Compare}
 use Rattle.cql_reader.specs.declared.symbols.Part.{Part}
 use Rattle.cql_reader.specs.declared.symbols.Part.TheVariants as p
 use Rattle.cql_reader.specs.declared.symbols.Role.{Role}
@@ -121,7 +122,7 @@ AtMark m.Listed Goes depth cs = Goes depth cs
 AtMark m.Grouped Goes depth cs = Goes depth cs
 AtMark m.Source Goes depth cs = Goes depth cs
 AtMark m.Named Goes depth cs = Goes depth cs
-AtMark m.Compared Goes depth cs = (a : Operand) (how : meant.Compare) (b : Operand) → Goes depth (Compared a how b ∷ cs)
+AtMark m.Compared Goes depth cs = (a : Operand) (how : Compare) (b : Operand) → Goes depth (Compared a how b ∷ cs)
 AtMark m.Negate Goes depth cs = Goes depth (negated cs)
 AtMark m.Conjoin Goes depth cs = Goes depth (conjoined cs)
 AtMark m.Disjoin Goes depth cs = Goes depth (disjoined cs)

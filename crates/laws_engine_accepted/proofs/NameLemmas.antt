@@ -8,7 +8,7 @@ use Rattle.std.proofs.lemmas.List.FromFn.{length-map-range_with_len}
 use Rattle.std.proofs.lemmas.List.Sums.{sum_by-cons}
 use Rattle.values.specs.Answers.{Resolved}
 use Rattle.values.specs.Condition as meant
-use Rattle.values.specs.Relation.{Item, Shape, Listed, Grouped}
+use Rattle.values.specs.Relation.{ListItem, Shape, Listed, Grouped}
 use Rattle.cql_reader.specs.Query as syntax
 use Rattle.cql_reader.specs.WellFormed.{HasItems, IsWellFormed}
 use Rattle.names.specs.Catalog.{Stream, columns_in, number_in}
@@ -89,7 +89,7 @@ record FitsRow (s : Shape) : Type 0 where
   pub shown : 0 < shape_width s
   pub narrow : IsNarrowShape s
 
-either_shape : (b : Bool) (listed : List meant.Column) (by : List meant.Column) (items : List Item)
+either_shape : (b : Bool) (listed : List meant.Column) (by : List meant.Column) (items : List ListItem)
     → (b ≡ true → FitsRow (Grouped by items)) → (b ≡ false → FitsRow (Listed listed)) → FitsRow (cond b (Grouped by items) (Listed listed))
 either_shape true listed by items h k = h refl
 either_shape false listed by items h k = k refl

@@ -6,7 +6,7 @@ use Rattle.std.proofs.lemmas.List.{length-map}
 use Rattle.values.specs.Row.{Row, row_cmp}
 use Rattle.values.specs.Bag.{bag_minus, in_order, insert_in_order, is_above, is_same, without}
 use Rattle.values.specs.Window.{Element}
-use Rattle.values.specs.Answers.{Dstream, Istream, Operator, Resolved, Rstream, answers, answers_at, body, relation, relation_before, shown_at, streamed}
+use Rattle.values.specs.Answers.{Dstream, Istream, StreamOperator, Resolved, Rstream, answers, answers_at, body, relation, relation_before, shown_at, streamed}
 use Rattle.plan.proofs.Lists.{each-append}
 
 -- THEIR INSTANTS
@@ -53,7 +53,7 @@ minus_fewer : (xs ys : List Row) → length (bag_minus row_cmp xs ys) ≤ length
 minus_fewer xs [] = omega arith
 minus_fewer xs (y ∷ ys) = le_trans (minus_fewer (without row_cmp y xs) ys) (without_fewer y xs)
 
-streamed_few : (most : ℕ) (op : Operator) (before now : List Row) → length before ≤ most → length now ≤ most → length (streamed op before now) ≤ most
+streamed_few : (most : ℕ) (op : StreamOperator) (before now : List Row) → length before ≤ most → length now ≤ most → length (streamed op before now) ≤ most
 streamed_few most Istream before now h k = le_trans (minus_fewer now before) k
 streamed_few most Dstream before now h k = le_trans (minus_fewer before now) h
 streamed_few most Rstream before now h k = k

@@ -17,7 +17,7 @@ use Rattle.values.specs.Condition.{Column, field}
 use Rattle.values.specs.Relation as relations
 use Rattle.values.specs.Relation.{item_value, numbers, key_of, keys_of as keys_in, group_row}
 use Rattle.values.specs.Resolved.{columns_of, item_of, items_of}
-use Rattle.values.specs.declared.resolved.Item.{Item}
+use Rattle.values.specs.declared.resolved.ListItem.{ListItem}
 use Rattle.values.proofs.Order.{row_order}
 use Rattle.op_queue.specs.Signed.{weigh, gain, up}
 use Rattle.op_queue.proofs.SignedLemmas.{weigh-append, weigh-map}
@@ -41,12 +41,12 @@ lean_tally enters true v t h e = absurd (true≢false e)
 lean_tally enters false None t h e = h refl
 lean_tally enters false (Some z) t h e = h refl
 
-lean_tallies : (s : Bool × Row) (is : List Item) (ts : List TallyState) → AreLean is ts → AreLean is (tallies_after s is ts)
+lean_tallies : (s : Bool × Row) (is : List ListItem) (ts : List TallyState) → AreLean is ts → AreLean is (tallies_after s is ts)
 lean_tallies s [] ts h = tt
 lean_tallies s (i ∷ is) [] h = tt
 lean_tallies s (i ∷ is) (t ∷ ts) h = (lean_tally s.0 (keeps i) (number_of i s.1) t h.0, lean_tallies s is ts h.1)
 
-lean_zero : (is : List Item) → AreLean is (replicate (length is) tally_zero)
+lean_zero : (is : List ListItem) → AreLean is (replicate (length is) tally_zero)
 lean_zero [] = tt
 lean_zero (i ∷ is) = (λ e. refl, lean_zero is)
 
@@ -296,7 +296,7 @@ numbers_length c (rows ∷ group) = here (field rows c) (numbers_length c group)
     here None i = omega (arith, i)
     here (Some z) i = omega (arith, i)
 
-item_in : (key : Row) (group : List (List Row)) → InRange key → length group ≤ 2 ^ 62 → All Fields group → (i : relations.Item)
+item_in : (key : Row) (group : List (List Row)) → InRange key → length group ≤ 2 ^ 62 → All Fields group → (i : relations.ListItem)
     → IsAnswerValue (item_value key group i)
 item_in key group k l a (relations.Key j) = value_in key j k
 item_in key group k l a relations.CountAll = count_in (length group) l
@@ -313,7 +313,7 @@ kept_length {X = X} p (x ∷ xs) = here (p x) (kept_length p xs)
     here true i = omega (arith, i)
     here false i = omega (arith, i)
 
-group_wide : (by : List Column) (items : List relations.Item) (kept : List (List Row)) (key : Row) → length kept ≤ 2 ^ 62 → All Fields kept → InRange key
+group_wide : (by : List Column) (items : List relations.ListItem) (kept : List (List Row)) (key : Row) → length kept ≤ 2 ^ 62 → All Fields kept → InRange key
     → IsRow (length items) (group_row by items kept key)
 group_wide by items kept key l a k =
     let mine : List Row → Bool = λ rows. same_row key (key_of by rows) in

@@ -8,7 +8,7 @@ use Rattle.std.proofs.lemmas.List.{get_or-map, get_or_past, length-map}
 use Rattle.values.specs.Row.{Row}
 use Rattle.values.specs.Perm.{Perm, same}
 use Rattle.values.specs.Window.{Element}
-use Rattle.values.specs.Answers.{Operator, shown_at}
+use Rattle.values.specs.Answers.{StreamOperator, shown_at}
 use Rattle.op_queue.specs.Entries.{Entry}
 use Rattle.op_queue.specs.Logs.{Closed}
 use Rattle.windows.specs.Laws.{IsRising}
@@ -259,7 +259,7 @@ module _ (vs ws : List ℕ) (m : Machine) (q : Registered) (n : ℕ) (at : ℤ) 
     inboxes = record { left = left_gains m m2 q source_beat k (node_at q k) o.left refl r.inboxes.left; right = r.inboxes.right };
   }
 
-  root_fed : (o : PlainOperator) (log : Closed) (node : plan.Node) (j : ℕ) (op : Operator) → node ≡ ToStream j op → HasInboxes q log node o → is_fed o.left ≡ true
+  root_fed : (o : PlainOperator) (log : Closed) (node : plan.Node) (j : ℕ) (op : StreamOperator) → node ≡ ToStream j op → HasInboxes q log node o → is_fed o.left ≡ true
   root_fed o log node j op e h = subst (λ x. IsLeftInbox q log x o.left) e h.left
 
   pub heartbeat_runs : (os : List PlainOperator) (given : List (ℕ × Row)) → IsRunning vs ws m q os given → IsRunning vs ws (after m (Heartbeat n at) 0) q os given

@@ -10,8 +10,8 @@ use Rattle.values.specs.Row.{Row, row_cmp}
 use Rattle.values.specs.Bag.{distinct, is_same}
 use Rattle.values.specs.Window.{Element, Window, input_of, shows}
 use Rattle.values.specs.Condition.{Column, Condition, field}
-use Rattle.values.specs.Relation.{Shape, Item, Listed, Grouped, key_of, keys_of, group_row}
-use Rattle.values.specs.Answers.{Operator, Resolved, shown_at}
+use Rattle.values.specs.Relation.{Shape, ListItem, Listed, Grouped, key_of, keys_of, group_row}
+use Rattle.values.specs.Answers.{StreamOperator, Resolved, shown_at}
 use Rattle.names.specs.Split.{all_conjuncts, join_keys, join_keys_of, own_of, remaining}
 use Rattle.op_queue.specs.Signed.{weigh}
 use Rattle.plan.specs.Nodes as plan
@@ -118,9 +118,9 @@ module _ (by : (ℕ → ℕ) → plan.Node → ℕ) where
   -- those
   record Upper (b : ℕ) : Type 0 where
     pub lists : (i : ℕ) (columns : List Column) → Keeps b (Project i columns)
-    pub groups : (i : ℕ) (columns : List Column) (items : List Item) → Keeps b (Group i columns items)
+    pub groups : (i : ℕ) (columns : List Column) (items : List ListItem) → Keeps b (Group i columns items)
     pub onces : (i : ℕ) → Keeps b (Distinct i)
-    pub roots : (i : ℕ) (op : Operator) → Keeps b (ToStream i op)
+    pub roots : (i : ℕ) (op : StreamOperator) → Keeps b (ToStream i op)
 
   under-one : (b : ℕ) (done : List ℕ) (x : plan.Node) → Keeps b x → Under b done → Under b (done ++ by (λ i. get_or done i 0) x ∷ [])
   under-one b done x k u = under-push b done (by (λ i. get_or done i 0) x) u (k (λ i. get_or done i 0) (under-at b done u))
@@ -167,7 +167,7 @@ module _ (by : (ℕ → ℕ) → plan.Node → ℕ) where
   shape-keeps b e f top (Listed columns) = e.lists top (map f columns)
   shape-keeps b e f top (Grouped columns items) = e.groups top _ _
 
-  ends-under : (b : ℕ) → Upper b → (done : List ℕ) (is_distinct : Bool) (shape : plan.Node) (op : Operator) (k : ℕ) → Keeps b shape → Under b done
+  ends-under : (b : ℕ) → Upper b → (done : List ℕ) (is_distinct : Bool) (shape : plan.Node) (op : StreamOperator) (k : ℕ) → Keeps b shape → Under b done
       → Under b (rows_of by done (end_nodes is_distinct shape op k))
   ends-under b e done true shape op k h u =
       let more : List ℕ = done ++ by (λ i. get_or done i 0) shape ∷ [] in
@@ -178,7 +178,7 @@ module _ (by : (ℕ → ℕ) → plan.Node → ℕ) where
       under-one b more (ToStream k op) (e.roots k op) (under-one b done shape h u)
 
   nodes-under : (b : ℕ) → 2 ^ 60 ≤ b → Lower → Upper b
-      → (own : List (List Condition)) (keys : List (List Key)) (rest : List Condition) (is_distinct : Bool) (f : Column → Column) (shape : Shape) (op : Operator)
+      → (own : List (List Condition)) (keys : List (List Key)) (rest : List Condition) (is_distinct : Bool) (f : Column → Column) (shape : Shape) (op : StreamOperator)
       → length keys ≤ 1
       → Under b (rows_of by [] (nodes_over own keys rest is_distinct (λ top. shape_node f top shape) op))
   nodes-under b big l e own keys rest is_distinct f shape op few =

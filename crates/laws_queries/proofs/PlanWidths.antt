@@ -7,7 +7,7 @@ use Rattle.std.proofs.lemmas.List.FromFn.{length-map-range_with_len}
 use Rattle.std.proofs.lemmas.List.Sums.{sum_by-cons}
 use Rattle.values.specs.Condition.{Column, Operand, Field, Number, Condition, Compared, Not, And, Or}
 use Rattle.values.specs.Relation.{Shape, Listed, Grouped}
-use Rattle.values.specs.Answers.{Operator, Resolved}
+use Rattle.values.specs.Answers.{StreamOperator, Resolved}
 use Rattle.names.specs.Split.{all_conjuncts, columns_of, conjuncts, is_own, is_some_column, join_keys, join_keys_of, own, own_of, remaining, remains}
 use Rattle.row_nodes.specs.Steps.{IsOver, OperandIsOver, truths_needed}
 use Rattle.plan.specs.Build.{alone, all_alone, end_nodes, join_nodes, joins_of, joins_top, key_placed, moved, nodes_over, offset, operand_moved, placed, plan_of, rest_nodes, rest_top, shape_node, source_nodes, top_of, tops}
@@ -370,7 +370,7 @@ rest_fit all done n top total (c ∷ cs) e l is m over short = record {
 }
 
 -- THE END
-end_fit : (all done : List ℕ) (b : Bool) (shape : plan.Node) (op : Operator) (n : ℕ) → length done ≡ n → NodeFits all done shape → 0 < width_by all done shape → width_by all done shape ≤ 16 → AllFit all done (end_nodes b shape op n)
+end_fit : (all done : List ℕ) (b : Bool) (shape : plan.Node) (op : StreamOperator) (n : ℕ) → length done ≡ n → NodeFits all done shape → 0 < width_by all done shape → width_by all done shape ≤ 16 → AllFit all done (end_nodes b shape op n)
 end_fit all done true shape op n e f some m =
     let w : ℕ = width_by all done shape in
     let two : List ℕ = done ++ w ∷ [] in
@@ -501,11 +501,11 @@ shape_inner : (f : Column → Column) (top : ℕ) (shape : Shape) → IsInner (s
 shape_inner f top (Listed columns) = tt
 shape_inner f top (Grouped by items) = tt
 
-end_but : (b : Bool) (shape : plan.Node) (op : Operator) (n : ℕ) → IsInner shape → ButLast (end_nodes b shape op n)
+end_but : (b : Bool) (shape : plan.Node) (op : StreamOperator) (n : ℕ) → IsInner shape → ButLast (end_nodes b shape op n)
 end_but true shape op n h = (h, (tt, (tt, tt)))
 end_but false shape op n h = (h, (tt, tt))
 
-nodes_but : (own : List (List Condition)) (keys : List (List Key)) (rest : List Condition) (b : Bool) (f : Column → Column) (shape : Shape) (op : Operator)
+nodes_but : (own : List (List Condition)) (keys : List (List Key)) (rest : List Condition) (b : Bool) (f : Column → Column) (shape : Shape) (op : StreamOperator)
     → ButLast (nodes_over own keys rest b (λ top. shape_node f top shape) op)
 nodes_but own keys rest b f shape op =
     let ss : List plan.Node = source_nodes 0 0 own in

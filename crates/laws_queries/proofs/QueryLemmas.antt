@@ -2,7 +2,7 @@
 use Rattle.std.proofs.Common.{◌≡◌, ◌≢◌, ℕ, ◌-◌, ◌<◌, ◌==◌, true, cond, ◌⊎◌, ⊎_elim, List, [], ◌++◌, length, refl, sym, ap, ◌∙◌, subst, subst₂, arith, eq-eqb}
 use Rattle.std.proofs.lemmas.Bool.{ne_eqb}
 use Rattle.values.specs.Row.{Row}
-use Rattle.values.specs.Answers.{Operator}
+use Rattle.values.specs.Answers.{StreamOperator}
 use Rattle.column.specs.declared.batch.Side.{Side}
 use Rattle.column.specs.declared.batch.Side.TheVariants.{Left, Right}
 use Rattle.op_queue.specs.Entries.{Entry}
@@ -79,7 +79,7 @@ module _ (ws : List ℕ) (m : Machine) (q : Registered) where
       record { runs = l.runs; operator = l.operator; wide = l.wide; few = subst (λ n. StaysWithin (most_rows q.nodes (below_root q.nodes - 1)) n queue) e l.few; inboxes = l.inboxes }
 
   -- the root is fed
-  pub root_fed : (k j : ℕ) (op : Operator) (side : Side) (outs : List (Entry Row)) (o o2 : PlainOperator) (s : root.State) (queue : List (Entry Row)) (whole : List Row) → node_at q (below_root q.nodes) ≡ plan.ToStream j op
+  pub root_fed : (k j : ℕ) (op : StreamOperator) (side : Side) (outs : List (Entry Row)) (o o2 : PlainOperator) (s : root.State) (queue : List (Entry Row)) (whole : List Row) → node_at q (below_root q.nodes) ≡ plan.ToStream j op
       → TakesAt k (node_at q (below_root q.nodes)) side → IsFed o side outs o2 → AreEntries (width_at ws (below_root q.nodes - 1)) outs → StaysWithin (most_rows q.nodes (below_root q.nodes - 1)) (count whole) (queue ++ outs)
       → RunsAtRoot ws m q o s queue whole → RunsAtRoot ws m q o2 s (queue ++ outs) whole
   root_fed k j op side outs o o2 s queue whole is takes f wide few l =

@@ -15,8 +15,8 @@ use Rattle.values.specs.Row.{Row, value_at, value_cmp, same_row}
 use Rattle.values.specs.Value.{IsAnswerValue, answer_max}
 use Rattle.values.specs.Condition.{Column, field}
 use Rattle.values.specs.Resolved.{column_of}
-use Rattle.values.specs.declared.resolved.Item.{Item}
-use Rattle.values.specs.declared.resolved.Item.TheVariants.{Key, CountAll, Count, Sum, Min, Max}
+use Rattle.values.specs.declared.resolved.ListItem.{ListItem}
+use Rattle.values.specs.declared.resolved.ListItem.TheVariants.{Key, CountAll, Count, Sum, Min, Max}
 use Rattle.values.proofs.Order.{value_order}
 use Rattle.op_queue.specs.Signed.{weigh}
 use Rattle.group.specs.Cells.{held_cmp, Values, TallyState, number_of, keeps, CellState, cell_zero, TallyRoom, CellRoom}
@@ -42,7 +42,7 @@ field_in r c a = here c.source
     here zero = value_in r c.column a
     here (suc s) = tt
 
-pub number_in : (i : Item) (r : Row) → All IsAnswerValue r → IsAnswerValue (number_of i r)
+pub number_in : (i : ListItem) (r : Row) → All IsAnswerValue r → IsAnswerValue (number_of i r)
 number_in (Key k) r a = tt
 number_in CountAll r a = tt
 number_in (Count c) r a = field_in r (column_of c) a
@@ -86,7 +86,7 @@ copy_most v (Some z) = here (is_eq (value_cmp v (Some z)))
     here true = omega arith
     here false = omega arith
 
-values_within : (n : ℕ) (i : Item) (es : Values) (xs : List Row) → count xs ≤ n → HoldsNumbers i es xs → All (λ m. m ≤ n) (values_of es)
+values_within : (n : ℕ) (i : ListItem) (es : Values) (xs : List Row) → count xs ≤ n → HoldsNumbers i es xs → All (λ m. m ≤ n) (values_of es)
 values_within n i es xs l h =
     All-values_from_lookup (eq_by_cmp_equiv value_order.total) (λ m. m ≤ n) es (IsDistinct-from_sorted value_cmp (keys_of es) h.sorted)
     (λ v. subst (λ o. IfSome o (λ m. m ≤ n)) (sym (h.counts v)) (some_within n (weigh (λ x. copy_by v (number_of i x)) xs) (few v)))
@@ -97,7 +97,7 @@ values_within n i es xs l h =
 none_within : (n : ℕ) (es : Values) → es ≡ [] → All (λ m. m ≤ n) (values_of es)
 none_within n es e = subst (λ (es : Values). All (λ m. m ≤ n) (values_of es)) (sym e) (All-nil (λ (m : ℕ). m ≤ n))
 
-tally_within : (n : ℕ) (i : Item) (t : TallyState) (xs : List Row) → count xs ≤ n → All InRange xs → (keeps i ≡ false → t.values ≡ []) → Tallies i t xs
+tally_within : (n : ℕ) (i : ListItem) (t : TallyState) (xs : List Row) → count xs ≤ n → All InRange xs → (keeps i ≡ false → t.values ≡ []) → Tallies i t xs
     → TallyRoom n t
 tally_within n i t xs l a lean h =
     let s : weigh (λ x. some_by (number_of i x)) xs ≤ count xs = numbers_le (λ x. some_by (number_of i x)) (λ x. some_most (number_of i x)) xs in
@@ -116,20 +116,20 @@ tally_within n i t xs l a lean h =
     here false e = none_within n t.values (lean e)
 
 -- A GROUP
-aligned_by : (is : List Item) (ts : List TallyState) (xs : List Row) → AllTally is ts xs → length ts ≡ length is
+aligned_by : (is : List ListItem) (ts : List TallyState) (xs : List Row) → AllTally is ts xs → length ts ≡ length is
 aligned_by [] [] xs h = refl
 aligned_by [] (t ∷ ts) xs h = absurd h
 aligned_by (i ∷ is) [] xs h = absurd h
 aligned_by (i ∷ is) (t ∷ ts) xs h = ap suc (aligned_by is ts xs h.1)
 
-tallies_within : (n : ℕ) (is : List Item) (ts : List TallyState) (xs : List Row) → count xs ≤ n → All InRange xs → AreLean is ts → AllTally is ts xs
+tallies_within : (n : ℕ) (is : List ListItem) (ts : List TallyState) (xs : List Row) → count xs ≤ n → All InRange xs → AreLean is ts → AllTally is ts xs
     → All (TallyRoom n) ts
 tallies_within n [] [] xs l a lean h = All-nil (TallyRoom n)
 tallies_within n [] (t ∷ ts) xs l a lean h = absurd h
 tallies_within n (i ∷ is) [] xs l a lean h = absurd h
 tallies_within n (i ∷ is) (t ∷ ts) xs l a lean h = All-cons (TallyRoom n) t ts (tally_within n i t xs l a lean.0 h.0) (tallies_within n is ts xs l a lean.1 h.1)
 
-cell_within : (n : ℕ) (is : List Item) (c : CellState) (xs : List Row) → count xs ≤ n → All InRange xs → AreLean is c.tallies → Counts is c xs → CellRoom n is c
+cell_within : (n : ℕ) (is : List ListItem) (c : CellState) (xs : List Row) → count xs ≤ n → All InRange xs → AreLean is c.tallies → Counts is c xs → CellRoom n is c
 cell_within n is c xs l a lean h = record {
   rows = subst (IsWithin n) (sym h.rows) (record { low = omega (arith, ints, l); high = omega (arith, ints, l) });
   aligned = aligned_by is c.tallies xs h.tallies;

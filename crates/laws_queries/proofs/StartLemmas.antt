@@ -4,8 +4,8 @@ use Rattle.std.specs.List.{AllByRecursion}
 use Rattle.std.proofs.lemmas.List.{get_or-map, length-map}
 use Rattle.std.proofs.lemmas.List.FromFn.{length-map-range_with_len}
 use Rattle.values.specs.Resolved.{condition_of, items_of, operator_of, window_of}
-use Rattle.values.specs.declared.resolved.Item.TheVariants as listed
-use Rattle.values.specs.declared.resolved.Operator.{Operator}
+use Rattle.values.specs.declared.resolved.ListItem.TheVariants as listed
+use Rattle.values.specs.declared.resolved.StreamOperator.{StreamOperator}
 use Rattle.values.specs.declared.resolved.Window.{Window}
 use Rattle.values.specs.declared.resolved.Window.TheVariants as window
 use Rattle.values.specs.Answers as cql
@@ -254,15 +254,15 @@ module _ (windows : List Window) (vs ws : List ℕ) (m : Machine) (q : Registere
   inner_begins (ToStream i op) n h f w = elim n [ ]
 
 -- THE ROOT
-record RootBegins (op : cql.Operator) (o : PlainOperator) : Type 0 where
-  told : Operator
+record RootBegins (op : cql.StreamOperator) (o : PlainOperator) : Type 0 where
+  told : StreamOperator
   is : operator_of told ≡ op
   kind : o.kind ≡ kind.ToStream
   state : o.state ≡ state.Root (fresh_root told)
   left : o.left ≡ nothing_waits
   right : o.right ≡ nothing_waits
 
-root_begins : (windows : List Window) (vs ws places : List ℕ) (first i : ℕ) (op : cql.Operator) (n : Node) (o : PlainOperator) → node_of n ≡ plan.ToStream i op → IsMade windows vs ws places first n o → RootBegins op o
+root_begins : (windows : List Window) (vs ws places : List ℕ) (first i : ℕ) (op : cql.StreamOperator) (n : Node) (o : PlainOperator) → node_of n ≡ plan.ToStream i op → IsMade windows vs ws places first n o → RootBegins op o
 root_begins windows vs ws places first i op (Source s) o e h = absurd (cc)
 root_begins windows vs ws places first i op (Select j cs) o e h = absurd (cc)
 root_begins windows vs ws places first i op (Join j k keys) o e h = absurd (cc)
@@ -283,7 +283,7 @@ some_of [] s h l = absurd (omega (arith, l))
 some_of (v ∷ vs) zero h l = h.0
 some_of (v ∷ vs) (suc s) h l = some_of vs s h.1 (omega (arith, l))
 
-fed_root : (q : Registered) (log : Closed) (i : ℕ) (op : cql.Operator) (o : PlainOperator) → o.left ≡ nothing_waits → o.right ≡ nothing_waits → HasInboxes q log (plan.ToStream i op) o
+fed_root : (q : Registered) (log : Closed) (i : ℕ) (op : cql.StreamOperator) (o : PlainOperator) → o.left ≡ nothing_waits → o.right ≡ nothing_waits → HasInboxes q log (plan.ToStream i op) o
 fed_root q log i op o l r = record { left = fed o.left l; right = fed o.right r }
 
 -- ALL OF THEM

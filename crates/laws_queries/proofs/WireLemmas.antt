@@ -5,7 +5,7 @@ use Rattle.column.specs.declared.batch.Side.{Side}
 use Rattle.column.specs.declared.batch.Side.TheVariants.{Left, Right}
 use Rattle.physical_plans.specs.Wiring.{on_left, takes_on, wire_from, wire_or}
 use Rattle.physical_plans.specs.declared.wiring.Wire.{Wire}
-use Rattle.values.specs.Answers.{Operator}
+use Rattle.values.specs.Answers.{StreamOperator}
 use Rattle.plan.specs.Nodes as plan
 use Rattle.plan.specs.Nodes.{Window, Select, Join, Project, Group, Distinct, ToStream}
 use Rattle.plan.specs.Paths.{takes}
@@ -112,7 +112,7 @@ pub record Wired (q : Registered) (k : ℕ) : Type 0 where
   pub within : (wire_from 0 q.nodes k).to ≤ below_root q.nodes
   pub takes : TakesAt k (node_at q (wire_from 0 q.nodes k).to) (wire_from 0 q.nodes k).side
 
-root_takes : (k j : ℕ) (op : Operator) (node : plan.Node) (side : Side) → node ≡ ToStream j op → takes_on k node ≡ Some side → TakesAt k node side
+root_takes : (k j : ℕ) (op : StreamOperator) (node : plan.Node) (side : Side) → node ≡ ToStream j op → takes_on k node ≡ Some side → TakesAt k node side
 root_takes k j op node side e t = subst (λ n. TakesAt k n side) (sym e) (on_left_at j k side (sym (ap (takes_on k) e) ∙ t))
 
 module _ (vs : List ℕ) (m : Machine) (q : Registered) (stands : nets.Stands vs m q) where

@@ -2,9 +2,9 @@
 use Rattle.std.specs.Prelude.{ℕ, ◌≡◌, ◌<◌, Bool, false, List, [], ◌∷◌, length}
 use Rattle.values.specs.Row.{Row}
 use Rattle.values.specs.Condition.{Column, Condition}
-use Rattle.values.specs.Relation.{Item}
+use Rattle.values.specs.Relation.{ListItem}
 use Rattle.values.specs.Resolved.{columns_of, items_of}
-use Rattle.values.specs.declared.resolved.Item as listed
+use Rattle.values.specs.declared.resolved.ListItem as listed
 use Rattle.values.specs.Window.{Element, Window, LastRows}
 use Rattle.column.specs.declared.batch.Side.TheVariants.{Left, Right}
 use Rattle.lane_kernels.specs.declared.condition.Step.{Step}
@@ -70,7 +70,7 @@ abbrev pub KeepsFew : GroupState → Type 0
 KeepsFew s = (k : Row) → AreLean s.group.items (cell_of (length s.group.items) (held k) s.cells).tallies
 
 -- GROUP: the state has taken the one bag and put out the other
-pub record RunsGroup (by : List Column) (items : List Item) (o : PlainOperator) (log : Closed) (q : List (Entry Row)) (taken shown : List Row) : Type 0 where
+pub record RunsGroup (by : List Column) (items : List ListItem) (o : PlainOperator) (log : Closed) (q : List (Entry Row)) (taken shown : List Row) : Type 0 where
   pub held : GroupState
   pub kind : o.kind ≡ kind.Group held.group
   pub state : o.state ≡ state.Groups held

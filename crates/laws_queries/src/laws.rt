@@ -1,7 +1,7 @@
 //! What holds of the operators of every running query: functions that do nothing, each with the laws of one part.
 ghost use Rattle.std.specs.Prelude.{ℕ, List};
 ghost use Rattle.values.specs.Condition.{Column, Condition};
-ghost use Rattle.values.specs.Relation.{Item};
+ghost use Rattle.values.specs.Relation.{ListItem};
 ghost use Rattle.plan.specs.Nodes as plan;
 ghost use Rattle.reference.specs.Machine.{Machine, Registered};
 ghost use Rattle.laws_queries.specs.Steps.{MayLaw, StepLaw};
@@ -36,8 +36,8 @@ pub fn projects_take_their_turns()
 /// Group By may take whatever stands first in its queue, and a finished turn with it is a turn of a net: rows put out nothing, and
 /// a tick puts out, group by group, the row that was shown with minus and the one that is shown from then on with plus.
 pub fn groups_take_their_turns()
-    ensures may { (i : ℕ) (by : List Column) (items : List Item) → MayLaw (plan.Group i by items) }
-    ensures steps { (i : ℕ) (by : List Column) (items : List Item) → StepLaw (plan.Group i by items) }
+    ensures may { (i : ℕ) (by : List Column) (items : List ListItem) → MayLaw (plan.Group i by items) }
+    ensures steps { (i : ℕ) (by : List Column) (items : List ListItem) → StepLaw (plan.Group i by items) }
 {}
 
 /// So it is with Distinct, whose groups are of all columns and show each row once.

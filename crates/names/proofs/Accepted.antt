@@ -70,11 +70,11 @@ accepted q catalog h =
 
 -- NARROW ROWS
 
-listed_is : (b : Bool) (cs ds by : List conditions.Column) (items : List relations.Item) → relations.Listed cs ≡ cond b (relations.Grouped by items) (relations.Listed ds) → cs ≡ ds
+listed_is : (b : Bool) (cs ds by : List conditions.Column) (items : List relations.ListItem) → relations.Listed cs ≡ cond b (relations.Grouped by items) (relations.Listed ds) → cs ≡ ds
 listed_is true cs ds by items h = absurd (cc)
 listed_is false cs ds by items h = cc
 
-grouped_is : (b : Bool) (by by' ds : List conditions.Column) (items items' : List relations.Item)
+grouped_is : (b : Bool) (by by' ds : List conditions.Column) (items items' : List relations.ListItem)
     → relations.Grouped by items ≡ cond b (relations.Grouped by' items') (relations.Listed ds) → (by ≡ by') × (items ≡ items')
 grouped_is true by by' ds items items' h = (cc, cc)
 grouped_is false by by' ds items items' h = absurd (cc)

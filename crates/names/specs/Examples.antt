@@ -1,7 +1,8 @@
 -- The definitions at worked rows.
 use Rattle.std.specs.Prelude.{◌≡◌, ℕ, false, Option, Some, None, pos, List, [], ◌∷◌, refl}
 use Rattle.values.specs.Condition as conditions
-use Rattle.values.specs.Condition.{Field, Equals, Above}
+use Rattle.values.specs.Condition.{Field}
+use Rattle.values.specs.declared.resolved.Compare.TheVariants.{Equals, Above}
 use Rattle.values.specs.Window as windows
 use Rattle.values.specs.Relation as relations
 use Rattle.values.specs.Answers.{Istream}

@@ -4,7 +4,7 @@ use Rattle.std.specs.List.{list_any, flat_map, range_with_len}
 use Rattle.std.specs.Option.{option_map}
 use Rattle.values.specs.Window.{Window, Range, Unbounded, LastRows}
 use Rattle.values.specs.Condition.{Column, Operand, Field, Number, Condition, Compared, Not, And, Or}
-use Rattle.values.specs.Relation.{Shape, Item, Listed, Grouped, Key, CountAll, Count, Sum, Min, Max}
+use Rattle.values.specs.Relation.{Shape, ListItem, Listed, Grouped, Key, CountAll, Count, Sum, Min, Max}
 use Rattle.values.specs.Answers.{Resolved}
 use Rattle.cql_reader.specs.Query as syntax
 use Rattle.names.specs.Catalog.{Stream, number_in}
@@ -39,7 +39,7 @@ abbrev pub key_place : Column → List Column → ℕ
 key_place c by = unwrap_or (position (λ k. same_column k c) by) 0
 
 -- an item of the list of a grouped query
-abbrev pub item_of : List Table → List Column → syntax.Entry → Item
+abbrev pub item_of : List Table → List Column → syntax.Entry → ListItem
 item_of ts by (syntax.Column r) = Key (key_place (column_of ts r) by)
 item_of ts by syntax.CountAll = CountAll
 item_of ts by (syntax.Count r) = Count (column_of ts r)

@@ -11,7 +11,7 @@ ghost use Rattle.names.specs.Views.{tables_of};
 use crate::matching::{Table, named_column};
 use cql_reader::{Entries, Entry, Query, Reference, Source, Window};
 use std::alloc::{AllocError, Global};
-use values::{Column, Item, MAX_COLUMNS, Shape};
+use values::{Column, ListItem, MAX_COLUMNS, Shape};
 
 /// The columns that the references name.
 pub(crate) fn columns_of(
@@ -122,16 +122,16 @@ fn key_place(column: Column, by: &[Column]) -> usize
 }
 
 /// An item of the list of a grouped query.
-fn item_of(tables: &[Table], by: &[Column], entry: &Entry) -> Item
+fn item_of(tables: &[Table], by: &[Column], entry: &Entry) -> ListItem
     ensures { item_of result ≡ spec.item_of (tables_of tables.now) (columns_of by.now) (syntax.entry_of entry.now) }
 {
     match entry {
-        Entry::Column(reference) => Item::Key(key_place(named_column(tables, reference), by)),
-        Entry::CountAll => Item::CountAll,
-        Entry::Count(reference) => Item::Count(named_column(tables, reference)),
-        Entry::Sum(reference) => Item::Sum(named_column(tables, reference)),
-        Entry::Min(reference) => Item::Min(named_column(tables, reference)),
-        Entry::Max(reference) => Item::Max(named_column(tables, reference)),
+        Entry::Column(reference) => ListItem::Key(key_place(named_column(tables, reference), by)),
+        Entry::CountAll => ListItem::CountAll,
+        Entry::Count(reference) => ListItem::Count(named_column(tables, reference)),
+        Entry::Sum(reference) => ListItem::Sum(named_column(tables, reference)),
+        Entry::Min(reference) => ListItem::Min(named_column(tables, reference)),
+        Entry::Max(reference) => ListItem::Max(named_column(tables, reference)),
     }
 }
 
@@ -141,7 +141,7 @@ fn items_of(
     tables: &[Table],
     by: &[Column],
     entries: &[Entry],
-) -> Result<Vec<Item>, AllocError>
+) -> Result<Vec<ListItem>, AllocError>
     ensures { IfOk result (λ v. items_of v.items ≡ map (spec.item_of (tables_of tables.now) (columns_of by.now)) (map syntax.entry_of entries.now)) }
 {
     let mut items = Vec::new(alloc);

@@ -5,6 +5,7 @@ use Rattle.std.specs.List.{All, range_with_len}
 use Rattle.std.proofs.lemmas.List.{length-map, length-replicate}
 use Rattle.std.proofs.lemmas.List.Elements.{All-nil, All-head, All-tail, All-cons}
 use Rattle.column.specs.Rows.{IsLaidOut, row_at, signed_rows}
+use Rattle.values.specs.declared.TheConstants.{MAX_COLUMNS}
 use Rattle.values.specs.Row.{Row}
 use Rattle.values.specs.Window.{Element}
 use Rattle.op_queue.specs.Logs.{entering}
@@ -22,7 +23,7 @@ length-parts (c ∷ cs) from to le h =
     (length-slice_range c from to (All-head (λ c. to ≤ length c) c cs h) ∙ sym (length-replicate (to - from) false))
     (length-parts cs from to le (All-tail (λ c. to ≤ length c) c cs h))
 
-pub IsLaidOut-parts : (columns : List (List (Option ℤ))) (from to : ℕ) → from < to → to ≤ from + 1024 → length columns ≤ 16 → All (λ c. to ≤ length c) columns → IsLaidOut (parts_of from to columns) (replicate (to - from) false)
+pub IsLaidOut-parts : (columns : List (List (Option ℤ))) (from to : ℕ) → from < to → to ≤ from + 1024 → length columns ≤ MAX_COLUMNS → All (λ c. to ≤ length c) columns → IsLaidOut (parts_of from to columns) (replicate (to - from) false)
 IsLaidOut-parts columns from to some few narrow h =
     let cut : List (Option ℤ) → List (Option ℤ) = λ c. slice_range c from to in
     let n = length-replicate (to - from) false in

@@ -9,6 +9,7 @@ use Rattle.std.proofs.lemmas.List.{ext_get_or, get_or-append_right, get_or-map, 
 use Rattle.std.proofs.lemmas.List.Elements.{All-nil, All-cons, All-from_get_or, All-weaker}
 use Rattle.std.proofs.lemmas.List.FromFn.{length-map-range_with_len}
 use Rattle.column.specs.Rows.{row_at}
+use Rattle.values.specs.declared.TheConstants.{MAX_COLUMNS}
 use Rattle.values.specs.Row.{Row, value_at}
 use Rattle.values.specs.Window.{Element}
 use Rattle.op_queue.specs.Logs.{Closed}
@@ -22,7 +23,7 @@ All-long : (columns : List (List (Option ℤ))) → All (λ c. 0 ≤ length c) c
 All-long [] = All-nil (λ c. 0 ≤ length c)
 All-long (c ∷ cs) = All-cons (λ c. 0 ≤ length c) c cs (omega arith) (All-long cs)
 
-pub IsLog-none : (instants numbers : List ℕ) (columns : List (Vec (Option ℤ))) (until : ℕ) → length columns ≤ 16 → IsLog 0 instants numbers (lists columns) until
+pub IsLog-none : (instants numbers : List ℕ) (columns : List (Vec (Option ℤ))) (until : ℕ) → length columns ≤ MAX_COLUMNS → IsLog 0 instants numbers (lists columns) until
 IsLog-none instants numbers columns until few = record {
   table = record { has_instants = omega arith; has_numbers = omega arith; has_values = All-long (lists columns); narrow = let f : Vec (Option ℤ) → List (Option ℤ) = λ c. c.items in omega (arith, length-map columns f) };
   ordered = record { instants = λ i j d le lt. absurd (omega arith); arrivals = λ i j d le lt e. absurd (omega arith) };

@@ -3,6 +3,7 @@ use Rattle.std.specs.Prelude.{◌≡◌, ℕ, ℤ, ◌<◌, ◌≤◌, Option, L
 use Rattle.std.specs.Global.{Vec}
 use Rattle.std.specs.List.{All, range_with_len}
 use Rattle.column.specs.Rows.{row_at}
+use Rattle.values.specs.declared.TheConstants.{MAX_COLUMNS}
 use Rattle.values.specs.Row.{value_at}
 use Rattle.values.specs.Window.{Element}
 use Rattle.op_queue.specs.Logs.{Closed, IsInOrder}
@@ -27,7 +28,7 @@ pub record IsTableOf (n : ℕ) (instants numbers : List ℕ) (columns : List (Li
   pub has_instants : n ≤ length instants
   pub has_numbers : n ≤ length numbers
   pub has_values : All (λ c. n ≤ length c) columns
-  pub narrow : length columns ≤ 16
+  pub narrow : length columns ≤ MAX_COLUMNS
 
 pub record IsLog (n : ℕ) (instants numbers : List ℕ) (columns : List (List (Option ℤ))) (until : ℕ) : Type 0 where
   pub table : IsTableOf n instants numbers columns

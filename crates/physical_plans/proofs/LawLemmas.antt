@@ -5,7 +5,7 @@ use Rattle.values.specs.Row.{Row, value_at}
 use Rattle.values.specs.Condition.{Condition, And, Column, field, keeps}
 use Rattle.values.specs.Relation.{Grouped, Listed, shaped}
 use Rattle.values.specs.Resolved.{columns_of, items_of}
-use Rattle.values.specs.declared.resolved.Item.{Item}
+use Rattle.values.specs.declared.resolved.ListItem.{ListItem}
 use Rattle.values.proofs.Split.{keeps-and}
 use Rattle.lane_kernels.specs.Steps.{top}
 use Rattle.group.specs.Groups.{column_at, grouped}
@@ -70,7 +70,7 @@ by_same : (by : List ℕ) → columns_of (map column_at by) ≡ columns_at by
 by_same [] = refl
 by_same (k ∷ by) = ap (λ (cs : List Column). at k ∷ cs) (by_same by)
 
-groups : (by : List ℕ) (items : List Item) (rows : List Row) → grouped (grouping by items) rows ≡ nodes.shaped_rows (Grouped (columns_at by) (items_of items)) rows
+groups : (by : List ℕ) (items : List ListItem) (rows : List Row) → grouped (grouping by items) rows ≡ nodes.shaped_rows (Grouped (columns_at by) (items_of items)) rows
 groups by items rows = ap (λ (cs : List Column). shaped (Grouped cs (items_of items)) (map (λ r. r ∷ []) rows)) (by_same by)
 
 -- ---- Join

@@ -3,7 +3,7 @@ use Rattle.std.specs.Prelude.{ℕ, ◌+◌, ◌≡◌, ◌≤◌, Option, Some, 
 use Rattle.std.specs.List.{AllByRecursion}
 use Rattle.values.specs.Row.{Row}
 use Rattle.values.specs.Resolved.{condition_of}
-use Rattle.values.specs.declared.resolved.Item.{Item}
+use Rattle.values.specs.declared.resolved.ListItem.{ListItem}
 use Rattle.values.specs.declared.resolved.Window.{Window}
 use Rattle.values.specs.declared.resolved.Window.TheVariants as window
 use Rattle.names.specs.Views.{conditions_of}
@@ -53,7 +53,7 @@ window_kind (window.RangeSlide n l) = kind.RangeWindow
 window_kind window.Unbounded = kind.RangeWindow
 window_kind (window.LastRows columns n) = kind.LatestWindow
 
-abbrev pub grouping : List ℕ → List Item → GroupBy
+abbrev pub grouping : List ℕ → List ListItem → GroupBy
 grouping by items = record { by = map column_at by; items = items }
 
 abbrev pub kind_made : List Window → List ℕ → Node → Kind

@@ -5,7 +5,7 @@ use Rattle.values.specs.Row.{Row}
 use Rattle.values.specs.Condition.{Condition}
 use Rattle.values.specs.Relation.{Listed, Grouped}
 use Rattle.values.specs.Resolved.{items_of}
-use Rattle.values.specs.declared.resolved.Item.{Item}
+use Rattle.values.specs.declared.resolved.ListItem.{ListItem}
 use Rattle.group.specs.Groups.{grouped}
 use Rattle.join.specs.Pairs as pairs
 use Rattle.row_nodes.specs.Laws.{Mean, project_value, select_value}
@@ -23,5 +23,5 @@ pub record KindsMeanTheirNodes : Type 0 where
   -- they need no more truths than n where the first condition needs no more, and each further one fewer
   pub truths : (n : ℕ) (c : Condition) (cs : List Condition) → truths_needed c ≤ n → AllByRecursion (λ d. truths_needed d + 1 ≤ n) cs → truths_needed (joined c cs) ≤ n
   pub projects : (places : List ℕ) (rows : List Row) → project_value places rows ≡ nodes.shaped_rows (Listed (columns_at places)) rows
-  pub groups : (by : List ℕ) (items : List Item) (rows : List Row) → grouped (grouping by items) rows ≡ nodes.shaped_rows (Grouped (columns_at by) (items_of items)) rows
+  pub groups : (by : List ℕ) (items : List ListItem) (rows : List Row) → grouped (grouping by items) rows ≡ nodes.shaped_rows (Grouped (columns_at by) (items_of items)) rows
   pub joins : (keys : List Key) (ls rs : List Row) → pairs.joined (map key_pair keys) ls rs ≡ nodes.joined (keys_of keys) ls rs

@@ -15,7 +15,7 @@ use group::GroupBy;
 use plan::Node;
 use std::alloc::{AllocError, Global};
 use turn::{ColumnList, Kind, StepList};
-use values::{Column, Condition, Item, MAX_COLUMNS, Window};
+use values::{Column, Condition, ListItem, MAX_COLUMNS, Window};
 
 /// What an operator does, from the windows of the sources and how many columns the rows of each operator have.
 pub(crate) fn kind_made(
@@ -64,7 +64,11 @@ fn project_kind(alloc: Global, places: &[usize]) -> Result<Kind, AllocError>
 }
 
 /// Group By's columns as those of the one row that goes between operators, and the list.
-pub(crate) fn grouping(alloc: Global, by: &[usize], items: &[Item]) -> Result<GroupBy, AllocError>
+pub(crate) fn grouping(
+    alloc: Global,
+    by: &[usize],
+    items: &[ListItem],
+) -> Result<GroupBy, AllocError>
     requires by { length by.now ≤ MAX_COLUMNS }
     requires items { length items.now ≤ MAX_COLUMNS }
     ensures { IfOk result (λ g. g ≡ grouping by.now items.now) }

@@ -2,13 +2,13 @@
 use Rattle.std.proofs.Common.{◌≡◌, ℕ, Bool, List, ◌++◌, length, refl, sym, ap, ◌∙◌, append_assoc}
 use Rattle.std.proofs.lemmas.List.{length-map}
 use Rattle.values.specs.Condition.{Condition}
-use Rattle.values.specs.Answers.{Operator}
+use Rattle.values.specs.Answers.{StreamOperator}
 use Rattle.plan.specs.Nodes as spec
 use Rattle.plan.specs.Build.{source_nodes, tops, joins_of, top_of, rest_nodes, rest_top, end_nodes, nodes_over}
 use Rattle.plan.specs.declared.node.Node.{Node}
 use Rattle.plan.specs.Views.{node_of, nodes_of, Grown}
 
-pub assembled : (own : List (List Condition)) (keys : List (List spec.Key)) (rest : List Condition) (is_distinct : Bool) (shape : ℕ → spec.Node) (op : Operator)
+pub assembled : (own : List (List Condition)) (keys : List (List spec.Key)) (rest : List Condition) (is_distinct : Bool) (shape : ℕ → spec.Node) (op : StreamOperator)
     → (a b c d : List Node) (ts : List ℕ) (top last : ℕ)
     → nodes_of a ≡ source_nodes 0 0 own → ts ≡ tops 0 own
     → Grown a b (joins_of (length a) ts keys) → top ≡ top_of (length a) ts keys

@@ -9,7 +9,7 @@ use Rattle.std.proofs.lemmas.Bool.Decides.{Decides-int_eq}
 use Rattle.std.proofs.lemmas.List.{length-map, map-append, get_or-append-add}
 use Rattle.std.proofs.lemmas.List.FromFn.{length-map-range_with_len}
 use Rattle.values.specs.Condition.{Condition}
-use Rattle.values.specs.Answers.{Resolved, Operator}
+use Rattle.values.specs.Answers.{Resolved, StreamOperator}
 use Rattle.cql_reader.specs.Query as syntax
 use Rattle.names.specs.Catalog.{Stream}
 use Rattle.names.specs.Resolved.{resolved, widths}
@@ -68,12 +68,12 @@ all_in_range : (xs : List Node) → AllByRecursion InRange (map default_of xs)
 all_in_range [] = tt
 all_in_range (x ∷ xs) = (in_range x, all_in_range xs)
 
-end-root : (b : Bool) (shape : Node) (op : Operator) (k : ℕ)
+end-root : (b : Bool) (shape : Node) (op : StreamOperator) (k : ℕ)
     → get_or (map default_of (end_nodes b shape op k)) (length (end_nodes b shape op k) - 1) (measure 0 0) ≡ measure 1 0
 end-root true shape op k = refl
 end-root false shape op k = refl
 
-default-root : (xs : List Node) (b : Bool) (shape : Node) (op : Operator) (k : ℕ)
+default-root : (xs : List Node) (b : Bool) (shape : Node) (op : StreamOperator) (k : ℕ)
     → get_or (map default_of (xs ++ end_nodes b shape op k)) (length (xs ++ end_nodes b shape op k) - 1) (measure 0 0) ≡ measure 1 0
 default-root xs b shape op k =
     let end : List Node = end_nodes b shape op k in
@@ -83,7 +83,7 @@ default-root xs b shape op k =
     ∙ get_or-append-add (map default_of xs) (map default_of end) (length end - 1) (measure 0 0)
     ∙ end-root b shape op k
 
-by_default : (own : List (List Condition)) (keys : List (List Key)) (rest : List Condition) (b : Bool) (shape : ℕ → Node) (op : Operator)
+by_default : (own : List (List Condition)) (keys : List (List Key)) (rest : List Condition) (b : Bool) (shape : ℕ → Node) (op : StreamOperator)
     → Measured (length (nodes_over own keys rest b shape op)) (map default_of (nodes_over own keys rest b shape op))
 by_default own keys rest b shape op =
     let sources : List Node = source_nodes 0 0 own in
@@ -162,7 +162,7 @@ rest-length : (top : ℕ) (cs : List Condition) → length (rest_nodes top cs) �
 rest-length top [] = omega arith
 rest-length top (c ∷ cs) = omega arith
 
-nodes-few : (own : List (List Condition)) (keys : List (List Key)) (rest : List Condition) (b : Bool) (shape : ℕ → Node) (op : Operator)
+nodes-few : (own : List (List Condition)) (keys : List (List Key)) (rest : List Condition) (b : Bool) (shape : ℕ → Node) (op : StreamOperator)
     → length (nodes_over own keys rest b shape op) ≤ 2 * length own + length keys + 4
 nodes-few own keys rest b shape op =
     let sources : List Node = source_nodes 0 0 own in

@@ -4,7 +4,7 @@ use Rattle.values.specs.Row.{Row, row_cmp}
 use Rattle.values.specs.Bag.{distinct}
 use Rattle.values.specs.Condition.{Column, Condition}
 use Rattle.values.specs.Relation.{Shape, Listed, Grouped}
-use Rattle.values.specs.Answers.{Operator}
+use Rattle.values.specs.Answers.{StreamOperator}
 use Rattle.plan.specs.Nodes.{Key, Node, selected, shaped_rows, node_value, values_of, last_of, plan_value}
 use Rattle.plan.specs.Build.{source_nodes, tops, joins_of, top_of, rest_nodes, rest_top, shape_node, end_nodes, nodes_over}
 use Rattle.std.specs.List.{AllByRecursion}
@@ -30,7 +30,7 @@ rest-value ws done n top (c ∷ cs) e = at_end done (selected (c ∷ cs) (get_or
 abbrev pub once : Bool → List Row → List Row
 once b rows = cond b (distinct row_cmp rows) rows
 
-ends-value : (ws done : List (List Row)) (b : Bool) (shape : Node) (op : Operator) (n : ℕ) → length done ≡ n
+ends-value : (ws done : List (List Row)) (b : Bool) (shape : Node) (op : StreamOperator) (n : ℕ) → length done ≡ n
     → last_of (values_of ws done (end_nodes b shape op n)) ≡ once b (node_value ws done shape)
 ends-value ws done true shape op n e =
     let x : List Row = node_value ws done shape in
@@ -48,7 +48,7 @@ shape-value ws done f top (Listed columns) = refl
 shape-value ws done f top (Grouped by items) = refl
 
 -- the value of the nodes by what they are made of
-pub nodes-value : (ws : List (List Row)) (own : List (List Condition)) (keys : List (List Key)) (rest : List Condition) (b : Bool) (f : Column → Column) (shape : Shape) (op : Operator)
+pub nodes-value : (ws : List (List Row)) (own : List (List Condition)) (keys : List (List Key)) (rest : List Condition) (b : Bool) (f : Column → Column) (shape : Shape) (op : StreamOperator)
     → 0 < length (tops 0 own)
     → plan_value (nodes_over own keys rest b (λ top. shape_node f top shape) op) ws
     ≡ once b (shaped_rows (shape_moved f shape) (selected rest (join_tables (chosen_from ws 0 own) keys)))

@@ -7,7 +7,7 @@ use Rattle.values.specs.Value.{clamp_answer}
 use Rattle.values.specs.Row.{Row, row_cmp, same_row}
 use Rattle.values.specs.Bag.{distinct}
 use Rattle.values.specs.Condition.{Column, Operand, Field, Number, Condition, Compared, Not, And, Or, field, operand, compared, not3, and3, or3, truth, is_known_true}
-use Rattle.values.specs.Relation.{Item, Key, CountAll, Count, Sum, Min, Max, Shape, Listed, Grouped, numbers, item_value, key_of, keys_of, group_row, shaped}
+use Rattle.values.specs.Relation.{ListItem, Key, CountAll, Count, Sum, Min, Max, Shape, Listed, Grouped, numbers, item_value, key_of, keys_of, group_row, shaped}
 use Rattle.names.specs.Split.{columns_of, columns_of_operand}
 use Rattle.plan.specs.Nodes.{holds_all}
 use Rattle.plan.specs.Build.{operand_moved, moved, item_moved}
@@ -77,7 +77,7 @@ module _ (f : Column → Column) (g : List Row → List Row) (P : List Row → T
   length-moved [] = refl
   length-moved (rows ∷ group) = ap suc (length-moved group)
 
-  abbrev pub ItemIn : Item → Type 0
+  abbrev pub ItemIn : ListItem → Type 0
   ItemIn (Key k) = Unit {0}
   ItemIn CountAll = Unit {0}
   ItemIn (Count c) = S c
@@ -85,7 +85,7 @@ module _ (f : Column → Column) (g : List Row → List Row) (P : List Row → T
   ItemIn (Min c) = S c
   ItemIn (Max c) = S c
 
-  item-moved : (key : Row) (group : List (List Row)) → AllByRecursion P group → (i : Item) → ItemIn i → item_value key group i ≡ item_value key (map g group) (item_moved f i)
+  item-moved : (key : Row) (group : List (List Row)) → AllByRecursion P group → (i : ListItem) → ItemIn i → item_value key group i ≡ item_value key (map g group) (item_moved f i)
   item-moved key group k (Key n) s = refl
   item-moved key group k CountAll s = ap (λ n. Some (pos n)) (length-moved group)
   item-moved key group k (Count c) s = ap (λ v. Some (pos (length {A = ℤ} v))) (numbers-moved c s group k)
@@ -93,14 +93,14 @@ module _ (f : Column → Column) (g : List Row → List Row) (P : List Row → T
   item-moved key group k (Min c) s = ap (λ v. reduce int_min v) (numbers-moved c s group k)
   item-moved key group k (Max c) s = ap (λ v. reduce int_max v) (numbers-moved c s group k)
 
-  items-moved : (key : Row) (group : List (List Row)) → AllByRecursion P group → (items : List Item) → AllByRecursion ItemIn items
+  items-moved : (key : Row) (group : List (List Row)) → AllByRecursion P group → (items : List ListItem) → AllByRecursion ItemIn items
       → map (item_value key group) items ≡ map (item_value key (map g group)) (map (item_moved f) items)
   items-moved key group k [] h = refl
   items-moved key group k (i ∷ items) h =
       ap (λ v. v ∷ map (item_value key group) items) (item-moved key group k i h.0)
       ∙ ap (λ v. item_value key (map g group) (item_moved f i) ∷ v) (items-moved key group k items h.1)
 
-  group_row-moved : (by : List Column) (items : List Item) (kept : List (List Row)) → AllByRecursion S by → AllByRecursion ItemIn items → AllByRecursion P kept → (key : Row)
+  group_row-moved : (by : List Column) (items : List ListItem) (kept : List (List Row)) → AllByRecursion S by → AllByRecursion ItemIn items → AllByRecursion P kept → (key : Row)
       → group_row by items kept key ≡ group_row (map f by) (map (item_moved f) items) (map g kept) key
   group_row-moved by items kept h i k key =
       let t : List Row → Bool = λ rows. same_row key (key_of by rows) in
@@ -113,7 +113,7 @@ module _ (f : Column → Column) (g : List Row → List Row) (P : List Row → T
   keys_of-moved [] h kept k = refl
   keys_of-moved (c ∷ by) h kept k = ap (distinct row_cmp) (keys-moved (c ∷ by) h kept k)
 
-  group_rows-moved : (by : List Column) (items : List Item) (kept : List (List Row)) → AllByRecursion S by → AllByRecursion ItemIn items → AllByRecursion P kept → (keys : List Row)
+  group_rows-moved : (by : List Column) (items : List ListItem) (kept : List (List Row)) → AllByRecursion S by → AllByRecursion ItemIn items → AllByRecursion P kept → (keys : List Row)
       → map (group_row by items kept) keys ≡ map (group_row (map f by) (map (item_moved f) items) (map g kept)) keys
   group_rows-moved by items kept h i k [] = refl
   group_rows-moved by items kept h i k (key ∷ keys) =

@@ -4,7 +4,7 @@ use Rattle.values.specs.Row.{Row, row_cmp}
 use Rattle.values.specs.Bag.{distinct}
 use Rattle.values.specs.Condition.{Column, Condition}
 use Rattle.values.specs.Relation.{Shape, Listed, Grouped}
-use Rattle.values.specs.Answers.{Operator}
+use Rattle.values.specs.Answers.{StreamOperator}
 use Rattle.plan.specs.Nodes.{Key, Node, Window, Select, Join, Project, Group, Distinct, ToStream, selected, joined, shaped_rows, node_value, values_of}
 use Rattle.plan.specs.Build.{source_nodes, tops, join_nodes, joins_top, joins_of, top_of, rest_nodes, rest_top, shape_node, end_nodes, nodes_over}
 use Rattle.std.specs.List.{AllByRecursion}
@@ -92,11 +92,11 @@ shape-below : (f : Column → Column) (n top : ℕ) (shape : Shape) → top < n 
 shape-below f n top (Listed columns) l = l
 shape-below f n top (Grouped by items) l = l
 
-ends-rise : (b : Bool) (shape : Node) (op : Operator) (n : ℕ) → Below n shape → Rises n (end_nodes b shape op n)
+ends-rise : (b : Bool) (shape : Node) (op : StreamOperator) (n : ℕ) → Below n shape → Rises n (end_nodes b shape op n)
 ends-rise true shape op n l = (l, (omega arith, (omega arith, tt)))
 ends-rise false shape op n l = (l, (omega arith, tt))
 
-pub nodes-rise : (own : List (List Condition)) (keys : List (List Key)) (rest : List Condition) (b : Bool) (f : Column → Column) (shape : Shape) (op : Operator)
+pub nodes-rise : (own : List (List Condition)) (keys : List (List Key)) (rest : List Condition) (b : Bool) (f : Column → Column) (shape : Shape) (op : StreamOperator)
     → 0 < length (tops 0 own) → Rises 0 (nodes_over own keys rest b (λ top. shape_node f top shape) op)
 nodes-rise own keys rest b f shape op some =
     let sources : List Node = source_nodes 0 0 own in

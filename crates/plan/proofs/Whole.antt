@@ -5,7 +5,7 @@ use Rattle.std.proofs.lemmas.List.{length-map}
 use Rattle.std.proofs.lemmas.List.FromFn.{length-map-range_with_len}
 use Rattle.values.specs.Row.{Row}
 use Rattle.values.specs.Condition.{Column, Condition, field, keeps}
-use Rattle.values.specs.Relation.{Shape, Listed, Grouped, Item, Key, CountAll, Count, Sum, Min, Max, combinations, shaped}
+use Rattle.values.specs.Relation.{Shape, Listed, Grouped, ListItem, Key, CountAll, Count, Sum, Min, Max, combinations, shaped}
 use Rattle.values.specs.Answers.{Resolved, body}
 use Rattle.names.specs.Split.{JoinKey, all_conjuncts, columns_of, own, keys, remains, remaining, own_of, join_keys, join_keys_of}
 use Rattle.plan.specs.Nodes.{holds_all, selected, shaped_rows, plan_value}
@@ -49,7 +49,7 @@ module _ (vs : List ℕ) where
       let many : length rows ≡ length vs = sym (length-map rows length) ∙ ap length fit in
       sym (rw (← e) (flat-field rows [] k.source k.column (omega (arith, h.source, many)) (rw e h.column)))
 
-  items_in : (is : List Item) → AllByRecursion (ItemInScope vs) is → AllByRecursion (ItemIn (placed vs) as_row (Fit vs) (InScope vs) agree) is
+  items_in : (is : List ListItem) → AllByRecursion (ItemInScope vs) is → AllByRecursion (ItemIn (placed vs) as_row (Fit vs) (InScope vs) agree) is
   items_in [] h = tt
   items_in (Key k ∷ is) h = (tt, items_in is h.1)
   items_in (CountAll ∷ is) h = (tt, items_in is h.1)

@@ -1,8 +1,8 @@
 -- The plan of a query.
 use Rattle.std.specs.Prelude.{ℕ, zero, suc, ◌+◌, Bool, true, false, List, [], ◌∷◌, ◌++◌, map, length}
 use Rattle.values.specs.Condition.{Column, Operand, Field, Number, Condition, Compared, Not, And, Or}
-use Rattle.values.specs.Relation.{Shape, Listed, Grouped, Item, CountAll, Count, Sum, Min, Max}
-use Rattle.values.specs.Answers.{Resolved, Operator}
+use Rattle.values.specs.Relation.{Shape, Listed, Grouped, ListItem, CountAll, Count, Sum, Min, Max}
+use Rattle.values.specs.Answers.{Resolved, StreamOperator}
 use Rattle.names.specs.Split.{all_conjuncts, JoinKey, own_of, join_keys_of, remaining}
 use Rattle.plan.specs.Nodes.{Key, Node, Window, Select, Join, Project, Group, Distinct, ToStream}
 
@@ -35,7 +35,7 @@ moved f (Not c) = Not (moved f c)
 moved f (And c d) = And (moved f c) (moved f d)
 moved f (Or c d) = Or (moved f c) (moved f d)
 
-abbrev pub item_moved : (Column → Column) → Item → Item
+abbrev pub item_moved : (Column → Column) → ListItem → ListItem
 item_moved f (Rattle.values.specs.Relation.Key k) = Rattle.values.specs.Relation.Key k
 item_moved f CountAll = CountAll
 item_moved f (Count c) = Count (f c)
@@ -96,12 +96,12 @@ shape_node f top (Listed columns) = Project top (map f columns)
 shape_node f top (Grouped by items) = Group top (map f by) (map (item_moved f) items)
 
 -- the operators above the relation of all sources
-abbrev pub end_nodes : Bool → Node → Operator → ℕ → List Node
+abbrev pub end_nodes : Bool → Node → StreamOperator → ℕ → List Node
 end_nodes true shape op n = shape ∷ Distinct n ∷ ToStream (suc n) op ∷ []
 end_nodes false shape op n = shape ∷ ToStream n op ∷ []
 
 -- the nodes of the sources, of the joins, and of what follows, after these
-abbrev pub nodes_over : List (List Condition) → List (List Key) → List Condition → Bool → (ℕ → Node) → Operator → List Node
+abbrev pub nodes_over : List (List Condition) → List (List Key) → List Condition → Bool → (ℕ → Node) → StreamOperator → List Node
 nodes_over own keys rest is_distinct shape op =
     let sources : List Node = source_nodes 0 0 own in
     let joins : List Node = joins_of (length sources) (tops 0 own) keys in

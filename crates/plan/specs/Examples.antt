@@ -1,6 +1,7 @@
 -- Plans of worked queries over the streams S(a), A(k), B(k, v), C(v).
 use Rattle.std.specs.Prelude.{◌≡◌, ℕ, Option, Some, None, ℤ, pos, List, [], ◌∷◌, refl}
-use Rattle.values.specs.Condition.{Field, Number, Compared, Or, Equals, Above}
+use Rattle.values.specs.Condition.{Field, Number, Compared, Or}
+use Rattle.values.specs.declared.resolved.Compare.TheVariants.{Equals, Above}
 use Rattle.values.specs.Answers.{Istream}
 use Rattle.cql_reader.specs.Query.{Query, All}
 use Rattle.names.specs.Examples.{declared, three, partly, of, query}

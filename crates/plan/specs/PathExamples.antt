@@ -1,6 +1,7 @@
 -- The slopes of worked plans.
 use Rattle.std.specs.Prelude.{◌≡◌, ℕ, ℤ, pos, Option, Some, None, List, [], ◌∷◌, refl, map}
-use Rattle.values.specs.Condition.{Field, Number, Compared, Above}
+use Rattle.values.specs.Condition.{Field, Number, Compared}
+use Rattle.values.specs.declared.resolved.Compare.TheVariants.{Above}
 use Rattle.values.specs.Answers.{Istream}
 use Rattle.envelope.specs.Fraction.{Fraction, fraction}
 use Rattle.envelope.specs.LowestTerms.{common_divisor, lowest_terms}

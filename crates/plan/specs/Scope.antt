@@ -3,7 +3,7 @@ use Rattle.std.specs.Prelude.{◌≡◌, ℕ, ◌<◌, Option, Some, None, List,
 use Rattle.std.specs.List.{AllByRecursion}
 use Rattle.values.specs.Row.{Row}
 use Rattle.values.specs.Condition.{Column, Operand, Field, Number, Condition, Compared, Not, And, Or}
-use Rattle.values.specs.Relation.{Shape, Listed, Grouped, Item, Key, CountAll, Count, Sum, Min, Max}
+use Rattle.values.specs.Relation.{Shape, Listed, Grouped, ListItem, Key, CountAll, Count, Sum, Min, Max}
 use Rattle.values.specs.Answers.{Resolved}
 use Rattle.names.specs.Split.{columns_of}
 
@@ -23,7 +23,7 @@ ColumnsInScope vs (Not c) = ColumnsInScope vs c
 ColumnsInScope vs (And c d) = ColumnsInScope vs c × ColumnsInScope vs d
 ColumnsInScope vs (Or c d) = ColumnsInScope vs c × ColumnsInScope vs d
 
-abbrev pub ItemInScope : List ℕ → Item → Type 0
+abbrev pub ItemInScope : List ℕ → ListItem → Type 0
 ItemInScope vs (Key k) = Unit {0}
 ItemInScope vs CountAll = Unit {0}
 ItemInScope vs (Count c) = InScope vs c

@@ -5,7 +5,7 @@ ghost use Rattle.plan.specs.Paths.{is_window, takes};
 ghost use Rattle.plan.specs.Views.{node_of};
 
 use std::fmt;
-use values::{Condition, Item, Operator};
+use values::{Condition, ListItem, StreamOperator};
 
 /// A key of a join: a place in the left row, and one in the right.
 #[derive(Clone, Copy, Debug, PartialEq, Eq)]
@@ -28,11 +28,11 @@ pub enum Node {
     /// The listed columns.
     Project(usize, Vec<usize>),
     /// Group By's columns, none where it is missing, and the list, of each group.
-    Group(usize, Vec<usize>, Vec<Item>),
+    Group(usize, Vec<usize>, Vec<ListItem>),
     /// Each row once.
     Distinct(usize),
     /// The stream of the input's relation: the root.
-    ToStream(usize, Operator),
+    ToStream(usize, StreamOperator),
 }
 
 /// What an operator does. It is shown by its name, as `Window`.

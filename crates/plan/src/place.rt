@@ -9,7 +9,7 @@ ghost use Rattle.plan.specs.Views.{columns_at, keys_of};
 
 use crate::node::Key;
 use std::alloc::{AllocError, Global};
-use values::{Column, Condition, Item, Operand};
+use values::{Column, Condition, ListItem, Operand};
 
 /// The place of a column in the joined row of sources so wide.
 pub fn offset(widths: &[usize], column: Column) -> usize
@@ -150,9 +150,9 @@ pub fn placed_keys(
 /// The items of a list, by places in the joined row.
 pub fn placed_items(
     alloc: Global,
-    items: &[Item],
+    items: &[ListItem],
     widths: &[usize],
-) -> Result<Vec<Item>, AllocError>
+) -> Result<Vec<ListItem>, AllocError>
     requires room { sum widths.now < 2 ^ 64 }
     requires scope { AllByRecursion (λ i. ItemInScope widths.now (item_of i)) items.now }
     ensures { IfOk result (λ placed. items_of placed.items ≡ map (spec.item_moved (spec.placed widths.now)) (items_of items.now)) }
@@ -164,17 +164,17 @@ pub fn placed_items(
     Ok(placed)
 }
 
-fn placed_item(item: Item, widths: &[usize]) -> Item
+fn placed_item(item: ListItem, widths: &[usize]) -> ListItem
     requires room { sum widths.now < 2 ^ 64 }
     requires scope { ItemInScope widths.now (item_of item) }
     ensures { item_of result ≡ spec.item_moved (spec.placed widths.now) (item_of item) }
 {
     match item {
-        Item::Key(place) => Item::Key(place),
-        Item::CountAll => Item::CountAll,
-        Item::Count(column) => Item::Count(at(offset(widths, column))),
-        Item::Sum(column) => Item::Sum(at(offset(widths, column))),
-        Item::Min(column) => Item::Min(at(offset(widths, column))),
-        Item::Max(column) => Item::Max(at(offset(widths, column))),
+        ListItem::Key(place) => ListItem::Key(place),
+        ListItem::CountAll => ListItem::CountAll,
+        ListItem::Count(column) => ListItem::Count(at(offset(widths, column))),
+        ListItem::Sum(column) => ListItem::Sum(at(offset(widths, column))),
+        ListItem::Min(column) => ListItem::Min(at(offset(widths, column))),
+        ListItem::Max(column) => ListItem::Max(at(offset(widths, column))),
     }
 }

@@ -5,23 +5,16 @@ use Rattle.std.specs.declared.cmp.Ordering.TheVariants.{Less, Equal, Greater}
 use Rattle.std.specs.Ordering.{int_cmp, ordering_reverse}
 use Rattle.std.proofs.lemmas.Cmp.{int_cmp_total}
 use Rattle.values.specs.Row.{Row, value_at}
-use Rattle.values.specs.Condition.{Condition, Compared, Not, And, Or, Compare, Equals, Differs, Below, AtMost, Above, AtLeast, Operand, Field, Number, Column, passes, compared, field, operand, truth}
-use Rattle.lane_kernels.specs.How.{compare_of}
+use Rattle.values.specs.Condition.{Condition, Compared, Not, And, Or, Operand, Field, Number, Column, passes, compared, field, operand, truth}
+use Rattle.values.specs.declared.resolved.Compare.{Compare}
+use Rattle.values.specs.declared.resolved.Compare.TheVariants.{Equals, Differs, Below, AtMost, Above, AtLeast}
 use Rattle.lane_kernels.specs.Steps.{StepsFit, after, after_all}
 use Rattle.lane_kernels.specs.declared.condition.Step.{Step}
 use Rattle.lane_kernels.specs.declared.condition.Step.TheVariants as step
 use Rattle.lane_kernels.proofs.ConditionLemmas.{after_all-append}
-use Rattle.row_nodes.specs.Steps.{comparison, turned, comparison_step, steps_of, truths_needed, OperandIsOver, IsOver, OperandIsOfOne, IsOfOneSource, Whole, InOr, InAnd, open_at_once}
+use Rattle.row_nodes.specs.Steps.{turned, comparison_step, steps_of, truths_needed, OperandIsOver, IsOver, OperandIsOfOne, IsOfOneSource, Whole, InOr, InAnd, open_at_once}
 
 -- ---- meaning
-pub comparison_means : (how : Compare) → compare_of (comparison how) ≡ how
-comparison_means Equals = refl
-comparison_means Differs = refl
-comparison_means Below = refl
-comparison_means AtMost = refl
-comparison_means Above = refl
-comparison_means AtLeast = refl
-
 turned_passes : (how : Compare) (o : Ordering) → passes (turned how) (ordering_reverse o) ≡ passes how o
 turned_passes Equals Less = refl
 turned_passes Equals Equal = refl
@@ -52,11 +45,11 @@ field_of row c e = ap (λ k. value_at (get_or (row ∷ []) k []) c.column) e
 step_means : (a : Operand) (how : Compare) (b : Operand) (row : Row) (ts : List (Option Bool)) → OperandIsOfOne a → OperandIsOfOne b
     → after (comparison_step a how b) row ts ≡ compared how (operand (row ∷ []) a) (operand (row ∷ []) b) ∷ ts
 step_means (Field c) how (Field d) row ts h k =
-    ap (λ t. t ∷ ts) (ap (λ w. compared w (value_at row c.column) (value_at row d.column)) (comparison_means how) ∙ ap₂ (λ x y. compared how x y) (sym (field_of row c h)) (sym (field_of row d k)))
+    ap (λ t. t ∷ ts) (ap₂ (λ x y. compared how x y) (sym (field_of row c h)) (sym (field_of row d k)))
 step_means (Field c) how (Number z) row ts h k =
-    ap (λ t. t ∷ ts) (ap (λ w. compared w (value_at row c.column) (Some z)) (comparison_means how) ∙ ap (λ x. compared how x (Some z)) (sym (field_of row c h)))
+    ap (λ t. t ∷ ts) (ap (λ x. compared how x (Some z)) (sym (field_of row c h)))
 step_means (Number y) how (Field d) row ts h k =
-    ap (λ t. t ∷ ts) (ap (λ w. compared w (value_at row d.column) (Some y)) (comparison_means (turned how)) ∙ turned_compared how y (value_at row d.column) ∙ ap (λ x. compared how (Some y) x) (sym (field_of row d k)))
+    ap (λ t. t ∷ ts) (turned_compared how y (value_at row d.column) ∙ ap (λ x. compared how (Some y) x) (sym (field_of row d k)))
 step_means (Number y) how (Number z) row ts h k = refl
 
 pub steps_mean : (c : Condition) (row : Row) (ts : List (Option Bool)) → IsOfOneSource c → after_all (steps_of c) row ts ≡ truth c (row ∷ []) ∷ ts

@@ -1,8 +1,8 @@
 -- The definitions at worked rows and conditions.
 use Rattle.std.specs.Prelude.{◌≡◌, ℕ, Bool, true, false, Option, Some, None, ℤ, pos, List, [], ◌∷◌, refl}
 use Rattle.values.specs.Row.{Row}
-use Rattle.values.specs.Condition.{Column, Compared, Condition, Not, And, Or, Equals, Below, Above, Field, Number}
-use Rattle.lane_kernels.specs.declared.comparison.Comparison.TheVariants as kernel
+use Rattle.values.specs.Condition.{Column, Compared, Condition, Not, And, Or, Field, Number}
+use Rattle.values.specs.declared.resolved.Compare.TheVariants.{Equals, Below, Above}
 use Rattle.lane_kernels.specs.declared.condition.Step.{Step}
 use Rattle.lane_kernels.specs.declared.condition.Step.TheVariants as step
 use Rattle.op_queue.specs.Entries.{RowAt, TickAt}
@@ -29,7 +29,7 @@ abbrev either : Condition
 either = Or (Compared (Field (at 1)) Equals (Field (at 0))) (Not (Compared (Field (at 1)) Above (Number (pos 3))))
 
 in_postfix_order : steps_of (And five_below either)
-    ≡ step.Number 0 kernel.Greater (pos 5) ∷ step.Columns 1 kernel.Equal 0 ∷ step.Number 1 kernel.Greater (pos 3) ∷ step.Not ∷ step.Or ∷ step.And ∷ []
+    ≡ step.Number 0 Above (pos 5) ∷ step.Columns 1 Equals 0 ∷ step.Number 1 Above (pos 3) ∷ step.Not ∷ step.Or ∷ step.And ∷ []
 in_postfix_order = refl
 
 -- three truths wait, with one Not inside one bracket

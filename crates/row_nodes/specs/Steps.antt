@@ -1,19 +1,11 @@
 -- A condition over the rows of one source, as steps in postfix order.
 use Rattle.std.specs.Prelude.{ℕ, suc, ◌+◌, ◌<◌, ◌≡◌, max, List, [], ◌∷◌, ◌++◌}
 use Rattle.std.specs.Ordering.{int_cmp}
-use Rattle.values.specs.Condition.{Condition, Compared, Not, And, Or, Compare, Equals, Differs, Below, AtMost, Above, AtLeast, Operand, Field, Number, passes}
-use Rattle.lane_kernels.specs.declared.comparison.Comparison.{Comparison}
-use Rattle.lane_kernels.specs.declared.comparison.Comparison.TheVariants as kernel
+use Rattle.values.specs.Condition.{Condition, Compared, Not, And, Or, Operand, Field, Number, passes}
+use Rattle.values.specs.declared.resolved.Compare.{Compare}
+use Rattle.values.specs.declared.resolved.Compare.TheVariants.{Equals, Differs, Below, AtMost, Above, AtLeast}
 use Rattle.lane_kernels.specs.declared.condition.Step.{Step}
 use Rattle.lane_kernels.specs.declared.condition.Step.TheVariants as step
-
-abbrev pub comparison : Compare → Comparison
-comparison Equals = kernel.Equal
-comparison Differs = kernel.NotEqual
-comparison Below = kernel.Less
-comparison AtMost = kernel.LessOrEqual
-comparison Above = kernel.Greater
-comparison AtLeast = kernel.GreaterOrEqual
 
 -- the comparison with its sides changed about
 abbrev pub turned : Compare → Compare
@@ -25,9 +17,9 @@ turned Above = Below
 turned AtLeast = AtMost
 
 abbrev pub comparison_step : Operand → Compare → Operand → Step
-comparison_step (Field c) how (Field d) = step.Columns c.column (comparison how) d.column
-comparison_step (Field c) how (Number z) = step.Number c.column (comparison how) z
-comparison_step (Number y) how (Field d) = step.Number d.column (comparison (turned how)) y
+comparison_step (Field c) how (Field d) = step.Columns c.column how d.column
+comparison_step (Field c) how (Number z) = step.Number c.column how z
+comparison_step (Number y) how (Field d) = step.Number d.column (turned how) y
 comparison_step (Number y) how (Number z) = step.Known (passes how (int_cmp y z))
 
 abbrev pub steps_of : Condition → List Step

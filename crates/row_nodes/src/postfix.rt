@@ -6,9 +6,9 @@ ghost use Rattle.values.specs.Condition.{truth};
 ghost use Rattle.values.specs.Row.{Row};
 ghost use Rattle.values.specs.Resolved as resolved;
 ghost use Rattle.lane_kernels.specs.Steps.{StepsFit, steps_truth};
-ghost use Rattle.row_nodes.specs.Steps.{IsOfOneSource, IsOver, comparison, comparison_step, steps_of, truths_needed, turned};
+ghost use Rattle.row_nodes.specs.Steps.{IsOfOneSource, IsOver, comparison_step, steps_of, truths_needed, turned};
 
-use lane_kernels::{Comparison, MAX_TRUTHS, Step};
+use lane_kernels::{MAX_TRUTHS, Step};
 use std::alloc::{AllocError, Global};
 use values::{Compare, Condition, Operand};
 
@@ -55,44 +55,19 @@ fn add(steps: &mut Vec<Step>, condition: &Condition) -> Result<(), AllocError>
 }
 
 fn comparison_step(left: Operand, how: Compare, right: Operand) -> Step
-    ensures { result ≡ comparison_step (resolved.operand_of left) (resolved.compare_of how) (resolved.operand_of right) }
+    ensures { result ≡ comparison_step (resolved.operand_of left) how (resolved.operand_of right) }
 {
     match (left, right) {
-        (Operand::Field(a), Operand::Field(b)) => Step::Columns(
-            a.column,
-            comparison(how),
-            b.column,
-        ),
-        (Operand::Field(a), Operand::Number(number)) => Step::Number(
-            a.column,
-            comparison(how),
-            number,
-        ),
-        (Operand::Number(number), Operand::Field(b)) => Step::Number(
-            b.column,
-            comparison(turned(how)),
-            number,
-        ),
+        (Operand::Field(a), Operand::Field(b)) => Step::Columns(a.column, how, b.column),
+        (Operand::Field(a), Operand::Number(number)) => Step::Number(a.column, how, number),
+        (Operand::Number(number), Operand::Field(b)) => Step::Number(b.column, turned(how), number),
         (Operand::Number(a), Operand::Number(b)) => Step::Known(passes(a, how, b)),
-    }
-}
-
-fn comparison(how: Compare) -> Comparison
-    ensures { result ≡ comparison (resolved.compare_of how) }
-{
-    match how {
-        Compare::Equals => Comparison::Equal,
-        Compare::Differs => Comparison::NotEqual,
-        Compare::Below => Comparison::Less,
-        Compare::AtMost => Comparison::LessOrEqual,
-        Compare::Above => Comparison::Greater,
-        Compare::AtLeast => Comparison::GreaterOrEqual,
     }
 }
 
 /// The comparison with its sides changed about.
 fn turned(how: Compare) -> Compare
-    ensures { resolved.compare_of result ≡ turned (resolved.compare_of how) }
+    ensures { result ≡ turned how }
 {
     match how {
         Compare::Equals => Compare::Equals,
@@ -106,7 +81,7 @@ fn turned(how: Compare) -> Compare
 
 /// Whether two numbers stand as the comparison asks.
 fn passes(a: i64, how: Compare, b: i64) -> bool
-    ensures { result ≡ conditions.passes (resolved.compare_of how) (int_cmp a b) }
+    ensures { result ≡ conditions.passes how (int_cmp a b) }
 {
     match how {
         Compare::Equals => a == b,

@@ -6,7 +6,7 @@ ghost use Rattle.values.specs.Resolved.{FitsRows};
 use reference::evaluate::evaluate;
 use std::alloc::{AllocError, Global};
 use std::test::Fail;
-use values::{Column, Operator, Resolved, Row, Shape, Value, Window, copy_row};
+use values::{Column, Resolved, Row, Shape, StreamOperator, Value, Window, copy_row};
 
 /// A row of one number.
 pub(crate) fn row(number: i128) -> Row {
@@ -44,7 +44,7 @@ fn are_answers(
 /// Whether these are the answers of the query that lists the first column of its one source.
 fn listing_answers(
     alloc: Global,
-    operator: Operator,
+    operator: StreamOperator,
     window: Window,
     until: u64,
     rows: Vec<(u64, Row)>,
@@ -74,7 +74,14 @@ fn listing_answers(
 fn rows_of_now_are_shown(alloc: Global) -> Result<bool, AllocError> {
     let rows = vec![in alloc; (3, row(7)), (1, row(5)), (3, row(6))]?;
     let wanted = [(1, 5), (3, 6), (3, 7)];
-    listing_answers(alloc, Operator::Istream, Window::Range(0), 4, rows, &wanted)
+    listing_answers(
+        alloc,
+        StreamOperator::Istream,
+        Window::Range(0),
+        4,
+        rows,
+        &wanted,
+    )
 }
 
 /// Whether the value is printed so, also to a programmer.

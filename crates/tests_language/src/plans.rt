@@ -4,7 +4,7 @@ use names::Catalog;
 use plan::{Chart, Key, Measure, Node, Plan, fits_a_row, plan, plans_are_right, slopes};
 use std::alloc::{AllocError, Global};
 use std::test::Fail;
-use values::Operator;
+use values::StreamOperator;
 
 /// A name of one letter.
 fn name(letter: u8) -> Name {
@@ -28,7 +28,7 @@ fn query(alloc: Global) -> Result<Query, AllocError> {
     };
     let sources = vec![in alloc; source]?;
     Ok(Query {
-        operator: Operator::Istream,
+        operator: StreamOperator::Istream,
         is_distinct: false,
         entries: Entries::All,
         sources,
@@ -129,7 +129,7 @@ fn is_list(node: &Node) -> bool {
 /// Whether the operator makes a stream of what comes into the relation of the operator 3.
 fn is_root(node: &Node) -> bool {
     match node {
-        Node::ToStream(input, operator) => *input == 3 && *operator == Operator::Istream,
+        Node::ToStream(input, operator) => *input == 3 && *operator == StreamOperator::Istream,
         _ => false,
     }
 }

@@ -2,7 +2,7 @@ use cql_reader::{Condition, Entries, Name, Operand, Query, Reference, Source, Wi
 use names::{Catalog, Key, Named, ResolveFault, matches_bear_the_name, resolve};
 use std::alloc::{AllocError, Global};
 use std::test::Fail;
-use values::{Column, Compare, Operator};
+use values::{Column, Compare, StreamOperator};
 
 /// A name of one letter.
 fn name(letter: u8) -> Name {
@@ -29,7 +29,7 @@ fn joined(alloc: Global) -> Result<Query, AllocError> {
     let sources = vec![in alloc; source(b'A'), source(b'B')]?;
     let condition = Condition::Compared(dotted(b'B', b'v'), Compare::Equals, dotted(b'A', b'k'));
     Ok(Query {
-        operator: Operator::Istream,
+        operator: StreamOperator::Istream,
         is_distinct: false,
         entries: Entries::All,
         sources,

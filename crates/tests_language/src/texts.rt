@@ -6,8 +6,8 @@ use cql_reader::{
 };
 use std::alloc::Global;
 use values::Compare::{Above, AtLeast, AtMost, Below, Differs, Equals};
-use values::Operator::{Dstream, Istream, Rstream};
-use values::{Compare, Operator};
+use values::StreamOperator::{Dstream, Istream, Rstream};
+use values::{Compare, StreamOperator};
 
 // The kind of a window and its number, 0 where it has none; of partitions, where they are by two columns.
 fn window_of(window: &Window) -> (&'static str, u64) {
@@ -45,7 +45,7 @@ fn is_source(source: &Source, stream: &str, window: &str, number: u64, alias: &s
 fn is_read(
     alloc: Global,
     text: &str,
-    operator: Operator,
+    operator: StreamOperator,
     window: &str,
     number: u64,
     alias: &str,
@@ -62,7 +62,7 @@ fn is_read(
 }
 
 // Texts of queries over S: the operator, the window with its number, and the name in the query.
-const SOURCES: [(&str, Operator, &str, u64, &str); 10] = [
+const SOURCES: [(&str, StreamOperator, &str, u64, &str); 10] = [
     ("Select Istream(*) From S", Istream, "Unbounded", 0, ""),
     (
         "Select Istream(*) From S [Now] ;\r\n",

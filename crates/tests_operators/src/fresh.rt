@@ -7,7 +7,7 @@ use std::alloc::{AllocError, Global};
 use std::test::Fail;
 use to_stream::ToStream;
 use turn::{ColumnList, Kind, StepList};
-use values::Operator as StreamOperator;
+use values::StreamOperator;
 use windows::{LatestWindow, RangeWindow};
 
 /// The place of a kind in the list of kinds, from 1.

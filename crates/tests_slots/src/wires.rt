@@ -5,7 +5,7 @@ use physical_plans::{Wire, wires};
 use plan::{Key, Node};
 use std::alloc::{AllocError, Global};
 use std::test::Fail;
-use values::Operator;
+use values::StreamOperator;
 
 /// The operators of `Select Istream(*) From S [Now]`.
 fn of_one_source(alloc: Global) -> Result<Vec<Node>, AllocError> {
@@ -13,7 +13,7 @@ fn of_one_source(alloc: Global) -> Result<Vec<Node>, AllocError> {
     let mut nodes = Vec::new(alloc);
     nodes.push(Node::Window(0))?;
     nodes.push(Node::Project(0, columns))?;
-    nodes.push(Node::ToStream(1, Operator::Istream))?;
+    nodes.push(Node::ToStream(1, StreamOperator::Istream))?;
     Ok(nodes)
 }
 
@@ -28,7 +28,7 @@ fn of_two_sources(alloc: Global) -> Result<Vec<Node>, AllocError> {
     nodes.push(Node::Join(1, 2, keys))?;
     nodes.push(Node::Project(3, columns))?;
     nodes.push(Node::Distinct(4))?;
-    nodes.push(Node::ToStream(5, Operator::Rstream))?;
+    nodes.push(Node::ToStream(5, StreamOperator::Rstream))?;
     Ok(nodes)
 }
 

@@ -9,7 +9,7 @@ use column::{Batch, Column, Mask};
 use lane_kernels::*;
 use std::alloc::{AllocError, Global};
 use std::test::Fail;
-use values::Value;
+use values::{Compare, Value};
 
 /// So many rows of two columns, which all enter.
 fn batch_of(alloc: Global, a: Column, b: Column) -> Result<Batch, AllocError>
@@ -54,9 +54,9 @@ fn first_word(steps: &[Step], batch: &Batch) -> (u64, u64)
     (truth[0], known[0])
 }
 
-const ABOVE_FIVE: Step = Step::Number(0, Comparison::Greater, 5);
+const ABOVE_FIVE: Step = Step::Number(0, Compare::Above, 5);
 
-const BELOW_SIX: Step = Step::Number(1, Comparison::Less, 6);
+const BELOW_SIX: Step = Step::Number(1, Compare::Below, 6);
 
 /// `Not (a > 5) Or b < 6`.
 fn not_or(batch: &Batch) -> (u64, u64)
@@ -71,7 +71,7 @@ fn both(batch: &Batch, above: i64) -> (u64, u64)
     requires rows { length batch.now ≡ 9 }
     requires wide { width batch.now ≡ 2 }
 {
-    let above = Step::Number(0, Comparison::Greater, above);
+    let above = Step::Number(0, Compare::Above, above);
     first_word(&[above, BELOW_SIX, Step::And], batch)
 }
 
@@ -106,20 +106,20 @@ fn conditions_over_nine_rows(rt: HostRuntime) -> Result<(), Fail> {
 
 /// `Not a > 3 And a < b Or b = 0 Or false`.
 const STEPS: [Step; 8] = [
-    Step::Number(0, Comparison::Greater, 3),
+    Step::Number(0, Compare::Above, 3),
     Step::Not,
-    Step::Columns(0, Comparison::Less, 1),
+    Step::Columns(0, Compare::Below, 1),
     Step::And,
-    Step::Number(1, Comparison::Equal, 0),
+    Step::Number(1, Compare::Equals, 0),
     Step::Or,
     Step::Known(false),
     Step::Or,
 ];
 
 fn plain_condition(a: Value, b: Value) -> Option<bool> {
-    let above = plain::compared(a, Comparison::Greater, Value::clamped(3));
-    let less = plain::compared(a, Comparison::Less, b);
-    let is_nought = plain::compared(b, Comparison::Equal, Value::clamped(0));
+    let above = plain::compared(a, Compare::Above, Value::clamped(3));
+    let less = plain::compared(a, Compare::Below, b);
+    let is_nought = plain::compared(b, Compare::Equals, Value::clamped(0));
     plain::or(plain::and(plain::not(above), less), is_nought)
 }
 

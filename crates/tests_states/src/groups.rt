@@ -8,7 +8,7 @@ use group::{Group, GroupBy, work};
 use op_queue::Item as Queued;
 use std::alloc::{AllocError, Global};
 use std::test::Fail;
-use values::{Column, Item, Value};
+use values::{Column, ListItem, Value};
 
 /// Three signed rows of an instant, each a sign, a key and a number, or the tick of the instant.
 type Plain = (u64, Option<[(bool, i64, i64); 3]>);
@@ -120,7 +120,11 @@ const NUMBER: Column = Column {
 /// `Select k, Min(v), Max(v) From S Group By k`.
 fn extremes(alloc: Global) -> Result<GroupBy, AllocError> {
     let by = Vec::from_slice(alloc, &[KEY])?;
-    let items = [Item::Key(0), Item::Min(NUMBER), Item::Max(NUMBER)];
+    let items = [
+        ListItem::Key(0),
+        ListItem::Min(NUMBER),
+        ListItem::Max(NUMBER),
+    ];
     let items = Vec::from_slice(alloc, &items)?;
     Ok(GroupBy::new(by, items))
 }
@@ -140,7 +144,11 @@ fn extremes_put_out(
 
 /// `Select Count(*), Count(v), Sum(v) From S`.
 fn totals(alloc: Global) -> Result<GroupBy, AllocError> {
-    let items = [Item::CountAll, Item::Count(NUMBER), Item::Sum(NUMBER)];
+    let items = [
+        ListItem::CountAll,
+        ListItem::Count(NUMBER),
+        ListItem::Sum(NUMBER),
+    ];
     let items = Vec::from_slice(alloc, &items)?;
     Ok(GroupBy::new(Vec::new(alloc), items))
 }

@@ -9,25 +9,19 @@ use column::Column;
 use lane_kernels::*;
 use std::alloc::{AllocError, Global};
 use std::test::Fail;
-use values::Value;
+use values::{Compare, Value};
 
-const COMPARISONS: [Comparison; 6] = [
-    Comparison::Equal,
-    Comparison::NotEqual,
-    Comparison::Less,
-    Comparison::LessOrEqual,
-    Comparison::Greater,
-    Comparison::GreaterOrEqual,
+const COMPARISONS: [Compare; 6] = [
+    Compare::Equals,
+    Compare::Differs,
+    Compare::Below,
+    Compare::AtMost,
+    Compare::Above,
+    Compare::AtLeast,
 ];
 
 /// Whether these are the truths of a comparison of the samples of 7 with 3, or with the samples of 11.
-fn is_compared(
-    truth: &[u64],
-    known: &[u64],
-    how: Comparison,
-    with_three: bool,
-    count: usize,
-) -> bool {
+fn is_compared(truth: &[u64], known: &[u64], how: Compare, with_three: bool, count: usize) -> bool {
     for i in 0..count {
         let other = if with_three {
             Value::clamped(3)
@@ -42,7 +36,7 @@ fn is_compared(
 }
 
 /// Whether the kernel compares the samples of 7 with 3 as the definition does.
-fn agrees_with_three(left: &Column, how: Comparison, count: usize) -> bool
+fn agrees_with_three(left: &Column, how: Compare, count: usize) -> bool
     requires few { count ≤ 1024 }
     requires long { length left.now ≡ count }
 {
@@ -53,7 +47,7 @@ fn agrees_with_three(left: &Column, how: Comparison, count: usize) -> bool
 }
 
 /// Whether the kernel compares the samples of 7 with those of 11 as the definition does.
-fn agrees_with_other(left: &Column, right: &Column, how: Comparison, count: usize) -> bool
+fn agrees_with_other(left: &Column, right: &Column, how: Compare, count: usize) -> bool
     requires few { count ≤ 1024 }
     requires long { length left.now ≡ count }
     requires same { length right.now ≡ count }
@@ -66,7 +60,7 @@ fn agrees_with_other(left: &Column, right: &Column, how: Comparison, count: usiz
 
 fn comparison_with_three_agrees(
     alloc: Global,
-    how: Comparison,
+    how: Compare,
     count: usize,
 ) -> Result<bool, AllocError>
     requires { count ≤ 1024 }
@@ -77,7 +71,7 @@ fn comparison_with_three_agrees(
 
 fn comparison_of_columns_agrees(
     alloc: Global,
-    how: Comparison,
+    how: Compare,
     count: usize,
 ) -> Result<bool, AllocError>
     requires { count ≤ 1024 }
@@ -205,8 +199,8 @@ fn logic_agrees(left: &Column, right: &Column, logic: Logic, count: usize) -> bo
     let words = (count + 63) / 64;
     let (a_truth, a_known) = (&mut a_truth[..words], &mut a_known[..words]);
     let (b_truth, b_known) = (&mut b_truth[..words], &mut b_known[..words]);
-    compare_const(left, Comparison::Greater, 3, a_truth, a_known);
-    compare_columns(left, Comparison::Less, right, b_truth, b_known);
+    compare_const(left, Compare::Above, 3, a_truth, a_known);
+    compare_columns(left, Compare::Below, right, b_truth, b_known);
     combination_agrees(a_truth, a_known, logic, b_truth, b_known, count)
 }
 
@@ -235,15 +229,9 @@ fn with_unknown(one: &Column, nothing: &Column, logic: Logic, number: i64) -> (u
     requires nothing { length nothing.now ≡ 1 }
 {
     let (mut a_truth, mut a_known) = ([0], [0]);
-    compare_const(one, Comparison::Greater, number, &mut a_truth, &mut a_known);
+    compare_const(one, Compare::Above, number, &mut a_truth, &mut a_known);
     let (mut b_truth, mut b_known) = ([0], [0]);
-    compare_const(
-        nothing,
-        Comparison::Greater,
-        number,
-        &mut b_truth,
-        &mut b_known,
-    );
+    compare_const(nothing, Compare::Above, number, &mut b_truth, &mut b_known);
     let (mut truth, mut known) = ([0], [0]);
     combine(
         &a_truth, &a_known, logic, &b_truth, &b_known, &mut truth, &mut known,

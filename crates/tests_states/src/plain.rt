@@ -1,17 +1,16 @@
 //! The definitions of the kernels as plain code.
 
-use lane_kernels::Comparison;
-use values::Value;
+use values::{Compare, Value};
 
-pub(crate) fn compared(x: Value, how: Comparison, y: Value) -> Option<bool> {
+pub(crate) fn compared(x: Value, how: Compare, y: Value) -> Option<bool> {
     let (x, y) = (x.number()?, y.number()?);
     Some(match how {
-        Comparison::Equal => x == y,
-        Comparison::NotEqual => x != y,
-        Comparison::Less => x < y,
-        Comparison::LessOrEqual => x <= y,
-        Comparison::Greater => x > y,
-        Comparison::GreaterOrEqual => x >= y,
+        Compare::Equals => x == y,
+        Compare::Differs => x != y,
+        Compare::Below => x < y,
+        Compare::AtMost => x <= y,
+        Compare::Above => x > y,
+        Compare::AtLeast => x >= y,
     })
 }
 

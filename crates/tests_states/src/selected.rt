@@ -4,7 +4,7 @@ ghost use Rattle.column.specs.Rows.{width};
 
 use crate::rows::{NULL, two};
 use column::Batch;
-use lane_kernels::{Comparison, Step};
+use lane_kernels::Step;
 use op_queue::Item;
 use row_nodes::{project, select, steps};
 use std::alloc::{AllocError, Global};
@@ -22,11 +22,7 @@ fn three(alloc: Global) -> Result<Batch, AllocError>
 /// What Select puts out for the three rows of the instant 4, where the first column is to be above a number.
 fn rows_above(alloc: Global, number: i64) -> Result<Vec<Item>, AllocError> {
     let item = Item::Rows(4, three(alloc)?);
-    select(
-        alloc,
-        &[Step::Number(0, Comparison::Greater, number)],
-        &item,
-    )
+    select(alloc, &[Step::Number(0, Compare::Above, number)], &item)
 }
 
 /// Whether the first item has so many rows of an instant, with these words of their signs.
@@ -56,11 +52,7 @@ fn none_is_above_nine(alloc: Global) -> Result<bool, AllocError> {
 }
 
 fn tick_passes(alloc: Global) -> Result<bool, AllocError> {
-    let items = select(
-        alloc,
-        &[Step::Number(0, Comparison::Greater, 9)],
-        &Item::Tick(4),
-    )?;
+    let items = select(alloc, &[Step::Number(0, Compare::Above, 9)], &Item::Tick(4))?;
     Ok(matches!(items.first(), Some(Item::Tick(4))))
 }
 
@@ -111,7 +103,7 @@ fn turned_steps(alloc: Global) -> Result<Vec<Step>, AllocError> {
 
 fn are_turned(found: &[Step]) -> bool {
     found.len() == 2
-        && matches!(found.first(), Some(Step::Number(0, Comparison::Greater, 5)))
+        && matches!(found.first(), Some(Step::Number(0, Compare::Above, 5)))
         && matches!(found.last(), Some(Step::Not))
 }
 

@@ -8,7 +8,7 @@ use op_queue::Item;
 use std::alloc::{AllocError, Global};
 use std::test::Fail;
 use to_stream::{ToStream, work};
-use values::{Operator, Row, same_rows};
+use values::{Row, StreamOperator, same_rows};
 
 /// The row 7, and the row 5 that enters or leaves.
 fn pair(alloc: Global, enters: bool) -> Result<Batch, AllocError> {
@@ -17,7 +17,7 @@ fn pair(alloc: Global, enters: bool) -> Result<Batch, AllocError> {
 }
 
 /// A root of this operator that has taken the pair.
-fn taken(alloc: Global, operator: Operator, enters: bool) -> Result<ToStream, AllocError> {
+fn taken(alloc: Global, operator: StreamOperator, enters: bool) -> Result<ToStream, AllocError> {
     let batch = pair(alloc, enters)?;
     let _few = batch.len();
     let item = Item::Rows(3, batch);
@@ -27,7 +27,7 @@ fn taken(alloc: Global, operator: Operator, enters: bool) -> Result<ToStream, Al
 }
 
 /// A root that has taken the pair and the tick of its instant.
-fn ticked(alloc: Global, operator: Operator, enters: bool) -> Result<ToStream, AllocError>
+fn ticked(alloc: Global, operator: StreamOperator, enters: bool) -> Result<ToStream, AllocError>
     ensures { IfOk result (λ root. root.delta ≡ delta_of [] []) }
 {
     let mut root = taken(alloc, operator, enters)?;
@@ -59,7 +59,7 @@ fn shows(alloc: Global, root: &ToStream, numbers: &[i64]) -> Result<bool, AllocE
 
 fn first_shows(
     alloc: Global,
-    operator: Operator,
+    operator: StreamOperator,
     enters: bool,
     numbers: &[i64],
 ) -> Result<bool, AllocError> {
@@ -69,7 +69,7 @@ fn first_shows(
 
 fn next_shows(
     alloc: Global,
-    operator: Operator,
+    operator: StreamOperator,
     enters: bool,
     numbers: &[i64],
 ) -> Result<bool, AllocError> {
@@ -79,26 +79,26 @@ fn next_shows(
 
 #[test]
 fn istream_answers_what_came(rt: HostRuntime) -> Result<(), Fail> {
-    assert!(rt; first_shows(rt.alloc(), Operator::Istream, true, &[5, 7])?);
-    assert!(rt; next_shows(rt.alloc(), Operator::Istream, true, &[])?);
+    assert!(rt; first_shows(rt.alloc(), StreamOperator::Istream, true, &[5, 7])?);
+    assert!(rt; next_shows(rt.alloc(), StreamOperator::Istream, true, &[])?);
     Ok(())
 }
 
 #[test]
 fn dstream_answers_what_left(rt: HostRuntime) -> Result<(), Fail> {
-    assert!(rt; first_shows(rt.alloc(), Operator::Dstream, false, &[5])?);
+    assert!(rt; first_shows(rt.alloc(), StreamOperator::Dstream, false, &[5])?);
     Ok(())
 }
 
 #[test]
 fn rstream_answers_the_whole(rt: HostRuntime) -> Result<(), Fail> {
-    assert!(rt; next_shows(rt.alloc(), Operator::Rstream, true, &[5, 7])?);
+    assert!(rt; next_shows(rt.alloc(), StreamOperator::Rstream, true, &[5, 7])?);
     Ok(())
 }
 
 /// What Rstream answers once it has shown 5 and 7, and these rows have come or left.
 fn whole_shows(alloc: Global, batch: Batch, numbers: &[i64]) -> Result<bool, AllocError> {
-    let mut root = ticked(alloc, Operator::Rstream, true)?;
+    let mut root = ticked(alloc, StreamOperator::Rstream, true)?;
     let _few = batch.len();
     root.apply(&Item::Rows(4, batch))?;
     shows(alloc, &root, numbers)

@@ -7,13 +7,14 @@ use column::Column;
 use lane_kernels::*;
 use std::alloc::{AllocError, Global};
 use std::test::Fail;
+use values::Compare;
 
 /// The truth words of nine values above 5, and of its negation.
 fn above_five(column: &Column) -> (u64, u64, u64, u64)
     requires { length column.now ≡ 9 }
 {
     let (mut truth, mut known) = ([0], [0]);
-    compare_const(column, Comparison::Greater, 5, &mut truth, &mut known);
+    compare_const(column, Compare::Above, 5, &mut truth, &mut known);
     let (mut not_truth, mut not_known) = ([0], [0]);
     not3(&truth, &known, &mut not_truth, &mut not_known);
     (truth[0], known[0], not_truth[0], not_known[0])

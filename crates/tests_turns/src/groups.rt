@@ -10,18 +10,18 @@ use op_queue::Item as Queued;
 use std::alloc::{AllocError, Global};
 use std::test::Fail;
 use turn::{Done, Kind, Near, Outputs};
-use values::{Column, Item, Value};
+use values::{Column, ListItem, Value};
 
 /// `Select k, ITEM From S Group By k` of the column `k`.
-fn listed(alloc: Global, column: usize, item: Item) -> Result<GroupBy, AllocError> {
+fn listed(alloc: Global, column: usize, item: ListItem) -> Result<GroupBy, AllocError> {
     let by = Vec::from_slice(alloc, &[Column { source: 0, column }])?;
-    let items = Vec::from_slice(alloc, &[Item::Key(0), item])?;
+    let items = Vec::from_slice(alloc, &[ListItem::Key(0), item])?;
     Ok(GroupBy::new(by, items))
 }
 
 /// `Select k, Count(*) From S Group By k` of the first column.
 fn counted(alloc: Global) -> Result<GroupBy, AllocError> {
-    listed(alloc, 0, Item::CountAll)
+    listed(alloc, 0, ListItem::CountAll)
 }
 
 /// The groups that have taken the rows of 7 and of a number.
@@ -78,7 +78,7 @@ fn a_group_is_shown_at_the_tick(rt: HostRuntime) -> Result<(), Fail> {
 }
 
 /// Whether the node that counts by the first column is the same as one by this column with this item.
-fn is_same_group(alloc: Global, column: usize, item: Item) -> Result<bool, AllocError> {
+fn is_same_group(alloc: Global, column: usize, item: ListItem) -> Result<bool, AllocError> {
     let counted = node(alloc, Side::Left, Kind::Group(counted(alloc)?))?;
     let other = node(alloc, Side::Left, Kind::Group(listed(alloc, column, item)?))?;
     Ok(counted.is_same(&other))
@@ -86,9 +86,9 @@ fn is_same_group(alloc: Global, column: usize, item: Item) -> Result<bool, Alloc
 
 #[test]
 fn groups_are_told_apart_by_their_columns_and_lists(rt: HostRuntime) -> Result<(), Fail> {
-    assert!(rt; is_same_group(rt.alloc(), 0, Item::CountAll)?);
-    assert!(rt; !is_same_group(rt.alloc(), 1, Item::CountAll)?);
-    assert!(rt; !is_same_group(rt.alloc(), 0, Item::Key(0))?);
+    assert!(rt; is_same_group(rt.alloc(), 0, ListItem::CountAll)?);
+    assert!(rt; !is_same_group(rt.alloc(), 1, ListItem::CountAll)?);
+    assert!(rt; !is_same_group(rt.alloc(), 0, ListItem::Key(0))?);
     Ok(())
 }
 

@@ -3,13 +3,13 @@ ghost use Rattle.std.specs.Prelude.{◌≡◌, IfOk, length};
 
 use crate::turns::{entering, node, row, run, two};
 use column::{Batch, Side, SignedRow};
-use lane_kernels::{Comparison, Step};
+use lane_kernels::Step;
 use op_queue::Item;
 use std::alloc::{AllocError, Global};
 use std::test::Fail;
 use to_stream::ToStream;
 use turn::{Done, FallenRows, Kind, Near, Outputs, RowList, StepList, same_item};
-use values::{Operator, Row, same_rows};
+use values::{Compare, Row, StreamOperator, same_rows};
 use windows::LatestWindow;
 
 fn leaving(number: i64) -> SignedRow
@@ -38,7 +38,7 @@ pub(crate) fn first_is(items: &[Item], wanted: &Item) -> bool {
 
 /// Select of what is above 7, at the rows 7 and 8 of the instant 4.
 fn above_seven(alloc: Global) -> Result<Done, AllocError> {
-    let steps = Vec::from_slice(alloc, &[Step::Number(0, Comparison::Greater, 7)])?;
+    let steps = Vec::from_slice(alloc, &[Step::Number(0, Compare::Above, 7)])?;
     let node = node(alloc, Side::Left, Kind::Select(StepList { steps }))?;
     let batch = two(alloc, 7, 8)?;
     run(alloc, node, Item::Rows(4, batch), Near::Nothing)
@@ -93,7 +93,7 @@ fn each_row_puts_the_last_one_out(rt: HostRuntime) -> Result<(), Fail> {
 fn answered(alloc: Global) -> Result<Done, AllocError> {
     let node = node(alloc, Side::Left, Kind::ToStream)?;
     let rows = Item::Rows(3, two(alloc, 8, 7)?);
-    let mut root = ToStream::new(alloc, Operator::Istream);
+    let mut root = ToStream::new(alloc, StreamOperator::Istream);
     root.apply(&rows)?;
     let tick = Item::Tick(3);
     let rows = root.near(alloc, &tick)?;

@@ -4,8 +4,8 @@ use Rattle.values.specs.Row.{Row, row_cmp}
 use Rattle.values.specs.Bag.{in_order, bag_minus}
 use Rattle.values.specs.Answers.{streamed}
 use Rattle.values.specs.Resolved.{operator_of}
-use Rattle.values.specs.declared.resolved.Operator.{Operator}
-use Rattle.values.specs.declared.resolved.Operator.TheVariants.{Istream, Dstream, Rstream}
+use Rattle.values.specs.declared.resolved.StreamOperator.{StreamOperator}
+use Rattle.values.specs.declared.resolved.StreamOperator.TheVariants.{Istream, Dstream, Rstream}
 use Rattle.values.proofs.Order.{row_order}
 use Rattle.op_queue.specs.declared.item.Item.{Item}
 use Rattle.op_queue.specs.declared.item.Item.TheVariants.{Rows, Tick}
@@ -21,12 +21,12 @@ use Rattle.to_stream.specs.Law.{whole_of, Stands, StepLaw}
 renewed_now : (s : State) (before now : List Row) → s.net ≡ delta_between before now → s.whole ≡ in_order row_cmp before → renewed s.whole s.net ≡ in_order row_cmp now
 renewed_now s before now n w = ap₂ renewed w n ∙ renewed-between before now
 
-shown_as : (o : Operator) (s : State) (before now : List Row) → s.net ≡ delta_between before now → s.whole ≡ whole_of o before → shown o s ≡ in_order row_cmp (streamed (operator_of o) before now)
+shown_as : (o : StreamOperator) (s : State) (before now : List Row) → s.net ≡ delta_between before now → s.whole ≡ whole_of o before → shown o s ≡ in_order row_cmp (streamed (operator_of o) before now)
 shown_as Istream s before now n w = ap (λ (n : PlainDelta). n.entered) n
 shown_as Dstream s before now n w = ap (λ (n : PlainDelta). n.left) n
 shown_as Rstream s before now n w = renewed_now s before now n w
 
-kept_as : (o : Operator) (s : State) (before now : List Row) → s.net ≡ delta_between before now → s.whole ≡ whole_of o before → kept o s ≡ whole_of o now
+kept_as : (o : StreamOperator) (s : State) (before now : List Row) → s.net ≡ delta_between before now → s.whole ≡ whole_of o before → kept o s ≡ whole_of o now
 kept_as Istream s before now n w = w
 kept_as Dstream s before now n w = w
 kept_as Rstream s before now n w = renewed_now s before now n w
@@ -42,10 +42,10 @@ step_law s (Tick t) =
     )
 
 -- a root that has taken nothing stands for no rows, before and now
-pub fresh_stands : (o : Operator) → Stands (record { operator = o; net = record { entered = []; left = [] }; whole = [] }) [] []
+pub fresh_stands : (o : StreamOperator) → Stands (record { operator = o; net = record { entered = []; left = [] }; whole = [] }) [] []
 fresh_stands o = record { net = refl; whole = here o }
   where
-    here : (p : Operator) → [] ≡ whole_of p []
+    here : (p : StreamOperator) → [] ≡ whole_of p []
     here Istream = refl
     here Dstream = refl
     here Rstream = refl

@@ -4,8 +4,8 @@ use Rattle.values.specs.Row.{Row, row_cmp}
 use Rattle.values.specs.Bag.{in_order}
 use Rattle.values.specs.Answers.{streamed}
 use Rattle.values.specs.Resolved.{operator_of}
-use Rattle.values.specs.declared.resolved.Operator.{Operator}
-use Rattle.values.specs.declared.resolved.Operator.TheVariants.{Istream, Dstream, Rstream}
+use Rattle.values.specs.declared.resolved.StreamOperator.{StreamOperator}
+use Rattle.values.specs.declared.resolved.StreamOperator.TheVariants.{Istream, Dstream, Rstream}
 use Rattle.op_queue.specs.Signed.{Adds, Legal}
 use Rattle.op_queue.specs.declared.item.Item.{Item}
 use Rattle.op_queue.specs.declared.item.Item.TheVariants.{Rows, Tick}
@@ -13,7 +13,7 @@ use Rattle.row_bags.specs.Deltas.{delta_between}
 use Rattle.to_stream.specs.Turns.{State, near, out}
 
 -- the relation at the last tick, which Rstream alone asks for
-abbrev pub whole_of : Operator → List Row → List Row
+abbrev pub whole_of : StreamOperator → List Row → List Row
 whole_of Istream before = []
 whole_of Dstream before = []
 whole_of Rstream before = in_order row_cmp before

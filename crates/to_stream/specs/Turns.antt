@@ -2,8 +2,8 @@
 use Rattle.std.specs.Prelude.{ℕ, ℤ, ◌+◌, ◌<◌, ◌^◌, Bool, Option, List, [], map, length}
 use Rattle.arrayvec.specs.ArrayVec.{ArrayVec}
 use Rattle.values.specs.Row.{Row}
-use Rattle.values.specs.declared.resolved.Operator.{Operator}
-use Rattle.values.specs.declared.resolved.Operator.TheVariants.{Istream, Dstream, Rstream}
+use Rattle.values.specs.declared.resolved.StreamOperator.{StreamOperator}
+use Rattle.values.specs.declared.resolved.StreamOperator.TheVariants.{Istream, Dstream, Rstream}
 use Rattle.op_queue.specs.declared.item.Item.{Item}
 use Rattle.op_queue.specs.declared.item.Item.TheVariants.{Rows, Tick}
 use Rattle.row_bags.specs.Deltas.{PlainDelta, deltas_after}
@@ -11,12 +11,12 @@ use Rattle.row_bags.specs.Lists.{renewed}
 
 -- what entered and left since the last tick; of Rstream also the relation of the last tick, in order, which stays empty where it is not asked for
 pub record State : Type 0 where
-  pub operator : Operator
+  pub operator : StreamOperator
   pub net : PlainDelta
   pub whole : List Row
 
 -- the rows that answer at a tick, in order
-abbrev pub shown : Operator → State → List Row
+abbrev pub shown : StreamOperator → State → List Row
 shown Istream s = s.net.entered
 shown Dstream s = s.net.left
 shown Rstream s = renewed s.whole s.net
@@ -36,7 +36,7 @@ abbrev pub taken : State → List (Bool × Row) → State
 taken s b = record { operator = s.operator; net = deltas_after s.net b; whole = s.whole }
 
 -- the relation that is kept from one tick to the next
-abbrev pub kept : Operator → State → List Row
+abbrev pub kept : StreamOperator → State → List Row
 kept Istream s = s.whole
 kept Dstream s = s.whole
 kept Rstream s = renewed s.whole s.net

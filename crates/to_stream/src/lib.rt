@@ -18,12 +18,12 @@ use op_queue::Item;
 use row_bags::{Delta, RowList};
 use std::alloc::{AllocError, Global};
 use std::marker::Model;
-use values::{Operator, Row, copy_row};
+use values::{Row, StreamOperator, copy_row};
 
 /// The state of a root: what entered and left since the last tick, and of Rstream the whole relation at that tick.
 #[derive(Drop)]
 pub struct ToStream {
-    operator: Operator,
+    operator: StreamOperator,
     net: Delta,
     whole: RowList,
     alloc: Global,
@@ -39,7 +39,7 @@ impl Model for ToStream {
 
 impl ToStream {
     /// A root that has taken nothing.
-    pub fn new(alloc: Global, operator: Operator) -> ToStream
+    pub fn new(alloc: Global, operator: StreamOperator) -> ToStream
         ensures state { result ≡ record { operator = operator; net = record { entered = []; left = [] }; whole = [] } }
         ensures stands { Stands result [] [] }
     {
@@ -80,15 +80,15 @@ impl ToStream {
         ensures { IfOk result (λ rows. rows_of rows.items ≡ shown self.now.operator self.now) }
     {
         match self.operator {
-            Operator::Istream => {
+            StreamOperator::Istream => {
                 let rows = self.net.entered(alloc)?;
                 Ok(rows)
             }
-            Operator::Dstream => {
+            StreamOperator::Dstream => {
                 let rows = self.net.left(alloc)?;
                 Ok(rows)
             }
-            Operator::Rstream => {
+            StreamOperator::Rstream => {
                 let rows = self.whole.renewed(alloc, &self.net)?;
                 Ok(rows)
             }
@@ -110,7 +110,7 @@ impl ToStream {
     fn tick(&mut self) -> Result<(), AllocError>
         ensures { OnOk result (self.new ≡ ticked self.old) }
     {
-        if let Operator::Rstream = self.operator {
+        if let StreamOperator::Rstream = self.operator {
             self.whole.renew(self.alloc, &self.net)?;
         }
         self.net = Delta::new(self.alloc);

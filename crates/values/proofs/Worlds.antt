@@ -14,8 +14,8 @@ use Rattle.values.specs.Perm.{Perm, same, keep, flip, join}
 use Rattle.values.specs.Tables.{SameTables}
 use Rattle.values.specs.Window.{Element}
 use Rattle.values.specs.Condition.{Column, field, keeps}
-use Rattle.values.specs.Relation.{Shape, Item, Listed, Grouped, Key, CountAll, Count, Sum, Min, Max, combinations, numbers, item_value, key_of, keys_of, group_row, shaped}
-use Rattle.values.specs.Answers.{Resolved, Operator, Istream, Dstream, Rstream, body, shown_at, relation, relation_before, streamed, answers_at, answers}
+use Rattle.values.specs.Relation.{Shape, ListItem, Listed, Grouped, Key, CountAll, Count, Sum, Min, Max, combinations, numbers, item_value, key_of, keys_of, group_row, shaped}
+use Rattle.values.specs.Answers.{Resolved, StreamOperator, Istream, Dstream, Rstream, body, shown_at, relation, relation_before, streamed, answers_at, answers}
 use Rattle.values.proofs.Perms.{perm-filter, perm-map, perm-flat_map, perm-flat_map_each, perm-distinct, perm-bag_minus, perm-in_order}
 
 module _ {X : Type 0} where
@@ -65,7 +65,7 @@ perm-combinations (w ∷ ws) (v ∷ vs) h =
     (perm-flat_map_each (each (combinations ws)) (each (combinations vs)) v
     (λ r. perm-map (λ rest. r ∷ rest) (combinations ws) (combinations vs) (perm-combinations ws vs h.1)))
 
-pub same-item_value : (key : Row) (g h : List (List Row)) → Perm g h → (i : Item) → item_value key g i ≡ item_value key h i
+pub same-item_value : (key : Row) (g h : List (List Row)) → Perm g h → (i : ListItem) → item_value key g i ≡ item_value key h i
 same-item_value key g h p (Key k) = refl
 same-item_value key g h p CountAll = ap (λ n. Some (pos n)) (perm-length g h p)
 same-item_value key g h p (Count c) = ap (λ n. Some (pos n)) (perm-length (numbers c g) (numbers c h) (perm-filter_map (λ rows. field rows c) g h p))
@@ -76,11 +76,11 @@ same-item_value key g h p (Min c) =
 same-item_value key g h p (Max c) =
     perm-reduce int_max (λ x y z. omega (arith, ints, clamps)) (λ x y. omega (arith, ints, clamps)) (numbers c g) (numbers c h) (perm-filter_map (λ rows. field rows c) g h p)
 
-same-items : (key : Row) (g h : List (List Row)) → Perm g h → (items : List Item) → map (item_value key g) items ≡ map (item_value key h) items
+same-items : (key : Row) (g h : List (List Row)) → Perm g h → (items : List ListItem) → map (item_value key g) items ≡ map (item_value key h) items
 same-items key g h p [] = refl
 same-items key g h p (i ∷ items) = ap (λ v. v ∷ map (item_value key g) items) (same-item_value key g h p i) ∙ ap (λ v. item_value key h i ∷ v) (same-items key g h p items)
 
-same-group_row : (by : List Column) (items : List Item) (g h : List (List Row)) → Perm g h → (key : Row) → group_row by items g key ≡ group_row by items h key
+same-group_row : (by : List Column) (items : List ListItem) (g h : List (List Row)) → Perm g h → (key : Row) → group_row by items g key ≡ group_row by items h key
 same-group_row by items g h p key =
     let t : List Row → Bool = λ rows. same_row key (key_of by rows) in
     same-items key (filter t g) (filter t h) (perm-filter t g h p) items
@@ -112,7 +112,7 @@ perm-body q ws vs h =
     (perm-filter (keeps q.condition) (combinations ws) (combinations vs) (perm-combinations ws vs h)))
 
 -- so are its answers
-perm-streamed : (op : Operator) (a b c d : List Row) → Perm a c → Perm b d → Perm (streamed op a b) (streamed op c d)
+perm-streamed : (op : StreamOperator) (a b c d : List Row) → Perm a c → Perm b d → Perm (streamed op a b) (streamed op c d)
 perm-streamed Istream a b c d p q = perm-bag_minus row_cmp row_order b d a c q p
 perm-streamed Dstream a b c d p q = perm-bag_minus row_cmp row_order a c b d p q
 perm-streamed Rstream a b c d p q = q

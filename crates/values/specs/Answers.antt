@@ -8,17 +8,17 @@ use Rattle.values.specs.Condition.{Condition, keeps}
 use Rattle.values.specs.Relation.{Shape, combinations, shaped}
 
 -- the relation-to-stream operators
-pub data Operator : Type 0 where
-  Istream : Operator
-  Dstream : Operator
-  Rstream : Operator
+pub data StreamOperator : Type 0 where
+  Istream : StreamOperator
+  Dstream : StreamOperator
+  Rstream : StreamOperator
 
 pub record Resolved : Type 0 where
   pub windows : List Window
   pub condition : Option Condition
   pub shape : Shape
   pub is_distinct : Bool
-  pub operator : Operator
+  pub operator : StreamOperator
 
 -- the relation of a query, from what the windows of its sources show
 abbrev pub body : Resolved → List (List Row) → List Row
@@ -41,7 +41,7 @@ relation_before q from inputs zero = []
 relation_before q from inputs (suc t) = relation q from inputs t
 
 -- the bag that the operator shows, of the relation before and now
-abbrev pub streamed : Operator → List Row → List Row → List Row
+abbrev pub streamed : StreamOperator → List Row → List Row → List Row
 streamed Istream before now = bag_minus row_cmp now before
 streamed Dstream before now = bag_minus row_cmp before now
 streamed Rstream before now = now

@@ -5,9 +5,10 @@ use Rattle.std.specs.declared.cmp.Ordering.TheVariants.{Less, Equal, Greater}
 use Rattle.values.specs.Value.{stream_max, answer_max, clamp_answer, value_text}
 use Rattle.values.specs.Row.{Row, row_cmp}
 use Rattle.values.specs.Window.{input_of, Window, numbered, Range, RangeSlide, LastRows}
-use Rattle.values.specs.Condition.{Column, Field, Number, Compared, Not, And, Equals, Above}
+use Rattle.values.specs.Condition.{Column, Field, Number, Compared, Not, And}
+use Rattle.values.specs.declared.resolved.Compare.TheVariants.{Equals, Above}
 use Rattle.values.specs.Relation.{Listed, Grouped, Key, CountAll, Sum}
-use Rattle.values.specs.Answers.{Resolved, Operator, Istream, Dstream, Rstream, answers}
+use Rattle.values.specs.Answers.{Resolved, StreamOperator, Istream, Dstream, Rstream, answers}
 
 abbrev num : ℕ → Option ℤ
 num n = Some (pos n)
@@ -57,7 +58,7 @@ abbrev at : ℕ → ℕ → Column
 at s k = record { source = s; column = k }
 
 -- a query of one source S(a) that lists a
-abbrev simple : Operator → Window → Resolved
+abbrev simple : StreamOperator → Window → Resolved
 simple op w = record { windows = w ∷ []; condition = None; shape = Listed (at 0 0 ∷ []); is_distinct = false; operator = op }
 
 -- Select Istream(*) From S [Now]: rows of one instant, sorted

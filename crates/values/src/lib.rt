@@ -17,7 +17,9 @@ ghost use Rattle.values.specs.Value.{IsStreamNumber, IsAnswerNumber, clamp_answe
 mod resolved;
 
 use arrayvec::ArrayVec;
-pub use resolved::{Column, Compare, Condition, Item, Operand, Operator, Resolved, Shape, Window};
+pub use resolved::{
+    Column, Compare, Condition, ListItem, Operand, Resolved, Shape, StreamOperator, Window,
+};
 use std::cmp::Ordering;
 use std::fmt;
 use std::marker::Model;
@@ -79,6 +81,14 @@ impl Value {
         ensures { result ≡ None }
     {
         Value { word: i64::MIN }
+    }
+
+    /// A number of the answer range.
+    pub fn answer(number: i64) -> Value
+        requires { IsAnswerNumber number }
+        ensures { result ≡ Some number }
+    {
+        Value { word: number }
     }
 
     /// The number of the answer range that is nearest to this one: a sum that has left the range shows its end.

@@ -52,7 +52,7 @@ pub enum Window {
 
 /// An item of the list of a grouped query.
 #[derive(Clone, Copy, PartialEq, Eq)]
-pub enum Item {
+pub enum ListItem {
     /// A column of Group By, by its place there.
     Key(usize),
     /// How many combinations the group has.
@@ -73,12 +73,12 @@ pub enum Shape {
     /// The columns, of each combination.
     Listed(Vec<Column>),
     /// Group By's columns, none where it is missing, and the list, of each group.
-    Grouped(Vec<Column>, Vec<Item>),
+    Grouped(Vec<Column>, Vec<ListItem>),
 }
 
 /// The relation-to-stream operators of CQL.
 #[derive(Clone, Copy, Debug, PartialEq, Eq)]
-pub enum Operator {
+pub enum StreamOperator {
     /// What the relation has beyond that of the instant before.
     Istream,
     /// What the relation of the instant before has beyond it.
@@ -97,5 +97,5 @@ pub struct Resolved {
     pub shape: Shape,
     /// Whether each row of the list is taken once.
     pub is_distinct: bool,
-    pub operator: Operator,
+    pub operator: StreamOperator,
 }

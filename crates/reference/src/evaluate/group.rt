@@ -15,7 +15,7 @@ use crate::evaluate::bag::distinct;
 use crate::evaluate::combine::{listed, listed_row};
 use crate::evaluate::condition::field;
 use std::alloc::{AllocError, Global};
-use values::{Column, Item, MAX_COLUMNS, Row, Value, same_rows, value_at};
+use values::{Column, ListItem, MAX_COLUMNS, Row, Value, same_rows, value_at};
 
 /// Whether the combination has the key.
 pub(crate) fn has_key(by: &[Column], key: &Row, rows: &[&Row]) -> bool
@@ -143,22 +143,22 @@ pub(crate) fn count_of(column: Column, group: &[Vec<&Row>]) -> usize
 }
 
 /// The value of an item of the list for a group.
-pub(crate) fn item_value(item: Item, key: &Row, group: &[Vec<&Row>]) -> Value
+pub(crate) fn item_value(item: ListItem, key: &Row, group: &[Vec<&Row>]) -> Value
     requires { length group.now < 2 ^ 63 }
     ensures { result ≡ relations.item_value key.now.items (tables_of group.now) (item_of item) }
 {
     match item {
-        Item::Key(place) => value_at(key, place),
-        Item::CountAll => Value::clamped(group.len() as i128),
-        Item::Count(column) => Value::clamped(count_of(column, group) as i128),
-        Item::Sum(column) => sum_of(column, group),
-        Item::Min(column) => min_of(column, group),
-        Item::Max(column) => max_of(column, group),
+        ListItem::Key(place) => value_at(key, place),
+        ListItem::CountAll => Value::answer(group.len() as i64),
+        ListItem::Count(column) => Value::answer(count_of(column, group) as i64),
+        ListItem::Sum(column) => sum_of(column, group),
+        ListItem::Min(column) => min_of(column, group),
+        ListItem::Max(column) => max_of(column, group),
     }
 }
 
 /// The row of the list for a group.
-pub(crate) fn group_row(items: &[Item], key: &Row, group: &[Vec<&Row>]) -> Row
+pub(crate) fn group_row(items: &[ListItem], key: &Row, group: &[Vec<&Row>]) -> Row
     requires few { length items.now ≤ MAX_COLUMNS }
     requires fits { length group.now < 2 ^ 63 }
     ensures { result.items ≡ map (relations.item_value key.now.items (tables_of group.now)) (items_of items.now) }
@@ -193,7 +193,7 @@ pub(crate) fn keys_of(
 pub(crate) fn group_rows(
     alloc: Global,
     by: &[Column],
-    items: &[Item],
+    items: &[ListItem],
     all: &[Vec<&Row>],
     keys: &[Row],
 ) -> Result<Vec<Row>, AllocError>
@@ -215,7 +215,7 @@ pub(crate) fn group_rows(
 pub(crate) fn grouped(
     alloc: Global,
     by: &[Column],
-    items: &[Item],
+    items: &[ListItem],
     all: &[Vec<&Row>],
 ) -> Result<Vec<Row>, AllocError>
     requires few_columns { length by.now ≤ MAX_COLUMNS }

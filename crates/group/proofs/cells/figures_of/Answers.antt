@@ -1,5 +1,5 @@
 use Rattle.std.proofs.Common.{◌≡◌, ◌∙◌, ◌++◌, ◌∷◌, [], ◌+◌, suc, ap, ap₂, arith, get_or, List, take}
-use Rattle.values.specs.declared.resolved.Item.TheVariants.{Key}
+use Rattle.values.specs.declared.resolved.ListItem.TheVariants.{Key}
 use Rattle.group.specs.declared.cells.Figure.{Figure}
 use Rattle.group.specs.Cells.{figure, figures}
 use Rattle.std.proofs.lemmas.Int.{to_z-of_z}

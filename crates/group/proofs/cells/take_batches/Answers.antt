@@ -1,6 +1,6 @@
 use Rattle.std.proofs.Common.{◌≡◌, ◌∙◌, ◌+◌, ◌^◌, suc, sym, ap, subst, arith, length, get_or, slice_index_or, slice_set, List}
 use Rattle.std.specs.List.{All}
-use Rattle.values.specs.declared.resolved.Item.TheVariants.{Key}
+use Rattle.values.specs.declared.resolved.ListItem.TheVariants.{Key}
 use Rattle.values.specs.Value.{IsAnswerValue}
 use Rattle.group.specs.Cells.{TallyState, partly, TallyRoom}
 use Rattle.group.specs.Batches.{numbers_read, tally_rows}

@@ -1,7 +1,7 @@
 use Rattle.std.proofs.Common.{◌≡◌, ◌<◌, ℕ, get_or}
 use Rattle.std.specs.List.{All}
 use Rattle.values.specs.Value.{IsAnswerValue}
-use Rattle.values.specs.declared.resolved.Item.TheVariants.{Key}
+use Rattle.values.specs.declared.resolved.ListItem.TheVariants.{Key}
 use Rattle.group.specs.Cells.{partly}
 use Rattle.group.specs.Batches.{numbers_read, tally_rows}
 use Rattle.group.proofs.cells.take_batches.Given as goal

@@ -1,5 +1,5 @@
 use Rattle.std.proofs.Common.{◌≡◌, ◌∙◌, ◌+◌, ◌^◌, suc, sym, ap, subst, arith, length, get_or, slice_index_or, slice_set, List}
-use Rattle.values.specs.declared.resolved.Item.TheVariants.{Key}
+use Rattle.values.specs.declared.resolved.ListItem.TheVariants.{Key}
 use Rattle.values.specs.Value.{IsAnswerValue}
 use Rattle.column.specs.Rows.{signed}
 use Rattle.group.specs.Cells.{TallyState, tally_by, tally_after, partly, TallyRoom, keeps, number_of}

@@ -1,6 +1,6 @@
 use Rattle.std.proofs.Common.{◌≡◌, ◌<◌, ℕ, get_or}
 use Rattle.values.specs.Value.{IsAnswerValue}
-use Rattle.values.specs.declared.resolved.Item.TheVariants.{Key}
+use Rattle.values.specs.declared.resolved.ListItem.TheVariants.{Key}
 use Rattle.column.specs.Rows.{signed}
 use Rattle.group.specs.Cells.{tally_after, partly, number_of}
 use Rattle.group.proofs.cells.take_tallies.Given as goal

@@ -1,8 +1,8 @@
 use Rattle.std.proofs.Common.{◌∙◌, ◌++◌, ◌∷◌, [], ℕ, List, sym, ap, arith}
 use Rattle.std.proofs.lemmas.List.FromFn.{map-range_with_len_more}
 use Rattle.values.specs.declared.resolved.Column.{Column}
-use Rattle.values.specs.declared.resolved.Item.{Item}
-use Rattle.values.specs.declared.resolved.Item.TheVariants.{Key}
+use Rattle.values.specs.declared.resolved.ListItem.{ListItem}
+use Rattle.values.specs.declared.resolved.ListItem.TheVariants.{Key}
 use Rattle.group.specs.Groups.{column_at}
 use Rattle.group.proofs.shape.GroupBy.distinct.Goals as goal
 
@@ -16,7 +16,7 @@ loop-column-preserved c =
           ∙ sym (map-range_with_len_more column_at 0 n n (omega arith));
       items =
           c.in_ok-push-2.ensures.items
-          ∙ ap (λ (vs : List Item). vs ++ Key n ∷ []) c.loop-column.invariant.items
+          ∙ ap (λ (vs : List ListItem). vs ++ Key n ∷ []) c.loop-column.invariant.items
           ∙ sym (map-range_with_len_more (λ (k : ℕ). Key k) 0 n n (omega arith));
       by_len = omega (arith, c.in_ok-push.ensures.len, c.loop-column.invariant.by_len);
       items_len = omega (arith, c.in_ok-push-2.ensures.len, c.loop-column.invariant.items_len);

@@ -1,6 +1,6 @@
 use Rattle.std.proofs.Common.{◌≡◌, ◌∙◌, ◌^◌, [], true, sym, ap, ap₂, subst, length, List}
 use Rattle.std.specs.BTreeSet.{insert_key}
-use Rattle.values.specs.declared.resolved.Item.{Item}
+use Rattle.values.specs.declared.resolved.ListItem.{ListItem}
 use Rattle.group.specs.Groups.{no_columns}
 use Rattle.group.specs.Cells.{Held, held, held_cmp, CellState, CellRoom}
 use Rattle.group.specs.Rooms.{cells_in}
@@ -14,7 +14,7 @@ pub take_batch_in-requires : goal.take_batch_in-requires
 take_batch_in-requires c =
     let is = c.self.inside.group.items in
     let room : CountsUpTo (2 ^ 62) (record { group = c.self.inside.group; cells = cells_in c.self.inside.cells; touched = c.self.inside.touched.keys }) = subst (λ (s : GroupState). CountsUpTo (2 ^ 62) s) (sym c.self.view_is) c.requires.room in
-    subst (λ (js : List Item). CellRoom (2 ^ 62) js (cell_of (length js) c.new-key.result (cells_in c.self.inside.cells))) (sym c.items.ensures.value) (room_at (2 ^ 62) is c.new-key.result (cells_in c.self.inside.cells) room)
+    subst (λ (js : List ListItem). CellRoom (2 ^ 62) js (cell_of (length js) c.new-key.result (cells_in c.self.inside.cells))) (sym c.items.ensures.value) (room_at (2 ^ 62) is c.new-key.result (cells_in c.self.inside.cells) room)
 
 state : (c : goal.In_ok-insert) → record { group = c.self.inside.group; cells = cells_in c.take_batch_in.new.self; touched = c.insert.new.self.keys } ≡ rows_after c.args.self.now c.args.batch.now
 state c =
@@ -25,7 +25,7 @@ state c =
     let empty : c.new-key.result ≡ held [] = ap held c.new-key.ensures in
     let at : List (Held × CellState) → List Held → GroupState = λ cells touched. record { group = c.self.inside.group; cells = cells; touched = touched } in
     ap₂ at
-    (c.in_ok-take_batch_in.ensures.cells ∙ ap (λ (js : List Item). batch_in js c.new-key.result rs es) c.items.ensures.value ∙ ap (λ (k : Held). batch_in is k rs es) empty)
+    (c.in_ok-take_batch_in.ensures.cells ∙ ap (λ (js : List ListItem). batch_in js c.new-key.result rs es) c.items.ensures.value ∙ ap (λ (k : Held). batch_in is k rs es) empty)
     (c.in_ok-insert.ensures.keys ∙ ap (λ (k : Held). insert_key held_cmp c.self.inside.touched.keys k) empty)
     ∙ whole_batch s rs (subst (λ (t : GroupState). no_columns t.group.by ≡ true) (sym c.self.view_is) c.requires.whole) c.len.ensures.batch.some
     ∙ ap (λ (t : GroupState). rows_after t rs) c.self.view_is
@@ -36,5 +36,5 @@ returns-clause-state c = state c
 pub returns-clause-room : goal.returns-clause-room
 returns-clause-room c =
     let range : AllInRange c.args.self.now.group.items c.args.batch.now =
-    subst (λ (t : GroupState). AllInRange t.group.items c.args.batch.now) c.self.view_is (subst (λ (js : List Item). AllInRange js c.args.batch.now) c.items.ensures.value c.in_ok-take_batch_in.ensures.range) in
+    subst (λ (t : GroupState). AllInRange t.group.items c.args.batch.now) c.self.view_is (subst (λ (js : List ListItem). AllInRange js c.args.batch.now) c.items.ensures.value c.in_ok-take_batch_in.ensures.range) in
     subst (KeepsRoom c.args.self.now) (sym (state c)) (batch_keeps_room c.args.self.now c.args.batch.now c.len.ensures.batch.few range)

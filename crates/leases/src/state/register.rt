@@ -34,7 +34,7 @@ use envelope::Slope;
 use plan::{Chart, Node, Plan, slopes};
 use query_runtime::RunningQuery;
 use reference::{Fault, MAX_QUERIES, MAX_REGISTRATIONS, find_plan};
-use run_queue::{ReadyList, Slot};
+use run_queue::{RunQueue, Slot};
 use std::alloc::{AllocError, Global};
 use stream_store::Streams;
 
@@ -270,7 +270,7 @@ fn registration(
 
 /// The slots of a new query come to theirs. On Err none of it is among them.
 fn put_slots(
-    slots: &mut ReadyList,
+    slots: &mut RunQueue,
     streams: &Streams,
     running: &RunningQuery,
     slopes: &[Slope],

@@ -12,6 +12,7 @@ mod FinishBackLemmas
 mod StreamLemmas
 mod QueueLemmas
 mod ReaderLemmas
+mod ListedLemmas
 mod BeatLemmas
 mod LengthenLemmas
 pub mod DrainLemmas

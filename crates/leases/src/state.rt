@@ -14,7 +14,7 @@ use crate::kept::KeptQuery;
 use crate::reader::Reader;
 use crate::registered::Registration;
 use name_table::NameTable;
-use run_queue::ReadyList;
+use run_queue::RunQueue;
 use std::alloc::Global;
 use stream_store::Streams;
 
@@ -30,5 +30,5 @@ pub(crate) struct State {
     readers: Vec<Reader>,
     leases: Vec<Given>,
     next: u64,
-    slots: ReadyList,
+    slots: RunQueue,
 }

@@ -7,19 +7,25 @@ use std::cmp::Reverse;
 
 /// An operator of a query, and the instant of what it may take next, if it may take anything.
 ///
-/// Slots are ordered: first those with something to take, of these the greater slope first, then the earlier instant, then the lower
-/// number of a query, then the lower number of an operator.
+/// Slots are ordered by their fields, from the first on: those with something to take first, of these
+/// the greater slope first, then the earlier instant, then the lower number of a query, then the lower
+/// number of an operator.
 #[derive(Clone, Copy, PartialEq, Eq, PartialOrd, Ord, Drop)]
 pub struct Slot {
+    /// Whether the operator may take nothing.
     is_idle: bool,
+    /// The operator's slope in its plan; the greater one comes first.
     slope: Reverse<Slope>,
+    /// The instant of what the operator may take next; 0 where it is idle.
     instant: u64,
+    /// The number of the query.
     query: u64,
+    /// The number of the operator in its query.
     operator: usize,
 }
 
 impl Slot {
-    /// The slot of an operator; `instant` is that of what it may take next.
+    /// Makes the slot of an operator; `instant` is that of what it may take next, if anything.
     pub fn new(slope: Slope, instant: Option<u64>, query: u64, operator: usize) -> Slot
         ensures { result ≡ slot slope instant query operator }
     {

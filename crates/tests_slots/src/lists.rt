@@ -1,12 +1,12 @@
 //! Which slots of a list are the first.
 use envelope::{Point, Slope, is_chart, slopes};
-use run_queue::{ReadyList, Slot};
+use run_queue::{RunQueue, Slot};
 use std::alloc::{AllocError, Global};
 use std::test::Fail;
 
 /// A list to which the slots came in this order.
-fn listed(alloc: Global, slots: &[Slot]) -> Result<ReadyList, AllocError> {
-    let mut list = ReadyList::new(alloc);
+fn listed(alloc: Global, slots: &[Slot]) -> Result<RunQueue, AllocError> {
+    let mut list = RunQueue::new(alloc);
     for slot in slots {
         list.put(*slot)?;
     }
@@ -19,7 +19,7 @@ fn named(slot: &Slot) -> (u64, usize) {
 }
 
 /// The query and the operator of the first slot.
-fn first(list: &ReadyList) -> Option<(u64, usize)> {
+fn first(list: &RunQueue) -> Option<(u64, usize)> {
     match list.first() {
         Some(slot) => Some(named(&slot)),
         None => None,
@@ -27,7 +27,7 @@ fn first(list: &ReadyList) -> Option<(u64, usize)> {
 }
 
 /// Whether just these operators of queries are the first, one after the other, where each has nothing to take once it was.
-fn are_leased(list: &mut ReadyList, wanted: &[(u64, usize)]) -> bool {
+fn are_leased(list: &mut RunQueue, wanted: &[(u64, usize)]) -> bool {
     for operator in wanted {
         match list.first() {
             Some(slot) => {
@@ -50,7 +50,7 @@ fn lists(alloc: Global, slots: &[Slot], wanted: &[(u64, usize)]) -> Result<bool,
 
 /// The first of a list to which no slot came.
 fn first_of_none(alloc: Global) -> Option<(u64, usize)> {
-    let list = ReadyList::new(alloc);
+    let list = RunQueue::new(alloc);
     first(&list)
 }
 
@@ -129,7 +129,7 @@ fn chart(alloc: Global, operators: &[(u64, u64)]) -> Result<Vec<Point>, AllocErr
 /// Each operator of the path comes, with something of the instant 0 to take.
 fn put_path(
     alloc: Global,
-    list: &mut ReadyList,
+    list: &mut RunQueue,
     query: u64,
     operators: &[(u64, u64)],
 ) -> Result<(), AllocError> {
@@ -150,7 +150,7 @@ fn charts_lead(
     latter: &[(u64, u64)],
     wanted: &[(u64, usize)],
 ) -> Result<bool, AllocError> {
-    let mut list = ReadyList::new(alloc);
+    let mut list = RunQueue::new(alloc);
     put_path(alloc, &mut list, 0, former)?;
     put_path(alloc, &mut list, 1, latter)?;
     Ok(are_leased(&mut list, wanted))

@@ -16,7 +16,7 @@ use envelope::Slope;
 use name_table::NameTable;
 use query_runtime::RunningQuery;
 use reference::Fault;
-use run_queue::{ReadyList, Slot};
+use run_queue::{RunQueue, Slot};
 use std::alloc::Global;
 use stream_store::Streams;
 
@@ -38,7 +38,7 @@ impl State {
             readers: Vec::new(alloc),
             leases: Vec::new(alloc),
             next: 0,
-            slots: ReadyList::new(alloc),
+            slots: RunQueue::new(alloc),
         }
     }
 

@@ -1,6 +1,7 @@
 //! The slots in their order.
-ghost use Rattle.std.specs.Prelude.{◌≡◌, ◌<◌, [], Some, IfOk, IfErr, OnOk, OnErr, MatchOption};
-ghost use Rattle.run_queue.specs.Slots.{changed, put, without_query, first_of, slot_cmp, IsSteepest, AreIdle, IsFound, IsMissing};
+ghost use Rattle.std.specs.Prelude.{◌≡◌, ◌<◌, [], Some, IfErr, IfOk, MatchOption, OnErr, OnOk};
+ghost use Rattle.run_queue.specs.Slots.{AreIdle, IsFound, IsMissing, IsSteepest};
+ghost use Rattle.run_queue.specs.Slots.{changed, first_of, put, slot_cmp, without_query};
 ghost use Rattle.std.specs.List.{insert, remove};
 ghost use Rattle.std.specs.List.Sorted.{IsStrictlySortedBy};
 ghost use Rattle.std.specs.Vec.{vec_capacity, vec_len};
@@ -11,11 +12,12 @@ use std::marker::Model;
 
 /// Slots of operators, each once, in their order.
 #[derive(Drop)]
-pub struct ReadyList {
+pub struct RunQueue {
+    /// The slots, strictly ordered, idle operators last.
     slots: Vec<Slot>,
 }
 
-impl Model for ReadyList {
+impl Model for RunQueue {
     ghost use Rattle.std.specs.Prelude.{List};
     ghost use Rattle.std.specs.List.Sorted.{IsStrictlySortedBy};
     ghost use Rattle.run_queue.specs.Slots.{slot_cmp};
@@ -28,18 +30,18 @@ impl Model for ReadyList {
     ghost invariant = { λ l. IsStrictlySortedBy slot_cmp l.slots.items };
 }
 
-impl ReadyList {
-    /// No slots. Takes no memory.
+impl RunQueue {
+    /// Makes a queue of no slots. Takes no memory.
     #[tactic(auto, using(crate::proofs::SlotLemmas::none_ordered))]
-    pub fn new(alloc: Global) -> ReadyList
+    pub fn new(alloc: Global) -> RunQueue
         ensures { result ≡ [] }
     {
-        ReadyList {
+        RunQueue {
             slots: Vec::new(alloc),
         }
     }
 
-    /// The first slot with something to take: none such has a greater slope. Takes no memory.
+    /// Finds the first slot with something to take: none such has a greater slope. Takes no memory.
     #[tactic(auto, using(crate::proofs::FirstLemmas::first_is_steepest))]
     pub fn first(&self) -> Option<Slot>
         ensures value { result ≡ first_of self.now }
@@ -51,7 +53,7 @@ impl ReadyList {
         }
     }
 
-    /// A slot comes to its place, unless it is there.
+    /// Puts a slot at its place, unless it is there.
     ///
     /// # Errors
     /// `AllocError` where memory is refused; then all is as it was.
@@ -65,8 +67,9 @@ impl ReadyList {
         Ok(())
     }
 
-    /// The slot's operator has something else to take, or nothing. Takes no memory, and moves only the slots between its old place and
-    /// its new one; where the slot is not in the list nothing changes.
+    /// Gives the slot's operator the instant of what it may take next, or none. Takes no memory, and
+    /// moves only the slots between its old place and its new one; where the slot is not in the queue
+    /// nothing changes.
     #[tactic(auto, using(crate::proofs::SlotLemmas::without_ordered, crate::proofs::SlotLemmas::put_ordered))]
     pub fn change(&mut self, slot: Slot, instant: Option<u64>)
         ensures { self.new ≡ changed slot instant self.old }
@@ -76,7 +79,7 @@ impl ReadyList {
         }
     }
 
-    /// The slots of a query leave. Takes no memory.
+    /// Removes the slots of a query. Takes no memory.
     #[tactic(auto, using(crate::proofs::SlotLemmas::without_query_ordered))]
     pub fn drop_query(&mut self, query: u64)
         ensures { self.new ≡ without_query query self.old }
@@ -85,7 +88,7 @@ impl ReadyList {
     }
 }
 
-/// Where the slot stands, or where it belongs.
+/// Finds where the slot stands, or where it belongs.
 #[tactic(auto, using(crate::proofs::SlotLemmas::found_at, crate::proofs::SlotLemmas::missing_at))]
 fn place_of(slots: &[Slot], slot: &Slot) -> Result<usize, usize>
     requires { IsStrictlySortedBy slot_cmp slots.now }
@@ -95,8 +98,8 @@ fn place_of(slots: &[Slot], slot: &Slot) -> Result<usize, usize>
     slots.binary_search(slot)
 }
 
-/// The slot at a place leaves and another comes to its own place, unless an equal one is there. It is written also where the place
-/// stays: an equal slope may be another fraction.
+/// Removes the slot at a place and puts another at its own place, unless an equal one is there. It
+/// is written also where the place stays: an equal slope may be another fraction.
 fn replace(slots: &mut Vec<Slot>, at: usize, slot: Slot)
     requires within { at < vec_len slots.old }
     requires ordered { IsStrictlySortedBy slot_cmp slots.old.items }
@@ -120,7 +123,8 @@ fn replace(slots: &mut Vec<Slot>, at: usize, slot: Slot)
     }
 }
 
-/// The slot at a place leaves and another comes to a place among the others. Those between the two places move by one.
+/// Removes the slot at a place and puts another at a place among the others. Those between the two
+/// places move by one.
 fn move_slot(slots: &mut Vec<Slot>, at: usize, to: usize, slot: Slot)
     requires leaves { at < vec_len slots.old }
     requires comes { to < vec_len slots.old }
@@ -134,7 +138,7 @@ fn move_slot(slots: &mut Vec<Slot>, at: usize, to: usize, slot: Slot)
     slots[to] = slot;
 }
 
-/// A slot comes to its place, unless it is there; there is room for it.
+/// Puts a slot at its place, unless it is there; there is room for it.
 fn place(slots: &mut Vec<Slot>, slot: Slot)
     requires room { vec_len slots.old < vec_capacity slots.old }
     requires ordered { IsStrictlySortedBy slot_cmp slots.old.items }

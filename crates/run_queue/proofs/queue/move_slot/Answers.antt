@@ -1,7 +1,7 @@
 use Rattle.std.proofs.Common.{ap, ◌∙◌, arith, set}
 use Rattle.run_queue.proofs.MoveLemmas.{moved_before, moved_behind}
-use Rattle.run_queue.proofs.list.move_slot.Goals as goal
-use Rattle.run_queue.proofs.list.move_slot.Goals.{then-to-at, else-to-at}
+use Rattle.run_queue.proofs.queue.move_slot.Goals as goal
+use Rattle.run_queue.proofs.queue.move_slot.Goals.{then-to-at, else-to-at}
 
 -- src/list.rt
 pub returns : goal.returns

@@ -4,7 +4,7 @@ use Rattle.std.specs.List.Sorted.{IsStrictlySortedBy}
 use Rattle.run_queue.specs.Slots.{slot_cmp, without_query}
 use Rattle.run_queue.specs.declared.slots.Slot.{Slot}
 use Rattle.run_queue.proofs.SlotLemmas.{without_query_ordered}
-use Rattle.run_queue.proofs.list.ReadyList.drop_query.Goals as goal
+use Rattle.run_queue.proofs.queue.RunQueue.drop_query.Goals as goal
 
 -- src/list.rt
 pub returns : goal.returns

@@ -1,7 +1,7 @@
 use Rattle.std.proofs.Common.{◌∙◌, sym, subst, arith}
 use Rattle.run_queue.specs.Slots.{IsFound, IsMissing}
 use Rattle.run_queue.proofs.MoveLemmas.{put_instead, put_beside, put_before, put_behind}
-use Rattle.run_queue.proofs.list.replace.Goals as goal
+use Rattle.run_queue.proofs.queue.replace.Goals as goal
 
 -- src/list.rt
 pub returns-then-to-at : goal.returns-then-to-at

@@ -1,4 +1,4 @@
-"""Runs the blocks of docs/use.md and README.md over a built cqlrun: bench/use says what is compared."""
+"""Runs what the documents say over a built cqlrun: bench/use says what is compared."""
 import json
 import os
 import re
@@ -26,15 +26,16 @@ def fenced(text):
 
 
 def run_blocks(page, folder):
-    """Runs the shell and Python blocks of a page in order, and compares each with the text behind it."""
+    """Runs the blocks of a page in order, and compares what each prints with the text behind it."""
     environment = {**os.environ, "PATH": f"{folder}/bin:{os.environ['PATH']}"}
     blocks = list(fenced(page.read_text())) + [("", 0, "")]
     tried = 0
     for (kind, line, code), (next_kind, _, wanted) in zip(blocks, blocks[1:]):
-        words = {"sh": ["bash", "-euo", "pipefail", "-c", code], "python": ["python3", "-c", code]}.get(kind)
+        words = {"sh": ["bash", "-euo", "pipefail", "-c"], "python": ["python3", "-c"]}.get(kind)
         if not words:
             continue
-        told = subprocess.run(words, cwd=folder, env=environment, capture_output=True, text=True, timeout=60)
+        told = subprocess.run(words + [code], cwd=folder, env=environment, capture_output=True,
+                              text=True, timeout=60)
         check(f"{page}:{line}", told.stderr + told.stdout, wanted if next_kind == "text" else "")
         tried += 1
     print(f"{page}: {tried} blocks run")
@@ -48,18 +49,20 @@ def first_query():
     asked = {}
     exec(code, asked)
     shown = re.search(r'^    \{"op":"stream".*?\n\n', readme, re.M | re.S).group()
-    text = " ".join(re.search(r"^    (Select Rstream.*?)\n\n", readme, re.M | re.S).group(1).split())
+    text = re.search(r"^    (Select Rstream.*?)\n\n", readme, re.M | re.S).group(1)
+    text = json.dumps(" ".join(text.split()))
     requests = Path("examples/trades.jsonl").read_text().split("\n")[:-1]
     replies = []
     for line in shown.strip().split("\n"):
         if line.strip().startswith("→"):
             replies[-1] = json.loads(line.strip()[1:])
         else:
-            line = re.sub(r'"Select Rstream\(symbol, \.\. as above .*?"', json.dumps(text), line.strip())
+            line = re.sub(r'"Select Rstream\(symbol, \.\. as above .*?"', text, line.strip())
             check("a request of README's first query", line, requests[len(replies)])
             replies.append({"ok": True})
     check("requests of README's first query", len(replies), len(requests))
-    check("README's first query", [asked["ask"](json.loads(line)) for line in requests], replies)
+    found = [asked["ask"](json.loads(line)) for line in requests]
+    check("README's first query", found, replies)
     asked["engine"].communicate()
     print("README.md: its first query asked")
 
@@ -90,9 +93,11 @@ def paths():
     for page in [Path("README.md"), *sorted(Path("docs").glob("*.md"))]:
         text = page.read_text()
         linked = [page.parent / link for link in re.findall(r"\]\(([^):#]+)\)", text)]
-        below = Path("crates") if page.name == "proofs.md" else Path()
-        pattern = r"`(\w+/(?:src|specs|proofs)/[\w/.]*)`" if below.name else r"`((?:bench|crates|examples|docs)/[\w/.]+)`"
-        named = [below / name for name in re.findall(pattern, text) if "NAME" not in name and "/out" not in name]
+        below, pattern = Path(), r"`((?:bench|crates|examples|docs)/[\w/.]+)`"
+        if page.name == "proofs.md":
+            below, pattern = Path("crates"), r"`(\w+/(?:src|specs|proofs)/[\w/.]*)`"
+        named = [below / name for name in re.findall(pattern, text)]
+        named = [path for path in named if "NAME" not in path.parts and "out" not in path.parts]
         for path in linked + named:
             check(f"{page}: {path} is there", path.exists(), True)
         found += len(linked + named)
@@ -101,14 +106,16 @@ def paths():
 
 def pictures():
     """Each picture is what its script draws."""
-    scripts = [script for script in sorted(Path("docs").glob("*.py")) if script.with_suffix(".svg").exists()]
+    scripts = sorted(Path("docs").glob("*.py"))
+    scripts = [script for script in scripts if script.with_suffix(".svg").exists()]
     with tempfile.TemporaryDirectory() as folder:
         shutil.copytree("docs", f"{folder}/docs")
         for script in scripts:
-            drawn = Path(folder) / script.with_suffix(".svg")
+            stored = script.with_suffix(".svg")
+            drawn = Path(folder) / stored
             drawn.unlink()
             subprocess.run([sys.executable, "-B", script], cwd=folder, check=True)
-            check(f"{script} draws its picture", drawn.read_bytes() == script.with_suffix(".svg").read_bytes(), True)
+            check(f"{script} draws its picture", drawn.read_bytes() == stored.read_bytes(), True)
     print(f"documents: {len(scripts)} pictures drawn")
 
 
@@ -116,14 +123,17 @@ def windows():
     """The windows of docs/windows.svg hold what the engine says that they hold."""
     sys.path.insert(0, "docs")
     import windows as page
-    at, requests = page.AT, [{"op": "stream", "name": "S", "columns": ["k", "v"], "from": 0}]
-    for number, (text, _) in enumerate(page.WINDOWS):
-        requests.append({"op": "query", "name": f"q{number}", "text": f"Select Rstream(*) From S {text}"})
+    at, count = page.AT, len(page.WINDOWS)
+    requests = [{"op": "stream", "name": "S", "columns": ["k", "v"], "from": 0}]
+    for number, (window, _) in enumerate(page.WINDOWS):
+        text = f"Select Rstream(*) From S {window}"
+        requests.append({"op": "query", "name": f"q{number}", "text": text})
     requests += [{"op": "append", "stream": "S", "rows": [list(row) for row in page.ROWS]},
                  {"op": "heartbeat", "stream": "S", "at": at}, {"op": "drain"}]
-    requests += [{"op": "take", "query": f"q{number}", "limit": 100} for number in range(len(page.WINDOWS))]
-    told = subprocess.run([program], input="".join(json.dumps(r) + "\n" for r in requests), capture_output=True, text=True)
-    replies = [json.loads(line) for line in told.stdout.split("\n")[-1 - len(page.WINDOWS):-1]]
+    requests += [{"op": "take", "query": f"q{number}", "limit": 100} for number in range(count)]
+    script = "".join(json.dumps(request) + "\n" for request in requests)
+    told = subprocess.run([program], input=script, capture_output=True, text=True)
+    replies = [json.loads(line) for line in told.stdout.split("\n")[-1 - count:-1]]
     for (text, holds), reply in zip(page.WINDOWS, replies):
         shown = [row[1:] for row in reply["rows"] if row[0] == at]
         check(f"docs/windows.svg: {text}", shown, sorted([k, v] for _, k, v in holds(page.ROWS)))

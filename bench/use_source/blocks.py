@@ -46,8 +46,8 @@ def first_query():
     readme = Path("README.md").read_text()
     code = re.search(r"^    from json import.*?(?=^\S)", readme, re.M | re.S).group()
     code = re.sub("^    ", "", code, flags=re.M).replace("crates/cqlrun/out/cqlrun", program)
-    asked = {}
-    exec(code, asked)
+    names = {}
+    exec(code, names)
     shown = re.search(r'^    \{"op":"stream".*?\n\n', readme, re.M | re.S).group()
     text = re.search(r"^    (Select Rstream.*?)\n\n", readme, re.M | re.S).group(1)
     text = json.dumps(" ".join(text.split()))
@@ -61,9 +61,9 @@ def first_query():
             check("a request of README's first query", line, requests[len(replies)])
             replies.append({"ok": True})
     check("requests of README's first query", len(replies), len(requests))
-    found = [asked["ask"](json.loads(line)) for line in requests]
+    found = [names["ask"](json.loads(line)) for line in requests]
     check("README's first query", found, replies)
-    asked["engine"].communicate()
+    names["engine"].communicate()
     print("README.md: its first query asked")
 
 
@@ -119,9 +119,44 @@ def pictures():
     print(f"documents: {len(scripts)} pictures drawn")
 
 
+def asked(requests):
+    """What cqlrun answers to requests."""
+    script = "".join(json.dumps(request) + "\n" for request in requests)
+    told = subprocess.run([program], input=script, capture_output=True, text=True, timeout=60)
+    return [json.loads(line) for line in told.stdout.splitlines()]
+
+
+def heartbeats():
+    """The calls of docs/heartbeats.svg are answered as it says."""
+    import heartbeats as page
+    query = {"op": "query", "name": "q", "text": "Select Rstream(Count(*)) From S [Now]"}
+    told, late, closed, base = [], [], -1, None
+    for _, kind, at in page.CALLS:
+        if kind == "stream":
+            told.append({"op": "stream", "name": "S", "columns": ["a"], "from": 0})
+        elif kind == "append":
+            if any(instant <= closed for instant in at):
+                late.append(len(told))
+            told.append({"op": "append", "stream": "S", "rows": [[instant, 0] for instant in at]})
+        elif kind == "heartbeat":
+            told.append({"op": "heartbeat", "stream": "S", "at": at})
+            closed = at
+        elif kind == "query":
+            told.append(query)
+            base = closed
+        else:
+            told += [{"op": "drain"}, {"op": "take", "query": "q", "limit": 100}]
+    replies = asked(told)
+    refused = [place for place, reply in enumerate(replies) if reply == {"error": "E10 Late"}]
+    check("docs/heartbeats.svg: late rows", refused, late)
+    check("docs/heartbeats.svg: other faults", [r for r in replies if "error" in r][len(late):], [])
+    instants = [row[0] for row in replies[-1]["rows"]]
+    check("docs/heartbeats.svg: answers", instants, list(range(base + 1, closed + 1)))
+    print(f"docs/heartbeats.svg: {len(told)} requests asked")
+
+
 def windows():
     """The windows of docs/windows.svg hold what the engine says that they hold."""
-    sys.path.insert(0, "docs")
     import windows as page
     at, count = page.AT, len(page.WINDOWS)
     requests = [{"op": "stream", "name": "S", "columns": ["k", "v"], "from": 0}]
@@ -131,13 +166,10 @@ def windows():
     requests += [{"op": "append", "stream": "S", "rows": [list(row) for row in page.ROWS]},
                  {"op": "heartbeat", "stream": "S", "at": at}, {"op": "drain"}]
     requests += [{"op": "take", "query": f"q{number}", "limit": 100} for number in range(count)]
-    script = "".join(json.dumps(request) + "\n" for request in requests)
-    told = subprocess.run([program], input=script, capture_output=True, text=True)
-    replies = [json.loads(line) for line in told.stdout.split("\n")[-1 - count:-1]]
-    for (text, holds), reply in zip(page.WINDOWS, replies):
+    for (text, holds), reply in zip(page.WINDOWS, asked(requests)[-count:]):
         shown = [row[1:] for row in reply["rows"] if row[0] == at]
         check(f"docs/windows.svg: {text}", shown, sorted([k, v] for _, k, v in holds(page.ROWS)))
-    print(f"docs/windows.svg: {len(replies)} windows asked")
+    print(f"docs/windows.svg: {count} windows asked")
 
 
 with tempfile.TemporaryDirectory() as folder:
@@ -150,6 +182,8 @@ tables("docs/use.md")
 stored_run()
 paths()
 pictures()
+sys.path.insert(0, "docs")
 windows()
+heartbeats()
 print("bench/use: " + (f"{len(failures)} differ" if failures else "all as the documents say"))
 sys.exit(1 if failures else 0)

@@ -67,6 +67,17 @@ def first_query():
     print("README.md: its first query asked")
 
 
+def conversation(page):
+    """The requests of a page are answered by the lines behind the arrows."""
+    shown = re.search(r'^    \{"op".*?\n\n', Path(page).read_text(), re.M | re.S).group()
+    lines = [line.strip() for line in shown.strip().split("\n")]
+    requests, replies = lines[0::2], [line.removeprefix("→ ") for line in lines[1::2]]
+    told = subprocess.run([program], input="\n".join(requests), capture_output=True, text=True,
+                          timeout=60)
+    check(f"the conversation of {page}", told.stdout.splitlines(), replies)
+    print(f"{page}: {len(requests)} requests asked")
+
+
 def tables(page):
     """Each query of a table stands in the example that its line names."""
     rows = re.findall(r"^\| [^|]* \| `(Select [^`]*)` \| `(\w+)` \|$", Path(page).read_text(), re.M)
@@ -177,6 +188,7 @@ with tempfile.TemporaryDirectory() as folder:
     os.symlink(program, f"{folder}/bin/cqlrun")
     run_blocks(Path("docs/use.md"), folder)
 first_query()
+conversation("docs/wire.md")
 tables("README.md")
 tables("docs/use.md")
 stored_run()

@@ -98,6 +98,19 @@ def stored_run():
     print(f"tests_examples: its input is that of {len(scripts)} examples")
 
 
+def promises():
+    """What docs/headline.md quotes of the promises stands so in the definitions."""
+    stated = "\n".join(path.read_text() for path in Path("crates/laws_engine/specs").glob("*.antt"))
+    stated = " ".join(re.sub(r"\bpub | : Type 0\b", "", stated).split())
+    page = Path("docs/headline.md").read_text()
+    page = page[page.index("## As it is stated"):page.index("## Where it stands")]
+    quoted = re.findall(r"(?:^    .*\n)+", page, re.M)
+    for block in quoted:
+        words = " ".join(block.split())
+        check(f"docs/headline.md: {words[:60]}..", words in stated, True)
+    print(f"docs/headline.md: {len(quoted)} definitions sought")
+
+
 def paths():
     """The files that the documents link to or name are there."""
     found = 0
@@ -192,6 +205,7 @@ conversation("docs/wire.md")
 tables("README.md")
 tables("docs/use.md")
 stored_run()
+promises()
 paths()
 pictures()
 sys.path.insert(0, "docs")

@@ -1,7 +1,8 @@
 #!/usr/bin/env python3
-"""Draws headline.svg: the chain of the theorem, from a text to the engine, each arrow with what says it.
+"""Draws headline.svg: the chain of the theorem, from a text to the engine, and what says each step.
 
-Run it as `python3 docs/headline.py`. It writes the picture beside itself, from the lists below alone.
+Run it as `python3 docs/headline.py`. It writes the picture beside itself,
+from the lists below alone.
 """
 import sys
 
@@ -21,13 +22,17 @@ LEVELS = [
 ]
 # from each to the next: what it says, the function that says it, and the crates
 STEPS = [
-    ("what the grammar and the names give, or the first fault", "read, resolve", "cql_reader, names"),
+    ("what the grammar and the names give, or the first fault", "read, resolve",
+     "cql_reader, names"),
     ("the plan's value is the relation of the meaning", "plans_are_right", "plan"),
-    ("each operator keeps its law; edges are paths", "plans_are_nets", "operators' crates, laws_dataflow"),
-    ("the code's operators are such operators", "accepted_registrations_run", "laws_queries, laws_engine_accepted"),
+    ("each operator keeps its law; edges are paths", "plans_are_nets",
+     "operators' crates, laws_dataflow"),
+    ("the code's operators are such operators", "accepted_registrations_run",
+     "laws_queries, laws_engine_accepted"),
     ("each call keeps a good engine good", "engines_keep_their_promises", "laws_engine"),
     ("each call does what the plain engine does", "Engine's clauses", "leases"),
-    ("each call does what the machine's step says", "does, run_script, run", "reference, wire, programs"),
+    ("each call does what the machine's step says", "does, run_script, run",
+     "reference, wire, programs"),
 ]
 # what says at a level that the answers given are a beginning of CQL's
 GIVEN = {
@@ -41,7 +46,8 @@ RIGHT = 590
 
 
 def main():
-    drawing = Drawing(RIGHT + 230, TOP + STEP * (len(LEVELS) - 1) + HEIGHT + 30, "The chain of the theorem, from a text to the replies")
+    drawing = Drawing(RIGHT + 230, TOP + STEP * (len(LEVELS) - 1) + HEIGHT + 30,
+                      "The chain of the theorem, from a text to the replies")
 
     def y(level):
         return TOP + STEP * level
@@ -52,17 +58,21 @@ def main():
     drawing.code(RIGHT + 100, y(1) + 104, "closed_answers")
     drawing.text(RIGHT + 100, y(1) + 128, "of the meaning and the rows", color=GREY, size=12)
     drawing.text(RIGHT + 100, y(1) + 145, "alone: no plan, no queue", color=GREY, size=12)
-    drawing.line([(LEFT + WIDTH, y(1) + HEIGHT / 2), (RIGHT - 2, y(1) + HEIGHT / 2)], ORANGE, 2, head=True)
-    drawing.text((LEFT + WIDTH + RIGHT) / 2, y(1) + HEIGHT / 2 - 8, "defines, with the rows of its streams", color=ORANGE)
+    begin, between = LEFT + WIDTH, (LEFT + WIDTH + RIGHT) / 2
+    middle = y(1) + HEIGHT / 2
+    drawing.line([(begin, middle), (RIGHT - 2, middle)], ORANGE, 2, head=True)
+    drawing.text(between, middle - 8, "defines, with the rows of its streams", color=ORANGE)
     for level, (name, value) in enumerate(LEVELS):
-        drawing.box(LEFT, y(level), WIDTH, HEIGHT, LIGHT_GREEN if level in GIVEN else "white", GREEN if level in GIVEN else INK, 1.5)
+        fill, color = (LIGHT_GREEN, GREEN) if level in GIVEN else ("white", INK)
+        drawing.box(LEFT, y(level), WIDTH, HEIGHT, fill, color, 1.5)
         drawing.text(LEFT + WIDTH / 2, y(level) + 19, name, weight="bold")
         drawing.code(LEFT + WIDTH / 2, y(level) + 36, value, color=GREY)
         if level in GIVEN:
             middle = y(level) + HEIGHT / 2
-            drawing.line([(LEFT + WIDTH, middle), (RIGHT - 2, middle)], GREEN, 2, head=True)
-            drawing.text((LEFT + WIDTH + RIGHT) / 2, middle - 8, "has given a beginning, and all when idle", color=GREEN)
-            drawing.code((LEFT + WIDTH + RIGHT) / 2, middle + 16, GIVEN[level], color=GREEN, size=11)
+            drawing.line([(begin, middle), (RIGHT - 2, middle)], GREEN, 2, head=True)
+            words = "has given a beginning, and all when idle"
+            drawing.text(between, middle - 8, words, color=GREEN)
+            drawing.code(between, middle + 16, GIVEN[level], color=GREEN, size=11)
     for level, (says, law, crates) in enumerate(STEPS):
         top, end = y(level) + HEIGHT, y(level + 1)
         drawing.line([(LEFT + 28, top), (LEFT + 28, end - 1)], INK, 1.5, head=True)

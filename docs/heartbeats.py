@@ -1,7 +1,8 @@
 #!/usr/bin/env python3
-"""Draws heartbeats.svg: calls on a stream one below the other, what each closes, a query's base, and a late row.
+"""Draws heartbeats.svg: calls one below the other, what each closes, a query's base, a late row.
 
-Run it as `python3 docs/heartbeats.py`. It writes the picture beside itself, from the calls below alone.
+Run it as `python3 docs/heartbeats.py`. It writes the picture beside itself,
+from the calls below alone.
 """
 import sys
 
@@ -26,7 +27,9 @@ LEFT, STEP, TOP, HEIGHT = 200, 52, 62, 40
 def main():
     right = LEFT + STEP * (LAST + 1)
     bottom = TOP + HEIGHT * len(CALLS)
-    drawing = Drawing(right + 250, bottom + 66, "Heartbeats close instants, a query begins at its base, and a late row is refused")
+    drawing = Drawing(right + 250, bottom + 66,
+                      "Heartbeats close instants, a query begins at its base, "
+                      "and a late row is refused")
 
     def x(instant):
         return LEFT + STEP * (instant + 0.5)
@@ -58,21 +61,26 @@ def main():
                     drawing.line([(at - 4, middle - 4), (at + 4, middle + 4)], RED)
                     drawing.line([(at - 4, middle + 4), (at + 4, middle - 4)], RED)
         if kind == "append":
-            said = "E10 Late: nothing is changed" if late else "ok: rows wait" if base is not None else "ok: before the query"
+            said = "ok: before the query" if base is None else "ok: rows wait"
+            said = "E10 Late: nothing is changed" if late else said
         if kind == "take":
             first, last = base + 1, closed
-            drawing.box(x(first) - STEP / 2 + 3, top + 6, STEP * (last - first + 1) - 6, HEIGHT - 12, LIGHT_GREEN, GREEN)
-            drawing.text((x(first) + x(last)) / 2, middle + 4, f"answers of {first} to {last}", color=GREEN)
+            width = STEP * (last - first + 1) - 6
+            drawing.box(x(first) - STEP / 2 + 3, top + 6, width, HEIGHT - 12, LIGHT_GREEN, GREEN)
+            drawing.text((x(first) + x(last)) / 2, middle + 4, f"answers of {first} to {last}",
+                         color=GREEN)
             said = "ok: the row of 7 waits on"
         drawing.text(right + 14, middle + 4, said, "start", RED if late else INK)
     registered = [kind for _, kind, _ in CALLS].index("query")
     at = x(base) + STEP / 2
     drawing.line([(at, TOP + HEIGHT * registered), (at, bottom + 8)], GREEN, 2, dashed=True)
-    drawing.text(at, bottom + 24, f"base {base}: what is at or before it does not count for q", color=GREEN)
+    words = f"base {base}: what is at or before it does not count for q"
+    drawing.text(at, bottom + 24, words, color=GREEN)
     y = bottom + 52
     drawing.box(LEFT, y - 12, 22, 14, PALE, PALE, 0, 0)
     drawing.text(LEFT + 30, y, "closed behind the call", "start")
-    for place, (words, color) in enumerate([("a row that counts for q", GREEN), ("one that does not", GREY)]):
+    keys = [("a row that counts for q", GREEN), ("one that does not", GREY)]
+    for place, (words, color) in enumerate(keys):
         drawing.dot(LEFT + 206 + place * 180, y - 4, 7, color, color)
         drawing.text(LEFT + 220 + place * 180, y, words, "start")
     drawing.write(__file__)

@@ -18,14 +18,18 @@ def queue(drawing, x, y, items, words):
 
 
 def main():
-    drawing = Drawing(900, 330, "One turn of an operator: an item and an excerpt go out, outputs and a change come back")
+    drawing = Drawing(900, 330, "One turn of an operator: an item and an excerpt go out, "
+                      "outputs and a change come back")
     drawing.box(230, 34, 190, 240, PAPER, PALE, 1, 8)
     drawing.text(325, 294, "the engine: one caller at a time", color=GREY)
     drawing.box(480, 34, 150, 240, LIGHT_GREEN, GREEN, 1, 8, dashed=True)
     drawing.text(555, 294, "any thread", color=GREEN)
 
-    queue(drawing, 24, 70, [("tick 5", "white"), ("+c  -a", "white"), ("+a  +b", LIGHT_ORANGE)], "its queue")
-    for place, words in enumerate(["a batch of signed rows: plus", "enters, minus leaves; the tick", "ends the rows of an instant"]):
+    waiting = [("tick 5", "white"), ("+c  -a", "white"), ("+a  +b", LIGHT_ORANGE)]
+    queue(drawing, 24, 70, waiting, "its queue")
+    meaning = ["a batch of signed rows: plus", "enters, minus leaves; the tick",
+               "ends the rows of an instant"]
+    for place, words in enumerate(meaning):
         drawing.text(24, 130 + 17 * place, words, "start", GREY, size=12)
 
     drawing.line([(196, 87), (253, 87)], head=True)
@@ -47,7 +51,8 @@ def main():
     drawing.code(555, 116, "Turn::run", size=13)
     drawing.text(555, 135, "sees no state", color=GREY, size=12)
 
-    queue(drawing, 720, 102, [("+b", LIGHT_GREEN), ("tick 4", "white")], "the next operator's queue")
+    fed = [("+b", LIGHT_GREEN), ("tick 4", "white")]
+    queue(drawing, 720, 102, fed, "the next operator's queue")
     drawing.line([(612, 119), (718, 119)], GREEN, 2, head=True)
     drawing.text(676, 110, "outputs", color=GREEN, weight="bold")
     drawing.line([(555, 146), (555, 232), (397, 232)], ORANGE, 2, head=True)
@@ -56,7 +61,9 @@ def main():
 
     for x, words in [(325, "1  lease"), (555, "2  run"), (778, "3  finish")]:
         drawing.text(x, 22, words, weight="bold")
-    for place, words in enumerate(["The outputs go to the end", "of the next queue, the change", "is applied, and only now the", "item leaves its own queue."]):
+    finish = ["The outputs go to the end", "of the next queue, the change",
+              "is applied, and only now the", "item leaves its own queue."]
+    for place, words in enumerate(finish):
         drawing.text(690, 176 + 18 * place, words, "start")
     drawing.write(__file__)
 

@@ -1,7 +1,8 @@
 #!/usr/bin/env python3
 """Draws performance.svg: the engine's share of the speed of a program written by hand.
 
-Run it as `python3 docs/performance.py`. It writes the picture beside itself, from the rates below alone.
+Run it as `python3 docs/performance.py`. It writes the picture beside itself,
+from the rates below alone.
 """
 import sys
 
@@ -24,7 +25,8 @@ LEFT, TOP, HEIGHT, BAR, GAP = 70, 56, 220, 26, 34
 
 def main():
     width = LEFT + sum(BAR * len(ours) + GAP for ours, _ in RATES.values()) + 150
-    drawing = Drawing(width, TOP + HEIGHT + 62, "The engine's share of the speed of a program written by hand")
+    drawing = Drawing(width, TOP + HEIGHT + 62,
+                      "The engine's share of the speed of a program written by hand")
 
     def y(share):
         return TOP + HEIGHT * (1 - share / 0.35)

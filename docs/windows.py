@@ -1,7 +1,8 @@
 #!/usr/bin/env python3
 """Draws windows.svg: the rows of a stream on a time line, and which of them five windows hold.
 
-Run it as `python3 docs/windows.py`. It writes the picture beside itself, from the rows and windows below alone.
+Run it as `python3 docs/windows.py`. It writes the picture beside itself,
+from the rows and windows below alone.
 """
 import sys
 
@@ -20,7 +21,7 @@ def within(rows, length):
 
 
 def last(rows, count, key):
-    """The last rows up to AT of each key: of two rows of an instant the later arrival is the later row."""
+    """The last rows up to AT of each key; of two rows of an instant the later arrival is later."""
     so_far = sorted((row for row in rows if row[0] <= AT), key=lambda row: row[0])
     kept = []
     for value in {key(row) for row in so_far}:
@@ -50,7 +51,8 @@ def main():
     bottom = TOP + HEIGHT * (len(WINDOWS) + 1)
     drawing.box(x(AT) - STEP / 2, TOP - 34, STEP, bottom - TOP + 34, PAPER, PAPER, 0, 0)
     for instant in range(LAST + 1):
-        drawing.text(x(instant), TOP - 16, str(instant), weight="bold" if instant == AT else "normal")
+        weight = "bold" if instant == AT else "normal"
+        drawing.text(x(instant), TOP - 16, str(instant), weight=weight)
     drawing.text(LEFT - 14, TOP - 16, "instant", "end", GREY)
     drawing.text(x(AT), TOP - 40, "held at this instant", "middle", GREY)
 
@@ -73,11 +75,14 @@ def main():
     row_of_dots(middle, ROWS)
     for number, (name, holds) in enumerate(WINDOWS, 1):
         middle = TOP + HEIGHT * (number + 0.5)
-        drawing.line([(20, middle - HEIGHT / 2), (x(LAST) + STEP / 2, middle - HEIGHT / 2)], PALE, 1)
+        top, right = middle - HEIGHT / 2, x(LAST) + STEP / 2
+        drawing.line([(20, top), (right, top)], PALE, 1)
         drawing.code(LEFT - 14, middle + 4, name, "end")
         if name in SPANS:
             first, end = SPANS[name]
-            drawing.box(x(first) - STEP / 2 + 3, middle - 20, STEP * (end - first + 1) - 6, 40, LIGHT_GREEN, LIGHT_GREEN, 0, 8)
+            width = STEP * (end - first + 1) - 6
+            drawing.box(x(first) - STEP / 2 + 3, middle - 20, width, 40,
+                        LIGHT_GREEN, LIGHT_GREEN, 0, 8)
         row_of_dots(middle, holds(ROWS))
     y = bottom + 24
     for place, (words, color) in enumerate([("k is 1", GREEN), ("k is 2", ORANGE)]):

@@ -1,4 +1,4 @@
-"""Runs the blocks of docs/use.md and README.md over a built cqlrun: bench/use says what is compared."""
+"""Runs what the documents say over a built cqlrun: bench/use says what is compared."""
 import json
 import os
 import re
@@ -26,15 +26,16 @@ def fenced(text):
 
 
 def run_blocks(page, folder):
-    """Runs the shell and Python blocks of a page in order, and compares each with the text behind it."""
+    """Runs the blocks of a page in order, and compares what each prints with the text behind it."""
     environment = {**os.environ, "PATH": f"{folder}/bin:{os.environ['PATH']}"}
     blocks = list(fenced(page.read_text())) + [("", 0, "")]
     tried = 0
     for (kind, line, code), (next_kind, _, wanted) in zip(blocks, blocks[1:]):
-        words = {"sh": ["bash", "-euo", "pipefail", "-c", code], "python": ["python3", "-c", code]}.get(kind)
+        words = {"sh": ["bash", "-euo", "pipefail", "-c"], "python": ["python3", "-c"]}.get(kind)
         if not words:
             continue
-        told = subprocess.run(words, cwd=folder, env=environment, capture_output=True, text=True, timeout=60)
+        told = subprocess.run(words + [code], cwd=folder, env=environment, capture_output=True,
+                              text=True, timeout=60)
         check(f"{page}:{line}", told.stderr + told.stdout, wanted if next_kind == "text" else "")
         tried += 1
     print(f"{page}: {tried} blocks run")
@@ -45,23 +46,36 @@ def first_query():
     readme = Path("README.md").read_text()
     code = re.search(r"^    from json import.*?(?=^\S)", readme, re.M | re.S).group()
     code = re.sub("^    ", "", code, flags=re.M).replace("crates/cqlrun/out/cqlrun", program)
-    asked = {}
-    exec(code, asked)
+    names = {}
+    exec(code, names)
     shown = re.search(r'^    \{"op":"stream".*?\n\n', readme, re.M | re.S).group()
-    text = " ".join(re.search(r"^    (Select Rstream.*?)\n\n", readme, re.M | re.S).group(1).split())
+    text = re.search(r"^    (Select Rstream.*?)\n\n", readme, re.M | re.S).group(1)
+    text = json.dumps(" ".join(text.split()))
     requests = Path("examples/trades.jsonl").read_text().split("\n")[:-1]
     replies = []
     for line in shown.strip().split("\n"):
         if line.strip().startswith("→"):
             replies[-1] = json.loads(line.strip()[1:])
         else:
-            line = re.sub(r'"Select Rstream\(symbol, \.\. as above .*?"', json.dumps(text), line.strip())
+            line = re.sub(r'"Select Rstream\(symbol, \.\. as above .*?"', text, line.strip())
             check("a request of README's first query", line, requests[len(replies)])
             replies.append({"ok": True})
     check("requests of README's first query", len(replies), len(requests))
-    check("README's first query", [asked["ask"](json.loads(line)) for line in requests], replies)
-    asked["engine"].communicate()
+    found = [names["ask"](json.loads(line)) for line in requests]
+    check("README's first query", found, replies)
+    names["engine"].communicate()
     print("README.md: its first query asked")
+
+
+def conversation(page):
+    """The requests of a page are answered by the lines behind the arrows."""
+    shown = re.search(r'^    \{"op".*?\n\n', Path(page).read_text(), re.M | re.S).group()
+    lines = [line.strip() for line in shown.strip().split("\n")]
+    requests, replies = lines[0::2], [line.removeprefix("→ ") for line in lines[1::2]]
+    told = subprocess.run([program], input="\n".join(requests), capture_output=True, text=True,
+                          timeout=60)
+    check(f"the conversation of {page}", told.stdout.splitlines(), replies)
+    print(f"{page}: {len(requests)} requests asked")
 
 
 def tables(page):
@@ -84,15 +98,30 @@ def stored_run():
     print(f"tests_examples: its input is that of {len(scripts)} examples")
 
 
+def promises():
+    """What docs/headline.md quotes of the promises stands so in the definitions."""
+    stated = "\n".join(path.read_text() for path in Path("crates/laws_engine/specs").glob("*.antt"))
+    stated = " ".join(re.sub(r"\bpub | : Type 0\b", "", stated).split())
+    page = Path("docs/headline.md").read_text()
+    page = page[page.index("## As it is stated"):page.index("## Where it stands")]
+    quoted = re.findall(r"(?:^    .*\n)+", page, re.M)
+    for block in quoted:
+        words = " ".join(block.split())
+        check(f"docs/headline.md: {words[:60]}..", words in stated, True)
+    print(f"docs/headline.md: {len(quoted)} definitions sought")
+
+
 def paths():
     """The files that the documents link to or name are there."""
     found = 0
     for page in [Path("README.md"), *sorted(Path("docs").glob("*.md"))]:
         text = page.read_text()
         linked = [page.parent / link for link in re.findall(r"\]\(([^):#]+)\)", text)]
-        below = Path("crates") if page.name == "proofs.md" else Path()
-        pattern = r"`(\w+/(?:src|specs|proofs)/[\w/.]*)`" if below.name else r"`((?:bench|crates|examples|docs)/[\w/.]+)`"
-        named = [below / name for name in re.findall(pattern, text) if "NAME" not in name and "/out" not in name]
+        below, pattern = Path(), r"`((?:bench|crates|examples|docs)/[\w/.]+)`"
+        if page.name == "proofs.md":
+            below, pattern = Path("crates"), r"`(\w+/(?:src|specs|proofs)/[\w/.]*)`"
+        named = [below / name for name in re.findall(pattern, text)]
+        named = [path for path in named if "NAME" not in path.parts and "out" not in path.parts]
         for path in linked + named:
             check(f"{page}: {path} is there", path.exists(), True)
         found += len(linked + named)
@@ -101,33 +130,70 @@ def paths():
 
 def pictures():
     """Each picture is what its script draws."""
-    scripts = [script for script in sorted(Path("docs").glob("*.py")) if script.with_suffix(".svg").exists()]
+    scripts = sorted(Path("docs").glob("*.py"))
+    scripts = [script for script in scripts if script.with_suffix(".svg").exists()]
     with tempfile.TemporaryDirectory() as folder:
         shutil.copytree("docs", f"{folder}/docs")
         for script in scripts:
-            drawn = Path(folder) / script.with_suffix(".svg")
+            stored = script.with_suffix(".svg")
+            drawn = Path(folder) / stored
             drawn.unlink()
             subprocess.run([sys.executable, "-B", script], cwd=folder, check=True)
-            check(f"{script} draws its picture", drawn.read_bytes() == script.with_suffix(".svg").read_bytes(), True)
+            check(f"{script} draws its picture", drawn.read_bytes() == stored.read_bytes(), True)
     print(f"documents: {len(scripts)} pictures drawn")
+
+
+def asked(requests):
+    """What cqlrun answers to requests."""
+    script = "".join(json.dumps(request) + "\n" for request in requests)
+    told = subprocess.run([program], input=script, capture_output=True, text=True, timeout=60)
+    return [json.loads(line) for line in told.stdout.splitlines()]
+
+
+def heartbeats():
+    """The calls of docs/heartbeats.svg are answered as it says."""
+    import heartbeats as page
+    query = {"op": "query", "name": "q", "text": "Select Rstream(Count(*)) From S [Now]"}
+    told, late, closed, base = [], [], -1, None
+    for _, kind, at in page.CALLS:
+        if kind == "stream":
+            told.append({"op": "stream", "name": "S", "columns": ["a"], "from": 0})
+        elif kind == "append":
+            if any(instant <= closed for instant in at):
+                late.append(len(told))
+            told.append({"op": "append", "stream": "S", "rows": [[instant, 0] for instant in at]})
+        elif kind == "heartbeat":
+            told.append({"op": "heartbeat", "stream": "S", "at": at})
+            closed = at
+        elif kind == "query":
+            told.append(query)
+            base = closed
+        else:
+            told += [{"op": "drain"}, {"op": "take", "query": "q", "limit": 100}]
+    replies = asked(told)
+    refused = [place for place, reply in enumerate(replies) if reply == {"error": "E10 Late"}]
+    check("docs/heartbeats.svg: late rows", refused, late)
+    check("docs/heartbeats.svg: other faults", [r for r in replies if "error" in r][len(late):], [])
+    instants = [row[0] for row in replies[-1]["rows"]]
+    check("docs/heartbeats.svg: answers", instants, list(range(base + 1, closed + 1)))
+    print(f"docs/heartbeats.svg: {len(told)} requests asked")
 
 
 def windows():
     """The windows of docs/windows.svg hold what the engine says that they hold."""
-    sys.path.insert(0, "docs")
     import windows as page
-    at, requests = page.AT, [{"op": "stream", "name": "S", "columns": ["k", "v"], "from": 0}]
-    for number, (text, _) in enumerate(page.WINDOWS):
-        requests.append({"op": "query", "name": f"q{number}", "text": f"Select Rstream(*) From S {text}"})
+    at, count = page.AT, len(page.WINDOWS)
+    requests = [{"op": "stream", "name": "S", "columns": ["k", "v"], "from": 0}]
+    for number, (window, _) in enumerate(page.WINDOWS):
+        text = f"Select Rstream(*) From S {window}"
+        requests.append({"op": "query", "name": f"q{number}", "text": text})
     requests += [{"op": "append", "stream": "S", "rows": [list(row) for row in page.ROWS]},
                  {"op": "heartbeat", "stream": "S", "at": at}, {"op": "drain"}]
-    requests += [{"op": "take", "query": f"q{number}", "limit": 100} for number in range(len(page.WINDOWS))]
-    told = subprocess.run([program], input="".join(json.dumps(r) + "\n" for r in requests), capture_output=True, text=True)
-    replies = [json.loads(line) for line in told.stdout.split("\n")[-1 - len(page.WINDOWS):-1]]
-    for (text, holds), reply in zip(page.WINDOWS, replies):
+    requests += [{"op": "take", "query": f"q{number}", "limit": 100} for number in range(count)]
+    for (text, holds), reply in zip(page.WINDOWS, asked(requests)[-count:]):
         shown = [row[1:] for row in reply["rows"] if row[0] == at]
         check(f"docs/windows.svg: {text}", shown, sorted([k, v] for _, k, v in holds(page.ROWS)))
-    print(f"docs/windows.svg: {len(replies)} windows asked")
+    print(f"docs/windows.svg: {count} windows asked")
 
 
 with tempfile.TemporaryDirectory() as folder:
@@ -135,11 +201,15 @@ with tempfile.TemporaryDirectory() as folder:
     os.symlink(program, f"{folder}/bin/cqlrun")
     run_blocks(Path("docs/use.md"), folder)
 first_query()
+conversation("docs/wire.md")
 tables("README.md")
 tables("docs/use.md")
 stored_run()
+promises()
 paths()
 pictures()
+sys.path.insert(0, "docs")
 windows()
+heartbeats()
 print("bench/use: " + (f"{len(failures)} differ" if failures else "all as the documents say"))
 sys.exit(1 if failures else 0)

@@ -12,7 +12,7 @@ abbrev row : ℕ → Row
 row n = Some (pos n) ∷ []
 
 abbrev empty : Operator → State
-empty o = record { operator = o; net = record { entered = []; left = [] }; whole = []; last = None }
+empty o = record { operator = o; delta = record { entered = []; left = [] }; whole = []; last = None }
 
 -- at the instant 3 the rows 6 and 5 come, at the instant 4 the row 5 leaves and 7 comes twice, of which one leaves again
 abbrev at_three : Operator → State

@@ -25,7 +25,7 @@ use values::{Operator, Row, copy_row};
 #[derive(Drop)]
 pub struct ToStream {
     operator: Operator,
-    net: Delta,
+    delta: Delta,
     whole: RowList,
     // the instant of the last tick
     last: Option<u64>,
@@ -37,18 +37,18 @@ impl Model for ToStream {
 
     ghost Value = { RootState };
 
-    ghost view = { λ r. record { operator = r.operator; net = r.net; whole = r.whole; last = r.last } };
+    ghost view = { λ r. record { operator = r.operator; delta = r.delta; whole = r.whole; last = r.last } };
 }
 
 impl ToStream {
     /// A root that has taken nothing.
     pub fn new(alloc: Global, operator: Operator) -> ToStream
-        ensures state { result ≡ record { operator = operator; net = record { entered = []; left = [] }; whole = []; last = None } }
+        ensures state { result ≡ record { operator = operator; delta = record { entered = []; left = [] }; whole = []; last = None } }
         ensures stands { Stands result [] [] }
     {
         ToStream {
             operator,
-            net: Delta::new(alloc),
+            delta: Delta::new(alloc),
             whole: RowList::new(alloc),
             last: None,
             alloc,
@@ -85,15 +85,15 @@ impl ToStream {
     {
         match self.operator {
             Operator::Istream => {
-                let rows = self.net.entered(alloc)?;
+                let rows = self.delta.entered(alloc)?;
                 Ok(rows)
             }
             Operator::Dstream => {
-                let rows = self.net.left(alloc)?;
+                let rows = self.delta.left(alloc)?;
                 Ok(rows)
             }
             Operator::Rstream => {
-                let rows = self.whole.renewed(alloc, &self.net)?;
+                let rows = self.whole.renewed(alloc, &self.delta)?;
                 Ok(rows)
             }
         }
@@ -104,7 +104,7 @@ impl ToStream {
         ensures { OnOk result (self.new ≡ next self.old item.now) }
     {
         match item {
-            Item::Rows(_, batch) => self.net.apply(batch)?,
+            Item::Rows(_, batch) => self.delta.apply(batch)?,
             Item::Tick(at) => self.tick(*at)?,
         }
         Ok(())
@@ -115,9 +115,9 @@ impl ToStream {
         ensures { OnOk result (self.new ≡ ticked self.old at) }
     {
         if let Operator::Rstream = self.operator {
-            self.whole.renew(self.alloc, &self.net)?;
+            self.whole.renew(self.alloc, &self.delta)?;
         }
-        self.net = Delta::new(self.alloc);
+        self.delta = Delta::new(self.alloc);
         self.last = Some(at);
         Ok(())
     }

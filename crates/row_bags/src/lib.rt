@@ -9,13 +9,13 @@
 #![tactic(auto)]
 
 mod counts;
+mod delta;
 mod held;
 mod keys;
-mod delta;
 mod row_bag;
 mod row_list;
 
-pub use keys::{begins_with, copied, fitted};
 pub use delta::Delta;
+pub use keys::{begins_with, copied, fitted};
 pub use row_bag::RowBag;
 pub use row_list::RowList;

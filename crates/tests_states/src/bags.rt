@@ -205,7 +205,12 @@ fn left_are(alloc: Global, delta: &Delta, numbers: &[i64]) -> Result<bool, Alloc
 }
 
 /// Whether a delta has these rows alone.
-fn shows_delta(alloc: Global, delta: &Delta, entered: &[i64], left: &[i64]) -> Result<bool, AllocError> {
+fn shows_delta(
+    alloc: Global,
+    delta: &Delta,
+    entered: &[i64],
+    left: &[i64],
+) -> Result<bool, AllocError> {
     if !entered_are(alloc, delta, entered)? {
         return Ok(false);
     }

@@ -1,4 +1,5 @@
 -- The law of one step of a root.
+use Rattle.std.specs.Prelude.{None}
 use Rattle.std.proofs.Common.{◌≡◌, ◌+◌, ◌<◌, ◌^◌, Bool, List, [], map, length, refl, ap, ap₂, sym, ◌∙◌, arith}
 use Rattle.values.specs.Row.{Row, row_cmp}
 use Rattle.values.specs.Bag.{in_order, bag_minus}
@@ -18,15 +19,15 @@ use Rattle.to_stream.specs.Turns.{State, shown, kept, next, HasRoomFor}
 use Rattle.to_stream.specs.Law.{whole_of, Stands, StepLaw}
 
 -- of Rstream the relation of the last tick, with what left and entered, is the relation now
-renewed_now : (s : State) (before now : List Row) → s.net ≡ delta_between before now → s.whole ≡ in_order row_cmp before → renewed s.whole s.net ≡ in_order row_cmp now
+renewed_now : (s : State) (before now : List Row) → s.delta ≡ delta_between before now → s.whole ≡ in_order row_cmp before → renewed s.whole s.delta ≡ in_order row_cmp now
 renewed_now s before now n w = ap₂ renewed w n ∙ renewed-between before now
 
-shown_as : (o : StreamOperator) (s : State) (before now : List Row) → s.net ≡ delta_between before now → s.whole ≡ whole_of o before → shown o s ≡ in_order row_cmp (streamed (operator_of o) before now)
+shown_as : (o : StreamOperator) (s : State) (before now : List Row) → s.delta ≡ delta_between before now → s.whole ≡ whole_of o before → shown o s ≡ in_order row_cmp (streamed (operator_of o) before now)
 shown_as Istream s before now n w = ap (λ (n : PlainDelta). n.entered) n
 shown_as Dstream s before now n w = ap (λ (n : PlainDelta). n.left) n
 shown_as Rstream s before now n w = renewed_now s before now n w
 
-kept_as : (o : StreamOperator) (s : State) (before now : List Row) → s.net ≡ delta_between before now → s.whole ≡ whole_of o before → kept o s ≡ whole_of o now
+kept_as : (o : StreamOperator) (s : State) (before now : List Row) → s.delta ≡ delta_between before now → s.whole ≡ whole_of o before → kept o s ≡ whole_of o now
 kept_as Istream s before now n w = w
 kept_as Dstream s before now n w = w
 kept_as Rstream s before now n w = renewed_now s before now n w
@@ -34,16 +35,16 @@ kept_as Rstream s before now n w = renewed_now s before now n w
 -- THE LAW OF ONE STEP
 
 pub step_law : (s : State) (item : Item) → StepLaw s item (next s item)
-step_law s (Rows t b) = λ before now after h l a. record { net = ap (λ (n : PlainDelta). deltas_after n b) h.net ∙ deltas-between b before now after l a; whole = h.whole }
+step_law s (Rows t b) = λ before now after h l a. record { delta = ap (λ (n : PlainDelta). deltas_after n b) h.delta ∙ deltas-between b before now after l a; whole = h.whole }
 step_law s (Tick t) =
     λ before now h. (
-      ap (λ (rows : List Row). map (λ r. (t, r)) rows) (shown_as s.operator s before now h.net h.whole),
-      record { net = sym (delta_between-none now); whole = kept_as s.operator s before now h.net h.whole },
+      ap (λ (rows : List Row). map (λ r. (t, r)) rows) (shown_as s.operator s before now h.delta h.whole),
+      record { delta = sym (delta_between-none now); whole = kept_as s.operator s before now h.delta h.whole },
     )
 
 -- a root that has taken nothing stands for no rows, before and now
-pub fresh_stands : (o : StreamOperator) → Stands (record { operator = o; net = record { entered = []; left = [] }; whole = [] }) [] []
-fresh_stands o = record { net = refl; whole = here o }
+pub fresh_stands : (o : StreamOperator) → Stands (record { operator = o; delta = record { entered = []; left = [] }; whole = []; last = None }) [] []
+fresh_stands o = record { delta = refl; whole = here o }
   where
     here : (p : StreamOperator) → [] ≡ whole_of p []
     here Istream = refl
@@ -55,6 +56,6 @@ fresh_stands o = record { net = refl; whole = here o }
 -- where it stands for relations, their lengths bound what a turn needs
 pub has_room : (s : State) (b : List (Bool × Row)) (before now : List Row) → Stands s before now → length before + length now + length b < 2 ^ 62 → HasRoomFor s b
 has_room s b before now h few =
-    let came : length s.net.entered ≡ length (bag_minus row_cmp now before) = ap (λ (n : PlainDelta). length n.entered) h.net ∙ length-in_order row_cmp row_order (bag_minus row_cmp now before) in
-    let gone : length s.net.left ≡ length (bag_minus row_cmp before now) = ap (λ (n : PlainDelta). length n.left) h.net ∙ length-in_order row_cmp row_order (bag_minus row_cmp before now) in
+    let came : length s.delta.entered ≡ length (bag_minus row_cmp now before) = ap (λ (n : PlainDelta). length n.entered) h.delta ∙ length-in_order row_cmp row_order (bag_minus row_cmp now before) in
+    let gone : length s.delta.left ≡ length (bag_minus row_cmp before now) = ap (λ (n : PlainDelta). length n.left) h.delta ∙ length-in_order row_cmp row_order (bag_minus row_cmp before now) in
     omega (arith, came, gone, few, length-bag_minus row_cmp row_order now before, length-bag_minus row_cmp row_order before now)

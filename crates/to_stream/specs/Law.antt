@@ -20,7 +20,7 @@ whole_of Rstream before = in_order row_cmp before
 
 -- `before` is the relation that was taken at the last tick, `now` the one that is taken
 pub record Stands (s : State) (before now : List Row) : Type 0 where
-  pub net : s.net ≡ delta_between before now
+  pub delta : s.delta ≡ delta_between before now
   pub whole : s.whole ≡ whole_of s.operator before
 
 -- after rows the state stands for the relation with them; at a tick the answers are those of the definition, and the relation now is that of the instant before

@@ -8,7 +8,7 @@
 //! that becomes the next one at a tick, so a row costs the same however many are held.
 #![tactic(auto)]
 
-ghost use Rattle.std.specs.Prelude.{◌≡◌, [], map, IfOk, OnOk};
+ghost use Rattle.std.specs.Prelude.{◌≡◌, None, [], map, IfOk, OnOk};
 ghost use Rattle.row_bags.specs.Bags.{rows_of};
 ghost use Rattle.to_stream.specs.Turns.{State, shown, near, out, ticked, next, HasRoom, answers_of};
 ghost use Rattle.to_stream.specs.Law.{Stands, StepLaw};
@@ -20,12 +20,15 @@ use std::alloc::{AllocError, Global};
 use std::marker::Model;
 use values::{Row, StreamOperator, copy_row};
 
-/// The state of a root: what entered and left since the last tick, and of Rstream the whole relation at that tick.
+/// The state of a root: what entered and left since the last tick, that tick's instant, and of
+/// Rstream the whole relation at that tick.
 #[derive(Drop)]
 pub struct ToStream {
     operator: StreamOperator,
-    net: Delta,
+    delta: Delta,
     whole: RowList,
+    // the instant of the last tick
+    last: Option<u64>,
     alloc: Global,
 }
 
@@ -34,19 +37,20 @@ impl Model for ToStream {
 
     ghost Value = { RootState };
 
-    ghost view = { λ r. record { operator = r.operator; net = r.net; whole = r.whole } };
+    ghost view = { λ r. record { operator = r.operator; delta = r.delta; whole = r.whole; last = r.last } };
 }
 
 impl ToStream {
     /// A root that has taken nothing.
     pub fn new(alloc: Global, operator: StreamOperator) -> ToStream
-        ensures state { result ≡ record { operator = operator; net = record { entered = []; left = [] }; whole = [] } }
+        ensures state { result ≡ record { operator = operator; delta = record { entered = []; left = [] }; whole = []; last = None } }
         ensures stands { Stands result [] [] }
     {
         ToStream {
             operator,
-            net: Delta::new(alloc),
+            delta: Delta::new(alloc),
             whole: RowList::new(alloc),
+            last: None,
             alloc,
         }
     }
@@ -81,15 +85,15 @@ impl ToStream {
     {
         match self.operator {
             StreamOperator::Istream => {
-                let rows = self.net.entered(alloc)?;
+                let rows = self.delta.entered(alloc)?;
                 Ok(rows)
             }
             StreamOperator::Dstream => {
-                let rows = self.net.left(alloc)?;
+                let rows = self.delta.left(alloc)?;
                 Ok(rows)
             }
             StreamOperator::Rstream => {
-                let rows = self.whole.renewed(alloc, &self.net)?;
+                let rows = self.whole.renewed(alloc, &self.delta)?;
                 Ok(rows)
             }
         }
@@ -100,20 +104,21 @@ impl ToStream {
         ensures { OnOk result (self.new ≡ next self.old item.now) }
     {
         match item {
-            Item::Rows(_, batch) => self.net.apply(batch)?,
-            Item::Tick(_) => self.tick()?,
+            Item::Rows(_, batch) => self.delta.apply(batch)?,
+            Item::Tick(at) => self.tick(*at)?,
         }
         Ok(())
     }
 
     /// The relation now is that of the last tick.
-    fn tick(&mut self) -> Result<(), AllocError>
-        ensures { OnOk result (self.new ≡ ticked self.old) }
+    fn tick(&mut self, at: u64) -> Result<(), AllocError>
+        ensures { OnOk result (self.new ≡ ticked self.old at) }
     {
         if let StreamOperator::Rstream = self.operator {
-            self.whole.renew(self.alloc, &self.net)?;
+            self.whole.renew(self.alloc, &self.delta)?;
         }
-        self.net = Delta::new(self.alloc);
+        self.delta = Delta::new(self.alloc);
+        self.last = Some(at);
         Ok(())
     }
 }

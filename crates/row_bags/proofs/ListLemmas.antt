@@ -3,6 +3,7 @@ use Rattle.std.proofs.Common.{append-nil, ◌≡◌, ℕ, ℤ, suc, ◌+◌, ◌
 use Rattle.std.proofs.Math.Seq.{drop-cons, drop-length, take-append_seam}
 use Rattle.std.proofs.Math.ListN.{get_or-map}
 use Rattle.std.proofs.lemmas.List.{drop-append-le, take-append-le, drop-drop, length-map, map-append, length-drop, take_more}
+use Rattle.values.specs.declared.TheConstants.{MAX_COLUMNS}
 use Rattle.values.specs.Row.{Row, row_cmp}
 use Rattle.values.specs.Bag.{is_above}
 use Rattle.row_bags.specs.Bags.{rows_of}
@@ -19,7 +20,7 @@ rows_by-more (w ∷ ws) vs r h =
     ap₂ (λ (a b : List (Option ℤ)). a ∷ rows_by (ws ++ length r ∷ []) b) (take-append-le w vs r h.1) (drop-append-le w vs r h.1)
     ∙ ap (λ (l : List Row). take w vs ∷ l) (rows_by-more ws (drop w vs) r h.2)
 
-pub AreCut-more : (ws : List ℕ) (vs r : List (Option ℤ)) → AreCut ws vs → length r ≤ 16 → AreCut (ws ++ length r ∷ []) (vs ++ r)
+pub AreCut-more : (ws : List ℕ) (vs r : List (Option ℤ)) → AreCut ws vs → length r ≤ MAX_COLUMNS → AreCut (ws ++ length r ∷ []) (vs ++ r)
 AreCut-more [] vs r h k = (k, omega (arith, length-append vs r), ap (λ (v : List (Option ℤ)). drop (length r) (v ++ r)) h ∙ drop-length r)
 AreCut-more (w ∷ ws) vs r h k = (h.0, omega (arith, h.1, length-append vs r), subst (AreCut (ws ++ length r ∷ [])) (sym (drop-append-le w vs r h.1)) (AreCut-more ws (drop w vs) r h.2 k))
 
@@ -58,7 +59,7 @@ past-none x y rest h = rw h
 -- A STEP OF THE WALK
 
 pub record Ahead (i start w : ℕ) (ws : List ℕ) (vs : List (Option ℤ)) : Type 0 where
-  pub fits : w ≤ 16
+  pub fits : w ≤ MAX_COLUMNS
   pub within : start + w ≤ length vs
   pub cut : AreCut (drop (i + 1) ws) (drop (start + w) vs)
   pub rows : rows_by (drop i ws) (drop start vs) ≡ take w (drop start vs) ∷ rows_by (drop (i + 1) ws) (drop (start + w) vs)

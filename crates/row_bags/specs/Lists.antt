@@ -1,5 +1,6 @@
 -- Rows in a list, and what it becomes when rows leave and enter.
 use Rattle.std.specs.Prelude.{◌≡◌, ℕ, ℤ, ◌≤◌, Bool, false, cond, Option, List, [], ◌∷◌, ◌++◌, length, take, drop}
+use Rattle.values.specs.declared.TheConstants.{MAX_COLUMNS}
 use Rattle.values.specs.Row.{Row, row_cmp}
 use Rattle.values.specs.Bag.{is_same, is_above}
 use Rattle.row_bags.specs.Deltas.{PlainDelta}
@@ -12,7 +13,7 @@ rows_by (w ∷ ws) values = take w values ∷ rows_by ws (drop w values)
 -- each row has its values, and no more than a row may have; none are left over
 abbrev pub AreCut : List ℕ → List (Option ℤ) → Type 0
 AreCut [] values = values ≡ []
-AreCut (w ∷ ws) values = (w ≤ 16) × (w ≤ length values) × AreCut ws (drop w values)
+AreCut (w ∷ ws) values = (w ≤ MAX_COLUMNS) × (w ≤ length values) × AreCut ws (drop w values)
 
 -- whether the row stands first in the list
 abbrev pub is_first : Row → List Row → Bool

@@ -4,6 +4,7 @@ use Rattle.std.proofs.Math.Seq.{take-append_seam, drop-append_seam}
 use Rattle.std.specs.List.{flat_map}
 use Rattle.std.proofs.lemmas.List.{take-append-le, drop-append-le, take_more, take_all, length-take-le}
 use Rattle.std.proofs.lemmas.List.Elements.{All-head, All-tail}
+use Rattle.values.specs.declared.TheConstants.{MAX_COLUMNS}
 use Rattle.values.specs.Row.{Row}
 use Rattle.column.specs.Rows.{IsBatch, IsTable, width}
 use Rattle.windows.specs.Held.{IsFlat, cut_rows}
@@ -63,7 +64,7 @@ cut_rows-push w n values row size e =
     cut_rows-append w n 1 values row size
     ∙ ap (λ (r : Row). cut_rows w n values ++ r ∷ []) (take_all w row (omega (arith, e)))
 
-pub IsFlat-push : (w n : ℕ) (values : List (Option ℤ)) (row : Row) → IsFlat w n values → length row ≡ w → w ≤ 16 → IsFlat w (n + 1) (values ++ row)
+pub IsFlat-push : (w n : ℕ) (values : List (Option ℤ)) (row : Row) → IsFlat w n values → length row ≡ w → w ≤ MAX_COLUMNS → IsFlat w (n + 1) (values ++ row)
 IsFlat-push w n values row flat e narrow = record {
   size = length-append values row ∙ omega (arith, flat.size, e, add-mul n 1 w);
   narrow = λ some. narrow;

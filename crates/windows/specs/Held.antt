@@ -1,6 +1,7 @@
 -- How a window keeps what it holds: the values of its rows one behind the other, and their instants as runs.
 use Rattle.std.specs.Prelude.{ℕ, zero, suc, ◌*◌, ◌<◌, ◌≤◌, ◌≡◌, ℤ, Option, List, [], ◌∷◌, length, take, drop, replicate}
 use Rattle.std.specs.List.{All, flat_map, zip}
+use Rattle.values.specs.declared.TheConstants.{MAX_COLUMNS}
 use Rattle.values.specs.Row.{Row}
 use Rattle.windows.specs.declared.runs.Run.{Run}
 
@@ -19,10 +20,10 @@ abbrev pub cut_rows : ℕ → ℕ → List (Option ℤ) → List Row
 cut_rows w zero values = []
 cut_rows w (suc n) values = take w values ∷ cut_rows w n (drop w values)
 
--- there are as many values as n rows of w columns have, and a row has at most 16 columns
+-- there are as many values as n rows of w columns have, and a row has at most MAX_COLUMNS
 pub record IsFlat (w n : ℕ) (values : List (Option ℤ)) : Type 0 where
   pub size : length values ≡ n * w
-  pub narrow : 0 < n → w ≤ 16
+  pub narrow : 0 < n → w ≤ MAX_COLUMNS
 
 -- the instant of each run as often as the run counts
 abbrev pub instants_in : List Run → List ℕ

@@ -28,12 +28,13 @@ impl<const N: usize> Model for KeyedParts<N> {
     ghost use Rattle.std.specs.Prelude.{List, ◌≤◌};
     ghost use Rattle.values.specs.Row.{Row as PlainRow};
     ghost use Rattle.windows.specs.Widths.{OneRow};
+    ghost use Rattle.values.specs.declared.TheConstants.{MAX_COLUMNS};
 
     ghost Value = { List (OneRow × List PlainRow) };
 
     ghost view = { λ p. p.parts.entries };
 
-    ghost invariant = { λ _. N ≤ 16 };
+    ghost invariant = { λ _. N ≤ MAX_COLUMNS };
 }
 
 impl<const N: usize> KeyedParts<N> {

@@ -16,7 +16,7 @@ pub(crate) enum Parts {
     Two(KeyedParts<2>),
     Four(KeyedParts<4>),
     Eight(KeyedParts<8>),
-    Sixteen(KeyedParts<16>),
+    Widest(KeyedParts<MAX_COLUMNS>),
 }
 
 impl Parts {
@@ -33,7 +33,7 @@ impl Parts {
         } else if columns <= 8 {
             Parts::Eight(KeyedParts::new(alloc))
         } else {
-            Parts::Sixteen(KeyedParts::new(alloc))
+            Parts::Widest(KeyedParts::new(alloc))
         }
     }
 
@@ -54,7 +54,7 @@ impl Parts {
             Parts::Two(parts) => parts.fallen_rows(alloc, columns, count, batch),
             Parts::Four(parts) => parts.fallen_rows(alloc, columns, count, batch),
             Parts::Eight(parts) => parts.fallen_rows(alloc, columns, count, batch),
-            Parts::Sixteen(parts) => parts.fallen_rows(alloc, columns, count, batch),
+            Parts::Widest(parts) => parts.fallen_rows(alloc, columns, count, batch),
         }
     }
 
@@ -76,7 +76,7 @@ impl Parts {
             Parts::Two(parts) => parts.enter_all(alloc, columns, count, batch),
             Parts::Four(parts) => parts.enter_all(alloc, columns, count, batch),
             Parts::Eight(parts) => parts.enter_all(alloc, columns, count, batch),
-            Parts::Sixteen(parts) => parts.enter_all(alloc, columns, count, batch),
+            Parts::Widest(parts) => parts.enter_all(alloc, columns, count, batch),
         }
     }
 }

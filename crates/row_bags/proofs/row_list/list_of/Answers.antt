@@ -1,4 +1,5 @@
 use Rattle.std.proofs.Common.{◌≡◌, ◌∙◌, ap, ap₂, sym, subst, arith, rules, length, List, ◌∷◌, ◌++◌, [], ℕ, ◌≤◌, Option, ℤ}
+use Rattle.values.specs.declared.TheConstants.{MAX_COLUMNS}
 use Rattle.values.specs.Row.{Row}
 use Rattle.row_bags.specs.Lists.{rows_by, AreCut}
 use Rattle.row_bags.proofs.FrontLemmas.{Array}
@@ -11,7 +12,7 @@ loop-row-preserved c =
     let ws : List ℕ = c.loop-row.widths.items in
     let vs : List (Option ℤ) = c.loop-row.values.items in
     let wide : c.width_of.result ≡ length r.items = c.width_of.ensures.is in
-    let few : length r.items ≤ 16 = omega (arith, wide, c.width_of.ensures.few) in
+    let few : length r.items ≤ MAX_COLUMNS = omega (arith, wide, c.width_of.ensures.few) in
     let w2 : c.push.new.self.items ≡ ws ++ length r.items ∷ [] = c.in_ok-push.ensures.items ∙ ap (λ (n : ℕ). ws ++ n ∷ []) wide in
     let v2 : c.extend_from_slice.new.self.items ≡ vs ++ r.items = search rules in
     record {

@@ -10,7 +10,7 @@ use Rattle.reference.specs.Machine.{Registered}
 use Rattle.reference.specs.World.{drain_fault}
 use Rattle.reference.specs.declared.fault.Fault.{Fault}
 use Rattle.reference.specs.declared.fault.Fault.TheVariants as fault
-use Rattle.reference.specs.declared.fault.Fault.TheVariants.{Query, BadName, NameTaken, BadColumns, TooMany, UnknownStream, UnknownQuery, BadWidth, ValueRange, InstantRange, Late, Backward, Leap, StreamFull, BadLimit, UnknownLease, Stranger, TooManyLeases, OutOfMemory}
+use Rattle.reference.specs.declared.fault.Fault.TheVariants.{Query, BadName, NameTaken, BadColumns, TooMany, UnknownStream, UnknownQuery, BadWidth, ValueRange, InstantRange, Late, Backward, Leap, StreamFull, BadLimit, UnknownLease, Stranger, TooManyLeases, HistoryFull, OutOfMemory, Foreign}
 use Rattle.laws_queries.specs.Queries.{PlainQuery}
 use Rattle.run_queue.specs.Slots.{first_of}
 use Rattle.laws_engine.proofs.BackLemmas.{kept_here}
@@ -70,6 +70,8 @@ step_ends e1 e2 e3 rows BadLimit none ran h = absurd h
 step_ends e1 e2 e3 rows fault.Broken none ran h = absurd h
 step_ends e1 e2 e3 rows UnknownLease none ran h = absurd h
 step_ends e1 e2 e3 rows Stranger none ran h = absurd h
+step_ends e1 e2 e3 rows HistoryFull none ran h = absurd h
+step_ends e1 e2 e3 rows (Foreign entries) none ran h = absurd h
 
 -- where memory was not wanted it did nothing
 pub step_stays : (e1 e2 : PlainEngine) (rows : ℕ) (f : Fault) → RunsFirst e1 rows (Err f) e2 → f ≢ OutOfMemory → e2 ≡ e1
@@ -93,6 +95,8 @@ step_stays e1 e2 rows BadLimit h had = absurd h
 step_stays e1 e2 rows fault.Broken h had = absurd h
 step_stays e1 e2 rows UnknownLease h had = absurd h
 step_stays e1 e2 rows Stranger h had = absurd h
+step_stays e1 e2 rows HistoryFull h had = absurd h
+step_stays e1 e2 rows (Foreign entries) h had = absurd h
 
 -- A TURN THAT IS RUN
 pub comes_machine : (e1 e2 : PlainEngine) (l : Lease) (q : Registered) (p p2 : PlainQuery) → ComesBack e1 l q p p2 e2 → e2.machine ≡ e1.machine
@@ -153,6 +157,8 @@ drain_machine old new rows (Err StreamFull) h = absurd h
 drain_machine old new rows (Err fault.Broken) h = absurd h
 drain_machine old new rows (Err UnknownLease) h = absurd h
 drain_machine old new rows (Err Stranger) h = absurd h
+drain_machine old new rows (Err HistoryFull) h = absurd h
+drain_machine old new rows (Err (Foreign entries)) h = absurd h
 
 -- THE TURNS OF OTHERS
 last_left : (l : Lease) → others l.number (l ∷ []) ≡ []
@@ -230,6 +236,8 @@ refused_leaves old e1 e2 rows BadLimit same good h = absurd h
 refused_leaves old e1 e2 rows fault.Broken same good h = absurd h
 refused_leaves old e1 e2 rows UnknownLease same good h = absurd h
 refused_leaves old e1 e2 rows Stranger same good h = absurd h
+refused_leaves old e1 e2 rows HistoryFull same good h = absurd h
+refused_leaves old e1 e2 rows (Foreign entries) same good h = absurd h
 
 -- A WHOLE ENGINE stays whole when a turn went out and came back
 unbroken_set : (ks : List Kept) (i n : ℕ) (p : PlainQuery) (answers : List (ℕ × Row)) → get_or (set ks i (Running p)) n Dropped ≡ Broken answers → get_or ks n Dropped ≡ Broken answers

@@ -5,7 +5,7 @@ use Rattle.names.specs.Faults.{first_of}
 use Rattle.reference.specs.World.{World, Step, Does, Drains, drain_step, unless}
 use Rattle.reference.specs.declared.limits.TheConstants.{MAX_TURN}
 use Rattle.reference.specs.declared.fault.Fault.{Fault}
-use Rattle.reference.specs.declared.fault.Fault.TheVariants.{Query, BadName, NameTaken, BadColumns, TooMany, UnknownStream, UnknownQuery, BadWidth, ValueRange, InstantRange, Late, Backward, Leap, StreamFull, BadLimit, Broken, UnknownLease, Stranger, TooManyLeases, OutOfMemory}
+use Rattle.reference.specs.declared.fault.Fault.TheVariants.{Query, BadName, NameTaken, BadColumns, TooMany, UnknownStream, UnknownQuery, BadWidth, ValueRange, InstantRange, Late, Backward, Leap, StreamFull, BadLimit, Broken, UnknownLease, Stranger, TooManyLeases, HistoryFull, OutOfMemory, Foreign}
 
 abbrev refused : Fault → Result ⊤ Fault
 refused f = Err f
@@ -44,5 +44,7 @@ drains w new rows (Err BadLimit) d = d
 drains w new rows (Err Broken) d = d
 drains w new rows (Err UnknownLease) d = d
 drains w new rows (Err Stranger) d = d
+drains w new rows (Err HistoryFull) d = d
+drains w new rows (Err (Foreign entries)) d = d
 drains w new rows (Err TooManyLeases) d = absurd (not_numbers w new rows d)
 drains w new rows (Err OutOfMemory) d = (ap (λ (x : World). x.machine) d.0, d.1)

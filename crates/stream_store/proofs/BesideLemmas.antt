@@ -10,7 +10,7 @@ use Rattle.reference.specs.Commands.{first_fault, declare_fault, declared, appen
 use Rattle.cql_reader.specs.Lexis.{is_name}
 use Rattle.reference.specs.declared.limits.TheConstants.{MAX_STREAMS}
 use Rattle.reference.specs.declared.fault.Fault.{Fault}
-use Rattle.reference.specs.declared.fault.Fault.TheVariants.{Query, BadName, NameTaken, BadColumns, TooMany, UnknownStream, UnknownQuery, BadWidth, ValueRange, InstantRange, Late, Backward, Leap, StreamFull, BadLimit, Broken, UnknownLease, Stranger, TooManyLeases, OutOfMemory}
+use Rattle.reference.specs.declared.fault.Fault.TheVariants.{Query, BadName, NameTaken, BadColumns, TooMany, UnknownStream, UnknownQuery, BadWidth, ValueRange, InstantRange, Late, Backward, Leap, StreamFull, BadLimit, Broken, UnknownLease, Stranger, TooManyLeases, HistoryFull, OutOfMemory, Foreign}
 use Rattle.reference.specs.Places.{machine_of}
 use Rattle.reference.specs.Told.{IsTold}
 use Rattle.reference.specs.World.{World, Step, Does, Looks, unless, declare_step, append_step, heartbeat_step}
@@ -96,6 +96,8 @@ looked_told view es BadLimit t = refl
 looked_told view es Broken t = refl
 looked_told view es UnknownLease t = refl
 looked_told view es Stranger t = refl
+looked_told view es HistoryFull t = refl
+looked_told view es (Foreign entries) t = refl
 looked_told view es TooManyLeases t = refl
 looked_told view es OutOfMemory t = absurd t
 

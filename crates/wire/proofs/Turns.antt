@@ -6,7 +6,7 @@ use Rattle.reference.specs.World.{World, Step, Drains, IsPlenty, is_scarce, drai
 use Rattle.names.specs.Faults.{first_of}
 use Rattle.reference.specs.declared.limits.TheConstants.{MAX_TURN}
 use Rattle.reference.specs.declared.fault.Fault.{Fault}
-use Rattle.reference.specs.declared.fault.Fault.TheVariants.{Query, BadName, NameTaken, BadColumns, TooMany, UnknownStream, UnknownQuery, BadWidth, ValueRange, InstantRange, Late, Backward, Leap, StreamFull, BadLimit, Broken, UnknownLease, Stranger, TooManyLeases, OutOfMemory}
+use Rattle.reference.specs.declared.fault.Fault.TheVariants.{Query, BadName, NameTaken, BadColumns, TooMany, UnknownStream, UnknownQuery, BadWidth, ValueRange, InstantRange, Late, Backward, Leap, StreamFull, BadLimit, Broken, UnknownLease, Stranger, TooManyLeases, HistoryFull, OutOfMemory, Foreign}
 use Rattle.wire.specs.Calls.{drain}
 use Rattle.wire.specs.Printed.{refused}
 use Rattle.wire.specs.Script.{done_of, done_step, is_scarce_reply, Replies}
@@ -40,6 +40,8 @@ refused_drain old new step BadLimit d plenty = d
 refused_drain old new step Broken d plenty = d
 refused_drain old new step UnknownLease d plenty = d
 refused_drain old new step Stranger d plenty = d
+refused_drain old new step HistoryFull d plenty = d
+refused_drain old new step (Foreign entries) d plenty = d
 refused_drain old new step TooManyLeases d plenty = cc
 refused_drain old new step OutOfMemory d plenty = cc
 
@@ -63,6 +65,8 @@ scarce_drain BadLimit = refl
 scarce_drain Broken = refl
 scarce_drain UnknownLease = refl
 scarce_drain Stranger = refl
+scarce_drain HistoryFull = refl
+scarce_drain (Foreign entries) = refl
 scarce_drain TooManyLeases = refl
 scarce_drain OutOfMemory = refl
 

@@ -24,6 +24,9 @@ not_numbers : (w new : World) (rows : ℕ) → drain_step w rows ≡ (refused To
 unfolding drain_step
 not_numbers w new rows e = by_test (not (nat_le 1 rows && nat_le rows MAX_TURN)) w _ new e
 
+pub not_wanted : (w new : World) (rows : ℕ) (r : Result ⊤ Fault) → Does (λ u. u) w (drain_step w rows) r new → r ≡ Err TooManyLeases → ⊥
+not_wanted w new rows r d is = not_numbers w new rows (subst (λ (a : Result ⊤ Fault). Does (λ u. u) w (drain_step w rows) a new) is d)
+
 pub drains : (w new : World) (rows : ℕ) (r : Result ⊤ Fault) → Does (λ u. u) w (drain_step w rows) r new → Drains w (drain_step w rows) r new
 drains w new rows (Ok a) d = d
 drains w new rows (Err (Query f)) d = d

@@ -121,6 +121,18 @@ step_counts e1 e2 rows one =
     let home = one.1.1.1 in
     comes_next one.1.0 e2 (lease_of_turn one.0) home.1.0 home.1.1.0 home.1.1.1.0 home.1.1.1.1 ∙ ap (λ e. e.next) one.1.1.0.after
 
+-- NUMBERS are wanted where no turn is out and a drain is refused a lease
+none_out : (e : PlainEngine) → (MAX_LEASES ≤ length e.leases) ⊎ (LEASE_NUMBERS ≤ e.next) → e.leases ≡ [] → LEASE_NUMBERS ≤ e.next
+none_out e (inl many) none = let few : length e.leases ≡ 0 = ap length none in absurd (omega (arith, many, few))
+none_out e (inr all) none = all
+
+pub wants_numbers : (old new : PlainEngine) (rows : ℕ) (r : Result ⊤ Fault) → RunsTurns old rows r new → LeavesOthers old r new → old.leases ≡ []
+    → r ≡ Err TooManyLeases → LEASE_NUMBERS ≤ new.next
+wants_numbers old new rows r ran leaves none is =
+    let ended : RunsTurns old rows (Err TooManyLeases) new = subst (λ (x : Result ⊤ Fault). RunsTurns old rows x new) is ran in
+    let left : new.leases ≡ old.leases = subst (λ (x : Result ⊤ Fault). LeavesOthers old x new) is leaves in
+    none_out new ended.1.1 (left ∙ none)
+
 -- THE MACHINE is as it was
 have_machine : (rows : ℕ) (turns : List Turn) (e1 e2 : PlainEngine) → HaveRun rows e1 turns e2 → e2.machine ≡ e1.machine
 have_machine rows [] e1 e2 ran = ap (λ e. e.machine) ran

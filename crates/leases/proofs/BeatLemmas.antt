@@ -10,7 +10,7 @@ use Rattle.reference.specs.Commands.{Heartbeat, after, change, closed_to, first_
 use Rattle.reference.specs.Machine.{Registered, Stream}
 use Rattle.reference.specs.Places.{machine_of}
 use Rattle.reference.specs.declared.fault.Fault.{Fault}
-use Rattle.reference.specs.declared.fault.Fault.TheVariants.{Query, BadName, NameTaken, BadColumns, TooMany, UnknownStream, UnknownQuery, BadWidth, ValueRange, InstantRange, Late, Backward, Leap, StreamFull, BadLimit, Broken, UnknownLease, Stranger, TooManyLeases, OutOfMemory}
+use Rattle.reference.specs.declared.fault.Fault.TheVariants.{Query, BadName, NameTaken, BadColumns, TooMany, UnknownStream, UnknownQuery, BadWidth, ValueRange, InstantRange, Late, Backward, Leap, StreamFull, BadLimit, Broken, UnknownLease, Stranger, TooManyLeases, HistoryFull, OutOfMemory, Foreign}
 use Rattle.reference.specs.World.{Does, Looks, MayLackMemory, Step, World, heartbeat_step, unless}
 use Rattle.reference.proofs.StepLemmas.{lacked}
 use Rattle.stream_store.specs.Closing.{closing_at, closing_in, unless_faulty}
@@ -253,6 +253,8 @@ module _ (w new : World) (es : List Element) where
   short_step (Some Broken) h = absurd h
   short_step (Some UnknownLease) h = absurd h
   short_step (Some Stranger) h = absurd h
+  short_step (Some HistoryFull) h = absurd h
+  short_step (Some (Foreign entries)) h = absurd h
   short_step (Some TooManyLeases) h = absurd h
   short_step (Some OutOfMemory) h = absurd h
 
@@ -275,6 +277,8 @@ module _ (w new : World) (es : List Element) where
   looked view first Broken h = looked_step first Broken h
   looked view first UnknownLease h = looked_step first UnknownLease h
   looked view first Stranger h = looked_step first Stranger h
+  looked view first HistoryFull h = looked_step first HistoryFull h
+  looked view first (Foreign entries) h = looked_step first (Foreign entries) h
   looked view first TooManyLeases h = looked_step first TooManyLeases h
   looked view first OutOfMemory h = (refl, short_step first h)
 

@@ -10,7 +10,7 @@ use Rattle.reference.specs.Machine.{Registered}
 use Rattle.reference.specs.World.{drain_fault}
 use Rattle.reference.specs.declared.fault.Fault.{Fault}
 use Rattle.reference.specs.declared.fault.Fault.TheVariants as fault
-use Rattle.reference.specs.declared.fault.Fault.TheVariants.{Query, BadName, NameTaken, BadColumns, TooMany, UnknownStream, UnknownQuery, BadWidth, ValueRange, InstantRange, Late, Backward, Leap, StreamFull, BadLimit, UnknownLease, Stranger, TooManyLeases, OutOfMemory}
+use Rattle.reference.specs.declared.fault.Fault.TheVariants.{Query, BadName, NameTaken, BadColumns, TooMany, UnknownStream, UnknownQuery, BadWidth, ValueRange, InstantRange, Late, Backward, Leap, StreamFull, BadLimit, UnknownLease, Stranger, TooManyLeases, HistoryFull, OutOfMemory, Foreign}
 use Rattle.laws_queries.specs.Queries.{PlainQuery}
 use Rattle.run_queue.specs.Slots.{first_of}
 use Rattle.laws_engine.proofs.BackLemmas.{kept_here}
@@ -70,6 +70,8 @@ step_ends e1 e2 e3 rows BadLimit none ran h = absurd h
 step_ends e1 e2 e3 rows fault.Broken none ran h = absurd h
 step_ends e1 e2 e3 rows UnknownLease none ran h = absurd h
 step_ends e1 e2 e3 rows Stranger none ran h = absurd h
+step_ends e1 e2 e3 rows HistoryFull none ran h = absurd h
+step_ends e1 e2 e3 rows (Foreign entries) none ran h = absurd h
 
 -- where memory was not wanted it did nothing
 pub step_stays : (e1 e2 : PlainEngine) (rows : ℕ) (f : Fault) → RunsFirst e1 rows (Err f) e2 → f ≢ OutOfMemory → e2 ≡ e1
@@ -93,6 +95,8 @@ step_stays e1 e2 rows BadLimit h had = absurd h
 step_stays e1 e2 rows fault.Broken h had = absurd h
 step_stays e1 e2 rows UnknownLease h had = absurd h
 step_stays e1 e2 rows Stranger h had = absurd h
+step_stays e1 e2 rows HistoryFull h had = absurd h
+step_stays e1 e2 rows (Foreign entries) h had = absurd h
 
 -- A TURN THAT IS RUN
 pub comes_machine : (e1 e2 : PlainEngine) (l : Lease) (q : Registered) (p p2 : PlainQuery) → ComesBack e1 l q p p2 e2 → e2.machine ≡ e1.machine
@@ -116,6 +120,18 @@ pub step_counts : (e1 e2 : PlainEngine) (rows : ℕ) → OneHasRun rows e1 e2 �
 step_counts e1 e2 rows one =
     let home = one.1.1.1 in
     comes_next one.1.0 e2 (lease_of_turn one.0) home.1.0 home.1.1.0 home.1.1.1.0 home.1.1.1.1 ∙ ap (λ e. e.next) one.1.1.0.after
+
+-- NUMBERS are wanted where no turn is out and a drain is refused a lease
+none_out : (e : PlainEngine) → (MAX_LEASES ≤ length e.leases) ⊎ (LEASE_NUMBERS ≤ e.next) → e.leases ≡ [] → LEASE_NUMBERS ≤ e.next
+none_out e (inl many) none = let few : length e.leases ≡ 0 = ap length none in absurd (omega (arith, many, few))
+none_out e (inr all) none = all
+
+pub wants_numbers : (old new : PlainEngine) (rows : ℕ) (r : Result ⊤ Fault) → RunsTurns old rows r new → LeavesOthers old r new → old.leases ≡ []
+    → r ≡ Err TooManyLeases → LEASE_NUMBERS ≤ new.next
+wants_numbers old new rows r ran leaves none is =
+    let ended : RunsTurns old rows (Err TooManyLeases) new = subst (λ (x : Result ⊤ Fault). RunsTurns old rows x new) is ran in
+    let left : new.leases ≡ old.leases = subst (λ (x : Result ⊤ Fault). LeavesOthers old x new) is leaves in
+    none_out new ended.1.1 (left ∙ none)
 
 -- THE MACHINE is as it was
 have_machine : (rows : ℕ) (turns : List Turn) (e1 e2 : PlainEngine) → HaveRun rows e1 turns e2 → e2.machine ≡ e1.machine
@@ -153,6 +169,8 @@ drain_machine old new rows (Err StreamFull) h = absurd h
 drain_machine old new rows (Err fault.Broken) h = absurd h
 drain_machine old new rows (Err UnknownLease) h = absurd h
 drain_machine old new rows (Err Stranger) h = absurd h
+drain_machine old new rows (Err HistoryFull) h = absurd h
+drain_machine old new rows (Err (Foreign entries)) h = absurd h
 
 -- THE TURNS OF OTHERS
 last_left : (l : Lease) → others l.number (l ∷ []) ≡ []
@@ -230,6 +248,8 @@ refused_leaves old e1 e2 rows BadLimit same good h = absurd h
 refused_leaves old e1 e2 rows fault.Broken same good h = absurd h
 refused_leaves old e1 e2 rows UnknownLease same good h = absurd h
 refused_leaves old e1 e2 rows Stranger same good h = absurd h
+refused_leaves old e1 e2 rows HistoryFull same good h = absurd h
+refused_leaves old e1 e2 rows (Foreign entries) same good h = absurd h
 
 -- A WHOLE ENGINE stays whole when a turn went out and came back
 unbroken_set : (ks : List Kept) (i n : ℕ) (p : PlainQuery) (answers : List (ℕ × Row)) → get_or (set ks i (Running p)) n Dropped ≡ Broken answers → get_or ks n Dropped ≡ Broken answers

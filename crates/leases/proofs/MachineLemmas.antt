@@ -4,7 +4,7 @@ use Rattle.std.specs.Prelude.{⊤}
 use Rattle.turn.specs.declared.parts.Parts.{Parts}
 use Rattle.reference.specs.declared.fault.Fault.{Fault}
 use Rattle.reference.specs.declared.fault.Fault.TheVariants as fault
-use Rattle.reference.specs.declared.fault.Fault.TheVariants.{Query, BadName, NameTaken, BadColumns, TooMany, UnknownStream, UnknownQuery, BadWidth, ValueRange, InstantRange, Late, Backward, Leap, StreamFull, BadLimit, UnknownLease, Stranger, TooManyLeases, OutOfMemory}
+use Rattle.reference.specs.declared.fault.Fault.TheVariants.{Query, BadName, NameTaken, BadColumns, TooMany, UnknownStream, UnknownQuery, BadWidth, ValueRange, InstantRange, Late, Backward, Leap, StreamFull, BadLimit, UnknownLease, Stranger, TooManyLeases, HistoryFull, OutOfMemory, Foreign}
 use Rattle.laws_engine.specs.Engines.{PlainEngine}
 use Rattle.leases.proofs.DrainLemmas.{comes_machine}
 use Rattle.leases.specs.Turns.{Abandons, Finishes, Leases, lease_of_parts}
@@ -33,6 +33,8 @@ same_refused e1 e2 rows BadLimit h = h.1
 same_refused e1 e2 rows fault.Broken h = h.1
 same_refused e1 e2 rows UnknownLease h = h.1
 same_refused e1 e2 rows Stranger h = h.1
+same_refused e1 e2 rows HistoryFull h = h.1
+same_refused e1 e2 rows (Foreign entries) h = h.1
 
 pub leases_keep_the_machine : (old new : PlainEngine) (rows : ℕ) (r : Result Leased Fault) → Leases old rows r new → new.machine ≡ old.machine
 leases_keep_the_machine old new rows (Ok (answer.Turn t)) h = ap (λ e. e.machine) h.after
@@ -61,6 +63,8 @@ finishes_keep_the_machine old new d (Err Leap) h = absurd h
 finishes_keep_the_machine old new d (Err StreamFull) h = absurd h
 finishes_keep_the_machine old new d (Err BadLimit) h = absurd h
 finishes_keep_the_machine old new d (Err fault.Broken) h = absurd h
+finishes_keep_the_machine old new d (Err HistoryFull) h = absurd h
+finishes_keep_the_machine old new d (Err (Foreign entries)) h = absurd h
 finishes_keep_the_machine old new d (Err TooManyLeases) h = absurd h
 
 pub abandons_keep_the_machine : (old new : PlainEngine) (n : ℕ) (r : Result ⊤ Fault) → Abandons old n r new → new.machine ≡ old.machine
@@ -84,4 +88,6 @@ abandons_keep_the_machine old new n (Err Leap) h = absurd h
 abandons_keep_the_machine old new n (Err StreamFull) h = absurd h
 abandons_keep_the_machine old new n (Err BadLimit) h = absurd h
 abandons_keep_the_machine old new n (Err fault.Broken) h = absurd h
+abandons_keep_the_machine old new n (Err HistoryFull) h = absurd h
+abandons_keep_the_machine old new n (Err (Foreign entries)) h = absurd h
 abandons_keep_the_machine old new n (Err TooManyLeases) h = absurd h

@@ -4,7 +4,7 @@ use Rattle.std.specs.Prelude.{⊤}
 use Rattle.reference.specs.Commands.{Append, Command, Declare, after, first_fault}
 use Rattle.reference.specs.Machine.{Stream}
 use Rattle.reference.specs.declared.fault.Fault.{Fault}
-use Rattle.reference.specs.declared.fault.Fault.TheVariants.{Query, BadName, NameTaken, BadColumns, TooMany, UnknownStream, UnknownQuery, BadWidth, ValueRange, InstantRange, Late, Backward, Leap, StreamFull, BadLimit, Broken, UnknownLease, Stranger, TooManyLeases, OutOfMemory}
+use Rattle.reference.specs.declared.fault.Fault.TheVariants.{Query, BadName, NameTaken, BadColumns, TooMany, UnknownStream, UnknownQuery, BadWidth, ValueRange, InstantRange, Late, Backward, Leap, StreamFull, BadLimit, Broken, UnknownLease, Stranger, TooManyLeases, HistoryFull, OutOfMemory, Foreign}
 use Rattle.reference.specs.World.{Does, Step, World, append_step, declare_step, unless}
 use Rattle.laws_queries.specs.Registrations.{HaveColumnNames}
 use Rattle.laws_queries.proofs.NewestLemmas.{registrations_stand}
@@ -47,6 +47,8 @@ module _ {A B : Type 0} (view : A → B) (old next : World) (b : B) where
   stayed first Broken new h = as_was first Broken new h
   stayed first UnknownLease new h = as_was first UnknownLease new h
   stayed first Stranger new h = as_was first Stranger new h
+  stayed first HistoryFull new h = as_was first HistoryFull new h
+  stayed first (Foreign entries) new h = as_was first (Foreign entries) new h
   stayed first TooManyLeases new h = as_was first TooManyLeases new h
   stayed first OutOfMemory new h = h.0
 

@@ -20,7 +20,7 @@ use Rattle.reference.specs.Named.{name_of_registered}
 use Rattle.reference.specs.World.{handed}
 use Rattle.reference.specs.declared.fault.Fault.{Fault}
 use Rattle.reference.specs.declared.fault.Fault.TheVariants as fault
-use Rattle.reference.specs.declared.fault.Fault.TheVariants.{Query, BadName, NameTaken, BadColumns, TooMany, UnknownStream, UnknownQuery, BadWidth, ValueRange, InstantRange, Late, Backward, Leap, StreamFull, BadLimit, UnknownLease, Stranger, TooManyLeases, OutOfMemory}
+use Rattle.reference.specs.declared.fault.Fault.TheVariants.{Query, BadName, NameTaken, BadColumns, TooMany, UnknownStream, UnknownQuery, BadWidth, ValueRange, InstantRange, Late, Backward, Leap, StreamFull, BadLimit, UnknownLease, Stranger, TooManyLeases, HistoryFull, OutOfMemory, Foreign}
 use Rattle.laws_queries.specs.Registrations.{HaveColumnNames}
 use Rattle.laws_queries.specs.Queries.{PlainQuery, node_at, operator_at}
 use Rattle.laws_engine.specs.Calls.{IsTake, is_reading, kept_after, taken, with_taken}
@@ -227,6 +227,8 @@ module _ {A : Type 0} (view : A → List (ℤ × Row)) (old new : PlainEngine) (
   refused_so BadLimit h same = absurd h
   refused_so UnknownLease h same = absurd h
   refused_so Stranger h same = absurd h
+  refused_so HistoryFull h same = absurd h
+  refused_so (Foreign entries) h same = absurd h
   refused_so TooManyLeases h same = absurd h
 
 kept_by : {A : Type 0} (view : A → List (ℤ × Row)) (x y : Kept) (limit : ℕ) (f : Fault) → HandsOut view x limit (Err f) y → y ≡ x
@@ -249,6 +251,8 @@ kept_by view x y limit StreamFull h = absurd h
 kept_by view x y limit BadLimit h = absurd h
 kept_by view x y limit UnknownLease h = absurd h
 kept_by view x y limit Stranger h = absurd h
+kept_by view x y limit HistoryFull h = absurd h
+kept_by view x y limit (Foreign entries) h = absurd h
 kept_by view x y limit TooManyLeases h = absurd h
 
 pub refused_same : {A : Type 0} (view : A → List (ℤ × Row)) (s : State) (e2 : PlainEngine) (n limit : ℕ) (x y : KeptQuery) (f : Fault) → IsSound s → first_fault (engine_in s).machine (Take n (pos limit)) ≡ None → x ≡ get_or s.kept.items n x

@@ -5,7 +5,7 @@ use Rattle.reference.specs.Commands.{change}
 use Rattle.reference.specs.Machine.{Registered}
 use Rattle.reference.specs.declared.fault.Fault.{Fault}
 use Rattle.reference.specs.declared.fault.Fault.TheVariants as fault
-use Rattle.reference.specs.declared.fault.Fault.TheVariants.{Query, BadName, NameTaken, BadColumns, TooMany, UnknownStream, UnknownQuery, BadWidth, ValueRange, InstantRange, Late, Backward, Leap, StreamFull, BadLimit, UnknownLease, Stranger, TooManyLeases, OutOfMemory}
+use Rattle.reference.specs.declared.fault.Fault.TheVariants.{Query, BadName, NameTaken, BadColumns, TooMany, UnknownStream, UnknownQuery, BadWidth, ValueRange, InstantRange, Late, Backward, Leap, StreamFull, BadLimit, UnknownLease, Stranger, TooManyLeases, HistoryFull, OutOfMemory, Foreign}
 use Rattle.laws_queries.specs.Queries.{PlainQuery}
 use Rattle.laws_engine.specs.Calls.{dropped, kept_after, of_others, registered, taken}
 use Rattle.laws_engine.specs.Engines.{Broken, Dropped, Kept, PlainEngine, Running}
@@ -90,6 +90,8 @@ take_makes view old n limit (Err StreamFull) new h = inr h.1
 take_makes view old n limit (Err BadLimit) new h = inr h.1
 take_makes view old n limit (Err UnknownLease) new h = inr h.1
 take_makes view old n limit (Err Stranger) new h = inr h.1
+take_makes view old n limit (Err HistoryFull) new h = inr h.1
+take_makes view old n limit (Err (Foreign entries)) new h = inr h.1
 take_makes view old n limit (Err TooManyLeases) new h = inr h.1
 
 pub takes_whole : {A : Type 0} (view : A → List (ℤ × Row)) (old : PlainEngine) (n : ℕ) (limit : ℤ) (r : Result A Fault) (new : PlainEngine) → Takes view old n limit r new → IsWholeEngine old → IsWholeEngine new

@@ -7,7 +7,7 @@ use Rattle.reference.specs.Machine.{Machine, Registered, closed_answers}
 use Rattle.reference.specs.World.{Does, Drains, IsPlenty, MayLackMemory, World, drain_fault, drain_step, handed, take_step, unless, untaken}
 use Rattle.reference.specs.declared.fault.Fault.{Fault}
 use Rattle.reference.specs.declared.fault.Fault.TheVariants as fault
-use Rattle.reference.specs.declared.fault.Fault.TheVariants.{Query, BadName, NameTaken, BadColumns, TooMany, UnknownStream, UnknownQuery, BadWidth, ValueRange, InstantRange, Late, Backward, Leap, StreamFull, BadLimit, UnknownLease, Stranger, TooManyLeases, OutOfMemory}
+use Rattle.reference.specs.declared.fault.Fault.TheVariants.{Query, BadName, NameTaken, BadColumns, TooMany, UnknownStream, UnknownQuery, BadWidth, ValueRange, InstantRange, Late, Backward, Leap, StreamFull, BadLimit, UnknownLease, Stranger, TooManyLeases, HistoryFull, OutOfMemory, Foreign}
 use Rattle.run_queue.specs.Slots.{first_of}
 use Rattle.laws_engine.specs.Calls.{kept_after, taken}
 use Rattle.laws_engine.specs.Engines.{Broken, Dropped, GoodEngine, Kept, PlainEngine, Running, answers_in, kept_at, query_at, world_of}
@@ -101,6 +101,8 @@ module _ (old new : PlainEngine) (rows : ℕ) (machine : new.machine ≡ old.mac
   drain_stops fault.Broken h = absurd h
   drain_stops UnknownLease h = absurd h
   drain_stops Stranger h = absurd h
+  drain_stops HistoryFull h = absurd h
+  drain_stops (Foreign entries) h = absurd h
 
 -- A TAKE
 abbrev the_world : Machine → List (List (ℕ × Row)) → World
@@ -181,6 +183,8 @@ module _ {A : Type 0} (view : A → List (ℤ × Row)) (old : PlainEngine) (n : 
   takes (Err BadLimit) new h = take_refused new BadLimit h.0 h.1
   takes (Err UnknownLease) new h = take_refused new UnknownLease h.0 h.1
   takes (Err Stranger) new h = take_refused new Stranger h.0 h.1
+  takes (Err HistoryFull) new h = take_refused new HistoryFull h.0 h.1
+  takes (Err (Foreign entries)) new h = take_refused new (Foreign entries) h.0 h.1
   takes (Err TooManyLeases) new h = take_refused new TooManyLeases h.0 h.1
 
 -- BOTH, as clients see them

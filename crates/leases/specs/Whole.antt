@@ -1,8 +1,9 @@
 -- An engine with which nobody else has turns out, and of which no query is broken.
-use Rattle.std.specs.Prelude.{ℕ, ◌≡◌, List, []}
+use Rattle.std.specs.Prelude.{ℕ, ◌≡◌, ◌<◌, List, []}
 use Rattle.values.specs.Row.{Row}
 use Rattle.laws_engine.specs.Engines.{Broken, PlainEngine, kept_at}
 use Rattle.leases.specs.Shown.{engine_in}
+use Rattle.leases.specs.declared.limits.TheConstants.{LEASE_NUMBERS}
 use Rattle.leases.specs.declared.state.State.{State}
 
 pub record IsWholeEngine (e : PlainEngine) : Type 0 where
@@ -11,3 +12,7 @@ pub record IsWholeEngine (e : PlainEngine) : Type 0 where
 
 abbrev pub IsWhole : State → Type 0
 IsWhole s = IsWholeEngine (engine_in s)
+
+-- Some numbers for turns were not given yet.
+abbrev pub HasNumbers : State → Type 0
+HasNumbers s = s.next < LEASE_NUMBERS

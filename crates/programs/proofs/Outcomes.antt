@@ -1,5 +1,6 @@
 -- What a run answers, and why it may not run.
 use Rattle.std.proofs.Common.{◌≡◌, ◌≢◌, ℕ, List, [], ◌∷◌, ◌++◌, Option, Some, Result, refl, ap, sym, ◌∙◌, subst, ◌⊎◌, inl, inr}
+use Rattle.std.specs.Prelude.{⊤}
 use Rattle.clap.specs.Words.{Kinds, HasKind, IsAmong, kind_of}
 use Rattle.clap.specs.declared.error.Error.{Error}
 use Rattle.clap.specs.declared.error.kind.ErrorKind.TheVariants.{DisplayHelp, DisplayVersion, OutOfMemory}
@@ -7,41 +8,67 @@ use Rattle.reference.specs.World.{World}
 use Rattle.wire.specs.Calls.{Call}
 use Rattle.wire.specs.Requests.{requests_of}
 use Rattle.wire.specs.declared.request.WireFault.{WireFault}
-use Rattle.wire.specs.Script.{script, Says, Begins, Runs, Scripts, Stands}
+use Rattle.wire.specs.Script.{script, BeginsScarce, Says, Begins, HasRunOut, Runs, Scripts, Stands}
 use Rattle.wire.proofs.Sinks.{append_nothing}
 use Rattle.wire.proofs.Scripts.{says_all}
 use Rattle.programs.specs.Run.{Answers, IsWrong, Leads}
 
-pub says_begins : (w : World) (source old new : Option (List ℕ)) → Scripts (λ text written. Says (requests_of text) (script w text) written) source old new
-    → Scripts (λ text written. Begins (requests_of text) (script w text) written) source old new
-says_begins w source old new s text held is told =
-    let r = s text held is told in (r.0, r.1, ([], subst (λ t. Says (requests_of text) (script w text) t) (sym (append_nothing r.0)) r.2))
+pub says_begins : (N : Type 0) (w : World) (source old new : Option (List ℕ)) → Scripts (λ text written. Says N (requests_of text) (script w text) written) source old new
+    → Scripts (λ text written. Begins N (requests_of text) (script w text) written) source old new
+says_begins N w source old new s text held is told =
+    let r = s text held is told in (r.0, r.1, ([], subst (λ t. Says N (requests_of text) (script w text) t) (sym (append_nothing r.0)) r.2))
 
 append_none : (requests : List (Result Call WireFault)) → requests ++ [] ≡ requests
 append_none [] = refl
 append_none (r ∷ rs) = ap (λ l. r ∷ l) (append_none rs)
 
 -- requests that were all carried out were carried out
-pub runs_stands : (first now : World) (source old new : Option (List ℕ)) → Scripts (λ text written. Runs first (requests_of text) written now) source old new
-    → Scripts (λ text written. Stands first (requests_of text) written now) source old new
-runs_stands first now source old new s text held is told =
+pub runs_stands : (N : Type 0) (first now : World) (source old new : Option (List ℕ)) → Scripts (λ text written. Runs N first (requests_of text) written now) source old new
+    → Scripts (λ text written. Stands N first (requests_of text) written now) source old new
+runs_stands N first now source old new s text held is told =
     let r = s text held is told in
-    let run = subst (λ t. Runs first (requests_of text) t now) (sym (append_nothing r.0)) r.2 in
+    let run = subst (λ t. Runs N first (requests_of text) t now) (sym (append_nothing r.0)) r.2 in
     (r.0, r.1, (requests_of text, [], [], sym (append_none (requests_of text)), run))
 
 -- no request was carried out
-pub leads_nowhere : (w : World) (status : ℕ) (source old : Option (List ℕ)) → status ≡ 3 → Leads w w status source old old
-leads_nowhere w status source old is = (
+pub leads_nowhere : (N : Type 0) (w : World) (status : ℕ) (source old : Option (List ℕ)) → status ≡ 3 → Leads N w w status source old old
+leads_nowhere N w status source old is = (
   λ none. absurd (cc),
   λ text held is told. ([], told ∙ ap Some (sym (append_nothing held)), ([], requests_of text, [], refl, (refl, refl))),
 )
 
 -- nothing was written
-pub answers_nothing : (w : World) (status : ℕ) (source old new : Option (List ℕ)) → status ≡ 3 → new ≡ old → Answers w status source old new
-answers_nothing w status source old new is same = (
+pub answers_nothing : (N : Type 0) (w : World) (status : ℕ) (source old new : Option (List ℕ)) → status ≡ 3 → new ≡ old → Answers N w status source old new
+answers_nothing N w status source old new is same = (
   λ none. absurd (cc),
-  λ text held is told. ([], same ∙ told ∙ ap Some (sym (append_nothing held)), says_all w (requests_of text)),
+  λ text held is told. ([], same ∙ told ∙ ap Some (sym (append_nothing held)), says_all N w (requests_of text)),
 )
+
+-- what numbers were wanted for may be said more widely
+begins_wider : (N M : Type 0) → (N → M) → (request : Result Call WireFault) (written : List ℕ) → BeginsScarce N request written → BeginsScarce M request written
+begins_wider N M f request written b = (b.0, b.1, b.2, λ drain told. f (b.3 drain told), b.4)
+
+says_wider : (N M : Type 0) → (N → M) → (requests : List (Result Call WireFault)) (lines : List (List ℕ)) (written : List ℕ) → Says N requests lines written → Says M requests lines written
+says_wider N M f [] [] written s = s
+says_wider N M f [] (line ∷ lines) written s = absurd s
+says_wider N M f (request ∷ requests) [] written s = absurd s
+says_wider N M f (request ∷ requests) (line ∷ lines) written (inl s) = inl (s.0, s.1, says_wider N M f requests lines s.0 s.2)
+says_wider N M f (request ∷ requests) (line ∷ lines) written (inr b) = inr (begins_wider N M f request written b)
+
+answers_wider : (N M : Type 0) → (N → M) → (w : World) (status : ℕ) (source old new : Option (List ℕ)) → Answers N w status source old new → Answers M w status source old new
+answers_wider N M f w status source old new a = (
+  λ is text held from_text told.
+      let r = a.0 is text held from_text told in
+      (r.0, r.1, says_wider N M f (requests_of text) (script w text) r.0 r.2),
+  λ text held from_text told.
+      let r = a.1 text held from_text told in
+      (r.0, r.1, (r.2.0, says_wider N M f (requests_of text) (script w text) (r.0 ++ r.2.0) r.2.1)),
+)
+
+-- the plain engine never wants numbers
+pub plain_answers : {P : Type 0} (M : Type 0) (w : World) (status : ℕ) (source old new : Option (List ℕ)) → Answers (HasRunOut {E = P} (λ p. ⊤)) w status source old new
+    → Answers M w status source old new
+plain_answers M w status source old new a = answers_wider _ M (λ out. absurd (out.1 tt)) w status source old new a
 
 -- words that ask for a run fail for want of memory alone
 pub lacks_memory : (kinds : Kinds) (e : Error) → HasKind kinds e → kinds ≡ [] → kind_of e ≡ OutOfMemory

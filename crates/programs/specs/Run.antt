@@ -10,18 +10,19 @@ use Rattle.wire.specs.declared.fault.ScriptFault.{ScriptFault}
 use Rattle.wire.specs.declared.fault.ScriptFault.TheVariants.{Read, Write, Memory}
 use Rattle.wire.specs.Script.{script, Says, Begins, Runs, Scripts, Stands}
 
--- At the status 0 the sink took the script's text of what the source gave, and else a beginning of it. The most rows of a
--- turn, which the words may say, stand nowhere in it: they change no reply.
-abbrev pub Answers : World → ℕ → Option (List ℕ) → Option (List ℕ) → Option (List ℕ) → Type 0
-Answers world status source old new =
-    (status ≡ 0 → Scripts (λ text written. Says (requests_of text) (script world text) written) source old new)
-    × Scripts (λ text written. Begins (requests_of text) (script world text) written) source old new
+-- At the status 0 the sink took the script's text of what the source gave, and else a beginning of it; a reply that says want
+-- of numbers for turns rests on `wanted`. The most rows of a turn, which the words may say, stand nowhere in it: they change
+-- no reply.
+abbrev pub Answers : Type 0 → World → ℕ → Option (List ℕ) → Option (List ℕ) → Option (List ℕ) → Type 0
+Answers wanted world status source old new =
+    (status ≡ 0 → Scripts (λ text written. Says wanted (requests_of text) (script world text) written) source old new)
+    × Scripts (λ text written. Begins wanted (requests_of text) (script world text) written) source old new
 
 -- The requests lead from the world `first` to the world `now`: at the status 0 all of them, and else those carried out.
-abbrev pub Leads : World → World → ℕ → Option (List ℕ) → Option (List ℕ) → Option (List ℕ) → Type 0
-Leads first now status source old new =
-    (status ≡ 0 → Scripts (λ text written. Runs first (requests_of text) written now) source old new)
-    × Scripts (λ text written. Stands first (requests_of text) written now) source old new
+abbrev pub Leads : Type 0 → World → World → ℕ → Option (List ℕ) → Option (List ℕ) → Option (List ℕ) → Type 0
+Leads wanted first now status source old new =
+    (status ≡ 0 → Scripts (λ text written. Runs wanted first (requests_of text) written now) source old new)
+    × Scripts (λ text written. Stands wanted first (requests_of text) written now) source old new
 
 -- words that are refused, and that ask for no help
 abbrev pub IsWrong : Kinds → Type 0

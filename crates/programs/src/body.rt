@@ -2,9 +2,10 @@
 ghost use Rattle.std.specs.Prelude.{◌≡◌, ◌≢◌, ◌<◌, ◌≤◌, ◌⊎◌, ◌∷◌, [], map, IfOk};
 ghost use Rattle.clap.specs.Words.{kind_of};
 ghost use Rattle.reference.specs.World as world;
+ghost use Rattle.leases.specs.Whole.{HasNumbers};
 ghost use Rattle.wire.specs.Devices.{Rises};
 ghost use Rattle.wire.specs.Requests.{requests_of};
-ghost use Rattle.wire.specs.Script.{Scripts, TellsScarcity};
+ghost use Rattle.wire.specs.Script.{HasRunOut, Scripts, TellsScarcity};
 ghost use Rattle.programs.specs.CommandLine.{refusals};
 ghost use Rattle.programs.specs.Run.{Answers, Leads, Failed, Told, ToldSome, IsWrong, fault_line};
 
@@ -73,9 +74,9 @@ fn run_lines<N: Answering, I: Source, O: Sink, E: Sink>(
 ) -> u8
     requires turn { 0 < turn × turn ≤ 1024 }
     requires whole { N.is_whole engine.old }
-    ensures answers { Answers (N.world engine.old) result (I.left source.old) (O.taken sink.old) (O.taken sink.new) }
-    ensures leads { Leads (N.world engine.old) (N.world engine.new) result (I.left source.old) (O.taken sink.old) (O.taken sink.new) }
-    ensures kept { result ≡ 0 → Scripts (λ text written. N.is_whole engine.new ⊎ TellsScarcity (requests_of text) written)
+    ensures answers { Answers (HasRunOut N.has_numbers) (N.world engine.old) result (I.left source.old) (O.taken sink.old) (O.taken sink.new) }
+    ensures leads { Leads (HasRunOut N.has_numbers) (N.world engine.old) (N.world engine.new) result (I.left source.old) (O.taken sink.old) (O.taken sink.new) }
+    ensures kept { result ≡ 0 → Scripts (λ text written. N.is_whole engine.new ⊎ TellsScarcity (HasRunOut N.has_numbers) (requests_of text) written)
         (I.left source.old) (O.taken sink.old) (O.taken sink.new) }
     ensures status { (result ≡ 0) ⊎ (result ≡ 1) ⊎ (result ≡ 3) }
     ensures silent { result ≡ 0 → errors.new ≡ errors.old }
@@ -109,10 +110,10 @@ pub fn run_over<'a, S: AsStr, N: Answering, I: Source, O: Sink, E: Sink>(
 ) -> u8
     requires { N.is_whole engine.old }
     ensures answers { refusals (map S.text words.entry.now) ≡ []
-        → Answers (N.world engine.old) result (I.left source.old) (O.taken sink.old) (O.taken sink.new) }
+        → Answers (HasRunOut N.has_numbers) (N.world engine.old) result (I.left source.old) (O.taken sink.old) (O.taken sink.new) }
     ensures leads { refusals (map S.text words.entry.now) ≡ []
-        → Leads (N.world engine.old) (N.world engine.new) result (I.left source.old) (O.taken sink.old) (O.taken sink.new) }
-    ensures kept { refusals (map S.text words.entry.now) ≡ [] → result ≡ 0 → Scripts (λ text written. N.is_whole engine.new ⊎ TellsScarcity (requests_of text) written)
+        → Leads (HasRunOut N.has_numbers) (N.world engine.old) (N.world engine.new) result (I.left source.old) (O.taken sink.old) (O.taken sink.new) }
+    ensures kept { refusals (map S.text words.entry.now) ≡ [] → result ≡ 0 → Scripts (λ text written. N.is_whole engine.new ⊎ TellsScarcity (HasRunOut N.has_numbers) (requests_of text) written)
         (I.left source.old) (O.taken sink.old) (O.taken sink.new) }
     ensures status { refusals (map S.text words.entry.now) ≡ [] → (result ≡ 0) ⊎ (result ≡ 1) ⊎ (result ≡ 3) }
     ensures help { refusals (map S.text words.entry.now) ≡ ErrorKind.DisplayHelp ∷ [] → (result ≡ 0) ⊎ (result ≡ 1) ⊎ (result ≡ 3) }
@@ -143,7 +144,7 @@ fn run_made<N: Answering + Drop, I: Source, O: Sink, E: Sink>(
 ) -> u8
     requires turn { 0 < turn × turn ≤ 1024 }
     requires made { IfOk made (λ engine. N.is_whole engine × (N.world engine ≡ world.empty)) }
-    ensures answers { Answers world.empty result (I.left source.old) (O.taken sink.old) (O.taken sink.new) }
+    ensures answers { Answers (HasRunOut N.has_numbers) world.empty result (I.left source.old) (O.taken sink.old) (O.taken sink.new) }
     ensures status { (result ≡ 0) ⊎ (result ≡ 1) ⊎ (result ≡ 3) }
     ensures silent { result ≡ 0 → errors.new ≡ errors.old }
     ensures sound { result ≢ 1 → (I.failures source.new ≡ I.failures source.old) × (O.failures sink.new ≡ O.failures sink.old) }
@@ -160,6 +161,7 @@ fn run_made<N: Answering + Drop, I: Source, O: Sink, E: Sink>(
 
 /// The body of `cqlrun`: as `run_over` an engine that has been told nothing, which is the plain engine where the words ask
 /// for it.
+#[tactic(auto, using(crate::proofs::Outcomes::plain_answers))]
 pub fn run<'a, S: AsStr, I: Source, O: Sink, E: Sink>(
     alloc: Global,
     words: &'a [S],
@@ -168,7 +170,7 @@ pub fn run<'a, S: AsStr, I: Source, O: Sink, E: Sink>(
     errors: &mut E,
 ) -> u8
     ensures answers { refusals (map S.text words.entry.now) ≡ []
-        → Answers world.empty result (I.left source.old) (O.taken sink.old) (O.taken sink.new) }
+        → Answers (HasRunOut HasNumbers) world.empty result (I.left source.old) (O.taken sink.old) (O.taken sink.new) }
     ensures status { refusals (map S.text words.entry.now) ≡ [] → (result ≡ 0) ⊎ (result ≡ 1) ⊎ (result ≡ 3) }
     ensures help { refusals (map S.text words.entry.now) ≡ ErrorKind.DisplayHelp ∷ [] → (result ≡ 0) ⊎ (result ≡ 1) ⊎ (result ≡ 3) }
     ensures wrong { IsWrong (refusals (map S.text words.entry.now)) → ((result ≡ 2) ⊎ (result ≡ 3)) × (sink.new ≡ sink.old) }

@@ -5,7 +5,7 @@ use Rattle.names.specs.Faults.{first_of}
 use Rattle.reference.specs.World.{World, Step, Does, Drains, drain_step, unless}
 use Rattle.reference.specs.declared.limits.TheConstants.{MAX_TURN}
 use Rattle.reference.specs.declared.fault.Fault.{Fault}
-use Rattle.reference.specs.declared.fault.Fault.TheVariants.{Query, BadName, NameTaken, BadColumns, TooMany, UnknownStream, UnknownQuery, BadWidth, ValueRange, InstantRange, Late, Backward, Leap, StreamFull, BadLimit, Broken, UnknownLease, Stranger, TooManyLeases, OutOfMemory}
+use Rattle.reference.specs.declared.fault.Fault.TheVariants.{Query, BadName, NameTaken, BadColumns, TooMany, UnknownStream, UnknownQuery, BadWidth, ValueRange, InstantRange, Late, Backward, Leap, StreamFull, BadLimit, Broken, UnknownLease, Stranger, TooManyLeases, HistoryFull, OutOfMemory, Foreign}
 
 abbrev refused : Fault → Result ⊤ Fault
 refused f = Err f
@@ -23,6 +23,9 @@ by_test false w made new e = subst (λ (s : Step ⊤). IsOther s.0) e tt
 not_numbers : (w new : World) (rows : ℕ) → drain_step w rows ≡ (refused TooManyLeases, new) → ⊥
 unfolding drain_step
 not_numbers w new rows e = by_test (not (nat_le 1 rows && nat_le rows MAX_TURN)) w _ new e
+
+pub not_wanted : (w new : World) (rows : ℕ) (r : Result ⊤ Fault) → Does (λ u. u) w (drain_step w rows) r new → r ≡ Err TooManyLeases → ⊥
+not_wanted w new rows r d is = not_numbers w new rows (subst (λ (a : Result ⊤ Fault). Does (λ u. u) w (drain_step w rows) a new) is d)
 
 pub drains : (w new : World) (rows : ℕ) (r : Result ⊤ Fault) → Does (λ u. u) w (drain_step w rows) r new → Drains w (drain_step w rows) r new
 drains w new rows (Ok a) d = d
@@ -44,5 +47,7 @@ drains w new rows (Err BadLimit) d = d
 drains w new rows (Err Broken) d = d
 drains w new rows (Err UnknownLease) d = d
 drains w new rows (Err Stranger) d = d
+drains w new rows (Err HistoryFull) d = d
+drains w new rows (Err (Foreign entries)) d = d
 drains w new rows (Err TooManyLeases) d = absurd (not_numbers w new rows d)
 drains w new rows (Err OutOfMemory) d = (ap (λ (x : World). x.machine) d.0, d.1)

@@ -4,7 +4,7 @@ use Rattle.std.specs.List.{list_any, list_all}
 use Rattle.std.proofs.Math.Nat.{suc-mul, add-mul}
 use Rattle.std.proofs.Math.Seq.{drop-cons}
 use Rattle.std.proofs.lemmas.Bool.{eqb-true}
-use Rattle.std.proofs.lemmas.List.{take-append-le, drop-append-le, take_all, drop_all, map-append, take-append-drop, length-map}
+use Rattle.std.proofs.lemmas.List.{take-append-le, drop-append-le, take_all, drop_all, map-append, take-append-drop, length-map, length-take-le}
 use Rattle.arrayvec.specs.ArrayVec.{ArrayVec}
 use Rattle.values.specs.Row.{Row}
 use Rattle.values.specs.Window.{Element, numbered, plain, input_of}
@@ -14,7 +14,7 @@ use Rattle.reference.specs.Commands.{elements_from}
 use Rattle.reference.specs.Kept.{kept_in}
 use Rattle.reference.specs.NewRows.{rows_in}
 use Rattle.reference.specs.Views.{pairs_of}
-use Rattle.reference.proofs.NewRowLemmas.{left}
+use Rattle.reference.proofs.NewRowLemmas.{fits, left}
 use Rattle.reference.proofs.StreamLemmas.{or_left, or_right, not_false}
 
 suc-injective : (a b : ℕ) → suc a ≡ suc b → a ≡ b
@@ -37,6 +37,31 @@ values-flat (at ∷ instants) [] values h s = cc
 values-flat (at ∷ instants) (width ∷ widths) values h s =
     sym (take-append-drop width values)
     ∙ ap (λ vs. take width values ++ vs) (values-flat instants widths (drop width values) (suc-injective _ _ h) (left width widths values s))
+
+-- the lists that rows are kept in are known from the rows
+pub instants_back : (instants : List ℤ) (widths : List ℕ) (values : List (Option ℤ)) → length widths ≡ length instants
+    → map (λ r. r.0) (rows_in instants widths values) ≡ instants
+instants_back [] widths values h = refl
+instants_back (at ∷ instants) [] values h = cc
+instants_back (at ∷ instants) (width ∷ widths) values h =
+    ap (λ xs. at ∷ xs) (instants_back instants widths (drop width values) (suc-injective _ _ h))
+
+widths_back : (instants : List ℤ) (widths : List ℕ) (values : List (Option ℤ)) → length widths ≡ length instants → sum widths ≡ length values
+    → map (λ r. length r.1) (rows_in instants widths values) ≡ widths
+widths_back [] [] values h s = refl
+widths_back [] (width ∷ widths) values h s = cc
+widths_back (at ∷ instants) [] values h s = cc
+widths_back (at ∷ instants) (width ∷ widths) values h s =
+    ap (λ n. n ∷ map (λ r. length r.1) (rows_in instants widths (drop width values))) (length-take-le width values (fits width widths values s))
+    ∙ ap (λ ws. width ∷ ws) (widths_back instants widths (drop width values) (suc-injective _ _ h) (left width widths values s))
+
+pub same_parts : (i j : List ℤ) (w x : List ℕ) (v u : List (Option ℤ)) → length w ≡ length i → sum w ≡ length v → length x ≡ length j → sum x ≡ length u
+    → rows_in i w v ≡ rows_in j x u → (i ≡ j) × (w ≡ x) × (v ≡ u)
+same_parts i j w x v u hw sw hx sx e = (
+  sym (instants_back i w v hw) ∙ ap (map (λ r. r.0)) e ∙ instants_back j x u hx,
+  sym (widths_back i w v hw sw) ∙ ap (map (λ r. length r.1)) e ∙ widths_back j x u hx sx,
+  values-flat i w v hw sw ∙ ap values_of e ∙ sym (values-flat j x u hx sx),
+)
 
 pub length-instants_of : (rows : List (ℤ × List (Option ℤ))) → length (instants_of rows) ≡ length rows
 length-instants_of rows = length-map rows (λ (r : ℤ × List (Option ℤ)). nat_abs r.0)

@@ -48,7 +48,7 @@ any-instants f (at ∷ instants) (width ∷ widths) values h =
 sum-cons : (width : ℕ) (widths : List ℕ) → sum (width ∷ widths) ≡ width + sum widths
 sum-cons width widths = sum_by-cons (λ n. n) width widths
 
-fits : (width : ℕ) (widths : List ℕ) (values : List (Option ℤ)) → sum (width ∷ widths) ≡ length values → width ≤ length values
+pub fits : (width : ℕ) (widths : List ℕ) (values : List (Option ℤ)) → sum (width ∷ widths) ≡ length values → width ≤ length values
 fits width widths values s = let t : width + sum widths ≡ length values = sym (sum-cons width widths) ∙ s in omega (arith, t)
 
 pub left : (width : ℕ) (widths : List ℕ) (values : List (Option ℤ)) → sum (width ∷ widths) ≡ length values → sum widths ≡ length (drop width values)

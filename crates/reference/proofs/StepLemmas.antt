@@ -8,7 +8,7 @@ use Rattle.reference.specs.Machine.{Stream, Registered, unless_dropped}
 use Rattle.reference.specs.declared.standing.StandingQuery.{StandingQuery}
 use Rattle.reference.specs.Standing.{query_of, waiting_of, fresh_of}
 use Rattle.reference.specs.declared.fault.Fault.{Fault}
-use Rattle.reference.specs.declared.fault.Fault.TheVariants.{Query, BadName, NameTaken, BadColumns, TooMany, UnknownStream, UnknownQuery, BadWidth, ValueRange, InstantRange, Late, Backward, Leap, StreamFull, BadLimit, Broken, UnknownLease, Stranger, TooManyLeases, OutOfMemory}
+use Rattle.reference.specs.declared.fault.Fault.TheVariants.{Query, BadName, NameTaken, BadColumns, TooMany, UnknownStream, UnknownQuery, BadWidth, ValueRange, InstantRange, Late, Backward, Leap, StreamFull, BadLimit, Broken, UnknownLease, Stranger, TooManyLeases, HistoryFull, OutOfMemory, Foreign}
 use Rattle.reference.specs.declared.fault.QueryFault.{QueryFault}
 use Rattle.reference.specs.Commands.{Found, change, query_tests, of_stream, of_query}
 use Rattle.names.specs.Faults.{first_of}
@@ -36,6 +36,8 @@ module _ {A B : Type 0} (view : A → B) (w new : World) (a : B) where
   told Broken t = refl
   told UnknownLease t = refl
   told Stranger t = refl
+  told HistoryFull t = refl
+  told (Foreign entries) t = refl
   told TooManyLeases t = refl
   told OutOfMemory t = absurd t
 
@@ -86,6 +88,8 @@ module _ {A B : Type 0} (view : A → B) (w new : World) (a : B) where
   not_found found Broken h = absurd h
   not_found found UnknownLease h = absurd h
   not_found found Stranger h = absurd h
+  not_found found HistoryFull h = absurd h
+  not_found found (Foreign entries) h = absurd h
   not_found found TooManyLeases h = absurd h
 
   pub refused_text : (tests : List (Bool × Fault)) (found : Result Found QueryFault) (f : Fault) → None ≡ first_of tests → Finds found (Err f)

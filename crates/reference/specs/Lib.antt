@@ -2,6 +2,8 @@ pub mod FaultTexts
 pub mod Machine
 pub mod Commands
 pub mod World
+pub mod Replies
+pub mod Steps
 pub mod NewRows
 pub mod Kept
 pub mod CallViews

@@ -119,6 +119,34 @@ impl NewRows {
         copy_rows(&self.instants, &self.widths, &self.values, elements)
     }
 
+    /// Whether they are the same rows, by value. Takes no memory.
+    pub fn is_same(&self, other: &NewRows) -> bool
+        ensures { IsTrue result ↔ (self.now ≡ other.now) }
+    {
+        same_kept(
+            &self.instants,
+            &self.widths,
+            &self.values,
+            &other.instants,
+            &other.widths,
+            &other.values,
+        )
+    }
+
+    /// The instants of the rows, one behind another. Takes no memory.
+    pub fn instants(&self) -> &[i64]
+        ensures { result.now ≡ map (λ r. r.0) self.now }
+    {
+        &self.instants
+    }
+
+    /// The values of the rows, one row's behind another's. Takes no memory.
+    pub fn values(&self) -> &[Option<i64>]
+        ensures { result.now ≡ values_of self.now }
+    {
+        &self.values
+    }
+
     /// How many values all rows have together.
     pub(crate) fn count_values(&self) -> usize
         ensures { result ≡ length (values_of self.now) }
@@ -138,6 +166,48 @@ impl NewRows {
         copy_instants(&self.instants, instants);
         copy_values(&self.values, values);
     }
+}
+
+fn same_instants(a: &[i64], b: &[i64]) -> bool
+    ensures { IsTrue result ↔ (a.now ≡ b.now) }
+{
+    a == b
+}
+
+fn same_widths(a: &[usize], b: &[usize]) -> bool
+    ensures { IsTrue result ↔ (a.now ≡ b.now) }
+{
+    a == b
+}
+
+fn same_values(a: &[Option<i64>], b: &[Option<i64>]) -> bool
+    ensures { IsTrue result ↔ (a.now ≡ b.now) }
+{
+    a == b
+}
+
+fn same_kept(
+    instants: &[i64],
+    widths: &[usize],
+    values: &[Option<i64>],
+    other_instants: &[i64],
+    other_widths: &[usize],
+    other_values: &[Option<i64>],
+) -> bool
+    requires lengths { length widths.now ≡ length instants.now }
+    requires all { sum widths.now ≡ length values.now }
+    requires other_lengths { length other_widths.now ≡ length other_instants.now }
+    requires other_all { sum other_widths.now ≡ length other_values.now }
+    ensures { IsTrue result ↔ (rows_in instants.now widths.now values.now
+        ≡ rows_in other_instants.now other_widths.now other_values.now) }
+{
+    if !same_instants(instants, other_instants) {
+        return false;
+    }
+    if !same_widths(widths, other_widths) {
+        return false;
+    }
+    same_values(values, other_values)
 }
 
 fn any_differs(widths: &[usize], width: usize) -> bool

@@ -10,10 +10,10 @@ use Rattle.reference.specs.Commands.{first_fault, declare_fault, declared, appen
 use Rattle.cql_reader.specs.Lexis.{is_name}
 use Rattle.reference.specs.declared.limits.TheConstants.{MAX_STREAMS}
 use Rattle.reference.specs.declared.fault.Fault.{Fault}
-use Rattle.reference.specs.declared.fault.Fault.TheVariants.{Query, BadName, NameTaken, BadColumns, TooMany, UnknownStream, UnknownQuery, BadWidth, ValueRange, InstantRange, Late, Backward, Leap, StreamFull, BadLimit, Broken, UnknownLease, Stranger, TooManyLeases, OutOfMemory}
+use Rattle.reference.specs.declared.fault.Fault.TheVariants.{Query, BadName, NameTaken, BadColumns, TooMany, UnknownStream, UnknownQuery, BadWidth, ValueRange, InstantRange, Late, Backward, Leap, StreamFull, BadLimit, Broken, UnknownLease, Stranger, TooManyLeases, HistoryFull, OutOfMemory, Foreign}
 use Rattle.reference.specs.Places.{machine_of}
 use Rattle.reference.specs.Told.{IsTold}
-use Rattle.reference.specs.World.{World, Step, Does, Looks, unless, declare_step, append_step, heartbeat_step}
+use Rattle.reference.specs.World.{World, Step, Does, Looks, unless, declare_step, append_step}
 use Rattle.reference.proofs.StreamLemmas.{none_first, none_later}
 use Rattle.reference.proofs.StepLemmas.{refused, done, lacked}
 use Rattle.stream_store.specs.Beside.{beside, DoesBeside}
@@ -59,11 +59,6 @@ pub append_is : (old : List Stream) (n : ℕ) (rows : List (ℤ × List (Option 
 unfolding append_step
 append_is old n rows qs ws = refl
 
-pub heartbeat_is : (old : List Stream) (n : ℕ) (at : ℤ) (qs : List Registered) (ws : List (List (ℕ × Row)))
-    → heartbeat_step (beside qs ws old) n at ≡ unless (first_fault (machine_of old) (Heartbeat n at)) (beside qs ws old) tt (beside qs ws (change n (closed_to at) old))
-unfolding heartbeat_step
-heartbeat_is old n at qs ws = refl
-
 -- ---- one stream changed
 pub kept_name : {A E : Type 0} (r : Result A E) (f : Stream → Stream) (new old : Stream) → (f old).name ≡ old.name → OnOk r (new ≡ f old) → OnErr r (new ≡ old) → new.name ≡ old.name
 kept_name (Ok a) f new old same ok err = ap (λ (s : Stream). s.name) ok ∙ same
@@ -96,6 +91,8 @@ looked_told view es BadLimit t = refl
 looked_told view es Broken t = refl
 looked_told view es UnknownLease t = refl
 looked_told view es Stranger t = refl
+looked_told view es HistoryFull t = refl
+looked_told view es (Foreign entries) t = refl
 looked_told view es TooManyLeases t = refl
 looked_told view es OutOfMemory t = absurd t
 

@@ -9,9 +9,9 @@ use Rattle.op_queue.specs.Tables.{element}
 use Rattle.op_queue.specs.declared.log.Arrival.{Arrival}
 use Rattle.reference.specs.Views.{pairs_of}
 use Rattle.stream_store.specs.Open.{HaveWidth, elements_at}
-use Rattle.stream_store.specs.OpenRows.{numbered_rows, rows_in}
-use Rattle.stream_store.specs.declared.rising_rows.Head.{Head}
-use Rattle.stream_store.specs.Waiting.{headed, instant_of, risen_in}
+use Rattle.stream_store.specs.LateRows.{numbered_rows, rows_in}
+use Rattle.stream_store.specs.declared.ordered_rows.Head.{Head}
+use Rattle.stream_store.specs.OpenRows.{headed, instant_of, risen_in}
 
 -- the values of a first row, and of the others
 pub rest_full : (width : ℕ) (count : ℕ) (values : List (Option ℤ)) → length values ≡ suc count * width → length (drop width values) ≡ count * width

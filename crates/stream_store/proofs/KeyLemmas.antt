@@ -19,7 +19,7 @@ use Rattle.std.proofs.lemmas.List.Sums.{length-filter, count_by-le-length}
 use Rattle.arrayvec.specs.ArrayVec.{ArrayVec}
 use Rattle.values.specs.Row.{Row}
 use Rattle.values.specs.Window.{Element}
-use Rattle.stream_store.specs.OpenRows.{RowsAt, none_at, numbered_rows, with_rows, first_below, has_rows}
+use Rattle.stream_store.specs.LateRows.{RowsAt, none_at, numbered_rows, with_rows, first_below, has_rows}
 use Rattle.stream_store.specs.Open.{Entry, AreAt, AreWide, elements_at, open_of, put_rows, placed, after_put, below, instants_past, past}
 
 abbrev pub Kept : Type 0

@@ -7,9 +7,9 @@ use Rattle.std.specs.Ordering.{nat_cmp}
 use Rattle.std.proofs.lemmas.Bool.{lt-ltb, le-ltb, lt-leb, le-leb, ltb-true, ltb-false}
 use Rattle.values.specs.Row.{Row}
 use Rattle.values.specs.Window.{Element}
-use Rattle.stream_store.specs.OpenRows.{numbered_rows}
+use Rattle.stream_store.specs.LateRows.{numbered_rows}
 use Rattle.stream_store.specs.Open.{Entry, AreAt, elements_at, open_of, placed, after_put, up_to, past}
-use Rattle.stream_store.specs.Waiting.{Rising, with_late}
+use Rattle.stream_store.specs.OpenRows.{Rising, with_late}
 use Rattle.stream_store.proofs.KeyLemmas.{filter_none, each_from, each-append, each-at, later_rest, sorted_rest, placed_first, placed_behind, put_behind, put_before}
 use Rattle.stream_store.proofs.PlacedLemmas.{each-placed}
 

@@ -5,7 +5,7 @@ mod OrderLemmas
 mod PlacedLemmas
 mod LateLemmas
 mod RisingLemmas
-mod WaitingLemmas
+mod OpenLemmas
 mod StoredLemmas
 mod BesideLemmas
 pub mod ShownLemmas

@@ -8,10 +8,10 @@ use Rattle.values.specs.Row.{Row}
 use Rattle.values.specs.Window.{Element}
 use Rattle.op_queue.specs.Tables.{element}
 use Rattle.op_queue.specs.declared.log.Arrival.{Arrival}
-use Rattle.stream_store.specs.declared.rising_rows.Head.{Head}
-use Rattle.stream_store.specs.OpenRows.{IsFlat, numbered_rows, rows_in}
+use Rattle.stream_store.specs.declared.ordered_rows.Head.{Head}
+use Rattle.stream_store.specs.LateRows.{IsFlat, numbered_rows, rows_in}
 use Rattle.stream_store.specs.Open.{elements_at, up_to, past}
-use Rattle.stream_store.specs.Waiting.{Rising, IsRisen, headed, instant_of, risen_in}
+use Rattle.stream_store.specs.OpenRows.{Rising, IsRisen, headed, instant_of, risen_in}
 use Rattle.stream_store.proofs.KeyLemmas.{filter_none, filter_all, each_from, each-append, each-at, each-take, each-drop}
 use Rattle.stream_store.proofs.FlatLemmas.{length-rows_in, rows_in-take, rows_in-drop, rows_in-at}
 use Rattle.stream_store.proofs.LateLemmas.{rising-append, rising-at}

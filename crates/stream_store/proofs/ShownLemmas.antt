@@ -5,7 +5,7 @@ use Rattle.std.proofs.lemmas.Bool.{eqb-true, and_parts, le-leb, lt-ltb}
 use Rattle.values.specs.Window.{Element}
 use Rattle.op_queue.specs.Logs.{is_shown, shown}
 use Rattle.stream_store.specs.Closing.{by_instant}
-use Rattle.stream_store.specs.Waiting.{Rising}
+use Rattle.stream_store.specs.OpenRows.{Rising}
 use Rattle.stream_store.proofs.KeyLemmas.{each_from, each_passes, filter_all}
 use Rattle.stream_store.proofs.OrderLemmas.{within, by_key_rising, filter-by_key}
 

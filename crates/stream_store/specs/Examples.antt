@@ -3,9 +3,9 @@ use Rattle.std.specs.Prelude.{◌≡◌, ℕ, Some, pos, List, [], ◌∷◌, co
 use Rattle.values.specs.Row.{Row}
 use Rattle.values.specs.Window.{Element}
 use Rattle.reference.specs.Machine.{Stream}
-use Rattle.stream_store.specs.OpenRows.{rows_in}
+use Rattle.stream_store.specs.LateRows.{rows_in}
 use Rattle.stream_store.specs.Open.{Entry, open_of, put_rows, count_at, after_put, below, instants_past, up_to}
-use Rattle.stream_store.specs.Waiting.{risen_in, with_late}
+use Rattle.stream_store.specs.OpenRows.{risen_in, with_late}
 use Rattle.stream_store.specs.Closing.{by_key, closed_of, closing_of}
 
 abbrev row : ℕ → Row
@@ -38,8 +38,8 @@ flat_rows = refl
 abbrev entries : List Entry
 entries = (1, record { width = 1; rows = (1, row 5) ∷ (2, row 6) ∷ [] }) ∷ (3, record { width = 1; rows = (0, row 7) ∷ [] }) ∷ []
 
-open_rows : open_of entries ≡ element 1 1 5 ∷ element 2 1 6 ∷ element 0 3 7 ∷ []
-open_rows = refl
+late_rows : open_of entries ≡ element 1 1 5 ∷ element 2 1 6 ∷ element 0 3 7 ∷ []
+late_rows = refl
 
 -- one more row at an instant that has rows, and two at an instant that has none
 one_behind : open_of (put_rows 1 1 3 ((1, row 4) ∷ []) entries) ≡ element 1 1 5 ∷ element 2 1 6 ∷ element 3 1 4 ∷ element 0 3 7 ∷ []

@@ -1,6 +1,6 @@
-pub mod OpenRows
+pub mod LateRows
 pub mod Open
-pub mod Waiting
+pub mod OpenRows
 pub mod Closing
 pub mod Stored
 pub mod Beside

@@ -4,7 +4,7 @@ use Rattle.std.specs.List.{AllByRecursion, filter, flat_map}
 use Rattle.std.specs.Ordering.{nat_cmp, match_ordering}
 use Rattle.values.specs.Row.{Row}
 use Rattle.values.specs.Window.{Element}
-use Rattle.stream_store.specs.OpenRows.{RowsAt, none_at, with_rows, first_below, has_rows}
+use Rattle.stream_store.specs.LateRows.{RowsAt, none_at, with_rows, first_below, has_rows}
 
 -- an instant and its rows
 abbrev pub Entry : Type 0

@@ -6,7 +6,7 @@ ghost use Rattle.std.specs.Ordering.{nat_cmp};
 ghost use Rattle.reference.specs.Views.{pairs_of};
 ghost use Rattle.stream_store.specs.Open.{AreWide, HaveWidth, below, count_at, instants_past, put_rows};
 
-use crate::open_rows::OpenRows;
+use crate::late_rows::LateRows;
 use std::alloc::{AllocError, Global};
 use std::collections::BTreeMap;
 use values::{MAX_COLUMNS, Row};
@@ -28,7 +28,7 @@ pub(crate) fn count_at(rows: &[(u64, Row)], instant: u64) -> usize
 /// Puts rows behind the others of their instant, numbered from `first` on, by one look-up. On Err all are as they were.
 pub(crate) fn put(
     alloc: Global,
-    late: &mut BTreeMap<u64, OpenRows>,
+    late: &mut BTreeMap<u64, LateRows>,
     width: usize,
     instant: u64,
     first: u64,
@@ -45,21 +45,21 @@ pub(crate) fn put(
     if let Some(open) = late.get_mut(&instant) {
         return open.push_all(first, rows);
     }
-    let mut open = OpenRows::new(alloc, width);
+    let mut open = LateRows::new(alloc, width);
     open.push_all(first, rows)?;
     late.insert(instant, open)?;
     Ok(())
 }
 
 /// Takes out the rows from the number `first` on, which are the last ones of their instants.
-pub(crate) fn forget_from(late: &mut BTreeMap<u64, OpenRows>, first: u64)
+pub(crate) fn forget_from(late: &mut BTreeMap<u64, LateRows>, first: u64)
     ensures { late.new.entries ≡ below first late.old.entries }
 {
     late.retain(|_, open| open.keep_below(first));
 }
 
 /// Takes out the rows up to the instant.
-pub(crate) fn drop_up_to(late: &mut BTreeMap<u64, OpenRows>, at: u64)
+pub(crate) fn drop_up_to(late: &mut BTreeMap<u64, LateRows>, at: u64)
     ensures { late.new.entries ≡ instants_past at late.old.entries }
 {
     while let Some((instant, _)) = late.first_key_value()

@@ -3,11 +3,11 @@
 #![tactic(auto)]
 
 mod late;
+mod late_rows;
 mod open_rows;
-mod rising_rows;
+mod ordered_rows;
 mod stored;
 mod streams;
-mod waiting;
 
 pub use op_queue::{Arrival, Log};
 pub use streams::Streams;

@@ -1,158 +1,170 @@
-//! The open rows of one instant.
-ghost use Rattle.std.specs.Prelude.{◌≡◌, ℕ, ◌+◌, ◌*◌, ◌^◌, ◌<◌, ◌≤◌, ◌++◌, OnOk, OnErr, length, map, nat_lt, vec_len, vec_capacity};
-ghost use Rattle.std.specs.List.{filter};
+//! The open rows of a stream.
+ghost use Rattle.std.specs.Prelude.{◌≡◌, ◌≤◌, ◌<◌, ◌+◌, ◌^◌, ◌++◌, [], IfOk, OnOk, OnErr, length, map, take, drop};
+ghost use Rattle.std.specs.List.{AllByRecursion};
 ghost use Rattle.op_queue.specs.Tables.{element};
 ghost use Rattle.reference.specs.Views.{pairs_of};
-ghost use Rattle.stream_store.specs.Open.{HaveWidth, elements_at};
-ghost use Rattle.stream_store.specs.OpenRows.{first_below, has_rows, none_at, numbered_rows, rows_in, with_rows};
+ghost use Rattle.stream_store.specs.Open.{AreAt, HaveWidth, after_put, below, open_of, past, up_to};
+ghost use Rattle.stream_store.specs.OpenRows.{IsMore, IsOpen, with_late};
 
+use crate::late::{count_at, drop_up_to, forget_from, put};
+use crate::late_rows::LateRows;
+use crate::ordered_rows::OrderedRows;
 use op_queue::Arrival;
 use std::alloc::{AllocError, Global};
+use std::collections::BTreeMap;
 use std::marker::Model;
-use values::{MAX_COLUMNS, Row, Value};
+use values::{MAX_COLUMNS, Row};
 
-/// The open rows of one instant in the order of arrival, all with the same number of columns.
+/// The open rows of a stream, by instant, then arrival.
 ///
-/// They are kept flat, eight bytes a value and eight a number, so a row takes no allocation of its own.
+/// Rows whose instants never fall stand flat, one behind the other. A row that comes below the instant that they have reached is
+/// late: it stands in a map by instants, behind the others of its instant. What is late is therefore earlier than what comes next.
 #[derive(Drop)]
 pub(crate) struct OpenRows {
-    width: usize,
-    numbers: Vec<u64>,
-    values: Vec<Value>,
+    alloc: Global,
+    rising: OrderedRows,
+    late: BTreeMap<u64, LateRows>,
 }
 
 impl Model for OpenRows {
-    ghost use Rattle.stream_store.specs.OpenRows.{RowsAt};
+    ghost use Rattle.stream_store.specs.OpenRows.{OpenElements};
 
-    ghost Value = { RowsAt };
+    ghost Value = { OpenElements };
 
-    ghost use Rattle.stream_store.specs.OpenRows.{rows_in, IsFlat};
+    ghost use Rattle.stream_store.specs.OpenRows.{IsOpen, open_in};
 
-    ghost view = { λ o. record { width = o.width; rows = rows_in o.width o.numbers.items o.values.items } };
+    ghost view = { λ w. open_in w.rising w.late.entries };
 
-    ghost invariant = { λ o. IsFlat o.width o.numbers.items o.values.items };
+    ghost invariant = { λ w. IsOpen w.rising w.late.entries };
 }
 
 impl OpenRows {
     /// No rows of so many columns. Takes no memory.
     pub(crate) fn new(alloc: Global, width: usize) -> OpenRows
         requires { width ≤ MAX_COLUMNS }
-        ensures { result ≡ none_at width }
+        ensures width { result.width ≡ width }
+        ensures rows { result.rows ≡ [] }
     {
         OpenRows {
-            width,
-            numbers: Vec::new(alloc),
-            values: Vec::new(alloc),
+            alloc,
+            rising: OrderedRows::new(alloc, width),
+            late: BTreeMap::new(alloc),
         }
     }
 
-    /// Puts rows behind the others, numbered from `first` on. On Err they are as they were.
-    pub(crate) fn push_all(&mut self, first: u64, rows: &[(u64, Row)]) -> Result<(), AllocError>
+    /// Adds rows, numbered from `first` on, which is above the numbers of all others. On Err they are as they were.
+    ///
+    /// Rows that follow one another with one instant are put together.
+    pub(crate) fn put_all(&mut self, first: u64, rows: &[(u64, Row)]) -> Result<(), AllocError>
         requires room { first + length rows.now < 2 ^ 32 }
         requires rows { HaveWidth self.old.width (pairs_of rows.now) }
-        ensures ok { OnOk result (self.new ≡ with_rows first (pairs_of rows.now) self.old) }
+        requires numbered { AllByRecursion (λ e. e.arrival < first) self.old.rows }
+        ensures width { self.new.width ≡ self.old.width }
+        ensures ok { OnOk result (self.new.rows ≡ after_put first (pairs_of rows.now) self.old.rows) }
         ensures err { OnErr result (self.new ≡ self.old) }
     {
-        self.numbers.reserve(rows.len())?;
-        self.values.reserve(rows.len() * self.width)?;
-        push_rows(self.width, &mut self.numbers, &mut self.values, first, rows);
-        Ok(())
+        let count = self.rising.len();
+        let reached = self.rising.reached();
+        match put_runs(self.alloc, &mut self.rising, &mut self.late, first, rows) {
+            Ok(()) => Ok(()),
+            Err(error) => {
+                self.rising.keep_first(count, reached);
+                forget_from(&mut self.late, first);
+                Err(error)
+            }
+        }
     }
 
-    /// Keeps the first rows, as many as have numbers below `first`; whether any are left.
-    pub(crate) fn keep_below(&mut self, first: u64) -> bool
-        ensures rows { self.new ≡ first_below first self.old }
-        ensures left { result ≡ has_rows self.new }
+    /// Copies of the rows up to the instant, by instant, then arrival.
+    pub(crate) fn rows_up_to(&self, at: u64) -> Result<Vec<Arrival>, AllocError>
+        ensures { IfOk result (λ v. map element v.items ≡ up_to at self.now.rows) }
     {
-        let kept = count_below(&self.numbers, first);
-        self.numbers.truncate(kept);
-        self.values.truncate(kept * self.width);
-        kept > 0
+        let mut rows = Vec::new(self.alloc);
+        let place = copy_late(&self.rising, &self.late, at, &mut rows)?;
+        self.rising.copy_to(place, at, &mut rows)?;
+        Ok(rows)
     }
 
-    /// Puts copies of the rows, with their instant, behind others.
-    pub(crate) fn copy_to(&self, instant: u64, rows: &mut Vec<Arrival>) -> Result<(), AllocError>
-        ensures { OnOk result (map element rows.new.items ≡ map element rows.old.items ++ elements_at instant self.now.rows) }
+    /// Takes out the rows up to the instant.
+    pub(crate) fn drop_up_to(&mut self, at: u64)
+        ensures width { self.new.width ≡ self.old.width }
+        ensures rows { self.new.rows ≡ past at self.old.rows }
     {
-        copy_rows(self.width, &self.numbers, &self.values, instant, rows)
+        self.rising.drop_up_to(at);
+        drop_up_to(&mut self.late, at);
     }
 }
 
-/// How many of the numbers are below `first`.
-fn count_below(numbers: &[u64], first: u64) -> usize
-    ensures { result ≡ length (filter (λ number. nat_lt number first) numbers.now) }
-{
-    numbers.iter().filter(|number| **number < first).count()
-}
-
-/// Puts the numbers and the values of rows behind those of others, which have room for them.
-fn push_rows(
-    width: usize,
-    numbers: &mut Vec<u64>,
-    values: &mut Vec<Value>,
+/// Puts rows of one instant behind the others of their instant and of earlier ones, numbered from `first` on.
+fn put_run(
+    alloc: Global,
+    rising: &mut OrderedRows,
+    late: &mut BTreeMap<u64, LateRows>,
+    instant: u64,
     first: u64,
     rows: &[(u64, Row)],
-)
+) -> Result<(), AllocError>
     requires room { first + length rows.now < 2 ^ 32 }
-    requires room_for_numbers { vec_len numbers.old + length rows.now ≤ vec_capacity numbers.old }
-    requires room_for_values { vec_len values.old + length rows.now * width ≤ vec_capacity values.old }
-    requires rows { HaveWidth width (pairs_of rows.now) }
-    requires full { length values.old.items ≡ length numbers.old.items * width }
-    ensures rows { rows_in width numbers.new.items values.new.items ≡ rows_in width numbers.old.items values.old.items ++ numbered_rows first (pairs_of rows.now) }
-    ensures full { length values.new.items ≡ length numbers.new.items * width }
+    requires rows { HaveWidth rising.old.width (pairs_of rows.now) }
+    requires at { AreAt instant (pairs_of rows.now) }
+    requires parts { IsOpen rising.old late.old.entries }
+    ensures ok { OnOk result (IsMore first (pairs_of rows.now) rising.old late.old.entries rising.new late.new.entries) }
+    ensures rising { OnErr result (rising.new ≡ rising.old) }
+    ensures late { OnErr result (late.new.entries ≡ late.old.entries) }
+{
+    if rising.reached() <= instant {
+        return rising.push_all(instant, first, rows);
+    }
+    put(alloc, late, rising.width(), instant, first, rows)
+}
+
+/// Adds rows, numbered from `first` on. On Err only more rows, of these numbers, stand behind those that were there.
+fn put_runs(
+    alloc: Global,
+    rising: &mut OrderedRows,
+    late: &mut BTreeMap<u64, LateRows>,
+    first: u64,
+    rows: &[(u64, Row)],
+) -> Result<(), AllocError>
+    requires room { first + length rows.now < 2 ^ 32 }
+    requires rows { HaveWidth rising.old.width (pairs_of rows.now) }
+    requires parts { IsOpen rising.old late.old.entries }
+    ensures ok { OnOk result (with_late (open_of late.new.entries) rising.new.rows ≡ after_put first (pairs_of rows.now) (with_late (open_of late.old.entries) rising.old.rows)) }
+    ensures parts { IsOpen rising.new late.new.entries }
+    ensures width { rising.new.width ≡ rising.old.width }
+    ensures longer { length rising.old.rows ≤ length rising.new.rows }
+    ensures rising { take (length rising.old.rows) rising.new.rows ≡ rising.old.rows }
+    ensures late { below first late.new.entries ≡ below first late.old.entries }
 {
     let mut number = first;
-    for (_, row) in rows {
-        numbers.push_reserved(number);
-        push_values(values, row.as_slice());
-        number += 1;
-    }
-}
-
-/// Puts the values of a row behind others, which have room for them.
-fn push_values(values: &mut Vec<Value>, row: &[Value])
-    requires { vec_len values.old + length row.now ≤ vec_capacity values.old }
-    ensures items { values.new.items ≡ values.old.items ++ row.now }
-    ensures len { vec_len values.new ≡ vec_len values.old + length row.now }
-    ensures capacity { vec_capacity values.new ≡ vec_capacity values.old }
-{
-    for value in row {
-        values.push_reserved(*value);
-    }
-}
-
-fn row_of(values: &[Value]) -> Row
-    requires { length values.now ≤ MAX_COLUMNS }
-    ensures { result.items ≡ values.now }
-{
-    let mut row = Row::new();
-    for value in values {
-        row.push(*value);
-    }
-    row
-}
-
-fn copy_rows(
-    width: usize,
-    numbers: &[u64],
-    values: &[Value],
-    instant: u64,
-    rows: &mut Vec<Arrival>,
-) -> Result<(), AllocError>
-    requires few { width ≤ MAX_COLUMNS }
-    requires full { length values.now ≡ length numbers.now * width }
-    ensures { OnOk result (map element rows.new.items ≡ map element rows.old.items ++ elements_at instant (rows_in width numbers.now values.now)) }
-{
-    rows.reserve(numbers.len())?;
-    let mut rest = values;
-    for number in numbers {
-        let (row, after) = rest.split_at(width);
-        rows.push_reserved(Arrival {
-            number: *number,
-            instant,
-            row: row_of(row),
-        });
+    let mut rest = rows;
+    while let Some((instant, _)) = rest.first() {
+        let (run, after) = rest.split_at(count_at(rest, *instant));
+        put_run(alloc, rising, late, *instant, number, run)?;
+        number += run.len() as u64;
         rest = after;
     }
     Ok(())
+}
+
+/// Puts copies of the late rows up to the instant, and of those that stand before them, behind others. The place of the next row
+/// that is not late.
+fn copy_late(
+    rising: &OrderedRows,
+    late: &BTreeMap<u64, LateRows>,
+    at: u64,
+    rows: &mut Vec<Arrival>,
+) -> Result<usize, AllocError>
+    ensures within { IfOk result (λ place. place ≤ length rising.now.rows) }
+    ensures rows { IfOk result (λ place. map element rows.new.items ++ up_to at (drop place rising.now.rows) ≡ map element rows.old.items ++ up_to at (with_late (open_of late.now.entries) rising.now.rows)) }
+{
+    let mut place = 0;
+    for (instant, open) in late.iter() {
+        if at < *instant {
+            return Ok(place);
+        }
+        place = rising.copy_to(place, *instant, rows)?;
+        open.copy_to(*instant, rows)?;
+    }
+    Ok(place)
 }

@@ -9,7 +9,7 @@ ghost use Rattle.reference.specs.Commands.{append_tests, heartbeat_tests, append
 ghost use Rattle.reference.specs.Told.{IsTold};
 ghost use Rattle.stream_store.specs.Closing.{closed_of, closing_of};
 
-use crate::waiting::Waiting;
+use crate::open_rows::OpenRows;
 use cql_reader::Name;
 use names::Catalog;
 use op_queue::{Arrival, Log};
@@ -24,7 +24,7 @@ pub(crate) struct Stored {
     name: Name,
     columns: Vec<Name>,
     log: Log,
-    waiting: Waiting,
+    open_rows: OpenRows,
     arrivals: u64,
 }
 
@@ -38,9 +38,9 @@ impl Model for Stored {
 
     ghost use Rattle.stream_store.specs.Stored.{stream_in, IsStored};
 
-    ghost view = { λ s. stream_in (name_of s.name) (names_of s.columns.items) s.arrivals s.log s.waiting.rows };
+    ghost view = { λ s. stream_in (name_of s.name) (names_of s.columns.items) s.arrivals s.log s.open_rows.rows };
 
-    ghost invariant = { λ s. IsStored (length s.columns.items) s.arrivals s.log s.waiting.rows × (s.waiting.width ≡ length s.columns.items) };
+    ghost invariant = { λ s. IsStored (length s.columns.items) s.arrivals s.log s.open_rows.rows × (s.open_rows.width ≡ length s.columns.items) };
 }
 
 impl Stored {
@@ -56,13 +56,13 @@ impl Stored {
         ensures { IfOk result (λ s. s ≡ record { name = name_of name; columns = names_of columns.items; elements = []; arrivals = 0; first_open = first_open }) }
     {
         let log = Log::new(alloc, columns.len(), first_open)?;
-        let waiting = Waiting::new(alloc, columns.len());
+        let open_rows = OpenRows::new(alloc, columns.len());
         Ok(Stored {
             alloc,
             name,
             columns,
             log,
-            waiting,
+            open_rows,
             arrivals: 0,
         })
     }
@@ -153,7 +153,7 @@ impl Stored {
         let count = rows.len();
         let mut kept = Vec::with_capacity(self.alloc, count)?;
         rows.copy_to(&mut kept);
-        self.waiting.put_all(self.arrivals, &kept)?;
+        self.open_rows.put_all(self.arrivals, &kept)?;
         self.arrivals += count as u64;
         Ok(())
     }
@@ -175,7 +175,7 @@ impl Stored {
     {
         let last = self.last_closed(at);
         let _until = self.log.until();
-        self.waiting.rows_up_to(last)
+        self.open_rows.rows_up_to(last)
     }
 
     /// Closes all instants up to `at`, which have these rows. On Err it is as it was.
@@ -190,7 +190,7 @@ impl Stored {
         let _until = self.log.until();
         self.log.close(rows, last + 1)?;
         let _closed = self.log.until();
-        self.waiting.drop_up_to(last);
+        self.open_rows.drop_up_to(last);
         Ok(())
     }
 }

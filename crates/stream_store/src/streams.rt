@@ -9,7 +9,7 @@ ghost use Rattle.reference.specs.Commands.{first_fault, declared, appended, clos
 ghost use Rattle.reference.specs.Machine.{Stream};
 ghost use Rattle.reference.specs.Places.{machine_of};
 ghost use Rattle.reference.specs.Told.{IsTold};
-ghost use Rattle.reference.specs.World.{Looks, declare_step, append_step, heartbeat_step};
+ghost use Rattle.reference.specs.World.{Looks, declare_step, append_step};
 ghost use Rattle.stream_store.specs.Beside.{DoesBeside};
 ghost use Rattle.stream_store.specs.Closing.{closed_of, closing_at, closing_in, QueuesGain};
 
@@ -213,16 +213,6 @@ impl Streams {
         self.streams[stream as usize].close(at, rows)
     }
 
-    fn close_up(&mut self, stream: u64, at: i64) -> Result<(), AllocError>
-        requires { first_fault (machine_of self.old) (Heartbeat stream at) ≡ None }
-        ensures ok { OnOk result (self.new ≡ change stream (closed_to at) self.old) }
-        ensures queues { OnOk result (QueuesGain (slice_get self.old stream) at) }
-        ensures err { OnErr result (self.new ≡ self.old) }
-    {
-        let rows = self.rows_to_close(stream, at)?;
-        self.close(stream, at, &rows)
-    }
-
     /// Declares a stream, whose first open instant is `from`, and answers its number, from 0 on.
     ///
     /// # Errors
@@ -265,21 +255,6 @@ impl Streams {
         match self.heartbeat_fault(stream, at) {
             Some(fault) => Err(fault),
             None => Ok(self.rows_to_close(stream, at)?),
-        }
-    }
-
-    /// Closes all instants of the stream up to `at`.
-    ///
-    /// # Errors
-    /// `UnknownStream`, `InstantRange`, `Backward`, `Leap`: the first test that fails; `OutOfMemory` where none does and memory is refused.
-    /// Then all is as it was.
-    pub fn heartbeat(&mut self, stream: u64, at: i64) -> Result<(), Fault>
-        ensures does { DoesBeside (λ u. u) (λ w. heartbeat_step w stream at) self.old result self.new }
-        ensures queues { OnOk result (QueuesGain (slice_get self.old stream) at) }
-    {
-        match self.heartbeat_fault(stream, at) {
-            Some(fault) => Err(fault),
-            None => Ok(self.close_up(stream, at)?),
         }
     }
 }

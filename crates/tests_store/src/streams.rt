@@ -108,17 +108,20 @@ fn appends_are_refused(alloc: Global, streams: &mut Streams) -> Result<bool, All
     Ok(refusal(alloc, streams, 1, &[])? == Some(Fault::UnknownStream))
 }
 
-// Whether each heartbeat, and the first half of each, is refused by its fault.
-fn heartbeats_are_refused(streams: &mut Streams) -> bool {
+// Closes the instants of a stream up to `at`, by both halves of a heartbeat.
+fn close(streams: &mut Streams, stream: u64, at: i64) -> Result<(), Fault> {
+    let rows = streams.closing(stream, at)?;
+    Ok(streams.close(stream, at, &rows)?)
+}
+
+// Whether each heartbeat is refused by its fault.
+fn heartbeats_are_refused(streams: &Streams) -> bool {
     for (stream, at, fault) in [
         (1, -1, Fault::UnknownStream),
         (0, -1, Fault::InstantRange),
         (0, 3, Fault::Backward),
         (0, 65_540, Fault::Leap),
     ] {
-        if streams.heartbeat(stream, at).err() != Some(fault) {
-            return false;
-        }
         if streams.closing(stream, at).err() != Some(fault) {
             return false;
         }
@@ -130,9 +133,9 @@ fn heartbeats_are_refused(streams: &mut Streams) -> bool {
 fn refused(alloc: Global) -> Result<([bool; 3], u64, u64), Fault> {
     let mut streams = streams(alloc)?;
     let first = declarations_are_refused(alloc, &mut streams);
-    streams.heartbeat(0, 3)?;
+    close(&mut streams, 0, 3)?;
     let second = appends_are_refused(alloc, &mut streams)?;
-    let third = heartbeats_are_refused(&mut streams);
+    let third = heartbeats_are_refused(&streams);
     Ok((
         [first, second, third],
         streams.arrivals(0),
@@ -163,11 +166,11 @@ fn append(alloc: Global, streams: &mut Streams, pairs: &[(i64, i64)]) -> Result<
 // Closes the instants up to `at`, once more where memory was refused; false where the refusal changed the stream.
 fn heartbeat(streams: &mut Streams, at: i64) -> Result<bool, Fault> {
     let start = streams.first_open(0);
-    if streams.heartbeat(0, at).is_err() {
+    if close(streams, 0, at).is_err() {
         if streams.first_open(0) != start {
             return Ok(false);
         }
-        streams.heartbeat(0, at)?;
+        close(streams, 0, at)?;
     }
     Ok(true)
 }
@@ -308,19 +311,12 @@ fn late_rows_are_closed_among_those_in_order(rt: HostRuntime) -> Result<(), Fail
     Ok(())
 }
 
-// Closes the instants up to 1 in two halves.
-fn close(streams: &mut Streams) -> Result<(), Fault> {
-    let closing = streams.closing(0, 1)?;
-    streams.close(0, 1, &closing)?;
-    Ok(())
-}
-
 // Streams with rows at the instants 1 and 2, of which the first is closed.
 fn half_closed(alloc: Global) -> Result<Streams, Fault> {
     let rows = rows(alloc, &[(1, 5), (2, 6)])?;
     let mut streams = streams(alloc)?;
     streams.append(0, &rows)?;
-    close(&mut streams)?;
+    close(&mut streams, 0, 1)?;
     Ok(streams)
 }
 

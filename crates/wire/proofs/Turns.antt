@@ -1,15 +1,15 @@
 -- The rows of a drain's turns change nothing.
-use Rattle.std.proofs.Common.{◌≡◌, ◌≤◌, ◌<◌, ℕ, Bool, true, false, refl, ap, sym, ◌∙◌, [], ◌∷◌, Result, Ok, Err, map}
+use Rattle.std.proofs.Common.{◌≡◌, ◌≤◌, ◌<◌, ℕ, Bool, true, false, refl, ap, sym, subst, ◌∙◌, [], ◌∷◌, Result, Ok, Err, map}
 use Rattle.std.specs.Prelude.{not, ◌&&◌, nat_le, None, ⊤}
 use Rattle.std.proofs.lemmas.Bool.{le-leb}
 use Rattle.reference.specs.World.{World, Step, Drains, IsPlenty, is_scarce, drain_step, drain_fault, unless, untaken}
 use Rattle.names.specs.Faults.{first_of}
 use Rattle.reference.specs.declared.limits.TheConstants.{MAX_TURN}
 use Rattle.reference.specs.declared.fault.Fault.{Fault}
-use Rattle.reference.specs.declared.fault.Fault.TheVariants.{Query, BadName, NameTaken, BadColumns, TooMany, UnknownStream, UnknownQuery, BadWidth, ValueRange, InstantRange, Late, Backward, Leap, StreamFull, BadLimit, Broken, UnknownLease, Stranger, TooManyLeases, OutOfMemory}
+use Rattle.reference.specs.declared.fault.Fault.TheVariants.{Query, BadName, NameTaken, BadColumns, TooMany, UnknownStream, UnknownQuery, BadWidth, ValueRange, InstantRange, Late, Backward, Leap, StreamFull, BadLimit, Broken, UnknownLease, Stranger, TooManyLeases, HistoryFull, OutOfMemory, Foreign}
 use Rattle.wire.specs.Calls.{drain}
-use Rattle.wire.specs.Printed.{refused}
-use Rattle.wire.specs.Script.{done_of, done_step, is_scarce_reply, Replies}
+use Rattle.wire.specs.Printed.{Answer, refused}
+use Rattle.wire.specs.Script.{done_of, done_step, is_scarce_reply, HasRunOut, Replies, RestsOn}
 
 legal : (rows : ℕ) → 0 < rows → rows ≤ 1024 → (nat_le 1 rows && nat_le rows MAX_TURN) ≡ true
 legal rows low high = ap (λ b. b && nat_le rows MAX_TURN) (le-leb 1 rows low) ∙ le-leb rows MAX_TURN high
@@ -40,6 +40,8 @@ refused_drain old new step BadLimit d plenty = d
 refused_drain old new step Broken d plenty = d
 refused_drain old new step UnknownLease d plenty = d
 refused_drain old new step Stranger d plenty = d
+refused_drain old new step HistoryFull d plenty = d
+refused_drain old new step (Foreign entries) d plenty = d
 refused_drain old new step TooManyLeases d plenty = cc
 refused_drain old new step OutOfMemory d plenty = cc
 
@@ -63,16 +65,37 @@ scarce_drain BadLimit = refl
 scarce_drain Broken = refl
 scarce_drain UnknownLease = refl
 scarce_drain Stranger = refl
+scarce_drain HistoryFull = refl
+scarce_drain (Foreign entries) = refl
 scarce_drain TooManyLeases = refl
 scarce_drain OutOfMemory = refl
 
-pub drained : (old new : World) (rows : ℕ) → 0 < rows → rows ≤ 1024 → (result : Result ⊤ Fault) → Drains old (drain_step old rows) result new
+drained : (old new : World) (rows : ℕ) → 0 < rows → rows ≤ 1024 → (result : Result ⊤ Fault) → Drains old (drain_step old rows) result new
     → Replies old (Ok drain) (done_of result) new
 drained old new rows low high (Ok a) d plenty = ap done_step (sym (same_drain old rows low high) ∙ d)
 drained old new rows low high (Err fault) d plenty =
     ap done_step (sym (same_drain old rows low high) ∙ refused_drain old new (drain_step old rows) fault d (sym (scarce_drain fault) ∙ plenty))
 
 -- a drain whose reply says nothing scarce
-pub drained_plenty : (result : Result ⊤ Fault) → is_scarce_reply (Ok drain) (done_of result) ≡ false → IsPlenty result
+drained_plenty : (result : Result ⊤ Fault) → is_scarce_reply (Ok drain) (done_of result) ≡ false → IsPlenty result
 drained_plenty (Ok a) plenty = tt
 drained_plenty (Err fault) plenty = sym (scarce_drain fault) ∙ plenty
+
+-- a reply that says of a drain's result that it is this fault
+told_fault : (result : Result ⊤ Fault) (fault : Fault) → done_of result ≡ refused fault → result ≡ Err fault
+told_fault (Ok a) fault e = cc
+told_fault (Err f) fault e = cc
+
+-- what a drain that is told as it ended is answered
+pub drain_replies : (old new : World) (rows : ℕ) (result : Result ⊤ Fault) (answer : Answer) → 0 < rows × rows ≤ 1024
+    → answer ≡ done_of result → Drains old (drain_step old rows) result new → Replies old (Ok drain) answer new
+drain_replies old new rows result answer range is d =
+    subst (λ a. Replies old (Ok drain) a new) (sym is) (drained old new rows range.0 range.1 result d)
+
+pub drain_rests : {E : Type 0} (has_numbers : E → Type 0) (new : E) (result : Result ⊤ Fault) (answer : Answer)
+    → answer ≡ done_of result → (result ≡ Err TooManyLeases → ¬ has_numbers new) → RestsOn (HasRunOut has_numbers) (Ok drain) answer
+drain_rests has_numbers new result answer is wants same told = (new, wants (told_fault result TooManyLeases (sym is ∙ told)))
+
+pub drain_leaves_whole : (W : Type 0) (result : Result ⊤ Fault) (answer : Answer) → answer ≡ done_of result
+    → (IsPlenty result → W) → is_scarce_reply (Ok drain) answer ≡ false → W
+drain_leaves_whole W result answer is keeps plenty = keeps (drained_plenty result (ap (is_scarce_reply (Ok drain)) (sym is) ∙ plenty))

@@ -68,48 +68,58 @@ is_scarce_reply request (unread OutOfMemory) = true
 is_scarce_reply (Ok drain) (refused TooManyLeases) = true
 is_scarce_reply request answer = false
 
+-- There is an engine that has no numbers for turns left.
+abbrev pub HasRunOut : {E : Type 0} → (E → Type 0) → Type 0
+HasRunOut {E = E} has_numbers = (engine : E) × (¬ has_numbers engine)
+
+-- Where the reply to a drain says that numbers for turns were wanted, they were.
+abbrev pub RestsOn : Type 0 → Result Call WireFault → Answer → Type 0
+RestsOn wanted request answer = request ≡ Ok drain → answer ≡ refused TooManyLeases → wanted
+
 -- The reply and the world after it are the defined ones, unless the reply says that something was scarce.
 abbrev pub Replies : World → Result Call WireFault → Answer → World → Type 0
 Replies old request answer new = is_scarce_reply request answer ≡ false → served old request ≡ (answer, new)
 
--- The text begins with a reply to this request that says that memory, or numbers for a drain's turns, were scarce.
-abbrev pub BeginsScarce : Result Call WireFault → List ℕ → Type 0
-BeginsScarce request written =
-    (answer : Answer) × (rest : List ℕ) × (is_scarce_reply request answer ≡ true) × (written ≡ line_of answer ++ rest)
+-- The text begins with a reply to this request that says that memory, or numbers for a drain's turns, were scarce; numbers
+-- only where there are none.
+abbrev pub BeginsScarce : Type 0 → Result Call WireFault → List ℕ → Type 0
+BeginsScarce wanted request written =
+    (answer : Answer) × (rest : List ℕ) × (is_scarce_reply request answer ≡ true) × RestsOn wanted request answer
+    × (written ≡ line_of answer ++ rest)
 
 -- The text written in answer to these requests is these lines, one a request, up to one that says that memory, or numbers
 -- for a drain's turns, were scarce.
-abbrev pub Says : List (Result Call WireFault) → List (List ℕ) → List ℕ → Type 0
-Says [] [] written = written ≡ []
-Says (request ∷ requests) (line ∷ lines) written =
-    ((rest : List ℕ) × (written ≡ line ++ rest) × Says requests lines rest) ⊎ BeginsScarce request written
-Says requests lines written = ⊥
+abbrev pub Says : Type 0 → List (Result Call WireFault) → List (List ℕ) → List ℕ → Type 0
+Says wanted [] [] written = written ≡ []
+Says wanted (request ∷ requests) (line ∷ lines) written =
+    ((rest : List ℕ) × (written ≡ line ++ rest) × Says wanted requests lines rest) ⊎ BeginsScarce wanted request written
+Says wanted requests lines written = ⊥
 
 -- The written text begins as such a text.
-abbrev pub Begins : List (Result Call WireFault) → List (List ℕ) → List ℕ → Type 0
-Begins requests lines written = (more : List ℕ) × Says requests lines (written ++ more)
+abbrev pub Begins : Type 0 → List (Result Call WireFault) → List (List ℕ) → List ℕ → Type 0
+Begins wanted requests lines written = (more : List ℕ) × Says wanted requests lines (written ++ more)
 
 -- From the world `first` on these requests were answered by the written text, and this is the world after them; up to a
 -- reply that says that memory, or numbers for a drain's turns, were scarce.
-abbrev pub Runs : World → List (Result Call WireFault) → List ℕ → World → Type 0
-Runs first [] written now = (written ≡ []) × (now ≡ first)
-Runs first (request ∷ more) written now =
-    ((rest : List ℕ) × (written ≡ line_of (served first request).0 ++ rest) × Runs (served first request).1 more rest now)
-    ⊎ BeginsScarce request written
+abbrev pub Runs : Type 0 → World → List (Result Call WireFault) → List ℕ → World → Type 0
+Runs wanted first [] written now = (written ≡ []) × (now ≡ first)
+Runs wanted first (request ∷ more) written now =
+    ((rest : List ℕ) × (written ≡ line_of (served first request).0 ++ rest) × Runs wanted (served first request).1 more rest now)
+    ⊎ BeginsScarce wanted request written
 
 -- The first of these requests were carried out, and stand: the written text begins what they are answered.
-abbrev pub Stands : World → List (Result Call WireFault) → List ℕ → World → Type 0
-Stands first requests written now =
+abbrev pub Stands : Type 0 → World → List (Result Call WireFault) → List ℕ → World → Type 0
+Stands wanted first requests written now =
     (carried : List (Result Call WireFault)) × (rest : List (Result Call WireFault)) × (more : List ℕ)
-    × (requests ≡ carried ++ rest) × Runs first carried (written ++ more) now
+    × (requests ≡ carried ++ rest) × Runs wanted first carried (written ++ more) now
 
 -- Of the lines written in answer to these requests, one a request, one says that memory, or numbers for a drain's turns, were
 -- scarce.
-abbrev pub TellsScarcity : List (Result Call WireFault) → List ℕ → Type 0
-TellsScarcity [] written = ⊥
-TellsScarcity (request ∷ more) written =
-    BeginsScarce request written
-    ⊎ ((answer : Answer) × (rest : List ℕ) × (written ≡ line_of answer ++ rest) × TellsScarcity more rest)
+abbrev pub TellsScarcity : Type 0 → List (Result Call WireFault) → List ℕ → Type 0
+TellsScarcity wanted [] written = ⊥
+TellsScarcity wanted (request ∷ more) written =
+    BeginsScarce wanted request written
+    ⊎ ((answer : Answer) × (rest : List ℕ) × (written ≡ line_of answer ++ rest) × TellsScarcity wanted more rest)
 
 -- What a sink took is a text that P holds of, where source and sink tell their bytes.
 abbrev pub Scripts : (List ℕ → List ℕ → Type 0) → Option (List ℕ) → Option (List ℕ) → Option (List ℕ) → Type 0

@@ -1,10 +1,10 @@
 //! Scripts of requests.
 ghost use Rattle.std.specs.Prelude.{◌≡◌, ◌<◌, ◌≤◌, ℕ, List, Result, Ok, IfErr, OnOk, OnErr, false, ◌⊎◌};
 ghost use Rattle.wire.specs.Devices.{Puts, Rises};
-ghost use Rattle.wire.specs.Calls.{Call, append, heartbeat, take_rows, discard, show_plan, call_of};
+ghost use Rattle.wire.specs.Calls.{Call, append, heartbeat, drain, take_rows, discard, show_plan, call_of};
 ghost use Rattle.wire.specs.Printed.{Answer, answer_of, line_of};
 ghost use Rattle.wire.specs.Requests.{Reads, requests_of};
-ghost use Rattle.wire.specs.Script.{answered, done_of, is_scarce_reply, script, Says, Begins, Runs, Scripts, Stands, TellsScarcity, Replies, served};
+ghost use Rattle.wire.specs.Script.{answered, done_of, is_scarce_reply, script, Says, Begins, Runs, Scripts, Stands, TellsScarcity, HasRunOut, RestsOn, Replies, served};
 ghost use Rattle.wire.specs.declared.request.WireFault.{WireFault};
 
 use crate::device::{Sink, Source};
@@ -46,6 +46,17 @@ fn heartbeat<E: Answering>(engine: &mut E, stream: &str, at: i64) -> Reply
     }
 }
 
+// By turns of at most so many rows.
+#[tactic(auto, using(crate::proofs::Turns::drain_replies, crate::proofs::Turns::drain_rests, crate::proofs::Turns::drain_leaves_whole))]
+fn drain<E: Answering>(engine: &mut E, rows: u32) -> Reply
+    requires rows { 0 < rows × rows ≤ 1024 }
+    ensures replies { E.is_whole engine.old → Replies (E.world engine.old) (Ok drain) (answer_of result) (E.world engine.new) }
+    ensures rests { E.is_whole engine.old → RestsOn (HasRunOut E.has_numbers) (Ok drain) (answer_of result) }
+    ensures whole { E.is_whole engine.old → is_scarce_reply (Ok drain) (answer_of result) ≡ false → E.is_whole engine.new }
+{
+    done(engine.drain(rows))
+}
+
 fn take<E: Answering>(engine: &mut E, query: &str, limit: i64) -> Reply
     ensures replies { E.is_whole engine.old → Replies (E.world engine.old) (Ok (take_rows query.now limit)) (answer_of result) (E.world engine.new) }
     ensures whole { E.is_whole engine.old → E.is_whole engine.new }
@@ -85,6 +96,7 @@ fn show_plan<E: Answering>(engine: &E, query: &str) -> Reply
 fn answer<E: Answering>(engine: &mut E, request: &Request, rows: u32) -> Reply
     requires rows { 0 < rows × rows ≤ 1024 }
     ensures replies { E.is_whole engine.old → Replies (E.world engine.old) (Ok (call_of request.now)) (answer_of result) (E.world engine.new) }
+    ensures rests { E.is_whole engine.old → RestsOn (HasRunOut E.has_numbers) (Ok (call_of request.now)) (answer_of result) }
     ensures whole { E.is_whole engine.old → is_scarce_reply (Ok (call_of request.now)) (answer_of result) ≡ false → E.is_whole engine.new }
 {
     match request {
@@ -98,7 +110,7 @@ fn answer<E: Answering>(engine: &mut E, request: &Request, rows: u32) -> Reply
         }
         Request::Append { stream, rows: more } => append(engine, stream.as_str(), more),
         Request::Heartbeat { stream, at } => heartbeat(engine, stream.as_str(), *at),
-        Request::Drain => done(engine.drain(rows)),
+        Request::Drain => drain(engine, rows),
         Request::Take { query, limit } => take(engine, query.as_str(), *limit),
         Request::Drop { query } => discard(engine, query.as_str()),
         Request::Plan { query } => show_plan(engine, query.as_str()),
@@ -110,6 +122,8 @@ fn serve<E: Answering>(engine: &mut E, read: Result<Request, WireFault>, rows: u
     requires rows { 0 < rows × rows ≤ 1024 }
     ensures serves { E.is_whole engine.old → (defined : Result Call WireFault) → Reads defined read
         → Replies (E.world engine.old) defined (answer_of result) (E.world engine.new) }
+    ensures rests { E.is_whole engine.old → (defined : Result Call WireFault) → Reads defined read
+        → RestsOn (HasRunOut E.has_numbers) defined (answer_of result) }
     ensures whole { E.is_whole engine.old → (defined : Result Call WireFault) → Reads defined read
         → is_scarce_reply defined (answer_of result) ≡ false → E.is_whole engine.new }
 {
@@ -129,6 +143,7 @@ fn respond<K: Sink, E: Answering>(
     requires rows { 0 < rows × rows ≤ 1024 }
     ensures written { (answer : Answer)
         × (E.is_whole engine.old → (defined : Result Call WireFault) → Reads defined read → Replies (E.world engine.old) defined answer (E.world engine.new))
+        × (E.is_whole engine.old → (defined : Result Call WireFault) → Reads defined read → RestsOn (HasRunOut E.has_numbers) defined answer)
         × (E.is_whole engine.old → (defined : Result Call WireFault) → Reads defined read → is_scarce_reply defined answer ≡ false → E.is_whole engine.new)
         × Puts (K.taken sink.old) (K.taken sink.new) (K.failures sink.old) (K.failures sink.new) result (line_of answer) }
     ensures fault { IfErr result (λ e. e ≡ ScriptFault.Write) }
@@ -140,8 +155,9 @@ fn respond<K: Sink, E: Answering>(
 /// Answers each request of the source by one line, up to the end of the source. A drain's turns have at most `rows` rows,
 /// 1 to 1,024, which changes no reply. At the start the engine has to be whole.
 ///
-/// What is written is the script's text of what the source gave, up to the first reply that says want of memory, or, to a
-/// drain, of numbers for turns, from which on it rests with the engine. Where no reply says so, the engine is whole at the end.
+/// What is written is the script's text of what the source gave, up to the first reply that says want of
+/// memory, or, to a drain, of numbers for turns, from which on it rests with the engine. Want of numbers is
+/// told only where the engine has none. Where no reply says so, the engine is whole at the end.
 /// `ScriptFault::Read` and `ScriptFault::Write` where that device failed: then what is written is a beginning of that text, and
 /// the calls carried out stand: the engine is as they left it. `ScriptFault::Memory` where the line's buffers were refused,
 /// before anything was read: all is as it was.
@@ -154,15 +170,15 @@ pub fn run_script<S: Source, K: Sink, E: Answering>(
 ) -> Result<(), ScriptFault>
     requires rows { 0 < rows × rows ≤ 1024 }
     requires whole { E.is_whole engine.old }
-    ensures text { OnOk result (Scripts (λ text written. Says (requests_of text) (script (E.world engine.old) text) written)
+    ensures text { OnOk result (Scripts (λ text written. Says (HasRunOut E.has_numbers) (requests_of text) (script (E.world engine.old) text) written)
         (S.left source.old) (K.taken sink.old) (K.taken sink.new)) }
-    ensures begun { OnErr result (Scripts (λ text written. Begins (requests_of text) (script (E.world engine.old) text) written)
+    ensures begun { OnErr result (Scripts (λ text written. Begins (HasRunOut E.has_numbers) (requests_of text) (script (E.world engine.old) text) written)
         (S.left source.old) (K.taken sink.old) (K.taken sink.new)) }
-    ensures ran { OnOk result (Scripts (λ text written. Runs (E.world engine.old) (requests_of text) written (E.world engine.new))
+    ensures ran { OnOk result (Scripts (λ text written. Runs (HasRunOut E.has_numbers) (E.world engine.old) (requests_of text) written (E.world engine.new))
         (S.left source.old) (K.taken sink.old) (K.taken sink.new)) }
-    ensures stands { OnErr result (Scripts (λ text written. Stands (E.world engine.old) (requests_of text) written (E.world engine.new))
+    ensures stands { OnErr result (Scripts (λ text written. Stands (HasRunOut E.has_numbers) (E.world engine.old) (requests_of text) written (E.world engine.new))
         (S.left source.old) (K.taken sink.old) (K.taken sink.new)) }
-    ensures kept { OnOk result (Scripts (λ text written. E.is_whole engine.new ⊎ TellsScarcity (requests_of text) written)
+    ensures kept { OnOk result (Scripts (λ text written. E.is_whole engine.new ⊎ TellsScarcity (HasRunOut E.has_numbers) (requests_of text) written)
         (S.left source.old) (K.taken sink.old) (K.taken sink.new)) }
     ensures read { IfErr result (λ e. e ≡ ScriptFault.Read
         → Rises (S.failures source.old) (S.failures source.new) × (K.failures sink.new ≡ K.failures sink.old)) }

@@ -5,7 +5,7 @@ ghost use Rattle.plan.specs.Chart.{given_by};
 ghost use Rattle.reference.specs.CallViews.{handed_of, texts_of};
 ghost use Rattle.reference.specs.Machine.{Registered};
 ghost use Rattle.reference.specs.World.{Does, Drains, IsPlenty, append_step, declare_step, drain_step, drop_step, heartbeat_step, register_step, take_step};
-ghost use Rattle.reference.specs.declared.fault.Fault.TheVariants.{OutOfMemory};
+ghost use Rattle.reference.specs.declared.fault.Fault.TheVariants.{OutOfMemory, TooManyLeases};
 ghost use Rattle.stream_store.specs.Closing.{QueuesGain};
 ghost use Rattle.laws_queries.specs.Queries.{PlainQuery};
 ghost use Rattle.run_queue.specs.Slots.{first_of};
@@ -16,7 +16,7 @@ ghost use Rattle.leases.specs.Queues.{LeavesQueues, LengthensQueues};
 ghost use Rattle.leases.specs.Registering.{IsRegistered};
 ghost use Rattle.leases.specs.Shown.{engine_in, world_in};
 ghost use Rattle.leases.specs.Takes.{Takes};
-ghost use Rattle.leases.specs.Whole.{IsWhole};
+ghost use Rattle.leases.specs.Whole.{HasNumbers, IsWhole};
 
 use crate::engine::Engine;
 use envelope::Slope;
@@ -28,6 +28,8 @@ impl Answering for Engine {
     ghost world = { world_in };
 
     ghost is_whole = { IsWhole };
+
+    ghost has_numbers = { HasNumbers };
 
     fn stream(&mut self, name: &str, columns: &[String], from: i64) -> Result<u64, Fault>
         ensures does { Does (λ (n : ℕ). n) (world_in self.old) (declare_step (world_in self.old) name.now (texts_of columns.now) from) result (world_in self.new) }
@@ -76,6 +78,7 @@ impl Answering for Engine {
     fn drain(&mut self, rows: u32) -> Result<(), Fault>
         ensures does { IsWhole self.old → Drains (world_in self.old) (drain_step (world_in self.old) rows) result (world_in self.new) }
         ensures whole { IsWhole self.old → IsPlenty result → IsWhole self.new }
+        ensures numbers { IsWhole self.old → result ≡ Err TooManyLeases → ¬ HasNumbers self.new }
         ensures stays_whole { IsWhole self.old → result ≢ Err OutOfMemory → IsWhole self.new }
         ensures runs { RunsTurns (engine_in self.old) rows result (engine_in self.new) }
         ensures others { LeavesOthers (engine_in self.old) result (engine_in self.new) }

@@ -17,6 +17,8 @@ impl Answering for Plain {
 
     ghost is_whole = { λ _. ⊤ };
 
+    ghost has_numbers = { λ _. ⊤ };
+
     #[tactic(auto, unfolding(crate::specs::World::declare_step))]
     fn stream(&mut self, name: &str, columns: &[String], from: i64) -> Result<u64, Fault> {
         match self.declare_fault(name, columns, from) {

@@ -5,7 +5,7 @@ use Rattle.programs.proofs.body.run_over.Goals as goal
 pub returns-in-Err-clause-answers : goal.returns-in-Err-clause-answers
 returns-in-Err-clause-answers g c runs =
     let lacks = c.refuse.ensures.lacks (lacks_memory _ c.in-Err.error c.in-Err.ensures.refusals runs) in
-    answers_nothing (g.N.Answering.world c.args.engine.now) c.refuse.result (g.I.Source.left c.args.source.now) (g.O.Sink.taken c.args.sink.now) (g.O.Sink.taken c.refuse.new.sink) lacks (ap g.O.Sink.taken (c.refuse.ensures.memory lacks).0)
+    answers_nothing _ (g.N.Answering.world c.args.engine.now) c.refuse.result (g.I.Source.left c.args.source.now) (g.O.Sink.taken c.args.sink.now) (g.O.Sink.taken c.refuse.new.sink) lacks (ap g.O.Sink.taken (c.refuse.ensures.memory lacks).0)
 
 pub returns-in-Err-clause-wrong : goal.returns-in-Err-clause-wrong
 returns-in-Err-clause-wrong g c wrong =
@@ -21,4 +21,4 @@ returns-in-Err-clause-help g c is =
 pub returns-in-Err-clause-leads : goal.returns-in-Err-clause-leads
 returns-in-Err-clause-leads g c runs =
     let lacks = c.refuse.ensures.lacks (lacks_memory _ c.in-Err.error c.in-Err.ensures.refusals runs) in
-    rw (ap g.O.Sink.taken (c.refuse.ensures.memory lacks).0) (leads_nowhere (g.N.Answering.world c.args.engine.now) c.refuse.result (g.I.Source.left c.args.source.now) (g.O.Sink.taken c.args.sink.now) lacks)
+    rw (ap g.O.Sink.taken (c.refuse.ensures.memory lacks).0) (leads_nowhere _ (g.N.Answering.world c.args.engine.now) c.refuse.result (g.I.Source.left c.args.source.now) (g.O.Sink.taken c.args.sink.now) lacks)

@@ -1,5 +1,5 @@
 use Rattle.std.proofs.Common.{◌≡◌, refl, rules}
-use Rattle.stream_store.specs.OpenRows.{first_below, has_rows}
+use Rattle.stream_store.specs.LateRows.{first_below, has_rows}
 use Rattle.stream_store.proofs.KeyLemmas.{changed_from_retain_pairs}
 use Rattle.stream_store.proofs.late.forget_from.Goals as goal
 

@@ -6,7 +6,7 @@ use Rattle.std.proofs.lemmas.Map.Steps.{set_value_same}
 use Rattle.std.proofs.lemmas.Result.{on_err_weaker, on_ok_weaker}
 use Rattle.reference.specs.Views.{pairs_of}
 use Rattle.stream_store.specs.Open.{Entry, HaveWidth}
-use Rattle.stream_store.specs.OpenRows.{RowsAt, with_rows}
+use Rattle.stream_store.specs.LateRows.{RowsAt, with_rows}
 use Rattle.stream_store.proofs.KeyLemmas.{wide_found, put_rows-found, put_rows-absent}
 use Rattle.stream_store.proofs.late.put.Goals as goal
 

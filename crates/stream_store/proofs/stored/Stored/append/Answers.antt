@@ -29,7 +29,7 @@ put_all-requires-clause-room c =
     let same : pairs_of c.deref.result.now ≡ kept_of rows = ap (λ (xs : List (ℕ × Kept)). pairs_of xs) c.deref.ensures.value ∙ c.copy_to.ensures ∙ ap (λ (xs : List (ℕ × Kept)). pairs_of xs ++ kept_of rows) c.in_ok-kept.ensures.items in
     let long = kept-arrivals c.deref.result.now [] rows same in
     let accepted = subst (λ (s : Stream). first_of (append_tests s rows) ≡ None) (sym c.self.view_is) c.requires in
-    omega (arith, long, rows_room (name_of s.name) s.columns.items s.arrivals s.log s.waiting.rows rows accepted)
+    omega (arith, long, rows_room (name_of s.name) s.columns.items s.arrivals s.log s.open_rows.rows rows accepted)
 
 pub put_all-requires-clause-rows : goal.put_all-requires-clause-rows
 put_all-requires-clause-rows c =
@@ -37,7 +37,7 @@ put_all-requires-clause-rows c =
     let rows = c.args.rows.now in
     let same : pairs_of c.deref.result.now ≡ kept_of rows = ap (λ (xs : List (ℕ × Kept)). pairs_of xs) c.deref.ensures.value ∙ c.copy_to.ensures ∙ ap (λ (xs : List (ℕ × Kept)). pairs_of xs ++ kept_of rows) c.in_ok-kept.ensures.items in
     let accepted = subst (λ (s : Stream). first_of (append_tests s rows) ≡ None) (sym c.self.view_is) c.requires in
-    let wide = rows_wide (name_of s.name) s.columns.items s.arrivals s.log s.waiting.rows rows accepted in
+    let wide = rows_wide (name_of s.name) s.columns.items s.arrivals s.log s.open_rows.rows rows accepted in
     subst (λ (k : ℕ). HaveWidth k (pairs_of c.deref.result.now)) (sym c.self.invariant.1)
     (subst (λ (new : List (ℕ × Row)). HaveWidth (length s.columns.items) new) (sym same) wide)
 
@@ -45,7 +45,7 @@ pub invariant_of-self-2 : goal.invariant_of-self-2
 invariant_of-self-2 c =
     let s = c.self.inside in
     let rows = c.args.rows.now in
-    let old = s.waiting.rows in
+    let old = s.open_rows.rows in
     let same : pairs_of c.deref.result.now ≡ kept_of rows = ap (λ (xs : List (ℕ × Kept)). pairs_of xs) c.deref.ensures.value ∙ c.copy_to.ensures ∙ ap (λ (xs : List (ℕ × Kept)). pairs_of xs ++ kept_of rows) c.in_ok-kept.ensures.items in
     let e = c.in_ok-put_all.ensures.ok ∙ ap (λ (new : List (ℕ × Row)). after_put s.arrivals new old) same in
     let accepted = subst (λ (s : Stream). first_of (append_tests s rows) ≡ None) (sym c.self.view_is) c.requires in
@@ -59,7 +59,7 @@ pub returns-clause-ok : goal.returns-clause-ok
 returns-clause-ok c =
     let s = c.self.inside in
     let rows = c.args.rows.now in
-    let old = s.waiting.rows in
+    let old = s.open_rows.rows in
     let same : pairs_of c.deref.result.now ≡ kept_of rows = ap (λ (xs : List (ℕ × Kept)). pairs_of xs) c.deref.ensures.value ∙ c.copy_to.ensures ∙ ap (λ (xs : List (ℕ × Kept)). pairs_of xs ++ kept_of rows) c.in_ok-kept.ensures.items in
     let e = c.in_ok-put_all.ensures.ok ∙ ap (λ (new : List (ℕ × Row)). after_put s.arrivals new old) same in
     ap (λ (es : List Element). stream_in (name_of s.name) (names_of s.columns.items) (s.arrivals + c.len-count.result) s.log es) e

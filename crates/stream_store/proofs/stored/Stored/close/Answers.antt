@@ -17,7 +17,7 @@ use Rattle.stream_store.proofs.stored.Stored.close.Goals as goal
 pub close-requires : goal.close-requires
 close-requires c =
     let s = c.self.inside in
-    let rows = s.waiting.rows in
+    let rows = s.open_rows.rows in
     let last : c.last_closed-last.result ≡ nat_abs c.args.at = c.last_closed-last.ensures.value ∙ ap nat_abs (to_z-of_z w64 c.args.at c.ranges.at) in
     let e = c.requires.closing ∙ ap (λ (s : Stream). closing_of c.args.at s) (sym c.self.view_is)
     ∙ closing_stream (name_of s.name) s.columns.items s.arrivals s.log rows c.args.at c.self.invariant.0 c.until-until.ensures.ordered c.until-until.ensures.closed
@@ -29,7 +29,7 @@ close-requires c =
 pub invariant_of-self-2 : goal.invariant_of-self-2
 invariant_of-self-2 c =
     let s = c.self.inside in
-    let rows = s.waiting.rows in
+    let rows = s.open_rows.rows in
     let m = c.last_closed-last.result in
     let last : m ≡ nat_abs c.args.at = c.last_closed-last.ensures.value ∙ ap nat_abs (to_z-of_z w64 c.args.at c.ranges.at) in
     let e = c.requires.closing ∙ ap (λ (s : Stream). closing_of c.args.at s) (sym c.self.view_is)
@@ -45,7 +45,7 @@ invariant_of-self-2 c =
 pub returns-clause-ok : goal.returns-clause-ok
 returns-clause-ok c =
     let s = c.self.inside in
-    let rows = s.waiting.rows in
+    let rows = s.open_rows.rows in
     let m = c.last_closed-last.result in
     let last : m ≡ nat_abs c.args.at = c.last_closed-last.ensures.value ∙ ap nat_abs (to_z-of_z w64 c.args.at c.ranges.at) in
     let e = c.requires.closing ∙ ap (λ (s : Stream). closing_of c.args.at s) (sym c.self.view_is)
@@ -61,7 +61,7 @@ returns-clause-ok c =
 pub returns-clause-queues : goal.returns-clause-queues
 returns-clause-queues c =
     let s = c.self.inside in
-    let rows = s.waiting.rows in
+    let rows = s.open_rows.rows in
     let m = c.last_closed-last.result in
     let last : m ≡ nat_abs c.args.at = c.last_closed-last.ensures.value ∙ ap nat_abs (to_z-of_z w64 c.args.at c.ranges.at) in
     let e = c.requires.closing ∙ ap (λ (s : Stream). closing_of c.args.at s) (sym c.self.view_is)

@@ -8,5 +8,5 @@ use Rattle.stream_store.proofs.stored.Stored.log.Goals as goal
 pub returns : goal.returns
 returns c =
     let s = c.self.inside in
-    sym (closed_stream (name_of s.name) s.columns.items s.arrivals s.log s.waiting.rows c.self.invariant.0 c.until-until.ensures.ordered c.until-until.ensures.closed)
+    sym (closed_stream (name_of s.name) s.columns.items s.arrivals s.log s.open_rows.rows c.self.invariant.0 c.until-until.ensures.ordered c.until-until.ensures.closed)
     ∙ ap (λ (s : Stream). closed_of s) c.self.view_is

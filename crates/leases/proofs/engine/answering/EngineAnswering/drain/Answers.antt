@@ -1,12 +1,14 @@
 -- Where no operator may take anything and all turns are back, all that is closed and not taken waits.
-use Rattle.std.proofs.Common.{OnOk, subst, sym}
+use Rattle.std.proofs.Common.{◌<◌, ◌≤◌, OnOk, arith, subst, sym}
 use Rattle.leases.proofs.WorldLemmas.{drains_are, drains_wait, plenty_has}
+use Rattle.leases.proofs.DrainLemmas.{wants_numbers}
 use Rattle.laws_engine.proofs.PromiseLemmas.{keeps_its_promises}
 use Rattle.laws_engine.specs.Promises.{HasAllWaiting}
 use Rattle.reference.specs.World.{Drains, drain_step}
 use Rattle.leases.specs.Shown.{world_in}
 use Rattle.leases.specs.Shown.{engine_in}
 use Rattle.leases.specs.Whole.{IsWhole}
+use Rattle.leases.specs.declared.limits.TheConstants.{LEASE_NUMBERS}
 use Rattle.leases.proofs.engine.answering.EngineAnswering.drain.Goals as goal
 
 pub returns-clause-does : goal.returns-clause-does
@@ -24,3 +26,11 @@ returns-clause-all c = drains_wait (engine_in c.drain.new.self) c.drain.result c
 
 pub returns-clause-promises : goal.returns-clause-promises
 returns-clause-promises c = keeps_its_promises _ c.drain.ensures.sound.good
+
+pub returns-clause-numbers : goal.returns-clause-numbers
+returns-clause-numbers c = λ whole is some.
+    let before : IsWhole c.self.inside.state = subst IsWhole (sym c.self.view_is) whole in
+    let all : LEASE_NUMBERS ≤ c.drain.new.self.next =
+    wants_numbers (engine_in c.self.inside.state) (engine_in c.drain.new.self) c.args.rows c.drain.result c.drain.ensures.runs c.drain.ensures.others before.returned is in
+    let left : c.drain.new.self.next < LEASE_NUMBERS = some in
+    omega (arith, all, left)

@@ -1,5 +1,0 @@
-use Rattle.stream_store.proofs.RisingLemmas.{IsReached}
-use Rattle.stream_store.proofs.rising_rows.RisingRows.place_past.Given as goal
-
-abbrev pub invariant-loop-next : goal.invariant-loop-next
-invariant-loop-next l = IsReached l.until l.place l.self.rows l.next

@@ -1,0 +1,39 @@
+-- How open rows are kept: their heads, and their values one row after another.
+use Rattle.std.specs.Prelude.{◌≡◌, ℕ, suc, ℤ, ◌*◌, ◌≤◌, ◌++◌, Option, Bool, nat_lt, List, [], ◌∷◌, length, take, drop}
+use Rattle.std.specs.List.{filter}
+use Rattle.values.specs.Row.{Row}
+
+-- the open rows of an instant: how many columns they have, and each with its number in the order of arrival
+pub record RowsAt : Type 0 where
+  pub width : ℕ
+  pub rows : List (ℕ × Row)
+
+-- each head, be it a number or more, with the values of its row
+abbrev pub rows_in : {K : Type 0} → ℕ → List K → List (Option ℤ) → List (K × Row)
+rows_in width [] values = []
+rows_in width (head ∷ heads) values = (head, take width values) ∷ rows_in width heads (drop width values)
+
+-- as many values as the rows have
+pub record IsFlat {K : Type 0} (width : ℕ) (heads : List K) (values : List (Option ℤ)) : Type 0 where
+  pub few : width ≤ 16
+  pub full : length values ≡ length heads * width
+
+-- no rows of so many columns
+abbrev pub none_at : ℕ → RowsAt
+none_at width = record { width = width; rows = [] }
+
+-- rows that came one after another, each with its number in place of its instant
+abbrev pub numbered_rows : ℕ → List (ℕ × Row) → List (ℕ × Row)
+numbered_rows n [] = []
+numbered_rows n (r ∷ rows) = (n, r.1) ∷ numbered_rows (suc n) rows
+
+-- more rows behind the others, with numbers from n on
+abbrev pub with_rows : ℕ → List (ℕ × Row) → RowsAt → RowsAt
+with_rows n rows late_rows = record { width = late_rows.width; rows = late_rows.rows ++ numbered_rows n rows }
+
+-- the first rows, as many as have numbers below n
+abbrev pub first_below : ℕ → RowsAt → RowsAt
+first_below n late_rows = record { width = late_rows.width; rows = take (length (filter (λ r. nat_lt r.0 n) late_rows.rows)) late_rows.rows }
+
+abbrev pub has_rows : RowsAt → Bool
+has_rows late_rows = nat_lt 0 (length late_rows.rows)

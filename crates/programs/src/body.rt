@@ -74,9 +74,13 @@ fn run_lines<N: Answering, I: Source, O: Sink, E: Sink>(
 ) -> u8
     requires turn { 0 < turn × turn ≤ 1024 }
     requires whole { N.is_whole engine.old }
-    ensures answers { Answers (HasRunOut N.has_numbers) (N.world engine.old) result (I.left source.old) (O.taken sink.old) (O.taken sink.new) }
-    ensures leads { Leads (HasRunOut N.has_numbers) (N.world engine.old) (N.world engine.new) result (I.left source.old) (O.taken sink.old) (O.taken sink.new) }
-    ensures kept { result ≡ 0 → Scripts (λ text written. N.is_whole engine.new ⊎ TellsScarcity (HasRunOut N.has_numbers) (requests_of text) written)
+    ensures answers { Answers (HasRunOut N.has_numbers) (N.world engine.old) result
+        (I.left source.old) (O.taken sink.old) (O.taken sink.new) }
+    ensures leads { Leads (HasRunOut N.has_numbers) (N.world engine.old) (N.world engine.new) result
+        (I.left source.old) (O.taken sink.old) (O.taken sink.new) }
+    ensures kept { result ≡ 0
+        → Scripts (λ text written. N.is_whole engine.new ⊎ TellsScarcity (HasRunOut N.has_numbers)
+        (requests_of text) written)
         (I.left source.old) (O.taken sink.old) (O.taken sink.new) }
     ensures status { (result ≡ 0) ⊎ (result ≡ 1) ⊎ (result ≡ 3) }
     ensures silent { result ≡ 0 → errors.new ≡ errors.old }
@@ -110,10 +114,14 @@ pub fn run_over<'a, S: AsStr, N: Answering, I: Source, O: Sink, E: Sink>(
 ) -> u8
     requires { N.is_whole engine.old }
     ensures answers { refusals (map S.text words.entry.now) ≡ []
-        → Answers (HasRunOut N.has_numbers) (N.world engine.old) result (I.left source.old) (O.taken sink.old) (O.taken sink.new) }
+        → Answers (HasRunOut N.has_numbers) (N.world engine.old) result (I.left source.old)
+        (O.taken sink.old) (O.taken sink.new) }
     ensures leads { refusals (map S.text words.entry.now) ≡ []
-        → Leads (HasRunOut N.has_numbers) (N.world engine.old) (N.world engine.new) result (I.left source.old) (O.taken sink.old) (O.taken sink.new) }
-    ensures kept { refusals (map S.text words.entry.now) ≡ [] → result ≡ 0 → Scripts (λ text written. N.is_whole engine.new ⊎ TellsScarcity (HasRunOut N.has_numbers) (requests_of text) written)
+        → Leads (HasRunOut N.has_numbers) (N.world engine.old) (N.world engine.new) result
+        (I.left source.old) (O.taken sink.old) (O.taken sink.new) }
+    ensures kept { refusals (map S.text words.entry.now) ≡ [] → result ≡ 0
+        → Scripts (λ text written. N.is_whole engine.new ⊎ TellsScarcity (HasRunOut N.has_numbers)
+        (requests_of text) written)
         (I.left source.old) (O.taken sink.old) (O.taken sink.new) }
     ensures status { refusals (map S.text words.entry.now) ≡ [] → (result ≡ 0) ⊎ (result ≡ 1) ⊎ (result ≡ 3) }
     ensures help { refusals (map S.text words.entry.now) ≡ ErrorKind.DisplayHelp ∷ [] → (result ≡ 0) ⊎ (result ≡ 1) ⊎ (result ≡ 3) }
@@ -144,7 +152,8 @@ fn run_made<N: Answering + Drop, I: Source, O: Sink, E: Sink>(
 ) -> u8
     requires turn { 0 < turn × turn ≤ 1024 }
     requires made { IfOk made (λ engine. N.is_whole engine × (N.world engine ≡ world.empty)) }
-    ensures answers { Answers (HasRunOut N.has_numbers) world.empty result (I.left source.old) (O.taken sink.old) (O.taken sink.new) }
+    ensures answers { Answers (HasRunOut N.has_numbers) world.empty result (I.left source.old)
+        (O.taken sink.old) (O.taken sink.new) }
     ensures status { (result ≡ 0) ⊎ (result ≡ 1) ⊎ (result ≡ 3) }
     ensures silent { result ≡ 0 → errors.new ≡ errors.old }
     ensures sound { result ≢ 1 → (I.failures source.new ≡ I.failures source.old) × (O.failures sink.new ≡ O.failures sink.old) }
@@ -170,7 +179,8 @@ pub fn run<'a, S: AsStr, I: Source, O: Sink, E: Sink>(
     errors: &mut E,
 ) -> u8
     ensures answers { refusals (map S.text words.entry.now) ≡ []
-        → Answers (HasRunOut HasNumbers) world.empty result (I.left source.old) (O.taken sink.old) (O.taken sink.new) }
+        → Answers (HasRunOut HasNumbers) world.empty result (I.left source.old) (O.taken sink.old)
+        (O.taken sink.new) }
     ensures status { refusals (map S.text words.entry.now) ≡ [] → (result ≡ 0) ⊎ (result ≡ 1) ⊎ (result ≡ 3) }
     ensures help { refusals (map S.text words.entry.now) ≡ ErrorKind.DisplayHelp ∷ [] → (result ≡ 0) ⊎ (result ≡ 1) ⊎ (result ≡ 3) }
     ensures wrong { IsWrong (refusals (map S.text words.entry.now)) → ((result ≡ 2) ⊎ (result ≡ 3)) × (sink.new ≡ sink.old) }

@@ -51,7 +51,8 @@ fn heartbeat<E: Answering>(engine: &mut E, stream: &str, at: i64) -> Reply
 fn drain<E: Answering>(engine: &mut E, rows: u32) -> Reply
     requires rows { 0 < rows × rows ≤ 1024 }
     ensures replies { E.is_whole engine.old → Replies (E.world engine.old) (Ok drain) (answer_of result) (E.world engine.new) }
-    ensures rests { E.is_whole engine.old → RestsOn (HasRunOut E.has_numbers) (Ok drain) (answer_of result) }
+    ensures rests { E.is_whole engine.old
+        → RestsOn (HasRunOut E.has_numbers) (Ok drain) (answer_of result) }
     ensures whole { E.is_whole engine.old → is_scarce_reply (Ok drain) (answer_of result) ≡ false → E.is_whole engine.new }
 {
     done(engine.drain(rows))
@@ -96,7 +97,8 @@ fn show_plan<E: Answering>(engine: &E, query: &str) -> Reply
 fn answer<E: Answering>(engine: &mut E, request: &Request, rows: u32) -> Reply
     requires rows { 0 < rows × rows ≤ 1024 }
     ensures replies { E.is_whole engine.old → Replies (E.world engine.old) (Ok (call_of request.now)) (answer_of result) (E.world engine.new) }
-    ensures rests { E.is_whole engine.old → RestsOn (HasRunOut E.has_numbers) (Ok (call_of request.now)) (answer_of result) }
+    ensures rests { E.is_whole engine.old
+        → RestsOn (HasRunOut E.has_numbers) (Ok (call_of request.now)) (answer_of result) }
     ensures whole { E.is_whole engine.old → is_scarce_reply (Ok (call_of request.now)) (answer_of result) ≡ false → E.is_whole engine.new }
 {
     match request {
@@ -143,7 +145,8 @@ fn respond<K: Sink, E: Answering>(
     requires rows { 0 < rows × rows ≤ 1024 }
     ensures written { (answer : Answer)
         × (E.is_whole engine.old → (defined : Result Call WireFault) → Reads defined read → Replies (E.world engine.old) defined answer (E.world engine.new))
-        × (E.is_whole engine.old → (defined : Result Call WireFault) → Reads defined read → RestsOn (HasRunOut E.has_numbers) defined answer)
+        × (E.is_whole engine.old → (defined : Result Call WireFault) → Reads defined read
+        → RestsOn (HasRunOut E.has_numbers) defined answer)
         × (E.is_whole engine.old → (defined : Result Call WireFault) → Reads defined read → is_scarce_reply defined answer ≡ false → E.is_whole engine.new)
         × Puts (K.taken sink.old) (K.taken sink.new) (K.failures sink.old) (K.failures sink.new) result (line_of answer) }
     ensures fault { IfErr result (λ e. e ≡ ScriptFault.Write) }
@@ -170,15 +173,20 @@ pub fn run_script<S: Source, K: Sink, E: Answering>(
 ) -> Result<(), ScriptFault>
     requires rows { 0 < rows × rows ≤ 1024 }
     requires whole { E.is_whole engine.old }
-    ensures text { OnOk result (Scripts (λ text written. Says (HasRunOut E.has_numbers) (requests_of text) (script (E.world engine.old) text) written)
+    ensures text { OnOk result (Scripts (λ text written. Says (HasRunOut E.has_numbers)
+        (requests_of text) (script (E.world engine.old) text) written)
         (S.left source.old) (K.taken sink.old) (K.taken sink.new)) }
-    ensures begun { OnErr result (Scripts (λ text written. Begins (HasRunOut E.has_numbers) (requests_of text) (script (E.world engine.old) text) written)
+    ensures begun { OnErr result (Scripts (λ text written. Begins (HasRunOut E.has_numbers)
+        (requests_of text) (script (E.world engine.old) text) written)
         (S.left source.old) (K.taken sink.old) (K.taken sink.new)) }
-    ensures ran { OnOk result (Scripts (λ text written. Runs (HasRunOut E.has_numbers) (E.world engine.old) (requests_of text) written (E.world engine.new))
+    ensures ran { OnOk result (Scripts (λ text written. Runs (HasRunOut E.has_numbers)
+        (E.world engine.old) (requests_of text) written (E.world engine.new))
         (S.left source.old) (K.taken sink.old) (K.taken sink.new)) }
-    ensures stands { OnErr result (Scripts (λ text written. Stands (HasRunOut E.has_numbers) (E.world engine.old) (requests_of text) written (E.world engine.new))
+    ensures stands { OnErr result (Scripts (λ text written. Stands (HasRunOut E.has_numbers)
+        (E.world engine.old) (requests_of text) written (E.world engine.new))
         (S.left source.old) (K.taken sink.old) (K.taken sink.new)) }
-    ensures kept { OnOk result (Scripts (λ text written. E.is_whole engine.new ⊎ TellsScarcity (HasRunOut E.has_numbers) (requests_of text) written)
+    ensures kept { OnOk result (Scripts (λ text written. E.is_whole engine.new
+        ⊎ TellsScarcity (HasRunOut E.has_numbers) (requests_of text) written)
         (S.left source.old) (K.taken sink.old) (K.taken sink.new)) }
     ensures read { IfErr result (λ e. e ≡ ScriptFault.Read
         → Rises (S.failures source.old) (S.failures source.new) × (K.failures sink.new ≡ K.failures sink.old)) }

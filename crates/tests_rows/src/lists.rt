@@ -42,7 +42,8 @@ fn first(alloc: Global, list: &ReadyList) -> Result<String, AllocError> {
     }
 }
 
-/// The queries and operators of the first slots, one after the other, where each has nothing to take once it was.
+/// The queries and operators of the first slots, one after the other, where each has nothing to
+/// take once it was.
 fn in_turn(alloc: Global, list: &mut ReadyList) -> Result<String, AllocError> {
     let mut text = String::new(alloc);
     for _ in 0..100 {

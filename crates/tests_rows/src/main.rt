@@ -1,5 +1,5 @@
-//! Answers each line of standard input by the calls that it names, and prints both: worked rows of the reader, the planner, the
-//! scheduler and the engine, of which the gate compares each byte.
+//! Answers each line of standard input by the calls that it names, and prints both: worked rows of
+//! the reader, the planner, the scheduler and the engine, of which the gate compares each byte.
 #![tactic(auto)]
 
 mod calls;

@@ -11,7 +11,7 @@ use std::alloc::{AllocError, Global};
 
 /// The streams S(a), A(k) and B(k, v).
 fn catalog(alloc: Global) -> Result<Catalog, AllocError>
-    ensures { IfOk result (λ catalog. AllByRecursion (λ stream. length stream.columns ≤ 8) catalog) }
+    ensures { IfOk result (λ c. AllByRecursion (λ s. length s.columns ≤ 8) c) }
 {
     let mut catalog = Catalog::new(alloc);
     let first = Vec::from_slice(alloc, &[Name::new(b"a")])?;
@@ -39,7 +39,8 @@ fn add_keys(text: &mut String, keys: &[NamedKey]) -> Result<(), AllocError> {
     Ok(())
 }
 
-/// The streams, their widths, the keys, and how many conditions are each source's own and how many remain.
+/// The streams, their widths, the keys, and how many conditions are each source's own and how many
+/// remain.
 fn named(alloc: Global, named: &Named) -> Result<String, AllocError> {
     let mut text = String::from_str(alloc, "streams")?;
     add_numbers(&mut text, &named.streams)?;

@@ -60,7 +60,8 @@ fn add_change(text: &mut String, change: &Change) -> Result<(), AllocError> {
     }
 }
 
-/// A turn: its number, the numbers of its query and its operator, what it takes, and behind it what it puts out.
+/// A turn: its number, the numbers of its query and its operator, what it takes, and behind it what
+/// it puts out.
 pub(crate) fn shown(alloc: Global, parts: &Parts) -> Result<String, AllocError> {
     let (query, operator) = (parts.node.query, parts.node.operator);
     let mut text = format!(in alloc; "turn {} of {query}.{operator}", parts.lease)?;

@@ -5,53 +5,17 @@ use std::alloc::{AllocError, Global};
 use std::test::Fail;
 use values::{Row, Value};
 
-/// Whether rows have another width than 2, a value or an instant out of range, or are below the first open instant 4.
-fn tests_of(rows: &NewRows) -> (bool, bool, bool, bool) {
-    (
-        rows.has_other_width(2),
-        rows.has_other_value(),
-        rows.has_other_instant(),
-        rows.has_late_row(4),
-    )
-}
-
-/// What the tests tell of a row.
-fn told_of(
-    alloc: Global,
-    instant: i64,
-    values: &[Option<i64>],
-) -> Result<(bool, bool, bool, bool), AllocError> {
-    let mut rows = NewRows::with_capacity(alloc, 1)?;
-    rows.push_row(instant, values)?;
-    Ok(tests_of(&rows))
+/// How many rows there are before and after one has come, and whether there are none.
+fn counted(alloc: Global) -> Result<[(usize, bool); 2], AllocError> {
+    let mut rows = NewRows::new(alloc);
+    let before = (rows.len(), rows.is_empty());
+    rows.push_row(3, &[Some(7), None])?;
+    Ok([before, (rows.len(), rows.is_empty())])
 }
 
 #[test]
-fn each_test_tells_of_its_own_rows(rt: HostRuntime) -> Result<(), Fail> {
-    let rows: [(i64, &[Option<i64>], (bool, bool, bool, bool)); 7] = [
-        (4, &[Some(7), None], (false, false, false, false)),
-        (
-            1_099_511_627_776,
-            &[Some(-1_099_511_627_775), None],
-            (false, false, false, false),
-        ),
-        (4, &[Some(7)], (true, false, false, false)),
-        (
-            4,
-            &[Some(1_099_511_627_776), None],
-            (false, true, false, false),
-        ),
-        (
-            1_099_511_627_777,
-            &[None, None],
-            (false, false, true, false),
-        ),
-        (3, &[None, None], (false, false, false, true)),
-        (-1, &[None, None], (false, false, true, true)),
-    ];
-    for (instant, values, wanted) in rows {
-        assert_eq!(rt; told_of(rt.alloc(), instant, values)?, wanted);
-    }
+fn rows_are_counted(rt: HostRuntime) -> Result<(), Fail> {
+    assert_eq!(rt; counted(rt.alloc())?, [(0, true), (1, false)]);
     Ok(())
 }
 

@@ -1,16 +1,13 @@
-//! Worked turns of groups, and what tells groups and their excerpts apart.
-ghost use Rattle.std.specs.Prelude.{IfOk};
-ghost use Rattle.turn.specs.Turns.{FitsGroup};
+//! What tells groups and their excerpts apart.
 
-use crate::outputs::first_is;
-use crate::turns::{node, row, run, two};
-use column::{Batch, Side, SignedRow};
+use crate::turns::{node, two};
+use column::Side;
 use group::{Group, GroupBy, work};
 use op_queue::Item as Queued;
 use std::alloc::{AllocError, Global};
 use std::test::Fail;
-use turn::{Done, Kind, Near, Outputs};
-use values::{Column, ListItem, Value};
+use turn::{Kind, Near};
+use values::{Column, ListItem};
 
 /// `Select k, ITEM From S Group By k` of the column `k`.
 fn listed(alloc: Global, column: usize, item: ListItem) -> Result<GroupBy, AllocError> {
@@ -36,48 +33,13 @@ fn filled(alloc: Global, number: i64) -> Result<Group, AllocError> {
 }
 
 /// What their tick needs of them.
-fn touched(alloc: Global, number: i64) -> Result<Near, AllocError>
-    ensures { IfOk result (λ near. FitsGroup near) }
-{
+fn touched(alloc: Global, number: i64) -> Result<Near, AllocError> {
     let group = filled(alloc, number)?;
     Ok(Near::Groups(group.near(alloc, &Queued::Tick(4))?))
 }
 
-/// The tick 4 at the groups that have taken the row 7 twice.
-fn shown(alloc: Global) -> Result<Done, AllocError> {
-    let node = node(alloc, Side::Left, Kind::Group(counted(alloc)?))?;
-    let near = touched(alloc, 7)?;
-    run(alloc, node, Queued::Tick(4), near)
-}
-
-/// The row of the key 7 with two rows counted.
-fn two_sevens(alloc: Global) -> Result<Batch, AllocError> {
-    let mut row = row(7);
-    row.push(Value::clamped(2));
-    Batch::from_rows(alloc, &[SignedRow { enters: true, row }])
-}
-
-/// Whether these are that row, and the tick behind it.
-fn are_told(items: &[Queued], wanted: &Queued) -> bool {
-    items.len() == 2 && first_is(items, wanted) && matches!(items.last(), Some(Queued::Tick(4)))
-}
-
-fn count_is_told(alloc: Global) -> Result<bool, AllocError> {
-    let wanted = Queued::Rows(4, two_sevens(alloc)?);
-    let done = shown(alloc)?;
-    match &done.parts().outputs {
-        Outputs::Items(items) => Ok(are_told(items, &wanted)),
-        Outputs::Answers(_) => Ok(false),
-    }
-}
-
-#[test]
-fn a_group_is_shown_at_the_tick(rt: HostRuntime) -> Result<(), Fail> {
-    assert!(rt; count_is_told(rt.alloc())?);
-    Ok(())
-}
-
-/// Whether the node that counts by the first column is the same as one by this column with this item.
+/// Whether the node that counts by the first column is the same as one by this column with this
+/// item.
 fn is_same_group(alloc: Global, column: usize, item: ListItem) -> Result<bool, AllocError> {
     let counted = node(alloc, Side::Left, Kind::Group(counted(alloc)?))?;
     let other = node(alloc, Side::Left, Kind::Group(listed(alloc, column, item)?))?;

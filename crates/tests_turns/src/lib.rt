@@ -1,13 +1,11 @@
-//! Worked turns, as tests: turns of every operator, and what tells turns apart.
+//! A turn that crosses threads, and what tells turns apart, as tests. What turns put out is rows of
+//! `tests_rows`.
 //!
-//! They stand in a crate of their own because a crate's tests are proved with all of the crate once more.
+//! They stand in a crate of their own because a crate's tests are proved with all of the crate once
+//! more.
 #![tactic(auto)]
 
 #[cfg(test)]
 mod groups;
-#[cfg(test)]
-mod joins;
-#[cfg(test)]
-mod outputs;
 #[cfg(test)]
 mod turns;

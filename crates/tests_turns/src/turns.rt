@@ -1,21 +1,17 @@
-//! Worked turns, and what tells them apart.
+//! A turn that is run in another thread, and what tells turns apart.
 ghost use Rattle.std.specs.Prelude.{◌≡◌, ◌≤◌, IfOk, length};
 ghost use Rattle.column.specs.Rows.{width};
 ghost use Rattle.turn.specs.Turns.{Fits};
 
 use column::{Batch, Side, SignedRow};
-use join::Join;
 use op_queue::Item;
 use std::alloc::{AllocError, Global};
 use std::sync::Arc;
 use std::test::Fail;
-use turn::{
-    Change, ColumnList, Done, Kind, MetRows, Near, Node, Outputs, RowList, Turn, same_item,
-};
+use turn::{ColumnList, Done, Kind, Near, Node, RowList, Turn, same_item};
 use values::{Row, Value};
-use windows::RangeWindow;
 
-pub(crate) fn row(number: i64) -> Row
+fn row(number: i64) -> Row
     ensures { length result.items ≡ 1 }
 {
     let mut row = Row::new();
@@ -23,7 +19,7 @@ pub(crate) fn row(number: i64) -> Row
     row
 }
 
-pub(crate) fn entering(number: i64) -> SignedRow
+fn entering(number: i64) -> SignedRow
     ensures { length result.row.items ≡ 1 }
 {
     SignedRow {
@@ -64,7 +60,7 @@ fn sent<T: Send>(value: T) -> T
 }
 
 /// The turn of the lease 9, run as if in another thread.
-pub(crate) fn run(alloc: Global, node: Node, item: Item, near: Near) -> Result<Done, AllocError>
+fn run(alloc: Global, node: Node, item: Item, near: Near) -> Result<Done, AllocError>
     requires { Fits node item near }
 {
     let turn = sent(Turn {
@@ -79,70 +75,6 @@ pub(crate) fn run(alloc: Global, node: Node, item: Item, near: Near) -> Result<D
     }
 }
 
-/// How many rows and columns the first output has.
-fn first_size(done: &Done) -> Option<(usize, usize)> {
-    match &done.parts().outputs {
-        Outputs::Items(items) => match items.first() {
-            Some(Item::Rows(_, batch)) => Some((batch.len(), batch.width())),
-            _ => None,
-        },
-        Outputs::Answers(_) => None,
-    }
-}
-
-/// A window of the current instant that holds the rows 7 and 8 of the instant 1.
-fn held(alloc: Global) -> Result<RangeWindow, AllocError> {
-    let item = Item::Rows(1, two(alloc, 7, 8)?);
-    let mut window = RangeWindow::new(alloc, Some(0), 1);
-    window.apply(&item, 0)?;
-    Ok(window)
-}
-
-/// The tick 2 at that window.
-fn expired(alloc: Global) -> Result<Done, AllocError> {
-    let node = node(alloc, Side::Left, Kind::RangeWindow)?;
-    let window = held(alloc)?;
-    let tick = Item::Tick(2);
-    let rows = window.near(alloc, &tick)?;
-    run(alloc, node, tick, Near::Leaving(RowList { rows }))
-}
-
-/// The lease, the query and the operator of a turn, and whether its window drops two rows.
-fn told(done: &Done) -> (u64, u64, usize, bool) {
-    let parts = done.parts();
-    let drops_two = matches!(parts.change, Change::Leave(2));
-    (
-        parts.lease,
-        parts.node.query,
-        parts.node.operator,
-        drops_two,
-    )
-}
-
-fn size_of_expired(alloc: Global) -> Result<Option<(usize, usize)>, AllocError> {
-    let done = expired(alloc)?;
-    Ok(first_size(&done))
-}
-
-fn expired_is_told(alloc: Global) -> Result<(u64, u64, usize, bool), AllocError> {
-    let done = expired(alloc)?;
-    Ok(told(&done))
-}
-
-/// The lease that the parts of the turn have.
-fn lease_of_expired(alloc: Global) -> Result<u64, AllocError> {
-    let parts = expired(alloc)?.into_parts();
-    Ok(parts.lease)
-}
-
-#[test]
-fn rows_leave_a_window_of_instants(rt: HostRuntime) -> Result<(), Fail> {
-    assert_eq!(rt; size_of_expired(rt.alloc())?, Some((2, 1)));
-    assert_eq!(rt; expired_is_told(rt.alloc())?, (9, 2, 3, true));
-    assert_eq!(rt; lease_of_expired(rt.alloc())?, 9);
-    Ok(())
-}
-
 /// The only column of the rows 7 and 8, twice.
 fn listed(alloc: Global) -> Result<Done, AllocError> {
     let columns = Vec::from_slice(alloc, &[0usize, 0])?;
@@ -152,54 +84,30 @@ fn listed(alloc: Global) -> Result<Done, AllocError> {
     run(alloc, node, Item::Rows(4, batch), Near::Nothing)
 }
 
-/// Whether the turn is one of Project with these columns.
-fn lists(done: &Done, wanted: &[usize]) -> bool {
-    match &*done.parts().node.kind {
+/// Whether the operator is Project with these columns.
+fn lists(kind: &Kind, wanted: &[usize]) -> bool {
+    match kind {
         Kind::Project(columns) => columns.columns() == wanted,
         _ => false,
     }
 }
 
-/// The size of the first output, and whether the turn lists its column twice.
-fn listed_is_told(alloc: Global) -> Result<(Option<(usize, usize)>, bool), AllocError> {
-    let done = listed(alloc)?;
-    Ok((first_size(&done), lists(&done, &[0, 0])))
+/// The lease, the query and the operator that the parts of the turn have, and whether it lists its
+/// column twice.
+fn parts_of_listed(alloc: Global) -> Result<(u64, u64, usize, bool), AllocError> {
+    let parts = listed(alloc)?.into_parts();
+    let lists_twice = lists(&parts.node.kind, &[0, 0]);
+    Ok((
+        parts.lease,
+        parts.node.query,
+        parts.node.operator,
+        lists_twice,
+    ))
 }
 
 #[test]
-fn columns_are_listed(rt: HostRuntime) -> Result<(), Fail> {
-    assert_eq!(rt; listed_is_told(rt.alloc())?, (Some((2, 2)), true));
-    Ok(())
-}
-
-/// A join whose left side has taken the row 7 twice.
-fn joined(alloc: Global) -> Result<Join, AllocError>
-    ensures { IfOk result (λ j. j.right.width ≡ 1) }
-{
-    let item = Item::Rows(4, two(alloc, 7, 7)?);
-    let keys = Vec::from_slice(alloc, &[(0usize, 0usize)])?;
-    let mut join = Join::new(alloc, keys, 1, 1);
-    join.apply(Side::Left, &item)?;
-    Ok(join)
-}
-
-/// The rows 8 and 7 at the right side of that join.
-fn met(alloc: Global) -> Result<Done, AllocError> {
-    let node = node(alloc, Side::Right, Kind::Join)?;
-    let join = joined(alloc)?;
-    let item = Item::Rows(4, two(alloc, 8, 7)?);
-    let near = join.near(alloc, Side::Right, &item)?;
-    run(alloc, node, item, Near::Met(MetRows { near }))
-}
-
-fn size_of_met(alloc: Global) -> Result<Option<(usize, usize)>, AllocError> {
-    let done = met(alloc)?;
-    Ok(first_size(&done))
-}
-
-#[test]
-fn a_row_meets_the_rows_of_the_other_side(rt: HostRuntime) -> Result<(), Fail> {
-    assert_eq!(rt; size_of_met(rt.alloc())?, Some((2, 2)));
+fn a_turn_is_run_in_another_thread_and_handed_out(rt: HostRuntime) -> Result<(), Fail> {
+    assert_eq!(rt; parts_of_listed(rt.alloc())?, (9, 2, 3, true));
     Ok(())
 }
 

@@ -1,0 +1,113 @@
+//! Requests of clients, over any engine.
+
+use crate::turns::add_row;
+use reference::{Answering, Fault, Kind, Slope};
+use std::alloc::{AllocError, Global};
+use values::Row;
+use wire::{Request, WireFault, read_request};
+
+/// Answers, each with its instant.
+fn shown_answers(alloc: Global, answers: &[(i64, Row)]) -> Result<String, AllocError> {
+    let mut text = format!(in alloc; "{} rows", answers.len())?;
+    for (at, row) in answers {
+        write!(text, "; {at}: ")?;
+        add_row(&mut text, row.as_slice())?;
+    }
+    Ok(text)
+}
+
+/// What operators do, each with its slope.
+fn shown_operators(alloc: Global, operators: &[(Kind, Slope)]) -> Result<String, AllocError> {
+    let mut text = format!(in alloc; "{} operators", operators.len())?;
+    for (kind, slope) in operators {
+        write!(text, "; {kind} {slope}")?;
+    }
+    Ok(text)
+}
+
+/// A number by the name that has it, and where none has, the number that is written in its place.
+fn number_of(named: Option<u64>, name: &str) -> u64 {
+    match named {
+        Some(number) => number,
+        None => name.parse::<u64>().unwrap_or(u64::MAX),
+    }
+}
+
+fn done(alloc: Global) -> Result<String, Fault> {
+    Ok(String::from_str(alloc, "ok")?)
+}
+
+fn numbered(alloc: Global, number: u64) -> Result<String, Fault> {
+    Ok(format!(in alloc; "number {number}")?)
+}
+
+/// What a request about a query is answered.
+fn asked<E: Answering>(
+    alloc: Global,
+    engine: &mut E,
+    query: &str,
+    request: &Request,
+) -> Result<String, Fault> {
+    let number = number_of(engine.query_named(query), query);
+    match request {
+        Request::Take { limit, .. } => {
+            let answers = engine.take(number, *limit)?;
+            Ok(shown_answers(alloc, &answers)?)
+        }
+        Request::Plan { .. } => {
+            let operators = engine.slopes(number)?;
+            Ok(shown_operators(alloc, &operators)?)
+        }
+        _ => {
+            engine.drop_query(number)?;
+            done(alloc)
+        }
+    }
+}
+
+/// What a request is answered: the number of what is made, or what is shown.
+fn served<E: Answering>(alloc: Global, engine: &mut E, request: &Request) -> Result<String, Fault> {
+    match request {
+        Request::Stream {
+            name,
+            columns,
+            from,
+        } => numbered(alloc, engine.stream(name.as_str(), columns, *from)?),
+        Request::Query { name, text, chart } => {
+            numbered(
+                alloc,
+                engine.query(name.as_str(), text.as_str(), chart.as_ref())?,
+            )
+        }
+        Request::Append { stream, rows } => {
+            let number = number_of(engine.stream_named(stream.as_str()), stream.as_str());
+            engine.append(number, rows)?;
+            done(alloc)
+        }
+        Request::Heartbeat { stream, at } => {
+            let number = number_of(engine.stream_named(stream.as_str()), stream.as_str());
+            engine.heartbeat(number, *at)?;
+            done(alloc)
+        }
+        Request::Drain => {
+            engine.drain(1_024)?;
+            done(alloc)
+        }
+        Request::Take { query, .. } | Request::Drop { query } | Request::Plan { query } => {
+            asked(alloc, engine, query.as_str(), request)
+        }
+    }
+}
+
+/// What the request of a line is answered.
+pub(crate) fn requested<E: Answering>(
+    alloc: Global,
+    engine: &mut E,
+    line: &str,
+) -> Result<String, Fault> {
+    match read_request(alloc, line.as_bytes()) {
+        Ok(request) => served(alloc, engine, &request),
+        Err(WireFault::OutOfMemory) => Err(Fault::OutOfMemory),
+        Err(_) => Ok(String::from_str(alloc, "no request")?),
+    }
+}

@@ -1,0 +1,155 @@
+//! What the names of queries stand for, and their plans, over the streams S(a), A(k) and B(k, v).
+ghost use Rattle.std.specs.Prelude.{◌≤◌, IfOk, length};
+ghost use Rattle.std.specs.List.{AllByRecursion};
+
+use crate::texts::add_name;
+use cql_reader::{Name, read};
+use names::{Catalog, Key as NamedKey, Named, resolve};
+use plan::{Key, Node, Plan};
+use reference::{Fault, are_columns, find_plan, names_of};
+use std::alloc::{AllocError, Global};
+
+/// The streams S(a), A(k) and B(k, v).
+fn catalog(alloc: Global) -> Result<Catalog, AllocError>
+    ensures { IfOk result (λ c. AllByRecursion (λ s. length s.columns ≤ 8) c) }
+{
+    let mut catalog = Catalog::new(alloc);
+    let first = Vec::from_slice(alloc, &[Name::new(b"a")])?;
+    catalog.declare(Name::new(b"S"), first)?;
+    let second = Vec::from_slice(alloc, &[Name::new(b"k")])?;
+    catalog.declare(Name::new(b"A"), second)?;
+    let third = Vec::from_slice(alloc, &[Name::new(b"k"), Name::new(b"v")])?;
+    catalog.declare(Name::new(b"B"), third)?;
+    Ok(catalog)
+}
+
+fn add_numbers(text: &mut String, numbers: &[usize]) -> Result<(), AllocError> {
+    for number in numbers {
+        write!(text, " {number}")?;
+    }
+    Ok(())
+}
+
+/// The keys that join a source with those before it.
+fn add_keys(text: &mut String, keys: &[NamedKey]) -> Result<(), AllocError> {
+    for key in keys {
+        let (source, column) = (key.earlier.source, key.earlier.column);
+        write!(text, " {source}.{column} = {}", key.column)?;
+    }
+    Ok(())
+}
+
+/// The streams, their widths, the keys, and how many conditions are each source's own and how many
+/// remain.
+fn named(alloc: Global, named: &Named) -> Result<String, AllocError> {
+    let mut text = String::from_str(alloc, "streams")?;
+    add_numbers(&mut text, &named.streams)?;
+    text.push_str("; widths")?;
+    add_numbers(&mut text, &named.widths)?;
+    text.push_str("; keys")?;
+    for keys in &named.keys {
+        add_keys(&mut text, keys)?;
+    }
+    text.push_str("; own")?;
+    for own in &named.own {
+        write!(text, " {}", own.len())?;
+    }
+    write!(text, "; {} remain", named.rest.len())?;
+    Ok(text)
+}
+
+/// What the names of a text stand for.
+pub(crate) fn resolved(alloc: Global, text: &str) -> Result<String, AllocError> {
+    let query = match read(alloc, text.as_bytes()) {
+        Ok(query) => query,
+        Err(fault) => return format!(in alloc; "{fault}"),
+    };
+    let catalog = catalog(alloc)?;
+    match resolve(alloc, &query, &catalog) {
+        Ok(found) => named(alloc, &found),
+        Err(fault) => format!(in alloc; "{fault}"),
+    }
+}
+
+/// The numbers of the operators that an operator takes rows of.
+fn add_inputs(text: &mut String, nodes: &[Node], node: &Node) -> Result<(), AllocError> {
+    for number in 0..nodes.len() {
+        if node.takes(number) {
+            write!(text, " {number}")?;
+        }
+    }
+    Ok(())
+}
+
+fn add_joined(text: &mut String, keys: &[Key]) -> Result<(), AllocError> {
+    for key in keys {
+        write!(text, " {} = {}", key.left, key.right)?;
+    }
+    Ok(())
+}
+
+/// What an operator carries.
+fn add_carried(text: &mut String, node: &Node) -> Result<(), AllocError> {
+    match node {
+        Node::Window(source) => write!(text, " source {source}"),
+        Node::Join(_, _, keys) => add_joined(text, keys),
+        Node::Project(_, places) => add_numbers(text, places),
+        Node::ToStream(_, operator) => write!(text, " {operator:?}"),
+        _ => Ok(()),
+    }
+}
+
+/// The operators: what each does, of which it takes rows, and its cost and size.
+fn shown(alloc: Global, plan: &Plan) -> Result<String, AllocError> {
+    let mut text = format!(in alloc; "{} operators", plan.nodes.len())?;
+    for (node, measure) in plan.nodes.iter().zip(plan.measures.iter()) {
+        write!(text, "; {}", node.kind())?;
+        add_inputs(&mut text, &plan.nodes, node)?;
+        text.push_str(":")?;
+        add_carried(&mut text, node)?;
+        write!(text, " at {}:{}", measure.cost, measure.size)?;
+    }
+    Ok(text)
+}
+
+/// The plan of a text.
+pub(crate) fn planned(alloc: Global, text: &str) -> Result<String, Fault> {
+    let catalog = catalog(alloc)?;
+    let plan = find_plan(alloc, &catalog, text, None)?;
+    Ok(shown(alloc, &plan)?)
+}
+
+/// The number of the stream of a name, and how many columns it has.
+pub(crate) fn found_stream(alloc: Global, name: &str) -> Result<String, AllocError> {
+    let catalog = catalog(alloc)?;
+    let width = catalog.columns_of(name.as_bytes()).len();
+    match catalog.number_of(name.as_bytes()) {
+        Some(number) => format!(in alloc; "number {number}, {width} columns"),
+        None => format!(in alloc; "none, {width} columns"),
+    }
+}
+
+fn listed(alloc: Global, names: &[Name]) -> Result<String, AllocError> {
+    let mut text = String::new(alloc);
+    let mut between = "";
+    for name in names {
+        text.push_str(between)?;
+        add_name(&mut text, name)?;
+        between = " ";
+    }
+    Ok(text)
+}
+
+/// What is said of names in place of columns.
+pub(crate) fn named_columns(alloc: Global, rest: &str) -> Result<String, AllocError> {
+    let mut columns = Vec::new(alloc);
+    for word in rest.split_whitespace() {
+        columns.push(String::from_str(alloc, word)?)?;
+    }
+    if are_columns(&columns) {
+        let names = names_of(alloc, &columns)?;
+        listed(alloc, &names)
+    } else {
+        String::from_str(alloc, "no columns")
+    }
+}

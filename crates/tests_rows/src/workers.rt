@@ -1,0 +1,127 @@
+//! Calls of workers: turns that go out and come back.
+
+use crate::turns::shown;
+use leases::{Engine, Leased};
+use reference::{Answering, Fault};
+use std::alloc::{AllocError, Global};
+use turn::Done;
+
+fn number(word: &str) -> u64 {
+    word.parse::<u64>().unwrap_or(0)
+}
+
+fn rows(word: &str) -> u32 {
+    word.parse::<u32>().unwrap_or(0)
+}
+
+fn done(alloc: Global) -> Result<String, Fault> {
+    Ok(String::from_str(alloc, "ok")?)
+}
+
+/// What waits in each queue.
+fn shown_lengths(alloc: Global, lengths: &[u128]) -> Result<String, AllocError> {
+    let mut text = String::new(alloc);
+    let mut between = "";
+    for length in lengths {
+        write!(text, "{between}{length}")?;
+        between = " ";
+    }
+    Ok(text)
+}
+
+/// The next turn, run.
+fn next(alloc: Global, engine: &mut Engine, rows: u32) -> Result<Option<Done>, Fault> {
+    match engine.lease(rows)? {
+        Leased::Turn(turn) => match turn.run(alloc) {
+            Ok(done) => Ok(Some(done)),
+            Err(_) => Err(Fault::OutOfMemory),
+        },
+        Leased::Idle => Ok(None),
+    }
+}
+
+/// The next turn, which is run and kept.
+fn lease(
+    alloc: Global,
+    engine: &mut Engine,
+    kept: &mut Vec<Done>,
+    rows: u32,
+) -> Result<String, Fault> {
+    let Some(done) = next(alloc, engine, rows)? else {
+        return Ok(String::from_str(alloc, "idle")?);
+    };
+    let text = shown(alloc, done.parts())?;
+    kept.reserve(1)?;
+    kept.push_reserved(done);
+    Ok(text)
+}
+
+/// The oldest turn that is kept comes back, or the one so many behind it.
+fn finish(engine: &mut Engine, kept: &mut Vec<Done>, place: u64) -> Result<(), Fault> {
+    let place = place as usize;
+    if place < kept.len() {
+        return engine.finish(kept.remove(place));
+    }
+    Ok(())
+}
+
+/// Runs and finishes so many turns: the query and the operator of each.
+fn run(alloc: Global, engine: &mut Engine, count: u64) -> Result<String, Fault> {
+    let mut text = String::new(alloc);
+    let mut between = "";
+    for _ in 0..count {
+        let Some(done) = next(alloc, engine, 1_024)? else {
+            write!(text, "{between}idle")?;
+            return Ok(text);
+        };
+        let (query, operator) = (done.parts().node.query, done.parts().node.operator);
+        write!(text, "{between}{query}.{operator}")?;
+        between = " ";
+        engine.finish(done)?;
+    }
+    Ok(text)
+}
+
+/// What words of a worker are answered.
+pub(crate) fn worked(
+    alloc: Global,
+    engine: &mut Engine,
+    kept: &mut Vec<Done>,
+    line: &str,
+) -> Result<String, Fault> {
+    let words: Vec<&str> = line.split_whitespace().collect(alloc)?;
+    match words.as_slice() {
+        ["new"] => {
+            *engine = Engine::new(alloc);
+            done(alloc)
+        }
+        ["forget"] => {
+            kept.clear();
+            done(alloc)
+        }
+        ["lease", count] => lease(alloc, engine, kept, rows(count)),
+        ["run", count] => run(alloc, engine, number(count)),
+        ["finish", place] => {
+            finish(engine, kept, number(place))?;
+            done(alloc)
+        }
+        ["abandon", lease] => {
+            engine.abandon(number(lease))?;
+            done(alloc)
+        }
+        ["drain", count] => {
+            engine.drain(rows(count))?;
+            done(alloc)
+        }
+        ["pending", query] => {
+            let lengths = engine.pending(number(query))?;
+            Ok(shown_lengths(alloc, &lengths)?)
+        }
+        ["waiting", query] => {
+            let count = engine.waiting(number(query))?;
+            Ok(format!(in alloc; "{count} wait")?)
+        }
+        ["out"] => Ok(format!(in alloc; "{} are out", engine.leases_out())?),
+        _ => Ok(String::from_str(alloc, "no row")?),
+    }
+}

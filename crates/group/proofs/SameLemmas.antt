@@ -1,16 +1,13 @@
 -- What `==` says of figures and touched groups.
-use Rattle.std.proofs.Common.{◌≡◌, Bool, false, Option, Some, None, refl, ap}
-use Rattle.std.specs.Bool.{Decides, one_answer}
-use Rattle.std.specs.Option.{option_eq}
+use Rattle.std.proofs.Common.{◌≡◌, Bool, false, refl, ap}
+use Rattle.std.specs.Bool.{Decides}
 use Rattle.std.proofs.lemmas.Bool.Decides.{Decides-int_eq, Decides-and, Decides-like}
 use Rattle.std.proofs.lemmas.Slice.Eq.{slice_eq-Decides}
 use Rattle.values.proofs.Equality.{some_decides, value_decides, row_decides}
-use Rattle.group.specs.Cells.{Held}
 use Rattle.group.specs.Groups.{GroupBy}
-use Rattle.group.specs.Same.{figure_eq, held_eq, touched_eq}
-use Rattle.group.specs.Turns.{TouchedState, same_shown}
+use Rattle.group.specs.Same.{figure_eq, touched_eq}
+use Rattle.group.specs.Turns.{TouchedState}
 use Rattle.group.specs.declared.cells.Figure.{Figure}
-use Rattle.group.proofs.KeyLemmas.{same_held}
 
 pub figure_decides : (a b : Figure) → Decides (figure_eq a b) (a ≡ b)
 figure_decides a b =
@@ -24,13 +21,6 @@ touched_decides a b =
     (Decides-and _ _ (row_decides a.key b.key)
     (Decides-and _ _ (some_decides row_decides a.shown b.shown)
     (Decides-and _ _ (Decides-int_eq a.rows b.rows) (slice_eq-Decides figure_decides a.figures b.figures _ refl))))
-
--- rows that are shown are told apart as their order tells them apart
-pub shown_eq : (a b : Option Held) → option_eq held_eq a b ≡ same_shown a b
-shown_eq None None = refl
-shown_eq None (Some q) = refl
-shown_eq (Some r) None = refl
-shown_eq (Some r) (Some q) = one_answer _ _ (row_decides r q) (same_held r q)
 
 -- groups by the same columns are the same where their lists are
 pub lists_same : (g h : GroupBy) (r : Bool) → g.by ≡ h.by → Decides r (g.items ≡ h.items) → Decides r (g ≡ h)

@@ -6,7 +6,7 @@ ghost use Rattle.column.specs.Rows.{signed, IsTable};
 ghost use Rattle.op_queue.specs.Entries.{RowAt, TickAt};
 ghost use Rattle.op_queue.specs.Items.{entries_of};
 ghost use Rattle.group.specs.Cells.{held, shown_figure};
-ghost use Rattle.group.specs.Turns.{row_now, swap_of, signed_row, outputs, out, change, shown_now};
+ghost use Rattle.group.specs.Turns.{row_now, swap_of, signed_row, same_shown, outputs, out, change, shown_now};
 
 use crate::cells::Figure;
 use crate::rows::fitted;
@@ -15,7 +15,7 @@ use column::{Batch, SignedRow};
 use op_queue::Item;
 use std::alloc::{AllocError, Global};
 use std::marker::Model;
-use values::{Row, copy_row};
+use values::{Row, copy_row, same_rows};
 
 /// The most rows of a batch.
 const BATCH: usize = 1024;
@@ -161,6 +161,16 @@ impl Touched {
     }
 }
 
+fn same_shown(old: &Option<Row>, now: &Option<Row>) -> bool
+    ensures { result ≡ same_shown old.now now.now }
+{
+    match (old, now) {
+        (None, None) => true,
+        (Some(old), Some(now)) => same_rows(old, now),
+        _ => false,
+    }
+}
+
 /// Adds the row with its sign, if there is one.
 fn push_row(
     rows: &mut Vec<SignedRow>,
@@ -184,7 +194,6 @@ fn push_row(
 }
 
 /// Adds the row that was shown as one that leaves, then the other as one that enters, unless they are equal.
-#[tactic(auto, using(crate::proofs::SameLemmas::shown_eq))]
 fn push_swap(
     rows: &mut Vec<SignedRow>,
     width: usize,
@@ -194,7 +203,7 @@ fn push_swap(
     requires { width ≤ 16 }
     ensures { OnOk result (map signed rows.new.items ≡ map signed rows.old.items ++ swap_of width old.now now.now) }
 {
-    if old == now {
+    if same_shown(old, now) {
         return Ok(());
     }
     push_row(rows, width, false, old)?;

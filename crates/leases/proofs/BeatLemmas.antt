@@ -33,13 +33,12 @@ use Rattle.laws_engine.proofs.TableLemmas.{updated, updated_here, updated_number
 use Rattle.laws_engine.proofs.TakeLemmas.{equal_slots}
 use Rattle.plan.proofs.Lists.{by_test}
 use Rattle.leases.specs.Asked.{HasOperatorAt}
-use Rattle.leases.specs.Readers.{instant_in, instant_of, reader, resting_slot, resting_slots, rests, told, told_all, with_slots}
+use Rattle.leases.specs.Readers.{ListsReaders, instant_in, instant_of, reader, resting_slot, resting_slots, rests, told, told_all, with_slots}
 use Rattle.leases.specs.Shown.{engine_in, world_in}
 use Rattle.leases.specs.Sound.{IsSound}
 use Rattle.leases.specs.declared.reader.Reader.{Reader}
 use Rattle.leases.specs.declared.state.State.{State}
-use Rattle.leases.proofs.ListedLemmas.{resting_listed}
-use Rattle.leases.proofs.ReaderLemmas.{resting_rests}
+use Rattle.leases.proofs.ReaderLemmas.{reads_on, resting_rests}
 use Rattle.leases.proofs.RetoldLemmas.{same_slots}
 use Rattle.leases.proofs.StreamLemmas.{at_streams}
 
@@ -164,13 +163,13 @@ module _ (e : PlainEngine) (s : ℕ) (at : ℤ) (g : GoodEngine e) (h : IsHeartb
       let may = may_ask (beaten e s at) (heartbeat_good e s at g h) in
       (o.query, (o.kept, record { registered = o.registered; running = o.running; within = o.within; operator = may.operators x.query x.operator o.query o.kept is; log = may.logs x.query x.operator o.query o.kept is })))
 
-  module _ (lists : (n k : ℕ) → IsResting e s n k → IsIn rs (reader s n k)) where
+  module _ (lists : ListsReaders e rs) where
     waking : (n k : ℕ) → IsResting e s n k → HasOne (resting_slots e s rs) n k
     waking n k is =
         let here : slot_of e n k ≡ Some (slot_at e n is.query is.kept k) = slot_is e n k is.query is.kept is.registered is.running is.within in
         let idle : rests e n k ≡ true = resting_rests e g s n k is in (
           slot_at e n is.query is.kept k,
-          (slot_comes e s n k rs (slot_at e n is.query is.kept k) (lists n k is) idle here, (refl, refl)),
+          (slot_comes e s n k rs (slot_at e n is.query is.kept k) (lists s n k (record { query = is.query; registered = is.registered; kept = is.kept; running = is.running; within = is.within; reads = is.reads })) idle here, (refl, refl)),
         )
 
     pub all_told : told_all (closed_over e s at) (resting_slots e s rs) e.slots ≡ (beaten e s at).slots
@@ -192,15 +191,12 @@ module _ (s : State) (streams : List Stream) (n : ℕ) (at : ℤ) (h : IsSound s
       (subst (AllByRecursion (λ slot. HasOperatorAt (closed_over (engine_in s) n at) slot.query slot.operator)) (sym are) (all_asked (engine_in s) n at h.good beats s.readers.items))
 
   module _ (slots : List Slot) (are : slots ≡ resting_slots (engine_in s) n s.readers.items) (s2 : State) (tells : s2 ≡ with_slots (at_streams s streams) (told_all (engine_in (at_streams s streams)) slots s.slots)) where
-    all_listed : (m k : ℕ) → IsResting (engine_in s) n m k → IsIn s.readers.items (reader n m k)
-    all_listed m k rests = subst (λ rs. IsIn rs (reader n m k)) (sym h.readers) (resting_listed (engine_in s) h.gone n m k rests)
-
     state_is : s2 ≡ with_slots (at_streams s (change n (closed_to at) s.streams)) (beaten (engine_in s) n at).slots
     state_is =
         tells
         ∙ ap (λ z. with_slots (at_streams s z) (told_all (engine_in (at_streams s z)) slots s.slots)) closes
         ∙ ap (λ z. with_slots (at_streams s (change n (closed_to at) s.streams)) (told_all (closed_over (engine_in s) n at) z s.slots)) are
-        ∙ ap (with_slots (at_streams s (change n (closed_to at) s.streams))) (all_told (engine_in s) n at h.good beats s.readers.items all_listed)
+        ∙ ap (with_slots (at_streams s (change n (closed_to at) s.streams))) (all_told (engine_in s) n at h.good beats s.readers.items h.readers)
 
     pub beats_engine : engine_in s2 ≡ beaten (engine_in s) n at
     beats_engine = ap engine_in state_is
@@ -215,7 +211,7 @@ module _ (s : State) (streams : List Stream) (n : ℕ) (at : ℤ) (h : IsSound s
       gone = h.gone;
       columns = registrations_stand.goes_on (engine_in s).machine (Heartbeat n at) 0 beats.accepted h.columns;
       closed = few_closed_stand.goes_on (engine_in s).machine (Heartbeat n at) 0 beats.accepted h.closed;
-      readers = h.readers;
+      readers = reads_on (engine_in s) (beaten (engine_in s) n at) refl refl s.readers.items h.readers;
     })
 
     pub beats_does : heartbeat_step (world_in s) n at ≡ (Ok tt, world_in s2)

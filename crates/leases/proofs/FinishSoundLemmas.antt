@@ -26,7 +26,7 @@ use Rattle.laws_engine.proofs.BackLemmas.{kept_here, kept_there, same_plain}
 use Rattle.laws_engine.proofs.FinishLemmas.{answer_good, finish_good}
 use Rattle.laws_engine.proofs.LeaseLemmas.{break_good}
 use Rattle.leases.specs.Applied.{GivesNothing, IsApplied, IsOutIn, IsTurn}
-use Rattle.leases.specs.Readers.{readers_from}
+use Rattle.leases.specs.Readers.{ListsReaders}
 use Rattle.leases.specs.Shown.{engine_in}
 use Rattle.laws_engine_bounds.specs.Bounds.{HaveFewClosed}
 use Rattle.leases.specs.Sound.{IsSound, is_gone}
@@ -42,6 +42,7 @@ record StaysBut (old new : PlainEngine) : Type 0 where
   pub next : new.next ≡ old.next
   pub few : length new.leases ≤ length old.leases
   pub gone : map is_gone new.queries ≡ map is_gone old.queries
+  pub ran : (n : ℕ) (p : PlainQuery) → kept_at new n ≡ Running p → (p0 : PlainQuery) × (kept_at old n ≡ Running p0)
 
 sound_from : (old new : State) → IsSound old → GivesNothing old new → GoodEngine (engine_in new) → StaysBut (engine_in old) (engine_in new) → ((g : Given) → IsIn old.leases.items g → HasKind (engine_in new) g) → IsSound new
 sound_from old new s r good st kinds = record {
@@ -56,7 +57,9 @@ sound_from old new s r good st kinds = record {
   gone = ap (λ m. map (λ (q : Registered). q.is_dropped) m.queries) st.machine ∙ s.gone ∙ sym st.gone;
   columns = subst HaveColumnNames (sym st.machine) s.columns;
   closed = subst HaveFewClosed (sym st.machine) s.closed;
-  readers = r.readers ∙ s.readers ∙ ap (λ m. readers_from 0 m.queries) (sym st.machine);
+  readers = subst (ListsReaders (engine_in new)) (sym r.readers) (λ i n k is.
+      let before = st.ran n is.kept is.running in
+      s.readers i n k (record { query = is.query; registered = ap (λ m. slice_get m.queries n) (sym st.machine) ∙ is.registered; kept = before.0; running = before.1; within = is.within; reads = is.reads }));
 }
 
 -- KINDS stay
@@ -86,6 +89,12 @@ module _ (old new : State) (ls : List Lease) (slots : List Slot) (d : Parts) (q 
   running_gone : is_gone (kept_at e d.node.query) ≡ false
   running_gone = ap is_gone out.of.running
 
+  -- a query that runs ran
+  ran_before : (kept : Kept) (n : ℕ) (p3 : PlainQuery) → get_or (set e.queries d.node.query kept) n Dropped ≡ Running p3 → (p0 : PlainQuery) × (kept_at (engine_in old) n ≡ Running p0)
+  ran_before kept n p3 running = by_test (n == d.node.query)
+      (λ t. let same : n ≡ d.node.query = eqb-true n d.node.query t in (p, ap (kept_at e) same ∙ out.of.running))
+      (λ f. (p3, sym (kept_there e d.node.query n kept (λ z. absurd (let h : (n == d.node.query) ≡ true = eq-eqb n d.node.query z in cc))) ∙ running))
+
   -- comes back
   module _ (p2 : PlainQuery) (a : IsApplied e.machine.streams p d p2) (few : length (others d.lease ls) ≤ length (engine_in old).leases) where
     kinds_back : (after : List Slot) (g : Given) → IsIn old.leases.items g → HasKind (record (given_back e (lease_of_parts d) p2) { slots = after }) g
@@ -104,6 +113,7 @@ module _ (old new : State) (ls : List Lease) (slots : List Slot) (d : Parts) (q 
       next = refl;
       few = few;
       gone = map-set_same is_gone e.queries d.node.query (Running p2) Dropped (sym running_gone);
+      ran = ran_before (Running p2);
     }
 
     sound_at : (after : List Slot) → engine_in new ≡ record (given_back e (lease_of_parts d) p2) { slots = after } → GoodEngine (engine_in new) → IsSound new
@@ -130,6 +140,7 @@ module _ (old new : State) (ls : List Lease) (slots : List Slot) (d : Parts) (q 
         next = refl;
         few = few;
         gone = map-set_same is_gone e.queries d.node.query (Broken p.answers) Dropped (sym running_gone);
+        ran = ran_before (Broken p.answers);
       } in
       sound_from old new s r (subst GoodEngine (sym is) (break_good e d.node.query q p good out.of.registered out.of.running)) (subst (StaysBut (engine_in old)) (sym is) stays)
       (λ g i. subst (λ z. HasKind z g) (sym is) (kinds_broken g i))

@@ -12,7 +12,6 @@ mod FinishBackLemmas
 mod StreamLemmas
 mod QueueLemmas
 mod ReaderLemmas
-mod ListedLemmas
 mod BeatLemmas
 mod LengthenLemmas
 pub mod DrainLemmas

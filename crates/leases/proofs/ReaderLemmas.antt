@@ -19,6 +19,7 @@ use Rattle.laws_queries.specs.Queries.{IsLeftInbox, IsRunning, PlainQuery, log_a
 use Rattle.run_queue.specs.declared.slots.Slot.{Slot}
 use Rattle.laws_engine.specs.Asks.{IsOperator}
 use Rattle.laws_engine.specs.Engines.{Broken, Dropped, Goes, GoodEngine, IsIn, IsKept, Kept, PlainEngine, Running, kept_at, query_at, slot_at, slot_of}
+use Rattle.laws_engine.specs.Calls.{is_reading}
 use Rattle.laws_engine.proofs.AskLemmas.{may_ask}
 use Rattle.laws_engine.proofs.PromiseLemmas.{slot_is}
 use Rattle.plan.proofs.Lists.{by_test}
@@ -28,10 +29,11 @@ use Rattle.operators.specs.Operators.{ready}
 use Rattle.column.specs.declared.batch.Side.{Side}
 use Rattle.leases.specs.Asked.{HasOperatorAt}
 use Rattle.reference.proofs.StepLemmas.{get_or-map}
-use Rattle.leases.specs.Readers.{HasSource, resting_slot, rests, rests_in, told, told_all, with_slots}
+use Rattle.leases.specs.Readers.{HasSource, HaveCome, ListsReaders, reader, reader_in, resting_slot, rests, rests_in, told, told_all, with_slots}
 use Rattle.leases.specs.Shown.{engine_in}
 use Rattle.leases.specs.Views.{kept_of, query_of}
 use Rattle.leases.specs.declared.kept.KeptQuery.{KeptQuery}
+use Rattle.leases.specs.declared.reader.Reader.{Reader}
 use Rattle.leases.specs.declared.registered.Registration.{Registration}
 use Rattle.leases.specs.declared.state.State.{State}
 
@@ -141,6 +143,68 @@ resting_rests e g s n k is =
 
 pub kept_looked : (ks vs : List KeptQuery) (n : ℕ) (k : KeptQuery) → vs ≡ ks → true ≡ nat_lt n (length vs) → k ≡ get_or vs n k → get_or (map kept_of ks) n Dropped ≡ kept_of k
 kept_looked ks vs n k same within is = ap (λ z. get_or (map kept_of z) n Dropped) (sym same) ∙ get_or-map kept_of vs n k Dropped (ltb-true n (length vs) (sym within)) ∙ ap kept_of (sym is)
+
+-- A WINDOW of a new query comes to the readers
+reader_is : (q : Registered) (s n k : ℕ) (node : plan.Node) (x : Reader) → is_reading q s node ≡ true → reader_in q n k node ≡ Some x → x ≡ reader s n k
+reader_is q s n k (Window j) x is h =
+    let same : reader (place_of q j).stream n k ≡ x = cc in
+    sym same ∙ ap (λ z. reader z n k) (eqb-true (place_of q j).stream s is)
+reader_is q s n k (Select i cs) x is h = absurd (cc)
+reader_is q s n k (Join i j ks) x is h = absurd (cc)
+reader_is q s n k (Project i columns) x is h = absurd (cc)
+reader_is q s n k (Group i by items) x is h = absurd (cc)
+reader_is q s n k (Distinct i) x is h = absurd (cc)
+reader_is q s n k (ToStream i op) x is h = absurd (cc)
+
+no_reader : (q : Registered) (s n k : ℕ) (node : plan.Node) → is_reading q s node ≡ true → reader_in q n k node ≡ None → ⊥
+no_reader q s n k (Window j) is h = absurd (cc)
+no_reader q s n k (Select i cs) is h = absurd (cc)
+no_reader q s n k (Join i j ks) is h = absurd (cc)
+no_reader q s n k (Project i columns) is h = absurd (cc)
+no_reader q s n k (Group i by items) is h = absurd (cc)
+no_reader q s n k (Distinct i) is h = absurd (cc)
+no_reader q s n k (ToStream i op) is h = absurd (cc)
+
+in_front : (xs : List Reader) (x y : Reader) → IsIn xs y → IsIn (xs ++ x ∷ []) y
+in_front [] x y h = absurd h
+in_front (z ∷ xs) x y (inl e) = inl e
+in_front (z ∷ xs) x y (inr i) = inr (in_front xs x y i)
+
+at_end : (xs : List Reader) (x : Reader) → IsIn (xs ++ x ∷ []) x
+at_end [] x = inl refl
+at_end (z ∷ xs) x = inr (at_end xs x)
+
+pub window_comes : (q : Registered) (n k : ℕ) (old mid new : List Reader) (x : Reader) → HaveCome q n k old mid → reader_in q n k (node_at q k) ≡ Some x → new ≡ mid ++ x ∷ [] → HaveCome q n (k + 1) old new
+window_comes q n k old mid new x h is push = record {
+  stay = λ r i. subst (λ z. IsIn z r) (sym push) (in_front mid x r (h.stay r i));
+  come = λ s j lt reads. subst (λ z. IsIn z (reader s n j)) (sym push) (⊎_elim
+      (λ l. in_front mid x (reader s n j) (h.come s j l reads))
+      (λ l.
+      let last : j ≡ k = omega (arith, lt, l) in
+      let same : x ≡ reader s n j = reader_is q s n k (node_at q k) x (subst (λ z. is_reading q s (node_at q z) ≡ true) last reads) is ∙ ap (reader s n) (sym last) in
+      subst (λ z. IsIn (mid ++ x ∷ []) z) same (at_end mid x))
+      (cases_lt j k));
+}
+
+pub other_passes : (q : Registered) (n k : ℕ) (old mid new : List Reader) → HaveCome q n k old mid → reader_in q n k (node_at q k) ≡ None → new ≡ mid → HaveCome q n (k + 1) old new
+other_passes q n k old mid new h is same = record {
+  stay = λ r i. subst (λ z. IsIn z r) (sym same) (h.stay r i);
+  come = λ s j lt reads. subst (λ z. IsIn z (reader s n j)) (sym same) (⊎_elim
+      (λ l. h.come s j l reads)
+      (λ l. let last : j ≡ k = omega (arith, lt, l) in absurd (no_reader q s n k (node_at q k) (subst (λ z. is_reading q s (node_at q z) ≡ true) last reads) is))
+      (cases_lt j k));
+}
+
+-- WINDOWS THAT READ, of two engines whose queries are the same
+pub reads_on : (e e2 : PlainEngine) → e2.machine.queries ≡ e.machine.queries → e2.queries ≡ e.queries → (rs : List Reader) → ListsReaders e rs → ListsReaders e2 rs
+reads_on e e2 queries kept rs h s n k is = h s n k (record {
+  query = is.query;
+  registered = ap (λ qs. slice_get qs n) (sym queries) ∙ is.registered;
+  kept = is.kept;
+  running = ap (λ ks. get_or ks n Dropped) (sym kept) ∙ is.running;
+  within = is.within;
+  reads = is.reads;
+})
 
 -- TOLD: the next of the slots
 pub told_next : (e : PlainEngine) (ss : List Slot) (k : ℕ) (s : Slot) (slots : List Slot) → k < length ss → s ≡ get_or ss k s → told_all e (drop k ss) slots ≡ told_all e (drop (k + 1) ss) (told e s slots)

@@ -33,6 +33,7 @@ use Rattle.leases.proofs.FinishSoundLemmas.{sound_broken}
 use Rattle.leases.proofs.LeaseLemmas.{any_last, out_of, some_slot, turn_out}
 use Rattle.leases.proofs.LeaveLemmas.{fewer}
 use Rattle.leases.proofs.LookLemmas.{asks_on}
+use Rattle.leases.proofs.ReaderLemmas.{reads_on}
 use Rattle.leases.proofs.RetoldLemmas.{changed_again, changed_leaves}
 
 -- A NUMBER is counted
@@ -77,7 +78,7 @@ counted_sound s h lt = record {
   gone = h.gone;
   columns = h.columns;
   closed = h.closed;
-  readers = h.readers;
+  readers = reads_on (engine_in s) (engine_in (counted s)) refl refl s.readers.items h.readers;
 }
 
 -- ANOTHER OPERATOR is leased as before

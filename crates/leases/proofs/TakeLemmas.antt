@@ -26,8 +26,7 @@ use Rattle.laws_queries.specs.Queries.{PlainQuery, node_at, operator_at}
 use Rattle.laws_engine.specs.Calls.{IsTake, is_reading, kept_after, taken, with_taken}
 use Rattle.laws_engine.specs.Engines.{Broken, Dropped, GoodEngine, IsIn, Kept, PlainEngine, Running, answers_in, kept_at, query_at}
 use Rattle.laws_engine.proofs.TakeLemmas.{take_good}
-use Rattle.leases.specs.Readers.{readers_from}
-use Rattle.leases.proofs.ListedLemmas.{readers_taken}
+use Rattle.leases.specs.Readers.{ListsReaders}
 use Rattle.leases.specs.Shown.{engine_in}
 use Rattle.leases.specs.Sound.{IsSound, is_gone}
 use Rattle.leases.specs.Takes.{HandsOut, Takes, count_in, count_of}
@@ -144,7 +143,7 @@ sound_again s s2 h same leases next names readers = record {
   gone = subst (λ e. map (λ q. q.is_dropped) e.machine.queries ≡ map is_gone e.queries) (sym same) h.gone;
   columns = subst (λ e. HaveColumnNames e.machine) (sym same) h.columns;
   closed = subst (λ e. HaveFewClosed e.machine) (sym same) h.closed;
-  readers = readers ∙ h.readers ∙ ap (λ e. readers_from 0 e.machine.queries) (sym same);
+  readers = subst (λ e. ListsReaders e s2.readers.items) (sym same) (subst (ListsReaders (engine_in s)) (sym readers) h.readers);
 }
 
 took_by : {X : Type 0} (f : Registered → X) (count n : ℕ) (qs : List Registered) → ((q : Registered) → f (took count q) ≡ f q) → map f (change n (took count) qs) ≡ map f qs
@@ -191,6 +190,45 @@ kind_taken e n limit count g h p running =
     get_operator : List PlainOperator → ℕ → PlainOperator
     get_operator os k = operator_at os k
 
+-- a query that is registered was, with the same nodes and places
+record Was (qs : List Registered) (j : ℕ) (q : Registered) : Type 0 where
+  before : Registered
+  was : slice_get qs j ≡ Some before
+  taken : ℕ
+  is : with_taken before taken ≡ q
+
+was_at : (count n j : ℕ) (qs : List Registered) (q : Registered) → slice_get (change n (took count) qs) j ≡ Some q → Was qs j q
+was_at count n j [] q h = absurd (cc)
+was_at count zero zero (x ∷ qs) q h = record { before = x; was = refl; taken = x.taken + count; is = same h }
+  where
+    same : {a b : Registered} → Some a ≡ Some b → a ≡ b
+    same e = cc
+was_at count zero (suc j) (x ∷ qs) q h = record { before = q; was = h; taken = q.taken; is = refl }
+was_at count (suc n) zero (x ∷ qs) q h = record { before = q; was = h; taken = q.taken; is = refl }
+was_at count (suc n) (suc j) (x ∷ qs) q h = let w = was_at count n j qs q h in record { before = w.before; was = w.was; taken = w.taken; is = w.is }
+
+reads_again : (q : Registered) (taken s : ℕ) (node : plan.Node) → is_reading (with_taken q taken) s node ≡ true → is_reading q s node ≡ true
+reads_again q taken s (plan.Window j) h = h
+reads_again q taken s (plan.Select i cs) h = h
+reads_again q taken s (plan.Join i j ks) h = h
+reads_again q taken s (plan.Project i columns) h = h
+reads_again q taken s (plan.Group i by items) h = h
+reads_again q taken s (plan.Distinct i) h = h
+reads_again q taken s (plan.ToStream i op) h = h
+
+reads_taken : (e : PlainEngine) (n : ℕ) (limit : ℤ) (count : ℕ) (rs : List Reader) → ListsReaders e rs → ListsReaders (taken e n limit count) rs
+reads_taken e n limit count rs h s j k is =
+    let w = was_at count n j e.machine.queries is.query is.registered in
+    let r = ran_at count n j e.queries is.kept is.running in
+    h s j k (record {
+      query = w.before;
+      registered = w.was;
+      kept = r.before;
+      running = r.ran;
+      within = subst (λ (z : Registered). k < length z.nodes) (sym w.is) is.within;
+      reads = reads_again w.before w.taken s (node_at w.before k) (subst (λ (z : Registered). is_reading z s (node_at z k) ≡ true) (sym w.is) is.reads);
+    })
+
 pub sound_taken : (s s2 : State) (n : ℕ) (limit : ℤ) (count : ℕ) → IsSound s → IsTake (engine_in s) n limit count → engine_in s2 ≡ taken (engine_in s) n limit count → s2.leases.items ≡ s.leases.items → s2.next ≡ s.next → s2.names ≡ s.names
     → s2.readers.items ≡ s.readers.items → IsSound s2
 sound_taken s s2 n limit count h t is leases next names readers = record {
@@ -202,7 +240,7 @@ sound_taken s s2 n limit count h t is leases next names readers = record {
   gone = ap (λ e. map (λ q. q.is_dropped) e.machine.queries) is ∙ took_by (λ q. q.is_dropped) count n (engine_in s).machine.queries (λ q. refl) ∙ h.gone ∙ sym (ap (λ e. map is_gone e.queries) is ∙ gone_taken count n (engine_in s).queries);
   columns = subst (λ e. HaveColumnNames e.machine) (sym is) h.columns;
   closed = subst (λ e. HaveFewClosed e.machine) (sym is) h.closed;
-  readers = readers ∙ h.readers ∙ sym (ap (λ e. readers_from 0 e.machine.queries) is ∙ readers_taken count 0 n (engine_in s).machine.queries);
+  readers = subst (λ e. ListsReaders e s2.readers.items) (sym is) (subst (ListsReaders (taken (engine_in s) n limit count)) (sym readers) (reads_taken (engine_in s) n limit count s.readers.items h.readers));
 }
 
 -- A TAKE THAT IS REFUSED

@@ -16,7 +16,6 @@ use Rattle.laws_engine.proofs.IdleLemmas.{idle_waits}
 use Rattle.leases.proofs.DrainLemmas.{drain_machine}
 use Rattle.leases.specs.Drains.{RunsTurns}
 use Rattle.leases.specs.Sound.{is_gone}
-use Rattle.leases.proofs.ListedLemmas.{gone_at}
 use Rattle.leases.specs.Takes.{Takes, count_of}
 use Rattle.leases.specs.Whole.{IsWholeEngine}
 
@@ -31,6 +30,13 @@ all_in m [] [] many h = refl
 all_in m [] (k ∷ ks) many h = absurd (omega (arith, many))
 all_in m (q ∷ qs) [] many h = absurd (omega (arith, many))
 all_in m (q ∷ qs) (k ∷ ks) many h = ap₂ (λ y ys. y ∷ ys) (h 0 q refl) (all_in m qs ks (omega (arith, many)) (λ n r e. h (suc n) r e))
+
+-- whether it was dropped is seen on both
+gone_at : (qs : List Registered) (ks : List Kept) (n : ℕ) (q : Registered) → map (λ r. r.is_dropped) qs ≡ map is_gone ks → slice_get qs n ≡ Some q → q.is_dropped ≡ is_gone (get_or ks n Dropped)
+gone_at [] ks n q h e = absurd (cc)
+gone_at (r ∷ qs) [] n q h e = absurd (cc)
+gone_at (r ∷ qs) (k ∷ ks) zero q h e = let first : r.is_dropped ≡ is_gone k = cc in let same : r ≡ q = some_same e in ap (λ z. z.is_dropped) (sym same) ∙ first
+gone_at (r ∷ qs) (k ∷ ks) (suc n) q h e = let rest : map (λ z. z.is_dropped) qs ≡ map is_gone ks = cc in gone_at qs ks n q rest e
 
 untaken_dropped : (m : Machine) (q : Registered) → q.is_dropped ≡ true → [] ≡ untaken m q
 untaken_dropped m q e = rw e refl

@@ -1,14 +1,15 @@
 -- The windows of running queries that read a stream, and what they are told.
-use Rattle.std.specs.Prelude.{ℕ, suc, ◌≡◌, ◌<◌, ◌==◌, ◌&&◌, ⊤, Bool, true, false, cond, nat_lt, is_none, Option, Some, None, List, [], ◌∷◌, ◌++◌, length}
+use Rattle.std.specs.Prelude.{ℕ, ◌≡◌, ◌<◌, ◌==◌, ◌&&◌, ⊤, Bool, true, false, cond, nat_lt, is_none, Option, Some, None, List, [], ◌∷◌, ◌++◌, length}
 use Rattle.std.specs.Option.{option_to_list}
 use Rattle.plan.specs.Nodes as plan
 use Rattle.operators.specs.Operators.{ready}
 use Rattle.reference.specs.Machine.{Registered, Stream}
-use Rattle.laws_queries.specs.Queries.{PlainQuery, operator_at, place_of}
+use Rattle.laws_queries.specs.Queries.{PlainQuery, node_at, operator_at, place_of}
 use Rattle.query_runtime.specs.Turns.{log_of}
 use Rattle.run_queue.specs.Slots.{changed}
 use Rattle.run_queue.specs.declared.slots.Slot.{Slot}
-use Rattle.laws_engine.specs.Engines.{Broken, Dropped, Kept, PlainEngine, Running, instant_at, kept_at, query_at, slot_of}
+use Rattle.laws_engine.specs.Calls.{is_reading}
+use Rattle.laws_engine.specs.Engines.{Broken, Dropped, IsIn, Kept, PlainEngine, Running, instant_at, kept_at, query_at, slot_of}
 use Rattle.leases.specs.declared.reader.Reader.{Reader}
 use Rattle.leases.specs.declared.state.State.{State}
 
@@ -36,15 +37,23 @@ reader_in q n k (plan.Group i by items) = None
 reader_in q n k (plan.Distinct i) = None
 reader_in q n k (plan.ToStream i op) = None
 
--- the windows among the nodes of the query n, of which the first is its operator k
-abbrev pub windows_from : Registered → ℕ → ℕ → List plan.Node → List Reader
-windows_from q n k [] = []
-windows_from q n k (node ∷ nodes) = option_to_list (reader_in q n k node) ++ windows_from q n (suc k) nodes
+-- the operator k of the query n, which runs, is a window over the stream s
+pub record IsReading (e : PlainEngine) (s n k : ℕ) : Type 0 where
+  pub query : Registered
+  pub registered : query_at e n ≡ Some query
+  pub kept : PlainQuery
+  pub running : kept_at e n ≡ Running kept
+  pub within : k < length query.nodes
+  pub reads : is_reading query s (node_at query k) ≡ true
 
--- THE LIST OF READERS: just the windows of the queries that were not dropped, each once; the first query has the number n
-abbrev pub readers_from : ℕ → List Registered → List Reader
-readers_from n [] = []
-readers_from n (q ∷ qs) = cond q.is_dropped [] (windows_from q n 0 q.nodes) ++ readers_from (suc n) qs
+-- all that do are listed
+abbrev pub ListsReaders : PlainEngine → List Reader → Type 0
+ListsReaders e rs = (s n k : ℕ) → IsReading e s n k → IsIn rs (reader s n k)
+
+-- the windows among the first operators of a query n have come to them, and the others stayed
+pub record HaveCome (q : Registered) (n count : ℕ) (old new : List Reader) : Type 0 where
+  pub stay : (r : Reader) → IsIn old r → IsIn new r
+  pub come : (s k : ℕ) → k < count → is_reading q s (node_at q k) ≡ true → IsIn new (reader s n k)
 
 -- THE SLOTS of the readers of the stream s that have nothing to take
 abbrev pub rests_in : List Stream → ℕ → Kept → Bool

@@ -9,8 +9,6 @@ mod laws;
 mod moves;
 mod queries;
 mod sources;
-mod waiting;
 
 pub use laws::plain_queries_run;
 pub use queries::RunningQuery;
-pub use waiting::WaitingAnswers;

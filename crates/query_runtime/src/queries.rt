@@ -1,5 +1,5 @@
 //! Running queries.
-ghost use Rattle.std.specs.Prelude.{◌≡◌, ◌<◌, [], true, length, All, IfOk, OnOk, OnErr};
+ghost use Rattle.std.specs.Prelude.{◌≡◌, ◌<◌, ◌≤◌, [], true, length, min, All, IfOk, OnOk, OnErr};
 ghost use Rattle.std.specs.Arc.{arc_value};
 ghost use Rattle.op_queue.specs.Items.{entries_of};
 ghost use Rattle.turn.specs.Turns.{outs_in};
@@ -14,41 +14,37 @@ ghost use Rattle.reference.specs.World.{handed};
 ghost use Rattle.laws_queries.specs.Queries.{operator_at};
 ghost use Rattle.query_runtime.specs.Turns.{CanFeed, CanFinish, CanLease, CanPut, HasAnswered, HasFed, HasFinished, HasBatches, HasOperator, HasPut, IsBeginning, IsLeased, handed_out, log_of, source_at, taken, wire_at};
 
-use crate::moves::{feed_at, finish_at, leased, log_at};
+use crate::moves::{feed_at, finish_at, leased, log_at, move_front};
 use crate::sources::sources_of;
-use crate::waiting::WaitingAnswers;
 use column::Side;
 use op_queue::{Item, Log};
 use operators::Operator;
 use physical_plans::{Wire, operators_of, wires};
 use plan::Plan;
 use std::alloc::{AllocError, Global};
+use std::collections::VecDeque;
 use std::marker::Model;
 use std::sync::Arc;
 use stream_store::Streams;
 use turn::{Change, Kind, Near, Outputs};
 use values::Row;
 
-/// A running query.
+/// A running query: its operators, by the number of each where its outputs go and which stream it reads, and the answers that wait.
 #[derive(Drop)]
 pub struct RunningQuery {
-    /// The operators with their queues, by number: each stands behind those that feed it, the root
-    /// last.
     operators: Vec<Operator>,
-    /// By the operators' numbers, where the outputs of each go.
     wires: Vec<Wire>,
-    /// By the operators' numbers, the number of the stream that each reads.
     sources: Vec<u64>,
-    /// The answers of the root that wait to be taken.
-    answers: WaitingAnswers,
+    answers: VecDeque<(u64, Row)>,
 }
 
 impl Model for RunningQuery {
+    ghost use Rattle.to_stream.specs.Turns.{answers_of};
     ghost use Rattle.laws_queries.specs.Queries.{PlainQuery};
 
     ghost Value = { PlainQuery };
 
-    ghost view = { λ q. record { operators = q.operators.items; wires = q.wires.items; sources = q.sources.items; answers = q.answers } };
+    ghost view = { λ q. record { operators = q.operators.items; wires = q.wires.items; sources = q.sources.items; answers = answers_of q.answers.items } };
 }
 
 impl RunningQuery {
@@ -70,7 +66,7 @@ impl RunningQuery {
             operators: operators_of(alloc, plan, places, start)?,
             wires: wires(alloc, &plan.nodes)?,
             sources: sources_of(alloc, streams, &plan.nodes)?,
-            answers: WaitingAnswers::new(alloc),
+            answers: VecDeque::new(alloc),
         })
     }
 
@@ -174,14 +170,18 @@ impl RunningQuery {
         ensures rest { OnOk result (self.new ≡ handed_out limit self.old) }
         ensures err { OnErr result (self.new ≡ self.old) }
     {
-        self.answers.take(alloc, limit)
+        let count = limit.min(self.answers.len());
+        let mut rows = Vec::with_capacity(alloc, count)?;
+        move_front(&mut self.answers, &mut rows, count);
+        Ok(rows)
     }
 
-    /// Gives up its operators with what waits for them: the answers are left. Takes no memory.
-    pub fn into_answers(self) -> WaitingAnswers
-        ensures { result ≡ self.answers }
+    /// Gives up its operators with what waits for them; its answers wait on. Takes no memory.
+    pub fn give_up(&mut self)
+        ensures operators { self.new.operators ≡ [] }
+        ensures answers { self.new.answers ≡ self.old.answers }
     {
-        self.answers
+        self.operators.clear();
     }
 
     fn operator(&self, operator: usize) -> &Operator
@@ -253,7 +253,8 @@ impl RunningQuery {
         ensures err { OnErr result (self.new.answers ≡ self.old.answers) }
     {
         let log = self.log(streams, operator);
+        let mut answers = VecDeque::from_vec(answers);
         finish_at(&mut self.operators, log, operator, side, item, change)?;
-        self.answers.add(answers)
+        self.answers.append(&mut answers)
     }
 }

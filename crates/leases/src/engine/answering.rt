@@ -36,7 +36,6 @@ impl Answering for Engine {
         ensures whole { IsWhole self.old → IsWhole self.new }
         ensures engine { OnOk result (engine_in self.new ≡ declared (engine_in self.old) name.now (texts_of columns.now) from) }
         ensures err { OnErr result (engine_in self.new ≡ engine_in self.old) }
-        ensures promises { KeepsItsPromises (engine_in self.new) }
     {
         self.state.declare(name, columns, from)
     }
@@ -46,7 +45,6 @@ impl Answering for Engine {
         ensures whole { IsWhole self.old → IsWhole self.new }
         ensures engine { OnOk result ((q : Registered) × ((p : PlainQuery) × (IsRegistered (engine_in self.old) name.now text.now (given_by (option_copied chart.entry)) q p × (engine_in self.new ≡ registered (engine_in self.old) q p)))) }
         ensures err { OnErr result (engine_in self.new ≡ engine_in self.old) }
-        ensures promises { KeepsItsPromises (engine_in self.new) }
     {
         self.state.query(name, text, chart)
     }
@@ -57,7 +55,6 @@ impl Answering for Engine {
         ensures engine { OnOk result (engine_in self.new ≡ appended (engine_in self.old) stream rows.now) }
         ensures queues { LeavesQueues (engine_in self.old) (engine_in self.new) }
         ensures err { OnErr result (engine_in self.new ≡ engine_in self.old) }
-        ensures promises { KeepsItsPromises (engine_in self.new) }
     {
         self.state.append(stream, rows)
     }
@@ -69,7 +66,6 @@ impl Answering for Engine {
         ensures closes { OnOk result (QueuesGain (slice_get (engine_in self.old).machine.streams stream) at) }
         ensures queues { OnOk result (LengthensQueues stream at (engine_in self.old) (engine_in self.new)) }
         ensures err { OnErr result (engine_in self.new ≡ engine_in self.old) }
-        ensures promises { KeepsItsPromises (engine_in self.new) }
     {
         self.state.heartbeat(stream, at)
     }
@@ -105,7 +101,6 @@ impl Answering for Engine {
         ensures whole { IsWhole self.old → IsWhole self.new }
         ensures engine { OnOk result (engine_in self.new ≡ dropped (engine_in self.old) query) }
         ensures err { OnErr result (engine_in self.new ≡ engine_in self.old) }
-        ensures promises { KeepsItsPromises (engine_in self.new) }
     {
         self.state.drop_query(query)
     }

@@ -18,7 +18,6 @@ impl Engine {
         ensures empty { engine_in result ≡ empty_engine }
         ensures world { world_in result ≡ world.empty }
         ensures whole { IsWhole result }
-        ensures promises { KeepsItsPromises (engine_in result) }
     {
         Engine {
             state: State::new(alloc),

@@ -1,5 +1,5 @@
 //! Queries that are registered.
-ghost use Rattle.std.specs.Prelude.{◌≡◌, ◌<◌, ◌≤◌, ◌+◌, ◌++◌, ℕ, false, not, count_by, IfOk, IfSome, None, OnErr, OnOk, length, map};
+ghost use Rattle.std.specs.Prelude.{◌≡◌, ◌<◌, ◌≤◌, ◌+◌, ℕ, false, not, count_by, IfOk, IfSome, None, OnErr, OnOk, length, map};
 ghost use Rattle.std.specs.Option.{option_copied};
 ghost use Rattle.std.specs.Vec.{vec_capacity, vec_len};
 ghost use Rattle.names.specs.Faults.{first_of};
@@ -19,7 +19,7 @@ ghost use Rattle.laws_engine.specs.Engines.{GoodEngine};
 ghost use Rattle.laws_engine_accepted.specs.Accepted.{IsBegun, IsPlanOfText, newest};
 ghost use Rattle.query_runtime.specs.Turns.{IsBeginning};
 ghost use Rattle.values.specs.Resolved.{resolved_of};
-ghost use Rattle.leases.specs.Readers.{HasSource, reader_in, windows_from};
+ghost use Rattle.leases.specs.Readers.{HasSource, HaveCome, reader_in};
 ghost use Rattle.leases.specs.Registering.{IsNewQuery, IsRegistered, new_slot, with_first};
 ghost use Rattle.leases.specs.Shown.{engine_in, world_in};
 ghost use Rattle.leases.specs.Sound.{IsSound};
@@ -313,7 +313,7 @@ fn new_slot(
 fn put_readers(readers: &mut Vec<Reader>, query: &Registration, number: u64)
     requires room { vec_len readers.old + length (query_of query.now).nodes ≤ vec_capacity readers.old }
     requires sources { (k : ℕ) → k < length (query_of query.now).nodes → HasSource (query_of query.now) (node_at (query_of query.now) k) }
-    ensures { readers.new.items ≡ readers.old.items ++ windows_from (query_of query.now) number 0 (query_of query.now).nodes }
+    ensures { HaveCome (query_of query.now) number (length (query_of query.now).nodes) readers.old.items readers.new.items }
 {
     for operator in 0..query.plan.nodes.len() {
         if let Some(reader) = reader_of(query, number, operator) {

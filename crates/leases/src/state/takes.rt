@@ -175,11 +175,11 @@ fn hand_out(alloc: Global, kept: &mut KeptQuery, limit: usize) -> Result<Vec<(i6
 {
     match kept {
         KeptQuery::Running(query) => Ok(query.take(alloc, limit)?),
-        KeptQuery::Broken(answers) => {
-            if answers.len() == 0 {
+        KeptQuery::Broken(query) => {
+            if query.waiting() == 0 {
                 return Err(Fault::Broken);
             }
-            Ok(answers.take(alloc, limit)?)
+            Ok(query.take(alloc, limit)?)
         }
         KeptQuery::Dropped => Ok(Vec::new(alloc)),
     }

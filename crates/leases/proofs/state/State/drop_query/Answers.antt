@@ -1,4 +1,4 @@
-use Rattle.std.proofs.Common.{◌≡◌, ◌<◌, ◌==◌, not, filter, None, Some, length, map, set, get_or, string_bytes, refl, sym, ap, ◌∙◌, subst, arith}
+use Rattle.std.proofs.Common.{◌≡◌, ◌<◌, ◌==◌, not, None, Some, length, map, set, get_or, string_bytes, refl, sym, ap, ◌∙◌, subst, arith}
 use Rattle.std.specs.Prelude.{slice_get}
 use Rattle.laws_engine.specs.Engines.{Dropped, GoodEngine, IsIn, world_of}
 use Rattle.laws_engine.proofs.DropLemmas.{drop_good}
@@ -7,16 +7,14 @@ use Rattle.laws_engine.proofs.TakeLemmas.{changed_or_there}
 use Rattle.reference.specs.Commands as machine
 use Rattle.reference.specs.Named.{name_of_registered}
 use Rattle.laws_engine.specs.Calls.{dropped}
-use Rattle.leases.specs.Readers.{readers_from}
+use Rattle.leases.specs.Readers.{ListsReaders}
 use Rattle.leases.specs.Shown.{engine_in}
 use Rattle.leases.specs.Sound.{is_gone}
 use Rattle.leases.specs.Views.{kept_of, query_of}
 use Rattle.leases.specs.declared.given.Given.{Given}
-use Rattle.leases.specs.declared.reader.Reader.{Reader}
 use Rattle.leases.specs.declared.registered.Registration.{Registration}
-use Rattle.leases.proofs.DropLemmas.{another, drops, gone_dropped, is_dropped, kept_dropped, kept_within, named_there, names_dropped, refused, registered_dropped, registered_within, there}
+use Rattle.leases.proofs.DropLemmas.{another, drops, gone_dropped, is_dropped, kept_dropped, kept_within, named_there, names_dropped, readers_dropped, refused, registered_dropped, registered_within, there}
 use Rattle.leases.proofs.LeaveLemmas.{fewer}
-use Rattle.leases.proofs.ListedLemmas.{readers_dropped}
 use Rattle.leases.proofs.state.State.drop_query.Goals as goal
 
 pub returns-in-Some-clause-does : goal.returns-in-Some-clause-does
@@ -83,8 +81,6 @@ returns-clause-sound c = record {
       ∙ ap (λ z. map is_gone z) (sym (kept_dropped c.args.self.now.kept.items c.args.query));
   columns = c.requires.columns;
   closed = c.requires.closed;
-  readers =
-      c.forget_readers.ensures ∙ ap (λ rs. filter (λ (r : Reader). not (r.query == c.args.query)) rs) c.requires.readers
-      ∙ readers_dropped c.args.query 0 c.args.query (map query_of c.args.self.now.registered.items) (omega arith)
-      ∙ ap (λ z. readers_from 0 z) (sym (registered_dropped c.args.self.now.registered.items c.args.query c.leave.new.query c.index_mut.result.now (c.leave.ensures ∙ ap (λ z. machine.dropped (query_of z)) c.index_mut.ensures.value)));
+  readers = subst (λ z. ListsReaders z c.forget_readers.new.readers.items) (sym (returns-clause-engine c))
+      (subst (ListsReaders (dropped (engine_in c.args.self.now) c.args.query)) (sym c.forget_readers.ensures) (readers_dropped (engine_in c.args.self.now) c.args.query c.args.self.now.readers.items c.requires.readers));
 }

@@ -2,7 +2,7 @@ use Rattle.std.proofs.Common.{◌≡◌, ◌+◌, ◌-◌, arith, sym, ◌∙◌
 use Rattle.std.proofs.lemmas.Int.{to_z_pos}
 use Rattle.to_stream.specs.Turns.{answers_of}
 use Rattle.query_runtime.proofs.AnswerLemmas.{front_off, moved, signed_first, signed_rest}
-use Rattle.query_runtime.proofs.waiting.move_front.Goals as goal
+use Rattle.query_runtime.proofs.moves.move_front.Goals as goal
 
 pub loop-preserved : goal.loop-preserved
 loop-preserved c =

@@ -4,7 +4,7 @@ use Rattle.to_stream.specs.Turns.{answers_of}
 use Rattle.reference.specs.CallViews.{handed_of}
 use Rattle.reference.specs.World.{handed}
 use Rattle.reference.specs.Inputs.{are_signed}
-use Rattle.query_runtime.proofs.waiting.move_front.Given as goal
+use Rattle.query_runtime.proofs.moves.move_front.Given as goal
 
 -- if what follows is right for the rest, the whole is right
 abbrev pub invariant-loop : goal.invariant-loop

@@ -94,7 +94,7 @@ StateStarts ws vs widths (Join i j keys) s = s ≡ state.Join (join.beginning (m
 StateStarts ws vs widths (Project i places) s = s ≡ state.Nothing
 StateStarts ws vs widths (Group i by items) s = s ≡ state.Groups (groups.beginning (grouping by.items items.items))
 StateStarts ws vs widths (Distinct i) s = s ≡ state.Groups (groups.beginning (once_each (get_or widths i 0)))
-StateStarts ws vs widths (ToStream i op) s = s ≡ state.Root (record { operator = op; net = record { entered = []; left = [] }; whole = [] })
+StateStarts ws vs widths (ToStream i op) s = s ≡ state.Root (record { operator = op; net = record { entered = []; left = [] }; whole = []; last = None })
 
 -- WHAT WAITS FOR IT: at a window what its source's log has of the query's input, else nothing
 abbrev pub nothing_waits : Inbox

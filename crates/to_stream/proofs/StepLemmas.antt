@@ -1,4 +1,5 @@
 -- The law of one step of a root.
+use Rattle.std.specs.Prelude.{None}
 use Rattle.std.proofs.Common.{◌≡◌, ◌+◌, ◌<◌, ◌^◌, Bool, List, [], map, length, refl, ap, ap₂, sym, ◌∙◌, arith}
 use Rattle.values.specs.Row.{Row, row_cmp}
 use Rattle.values.specs.Bag.{in_order, bag_minus}
@@ -42,7 +43,7 @@ step_law s (Tick t) =
     )
 
 -- a root that has taken nothing stands for no rows, before and now
-pub fresh_stands : (o : Operator) → Stands (record { operator = o; net = record { entered = []; left = [] }; whole = [] }) [] []
+pub fresh_stands : (o : Operator) → Stands (record { operator = o; net = record { entered = []; left = [] }; whole = []; last = None }) [] []
 fresh_stands o = record { net = refl; whole = here o }
   where
     here : (p : Operator) → [] ≡ whole_of p []

@@ -1,4 +1,5 @@
 -- The definitions at worked examples.
+use Rattle.std.specs.Prelude.{None}
 use Rattle.std.specs.Prelude.{◌≡◌, ℕ, true, false, Some, pos, [], ◌∷◌, refl}
 use Rattle.values.specs.Row.{Row}
 use Rattle.values.specs.declared.resolved.Operator.{Operator}
@@ -11,7 +12,7 @@ abbrev row : ℕ → Row
 row n = Some (pos n) ∷ []
 
 abbrev empty : Operator → State
-empty o = record { operator = o; net = record { entered = []; left = [] }; whole = [] }
+empty o = record { operator = o; net = record { entered = []; left = [] }; whole = []; last = None }
 
 -- at the instant 3 the rows 6 and 5 come, at the instant 4 the row 5 leaves and 7 comes twice, of which one leaves again
 abbrev at_three : Operator → State

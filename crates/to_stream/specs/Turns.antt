@@ -1,5 +1,5 @@
 -- The turns of a root, on plain states.
-use Rattle.std.specs.Prelude.{ℕ, ℤ, ◌+◌, ◌<◌, ◌^◌, Bool, Option, List, [], map, length}
+use Rattle.std.specs.Prelude.{ℕ, ℤ, ◌+◌, ◌<◌, ◌^◌, Bool, Option, Some, List, [], map, length}
 use Rattle.arrayvec.specs.ArrayVec.{ArrayVec}
 use Rattle.values.specs.Row.{Row}
 use Rattle.values.specs.declared.resolved.Operator.{Operator}
@@ -9,11 +9,12 @@ use Rattle.op_queue.specs.declared.item.Item.TheVariants.{Rows, Tick}
 use Rattle.row_bags.specs.Nets.{Netted, nets_after}
 use Rattle.row_bags.specs.Lists.{renewed}
 
--- what entered and left since the last tick; of Rstream also the relation of the last tick, in order, which stays empty where it is not asked for
+-- what entered and left since the last tick, and the instant of that tick, if one was taken; of Rstream also the relation of the last tick, in order, which stays empty where it is not asked for
 pub record State : Type 0 where
   pub operator : Operator
   pub net : Netted
   pub whole : List Row
+  pub last : Option ℕ
 
 -- the rows that answer at a tick, in order
 abbrev pub shown : Operator → State → List Row
@@ -33,7 +34,7 @@ out (Tick t) rows = map (λ r. (t, r)) rows
 
 -- the state after signed rows
 abbrev pub taken : State → List (Bool × Row) → State
-taken s b = record { operator = s.operator; net = nets_after s.net b; whole = s.whole }
+taken s b = record { operator = s.operator; net = nets_after s.net b; whole = s.whole; last = s.last }
 
 -- the relation that is kept from one tick to the next
 abbrev pub kept : Operator → State → List Row
@@ -42,13 +43,13 @@ kept Dstream s = s.whole
 kept Rstream s = renewed s.whole s.net
 
 -- the state after a tick, from which on nothing has entered or left
-abbrev pub ticked : State → State
-ticked s = record { operator = s.operator; net = record { entered = []; left = [] }; whole = kept s.operator s }
+abbrev pub ticked : State → ℕ → State
+ticked s t = record { operator = s.operator; net = record { entered = []; left = [] }; whole = kept s.operator s; last = Some t }
 
 -- the state after an item
 abbrev pub next : State → Item → State
 next s (Rows t b) = taken s b
-next s (Tick t) = ticked s
+next s (Tick t) = ticked s t
 
 -- counts stay below 2^62 in the middle of the rows too
 abbrev pub HasRoomFor : State → List (Bool × Row) → Type 0

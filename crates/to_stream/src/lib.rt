@@ -8,7 +8,7 @@
 //! that becomes the next one at a tick, so a row costs the same however many are held.
 #![tactic(auto)]
 
-ghost use Rattle.std.specs.Prelude.{◌≡◌, [], map, IfOk, OnOk};
+ghost use Rattle.std.specs.Prelude.{◌≡◌, None, [], map, IfOk, OnOk};
 ghost use Rattle.row_bags.specs.Bags.{rows_of};
 ghost use Rattle.to_stream.specs.Turns.{State, shown, near, out, ticked, next, HasRoom, answers_of};
 ghost use Rattle.to_stream.specs.Law.{Stands, StepLaw};
@@ -20,12 +20,14 @@ use std::alloc::{AllocError, Global};
 use std::marker::Model;
 use values::{Operator, Row, copy_row};
 
-/// The state of a root: what entered and left since the last tick, and of Rstream the whole relation at that tick.
+/// The state of a root: what entered and left since the last tick, that tick's instant, and of Rstream the whole relation at that tick.
 #[derive(Drop)]
 pub struct ToStream {
     operator: Operator,
     net: Net,
     whole: RowList,
+    // the instant of the last tick
+    last: Option<u64>,
     alloc: Global,
 }
 
@@ -34,19 +36,20 @@ impl Model for ToStream {
 
     ghost Value = { RootState };
 
-    ghost view = { λ r. record { operator = r.operator; net = r.net; whole = r.whole } };
+    ghost view = { λ r. record { operator = r.operator; net = r.net; whole = r.whole; last = r.last } };
 }
 
 impl ToStream {
     /// A root that has taken nothing.
     pub fn new(alloc: Global, operator: Operator) -> ToStream
-        ensures state { result ≡ record { operator = operator; net = record { entered = []; left = [] }; whole = [] } }
+        ensures state { result ≡ record { operator = operator; net = record { entered = []; left = [] }; whole = []; last = None } }
         ensures stands { Stands result [] [] }
     {
         ToStream {
             operator,
             net: Net::new(alloc),
             whole: RowList::new(alloc),
+            last: None,
             alloc,
         }
     }
@@ -101,19 +104,20 @@ impl ToStream {
     {
         match item {
             Item::Rows(_, batch) => self.net.apply(batch)?,
-            Item::Tick(_) => self.tick()?,
+            Item::Tick(at) => self.tick(*at)?,
         }
         Ok(())
     }
 
     /// The relation now is that of the last tick.
-    fn tick(&mut self) -> Result<(), AllocError>
-        ensures { OnOk result (self.new ≡ ticked self.old) }
+    fn tick(&mut self, at: u64) -> Result<(), AllocError>
+        ensures { OnOk result (self.new ≡ ticked self.old at) }
     {
         if let Operator::Rstream = self.operator {
             self.whole.renew(self.alloc, &self.net)?;
         }
         self.net = Net::new(self.alloc);
+        self.last = Some(at);
         Ok(())
     }
 }

@@ -1,4 +1,5 @@
 -- A query at its registration.
+use Rattle.std.specs.Prelude.{None}
 use Rattle.std.specs.Prelude.{◌≡◌, ℕ, true, false, []}
 use Rattle.values.specs.declared.resolved.Operator.{Operator}
 use Rattle.op_queue.specs.Signed.{Same}
@@ -12,7 +13,7 @@ fresh_cell n (unary f x) = at_unary [] [] [] n
 fresh_cell n (join f x y) = at_join [] [] [] [] [] n false false
 
 abbrev pub fresh_root : Operator → State
-fresh_root op = record { operator = op; net = record { entered = []; left = [] }; whole = [] }
+fresh_root op = record { operator = op; net = record { entered = []; left = [] }; whole = []; last = None }
 
 -- what puts out at once has put out what it makes of nothing
 abbrev pub StartsEmpty : Node → Type 0

@@ -1,6 +1,5 @@
 //! Where the outputs of a plan's operators go.
 use column::Side;
-use laws_dataflow::consumer;
 use physical_plans::{Wire, wires};
 use plan::{Key, Node};
 use std::alloc::{AllocError, Global};
@@ -76,22 +75,5 @@ fn each_operator_feeds_the_next_and_the_root_none(rt: HostRuntime) -> Result<(),
 #[test]
 fn the_second_source_feeds_the_right_side_of_the_join(rt: HostRuntime) -> Result<(), Fail> {
     assert!(rt; join_is_wired(rt.alloc())?);
-    Ok(())
-}
-
-/// Whether the operators of the two sources' query are taken by these.
-fn consumers_are(alloc: Global, wanted: &[usize]) -> Result<bool, AllocError> {
-    let nodes = of_two_sources(alloc)?;
-    for operator in 0..nodes.len() {
-        if wanted.get(operator) != Some(&consumer(&nodes, operator)) {
-            return Ok(false);
-        }
-    }
-    Ok(nodes.len() == wanted.len())
-}
-
-#[test]
-fn each_operator_but_the_root_has_one_consumer(rt: HostRuntime) -> Result<(), Fail> {
-    assert!(rt; consumers_are(rt.alloc(), &[1, 3, 3, 4, 5, 6, 7])?);
     Ok(())
 }

@@ -6,7 +6,7 @@ use Rattle.std.proofs.lemmas.List.{length-map}
 use Rattle.values.specs.Row.{Row, row_cmp}
 use Rattle.values.specs.Bag.{in_order}
 use Rattle.values.specs.Window.{Element}
-use Rattle.values.specs.Answers.{Resolved, answers, answers_at, body, relation, relation_before, shown_at, streamed}
+use Rattle.values.specs.Answers.{Resolved, answers_at, body, relation, relation_before, shown_at, streamed}
 use Rattle.values.specs.Resolved.{operator_of}
 use Rattle.op_queue.specs.Entries.{Entry}
 use Rattle.to_stream.specs.Turns.{State}
@@ -39,12 +39,9 @@ module _ (q : Resolved) (first : ℕ) (inputs : List (List Element)) (v : ℕ �
   at_is : (t : ℕ) → first ≤ t → given_at q.operator first v t ≡ answers_at q first inputs t
   at_is t h = ap₂ (λ a b. map (λ r. (t, r)) (in_order row_cmp (streamed q.operator a b))) (before_is t) (now_is t h)
 
-  over_is : (start n : ℕ) → first ≤ start → flat_map (given_at q.operator first v) (range_with_len start n) ≡ flat_map (answers_at q first inputs) (range_with_len start n)
+  pub over_is : (start n : ℕ) → first ≤ start → flat_map (given_at q.operator first v) (range_with_len start n) ≡ flat_map (answers_at q first inputs) (range_with_len start n)
   over_is start zero h = refl
   over_is start (suc n) h = ap₂ (λ x y. x ++ y) (at_is start h) (over_is (start + 1) n (omega (arith, h)))
-
-  pub answers_are : (until : ℕ) → given_from q.operator first v first until ≡ answers q first until inputs
-  answers_are until = over_is first (until - first) (omega arith)
 
 -- A REGISTERED QUERY
 
@@ -83,35 +80,35 @@ module _ (vs : List ℕ) (m : Machine) (q : Registered) (p : IsPlanOf vs q.meani
       ∙ least_until q.first os (omega (arith, long, some_windows))
 
   -- the answers by the net's values are the machine's
-  pub query_answers : given_from q.meaning.operator q.first (value_of m q (below_root q.nodes - 1)) q.first (least_of m q (below_root q.nodes - 1)) ≡ closed_answers m q
-  query_answers =
+  pub query_answers : q.first ≤ q.start → q.earlier ++ given_from q.meaning.operator q.first (value_of m q (below_root q.nodes - 1)) q.start (least_of m q (below_root q.nodes - 1)) ≡ closed_answers m q
+  query_answers began = ap (λ l. q.earlier ++ l) (
       let v : ℕ → List Row = value_of m q (below_root q.nodes - 1) in
       let u : ℕ = until_for m.streams q.places in
-      let e : max q.first u - q.first ≡ u - q.first = omega arith in
-      ap (given_from q.meaning.operator q.first v q.first) query_least
-      ∙ ap (λ n. flat_map (given_at q.meaning.operator q.first v) (range_with_len q.first n)) e
-      ∙ answers_are q.meaning q.first (inputs_of m q) v (λ t h. query_value t) u
+      let e : max q.first u - q.start ≡ u - q.start = omega (arith, began) in
+      ap (given_from q.meaning.operator q.first v q.start) query_least
+      ∙ ap (λ n. flat_map (given_at q.meaning.operator q.first v) (range_with_len q.start n)) e
+      ∙ over_is q.meaning q.first (inputs_of m q) v (λ t h. query_value t) q.start (u - q.start) began)
 
   -- A FINISHED TURN keeps the query good
   pub turns_keep : TurnsKeep m q
   turns_keep = record {
-    inner = query_turns (world_of m q) (net_of q.nodes) (below_root q.nodes) (value_of m q) (least_of m q) query_planned q.first [] (consumer_of q.nodes) query_laid;
-    last = query_last_turns (world_of m q) (net_of q.nodes) (below_root q.nodes) (value_of m q) (least_of m q) query_planned q.first [] (consumer_of q.nodes) query_laid;
-    root_rows = query_root_takes_rows (world_of m q) (net_of q.nodes) (below_root q.nodes) (value_of m q) (least_of m q) query_planned q.first [];
-    root_tick = query_root_takes_tick (world_of m q) (net_of q.nodes) (below_root q.nodes) (value_of m q) (least_of m q) query_planned q.first [];
+    inner = query_turns (world_of m q) (net_of q.nodes) (below_root q.nodes) (value_of m q) (least_of m q) query_planned q.start q.earlier (consumer_of q.nodes) query_laid;
+    last = query_last_turns (world_of m q) (net_of q.nodes) (below_root q.nodes) (value_of m q) (least_of m q) query_planned q.start q.earlier (consumer_of q.nodes) query_laid;
+    root_rows = query_root_takes_rows (world_of m q) (net_of q.nodes) (below_root q.nodes) (value_of m q) (least_of m q) query_planned q.start q.earlier;
+    root_tick = query_root_takes_tick (world_of m q) (net_of q.nodes) (below_root q.nodes) (value_of m q) (least_of m q) query_planned q.start q.earlier;
   }
 
   -- WHAT WAS GIVEN IS A BEGINNING OF THE MACHINE'S ANSWERS
   pub machine_begins : (cells : ℕ → Cell) (s : State) (queue : List (Entry Row)) (given : List (ℕ × Row)) → operator_of s.operator ≡ q.meaning.operator
-      → GoodQuery (world_of m q) (net_of q.nodes) (below_root q.nodes) (value_of m q) q.first [] cells s queue given → (rest : List (ℕ × Row)) × (closed_answers m q ≡ given ++ rest)
+      → GoodQuery (world_of m q) (net_of q.nodes) (below_root q.nodes) (value_of m q) q.start q.earlier cells s queue given → (rest : List (ℕ × Row)) × (closed_answers m q ≡ given ++ rest)
   machine_begins cells s queue given op g =
-      let b : (rest : List (ℕ × Row)) × ([] ++ given_from (operator_of s.operator) q.first (value_of m q (below_root q.nodes - 1)) q.first (least_of m q (below_root q.nodes - 1)) ≡ given ++ rest) =
-      query_begins (world_of m q) (net_of q.nodes) (below_root q.nodes) (value_of m q) (least_of m q) query_planned q.first [] (omega (arith, shaped.two)) cells s queue given g in
-      (b.0, sym query_answers ∙ ap (λ o. given_from o q.first (value_of m q (below_root q.nodes - 1)) q.first (least_of m q (below_root q.nodes - 1))) (sym op) ∙ b.1)
+      let b : (rest : List (ℕ × Row)) × (q.earlier ++ given_from (operator_of s.operator) q.first (value_of m q (below_root q.nodes - 1)) q.start (least_of m q (below_root q.nodes - 1)) ≡ given ++ rest) =
+      query_begins (world_of m q) (net_of q.nodes) (below_root q.nodes) (value_of m q) (least_of m q) query_planned q.start q.earlier (omega (arith, shaped.two)) cells s queue given g in
+      (b.0, sym (query_answers g.root.began) ∙ ap (λ o. q.earlier ++ given_from o q.first (value_of m q (below_root q.nodes - 1)) q.start (least_of m q (below_root q.nodes - 1))) (sym op) ∙ b.1)
 
   -- AND ALL OF THEM WHERE NOTHING IS READY
   pub machine_complete : (cells : ℕ → Cell) (s : State) (queue : List (Entry Row)) (given : List (ℕ × Row)) → operator_of s.operator ≡ q.meaning.operator → Idle (below_root q.nodes) cells queue
-      → GoodQuery (world_of m q) (net_of q.nodes) (below_root q.nodes) (value_of m q) q.first [] cells s queue given → given ≡ closed_answers m q
+      → GoodQuery (world_of m q) (net_of q.nodes) (below_root q.nodes) (value_of m q) q.start q.earlier cells s queue given → given ≡ closed_answers m q
   machine_complete cells s queue given op i g =
-      query_complete (world_of m q) (net_of q.nodes) (below_root q.nodes) (value_of m q) (least_of m q) query_planned q.first [] (omega (arith, shaped.two)) cells s queue given i g
-      ∙ ap (λ o. given_from o q.first (value_of m q (below_root q.nodes - 1)) q.first (least_of m q (below_root q.nodes - 1))) op ∙ query_answers
+      query_complete (world_of m q) (net_of q.nodes) (below_root q.nodes) (value_of m q) (least_of m q) query_planned q.start q.earlier (omega (arith, shaped.two)) cells s queue given i g
+      ∙ ap (λ o. q.earlier ++ given_from o q.first (value_of m q (below_root q.nodes - 1)) q.start (least_of m q (below_root q.nodes - 1))) op ∙ query_answers g.root.began

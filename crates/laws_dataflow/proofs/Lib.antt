@@ -19,6 +19,6 @@ pub mod LeastLemmas
 pub mod PlanLemmas
 pub mod AnswerLemmas
 pub mod MachineLemmas
-pub mod Walks
 pub mod BeatLemmas
 pub mod ForgetLemmas
+pub mod OpeningLemmas

@@ -17,7 +17,7 @@ use Rattle.laws_dataflow.specs.Nets.{World, Cell}
 use Rattle.laws_dataflow.specs.Operators.{net_of}
 use Rattle.laws_dataflow.specs.Worlds.{Beat, Change, fed_cell, appended as with_more}
 use Rattle.laws_dataflow.specs.Queries.{GoodQuery}
-use Rattle.laws_dataflow.specs.Plans.{AreWide, IsPlanOf, below_root, inputs_of, least_of, value_in, value_of, world_by, world_of}
+use Rattle.laws_dataflow.specs.Plans.{AreWide, IsPlanOf, below_root, comes, inputs_of, least_of, value_in, value_of, world_by, world_of}
 use Rattle.values.specs.Answers.{shown_at}
 use Rattle.laws_dataflow.proofs.AnswerLemmas.{query_planned, shaped}
 use Rattle.laws_dataflow.proofs.BagLemmas.{same_of}
@@ -25,21 +25,21 @@ use Rattle.laws_dataflow.proofs.ChangeLemmas.{append_changes}
 use Rattle.laws_dataflow.proofs.QueryLemmas.{query_beats, query_changes}
 
 -- A HEARTBEAT: the inputs are as before
-pub machine_beats : (vs : List ℕ) (m m2 : Machine) (q : Registered) → IsPlanOf vs q.meaning q.nodes → AreWide vs m q → inputs_of m2 q ≡ inputs_of m q
+pub machine_beats : (vs : List ℕ) (m m2 : Machine) (q : Registered) → IsPlanOf vs q.meaning q.nodes → AreWide vs m q → inputs_of m2 q ≡ inputs_of m q → comes m2.streams q.places ≡ comes m.streams q.places
     → (fresh : ℕ → List Element) (more : ℕ → List (Entry Row)) → Beat (world_of m q) (world_of m2 q).closed fresh more → (cells : ℕ → Cell) (s : State) (queue : List (Entry Row)) (given : List (ℕ × Row))
-    → GoodQuery (world_of m q) (net_of q.nodes) (below_root q.nodes) (value_of m q) q.first [] cells s queue given
-    → GoodQuery (world_of m2 q) (net_of q.nodes) (below_root q.nodes) (value_of m2 q) q.first [] (λ k. fed_cell fresh more (net_of q.nodes k) (cells k)) s queue given
-machine_beats vs m m2 q p wide same fresh more b cells s queue given g =
-    subst (λ is. GoodQuery (world_by q.first q.meaning.windows is (opens m2.streams q.places)) (net_of q.nodes) (below_root q.nodes) (value_in q.nodes (λ t. shown_at q.first q.meaning.windows t is)) q.first []
-    (λ k. fed_cell fresh more (net_of q.nodes k) (cells k)) s queue given) (sym same)
-    (query_beats (world_of m q) (net_of q.nodes) (below_root q.nodes) (value_of m q) (least_of m q) (query_planned vs m q p wide) q.first [] (world_of m2 q).closed fresh more b cells s queue given g)
+    → GoodQuery (world_of m q) (net_of q.nodes) (below_root q.nodes) (value_of m q) q.start q.earlier cells s queue given
+    → GoodQuery (world_of m2 q) (net_of q.nodes) (below_root q.nodes) (value_of m2 q) q.start q.earlier (λ k. fed_cell fresh more (net_of q.nodes k) (cells k)) s queue given
+machine_beats vs m m2 q p wide same came fresh more b cells s queue given g =
+    subst₂ (λ is cs. GoodQuery (world_by q.first q.meaning.windows is (opens m2.streams q.places) cs) (net_of q.nodes) (below_root q.nodes) (value_in q.nodes (λ t. shown_at q.first q.meaning.windows t is)) q.start q.earlier
+    (λ k. fed_cell fresh more (net_of q.nodes k) (cells k)) s queue given) (sym same) (sym came)
+    (query_beats (world_of m q) (net_of q.nodes) (below_root q.nodes) (value_of m q) (least_of m q) (query_planned vs m q p wide) q.start q.earlier (world_of m2 q).closed fresh more b cells s queue given g)
 
 -- AN APPEND: to each source these elements come, at instants that are not closed
 pub machine_appends : (vs : List ℕ) (m m2 : Machine) (q : Registered) → IsPlanOf vs q.meaning q.nodes → AreWide vs m q → AreWide vs m2 q → opens m2.streams q.places ≡ opens m.streams q.places
     → (es : ℕ → List Element) → ((k : ℕ) → get_or (inputs_of m2 q) k [] ≡ get_or (inputs_of m q) k [] ++ es k) → ((k : ℕ) → AreFrom ((world_of m q).closed k) (es k))
     → (cells : ℕ → Cell) (s : State) (queue : List (Entry Row)) (given : List (ℕ × Row))
-    → GoodQuery (world_of m q) (net_of q.nodes) (below_root q.nodes) (value_of m q) q.first [] cells s queue given
-    → GoodQuery (world_of m2 q) (net_of q.nodes) (below_root q.nodes) (value_of m2 q) q.first [] cells s queue given
+    → GoodQuery (world_of m q) (net_of q.nodes) (below_root q.nodes) (value_of m q) q.start q.earlier cells s queue given
+    → GoodQuery (world_of m2 q) (net_of q.nodes) (below_root q.nodes) (value_of m2 q) q.start q.earlier cells s queue given
 machine_appends vs m m2 q p wide wide2 same es more from cells s queue given g =
     let w : World = world_of m q in
     let u : World = world_of m2 q in
@@ -49,7 +49,7 @@ machine_appends vs m m2 q p wide wide2 same es more from cells s queue given g =
       agree = λ k t i j. Same-trans (c.agree k t i j) (same_of (ap (window_rows q.first (w.windows k) t) (sym (more k))));
       windows = λ k h e n queue2 i good. subst₂ (λ is z. GoodWindow q.first (w.windows k) is z h e n queue2) (sym (more k)) (sym (closed_same k)) (c.windows k h e n queue2 i good);
     } in
-    query_changes w (net_of q.nodes) (below_root q.nodes) (value_of m q) (least_of m q) (query_planned vs m q p wide) q.first [] u 0 (least_of m2 q) (value_of m2 q) change_to refl (query_planned vs m2 q p wide2)
+    query_changes w (net_of q.nodes) (below_root q.nodes) (value_of m q) (least_of m q) (query_planned vs m q p wide) q.start q.earlier u 0 (least_of m2 q) (value_of m2 q) change_to refl (query_planned vs m2 q p wide2)
     (omega (arith, (shaped vs m q p wide).two)) (omega arith) cells s queue given (λ k kc. omega arith) g
 
 -- STREAMS of the machine after a command
@@ -70,6 +70,12 @@ pub heartbeat_inputs : (m : Machine) (q : Registered) (n : ℕ) (at : ℤ) → i
 heartbeat_inputs m q n at =
     map_each (input_at (change n (closed_to at) m.streams) q.first) (input_at m.streams q.first) q.places
     (λ p. unchanged (closed_to at) (λ s. input_of p.arrivals q.first s.elements) [] (λ s. refl) n p.stream m.streams)
+
+-- nor how many rows came
+pub heartbeat_comes : (m : Machine) (q : Registered) (n : ℕ) (at : ℤ) → comes (after m (Heartbeat n at) 0).streams q.places ≡ comes m.streams q.places
+heartbeat_comes m q n at =
+    map_each (λ (p : Place). option_map_or (λ s. s.arrivals) (slice_get (change n (closed_to at) m.streams) p.stream) 0) (λ (p : Place). option_map_or (λ s. s.arrivals) (slice_get m.streams p.stream) 0) q.places
+    (λ p. unchanged (closed_to at) (λ s. s.arrivals) 0 (λ s. refl) n p.stream m.streams)
 
 -- an append changes no open instant
 pub append_opens : (m : Machine) (q : Registered) (n : ℕ) (rows : List (ℤ × List (Option ℤ))) → opens (after m (Append n rows) 0).streams q.places ≡ opens m.streams q.places

@@ -1,5 +1,5 @@
 -- A query: what keeps it good, and what was given of its answers.
-use Rattle.std.proofs.Common.{◌≡◌, ◌≢◌, ℕ, ◌-◌, ◌<◌, ◌≤◌, Bool, List, ◌∷◌, ◌++◌, ◌⊎◌, ⊎_elim, refl, sym, ap, ◌∙◌, subst, subst₂, arith}
+use Rattle.std.proofs.Common.{◌≡◌, ◌≢◌, ℕ, ◌-◌, ◌<◌, ◌≤◌, Bool, Some, List, ◌∷◌, ◌++◌, ◌⊎◌, ⊎_elim, refl, sym, ap, ◌∙◌, subst, subst₂, arith}
 use Rattle.values.specs.Row.{Row}
 use Rattle.values.specs.Window.{Element}
 use Rattle.values.specs.Resolved.{operator_of}
@@ -55,13 +55,13 @@ module _ (w : World) (nodes : ℕ → Node) (count : ℕ) (v : ℕ → ℕ → L
       }
 
   -- of the root, at rows and at a tick
-  pub query_root_takes_rows : (cells : ℕ → Cell) (s new : State) (n : ℕ) (xs : List (Bool × Row)) (q : List (Entry Row)) (given : List (ℕ × Row)) → StepLaw s (Rows n xs) new → new.operator ≡ s.operator
+  pub query_root_takes_rows : (cells : ℕ → Cell) (s new : State) (n : ℕ) (xs : List (Bool × Row)) (q : List (Entry Row)) (given : List (ℕ × Row)) → StepLaw s (Rows n xs) new → new.operator ≡ s.operator → new.last ≡ s.last
       → (g : GoodQuery w nodes count v start earlier cells s (batch n xs ++ q) given) → g.root.opens ≡ n → GoodQuery w nodes count v start earlier cells new q given
-  query_root_takes_rows cells s new n xs q given law same g e = record { good = g.good; root = root_takes_rows w.first start earlier (v (count - 1)) s new n xs q _ _ given law same g.root e }
+  query_root_takes_rows cells s new n xs q given law same told g e = record { good = g.good; root = root_takes_rows w.first start earlier (v (count - 1)) s new n xs q _ _ given law same told g.root e }
 
-  pub query_root_takes_tick : (cells : ℕ → Cell) (s new : State) (n : ℕ) (q : List (Entry Row)) (given : List (ℕ × Row)) → StepLaw s (Tick n) new → new.operator ≡ s.operator
+  pub query_root_takes_tick : (cells : ℕ → Cell) (s new : State) (n : ℕ) (q : List (Entry Row)) (given : List (ℕ × Row)) → StepLaw s (Tick n) new → new.operator ≡ s.operator → new.last ≡ Some n
       → GoodQuery w nodes count v start earlier cells s (TickAt n ∷ q) given → GoodQuery w nodes count v start earlier cells new q (given ++ out (Tick n) (near s (Tick n)))
-  query_root_takes_tick cells s new n q given law same g = record { good = g.good; root = root_takes_tick w.first start earlier (v (count - 1)) s new n q _ _ given law same g.root }
+  query_root_takes_tick cells s new n q given law same told g = record { good = g.good; root = root_takes_tick w.first start earlier (v (count - 1)) s new n q _ _ given law same told g.root }
 
   -- WHAT WAS GIVEN IS A BEGINNING of the answers of the instants that are closed
   pub query_begins : 0 < count → (cells : ℕ → Cell) (s : State) (q : List (Entry Row)) (given : List (ℕ × Row)) → GoodQuery w nodes count v start earlier cells s q given

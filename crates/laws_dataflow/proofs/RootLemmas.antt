@@ -1,4 +1,5 @@
 -- The root: its turns, and what was given.
+use Rattle.std.specs.Prelude.{Some}
 use Rattle.std.proofs.Common.{◌≡◌, ℕ, zero, suc, ◌+◌, ◌-◌, ◌<◌, ◌≤◌, Bool, true, false, cond, nat_le, List, [], ◌∷◌, ◌++◌, map, flat_map, refl, sym, ap, ap₂, ◌∙◌, subst, arith, append-nil, append_assoc, le-leb, leb-true}
 use Rattle.std.specs.List.{range_with_len}
 use Rattle.std.proofs.lemmas.Grind.{flat_map-append}
@@ -20,7 +21,7 @@ use Rattle.row_bags.proofs.OrderLemmas.{weigh-without}
 use Rattle.to_stream.specs.Turns.{State, near, out}
 use Rattle.to_stream.specs.Law.{Stands, StepLaw}
 use Rattle.laws_dataflow.specs.Nets.{batch}
-use Rattle.laws_dataflow.specs.Queries.{before, given_at, given_from, GoodRoot}
+use Rattle.laws_dataflow.specs.Queries.{before, behind, given_at, given_from, GoodRoot}
 use Rattle.laws_dataflow.proofs.BagLemmas.{same_perm}
 
 -- A BAG WITH SIGNED ROWS ADDED, where it may be cut anywhere
@@ -92,9 +93,9 @@ given_same op first v u start (suc n) f h =
 
 module _ (first start : ℕ) (earlier : List (ℕ × Row)) (v : ℕ → List Row) where
   -- rows are taken
-  pub root_takes_rows : (s new : State) (n : ℕ) (xs : List (Bool × Row)) (q : List (Entry Row)) (below : List Row) (m : ℕ) (given : List (ℕ × Row)) → StepLaw s (Rows n xs) new → new.operator ≡ s.operator
+  pub root_takes_rows : (s new : State) (n : ℕ) (xs : List (Bool × Row)) (q : List (Entry Row)) (below : List Row) (m : ℕ) (given : List (ℕ × Row)) → StepLaw s (Rows n xs) new → new.operator ≡ s.operator → new.last ≡ s.last
       → (g : GoodRoot first start earlier v s (batch n xs ++ q) below m given) → g.opens ≡ n → GoodRoot first start earlier v new q below m given
-  root_takes_rows s new n xs q below m given law same g e =
+  root_takes_rows s new n xs q below m given law same told g e =
       let edge : Leads v g.whole n (batch n xs ++ q) below m = subst (λ i. Leads v g.whole i (batch n xs ++ q) below m) e g.edge in
       let legal : Legal g.whole xs = Leads-front_legal n xs q edge in
       let a : After g.whole xs = after xs g.whole legal in
@@ -105,15 +106,16 @@ module _ (first start : ℕ) (earlier : List (ℕ × Row)) (v : ℕ → List Row
         edge = Leads-take_rows n xs q a.adds edge;
         began = g.began;
         going = omega (arith, g.going, e);
+        mark = sym e ∙ g.mark ∙ ap (behind first) (sym told);
         stands = law g.last g.whole a.bag g.stands legal a.adds;
         last_is = subst (λ i. Same g.last (before first v i)) e g.last_is;
         given_is = g.given_is ∙ ap₂ (λ o i. earlier ++ given_from (operator_of o) first v start i) (sym same) e;
       }
 
   -- a tick is taken, and the answers of its instant are given
-  pub root_takes_tick : (s new : State) (n : ℕ) (q : List (Entry Row)) (below : List Row) (m : ℕ) (given : List (ℕ × Row)) → StepLaw s (Tick n) new → new.operator ≡ s.operator
+  pub root_takes_tick : (s new : State) (n : ℕ) (q : List (Entry Row)) (below : List Row) (m : ℕ) (given : List (ℕ × Row)) → StepLaw s (Tick n) new → new.operator ≡ s.operator → new.last ≡ Some n
       → GoodRoot first start earlier v s (TickAt n ∷ q) below m given → GoodRoot first start earlier v new q below m (given ++ out (Tick n) (near s (Tick n)))
-  root_takes_tick s new n q below m given law same g =
+  root_takes_tick s new n q below m given law same told g =
       let k : (n ≡ g.opens) × Same g.whole (v g.opens) × Leads v g.whole (g.opens + 1) q below m = Leads-take_tick g.edge in
       let l : (out (Tick n) (near s (Tick n)) ≡ map (λ r. (n, r)) (in_order row_cmp (streamed (operator_of s.operator) g.last g.whole))) × Stands new g.whole g.whole = law g.last g.whole g.stands in
       let op : StreamOperator = operator_of s.operator in
@@ -126,6 +128,7 @@ module _ (first start : ℕ) (earlier : List (ℕ × Row)) (v : ℕ → List Row
         edge = k.2;
         began = g.began;
         going = omega (arith, g.going);
+        mark = (let up : g.opens + 1 ≡ n + 1 = omega (arith, k.0) in up ∙ ap (behind first) (sym told));
         stands = l.1;
         last_is = subst (λ z. Same g.whole z) (sym (before_next first v g.opens (omega (arith, g.began, g.going)))) k.1;
         given_is = ap₂ (λ x y. x ++ y) g.given_is (now ∙ sym (given_one op first v g.opens))
@@ -138,7 +141,7 @@ module _ (first start : ℕ) (earlier : List (ℕ × Row)) (v : ℕ → List Row
   pub root_fed : (s : State) (q outs : List (Entry Row)) (below below2 : List Row) (m m2 : ℕ) (given : List (ℕ × Row)) → Leads v below m outs below2 m2
       → GoodRoot first start earlier v s q below m given → GoodRoot first start earlier v s (q ++ outs) below2 m2 given
   root_fed s q outs below below2 m m2 given l g =
-      record { whole = g.whole; last = g.last; opens = g.opens; edge = Leads-append g.edge l; began = g.began; going = g.going; stands = g.stands; last_is = g.last_is; given_is = g.given_is }
+      record { whole = g.whole; last = g.last; opens = g.opens; edge = Leads-append g.edge l; began = g.began; going = g.going; mark = g.mark; stands = g.stands; last_is = g.last_is; given_is = g.given_is }
 
   -- what was given is a beginning of the answers of the instants that are closed
   pub root_begins : (s : State) (q : List (Entry Row)) (below : List Row) (m until : ℕ) (given : List (ℕ × Row)) → m ≤ until
@@ -163,6 +166,7 @@ root_changed first start earlier v u s q below m given h g = record {
   edge = Leads-values (λ t i j. h t (omega (arith, i, g.going)) j) g.edge;
   began = g.began;
   going = g.going;
+  mark = g.mark;
   stands = g.stands;
   last_is = Same-trans g.last_is (before_same first v u g.opens (λ i j e. h i (omega (arith, e, g.going)) (omega (arith, e, Leads-after g.edge))));
   given_is = g.given_is ∙ ap (λ z. earlier ++ z) (given_same (operator_of s.operator) first v u start (g.opens - start) g.began (λ t i j. h t i (omega (arith, j, g.going, Leads-after g.edge))));
@@ -180,6 +184,7 @@ root_restarts first start earlier v s q below m given g =
       edge = g.edge;
       began = omega (arith, g.began, g.going);
       going = omega arith;
+      mark = g.mark;
       stands = g.stands;
       last_is = g.last_is;
       given_is = sym (ap (λ n. given ++ flat_map (given_at (operator_of s.operator) first v) (range_with_len g.opens n)) e ∙ append-nil given);

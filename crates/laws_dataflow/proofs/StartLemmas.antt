@@ -78,6 +78,7 @@ query_starts w nodes count v op none now empty =
         edge = Leads-none v_top w.first (Same-refl []);
         began = omega arith;
         going = omega arith;
+        mark = refl;
         stands = fresh_stands op;
         last_is = before_first w.first v_top;
         given_is = ap (λ n. flat_map (given_at (operator_of op) w.first v_top) (range_with_len w.first n)) (sym e);
@@ -85,7 +86,8 @@ query_starts w nodes count v op none now empty =
     }
 
 -- of the machine: nothing counts for it that came before its registration, and its first instant lies above all that is closed
-pub machine_starts : (m : Machine) (q : Registered) (op : Told) → ((k : ℕ) → get_or (inputs_of m q) k [] ≡ []) → ((k : ℕ) → get_or (opens m.streams q.places) k 0 ≤ q.first)
-    → GoodQuery (world_of m q) (net_of q.nodes) (below_root q.nodes) (value_of m q) q.first [] (λ k. fresh_cell q.first (net_of q.nodes k)) (fresh_root op) [] []
-machine_starts m q op none below =
-    query_starts (world_of m q) (net_of q.nodes) (below_root q.nodes) (value_of m q) op none (λ k. omega (arith, below k)) (λ k h. plan_starts (get_or q.nodes k (WindowNode 0)))
+pub machine_starts : (m : Machine) (q : Registered) (op : Told) → q.start ≡ q.first → q.earlier ≡ [] → ((k : ℕ) → get_or (inputs_of m q) k [] ≡ []) → ((k : ℕ) → get_or (opens m.streams q.places) k 0 ≤ q.first)
+    → GoodQuery (world_of m q) (net_of q.nodes) (below_root q.nodes) (value_of m q) q.start q.earlier (λ k. fresh_cell q.first (net_of q.nodes k)) (fresh_root op) [] []
+machine_starts m q op starts early none below =
+    subst₂ (λ z l. GoodQuery (world_of m q) (net_of q.nodes) (below_root q.nodes) (value_of m q) z l (λ k. fresh_cell q.first (net_of q.nodes k)) (fresh_root op) [] []) (sym starts) (sym early)
+    (query_starts (world_of m q) (net_of q.nodes) (below_root q.nodes) (value_of m q) op none (λ k. omega (arith, below k)) (λ k h. plan_starts (get_or q.nodes k (WindowNode 0))))

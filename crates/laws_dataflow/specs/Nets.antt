@@ -30,12 +30,13 @@ IsLawful (window k) = Unit {0}
 IsLawful (unary f x) = (xs ys : List Row) → Same xs ys → Same (f.value xs) (f.value ys)
 IsLawful (join f x y) = (xs ys us vs : List Row) → Same xs ys → Same us vs → Same (f.value xs us) (f.value ys vs)
 
--- what a query reads: its first instant, and of each source its window, its input, and the first instant that is not closed
+-- what a query reads: its first instant, and of each source its window, its input, the first instant that is not closed, and how many rows ever came to its stream
 pub record World : Type 0 where
   pub first : ℕ
   pub windows : ℕ → Window
   pub inputs : ℕ → List Element
   pub closed : ℕ → ℕ
+  pub came : ℕ → ℕ
 
 -- the bag of the window k at the instant t
 abbrev pub bag_at : World → ℕ → ℕ → List Row

@@ -8,7 +8,9 @@ use Rattle.plan.specs.Nodes.{Window as WindowNode, Select, Join, Project, Group,
 use Rattle.plan.specs.Build.{plan_of}
 use Rattle.plan.specs.Paths.{takes}
 use Rattle.plan.specs.Scope.{Scoped, Tables}
-use Rattle.reference.specs.Machine.{Machine, Registered, opens, input_at}
+use Rattle.std.specs.Prelude.{slice_get}
+use Rattle.std.specs.Option.{option_map_or}
+use Rattle.reference.specs.Machine.{Machine, Place, Registered, Stream, opens, input_at}
 use Rattle.laws_dataflow.specs.Nets.{World}
 
 -- CONSUMERS
@@ -47,15 +49,19 @@ abbrev pub least_in : List plan.Node → (ℕ → ℕ) → ℕ → ℕ
 least_in ns closed k = get_or (leasts_of closed [] ns) k 0
 
 -- the world of sources with these windows, inputs and open instants; instants below the first count as closed
-abbrev pub world_by : ℕ → List Window → List (List Element) → List ℕ → World
-world_by first ws inputs open_at = record { first = first; windows = λ k. get_or ws k Unbounded; inputs = λ k. get_or inputs k []; closed = λ k. max first (get_or open_at k 0) }
+abbrev pub world_by : ℕ → List Window → List (List Element) → List ℕ → List ℕ → World
+world_by first ws inputs open_at came = record { first = first; windows = λ k. get_or ws k Unbounded; inputs = λ k. get_or inputs k []; closed = λ k. max first (get_or open_at k 0); came = λ k. get_or came k 0 }
 
 -- A REGISTERED QUERY OF THE MACHINE
 abbrev pub inputs_of : Machine → Registered → List (List Element)
 inputs_of m q = map (input_at m.streams q.first) q.places
 
+-- how many rows ever came to the stream of each source
+abbrev pub comes : List Stream → List Place → List ℕ
+comes streams places = map (λ p. option_map_or (λ s. s.arrivals) (slice_get streams p.stream) 0) places
+
 abbrev pub world_of : Machine → Registered → World
-world_of m q = world_by q.first q.meaning.windows (inputs_of m q) (opens m.streams q.places)
+world_of m q = world_by q.first q.meaning.windows (inputs_of m q) (opens m.streams q.places) (comes m.streams q.places)
 
 abbrev pub bags_of : Machine → Registered → ℕ → List (List Row)
 bags_of m q t = shown_at q.first q.meaning.windows t (inputs_of m q)

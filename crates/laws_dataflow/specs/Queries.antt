@@ -1,4 +1,5 @@
 -- The root of a query, and what was given of its answers.
+use Rattle.std.specs.Prelude.{◌+◌, Option, Some, None}
 use Rattle.std.specs.Prelude.{ℕ, zero, suc, ◌-◌, ◌<◌, ◌≤◌, ◌≡◌, cond, nat_le, List, [], ◌++◌, map}
 use Rattle.std.specs.List.{flat_map, range_with_len}
 use Rattle.values.specs.Row.{Row, row_cmp}
@@ -26,6 +27,11 @@ given_at op first v t = map (λ r. (t, r)) (in_order row_cmp (streamed op (befor
 abbrev pub given_from : StreamOperator → ℕ → (ℕ → List Row) → ℕ → ℕ → List (ℕ × Row)
 given_from op first v start until = flat_map (given_at op first v) (range_with_len start (until - start))
 
+-- the first instant that is open behind the last tick
+abbrev pub behind : ℕ → Option ℕ → ℕ
+behind first None = first
+behind first (Some t) = t + 1
+
 -- THE ROOT: its state and queue, over an operator that has put out the bag `below` and stands at the open instant m. It has given `earlier`, and
 -- behind it the answers from the instant `start` on
 pub record GoodRoot (first start : ℕ) (earlier : List (ℕ × Row)) (v : ℕ → List Row) (s : State) (q : List (Entry Row)) (below : List Row) (m : ℕ) (given : List (ℕ × Row)) : Type 0 where
@@ -36,6 +42,7 @@ pub record GoodRoot (first start : ℕ) (earlier : List (ℕ × Row)) (v : ℕ �
   pub edge : Leads v whole opens q below m
   pub began : first ≤ start
   pub going : start ≤ opens
+  pub mark : opens ≡ behind first s.last
   pub stands : Stands s last whole
   pub last_is : Same last (before first v opens)
   pub given_is : given ≡ earlier ++ given_from (operator_of s.operator) first v start opens

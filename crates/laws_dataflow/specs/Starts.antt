@@ -1,4 +1,5 @@
 -- A query at its registration.
+use Rattle.std.specs.Prelude.{None}
 use Rattle.std.specs.Prelude.{◌≡◌, ℕ, true, false, []}
 use Rattle.values.specs.declared.resolved.StreamOperator.{StreamOperator}
 use Rattle.op_queue.specs.Signed.{Same}

@@ -7,19 +7,19 @@ use Rattle.std.proofs.lemmas.Bool.{cases_lt}
 use Rattle.std.proofs.lemmas.List.{get_or_past, length-map}
 use Rattle.values.specs.Row.{Row}
 use Rattle.values.specs.Window.{input_of}
-use Rattle.values.specs.Answers.{answers, shown_at}
+use Rattle.values.specs.Answers.{shown_at}
 use Rattle.operators.specs.Operators.{PlainOperator, ready}
 use Rattle.plan.specs.Nodes as plan
 use Rattle.plan.specs.Nodes.{Window, Select, Join, Project, Group, Distinct, ToStream}
 use Rattle.plan.specs.Scope.{Tables}
 use Rattle.plan.proofs.Lists.{each-weaken, each_at}
 use Rattle.reference.specs.Commands.{Declare, first_fault}
-use Rattle.reference.specs.Machine.{Machine, Place, Registered, Stream, closed_answers, opens}
+use Rattle.reference.specs.Machine.{Machine, Place, Registered, Stream, answers_from, closed_answers, opens}
 use Rattle.stream_store.specs.Closing.{closed_of}
 use Rattle.laws_dataflow.specs.Laws.{IsGood}
 use Rattle.laws_dataflow.specs.Nets.{Cell}
 use Rattle.laws_dataflow.specs.Operators.{net_of}
-use Rattle.laws_dataflow.specs.Plans.{below_root, inputs_of, value_in, world_by, world_of}
+use Rattle.laws_dataflow.specs.Plans.{below_root, comes, inputs_of, value_in, world_by, world_of}
 use Rattle.laws_dataflow.specs.Queries.{GoodQuery}
 use Rattle.laws_queries.specs.Counts.{AreFew, StaysWithin, most_rows}
 use Rattle.laws_queries.specs.Machines.{IsQuery, columns_of, widths_of}
@@ -57,6 +57,9 @@ module _ (m : Machine) (ts : List Stream) (q : Registered) (is : IsQuery m.strea
   opens_left : opens (m.streams ++ ts) q.places ≡ opens m.streams q.places
   opens_left = by_stream (λ o p. option_map_or (λ s. s.first_open) o 0)
 
+  comes_left : comes (m.streams ++ ts) q.places ≡ comes m.streams q.places
+  comes_left = by_stream (λ o p. option_map_or (λ s. s.arrivals) o 0)
+
   widths_left : widths_of (m.streams ++ ts) q ≡ widths_of m.streams q
   widths_left = by_stream (λ o p. option_map_or (λ s. length s.columns) o 0)
 
@@ -84,22 +87,25 @@ module _ (m : Machine) (ts : List Stream) (q : Registered) (is : IsQuery m.strea
   logs_left k = ap (λ o. option_map_or closed_of o no_log) (left_stream m.streams ts (source_of q (node_at q k)) (node_there (node_at q k)))
 
   closed_left : closed_answers (record m { streams = m.streams ++ ts }) q ≡ closed_answers m q
-  closed_left = ap₂ (λ os es. answers q.meaning q.first (unwrap_or (reduce min os) 0) es) opens_left inputs_left
+  closed_left = ap₂ (λ os es. q.earlier ++ answers_from q.meaning q.first q.start (unwrap_or (reduce min os) 0) es) opens_left inputs_left
 
   inner_left : (ws : List ℕ) (k : ℕ) (o : PlainOperator) (c : Cell) → RunsAt ws m q k o c → RunsAt ws (record m { streams = m.streams ++ ts }) q k o c
   inner_left ws k o c r = record {
     runs = subst (λ g. Runs (world_of (record m { streams = m.streams ++ ts }) q) (width_at ws k) (node_at q k) o g c) (sym (logs_left k))
-        (subst₂ (λ es os. Runs (world_by q.first q.meaning.windows es os) (width_at ws k) (node_at q k) o (log_at m q k) c) (sym inputs_left) (sym opens_left) r.runs);
+        (subst (λ cs. Runs (world_by q.first q.meaning.windows (inputs_of (record m { streams = m.streams ++ ts }) q) (opens (m.streams ++ ts) q.places) cs) (width_at ws k) (node_at q k) o (log_at m q k) c) (sym comes_left)
+        (subst₂ (λ es os. Runs (world_by q.first q.meaning.windows es os (comes m.streams q.places)) (width_at ws k) (node_at q k) o (log_at m q k) c) (sym inputs_left) (sym opens_left) r.runs));
     wide = r.wide;
-    few = subst₂ (λ es os. AreFew (world_by q.first q.meaning.windows es os) q.nodes (node_at q k) c) (sym inputs_left) (sym opens_left) r.few;
+    few = subst (λ cs. AreFew (world_by q.first q.meaning.windows (inputs_of (record m { streams = m.streams ++ ts }) q) (opens (m.streams ++ ts) q.places) cs) q.nodes (node_at q k) c) (sym comes_left)
+        (subst₂ (λ es os. AreFew (world_by q.first q.meaning.windows es os (comes m.streams q.places)) q.nodes (node_at q k) c) (sym inputs_left) (sym opens_left) r.few);
     inboxes = subst (λ g. HasInboxes q g (node_at q k) o) (sym (logs_left k)) r.inboxes;
   }
 
   runs_left : (vs ws : List ℕ) (os : List PlainOperator) (given : List (ℕ × Row)) → IsRunning vs ws m q os given → IsRunning vs ws (record m { streams = m.streams ++ ts }) q os given
   runs_left vs ws os given r =
       let good2 : IsGood (record m { streams = m.streams ++ ts }) q r.cells r.held r.queue given =
-      subst₂ (λ es us. GoodQuery (world_by q.first q.meaning.windows es us) (net_of q.nodes) (below_root q.nodes) (value_in q.nodes (λ t. shown_at q.first q.meaning.windows t es)) q.first [] r.cells r.held r.queue given)
-      (sym inputs_left) (sym opens_left) r.good in
+      subst (λ cs. GoodQuery (world_by q.first q.meaning.windows (inputs_of (record m { streams = m.streams ++ ts }) q) (opens (m.streams ++ ts) q.places) cs) (net_of q.nodes) (below_root q.nodes) (value_in q.nodes (λ t. shown_at q.first q.meaning.windows t (inputs_of (record m { streams = m.streams ++ ts }) q))) q.start q.earlier r.cells r.held r.queue given) (sym comes_left)
+      (subst₂ (λ es us. GoodQuery (world_by q.first q.meaning.windows es us (comes m.streams q.places)) (net_of q.nodes) (below_root q.nodes) (value_in q.nodes (λ t. shown_at q.first q.meaning.windows t es)) q.start q.earlier r.cells r.held r.queue given)
+      (sym inputs_left) (sym opens_left) r.good) in
       let root : ℕ = below_root q.nodes in
       record {
         stands = record {

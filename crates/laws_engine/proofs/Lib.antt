@@ -16,3 +16,12 @@ pub mod HistoryLemmas
 pub mod IdleLemmas
 pub mod AskLemmas
 pub mod RestingLemmas
+pub mod OpenedLemmas
+pub mod ForgottenLemmas
+pub mod ConditionLemmas
+pub mod NameLemmas
+pub mod FoundLemmas
+pub mod StartLemmas
+pub mod AnswerLemmas
+pub mod InstantLemmas
+pub mod BoundLemmas

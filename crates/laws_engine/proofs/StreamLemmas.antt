@@ -1,17 +1,18 @@
 -- What an append and a heartbeat leave as it was, of the machine's streams and of a query's answers.
-use Rattle.std.proofs.Common.{◌≡◌, ℕ, ℤ, zero, suc, ◌-◌, ◌≤◌, ◌++◌, fold, min, max, ⊎_elim, Option, Some, None, unwrap_or, List, [], ◌∷◌, length, map, refl, sym, ap, ap₂, ◌∙◌, subst, arith, append_assoc}
+use Rattle.std.proofs.Common.{◌≡◌, ℕ, ℤ, zero, suc, ◌+◌, ◌-◌, ◌≤◌, ◌++◌, fold, min, max, ⊎_elim, Option, Some, None, unwrap_or, List, [], ◌∷◌, length, map, refl, sym, ap, ap₂, ◌∙◌, subst, arith, append_assoc}
 use Rattle.std.specs.Prelude.{slice_get}
 use Rattle.std.specs.List.{AllByRecursion, flat_map, range_with_len, reduce}
 use Rattle.std.specs.Option.{option_map, option_map_or}
 use Rattle.std.proofs.lemmas.Bool.{cases_lt}
 use Rattle.values.specs.Row.{Row}
 use Rattle.values.specs.Window.{Element}
-use Rattle.values.specs.Answers.{answers, answers_at}
-use Rattle.values.proofs.Closed.{AllFrom, Longer, answers-closed}
-use Rattle.values.proofs.Worlds.{answers-more}
+use Rattle.std.proofs.lemmas.Grind.{flat_map-append}
+use Rattle.values.specs.Answers.{Resolved, answers_at}
+use Rattle.values.proofs.Closed.{AllFrom, Longer, shown-longer}
+use Rattle.values.proofs.Worlds.{range_split, same_over}
 use Rattle.windows.specs.Laws.{Each}
 use Rattle.reference.specs.Commands.{Append, Heartbeat, after, appended, change, closed_to, first_fault}
-use Rattle.reference.specs.Machine.{Machine, Place, Registered, Stream, closed_answers, input_at, until_for}
+use Rattle.reference.specs.Machine.{Machine, Place, Registered, Stream, answers_from, closed_answers, input_at, until_for}
 use Rattle.stream_store.specs.Closing.{QueuesGain}
 use Rattle.laws_dataflow.specs.Plans.{inputs_of}
 use Rattle.laws_dataflow.proofs.MachineLemmas.{append_inputs, append_opens, arriving, heartbeat_inputs}
@@ -75,6 +76,26 @@ least_grows f g (p ∷ ps) h = fold_grows (f p) (g p) f g ps (h p) h
 abbrev open_at : List Stream → Place → ℕ
 open_at ss p = option_map_or (λ s. s.first_open) (slice_get ss p.stream) 0
 
+-- ANSWERS from an instant on
+answers_closed : (q : Resolved) (from start until : ℕ) (is js : List (List Element)) → Longer until is js → answers_from q from start until is ≡ answers_from q from start until js
+answers_closed q from start until is js h = ⊎_elim
+    (λ early. let none : until - start ≡ 0 = omega (arith, early) in
+    ap (λ k. flat_map (answers_at q from is) (range_with_len start k)) none ∙ sym (ap (λ k. flat_map (answers_at q from js) (range_with_len start k)) none))
+    (λ late. same_over q from is js start (until - start) (λ u lt le. shown-longer from until u (omega (arith, lt, late)) q.windows is js h))
+    (cases_lt until start)
+
+answers_more : (q : Resolved) (from start u v : ℕ) (is : List (List Element)) → u ≤ v → (more : List (ℕ × Row)) × (answers_from q from start v is ≡ answers_from q from start u is ++ more)
+answers_more q from start u v is k = ⊎_elim
+    (λ early. let none : u - start ≡ 0 = omega (arith, early) in
+    (answers_from q from start v is, ap (λ z. flat_map (answers_at q from is) (range_with_len start z) ++ answers_from q from start v is) (sym none)))
+    (λ late. let e : v - start ≡ (u - start) + (v - u) = omega (arith, late, k) in (
+      flat_map (answers_at q from is) (range_with_len (start + (u - start)) (v - u)),
+      ap (λ z. flat_map (answers_at q from is) (range_with_len start z)) e
+          ∙ ap (flat_map (answers_at q from is)) (range_split q from is is start (u - start) (v - u))
+          ∙ flat_map-append (answers_at q from is) (range_with_len start (u - start)) (range_with_len (start + (u - start)) (v - u)),
+    ))
+    (cases_lt u start)
+
 -- AN APPEND
 all_from : (u v : ℕ) (es : List Element) → u ≤ v → Each (λ e. v ≤ e.instant) es → AllFrom u es
 all_from u v [] l h = tt
@@ -94,9 +115,9 @@ module _ (m : Machine) (n : ℕ) (rows : List (ℤ × List (Option ℤ))) (accep
   -- the answers of the instants that are closed are as they were
   pub append_closed : (q : Registered) → closed_answers (after m (Append n rows) 0) q ≡ closed_answers m q
   append_closed q =
-      ap (λ os. answers q.meaning q.first (unwrap_or (reduce min os) 0) (map (input_at (after m (Append n rows) 0).streams q.first) q.places)) (append_opens m q n rows)
-      ∙ sym (answers-closed q.meaning q.first (until_for m.streams q.places) (map (input_at m.streams q.first) q.places) (map (input_at (after m (Append n rows) 0).streams q.first) q.places)
-      (longer q (until_for m.streams q.places) q.places (least_of_all (open_at m.streams) q.places)))
+      ap (λ os. q.earlier ++ answers_from q.meaning q.first q.start (unwrap_or (reduce min os) 0) (map (input_at (after m (Append n rows) 0).streams q.first) q.places)) (append_opens m q n rows)
+      ∙ sym (ap (λ l. q.earlier ++ l) (answers_closed q.meaning q.first q.start (until_for m.streams q.places) (map (input_at m.streams q.first) q.places) (map (input_at (after m (Append n rows) 0).streams q.first) q.places)
+      (longer q (until_for m.streams q.places) q.places (least_of_all (open_at m.streams) q.places))))
 
   given_over : (q : Registered) (waiting : List (ℕ × Row)) → HasGiven m q waiting → HasGiven (after m (Append n rows) 0) q waiting
   given_over q waiting g = record { taken = g.taken; counted = g.counted; rest = g.rest; begins = append_closed q ∙ g.begins }
@@ -135,13 +156,9 @@ module _ (m : Machine) (n : ℕ) (at : ℤ) (accepted : first_fault m (Heartbeat
   heartbeat_closed q =
       let u : ℕ = until_for m.streams q.places in
       let v : ℕ = until_for (after m (Heartbeat n at) 0).streams q.places in
-      let same : closed_answers (after m (Heartbeat n at) 0) q ≡ answers q.meaning q.first v (inputs_of m q) = ap (answers q.meaning q.first v) (heartbeat_inputs m q n at) in
-      ⊎_elim
-      (λ early. let none : u - q.first ≡ 0 = omega (arith, early) in
-      let nothing : closed_answers m q ≡ [] = ap (λ k. flat_map (answers_at q.meaning q.first (inputs_of m q)) (range_with_len q.first k)) none in
-      (closed_answers (after m (Heartbeat n at) 0) q, ap (λ z. z ++ closed_answers (after m (Heartbeat n at) 0) q) (sym nothing)))
-      (λ late. (_, same ∙ answers-more q.meaning q.first (inputs_of m q) (inputs_of m q) u v late (later q)))
-      (cases_lt u q.first)
+      let same : closed_answers (after m (Heartbeat n at) 0) q ≡ q.earlier ++ answers_from q.meaning q.first q.start v (inputs_of m q) = ap (λ is. q.earlier ++ answers_from q.meaning q.first q.start v is) (heartbeat_inputs m q n at) in
+      let more = answers_more q.meaning q.first q.start u v (inputs_of m q) (later q) in
+      (more.0, same ∙ ap (λ l. q.earlier ++ l) more.1 ∙ sym (append_assoc q.earlier (answers_from q.meaning q.first q.start u (inputs_of m q)) more.0))
 
   given_later : (q : Registered) (waiting : List (ℕ × Row)) → HasGiven m q waiting → HasGiven (after m (Heartbeat n at) 0) q waiting
   given_later q waiting g =

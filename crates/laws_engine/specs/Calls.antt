@@ -3,14 +3,13 @@ use Rattle.std.specs.Prelude.{ℕ, ℤ, suc, ◌≡◌, ◌+◌, ◌<◌, ◌==�
 use Rattle.values.specs.Row.{Row}
 use Rattle.op_queue.specs.Entries.{Entry}
 use Rattle.turn.specs.Turns.{Answered, Put}
-use Rattle.operators.specs.Operators.{PlainOperator}
 use Rattle.operators.specs.States.{near_of}
 use Rattle.physical_plans.specs.Wiring.{wire_from}
 use Rattle.plan.specs.Nodes as plan
 use Rattle.reference.specs.Commands.{Append, Declare, Drop, Heartbeat, Register, Take, after, change, first_fault}
 use Rattle.reference.specs.Machine.{Machine, Registered}
 use Rattle.laws_dataflow.specs.Plans.{below_root}
-use Rattle.laws_queries.specs.Queries.{IsAnswered, IsRunning, IsTurned, PlainQuery, log_at, operator_at, place_of}
+use Rattle.laws_queries.specs.Queries.{IsAnswered, IsTurned, PlainQuery, log_at, operator_at, place_of}
 use Rattle.stream_store.specs.Closing.{QueuesGain}
 use Rattle.laws_queries.specs.Steps.{IsFirst, outs_at_first}
 use Rattle.run_queue.specs.Slots.{changed, first_of, put, without_query}
@@ -98,11 +97,6 @@ with_taken q n = record q { taken = n }
 
 abbrev pub with_queries : Machine → List Registered → Machine
 with_queries m qs = record m { queries = qs }
-
--- a running query runs on with that
-abbrev pub RunsOnAtTakes : List ℕ → List ℕ → Machine → Registered → Type 0
-RunsOnAtTakes vs ws m q =
-    (qs : List Registered) (n : ℕ) (os : List PlainOperator) (given : List (ℕ × Row)) → IsRunning vs ws m q os given → IsRunning vs ws (with_queries m qs) (with_taken q n) os given
 
 -- the first of the answers that wait are handed out, also of a broken query
 abbrev pub kept_after : ℕ → Kept → Kept

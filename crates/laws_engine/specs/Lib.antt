@@ -4,3 +4,7 @@ pub mod Calls
 pub mod Histories
 pub mod Asks
 pub mod Resting
+pub mod Openings
+pub mod Accepted
+pub mod Examples
+pub mod Bounds

@@ -27,14 +27,14 @@ wide_rest w (RowAt t s ∷ q) r h = wide_rest w q r h.1
 wide_rest w (TickAt t ∷ q) r h = wide_rest w q r h
 
 module _ (vs ws : List ℕ) (m : Machine) (q : Registered) (room : RootHasRoom m q) (os : List PlainOperator) (given : List (ℕ × Row)) (r : IsRunning vs ws m q os given) where
-  root_stands : RootStands q.first q.first [] (input_of (value_of m q) r.cells (below_root q.nodes - 1)) (most_rows q.nodes (below_root q.nodes - 1)) (operator_at os (below_root q.nodes)) (log_at m q (below_root q.nodes)) r.held r.queue given
+  root_stands : RootStands q.first q.start q.earlier (input_of (value_of m q) r.cells (below_root q.nodes - 1)) (most_rows q.nodes (below_root q.nodes - 1)) (operator_at os (below_root q.nodes)) (log_at m q (below_root q.nodes)) r.held r.queue given
   root_stands = record { runs = r.last.runs; room = room r.cells; good = r.good.root; few = r.last.few }
 
   -- THE ITEM THAT STANDS FIRST may be taken
   pub answer_may : RootMay → (side : Side) (i : Item) → IsFirst (operator_at os (below_root q.nodes)) (log_at m q (below_root q.nodes)) side i → MayFinish (operator_at os (below_root q.nodes)) (log_at m q (below_root q.nodes)) side i
   answer_may may side i first = record {
     belongs = subst₂ Belongs (sym r.last.runs.kind) (sym r.last.runs.state) (r.held, refl);
-    may = may q.first q.first [] _ _ _ _ r.held r.queue given side i root_stands first;
+    may = may q.first q.start q.earlier _ _ _ _ r.held r.queue given side i root_stands first;
     waits = first_waits (operator_at os (below_root q.nodes)) (log_at m q (below_root q.nodes)) side i first;
     within = inbox_within q (log_at m q (below_root q.nodes)) (node_at q (below_root q.nodes)) (operator_at os (below_root q.nodes)) side r.last.inboxes;
   }
@@ -47,8 +47,8 @@ module _ (vs ws : List ℕ) (m : Machine) (q : Registered) (room : RootHasRoom m
   pub answer_runs : RootStep → (os2 : List PlainOperator) (side : Side) (i : Item) (answers : List (ℕ × Row)) → IsFirst (operator_at os (below_root q.nodes)) (log_at m q (below_root q.nodes)) side i
       → outs_at_first (operator_at os (below_root q.nodes)) side i ≡ Answered answers → IsAnswered m q side i os os2 → IsRunning vs ws m q os2 (given ++ answers)
   answer_runs step os2 side i answers first gives t =
-      let made : RootMade q.first q.first [] (input_of (value_of m q) r.cells (below_root q.nodes - 1)) (most_rows q.nodes (below_root q.nodes - 1)) r.held r.queue i (operator_at os2 (below_root q.nodes)) (log_at m q (below_root q.nodes)) (given ++ answers) =
-      step q.first q.first [] _ _ _ _ _ r.held r.queue given side i answers root_stands first gives t.finished in
+      let made : RootMade q.first q.start q.earlier (input_of (value_of m q) r.cells (below_root q.nodes - 1)) (most_rows q.nodes (below_root q.nodes - 1)) r.held r.queue i (operator_at os2 (below_root q.nodes)) (log_at m q (below_root q.nodes)) (given ++ answers) =
+      step q.first q.start q.earlier _ _ _ _ _ r.held r.queue given side i answers root_stands first gives t.finished in
       record {
         stands = r.stands;
         many = t.many ∙ r.many;

@@ -3,7 +3,7 @@ use Rattle.std.proofs.Common.{◌≡◌, ℕ, ℤ, pos, negsuc, zero, suc, nat_a
 use Rattle.std.specs.List.{AllByRecursion, list_all, list_any}
 use Rattle.std.specs.Prelude.{slice_get}
 use Rattle.std.specs.Option.{option_map, option_map_or}
-use Rattle.std.proofs.lemmas.Bool.{leb-true, ltb-false, ne_eqb}
+use Rattle.std.proofs.lemmas.Bool.{eqb-false, leb-true, ltb-false, ne_eqb}
 use Rattle.std.proofs.lemmas.List.Elements.{filter-append}
 use Rattle.values.specs.Row.{Row}
 use Rattle.values.specs.Window.{Element, input_of}
@@ -161,6 +161,37 @@ filter_few p (e ∷ es) = here (p e) (filter_few p es)
     here true h = omega (arith, h)
     here false h = omega (arith, h)
 
+-- as many rows came as count, or more
+length-elements : (n : ℕ) (rows : List (ℤ × List (Option ℤ))) → length (elements_from n rows) ≡ length rows
+length-elements n [] = refl
+length-elements n (r ∷ rows) = ap suc (length-elements (suc n) rows)
+
+come_few : (place first : ℕ) (es : List Element) → length (input_of place first es) ≤ length es
+come_few place first es = filter_few (λ e. nat_le place e.arrival && nat_le first e.instant) es
+
+came_here : (place first : ℕ) (rows : List (ℤ × List (Option ℤ))) (o : Option Stream)
+    → option_map_or (λ (s : Stream). s.arrivals) o 0 + length (option_map_or (λ (s : Stream). input_of place first (elements_from s.arrivals rows)) o []) ≤ option_map_or (λ (s : Stream). s.arrivals) (option_map (appended rows) o) 0
+came_here place first rows None = omega arith
+came_here place first rows (Some s) = omega (arith, come_few place first (elements_from s.arrivals rows), length-elements s.arrivals rows)
+
+came_place : (ss : List Stream) (n : ℕ) (rows : List (ℤ × List (Option ℤ))) (first : ℕ) (p : Place)
+    → option_map_or (λ (s : Stream). s.arrivals) (slice_get ss p.stream) 0 + length (arriving ss n rows first p) ≤ option_map_or (λ (s : Stream). s.arrivals) (slice_get (change n (appended rows) ss) p.stream) 0
+came_place ss n rows first p = here (p.stream == n) refl
+  where
+    here : (b : Bool) → (p.stream == n) ≡ b → option_map_or (λ (s : Stream). s.arrivals) (slice_get ss p.stream) 0 + length (cond b (option_map_or (λ (s : Stream). input_of p.arrivals first (elements_from s.arrivals rows)) (slice_get ss n) []) [])
+        ≤ option_map_or (λ (s : Stream). s.arrivals) (slice_get (change n (appended rows) ss) p.stream) 0
+    here true e = let i : p.stream ≡ n = eqb-true p.stream n e in
+        subst (λ j. option_map_or (λ (s : Stream). s.arrivals) (slice_get ss j) 0 + length (option_map_or (λ (s : Stream). input_of p.arrivals first (elements_from s.arrivals rows)) (slice_get ss n) []) ≤ option_map_or (λ (s : Stream). s.arrivals) (slice_get (change n (appended rows) ss) j) 0) (sym i)
+        (subst (λ o. option_map_or (λ (s : Stream). s.arrivals) (slice_get ss n) 0 + length (option_map_or (λ (s : Stream). input_of p.arrivals first (elements_from s.arrivals rows)) (slice_get ss n) []) ≤ option_map_or (λ (s : Stream). s.arrivals) o 0) (sym (change_here (appended rows) n ss))
+        (came_here p.arrivals first rows (slice_get ss n)))
+    here false e = let ne = eqb-false p.stream n e in
+        subst (λ o. option_map_or (λ (s : Stream). s.arrivals) (slice_get ss p.stream) 0 + 0 ≤ option_map_or (λ (s : Stream). s.arrivals) o 0) (sym (change_there (appended rows) n p.stream ss ne)) (omega arith)
+
+came_places : (f g : Place → ℕ) (a : Place → List Element) → ((p : Place) → f p + length (a p) ≤ g p) → (ps : List Place) (k : ℕ) → get_or (map f ps) k 0 + length (get_or (map a ps) k []) ≤ get_or (map g ps) k 0
+came_places f g a h [] k = omega arith
+came_places f g a h (p ∷ ps) zero = h p
+came_places f g a h (p ∷ ps) (suc k) = came_places f g a h ps k
+
 -- THE OPERATORS
 module _ (w w2 : World) where
   pub runs_world : (width : ℕ) (node : plan.Node) (o : PlainOperator) (log : Closed) (c : Cell) → w2.first ≡ w.first → ((s : ℕ) → w2.windows s ≡ w.windows s) → Runs w width node o log c → Runs w2 width node o log c
@@ -174,30 +205,30 @@ module _ (w w2 : World) where
   runs_world width (Distinct j) o log c first windows r = r
   runs_world width (ToStream j op) o log c first windows r = r
 
-  few_world : (ns : List plan.Node) (node : plan.Node) (c : Cell) (es : ℕ → List Element) → ((s : ℕ) → w2.closed s ≡ w.closed s) → ((s : ℕ) → w2.inputs s ≡ w.inputs s ++ es s) → ((s : ℕ) → length (w2.inputs s) ≤ stream_rows) → AreFew w ns node c → AreFew w2 ns node c
-  few_world ns (Window s) (at_window h e b q n) es closed inputs short r =
+  few_world : (ns : List plan.Node) (node : plan.Node) (c : Cell) (es : ℕ → List Element) → ((s : ℕ) → w2.closed s ≡ w.closed s) → ((s : ℕ) → w2.inputs s ≡ w.inputs s ++ es s) → ((s : ℕ) → w.came s + length (es s) ≤ w2.came s) → ((s : ℕ) → w2.came s ≤ stream_rows) → AreFew w ns node c → AreFew w2 ns node c
+  few_world ns (Window s) (at_window h e b q n) es closed inputs came short r =
       let more : length (opened (w2.closed s) (w2.inputs s)) ≤ length (opened (w.closed s) (w.inputs s)) + length (es s) =
       let x : opened (w2.closed s) (w2.inputs s) ≡ opened (w.closed s) (w.inputs s) ++ opened (w.closed s) (es s) = ap₂ opened (closed s) (inputs s) ∙ filter-append (λ e. nat_le (w.closed s) e.instant) (w.inputs s) (es s) in
       omega (arith, ap length x, length-append (opened (w.closed s) (w.inputs s)) (opened (w.closed s) (es s)), filter_few (λ e. nat_le (w.closed s) e.instant) (es s)) in
-      record { few = omega (arith, r.few, more, ap length (inputs s), length-append (w.inputs s) (es s)); stream = short s }
-  few_world ns (Window s) (at_unary q t b n) es closed inputs short r = r
-  few_world ns (Window s) (at_join q u l m b n x y) es closed inputs short r = r
-  few_world ns (Select j cs) (at_window h e b q n) es closed inputs short r = r
-  few_world ns (Select j cs) (at_unary q t b n) es closed inputs short r = r
-  few_world ns (Select j cs) (at_join q u l m b n x y) es closed inputs short r = r
-  few_world ns (Project j columns) (at_window h e b q n) es closed inputs short r = r
-  few_world ns (Project j columns) (at_unary q t b n) es closed inputs short r = r
-  few_world ns (Project j columns) (at_join q u l m b n x y) es closed inputs short r = r
-  few_world ns (Group j by items) (at_window h e b q n) es closed inputs short r = r
-  few_world ns (Group j by items) (at_unary q t b n) es closed inputs short r = r
-  few_world ns (Group j by items) (at_join q u l m b n x y) es closed inputs short r = r
-  few_world ns (Distinct j) (at_window h e b q n) es closed inputs short r = r
-  few_world ns (Distinct j) (at_unary q t b n) es closed inputs short r = r
-  few_world ns (Distinct j) (at_join q u l m b n x y) es closed inputs short r = r
-  few_world ns (Join j k ks) (at_window h e b q n) es closed inputs short r = r
-  few_world ns (Join j k ks) (at_unary q t b n) es closed inputs short r = r
-  few_world ns (Join j k ks) (at_join q u l m b n x y) es closed inputs short r = r
-  few_world ns (ToStream j op) c es closed inputs short r = r
+      record { few = omega (arith, r.few, more, came s); stream = short s }
+  few_world ns (Window s) (at_unary q t b n) es closed inputs came short r = r
+  few_world ns (Window s) (at_join q u l m b n x y) es closed inputs came short r = r
+  few_world ns (Select j cs) (at_window h e b q n) es closed inputs came short r = r
+  few_world ns (Select j cs) (at_unary q t b n) es closed inputs came short r = r
+  few_world ns (Select j cs) (at_join q u l m b n x y) es closed inputs came short r = r
+  few_world ns (Project j columns) (at_window h e b q n) es closed inputs came short r = r
+  few_world ns (Project j columns) (at_unary q t b n) es closed inputs came short r = r
+  few_world ns (Project j columns) (at_join q u l m b n x y) es closed inputs came short r = r
+  few_world ns (Group j by items) (at_window h e b q n) es closed inputs came short r = r
+  few_world ns (Group j by items) (at_unary q t b n) es closed inputs came short r = r
+  few_world ns (Group j by items) (at_join q u l m b n x y) es closed inputs came short r = r
+  few_world ns (Distinct j) (at_window h e b q n) es closed inputs came short r = r
+  few_world ns (Distinct j) (at_unary q t b n) es closed inputs came short r = r
+  few_world ns (Distinct j) (at_join q u l m b n x y) es closed inputs came short r = r
+  few_world ns (Join j k ks) (at_window h e b q n) es closed inputs came short r = r
+  few_world ns (Join j k ks) (at_unary q t b n) es closed inputs came short r = r
+  few_world ns (Join j k ks) (at_join q u l m b n x y) es closed inputs came short r = r
+  few_world ns (ToStream j op) c es closed inputs came short r = r
 
 -- AN ACCEPTED APPEND
 module _ (vs ws : List ℕ) (m : Machine) (q : Registered) (n : ℕ) (rows : List (ℤ × List (Option ℤ))) (accepted : first_fault m (Append n rows) ≡ None) (short : HasShortInputs (after m (Append n rows) 0) q) where
@@ -226,12 +257,17 @@ module _ (vs ws : List ℕ) (m : Machine) (q : Registered) (n : ℕ) (rows : Lis
   unfolding m2
   closed2 k = ap (λ os. max q.first (get_or os k 0)) (append_opens m q n rows)
 
+  came2 : (k : ℕ) → (world_of m q).came k + length (coming_to k) ≤ (world_of m2 q).came k
+  unfolding m2 coming_to
+  came2 k = came_places (λ (p : Place). option_map_or (λ s. s.arrivals) (slice_get m.streams p.stream) 0) (λ (p : Place). option_map_or (λ s. s.arrivals) (slice_get (change n (appended rows) m.streams) p.stream) 0)
+      (arriving m.streams n rows q.first) (came_place m.streams n rows q.first) q.places k
+
   inner_same : (k : ℕ) (o : PlainOperator) (c : Cell) → RunsAt ws m q k o c → RunsAt ws m2 q k o c
   unfolding m2
   inner_same k o c r = record {
     runs = subst (λ l. Runs (world_of (after m (Append n rows) 0) q) (width_at ws k) (node_at q k) o l c) (logs k) (runs_world (world_of m q) (world_of (after m (Append n rows) 0) q) (width_at ws k) (node_at q k) o (log_at m q k) c refl (λ s. refl) r.runs);
     wide = r.wide;
-    few = few_world (world_of m q) (world_of (after m (Append n rows) 0) q) q.nodes (node_at q k) c coming_to closed2 inputs2 short r.few;
+    few = few_world (world_of m q) (world_of (after m (Append n rows) 0) q) q.nodes (node_at q k) c coming_to closed2 inputs2 came2 short r.few;
     inboxes = subst (λ l. HasInboxes q l (node_at q k) o) (logs k) r.inboxes;
   }
 

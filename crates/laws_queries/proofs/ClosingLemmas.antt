@@ -32,11 +32,11 @@ other_instant place t a (e ∷ es) ne = here (e.instant == a) refl (other_instan
     here true h r = let d : (e.instant == t) ≡ false = ne_eqb e.instant t (λ i. ne (sym (eqb-true e.instant a h) ∙ i)) in rw d r
     here false h r = r
 
-by_instants : ℕ → ℕ → List Element → List Element
+unfoldable pub by_instants : ℕ → ℕ → List Element → List Element
 by_instants a n es = by_key (λ e. e.instant) a n es
 
 -- of elements that are listed by instant none is shown at other instants
-shown_out : (place t a n : ℕ) (es : List Element) → (t < a) ⊎ (a + n ≤ t) → shown place t (by_instants a n es) ≡ []
+pub shown_out : (place t a n : ℕ) (es : List Element) → (t < a) ⊎ (a + n ≤ t) → shown place t (by_instants a n es) ≡ []
 unfolding by_instants
 shown_out place t a zero es out = refl
 shown_out place t a (suc n) es out =
@@ -56,7 +56,7 @@ shown_in place t a (suc n) es le lt =
     ap₂ (λ x y. x ++ y) (subst (λ i. shown place t (filter (λ e. e.instant == i) es) ≡ shown place t es) z (same_instant place t es)) (shown_out place t (a + 1) n es (inl (omega (arith, e)))) ∙ append-nil (shown place t es))
 
 -- at an instant that is closed
-shown_now : (place t start until : ℕ) (es : List Element) → start ≤ t → t < until → shown place t (by_instant start until es) ≡ shown place t es
+pub shown_now : (place t start until : ℕ) (es : List Element) → start ≤ t → t < until → shown place t (by_instant start until es) ≡ shown place t es
 unfolding by_instants
 shown_now place t start until es le lt = shown_in place t start (until - start) es le (omega (arith, le, lt))
 

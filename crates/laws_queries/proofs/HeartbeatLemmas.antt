@@ -28,8 +28,8 @@ use Rattle.laws_dataflow.specs.Windows.{AreBelow, Brings, opened}
 use Rattle.laws_dataflow.specs.Worlds.{Beat, fed_cell}
 use Rattle.laws_dataflow.specs.Nets.{Node, window, unary, join, World, Cell, at_window, at_unary, at_join, cell_shown}
 use Rattle.laws_dataflow.specs.Operators.{net_of, node_of}
-use Rattle.laws_dataflow.specs.Plans.{below_root, inputs_of, world_of}
-use Rattle.laws_dataflow.proofs.MachineLemmas.{heartbeat_inputs, machine_beats}
+use Rattle.laws_dataflow.specs.Plans.{below_root, comes, inputs_of, world_of}
+use Rattle.laws_dataflow.proofs.MachineLemmas.{heartbeat_comes, heartbeat_inputs, machine_beats}
 use Rattle.laws_dataflow.proofs.AnswerLemmas.{shaped}
 use Rattle.laws_dataflow.proofs.PlanLemmas.{Shaped}
 use Rattle.laws_queries.specs.Runs.{Runs, RunsWindow}
@@ -104,11 +104,11 @@ no_beat m m2 q s h =
 
 -- THE OPERATORS
 -- a fed inbox is the same over every log
-relog : (i : Inbox) (log log2 : Closed) → is_fed i ≡ true → entries_in i log ≡ entries_in i log2
+pub relog : (i : Inbox) (log log2 : Closed) → is_fed i ≡ true → entries_in i log ≡ entries_in i log2
 relog i log log2 h = entries_fed i log h ∙ sym (entries_fed i log2 h)
 
 -- what waits for an operator before and after
-abbrev Gains : (ℕ → List (Entry Row)) → plan.Node → PlainOperator → Closed → Closed → Type 0
+abbrev pub Gains : (ℕ → List (Entry Row)) → plan.Node → PlainOperator → Closed → Closed → Type 0
 Gains more (Window s) o log log2 = entries_in o.left log2 ≡ entries_in o.left log ++ more s
 Gains more (Select j cs) o log log2 = is_fed o.left ≡ true
 Gains more (Join j k ks) o log log2 = (is_fed o.left ≡ true) × (is_fed o.right ≡ true)
@@ -118,7 +118,7 @@ Gains more (Distinct j) o log log2 = is_fed o.left ≡ true
 Gains more (ToStream j op) o log log2 = is_fed o.left ≡ true
 
 module _ (w w2 : World) (first : w2.first ≡ w.first) (windows : (s : ℕ) → w2.windows s ≡ w.windows s) (fresh : ℕ → List Element) (more : ℕ → List (Entry Row)) where
-  runs_beat : (width : ℕ) (node : plan.Node) (o : PlainOperator) (log log2 : Closed) (c : Cell) → Gains more node o log log2 → Runs w width node o log c → Runs w2 width node o log2 (fed_cell fresh more (node_of node) c)
+  pub runs_beat : (width : ℕ) (node : plan.Node) (o : PlainOperator) (log log2 : Closed) (c : Cell) → Gains more node o log log2 → Runs w width node o log c → Runs w2 width node o log2 (fed_cell fresh more (node_of node) c)
   runs_beat width (Window s) o log log2 (at_window h e b q n) g r =
       subst₂ (λ f t. RunsWindow f t o log2 h b (q ++ more s) n) (sym first) (sym (windows s)) (record { kind = r.kind; stands = r.stands; shows = r.shows; queue = ap (λ x. x ++ more s) r.queue ∙ sym g })
   runs_beat width (Window s) o log log2 (at_unary q t b n) g r = absurd r
@@ -150,29 +150,29 @@ module _ (w w2 : World) (first : w2.first ≡ w.first) (windows : (s : ℕ) → 
   }
   runs_beat width (ToStream j op) o log log2 c g r = absurd r
 
-  few_beat : (ns : List plan.Node) (node : plan.Node) (c : Cell) → ((s : ℕ) → w2.inputs s ≡ w.inputs s) → ((s : ℕ) → Perm (opened (w.closed s) (w.inputs s)) (fresh s ++ opened (w2.closed s) (w.inputs s))) → AreFew w ns node c → AreFew w2 ns node (fed_cell fresh more (node_of node) c)
-  few_beat ns (Window s) (at_window h e b q n) same_inputs parted r =
+  few_beat : (ns : List plan.Node) (node : plan.Node) (c : Cell) → ((s : ℕ) → w2.came s ≡ w.came s) → ((s : ℕ) → w2.inputs s ≡ w.inputs s) → ((s : ℕ) → Perm (opened (w.closed s) (w.inputs s)) (fresh s ++ opened (w2.closed s) (w.inputs s))) → AreFew w ns node c → AreFew w2 ns node (fed_cell fresh more (node_of node) c)
+  few_beat ns (Window s) (at_window h e b q n) came same_inputs parted r =
       let i : length (fresh s ++ opened (w2.closed s) (w.inputs s)) ≡ length (opened (w.closed s) (w.inputs s)) = sym (perm_length _ _ (parted s)) in
-      subst (λ l. AreWindowRowsFew (w2.closed s) l h (e ++ fresh s)) (sym (same_inputs s))
+      subst₂ (λ t l. AreWindowRowsFew (w2.closed s) t l h (e ++ fresh s)) (sym (came s)) (sym (same_inputs s))
       (record { few = omega (arith, r.few, i, length-append (fresh s) (opened (w2.closed s) (w.inputs s)), length-append e (fresh s)); stream = r.stream })
-  few_beat ns (Window s) (at_unary q t b n) same_inputs parted r = absurd r
-  few_beat ns (Window s) (at_join q u l m b n x y) same_inputs parted r = absurd r
-  few_beat ns (Select j cs) (at_window h e b q n) same_inputs parted r = absurd r
-  few_beat ns (Select j cs) (at_unary q t b n) same_inputs parted r = r
-  few_beat ns (Select j cs) (at_join q u l m b n x y) same_inputs parted r = absurd r
-  few_beat ns (Project j columns) (at_window h e b q n) same_inputs parted r = absurd r
-  few_beat ns (Project j columns) (at_unary q t b n) same_inputs parted r = r
-  few_beat ns (Project j columns) (at_join q u l m b n x y) same_inputs parted r = absurd r
-  few_beat ns (Group j by items) (at_window h e b q n) same_inputs parted r = absurd r
-  few_beat ns (Group j by items) (at_unary q t b n) same_inputs parted r = r
-  few_beat ns (Group j by items) (at_join q u l m b n x y) same_inputs parted r = absurd r
-  few_beat ns (Distinct j) (at_window h e b q n) same_inputs parted r = absurd r
-  few_beat ns (Distinct j) (at_unary q t b n) same_inputs parted r = r
-  few_beat ns (Distinct j) (at_join q u l m b n x y) same_inputs parted r = absurd r
-  few_beat ns (Join j k ks) (at_window h e b q n) same_inputs parted r = absurd r
-  few_beat ns (Join j k ks) (at_unary q t b n) same_inputs parted r = absurd r
-  few_beat ns (Join j k ks) (at_join q u l m b n x y) same_inputs parted r = r
-  few_beat ns (ToStream j op) c same_inputs parted r = absurd r
+  few_beat ns (Window s) (at_unary q t b n) came same_inputs parted r = absurd r
+  few_beat ns (Window s) (at_join q u l m b n x y) came same_inputs parted r = absurd r
+  few_beat ns (Select j cs) (at_window h e b q n) came same_inputs parted r = absurd r
+  few_beat ns (Select j cs) (at_unary q t b n) came same_inputs parted r = r
+  few_beat ns (Select j cs) (at_join q u l m b n x y) came same_inputs parted r = absurd r
+  few_beat ns (Project j columns) (at_window h e b q n) came same_inputs parted r = absurd r
+  few_beat ns (Project j columns) (at_unary q t b n) came same_inputs parted r = r
+  few_beat ns (Project j columns) (at_join q u l m b n x y) came same_inputs parted r = absurd r
+  few_beat ns (Group j by items) (at_window h e b q n) came same_inputs parted r = absurd r
+  few_beat ns (Group j by items) (at_unary q t b n) came same_inputs parted r = r
+  few_beat ns (Group j by items) (at_join q u l m b n x y) came same_inputs parted r = absurd r
+  few_beat ns (Distinct j) (at_window h e b q n) came same_inputs parted r = absurd r
+  few_beat ns (Distinct j) (at_unary q t b n) came same_inputs parted r = r
+  few_beat ns (Distinct j) (at_join q u l m b n x y) came same_inputs parted r = absurd r
+  few_beat ns (Join j k ks) (at_window h e b q n) came same_inputs parted r = absurd r
+  few_beat ns (Join j k ks) (at_unary q t b n) came same_inputs parted r = absurd r
+  few_beat ns (Join j k ks) (at_join q u l m b n x y) came same_inputs parted r = r
+  few_beat ns (ToStream j op) c came same_inputs parted r = absurd r
 
 wide_beat : (fresh : ℕ → List Element) (more : ℕ → List (Entry Row)) (ws : List ℕ) (k : ℕ) (node : plan.Node) (o : PlainOperator) (c : Cell) → ((s : ℕ) → node ≡ Window s → AreEntries (width_at ws k) (more s)) → IsWide ws k node o c → IsWide ws k node o (fed_cell fresh more (node_of node) c)
 wide_beat fresh more ws k (Window s) o (at_window h e b q n) wide r = record { state = r.state; some = r.some; side = record { taken = r.side.taken; queue = wide_append (width_at ws k) q (more s) r.side.queue (wide s refl) } }
@@ -241,6 +241,10 @@ module _ (vs ws : List ℕ) (m : Machine) (q : Registered) (n : ℕ) (at : ℤ) 
   unfolding m2
   same_inputs = heartbeat_inputs m q n at
 
+  same_comes : comes m2.streams q.places ≡ comes m.streams q.places
+  unfolding m2
+  same_comes = heartbeat_comes m q n at
+
   beat : Beat (world_of m q) (world_of m2 q).closed (λ s. (source_beat s).fresh) (λ s. (source_beat s).more)
   beat = record { brings = λ s. (source_beat s).brings; rising = λ s. (source_beat s).rising; below = λ s. (source_beat s).below; parted = λ s. (source_beat s).parted }
 
@@ -255,7 +259,7 @@ module _ (vs ws : List ℕ) (m : Machine) (q : Registered) (n : ℕ) (at : ℤ) 
     runs = runs_beat (world_of m q) (world_of m2 q) refl (λ s. refl) (λ s. (source_beat s).fresh) (λ s. (source_beat s).more) (width_at ws k) (node_at q k) o (log_at m q k) (log_at m2 q k) c (inbox_gains m m2 q source_beat (node_at q k) o r.inboxes) r.runs;
     wide = wide_beat (λ s. (source_beat s).fresh) (λ s. (source_beat s).more) ws k (node_at q k) o c
         (λ s e. (source_beat s).wide (source_in q (log_at m q k) (node_at q k) o.left s e r.inboxes.left) (width_at ws k) (reads.wide k s kc e)) r.wide;
-    few = few_beat (world_of m q) (world_of m2 q) refl (λ s. refl) (λ s. (source_beat s).fresh) (λ s. (source_beat s).more) q.nodes (node_at q k) c (λ s. ap (λ l. get_or l s []) same_inputs) (λ s. (source_beat s).parted) r.few;
+    few = few_beat (world_of m q) (world_of m2 q) refl (λ s. refl) (λ s. (source_beat s).fresh) (λ s. (source_beat s).more) q.nodes (node_at q k) c (λ s. ap (λ l. get_or l s 0) same_comes) (λ s. ap (λ l. get_or l s []) same_inputs) (λ s. (source_beat s).parted) r.few;
     inboxes = record { left = left_gains m m2 q source_beat k (node_at q k) o.left refl r.inboxes.left; right = r.inboxes.right };
   }
 
@@ -268,7 +272,7 @@ module _ (vs ws : List ℕ) (m : Machine) (q : Registered) (n : ℕ) (at : ℤ) 
       let sh : Shaped (world_of m q).closed q.meaning q.nodes = shaped vs m q r.stands.plan r.stands.wide in
       let cells2 : ℕ → Cell = λ k. fed_cell (λ s. (source_beat s).fresh) (λ s. (source_beat s).more) (net_of q.nodes k) (r.cells k) in
       let good2 : IsGood (after m (Heartbeat n at) 0) q cells2 r.held r.queue given =
-      machine_beats vs m (after m (Heartbeat n at) 0) q r.stands.plan r.stands.wide same_inputs (λ s. (source_beat s).fresh) (λ s. (source_beat s).more) beat r.cells r.held r.queue given r.good in
+      machine_beats vs m (after m (Heartbeat n at) 0) q r.stands.plan r.stands.wide same_inputs same_comes (λ s. (source_beat s).fresh) (λ s. (source_beat s).more) beat r.cells r.held r.queue given r.good in
       let rootn : ℕ = below_root q.nodes in
       let o : PlainOperator = operator_at os rootn in
       let fed : is_fed o.left ≡ true = root_fed o (log_at m q rootn) (node_at q rootn) (length q.nodes - 2) q.meaning.operator sh.root r.last.inboxes in

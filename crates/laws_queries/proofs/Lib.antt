@@ -32,5 +32,5 @@ pub mod LeaseLemmas
 pub mod PlanWidths
 pub mod BeginLemmas
 pub mod StartLemmas
-pub mod OtherLemmas
 pub mod NewestLemmas
+pub mod ForgetLemmas

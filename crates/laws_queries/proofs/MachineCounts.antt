@@ -240,7 +240,7 @@ machine_after : (m : Machine) (c : Command) (count : ℕ) → first_fault m c �
 machine_after m (Declare name columns start) count e h =
     let s : Stream = record { name = name; columns = columns; elements = []; arrivals = 0; first_open = nat_abs start } in
     record {
-      streams = each-append IsStream m.streams (s ∷ []) h.streams (record { wide = tt; counted = refl; few = omega arith }, tt);
+      streams = each-append IsStream m.streams (s ∷ []) h.streams (record { wide = tt; counted = omega arith; few = omega arith }, tt);
       queries = kept_queries m.streams (m.streams ++ s ∷ []) (keeps_more m.streams (s ∷ [])) m.queries h.queries;
     }
 machine_after m (Register name source given) count e h = registers m given name source (found m source given) refl h
@@ -305,7 +305,7 @@ queries_stand m h = record {
     plan = i.plan;
     wide = record { places = sym (length-map q.places _); tables = λ t. tables_shown m.streams q.first t h.streams q.meaning.windows q.places i.plan.scoped.sources };
   };
-  bounded = λ q i. record { plan = i.plan; few = i.few; short = each-weaken IsStream (λ s. length s.elements ≤ stream_rows) few_elements m.streams h.streams };
+  bounded = λ q i. record { plan = i.plan; few = i.few; short = each-weaken IsStream (λ s. length s.elements ≤ stream_rows) few_elements m.streams h.streams; came = each-weaken IsStream (λ s. s.arrivals ≤ stream_rows) (λ s h. h.few) m.streams h.streams };
   keeps = λ c count q i. record {
     widths = kept_widths m.streams (after m c count).streams (keeps_after m c count) q.places i.known;
     query = kept_query m.streams (after m c count).streams (keeps_after m c count) q i;

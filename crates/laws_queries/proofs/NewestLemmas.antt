@@ -15,7 +15,8 @@ use Rattle.reference.specs.declared.fault.QueryFault.{QueryFault}
 use Rattle.reference.specs.declared.limits.TheConstants.{MAX_QUERIES, MAX_REGISTRATIONS, MAX_STREAMS, MAX_STREAM_COLUMNS}
 use Rattle.reference.proofs.StreamLemmas.{none_first, none_later}
 use Rattle.std.proofs.lemmas.List.Sums.{sum_by-cons}
-use Rattle.laws_queries.specs.Machines.{IsMachine, columns_of, widths_of}
+use Rattle.laws_queries.specs.Machines.{IsMachine, IsStream, columns_of, widths_of}
+use Rattle.laws_queries.specs.Counts.{stream_rows}
 use Rattle.laws_queries.specs.Registrations.{HasColumnNames, HaveColumnNames, IsFresh, IsNewest, RegistrationsStand}
 use Rattle.laws_queries.specs.Rows.{HasRows, HaveRows}
 use Rattle.laws_queries.proofs.MachineCounts.{each_changed, text_query}
@@ -53,10 +54,23 @@ greatest [] k = omega arith
 greatest (x ∷ xs) zero = fold_above xs x
 greatest (x ∷ xs) (suc k) = fold_each xs x k
 
-pub fresh_query : (m : Machine) (name : List ℕ) (f : Found) → HaveRows m → IsFresh m (registered_as m name f)
-fresh_query m name f h = record {
+came_at : (ss : List Stream) (k : ℕ) → AllByRecursion IsStream ss → option_map_or (λ (s : Stream). s.arrivals) (slice_get ss k) 0 ≤ stream_rows
+came_at [] k i = omega arith
+came_at (s ∷ ss) zero i = i.0.few
+came_at (s ∷ ss) (suc k) i = came_at ss k i.1
+
+came_all : (ss : List Stream) (ps : List Place) (k : ℕ) → AllByRecursion IsStream ss → get_or (map (λ (p : Place). option_map_or (λ (s : Stream). s.arrivals) (slice_get ss p.stream) 0) ps) k 0 ≤ stream_rows
+came_all ss [] k i = omega arith
+came_all ss (p ∷ ps) zero i = came_at ss p.stream i
+came_all ss (p ∷ ps) (suc k) i = came_all ss ps k i
+
+pub fresh_query : (m : Machine) (name : List ℕ) (f : Found) → IsMachine m → HaveRows m → IsFresh m (registered_as m name f)
+fresh_query m name f is h = record {
+  came = λ k. came_all m.streams (map (place_at m) f.streams) k is.streams;
   inputs = none_of m (first_for m.streams (map (place_at m) f.streams)) h f.streams;
   opens = greatest (opens m.streams (map (place_at m) f.streams));
+  starts = refl;
+  early = refl;
 }
 
 -- WHAT WAS FOUND
@@ -79,7 +93,7 @@ newest m name source given e h rows =
       found_as = ok.f;
       is = ok.is;
       query = text_query m given name source (Rattle.cql_reader.specs.Reading.reading source) refl ok.f ok.is;
-      fresh = fresh_query m name ok.f rows;
+      fresh = fresh_query m name ok.f h rows;
     }
 
 -- NAMES OF COLUMNS

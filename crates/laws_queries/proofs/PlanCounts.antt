@@ -377,10 +377,15 @@ module _ (vs : List ℕ) (m : Machine) (q : Registered) (h : IsBounded vs m q) w
   pub root_has_room : RootHasRoom m q
   root_has_room cells = record { at_ticks = λ t. le_trans (few (below_root q.nodes - 1) t) (ticks (below_root q.nodes - 1)); always = most (below_root q.nodes - 1) }
 
-  short_at : (inputs : List (List Element)) → AllByRecursion (λ es. length es ≤ stream_rows) inputs → (s : ℕ) → length (get_or inputs s []) ≤ stream_rows
-  short_at [] h s = omega arith
-  short_at (es ∷ inputs) h zero = h.0
-  short_at (es ∷ inputs) h (suc s) = short_at inputs h.1 s
-
   pub has_short_inputs : HasShortInputs m q
-  has_short_inputs = short_at (inputs_of m q) (few_inputs m.streams q.first q.places h.short)
+  has_short_inputs = short_at q.places
+    where
+      came_at : (ss : List Stream) (k : ℕ) → AllByRecursion (λ s. s.arrivals ≤ stream_rows) ss → option_map_or (λ (s : Stream). s.arrivals) (slice_get ss k) 0 ≤ stream_rows
+      came_at [] k i = omega arith
+      came_at (s ∷ ss) zero i = i.0
+      came_at (s ∷ ss) (suc k) i = came_at ss k i.1
+
+      short_at : (ps : List Place) (k : ℕ) → get_or (map (λ (p : Place). option_map_or (λ (s : Stream). s.arrivals) (slice_get m.streams p.stream) 0) ps) k 0 ≤ stream_rows
+      short_at [] k = omega arith
+      short_at (p ∷ ps) zero = came_at m.streams p.stream h.came
+      short_at (p ∷ ps) (suc k) = short_at ps k

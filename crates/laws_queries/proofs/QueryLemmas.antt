@@ -67,10 +67,10 @@ fed_shown Left outs (at_join q r l m b n x y) = (refl, refl)
 fed_shown Right outs (at_join q r l m b n x y) = (refl, refl)
 
 -- the root, with what the last operator below it puts out
-root_gains : (first start : ℕ) (v : ℕ → List Row) (s : root.State) (q outs : List (Entry Row)) (b b2 : List Row) (n n2 : ℕ) (given : List (ℕ × Row)) → Leads v b n outs b2 n2 → (g : GoodRoot first start [] v s q b n given)
-    → (h : GoodRoot first start [] v s (q ++ outs) b2 n2 given) × (h.whole ≡ g.whole)
-root_gains first start v s q outs b b2 n n2 given l g =
-    (record { whole = g.whole; last = g.last; opens = g.opens; edge = Leads-append g.edge l; began = g.began; going = g.going; stands = g.stands; last_is = g.last_is; given_is = g.given_is }, refl)
+root_gains : (first start : ℕ) (earlier : List (ℕ × Row)) (v : ℕ → List Row) (s : root.State) (q outs : List (Entry Row)) (b b2 : List Row) (n n2 : ℕ) (given : List (ℕ × Row)) → Leads v b n outs b2 n2 → (g : GoodRoot first start earlier v s q b n given)
+    → (h : GoodRoot first start earlier v s (q ++ outs) b2 n2 given) × (h.whole ≡ g.whole)
+root_gains first start earlier v s q outs b b2 n n2 given l g =
+    (record { whole = g.whole; last = g.last; opens = g.opens; edge = Leads-append g.edge l; began = g.began; going = g.going; mark = g.mark; stands = g.stands; last_is = g.last_is; given_is = g.given_is }, refl)
 
 module _ (ws : List ℕ) (m : Machine) (q : Registered) where
   -- only the number of the rows that the root has taken is kept of them
@@ -259,8 +259,8 @@ module _ (vs ws : List ℕ) (m : Machine) (q : Registered) (may : (node : plan.N
         let few : StaysWithin (most_rows q.nodes (below_root q.nodes - 1)) (count (cell_shown (r.cells (below_root q.nodes - 1)))) outs =
         subst (λ z. StaysWithin (most_rows q.nodes z) (count (cell_shown (r.cells z))) outs) top made.outs_few in
         let wide : AreEntries (width_at ws (below_root q.nodes - 1)) outs = subst (λ z. AreEntries (width_at ws z) outs) top made.outs_wide in
-        let root2 : (h : GoodRoot q.first q.first [] (value_of m q (below_root q.nodes - 1)) r.held (r.queue ++ outs) (cell_shown (cells2 (below_root q.nodes - 1))) (cell_next (cells2 (below_root q.nodes - 1))) given) × (h.whole ≡ r.good.root.whole) =
-        root_gains q.first q.first (value_of m q (below_root q.nodes - 1)) r.held r.queue outs _ _ _ _ given path r.good.root in
+        let root2 : (h : GoodRoot q.first q.start q.earlier (value_of m q (below_root q.nodes - 1)) r.held (r.queue ++ outs) (cell_shown (cells2 (below_root q.nodes - 1))) (cell_next (cells2 (below_root q.nodes - 1))) given) × (h.whole ≡ r.good.root.whole) =
+        root_gains q.first q.start q.earlier (value_of m q (below_root q.nodes - 1)) r.held r.queue outs _ _ _ _ given path r.good.root in
         let fed : IsFed (operator_at os (below_root q.nodes)) feeds outs (operator_at os2 (below_root q.nodes)) = subst (λ z. IsFed (operator_at os z) feeds outs (operator_at os2 z)) e t.fed in
         let takes : TakesAt k (node_at q (below_root q.nodes)) feeds = subst (λ z. TakesAt k (node_at q z) feeds) e wire.takes in
         record {

@@ -103,14 +103,14 @@ takes_item first start earlier d most s (Rows t b) rest given some h =
     let legal : Legal g.whole b = Leads-front_legal t b rest g.edge in
     let a : After g.whole b = after b g.whole legal in
     let made : GoodRoot first start earlier d.values (next s (Rows t b)) rest d.bag d.opens given =
-    root_takes_rows first start earlier d.values s (next s (Rows t b)) t b rest d.bag d.opens given (step_law s (Rows t b)) refl g (sym at) in
+    root_takes_rows first start earlier d.values s (next s (Rows t b)) t b rest d.bag d.opens given (step_law s (Rows t b)) refl refl g (sym at) in
     let few : StaysWithin most (count made.whole) rest =
     subst (λ n. StaysWithin most n rest) (same_count rest (Leads-take_rows t b rest a.adds g.edge) made.edge) (stays_after most t b rest g.whole a.bag legal a.adds h.few) in
     subst (λ z. Good first start earlier d most (next s (Rows t b)) rest z) (sym (append-nil given)) (record { good = made; few = few })
 takes_item first start earlier d most s (Tick t) rest given some h =
     let g : GoodRoot first start earlier d.values s (TickAt t ∷ rest) d.bag d.opens given = h.good in
     let made : GoodRoot first start earlier d.values (next s (Tick t)) rest d.bag d.opens (given ++ out (Tick t) (near s (Tick t))) =
-    root_takes_tick first start earlier d.values s (next s (Tick t)) t rest d.bag d.opens given (step_law s (Tick t)) refl g in
+    root_takes_tick first start earlier d.values s (next s (Tick t)) t rest d.bag d.opens given (step_law s (Tick t)) refl refl g in
     record { good = made; few = subst (λ n. StaysWithin most n rest) (same_count rest (Leads-take_tick g.edge).2 made.edge) h.few.1 }
 
 pub root_step : RootStep

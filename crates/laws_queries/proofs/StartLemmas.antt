@@ -143,8 +143,8 @@ module _ (windows : List Window) (vs ws : List ℕ) (m : Machine) (q : Registere
   none_few most = omega (arith, count_none)
 
   source_begins : (s : ℕ) → q.meaning.windows ≡ map window_of windows → AllByRecursion IsTextWindow (map window_of windows) → s < length q.places → get_or ws k 0 ≡ get_or vs s 0 → 0 < get_or vs s 0
-      → (world_of m q).inputs s ≡ [] → log.until ≤ q.first → IsMade windows vs ws (lengths_of q) q.first (Source s) o → BeginsAt ws m q log k (plan.Window s) o
-  source_begins s shows text low width some none until h =
+      → (world_of m q).inputs s ≡ [] → (world_of m q).came s ≤ Rattle.laws_queries.specs.Counts.stream_rows → log.until ≤ q.first → IsMade windows vs ws (lengths_of q) q.first (Source s) o → BeginsAt ws m q log k (plan.Window s) o
+  source_begins s shows text low width some none came until h =
       let place : get_or (lengths_of q) s 0 ≡ (place_of q s).arrivals = get_or-map (λ (p : Place). p.arrivals) q.places s (record { stream = 0; arrivals = 0 }) 0 low in
       let reads : made.ReadsSource (place_of q s).arrivals q.first o.left = subst (λ p. made.ReadsSource p q.first o.left) place h.left in
       let b : WindowBegins q.first (get_or vs s 0) (window_at windows s) o.kind o.state = window_begins q.first (get_or vs s 0) (window_at windows s) o.kind o.state (text_window windows s text) h.kind h.state in
@@ -162,7 +162,7 @@ module _ (windows : List Window) (vs ws : List ℕ) (m : Machine) (q : Registere
           some = omega (arith, some, width);
           side = record { taken = all_none (Rattle.laws_queries.specs.Widths.IsRow (width_at ws k)); queue = tt };
         };
-        few = subst (λ l. Rattle.laws_queries.specs.Counts.AreWindowRowsFew ((world_of m q).closed s) l [] []) (sym none) (record { few = omega arith; stream = omega arith });
+        few = subst (λ l. Rattle.laws_queries.specs.Counts.AreWindowRowsFew ((world_of m q).closed s) ((world_of m q).came s) l [] []) (sym none) (record { few = omega arith; stream = came });
         inboxes = record { left = (low, reads_of (place_of q s).arrivals q.first log o.left reads, reads.within log); right = fed o.right h.right };
       }
 
@@ -352,7 +352,7 @@ module _ (vs : List ℕ) (m : Machine) (q : Registered) (fit : IsFit vs q.meanin
         let low : s < length q.places = omega (arith, f.fits, stands.wide.places) in
         let is : node_at q k ≡ plan.Window s = node_is any_node k l ∙ ap node_of e in
         let until : (log_at m q k).until ≤ q.first = subst (λ x. (stream_log m.streams (Rattle.laws_queries.specs.Queries.source_of q x)).until ≤ q.first) (sym is) (until_low s low) in
-        source_begins windows vs ws m q (log_at m q k) k (operator_at os k) narrow_ws s coded.shows text low f.width (some_of vs s fit.some f.fits) (fresh.inputs s) until
+        source_begins windows vs ws m q (log_at m q k) k (operator_at os k) narrow_ws s coded.shows text low f.width (some_of vs s fit.some f.fits) (fresh.inputs s) (fresh.came s) until
         (subst (λ n. IsMade windows vs ws (lengths_of q) q.first n (operator_at os k)) e (made_here k l))
 
     inner_here : (k : ℕ) → k < rootn → BeginsAt ws m q (log_at m q k) k (node_at q k) (operator_at os k)
@@ -370,7 +370,7 @@ module _ (vs : List ℕ) (m : Machine) (q : Registered) (fit : IsFit vs q.meanin
     root_here = root_begins windows vs ws (lengths_of q) q.first (length q.nodes - 2) q.meaning.operator (get_or nodes rootn any_node) (operator_at os rootn) (sym (node_is any_node rootn root_low) ∙ shape.root) (made_here rootn root_low)
 
     good_here : IsGood m q (λ k. fresh_cell q.first (net_nodes.net_of q.nodes k)) (fresh_root root_here.told) [] []
-    good_here = machine_starts m q root_here.told fresh.inputs fresh.opens
+    good_here = machine_starts m q root_here.told fresh.starts fresh.early fresh.inputs fresh.opens
 
     whole_none : count good_here.root.whole ≡ count []
     whole_none = same_count _ _ _ [] _ [] _ 0 _ 0 [] good_here.root.edge (Leads-none (λ t. []) 0 (Same-refl [])) (sym (fresh_shown q.first (net_nodes.net_of q.nodes (rootn - 1))))

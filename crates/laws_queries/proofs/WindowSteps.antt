@@ -61,7 +61,7 @@ module _ (w : World) (ws : List ℕ) (ns : List plan.Node) (k x : ℕ) (o : Plai
   wide : IsWindowWide (width_at ws k) o h q
   wide = s.wide
 
-  few : AreWindowRowsFew (w.closed x) (w.inputs x) h e
+  few : AreWindowRowsFew (w.closed x) (w.came x) (w.inputs x) h e
   few = s.few
 
   good : GoodWindow w.first (w.windows x) (w.inputs x) (w.closed x) h e n q
@@ -191,7 +191,7 @@ module _ (w : World) (ws : List ℕ) (ns : List plan.Node) (k x : ℕ) (o o2 : P
   step used outs2 same Stand made kind state stand outs_wide outs_few =
       let queue : q ≡ entries_of i ++ f.rest = first_left o log q side i used before.queue f in
       let wide : IsWindowWide (width_at ws k) o h q = s.wide in
-      let few : AreWindowRowsFew (w.closed x) (w.inputs x) h e = s.few in
+      let few : AreWindowRowsFew (w.closed x) (w.came x) (w.inputs x) h e = s.few in
       let cell : Cell = at_window made.held made.waiting (rows_in_order made.held) f.rest made.opens in
       let kept : HeldKept (width_at ws k) h e (entries_of i ++ f.rest) made.held made.waiting f.rest =
       window_kept w (window x) (at_window h e (rows_in_order h) (entries_of i ++ f.rest) n) cell outs2 made.turn (width_at ws k) in
@@ -215,7 +215,7 @@ module _ (w : World) (ws : List ℕ) (ns : List plan.Node) (k x : ℕ) (o o2 : P
       let used : is_left side ≡ true = subst (λ c. usable c side ≡ true) is f.usable in
       let queue : q ≡ entries_of i ++ f.rest = first_left o log q side i used before.queue f in
       let wide : IsWindowWide (width_at ws k) o h q = s.wide in
-      let few : AreWindowRowsFew (w.closed x) (w.inputs x) h e = s.few in
+      let few : AreWindowRowsFew (w.closed x) (w.came x) (w.inputs x) h e = s.few in
       let good : GoodWindow w.first (w.windows x) (w.inputs x) (w.closed x) h e n (entries_of i ++ f.rest) =
       subst (GoodWindow w.first (w.windows x) (w.inputs x) (w.closed x) h e n) queue s.good in
       let width : r.width ≡ width_at ws k = subst (IsStateWide (width_at ws k)) is wide.state in
@@ -237,7 +237,7 @@ module _ (w : World) (ws : List ℕ) (ns : List plan.Node) (k x : ℕ) (o o2 : P
       let used : is_left side ≡ true = subst (λ c. usable c side ≡ true) is f.usable in
       let queue : q ≡ entries_of i ++ f.rest = first_left o log q side i used before.queue f in
       let wide : IsWindowWide (width_at ws k) o h q = s.wide in
-      let few : AreWindowRowsFew (w.closed x) (w.inputs x) h e = s.few in
+      let few : AreWindowRowsFew (w.closed x) (w.came x) (w.inputs x) h e = s.few in
       let good : GoodWindow w.first (w.windows x) (w.inputs x) (w.closed x) h e n (entries_of i ++ f.rest) =
       subst (GoodWindow w.first (w.windows x) (w.inputs x) (w.closed x) h e n) queue s.good in
       let width : r.width ≡ width_at ws k = subst (IsStateWide (width_at ws k)) is wide.state in

@@ -55,13 +55,13 @@ abbrev pub most_rows : List plan.Node → ℕ → ℕ
 most_rows ns k = get_or (rows_of (most_rows_by ns) [] ns) k 0
 
 -- a window holds, awaits and has open no more elements than came
-pub record AreWindowRowsFew (c : ℕ) (input held waiting : List Element) : Type 0 where
-  pub few : length held + (length waiting + length (opened c input)) ≤ length input
-  pub stream : length input ≤ stream_rows
+pub record AreWindowRowsFew (c came : ℕ) (input held waiting : List Element) : Type 0 where
+  pub few : length held + (length waiting + length (opened c input)) ≤ came
+  pub stream : came ≤ stream_rows
 
 -- the operator k, of a node below the root: what it has taken, and takes on the way through its queue
 abbrev pub AreFew : World → List plan.Node → plan.Node → Cell → Type 0
-AreFew w ns (plan.Window s) (at_window h e b q n) = AreWindowRowsFew (w.closed s) (w.inputs s) h e
+AreFew w ns (plan.Window s) (at_window h e b q n) = AreWindowRowsFew (w.closed s) (w.came s) (w.inputs s) h e
 AreFew w ns (plan.Window s) (at_unary q i b n) = ⊥
 AreFew w ns (plan.Window s) (at_join q r l m b n x y) = ⊥
 AreFew w ns (plan.Select i cs) (at_window h e b q n) = ⊥

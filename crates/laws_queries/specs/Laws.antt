@@ -1,5 +1,5 @@
 -- What is promised of running queries.
-use Rattle.std.specs.Prelude.{ℕ, ℤ, ◌≡◌, ◌<◌, ◌++◌, Option, None, List, length, slice_get}
+use Rattle.std.specs.Prelude.{ℕ, ℤ, ◌≡◌, ◌<◌, ◌++◌, Option, None, List, slice_get}
 use Rattle.values.specs.Row.{Row}
 use Rattle.column.specs.declared.batch.Side.{Side}
 use Rattle.op_queue.specs.Entries.{Entry}
@@ -7,9 +7,8 @@ use Rattle.op_queue.specs.declared.item.Item.{Item}
 use Rattle.turn.specs.Turns.{Answered, Put}
 use Rattle.operators.specs.Operators.{IsFinished, PlainOperator}
 use Rattle.physical_plans.specs.Wiring.{wire_from}
-use Rattle.reference.specs.Commands.{Append, Command, Declare, Drop, Heartbeat, Register, Take, after, dropped, first_fault, took}
+use Rattle.reference.specs.Commands.{Append, Heartbeat, after, first_fault}
 use Rattle.reference.specs.Machine.{Machine, Registered, closed_answers}
-use Rattle.std.specs.List.{AllByRecursion}
 use Rattle.stream_store.specs.Closing.{QueuesGain}
 use Rattle.laws_dataflow.specs.Laws as nets
 use Rattle.laws_dataflow.specs.Plans.{below_root}
@@ -59,22 +58,3 @@ abbrev pub RunsOnAtAppends : List ℕ → List ℕ → Machine → Registered �
 RunsOnAtAppends vs ws m q =
     (n : ℕ) (rows : List (ℤ × List (Option ℤ))) → first_fault m (Append n rows) ≡ None → HasShortInputs (after m (Append n rows) 0) q → nets.Stands vs (after m (Append n rows) 0) q
     → (os : List PlainOperator) (given : List (ℕ × Row)) → IsRunning vs ws m q os given → IsRunning vs ws (after m (Append n rows) 0) q os given
-
--- SO DOES ANY OTHER COMMAND, which leaves the streams that are there
-abbrev pub LeavesStreams : Command → Type 0
-LeavesStreams (Declare name columns start) = Unit {0}
-LeavesStreams (Register name source given) = Unit {0}
-LeavesStreams (Append n rows) = ⊥
-LeavesStreams (Heartbeat n at) = ⊥
-LeavesStreams (Take n limit) = Unit {0}
-LeavesStreams (Drop n) = Unit {0}
-
-abbrev pub RunsOnAtOthers : List ℕ → List ℕ → Machine → Registered → Type 0
-RunsOnAtOthers vs ws m q =
-    (c : Command) (count : ℕ) → LeavesStreams c → AllByRecursion (λ p. p.stream < length m.streams) q.places → nets.Stands vs (after m c count) q
-    → (os : List PlainOperator) (given : List (ℕ × Row)) → IsRunning vs ws m q os given → IsRunning vs ws (after m c count) q os given
-
--- AND A QUERY of which answers were taken, or which was dropped, has the same operators
-abbrev pub RunsOnAsTaken : List ℕ → List ℕ → Machine → Registered → Type 0
-RunsOnAsTaken vs ws m q =
-    (count : ℕ) (os : List PlainOperator) (given : List (ℕ × Row)) → IsRunning vs ws m q os given → IsRunning vs ws m (took count q) os given × IsRunning vs ws m (dropped q) os given

@@ -11,3 +11,4 @@ pub mod Laws
 pub mod Rows
 pub mod Leases
 pub mod Registrations
+pub mod Forgetting

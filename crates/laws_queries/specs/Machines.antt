@@ -12,7 +12,7 @@ use Rattle.laws_queries.specs.Rooms.{IsBounded}
 -- the rows are as wide as the columns, and counted
 pub record IsStream (s : Stream) : Type 0 where
   pub wide : AllByRecursion (λ e. length e.row ≡ length s.columns) s.elements
-  pub counted : length s.elements ≡ s.arrivals
+  pub counted : length s.elements ≤ s.arrivals
   pub few : s.arrivals ≤ stream_rows
 
 -- how many columns the stream of a number has

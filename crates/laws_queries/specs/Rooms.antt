@@ -14,6 +14,7 @@ pub record IsBounded (vs : List ℕ) (m : Machine) (q : Registered) : Type 0 whe
   pub plan : IsPlanOf vs q.meaning q.nodes
   pub few : length vs ≤ 2
   pub short : AllByRecursion (λ s. length s.elements ≤ stream_rows) m.streams
+  pub came : AllByRecursion (λ s. s.arrivals ≤ stream_rows) m.streams
 
 -- ITS OPERATORS below the root have room, whatever their cells
 abbrev pub PlanHasRoom : Machine → Registered → Type 0
@@ -27,4 +28,4 @@ RootHasRoom m q = (cells : ℕ → Cell) → HasRootRoom (most_rows q.nodes (bel
 
 -- AND WHAT COUNTS OF ITS SOURCES is within the bound
 abbrev pub HasShortInputs : Machine → Registered → Type 0
-HasShortInputs m q = (s : ℕ) → length ((world_of m q).inputs s) ≤ stream_rows
+HasShortInputs m q = (s : ℕ) → (world_of m q).came s ≤ stream_rows

@@ -14,7 +14,8 @@ use Rattle.reference.specs.Named.{name_of_registered}
 use Rattle.reference.proofs.NamedLemmas.{registered-place, registered_new}
 use Rattle.laws_queries.specs.Queries.{PlainQuery, node_at}
 use Rattle.laws_queries.specs.Registrations.{HaveColumnNames}
-use Rattle.laws_engine_bounds.specs.Bounds.{HaveFewClosed}
+use Rattle.laws_engine.specs.Bounds.{HaveFewClosed}
+use Rattle.laws_engine.proofs.InstantLemmas.{registered_closed}
 use Rattle.run_queue.specs.Slots.{without_query}
 use Rattle.run_queue.specs.declared.slots.Slot.{Slot}
 use Rattle.laws_engine.specs.Calls.{is_reading, registered, with_query}
@@ -132,9 +133,9 @@ readers_with e q p old new g h come s n k is = ⊎_elim
     (get_last e.machine.queries q is.query n is.registered)
 
 -- where the query was added
-pub sound_with : (s t : State) (q : Registered) (p : PlainQuery) → IsSound s → GoodEngine (registered (engine_in s) q p) → q.is_dropped ≡ false → engine_in t ≡ registered (engine_in s) q p → t.leases.items ≡ s.leases.items → t.next ≡ s.next
+pub sound_with : (s t : State) (q : Registered) (p : PlainQuery) → IsSound s → GoodEngine (registered (engine_in s) q p) → q.is_dropped ≡ false → q.earlier ≡ [] → engine_in t ≡ registered (engine_in s) q p → t.leases.items ≡ s.leases.items → t.next ≡ s.next
     → t.names ≡ s.names ++ Some q.name ∷ [] → HaveCome q (length (engine_in s).machine.queries) (length q.nodes) s.readers.items t.readers.items → IsSound t
-sound_with s t q p h good live same leases next names readers =
+sound_with s t q p h good live none_earlier same leases next names readers =
     let e = engine_in s in
     record {
       good = subst GoodEngine (sym same) good;
@@ -147,7 +148,7 @@ sound_with s t q p h good live same leases next names readers =
       named = names ∙ ap (λ l. l ++ Some q.name ∷ []) h.named ∙ named_more e.machine.queries ∙ ap (λ (f : PlainEngine). map name_of_registered f.machine.queries) (sym same);
       gone = subst (λ (f : PlainEngine). map (λ r. r.is_dropped) f.machine.queries ≡ map is_gone f.queries) (sym same) (gone_more e.machine.queries e.queries h.gone);
       columns = subst columns_in (sym same) h.columns;
-      closed = subst closed_in (sym same) h.closed;
+      closed = subst closed_in (sym same) (registered_closed e.machine q none_earlier h.closed);
       readers = subst (λ (f : PlainEngine). ListsReaders f t.readers.items) (sym same) (readers_with e q p s.readers.items t.readers.items h.good h.readers readers);
     }
   where

@@ -22,7 +22,7 @@ use Rattle.laws_engine.specs.Asks.{IsOperator}
 use Rattle.laws_engine.specs.Calls.{IsHeartbeat, beaten, closed_over}
 use Rattle.laws_engine.specs.Engines.{GoodEngine, HasSlots, IsIn, PlainEngine, Running, instant_at, kept_at, query_at, slope_at, slot_at, slot_of}
 use Rattle.laws_engine.specs.Resting.{IsResting}
-use Rattle.laws_engine_bounds.proofs.InstantLemmas.{few_closed_stand}
+use Rattle.laws_engine.proofs.InstantLemmas.{few_closed_stand}
 use Rattle.laws_engine.proofs.AskLemmas.{may_ask}
 use Rattle.laws_engine.proofs.BackLemmas.{numbered}
 use Rattle.laws_engine.proofs.BeatenLemmas.{heartbeat_good}

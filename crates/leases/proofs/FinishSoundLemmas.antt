@@ -18,7 +18,7 @@ use Rattle.laws_queries.specs.Queries.{PlainQuery, operator_at}
 use Rattle.laws_queries.specs.Registrations.{HaveColumnNames}
 use Rattle.query_runtime.specs.Turns.{HasPut, wire_at}
 use Rattle.run_queue.specs.declared.slots.Slot.{Slot}
-use Rattle.laws_engine_bounds.specs.Bounds.{HaveFewClosed}
+use Rattle.laws_engine.specs.Bounds.{HaveFewClosed}
 use Rattle.laws_engine.specs.Calls.{answered, broken, finished, given_back, of_others, others}
 use Rattle.laws_engine.specs.Engines.{Broken, Dropped, GoodEngine, IsIn, IsLease, Kept, Lease, PlainEngine, Running, kept_at}
 use Rattle.laws_engine.specs.Histories.{ComesBack}
@@ -28,7 +28,7 @@ use Rattle.laws_engine.proofs.LeaseLemmas.{break_good}
 use Rattle.leases.specs.Applied.{GivesNothing, IsApplied, IsOutIn, IsTurn}
 use Rattle.leases.specs.Readers.{ListsReaders}
 use Rattle.leases.specs.Shown.{engine_in}
-use Rattle.laws_engine_bounds.specs.Bounds.{HaveFewClosed}
+use Rattle.laws_engine.specs.Bounds.{HaveFewClosed}
 use Rattle.leases.specs.Sound.{IsSound, is_gone}
 use Rattle.leases.specs.Turns.{IsOut, IsStranger, lease_of_parts}
 use Rattle.leases.specs.Views.{HasKind, lease_of}

@@ -24,7 +24,7 @@ use Rattle.laws_queries.specs.Steps.{IsFirst}
 use Rattle.run_queue.specs.Slots.{changed, first_of}
 use Rattle.run_queue.specs.declared.slots.Slot.{Slot}
 use Rattle.query_runtime.specs.Turns.{HasOperator, IsLeased, log_of}
-use Rattle.laws_engine_bounds.specs.Bounds.{HaveFewClosed}
+use Rattle.laws_engine.specs.Bounds.{HaveFewClosed}
 use Rattle.laws_engine.specs.Calls.{IsLeasable, given_out, leased, retold}
 use Rattle.laws_engine.specs.Engines.{GoodEngine, IsIn, Lease, PlainEngine, Running, instant_at, is_leased, is_of, kept_at, slot_at}
 use Rattle.laws_engine.specs.Promises.{HasAllWaiting, IsOfSteepest}

@@ -8,8 +8,8 @@ use Rattle.reference.specs.declared.fault.Fault.TheVariants.{Query, BadName, Nam
 use Rattle.reference.specs.World.{Does, Step, World, append_step, declare_step, unless}
 use Rattle.laws_queries.specs.Registrations.{HaveColumnNames}
 use Rattle.laws_queries.proofs.NewestLemmas.{registrations_stand}
-use Rattle.laws_engine_bounds.specs.Bounds.{HaveFewClosed}
-use Rattle.laws_engine_bounds.proofs.InstantLemmas.{few_closed_stand}
+use Rattle.laws_engine.specs.Bounds.{HaveFewClosed}
+use Rattle.laws_engine.proofs.InstantLemmas.{few_closed_stand}
 use Rattle.laws_engine.specs.Calls.{appended, declared}
 use Rattle.laws_engine.specs.Engines.{GoodEngine, PlainEngine, world_of}
 use Rattle.laws_engine.proofs.AppendedLemmas.{append_good}

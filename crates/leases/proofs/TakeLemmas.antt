@@ -3,8 +3,9 @@ use Rattle.std.proofs.Common.{◌≡◌, ◌<◌, ◌≤◌, ◌+◌, ◌^◌, �
 use Rattle.std.proofs.lemmas.List.{length-map, length-take}
 use Rattle.std.proofs.lemmas.Option.{slice_get_within}
 use Rattle.std.proofs.Math.Seq.{map-set_same}
-use Rattle.laws_engine_bounds.proofs.EngineLemmas.{taken_room, waiting_signed}
-use Rattle.laws_engine_bounds.specs.Bounds.{HaveFewClosed}
+use Rattle.laws_engine.proofs.BoundLemmas.{taken_room, waiting_signed}
+use Rattle.laws_engine.proofs.InstantLemmas.{few_closed_stand}
+use Rattle.laws_engine.specs.Bounds.{HaveFewClosed}
 use Rattle.arrayvec.specs.ArrayVec.{ArrayVec}
 use Rattle.values.specs.Row.{Row}
 use Rattle.names.specs.Faults.{first_of}
@@ -239,7 +240,7 @@ sound_taken s s2 n limit count h t is leases next names readers = record {
   named = names ∙ h.named ∙ sym (ap (λ e. map name_of_registered e.machine.queries) is ∙ took_by name_of_registered count n (engine_in s).machine.queries (λ q. refl));
   gone = ap (λ e. map (λ q. q.is_dropped) e.machine.queries) is ∙ took_by (λ q. q.is_dropped) count n (engine_in s).machine.queries (λ q. refl) ∙ h.gone ∙ sym (ap (λ e. map is_gone e.queries) is ∙ gone_taken count n (engine_in s).queries);
   columns = subst (λ e. HaveColumnNames e.machine) (sym is) h.columns;
-  closed = subst (λ e. HaveFewClosed e.machine) (sym is) h.closed;
+  closed = subst (λ e. HaveFewClosed e.machine) (sym is) (few_closed_stand.goes_on (engine_in s).machine (Take n limit) count t.accepted h.closed);
   readers = subst (λ e. ListsReaders e s2.readers.items) (sym is) (subst (ListsReaders (taken (engine_in s) n limit count)) (sym readers) (reads_taken (engine_in s) n limit count s.readers.items h.readers));
 }
 

@@ -11,7 +11,7 @@ use Rattle.run_queue.specs.Slots.{put, slot}
 use Rattle.run_queue.specs.declared.slots.Slot.{Slot}
 use Rattle.laws_engine.specs.Calls.{IsRegistration}
 use Rattle.laws_engine.specs.Engines.{PlainEngine}
-use Rattle.laws_engine_accepted.specs.Accepted.{IsBegun, IsPlanOfText, newest}
+use Rattle.laws_engine.specs.Accepted.{IsBegun, IsPlanOfText, newest}
 
 -- the slot of the operator k of a query n that is new, of which no turn is out
 abbrev pub new_slot : List Stream → PlainQuery → List Fraction → ℕ → ℕ → Slot

@@ -2,7 +2,7 @@
 use Rattle.std.specs.Prelude.{◌≡◌, ◌≤◌, Bool, true, false, length, map}
 use Rattle.reference.specs.Named.{name_of_registered}
 use Rattle.laws_queries.specs.Registrations.{HaveColumnNames}
-use Rattle.laws_engine_bounds.specs.Bounds.{HaveFewClosed}
+use Rattle.laws_engine.specs.Bounds.{HaveFewClosed}
 use Rattle.laws_engine.specs.Engines.{Broken, Dropped, GoodEngine, IsIn, Kept, Running}
 use Rattle.leases.specs.Readers.{ListsReaders}
 use Rattle.leases.specs.Shown.{engine_in}

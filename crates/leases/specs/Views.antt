@@ -17,7 +17,7 @@ use Rattle.leases.specs.declared.registered.Registration.{Registration}
 abbrev pub place_of : Place → machine.Place
 place_of p = record { stream = p.stream; arrivals = p.arrivals }
 
--- a registered query
+-- a registered query; none of its answers are earlier ones
 abbrev pub query_of : Registration → Registered
 query_of r = record {
   name = string_bytes r.name;
@@ -26,6 +26,8 @@ query_of r = record {
   measures = r.plan.measures.items;
   places = map place_of r.places.items;
   first = r.first;
+  start = r.first;
+  earlier = [];
   taken = r.taken;
   is_dropped = r.is_dropped;
 }

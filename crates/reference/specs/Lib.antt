@@ -18,3 +18,5 @@ pub mod PlainViews
 pub mod Told
 pub mod Finds
 pub mod MachineExamples
+pub mod Opening
+pub mod OpeningExamples

@@ -57,7 +57,7 @@ abbrev lists_a : Resolved
 lists_a = record { windows = Range 0 ∷ []; condition = None; shape = Listed (a ∷ []); is_distinct = false; operator = Istream }
 
 abbrev query : Registered
-query = record { name = 113 ∷ []; meaning = lists_a; nodes = plan_of (1 ∷ []) lists_a; measures = measures_of (plan_of (1 ∷ []) lists_a) None; places = record { stream = 0; arrivals = 0 } ∷ []; first = 0; taken = 0; is_dropped = false }
+query = record { name = 113 ∷ []; meaning = lists_a; nodes = plan_of (1 ∷ []) lists_a; measures = measures_of (plan_of (1 ∷ []) lists_a) None; places = record { stream = 0; arrivals = 0 } ∷ []; first = 0; start = 0; earlier = []; taken = 0; is_dropped = false }
 
 abbrev asked : World
 asked = record { machine = record { streams = fresh ∷ []; queries = query ∷ [] }; waiting = [] ∷ [] }

@@ -1,5 +1,5 @@
 -- A registered query of the code as one of the machine.
-use Rattle.std.specs.Prelude.{ℕ, List, map, string_bytes}
+use Rattle.std.specs.Prelude.{ℕ, List, [], map, string_bytes}
 use Rattle.values.specs.Row.{Row}
 use Rattle.reference.specs.Views.{pairs_of}
 use Rattle.values.specs.Resolved.{resolved_of}
@@ -18,6 +18,8 @@ query_of q = record {
   measures = q.plan.measures.items;
   places = map place_of q.places.items;
   first = q.first;
+  start = q.first;
+  earlier = [];
   taken = q.taken;
   is_dropped = q.is_dropped;
 }

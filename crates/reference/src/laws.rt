@@ -1,9 +1,10 @@
 //! Laws of answers that hold for every query and every input.
-ghost use Rattle.std.specs.Prelude.{◌≡◌, ◌≤◌, ◌<◌, ℕ, List, ◌++◌, map};
+ghost use Rattle.std.specs.Prelude.{◌≡◌, ◌≤◌, ◌<◌, ℕ, Bool, List, ◌++◌, map};
 ghost use Rattle.values.specs.Row.{Row};
 ghost use Rattle.values.specs.Tables.{SameTables};
 ghost use Rattle.values.specs.Arrivals.{Longer, AllCameAlike};
-ghost use Rattle.values.specs.Window.{Element, numbered};
+ghost use Rattle.values.specs.Needs.{WindowsShowTheSame};
+ghost use Rattle.values.specs.Window.{Element, Window, numbered};
 ghost use Rattle.values.specs.Answers.{Resolved, answers, shown_at};
 
 /// Answers only grow: those of a shorter run are the beginning of those of a longer one.
@@ -31,4 +32,11 @@ pub fn order_of_arrival_matters_to_last_rows_within_an_instant_alone()
     ensures { (q : Resolved) (start : ℕ) (until : ℕ) (inputs : List (List (ℕ × Row))) (others : List (List (ℕ × Row)))
         → AllCameAlike q.windows inputs others
         → answers q start until (map (numbered 0) inputs) ≡ answers q start until (map (numbered 0) others) }
+{}
+
+/// Says that a window shows the same rows from an instant on, whatever comes later, where all that
+/// it then still shows is kept of its input, and all that is later than the instant before.
+pub fn windows_show_the_same()
+    ensures { (start : ℕ) (w : Window) (next : ℕ) (input : List Element) (kept : Element → Bool)
+        → WindowsShowTheSame start w next input kept }
 {}

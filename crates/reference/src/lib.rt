@@ -24,7 +24,7 @@ pub use finding::find_plan;
 pub use laws::{
     answers_only_grow, equal_window_bags_have_equal_answers,
     later_elements_change_no_closed_answer,
-    order_of_arrival_matters_to_last_rows_within_an_instant_alone,
+    order_of_arrival_matters_to_last_rows_within_an_instant_alone, windows_show_the_same,
 };
 pub use limits::{
     MAX_APPENDED, MAX_INSTANT, MAX_LEAP, MAX_QUERIES, MAX_REGISTRATIONS, MAX_STREAM_COLUMNS,

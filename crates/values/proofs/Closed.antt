@@ -17,7 +17,7 @@ same_tables : (ts : List (List Row)) → SameTables ts ts
 same_tables [] = tt
 same_tables (w ∷ ts) = (same w, same_tables ts)
 
-shown-longer : (from until t : ℕ) → t < until → (ws : List Window) (is js : List (List Element)) → Longer until is js → SameTables (shown_at from ws t is) (shown_at from ws t js)
+pub shown-longer : (from until t : ℕ) → t < until → (ws : List Window) (is js : List (List Element)) → Longer until is js → SameTables (shown_at from ws t is) (shown_at from ws t js)
 shown-longer from until t lt [] is js h = tt
 shown-longer from until t lt (w ∷ ws) [] [] h = tt
 shown-longer from until t lt (w ∷ ws) [] (g ∷ gs) h = absurd h

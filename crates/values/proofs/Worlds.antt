@@ -112,7 +112,7 @@ perm-body q ws vs h =
     (perm-filter (keeps q.condition) (combinations ws) (combinations vs) (perm-combinations ws vs h)))
 
 -- so are its answers
-perm-streamed : (op : StreamOperator) (a b c d : List Row) → Perm a c → Perm b d → Perm (streamed op a b) (streamed op c d)
+pub perm-streamed : (op : StreamOperator) (a b c d : List Row) → Perm a c → Perm b d → Perm (streamed op a b) (streamed op c d)
 perm-streamed Istream a b c d p q = perm-bag_minus row_cmp row_order b d a c q p
 perm-streamed Dstream a b c d p q = perm-bag_minus row_cmp row_order a c b d p q
 perm-streamed Rstream a b c d p q = q
@@ -122,7 +122,7 @@ module _ (q : Resolved) (from : ℕ) (is js : List (List Element)) where
   abbrev pub ShowSame : ℕ → Type 0
   ShowSame t = SameTables (shown_at from q.windows t is) (shown_at from q.windows t js)
 
-  perm-relation : (t : ℕ) → (from ≤ t → ShowSame t) → Perm (relation q from is t) (relation q from js t)
+  pub perm-relation : (t : ℕ) → (from ≤ t → ShowSame t) → Perm (relation q from is t) (relation q from js t)
   perm-relation t h = go (nat_le from t) refl
     where
       go : (b : Bool) → nat_le from t ≡ b → Perm (cond b (body q (shown_at from q.windows t is)) []) (cond b (body q (shown_at from q.windows t js)) [])
@@ -140,7 +140,7 @@ module _ (q : Resolved) (from : ℕ) (is js : List (List Element)) where
       (perm-streamed q.operator (relation_before q from is t) (relation q from is t) (relation_before q from js t) (relation q from js t)
       (perm-relation_before t (λ u lt. h u (omega arith))) (perm-relation t (h t (omega arith)))))
 
-  same_over : (a n : ℕ) → ((u : ℕ) → u < a + n → from ≤ u → ShowSame u) → flat_map (answers_at q from is) (range_with_len a n) ≡ flat_map (answers_at q from js) (range_with_len a n)
+  pub same_over : (a n : ℕ) → ((u : ℕ) → u < a + n → from ≤ u → ShowSame u) → flat_map (answers_at q from is) (range_with_len a n) ≡ flat_map (answers_at q from js) (range_with_len a n)
   same_over a zero h = refl
   same_over a (suc n) h =
       ap (λ v. v ++ flat_map (answers_at q from is) (range_with_len (a + 1) n)) (same-answers_at a (λ u le. h u (omega arith)))
@@ -151,7 +151,7 @@ module _ (q : Resolved) (from : ℕ) (is js : List (List Element)) where
   same-answers until h = same_over from (until - from) (λ u lt le. h u le (omega arith))
 
   -- answers only grow
-  range_split : (a m n : ℕ) → range_with_len a (m + n) ≡ range_with_len a m ++ range_with_len (a + m) n
+  pub range_split : (a m n : ℕ) → range_with_len a (m + n) ≡ range_with_len a m ++ range_with_len (a + m) n
   range_split a zero n = let e : zero + n ≡ n = omega arith in let k : a + zero ≡ a = omega arith in ap (range_with_len a) e ∙ sym (ap (λ b. range_with_len b n) k)
   range_split a (suc m) n =
       let e : suc m + n ≡ suc (m + n) = omega arith in let k : a + 1 + m ≡ a + suc m = omega arith in

@@ -13,3 +13,4 @@ pub mod Resolved
 pub mod Tables
 pub mod Arrivals
 pub mod Examples
+pub mod Needs

@@ -16,7 +16,7 @@ ghost use Rattle.laws_queries.specs.Registrations.{MayMake};
 ghost use Rattle.run_queue.specs.Slots.{without_query};
 ghost use Rattle.laws_engine.specs.Calls.{registered};
 ghost use Rattle.laws_engine.specs.Engines.{GoodEngine};
-ghost use Rattle.laws_engine_accepted.specs.Accepted.{IsBegun, IsPlanOfText, newest};
+ghost use Rattle.laws_engine.specs.Accepted.{IsBegun, IsPlanOfText, newest};
 ghost use Rattle.query_runtime.specs.Turns.{IsBeginning};
 ghost use Rattle.values.specs.Resolved.{resolved_of};
 ghost use Rattle.leases.specs.Readers.{HasSource, HaveCome, reader_in};

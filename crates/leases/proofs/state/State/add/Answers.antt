@@ -35,7 +35,7 @@ returns-clause-engine c =
 pub returns-clause-sound : goal.returns-clause-sound
 returns-clause-sound c =
     let s = c.args.self.now in
-    sound_with s _ (query_of c.args.told) c.args.running c.requires.sound c.requires.good c.requires.live (returns-clause-engine c) refl refl
+    sound_with s _ (query_of c.args.told) c.args.running c.requires.sound c.requires.good c.requires.live refl (returns-clause-engine c) refl refl
     (c.in-Ok.ensures.ok ∙ ap (λ n. s.names ++ Some n ∷ []) (sym c.requires.named))
     (subst₂ (λ n rs. HaveCome (query_of c.args.told) n (length (query_of c.args.told).nodes) rs c.put_readers.new.readers.items) c.next_query-number.ensures c.reserve-3.ensures.items c.put_readers.ensures)
 

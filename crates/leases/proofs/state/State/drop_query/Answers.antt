@@ -1,6 +1,8 @@
 use Rattle.std.proofs.Common.{◌≡◌, ◌<◌, ◌==◌, not, None, Some, length, map, set, get_or, string_bytes, refl, sym, ap, ◌∙◌, subst, arith}
 use Rattle.std.specs.Prelude.{slice_get}
-use Rattle.laws_engine.specs.Engines.{Dropped, GoodEngine, IsIn, world_of}
+use Rattle.laws_engine.specs.Bounds.{HaveFewClosed}
+use Rattle.laws_engine.specs.Engines.{Dropped, GoodEngine, IsIn, PlainEngine, world_of}
+use Rattle.laws_engine.proofs.InstantLemmas.{few_closed_stand}
 use Rattle.laws_engine.proofs.DropLemmas.{drop_good}
 use Rattle.laws_engine.proofs.SlotLemmas.{in_filter}
 use Rattle.laws_engine.proofs.TakeLemmas.{changed_or_there}
@@ -80,7 +82,8 @@ returns-clause-sound c = record {
       ∙ gone_dropped (map query_of c.args.self.now.registered.items) (map kept_of c.args.self.now.kept.items) c.args.query c.requires.gone
       ∙ ap (λ z. map is_gone z) (sym (kept_dropped c.args.self.now.kept.items c.args.query));
   columns = c.requires.columns;
-  closed = c.requires.closed;
+  closed = subst (λ (e : PlainEngine). HaveFewClosed e.machine) (sym (returns-clause-engine c))
+      (few_closed_stand.goes_on (engine_in c.args.self.now).machine (machine.Drop c.args.query) 0 (sym c.query_fault.ensures.first ∙ c.in_default.is) c.requires.closed);
   readers = subst (λ z. ListsReaders z c.forget_readers.new.readers.items) (sym (returns-clause-engine c))
       (subst (ListsReaders (dropped (engine_in c.args.self.now) c.args.query)) (sym c.forget_readers.ensures) (readers_dropped (engine_in c.args.self.now) c.args.query c.args.self.now.readers.items c.requires.readers));
 }

@@ -4,8 +4,8 @@ use Rattle.plan.specs.Chart.{given_by}
 use Rattle.reference.specs.Standing.{found_of}
 use Rattle.laws_engine.specs.Engines.{world_of}
 use Rattle.laws_engine.proofs.RegisteredLemmas.{register_good}
-use Rattle.laws_engine_accepted.specs.Accepted.{newest}
-use Rattle.laws_engine_accepted.proofs.StartLemmas.{found_accepted, plans_may_be_made, registrations_run}
+use Rattle.laws_engine.specs.Accepted.{newest}
+use Rattle.laws_engine.proofs.StartLemmas.{found_accepted, plans_may_be_made, registrations_run}
 use Rattle.leases.specs.Shown.{engine_in, world_in}
 use Rattle.leases.proofs.QueryLemmas.{lacks_memory, refused_early, refused_later, registers}
 use Rattle.leases.proofs.state.State.query.Goals as goal

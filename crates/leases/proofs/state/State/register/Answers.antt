@@ -3,7 +3,7 @@ use Rattle.reference.specs.Commands.{place_at}
 use Rattle.reference.specs.Machine.{Registered, first_for}
 use Rattle.laws_engine.specs.Calls.{registered}
 use Rattle.laws_engine.specs.Engines.{GoodEngine}
-use Rattle.laws_engine_accepted.specs.Accepted.{IsBegun, newest}
+use Rattle.laws_engine.specs.Accepted.{IsBegun, newest}
 use Rattle.leases.specs.Shown.{engine_in}
 use Rattle.leases.specs.Views.{place_of, query_of}
 use Rattle.leases.proofs.BegunLemmas.{begun, on_ok, told_is}

@@ -1,0 +1,297 @@
+-- An engine stays good where its machine is replaced by its opening.
+use Rattle.std.proofs.Common.{◌≡◌, ℕ, zero, suc, ◌+◌, ◌-◌, ◌<◌, ◌≤◌, ◌==◌, ◌&&◌, ◌||◌, Bool, true, false, cond, nat_le, nat_lt, ⊎_elim, Option, Some, None, unwrap_or, List, [], ◌∷◌, ◌++◌, filter, map, length, get_or, refl, sym, ap, ap₂, ◌∙◌, subst, arith, ltb-true}
+use Rattle.std.proofs.lemmas.List.{length-map}
+use Rattle.std.specs.Prelude.{slice_get}
+use Rattle.std.specs.List.{AllByRecursion}
+use Rattle.std.specs.Option.{option_map, option_map_or}
+use Rattle.std.proofs.lemmas.Bool.{eq-eqb}
+use Rattle.values.specs.Row.{Row}
+use Rattle.values.specs.Window.{Element, Window, Unbounded}
+use Rattle.values.specs.Needs.{is_needed}
+use Rattle.column.specs.declared.batch.Side.{Side}
+use Rattle.column.specs.declared.batch.Side.TheVariants.{Left, Right}
+use Rattle.op_queue.specs.Logs.{Closed}
+use Rattle.operators.specs.Operators.{PlainOperator, first_ready, front_instant, ready, ready_at, waiting}
+use Rattle.operators.specs.States.{usable}
+use Rattle.op_queue.specs.Items.{front_of}
+use Rattle.reference.specs.Machine.{Machine, Place, Registered, Stream, answers_from, input_at, until_for}
+use Rattle.reference.specs.Opening.{all_restarted, needs, needs_by, opening, restart, restarted, with_kept}
+use Rattle.laws_dataflow.specs.Laws as nets
+use Rattle.laws_dataflow.specs.Plans.{IsPlanOf, below_root, inputs_of, world_of}
+use Rattle.laws_queries.specs.Machines.{IsMachine, IsQuery, IsStream, columns_of, widths_of}
+use Rattle.laws_queries.specs.Queries.{IsByArrival, IsRunning, PlainQuery, log_at, node_at, operator_at, place_of}
+use Rattle.laws_queries.specs.Rows.{HasRows, HaveRows}
+use Rattle.laws_queries.specs.Steps.{IsFirst}
+use Rattle.laws_queries.specs.Forgetting.{KeepsFor}
+use Rattle.laws_queries.proofs.ForgetLemmas.{forgetting_runs, kept_stream, stream_kept, waits_kept}
+use Rattle.laws_queries.proofs.HeartbeatLemmas.{input_at_source}
+use Rattle.laws_queries.proofs.MachineCounts.{queries_stand}
+use Rattle.run_queue.specs.Slots.{slot}
+use Rattle.laws_engine.specs.Engines.{Broken, Dropped, GoodEngine, Goes, HasGiven, IsIn, IsKept, IsLease, Kept, Lease, PlainEngine, Running, answers_in, is_leased, kept_at, query_at, slope_at, slot_in, slot_of}
+use Rattle.laws_engine.specs.Openings.{opened}
+use Rattle.laws_engine.proofs.AppendedLemmas.{is_query}
+use Rattle.laws_engine.proofs.TakeLemmas.{equal_slots}
+
+pub or_right : (a b : Bool) → b ≡ true → (a || b) ≡ true
+or_right true b h = refl
+or_right false b h = h
+
+pub or_left : (a b : Bool) → a ≡ true → (a || b) ≡ true
+or_left true b h = refl
+or_left false b h = cc
+
+pub and_both : (a b : Bool) → a ≡ true → b ≡ true → (a && b) ≡ true
+and_both true true h k = refl
+and_both true false h k = cc
+and_both false b h k = cc
+
+-- WHAT A QUERY NEEDS is kept
+needs_there : (streams : List Stream) (q : Registered) (next s : ℕ) (ws : List Window) (ps : List Place) (k : ℕ) (e : Element) (d : Place) → k < length ps → k < length ws → (get_or ps k d).stream ≡ s
+    → (nat_le (get_or ps k d).arrivals e.arrival && nat_le q.first e.instant) ≡ true → is_needed q.first (get_or ws k Unbounded) next (input_at streams q.first (get_or ps k d)) e ≡ true → needs streams q next s ws ps e ≡ true
+needs_there streams q next s [] ps k e d l j i c n = absurd (omega (arith, j))
+needs_there streams q next s (w ∷ ws) [] k e d l j i c n = absurd (omega (arith, l))
+needs_there streams q next s (w ∷ ws) (p ∷ ps) zero e d l j i c n = or_left _ _ (and_both (p.stream == s) _ (eq-eqb p.stream s i) (and_both (nat_le p.arrivals e.arrival && nat_le q.first e.instant) _ c n))
+needs_there streams q next s (w ∷ ws) (p ∷ ps) (suc k) e d l j i c n =
+    or_right ((p.stream == s) && ((nat_le p.arrivals e.arrival && nat_le q.first e.instant) && is_needed q.first w next (input_at streams q.first p) e)) _
+    (needs_there streams q next s ws ps k e d (omega (arith, l)) (omega (arith, j)) i c n)
+
+pub needs_by_there : (streams : List Stream) (qs : List Registered) (marks : List (Option ℕ)) (n : ℕ) (q : Registered) (next s : ℕ) (e : Element) → slice_get qs n ≡ Some q → slice_get marks n ≡ Some (Some next)
+    → needs streams q next s q.meaning.windows q.places e ≡ true → needs_by streams qs marks s e ≡ true
+needs_by_there streams [] marks n q next s e h k i = absurd (cc)
+needs_by_there streams (p ∷ qs) [] n q next s e h k i = absurd (cc)
+needs_by_there streams (p ∷ qs) (None ∷ marks) zero q next s e h k i = absurd (cc)
+needs_by_there streams (p ∷ qs) (Some x ∷ marks) zero q next s e h k i =
+    let a : p ≡ q = ap (λ o. unwrap_or o p) h in
+    let b : x ≡ next = ap (λ o. unwrap_or (unwrap_or o None) x) k in
+    or_left _ _ (subst (λ z. needs streams z x s z.meaning.windows z.places e ≡ true) (sym a) (subst (λ z. needs streams q z s q.meaning.windows q.places e ≡ true) (sym b) i))
+needs_by_there streams (p ∷ qs) (None ∷ marks) (suc n) q next s e h k i = needs_by_there streams qs marks n q next s e h k i
+needs_by_there streams (p ∷ qs) (Some x ∷ marks) (suc n) q next s e h k i = or_right (needs streams p x s p.meaning.windows p.places e) _ (needs_by_there streams qs marks n q next s e h k i)
+
+-- THE QUERIES
+restarted_at : (qs : List Registered) (marks : List (Option ℕ)) (ws : List (List (ℕ × Row))) (n : ℕ) → length marks ≡ length qs → length ws ≡ length qs
+    → slice_get (all_restarted qs marks ws) n ≡ option_map (λ q. restart q (get_or marks n None) (get_or ws n [])) (slice_get qs n)
+restarted_at [] marks ws n h k = refl
+restarted_at (q ∷ qs) [] ws n h k = absurd (omega (arith, h))
+restarted_at (q ∷ qs) (m ∷ marks) [] n h k = absurd (omega (arith, k))
+restarted_at (q ∷ qs) (m ∷ marks) (w ∷ ws) zero h k = refl
+restarted_at (q ∷ qs) (m ∷ marks) (w ∷ ws) (suc n) h k = restarted_at qs marks ws n (omega (arith, h)) (omega (arith, k))
+
+length-restarted : (qs : List Registered) (marks : List (Option ℕ)) (ws : List (List (ℕ × Row))) → length (all_restarted qs marks ws) ≡ length qs
+length-restarted [] marks ws = refl
+length-restarted (q ∷ qs) [] ws = refl
+length-restarted (q ∷ qs) (m ∷ marks) [] = refl
+length-restarted (q ∷ qs) (m ∷ marks) (w ∷ ws) = ap suc (length-restarted qs marks ws)
+
+pub waits_at : (ks : List Kept) (n : ℕ) → get_or (map answers_in ks) n [] ≡ answers_in (get_or ks n Dropped)
+waits_at [] n = refl
+waits_at (k ∷ ks) zero = refl
+waits_at (k ∷ ks) (suc n) = waits_at ks n
+
+record Before (f : Registered → Registered) (o : Option Registered) (r : Registered) : Type 0 where
+  query : Registered
+  there : o ≡ Some query
+  is : r ≡ f query
+
+before : (f : Registered → Registered) (o : Option Registered) (r : Registered) → option_map f o ≡ Some r → Before f o r
+before f None r h = absurd (cc)
+before f (Some q) r h = record { query = q; there = refl; is = sym (ap (λ o. unwrap_or o r) h) }
+
+-- THE STREAMS
+all_filtered : (P : Element → Type 0) (p : Element → Bool) (es : List Element) → AllByRecursion P es → AllByRecursion P (filter p es)
+all_filtered P p [] h = tt
+all_filtered P p (e ∷ es) h = here (p e) (all_filtered P p es h.1)
+  where
+    here : (b : Bool) → AllByRecursion P (filter p es) → AllByRecursion P (cond b (e ∷ filter p es) (filter p es))
+    here true k = (h.0, k)
+    here false k = k
+
+arrival_filtered : (p : Element → Bool) (es : List Element) → IsByArrival es → IsByArrival (filter p es)
+arrival_filtered p [] h = tt
+arrival_filtered p (e ∷ es) h = here (p e) (all_filtered (λ f. e.arrival < f.arrival) p es h.0) (arrival_filtered p es h.1)
+  where
+    here : (b : Bool) → AllByRecursion (λ f. e.arrival < f.arrival) (filter p es) → IsByArrival (filter p es) → IsByArrival (cond b (e ∷ filter p es) (filter p es))
+    here true k l = (k, l)
+    here false k l = l
+
+few_filtered : (p : Element → Bool) (es : List Element) → length (filter p es) ≤ length es
+few_filtered p [] = omega arith
+few_filtered p (e ∷ es) = here (p e) (few_filtered p es)
+  where
+    here : (b : Bool) → length (filter p es) ≤ length es → length (cond b (e ∷ filter p es) (filter p es)) ≤ suc (length es)
+    here true k = omega (arith, k)
+    here false k = omega (arith, k)
+
+module _ (keep : ℕ → Element → Bool) where
+  streams_kept : (n : ℕ) (ss : List Stream) → AllByRecursion IsStream ss → AllByRecursion IsStream (with_kept keep n ss)
+  streams_kept n [] h = tt
+  streams_kept n (s ∷ ss) h = (record { wide = all_filtered _ (keep n) s.elements h.0.wide; counted = omega (arith, h.0.counted, few_filtered (keep n) s.elements); few = h.0.few }, streams_kept (suc n) ss h.1)
+
+  rows_kept : (n : ℕ) (ss : List Stream) → AllByRecursion HasRows ss → AllByRecursion HasRows (with_kept keep n ss)
+  rows_kept n [] h = tt
+  rows_kept n (s ∷ ss) h = (record { arrival = arrival_filtered (keep n) s.elements h.0.arrival; below = all_filtered _ (keep n) s.elements h.0.below; values = all_filtered _ (keep n) s.elements h.0.values }, rows_kept (suc n) ss h.1)
+
+  length-kept : (n : ℕ) (ss : List Stream) → length (with_kept keep n ss) ≡ length ss
+  length-kept n [] = refl
+  length-kept n (s ∷ ss) = ap suc (length-kept (suc n) ss)
+
+  columns_option : (i : ℕ) (o : Option Stream) → option_map_or (λ (s : Stream). length s.columns) (option_map (kept_stream (keep i)) o) 0 ≡ option_map_or (λ (s : Stream). length s.columns) o 0
+  columns_option i None = refl
+  columns_option i (Some s) = refl
+
+  columns_kept : (ss : List Stream) (i : ℕ) → columns_of (with_kept keep 0 ss) i ≡ columns_of ss i
+  columns_kept ss i = ap (λ o. option_map_or (λ s. length s.columns) o 0) (stream_kept keep i ss) ∙ columns_option i (slice_get ss i)
+
+  widths_kept : (ss : List Stream) (ps : List Place) → map (λ (p : Place). columns_of (with_kept keep 0 ss) p.stream) ps ≡ map (λ (p : Place). columns_of ss p.stream) ps
+  widths_kept ss [] = refl
+  widths_kept ss (p ∷ ps) = ap₂ (λ v vs. v ∷ vs) (columns_kept ss p.stream) (widths_kept ss ps)
+
+  known_kept : (ss : List Stream) (ps : List Place) → AllByRecursion (λ p. p.stream < length ss) ps → AllByRecursion (λ p. p.stream < length (with_kept keep 0 ss)) ps
+  known_kept ss [] h = tt
+  known_kept ss (p ∷ ps) h = (omega (arith, h.0, length-kept 0 ss), known_kept ss ps h.1)
+
+  query_kept : (ss : List Stream) (q : Registered) (next : ℕ) (waiting : List (ℕ × Row)) → IsQuery ss q → IsQuery (with_kept keep 0 ss) (restarted q next waiting)
+  query_kept ss q next waiting is = record {
+    plan = subst (λ vs. IsPlanOf vs q.meaning q.nodes) (sym (widths_kept ss q.places)) is.plan;
+    few = subst (λ vs. length vs ≤ 2) (sym (widths_kept ss q.places)) is.few;
+    known = known_kept ss q.places is.known;
+  }
+
+  query_over : (ss : List Stream) (q : Registered) → IsQuery ss q → IsQuery (with_kept keep 0 ss) q
+  query_over ss q is = record {
+    plan = subst (λ vs. IsPlanOf vs q.meaning q.nodes) (sym (widths_kept ss q.places)) is.plan;
+    few = subst (λ vs. length vs ≤ 2) (sym (widths_kept ss q.places)) is.few;
+    known = known_kept ss q.places is.known;
+  }
+
+  queries_kept : (ss : List Stream) (qs : List Registered) (marks : List (Option ℕ)) (ws : List (List (ℕ × Row))) → length marks ≡ length qs → length ws ≡ length qs
+      → AllByRecursion (IsQuery ss) qs → AllByRecursion (IsQuery (with_kept keep 0 ss)) (all_restarted qs marks ws)
+  queries_kept ss [] marks ws h k is = tt
+  queries_kept ss (q ∷ qs) [] ws h k is = absurd (omega (arith, h))
+  queries_kept ss (q ∷ qs) (m ∷ marks) [] h k is = absurd (omega (arith, k))
+  queries_kept ss (q ∷ qs) (m ∷ marks) (w ∷ ws) h k is = (query_kept ss q (unwrap_or m q.start) w is.0, queries_kept ss qs marks ws (omega (arith, h)) (omega (arith, k)) is.1)
+
+-- THE ENGINE
+module _ (e : PlainEngine) (g : GoodEngine e) (marks : List (Option ℕ)) (long : length marks ≡ length e.machine.queries) where
+  pub goes : (n : ℕ) (q : Registered) (p : PlainQuery) → query_at e n ≡ Some q → kept_at e n ≡ Running p → Goes e.machine q p
+  goes n q p r k = subst (IsKept e.machine q) k (g.queries n q r)
+
+  -- the mark of a query that runs is the instant after the last tick that its root has taken
+  pub record Marked (n : ℕ) (q : Registered) (p : PlainQuery) (r : query_at e n ≡ Some q) (k : kept_at e n ≡ Running p) : Type 0 where
+    pub next : ℕ
+    pub is : slice_get marks n ≡ Some (Some next)
+    pub opens : (goes n q p r k).runs.runs.good.root.opens ≡ next
+
+  abbrev keep : ℕ → Element → Bool
+  keep = needs_by e.machine.streams e.machine.queries marks
+
+  abbrev pub waits : List (List (ℕ × Row))
+  waits = map answers_in e.queries
+
+  pub long_waits : length waits ≡ length e.machine.queries
+  long_waits = length-map e.queries answers_in ∙ g.many
+
+  module _ (marked : (n : ℕ) (q : Registered) (p : PlainQuery) (r : query_at e n ≡ Some q) (k : kept_at e n ≡ Running p) → Marked n q p r k) where
+    keeps : (n : ℕ) (q : Registered) (next : ℕ) → query_at e n ≡ Some q → slice_get marks n ≡ Some (Some next) → KeepsFor e.machine q next keep
+    keeps n q next r k = record {
+      keeps = λ j f l c need.
+          let is : IsQuery e.machine.streams q = is_query e g n q r in
+          let windows : length q.meaning.windows ≡ length q.places = is.plan.scoped.sources ∙ length-map q.places (λ (p : Place). columns_of e.machine.streams p.stream) in
+          needs_by_there e.machine.streams e.machine.queries marks n q next (place_of q j).stream f r k
+          (needs_there e.machine.streams q next (place_of q j).stream q.meaning.windows q.places j f (record { stream = 0; arrivals = 0 }) l (omega (arith, l, windows)) refl c
+          (subst (λ es. is_needed q.first (get_or q.meaning.windows j Unbounded) next es f ≡ true) (input_at_source e.machine q j l) need));
+    }
+
+    machine2 : IsMachine (opened e marks).machine
+    machine2 = record { streams = streams_kept keep 0 e.machine.streams g.machine.streams; queries = queries_kept keep e.machine.streams e.machine.queries marks waits long long_waits g.machine.queries }
+
+    -- a query with the mark of its number
+    at_mark : (n : ℕ) (q : Registered) (next : ℕ) → slice_get marks n ≡ Some (Some next) → unwrap_or (get_or marks n None) q.start ≡ next
+    at_mark n q next h = from marks n h
+      where
+        from : (ms : List (Option ℕ)) (n : ℕ) → slice_get ms n ≡ Some (Some next) → unwrap_or (get_or ms n None) q.start ≡ next
+        from [] n h = absurd (cc)
+        from (x ∷ ms) zero h = ap (λ o. unwrap_or (unwrap_or o None) q.start) h
+        from (x ∷ ms) (suc n) h = from ms n h
+
+    kept_opened : (n : ℕ) (q : Registered) (r : query_at e n ≡ Some q) (kept : Kept) → kept_at e n ≡ kept → IsKept (opened e marks).machine (restart q (get_or marks n None) (answers_in kept)) kept
+    kept_opened n q r (Running p) k =
+        let a : Marked n q p r k = marked n q p r k in
+        let h : Goes e.machine q p = goes n q p r k in
+        let is2 : IsQuery (opened e marks).machine.streams q = query_over keep e.machine.streams q (is_query e g n q r) in
+        let widths : widths_of (opened e marks).machine.streams q ≡ widths_of e.machine.streams q = widths_kept keep e.machine.streams q.places in
+        let stands2 : nets.Stands (widths_of e.machine.streams q) (opened e marks).machine q = subst (λ vs. nets.Stands vs (opened e marks).machine q) widths ((queries_stand (opened e marks).machine machine2).stands q is2) in
+        let runs : IsRunning (widths_of e.machine.streams q) h.widths (opened e marks).machine (restarted q a.next p.answers) p.operators p.answers =
+        forgetting_runs (widths_of e.machine.streams q) h.widths e.machine q (opened e marks).machine.queries a.next keep (keeps n q a.next r a.is) p.answers p.operators (h.taken ++ p.answers) stands2 h.runs.runs a.opens in
+        subst (λ z. Goes (opened e marks).machine (restarted q z p.answers) p) (sym (at_mark n q a.next a.is)) (record {
+          widths = h.widths;
+          sources = λ j s jc i. h.sources j s jc i ∙ sym (columns_kept keep e.machine.streams (place_of q s).stream);
+          taken = [];
+          counted = refl;
+          runs = record {
+            wires = h.runs.wires;
+            sources = h.runs.sources;
+            runs = subst (λ vs. IsRunning vs h.widths (opened e marks).machine (restarted q a.next p.answers) p.operators p.answers) (sym widths) runs;
+          };
+        })
+    kept_opened n q r (Broken answers) k = record { taken = []; counted = refl; rest = _; begins = refl }
+    kept_opened n q r Dropped k = record { taken = []; counted = refl; rest = _; begins = refl }
+
+    query_opened : (n : ℕ) → query_at (opened e marks) n ≡ option_map (λ q. restart q (get_or marks n None) (get_or waits n [])) (query_at e n)
+    query_opened n = restarted_at e.machine.queries marks waits n long long_waits
+
+    queries_opened : (n : ℕ) (q2 : Registered) → query_at (opened e marks) n ≡ Some q2 → IsKept (opened e marks).machine q2 (kept_at e n)
+    queries_opened n q2 r =
+        let b : Before (λ q. restart q (get_or marks n None) (get_or waits n [])) (query_at e n) q2 = before _ (query_at e n) q2 (sym (query_opened n) ∙ r) in
+        subst (λ z. IsKept (opened e marks).machine z (kept_at e n)) (sym b.is)
+        (subst (λ w. IsKept (opened e marks).machine (restart b.query (get_or marks n None) w) (kept_at e n)) (sym (waits_at e.queries n)) (kept_opened n b.query b.there (kept_at e n) refl))
+
+    -- what waits for an operator is as it was
+    waits_same : (n : ℕ) (q : Registered) (p : PlainQuery) (r : query_at e n ≡ Some q) (k : kept_at e n ≡ Running p) (j : ℕ) → j < length q.nodes → (side : Side)
+        → waiting (operator_at p.operators j) (log_at (opened e marks).machine q j) side ≡ waiting (operator_at p.operators j) (log_at e.machine q j) side
+    waits_same n q p r k j l side =
+        let a : Marked n q p r k = marked n q p r k in
+        let h : Goes e.machine q p = goes n q p r k in
+        waits_kept (widths_of e.machine.streams q) h.widths e.machine q (opened e marks).machine.queries a.next keep (keeps n q a.next r a.is) p.answers p.operators (h.taken ++ p.answers) h.runs.runs a.opens j (omega (arith, l)) side
+
+    ready_by : (o : PlainOperator) (log log2 : Closed) → ((side : Side) → waiting o log2 side ≡ waiting o log side) → ready o log2 ≡ ready o log
+    ready_by o log log2 h = ap₂ first_ready
+        (ap (λ es. cond (usable o.state Left) (option_map front_instant (front_of es)) None) (h Left))
+        (ap (λ es. cond (usable o.state Right) (option_map front_instant (front_of es)) None) (h Right))
+
+    lease_opened : (a : Lease) → IsLease e a → IsLease (opened e marks) a
+    lease_opened a is = record {
+      numbered = is.numbered;
+      query = restart is.query (get_or marks a.query None) (get_or waits a.query []);
+      registered = query_opened a.query ∙ ap (option_map (λ q. restart q (get_or marks a.query None) (get_or waits a.query []))) is.registered;
+      kept = is.kept;
+      running = is.running;
+      within = is.within;
+      first = record { rest = is.first.rest; some = is.first.some; few = is.first.few; is = waits_same a.query is.query is.kept is.registered is.running a.operator is.within a.side ∙ is.first.is; usable = is.first.usable };
+      near = is.near;
+    }
+
+    slot_opened : (n k : ℕ) (o : Option Registered) (kept : Kept) → query_at e n ≡ o → kept_at e n ≡ kept → slot_in (opened e marks) n k (option_map (λ q. restart q (get_or marks n None) (get_or waits n [])) o) kept ≡ slot_in e n k o kept
+    slot_opened n k None kept r h = refl
+    slot_opened n k (Some q) (Running p) r h = here (nat_lt k (length q.nodes)) refl
+      where
+        here : (b : Bool) → nat_lt k (length q.nodes) ≡ b
+            → cond b (Some (slot (slope_at q k) (cond (is_leased e n k) None (option_map (λ z. z.1) (ready (operator_at p.operators k) (log_at (opened e marks).machine q k)))) n k)) None
+            ≡ cond b (Some (slot (slope_at q k) (cond (is_leased e n k) None (option_map (λ z. z.1) (ready (operator_at p.operators k) (log_at e.machine q k)))) n k)) None
+        here true l = ap (λ x. Some (slot (slope_at q k) (cond (is_leased e n k) None (option_map (λ z. z.1) x)) n k))
+            (ready_by (operator_at p.operators k) (log_at e.machine q k) (log_at (opened e marks).machine q k) (waits_same n q p r h k (ltb-true k (length q.nodes) l)))
+        here false l = refl
+    slot_opened n k (Some q) (Broken answers) r h = refl
+    slot_opened n k (Some q) Dropped r h = refl
+
+    -- IT STAYS GOOD
+    pub opened_good : GoodEngine (opened e marks)
+    opened_good = record {
+      machine = machine2;
+      rows = rows_kept keep 0 e.machine.streams g.rows;
+      many = g.many ∙ sym (length-restarted e.machine.queries marks waits);
+      queries = queries_opened;
+      leases = λ a i. lease_opened a (g.leases a i);
+      apart = g.apart;
+      slots = equal_slots (slot_of e) (slot_of (opened e marks)) e.slots
+          (λ n k. ap (λ o. slot_in (opened e marks) n k o (kept_at e n)) (query_opened n) ∙ slot_opened n k (query_at e n) (kept_at e n) refl refl) g.slots;
+    }

@@ -1,4 +1,0 @@
-pub mod ConditionLemmas
-pub mod NameLemmas
-pub mod FoundLemmas
-pub mod StartLemmas

@@ -1,4 +1,0 @@
-pub mod AnswerLemmas
-pub mod InstantLemmas
-pub mod EngineLemmas
-pub mod HistoryLemmas

@@ -61,7 +61,7 @@ pub record RunsProject (columns : List Column) (o : PlainOperator) (log : Closed
   pub queue : q ≡ waiting o log Left
 
 -- GROUPS keep the numbers of a column one by one where an item asks for the least or greatest of them, and of no other item
-abbrev pub AreLean : List listed.Item → List TallyState → Type 0
+abbrev pub AreLean : List listed.ListItem → List TallyState → Type 0
 AreLean [] ts = Unit {0}
 AreLean (i ∷ is) [] = Unit {0}
 AreLean (i ∷ is) (t ∷ ts) = (keeps i ≡ false → t.values ≡ []) × AreLean is ts

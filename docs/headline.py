@@ -25,10 +25,10 @@ STEPS = [
     ("what the grammar and the names give, or the first fault", "read, resolve",
      "cql_reader, names"),
     ("the plan's value is the relation of the meaning", "plans_are_right", "plan"),
-    ("each operator keeps its law; edges are paths", "plans_are_nets",
+    ("each operator keeps its law; edges are paths", "good_queries_give_their_answers",
      "operators' crates, laws_dataflow"),
     ("the code's operators are such operators", "accepted_registrations_run",
-     "laws_queries, laws_engine_accepted"),
+     "laws_queries, laws_engine"),
     ("each call keeps a good engine good", "engines_keep_their_promises", "laws_engine"),
     ("each call does what the plain engine does", "Engine's clauses", "leases"),
     ("each call does what the machine's step says", "does, run_script, run",
@@ -36,7 +36,7 @@ STEPS = [
 ]
 # what says at a level that the answers given are a beginning of CQL's
 GIVEN = {
-    3: "what_was_given_is_a_beginning",
+    3: "good_queries_give_their_answers",
     4: "running_queries_give_their_answers",
     5: "good_engines_keep_their_promises",
     6: "promises",

@@ -1,5 +1,5 @@
 //! Queries that are registered.
-ghost use Rattle.std.specs.Prelude.{◌≡◌, ◌<◌, ◌≤◌, ◌+◌, ℕ, false, not, count_by, IfOk, IfSome, None, OnErr, OnOk, length, map};
+ghost use Rattle.std.specs.Prelude.{◌≡◌, ◌<◌, ◌≤◌, ◌+◌, ℕ, false, not, count_by, [], IfOk, IfSome, None, OnErr, OnOk, length, map};
 ghost use Rattle.std.specs.Option.{option_copied};
 ghost use Rattle.std.specs.Vec.{vec_capacity, vec_len};
 ghost use Rattle.names.specs.Faults.{first_of};
@@ -251,6 +251,8 @@ fn registration(
       measures = plan.measures.items;
       places = map place_of places.items;
       first = first;
+      start = first;
+      earlier = [];
       taken = 0;
       is_dropped = false;
     }) }

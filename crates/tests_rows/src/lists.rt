@@ -2,7 +2,7 @@
 
 use crate::charts::points_in;
 use envelope::{Slope, is_chart, slopes};
-use run_queue::{ReadyList, Slot};
+use run_queue::{RunQueue, Slot};
 use std::alloc::{AllocError, Global};
 
 fn number(word: &str) -> u64 {
@@ -35,7 +35,7 @@ fn shown(alloc: Global, slot: &Slot) -> Result<String, AllocError> {
 }
 
 /// What the first slot shows.
-fn first(alloc: Global, list: &ReadyList) -> Result<String, AllocError> {
+fn first(alloc: Global, list: &RunQueue) -> Result<String, AllocError> {
     match list.first() {
         Some(slot) => shown(alloc, &slot),
         None => String::from_str(alloc, "none"),
@@ -44,7 +44,7 @@ fn first(alloc: Global, list: &ReadyList) -> Result<String, AllocError> {
 
 /// The queries and operators of the first slots, one after the other, where each has nothing to
 /// take once it was.
-fn in_turn(alloc: Global, list: &mut ReadyList) -> Result<String, AllocError> {
+fn in_turn(alloc: Global, list: &mut RunQueue) -> Result<String, AllocError> {
     let mut text = String::new(alloc);
     for _ in 0..100 {
         match list.first() {
@@ -63,7 +63,7 @@ fn in_turn(alloc: Global, list: &mut ReadyList) -> Result<String, AllocError> {
 /// Each operator of a path comes, with something of the instant 0 to take.
 fn put_path(
     alloc: Global,
-    list: &mut ReadyList,
+    list: &mut RunQueue,
     query: u64,
     words: &[&str],
 ) -> Result<(), AllocError> {
@@ -78,15 +78,11 @@ fn put_path(
 }
 
 /// The first slot of the list, behind what the words do to it.
-pub(crate) fn listed(
-    alloc: Global,
-    list: &mut ReadyList,
-    rest: &str,
-) -> Result<String, AllocError> {
+pub(crate) fn listed(alloc: Global, list: &mut RunQueue, rest: &str) -> Result<String, AllocError> {
     let words: Vec<&str> = rest.split_whitespace().collect(alloc)?;
     match words.as_slice() {
         ["new"] => {
-            *list = ReadyList::new(alloc);
+            *list = RunQueue::new(alloc);
         }
         ["put", slope, at, query, operator] => list.put(slot(slope, at, query, operator))?,
         ["change", slope, at, query, operator, next] => {

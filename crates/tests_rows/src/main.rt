@@ -12,7 +12,7 @@ mod workers;
 
 use leases::Engine;
 use reference::{Fault, Plain};
-use run_queue::ReadyList;
+use run_queue::RunQueue;
 use std::alloc::{AllocError, Global};
 use std::io;
 use turn::Done;
@@ -45,7 +45,7 @@ fn engaged(
 /// What a line is answered that needs no engine, if it is such a one.
 fn answered(
     alloc: Global,
-    list: &mut ReadyList,
+    list: &mut RunQueue,
     word: &str,
     rest: &str,
 ) -> Result<Option<String>, Fault> {
@@ -66,7 +66,7 @@ fn answered(
 fn main(rt: HostRuntime) -> io::Result<()> {
     let mut engine = Engine::new(rt.alloc());
     let mut kept = Vec::new(rt.alloc());
-    let mut list = ReadyList::new(rt.alloc());
+    let mut list = RunQueue::new(rt.alloc());
     let Ok(mut plain) = Plain::new(rt.alloc()) else {
         return Err(io::Error::from(AllocError));
     };

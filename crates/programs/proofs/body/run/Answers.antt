@@ -1,7 +1,11 @@
 use Rattle.std.proofs.Common.{ap, inl, inr}
 use Rattle.reference.specs.World.{empty}
-use Rattle.programs.proofs.Outcomes.{answers_nothing, lacks_memory, asks_no_help, asks_no_version, asks_help}
+use Rattle.programs.proofs.Outcomes.{answers_nothing, plain_answers, lacks_memory, asks_no_help, asks_no_version, asks_help}
 use Rattle.programs.proofs.body.run.Goals as goal
+
+pub returns-in-Ok-clause-answers : goal.returns-in-Ok-clause-answers
+returns-in-Ok-clause-answers g c runs =
+    plain_answers _ empty c.run_made.result (g.I.Source.left c.args.source.now) (g.O.Sink.taken c.args.sink.now) (g.O.Sink.taken c.run_made.new.sink) (c.run_made.ensures.answers)
 
 pub returns-in-Err-clause-answers : goal.returns-in-Err-clause-answers
 returns-in-Err-clause-answers g c runs =

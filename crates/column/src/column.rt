@@ -103,7 +103,8 @@ impl Column {
         Ok(Column { numbers, valid })
     }
 
-    /// The values at these places, in their order. An error says that memory was refused; nothing is changed.
+    /// The values at these places, in their order. An error says that memory was refused; nothing
+    /// is changed.
     pub fn picked(&self, alloc: Global, places: &[usize]) -> Result<Column, AllocError>
         requires few { length places.now ≤ MAX_ROWS }
         requires within { All (λ i. i < length self.now) places.now }

@@ -1,7 +1,8 @@
 //! Values in columns, eight bytes each: what moves between the operators of a query.
 //!
-//! A `Mask` is a list of truths in words of 64 bits, a `Column` a list of values, and a `Batch` a list of 1 to 1,024 signed
-//! rows of one width, laid out in columns. Contracts see each of them as that list.
+//! A `Mask` is a list of truths in words of 64 bits, a `Column` a list of values, and a `Batch` a
+//! list of 1 to 1,024 signed rows of one width, laid out in columns. Contracts see each of them as
+//! that list.
 #![tactic(auto)]
 
 mod batch;

@@ -34,7 +34,8 @@ impl Mask {
         Ok(Mask { words, len: 0 })
     }
 
-    /// The first `len` bits of these words. An error says that memory was refused; nothing is changed.
+    /// The first `len` bits of these words. An error says that memory was refused; nothing is
+    /// changed.
     pub fn from_words(alloc: Global, words: &[u64], len: usize) -> Result<Mask, AllocError>
         requires few { len ≤ MAX_ROWS }
         requires clear { IsClear len words.now }
@@ -119,7 +120,8 @@ impl Mask {
         Ok(mask)
     }
 
-    /// The truths at these places, in their order. An error says that memory was refused; nothing is changed.
+    /// The truths at these places, in their order. An error says that memory was refused; nothing
+    /// is changed.
     pub fn picked(&self, alloc: Global, places: &[usize]) -> Result<Mask, AllocError>
         requires few { length places.now ≤ MAX_ROWS }
         requires within { All (λ i. i < length self.now) places.now }
@@ -132,7 +134,8 @@ impl Mask {
         Ok(mask)
     }
 
-    /// The places that are true, in order. An error says that memory was refused; nothing is changed.
+    /// The places that are true, in order. An error says that memory was refused; nothing is
+    /// changed.
     pub fn places(&self, alloc: Global) -> Result<Vec<usize>, AllocError>
         ensures value { IfOk result (λ ps. ps.items ≡ true_places self.now) }
         ensures few { IfOk result (λ ps. length ps.items ≤ MAX_ROWS) }

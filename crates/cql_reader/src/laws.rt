@@ -8,15 +8,16 @@ ghost use Rattle.cql_reader.specs.WellFormed.{IsWellFormed};
 
 /// Each text has one right answer, the one that `read` gives.
 ///
-/// The function does nothing: its contract is the law. What is right is told by the grammar and by what may follow, in words
-/// that know no order of trial and no lookahead; `reading` finds it by one pass over the tokens.
+/// The function does nothing: its contract is the law. What is right is told by the grammar and by
+/// what may follow, in words that know no order of trial and no lookahead; `reading` finds it by
+/// one pass over the tokens.
 pub fn every_text_has_one_answer()
     ensures right { (text : List ℕ) → IsAnswer text (reading text) }
     ensures only { (text : List ℕ) (answer : Result Query Fault) → IsAnswer text answer → answer ≡ reading text }
 {}
 
-/// A query that is read is well formed: it has one source or two, a list that is not `*` has an item, and windows and numbers
-/// are within their ranges.
+/// A query that is read is well formed: it has one source or two, a list that is not `*` has an
+/// item, and windows and numbers are within their ranges.
 pub fn every_query_is_well_formed()
     ensures { (text : List ℕ) (query : Query) → reading text ≡ Ok query → IsWellFormed query }
 {}

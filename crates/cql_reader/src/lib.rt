@@ -1,10 +1,11 @@
 //! The query reader: from the text of a continuous query to the query that it names.
 //!
-//! `read` answers with a query exactly for the texts of the grammar, and otherwise with the first fault from the left and
-//! the byte at which it stands. The language is that of CQL (Arasu, Babu and Widom, "The CQL continuous query language",
-//! 2006): `Select Istream(k, Count(*)) From S [Range 10] Where v > 3 Group By k`. The grammar is a table,
-//! `specs/Grammar.antt`; a stack machine is driven by that table, and one theory shows, for any table that one token of
-//! lookahead decides, that the machine is right.
+//! `read` answers with a query exactly for the texts of the grammar, and otherwise with the first
+//! fault from the left and the byte at which it stands. The language is that of CQL (Arasu, Babu
+//! and Widom, "The CQL continuous query language", 2006): `Select Istream(k, Count(*)) From S
+//! [Range 10] Where v > 3 Group By k`. The grammar is a table, `specs/Grammar.antt`; a stack
+//! machine is driven by that table, and one theory shows, for any table that one token of lookahead
+//! decides, that the machine is right.
 #![tactic(auto)]
 
 ghost use Rattle.std.specs.Prelude.{◌≡◌};
@@ -42,7 +43,8 @@ pub const MAX_DEPTH: usize = 32;
 /// The most sources that a query has.
 pub const MAX_SOURCES: usize = 2;
 
-/// Why a text is no query. A place is the count of bytes before the token at fault, or of the text where it ends too early.
+/// Why a text is no query. A place is the count of bytes before the token at fault, or of the text
+/// where it ends too early.
 #[derive(Clone, Copy, Debug, PartialEq, Eq)]
 pub enum ReadFault {
     /// Memory was refused; nothing is said of the text.

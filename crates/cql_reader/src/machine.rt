@@ -158,9 +158,10 @@ fn parse(alloc: Global, text: &[u8]) -> Result<Draft, ReadFault>
 
 /// Reads the text of a query.
 ///
-/// The answer is the query that the text names, or the first fault: a text over `MAX_TEXT` bytes is `TextTooLong`, one with a
-/// byte above 127 is `NotAscii`, and else the text is judged token by token from the left. The cost is linear in the text.
-/// `OutOfMemory` may stand in place of any answer.
+/// The answer is the query that the text names, or the first fault: a text over `MAX_TEXT` bytes is
+/// `TextTooLong`, one with a byte above 127 is `NotAscii`, and else the text is judged token by
+/// token from the left. The cost is linear in the text. `OutOfMemory` may stand in place of any
+/// answer.
 pub fn read(alloc: Global, text: &[u8]) -> Result<Query, ReadFault>
     ensures reading { Reads (reading text.now) result }
     ensures well_formed { IfOk result (λ query. IsWellFormed (query_of query)) }

@@ -46,7 +46,8 @@ pub enum Window {
     Partition(Vec<Reference>, u64),
 }
 
-/// One source of a query: a stream, the window on it, and its name in the query where it has one of its own.
+/// One source of a query: a stream, the window on it, and its name in the query where it has one of
+/// its own.
 #[derive(Debug, Drop)]
 pub struct Source {
     pub stream: Name,

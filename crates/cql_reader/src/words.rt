@@ -76,8 +76,8 @@ pub fn kind_of_word(word: &[u8]) -> Kind
     }
 }
 
-/// Whether a text is a name: a letter or an underscore, then letters, digits and underscores, `MAX_NAME` in all at most,
-/// and no reserved word in any case of letters.
+/// Whether a text is a name: a letter or an underscore, then letters, digits and underscores,
+/// `MAX_NAME` in all at most, and no reserved word in any case of letters.
 ///
 /// Streams, their columns, and queries are named so.
 #[tactic(auto, unfolding(crate::specs::Lexis::is_name))]

@@ -13,8 +13,8 @@ use std::alloc::{AllocError, Global};
 use std::marker::Brand;
 use std::sync::ledger::{Blank, Ledger};
 
-/// Each operator's slope, in the order of the path: the descent of the segment above its step, in every lower envelope
-/// of the chart. An error only where memory was refused.
+/// Each operator's slope, in the order of the path: the descent of the segment above its step, in
+/// every lower envelope of the chart. An error only where memory was refused.
 ///
 /// An operator on several paths has a slope on each; Chain goes by the greatest, `max`.
 pub fn slopes(alloc: Global, points: &[Point]) -> Result<Vec<Slope>, AllocError>
@@ -25,8 +25,8 @@ pub fn slopes(alloc: Global, points: &[Point]) -> Result<Vec<Slope>, AllocError>
     uncounted::<Brand>(alloc, points, Blank::new(1))
 }
 
-/// As `slopes`, and raises `steps` by one for each comparison of descents: at most two for each operator, also where
-/// memory was refused.
+/// As `slopes`, and raises `steps` by one for each comparison of descents: at most two for each
+/// operator, also where memory was refused.
 pub fn slopes_counted<L: Ledger>(
     alloc: Global,
     points: &[Point],
@@ -73,7 +73,8 @@ fn read_off(alloc: Global, points: &[Point], envelope: &[Point]) -> Result<Vec<S
     Ok(slopes)
 }
 
-/// The place of the segment above the step that ends at the point `next`, from the place `start` on.
+/// The place of the segment above the step that ends at the point `next`, from the place `start`
+/// on.
 fn segment_over(points: &[Point], envelope: &[Point], next: usize, start: usize) -> usize
     requires chart { IsChart points.now }
     requires envelope { IsLowerEnvelope points.now envelope.now }

@@ -9,9 +9,11 @@ use crate::steps::Steps;
 use std::alloc::{AllocError, Global};
 use std::sync::ledger::Ledger;
 
-/// The lower envelope that leaves out every point that it can: of points on one segment only the ends stay.
+/// The lower envelope that leaves out every point that it can: of points on one segment only the
+/// ends stay.
 ///
-/// Each comparison takes a point off the stack for good or ends an operator's turn, so two for each operator do.
+/// Each comparison takes a point off the stack for good or ends an operator's turn, so two for each
+/// operator do.
 pub fn lower_envelope<L: Ledger>(
     alloc: Global,
     points: &[Point],
@@ -30,7 +32,8 @@ pub fn lower_envelope<L: Ledger>(
     Ok(stack)
 }
 
-/// Takes off the last points, as long as they do not lie below the segment that leads past them to the point `next`.
+/// Takes off the last points, as long as they do not lie below the segment that leads past them to
+/// the point `next`.
 fn pop_needless<L: Ledger>(
     points: &[Point],
     next: usize,
@@ -51,7 +54,8 @@ fn pop_needless<L: Ledger>(
     }
 }
 
-/// Whether the last point of the stack does not lie below the segment from the one before it to the point `next`.
+/// Whether the last point of the stack does not lie below the segment from the one before it to the
+/// point `next`.
 fn top_is_needless<L: Ledger>(
     points: &[Point],
     next: usize,
@@ -75,8 +79,8 @@ fn top_is_needless<L: Ledger>(
     )
 }
 
-/// Whether the descent from b to c is at least as steep as the one from a to b, so that b is not needed: the one
-/// comparison of descents, which counts itself.
+/// Whether the descent from b to c is at least as steep as the one from a to b, so that b is not
+/// needed: the one comparison of descents, which counts itself.
 fn steepens<L: Ledger>(a: Point, b: Point, c: Point, steps: &mut Steps<L>) -> bool
     requires order { (a.t < b.t) × (b.t < c.t) }
     requires times { c.t ≤ greatest_time }

@@ -137,8 +137,8 @@ fn sum_added(total: i128, more: i64) -> i128
     total + more as i128
 }
 
-/// Of the numbers that an item reads in the rows of a group: how many there are, their exact sum, and where a least or a
-/// greatest is asked for, how often each stands there.
+/// Of the numbers that an item reads in the rows of a group: how many there are, their exact sum,
+/// and where a least or a greatest is asked for, how often each stands there.
 #[derive(Drop)]
 pub(crate) struct Tally {
     numbers: i64,
@@ -200,7 +200,8 @@ impl Tally {
         }
     }
 
-    /// The values of a column enter, those with a set bit in `minus` leave. None of them is kept: they are counted and summed by lanes.
+    /// The values of a column enter, those with a set bit in `minus` leave. None of them is kept:
+    /// they are counted and summed by lanes.
     fn take_sums(&mut self, lane: &Lane, minus: &[u64])
         requires small { All IsStreamValue lane.now }
         requires words { length minus.now ≡ word_count (length lane.now) }
@@ -292,7 +293,8 @@ impl Tally {
     }
 }
 
-/// The exact figure of an item of the list: a number that counts or sums, or else a value that stands in a row.
+/// The exact figure of an item of the list: a number that counts or sums, or else a value that
+/// stands in a row.
 #[derive(Clone, Copy, PartialEq, Eq, Drop)]
 pub(crate) struct Figure {
     pub(crate) number: Option<i128>,
@@ -358,8 +360,8 @@ fn greatest(values: &BTreeMap<Value, u64>) -> Value
     }
 }
 
-/// What is kept of a group: how many rows it has, a tally for each item of the list, and the row that was shown of it last,
-/// in room for its values.
+/// What is kept of a group: how many rows it has, a tally for each item of the list, and the row
+/// that was shown of it last, in room for its values.
 #[derive(Drop)]
 pub(crate) struct Cell {
     rows: i64,

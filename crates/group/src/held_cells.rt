@@ -63,8 +63,8 @@ impl HeldCells {
         }
     }
 
-    /// Room for keys of `width` values; the groups stay. Where the room is there, this takes no memory.
-    /// After an error some may be lost.
+    /// Room for keys of `width` values; the groups stay. Where the room is there, this takes no
+    /// memory. After an error some may be lost.
     fn make_room(&mut self, alloc: Global, width: usize) -> Result<(), AllocError>
         requires { width ≤ MAX_COLUMNS }
         ensures cells { OnOk result (cells_in self.new ≡ cells_in self.old) }

@@ -44,7 +44,8 @@ pub(crate) fn row_with(values: &[Value]) -> Row
     row
 }
 
-/// The values of a row, in the room of others where it is enough, else in just as much as they need.
+/// The values of a row, in the room of others where it is enough, else in just as much as they
+/// need.
 pub(crate) fn written(others: Vec<Value>, row: &Row) -> Result<Vec<Value>, AllocError>
     ensures values { IfOk result (λ values. values.items ≡ row.now.items) }
     ensures few { IfOk result (λ values. length values.items ≤ MAX_COLUMNS) }

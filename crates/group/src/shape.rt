@@ -9,8 +9,8 @@ use std::alloc::{AllocError, Global};
 use std::marker::Model;
 use values::{Column, ListItem, MAX_COLUMNS, Row};
 
-/// Group By's columns, none where it is missing, and the list of a grouped query. A row that goes between operators counts as
-/// the one row of a combination: its columns are those of source 0.
+/// Group By's columns, none where it is missing, and the list of a grouped query. A row that goes
+/// between operators counts as the one row of a combination: its columns are those of source 0.
 #[derive(Drop)]
 pub struct GroupBy {
     by: Vec<Column>,

@@ -20,7 +20,8 @@ use values::{Row, copy_row, same_rows};
 /// The most rows of a batch.
 const BATCH: usize = 1024;
 
-/// A group that rows touched since the last tick: its key, the row that was shown of it, and what it has to show.
+/// A group that rows touched since the last tick: its key, the row that was shown of it, and what
+/// it has to show.
 #[derive(Drop)]
 pub(crate) struct Touched {
     pub(crate) key: Row,
@@ -193,7 +194,8 @@ fn push_row(
     }
 }
 
-/// Adds the row that was shown as one that leaves, then the other as one that enters, unless they are equal.
+/// Adds the row that was shown as one that leaves, then the other as one that enters, unless they
+/// are equal.
 fn push_swap(
     rows: &mut Vec<SignedRow>,
     width: usize,
@@ -298,9 +300,10 @@ fn nothing(alloc: Global) -> (Vec<Item>, Change)
 
 /// The outputs and the change of a turn, from its item and excerpt alone.
 ///
-/// At a tick each touched group whose row differs from the one that was shown puts that one out with minus and its own with plus;
-/// then follows the tick. Rows put out nothing and change nothing that is shown. It costs the excerpt and the outputs.
-/// An error says that memory was refused; nothing is changed.
+/// At a tick each touched group whose row differs from the one that was shown puts that one out
+/// with minus and its own with plus; then follows the tick. Rows put out nothing and change nothing
+/// that is shown. It costs the excerpt and the outputs. An error says that memory was refused;
+/// nothing is changed.
 pub fn work(
     alloc: Global,
     group: &GroupBy,

@@ -39,7 +39,8 @@ pub fn compare_const(
     }
 }
 
-/// Compares each value of a column with the value at its place of another; a comparison with null is unknown.
+/// Compares each value of a column with the value at its place of another; a comparison with null
+/// is unknown.
 ///
 /// The lent words are as many as each column needs.
 pub fn compare_columns(

@@ -1,4 +1,5 @@
-//! Whole conditions in one pass: each word of 64 rows goes through all steps, eight numbers at a time.
+//! Whole conditions in one pass: each word of 64 rows goes through all steps, eight numbers at a
+//! time.
 
 ghost use Rattle.std.specs.Prelude.{◌≡◌, ◌<◌, ◌≤◌, ◌+◌, ◌*◌, ◌∷◌, [], ℕ, Bool, List, Option, None, Some, length, map, reverse, true, get_or};
 ghost use Rattle.values.specs.Condition.{compared, not3, and3, or3};
@@ -228,7 +229,8 @@ fn first_places(count: usize) -> u64
 
 /// The truth of a condition at each row of a batch.
 ///
-/// The steps are in postfix order and end with one truth; the lent words are as many as the rows need.
+/// The steps are in postfix order and end with one truth; the lent words are as many as the rows
+/// need.
 pub fn run_condition(steps: &[Step], batch: &Batch, truth: &mut [u64], known: &mut [u64])
     requires fits { StepsFit (width batch.now) 0 steps.now }
     requires truth_fits { length truth.old ≡ word_count (length batch.now) }

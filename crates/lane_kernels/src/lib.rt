@@ -1,8 +1,8 @@
 //! Comparisons, logic of three truths, sums and counts over columns, eight numbers at a time.
 //!
-//! A truth of many places is two lists of words: a `truth` bit is 1 where it is true, a `known` bit where it is not unknown;
-//! bits past the length are 0. The kernels write into lent words and take no memory; each is, place by place, its plain
-//! definition.
+//! A truth of many places is two lists of words: a `truth` bit is 1 where it is true, a `known` bit
+//! where it is not unknown; bits past the length are 0. The kernels write into lent words and take
+//! no memory; each is, place by place, its plain definition.
 #![tactic(auto)]
 
 mod compare;

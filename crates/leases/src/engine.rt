@@ -7,8 +7,8 @@ mod turns;
 use crate::state::State;
 use std::marker::Model;
 
-/// An engine of many queries: its streams, its registered queries and what is left of each, the turns that are out, and the slots of all
-/// operators.
+/// An engine of many queries: its streams, its registered queries and what is left of each, the
+/// turns that are out, and the slots of all operators.
 #[derive(Drop)]
 pub struct Engine {
     state: State,

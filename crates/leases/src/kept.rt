@@ -7,7 +7,8 @@ ghost use Rattle.leases.specs.Views.{kept_of, waiting_in};
 use query_runtime::RunningQuery;
 use std::mem::replace;
 
-/// What is left of a registered query: it runs, or a growth that was refused broke it and its answers wait, or it was dropped.
+/// What is left of a registered query: it runs, or a growth that was refused broke it and its
+/// answers wait, or it was dropped.
 #[derive(Drop)]
 pub(crate) enum KeptQuery {
     Running(RunningQuery),

@@ -1,7 +1,8 @@
 //! Windows as readers of streams.
 ghost use Rattle.std.specs.Prelude.{◌≡◌, ◌==◌, filter, not};
 
-/// A window of a registered query: the number of the stream that it reads, the query's and the operator's.
+/// A window of a registered query: the number of the stream that it reads, the query's and the
+/// operator's.
 #[derive(Clone, Copy)]
 pub(crate) struct Reader {
     pub(crate) stream: u64,

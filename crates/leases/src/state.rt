@@ -18,8 +18,9 @@ use run_queue::RunQueue;
 use std::alloc::Global;
 use stream_store::Streams;
 
-/// What an engine keeps: its streams, the names of its queries, its registered queries and what is left of each, their readers of
-/// streams, the turns that are out, the number of the next, and the slots of all operators.
+/// What an engine keeps: its streams, the names of its queries, its registered queries and what is
+/// left of each, their readers of streams, the turns that are out, the number of the next, and the
+/// slots of all operators.
 #[derive(Drop)]
 pub(crate) struct State {
     alloc: Global,

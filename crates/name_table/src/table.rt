@@ -6,7 +6,8 @@ use std::alloc::{AllocError, Global};
 use std::collections::BTreeMap;
 use std::marker::Model;
 
-/// Names by number, from 0 on. No two numbers bear one name; a number whose name was freed bears none.
+/// Names by number, from 0 on. No two numbers bear one name; a number whose name was freed bears
+/// none.
 #[derive(Drop)]
 pub struct NameTable {
     alloc: Global,
@@ -46,7 +47,8 @@ impl NameTable {
         self.count
     }
 
-    /// The number that bears the name. Takes no memory; its time grows with the logarithm of how many names there are.
+    /// The number that bears the name. Takes no memory; its time grows with the logarithm of how
+    /// many names there are.
     pub fn number(&self, name: &str) -> Option<usize>
         ensures first { result ≡ position (bears name.now) self.now }
         ensures once { (number : ℕ) → slice_get self.now number ≡ Some (Some name.now) → result ≡ Some number }

@@ -239,7 +239,8 @@ fn has_outside(tables: &[Table], by: &[Column], entries: &Entries) -> bool
     }
 }
 
-/// Whether a grouped query lists `*`, or a column that Group By, whose columns are these, does not have.
+/// Whether a grouped query lists `*`, or a column that Group By, whose columns are these, does not
+/// have.
 pub(crate) fn is_ungrouped(tables: &[Table], by: &[Column], query: &Query) -> bool
     requires { columns_of by.now ≡ map (matches.column_of (tables_of tables.now)) (syntax.query_of query.now).group }
     ensures { result ≡ faults.is_ungrouped (tables_of tables.now) (syntax.query_of query.now) }

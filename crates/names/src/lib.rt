@@ -1,6 +1,6 @@
-//! What the names of a query stand for: its sources' streams, each reference's source and column, and the conjuncts of its
-//! condition by the source or the join that they belong to (Arasu, Babu and Widom, "The CQL continuous query language",
-//! 2006).
+//! What the names of a query stand for: its sources' streams, each reference's source and column,
+//! and the conjuncts of its condition by the source or the join that they belong to (Arasu, Babu
+//! and Widom, "The CQL continuous query language", 2006).
 #![tactic(auto)]
 
 mod condition;

@@ -36,8 +36,8 @@ pub struct Named {
     pub streams: Vec<usize>,
     /// How many columns each source has.
     pub widths: Vec<usize>,
-    /// The conjuncts of the condition that belong to each source: with one source all do, else those whose columns are all
-    /// of it, and that have one.
+    /// The conjuncts of the condition that belong to each source: with one source all do, else
+    /// those whose columns are all of it, and that have one.
     pub own: Vec<Vec<Condition>>,
     /// The keys of the second source, and of each later one, with those before it.
     pub keys: Vec<Vec<Key>>,
@@ -45,12 +45,12 @@ pub struct Named {
     pub rest: Vec<Condition>,
 }
 
-/// Resolves the names of a query over the declared streams. The time goes with the references of the query times the columns
-/// of its sources, and with the streams times the sources.
+/// Resolves the names of a query over the declared streams. The time goes with the references of
+/// the query times the columns of its sources, and with the streams times the sources.
 ///
 /// # Errors
-/// The first fault of the query, in the order of `ResolveFault`, each test being over the whole query. `OutOfMemory` where a
-/// growth is refused, which says nothing of the query.
+/// The first fault of the query, in the order of `ResolveFault`, each test being over the whole
+/// query. `OutOfMemory` where a growth is refused, which says nothing of the query.
 pub fn resolve(alloc: Global, query: &Query, catalog: &Catalog) -> Result<Named, ResolveFault>
     ensures accepted { IfOk result (λ n. first_fault (query_of query.now) catalog.now ≡ None) }
     ensures meaning { IfOk result (λ n. resolved_of n.meaning ≡ spec.resolved (query_of query.now) catalog.now) }
@@ -80,7 +80,8 @@ pub fn resolve(alloc: Global, query: &Query, catalog: &Catalog) -> Result<Named,
     Ok(named_of(alloc, query, catalog, &tables, by, condition)?)
 }
 
-/// Refuses a query by its first fault. The tables are its sources, and the columns of Group By and the condition are its own.
+/// Refuses a query by its first fault. The tables are its sources, and the columns of Group By and
+/// the condition are its own.
 fn test(
     query: &Query,
     catalog: &Catalog,
@@ -105,7 +106,8 @@ fn test(
     })
 }
 
-/// What a query means, where the tables are its sources, and the columns of Group By and the condition are its own.
+/// What a query means, where the tables are its sources, and the columns of Group By and the
+/// condition are its own.
 fn meaning_of(
     alloc: Global,
     query: &Query,
@@ -129,8 +131,8 @@ fn meaning_of(
     })
 }
 
-/// The query with its names resolved, where the tables are its sources, and the columns of Group By and the condition are its
-/// own.
+/// The query with its names resolved, where the tables are its sources, and the columns of Group By
+/// and the condition are its own.
 fn named_of(
     alloc: Global,
     query: &Query,

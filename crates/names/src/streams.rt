@@ -15,8 +15,9 @@ pub(crate) struct Declared {
     columns: Vec<Name>,
 }
 
-/// The declared streams by their numbers, which count from 0 in the order of declaration: their names and their columns'
-/// names, as `resolve` looks them up. An engine keeps one beside its streams and adds to it at each declaration.
+/// The declared streams by their numbers, which count from 0 in the order of declaration: their
+/// names and their columns' names, as `resolve` looks them up. An engine keeps one beside its
+/// streams and adds to it at each declaration.
 #[derive(Drop)]
 pub struct Catalog {
     streams: Vec<Declared>,

@@ -165,7 +165,8 @@ fn judge_window(table: &Table, window: &Window) -> Verdict
     }
 }
 
-/// The verdict on the columns of each Partition By, of sources of which there are as many as tables.
+/// The verdict on the columns of each Partition By, of sources of which there are as many as
+/// tables.
 fn judge_windows(tables: &[Table], sources: &[Source]) -> Verdict
     requires { length tables.now ≡ length sources.now }
     ensures { result ≡ verdict_of (partitions_in (tables_of tables.now) (syntax.sources_of sources.now)) }

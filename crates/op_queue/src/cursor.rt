@@ -12,7 +12,8 @@ use std::alloc::{AllocError, Global};
 
 /// A query's queue of what a stream has closed: numbers alone, over the stream's log.
 ///
-/// It shows the rows that arrived at its place or later, of the instants from its first one on, and each closed instant's tick.
+/// It shows the rows that arrived at its place or later, of the instants from its first one on, and
+/// each closed instant's tick.
 #[derive(Clone, Copy, Debug)]
 pub struct Cursor {
     place: u64,
@@ -23,8 +24,8 @@ pub struct Cursor {
 }
 
 impl Cursor {
-    /// The queue of a query that was registered when the stream was `place` long, and whose first instant is `start`: one
-    /// above its base.
+    /// The queue of a query that was registered when the stream was `place` long, and whose first
+    /// instant is `start`: one above its base.
     pub fn new(place: u64, start: u64) -> Cursor
         ensures entries { (log : Closed) → cursor_entries result log ≡ log_entries place start log }
         ensures within { (log : Closed) → IsWithin result log }
@@ -51,8 +52,8 @@ impl Cursor {
         }
     }
 
-    /// A copy of the front: a tick, or the rows that are left of its instant, at most `count` of them and at most `MAX_ROWS`.
-    /// An error says that memory was refused; nothing is changed.
+    /// A copy of the front: a tick, or the rows that are left of its instant, at most `count` of
+    /// them and at most `MAX_ROWS`. An error says that memory was refused; nothing is changed.
     pub fn front_cut(&self, alloc: Global, log: &Log, count: usize) -> Result<Item, AllocError>
         requires waits { 0 < length (cursor_entries self.now log.now) }
         requires some { 0 < count }

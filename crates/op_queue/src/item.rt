@@ -2,7 +2,8 @@
 
 use column::Batch;
 
-/// What a queue takes in and hands out: some signed rows of one instant, or the tick that closes an instant.
+/// What a queue takes in and hands out: some signed rows of one instant, or the tick that closes an
+/// instant.
 #[derive(Drop)]
 pub enum Item {
     /// Signed rows of this instant.

@@ -24,11 +24,12 @@ pub struct Arrival {
 
 /// The closed rows of a stream by instant, then arrival, and the stream's first open instant.
 ///
-/// Rows are kept in columns, eight bytes a value. Queries keep a `Cursor` each, so that closing costs the rows that are closed
-/// and nothing for a query.
+/// Rows are kept in columns, eight bytes a value. Queries keep a `Cursor` each, so that closing
+/// costs the rows that are closed and nothing for a query.
 #[derive(Drop)]
 pub struct Log {
-    // the first `len` of each list count; what a refused growth left behind them goes before more comes
+    // the first `len` of each list count; what a refused growth left behind them goes before more
+    // comes
     instants: Vec<u64>,
     numbers: Vec<u64>,
     columns: Vec<Vec<Value>>,

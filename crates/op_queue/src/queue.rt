@@ -12,7 +12,8 @@ use std::alloc::{AllocError, Global};
 use std::collections::VecDeque;
 use std::marker::Model;
 
-/// What a queue keeps together: a batch of one instant, or a run of ticks from the first to the last.
+/// What a queue keeps together: a batch of one instant, or a run of ticks from the first to the
+/// last.
 #[derive(Drop)]
 pub(crate) enum Piece {
     Rows(u64, Batch),
@@ -30,8 +31,8 @@ pub enum Front {
 
 /// Signed rows and ticks that wait for an operator.
 ///
-/// Rows stand in the batches in which they came, ticks of instants that follow one another as one run. Dropping rows of a
-/// batch moves an offset and copies nothing.
+/// Rows stand in the batches in which they came, ticks of instants that follow one another as one
+/// run. Dropping rows of a batch moves an offset and copies nothing.
 #[derive(Drop)]
 pub struct Queue {
     pieces: VecDeque<Piece>,
@@ -92,7 +93,8 @@ impl Queue {
         self.pieces.len()
     }
 
-    /// Adds an item at the back. An error says that memory was refused; the queue is as it was, and the item is dropped.
+    /// Adds an item at the back. An error says that memory was refused; the queue is as it was, and
+    /// the item is dropped.
     pub fn push(&mut self, item: Item) -> Result<(), AllocError>
         requires { IsForward (self.old.entries ++ entries_of item) }
         ensures entries { OnOk result (self.new.entries ≡ self.old.entries ++ entries_of item) }

@@ -9,8 +9,8 @@ use std::alloc::{AllocError, Global};
 
 /// What waits for an operator at one of its sides.
 ///
-/// Each call is lent the log of a stream: for a first queue that of the stream which it reads; a queue between operators reads none, so
-/// there any log will do.
+/// Each call is lent the log of a stream: for a first queue that of the stream which it reads; a
+/// queue between operators reads none, so there any log will do.
 #[derive(Drop)]
 pub enum Inbox {
     /// What a stream has closed.
@@ -60,8 +60,8 @@ impl Inbox {
         }
     }
 
-    /// Items come to the back of a queue between operators. Where memory is refused some of them may have come, and it can only be
-    /// dropped.
+    /// Items come to the back of a queue between operators. Where memory is refused some of them
+    /// may have come, and it can only be dropped.
     pub fn push(&mut self, items: Vec<Item>) -> Result<(), AllocError>
         requires fed { is_fed self.old ≡ true }
         requires forward { IsForward (queued self.old ++ all_entries items.items) }

@@ -20,8 +20,8 @@ use turn::{Change, Kind, Near};
 
 /// An operator of a running query: what it does, what it holds, and what waits for it.
 ///
-/// An operator with one input has it on the left. Where a call is lent a log, it is that of the stream that a window reads; other
-/// operators read none, and any log will do.
+/// An operator with one input has it on the left. Where a call is lent a log, it is that of the
+/// stream that a window reads; other operators read none, and any log will do.
 #[derive(Drop)]
 pub struct Operator {
     kind: Arc<Kind>,
@@ -40,7 +40,8 @@ impl Model for Operator {
 }
 
 impl Operator {
-    /// An operator of this kind with this state, and with this input on the left; nothing waits on the right.
+    /// An operator of this kind with this state, and with this input on the left; nothing waits on
+    /// the right.
     pub fn new(alloc: Global, kind: Arc<Kind>, state: State, left: Inbox) -> Operator
         ensures { result ≡ record { kind = arc_value kind; state = state; left = left; right = Between (record { entries = []; begins = []; pieces = 0 }) } }
     {
@@ -52,7 +53,8 @@ impl Operator {
         }
     }
 
-    /// What it does, shared with its turns. It takes no memory; an error says that no more owners can be counted, and nothing is changed.
+    /// What it does, shared with its turns. It takes no memory; an error says that no more owners
+    /// can be counted, and nothing is changed.
     pub fn kind(&self) -> Result<Arc<Kind>, AllocError>
         ensures { IfOk result (λ kind. arc_value kind ≡ self.now.kind) }
     {
@@ -66,8 +68,8 @@ impl Operator {
         self.state.usable(side)
     }
 
-    /// The side that a lease takes, the left one where both can be used, and the instant at its front; None where no side can be used or
-    /// nothing waits there.
+    /// The side that a lease takes, the left one where both can be used, and the instant at its
+    /// front; None where no side can be used or nothing waits there.
     pub fn ready(&self, log: &Log) -> Option<(Side, u64)>
         ensures { result ≡ ready self.now log.now }
     {
@@ -80,8 +82,8 @@ impl Operator {
         }
     }
 
-    /// A copy of the front of a side: a tick, or at most `rows` of the rows that stand there together.
-    /// An error says that memory was refused; nothing is changed.
+    /// A copy of the front of a side: a tick, or at most `rows` of the rows that stand there
+    /// together. An error says that memory was refused; nothing is changed.
     pub fn cut(&self, alloc: Global, log: &Log, side: Side, rows: usize) -> Result<Item, AllocError>
         requires waits { 0 < length (waiting self.now log.now side) }
         requires some { 0 < rows }
@@ -91,8 +93,8 @@ impl Operator {
         self.inbox(side).front_cut(alloc, log, rows)
     }
 
-    /// The excerpt that a turn with the item needs of the state, which is one of the operator's kind.
-    /// An error says that memory was refused; nothing is changed.
+    /// The excerpt that a turn with the item needs of the state, which is one of the operator's
+    /// kind. An error says that memory was refused; nothing is changed.
     pub fn near(&self, alloc: Global, side: Side, item: &Item) -> Result<Near, AllocError>
         requires belongs { Belongs self.now.kind self.now.state }
         requires columns { HasColumns self.now.state side item.now }
@@ -104,8 +106,8 @@ impl Operator {
         Ok(near)
     }
 
-    /// The operator after a turn with an item of the side's front: the item leaves, and the state changes. Where memory is refused the
-    /// operator can only be dropped.
+    /// The operator after a turn with an item of the side's front: the item leaves, and the state
+    /// changes. Where memory is refused the operator can only be dropped.
     pub fn finish_item(
         &mut self,
         log: &Log,
@@ -123,8 +125,8 @@ impl Operator {
         Ok(())
     }
 
-    /// Items come from the operator below, to the back of the side's queue. Where memory is refused some of them may have come, and
-    /// the operator can only be dropped.
+    /// Items come from the operator below, to the back of the side's queue. Where memory is refused
+    /// some of them may have come, and the operator can only be dropped.
     pub fn feed(&mut self, side: Side, items: Vec<Item>) -> Result<(), AllocError>
         requires fed { is_fed (inbox_of self.old side) ≡ true }
         requires forward { IsForward (queued (inbox_of self.old side) ++ all_entries items.items) }

@@ -17,7 +17,8 @@ use std::alloc::{AllocError, Global};
 use turn::{ColumnList, Kind, StepList};
 use values::{Column, Condition, ListItem, MAX_COLUMNS, Window};
 
-/// What an operator does, from the windows of the sources and how many columns the rows of each operator have.
+/// What an operator does, from the windows of the sources and how many columns the rows of each
+/// operator have.
 pub(crate) fn kind_made(
     alloc: Global,
     windows: &[Window],

@@ -13,8 +13,9 @@ use std::sync::Arc;
 use turn::Kind;
 use values::MAX_COLUMNS;
 
-/// The operators of a plan at their beginning, by their numbers. `places` says how long the stream of each source was when the query was
-/// registered, and `start` is the query's first instant, one above its base. An error says that memory was refused; nothing is changed.
+/// The operators of a plan at their beginning, by their numbers. `places` says how long the stream
+/// of each source was when the query was registered, and `start` is the query's first instant, one
+/// above its base. An error says that memory was refused; nothing is changed.
 pub fn operators_of(
     alloc: Global,
     plan: &Plan,

@@ -7,8 +7,8 @@ use column::Side;
 use plan::Node;
 use std::alloc::{AllocError, Global};
 
-/// Where the outputs of an operator go: to a side of the operator with this number. Those of a root, which are answers, go to no operator:
-/// there the number is how many operators the plan has.
+/// Where the outputs of an operator go: to a side of the operator with this number. Those of a
+/// root, which are answers, go to no operator: there the number is how many operators the plan has.
 #[derive(Clone, Copy, Drop)]
 pub struct Wire {
     /// The operator's number.
@@ -17,7 +17,8 @@ pub struct Wire {
     pub side: Side,
 }
 
-/// Where the outputs of each operator of a plan go. An error says that memory was refused; nothing is changed.
+/// Where the outputs of each operator of a plan go. An error says that memory was refused; nothing
+/// is changed.
 pub fn wires(alloc: Global, nodes: &[Node]) -> Result<Vec<Wire>, AllocError>
     ensures { IfOk result (λ wires. wires.items ≡ wires_of (nodes_of nodes.now)) }
 {

@@ -21,7 +21,8 @@ pub struct Measure {
     pub size: u64,
 }
 
-/// A chart as it is given with a query: a cost and a size for each operator by its number, right or not.
+/// A chart as it is given with a query: a cost and a size for each operator by its number, right or
+/// not.
 #[derive(Debug, Drop)]
 pub struct Chart {
     pub operators: Vec<(i64, i64)>,
@@ -83,8 +84,8 @@ impl Chart {
     ghost use Rattle.std.specs.List.{list_all};
     ghost use Rattle.plan.specs.Chart.{is_bad_chart, is_measure, root_size, measure_of};
 
-    /// Whether the chart is of another length than the plan of so many operators, has a cost or a size out of range, or
-    /// leaves a size at the root.
+    /// Whether the chart is of another length than the plan of so many operators, has a cost or a
+    /// size out of range, or leaves a size at the root.
     pub(crate) fn is_bad(&self, count: usize) -> bool
         ensures { result ≡ is_bad_chart count (Some self.now.operators.items) }
     {

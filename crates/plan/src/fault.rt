@@ -22,7 +22,8 @@ pub enum PlanFault {
     NotGrouped,
     /// More than 16 items, Group By columns or Partition By columns.
     TooWide,
-    /// A chart of another length than the plan, a cost or size out of range, or a root size that is not 0.
+    /// A chart of another length than the plan, a cost or size out of range, or a root size that is
+    /// not 0.
     BadChart,
 }
 

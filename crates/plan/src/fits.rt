@@ -8,8 +8,9 @@ use cql_reader::Query;
 use names::Catalog;
 use values::MAX_COLUMNS;
 
-/// Whether the query has no more sources, and these no more columns together, than a row has values: what `plan` asks of
-/// its caller. Unknown streams count as without columns. The time goes with the sources times the streams.
+/// Whether the query has no more sources, and these no more columns together, than a row has
+/// values: what `plan` asks of its caller. Unknown streams count as without columns. The time goes
+/// with the sources times the streams.
 pub fn fits_a_row(query: &Query, catalog: &Catalog) -> bool
     ensures { MatchBool result
         ((length query.now.sources.items ≤ MAX_COLUMNS) × (sum (widths (query_of query.now) catalog.now) ≤ MAX_COLUMNS))

@@ -14,7 +14,8 @@ pub struct Key {
     pub right: usize,
 }
 
-/// An operator. Its inputs are the numbers of operators before it, and its columns are places in the rows of its input.
+/// An operator. Its inputs are the numbers of operators before it, and its columns are places in
+/// the rows of its input.
 ///
 /// In conditions and items the one row of the input stands as the source 0.
 #[derive(Drop)]
@@ -23,7 +24,8 @@ pub enum Node {
     Window(usize),
     /// The rows of the input at which all conditions are true.
     Select(usize, Vec<Condition>),
-    /// The rows of the left input beside those of the right one with equal keys, left columns first. Null equals nothing.
+    /// The rows of the left input beside those of the right one with equal keys, left columns
+    /// first. Null equals nothing.
     Join(usize, usize, Vec<Key>),
     /// The listed columns.
     Project(usize, Vec<usize>),

@@ -1,5 +1,5 @@
-//! The slopes of a plan's operators, over the paths from its windows to its root (Chain: Babcock, Babu, Datar and Motwani,
-//! SIGMOD 2003).
+//! The slopes of a plan's operators, over the paths from its windows to its root (Chain: Babcock,
+//! Babu, Datar and Motwani, SIGMOD 2003).
 ghost use Rattle.std.specs.Prelude.{◌≡◌, ◌<◌, ◌++◌, ℕ, [], ◌∷◌, IfOk, cond, fold, map, length, slice_index_or};
 ghost use Rattle.std.specs.List.{range_with_len};
 ghost use Rattle.envelope.specs.Chart.{IsChart};
@@ -15,8 +15,8 @@ use crate::operators::Plan;
 use envelope::{FULL_SIZE, Point, Slope};
 use std::alloc::{AllocError, Global};
 
-/// The slope of each operator, by its number: the greatest of its slopes on the paths that lead through it. There is a path
-/// for each source, from its window to the root.
+/// The slope of each operator, by its number: the greatest of its slopes on the paths that lead
+/// through it. There is a path for each source, from its window to the root.
 ///
 /// # Errors
 /// `AllocError` where a growth is refused.
@@ -116,7 +116,8 @@ fn greater(a: Slope, b: Slope) -> Slope
     if b <= a { a } else { b }
 }
 
-/// The slope of an operator on a path of these slopes; nought where the path does not lead through it.
+/// The slope of an operator on a path of these slopes; nought where the path does not lead through
+/// it.
 fn slope_on(operator: usize, path: &[usize], slopes: &[Slope]) -> Slope
     ensures { result ≡ spec.slope_on operator path.now slopes.now }
 {

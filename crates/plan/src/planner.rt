@@ -22,14 +22,15 @@ use cql_reader::Query;
 use names::{Catalog, Named, resolve};
 use std::alloc::Global;
 
-/// Plans a query over the declared streams, with a chart where one is given. The time goes with that of `resolve`, and with
-/// the operators.
+/// Plans a query over the declared streams, with a chart where one is given. The time goes with
+/// that of `resolve`, and with the operators.
 ///
-/// Its caller sees to it that the query has no more sources, and these no more columns together, than a row has values.
+/// Its caller sees to it that the query has no more sources, and these no more columns together,
+/// than a row has values.
 ///
 /// # Errors
-/// The first fault of the query in the order of `PlanFault`: that of its names, otherwise `BadChart`. `OutOfMemory` where a
-/// growth is refused, which says nothing of the query.
+/// The first fault of the query in the order of `PlanFault`: that of its names, otherwise
+/// `BadChart`. `OutOfMemory` where a growth is refused, which says nothing of the query.
 pub fn plan(
     alloc: Global,
     query: &Query,

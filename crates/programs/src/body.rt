@@ -96,14 +96,15 @@ fn run_lines<N: Answering, I: Source, O: Sink, E: Sink>(
     }
 }
 
-/// The body of `cqlrun` over an engine that is whole: answers the request lines of the source, each drain by turns of at most as
-/// many rows as the words say, and gives the program's status.
+/// The body of `cqlrun` over an engine that is whole: answers the request lines of the source, each
+/// drain by turns of at most as many rows as the words say, and gives the program's status.
 ///
-/// 0 at the end of the input, also where requests were refused, and after help, which goes to the sink; 1 where the source
-/// or the sink failed; 2 for a wrong command line; 3 where memory was refused at the start: then source, sink and engine are as
-/// they were. What is not 0 is said on `errors`, in one line for 1 and 3, whose own failures change nothing. Afterwards the engine
-/// is in the world that the requests lead to, and as it was where the words ask for no run. The first of the words is the
-/// program's own name.
+/// 0 at the end of the input, also where requests were refused, and after help, which goes to the
+/// sink; 1 where the source or the sink failed; 2 for a wrong command line; 3 where memory was
+/// refused at the start: then source, sink and engine are as they were. What is not 0 is said on
+/// `errors`, in one line for 1 and 3, whose own failures change nothing. Afterwards the engine is
+/// in the world that the requests lead to, and as it was where the words ask for no run. The first
+/// of the words is the program's own name.
 pub fn run_over<'a, S: AsStr, N: Answering, I: Source, O: Sink, E: Sink>(
     alloc: Global,
     words: &'a [S],
@@ -141,7 +142,8 @@ pub fn run_over<'a, S: AsStr, N: Answering, I: Source, O: Sink, E: Sink>(
     }
 }
 
-// Answers the lines of the source over an engine that has been told nothing, where memory sufficed for it.
+// Answers the lines of the source over an engine that has been told nothing, where memory sufficed
+// for it.
 fn run_made<N: Answering + Drop, I: Source, O: Sink, E: Sink>(
     alloc: Global,
     turn: u32,
@@ -168,8 +170,8 @@ fn run_made<N: Answering + Drop, I: Source, O: Sink, E: Sink>(
     }
 }
 
-/// The body of `cqlrun`: as `run_over` an engine that has been told nothing, which is the plain engine where the words ask
-/// for it.
+/// The body of `cqlrun`: as `run_over` an engine that has been told nothing, which is the plain
+/// engine where the words ask for it.
 #[tactic(auto, using(crate::proofs::Outcomes::plain_answers))]
 pub fn run<'a, S: AsStr, I: Source, O: Sink, E: Sink>(
     alloc: Global,

@@ -54,8 +54,9 @@ pub fn lack_memory<E: Sink>(errors: &mut E) -> u8
     fail(errors, &ScriptFault::Memory)
 }
 
-/// Says why the program's words could not be read, and gives the program's status: 3 where memory was refused, and else 2,
-/// since a word that is not UTF-8 is a wrong command line. The error is that of `std::env::args`.
+/// Says why the program's words could not be read, and gives the program's status: 3 where memory
+/// was refused, and else 2, since a word that is not UTF-8 is a wrong command line. The error is
+/// that of `std::env::args`.
 pub fn lack_words<E: Sink>(errors: &mut E, error: &Error) -> u8
     ensures memory { error_kind error.now ≡ ErrorKind.OutOfMemory → result ≡ 3 }
     ensures lacks { result ≡ 3 → Told (E.taken errors.old) (E.taken errors.new) (E.failures errors.old) (E.failures errors.new)

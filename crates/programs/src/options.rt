@@ -22,8 +22,9 @@ pub struct RunOptions {
 
 /// Reads the words of `cqlrun`, of which the first is the program's own name.
 ///
-/// An error is a request for help, a wrong command line, or want of memory: `kind` tells which, and what is printed is
-/// clap's text. A turn that is no number, or not 1 to 1,024, is a wrong command line.
+/// An error is a request for help, a wrong command line, or want of memory: `kind` tells which, and
+/// what is printed is clap's text. A turn that is no number, or not 1 to 1,024, is a wrong command
+/// line.
 pub fn run_options<'a, S: AsStr>(alloc: Global, words: &'a [S]) -> Result<RunOptions, Error>
     ensures refusals { FailsBy (refusals (map S.text words.entry.now)) result }
     ensures plain { IfOk result (λ o. plain_text (map S.text words.entry.now) ≡ Some (codes "true") → o.is_plain ≡ true) }

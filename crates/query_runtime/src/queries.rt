@@ -29,7 +29,8 @@ use stream_store::Streams;
 use turn::{Change, Kind, Near, Outputs};
 use values::Row;
 
-/// A running query: its operators, by the number of each where its outputs go and which stream it reads, and the answers that wait.
+/// A running query: its operators, by the number of each where its outputs go and which stream it
+/// reads, and the answers that wait.
 #[derive(Drop)]
 pub struct RunningQuery {
     operators: Vec<Operator>,
@@ -48,9 +49,9 @@ impl Model for RunningQuery {
 }
 
 impl RunningQuery {
-    /// The query of a plan before anything has come. `streams` has the number of each source's stream and `places` how many rows
-    /// that stream had when the query was registered; `start` is the query's first instant.
-    /// An error says that memory was refused; nothing is changed.
+    /// The query of a plan before anything has come. `streams` has the number of each source's
+    /// stream and `places` how many rows that stream had when the query was registered; `start` is
+    /// the query's first instant. An error says that memory was refused; nothing is changed.
     pub fn new(
         alloc: Global,
         plan: &Plan,
@@ -84,7 +85,8 @@ impl RunningQuery {
         self.answers.len()
     }
 
-    /// The side of an operator that a lease takes, and the instant at its front; None where it has nothing to take.
+    /// The side of an operator that a lease takes, and the instant at its front; None where it has
+    /// nothing to take.
     pub fn ready(&self, streams: &Streams, operator: usize) -> Option<(Side, u64)>
         requires { HasOperator streams.now self.now operator }
         ensures { result ≡ ready (operator_at self.now.operators operator) (log_of streams.now self.now operator) }
@@ -93,7 +95,8 @@ impl RunningQuery {
         self.operator(operator).ready(log)
     }
 
-    /// How many rows and ticks wait on the sides of an operator. At a window it costs the rows that wait, else nothing.
+    /// How many rows and ticks wait on the sides of an operator. At a window it costs the rows that
+    /// wait, else nothing.
     pub fn pending(&self, streams: &Streams, operator: usize) -> (u128, u128)
         requires { HasOperator streams.now self.now operator }
         ensures left { result.0 ≡ length (waiting (operator_at self.now.operators operator) (log_of streams.now self.now operator) Left) }
@@ -107,8 +110,8 @@ impl RunningQuery {
         )
     }
 
-    /// What an operator does, shared with its turns. It takes no memory; an error says that no more owners can be counted, and nothing is
-    /// changed.
+    /// What an operator does, shared with its turns. It takes no memory; an error says that no more
+    /// owners can be counted, and nothing is changed.
     pub fn kind(&self, operator: usize) -> Result<Arc<Kind>, AllocError>
         requires { operator < length self.now.operators }
         ensures { IfOk result (λ kind. arc_value kind ≡ (operator_at self.now.operators operator).kind) }
@@ -116,8 +119,9 @@ impl RunningQuery {
         self.operator(operator).kind()
     }
 
-    /// A copy of what stands first on a side of an operator, at most `rows` rows and no more than a batch has, or a tick, and the excerpt that a turn with it needs. It
-    /// costs these two, and look-ups. An error says that memory was refused; nothing is changed.
+    /// A copy of what stands first on a side of an operator, at most `rows` rows and no more than a
+    /// batch has, or a tick, and the excerpt that a turn with it needs. It costs these two, and
+    /// look-ups. An error says that memory was refused; nothing is changed.
     pub fn lease(
         &self,
         alloc: Global,
@@ -134,8 +138,9 @@ impl RunningQuery {
         leased(alloc, self.operator(operator), log, side, rows)
     }
 
-    /// A turn of an operator has come back: its item leaves the side's queue, the state changes, and what it put out goes on. It costs the
-    /// item, the change and the outputs. Where memory is refused only its answers are as they were, and it can only be given up.
+    /// A turn of an operator has come back: its item leaves the side's queue, the state changes,
+    /// and what it put out goes on. It costs the item, the change and the outputs. Where memory is
+    /// refused only its answers are as they were, and it can only be given up.
     pub fn finish(
         &mut self,
         streams: &Streams,
@@ -163,7 +168,8 @@ impl RunningQuery {
         }
     }
 
-    /// Hands out the first answers that wait, at most `limit`, at the cost of these. Where memory is refused it is as it was.
+    /// Hands out the first answers that wait, at most `limit`, at the cost of these. Where memory
+    /// is refused it is as it was.
     pub fn take(&mut self, alloc: Global, limit: usize) -> Result<Vec<(i64, Row)>, AllocError>
         requires { are_signed self.old.answers ≡ true }
         ensures handed { IfOk result (λ rows. handed_of rows.items ≡ handed (taken limit self.old.answers)) }

@@ -6,7 +6,8 @@ ghost use Rattle.query_runtime.specs.Turns.{source_among};
 use plan::Node;
 use std::alloc::{AllocError, Global};
 
-/// By the operators' numbers the number of the stream that each reads, from those of the sources' streams.
+/// By the operators' numbers the number of the stream that each reads, from those of the sources'
+/// streams.
 pub(crate) fn sources_of(
     alloc: Global,
     streams: &[u64],
@@ -21,7 +22,8 @@ pub(crate) fn sources_of(
     Ok(sources)
 }
 
-/// The number of the stream that a window reads; other operators read none, and the first one will do.
+/// The number of the stream that a window reads; other operators read none, and the first one will
+/// do.
 fn source_among(streams: &[u64], node: &Node) -> u64
     ensures { result ≡ source_among streams.now (node_of node.now) }
 {

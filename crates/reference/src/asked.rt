@@ -14,12 +14,13 @@ use names::{Catalog, ResolveFault, resolve};
 use std::alloc::{AllocError, Global};
 use values::Row;
 
-/// The answers of a query over the declared streams at the instants above `base` up to `upto`, by instant, and within one
-/// instant in order, as CQL defines them.
+/// The answers of a query over the declared streams at the instants above `base` up to `upto`, by
+/// instant, and within one instant in order, as CQL defines them.
 ///
-/// Its caller sees to it that the names of the query resolve, and gives one list for each source, in the order of From:
-/// the rows of its stream, each with its instant, in the order in which they came. `base` and `upto` are -1 or an instant;
-/// nothing is answered where `upto` is not above `base`. The time is that of evaluating the query twice at each instant.
+/// Its caller sees to it that the names of the query resolve, and gives one list for each source,
+/// in the order of From: the rows of its stream, each with its instant, in the order in which they
+/// came. `base` and `upto` are -1 or an instant; nothing is answered where `upto` is not above
+/// `base`. The time is that of evaluating the query twice at each instant.
 ///
 /// # Errors
 /// `AllocError` where memory is refused.

@@ -26,7 +26,8 @@ use std::alloc::Global;
 /// The plan of the text of a query over the declared streams, of which each has at most 8 columns.
 ///
 /// # Errors
-/// The first fault of the text, or of what it names and its chart gives; `OutOfMemory`, which may stand in place of one.
+/// The first fault of the text, or of what it names and its chart gives; `OutOfMemory`, which may
+/// stand in place of one.
 pub fn find_plan(
     alloc: Global,
     catalog: &Catalog,

@@ -1,6 +1,6 @@
-//! The plain engine: it keeps what it was told and evaluates the definition of CQL's answers (Arasu, Babu and Widom, "The
-//! CQL continuous query language", 2006), instant by instant. Slow, and the measure of every engine above it: each is an
-//! `Answering` over the same machine.
+//! The plain engine: it keeps what it was told and evaluates the definition of CQL's answers
+//! (Arasu, Babu and Widom, "The CQL continuous query language", 2006), instant by instant. Slow,
+//! and the measure of every engine above it: each is an `Answering` over the same machine.
 #![tactic(auto)]
 
 mod answering;

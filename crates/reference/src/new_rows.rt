@@ -44,7 +44,8 @@ impl NewRows {
         }
     }
 
-    /// No rows yet, with room for as many rows of one value each. `AllocError` where it was refused.
+    /// No rows yet, with room for as many rows of one value each. `AllocError` where it was
+    /// refused.
     pub fn with_capacity(alloc: Global, rows: usize) -> Result<NewRows, AllocError>
         ensures { IfOk result (λ made. made ≡ []) }
     {
@@ -154,7 +155,8 @@ impl NewRows {
         self.values.len()
     }
 
-    /// Puts the instants and the values of the rows behind those of others, which have room for them.
+    /// Puts the instants and the values of the rows behind those of others, which have room for
+    /// them.
     pub(crate) fn copy_flat_to(&self, instants: &mut Vec<u64>, values: &mut Vec<Value>)
         requires good_instants { list_any (λ r. not (is_instant r.0)) self.now ≡ false }
         requires good_values { list_any (λ r. not (list_all is_stream_value r.1)) self.now ≡ false }

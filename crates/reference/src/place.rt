@@ -11,7 +11,8 @@ use crate::stream::Stream;
 use std::alloc::{AllocError, Global};
 use values::Row;
 
-/// A source of a registered query: the stream's number, and how many rows had come to it before the registration.
+/// A source of a registered query: the stream's number, and how many rows had come to it before the
+/// registration.
 #[derive(Clone, Copy)]
 pub(crate) struct Place {
     stream: usize,

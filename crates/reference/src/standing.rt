@@ -14,8 +14,9 @@ use plan::Plan;
 use std::collections::VecDeque;
 use values::Row;
 
-/// A registered query: its name, its plan, the places of its sources, the first instant above its base, how
-/// many answers were taken, whether it was dropped, the answers that wait for a take, and those that a drain under way found.
+/// A registered query: its name, its plan, the places of its sources, the first instant above its
+/// base, how many answers were taken, whether it was dropped, the answers that wait for a take, and
+/// those that a drain under way found.
 #[derive(Drop)]
 pub(crate) struct StandingQuery {
     name: String,

@@ -19,10 +19,11 @@ use std::alloc::{AllocError, Global};
 use std::marker::Model;
 use values::{Row, Value};
 
-/// A declared stream: its name, its columns' names, its elements by arrival, and the first instant that no heartbeat has
-/// closed.
+/// A declared stream: its name, its columns' names, its elements by arrival, and the first instant
+/// that no heartbeat has closed.
 ///
-/// The elements are kept flat, an instant each and as many values as there are columns: 8 bytes each.
+/// The elements are kept flat, an instant each and as many values as there are columns: 8 bytes
+/// each.
 #[derive(Drop)]
 pub(crate) struct Stream {
     name: Name,
@@ -153,7 +154,8 @@ impl Stream {
         self.first_open = at as u64 + 1;
     }
 
-    /// What counts of it for a query: what came after the first `arrivals` rows, at instants from `first` on.
+    /// What counts of it for a query: what came after the first `arrivals` rows, at instants from
+    /// `first` on.
     pub(crate) fn input(
         &self,
         alloc: Global,

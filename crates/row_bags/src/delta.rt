@@ -10,7 +10,8 @@ use std::alloc::{AllocError, Global};
 use std::marker::Model;
 use values::Row;
 
-/// What entered and what left, each cut by the other: a row that entered and left again is in neither.
+/// What entered and what left, each cut by the other: a row that entered and left again is in
+/// neither.
 #[derive(Drop)]
 pub struct Delta {
     entered: RowBag,
@@ -52,7 +53,8 @@ impl Delta {
         Ok(rows)
     }
 
-    /// What entered and left after one signed row more. An error says that memory was refused; nothing is changed.
+    /// What entered and left after one signed row more. An error says that memory was refused;
+    /// nothing is changed.
     pub fn apply_one(&mut self, signed_row: SignedRow) -> Result<(), AllocError>
         requires entered { length self.old.entered < 2 ^ 62 }
         requires left { length self.old.left < 2 ^ 62 }
@@ -67,7 +69,8 @@ impl Delta {
         Ok(())
     }
 
-    /// What entered and left after the signed rows. Where memory is refused, only some of them may have been taken in.
+    /// What entered and left after the signed rows. Where memory is refused, only some of them may
+    /// have been taken in.
     pub fn apply(&mut self, batch: &Batch) -> Result<(), AllocError>
         requires { length self.old.entered + length self.old.left + length batch.now < 2 ^ 62 }
         ensures { OnOk result (self.new ≡ deltas_after self.old batch.now) }

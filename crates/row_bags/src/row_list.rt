@@ -8,7 +8,8 @@ use std::alloc::{AllocError, Global};
 use std::marker::Model;
 use values::{MAX_COLUMNS, Row, Value, compare_rows, copy_row, same_rows};
 
-/// Rows one after the other, in as little room as they need: eight bytes for each value, and one more for each row.
+/// Rows one after the other, in as little room as they need: eight bytes for each value, and one
+/// more for each row.
 ///
 /// It is made for lists in order, which change seldom and then by a walk over all of it.
 #[derive(Drop)]
@@ -40,8 +41,8 @@ impl RowList {
         }
     }
 
-    /// The rows after what left and entered. A row that left and does not stand where it comes in order is not found.
-    /// An error says that memory was refused; nothing is changed.
+    /// The rows after what left and entered. A row that left and does not stand where it comes in
+    /// order is not found. An error says that memory was refused; nothing is changed.
     pub fn renewed(&self, alloc: Global, delta: &Delta) -> Result<Vec<Row>, AllocError>
         ensures { IfOk result (λ rows. rows_of rows.items ≡ renewed self.now delta.now) }
     {
@@ -51,8 +52,8 @@ impl RowList {
         Ok(rows)
     }
 
-    /// Becomes the rows after what left and entered. Where nothing did, this is all that it looks at.
-    /// An error says that memory was refused; the list is as it was.
+    /// Becomes the rows after what left and entered. Where nothing did, this is all that it looks
+    /// at. An error says that memory was refused; the list is as it was.
     pub fn renew(&mut self, alloc: Global, delta: &Delta) -> Result<(), AllocError>
         ensures ok { OnOk result (self.new ≡ renewed self.old delta.now) }
         ensures err { OnErr result (self.new ≡ self.old) }
@@ -67,7 +68,8 @@ impl RowList {
         Ok(())
     }
 
-    /// The rows without those that left, and with those that entered: one walk over the three lists.
+    /// The rows without those that left, and with those that entered: one walk over the three
+    /// lists.
     fn merged(&self, alloc: Global, left: &[Row], entered: &[Row]) -> Result<Vec<Row>, AllocError>
         ensures { IfOk result (λ rows. rows_of rows.items ≡ merged (staying self.now (rows_of left.now)) (rows_of entered.now)) }
     {
@@ -140,7 +142,8 @@ fn is_next(rows: &[Row], start: usize, row: &Row) -> bool
     }
 }
 
-/// Writes of the rest of those that entered the rows up to the last one behind the others; the place of the next.
+/// Writes of the rest of those that entered the rows up to the last one behind the others; the
+/// place of the next.
 fn push_up_to(
     rows: &mut Vec<Row>,
     last: &Row,

@@ -12,8 +12,8 @@ ghost use Rattle.row_nodes.specs.Project.{projected};
 ghost use Rattle.row_nodes.specs.Select.{selected};
 ghost use Rattle.row_nodes.specs.Steps.{Whole, open_at_once, truths_needed};
 
-/// A turn of Select turns the rows at which its condition was true of what it had taken into those of what it has taken now,
-/// wherever its outputs are cut.
+/// A turn of Select turns the rows at which its condition was true of what it had taken into those
+/// of what it has taken now, wherever its outputs are cut.
 pub fn select_keeps_its_value()
     ensures law { (c : Condition) (steps : List Step) (t : ℕ) (xs : List (Bool × Row)) (i : List Row) (i2 : List Row) (o : List Row)
         → Mean steps c → Adds i xs i2 → RowsLaw (select_value c) i xs o (rows_in (selected steps (Rows t xs))) i2 (select_value c i2) }
@@ -33,7 +33,8 @@ pub fn ticks_pass()
     ensures projected { (columns : List ℕ) (t : ℕ) → projected columns (Tick t) ≡ TickAt t ∷ [] }
 {}
 
-/// Two truths for each level of brackets and Nots, the text itself being one, and one more are enough: 67 for 32 open at once.
+/// Two truths for each level of brackets and Nots, the text itself being one, and one more are
+/// enough: 67 for 32 open at once.
 pub fn nested_conditions_fit()
     ensures { (c : Condition) → open_at_once Whole c ≤ 32 → truths_needed c ≤ 67 }
 {}

@@ -12,9 +12,11 @@ use lane_kernels::{MAX_TRUTHS, Step};
 use std::alloc::{AllocError, Global};
 use values::{Compare, Condition, Operand};
 
-/// The steps of a condition, which `select` runs: what stands left before what stands right, and then their And or Or.
+/// The steps of a condition, which `select` runs: what stands left before what stands right, and
+/// then their And or Or.
 ///
-/// Its columns are of the source 0: rows between the operators of a plan are combinations of one row.
+/// Its columns are of the source 0: rows between the operators of a plan are combinations of one
+/// row.
 ///
 /// An error says that memory was refused; nothing is changed.
 pub fn steps(alloc: Global, condition: &Condition) -> Result<Vec<Step>, AllocError>

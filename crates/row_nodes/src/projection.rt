@@ -9,7 +9,8 @@ use op_queue::Item;
 use std::alloc::{AllocError, Global};
 use values::MAX_COLUMNS;
 
-/// What Project puts out at an item: each row with these columns alone, in this order, and ticks as they are.
+/// What Project puts out at an item: each row with these columns alone, in this order, and ticks as
+/// they are.
 ///
 /// Columns are copied whole. An error says that memory was refused; nothing is changed.
 pub fn project(alloc: Global, columns: &[usize], item: &Item) -> Result<Vec<Item>, AllocError>

@@ -16,10 +16,12 @@ use std::alloc::{AllocError, Global};
 // as many words of 64 bits as a batch of `MAX_ROWS` rows needs
 const MAX_WORDS: usize = 16;
 
-/// What Select puts out at an item: the rows at which the condition of these steps is true, in order and with their signs, and
-/// ticks as they are. Rows at which it is false or unknown are left out; where all are, nothing is put out.
+/// What Select puts out at an item: the rows at which the condition of these steps is true, in
+/// order and with their signs, and ticks as they are. Rows at which it is false or unknown are left
+/// out; where all are, nothing is put out.
 ///
-/// The whole condition goes over the batch in one pass, 64 rows at a time. An error says that memory was refused; nothing is changed.
+/// The whole condition goes over the batch in one pass, 64 rows at a time. An error says that
+/// memory was refused; nothing is changed.
 pub fn select(alloc: Global, steps: &[Step], item: &Item) -> Result<Vec<Item>, AllocError>
     requires fits { FitItem steps.now item.now }
     ensures { IfOk result (λ outs. flat_map entries_of outs.items ≡ selected steps.now item.now) }

@@ -67,9 +67,9 @@ impl RunQueue {
         Ok(())
     }
 
-    /// Gives the slot's operator the instant of what it may take next, or none. Takes no memory, and
-    /// moves only the slots between its old place and its new one; where the slot is not in the queue
-    /// nothing changes.
+    /// Gives the slot's operator the instant of what it may take next, or none. Takes no memory,
+    /// and moves only the slots between its old place and its new one; where the slot is not in the
+    /// queue nothing changes.
     #[tactic(auto, using(crate::proofs::SlotLemmas::without_ordered, crate::proofs::SlotLemmas::put_ordered))]
     pub fn change(&mut self, slot: Slot, instant: Option<u64>)
         ensures { self.new ≡ changed slot instant self.old }

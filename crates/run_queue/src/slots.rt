@@ -7,9 +7,9 @@ use std::cmp::Reverse;
 
 /// An operator of a query, and the instant of what it may take next, if it may take anything.
 ///
-/// Slots are ordered by their fields, from the first on: those with something to take first, of these
-/// the greater slope first, then the earlier instant, then the lower number of a query, then the lower
-/// number of an operator.
+/// Slots are ordered by their fields, from the first on: those with something to take first, of
+/// these the greater slope first, then the earlier instant, then the lower number of a query, then
+/// the lower number of an operator.
 #[derive(Clone, Copy, PartialEq, Eq, PartialOrd, Ord, Drop)]
 pub struct Slot {
     /// Whether the operator may take nothing.

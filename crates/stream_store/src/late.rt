@@ -25,7 +25,8 @@ pub(crate) fn count_at(rows: &[(u64, Row)], instant: u64) -> usize
     count
 }
 
-/// Puts rows behind the others of their instant, numbered from `first` on, by one look-up. On Err all are as they were.
+/// Puts rows behind the others of their instant, numbered from `first` on, by one look-up. On Err
+/// all are as they were.
 pub(crate) fn put(
     alloc: Global,
     late: &mut BTreeMap<u64, LateRows>,

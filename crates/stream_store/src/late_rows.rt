@@ -13,7 +13,8 @@ use values::{MAX_COLUMNS, Row, Value};
 
 /// The open rows of one instant in the order of arrival, all with the same number of columns.
 ///
-/// They are kept flat, eight bytes a value and eight a number, so a row takes no allocation of its own.
+/// They are kept flat, eight bytes a value and eight a number, so a row takes no allocation of its
+/// own.
 #[derive(Drop)]
 pub(crate) struct LateRows {
     width: usize,

@@ -1,5 +1,6 @@
-//! Declared streams and what came to them: the rows that heartbeats have closed as a `Log` for each stream, which queries read
-//! by cursors, and the open rows by instant. Each call does to the streams what the machine of `reference` says.
+//! Declared streams and what came to them: the rows that heartbeats have closed as a `Log` for each
+//! stream, which queries read by cursors, and the open rows by instant. Each call does to the
+//! streams what the machine of `reference` says.
 #![tactic(auto)]
 
 mod late;

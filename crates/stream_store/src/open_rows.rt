@@ -17,8 +17,9 @@ use values::{MAX_COLUMNS, Row};
 
 /// The open rows of a stream, by instant, then arrival.
 ///
-/// Rows whose instants never fall stand flat, one behind the other. A row that comes below the instant that they have reached is
-/// late: it stands in a map by instants, behind the others of its instant. What is late is therefore earlier than what comes next.
+/// Rows whose instants never fall stand flat, one behind the other. A row that comes below the
+/// instant that they have reached is late: it stands in a map by instants, behind the others of its
+/// instant. What is late is therefore earlier than what comes next.
 #[derive(Drop)]
 pub(crate) struct OpenRows {
     alloc: Global,
@@ -52,7 +53,8 @@ impl OpenRows {
         }
     }
 
-    /// Adds rows, numbered from `first` on, which is above the numbers of all others. On Err they are as they were.
+    /// Adds rows, numbered from `first` on, which is above the numbers of all others. On Err they
+    /// are as they were.
     ///
     /// Rows that follow one another with one instant are put together.
     pub(crate) fn put_all(&mut self, first: u64, rows: &[(u64, Row)]) -> Result<(), AllocError>
@@ -95,7 +97,8 @@ impl OpenRows {
     }
 }
 
-/// Puts rows of one instant behind the others of their instant and of earlier ones, numbered from `first` on.
+/// Puts rows of one instant behind the others of their instant and of earlier ones, numbered from
+/// `first` on.
 fn put_run(
     alloc: Global,
     rising: &mut OrderedRows,
@@ -118,7 +121,8 @@ fn put_run(
     put(alloc, late, rising.width(), instant, first, rows)
 }
 
-/// Adds rows, numbered from `first` on. On Err only more rows, of these numbers, stand behind those that were there.
+/// Adds rows, numbered from `first` on. On Err only more rows, of these numbers, stand behind those
+/// that were there.
 fn put_runs(
     alloc: Global,
     rising: &mut OrderedRows,
@@ -147,8 +151,8 @@ fn put_runs(
     Ok(())
 }
 
-/// Puts copies of the late rows up to the instant, and of those that stand before them, behind others. The place of the next row
-/// that is not late.
+/// Puts copies of the late rows up to the instant, and of those that stand before them, behind
+/// others. The place of the next row that is not late.
 fn copy_late(
     rising: &OrderedRows,
     late: &BTreeMap<u64, LateRows>,

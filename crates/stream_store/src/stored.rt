@@ -17,7 +17,8 @@ use reference::{Fault, MAX_APPENDED, MAX_INSTANT, MAX_LEAP, MAX_STREAM_ROWS, New
 use std::alloc::{AllocError, Global};
 use std::marker::Model;
 
-/// A declared stream: its name, its columns' names, the closed rows, the open ones, and how many came.
+/// A declared stream: its name, its columns' names, the closed rows, the open ones, and how many
+/// came.
 #[derive(Drop)]
 pub(crate) struct Stored {
     alloc: Global,

@@ -24,7 +24,8 @@ use std::marker::Model;
 
 /// The declared streams, by number, as the machine of `reference` knows them.
 ///
-/// Closed rows stand in a `Log` a stream, which queries read by cursors; open rows by instant, until a heartbeat closes them.
+/// Closed rows stand in a `Log` a stream, which queries read by cursors; open rows by instant,
+/// until a heartbeat closes them.
 #[derive(Drop)]
 pub struct Streams {
     alloc: Global,
@@ -55,7 +56,8 @@ impl Streams {
         }
     }
 
-    /// The number of the stream of a name. Takes no memory; its time grows with the logarithm of how many streams there are.
+    /// The number of the stream of a name. Takes no memory; its time grows with the logarithm of
+    /// how many streams there are.
     pub fn named(&self, name: &str) -> Option<u64>
         ensures { result ≡ position (λ s. bytes_eq s.name name.now) self.now }
     {
@@ -101,7 +103,8 @@ impl Streams {
         }
     }
 
-    /// The first instant of the stream of a number that no heartbeat has closed; 0 where there is none.
+    /// The first instant of the stream of a number that no heartbeat has closed; 0 where there is
+    /// none.
     pub fn first_open(&self, stream: u64) -> u64
         ensures instant { result ≡ option_map_or (λ s. s.first_open) (slice_get self.now stream) 0 }
         ensures range { result ≤ 1099511627777 }
@@ -197,9 +200,11 @@ impl Streams {
         self.streams[stream as usize].closing(at)
     }
 
-    /// Closes all instants of the stream up to `at`, which have the rows that `closing` gave. On Err all is as it was.
+    /// Closes all instants of the stream up to `at`, which have the rows that `closing` gave. On
+    /// Err all is as it was.
     ///
-    /// Whatever the number of cursors, it costs the rows; each cursor's queue gains just them and the ticks of the instants.
+    /// Whatever the number of cursors, it costs the rows; each cursor's queue gains just them and
+    /// the ticks of the instants.
     ///
     /// # Errors
     /// `AllocError` where memory is refused.
@@ -216,8 +221,8 @@ impl Streams {
     /// Declares a stream, whose first open instant is `from`, and answers its number, from 0 on.
     ///
     /// # Errors
-    /// `BadName`, `NameTaken`, `BadColumns`, `InstantRange`, `TooMany`: the first test that fails; `OutOfMemory` where none does and
-    /// memory is refused. Then all is as it was.
+    /// `BadName`, `NameTaken`, `BadColumns`, `InstantRange`, `TooMany`: the first test that fails;
+    /// `OutOfMemory` where none does and memory is refused. Then all is as it was.
     pub fn declare(&mut self, name: &str, columns: &[String], from: i64) -> Result<u64, Fault>
         ensures { DoesBeside (λ (n : ℕ). n) (λ w. declare_step w name.now (texts_of columns.now) from) self.old result self.new }
     {
@@ -229,11 +234,13 @@ impl Streams {
 
     /// Appends rows to the stream of a number; where one row is refused, none is appended.
     ///
-    /// It costs its rows, and for all that follow one another with one instant one look-up among the instants that are open.
+    /// It costs its rows, and for all that follow one another with one instant one look-up among
+    /// the instants that are open.
     ///
     /// # Errors
-    /// `UnknownStream`, `TooMany`, `BadWidth`, `ValueRange`, `InstantRange`, `Late`, `StreamFull`: the first test that fails;
-    /// `OutOfMemory` where none does and memory is refused. Then all is as it was.
+    /// `UnknownStream`, `TooMany`, `BadWidth`, `ValueRange`, `InstantRange`, `Late`, `StreamFull`:
+    /// the first test that fails; `OutOfMemory` where none does and memory is refused. Then all is
+    /// as it was.
     pub fn append(&mut self, stream: u64, rows: &NewRows) -> Result<(), Fault>
         ensures { DoesBeside (λ u. u) (λ w. append_step w stream rows.now) self.old result self.new }
     {
@@ -243,10 +250,12 @@ impl Streams {
         }
     }
 
-    /// The rows that a heartbeat at this instant closes, by instant, then arrival; with them `close` does what the heartbeat does.
+    /// The rows that a heartbeat at this instant closes, by instant, then arrival; with them
+    /// `close` does what the heartbeat does.
     ///
     /// # Errors
-    /// `UnknownStream`, `InstantRange`, `Backward`, `Leap`: the first test that fails; `OutOfMemory` where none does and memory is refused.
+    /// `UnknownStream`, `InstantRange`, `Backward`, `Leap`: the first test that fails;
+    /// `OutOfMemory` where none does and memory is refused.
     pub fn closing(&self, stream: u64, at: i64) -> Result<Vec<Arrival>, Fault>
         ensures looks { Looks (λ v. map element v.items) (closing_in self.now stream at) result }
         ensures accepted { OnOk result (first_fault (machine_of self.now) (Heartbeat stream at) ≡ None) }

@@ -1,5 +1,5 @@
-//! Answers the scripts of standard input over every engine, as `cqlrun` does each: the gate runs it on those of examples/, and
-//! compares the replies.
+//! Answers the scripts of standard input over every engine, as `cqlrun` does each: the gate runs it
+//! on those of examples/, and compares the replies.
 #![tactic(auto)]
 
 ghost use Rattle.std.specs.Prelude.{◌≡◌, IfOk, map};
@@ -25,7 +25,8 @@ fn scripts_of<'a>(alloc: Global, text: &'a str) -> Result<Vec<&'a str>, AllocErr
     text.split('\u{1e}').collect(alloc)
 }
 
-/// Answers each script over an engine of its own, as the words say, and gives the first status that is not 0.
+/// Answers each script over an engine of its own, as the words say, and gives the first status that
+/// is not 0.
 fn answer_scripts<W: Write, X: Write>(
     alloc: Global,
     words: &[&str],

@@ -10,7 +10,8 @@ use wire::{Reply, Request, answer};
 /// The most rows of the turns of a drain.
 const ROWS: u32 = 7;
 
-/// An engine, how many queries were registered at it, and whether its drains are made of turns that go out.
+/// An engine, how many queries were registered at it, and whether its drains are made of turns that
+/// go out.
 #[derive(Drop)]
 pub(crate) struct Client {
     pub(crate) engine: Engine,
@@ -45,8 +46,8 @@ impl Client {
         Err(Stop::Wrong("a call that was refused changed the engine\n"))
     }
 
-    /// What the engine answers to a request. Where it says want of memory, all is as it was, but that a drain may have broken a
-    /// query and have run turns, and it is asked once more.
+    /// What the engine answers to a request. Where it says want of memory, all is as it was, but
+    /// that a drain may have broken a query and have run turns, and it is asked once more.
     fn ask(&mut self, alloc: Global, request: &Request) -> Result<Reply, Stop> {
         let before = self.look(alloc)?;
         let reply = answer(&mut self.engine, request, ROWS);
@@ -81,8 +82,8 @@ impl Client {
         }
     }
 
-    /// Fails where the script's broken query, if there is one, has something to take once streams have closed further
-    /// instants, or may not be dropped.
+    /// Fails where the script's broken query, if there is one, has something to take once streams
+    /// have closed further instants, or may not be dropped.
     pub(crate) fn end(&mut self, alloc: Global) -> Result<(), Stop> {
         self.close_further();
         let look = self.look(alloc)?;

@@ -18,7 +18,8 @@ fn slopes_in(alloc: Global, slopes: &[(Kind, Slope)]) -> Result<Vec<u64>, AllocE
     Ok(numbers)
 }
 
-/// What a query shows: how much waits for a take, its slopes, and how much is in each of its queues.
+/// What a query shows: how much waits for a take, its slopes, and how much is in each of its
+/// queues.
 #[derive(Drop)]
 pub(crate) struct Shown {
     waiting: Option<usize>,
@@ -100,7 +101,8 @@ impl Look {
                 .all(|(a, b)| a.is_same(b))
     }
 
-    /// Whether the engine shows the same afterwards, but that one query is broken and its turn is out no longer.
+    /// Whether the engine shows the same afterwards, but that one query is broken and its turn is
+    /// out no longer.
     pub(crate) fn breaks(&self, after: &Look, broken: u64) -> bool {
         if self.queries.len() != after.queries.len() || after.out.checked_add(1) != Some(self.out) {
             return false;

@@ -1,6 +1,6 @@
-//! Answers scripts over an engine of their own, by turns that go out and come back and by drains, and looks at all of the engine
-//! before and after a call that wants memory: the gate runs it with ample memory, and `bench/want_of_memory` refuses each of
-//! its growths in turn.
+//! Answers scripts over an engine of their own, by turns that go out and come back and by drains,
+//! and looks at all of the engine before and after a call that wants memory: the gate runs it with
+//! ample memory, and `bench/want_of_memory` refuses each of its growths in turn.
 #![tactic(auto)]
 
 mod client;
@@ -35,7 +35,8 @@ fn answer_script(
     client.end(alloc)
 }
 
-/// The replies to a script. Where memory is refused to the tests themselves, the script is answered once more.
+/// The replies to a script. Where memory is refused to the tests themselves, the script is answered
+/// once more.
 fn replies_to(alloc: Global, script: &str, by_turns: bool) -> Result<MemorySink, Stop> {
     let mut sink = MemorySink::new(alloc);
     match answer_script(alloc, script, by_turns, &mut sink) {
@@ -49,7 +50,8 @@ fn replies_to(alloc: Global, script: &str, by_turns: bool) -> Result<MemorySink,
     }
 }
 
-/// Writes the replies to all scripts of a text. A record separator parts them, which no JSON text has.
+/// Writes the replies to all scripts of a text. A record separator parts them, which no JSON text
+/// has.
 fn answer_scripts<W: Write>(alloc: Global, text: &str, out: &mut W) -> io::Result<ExitCode> {
     for by_turns in [true, false] {
         for script in text.split("\u{1e}\n") {

@@ -10,7 +10,8 @@ use turn::Done;
 /// The most rows of a turn.
 const ROWS: u32 = 1_024;
 
-/// The next turn, run, at the second try where memory is refused at the first; None where none is left.
+/// The next turn, run, at the second try where memory is refused at the first; None where none is
+/// left.
 fn next(alloc: Global, engine: &mut Engine) -> Result<Option<Done>, Fault> {
     match engine.lease(ROWS)? {
         Leased::Idle => Ok(None),
@@ -48,7 +49,8 @@ fn stranger(alloc: Global) -> Result<Done, Fault> {
 }
 
 impl Client {
-    /// The next turn, at the second try where memory is refused at the first, which leaves all as it was.
+    /// The next turn, at the second try where memory is refused at the first, which leaves all as
+    /// it was.
     fn next_turn(&mut self, alloc: Global) -> Result<Option<Done>, Stop> {
         let before = self.look(alloc)?;
         if let Ok(turn) = next(alloc, &mut self.engine) {
@@ -67,7 +69,8 @@ impl Client {
         self.expect_same(alloc, &before)
     }
 
-    /// Brings a turn back. Where memory is refused, its query is broken, and nothing else is changed.
+    /// Brings a turn back. Where memory is refused, its query is broken, and nothing else is
+    /// changed.
     fn finish(&mut self, alloc: Global, done: Done) -> Result<(), Stop> {
         let query = done.parts().node.query;
         let before = self.look(alloc)?;
@@ -78,7 +81,8 @@ impl Client {
         }
     }
 
-    /// Brings a turn back. The turn 0 comes between turns of another engine, and the turn 1 is abandoned.
+    /// Brings a turn back. The turn 0 comes between turns of another engine, and the turn 1 is
+    /// abandoned.
     fn bring_back(&mut self, alloc: Global, done: Done) -> Result<(), Stop> {
         match done.parts().lease {
             0 => {

@@ -129,7 +129,8 @@ fn rows_beside_rows(rt: HostRuntime) -> Result<(), Fail> {
     Ok(())
 }
 
-/// Whether the second column lends these numbers and these words of its nulls, and its numbers lie in the range of a stream.
+/// Whether the second column lends these numbers and these words of its nulls, and its numbers lie
+/// in the range of a stream.
 fn lends(batch: &Batch, numbers: &[i64], valid: &[u64]) -> bool
     requires { width batch.now ≡ 2 }
 {

@@ -60,7 +60,8 @@ fn run(
     Ok(all)
 }
 
-/// The rows of some items: for each its instant, 1 where it enters and 0 where it leaves, and its values.
+/// The rows of some items: for each its instant, 1 where it enters and 0 where it leaves, and its
+/// values.
 fn numbers(alloc: Global, items: &[Queued]) -> Result<Vec<i128>, AllocError> {
     let mut all = Vec::new(alloc);
     for item in items {

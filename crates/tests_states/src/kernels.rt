@@ -20,7 +20,8 @@ const COMPARISONS: [Compare; 6] = [
     Compare::AtLeast,
 ];
 
-/// Whether these are the truths of a comparison of the samples of 7 with 3, or with the samples of 11.
+/// Whether these are the truths of a comparison of the samples of 7 with 3, or with the samples of
+/// 11.
 fn is_compared(truth: &[u64], known: &[u64], how: Compare, with_three: bool, count: usize) -> bool {
     for i in 0..count {
         let other = if with_three {
@@ -188,7 +189,8 @@ fn combination_agrees(
     is_combined(a, logic, b, Truth { truth, known }, count)
 }
 
-/// Whether the kernel combines as the definition does whether the left is above 3 with whether it is below the right.
+/// Whether the kernel combines as the definition does whether the left is above 3 with whether it
+/// is below the right.
 fn logic_agrees(left: &Column, right: &Column, logic: Logic, count: usize) -> bool
     requires few { count ≤ 1024 }
     requires long { length left.now ≡ count }

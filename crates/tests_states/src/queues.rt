@@ -58,7 +58,8 @@ const SIX_LEAVES: Shown = (false, [Some(6), None, None]);
 
 const SEVEN: Shown = (true, [Some(7), None, None]);
 
-/// Whether the item has just these rows of the instant; where there are none, whether it is the instant's tick.
+/// Whether the item has just these rows of the instant; where there are none, whether it is the
+/// instant's tick.
 fn is_item(item: &Item, instant: u64, rows: &[Shown]) -> bool {
     match item {
         Item::Rows(at, batch) => *at == instant && shows(batch, rows),
@@ -66,7 +67,8 @@ fn is_item(item: &Item, instant: u64, rows: &[Shown]) -> bool {
     }
 }
 
-/// Whether this comes out of the filled queue without its first rows and ticks, where at most `count` rows are asked for.
+/// Whether this comes out of the filled queue without its first rows and ticks, where at most
+/// `count` rows are asked for.
 fn comes_out(
     alloc: Global,
     left: usize,
@@ -154,7 +156,8 @@ fn arrival(number: u64, instant: u64, value: i64) -> Arrival
     }
 }
 
-/// A log of one column whose instants 0 to 3 are closed: the row 5 came first and then 7, at a later instant than 6, which came last.
+/// A log of one column whose instants 0 to 3 are closed: the row 5 came first and then 7, at a
+/// later instant than 6, which came last.
 fn closed(alloc: Global) -> Result<Log, AllocError> {
     let mut log = Log::new(alloc, 1, 0)?;
     let rows = [arrival(0, 1, 5), arrival(2, 1, 6), arrival(1, 3, 7)];
@@ -162,7 +165,8 @@ fn closed(alloc: Global) -> Result<Log, AllocError> {
     Ok(log)
 }
 
-/// Whether a cursor sees so many rows and ticks, and has this at its front once the first one has left.
+/// Whether a cursor sees so many rows and ticks, and has this at its front once the first one has
+/// left.
 fn sees(cursor: Cursor, log: &Log, count: u128, front: Front) -> bool
     requires { IsWithin cursor log.now }
 {
@@ -195,7 +199,8 @@ fn a_cursor_shows_its_own_rows_alone(rt: HostRuntime) -> Result<(), Fail> {
     Ok(())
 }
 
-/// Whether this comes out of the log for a cursor whose first rows and ticks have left, where at most `count` rows are asked for.
+/// Whether this comes out of the log for a cursor whose first rows and ticks have left, where at
+/// most `count` rows are asked for.
 fn gives(
     alloc: Global,
     cursor: Cursor,

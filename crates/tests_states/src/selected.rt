@@ -19,7 +19,8 @@ fn three(alloc: Global) -> Result<Batch, AllocError>
     Batch::from_rows(alloc, &rows)
 }
 
-/// What Select puts out for the three rows of the instant 4, where the first column is to be above a number.
+/// What Select puts out for the three rows of the instant 4, where the first column is to be above
+/// a number.
 fn rows_above(alloc: Global, number: i64) -> Result<Vec<Item>, AllocError> {
     let item = Item::Rows(4, three(alloc)?);
     select(alloc, &[Step::Number(0, Compare::Above, number)], &item)

@@ -75,7 +75,8 @@ fn shown_rows(alloc: Global) -> Result<Vec<Item>, AllocError> {
     latest(alloc, &window, &item)
 }
 
-/// Whether the first item has one column of these numbers at the instant 1, with these words of their signs.
+/// Whether the first item has one column of these numbers at the instant 1, with these words of
+/// their signs.
 fn is_shown(items: &[Item], numbers: &[i64], leaving: &[u64]) -> bool {
     match items.first() {
         Some(Item::Rows(1, batch)) if batch.width() == 1 => {

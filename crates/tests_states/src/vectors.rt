@@ -118,7 +118,8 @@ fn plain_count(words: &[u64]) -> u32 {
     total
 }
 
-/// Whether the sum, then whether the count, and then whether the signed count of so many samples is that of a plain loop.
+/// Whether the sum, then whether the count, and then whether the signed count of so many samples is
+/// that of a plain loop.
 fn sum_and_counts_agree(alloc: Global, count: usize) -> Result<(bool, bool, bool), AllocError>
     requires { count ≤ 1024 }
 {

@@ -52,7 +52,8 @@ fn streams(alloc: Global) -> Result<Streams, Fault> {
     Ok(streams)
 }
 
-// How many rows and ticks of the stream 0 a query sees that was registered after `place` rows, from the instant `start` on.
+// How many rows and ticks of the stream 0 a query sees that was registered after `place` rows, from
+// the instant `start` on.
 fn seen(streams: &Streams, place: u64, start: u64) -> u128 {
     match streams.log(0) {
         Some(log) => Cursor::new(place, start).len(log),
@@ -129,7 +130,8 @@ fn heartbeats_are_refused(streams: &Streams) -> bool {
     true
 }
 
-// Which of the three calls are refused by their faults, and how many rows and which first open instant the stream then has.
+// Which of the three calls are refused by their faults, and how many rows and which first open
+// instant the stream then has.
 fn refused(alloc: Global) -> Result<([bool; 3], u64, u64), Fault> {
     let mut streams = streams(alloc)?;
     let first = declarations_are_refused(alloc, &mut streams);
@@ -163,7 +165,8 @@ fn append(alloc: Global, streams: &mut Streams, pairs: &[(i64, i64)]) -> Result<
     Ok(true)
 }
 
-// Closes the instants up to `at`, once more where memory was refused; false where the refusal changed the stream.
+// Closes the instants up to `at`, once more where memory was refused; false where the refusal
+// changed the stream.
 fn heartbeat(streams: &mut Streams, at: i64) -> Result<bool, Fault> {
     let start = streams.first_open(0);
     if close(streams, 0, at).is_err() {
@@ -197,8 +200,8 @@ fn fill(alloc: Global, streams: &mut Streams) -> Result<bool, Fault> {
     Ok(came && are_closing && closed && more)
 }
 
-// Whether queries see this of the filled stream: three rows and the ticks 0 to 3; two rows and the ticks 2 and 3; the rows that
-// came last and their ticks.
+// Whether queries see this of the filled stream: three rows and the ticks 0 to 3; two rows and the
+// ticks 2 and 3; the rows that came last and their ticks.
 fn three_see(streams: &Streams) -> bool {
     seen(streams, 0, 0) == 7 && seen(streams, 0, 2) == 4 && seen(streams, 3, 0) == 4
 }

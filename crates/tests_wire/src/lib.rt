@@ -1,8 +1,8 @@
-//! Worked rows of request lines and of the program's runs, as tests: lines in any chunks, replies, devices that fail, a
-//! connection.
+//! Worked rows of request lines and of the program's runs, as tests: lines in any chunks, replies,
+//! devices that fail, a connection.
 //!
-//! They stand in a crate of their own because a crate's tests are proved with all of the crate once more. Rows that are whole
-//! scripts are the stored run of `tests_examples`.
+//! They stand in a crate of their own because a crate's tests are proved with all of the crate once
+//! more. Rows that are whole scripts are the stored run of `tests_examples`.
 #![tactic(auto)]
 
 #[cfg(test)]

@@ -23,7 +23,8 @@ pub(crate) const FIRST_REPLIES: &str = r#"{"ok":true}
 {"ok":true,"rows":[[1,5],[3,6],[3,7]]}
 "#;
 
-// Whether `cqlrun` over memory ends so, and says something of its errors where it does not end well.
+// Whether `cqlrun` over memory ends so, and says something of its errors where it does not end
+// well.
 fn runs_to(alloc: Global, words: &[&str], input: &[u8], status: u8, replies: &[u8]) -> bool {
     let mut source = MemorySource::new(input);
     let mut sink = MemorySink::new(alloc);
@@ -50,7 +51,8 @@ fn a_wrong_word_is_refused_and_nothing_is_answered(rt: HostRuntime) {
     assert!(rt; runs_to(rt.alloc(), turns.as_slice(), FIRST.as_bytes(), 2, b""));
 }
 
-// The most rows of a turn that the words ask for, and whether they ask for the plain engine, where they are not refused.
+// The most rows of a turn that the words ask for, and whether they ask for the plain engine, where
+// they are not refused.
 fn asked(alloc: Global, words: &[&str]) -> Option<(u32, bool)> {
     match run_options(alloc, words) {
         Ok(options) => Some((options.turn, options.is_plain)),
@@ -225,8 +227,8 @@ fn a_sink_that_fails_at_any_write_ends_the_run_after_a_front_of_the_replies(rt: 
     }
 }
 
-// The replies to a front of the script, before a byte of it: those to its whole lines, of which one that lacks only its line
-// feed is one, and the fault of any other line that is cut.
+// The replies to a front of the script, before a byte of it: those to its whole lines, of which one
+// that lacks only its line feed is one, and the fault of any other line that is cut.
 fn replies_to_front(alloc: Global, front: &[u8], next: Option<&u8>) -> Result<String, AllocError> {
     let is_cut = !matches!(front.last(), None | Some(b'\n'));
     let lacks_feed = is_cut && matches!(next, Some(b'\n'));
@@ -286,7 +288,8 @@ fn words_that_cannot_be_read_are_told(rt: HostRuntime) {
     assert!(rt; words_are_told(rt.alloc(), no_text, 2, "cqlrun: a word is not UTF-8\n"));
 }
 
-// Whether a line is put by sevens: all of it, or a front of so many bytes where the sink fails after so many writes.
+// Whether a line is put by sevens: all of it, or a front of so many bytes where the sink fails
+// after so many writes.
 fn puts(alloc: Global, calls: u64, front: usize) -> bool {
     let line = b"cqlrun: out of memory\n".as_slice();
     let mut sink = device_failing_after(alloc, b"", calls);
@@ -301,7 +304,8 @@ fn a_text_is_put_whole_or_in_front(rt: HostRuntime) {
     }
 }
 
-// Whether an engine that knows of the first script's stream answers what stands behind that script's first line.
+// Whether an engine that knows of the first script's stream answers what stands behind that
+// script's first line.
 fn is_answered_over(alloc: Global) -> Result<bool, AllocError> {
     let mut columns = Vec::new(alloc);
     columns.push(String::from_str(alloc, "a")?)?;
@@ -336,7 +340,8 @@ fn is_answered_over(alloc: Global) -> Result<bool, AllocError> {
     )
 }
 
-// Whether the first script, answered line by line over an engine of its own, gives its replies, and the engine has its query.
+// Whether the first script, answered line by line over an engine of its own, gives its replies, and
+// the engine has its query.
 fn is_answered_by_lines(alloc: Global) -> bool {
     let Ok(mut engine) = Plain::new(alloc) else {
         return false;

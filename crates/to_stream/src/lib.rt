@@ -1,11 +1,14 @@
-//! The roots of queries: the operators Istream, Dstream and Rstream, which make a stream of a relation.
+//! The roots of queries: the operators Istream, Dstream and Rstream, which make a stream of a
+//! relation.
 //!
-//! A root takes the signed rows of its relation, and at the tick of an instant answers with rows in order, each with the
-//! instant: with what the relation has beyond that of the instant before (Istream), with what it has lost of it (Dstream), or
-//! with the whole (Rstream). What a turn needs of the state is `near`, what it puts out is `work`, and `apply` is the change.
+//! A root takes the signed rows of its relation, and at the tick of an instant answers with rows in
+//! order, each with the instant: with what the relation has beyond that of the instant before
+//! (Istream), with what it has lost of it (Dstream), or with the whole (Rstream). What a turn needs
+//! of the state is `near`, what it puts out is `work`, and `apply` is the change.
 //!
-//! Between ticks all three keep what entered and left alone. The whole of Rstream, which answers with all of it, stands in a list
-//! that becomes the next one at a tick, so a row costs the same however many are held.
+//! Between ticks all three keep what entered and left alone. The whole of Rstream, which answers
+//! with all of it, stands in a list that becomes the next one at a tick, so a row costs the same
+//! however many are held.
 #![tactic(auto)]
 
 ghost use Rattle.std.specs.Prelude.{◌≡◌, None, [], map, IfOk, OnOk};
@@ -55,8 +58,8 @@ impl ToStream {
         }
     }
 
-    /// What a turn needs of the state: at a tick the rows that answer, in order. It costs as much as these.
-    /// An error says that memory was refused; nothing is changed.
+    /// What a turn needs of the state: at a tick the rows that answer, in order. It costs as much
+    /// as these. An error says that memory was refused; nothing is changed.
     pub fn near(&self, alloc: Global, item: &Item) -> Result<Vec<Row>, AllocError>
         ensures { IfOk result (λ rows. rows_of rows.items ≡ near self.now item.now) }
     {
@@ -69,7 +72,8 @@ impl ToStream {
         }
     }
 
-    /// The state after the item. Where memory is refused it can only be dropped: some of the rows may have been taken in.
+    /// The state after the item. Where memory is refused it can only be dropped: some of the rows
+    /// may have been taken in.
     pub fn apply(&mut self, item: &Item) -> Result<(), AllocError>
         requires { HasRoom self.old item.now }
         ensures state { OnOk result (self.new ≡ next self.old item.now) }
@@ -123,7 +127,8 @@ impl ToStream {
     }
 }
 
-/// The answers of a turn, each a row with the item's instant; they wait from then on. Rows alone answer nothing.
+/// The answers of a turn, each a row with the item's instant; they wait from then on. Rows alone
+/// answer nothing.
 ///
 /// An error says that memory was refused; nothing is changed.
 pub fn work(alloc: Global, item: &Item, near: &[Row]) -> Result<Vec<(u64, Row)>, AllocError>

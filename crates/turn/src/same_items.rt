@@ -68,7 +68,8 @@ fn same_batch(a: &Batch, b: &Batch) -> bool
     have_same_columns(a, b)
 }
 
-/// Whether the items are equal: of one instant, both ticks or both the same signed rows in the same order.
+/// Whether the items are equal: of one instant, both ticks or both the same signed rows in the same
+/// order.
 pub fn same_item(a: &Item, b: &Item) -> bool
     ensures { IsTrue result ↔ (a.now ≡ b.now) }
 {

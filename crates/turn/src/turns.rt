@@ -11,7 +11,8 @@ use op_queue::Item;
 use std::alloc::Global;
 use std::marker::Model;
 
-/// What a lease hands out: an item of an operator's queue, and the excerpt of the operator's state that it needs.
+/// What a lease hands out: an item of an operator's queue, and the excerpt of the operator's state
+/// that it needs.
 #[derive(Drop)]
 pub struct Turn {
     /// The number of the lease.
@@ -24,7 +25,8 @@ pub struct Turn {
     pub near: Near,
 }
 
-/// A turn that was run: its outputs and its change are those of its node, item and excerpt. Only `Turn::run` makes one.
+/// A turn that was run: its outputs and its change are those of its node, item and excerpt. Only
+/// `Turn::run` makes one.
 #[derive(Drop)]
 pub struct Done {
     parts: Parts,

@@ -1,7 +1,8 @@
 //! Values and rows: null or a number, and rows of them compared column by column from the left.
 //!
-//! Here too stand the definitions that the other crates cite: bags, windows, conditions, relations and the answers of a
-//! query (Arasu, Babu and Widom, "The CQL continuous query language", 2006), and the theory of them.
+//! Here too stand the definitions that the other crates cite: bags, windows, conditions, relations
+//! and the answers of a query (Arasu, Babu and Widom, "The CQL continuous query language", 2006),
+//! and the theory of them.
 #![tactic(auto)]
 
 ghost use Rattle.std.specs.Prelude.{◌≡◌, None, IfSome, SomeIff, refl};
@@ -65,7 +66,8 @@ impl Model for Value {
 pub type Row = ArrayVec<Value, MAX_COLUMNS>;
 
 impl Value {
-    /// A number of a stream or a condition; None exactly where it lies outside `-STREAM_MAX ..= STREAM_MAX`.
+    /// A number of a stream or a condition; None exactly where it lies outside `-STREAM_MAX ..=
+    /// STREAM_MAX`.
     pub fn new(number: i64) -> Option<Value>
         ensures { SomeIff result (IsStreamNumber number) (Some number) }
     {
@@ -91,7 +93,8 @@ impl Value {
         Value { word: number }
     }
 
-    /// The number of the answer range that is nearest to this one: a sum that has left the range shows its end.
+    /// The number of the answer range that is nearest to this one: a sum that has left the range
+    /// shows its end.
     pub fn clamped(number: i128) -> Value
         ensures { result ≡ Some (clamp_answer number) }
     {

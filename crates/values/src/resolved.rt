@@ -1,7 +1,8 @@
-//! A query with its names resolved: sources and columns go by their places, both counted from 0 in the order of From and of
-//! the stream's declaration.
+//! A query with its names resolved: sources and columns go by their places, both counted from 0 in
+//! the order of From and of the stream's declaration.
 
-/// A column of a source of the query, both counted from 0 in the order of From and of the stream's declaration.
+/// A column of a source of the query, both counted from 0 in the order of From and of the stream's
+/// declaration.
 #[derive(Clone, Copy, Debug, PartialEq, Eq)]
 pub struct Column {
     pub source: usize,
@@ -26,7 +27,8 @@ pub enum Compare {
     AtLeast,
 }
 
-/// What Where says. It keeps the combinations at which it is true, and not those at which it is unknown.
+/// What Where says. It keeps the combinations at which it is true, and not those at which it is
+/// unknown.
 #[derive(Drop)]
 pub enum Condition {
     Compared(Operand, Compare, Operand),
@@ -40,13 +42,14 @@ pub enum Condition {
 pub enum Window {
     /// The rows of this instant and of as many before it as the number says: 0 is Now.
     Range(u64),
-    /// The same at the greatest multiple of the second number, which is not 0, that is not above the instant; no rows
-    /// where that multiple is not above the query's base.
+    /// The same at the greatest multiple of the second number, which is not 0, that is not above
+    /// the instant; no rows where that multiple is not above the query's base.
     RangeSlide(u64, u64),
     /// All rows so far.
     Unbounded,
-    /// The last rows, as many as the number says, of each partition: of the rows that are equal in the columns, nulls being
-    /// equal to each other. With no column all rows are one partition. Of two rows of an instant the later arrival is last.
+    /// The last rows, as many as the number says, of each partition: of the rows that are equal in
+    /// the columns, nulls being equal to each other. With no column all rows are one partition. Of
+    /// two rows of an instant the later arrival is last.
     LastRows(Vec<usize>, u64),
 }
 
@@ -59,7 +62,8 @@ pub enum ListItem {
     CountAll,
     /// How many of them have a number in the column.
     Count(Column),
-    /// The exact sum of the column's numbers, clamped to the answer range; null where there is none.
+    /// The exact sum of the column's numbers, clamped to the answer range; null where there is
+    /// none.
     Sum(Column),
     /// The least number of the column; null where there is none.
     Min(Column),

@@ -18,7 +18,8 @@ use std::collections::BTreeMap;
 use std::marker::Model;
 use values::{MAX_COLUMNS, Row, Value, copy_row, value_at};
 
-/// The rows of each partition by its key, which has at most `N` values and takes some `8 * N` bytes.
+/// The rows of each partition by its key, which has at most `N` values and takes some `8 * N`
+/// bytes.
 #[derive(Drop)]
 pub(crate) struct KeyedParts<const N: usize> {
     parts: BTreeMap<ArrayVec<Value, N>, Last>,
@@ -48,7 +49,8 @@ impl<const N: usize> KeyedParts<N> {
         }
     }
 
-    /// A row enters the partition of its key, and the oldest falls out where there are more than `count`.
+    /// A row enters the partition of its key, and the oldest falls out where there are more than
+    /// `count`.
     fn enter(
         &mut self,
         alloc: Global,
@@ -116,7 +118,8 @@ impl<const N: usize> KeyedParts<N> {
         Ok(rows)
     }
 
-    /// The rows of a batch enter their partitions, and the oldest fall out where there are more than `count`.
+    /// The rows of a batch enter their partitions, and the oldest fall out where there are more
+    /// than `count`.
     pub(crate) fn enter_all(
         &mut self,
         alloc: Global,
@@ -173,7 +176,8 @@ fn enter_at<const N: usize>(
     }
 }
 
-/// The row that a new row of this key makes fall out of the last `count`: of those held, those that came before it, and itself.
+/// The row that a new row of this key makes fall out of the last `count`: of those held, those that
+/// came before it, and itself.
 fn fallen<const N: usize>(
     held: &KeyedParts<N>,
     came: &KeyedParts<N>,

@@ -51,7 +51,8 @@ impl Last {
         }
     }
 
-    /// A row as wide as the others enters, and the oldest falls out where there are more than `count`.
+    /// A row as wide as the others enters, and the oldest falls out where there are more than
+    /// `count`.
     pub(crate) fn enter(&mut self, count: u64, row: &Row) -> Result<(), AllocError>
         requires few { length self.old ≤ count }
         requires wide { AreWide (length row.now.items) self.old }

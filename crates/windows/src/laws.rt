@@ -22,7 +22,8 @@ pub fn range_takes_ticks()
         × RangeStands (t + 1) (range.next s (Tick t)) held2) }
 {}
 
-/// Rows of the instant t at a window of the last rows of each partition: then it holds what it shows.
+/// Rows of the instant t at a window of the last rows of each partition: then it holds what it
+/// shows.
 pub fn latest_takes_rows()
     ensures { (from : ℕ) (s : latest.LatestState) (t : ℕ) (held : List Element) (es : List Element) → LatestStands from s.columns s.count t (latest.held_in s.entries) held
         → Each (λ e. e.instant ≡ t) es → IsRising (held ++ es)

@@ -1,6 +1,7 @@
 //! The states of windows: what a window holds of its stream, and what its turns put out.
 //!
-//! `RangeWindow` holds the rows of the last instants, or all; `LatestWindow` the last rows of each partition.
+//! `RangeWindow` holds the rows of the last instants, or all; `LatestWindow` the last rows of each
+//! partition.
 #![tactic(auto)]
 
 mod flat_rows;

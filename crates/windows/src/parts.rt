@@ -58,7 +58,8 @@ impl Parts {
         }
     }
 
-    /// The rows of a batch enter their partitions, and the oldest fall out where there are more than `count`.
+    /// The rows of a batch enter their partitions, and the oldest fall out where there are more
+    /// than `count`.
     pub(crate) fn enter_all(
         &mut self,
         alloc: Global,

@@ -12,8 +12,8 @@ pub struct DeviceFailed;
 
 /// Where request bytes come from.
 ///
-/// A source may tell its bytes to contracts, as one over memory does. One over a reader tells them where the reader does, so not over
-/// standard input or a connection.
+/// A source may tell its bytes to contracts, as one over memory does. One over a reader tells them
+/// where the reader does, so not over standard input or a connection.
 pub trait Source {
     // The bytes that it gives up to its end, where it tells them.
     ghost left: { Self → Option (List ℕ) };
@@ -24,7 +24,8 @@ pub trait Source {
     // How many reads have failed. The count stops where 64 bits are full.
     ghost failures: { Self → ℕ };
 
-    /// Reads some bytes into the front of the buffer, and gives their number, which is 0 only at the end.
+    /// Reads some bytes into the front of the buffer, and gives their number, which is 0 only at
+    /// the end.
     ///
     /// `DeviceFailed` where the read failed.
     fn read(&mut self, buffer: &mut [u8]) -> Result<usize, DeviceFailed>
@@ -124,7 +125,8 @@ impl Sink for MemorySink {
     }
 }
 
-/// A reader, as standard input or a `&TcpStream`, as a source. It tells its bytes where the reader does, which these two do not.
+/// A reader, as standard input or a `&TcpStream`, as a source. It tells its bytes where the reader
+/// does, which these two do not.
 #[derive(Drop)]
 pub struct ReaderSource<R> {
     reader: R,
@@ -181,8 +183,8 @@ impl<R: Read> Source for ReaderSource<R> {
     }
 }
 
-/// A writer, as standard output or a `&TcpStream`, as a sink. It tells the bytes that it took where the writer does, which these two do
-/// not.
+/// A writer, as standard output or a `&TcpStream`, as a sink. It tells the bytes that it took where
+/// the writer does, which these two do not.
 #[derive(Drop)]
 pub struct WriterSink<W> {
     writer: W,

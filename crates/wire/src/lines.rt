@@ -14,7 +14,8 @@ pub(crate) const LONGEST_LINE: usize = 65_536;
 
 const GROUP: usize = 64;
 
-/// The buffers of a reader of lines: the bytes that it has read ahead, and the line that it read last.
+/// The buffers of a reader of lines: the bytes that it has read ahead, and the line that it read
+/// last.
 #[derive(Drop)]
 pub struct Lines {
     chunk: Vec<u8>,
@@ -27,7 +28,8 @@ pub struct Lines {
     ghost room: { longest_line ≤ vec_capacity line },
 }
 
-/// How many bytes in front have no line feed among them, by whole groups of `GROUP` bytes, which lanes look at together.
+/// How many bytes in front have no line feed among them, by whole groups of `GROUP` bytes, which
+/// lanes look at together.
 fn clear_front(bytes: &[u8]) -> usize
     ensures clear { EachOther bytes.now result }
     ensures within { result ≤ length bytes.now }
@@ -77,7 +79,8 @@ struct Moved {
 impl Lines {
     ghost use Rattle.wire.specs.Held.{pending, ahead, work, HoldsNothing, Moves, feed_len};
 
-    /// Takes the buffers, after which reading lines takes no memory. `AllocError` where they were refused.
+    /// Takes the buffers, after which reading lines takes no memory. `AllocError` where they were
+    /// refused.
     pub fn new(alloc: Global) -> Result<Lines, AllocError>
         ensures { IfOk result (λ lines. pending lines ≡ []) }
     {
@@ -158,7 +161,8 @@ impl Lines {
         Ok(more)
     }
 
-    /// Reads the next line of up to 65,536 bytes, whose bytes `line` then gives: whether it is no longer, or none at the end.
+    /// Reads the next line of up to 65,536 bytes, whose bytes `line` then gives: whether it is no
+    /// longer, or none at the end.
     pub(crate) fn next_line<S: Source>(
         &mut self,
         source: &mut S,

@@ -9,9 +9,11 @@ use arrayvec::ArrayVec;
 /// The most bytes that a page holds.
 const PAGE: usize = 4096;
 
-/// The bytes of a line that the sink has not been given yet, and whether no write of the line has failed.
+/// The bytes of a line that the sink has not been given yet, and whether no write of the line has
+/// failed.
 ///
-/// It lies on the stack, so that a reply takes no memory. What fits in is given to the sink by one write.
+/// It lies on the stack, so that a reply takes no memory. What fits in is given to the sink by one
+/// write.
 #[derive(Drop)]
 pub(crate) struct Page {
     pub(crate) bytes: ArrayVec<u8, PAGE>,

@@ -198,7 +198,8 @@ fn add_reply<K: Sink>(sink: &mut K, page: &mut Page, reply: &Reply)
     }
 }
 
-/// Writes a reply's line, in one write where it has at most 4,096 bytes and the sink takes it so. Takes no memory.
+/// Writes a reply's line, in one write where it has at most 4,096 bytes and the sink takes it so.
+/// Takes no memory.
 ///
 /// `ScriptFault::Write` where the sink failed, which then has taken a front of the line.
 pub fn write_reply<K: Sink>(sink: &mut K, reply: &Reply) -> Result<(), ScriptFault>

@@ -48,7 +48,8 @@ pub enum Request {
 pub enum WireFault {
     /// The line is no JSON text, or it nests lists and objects more than 127 deep.
     NotJson,
-    /// The line is no object, its `op` is unknown, a key that it needs is missing, or a value is of another kind.
+    /// The line is no object, its `op` is unknown, a key that it needs is missing, or a value is of
+    /// another kind.
     BadRequest,
     /// The line has over 65,536 bytes.
     LineTooLong,

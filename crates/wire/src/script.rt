@@ -155,15 +155,17 @@ fn respond<K: Sink, E: Answering>(
     write_reply(sink, &reply)
 }
 
-/// Answers each request of the source by one line, up to the end of the source. A drain's turns have at most `rows` rows,
-/// 1 to 1,024, which changes no reply. At the start the engine has to be whole.
+/// Answers each request of the source by one line, up to the end of the source. A drain's turns
+/// have at most `rows` rows, 1 to 1,024, which changes no reply. At the start the engine has to be
+/// whole.
 ///
-/// What is written is the script's text of what the source gave, up to the first reply that says want of
-/// memory, or, to a drain, of numbers for turns, from which on it rests with the engine. Want of numbers is
-/// told only where the engine has none. Where no reply says so, the engine is whole at the end.
-/// `ScriptFault::Read` and `ScriptFault::Write` where that device failed: then what is written is a beginning of that text, and
-/// the calls carried out stand: the engine is as they left it. `ScriptFault::Memory` where the line's buffers were refused,
-/// before anything was read: all is as it was.
+/// What is written is the script's text of what the source gave, up to the first reply that says
+/// want of memory, or, to a drain, of numbers for turns, from which on it rests with the engine.
+/// Want of numbers is told only where the engine has none. Where no reply says so, the engine is
+/// whole at the end. `ScriptFault::Read` and `ScriptFault::Write` where that device failed: then
+/// what is written is a beginning of that text, and the calls carried out stand: the engine is as
+/// they left it. `ScriptFault::Memory` where the line's buffers were refused, before anything was
+/// read: all is as it was.
 pub fn run_script<S: Source, K: Sink, E: Answering>(
     alloc: Global,
     source: &mut S,

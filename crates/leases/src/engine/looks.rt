@@ -31,8 +31,8 @@ impl Engine {
         self.state.leases_out()
     }
 
-    /// How many answers of the query of a number wait. They stand behind those that were taken, and all together are a beginning of CQL's answers. Takes no
-    /// memory.
+    /// How many answers of the query of a number wait. They stand behind those that were taken, and
+    /// all together are a beginning of CQL's answers. Takes no memory.
     ///
     /// # Errors
     /// `UnknownQuery` where there is none, or it was dropped.
@@ -43,8 +43,8 @@ impl Engine {
         self.state.waiting(query)
     }
 
-    /// How much waits in each queue of a query, a row and a tick each as one, by the operators' numbers, a join's left queue first. Of a broken query nothing
-    /// does.
+    /// How much waits in each queue of a query, a row and a tick each as one, by the operators'
+    /// numbers, a join's left queue first. Of a broken query nothing does.
     ///
     /// # Errors
     /// `UnknownQuery` where there is none, or it was dropped; `OutOfMemory`.

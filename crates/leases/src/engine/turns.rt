@@ -12,15 +12,17 @@ use reference::Fault;
 use turn::Done;
 
 impl Engine {
-    /// Hands out a turn, of an operator of greatest slope among those that may take something; of these of the one with the earliest instant,
-    /// then the lowest numbers of query and operator; of a join on the left side where both may be taken. It has at most `rows` rows, 1 to 1,024, of one
-    /// instant, or a tick. They wait on until the turn is finished.
+    /// Hands out a turn, of an operator of greatest slope among those that may take something; of
+    /// these of the one with the earliest instant, then the lowest numbers of query and operator;
+    /// of a join on the left side where both may be taken. It has at most `rows` rows, 1 to 1,024,
+    /// of one instant, or a tick. They wait on until the turn is finished.
     ///
     /// It costs these rows, the excerpt of the operator's state that they need, and look-ups.
     ///
     /// # Errors
-    /// `BadLimit` where `rows` is out of range; `TooManyLeases` where an operator may take something and 64 turns are out or all numbers of turns were given;
-    /// `OutOfMemory`, where one may too. Then all is as it was.
+    /// `BadLimit` where `rows` is out of range; `TooManyLeases` where an operator may take
+    /// something and 64 turns are out or all numbers of turns were given; `OutOfMemory`, where one
+    /// may too. Then all is as it was.
     #[tactic(auto, using(crate::proofs::MachineLemmas::leases_keep_the_machine))]
     pub fn lease(&mut self, rows: u32) -> Result<Leased, Fault>
         ensures leases { Leases (engine_in self.old) rows result (engine_in self.new) }
@@ -31,12 +33,14 @@ impl Engine {
         self.state.lease(rows)
     }
 
-    /// A turn that was run comes back: its item leaves its queue, and what it put out goes on to the next operator, or from the root to what waits to be
-    /// taken.
+    /// A turn that was run comes back: its item leaves its queue, and what it put out goes on to
+    /// the next operator, or from the root to what waits to be taken.
     ///
     /// # Errors
-    /// `UnknownLease` where no turn of its number is out; `Stranger` where that has another operator, item or excerpt: then all is as it was.
-    /// `OutOfMemory`: then its query is broken. All turns of that end, and none of its operators is ready again; what waits can be taken still.
+    /// `UnknownLease` where no turn of its number is out; `Stranger` where that has another
+    /// operator, item or excerpt: then all is as it was. `OutOfMemory`: then its query is broken.
+    /// All turns of that end, and none of its operators is ready again; what waits can be taken
+    /// still.
     #[tactic(auto, using(crate::proofs::MachineLemmas::finishes_keep_the_machine))]
     pub fn finish(&mut self, done: Done) -> Result<(), Fault>
         ensures finishes { Finishes (engine_in self.old) done result (engine_in self.new) }

@@ -51,7 +51,8 @@ impl State {
         }
     }
 
-    /// Runs one turn of at most `rows` rows of an operator of greatest slope, if any may take something.
+    /// Runs one turn of at most `rows` rows of an operator of greatest slope, if any may take
+    /// something.
     fn run_first(&mut self, rows: u32) -> Result<bool, Fault>
         requires sound { IsSound self.old }
         requires accepted { drain_fault rows ≡ None }
@@ -68,7 +69,8 @@ impl State {
         Ok(true)
     }
 
-    /// Runs a turn of the first slot, and its query takes it at once: nobody can see the turn meanwhile, so no copy of it is kept.
+    /// Runs a turn of the first slot, and its query takes it at once: nobody can see the turn
+    /// meanwhile, so no copy of it is kept.
     ///
     /// Where memory is refused before the query takes it, all is as it was; else the query breaks.
     fn run_slot(&mut self, slot: &Slot, rows: usize) -> Result<(), AllocError>

@@ -68,7 +68,8 @@ impl State {
         Ok(())
     }
 
-    /// The slot of the operator that takes what this one puts out; none takes what the root does, which is the last.
+    /// The slot of the operator that takes what this one puts out; none takes what the root does,
+    /// which is the last.
     pub(crate) fn above(&self, query: u64, operator: usize) -> Option<Slot>
         requires here { HasOperatorAt (engine_in self.now) query operator }
         requires wired { HasWiredOperators (engine_in self.now) query }
@@ -117,7 +118,8 @@ impl State {
         self.slots.change(*slot, instant);
     }
 
-    /// The query runs no more: its turns end, its slots leave, and what waits can be taken still. Takes no memory.
+    /// The query runs no more: its turns end, its slots leave, and what waits can be taken still.
+    /// Takes no memory.
     fn break_query(&mut self, query: u64)
         requires { IsRunningAt (engine_in self.old) query }
         ensures engine { IsBroken (engine_in self.old) query (engine_in self.new) }

@@ -17,7 +17,8 @@ use std::alloc::AllocError;
 use turn::{Node, Turn};
 
 impl State {
-    /// Hands out a turn of at most `rows` rows of an operator of greatest slope, if any may take something.
+    /// Hands out a turn of at most `rows` rows of an operator of greatest slope, if any may take
+    /// something.
     pub(crate) fn lease(&mut self, rows: u32) -> Result<Leased, Fault>
         requires { IsSound self.old }
         ensures leases { Leases (engine_in self.old) rows result (engine_in self.new) }

@@ -78,7 +78,8 @@ impl State {
         self.leases.iter().any(|given| given.is_of(query, operator))
     }
 
-    /// The instant of what the operator may take next, if it may take anything and no turn of it is out.
+    /// The instant of what the operator may take next, if it may take anything and no turn of it is
+    /// out.
     pub(crate) fn instant(&self, query: u64, operator: usize) -> Option<u64>
         requires { HasOperatorAt (engine_in self.now) query operator }
         ensures { (q : Registered) (p : PlainQuery) → query_at (engine_in self.now) query ≡ Some q → kept_at (engine_in self.now) query ≡ Running p → result ≡ instant_at (engine_in self.now) query q p operator }

@@ -101,7 +101,8 @@ impl State {
         }
     }
 
-    /// How much waits in each queue of a query that is there; in those of a broken one nothing does.
+    /// How much waits in each queue of a query that is there; in those of a broken one nothing
+    /// does.
     fn lengths(&self, query: u64) -> Result<Vec<u128>, AllocError>
         requires sound { IsSound self.now }
         requires accepted { first_fault (engine_in self.now).machine (Drop query) ≡ None }
@@ -168,7 +169,8 @@ impl State {
     }
 }
 
-/// The first answers that wait, at most `limit`; of a broken query of which nothing waits that is said.
+/// The first answers that wait, at most `limit`; of a broken query of which nothing waits that is
+/// said.
 fn hand_out(alloc: Global, kept: &mut KeptQuery, limit: usize) -> Result<Vec<(i64, Row)>, Fault>
     requires { are_signed (answers_in (kept_of kept.old)) ≡ true }
     ensures { HandsOut (λ v. handed_of v.items) (kept_of kept.old) limit result (kept_of kept.new) }

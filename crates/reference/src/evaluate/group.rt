@@ -1,4 +1,5 @@
-//! Groups and their aggregates: nulls are one group, aggregates skip them, and without Group By all is one group.
+//! Groups and their aggregates: nulls are one group, aggregates skip them, and without Group By all
+//! is one group.
 ghost use Rattle.std.specs.Prelude.{◌≡◌, ℕ, ◌+◌, ◌≤◌, ◌<◌, ◌^◌, IfOk, length, map, ◌+ℤ◌};
 ghost use Rattle.std.specs.List.{filter, reduce};
 ghost use Rattle.std.specs.Option.{option_map};
@@ -46,7 +47,8 @@ pub(crate) fn members<'a>(
     Ok(chosen)
 }
 
-/// A running sum with one more value, exact in 128 bits; null is passed over, and before the first number there is none.
+/// A running sum with one more value, exact in 128 bits; null is passed over, and before the first
+/// number there is none.
 pub(crate) fn add(total: Option<i128>, value: Value) -> Option<i128>
     requires { IsWithin (2 ^ 126) total }
     ensures sum { result ≡ joined ◌+ℤ◌ total value }
@@ -170,7 +172,8 @@ pub(crate) fn group_row(items: &[ListItem], key: &Row, group: &[Vec<&Row>]) -> R
     row
 }
 
-/// One key for each group: without Group By the one key of no values, also where there is no combination.
+/// One key for each group: without Group By the one key of no values, also where there is no
+/// combination.
 pub(crate) fn keys_of(
     alloc: Global,
     by: &[Column],

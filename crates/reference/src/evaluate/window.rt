@@ -23,7 +23,8 @@ pub(crate) fn same_partition(columns: &[usize], a: &Row, b: &Row) -> bool
     columns.iter().all(|column| value_at(a, *column).cmp(&value_at(b, *column)).is_eq())
 }
 
-/// Whether the element at `j`, not above `at` and in the partition of the element at `i`, came later than that.
+/// Whether the element at `j`, not above `at` and in the partition of the element at `i`, came
+/// later than that.
 pub(crate) fn counts(columns: &[usize], at: u64, input: &[(u64, Row)], i: usize, j: usize) -> bool
     requires i_in { i < length input.now }
     requires j_in { j < length input.now }

@@ -58,14 +58,16 @@ pub fn are_columns(names: &[String]) -> bool
 }
 
 impl Plain {
-    /// The number of the stream of a name. Its time grows with the logarithm of how many streams there are.
+    /// The number of the stream of a name. Its time grows with the logarithm of how many streams
+    /// there are.
     pub(crate) fn stream_number(&self, name: &str) -> Option<usize>
         ensures { result ≡ stream_named (machine_in self.now) name.now }
     {
         self.stream_names.number(name)
     }
 
-    /// The number of the query of a name that was not dropped. Its time grows with the logarithm of how many there are.
+    /// The number of the query of a name that was not dropped. Its time grows with the logarithm of
+    /// how many there are.
     pub(crate) fn query_number(&self, name: &str) -> Option<usize>
         ensures { result ≡ query_named (machine_in self.now) name.now }
     {

@@ -28,7 +28,7 @@ use Rattle.operators.specs.Operators.{ready}
 use Rattle.column.specs.declared.batch.Side.{Side}
 use Rattle.leases.specs.Asked.{HasOperatorAt}
 use Rattle.reference.proofs.StepLemmas.{get_or-map}
-use Rattle.leases.specs.Readers.{HasSource, resting_slot, rests, rests_in, told, told_all, with_slots}
+use Rattle.leases.specs.Readers.{HasSource, idle_slot, is_idle_at, is_idle_in, with_update, with_updates, with_slots}
 use Rattle.leases.specs.Shown.{engine_in}
 use Rattle.leases.specs.Views.{kept_of, query_of}
 use Rattle.leases.specs.declared.kept.KeptQuery.{KeptQuery}
@@ -103,20 +103,20 @@ module _ (e : PlainEngine) (g : GoodEngine e) (n k : ℕ) (p : PlainQuery) (runn
   has_slot = (found.0, (found.1.0, is_operator.within))
 
 -- one that has nothing to take is there
-rests_running : (streams : List Stream) (k : ℕ) (kept : Kept) → rests_in streams k kept ≡ true → (p : PlainQuery) × ((kept ≡ Running p) × (k < length p.operators))
+rests_running : (streams : List Stream) (k : ℕ) (kept : Kept) → is_idle_in streams k kept ≡ true → (p : PlainQuery) × ((kept ≡ Running p) × (k < length p.operators))
 rests_running streams k (Running p) h = by_test (nat_lt k (length p.operators))
     (λ t. (p, (refl, ltb-true k (length p.operators) t)))
     (λ f. let bad : false ≡ true = rw f at h in absurd (cc))
 rests_running streams k (Broken answers) h = absurd (cc)
 rests_running streams k Dropped h = absurd (cc)
 
-pub resting_asked : (e : PlainEngine) → GoodEngine e → (n k : ℕ) → rests e n k ≡ true → HasOperatorAt e n k
+pub resting_asked : (e : PlainEngine) → GoodEngine e → (n k : ℕ) → is_idle_at e n k ≡ true → HasOperatorAt e n k
 resting_asked e g n k h =
     let r = rests_running e.machine.streams k (kept_at e n) h in
     let s = has_slot e g n k r.0 r.1.0 r.1.1 in
     has_operator_at e g n k s.0 r.0 s.1.0 r.1.0 s.1.1
 
-pub resting_comes : (e : PlainEngine) → GoodEngine e → (n k : ℕ) (x : Slot) → rests e n k ≡ true → ((q : Registered) (p : PlainQuery) → query_at e n ≡ Some q → kept_at e n ≡ Running p → x ≡ slot_at e n q p k) → resting_slot e n k ≡ x ∷ []
+pub resting_comes : (e : PlainEngine) → GoodEngine e → (n k : ℕ) (x : Slot) → is_idle_at e n k ≡ true → ((q : Registered) (p : PlainQuery) → query_at e n ≡ Some q → kept_at e n ≡ Running p → x ≡ slot_at e n q p k) → idle_slot e n k ≡ x ∷ []
 resting_comes e g n k x h is =
     let r = rests_running e.machine.streams k (kept_at e n) h in
     let s = has_slot e g n k r.0 r.1.0 r.1.1 in
@@ -127,7 +127,7 @@ none_by : (o : Option (Side × ℕ)) → option_map (λ z. z.1) o ≡ None → o
 none_by None h = refl
 none_by (Some z) h = absurd (cc)
 
-pub resting_rests : (e : PlainEngine) → GoodEngine e → (s n k : ℕ) → IsResting e s n k → rests e n k ≡ true
+pub resting_rests : (e : PlainEngine) → GoodEngine e → (s n k : ℕ) → IsResting e s n k → is_idle_at e n k ≡ true
 resting_rests e g s n k is =
     let found = runs_at e g n is.kept is.running in
     let same : found.0 ≡ is.query = some_query (sym found.1.0 ∙ is.registered) in
@@ -137,19 +137,19 @@ resting_rests e g s n k is =
     let log = (may_ask e g).logs n k is.query is.kept (record { registered = is.registered; running = is.running; within = is.within }) in
     let nothing : is_none (ready (operator_at is.kept.operators k) (log_of e.machine.streams is.kept k)) ≡ true =
     ap (λ x. is_none (ready (operator_at is.kept.operators k) x)) log ∙ ap is_none (none_by (ready (operator_at is.kept.operators k) (log_at e.machine is.query k)) is.empty) in
-    ap (rests_in e.machine.streams k) is.running ∙ ap₂ (λ a b. a && b) inside nothing
+    ap (is_idle_in e.machine.streams k) is.running ∙ ap₂ (λ a b. a && b) inside nothing
 
 pub kept_looked : (ks vs : List KeptQuery) (n : ℕ) (k : KeptQuery) → vs ≡ ks → true ≡ nat_lt n (length vs) → k ≡ get_or vs n k → get_or (map kept_of ks) n Dropped ≡ kept_of k
 kept_looked ks vs n k same within is = ap (λ z. get_or (map kept_of z) n Dropped) (sym same) ∙ get_or-map kept_of vs n k Dropped (ltb-true n (length vs) (sym within)) ∙ ap kept_of (sym is)
 
 -- TOLD: the next of the slots
-pub told_next : (e : PlainEngine) (ss : List Slot) (k : ℕ) (s : Slot) (slots : List Slot) → k < length ss → s ≡ get_or ss k s → told_all e (drop k ss) slots ≡ told_all e (drop (k + 1) ss) (told e s slots)
+pub told_next : (e : PlainEngine) (ss : List Slot) (k : ℕ) (s : Slot) (slots : List Slot) → k < length ss → s ≡ get_or ss k s → with_updates e (drop k ss) slots ≡ with_updates e (drop (k + 1) ss) (with_update e s slots)
 told_next e ss k s slots lt is =
     let one : suc k ≡ k + 1 = omega arith in
-    ap (λ z. told_all e z slots) (drop-cons ss k s lt ∙ ap (λ x. x ∷ drop (suc k) ss) (sym is) ∙ ap (λ i. s ∷ drop i ss) one)
+    ap (λ z. with_updates e z slots) (drop-cons ss k s lt ∙ ap (λ x. x ∷ drop (suc k) ss) (sym is) ∙ ap (λ i. s ∷ drop i ss) one)
 
-pub told_last : (e : PlainEngine) (ss : List Slot) (k : ℕ) (slots : List Slot) → length ss ≤ k → told_all e (drop k ss) slots ≡ slots
-told_last e ss k slots l = ap (λ z. told_all e z slots) (drop_all k ss l)
+pub told_last : (e : PlainEngine) (ss : List Slot) (k : ℕ) (slots : List Slot) → length ss ≤ k → with_updates e (drop k ss) slots ≡ slots
+told_last e ss k slots l = ap (λ z. with_updates e z slots) (drop_all k ss l)
 
 pub all_next : (P : Slot → Type 0) (ss : List Slot) (k : ℕ) (s : Slot) → k < length ss → s ≡ get_or ss k s → AllByRecursion P (drop k ss) → P s × AllByRecursion P (drop (k + 1) ss)
 all_next P ss k s lt is h =
@@ -163,5 +163,5 @@ asked_over s slots n k h =
     (h.0, (h.1.0, record { registered = is.registered; running = is.running; within = is.within; operator = is.operator; log = is.log }))
 
 -- the state after one slot more is told
-pub told_over : (s0 s s2 : State) (slot : Slot) → s ≡ with_slots s0 s.slots → s2 ≡ with_slots s (told (engine_in s) slot s.slots) → s2 ≡ with_slots s0 (told (engine_in s0) slot s.slots)
-told_over s0 s s2 slot same tells = tells ∙ ap (λ (z : State). with_slots z (told (engine_in z) slot s.slots)) same
+pub told_over : (s0 s s2 : State) (slot : Slot) → s ≡ with_slots s0 s.slots → s2 ≡ with_slots s (with_update (engine_in s) slot s.slots) → s2 ≡ with_slots s0 (with_update (engine_in s0) slot s.slots)
+told_over s0 s s2 slot same tells = tells ∙ ap (λ (z : State). with_slots z (with_update (engine_in z) slot s.slots)) same

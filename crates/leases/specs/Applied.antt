@@ -77,5 +77,5 @@ IsAbove e n k above =
 abbrev pub with_slot : PlainEngine → Slot → Registered → PlainQuery → PlainEngine
 with_slot e s q p = record e { slots = changed s (instant_at e s.query q p s.operator) e.slots }
 
-abbrev pub IsRetold : PlainEngine → Slot → PlainEngine → Type 0
-IsRetold old s new = (q : Registered) (p : PlainQuery) → query_at old s.query ≡ Some q → kept_at old s.query ≡ Running p → new ≡ with_slot old s q p
+abbrev pub IsUpdated : PlainEngine → Slot → PlainEngine → Type 0
+IsUpdated old s new = (q : Registered) (p : PlainQuery) → query_at old s.query ≡ Some q → kept_at old s.query ≡ Running p → new ≡ with_slot old s q p

@@ -47,20 +47,20 @@ readers_from n [] = []
 readers_from n (q ∷ qs) = cond q.is_dropped [] (windows_from q n 0 q.nodes) ++ readers_from (suc n) qs
 
 -- THE SLOTS of the readers of the stream s that have nothing to take
-abbrev pub rests_in : List Stream → ℕ → Kept → Bool
-rests_in streams k (Running p) = nat_lt k (length p.operators) && is_none (ready (operator_at p.operators k) (log_of streams p k))
-rests_in streams k (Broken answers) = false
-rests_in streams k Dropped = false
+abbrev pub is_idle_in : List Stream → ℕ → Kept → Bool
+is_idle_in streams k (Running p) = nat_lt k (length p.operators) && is_none (ready (operator_at p.operators k) (log_of streams p k))
+is_idle_in streams k (Broken answers) = false
+is_idle_in streams k Dropped = false
 
-abbrev pub rests : PlainEngine → ℕ → ℕ → Bool
-rests e n k = rests_in e.machine.streams k (kept_at e n)
+abbrev pub is_idle_at : PlainEngine → ℕ → ℕ → Bool
+is_idle_at e n k = is_idle_in e.machine.streams k (kept_at e n)
 
-abbrev pub resting_slot : PlainEngine → ℕ → ℕ → List Slot
-resting_slot e n k = cond (rests e n k) (option_to_list (slot_of e n k)) []
+abbrev pub idle_slot : PlainEngine → ℕ → ℕ → List Slot
+idle_slot e n k = cond (is_idle_at e n k) (option_to_list (slot_of e n k)) []
 
-abbrev pub resting_slots : PlainEngine → ℕ → List Reader → List Slot
-resting_slots e s [] = []
-resting_slots e s (r ∷ rs) = cond (r.stream == s) (resting_slot e r.query r.operator) [] ++ resting_slots e s rs
+abbrev pub idle_slots : PlainEngine → ℕ → List Reader → List Slot
+idle_slots e s [] = []
+idle_slots e s (r ∷ rs) = cond (r.stream == s) (idle_slot e r.query r.operator) [] ++ idle_slots e s rs
 
 -- WHAT AN OPERATOR MAY TAKE, by its number
 abbrev pub instant_in : PlainEngine → ℕ → ℕ → Option Registered → Kept → Option ℕ
@@ -72,14 +72,14 @@ instant_in e n k (Some q) Dropped = None
 abbrev pub instant_of : PlainEngine → ℕ → ℕ → Option ℕ
 instant_of e n k = instant_in e n k (query_at e n) (kept_at e n)
 
--- its slot is told that
-abbrev pub told : PlainEngine → Slot → List Slot → List Slot
-told e s slots = changed s (instant_of e s.query s.operator) slots
+-- its slot gets that
+abbrev pub with_update : PlainEngine → Slot → List Slot → List Slot
+with_update e s slots = changed s (instant_of e s.query s.operator) slots
 
 -- and one slot after the other
-abbrev pub told_all : PlainEngine → List Slot → List Slot → List Slot
-told_all e [] slots = slots
-told_all e (s ∷ ss) slots = told_all e ss (told e s slots)
+abbrev pub with_updates : PlainEngine → List Slot → List Slot → List Slot
+with_updates e [] slots = slots
+with_updates e (s ∷ ss) slots = with_updates e ss (with_update e s slots)
 
 -- only the slots are others
 abbrev pub with_slots : State → List Slot → State

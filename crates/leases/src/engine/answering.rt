@@ -111,11 +111,13 @@ impl Answering for Engine {
         self.state.slopes(query)
     }
 
+    #[tactic(auto, unfolding(reference::specs::World::stream_named))]
     fn stream_named(&self, name: &str) -> Option<u64> {
-        self.state.stream_named(name)
+        self.state.streams.named(name)
     }
 
+    #[tactic(auto, unfolding(reference::specs::World::query_named))]
     fn query_named(&self, name: &str) -> Option<u64> {
-        self.state.query_named(name)
+        self.state.query_number(name).map(|number| number as u64)
     }
 }

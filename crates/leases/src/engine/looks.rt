@@ -29,7 +29,7 @@ impl Engine {
     pub fn leases_out(&self) -> usize
         ensures { result ≡ length (engine_in self.now).leases }
     {
-        self.state.leases_out()
+        self.state.leases.len()
     }
 
     /// How many answers of the query of a number wait. They stand behind those that were taken, and all together are a beginning of CQL's answers. Takes no

@@ -6,8 +6,9 @@ ghost use Rattle.turn.specs.Finished.{IsDone};
 ghost use Rattle.reference.specs.declared.fault.Fault.TheVariants.{OutOfMemory};
 ghost use Rattle.laws_queries.specs.Queries.{PlainQuery};
 ghost use Rattle.laws_engine.specs.Engines.{Broken, Running};
-ghost use Rattle.leases.specs.Applied.{GivesNothing, HasApplied, HasWiredOperators, IsAbove, IsApplied, IsBroken, IsOutIn, IsRetold, IsTurn, MayApply, MayApplyIn, without_turn};
+ghost use Rattle.leases.specs.Applied.{GivesNothing, HasApplied, HasWiredOperators, IsAbove, IsApplied, IsBroken, IsOutIn, IsTurn, IsUpdated, MayApply, MayApplyIn, without_turn};
 ghost use Rattle.leases.specs.Asked.{HasOperatorAt, IsRunningAt};
+ghost use Rattle.leases.specs.Readers.{with_slots, with_update};
 ghost use Rattle.leases.specs.Shown.{engine_in};
 ghost use Rattle.leases.specs.Sound.{IsSound};
 ghost use Rattle.leases.specs.Turns.{Finishes};
@@ -61,9 +62,9 @@ impl State {
         let above = self.above(query, operator);
         self.apply(parts)?;
         self.end_turn(lease);
-        self.retell_slot(&slot);
+        self.update_slot(&slot);
         if let Some(above) = &above {
-            self.retell_slot(above);
+            self.update_slot(above);
         }
         Ok(())
     }
@@ -107,10 +108,11 @@ impl State {
         self.leases.retain(|given| given.number != lease);
     }
 
-    /// The slot's operator has something else to take, or nothing.
-    pub(crate) fn retell_slot(&mut self, slot: &Slot)
+    /// Gives the slot the instant of what its operator may take next, or none.
+    pub(crate) fn update_slot(&mut self, slot: &Slot)
         requires { HasOperatorAt (engine_in self.old) slot.now.query slot.now.operator }
-        ensures slot { IsRetold (engine_in self.old) slot.now (engine_in self.new) }
+        ensures state { self.new ≡ with_slots self.old (with_update (engine_in self.old) slot.now self.old.slots) }
+        ensures slot { IsUpdated (engine_in self.old) slot.now (engine_in self.new) }
         ensures rest { GivesNothing self.old self.new }
     {
         let instant = self.instant(slot.query(), slot.operator());

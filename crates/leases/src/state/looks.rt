@@ -53,13 +53,6 @@ impl State {
         }
     }
 
-    /// How many turns are out.
-    pub(crate) fn leases_out(&self) -> usize
-        ensures { result ≡ length (engine_in self.now).leases }
-    {
-        self.leases.len()
-    }
-
     /// The running query of a number.
     pub(crate) fn running(&self, query: u64) -> &RunningQuery
         requires { IsRunningAt (engine_in self.now) query }

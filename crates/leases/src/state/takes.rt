@@ -10,7 +10,7 @@ ghost use Rattle.reference.specs.Inputs.{are_signed};
 ghost use Rattle.reference.specs.Machine as machine;
 ghost use Rattle.reference.specs.Machine.{Registered};
 ghost use Rattle.reference.specs.Told.{IsTold};
-ghost use Rattle.reference.specs.World.{Looks, operators_of, query_named, slopes_at, stream_named};
+ghost use Rattle.reference.specs.World.{Looks, operators_of, slopes_at};
 ghost use Rattle.query_runtime.specs.Turns.{HasOperator, log_of};
 ghost use Rattle.laws_engine.specs.Engines.{answers_in, kept_at, query_at};
 ghost use Rattle.leases.specs.Looks.{IsPending, WaitsAt, lengths_from, lengths_in, noughts_of, queues_of};
@@ -140,23 +140,6 @@ impl State {
             Some(registered) if !registered.is_dropped => Some(registered),
             _ => None,
         }
-    }
-
-    /// The number of the stream of a name.
-    #[tactic(auto, unfolding(reference::specs::World::stream_named))]
-    pub(crate) fn stream_named(&self, name: &str) -> Option<u64>
-        ensures { result ≡ stream_named (world_in self.now) name.now }
-    {
-        self.streams.named(name)
-    }
-
-    /// The number of the query of a name that was not dropped.
-    #[tactic(auto, unfolding(reference::specs::World::query_named))]
-    pub(crate) fn query_named(&self, name: &str) -> Option<u64>
-        requires { IsSound self.now }
-        ensures { result ≡ query_named (world_in self.now) name.now }
-    {
-        self.query_number(name).map(|number| number as u64)
     }
 
     /// The number of the query of a name that was not dropped.

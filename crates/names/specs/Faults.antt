@@ -3,6 +3,7 @@ use Rattle.std.specs.Prelude.{ℕ, ◌-◌, ◌==◌, Bool, true, false, not, �
 use Rattle.std.specs.List.{list_any, flat_map, range_with_len}
 use Rattle.std.specs.Option.{is_none}
 use Rattle.std.specs.Str.{bytes_eq}
+use Rattle.values.specs.declared.TheConstants.{MAX_COLUMNS}
 use Rattle.values.specs.Condition.{Column, Condition}
 use Rattle.cql_reader.specs.Query as syntax
 use Rattle.names.specs.Catalog.{Stream, number_in}
@@ -86,13 +87,11 @@ has_outside ts by entries = is_all entries || list_any (is_outside ts by) (entry
 abbrev pub is_ungrouped : List Table → syntax.Query → Bool
 is_ungrouped ts q = is_grouped q && has_outside ts (map (column_of ts) q.group) q.entries
 
--- the most items, Group By columns, and Partition By columns
-abbrev pub most : ℕ
-most = 16
-
+-- there are more items, Group By columns or Partition By columns than a row may have
 abbrev pub is_wide : syntax.Query → Bool
 is_wide q =
-    nat_lt most (length (entry_list q.entries)) || (nat_lt most (length q.group) || list_any (λ s. nat_lt most (length (partition_of s.window))) q.sources)
+    nat_lt MAX_COLUMNS (length (entry_list q.entries))
+    || (nat_lt MAX_COLUMNS (length q.group) || list_any (λ s. nat_lt MAX_COLUMNS (length (partition_of s.window))) q.sources)
 
 -- the tests, in their order
 abbrev pub fault_tests : syntax.Query → List Stream → List (Bool × Fault)

@@ -247,9 +247,9 @@ pub(crate) fn is_ungrouped(tables: &[Table], by: &[Column], query: &Query) -> bo
     is_grouped(query) && has_outside(tables, by, &query.entries)
 }
 
-/// Whether a source's Partition By has more than 16 columns.
+/// Whether a source's Partition By has more than `MAX_COLUMNS`.
 fn is_wide_source(source: &Source) -> bool
-    ensures { result ≡ nat_lt 16 (length (faults.partition_of (syntax.source_of source.now).window)) }
+    ensures { result ≡ nat_lt MAX_COLUMNS (length (faults.partition_of (syntax.source_of source.now).window)) }
 {
     match &source.window {
         Window::Partition(by, _) => by.len() > MAX_COLUMNS,
@@ -257,9 +257,9 @@ fn is_wide_source(source: &Source) -> bool
     }
 }
 
-/// Whether a Partition By has more than 16 columns.
+/// Whether a Partition By has more than `MAX_COLUMNS`.
 fn has_wide_source(sources: &[Source]) -> bool
-    ensures { result ≡ list_any (λ s. nat_lt 16 (length (faults.partition_of (syntax.source_of s).window))) sources.now }
+    ensures { result ≡ list_any (λ s. nat_lt MAX_COLUMNS (length (faults.partition_of (syntax.source_of s).window))) sources.now }
 {
     sources.iter().any(|source| is_wide_source(source))
 }
@@ -271,7 +271,7 @@ fn item_count(entries: &Entries) -> usize
     entry_list(entries).len()
 }
 
-/// Whether there are more than 16 items, Group By columns or Partition By columns.
+/// Whether there are more than `MAX_COLUMNS` items, Group By columns or Partition By columns.
 pub(crate) fn is_wide(query: &Query) -> bool
     ensures { result ≡ faults.is_wide (syntax.query_of query.now) }
 {

@@ -23,7 +23,7 @@ pub enum ResolveFault {
     NoJoinKey,
     /// In a grouped query the list is `*`, or has a column that Group By does not have.
     NotGrouped,
-    /// More than 16 items, Group By columns or Partition By columns.
+    /// More than `MAX_COLUMNS` items, Group By columns or Partition By columns.
     TooWide,
 }
 

@@ -12,6 +12,7 @@ ghost use Rattle.names.specs.Told.{Told, Refuses};
 ghost use Rattle.names.specs.Matches as matches;
 ghost use Rattle.names.specs.Views as views;
 ghost use Rattle.names.specs.Views.{owns_of, conditions_of};
+ghost use Rattle.values.specs.declared.TheConstants.{MAX_COLUMNS};
 
 use crate::condition::resolve_where;
 use crate::entries::{columns_of, is_ungrouped, is_wide, shape_of};
@@ -65,7 +66,7 @@ pub fn resolve(alloc: Global, query: &Query, catalog: &Catalog) -> Result<Named,
     ensures counts { IfOk result (λ n. length n.meaning.windows.items ≡ length query.now.sources.items) }
     ensures streams_count { IfOk result (λ n. length n.streams.items ≡ length query.now.sources.items) }
     ensures widths_count { IfOk result (λ n. length n.widths.items ≡ length query.now.sources.items) }
-    ensures narrow { IfOk result (λ n. sum n.widths.items ≤ 16 → has_narrow_rows n.meaning.shape ≡ true) }
+    ensures narrow { IfOk result (λ n. sum n.widths.items ≤ MAX_COLUMNS → has_narrow_rows n.meaning.shape ≡ true) }
     ensures few { IfOk result (λ n. (most : ℕ) → AllByRecursion (λ s. length s.columns ≤ most) catalog.now
         → sum n.widths.items ≤ most * length query.now.sources.items) }
     ensures slides { IfOk result (λ n. all_slide n.meaning.windows.items ≡ true) }

@@ -371,12 +371,13 @@ impl Model for Cell {
     ghost use Rattle.std.specs.Prelude.{◌≤◌, length, IfSome};
     ghost use Rattle.std.specs.Option.{option_map};
     ghost use Rattle.group.specs.Cells.{CellState as State, held};
+    ghost use Rattle.values.specs.declared.TheConstants.{MAX_COLUMNS};
 
     ghost Value = { State };
 
     ghost view = { λ c. record { rows = c.rows; tallies = c.tallies.items; shown = option_map (λ values. held values.items) c.shown } };
 
-    ghost invariant = { λ c. IfSome c.shown (λ values. length values.items ≤ 16) };
+    ghost invariant = { λ c. IfSome c.shown (λ values. length values.items ≤ MAX_COLUMNS) };
 }
 
 /// A row enters or leaves: each tally takes it.

@@ -21,7 +21,7 @@ pub(crate) enum HeldCells {
     Two(Keyed<2>),
     Four(Keyed<4>),
     Eight(Keyed<8>),
-    Sixteen(Keyed<16>),
+    Widest(Keyed<MAX_COLUMNS>),
 }
 
 impl HeldCells {
@@ -35,7 +35,7 @@ impl HeldCells {
             0..=2 => HeldCells::Two(Keyed::new(alloc)),
             3..=4 => HeldCells::Four(Keyed::new(alloc)),
             5..=8 => HeldCells::Eight(Keyed::new(alloc)),
-            _ => HeldCells::Sixteen(Keyed::new(alloc)),
+            _ => HeldCells::Widest(Keyed::new(alloc)),
         }
     }
 
@@ -47,19 +47,19 @@ impl HeldCells {
             HeldCells::Two(_) => 2,
             HeldCells::Four(_) => 4,
             HeldCells::Eight(_) => 8,
-            HeldCells::Sixteen(_) => MAX_COLUMNS,
+            HeldCells::Widest(_) => MAX_COLUMNS,
         }
     }
 
     /// All groups with the greatest room. After an error some may be lost.
-    fn widened(&mut self, alloc: Global) -> Result<Keyed<16>, AllocError>
+    fn widened(&mut self, alloc: Global) -> Result<Keyed<MAX_COLUMNS>, AllocError>
         ensures { IfOk result (λ wider. wider ≡ cells_in self.old) }
     {
         match self {
             HeldCells::Two(keyed) => keyed.widened(alloc),
             HeldCells::Four(keyed) => keyed.widened(alloc),
             HeldCells::Eight(keyed) => keyed.widened(alloc),
-            HeldCells::Sixteen(keyed) => keyed.widened(alloc),
+            HeldCells::Widest(keyed) => keyed.widened(alloc),
         }
     }
 
@@ -71,7 +71,7 @@ impl HeldCells {
         ensures room { OnOk result (width ≤ room_of self.new) }
     {
         if self.room() < width {
-            *self = HeldCells::Sixteen(self.widened(alloc)?);
+            *self = HeldCells::Widest(self.widened(alloc)?);
         }
         Ok(())
     }
@@ -93,7 +93,7 @@ impl HeldCells {
             HeldCells::Two(keyed) => keyed.take_in(alloc, items, key, row),
             HeldCells::Four(keyed) => keyed.take_in(alloc, items, key, row),
             HeldCells::Eight(keyed) => keyed.take_in(alloc, items, key, row),
-            HeldCells::Sixteen(keyed) => keyed.take_in(alloc, items, key, row),
+            HeldCells::Widest(keyed) => keyed.take_in(alloc, items, key, row),
         }
     }
 
@@ -114,7 +114,7 @@ impl HeldCells {
             HeldCells::Two(keyed) => keyed.take_batch_in(alloc, items, key, batch),
             HeldCells::Four(keyed) => keyed.take_batch_in(alloc, items, key, batch),
             HeldCells::Eight(keyed) => keyed.take_batch_in(alloc, items, key, batch),
-            HeldCells::Sixteen(keyed) => keyed.take_batch_in(alloc, items, key, batch),
+            HeldCells::Widest(keyed) => keyed.take_batch_in(alloc, items, key, batch),
         }
     }
 
@@ -133,7 +133,7 @@ impl HeldCells {
             HeldCells::Two(keyed) => keyed.show_in(alloc, count, key, row),
             HeldCells::Four(keyed) => keyed.show_in(alloc, count, key, row),
             HeldCells::Eight(keyed) => keyed.show_in(alloc, count, key, row),
-            HeldCells::Sixteen(keyed) => keyed.show_in(alloc, count, key, row),
+            HeldCells::Widest(keyed) => keyed.show_in(alloc, count, key, row),
         }
     }
 
@@ -145,7 +145,7 @@ impl HeldCells {
             HeldCells::Two(keyed) => keyed.remove(key),
             HeldCells::Four(keyed) => keyed.remove(key),
             HeldCells::Eight(keyed) => keyed.remove(key),
-            HeldCells::Sixteen(keyed) => keyed.remove(key),
+            HeldCells::Widest(keyed) => keyed.remove(key),
         }
     }
 
@@ -156,14 +156,14 @@ impl HeldCells {
         items: &[ListItem],
         key: &Row,
     ) -> Result<Touched, AllocError>
-        requires { length items.now ≤ 16 }
+        requires { length items.now ≤ MAX_COLUMNS }
         ensures { IfOk result (λ t. t ≡ excerpt items.now key.now (cell_of (length items.now) key.now (cells_in self.now))) }
     {
         match self {
             HeldCells::Two(keyed) => keyed.excerpt_at(alloc, items, key),
             HeldCells::Four(keyed) => keyed.excerpt_at(alloc, items, key),
             HeldCells::Eight(keyed) => keyed.excerpt_at(alloc, items, key),
-            HeldCells::Sixteen(keyed) => keyed.excerpt_at(alloc, items, key),
+            HeldCells::Widest(keyed) => keyed.excerpt_at(alloc, items, key),
         }
     }
 }

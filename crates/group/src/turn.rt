@@ -7,6 +7,7 @@ ghost use Rattle.op_queue.specs.Entries.{RowAt, TickAt};
 ghost use Rattle.op_queue.specs.Items.{entries_of};
 ghost use Rattle.group.specs.Cells.{held, shown_figure};
 ghost use Rattle.group.specs.Turns.{row_now, swap_of, signed_row, same_shown, outputs, out, change, shown_now};
+ghost use Rattle.values.specs.declared.TheConstants.{MAX_COLUMNS};
 
 use crate::cells::Figure;
 use crate::rows::fitted;
@@ -32,12 +33,13 @@ pub(crate) struct Touched {
 impl Model for Touched {
     ghost use Rattle.std.specs.Prelude.{◌≤◌, length};
     ghost use Rattle.group.specs.Turns.{TouchedState as State};
+    ghost use Rattle.values.specs.declared.TheConstants.{MAX_COLUMNS};
 
     ghost Value = { State };
 
     ghost view = { λ t. record { key = t.key; shown = t.shown; rows = t.rows; figures = t.figures.items } };
 
-    ghost invariant = { λ t. length t.figures.items ≤ 16 };
+    ghost invariant = { λ t. length t.figures.items ≤ MAX_COLUMNS };
 }
 
 /// The excerpt of a turn: each touched group where the item is a tick, else none.
@@ -108,7 +110,7 @@ impl Change {
 }
 
 fn row_of(figures: &[Figure]) -> Row
-    requires { length figures.now ≤ 16 }
+    requires { length figures.now ≤ MAX_COLUMNS }
     ensures { result ≡ held (map shown_figure figures.now) }
 {
     let mut row = Row::new();
@@ -148,7 +150,7 @@ fn push_row(
     enters: bool,
     row: &Option<Row>,
 ) -> Result<(), AllocError>
-    requires { width ≤ 16 }
+    requires { width ≤ MAX_COLUMNS }
     ensures { OnOk result (map signed rows.new.items ≡ map signed rows.old.items ++ signed_row enters width row.now) }
 {
     match row {
@@ -170,7 +172,7 @@ fn push_swap(
     old: &Option<Row>,
     now: &Option<Row>,
 ) -> Result<(), AllocError>
-    requires { width ≤ 16 }
+    requires { width ≤ MAX_COLUMNS }
     ensures { OnOk result (map signed rows.new.items ≡ map signed rows.old.items ++ swap_of width old.now now.now) }
 {
     if same_shown(old, now) {

@@ -20,7 +20,7 @@ pub enum PlanFault {
     NoJoinKey,
     /// In a grouped query the list is `*`, or has a column that Group By does not have.
     NotGrouped,
-    /// More than 16 items, Group By columns or Partition By columns.
+    /// More than `MAX_COLUMNS` items, Group By columns or Partition By columns.
     TooWide,
     /// A chart of another length than the plan, a cost or size out of range, or a root size that is not 0.
     BadChart,

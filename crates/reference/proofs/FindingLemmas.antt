@@ -68,9 +68,9 @@ few_widths catalog (s ∷ sources) h =
     let both = sum_by-cons (λ (n : ℕ). n) (length (columns_in catalog s.stream)) (map (λ t. length t.columns) (tables catalog sources)) in
     omega (arith, more, one, both)
 
--- a query of at most two sources over them has rows of at most 16 values
+-- a query of at most two sources over them has rows of at most MAX_COLUMNS values
 pub narrow : (catalog : List catalogs.Stream) (query : Query) → IsWellFormed (query_of query) → AreNarrow catalog
-    → sum (widths (query_of query) catalog) ≤ 16
+    → sum (widths (query_of query) catalog) ≤ MAX_COLUMNS
 narrow catalog query good h =
     let few = few_widths catalog (map source_of query.sources.items) h in
     omega (arith, few, good.few_sources, length-map query.sources.items source_of)

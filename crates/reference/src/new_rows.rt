@@ -5,6 +5,7 @@ ghost use Rattle.reference.specs.NewRows.{rows_in};
 ghost use Rattle.reference.specs.Commands.{is_stream_value, is_instant};
 ghost use Rattle.reference.specs.Appended.{can_be_kept, kept_of, instants_of, values_of};
 ghost use Rattle.reference.specs.Views.{pairs_of};
+ghost use Rattle.values.specs.declared.TheConstants.{MAX_COLUMNS};
 
 use crate::limits::MAX_INSTANT;
 use std::alloc::{AllocError, Global};
@@ -187,7 +188,7 @@ fn value_of(value: Option<i64>) -> Value
 }
 
 fn row_of(values: &[Option<i64>]) -> Row
-    requires few { length values.now ≤ 16 }
+    requires few { length values.now ≤ MAX_COLUMNS }
     requires in_range { list_all is_stream_value values.now ≡ true }
     ensures { result.items ≡ values.now }
 {

@@ -23,4 +23,4 @@ pub use lines::Lines;
 pub use read::{next_request, read_request};
 pub use reply::{Reply, write_reply};
 pub use request::{Request, WireFault};
-pub use script::run_script;
+pub use script::{answer, run_script};

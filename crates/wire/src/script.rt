@@ -81,8 +81,8 @@ fn show_plan<E: Answering>(engine: &E, query: &str) -> Reply
     }
 }
 
-/// Runs a request, where a turn has at most so many rows.
-fn answer<E: Answering>(engine: &mut E, request: &Request, rows: u32) -> Reply
+/// Runs a request on an engine. A drain's turns have at most `rows` rows, 1 to 1,024.
+pub fn answer<E: Answering>(engine: &mut E, request: &Request, rows: u32) -> Reply
     requires rows { 0 < rows × rows ≤ 1024 }
     ensures replies { E.is_whole engine.old → Replies (E.world engine.old) (Ok (call_of request.now)) (answer_of result) (E.world engine.new) }
     ensures whole { E.is_whole engine.old → is_scarce_reply (Ok (call_of request.now)) (answer_of result) ≡ false → E.is_whole engine.new }

@@ -1,0 +1,97 @@
+"""Runs each script with the first growth refused, then with the second, and so on until a run meets no refusal."""
+
+import json
+import os
+import subprocess
+import sys
+from collections import Counter, defaultdict
+from concurrent.futures import ThreadPoolExecutor
+
+SEPARATOR = "\x1e\n"
+BROKEN = {"error": "E15 Broken"}
+
+
+def ran(program, script, refuse, number):
+    """The replies, or None where the run ended before the first; and whether a growth was refused."""
+    environment = {**os.environ, "LD_PRELOAD": refuse, "REFUSE_AT": str(number)}
+    run = subprocess.run([program], input=script, env=environment, capture_output=True, text=True, timeout=60)
+    was_refused = "refused\n" in run.stderr
+    if run.returncode != 0 and run.stdout == "":
+        return None, was_refused
+    assert run.returncode == 0, f"status {run.returncode}: {run.stdout[-200:]}"
+    return [json.loads(line) for line in run.stdout.splitlines()], was_refused
+
+
+def broken_query(requests, wanted, replies):
+    """The query that is broken and how many answers it gave, or None where none was asked again."""
+    assert len(replies) == len(wanted), "replies are missing"
+    broken, differ, all_rows, rows = set(), set(), defaultdict(list), defaultdict(list)
+    for request, want, reply in zip(requests, wanted, replies):
+        if request["op"] != "take" or "error" in want:
+            assert reply == want, f"{request} is answered {reply}"
+            continue
+        name = request["query"]
+        if reply != want:
+            differ.add(name)
+        if reply == BROKEN:
+            broken.add(name)
+            continue
+        assert name not in broken, f"{name} is broken and hands out {reply}"
+        all_rows[name] += want["rows"]
+        rows[name] += reply["rows"]
+    for name in differ:
+        assert rows[name] == all_rows[name][: len(rows[name])], f"{name} hands out {rows[name]}"
+    assert len(broken | differ) <= 1, f"{broken | differ} are broken"
+    return next(((name, len(rows[name])) for name in broken), None)
+
+
+def runs(program, refuse, script):
+    """The replies of each run, from the first growth refused to the run that meets no refusal, some at a time."""
+    number = 1
+    with ThreadPoolExecutor(os.cpu_count()) as pool:
+        while True:
+            some = range(number, number + 16 * os.cpu_count())
+            for replies, was_refused in pool.map(lambda it: ran(program, script, refuse, it), some):
+                yield replies, was_refused
+                if not was_refused:
+                    return
+            number = some.stop
+
+
+def sweep(program, refuse, script, wanted):
+    """The growths refused, those at the start, and which queries were broken after how many answers, by turns and by drains."""
+    requests = [json.loads(line) for line in script.splitlines()]
+    refused, at_start, ends = 0, 0, [Counter(), Counter()]
+    for replies, was_refused in runs(program, refuse, script):
+        if not was_refused:
+            assert replies == wanted * 2
+            continue
+        refused += 1
+        if replies is None:
+            at_start += 1
+            continue
+        assert len(replies) == 2 * len(wanted), f"growth {refused}: {len(replies)} replies"
+        for way, part in enumerate((replies[: len(wanted)], replies[len(wanted) :])):
+            if end := broken_query(requests, wanted, part):
+                ends[way][end] += 1
+    return refused, at_start, ends
+
+
+def main(program, refuse, stdin, stdout):
+    with open(stdin) as file:
+        scripts = file.read().split(SEPARATOR)
+    with open(stdout) as file:
+        replies = [json.loads(line) for line in file]
+    first = 0
+    for script in scripts:
+        count = len(script.splitlines())
+        wanted, first = replies[first : first + count], first + count
+        refused, at_start, (by_turns, by_drains) = sweep(program, refuse, script, wanted)
+        print(f"{count} requests: {refused} growths refused in turn, {at_start} of them at the start")
+        for way, ends in ("turns", by_turns), ("drains", by_drains):
+            told = ", ".join(f"{name} after {rows} answers: {times}" for (name, rows), times in sorted(ends.items()))
+            print(f"  by {way}, broken {told or 'none'}", flush=True)
+
+
+if __name__ == "__main__":
+    main(*sys.argv[1:])

@@ -1,0 +1,121 @@
+//! What an engine shows.
+
+use crate::stop::Stop;
+use envelope::Slope;
+use leases::Engine;
+use plan::Kind;
+use reference::{Answering, Fault};
+use std::alloc::{AllocError, Global};
+
+/// The numerator and the denominator of each slope.
+fn slopes_in(alloc: Global, slopes: &[(Kind, Slope)]) -> Result<Vec<u64>, AllocError> {
+    let mut numbers = Vec::new(alloc);
+    for (_, slope) in slopes {
+        let (numerator, denominator) = slope.parts();
+        numbers.push(numerator)?;
+        numbers.push(denominator)?;
+    }
+    Ok(numbers)
+}
+
+/// What a query shows: how much waits for a take, its slopes, and how much is in each of its queues.
+#[derive(Drop)]
+pub(crate) struct Shown {
+    waiting: Option<usize>,
+    slopes: Vec<u64>,
+    queues: Vec<u128>,
+}
+
+impl Shown {
+    /// What an engine shows of a query, which may have been dropped.
+    fn of(alloc: Global, engine: &Engine, query: u64) -> Result<Shown, Fault> {
+        let (mut slopes, mut queues) = (Vec::new(alloc), Vec::new(alloc));
+        let waiting = engine.waiting(query).ok();
+        if waiting.is_some() {
+            slopes = slopes_in(alloc, engine.slopes(query)?.as_slice())?;
+            queues = engine.pending(query)?;
+        }
+        Ok(Shown {
+            waiting,
+            slopes,
+            queues,
+        })
+    }
+
+    /// Whether the query shows the same but for its queues, and has as many of these.
+    fn is_like(&self, other: &Shown) -> bool {
+        self.waiting == other.waiting
+            && self.slopes.as_slice() == other.slopes.as_slice()
+            && self.queues.len() == other.queues.len()
+    }
+
+    /// Whether the query shows the same.
+    fn is_same(&self, other: &Shown) -> bool {
+        self.is_like(other) && self.queues.as_slice() == other.queues.as_slice()
+    }
+
+    /// Whether nothing is in its queues.
+    pub(crate) fn is_idle(&self) -> bool {
+        self.queues.iter().all(|length| *length == 0)
+    }
+}
+
+/// What an engine shows: how many turns are out, and its queries.
+#[derive(Drop)]
+pub(crate) struct Look {
+    out: usize,
+    pub(crate) queries: Vec<Shown>,
+}
+
+impl Look {
+    /// A look at an engine at which so many queries were registered.
+    fn once(alloc: Global, engine: &Engine, registered: u64) -> Result<Look, Fault> {
+        let mut queries = Vec::new(alloc);
+        for query in 0..registered {
+            let shown = Shown::of(alloc, engine, query)?;
+            if queries.push(shown).is_err() {
+                return Err(Fault::OutOfMemory);
+            }
+        }
+        let out = engine.leases_out();
+        Ok(Look { out, queries })
+    }
+
+    /// A look, once more where memory was refused for it.
+    pub(crate) fn at(alloc: Global, engine: &Engine, registered: u64) -> Result<Look, Stop> {
+        if let Ok(look) = Look::once(alloc, engine, registered) {
+            return Ok(look);
+        }
+        Ok(Look::once(alloc, engine, registered)?)
+    }
+
+    /// Whether the engine shows the same.
+    pub(crate) fn is_same(&self, after: &Look) -> bool {
+        self.out == after.out
+            && self.queries.len() == after.queries.len()
+            && self
+                .queries
+                .iter()
+                .zip(after.queries.iter())
+                .all(|(a, b)| a.is_same(b))
+    }
+
+    /// Whether the engine shows the same afterwards, but that one query is broken and its turn is out no longer.
+    pub(crate) fn breaks(&self, after: &Look, broken: u64) -> bool {
+        if self.queries.len() != after.queries.len() || after.out.checked_add(1) != Some(self.out) {
+            return false;
+        }
+        let pairs = self.queries.iter().zip(after.queries.iter());
+        for (number, (a, b)) in pairs.enumerate() {
+            let is_right = if number as u64 == broken {
+                a.is_like(b) && b.is_idle()
+            } else {
+                a.is_same(b)
+            };
+            if !is_right {
+                return false;
+            }
+        }
+        true
+    }
+}

@@ -1,0 +1,72 @@
+//! Answers scripts over an engine of their own, by turns that go out and come back and by drains, and looks at all of the engine
+//! before and after a call that wants memory: the gate runs it with ample memory, and `bench/want_of_memory` refuses each of
+//! its growths in turn.
+#![tactic(auto)]
+
+mod client;
+mod looks;
+mod stop;
+mod worker;
+
+use crate::client::Client;
+use crate::stop::Stop;
+use std::alloc::Global;
+use std::io::{self, Write};
+use std::process::ExitCode;
+use wire::{MemorySink, read_request, write_reply};
+
+/// Answers a script's requests, a line each, over an engine of its own.
+fn answer_script(
+    alloc: Global,
+    script: &str,
+    by_turns: bool,
+    sink: &mut MemorySink,
+) -> Result<(), Stop> {
+    let mut client = Client::new(alloc, by_turns);
+    for line in script.lines() {
+        let Ok(request) = read_request(alloc, line.as_bytes()) else {
+            return Err(Stop::Memory);
+        };
+        let reply = client.answer(alloc, &request)?;
+        let Ok(()) = write_reply(sink, &reply) else {
+            return Err(Stop::Memory);
+        };
+    }
+    client.end(alloc)
+}
+
+/// The replies to a script. Where memory is refused to the tests themselves, the script is answered once more.
+fn replies_to(alloc: Global, script: &str, by_turns: bool) -> Result<MemorySink, Stop> {
+    let mut sink = MemorySink::new(alloc);
+    match answer_script(alloc, script, by_turns, &mut sink) {
+        Err(Stop::Memory) => {
+            let mut sink = MemorySink::new(alloc);
+            answer_script(alloc, script, by_turns, &mut sink)?;
+            Ok(sink)
+        }
+        Err(wrong) => Err(wrong),
+        Ok(()) => Ok(sink),
+    }
+}
+
+/// Writes the replies to all scripts of a text. A record separator parts them, which no JSON text has.
+fn answer_scripts<W: Write>(alloc: Global, text: &str, out: &mut W) -> io::Result<ExitCode> {
+    for by_turns in [true, false] {
+        for script in text.split("\u{1e}\n") {
+            match replies_to(alloc, script, by_turns) {
+                Ok(sink) => out.write_all(sink.bytes.as_slice())?,
+                Err(stop) => {
+                    out.write_all(stop.text().as_bytes())?;
+                    return Ok(ExitCode::from(1));
+                }
+            }
+        }
+    }
+    Ok(ExitCode::SUCCESS)
+}
+
+fn main(rt: HostRuntime) -> io::Result<ExitCode> {
+    let text = io::read_to_string(rt.alloc(), rt.stdin())?;
+    let mut out = rt.stdout();
+    answer_scripts(rt.alloc(), text.as_str(), &mut out)
+}

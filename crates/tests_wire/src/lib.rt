@@ -11,5 +11,3 @@ mod connections;
 mod lines;
 #[cfg(test)]
 mod runs;
-#[cfg(test)]
-mod two_streams;

@@ -1,4 +1,3 @@
-use crate::two_streams::{REPLIES, SCRIPT};
 use programs::{lack_memory, lack_words, run, run_options, run_over};
 use reference::{Answering, Plain};
 use std::alloc::{AllocError, Global};
@@ -160,109 +159,70 @@ fn device_failing_after(
     }
 }
 
-// The words of `cqlrun` for each engine.
-const ENGINES: [[&str; 2]; 2] = [["cqlrun", "--plain"], ["cqlrun", "--turn=7"]];
-
-// In how many reads a run reads all of the script of two streams.
-fn reads_of(alloc: Global, words: &[&str]) -> u64 {
-    let mut source = device_failing_after(alloc, SCRIPT.as_bytes(), u64::MAX);
+// In how many reads a run reads all of the first script.
+fn reads_of(alloc: Global) -> u64 {
+    let words = ["cqlrun", "--plain"];
+    let mut source = device_failing_after(alloc, FIRST.as_bytes(), u64::MAX);
     let mut sink = MemorySink::new(alloc);
     let mut errors = MemorySink::new(alloc);
-    run(alloc, words, &mut source, &mut sink, &mut errors);
+    run(alloc, words.as_slice(), &mut source, &mut sink, &mut errors);
     u64::MAX.saturating_sub(source.until_failure)
 }
 
 // Whether a source that fails ends the run after a front of the replies.
-fn failing_source_ends(alloc: Global, words: &[&str], calls: u64) -> bool {
-    let mut source = device_failing_after(alloc, SCRIPT.as_bytes(), calls);
+fn failing_source_ends(alloc: Global, calls: u64) -> bool {
+    let words = ["cqlrun", "--plain"];
+    let mut source = device_failing_after(alloc, FIRST.as_bytes(), calls);
     let mut sink = MemorySink::new(alloc);
     let mut errors = MemorySink::new(alloc);
-    let ended = run(alloc, words, &mut source, &mut sink, &mut errors);
+    let ended = run(alloc, words.as_slice(), &mut source, &mut sink, &mut errors);
     ended == 1
         && errors.bytes.as_slice() == b"cqlrun: read failed\n".as_slice()
-        && REPLIES.as_bytes().starts_with(sink.bytes.as_slice())
+        && FIRST_REPLIES.as_bytes().starts_with(sink.bytes.as_slice())
 }
 
 #[test]
 fn a_source_that_fails_at_any_read_ends_the_run_after_a_front_of_the_replies(rt: HostRuntime) {
-    for words in ENGINES {
-        let reads = reads_of(rt.alloc(), words.as_slice());
-        assert!(rt; reads > SCRIPT.len() as u64 / 7);
-        for calls in 0..reads {
-            assert!(rt; failing_source_ends(rt.alloc(), words.as_slice(), calls));
-        }
-        assert!(rt; !failing_source_ends(rt.alloc(), words.as_slice(), reads));
+    let reads = reads_of(rt.alloc());
+    assert!(rt; reads > FIRST.len() as u64 / 7);
+    for calls in 0..reads {
+        assert!(rt; failing_source_ends(rt.alloc(), calls));
     }
+    assert!(rt; !failing_source_ends(rt.alloc(), reads));
 }
 
-// In how many writes a run writes all of these replies.
-fn writes_of(alloc: Global, words: &[&str]) -> u64 {
-    let mut source = MemorySource::new(SCRIPT.as_bytes());
+// In how many writes a run writes all of the first replies.
+fn writes_of(alloc: Global) -> u64 {
+    let words = ["cqlrun", "--plain"];
+    let mut source = MemorySource::new(FIRST.as_bytes());
     let mut sink = device_failing_after(alloc, b"", u64::MAX);
     let mut errors = MemorySink::new(alloc);
-    run(alloc, words, &mut source, &mut sink, &mut errors);
+    run(alloc, words.as_slice(), &mut source, &mut sink, &mut errors);
     u64::MAX.saturating_sub(sink.until_failure)
 }
 
 // Whether a sink that fails ends the run after a front of the replies.
-fn failing_sink_ends(alloc: Global, words: &[&str], calls: u64) -> bool {
-    let mut source = MemorySource::new(SCRIPT.as_bytes());
+fn failing_sink_ends(alloc: Global, calls: u64) -> bool {
+    let words = ["cqlrun", "--plain"];
+    let mut source = MemorySource::new(FIRST.as_bytes());
     let mut sink = device_failing_after(alloc, b"", calls);
     let mut errors = MemorySink::new(alloc);
-    let ended = run(alloc, words, &mut source, &mut sink, &mut errors);
+    let ended = run(alloc, words.as_slice(), &mut source, &mut sink, &mut errors);
     ended == 1
         && errors.bytes.as_slice() == b"cqlrun: write failed\n".as_slice()
-        && REPLIES.as_bytes().starts_with(sink.sink.bytes.as_slice())
+        && FIRST_REPLIES
+            .as_bytes()
+            .starts_with(sink.sink.bytes.as_slice())
 }
 
 #[test]
 fn a_sink_that_fails_at_any_write_ends_the_run_after_a_front_of_the_replies(rt: HostRuntime) {
-    for words in ENGINES {
-        let writes = writes_of(rt.alloc(), words.as_slice());
-        assert!(rt; writes > REPLIES.len() as u64 / 7);
-        for calls in 0..writes {
-            assert!(rt; failing_sink_ends(rt.alloc(), words.as_slice(), calls));
-        }
-        assert!(rt; !failing_sink_ends(rt.alloc(), words.as_slice(), writes));
+    let writes = writes_of(rt.alloc());
+    assert!(rt; writes > FIRST_REPLIES.len() as u64 / 7);
+    for calls in 0..writes {
+        assert!(rt; failing_sink_ends(rt.alloc(), calls));
     }
-}
-
-// The replies to a front of the script, before a byte of it: those to its whole lines, of which one
-// that lacks only its line feed is one, and the fault of any other line that is cut.
-fn replies_to_front(alloc: Global, front: &[u8], next: Option<&u8>) -> Result<String, AllocError> {
-    let is_cut = !matches!(front.last(), None | Some(b'\n'));
-    let lacks_feed = is_cut && matches!(next, Some(b'\n'));
-    let feeds = front.iter().filter(|byte| **byte == b'\n').count();
-    let mut replies = String::new(alloc);
-    for (number, reply) in REPLIES.split_inclusive('\n').enumerate() {
-        if number < feeds || number == feeds && lacks_feed {
-            replies.push_str(reply)?;
-        }
-    }
-    if is_cut && !lacks_feed {
-        replies.push_str("{\"error\":\"N1 NotJson\"}\n")?;
-    }
-    Ok(replies)
-}
-
-// Whether the script, cut after so many bytes, is answered so.
-fn is_answered_in_front(alloc: Global, words: &[&str], count: usize) -> Result<bool, AllocError> {
-    let bytes = SCRIPT.as_bytes();
-    let (front, rest) = bytes.split_at(count.min(bytes.len()));
-    let replies = replies_to_front(alloc, front, rest.first())?;
-    Ok(runs_to(alloc, words, front, 0, replies.as_str().as_bytes()))
-}
-
-#[test]
-fn a_script_that_is_cut_after_any_byte_is_answered_up_to_its_last_line(
-    rt: HostRuntime,
-) -> Result<(), Fail> {
-    for words in ENGINES {
-        for count in 0..=SCRIPT.len() {
-            assert!(rt; is_answered_in_front(rt.alloc(), words.as_slice(), count)?);
-        }
-    }
-    Ok(())
+    assert!(rt; !failing_sink_ends(rt.alloc(), writes));
 }
 
 // What the program says of want of memory, with its status.

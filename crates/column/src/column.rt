@@ -1,6 +1,8 @@
 //! Columns of values.
 
-ghost use Rattle.std.specs.Prelude.{◌≡◌, ◌<◌, ◌≤◌, ◌+◌, ◌++◌, ◌∷◌, ◌==◌, [], ℕ, ℤ, pos, List, Option, None, Some, IfOk, IfSome, OnOk, OnErr, IsTrue, All, length, slice_index_or, slice_range, map, is_some, ◌↔◌};
+ghost use Rattle.std.specs.Prelude.{◌≡◌, ◌<◌, ◌≤◌, ◌+◌, ◌++◌, ◌∷◌, ◌==◌, [], ℕ, ℤ, pos, List};
+ghost use Rattle.std.specs.Prelude.{Option, None, Some, IfOk, IfSome, OnOk, OnErr, IsTrue, All};
+ghost use Rattle.std.specs.Prelude.{length, slice_index_or, slice_range, map, is_some, ◌↔◌};
 ghost use Rattle.column.specs.Bits.{IsClear, at_places, bits};
 ghost use Rattle.column.specs.Columns.{IsColumn, IsStreamValue, numbers_of, values_of};
 ghost use Rattle.values.specs.Value.{IsAnswerNumber, IsStreamNumber};

@@ -1,6 +1,8 @@
 //! Lists of truths, 64 in a word.
 
-ghost use Rattle.std.specs.Prelude.{◌≡◌, ◌≢◌, ◌<◌, ◌≤◌, ◌+◌, ◌++◌, ◌∷◌, ◌==◌, ◌/◌, ◌%◌, [], ℕ, List, IfOk, OnOk, OnErr, IfErr, length, slice_index_or, slice_range, vec_len, false, All};
+ghost use Rattle.std.specs.Prelude.{◌≡◌, ◌≢◌, ◌<◌, ◌≤◌, ◌+◌, ◌++◌, ◌∷◌, ◌==◌, ◌/◌, ◌%◌, [], ℕ};
+ghost use Rattle.std.specs.Prelude.{List, IfOk, OnOk, OnErr, IfErr, length, slice_index_or};
+ghost use Rattle.std.specs.Prelude.{slice_range, vec_len, false, All};
 ghost use Rattle.column.specs.Bits.{IsClear, at_places, bits, place, true_places, word_count};
 
 use super::MAX_ROWS;
@@ -164,7 +166,8 @@ fn push_bit(words: &mut Vec<u64>, at: usize, truth: bool) -> Result<(), AllocErr
     requires few { at < MAX_ROWS }
     requires clear { IsClear at words.old.items }
     ensures clear { OnOk result (IsClear (at + 1) words.new.items) }
-    ensures value { OnOk result (bits (at + 1) words.new.items ≡ bits at words.old.items ++ truth ∷ []) }
+    ensures value { OnOk result (bits (at + 1) words.new.items
+        ≡ bits at words.old.items ++ truth ∷ []) }
     ensures err { OnErr result (words.new.items ≡ words.old.items) }
 {
     make_room(words, at)?;

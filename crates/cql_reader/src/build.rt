@@ -4,7 +4,8 @@ ghost use Rattle.std.specs.Prelude.{◌≡◌, ◌≤◌, true, length, map, OnO
 ghost use Rattle.cql_reader.specs.Lexis.{number_of};
 ghost use Rattle.cql_reader.specs.declared.tokens.Kind.TheVariants as kinds;
 ghost use Rattle.cql_reader.specs.declared.symbols.Mark.TheVariants as marks;
-ghost use Rattle.cql_reader.specs.Grammar.{kind_of, in_range, may_open, took, did, entered, parted, listed, start, finished, no_source};
+ghost use Rattle.cql_reader.specs.Grammar.{kind_of, in_range, may_open, took, did, entered, parted};
+ghost use Rattle.cql_reader.specs.Grammar.{listed, start, finished, no_source};
 ghost use Rattle.cql_reader.specs.Views.{query_of, entries_of, entry_of, source_of};
 ghost use Rattle.cql_reader.specs.Coded.{draft_of};
 

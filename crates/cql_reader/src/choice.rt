@@ -11,7 +11,8 @@ use values::{Compare, StreamOperator};
 
 /// The alternative that a part has before this kind of token, or at the end of the text.
 pub fn choose(part: Part, next: Option<Kind>) -> Option<&'static [Symbol]>
-    ensures { MatchOption result (chosen part next ≡ None) (λ symbols. chosen part next ≡ Some symbols.now) }
+    ensures { MatchOption result (chosen part next ≡ None) (λ symbols. chosen part next
+        ≡ Some symbols.now) }
 {
     let alternatives = alternatives_of(part);
     match next {
@@ -25,7 +26,8 @@ pub fn choose(part: Part, next: Option<Kind>) -> Option<&'static [Symbol]>
 
 // The alternative that can begin with this kind.
 fn beginning(alternatives: &'static [&'static [Symbol]], kind: Kind) -> Option<&'static [Symbol]>
-    ensures { let found = pick (λ ys. firsts ys kind) (map (λ symbols. symbols.now) alternatives.now) in
+    ensures { let found = pick (λ ys. firsts ys kind)
+        (map (λ symbols. symbols.now) alternatives.now) in
         MatchOption result (found ≡ None) (λ symbols. found ≡ Some symbols.now) }
 {
     for symbols in alternatives {

@@ -13,7 +13,8 @@ ghost use Rattle.cql_reader.specs.WellFormed.{IsWellFormed};
 /// one pass over the tokens.
 pub fn every_text_has_one_answer()
     ensures right { (text : List ℕ) → IsAnswer text (reading text) }
-    ensures only { (text : List ℕ) (answer : Result Query Fault) → IsAnswer text answer → answer ≡ reading text }
+    ensures only { (text : List ℕ) (answer : Result Query Fault) → IsAnswer text answer
+        → answer ≡ reading text }
 {}
 
 /// A query that is read is well formed: it has one source or two, a list that is not `*` has an

@@ -2,7 +2,8 @@
 
 ghost use Rattle.std.specs.Prelude.{◌≡◌, ◌<◌, ◌++◌, ◌↔◌, true, reverse, IfOk, IsTrue, OnOk};
 ghost use Rattle.cql_reader.specs.Lexis.{number_of};
-ghost use Rattle.cql_reader.specs.Grammar.{kind_of, in_range, in_span, in_rows, in_stream, may_open};
+ghost use Rattle.cql_reader.specs.Grammar.{kind_of, in_range, in_span, in_rows, in_stream};
+ghost use Rattle.cql_reader.specs.Grammar.{may_open};
 ghost use Rattle.cql_reader.specs.Prediction.{ahead, stopped, parsed};
 ghost use Rattle.cql_reader.specs.Tokens.{scan_from};
 ghost use Rattle.cql_reader.specs.Coded.{ReadsDraft, IsInside, IsRead, rest_of, told};

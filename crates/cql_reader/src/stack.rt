@@ -2,7 +2,8 @@
 
 ghost use Rattle.std.specs.Prelude.{◌≡◌, OnOk};
 ghost use Rattle.cql_reader.specs.Views.{operand_of};
-ghost use Rattle.cql_reader.specs.Grammar.{no_terms, sided, compared, negated, conjoined, disjoined, standing_by};
+ghost use Rattle.cql_reader.specs.Grammar.{no_terms, sided, compared, negated, conjoined};
+ghost use Rattle.cql_reader.specs.Grammar.{disjoined, standing_by};
 ghost use Rattle.cql_reader.specs.Coded.{terms_of, standing_of};
 
 use crate::query::{Condition, Operand};
@@ -71,7 +72,8 @@ impl Terms {
 }
 
 fn negate(alloc: Global, standing: &mut Vec<Condition>) -> Result<(), AllocError>
-    ensures { OnOk result (standing_of standing.new.items ≡ negated (standing_of standing.old.items)) }
+    ensures { OnOk result (standing_of standing.new.items
+        ≡ negated (standing_of standing.old.items)) }
 {
     match standing.pop() {
         None => Ok(()),
@@ -85,7 +87,8 @@ fn negate(alloc: Global, standing: &mut Vec<Condition>) -> Result<(), AllocError
 
 // The last two conditions, in order, or what there is.
 fn conjoin(alloc: Global, standing: &mut Vec<Condition>) -> Result<(), AllocError>
-    ensures { OnOk result (standing_of standing.new.items ≡ conjoined (standing_of standing.old.items)) }
+    ensures { OnOk result (standing_of standing.new.items
+        ≡ conjoined (standing_of standing.old.items)) }
 {
     match standing.pop() {
         None => Ok(()),
@@ -105,7 +108,8 @@ fn conjoin(alloc: Global, standing: &mut Vec<Condition>) -> Result<(), AllocErro
 }
 
 fn disjoin(alloc: Global, standing: &mut Vec<Condition>) -> Result<(), AllocError>
-    ensures { OnOk result (standing_of standing.new.items ≡ disjoined (standing_of standing.old.items)) }
+    ensures { OnOk result (standing_of standing.new.items
+        ≡ disjoined (standing_of standing.old.items)) }
 {
     match standing.pop() {
         None => Ok(()),

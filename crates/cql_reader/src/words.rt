@@ -1,7 +1,8 @@
 // Words: reserved ones, and names.
 
 ghost use Rattle.std.specs.Prelude.{◌≡◌, ◌≤◌, map, length};
-ghost use Rattle.cql_reader.specs.Lexis.{reserved, kind_in, word_kind, is_name as names, is_reserved as reserves};
+ghost use Rattle.cql_reader.specs.Lexis.{reserved, kind_in, word_kind, is_name as names};
+ghost use Rattle.cql_reader.specs.Lexis.{is_reserved as reserves};
 ghost use Rattle.cql_reader.specs.declared.tokens.Kind.TheVariants as kinds;
 
 use crate::MAX_NAME;

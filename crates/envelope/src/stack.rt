@@ -67,8 +67,10 @@ fn top_is_needless<L: Ledger>(
     requires two { 2 ≤ length stack.now }
     requires begun { IsBegun points.now next stack.now }
     ensures answer { MatchBool result
-        (NotBelow (at stack.now (length stack.now - 2)) (at points.now next) (at stack.now (length stack.now - 1)))
-        (NoSteeper (at stack.now (length stack.now - 2)) (at stack.now (length stack.now - 1)) (at points.now next)) }
+        (NotBelow (at stack.now (length stack.now - 2)) (at points.now next)
+        (at stack.now (length stack.now - 1)))
+        (NoSteeper (at stack.now (length stack.now - 2)) (at stack.now (length stack.now - 1))
+        (at points.now next)) }
     ensures cost { steps.new ≡ steps.old + 1 }
 {
     steepens(

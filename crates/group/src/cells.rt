@@ -1,6 +1,8 @@
 //! What is kept of a group.
 
-ghost use Rattle.std.specs.Prelude.{◌≡◌, ◌+◌, ◌-◌, ◌^◌, ◌<◌, ◌≤◌, ◌∷◌, [], length, map, replicate, IfOk, OnOk, OnErr, IsSome, pos, ℤ, Option, Some, None, List, cond, nat_lt, false, ◌+ℤ◌, ◌-ℤ◌, ◌*◌, ◌/◌, ◌==◌, fold};
+ghost use Rattle.std.specs.Prelude.{◌≡◌, ◌+◌, ◌-◌, ◌^◌, ◌<◌, ◌≤◌, ◌∷◌, [], length, map, replicate};
+ghost use Rattle.std.specs.Prelude.{IfOk, OnOk, OnErr, IsSome, pos, ℤ, Option, Some, None, List};
+ghost use Rattle.std.specs.Prelude.{cond, nat_lt, false, ◌+ℤ◌, ◌-ℤ◌, ◌*◌, ◌/◌, ◌==◌, fold};
 ghost use Rattle.std.specs.BTreeMap.{is_at};
 ghost use Rattle.std.specs.BTreeMap as tree;
 ghost use Rattle.std.specs.Map.{set_value, values_of};
@@ -9,10 +11,15 @@ ghost use Rattle.values.specs.Row.{value_cmp, value_at};
 ghost use Rattle.values.specs.Value.{IsAnswerValue};
 ghost use Rattle.column.specs.Rows.{signed};
 ghost use Rattle.lane_kernels.specs.Lanes.{IsWithin};
-ghost use Rattle.group.specs.Cells.{count_of, one_more, one_less, values_by, number_of, keeps, signed_by, tally_zero, tally_by, partly, tallies_after, cell_zero, cell_after, showing, each, figure, figures, sum_figure, least, greatest, clamped_or, number_figure, value_figure, keeping, TallyRoom, CellRoom, ReadsInRange};
+ghost use Rattle.group.specs.Cells.{count_of, one_more, one_less, values_by, number_of, keeps};
+ghost use Rattle.group.specs.Cells.{signed_by, tally_zero, tally_by, partly, tallies_after};
+ghost use Rattle.group.specs.Cells.{cell_zero, cell_after, showing, each, figure, figures};
+ghost use Rattle.group.specs.Cells.{sum_figure, least, greatest, clamped_or, number_figure};
+ghost use Rattle.group.specs.Cells.{value_figure, keeping, TallyRoom, CellRoom, ReadsInRange};
 ghost use Rattle.column.specs.Bits.{bits, word_count, place as place_of};
 ghost use Rattle.column.specs.Columns.{IsStreamValue};
-ghost use Rattle.group.specs.Batches.{rows_counted, leaving, fields, tally_values, tally_sums, tally_rows, numbers_read, AllInRange};
+ghost use Rattle.group.specs.Batches.{rows_counted, leaving, fields, tally_values, tally_sums};
+ghost use Rattle.group.specs.Batches.{tally_rows, numbers_read, AllInRange};
 
 use crate::rows::{field_of, row_with, written};
 use column::{Batch, Column as Lane, SignedRow};
@@ -87,7 +94,8 @@ fn keep_value(
     value: Value,
 ) -> Result<(), AllocError>
     requires { All (λ m. m ≤ 2 ^ 62 + 1024) (values_of values.old.entries) }
-    ensures { OnOk result (values.new.entries ≡ cond keeps (values_by enters value values.old.entries) values.old.entries) }
+    ensures { OnOk result (values.new.entries
+        ≡ cond keeps (values_by enters value values.old.entries) values.old.entries) }
 {
     if !keeps {
         return Ok(());
@@ -151,7 +159,8 @@ impl Model for Tally {
 
     ghost Value = { State };
 
-    ghost view = { λ t. record { numbers = t.numbers; total = t.total; values = t.values.entries } };
+    ghost view = { λ t.
+        record { numbers = t.numbers; total = t.total; values = t.values.entries } };
 }
 
 impl Tally {
@@ -178,7 +187,9 @@ impl Tally {
     /// A value enters or leaves, where values are kept.
     fn keep(&mut self, keeps: bool, enters: bool, value: Value) -> Result<(), AllocError>
         requires { All (λ m. m ≤ 2 ^ 62 + 1024) (values_of self.old.values) }
-        ensures { OnOk result (self.new ≡ keeping self.old (cond keeps (values_by enters value self.old.values) self.old.values)) }
+        ensures { OnOk result (self.new
+            ≡ keeping self.old
+            (cond keeps (values_by enters value self.old.values) self.old.values)) }
     {
         keep_value(&mut self.values, keeps, enters, value)?;
         Ok(())
@@ -217,7 +228,8 @@ impl Tally {
     fn take_values(&mut self, lane: &Lane, keeps: bool, minus: &[u64]) -> Result<(), AllocError>
         requires words { length minus.now ≡ word_count (length lane.now) }
         requires room { TallyRoom (2 ^ 62) self.old }
-        ensures tally { OnOk result (self.new ≡ tally_values keeps (bits (length lane.now) minus.now) lane.now self.old) }
+        ensures tally { OnOk result (self.new
+            ≡ tally_values keeps (bits (length lane.now) minus.now) lane.now self.old) }
         ensures range { OnOk result (All IsAnswerValue lane.now) }
     {
         for place in 0..lane.len() {
@@ -230,7 +242,8 @@ impl Tally {
     fn take_lane(&mut self, lane: &Lane, keeps: bool, minus: &[u64]) -> Result<(), AllocError>
         requires words { length minus.now ≡ word_count (length lane.now) }
         requires room { TallyRoom (2 ^ 62) self.old }
-        ensures tally { OnOk result (self.new ≡ tally_values keeps (bits (length lane.now) minus.now) lane.now self.old) }
+        ensures tally { OnOk result (self.new
+            ≡ tally_values keeps (bits (length lane.now) minus.now) lane.now self.old) }
         ensures range { OnOk result (All IsAnswerValue lane.now) }
     {
         if keeps {
@@ -248,7 +261,8 @@ impl Tally {
     /// The values that the rows of a batch have in a column enter and leave.
     fn take_fields(&mut self, column: Column, keeps: bool, batch: &Batch) -> Result<(), AllocError>
         requires { TallyRoom (2 ^ 62) self.old }
-        ensures tally { OnOk result (self.new ≡ tally_values keeps (leaving batch.now) (fields column batch.now) self.old) }
+        ensures tally { OnOk result (self.new
+            ≡ tally_values keeps (leaving batch.now) (fields column batch.now) self.old) }
         ensures range { OnOk result (All IsAnswerValue (fields column batch.now)) }
     {
         let _ = batch.len();
@@ -373,12 +387,18 @@ impl Model for Cell {
     ghost use Rattle.std.specs.Prelude.{◌≤◌, length, IfSome};
     ghost use Rattle.std.specs.Option.{option_map};
     ghost use Rattle.group.specs.Cells.{CellState as State, held};
+    ghost use Rattle.values.specs.declared.TheConstants.{MAX_COLUMNS};
 
     ghost Value = { State };
 
-    ghost view = { λ c. record { rows = c.rows; tallies = c.tallies.items; shown = option_map (λ values. held values.items) c.shown } };
+    ghost view = { λ c.
+        record {
+          rows = c.rows;
+          tallies = c.tallies.items;
+          shown = option_map (λ values. held values.items) c.shown;
+        } };
 
-    ghost invariant = { λ c. IfSome c.shown (λ values. length values.items ≤ 16) };
+    ghost invariant = { λ c. IfSome c.shown (λ values. length values.items ≤ MAX_COLUMNS) };
 }
 
 /// A row enters or leaves: each tally takes it.
@@ -389,7 +409,8 @@ fn take_tallies(
 ) -> Result<(), AllocError>
     requires aligned { length tallies.old.items ≡ length items.now }
     requires room { All (TallyRoom (2 ^ 62 + 1024)) tallies.old.items }
-    ensures tallies { OnOk result (tallies.new.items ≡ tallies_after (signed row.now) items.now tallies.old.items) }
+    ensures tallies { OnOk result (tallies.new.items
+        ≡ tallies_after (signed row.now) items.now tallies.old.items) }
     ensures range { OnOk result (ReadsInRange items.now (signed row.now)) }
 {
     for place in 0..items.len() {
@@ -431,7 +452,8 @@ fn take_batches(
 ) -> Result<(), AllocError>
     requires aligned { length tallies.old.items ≡ length items.now }
     requires room { All (TallyRoom (2 ^ 62)) tallies.old.items }
-    ensures tallies { OnOk result (tallies.new.items ≡ each (tally_rows batch.now) items.now tallies.old.items) }
+    ensures tallies { OnOk result (tallies.new.items
+        ≡ each (tally_rows batch.now) items.now tallies.old.items) }
     ensures range { OnOk result (AllInRange items.now batch.now) }
 {
     for place in 0..items.len() {
@@ -448,7 +470,8 @@ fn figures_of(
     key: &Row,
     rows: i64,
 ) -> Result<Vec<Figure>, AllocError>
-    ensures figures { IfOk result (λ fs. fs.items ≡ figures key.now.items rows items.now tallies.now) }
+    ensures figures { IfOk result (λ fs. fs.items
+        ≡ figures key.now.items rows items.now tallies.now) }
     ensures few { IfOk result (λ fs. length fs.items ≤ length items.now) }
 {
     let count = items.len().min(tallies.len());
@@ -516,7 +539,8 @@ impl Cell {
         items: &[ListItem],
         key: &Row,
     ) -> Result<Vec<Figure>, AllocError>
-        ensures figures { IfOk result (λ fs. fs.items ≡ figures key.now.items self.now.rows items.now self.now.tallies) }
+        ensures figures { IfOk result (λ fs. fs.items
+            ≡ figures key.now.items self.now.rows items.now self.now.tallies) }
         ensures few { IfOk result (λ fs. length fs.items ≤ length items.now) }
     {
         let figures = figures_of(alloc, &self.tallies, items, key, self.rows)?;

@@ -21,7 +21,7 @@ pub(crate) enum HeldCells {
     Two(Keyed<2>),
     Four(Keyed<4>),
     Eight(Keyed<8>),
-    Sixteen(Keyed<16>),
+    Widest(Keyed<MAX_COLUMNS>),
 }
 
 impl HeldCells {
@@ -35,7 +35,7 @@ impl HeldCells {
             0..=2 => HeldCells::Two(Keyed::new(alloc)),
             3..=4 => HeldCells::Four(Keyed::new(alloc)),
             5..=8 => HeldCells::Eight(Keyed::new(alloc)),
-            _ => HeldCells::Sixteen(Keyed::new(alloc)),
+            _ => HeldCells::Widest(Keyed::new(alloc)),
         }
     }
 
@@ -47,19 +47,19 @@ impl HeldCells {
             HeldCells::Two(_) => 2,
             HeldCells::Four(_) => 4,
             HeldCells::Eight(_) => 8,
-            HeldCells::Sixteen(_) => MAX_COLUMNS,
+            HeldCells::Widest(_) => MAX_COLUMNS,
         }
     }
 
     /// All groups with the greatest room. After an error some may be lost.
-    fn widened(&mut self, alloc: Global) -> Result<Keyed<16>, AllocError>
+    fn widened(&mut self, alloc: Global) -> Result<Keyed<MAX_COLUMNS>, AllocError>
         ensures { IfOk result (λ wider. wider ≡ cells_in self.old) }
     {
         match self {
             HeldCells::Two(keyed) => keyed.widened(alloc),
             HeldCells::Four(keyed) => keyed.widened(alloc),
             HeldCells::Eight(keyed) => keyed.widened(alloc),
-            HeldCells::Sixteen(keyed) => keyed.widened(alloc),
+            HeldCells::Widest(keyed) => keyed.widened(alloc),
         }
     }
 
@@ -71,7 +71,7 @@ impl HeldCells {
         ensures room { OnOk result (width ≤ room_of self.new) }
     {
         if self.room() < width {
-            *self = HeldCells::Sixteen(self.widened(alloc)?);
+            *self = HeldCells::Widest(self.widened(alloc)?);
         }
         Ok(())
     }
@@ -84,8 +84,10 @@ impl HeldCells {
         key: &Row,
         row: &SignedRow,
     ) -> Result<(), AllocError>
-        requires { CellRoom (2 ^ 62 + 1024) items.now (cell_of (length items.now) key.now (cells_in self.old)) }
-        ensures cells { OnOk result (cells_in self.new ≡ taken_in items.now key.now (signed row.now) (cells_in self.old)) }
+        requires { CellRoom (2 ^ 62 + 1024) items.now
+            (cell_of (length items.now) key.now (cells_in self.old)) }
+        ensures cells { OnOk result (cells_in self.new
+            ≡ taken_in items.now key.now (signed row.now) (cells_in self.old)) }
         ensures range { OnOk result (ReadsInRange items.now (signed row.now)) }
     {
         self.make_room(alloc, key.len())?;
@@ -93,7 +95,7 @@ impl HeldCells {
             HeldCells::Two(keyed) => keyed.take_in(alloc, items, key, row),
             HeldCells::Four(keyed) => keyed.take_in(alloc, items, key, row),
             HeldCells::Eight(keyed) => keyed.take_in(alloc, items, key, row),
-            HeldCells::Sixteen(keyed) => keyed.take_in(alloc, items, key, row),
+            HeldCells::Widest(keyed) => keyed.take_in(alloc, items, key, row),
         }
     }
 
@@ -105,8 +107,10 @@ impl HeldCells {
         key: &Row,
         batch: &Batch,
     ) -> Result<(), AllocError>
-        requires { CellRoom (2 ^ 62) items.now (cell_of (length items.now) key.now (cells_in self.old)) }
-        ensures cells { OnOk result (cells_in self.new ≡ batch_in items.now key.now batch.now (cells_in self.old)) }
+        requires { CellRoom (2 ^ 62) items.now
+            (cell_of (length items.now) key.now (cells_in self.old)) }
+        ensures cells { OnOk result (cells_in self.new
+            ≡ batch_in items.now key.now batch.now (cells_in self.old)) }
         ensures range { OnOk result (AllInRange items.now batch.now) }
     {
         self.make_room(alloc, key.len())?;
@@ -114,7 +118,7 @@ impl HeldCells {
             HeldCells::Two(keyed) => keyed.take_batch_in(alloc, items, key, batch),
             HeldCells::Four(keyed) => keyed.take_batch_in(alloc, items, key, batch),
             HeldCells::Eight(keyed) => keyed.take_batch_in(alloc, items, key, batch),
-            HeldCells::Sixteen(keyed) => keyed.take_batch_in(alloc, items, key, batch),
+            HeldCells::Widest(keyed) => keyed.take_batch_in(alloc, items, key, batch),
         }
     }
 
@@ -126,14 +130,15 @@ impl HeldCells {
         key: &Row,
         row: &Row,
     ) -> Result<(), AllocError>
-        ensures { OnOk result (cells_in self.new ≡ shown_in count key.now row.now (cells_in self.old)) }
+        ensures { OnOk result (cells_in self.new
+            ≡ shown_in count key.now row.now (cells_in self.old)) }
     {
         self.make_room(alloc, key.len())?;
         match self {
             HeldCells::Two(keyed) => keyed.show_in(alloc, count, key, row),
             HeldCells::Four(keyed) => keyed.show_in(alloc, count, key, row),
             HeldCells::Eight(keyed) => keyed.show_in(alloc, count, key, row),
-            HeldCells::Sixteen(keyed) => keyed.show_in(alloc, count, key, row),
+            HeldCells::Widest(keyed) => keyed.show_in(alloc, count, key, row),
         }
     }
 
@@ -145,7 +150,7 @@ impl HeldCells {
             HeldCells::Two(keyed) => keyed.remove(key),
             HeldCells::Four(keyed) => keyed.remove(key),
             HeldCells::Eight(keyed) => keyed.remove(key),
-            HeldCells::Sixteen(keyed) => keyed.remove(key),
+            HeldCells::Widest(keyed) => keyed.remove(key),
         }
     }
 
@@ -156,14 +161,15 @@ impl HeldCells {
         items: &[ListItem],
         key: &Row,
     ) -> Result<Touched, AllocError>
-        requires { length items.now ≤ 16 }
-        ensures { IfOk result (λ t. t ≡ excerpt items.now key.now (cell_of (length items.now) key.now (cells_in self.now))) }
+        requires { length items.now ≤ MAX_COLUMNS }
+        ensures { IfOk result (λ t. t
+            ≡ excerpt items.now key.now (cell_of (length items.now) key.now (cells_in self.now))) }
     {
         match self {
             HeldCells::Two(keyed) => keyed.excerpt_at(alloc, items, key),
             HeldCells::Four(keyed) => keyed.excerpt_at(alloc, items, key),
             HeldCells::Eight(keyed) => keyed.excerpt_at(alloc, items, key),
-            HeldCells::Sixteen(keyed) => keyed.excerpt_at(alloc, items, key),
+            HeldCells::Widest(keyed) => keyed.excerpt_at(alloc, items, key),
         }
     }
 }

@@ -29,12 +29,13 @@ impl<const N: usize> Model for Keyed<N> {
     ghost use Rattle.std.specs.Prelude.{List, ◌≤◌};
     ghost use Rattle.group.specs.Cells.{Held, CellState};
     ghost use Rattle.group.specs.Keys.{Short};
+    ghost use Rattle.values.specs.declared.TheConstants.{MAX_COLUMNS};
 
     ghost Value = { List (Held × CellState) };
 
     ghost view = { λ k. k.cells.entries };
 
-    ghost invariant = { λ k. (N ≤ 16) × Short N k.cells.entries };
+    ghost invariant = { λ k. (N ≤ MAX_COLUMNS) × Short N k.cells.entries };
 }
 
 impl<const N: usize> Keyed<N> {
@@ -57,8 +58,10 @@ impl<const N: usize> Keyed<N> {
         row: &SignedRow,
     ) -> Result<(), AllocError>
         requires fits { length key.now.items ≤ N }
-        requires room { CellRoom (2 ^ 62 + 1024) items.now (cell_of (length items.now) key.now self.old) }
-        ensures cells { OnOk result (self.new ≡ taken_in items.now key.now (signed row.now) self.old) }
+        requires room { CellRoom (2 ^ 62 + 1024) items.now
+            (cell_of (length items.now) key.now self.old) }
+        ensures cells { OnOk result (self.new
+            ≡ taken_in items.now key.now (signed row.now) self.old) }
         ensures range { OnOk result (ReadsInRange items.now (signed row.now)) }
     {
         let _ = &self.cells;
@@ -146,8 +149,9 @@ impl<const N: usize> Keyed<N> {
         items: &[ListItem],
         key: &Row,
     ) -> Result<Touched, AllocError>
-        requires { length items.now ≤ 16 }
-        ensures { IfOk result (λ t. t ≡ excerpt items.now key.now (cell_of (length items.now) key.now self.now)) }
+        requires { length items.now ≤ MAX_COLUMNS }
+        ensures { IfOk result (λ t. t
+            ≡ excerpt items.now key.now (cell_of (length items.now) key.now self.now)) }
     {
         match self.cell(key) {
             Some(cell) => {
@@ -163,7 +167,7 @@ impl<const N: usize> Keyed<N> {
     }
 
     /// Moves all to keys of more values. After an error some may be lost.
-    pub(crate) fn widened(&mut self, alloc: Global) -> Result<Keyed<16>, AllocError>
+    pub(crate) fn widened(&mut self, alloc: Global) -> Result<Keyed<MAX_COLUMNS>, AllocError>
         ensures { IfOk result (λ wider. wider ≡ self.old) }
     {
         let _ = self.cells.len();
@@ -201,7 +205,7 @@ fn excerpt_of(
     key: &Row,
     cell: &Cell,
 ) -> Result<Touched, AllocError>
-    requires { length items.now ≤ 16 }
+    requires { length items.now ≤ MAX_COLUMNS }
     ensures { IfOk result (λ t. t ≡ excerpt items.now key.now cell.now) }
 {
     let figures = cell.figures(alloc, items, key)?;

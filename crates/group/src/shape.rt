@@ -20,12 +20,14 @@ pub struct GroupBy {
 impl Model for GroupBy {
     ghost use Rattle.std.specs.Prelude.{◌≤◌, length};
     ghost use Rattle.group.specs.Groups.{GroupBy as Plain};
+    ghost use Rattle.values.specs.declared.TheConstants.{MAX_COLUMNS};
 
     ghost Value = { Plain };
 
     ghost view = { λ g. record { by = g.by.items; items = g.items.items } };
 
-    ghost invariant = { λ g. (length g.by.items ≤ 16) × (length g.items.items ≤ 16) };
+    ghost invariant = { λ g. (length g.by.items ≤ MAX_COLUMNS)
+        × (length g.items.items ≤ MAX_COLUMNS) };
 }
 
 impl GroupBy {

@@ -1,12 +1,15 @@
 //! What a turn of a group reads, puts out and changes.
 
-ghost use Rattle.std.specs.Prelude.{◌≡◌, ◌↔◌, ◌≤◌, ◌<◌, ◌++◌, [], ◌∷◌, IsTrue, List, length, map, IfOk, OnOk};
+ghost use Rattle.std.specs.Prelude.{◌≡◌, ◌↔◌, ◌≤◌, ◌<◌, ◌++◌, [], ◌∷◌, IsTrue, List, length, map};
+ghost use Rattle.std.specs.Prelude.{IfOk, OnOk};
 ghost use Rattle.std.specs.List.{flat_map};
 ghost use Rattle.column.specs.Rows.{signed, IsTable};
 ghost use Rattle.op_queue.specs.Entries.{RowAt, TickAt};
 ghost use Rattle.op_queue.specs.Items.{entries_of};
 ghost use Rattle.group.specs.Cells.{held, shown_figure};
-ghost use Rattle.group.specs.Turns.{row_now, swap_of, signed_row, same_shown, outputs, out, change, shown_now};
+ghost use Rattle.group.specs.Turns.{row_now, swap_of, signed_row, same_shown, outputs, out, change};
+ghost use Rattle.group.specs.Turns.{shown_now};
+ghost use Rattle.values.specs.declared.TheConstants.{MAX_COLUMNS};
 
 use crate::cells::Figure;
 use crate::rows::fitted;
@@ -33,12 +36,14 @@ pub(crate) struct Touched {
 impl Model for Touched {
     ghost use Rattle.std.specs.Prelude.{◌≤◌, length};
     ghost use Rattle.group.specs.Turns.{TouchedState as State};
+    ghost use Rattle.values.specs.declared.TheConstants.{MAX_COLUMNS};
 
     ghost Value = { State };
 
-    ghost view = { λ t. record { key = t.key; shown = t.shown; rows = t.rows; figures = t.figures.items } };
+    ghost view = { λ t.
+        record { key = t.key; shown = t.shown; rows = t.rows; figures = t.figures.items } };
 
-    ghost invariant = { λ t. length t.figures.items ≤ 16 };
+    ghost invariant = { λ t. length t.figures.items ≤ MAX_COLUMNS };
 }
 
 impl PartialEq for Touched {
@@ -139,7 +144,7 @@ impl Change {
 }
 
 fn row_of(figures: &[Figure]) -> Row
-    requires { length figures.now ≤ 16 }
+    requires { length figures.now ≤ MAX_COLUMNS }
     ensures { result ≡ held (map shown_figure figures.now) }
 {
     let mut row = Row::new();
@@ -179,8 +184,9 @@ fn push_row(
     enters: bool,
     row: &Option<Row>,
 ) -> Result<(), AllocError>
-    requires { width ≤ 16 }
-    ensures { OnOk result (map signed rows.new.items ≡ map signed rows.old.items ++ signed_row enters width row.now) }
+    requires { width ≤ MAX_COLUMNS }
+    ensures { OnOk result (map signed rows.new.items
+        ≡ map signed rows.old.items ++ signed_row enters width row.now) }
 {
     match row {
         Some(row) => {
@@ -202,8 +208,9 @@ fn push_swap(
     old: &Option<Row>,
     now: &Option<Row>,
 ) -> Result<(), AllocError>
-    requires { width ≤ 16 }
-    ensures { OnOk result (map signed rows.new.items ≡ map signed rows.old.items ++ swap_of width old.now now.now) }
+    requires { width ≤ MAX_COLUMNS }
+    ensures { OnOk result (map signed rows.new.items
+        ≡ map signed rows.old.items ++ swap_of width old.now now.now) }
 {
     if same_shown(old, now) {
         return Ok(());
@@ -260,7 +267,8 @@ fn push_batches(
     width: usize,
 ) -> Result<(), AllocError>
     requires { IsTable width (map signed rows.now) }
-    ensures { OnOk result (flat_map entries_of items.new.items ≡ flat_map entries_of items.old.items ++ map (RowAt instant) (map signed rows.now)) }
+    ensures { OnOk result (flat_map entries_of items.new.items
+        ≡ flat_map entries_of items.old.items ++ map (RowAt instant) (map signed rows.now)) }
 {
     let mut from = 0;
     while from < rows.len() {
@@ -277,7 +285,8 @@ fn work_at(
     at: u64,
     groups: &[Touched],
 ) -> Result<(Vec<Item>, Change), AllocError>
-    ensures outputs { IfOk result (λ w. flat_map entries_of w.0.items ≡ map (RowAt at) (outputs group.now groups.now) ++ TickAt at ∷ []) }
+    ensures outputs { IfOk result (λ w. flat_map entries_of w.0.items
+        ≡ map (RowAt at) (outputs group.now groups.now) ++ TickAt at ∷ []) }
     ensures change { IfOk result (λ w. w.1 ≡ map (shown_now group.now) groups.now) }
 {
     let (rows, shown) = changes(alloc, group, groups)?;
@@ -310,7 +319,8 @@ pub fn work(
     item: &Item,
     near: &Near,
 ) -> Result<(Vec<Item>, Change), AllocError>
-    ensures outputs { IfOk result (λ w. flat_map entries_of w.0.items ≡ out group.now item.now near.now) }
+    ensures outputs { IfOk result (λ w. flat_map entries_of w.0.items
+        ≡ out group.now item.now near.now) }
     ensures change { IfOk result (λ w. w.1 ≡ change group.now item.now near.now) }
 {
     match item {

@@ -1,6 +1,7 @@
 //! Comparisons of a column with a number, and of two columns.
 
-ghost use Rattle.std.specs.Prelude.{◌≡◌, ◌<◌, ◌≤◌, ◌+◌, ℕ, length, Bool, List, map, cond, ℤ, FitsSigned, Some, ◌^◌, ◌*◌, neg_ℤ, ◌==◌};
+ghost use Rattle.std.specs.Prelude.{◌≡◌, ◌<◌, ◌≤◌, ◌+◌, ℕ, length, Bool, List, map, cond, ℤ};
+ghost use Rattle.std.specs.Prelude.{FitsSigned, Some, ◌^◌, ◌*◌, neg_ℤ, ◌==◌};
 ghost use Rattle.std.specs.Simd.Lanes.{mask_l, zip2, Each1};
 ghost use Rattle.std.specs.Int.{w64};
 ghost use Rattle.values.specs.Condition.{compared};
@@ -26,7 +27,8 @@ pub fn compare_const(
 )
     requires truth_fits { length truth.old ≡ word_count (length column.now) }
     requires known_fits { length known.old ≡ word_count (length column.now) }
-    ensures value { truths (length column.now) truth.new known.new ≡ map (λ v. compared how v (Some number)) column.now }
+    ensures value { truths (length column.now) truth.new known.new
+        ≡ map (λ v. compared how v (Some number)) column.now }
     ensures well_formed { IsTruth (length column.now) truth.new known.new }
 {
     match how {
@@ -53,7 +55,8 @@ pub fn compare_columns(
     requires same { length right.now ≡ length left.now }
     requires truth_fits { length truth.old ≡ word_count (length left.now) }
     requires known_fits { length known.old ≡ word_count (length left.now) }
-    ensures value { truths (length left.now) truth.new known.new ≡ zip2 (compared how) left.now right.now }
+    ensures value { truths (length left.now) truth.new known.new
+        ≡ zip2 (compared how) left.now right.now }
     ensures well_formed { IsTruth (length left.now) truth.new known.new }
 {
     match how {
@@ -115,7 +118,9 @@ fn compare_by<T: Test>(numbers: &[i64], valid: &[u64], c: i64, truth: &mut [u64]
     requires truth_fits { length truth.old ≡ word_count (length numbers.now) }
     requires known_fits { length known.old ≡ word_count (length numbers.now) }
     requires clear { IsClearFrom (length numbers.now) valid.now }
-    ensures places { (i : ℕ) → i < length numbers.now → truth_at truth.new known.new i ≡ test3 (test_of T.how) (value_at numbers.now valid.now i) (Some c) }
+    ensures places { (i : ℕ) → i < length numbers.now
+        → truth_at truth.new known.new i
+        ≡ test3 (test_of T.how) (value_at numbers.now valid.now i) (Some c) }
     ensures well_formed { IsTruth (length numbers.now) truth.new known.new }
 {
     for w in 0..valid.len() {
@@ -130,7 +135,8 @@ fn compare_by<T: Test>(numbers: &[i64], valid: &[u64], c: i64, truth: &mut [u64]
 fn const_by<T: Test>(column: &Column, number: i64, truth: &mut [u64], known: &mut [u64])
     requires truth_fits { length truth.old ≡ word_count (length column.now) }
     requires known_fits { length known.old ≡ word_count (length column.now) }
-    ensures value { truths (length column.now) truth.new known.new ≡ map (λ v. compared T.how v (Some number)) column.now }
+    ensures value { truths (length column.now) truth.new known.new
+        ≡ map (λ v. compared T.how v (Some number)) column.now }
     ensures well_formed { IsTruth (length column.now) truth.new known.new }
 {
     compare_by::<T>(column.numbers(), column.valid_words(), number, truth, known)
@@ -153,7 +159,9 @@ fn pair_by<T: Test>(
     requires truth_fits { length truth.old ≡ word_count (length xs.now) }
     requires known_fits { length known.old ≡ word_count (length xs.now) }
     requires clear { IsClearFrom (length xs.now) xs_valid.now }
-    ensures places { (i : ℕ) → i < length xs.now → truth_at truth.new known.new i ≡ test3 (test_of T.how) (value_at xs.now xs_valid.now i) (value_at ys.now ys_valid.now i) }
+    ensures places { (i : ℕ) → i < length xs.now
+        → truth_at truth.new known.new i
+        ≡ test3 (test_of T.how) (value_at xs.now xs_valid.now i) (value_at ys.now ys_valid.now i) }
     ensures well_formed { IsTruth (length xs.now) truth.new known.new }
 {
     for w in 0..xs_valid.len() {
@@ -170,7 +178,8 @@ fn columns_by<T: Test>(left: &Column, right: &Column, truth: &mut [u64], known: 
     requires same { length right.now ≡ length left.now }
     requires truth_fits { length truth.old ≡ word_count (length left.now) }
     requires known_fits { length known.old ≡ word_count (length left.now) }
-    ensures value { truths (length left.now) truth.new known.new ≡ zip2 (compared T.how) left.now right.now }
+    ensures value { truths (length left.now) truth.new known.new
+        ≡ zip2 (compared T.how) left.now right.now }
     ensures well_formed { IsTruth (length left.now) truth.new known.new }
 {
     pair_by::<T>(

@@ -1,13 +1,15 @@
 //! Whole conditions in one pass: each word of 64 rows goes through all steps, eight numbers at a
 //! time.
 
-ghost use Rattle.std.specs.Prelude.{◌≡◌, ◌<◌, ◌≤◌, ◌+◌, ◌*◌, ◌∷◌, [], ℕ, Bool, List, Option, None, Some, length, map, reverse, true, get_or};
+ghost use Rattle.std.specs.Prelude.{◌≡◌, ◌<◌, ◌≤◌, ◌+◌, ◌*◌, ◌∷◌, [], ℕ, Bool, List, Option, None};
+ghost use Rattle.std.specs.Prelude.{Some, length, map, reverse, true, get_or};
 ghost use Rattle.values.specs.Condition.{compared, not3, and3, or3};
 ghost use Rattle.std.specs.Int.{bit_at};
 ghost use Rattle.values.specs.Row.{Row};
 ghost use Rattle.column.specs.Bits.{word_count};
 ghost use Rattle.column.specs.Rows.{width};
-ghost use Rattle.lane_kernels.specs.Steps.{IsHeld, AreHeld, StepFits, StepsFit, after, height_after, steps_truth};
+ghost use Rattle.lane_kernels.specs.Steps.{IsHeld, AreHeld, StepFits, StepsFit, after};
+ghost use Rattle.lane_kernels.specs.Steps.{height_after, steps_truth};
 ghost use Rattle.lane_kernels.specs.Truth.{IsTruth, truths};
 
 use super::compare::{word_columns, word_const};
@@ -46,7 +48,8 @@ struct Word {
 type Stack = ArrayVec<Word, MAX_TRUTHS>;
 
 fn and_word(a: Word, b: Word) -> Word
-    ensures { (k : ℕ) → (x : Option Bool) → (y : Option Bool) → IsHeld k a x → IsHeld k b y → IsHeld k result (and3 x y) }
+    ensures { (k : ℕ) → (x : Option Bool) → (y : Option Bool) → IsHeld k a x → IsHeld k b y
+        → IsHeld k result (and3 x y) }
 {
     Word {
         yes: a.yes & b.yes,
@@ -55,7 +58,8 @@ fn and_word(a: Word, b: Word) -> Word
 }
 
 fn or_word(a: Word, b: Word) -> Word
-    ensures { (k : ℕ) → (x : Option Bool) → (y : Option Bool) → IsHeld k a x → IsHeld k b y → IsHeld k result (or3 x y) }
+    ensures { (k : ℕ) → (x : Option Bool) → (y : Option Bool) → IsHeld k a x → IsHeld k b y
+        → IsHeld k result (or3 x y) }
 {
     Word {
         yes: a.yes | b.yes,
@@ -91,7 +95,8 @@ fn known_word(truth: bool) -> Word
 /// The rows 64 `w` to 64 `w` + 63 of a column, compared with a number.
 fn const_word<T: Test>(column: &Column, number: i64, w: usize) -> Word
     requires { w * 64 < length column.now }
-    ensures { (k : ℕ) → k < 64 → 64 * w + k < length column.now → IsHeld k result (compared T.how (get_or column.now (64 * w + k) None) (Some number)) }
+    ensures { (k : ℕ) → k < 64 → 64 * w + k < length column.now
+        → IsHeld k result (compared T.how (get_or column.now (64 * w + k) None) (Some number)) }
 {
     let numbers = column.numbers();
     let from = w * 64;
@@ -108,7 +113,9 @@ fn const_word<T: Test>(column: &Column, number: i64, w: usize) -> Word
 fn columns_word<T: Test>(left: &Column, right: &Column, w: usize) -> Word
     requires within { w * 64 < length left.now }
     requires same { length right.now ≡ length left.now }
-    ensures { (k : ℕ) → k < 64 → 64 * w + k < length left.now → IsHeld k result (compared T.how (get_or left.now (64 * w + k) None) (get_or right.now (64 * w + k) None)) }
+    ensures { (k : ℕ) → k < 64 → 64 * w + k < length left.now
+        → IsHeld k result
+        (compared T.how (get_or left.now (64 * w + k) None) (get_or right.now (64 * w + k) None)) }
 {
     let (xs, ys) = (left.numbers(), right.numbers());
     let from = w * 64;
@@ -123,7 +130,8 @@ fn columns_word<T: Test>(left: &Column, right: &Column, w: usize) -> Word
 
 fn compared_number(column: &Column, how: Compare, number: i64, w: usize) -> Word
     requires { w * 64 < length column.now }
-    ensures { (k : ℕ) → k < 64 → 64 * w + k < length column.now → IsHeld k result (compared how (get_or column.now (64 * w + k) None) (Some number)) }
+    ensures { (k : ℕ) → k < 64 → 64 * w + k < length column.now
+        → IsHeld k result (compared how (get_or column.now (64 * w + k) None) (Some number)) }
 {
     match how {
         Compare::Equals => const_word::<Equals>(column, number, w),
@@ -138,7 +146,9 @@ fn compared_number(column: &Column, how: Compare, number: i64, w: usize) -> Word
 fn compared_columns(left: &Column, how: Compare, right: &Column, w: usize) -> Word
     requires within { w * 64 < length left.now }
     requires same { length right.now ≡ length left.now }
-    ensures { (k : ℕ) → k < 64 → 64 * w + k < length left.now → IsHeld k result (compared how (get_or left.now (64 * w + k) None) (get_or right.now (64 * w + k) None)) }
+    ensures { (k : ℕ) → k < 64 → 64 * w + k < length left.now
+        → IsHeld k result
+        (compared how (get_or left.now (64 * w + k) None) (get_or right.now (64 * w + k) None)) }
 {
     match how {
         Compare::Equals => columns_word::<Equals>(left, right, w),
@@ -173,7 +183,10 @@ fn run_step(step: Step, batch: &Batch, w: usize, stack: &mut Stack)
     requires tall { length stack.old.items ≤ MAX_TRUTHS }
     ensures tall { length stack.new.items ≤ MAX_TRUTHS }
     ensures height { length stack.new.items ≡ height_after step (length stack.old.items) }
-    ensures rows { (k : ℕ) → (vs : List (Option Bool)) → k < 64 → 64 * w + k < length batch.now → AreHeld k (reverse stack.old.items) vs → AreHeld k (reverse stack.new.items) (after step (get_or batch.now (64 * w + k) (true, [])).1 vs) }
+    ensures rows { (k : ℕ) → (vs : List (Option Bool)) → k < 64 → 64 * w + k < length batch.now
+        → AreHeld k (reverse stack.old.items) vs
+        → AreHeld k (reverse stack.new.items)
+        (after step (get_or batch.now (64 * w + k) (true, [])).1 vs) }
 {
     let _ = batch.len();
     match step {
@@ -208,7 +221,8 @@ fn run_step(step: Step, batch: &Batch, w: usize, stack: &mut Stack)
 fn run_word(steps: &[Step], batch: &Batch, w: usize, stack: &mut Stack) -> Word
     requires within { w * 64 < length batch.now }
     requires fits { StepsFit (width batch.now) 0 steps.now }
-    ensures { (k : ℕ) → k < 64 → 64 * w + k < length batch.now → IsHeld k result (steps_truth steps.now (get_or batch.now (64 * w + k) (true, [])).1) }
+    ensures { (k : ℕ) → k < 64 → 64 * w + k < length batch.now
+        → IsHeld k result (steps_truth steps.now (get_or batch.now (64 * w + k) (true, [])).1) }
 {
     stack.clear();
     for step in steps {
@@ -235,7 +249,8 @@ pub fn run_condition(steps: &[Step], batch: &Batch, truth: &mut [u64], known: &m
     requires fits { StepsFit (width batch.now) 0 steps.now }
     requires truth_fits { length truth.old ≡ word_count (length batch.now) }
     requires known_fits { length known.old ≡ word_count (length batch.now) }
-    ensures value { truths (length batch.now) truth.new known.new ≡ map (λ r. steps_truth steps.now r.1) batch.now }
+    ensures value { truths (length batch.now) truth.new known.new
+        ≡ map (λ r. steps_truth steps.now r.1) batch.now }
     ensures well_formed { IsTruth (length batch.now) truth.new known.new }
 {
     let rows = batch.len();

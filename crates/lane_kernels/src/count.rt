@@ -40,7 +40,9 @@ fn count_word(valid: u64, minus: u64) -> i64
 fn count_truths(valid: &[u64], minus: &[u64]) -> i64
     requires few { length valid.now ≤ 16 }
     requires same { length minus.now ≡ length valid.now }
-    ensures { result ≡ signed_truths (bits (64 * length valid.now) minus.now) (bits (64 * length valid.now) valid.now) }
+    ensures { result
+        ≡ signed_truths (bits (64 * length valid.now) minus.now)
+        (bits (64 * length valid.now) valid.now) }
 {
     let mut total = 0;
     for w in 0..valid.len() {

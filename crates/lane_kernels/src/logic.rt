@@ -12,7 +12,8 @@ pub fn not3(a_truth: &[u64], a_known: &[u64], truth: &mut [u64], known: &mut [u6
     requires same_truth { length truth.old ≡ length a_truth.now }
     requires same_known { length known.old ≡ length a_truth.now }
     requires is_a { IsKnownTruth a_truth.now a_known.now }
-    ensures places { (i : ℕ) → truth_at truth.new known.new i ≡ not3 (truth_at a_truth.now a_known.now i) }
+    ensures places { (i : ℕ)
+        → truth_at truth.new known.new i ≡ not3 (truth_at a_truth.now a_known.now i) }
     ensures well_formed { IsKnownTruth truth.new known.new }
     ensures past { (n : ℕ) → IsClearFrom n a_known.now → IsClearFrom n known.new }
 {
@@ -39,9 +40,12 @@ pub fn and3(
     requires same_known { length known.old ≡ length a_truth.now }
     requires is_a { IsKnownTruth a_truth.now a_known.now }
     requires is_b { IsKnownTruth b_truth.now b_known.now }
-    ensures places { (i : ℕ) → truth_at truth.new known.new i ≡ and3 (truth_at a_truth.now a_known.now i) (truth_at b_truth.now b_known.now i) }
+    ensures places { (i : ℕ)
+        → truth_at truth.new known.new i
+        ≡ and3 (truth_at a_truth.now a_known.now i) (truth_at b_truth.now b_known.now i) }
     ensures well_formed { IsKnownTruth truth.new known.new }
-    ensures past { (n : ℕ) → IsClearFrom n a_known.now → IsClearFrom n b_known.now → IsClearFrom n known.new }
+    ensures past { (n : ℕ) → IsClearFrom n a_known.now → IsClearFrom n b_known.now
+        → IsClearFrom n known.new }
 {
     for w in 0..a_truth.len() {
         let (t, k, u, l) = (a_truth[w], a_known[w], b_truth[w], b_known[w]);
@@ -66,9 +70,12 @@ pub fn or3(
     requires same_known { length known.old ≡ length a_truth.now }
     requires is_a { IsKnownTruth a_truth.now a_known.now }
     requires is_b { IsKnownTruth b_truth.now b_known.now }
-    ensures places { (i : ℕ) → truth_at truth.new known.new i ≡ or3 (truth_at a_truth.now a_known.now i) (truth_at b_truth.now b_known.now i) }
+    ensures places { (i : ℕ)
+        → truth_at truth.new known.new i
+        ≡ or3 (truth_at a_truth.now a_known.now i) (truth_at b_truth.now b_known.now i) }
     ensures well_formed { IsKnownTruth truth.new known.new }
-    ensures past { (n : ℕ) → IsClearFrom n a_known.now → IsClearFrom n b_known.now → IsClearFrom n known.new }
+    ensures past { (n : ℕ) → IsClearFrom n a_known.now → IsClearFrom n b_known.now
+        → IsClearFrom n known.new }
 {
     for w in 0..a_truth.len() {
         let (t, k, u, l) = (a_truth[w], a_known[w], b_truth[w], b_known[w]);

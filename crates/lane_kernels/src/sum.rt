@@ -1,6 +1,7 @@
 //! Sums with signs.
 
-ghost use Rattle.std.specs.Prelude.{◌≡◌, ◌<◌, ◌≤◌, ◌+◌, ℕ, length, Bool, List, map, cond, ℤ, FitsSigned, Some, ◌^◌, ◌*◌, neg_ℤ, ◌==◌};
+ghost use Rattle.std.specs.Prelude.{◌≡◌, ◌<◌, ◌≤◌, ◌+◌, ℕ, length, Bool, List, map, cond, ℤ};
+ghost use Rattle.std.specs.Prelude.{FitsSigned, Some, ◌^◌, ◌*◌, neg_ℤ, ◌==◌};
 ghost use Rattle.std.specs.Simd.Lanes.{Each1};
 ghost use Rattle.std.specs.Int.{bit_at};
 ghost use Rattle.std.specs.Prelude.{All};

@@ -12,10 +12,12 @@ use Rattle.names.specs.Catalog.{number_in}
 use Rattle.names.specs.Faults as naming
 use Rattle.names.specs.Matches.{tables}
 use Rattle.names.specs.Resolved.{resolved, streams, widths}
+use Rattle.names.specs.declared.fault.ResolveFault.{ResolveFault}
 use Rattle.names.proofs.Accepted.{accepted}
 use Rattle.plan.specs.Build.{plan_of}
 use Rattle.plan.specs.Chart.{is_bad_chart, measures_of}
 use Rattle.plan.specs.Faults as planning
+use Rattle.plan.specs.declared.fault.PlanFault.{PlanFault}
 use Rattle.plan.specs.declared.operators.Plan.{Plan}
 use Rattle.reference.specs.Commands.{Found, catalog_of, found, found_by, found_of, nodes_by, place_at, unless_faulty}
 use Rattle.reference.specs.Finds.{Finds}
@@ -38,11 +40,11 @@ pub record IsFoundOf (catalog : List catalogs.Stream) (source : List ℕ) (f : F
   pub meaning : f.meaning ≡ resolved query catalog
   pub streams : f.streams ≡ streams query catalog
 
-no_name_fault : (f : Option naming.Fault) (bad : Bool) → planning.after_names f bad ≡ None → f ≡ None
+no_name_fault : (f : Option ResolveFault) (bad : Bool) → planning.after_names f bad ≡ None → f ≡ None
 no_name_fault (Some fault) bad h = absurd (cc)
 no_name_fault None bad h = refl
 
-unless_none : (catalog : List catalogs.Stream) (given : Option (List (ℤ × ℤ))) (source : List ℕ) (q : syntax.Query) → reading source ≡ Ok q → (o : Option planning.Fault)
+unless_none : (catalog : List catalogs.Stream) (given : Option (List (ℤ × ℤ))) (source : List ℕ) (q : syntax.Query) → reading source ≡ Ok q → (o : Option PlanFault)
     → planning.first_fault q catalog given ≡ o → (f : Found) → unless_faulty o (meant catalog given q) ≡ Ok f → IsFoundOf catalog source f
 unless_none catalog given source q e (Some fault) none f h = absurd (cc)
 unless_none catalog given source q e None none f h =

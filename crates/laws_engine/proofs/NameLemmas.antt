@@ -6,15 +6,17 @@ use Rattle.std.proofs.lemmas.Bool.{ltb-false}
 use Rattle.std.proofs.lemmas.List.{length-map}
 use Rattle.std.proofs.lemmas.List.FromFn.{length-map-range_with_len}
 use Rattle.std.proofs.lemmas.List.Sums.{sum_by-cons}
+use Rattle.values.specs.declared.TheConstants.{MAX_COLUMNS}
 use Rattle.values.specs.Answers.{Resolved}
 use Rattle.values.specs.Condition as meant
 use Rattle.values.specs.Relation.{ListItem, Shape, Listed, Grouped}
 use Rattle.cql_reader.specs.Query as syntax
 use Rattle.cql_reader.specs.WellFormed.{HasItems, IsWellFormed}
 use Rattle.names.specs.Catalog.{Stream, columns_in, number_in}
-use Rattle.names.specs.Faults.{Fault, fault_tests, first_fault, first_of, has_outside, is_ungrouped, partition_of}
+use Rattle.names.specs.Faults.{fault_tests, first_fault, first_of, has_outside, is_ungrouped, partition_of}
 use Rattle.names.specs.Matches.{Table, column_of, place_in, table_of, tables}
 use Rattle.names.specs.Resolved.{all_columns, condition_of, entry_list, is_aggregate, is_grouped, is_some_reference, item_of, listed_columns, named_by, resolved, shape_of, window_of, windows_of}
+use Rattle.names.specs.declared.fault.ResolveFault.{ResolveFault}
 use Rattle.names.proofs.Accepted.{Accepted, accepted, few, known}
 use Rattle.laws_queries.specs.Registrations.{IsNarrowShape, IsTextWindow, NeedsFewTruths, shape_width}
 use Rattle.laws_engine.proofs.ConditionLemmas.{IsFew, resolved_few}
@@ -24,18 +26,18 @@ or_none true b h = absurd (cc)
 or_none false b h = (refl, h)
 
 -- WINDOWS
-window_text : (t : Table) (w : syntax.Window) → nat_lt 16 (length (partition_of w)) ≡ false → IsTextWindow (window_of t w)
+window_text : (t : Table) (w : syntax.Window) → nat_lt MAX_COLUMNS (length (partition_of w)) ≡ false → IsTextWindow (window_of t w)
 window_text t syntax.Now h = tt
 window_text t (syntax.Range instants) h = tt
 window_text t syntax.Unbounded h = tt
 window_text t (syntax.Rows rows) h = omega arith
-window_text t (syntax.Partition by rows) h = omega (arith, ltb-false 16 (length by) h, length-map by (place_in t))
+window_text t (syntax.Partition by rows) h = omega (arith, ltb-false MAX_COLUMNS (length by) h, length-map by (place_in t))
 
-windows_text : (catalog : List Stream) (ss : List syntax.Source) → list_any (λ s. nat_lt 16 (length (partition_of s.window))) ss ≡ false
+windows_text : (catalog : List Stream) (ss : List syntax.Source) → list_any (λ s. nat_lt MAX_COLUMNS (length (partition_of s.window))) ss ≡ false
     → AllByRecursion IsTextWindow (windows_of catalog ss)
 windows_text catalog [] h = tt
 windows_text catalog (s ∷ ss) h =
-    let both = or_none (nat_lt 16 (length (partition_of s.window))) (list_any (λ s. nat_lt 16 (length (partition_of s.window))) ss) h in
+    let both = or_none (nat_lt MAX_COLUMNS (length (partition_of s.window))) (list_any (λ s. nat_lt MAX_COLUMNS (length (partition_of s.window))) ss) h in
     (window_text (table_of catalog s) s.window both.0, windows_text catalog ss both.1)
 
 -- THE CONDITION
@@ -65,7 +67,7 @@ named_few : (es : List syntax.Entry) → length (flat_map named_by es) ≤ lengt
 named_few [] = omega arith
 named_few (e ∷ es) = omega (arith, named_once e, named_few es, length-append (named_by e) (flat_map named_by es))
 
-listed_few : (ts : List Table) (es : syntax.Entries) → length (entry_list es) ≤ 16 → sum (map (λ t. length t.columns) ts) ≤ 16 → length (listed_columns ts es) ≤ 16
+listed_few : (ts : List Table) (es : syntax.Entries) → length (entry_list es) ≤ MAX_COLUMNS → sum (map (λ t. length t.columns) ts) ≤ MAX_COLUMNS → length (listed_columns ts es) ≤ MAX_COLUMNS
 listed_few ts syntax.All h w = omega (arith, w, columns_counted 0 ts)
 listed_few ts (syntax.Each es) h w = omega (arith, h, named_few es, length-map (flat_map named_by es) (column_of ts))
 
@@ -98,8 +100,8 @@ and_none : (a b : Bool) → a ≡ true → (a && b) ≡ false → b ≡ false
 and_none true b e h = h
 and_none false b e h = absurd (cc)
 
-shape_fits : (ts : List Table) (q : syntax.Query) → HasItems q.entries → length (entry_list q.entries) ≤ 16 → length q.group ≤ 16 → is_ungrouped ts q ≡ false
-    → 0 < sum (map (λ t. length t.columns) ts) → sum (map (λ t. length t.columns) ts) ≤ 16 → FitsRow (shape_of ts q)
+shape_fits : (ts : List Table) (q : syntax.Query) → HasItems q.entries → length (entry_list q.entries) ≤ MAX_COLUMNS → length q.group ≤ MAX_COLUMNS → is_ungrouped ts q ≡ false
+    → 0 < sum (map (λ t. length t.columns) ts) → sum (map (λ t. length t.columns) ts) ≤ MAX_COLUMNS → FitsRow (shape_of ts q)
 shape_fits ts q items few_items few_by outside some few_columns =
     let by : List meant.Column = map (column_of ts) q.group in
     either_shape (is_grouped q) (listed_columns ts q.entries) by (map (item_of ts by) (entry_list q.entries))
@@ -138,7 +140,7 @@ pub record MeansFit (meaning : Resolved) : Type 0 where
   pub shown : 0 < shape_width meaning.shape
   pub narrow : IsNarrowShape meaning.shape
 
-none_met : (ts : List (Bool × Fault)) → first_of ts ≡ None → AllByRecursion (λ t. t.0 ≡ false) ts
+none_met : (ts : List (Bool × ResolveFault)) → first_of ts ≡ None → AllByRecursion (λ t. t.0 ≡ false) ts
 none_met [] h = tt
 none_met ((true, fault) ∷ ts) h = absurd (cc)
 none_met ((false, fault) ∷ ts) h = (refl, none_met ts h)

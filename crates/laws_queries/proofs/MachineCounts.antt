@@ -18,12 +18,14 @@ use Rattle.names.specs.Catalog.{columns_in, number_in}
 use Rattle.names.specs.Matches.{table_of, tables}
 use Rattle.names.specs.Resolved.{resolved, streams, widths}
 use Rattle.names.specs.Faults as naming
+use Rattle.names.specs.declared.fault.ResolveFault.{ResolveFault}
 use Rattle.names.proofs.Accepted.{accepted, known}
 use Rattle.plan.specs.Build.{plan_of}
 use Rattle.plan.specs.Chart.{is_bad_chart, measures_of}
 use Rattle.plan.specs.Faults as planning
 use Rattle.plan.specs.Nodes.{Node}
 use Rattle.plan.specs.Scope.{Tables}
+use Rattle.plan.specs.declared.fault.PlanFault.{PlanFault}
 use Rattle.plan.proofs.Accepted.{accepted-scoped}
 use Rattle.plan.proofs.Lists.{each-append, each-filter, each-map, each-weaken, each_at}
 use Rattle.reference.specs.Machine.{Machine, Place, Registered, Stream, input_at}
@@ -203,11 +205,11 @@ read_query m given name q good none =
       known = places_known m (streams q catalog) (known catalog q.sources known_streams);
     }
 
-no_name_fault : (f : Option naming.Fault) (bad : Bool) → planning.after_names f bad ≡ None → f ≡ None
+no_name_fault : (f : Option ResolveFault) (bad : Bool) → planning.after_names f bad ≡ None → f ≡ None
 no_name_fault (Some fault) bad h = cc
 no_name_fault None bad h = refl
 
-found_query : (m : Machine) (given : Option (List (ℤ × ℤ))) (name : List ℕ) (q : syntax.Query) → IsWellFormed q → (o : Option planning.Fault)
+found_query : (m : Machine) (given : Option (List (ℤ × ℤ))) (name : List ℕ) (q : syntax.Query) → IsWellFormed q → (o : Option PlanFault)
     → planning.first_fault q (catalog_of m.streams) given ≡ o → (f : Found)
     → unless_faulty o (meant m given q) ≡ Ok f
     → IsQuery m.streams (registered_as m name f)

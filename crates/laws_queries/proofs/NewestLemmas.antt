@@ -4,6 +4,7 @@ use Rattle.std.specs.Prelude.{ℤ, Result, Ok, Err, slice_get, unwrap_or, nat_lt
 use Rattle.std.specs.List.{AllByRecursion, reduce, list_all, fold}
 use Rattle.std.specs.Option.{is_some, option_map_or}
 use Rattle.std.proofs.lemmas.Bool.{lt-leb, leb-true, ltb-true}
+use Rattle.values.specs.declared.TheConstants.{MAX_COLUMNS}
 use Rattle.values.specs.Window.{Element, input_of}
 use Rattle.cql_reader.specs.Lexis.{is_name}
 use Rattle.names.specs.Faults.{first_of, has_repeat}
@@ -156,7 +157,7 @@ each_few : (ss : List Stream) (ps : List Place) → AllByRecursion HasColumnName
 each_few ss [] h k = tt
 each_few ss (p ∷ ps) h k = ((columns_here ss p.stream h k.0).1, each_few ss ps h k.1)
 
-sum_few : (vs : List ℕ) → AllByRecursion (λ v. v ≤ 8) vs → length vs ≤ 2 → sum vs ≤ 16
+sum_few : (vs : List ℕ) → AllByRecursion (λ v. v ≤ 8) vs → length vs ≤ 2 → sum vs ≤ MAX_COLUMNS
 sum_few [] h l = omega arith
 sum_few (u ∷ []) h l =
     let e : sum (u ∷ []) ≡ u + sum [] = sum_by-cons (λ x. x) u [] in

@@ -5,6 +5,7 @@ use Rattle.std.proofs.lemmas.Bool.{eqb-true, and_parts}
 use Rattle.std.proofs.lemmas.List.{length-map}
 use Rattle.std.proofs.lemmas.List.FromFn.{length-map-range_with_len}
 use Rattle.std.proofs.lemmas.List.Sums.{sum_by-cons}
+use Rattle.values.specs.declared.TheConstants.{MAX_COLUMNS}
 use Rattle.values.specs.Condition.{Column, Operand, Field, Number, Condition, Compared, Not, And, Or}
 use Rattle.values.specs.Relation.{Shape, Listed, Grouped}
 use Rattle.values.specs.Answers.{StreamOperator, Resolved}
@@ -47,13 +48,13 @@ NodeFits vs done (Select i []) = ⊥
 NodeFits vs done (Select i (c ∷ cs)) = AllByRecursion (IsOver (get_or done i 0)) (c ∷ cs) × AreShort 67 (c ∷ cs)
 NodeFits vs done (Join i j keys) = Unit {0}
 NodeFits vs done (Project i columns) = AllByRecursion (λ c. c.column < get_or done i 0) columns
-NodeFits vs done (Group i by items) = length by ≤ 16
+NodeFits vs done (Group i by items) = length by ≤ MAX_COLUMNS
 NodeFits vs done (Distinct i) = 0 < get_or done i 0
 NodeFits vs done (ToStream i op) = Unit {0}
 
 abbrev pub AllFit : List ℕ → List ℕ → List plan.Node → Type 0
 AllFit vs done [] = Unit {0}
-AllFit vs done (n ∷ ns) = NodeFits vs done n × (width_by vs done n ≤ 16) × AllFit vs (done ++ width_by vs done n ∷ []) ns
+AllFit vs done (n ∷ ns) = NodeFits vs done n × (width_by vs done n ≤ MAX_COLUMNS) × AllFit vs (done ++ width_by vs done n ∷ []) ns
 
 -- LISTS OF WIDTHS
 stay_append : (done more : List ℕ) (k : ℕ) → k < length done → get_or (done ++ more) k 0 ≡ get_or done k 0
@@ -90,20 +91,20 @@ fit_append : (vs done : List ℕ) (ns ms : List plan.Node) → AllFit vs done ns
 fit_append vs done [] ms h k = k
 fit_append vs done (n ∷ ns) ms h k = (h.0, h.1, fit_append vs (done ++ width_by vs done n ∷ []) ns ms h.2 k)
 
-narrow_append : (done : List ℕ) (w : ℕ) → AllByRecursion (λ v. v ≤ 16) done → w ≤ 16 → AllByRecursion (λ v. v ≤ 16) (done ++ w ∷ [])
+narrow_append : (done : List ℕ) (w : ℕ) → AllByRecursion (λ v. v ≤ MAX_COLUMNS) done → w ≤ MAX_COLUMNS → AllByRecursion (λ v. v ≤ MAX_COLUMNS) (done ++ w ∷ [])
 narrow_append [] w h l = (l, tt)
 narrow_append (x ∷ done) w h l = (h.0, narrow_append done w h.1 l)
 
-narrow_widths : (vs done : List ℕ) (ns : List plan.Node) → AllFit vs done ns → AllByRecursion (λ v. v ≤ 16) done → AllByRecursion (λ v. v ≤ 16) (all_widths vs done ns)
+narrow_widths : (vs done : List ℕ) (ns : List plan.Node) → AllFit vs done ns → AllByRecursion (λ v. v ≤ MAX_COLUMNS) done → AllByRecursion (λ v. v ≤ MAX_COLUMNS) (all_widths vs done ns)
 narrow_widths vs done [] f h = h
 narrow_widths vs done (n ∷ ns) f h = narrow_widths vs (done ++ width_by vs done n ∷ []) ns f.2 (narrow_append done (width_by vs done n) h f.1)
 
-narrow_of : (ws : List ℕ) → AllByRecursion (λ v. v ≤ 16) ws → (k : ℕ) → get_or ws k 0 ≤ 16
+narrow_of : (ws : List ℕ) → AllByRecursion (λ v. v ≤ MAX_COLUMNS) ws → (k : ℕ) → get_or ws k 0 ≤ MAX_COLUMNS
 narrow_of [] h k = omega arith
 narrow_of (w ∷ ws) h zero = h.0
 narrow_of (w ∷ ws) h (suc k) = narrow_of ws h.1 k
 
-pub narrow_at : (vs : List ℕ) (ns : List plan.Node) → AllFit vs [] ns → (k : ℕ) → get_or (all_widths vs [] ns) k 0 ≤ 16
+pub narrow_at : (vs : List ℕ) (ns : List plan.Node) → AllFit vs [] ns → (k : ℕ) → get_or (all_widths vs [] ns) k 0 ≤ MAX_COLUMNS
 narrow_at vs ns f k = narrow_of (all_widths vs [] ns) (narrow_widths vs [] ns f tt) k
 
 -- EACH OPERATOR by all widths
@@ -287,7 +288,7 @@ record SourcesFit (all : List ℕ) (s n : ℕ) (done vs : List ℕ) (each : List
   fit : AllFit all done (source_nodes n s each)
   tops : AreTops (all_widths all done (source_nodes n s each)) (tops n each) vs
 
-sources_fit : (all : List ℕ) (s n : ℕ) (done vs : List ℕ) (each : List (List Condition)) → drop s all ≡ vs → length done ≡ n → AllByRecursion (λ v. v ≤ 16) vs → AreOwn vs each → SourcesFit all s n done vs each
+sources_fit : (all : List ℕ) (s n : ℕ) (done vs : List ℕ) (each : List (List Condition)) → drop s all ≡ vs → length done ≡ n → AllByRecursion (λ v. v ≤ MAX_COLUMNS) vs → AreOwn vs each → SourcesFit all s n done vs each
 sources_fit all s n done [] [] d e h o = record { fit = tt; tops = tt }
 sources_fit all s n done [] (cs ∷ each) d e h o = elim o [ ]
 sources_fit all s n done (v ∷ vs) [] d e h o = elim o [ ]
@@ -298,7 +299,7 @@ sources_fit all s n done (v ∷ vs) ([] ∷ each) d e h o =
     let rest = sources_fit all (suc s) (suc n) (done ++ w ∷ []) vs each r.2 long h.1 o.2 in
     let ns : List plan.Node = source_nodes (suc n) (suc s) each in
     record {
-      fit = (r.0, subst (λ x. x ≤ 16) (sym r.1) h.0, rest.fit);
+      fit = (r.0, subst (λ x. x ≤ MAX_COLUMNS) (sym r.1) h.0, rest.fit);
       tops = (
         omega (arith, widths_long all (done ++ w ∷ []) ns, long),
         widths_stay all (done ++ w ∷ []) ns n (omega (arith, long)) ∙ end_append done w n e ∙ r.1,
@@ -316,7 +317,7 @@ sources_fit all s n done (v ∷ vs) ((c ∷ cs) ∷ each) d e h o =
     let rest = sources_fit all (suc s) (suc (suc n)) (two ++ u ∷ []) vs each r.2 longer h.1 o.2 in
     let ns : List plan.Node = source_nodes (suc (suc n)) (suc s) each in
     record {
-      fit = (r.0, subst (λ x. x ≤ 16) (sym r.1) h.0, ((subst (λ x. AllByRecursion (IsOver x) (c ∷ cs)) (sym is) o.0, o.1), subst (λ x. x ≤ 16) (sym is) h.0, rest.fit));
+      fit = (r.0, subst (λ x. x ≤ MAX_COLUMNS) (sym r.1) h.0, ((subst (λ x. AllByRecursion (IsOver x) (c ∷ cs)) (sym is) o.0, o.1), subst (λ x. x ≤ MAX_COLUMNS) (sym is) h.0, rest.fit));
       tops = (
         omega (arith, widths_long all (two ++ u ∷ []) ns, longer),
         widths_stay all (two ++ u ∷ []) ns (suc n) (omega (arith, longer)) ∙ end_append two u (suc n) long ∙ is,
@@ -338,7 +339,7 @@ record TopFits (all done : List ℕ) (ns : List plan.Node) (top total : ℕ) : T
   width : get_or (all_widths all done ns) top 0 ≡ total
 
 joins_fit : (all : List ℕ) (n left w total : ℕ) (done ts vs : List ℕ) (keys : List (List Key)) → length done ≡ n → left < n → get_or done left 0 ≡ w → AreTops done ts vs → length keys ≡ length ts
-    → w + sum vs ≡ total → total ≤ 16 → TopFits all done (join_nodes n left ts keys) (joins_top n left ts keys) total
+    → w + sum vs ≡ total → total ≤ MAX_COLUMNS → TopFits all done (join_nodes n left ts keys) (joins_top n left ts keys) total
 joins_fit all n left w total done [] [] keys e l is h k s m = record { fit = tt; low = omega (arith, l, e); width = omega (arith, is, s) }
 joins_fit all n left w total done [] (v ∷ vs) keys e l is h k s m = elim h [ ]
 joins_fit all n left w total done (t ∷ ts) [] keys e l is h k s m = elim h [ ]
@@ -351,7 +352,7 @@ joins_fit all n left w total done (t ∷ ts) (v ∷ vs) (ks ∷ keys) e l is h k
     (omega (arith, s, more)) m in
     record { fit = (tt, omega (arith, both, s, more, m), rest.fit); low = rest.low; width = rest.width }
 
-joins_all : (all : List ℕ) (n : ℕ) (done ts vs : List ℕ) (keys : List (List Key)) → length done ≡ n → AreTops done ts vs → 0 < length vs → length keys ≡ length ts - 1 → sum vs ≤ 16
+joins_all : (all : List ℕ) (n : ℕ) (done ts vs : List ℕ) (keys : List (List Key)) → length done ≡ n → AreTops done ts vs → 0 < length vs → length keys ≡ length ts - 1 → sum vs ≤ MAX_COLUMNS
     → TopFits all done (joins_of n ts keys) (top_of n ts keys) (sum vs)
 joins_all all n done [] [] keys e h some k m = absurd (omega (arith, some))
 joins_all all n done [] (v ∷ vs) keys e h some k m = elim h [ ]
@@ -360,7 +361,7 @@ joins_all all n done (t ∷ ts) (v ∷ vs) keys e h some k m =
     joins_fit all n t v (sum (v ∷ vs)) done ts vs keys e (omega (arith, h.0, e)) h.1 h.2 (omega (arith, k)) (sym (sum_by-cons (λ x. x) v vs)) m
 
 -- WHAT REMAINS
-rest_fit : (all done : List ℕ) (n top total : ℕ) (rest : List Condition) → length done ≡ n → top < n → get_or done top 0 ≡ total → total ≤ 16 → AllByRecursion (IsOver total) rest → AreShort 67 rest
+rest_fit : (all done : List ℕ) (n top total : ℕ) (rest : List Condition) → length done ≡ n → top < n → get_or done top 0 ≡ total → total ≤ MAX_COLUMNS → AllByRecursion (IsOver total) rest → AreShort 67 rest
     → TopFits all done (rest_nodes top rest) (rest_top n top rest) total
 rest_fit all done n top total [] e l is m over short = record { fit = tt; low = omega (arith, l, e); width = is }
 rest_fit all done n top total (c ∷ cs) e l is m over short = record {
@@ -370,7 +371,7 @@ rest_fit all done n top total (c ∷ cs) e l is m over short = record {
 }
 
 -- THE END
-end_fit : (all done : List ℕ) (b : Bool) (shape : plan.Node) (op : StreamOperator) (n : ℕ) → length done ≡ n → NodeFits all done shape → 0 < width_by all done shape → width_by all done shape ≤ 16 → AllFit all done (end_nodes b shape op n)
+end_fit : (all done : List ℕ) (b : Bool) (shape : plan.Node) (op : StreamOperator) (n : ℕ) → length done ≡ n → NodeFits all done shape → 0 < width_by all done shape → width_by all done shape ≤ MAX_COLUMNS → AllFit all done (end_nodes b shape op n)
 end_fit all done true shape op n e f some m =
     let w : ℕ = width_by all done shape in
     let two : List ℕ = done ++ w ∷ [] in
@@ -393,7 +394,7 @@ shape_width_is : (vs done : List ℕ) (top : ℕ) (shape : Shape) → width_by v
 shape_width_is vs done top (Listed columns) = length-map columns (placed vs)
 shape_width_is vs done top (Grouped by items) = length-map items (Rattle.plan.specs.Build.item_moved (placed vs))
 
-shape_narrow : (shape : Shape) → IsNarrowShape shape → shape_width shape ≤ 16
+shape_narrow : (shape : Shape) → IsNarrowShape shape → shape_width shape ≤ MAX_COLUMNS
 shape_narrow (Listed columns) h = h
 shape_narrow (Grouped by items) h = h.1
 
@@ -424,7 +425,7 @@ plan_fits vs q some scoped fit =
     let ss : List plan.Node = source_nodes 0 0 each in
     let done : List ℕ = all_widths vs [] ss in
     let long : length done ≡ length ss = omega (arith, widths_long vs [] ss) in
-    let sources = sources_fit vs 0 0 [] vs each refl refl (each-weaken (λ x. x ≤ sum vs) (λ x. x ≤ 16) (λ x l. omega (arith, l, fit.together)) vs (each_below vs)) owns in
+    let sources = sources_fit vs 0 0 [] vs each refl refl (each-weaken (λ x. x ≤ sum vs) (λ x. x ≤ MAX_COLUMNS) (λ x l. omega (arith, l, fit.together)) vs (each_below vs)) owns in
     let ts : List ℕ = tops 0 each in
     let own_long : length each ≡ n = length-map (own_of n cs) (map (moved alone)) ∙ length-map-range_with_len (own n cs) 0 n in
     let keys_long : length keys ≡ n - 1 = length-map (join_keys_of n cs) (map (key_placed vs)) ∙ length-map-range_with_len (join_keys cs) 1 (n - 1) in

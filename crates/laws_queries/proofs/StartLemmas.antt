@@ -3,6 +3,7 @@ use Rattle.std.proofs.Common.{◌≡◌, ℕ, zero, suc, ◌-◌, ◌<◌, ◌�
 use Rattle.std.specs.List.{AllByRecursion}
 use Rattle.std.proofs.lemmas.List.{get_or-map, length-map}
 use Rattle.std.proofs.lemmas.List.FromFn.{length-map-range_with_len}
+use Rattle.values.specs.declared.TheConstants.{MAX_COLUMNS}
 use Rattle.values.specs.Resolved.{condition_of, items_of, operator_of, window_of}
 use Rattle.values.specs.declared.resolved.ListItem.TheVariants as listed
 use Rattle.values.specs.declared.resolved.StreamOperator.{StreamOperator}
@@ -75,7 +76,7 @@ narrow_coded : (vs done : List ℕ) (ns : List Node) → AllFit vs done (nodes_o
 narrow_coded vs done [] f = tt
 narrow_coded vs done (n ∷ ns) f =
     let e : width_by vs done (node_of n) ≡ width_made vs done n = sym (width_coded vs done n) in
-    (subst (λ w. w ≤ 16) e f.1, subst (λ w. HaveNarrowRows vs (done ++ w ∷ []) ns) e (narrow_coded vs (done ++ width_by vs done (node_of n) ∷ []) ns f.2))
+    (subst (λ w. w ≤ MAX_COLUMNS) e f.1, subst (λ w. HaveNarrowRows vs (done ++ w ∷ []) ns) e (narrow_coded vs (done ++ width_by vs done (node_of n) ∷ []) ns f.2))
 
 -- WINDOWS by the numbers of their sources
 text_window : (ws : List Window) (s : ℕ) → AllByRecursion IsTextWindow (map window_of ws) → IsTextWindow (window_of (window_at ws s))
@@ -109,7 +110,7 @@ made_at ws vs widths places start (n ∷ ns) (o ∷ os) zero d e l h = h.0
 made_at ws vs widths places start (n ∷ ns) (o ∷ os) (suc k) d e l h = made_at ws vs widths places start ns os k d e (omega (arith, l)) h.1
 
 -- THEY MAY BE MADE
-makeable : (windows : List Window) (vs ws : List ℕ) (k : ℕ) (n : Node) → AllByRecursion IsTextWindow (map window_of windows) → ((i : ℕ) → get_or ws i 0 ≤ 16) → FitsAt vs ws k (node_of n) → IsMakeable windows ws n
+makeable : (windows : List Window) (vs ws : List ℕ) (k : ℕ) (n : Node) → AllByRecursion IsTextWindow (map window_of windows) → ((i : ℕ) → get_or ws i 0 ≤ MAX_COLUMNS) → FitsAt vs ws k (node_of n) → IsMakeable windows ws n
 makeable windows vs ws k (Source s) t narrow f = narrow_window (window_at windows s) (text_window windows s t)
 makeable windows vs ws k (Select i cs) t narrow f = conditions cs.items f.fits
   where
@@ -138,7 +139,7 @@ nothing_right o log e = ap (λ (i : Inbox). entries_in i log) (sym e)
 fed : (i : Inbox) → i ≡ nothing_waits → is_fed i ≡ true
 fed i e = ap is_fed e
 
-module _ (windows : List Window) (vs ws : List ℕ) (m : Machine) (q : Registered) (log : Closed) (k : ℕ) (o : PlainOperator) (narrow : (i : ℕ) → get_or ws i 0 ≤ 16) where
+module _ (windows : List Window) (vs ws : List ℕ) (m : Machine) (q : Registered) (log : Closed) (k : ℕ) (o : PlainOperator) (narrow : (i : ℕ) → get_or ws i 0 ≤ MAX_COLUMNS) where
   none_few : (most : ℕ) → count [] ≤ most
   none_few most = omega (arith, count_none)
 
@@ -297,8 +298,8 @@ module _ (vs : List ℕ) (m : Machine) (q : Registered) (fit : IsFit vs q.meanin
   widths_are : all_widths vs [] (nodes_of nodes) ≡ ws
   widths_are = sym (widths_coded vs [] nodes)
 
-  narrow_ws : (i : ℕ) → get_or ws i 0 ≤ 16
-  narrow_ws i = subst (λ l. get_or l i 0 ≤ 16) widths_are (narrow_at vs (nodes_of nodes) plan_fit i)
+  narrow_ws : (i : ℕ) → get_or ws i 0 ≤ MAX_COLUMNS
+  narrow_ws i = subst (λ l. get_or l i 0 ≤ MAX_COLUMNS) widths_are (narrow_at vs (nodes_of nodes) plan_fit i)
 
   text : AllByRecursion IsTextWindow (map window_of windows)
   text = subst (AllByRecursion IsTextWindow) coded.shows fit.windows

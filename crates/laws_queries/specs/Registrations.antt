@@ -1,6 +1,7 @@
 -- A query at its registration: what its text and the machine's streams make sure of, so that the operators of its plan can be made, and run.
 use Rattle.std.specs.Prelude.{ℕ, ◌≡◌, ◌<◌, ◌≤◌, None, Ok, Option, Some, List, [], ℤ, length, map, sum, get_or}
 use Rattle.std.specs.List.{All, AllByRecursion}
+use Rattle.values.specs.declared.TheConstants.{MAX_COLUMNS}
 use Rattle.values.specs.Answers.{Resolved}
 use Rattle.values.specs.Condition.{Condition}
 use Rattle.values.specs.Relation.{Shape, Listed, Grouped}
@@ -29,15 +30,15 @@ shape_width (Grouped by items) = length items
 
 -- lists of columns and of items, and those of Group By, are not too long
 abbrev pub IsNarrowShape : Shape → Type 0
-IsNarrowShape (Listed columns) = length columns ≤ 16
-IsNarrowShape (Grouped by items) = (length by ≤ 16) × (length items ≤ 16)
+IsNarrowShape (Listed columns) = length columns ≤ MAX_COLUMNS
+IsNarrowShape (Grouped by items) = (length by ≤ MAX_COLUMNS) × (length items ≤ MAX_COLUMNS)
 
 -- no text names a window that slides, and lists of Partition By are not too long
 abbrev pub IsTextWindow : shown.Window → Type 0
 IsTextWindow (shown.Range n) = Unit {0}
 IsTextWindow (shown.RangeSlide n l) = ⊥
 IsTextWindow shown.Unbounded = Unit {0}
-IsTextWindow (shown.LastRows columns n) = length columns ≤ 16
+IsTextWindow (shown.LastRows columns n) = length columns ≤ MAX_COLUMNS
 
 -- the steps of the condition have room
 abbrev pub NeedsFewTruths : Option Condition → Type 0
@@ -47,7 +48,7 @@ NeedsFewTruths (Some c) = truths_needed c ≤ 67
 -- over sources so wide
 pub record IsFit (vs : List ℕ) (meaning : Resolved) : Type 0 where
   pub some : AllByRecursion (λ v. 0 < v) vs
-  pub together : sum vs ≤ 16
+  pub together : sum vs ≤ MAX_COLUMNS
   pub windows : AllByRecursion IsTextWindow meaning.windows
   pub condition : NeedsFewTruths meaning.condition
   pub shown : 0 < shape_width meaning.shape
@@ -103,6 +104,6 @@ pub record RegistrationsStand : Type 0 where
   pub newest : (m : Machine) (name source : List ℕ) (given : Option (List (ℤ × ℤ))) → first_fault m (Register name source given) ≡ None → IsMachine m → HaveRows m → IsNewest m name source given
   pub start : HaveColumnNames empty
   pub goes_on : (m : Machine) (c : Command) (count : ℕ) → first_fault m c ≡ None → HaveColumnNames m → HaveColumnNames (after m c count)
-  -- so the sources of a query have a column or more each, and at most 16 together
+  -- so the sources of a query have a column or more each, and at most MAX_COLUMNS together
   pub some : (m : Machine) (q : Registered) → HaveColumnNames m → IsQuery m.streams q → AllByRecursion (λ v. 0 < v) (widths_of m.streams q)
-  pub together : (m : Machine) (q : Registered) → HaveColumnNames m → IsQuery m.streams q → sum (widths_of m.streams q) ≤ 16
+  pub together : (m : Machine) (q : Registered) → HaveColumnNames m → IsQuery m.streams q → sum (widths_of m.streams q) ≤ MAX_COLUMNS

@@ -1,6 +1,7 @@
 -- How many columns the rows have that operators of a query hold and queue, and what their values are.
 use Rattle.std.specs.Prelude.{ℕ, ◌≡◌, ◌+◌, ◌<◌, ◌≤◌, List, [], ◌∷◌, length, get_or}
 use Rattle.std.specs.List.{All}
+use Rattle.values.specs.declared.TheConstants.{MAX_COLUMNS}
 use Rattle.values.specs.Row.{Row}
 use Rattle.values.specs.Value.{IsAnswerValue}
 use Rattle.values.specs.Window.{Element}
@@ -68,7 +69,7 @@ IsKindWide w out kind.ToStream = Unit {0}
 
 pub record IsOneWide (w out : ℕ) (o : PlainOperator) (taken : List Row) (q : List (Entry Row)) : Type 0 where
   pub kind : IsKindWide w out o.kind
-  pub narrow : w ≤ 16
+  pub narrow : w ≤ MAX_COLUMNS
   pub side : IsSideWide w taken q
 
 -- what groups have put out
@@ -84,7 +85,7 @@ pub record IsOnceWide (w out : ℕ) (o : PlainOperator) (taken shown : List Row)
 pub record IsBothWide (l r out : ℕ) (o : PlainOperator) (ls rs : List Row) (q s : List (Entry Row)) : Type 0 where
   pub state : IsJoinWide l r o.state
   pub sum : out ≡ l + r
-  pub narrow : out ≤ 16
+  pub narrow : out ≤ MAX_COLUMNS
   pub left : IsSideWide l ls q
   pub right : IsSideWide r rs s
 

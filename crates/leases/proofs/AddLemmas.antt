@@ -1,6 +1,5 @@
 -- A query that is added to an engine: what was asked of it before, and what the engine knows of itself afterwards.
-use Rattle.std.proofs.Common.{◌≡◌, ◌≢◌, ℕ, ◌+◌, ◌<◌, ◌++◌, ◌⊎◌, ⊎_elim, zero, suc, inl, inr, Bool, true, false, ◌==◌, cond, Some, None, List, [], ◌∷◌, map, position, length, refl, sym, ap, ◌∙◌, subst, arith}
-use Rattle.std.specs.Prelude.{slice_get}
+use Rattle.std.proofs.Common.{◌≡◌, ◌≢◌, ℕ, ◌+◌, ◌<◌, ◌++◌, inl, inr, Bool, false, ◌==◌, cond, Some, None, List, [], ◌∷◌, map, position, length, refl, sym, ap, ◌∙◌, subst, arith}
 use Rattle.std.proofs.lemmas.Bool.{ne_eqb}
 use Rattle.std.proofs.lemmas.List.{map-append, length-map}
 use Rattle.std.proofs.lemmas.Option.{slice_get_within}
@@ -18,12 +17,13 @@ use Rattle.laws_engine.specs.Bounds.{HaveFewClosed}
 use Rattle.laws_engine.proofs.InstantLemmas.{registered_closed}
 use Rattle.run_queue.specs.Slots.{without_query}
 use Rattle.run_queue.specs.declared.slots.Slot.{Slot}
-use Rattle.laws_engine.specs.Calls.{is_reading, registered, with_query}
+use Rattle.laws_engine.specs.Calls.{registered, with_query}
 use Rattle.laws_engine.specs.Engines.{GoodEngine, IsIn, Kept, Lease, PlainEngine, Running, kept_at, query_at}
 use Rattle.laws_engine.proofs.AskLemmas.{may_ask}
 use Rattle.laws_engine.proofs.PromiseLemmas.{is_slot}
 use Rattle.laws_engine.proofs.RegisteredLemmas.{kept_before, kept_more, more_here}
-use Rattle.leases.specs.Readers.{HasSource, HaveCome, ListsReaders, reader}
+use Rattle.leases.specs.Readers.{HasSource, readers_of, windows_from}
+use Rattle.leases.proofs.ListedLemmas.{readers_added}
 use Rattle.leases.specs.Registering.{IsNewQuery, with_first}
 use Rattle.leases.specs.Shown.{engine_in}
 use Rattle.leases.specs.Sound.{IsSound, is_gone}
@@ -31,7 +31,6 @@ use Rattle.leases.specs.Views.{HasKind, engine_of, kept_of, lease_of, query_of}
 use Rattle.leases.specs.declared.given.Given.{Given}
 use Rattle.leases.specs.declared.kept.KeptQuery.{KeptQuery}
 use Rattle.leases.specs.declared.kept.KeptQuery.TheVariants as code
-use Rattle.leases.specs.declared.reader.Reader.{Reader}
 use Rattle.leases.specs.declared.registered.Registration.{Registration}
 use Rattle.leases.specs.declared.state.State.{State}
 use Rattle.leases.proofs.LookLemmas.{many_slopes}
@@ -111,30 +110,12 @@ sound_still s t streams names queries kept leases next slots readers h =
       gone = subst (λ (e : PlainEngine). map (λ q. q.is_dropped) e.machine.queries ≡ map is_gone e.queries) (sym same) h.gone;
       columns = subst columns_in (sym same) h.columns;
       closed = subst closed_in (sym same) h.closed;
-      readers = subst (λ e. ListsReaders e t.readers.items) (sym same) (subst (ListsReaders (engine_in s)) (sym readers) h.readers);
+      readers = readers ∙ h.readers ∙ ap readers_of (sym same);
     }
-
--- the windows of a query that was added, and of those before it, are listed
-get_last : {X : Type 0} (xs : List X) (x y : X) (n : ℕ) → slice_get (xs ++ x ∷ []) n ≡ Some y → (slice_get xs n ≡ Some y) ⊎ ((n ≡ length xs) × (x ≡ y))
-get_last [] x y zero h = inr (refl, cc)
-get_last [] x y (suc n) h = absurd (cc)
-get_last (z ∷ xs) x y zero h = inl h
-get_last (z ∷ xs) x y (suc n) h = ⊎_elim (λ a. inl a) (λ a. inr (ap suc a.0, a.1)) (get_last xs x y n h)
-
-readers_with : (e : PlainEngine) (q : Registered) (p : PlainQuery) (old new : List Reader) → GoodEngine e → ListsReaders e old → HaveCome q (length e.machine.queries) (length q.nodes) old new → ListsReaders (registered e q p) new
-readers_with e q p old new g h come s n k is = ⊎_elim
-    (λ before.
-    let within : n < length e.machine.queries = slice_get_within e.machine.queries n is.query before in
-    let kept : kept_at (registered e q p) n ≡ kept_at e n = kept_before e.queries (Running p ∷ []) n (omega (arith, within, g.many)) in
-    come.stay (reader s n k) (h s n k (record { query = is.query; registered = before; kept = is.kept; running = sym kept ∙ is.running; within = is.within; reads = is.reads })))
-    (λ last.
-    subst (λ z. IsIn new (reader s z k)) (sym last.0)
-    (come.come s k (subst (λ (z : Registered). k < length z.nodes) (sym last.1) is.within) (subst (λ (z : Registered). is_reading z s (node_at z k) ≡ true) (sym last.1) is.reads)))
-    (get_last e.machine.queries q is.query n is.registered)
 
 -- where the query was added
 pub sound_with : (s t : State) (q : Registered) (p : PlainQuery) → IsSound s → GoodEngine (registered (engine_in s) q p) → q.is_dropped ≡ false → q.earlier ≡ [] → engine_in t ≡ registered (engine_in s) q p → t.leases.items ≡ s.leases.items → t.next ≡ s.next
-    → t.names ≡ s.names ++ Some q.name ∷ [] → HaveCome q (length (engine_in s).machine.queries) (length q.nodes) s.readers.items t.readers.items → IsSound t
+    → t.names ≡ s.names ++ Some q.name ∷ [] → t.readers.items ≡ s.readers.items ++ windows_from q (length (engine_in s).machine.queries) 0 q.nodes → IsSound t
 sound_with s t q p h good live none_earlier same leases next names readers =
     let e = engine_in s in
     record {
@@ -149,7 +130,8 @@ sound_with s t q p h good live none_earlier same leases next names readers =
       gone = subst (λ (f : PlainEngine). map (λ r. r.is_dropped) f.machine.queries ≡ map is_gone f.queries) (sym same) (gone_more e.machine.queries e.queries h.gone);
       columns = subst columns_in (sym same) h.columns;
       closed = subst closed_in (sym same) (registered_closed e.machine q none_earlier h.closed);
-      readers = subst (λ (f : PlainEngine). ListsReaders f t.readers.items) (sym same) (readers_with e q p s.readers.items t.readers.items h.good h.readers readers);
+      readers = readers ∙ ap (λ rs. rs ++ windows_from q (length e.machine.queries) 0 q.nodes) h.readers
+          ∙ sym (readers_added 0 (length e.machine.queries) e.machine.queries e.queries q p (omega arith) (omega (arith, h.good.many))) ∙ ap readers_of (sym same);
     }
   where
     named_more : (qs : List Registered) → map name_of_registered qs ++ Some q.name ∷ [] ≡ map name_of_registered (qs ++ q ∷ [])

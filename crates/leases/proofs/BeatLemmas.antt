@@ -33,12 +33,13 @@ use Rattle.laws_engine.proofs.TableLemmas.{updated, updated_here, updated_number
 use Rattle.laws_engine.proofs.TakeLemmas.{equal_slots}
 use Rattle.plan.proofs.Lists.{by_test}
 use Rattle.leases.specs.Asked.{HasOperatorAt}
-use Rattle.leases.specs.Readers.{ListsReaders, instant_in, instant_of, reader, resting_slot, resting_slots, rests, told, told_all, with_slots}
+use Rattle.leases.specs.Readers.{instant_in, instant_of, reader, idle_slot, idle_slots, is_idle_at, with_update, with_updates, with_slots}
 use Rattle.leases.specs.Shown.{engine_in, world_in}
 use Rattle.leases.specs.Sound.{IsSound}
 use Rattle.leases.specs.declared.reader.Reader.{Reader}
 use Rattle.leases.specs.declared.state.State.{State}
-use Rattle.leases.proofs.ReaderLemmas.{reads_on, resting_rests}
+use Rattle.leases.proofs.ListedLemmas.{resting_listed}
+use Rattle.leases.proofs.ReaderLemmas.{resting_rests}
 use Rattle.leases.proofs.RetoldLemmas.{same_slots}
 use Rattle.leases.proofs.StreamLemmas.{at_streams}
 
@@ -62,8 +63,8 @@ all_of P [] h = tt
 all_of P (x ∷ xs) h = (h x (inl refl), all_of P xs (λ y i. h y (inr i)))
 
 -- THE SLOTS that are told are slots of the engine
-resting_is : (e : PlainEngine) (n k : ℕ) (x : Slot) → IsIn (resting_slot e n k) x → slot_of e x.query x.operator ≡ Some x
-resting_is e n k x i = by_test (rests e n k)
+resting_is : (e : PlainEngine) (n k : ℕ) (x : Slot) → IsIn (idle_slot e n k) x → slot_of e x.query x.operator ≡ Some x
+resting_is e n k x i = by_test (is_idle_at e n k)
     (λ t. let j : IsIn (option_to_list (slot_of e n k)) x = rw t at i in of_slot (slot_of e n k) refl j)
     (λ f. let j : IsIn [] x = rw f at i in absurd j)
   where
@@ -75,23 +76,23 @@ resting_is e n k x i = by_test (rests e n k)
         let at = numbered e n k x here in
         ap (λ z. slot_of e z x.operator) at.0 ∙ ap (slot_of e n) at.1 ∙ here
 
-slots_are : (e : PlainEngine) (s : ℕ) (rs : List Reader) (x : Slot) → IsIn (resting_slots e s rs) x → slot_of e x.query x.operator ≡ Some x
+slots_are : (e : PlainEngine) (s : ℕ) (rs : List Reader) (x : Slot) → IsIn (idle_slots e s rs) x → slot_of e x.query x.operator ≡ Some x
 slots_are e s [] x i = absurd i
 slots_are e s (r ∷ rs) x i = ⊎_elim
     (λ j. by_test (r.stream == s)
-    (λ t. let k : IsIn (resting_slot e r.query r.operator) x = rw t at j in resting_is e r.query r.operator x k)
+    (λ t. let k : IsIn (idle_slot e r.query r.operator) x = rw t at j in resting_is e r.query r.operator x k)
     (λ f. let k : IsIn [] x = rw f at j in absurd k))
     (λ j. slots_are e s rs x j)
-    (in_either (cond (r.stream == s) (resting_slot e r.query r.operator) []) (resting_slots e s rs) x i)
+    (in_either (cond (r.stream == s) (idle_slot e r.query r.operator) []) (idle_slots e s rs) x i)
 
 -- that of a window that rests is among them
-slot_comes : (e : PlainEngine) (s n k : ℕ) (rs : List Reader) (x : Slot) → IsIn rs (reader s n k) → rests e n k ≡ true → slot_of e n k ≡ Some x → IsIn (resting_slots e s rs) x
+slot_comes : (e : PlainEngine) (s n k : ℕ) (rs : List Reader) (x : Slot) → IsIn rs (reader s n k) → is_idle_at e n k ≡ true → slot_of e n k ≡ Some x → IsIn (idle_slots e s rs) x
 slot_comes e s n k [] x i r is = absurd i
 slot_comes e s n k (y ∷ rs) x (inl same) r is =
-    let here : IsIn (cond (s == s) (resting_slot e n k) []) x = let t : (s == s) ≡ true = eq-eqb s s refl in rw (t, r, is) (inl refl) in
-    in_left (cond (y.stream == s) (resting_slot e y.query y.operator) []) (resting_slots e s rs) x
-    (subst (λ (z : Reader). IsIn (cond (z.stream == s) (resting_slot e z.query z.operator) []) x) (sym same) here)
-slot_comes e s n k (y ∷ rs) x (inr i) r is = in_right (cond (y.stream == s) (resting_slot e y.query y.operator) []) (resting_slots e s rs) x (slot_comes e s n k rs x i r is)
+    let here : IsIn (cond (s == s) (idle_slot e n k) []) x = let t : (s == s) ≡ true = eq-eqb s s refl in rw (t, r, is) (inl refl) in
+    in_left (cond (y.stream == s) (idle_slot e y.query y.operator) []) (idle_slots e s rs) x
+    (subst (λ (z : Reader). IsIn (cond (z.stream == s) (idle_slot e z.query z.operator) []) x) (sym same) here)
+slot_comes e s n k (y ∷ rs) x (inr i) r is = in_right (cond (y.stream == s) (idle_slot e y.query y.operator) []) (idle_slots e s rs) x (slot_comes e s n k rs x i r is)
 
 -- WHAT IS TOLD: of each operator the slot is the one before or the one after, and it is the one before of those alone that are told still
 abbrev HasOne : List Slot → ℕ → ℕ → Type 0
@@ -115,7 +116,7 @@ module _ (e : PlainEngine) (s : ℕ) (at : ℤ) where
       ∙ ap (λ t. Some (slot (slope_at o.query x.operator) t x.query x.operator)) (sym (instant_is (closed_over e s at) x.query x.operator o.query o.kept o.registered o.running))
       ∙ ap (λ z. Some (with_instant z (instant_of (closed_over e s at) x.query x.operator))) o.is
 
-  one_told : (x : Slot) (todo slots : List Slot) → slot_of e x.query x.operator ≡ Some x → ArePartly e (closed_over e s at) (x ∷ todo) slots → ArePartly e (closed_over e s at) todo (told (closed_over e s at) x slots)
+  one_told : (x : Slot) (todo slots : List Slot) → slot_of e x.query x.operator ≡ Some x → ArePartly e (closed_over e s at) (x ∷ todo) slots → ArePartly e (closed_over e s at) todo (with_update (closed_over e s at) x slots)
   one_told x todo slots is p =
       let instant = instant_of (closed_over e s at) x.query x.operator in
       let new = with_instant x instant in
@@ -126,7 +127,7 @@ module _ (e : PlainEngine) (s : ℕ) (at : ℤ) where
         has = ⊎_elim
             (λ done.
             let here : p.table x.query x.operator ≡ Some new = done ∙ new_slot x is in
-            equal_slots p.table table2 (told (closed_over e s at) x slots)
+            equal_slots p.table table2 (with_update (closed_over e s at) x slots)
             (λ n k. ⊎_elim
             (λ same. ap (λ z. table2 z k) same.0 ∙ ap (table2 x.query) same.1 ∙ updated_here p.table x.query x.operator new ∙ sym here ∙ sym (ap (λ z. p.table z k) same.0 ∙ ap (p.table x.query) same.1))
             (λ ne. updated_there p.table x.query x.operator new n k ne)
@@ -150,53 +151,56 @@ module _ (e : PlainEngine) (s : ℕ) (at : ℤ) where
         by_place (inl same) = absurd (⊎_elim (λ d. d (sym one.1.1.0 ∙ ap (λ z. z.query) (sym same))) (λ d. d (sym one.1.1.1 ∙ ap (λ z. z.operator) (sym same))) ne)
         by_place (inr i) = (one.0, (i, one.1.1))
 
-  each_told : (todo slots : List Slot) → ((x : Slot) → IsIn todo x → slot_of e x.query x.operator ≡ Some x) → ArePartly e (closed_over e s at) todo slots → HasSlots (slot_of (closed_over e s at)) (told_all (closed_over e s at) todo slots)
+  each_told : (todo slots : List Slot) → ((x : Slot) → IsIn todo x → slot_of e x.query x.operator ≡ Some x) → ArePartly e (closed_over e s at) todo slots → HasSlots (slot_of (closed_over e s at)) (with_updates (closed_over e s at) todo slots)
   each_told [] slots are p = equal_slots p.table (slot_of (closed_over e s at)) slots (λ n k. ⊎_elim (λ done. sym done) (λ left. absurd left.1.1.0) (p.each n k)) p.has
-  each_told (x ∷ todo) slots are p = each_told todo (told (closed_over e s at) x slots) (λ y i. are y (inr i)) (one_told x todo slots (are x (inl refl)) p)
+  each_told (x ∷ todo) slots are p = each_told todo (with_update (closed_over e s at) x slots) (λ y i. are y (inr i)) (one_told x todo slots (are x (inl refl)) p)
 
 module _ (e : PlainEngine) (s : ℕ) (at : ℤ) (g : GoodEngine e) (h : IsHeartbeat e s at) (rs : List Reader) where
-  pub all_asked : AllByRecursion (λ slot. HasOperatorAt (closed_over e s at) slot.query slot.operator) (resting_slots e s rs)
-  all_asked = all_of (λ slot. HasOperatorAt (closed_over e s at) slot.query slot.operator) (resting_slots e s rs)
+  pub all_asked : AllByRecursion (λ slot. HasOperatorAt (closed_over e s at) slot.query slot.operator) (idle_slots e s rs)
+  all_asked = all_of (λ slot. HasOperatorAt (closed_over e s at) slot.query slot.operator) (idle_slots e s rs)
       (λ x i.
       let o = is_slot e x.query x.operator x (slots_are e s rs x i) in
       let is : IsOperator (beaten e s at) x.query x.operator o.query o.kept = record { registered = o.registered; running = o.running; within = o.within } in
       let may = may_ask (beaten e s at) (heartbeat_good e s at g h) in
       (o.query, (o.kept, record { registered = o.registered; running = o.running; within = o.within; operator = may.operators x.query x.operator o.query o.kept is; log = may.logs x.query x.operator o.query o.kept is })))
 
-  module _ (lists : ListsReaders e rs) where
-    waking : (n k : ℕ) → IsResting e s n k → HasOne (resting_slots e s rs) n k
+  module _ (lists : (n k : ℕ) → IsResting e s n k → IsIn rs (reader s n k)) where
+    waking : (n k : ℕ) → IsResting e s n k → HasOne (idle_slots e s rs) n k
     waking n k is =
         let here : slot_of e n k ≡ Some (slot_at e n is.query is.kept k) = slot_is e n k is.query is.kept is.registered is.running is.within in
-        let idle : rests e n k ≡ true = resting_rests e g s n k is in (
+        let idle : is_idle_at e n k ≡ true = resting_rests e g s n k is in (
           slot_at e n is.query is.kept k,
-          (slot_comes e s n k rs (slot_at e n is.query is.kept k) (lists s n k (record { query = is.query; registered = is.registered; kept = is.kept; running = is.running; within = is.within; reads = is.reads })) idle here, (refl, refl)),
+          (slot_comes e s n k rs (slot_at e n is.query is.kept k) (lists n k is) idle here, (refl, refl)),
         )
 
-    pub all_told : told_all (closed_over e s at) (resting_slots e s rs) e.slots ≡ (beaten e s at).slots
+    pub all_told : with_updates (closed_over e s at) (idle_slots e s rs) e.slots ≡ (beaten e s at).slots
     all_told =
-        let start : ArePartly e (closed_over e s at) (resting_slots e s rs) e.slots = record {
+        let start : ArePartly e (closed_over e s at) (idle_slots e s rs) e.slots = record {
           table = slot_of e;
           named = numbered e;
           has = g.slots;
           each = λ n k. ⊎_elim (λ is. inr (refl, waking n k is)) (λ same. inl (sym same)) (beat_or_rest e s at g h n k);
         } in
-        same_slots (slot_of (closed_over e s at)) (told_all (closed_over e s at) (resting_slots e s rs) e.slots) (beaten e s at).slots
-        (each_told e s at (resting_slots e s rs) e.slots (λ x i. slots_are e s rs x i) start) (heartbeat_good e s at g h).slots
+        same_slots (slot_of (closed_over e s at)) (with_updates (closed_over e s at) (idle_slots e s rs) e.slots) (beaten e s at).slots
+        (each_told e s at (idle_slots e s rs) e.slots (λ x i. slots_are e s rs x i) start) (heartbeat_good e s at g h).slots
 
 -- THE CALL: rows that the stream's heartbeat closes, the readers' slots, the streams closed, the slots told
 module _ (s : State) (streams : List Stream) (n : ℕ) (at : ℤ) (h : IsSound s) (beats : IsHeartbeat (engine_in s) n at) (closes : streams ≡ change n (closed_to at) s.streams) where
-  pub readers_asked : (slots : List Slot) → slots ≡ resting_slots (engine_in s) n s.readers.items → AllByRecursion (λ slot. HasOperatorAt (engine_in (at_streams s streams)) slot.query slot.operator) slots
+  pub readers_asked : (slots : List Slot) → slots ≡ idle_slots (engine_in s) n s.readers.items → AllByRecursion (λ slot. HasOperatorAt (engine_in (at_streams s streams)) slot.query slot.operator) slots
   readers_asked slots are =
       subst (λ z. AllByRecursion (λ slot. HasOperatorAt (engine_in (at_streams s z)) slot.query slot.operator) slots) (sym closes)
       (subst (AllByRecursion (λ slot. HasOperatorAt (closed_over (engine_in s) n at) slot.query slot.operator)) (sym are) (all_asked (engine_in s) n at h.good beats s.readers.items))
 
-  module _ (slots : List Slot) (are : slots ≡ resting_slots (engine_in s) n s.readers.items) (s2 : State) (tells : s2 ≡ with_slots (at_streams s streams) (told_all (engine_in (at_streams s streams)) slots s.slots)) where
+  module _ (slots : List Slot) (are : slots ≡ idle_slots (engine_in s) n s.readers.items) (s2 : State) (tells : s2 ≡ with_slots (at_streams s streams) (with_updates (engine_in (at_streams s streams)) slots s.slots)) where
+    all_listed : (m k : ℕ) → IsResting (engine_in s) n m k → IsIn s.readers.items (reader n m k)
+    all_listed m k is = subst (λ rs. IsIn rs (reader n m k)) (sym h.readers) (resting_listed (engine_in s) n m k is)
+
     state_is : s2 ≡ with_slots (at_streams s (change n (closed_to at) s.streams)) (beaten (engine_in s) n at).slots
     state_is =
         tells
-        ∙ ap (λ z. with_slots (at_streams s z) (told_all (engine_in (at_streams s z)) slots s.slots)) closes
-        ∙ ap (λ z. with_slots (at_streams s (change n (closed_to at) s.streams)) (told_all (closed_over (engine_in s) n at) z s.slots)) are
-        ∙ ap (with_slots (at_streams s (change n (closed_to at) s.streams))) (all_told (engine_in s) n at h.good beats s.readers.items h.readers)
+        ∙ ap (λ z. with_slots (at_streams s z) (with_updates (engine_in (at_streams s z)) slots s.slots)) closes
+        ∙ ap (λ z. with_slots (at_streams s (change n (closed_to at) s.streams)) (with_updates (closed_over (engine_in s) n at) z s.slots)) are
+        ∙ ap (with_slots (at_streams s (change n (closed_to at) s.streams))) (all_told (engine_in s) n at h.good beats s.readers.items all_listed)
 
     pub beats_engine : engine_in s2 ≡ beaten (engine_in s) n at
     beats_engine = ap engine_in state_is
@@ -211,7 +215,7 @@ module _ (s : State) (streams : List Stream) (n : ℕ) (at : ℤ) (h : IsSound s
       gone = h.gone;
       columns = registrations_stand.goes_on (engine_in s).machine (Heartbeat n at) 0 beats.accepted h.columns;
       closed = few_closed_stand.goes_on (engine_in s).machine (Heartbeat n at) 0 beats.accepted h.closed;
-      readers = reads_on (engine_in s) (beaten (engine_in s) n at) refl refl s.readers.items h.readers;
+      readers = h.readers;
     })
 
     pub beats_does : heartbeat_step (world_in s) n at ≡ (Ok tt, world_in s2)

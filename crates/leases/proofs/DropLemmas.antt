@@ -14,17 +14,13 @@ use Rattle.reference.specs.declared.fault.Fault.{Fault}
 use Rattle.run_queue.specs.Slots.{without_query}
 use Rattle.run_queue.specs.declared.slots.Slot.{Slot}
 use Rattle.laws_engine.specs.Calls.{dropped, of_others}
-use Rattle.laws_engine.specs.Engines.{Dropped, GoodEngine, IsIn, Kept, Lease, PlainEngine, Running, answers_in, world_of}
-use Rattle.laws_engine.proofs.BackLemmas.{unequal}
-use Rattle.laws_engine.proofs.SlotLemmas.{filter_in, in_filter}
-use Rattle.laws_engine.proofs.TakeLemmas.{changed_or_there, changed_there}
-use Rattle.leases.specs.Readers.{ListsReaders, reader}
+use Rattle.laws_engine.specs.Engines.{Dropped, GoodEngine, IsIn, Kept, Lease, PlainEngine, answers_in, world_of}
+use Rattle.laws_engine.proofs.SlotLemmas.{in_filter}
 use Rattle.leases.specs.Sound.{is_gone}
 use Rattle.leases.specs.Views.{engine_of, kept_of, lease_of, query_of}
 use Rattle.leases.specs.declared.given.Given.{Given}
 use Rattle.leases.specs.declared.kept.KeptQuery.{KeptQuery}
 use Rattle.leases.specs.declared.kept.KeptQuery.TheVariants as code
-use Rattle.leases.specs.declared.reader.Reader.{Reader}
 use Rattle.leases.specs.declared.registered.Registration.{Registration}
 use Rattle.leases.proofs.FinishGivenLemmas.{leases_left}
 
@@ -82,27 +78,6 @@ pub kept_dropped : (ks : List KeptQuery) (n : ℕ) → map kept_of (set ks n cod
 kept_dropped [] n = refl
 kept_dropped (k ∷ ks) zero = refl
 kept_dropped (k ∷ ks) (suc n) = ap (λ z. kept_of k ∷ z) (kept_dropped ks n)
-
--- ITS WINDOWS read no more, and those of the others do
-dropped_here : (ks : List Kept) (n : ℕ) → get_or (change n (λ kept. Dropped) ks) n Dropped ≡ Dropped
-dropped_here [] n = refl
-dropped_here (k ∷ ks) zero = refl
-dropped_here (k ∷ ks) (suc n) = dropped_here ks n
-
-pub readers_dropped : (e : PlainEngine) (n : ℕ) (rs : List Reader) → ListsReaders e rs → ListsReaders (dropped e n) (filter (λ r. not (r.query == n)) rs)
-readers_dropped e n rs h s j k is =
-    let other : j ≢ n = λ same. absurd (let gone : Dropped ≡ Running is.kept = sym (dropped_here e.queries n) ∙ ap (λ z. get_or (change n (λ kept. Dropped) e.queries) z Dropped) (sym same) ∙ is.running in cc) in
-    let apart : (j == n) ≡ false = unequal j n other in
-    filter_in (λ (r : Reader). not (r.query == n)) rs (reader s j k)
-    (h s j k (record {
-      query = is.query;
-      registered = sym (changed_there machine.dropped n j e.machine.queries other) ∙ is.registered;
-      kept = is.kept;
-      running = sym (changed_or_there (λ kept. Dropped) n j e.queries Dropped other) ∙ is.running;
-      within = is.within;
-      reads = is.reads;
-    }))
-    (ap not apart)
 
 -- NOTHING IS LEFT of it
 pub gone_dropped : (qs : List Registered) (ks : List Kept) (n : ℕ) → map (λ q. q.is_dropped) qs ≡ map is_gone ks → map (λ q. q.is_dropped) (change n machine.dropped qs) ≡ map is_gone (change n (λ kept. Dropped) ks)

@@ -9,7 +9,7 @@ use Rattle.run_queue.specs.declared.slots.Slot.{Slot}
 use Rattle.laws_engine.specs.Calls.{answered, given_back, others}
 use Rattle.laws_engine.specs.Engines.{GoodEngine, Lease, PlainEngine, Running, kept_at, query_at, slot_at}
 use Rattle.laws_engine.specs.Histories.{ComesBack}
-use Rattle.leases.specs.Applied.{GivesNothing, HasApplied, HasWiredOperators, IsAbove, IsApplied, IsBroken, IsOutIn, IsRetold, MayApplyIn, with_kept, without_turn}
+use Rattle.leases.specs.Applied.{Forgets, GivesNothing, HasApplied, HasWiredOperators, IsAbove, IsApplied, IsBroken, IsOutIn, IsUpdated, MayApplyIn, with_kept, without_turn}
 use Rattle.leases.specs.Asked.{HasOperatorAt}
 use Rattle.leases.specs.Shown.{engine_in}
 use Rattle.leases.specs.Sound.{IsSound}
@@ -36,7 +36,7 @@ pub may_apply : (e : PlainEngine) (d : Parts) → GoodEngine e → IsOutIn e d �
 may_apply e d g out done = plain.may_apply_in e d out.0 out.1.0 g out.1.1 done
 
 -- IT HAS BROKEN its query
-pub broken_sound : (old new : State) (d : Parts) → IsSound old → IsOutIn (engine_in old) d → IsBroken (engine_in old) d.node.query (engine_in new) → GivesNothing old new → IsSound new
+pub broken_sound : (old new : State) (d : Parts) → IsSound old → IsOutIn (engine_in old) d → IsBroken (engine_in old) d.node.query (engine_in new) → Forgets d.node.query old new → IsSound new
 broken_sound old new d s out is r =
     sound_broken old new (engine_in old).leases old.slots d out.0 out.1.0 s s.good out.1.1 r (fewer (λ l. not (l.query == d.node.query)) (engine_in old).leases) (is out.1.0 out.1.1.of.running)
 
@@ -77,7 +77,7 @@ module _ (e : PlainEngine) (d : Parts) (n k lease : ℕ) (s : Slot) (above : Opt
     may_retell_here : HasOperatorAt e2 s.query s.operator
     may_retell_here = plain.may_retell e d q p g out done p2 a e2 s back slot_is
 
-    module _ (e3 : PlainEngine) (told : IsRetold e2 s e3) where
+    module _ (e3 : PlainEngine) (told : IsUpdated e2 s e3) where
       third : e3 ≡ answered e (lease_of_parts d) q p p2
       third = plain.told e d q p g out done p2 a e2 s back slot_is e3 told
 
@@ -95,7 +95,7 @@ module _ (e : PlainEngine) (d : Parts) (n k lease : ℕ) (s : Slot) (above : Opt
         may_retell_over : HasOperatorAt e3 t.query t.operator
         may_retell_over = plain.may_retell_above e d q p g out done p2 a e3 t third over_is.1 over_is.0
 
-        come_back_below : (e4 : PlainEngine) → IsRetold e3 t e4 → ComesBack e (lease_of_parts d) q p p2 e4
+        come_back_below : (e4 : PlainEngine) → IsUpdated e3 t e4 → ComesBack e (lease_of_parts d) q p p2 e4
         come_back_below e4 again =
             plain.comes_back_below e d q p g out done p2 a e4 over_is.0 (plain.told_above e d q p g out done p2 a e3 t third over_is.1 e4 again)
 
@@ -107,22 +107,22 @@ module _ (e : PlainEngine) (d : Parts) (n k lease : ℕ) (s : Slot) (above : Opt
   pub retell_here : HasOperatorAt e2 s.query s.operator
   retell_here = may_retell_here e d n k lease s above e1 e2 good done out.0 out.1.0 out.1.1 st took.0 took.1.0 took.1.1
 
-  pub retell_over : (e3 : PlainEngine) → IsRetold e2 s e3 → (t : Slot) → above ≡ Some t → HasOperatorAt e3 t.query t.operator
+  pub retell_over : (e3 : PlainEngine) → IsUpdated e2 s e3 → (t : Slot) → above ≡ Some t → HasOperatorAt e3 t.query t.operator
   retell_over e3 told t some = may_retell_over e d n k lease s above e1 e2 good done out.0 out.1.0 out.1.1 st took.0 took.1.0 took.1.1 e3 told t some
 
-  root : (e3 : PlainEngine) → IsRetold e2 s e3 → above ≡ None → ComesBack e (lease_of_parts d) out.0 out.1.0 took.0 e3
+  root : (e3 : PlainEngine) → IsUpdated e2 s e3 → above ≡ None → ComesBack e (lease_of_parts d) out.0 out.1.0 took.0 e3
   root e3 told none = come_back_root e d n k lease s above e1 e2 good done out.0 out.1.0 out.1.1 st took.0 took.1.0 took.1.1 e3 told none
 
-  below : (e3 e4 : PlainEngine) → IsRetold e2 s e3 → (t : Slot) → above ≡ Some t → IsRetold e3 t e4 → ComesBack e (lease_of_parts d) out.0 out.1.0 took.0 e4
+  below : (e3 e4 : PlainEngine) → IsUpdated e2 s e3 → (t : Slot) → above ≡ Some t → IsUpdated e3 t e4 → ComesBack e (lease_of_parts d) out.0 out.1.0 took.0 e4
   below e3 e4 told t some again = come_back_below e d n k lease s above e1 e2 good done out.0 out.1.0 out.1.1 st took.0 took.1.0 took.1.1 e3 told t some e4 again
 
   put_out : HasPutOut d out.1.0 took.0
   put_out = record { put = took.1.0.put; batches = took.1.0.batches }
 
-  pub back_root : (e3 : PlainEngine) → IsRetold e2 s e3 → above ≡ None → HasComeBack e d e3
+  pub back_root : (e3 : PlainEngine) → IsUpdated e2 s e3 → above ≡ None → HasComeBack e d e3
   back_root e3 told none = (out.0, (out.1.0, (took.0, (out.1.1, root e3 told none, put_out))))
 
-  pub back_below : (e3 e4 : PlainEngine) → IsRetold e2 s e3 → (t : Slot) → above ≡ Some t → IsRetold e3 t e4 → HasComeBack e d e4
+  pub back_below : (e3 e4 : PlainEngine) → IsUpdated e2 s e3 → (t : Slot) → above ≡ Some t → IsUpdated e3 t e4 → HasComeBack e d e4
   back_below e3 e4 told t some again = (out.0, (out.1.0, (took.0, (out.1.1, below e3 e4 told t some again, put_out))))
 
 -- THE STATE knows of itself what it knew, also where not all turns that are out are kept
@@ -136,8 +136,8 @@ module _ (old : State) (ls : List Lease) (slots : List Slot) (d : Parts) (n k le
       let t = took e d n k lease s above e1 e2 good done out st in
       sound_back old new ls slots d out.0 out.1.0 sound good out.1.1 r t.0 t.1.0 few back
 
-  pub sound_root : (new : State) → IsRetold e2 s (engine_in new) → above ≡ None → GivesNothing old new → IsSound new
+  pub sound_root : (new : State) → IsUpdated e2 s (engine_in new) → above ≡ None → GivesNothing old new → IsSound new
   sound_root new told none r = by_took new r (root e d n k lease s above e1 e2 good done out st (engine_in new) told none)
 
-  pub sound_below : (e3 : PlainEngine) (new : State) → IsRetold e2 s e3 → (t : Slot) → above ≡ Some t → IsRetold e3 t (engine_in new) → GivesNothing old new → IsSound new
+  pub sound_below : (e3 : PlainEngine) (new : State) → IsUpdated e2 s e3 → (t : Slot) → above ≡ Some t → IsUpdated e3 t (engine_in new) → GivesNothing old new → IsSound new
   sound_below e3 new told t some again r = by_took new r (below e d n k lease s above e1 e2 good done out st e3 (engine_in new) told t some again)

@@ -29,7 +29,7 @@ use Rattle.laws_engine.specs.Histories.{ComesBack}
 use Rattle.laws_engine.proofs.AskLemmas.{may_ask}
 use Rattle.laws_engine.proofs.BackLemmas.{kept_here, same_plain}
 use Rattle.laws_engine.proofs.FinishLemmas.{query_bounded}
-use Rattle.leases.specs.Applied.{HasWiredOperators, IsApplied, IsRetold, MayApply, MayApplyIn, with_kept, without_turn}
+use Rattle.leases.specs.Applied.{HasWiredOperators, IsApplied, IsUpdated, MayApply, MayApplyIn, with_kept, without_turn}
 use Rattle.leases.specs.Asked.{HasOperatorAt, IsAt}
 use Rattle.leases.specs.Turns.{IsOut, lease_of_parts}
 
@@ -215,10 +215,10 @@ module _ (e : PlainEngine) (d : Parts) (q : Registered) (p : PlainQuery) (g : Go
             subst (λ z. HasOperatorAt z s.query s.operator) (sym back)
             (subst (λ z. HasOperatorAt (given_back e (lease_of_parts d) p2) z.query z.operator) (sym is) (q, (p2, back_at d.node.operator out.of.within)))
 
-        pub told : (e3 : PlainEngine) → IsRetold e2 s e3 → e3 ≡ answered e (lease_of_parts d) q p p2
+        pub told : (e3 : PlainEngine) → IsUpdated e2 s e3 → e3 ≡ answered e (lease_of_parts d) q p p2
         told e3 t =
-            let r : IsRetold (given_back e (lease_of_parts d) p2) (slot_at e d.node.query q p d.node.operator) e3 =
-            subst (λ z. IsRetold z (slot_at e d.node.query q p d.node.operator) e3) back (subst (λ z. IsRetold e2 z e3) is t) in
+            let r : IsUpdated (given_back e (lease_of_parts d) p2) (slot_at e d.node.query q p d.node.operator) e3 =
+            subst (λ z. IsUpdated z (slot_at e d.node.query q p d.node.operator) e3) back (subst (λ z. IsUpdated e2 z e3) is t) in
             r q p2 out.of.registered here
 
       -- and that of the one that it feeds
@@ -231,11 +231,11 @@ module _ (e : PlainEngine) (d : Parts) (q : Registered) (p : PlainQuery) (g : Go
             subst (λ z. HasOperatorAt z s.query s.operator) (sym back)
             (subst (λ z. HasOperatorAt (answered e (lease_of_parts d) q p p2) z.query z.operator) (sym is) (q, (p2, at)))
 
-        pub told_above : (e4 : PlainEngine) → IsRetold e3 s e4 → e4 ≡ finished e (lease_of_parts d) q p p2
+        pub told_above : (e4 : PlainEngine) → IsUpdated e3 s e4 → e4 ≡ finished e (lease_of_parts d) q p p2
         told_above e4 t =
             let at : s ≡ slot_at e d.node.query q p (wire_from 0 q.nodes d.node.operator).to = is ∙ ap (λ (w : Wire). slot_at e d.node.query q p w.to) (wire_is d.node.operator out.of.within) in
-            let r : IsRetold (answered e (lease_of_parts d) q p p2) (slot_at e d.node.query q p (wire_from 0 q.nodes d.node.operator).to) e4 =
-            subst (λ z. IsRetold z (slot_at e d.node.query q p (wire_from 0 q.nodes d.node.operator).to) e4) back (subst (λ z. IsRetold e3 z e4) at t) in
+            let r : IsUpdated (answered e (lease_of_parts d) q p p2) (slot_at e d.node.query q p (wire_from 0 q.nodes d.node.operator).to) e4 =
+            subst (λ z. IsUpdated z (slot_at e d.node.query q p (wire_from 0 q.nodes d.node.operator).to) e4) back (subst (λ z. IsUpdated e3 z e4) at t) in
             r q p2 out.of.registered here
 
       -- SO IT HAS COME BACK

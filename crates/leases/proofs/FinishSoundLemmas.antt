@@ -1,8 +1,7 @@
 -- An engine knows of itself, after a turn has come back or has broken its query, what it knew.
-use Rattle.std.proofs.Common.{◌≡◌, ◌<◌, ◌≤◌, ◌==◌, ℕ, true, false, inl, inr, List, get_or, length, map, set, refl, sym, ap, ◌∙◌, subst, arith, eqb-true, eq-eqb}
-use Rattle.std.specs.Prelude.{slice_get}
+use Rattle.std.proofs.Common.{◌≡◌, ◌<◌, ◌≤◌, ◌==◌, ℕ, true, false, not, filter, inl, inr, List, length, map, refl, sym, ap, ◌∙◌, subst, arith, eqb-true, eq-eqb}
 use Rattle.std.proofs.Math.Seq.{map-set_same}
-use Rattle.std.proofs.lemmas.List.{length-map}
+use Rattle.std.proofs.lemmas.List.{length-map, map-set}
 use Rattle.std.proofs.lemmas.Option.{slice_get_within}
 use Rattle.column.specs.declared.batch.Side.{Side}
 use Rattle.op_queue.specs.declared.item.Item.{Item}
@@ -20,21 +19,23 @@ use Rattle.query_runtime.specs.Turns.{HasPut, wire_at}
 use Rattle.run_queue.specs.declared.slots.Slot.{Slot}
 use Rattle.laws_engine.specs.Bounds.{HaveFewClosed}
 use Rattle.laws_engine.specs.Calls.{answered, broken, finished, given_back, of_others, others}
-use Rattle.laws_engine.specs.Engines.{Broken, Dropped, GoodEngine, IsIn, IsLease, Kept, Lease, PlainEngine, Running, kept_at}
+use Rattle.laws_engine.specs.Engines.{Broken, Dropped, GoodEngine, IsIn, IsLease, Lease, PlainEngine, Running, kept_at}
 use Rattle.laws_engine.specs.Histories.{ComesBack}
 use Rattle.laws_engine.proofs.BackLemmas.{kept_here, kept_there, same_plain}
 use Rattle.laws_engine.proofs.FinishLemmas.{answer_good, finish_good}
 use Rattle.laws_engine.proofs.LeaseLemmas.{break_good}
-use Rattle.leases.specs.Applied.{GivesNothing, IsApplied, IsOutIn, IsTurn}
-use Rattle.leases.specs.Readers.{ListsReaders}
+use Rattle.leases.specs.Applied.{Forgets, GivesNothing, IsApplied, IsOutIn, IsTurn}
+use Rattle.leases.specs.Readers.{readers_from, readers_of, runs}
 use Rattle.leases.specs.Shown.{engine_in}
 use Rattle.laws_engine.specs.Bounds.{HaveFewClosed}
 use Rattle.leases.specs.Sound.{IsSound, is_gone}
 use Rattle.leases.specs.Turns.{IsOut, IsStranger, lease_of_parts}
 use Rattle.leases.specs.Views.{HasKind, lease_of}
 use Rattle.leases.specs.declared.given.Given.{Given}
+use Rattle.leases.specs.declared.reader.Reader.{Reader}
 use Rattle.leases.specs.declared.state.State.{State}
 use Rattle.leases.proofs.FinishGivenLemmas.{given_in}
+use Rattle.leases.proofs.ListedLemmas.{readers_left}
 
 -- THE REST of what an engine knows, where its machine and its next number are as they were, no turn has gone out, and no query was dropped
 record StaysBut (old new : PlainEngine) : Type 0 where
@@ -42,24 +43,22 @@ record StaysBut (old new : PlainEngine) : Type 0 where
   pub next : new.next ≡ old.next
   pub few : length new.leases ≤ length old.leases
   pub gone : map is_gone new.queries ≡ map is_gone old.queries
-  pub ran : (n : ℕ) (p : PlainQuery) → kept_at new n ≡ Running p → (p0 : PlainQuery) × (kept_at old n ≡ Running p0)
 
-sound_from : (old new : State) → IsSound old → GivesNothing old new → GoodEngine (engine_in new) → StaysBut (engine_in old) (engine_in new) → ((g : Given) → IsIn old.leases.items g → HasKind (engine_in new) g) → IsSound new
-sound_from old new s r good st kinds = record {
+sound_from : (old new : State) → IsSound old → new.names ≡ old.names → new.readers.items ≡ readers_of (engine_in new) → ((g : Given) → IsIn new.leases.items g → IsIn old.leases.items g) → GoodEngine (engine_in new) → StaysBut (engine_in old) (engine_in new)
+    → ((g : Given) → IsIn old.leases.items g → HasKind (engine_in new) g) → IsSound new
+sound_from old new s names readers leases good st kinds = record {
   good = good;
-  kinds = λ g i. kinds g (r.leases g i);
+  kinds = λ g i. kinds g (leases g i);
   few =
       let a : length (engine_in new).leases ≡ length new.leases.items = length-map new.leases.items lease_of in
       let b : length (engine_in old).leases ≡ length old.leases.items = length-map old.leases.items lease_of in
       omega (arith, a, b, st.few, s.few);
   numbers = let n : new.next ≡ old.next = st.next in omega (arith, n, s.numbers);
-  named = r.names ∙ s.named ∙ ap (λ m. map name_of_registered m.queries) (sym st.machine);
+  named = names ∙ s.named ∙ ap (λ m. map name_of_registered m.queries) (sym st.machine);
   gone = ap (λ m. map (λ (q : Registered). q.is_dropped) m.queries) st.machine ∙ s.gone ∙ sym st.gone;
   columns = subst HaveColumnNames (sym st.machine) s.columns;
   closed = subst HaveFewClosed (sym st.machine) s.closed;
-  readers = subst (ListsReaders (engine_in new)) (sym r.readers) (λ i n k is.
-      let before = st.ran n is.kept is.running in
-      s.readers i n k (record { query = is.query; registered = ap (λ m. slice_get m.queries n) (sym st.machine) ∙ is.registered; kept = before.0; running = before.1; within = is.within; reads = is.reads }));
+  readers = readers;
 }
 
 -- KINDS stay
@@ -78,8 +77,7 @@ abbrev pub out_with : State → List Lease → List Slot → PlainEngine
 out_with s ls slots = record (engine_in s) { leases = ls; slots = slots }
 
 -- A TURN THAT IS OUT
-module _ (old new : State) (ls : List Lease) (slots : List Slot) (d : Parts) (q : Registered) (p : PlainQuery) (s : IsSound old) (good : GoodEngine (out_with old ls slots)) (out : IsOut (out_with old ls slots) d q p)
-    (r : GivesNothing old new) where
+module _ (old new : State) (ls : List Lease) (slots : List Slot) (d : Parts) (q : Registered) (p : PlainQuery) (s : IsSound old) (good : GoodEngine (out_with old ls slots)) (out : IsOut (out_with old ls slots) d q p) where
   abbrev e : PlainEngine
   e = out_with old ls slots
 
@@ -89,14 +87,11 @@ module _ (old new : State) (ls : List Lease) (slots : List Slot) (d : Parts) (q 
   running_gone : is_gone (kept_at e d.node.query) ≡ false
   running_gone = ap is_gone out.of.running
 
-  -- a query that runs ran
-  ran_before : (kept : Kept) (n : ℕ) (p3 : PlainQuery) → get_or (set e.queries d.node.query kept) n Dropped ≡ Running p3 → (p0 : PlainQuery) × (kept_at (engine_in old) n ≡ Running p0)
-  ran_before kept n p3 running = by_test (n == d.node.query)
-      (λ t. let same : n ≡ d.node.query = eqb-true n d.node.query t in (p, ap (kept_at e) same ∙ out.of.running))
-      (λ f. (p3, sym (kept_there e d.node.query n kept (λ z. absurd (let h : (n == d.node.query) ≡ true = eq-eqb n d.node.query z in cc))) ∙ running))
+  running_runs : runs (kept_at e d.node.query) ≡ true
+  running_runs = ap runs out.of.running
 
   -- comes back
-  module _ (p2 : PlainQuery) (a : IsApplied e.machine.streams p d p2) (few : length (others d.lease ls) ≤ length (engine_in old).leases) where
+  module _ (r : GivesNothing old new) (p2 : PlainQuery) (a : IsApplied e.machine.streams p d p2) (few : length (others d.lease ls) ≤ length (engine_in old).leases) where
     kinds_back : (after : List Slot) (g : Given) → IsIn old.leases.items g → HasKind (record (given_back e (lease_of_parts d) p2) { slots = after }) g
     kinds_back after g i p3 running = by_test (g.node.query == d.node.query)
         (λ t.
@@ -113,12 +108,11 @@ module _ (old new : State) (ls : List Lease) (slots : List Slot) (d : Parts) (q 
       next = refl;
       few = few;
       gone = map-set_same is_gone e.queries d.node.query (Running p2) Dropped (sym running_gone);
-      ran = ran_before (Running p2);
     }
 
     sound_at : (after : List Slot) → engine_in new ≡ record (given_back e (lease_of_parts d) p2) { slots = after } → GoodEngine (engine_in new) → IsSound new
     sound_at after is stays =
-        sound_from old new s r stays (subst (StaysBut (engine_in old)) (sym is) (stays_back after)) (λ g i. subst (λ z. HasKind z g) (sym is) (kinds_back after g i))
+        sound_from old new s r.names (r.readers ∙ s.readers ∙ ap (readers_from 0 e.machine.queries) (sym (map-set_same runs e.queries d.node.query (Running p2) Dropped (sym running_runs))) ∙ ap readers_of (sym is)) r.leases stays (subst (StaysBut (engine_in old)) (sym is) (stays_back after)) (λ g i. subst (λ z. HasKind z g) (sym is) (kinds_back after g i))
 
     pub sound_back : ComesBack e (lease_of_parts d) q p p2 (engine_in new) → IsSound new
     sound_back (inl t) = sound_at (finished e (lease_of_parts d) q p p2).slots t.1 (subst GoodEngine (sym t.1) (finish_good e (lease_of_parts d) q p p2 good out.out t.0))
@@ -133,16 +127,19 @@ module _ (old new : State) (ls : List Lease) (slots : List Slot) (d : Parts) (q 
       absurd (cc))
       (λ f. s.kinds g i p3 (sym (kept_there e d.node.query g.node.query (Broken p.answers) (λ z. absurd (let h : (g.node.query == d.node.query) ≡ true = eq-eqb g.node.query d.node.query z in cc))) ∙ running))
 
-  pub sound_broken : length (of_others d.node.query ls) ≤ length (engine_in old).leases → engine_in new ≡ broken e d.node.query p → IsSound new
-  sound_broken few is =
+  pub sound_broken : Forgets d.node.query old new → length (of_others d.node.query ls) ≤ length (engine_in old).leases → engine_in new ≡ broken e d.node.query p → IsSound new
+  sound_broken f few is =
       let stays : StaysBut (engine_in old) (broken e d.node.query p) = record {
         machine = refl;
         next = refl;
         few = few;
         gone = map-set_same is_gone e.queries d.node.query (Broken p.answers) Dropped (sym running_gone);
-        ran = ran_before (Broken p.answers);
       } in
-      sound_from old new s r (subst GoodEngine (sym is) (break_good e d.node.query q p good out.of.registered out.of.running)) (subst (StaysBut (engine_in old)) (sym is) stays)
+      let readers : new.readers.items ≡ readers_of (engine_in new) =
+      f.readers ∙ ap (λ rs. filter (λ (r : Reader). not (r.query == d.node.query)) rs) s.readers
+      ∙ readers_left d.node.query 0 d.node.query e.machine.queries (map runs e.queries) (omega arith)
+      ∙ ap (readers_from 0 e.machine.queries) (sym (map-set runs e.queries d.node.query (Broken p.answers))) ∙ ap readers_of (sym is) in
+      sound_from old new s f.names readers f.leases (subst GoodEngine (sym is) (break_good e d.node.query q p good out.of.registered out.of.running)) (subst (StaysBut (engine_in old)) (sym is) stays)
       (λ g i. subst (λ z. HasKind z g) (sym is) (kinds_broken g i))
 
 -- THE TURN OF A NUMBER that is out

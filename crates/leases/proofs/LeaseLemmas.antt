@@ -33,7 +33,7 @@ use Rattle.laws_engine.proofs.IdleLemmas.{idle_waits}
 use Rattle.laws_engine.proofs.LeaseLemmas.{lease_good}
 use Rattle.laws_engine.proofs.PromiseLemmas.{first_in, keeps_its_promises, slot_is}
 use Rattle.leases.specs.Leasing.{IsOfSide, IsReady, IsReadyAt, IsTurnOn, MayLeaseOn, node_on, turn_with}
-use Rattle.leases.specs.Readers.{ListsReaders}
+use Rattle.leases.specs.Readers.{readers_of}
 use Rattle.leases.specs.Shown.{engine_in}
 use Rattle.leases.specs.Sound.{IsSound, is_gone}
 use Rattle.leases.specs.Turns.{IsTurnOf, Leases, lease_fault}
@@ -43,7 +43,6 @@ use Rattle.leases.specs.declared.leased.Leased.{Leased}
 use Rattle.leases.specs.declared.leased.Leased.TheVariants.{Idle}
 use Rattle.leases.specs.declared.limits.TheConstants.{LEASE_NUMBERS, MAX_LEASES}
 use Rattle.leases.specs.declared.state.State.{State}
-use Rattle.leases.proofs.ReaderLemmas.{reads_on}
 
 -- AN ITEM is known by its entries
 known_rows : (t u : ℕ) (b c : List (Bool × Row)) → map (RowAt t) b ≡ map (RowAt u) c → b ≡ c
@@ -263,7 +262,7 @@ module _ (old new : State) (s : Slot) (side : Side) (rows n k : ℕ) (g : Given)
     gone = subst (λ (z : PlainEngine). map (λ q. q.is_dropped) z.machine.queries ≡ map is_gone z.queries) (sym is) sound.gone;
     columns = subst (λ (z : PlainEngine). HaveColumnNames z.machine) (sym is) sound.columns;
     closed = subst (λ (z : PlainEngine). HaveFewClosed z.machine) (sym is) sound.closed;
-    readers = subst (λ rs. ListsReaders (engine_in new) rs) (sym gone.readers) (subst (λ z. ListsReaders z old.readers.items) (sym is) (reads_on (engine_in old) (out_of (engine_in old) s g) refl refl old.readers.items sound.readers));
+    readers = gone.readers ∙ sound.readers ∙ ap readers_of (sym is);
   }
 
 -- WHERE NOTHING WENT OUT there is nothing that may

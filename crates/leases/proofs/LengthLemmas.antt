@@ -1,6 +1,7 @@
 -- The operators of a query that runs, and what waits in their queues.
 use Rattle.std.proofs.Common.{◌≡◌, ◌<◌, ◌+◌, ℕ, pos, Option, Some, None, Result, Ok, Err, IfOk, List, [], get_or, length, refl, sym, ap, ◌∙◌, subst, arith}
 use Rattle.std.proofs.lemmas.List.{length-map}
+use Rattle.values.specs.Row.{Row}
 use Rattle.plan.specs.Views.{node_of, nodes_of}
 use Rattle.reference.specs.Commands.{Drop, Take, first_fault, of_query, take_tests}
 use Rattle.reference.specs.Machine as machine
@@ -69,12 +70,12 @@ lengths_are view (Ok v) s n r x p sound accepted is_registered is_kept runs h = 
 lengths_are view (Err f) s n r x p sound accepted is_registered is_kept runs h = tt
 
 -- IN THOSE OF A BROKEN QUERY nothing does
-pub noughts_are : {A E : Type 0} (view : A → List ℕ) (found : Result A E) (s : State) (n : ℕ) (r : Registration) (x : KeptQuery) (p : PlainQuery) → IsSound s → first_fault (engine_in s).machine (Drop n) ≡ None → r ≡ get_or s.registered.items n r
-    → x ≡ get_or s.kept.items n x → x ≡ code.Broken p → IfOk found (λ v. view v ≡ noughts_of (nodes_of r.plan.nodes.items))
+pub noughts_are : {A E : Type 0} (view : A → List ℕ) (found : Result A E) (s : State) (n : ℕ) (r : Registration) (x : KeptQuery) (answers : List (ℕ × Row)) → IsSound s → first_fault (engine_in s).machine (Drop n) ≡ None → r ≡ get_or s.registered.items n r
+    → x ≡ get_or s.kept.items n x → x ≡ code.Broken answers → IfOk found (λ v. view v ≡ noughts_of (nodes_of r.plan.nodes.items))
     → IfOk found (λ v. (q : Registered) → query_at (engine_in s) n ≡ Some q → view v ≡ lengths_in (engine_in s).machine q (kept_at (engine_in s) n))
-noughts_are view (Ok v) s n r x p sound accepted is_registered is_kept broke h = λ q at.
+noughts_are view (Ok v) s n r x answers sound accepted is_registered is_kept broke h = λ q at.
     let takes : first_fault (engine_in s).machine (Take n (pos 1)) ≡ None = take_too (machine.query_at (engine_in s).machine n) accepted in
     let same_query : q ≡ query_of r = taken_at s n q r (registered_within s n (pos 1) takes) at is_registered in
-    let broken : kept_at (engine_in s) n ≡ kept_of (code.Broken p) = kept_is s n x (kept_within s n (pos 1) sound takes) is_kept ∙ ap kept_of broke in
+    let broken : kept_at (engine_in s) n ≡ kept_of (code.Broken answers) = kept_is s n x (kept_within s n (pos 1) sound takes) is_kept ∙ ap kept_of broke in
     h ∙ ap (λ z. noughts_of z.nodes) (sym same_query) ∙ sym (ap (lengths_in (engine_in s).machine q) broken)
-noughts_are view (Err f) s n r x p sound accepted is_registered is_kept broke h = tt
+noughts_are view (Err f) s n r x answers sound accepted is_registered is_kept broke h = tt

@@ -1,5 +1,5 @@
 -- A heartbeat lengthens the queues of the windows over its stream by what it closes, and no other.
-use Rattle.std.proofs.Common.{◌≡◌, ◌≢◌, ℕ, ℤ, suc, ◌<◌, ◌≤◌, ◌++◌, ◌==◌, ⊎_elim, true, false, cond, nat_lt, Option, Some, None, [], length, refl, sym, ap, ap₂, ◌∙◌, subst, arith, append-nil, eq-eqb, eqb-true}
+use Rattle.std.proofs.Common.{◌≡◌, ◌≢◌, ℕ, ℤ, suc, ◌++◌, ◌==◌, ⊎_elim, true, false, cond, nat_lt, Option, Some, None, [], length, refl, sym, ap, ap₂, ◌∙◌, subst, arith, append-nil, eq-eqb, eqb-true}
 use Rattle.std.specs.Prelude.{nat_abs, slice_get}
 use Rattle.std.specs.Option.{option_map, option_map_or}
 use Rattle.std.proofs.lemmas.Bool.{cases_lt, le-ltb, lt-ltb}

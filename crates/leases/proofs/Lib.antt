@@ -12,6 +12,7 @@ mod FinishBackLemmas
 mod StreamLemmas
 mod QueueLemmas
 mod ReaderLemmas
+mod ListedLemmas
 mod BeatLemmas
 mod LengthenLemmas
 pub mod DrainLemmas
@@ -21,6 +22,7 @@ mod StepLemmas
 pub mod PairLemmas
 pub mod WorldLemmas
 pub mod WholeLemmas
+mod NumberLemmas
 pub mod BegunLemmas
 pub mod TakeLemmas
 pub mod PendingLemmas

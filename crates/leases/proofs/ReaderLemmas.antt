@@ -1,5 +1,5 @@
 -- The windows that read streams: what is known of their operators, and their slots, told one after the other.
-use Rattle.std.proofs.Common.{◌≡◌, ℕ, zero, suc, ◌+◌, ◌<◌, ◌≤◌, true, false, ⊎_elim, Some, List, [], ◌∷◌, ◌++◌, drop, get_or, length, map, refl, sym, ap, ◌∙◌, subst, arith, drop-cons, nat_lt, ltb-true, lt-ltb, eqb-true, is_none, Option, None, ◌&&◌, inl, inr, ap₂}
+use Rattle.std.proofs.Common.{◌≡◌, ℕ, zero, suc, ◌+◌, ◌<◌, ◌≤◌, true, false, ⊎_elim, Some, List, [], ◌∷◌, ◌++◌, drop, get_or, length, map, refl, sym, ap, ◌∙◌, subst, arith, drop-cons, nat_lt, ltb-true, lt-ltb, is_none, Option, None, ◌&&◌, ap₂}
 use Rattle.std.specs.Prelude.{slice_get}
 use Rattle.std.specs.List.{AllByRecursion}
 use Rattle.std.specs.Option.{option_map}
@@ -15,11 +15,10 @@ use Rattle.plan.specs.Nodes.{Window, Select, Join, Project, Group, Distinct, ToS
 use Rattle.reference.specs.Machine.{Machine, Registered, Stream}
 use Rattle.laws_dataflow.specs.Plans.{below_root}
 use Rattle.laws_queries.specs.Machines.{widths_of}
-use Rattle.laws_queries.specs.Queries.{IsLeftInbox, IsRunning, PlainQuery, log_at, node_at, operator_at, place_of}
+use Rattle.laws_queries.specs.Queries.{IsLeftInbox, IsRunning, PlainQuery, log_at, node_at, operator_at}
 use Rattle.run_queue.specs.declared.slots.Slot.{Slot}
 use Rattle.laws_engine.specs.Asks.{IsOperator}
-use Rattle.laws_engine.specs.Engines.{Broken, Dropped, Goes, GoodEngine, IsIn, IsKept, Kept, PlainEngine, Running, kept_at, query_at, slot_at, slot_of}
-use Rattle.laws_engine.specs.Calls.{is_reading}
+use Rattle.laws_engine.specs.Engines.{Broken, Dropped, Goes, GoodEngine, IsKept, Kept, PlainEngine, Running, kept_at, query_at, slot_at, slot_of}
 use Rattle.laws_engine.proofs.AskLemmas.{may_ask}
 use Rattle.laws_engine.proofs.PromiseLemmas.{slot_is}
 use Rattle.plan.proofs.Lists.{by_test}
@@ -29,11 +28,10 @@ use Rattle.operators.specs.Operators.{ready}
 use Rattle.column.specs.declared.batch.Side.{Side}
 use Rattle.leases.specs.Asked.{HasOperatorAt}
 use Rattle.reference.proofs.StepLemmas.{get_or-map}
-use Rattle.leases.specs.Readers.{HasSource, HaveCome, ListsReaders, reader, reader_in, resting_slot, rests, rests_in, told, told_all, with_slots}
+use Rattle.leases.specs.Readers.{HasSource, idle_slot, is_idle_at, is_idle_in, with_update, with_updates, with_slots}
 use Rattle.leases.specs.Shown.{engine_in}
 use Rattle.leases.specs.Views.{kept_of, query_of}
 use Rattle.leases.specs.declared.kept.KeptQuery.{KeptQuery}
-use Rattle.leases.specs.declared.reader.Reader.{Reader}
 use Rattle.leases.specs.declared.registered.Registration.{Registration}
 use Rattle.leases.specs.declared.state.State.{State}
 
@@ -105,20 +103,20 @@ module _ (e : PlainEngine) (g : GoodEngine e) (n k : ℕ) (p : PlainQuery) (runn
   has_slot = (found.0, (found.1.0, is_operator.within))
 
 -- one that has nothing to take is there
-rests_running : (streams : List Stream) (k : ℕ) (kept : Kept) → rests_in streams k kept ≡ true → (p : PlainQuery) × ((kept ≡ Running p) × (k < length p.operators))
+rests_running : (streams : List Stream) (k : ℕ) (kept : Kept) → is_idle_in streams k kept ≡ true → (p : PlainQuery) × ((kept ≡ Running p) × (k < length p.operators))
 rests_running streams k (Running p) h = by_test (nat_lt k (length p.operators))
     (λ t. (p, (refl, ltb-true k (length p.operators) t)))
     (λ f. let bad : false ≡ true = rw f at h in absurd (cc))
 rests_running streams k (Broken answers) h = absurd (cc)
 rests_running streams k Dropped h = absurd (cc)
 
-pub resting_asked : (e : PlainEngine) → GoodEngine e → (n k : ℕ) → rests e n k ≡ true → HasOperatorAt e n k
+pub resting_asked : (e : PlainEngine) → GoodEngine e → (n k : ℕ) → is_idle_at e n k ≡ true → HasOperatorAt e n k
 resting_asked e g n k h =
     let r = rests_running e.machine.streams k (kept_at e n) h in
     let s = has_slot e g n k r.0 r.1.0 r.1.1 in
     has_operator_at e g n k s.0 r.0 s.1.0 r.1.0 s.1.1
 
-pub resting_comes : (e : PlainEngine) → GoodEngine e → (n k : ℕ) (x : Slot) → rests e n k ≡ true → ((q : Registered) (p : PlainQuery) → query_at e n ≡ Some q → kept_at e n ≡ Running p → x ≡ slot_at e n q p k) → resting_slot e n k ≡ x ∷ []
+pub resting_comes : (e : PlainEngine) → GoodEngine e → (n k : ℕ) (x : Slot) → is_idle_at e n k ≡ true → ((q : Registered) (p : PlainQuery) → query_at e n ≡ Some q → kept_at e n ≡ Running p → x ≡ slot_at e n q p k) → idle_slot e n k ≡ x ∷ []
 resting_comes e g n k x h is =
     let r = rests_running e.machine.streams k (kept_at e n) h in
     let s = has_slot e g n k r.0 r.1.0 r.1.1 in
@@ -129,7 +127,7 @@ none_by : (o : Option (Side × ℕ)) → option_map (λ z. z.1) o ≡ None → o
 none_by None h = refl
 none_by (Some z) h = absurd (cc)
 
-pub resting_rests : (e : PlainEngine) → GoodEngine e → (s n k : ℕ) → IsResting e s n k → rests e n k ≡ true
+pub resting_rests : (e : PlainEngine) → GoodEngine e → (s n k : ℕ) → IsResting e s n k → is_idle_at e n k ≡ true
 resting_rests e g s n k is =
     let found = runs_at e g n is.kept is.running in
     let same : found.0 ≡ is.query = some_query (sym found.1.0 ∙ is.registered) in
@@ -139,81 +137,19 @@ resting_rests e g s n k is =
     let log = (may_ask e g).logs n k is.query is.kept (record { registered = is.registered; running = is.running; within = is.within }) in
     let nothing : is_none (ready (operator_at is.kept.operators k) (log_of e.machine.streams is.kept k)) ≡ true =
     ap (λ x. is_none (ready (operator_at is.kept.operators k) x)) log ∙ ap is_none (none_by (ready (operator_at is.kept.operators k) (log_at e.machine is.query k)) is.empty) in
-    ap (rests_in e.machine.streams k) is.running ∙ ap₂ (λ a b. a && b) inside nothing
+    ap (is_idle_in e.machine.streams k) is.running ∙ ap₂ (λ a b. a && b) inside nothing
 
 pub kept_looked : (ks vs : List KeptQuery) (n : ℕ) (k : KeptQuery) → vs ≡ ks → true ≡ nat_lt n (length vs) → k ≡ get_or vs n k → get_or (map kept_of ks) n Dropped ≡ kept_of k
 kept_looked ks vs n k same within is = ap (λ z. get_or (map kept_of z) n Dropped) (sym same) ∙ get_or-map kept_of vs n k Dropped (ltb-true n (length vs) (sym within)) ∙ ap kept_of (sym is)
 
--- A WINDOW of a new query comes to the readers
-reader_is : (q : Registered) (s n k : ℕ) (node : plan.Node) (x : Reader) → is_reading q s node ≡ true → reader_in q n k node ≡ Some x → x ≡ reader s n k
-reader_is q s n k (Window j) x is h =
-    let same : reader (place_of q j).stream n k ≡ x = cc in
-    sym same ∙ ap (λ z. reader z n k) (eqb-true (place_of q j).stream s is)
-reader_is q s n k (Select i cs) x is h = absurd (cc)
-reader_is q s n k (Join i j ks) x is h = absurd (cc)
-reader_is q s n k (Project i columns) x is h = absurd (cc)
-reader_is q s n k (Group i by items) x is h = absurd (cc)
-reader_is q s n k (Distinct i) x is h = absurd (cc)
-reader_is q s n k (ToStream i op) x is h = absurd (cc)
-
-no_reader : (q : Registered) (s n k : ℕ) (node : plan.Node) → is_reading q s node ≡ true → reader_in q n k node ≡ None → ⊥
-no_reader q s n k (Window j) is h = absurd (cc)
-no_reader q s n k (Select i cs) is h = absurd (cc)
-no_reader q s n k (Join i j ks) is h = absurd (cc)
-no_reader q s n k (Project i columns) is h = absurd (cc)
-no_reader q s n k (Group i by items) is h = absurd (cc)
-no_reader q s n k (Distinct i) is h = absurd (cc)
-no_reader q s n k (ToStream i op) is h = absurd (cc)
-
-in_front : (xs : List Reader) (x y : Reader) → IsIn xs y → IsIn (xs ++ x ∷ []) y
-in_front [] x y h = absurd h
-in_front (z ∷ xs) x y (inl e) = inl e
-in_front (z ∷ xs) x y (inr i) = inr (in_front xs x y i)
-
-at_end : (xs : List Reader) (x : Reader) → IsIn (xs ++ x ∷ []) x
-at_end [] x = inl refl
-at_end (z ∷ xs) x = inr (at_end xs x)
-
-pub window_comes : (q : Registered) (n k : ℕ) (old mid new : List Reader) (x : Reader) → HaveCome q n k old mid → reader_in q n k (node_at q k) ≡ Some x → new ≡ mid ++ x ∷ [] → HaveCome q n (k + 1) old new
-window_comes q n k old mid new x h is push = record {
-  stay = λ r i. subst (λ z. IsIn z r) (sym push) (in_front mid x r (h.stay r i));
-  come = λ s j lt reads. subst (λ z. IsIn z (reader s n j)) (sym push) (⊎_elim
-      (λ l. in_front mid x (reader s n j) (h.come s j l reads))
-      (λ l.
-      let last : j ≡ k = omega (arith, lt, l) in
-      let same : x ≡ reader s n j = reader_is q s n k (node_at q k) x (subst (λ z. is_reading q s (node_at q z) ≡ true) last reads) is ∙ ap (reader s n) (sym last) in
-      subst (λ z. IsIn (mid ++ x ∷ []) z) same (at_end mid x))
-      (cases_lt j k));
-}
-
-pub other_passes : (q : Registered) (n k : ℕ) (old mid new : List Reader) → HaveCome q n k old mid → reader_in q n k (node_at q k) ≡ None → new ≡ mid → HaveCome q n (k + 1) old new
-other_passes q n k old mid new h is same = record {
-  stay = λ r i. subst (λ z. IsIn z r) (sym same) (h.stay r i);
-  come = λ s j lt reads. subst (λ z. IsIn z (reader s n j)) (sym same) (⊎_elim
-      (λ l. h.come s j l reads)
-      (λ l. let last : j ≡ k = omega (arith, lt, l) in absurd (no_reader q s n k (node_at q k) (subst (λ z. is_reading q s (node_at q z) ≡ true) last reads) is))
-      (cases_lt j k));
-}
-
--- WINDOWS THAT READ, of two engines whose queries are the same
-pub reads_on : (e e2 : PlainEngine) → e2.machine.queries ≡ e.machine.queries → e2.queries ≡ e.queries → (rs : List Reader) → ListsReaders e rs → ListsReaders e2 rs
-reads_on e e2 queries kept rs h s n k is = h s n k (record {
-  query = is.query;
-  registered = ap (λ qs. slice_get qs n) (sym queries) ∙ is.registered;
-  kept = is.kept;
-  running = ap (λ ks. get_or ks n Dropped) (sym kept) ∙ is.running;
-  within = is.within;
-  reads = is.reads;
-})
-
 -- TOLD: the next of the slots
-pub told_next : (e : PlainEngine) (ss : List Slot) (k : ℕ) (s : Slot) (slots : List Slot) → k < length ss → s ≡ get_or ss k s → told_all e (drop k ss) slots ≡ told_all e (drop (k + 1) ss) (told e s slots)
+pub told_next : (e : PlainEngine) (ss : List Slot) (k : ℕ) (s : Slot) (slots : List Slot) → k < length ss → s ≡ get_or ss k s → with_updates e (drop k ss) slots ≡ with_updates e (drop (k + 1) ss) (with_update e s slots)
 told_next e ss k s slots lt is =
     let one : suc k ≡ k + 1 = omega arith in
-    ap (λ z. told_all e z slots) (drop-cons ss k s lt ∙ ap (λ x. x ∷ drop (suc k) ss) (sym is) ∙ ap (λ i. s ∷ drop i ss) one)
+    ap (λ z. with_updates e z slots) (drop-cons ss k s lt ∙ ap (λ x. x ∷ drop (suc k) ss) (sym is) ∙ ap (λ i. s ∷ drop i ss) one)
 
-pub told_last : (e : PlainEngine) (ss : List Slot) (k : ℕ) (slots : List Slot) → length ss ≤ k → told_all e (drop k ss) slots ≡ slots
-told_last e ss k slots l = ap (λ z. told_all e z slots) (drop_all k ss l)
+pub told_last : (e : PlainEngine) (ss : List Slot) (k : ℕ) (slots : List Slot) → length ss ≤ k → with_updates e (drop k ss) slots ≡ slots
+told_last e ss k slots l = ap (λ z. with_updates e z slots) (drop_all k ss l)
 
 pub all_next : (P : Slot → Type 0) (ss : List Slot) (k : ℕ) (s : Slot) → k < length ss → s ≡ get_or ss k s → AllByRecursion P (drop k ss) → P s × AllByRecursion P (drop (k + 1) ss)
 all_next P ss k s lt is h =
@@ -227,5 +163,5 @@ asked_over s slots n k h =
     (h.0, (h.1.0, record { registered = is.registered; running = is.running; within = is.within; operator = is.operator; log = is.log }))
 
 -- the state after one slot more is told
-pub told_over : (s0 s s2 : State) (slot : Slot) → s ≡ with_slots s0 s.slots → s2 ≡ with_slots s (told (engine_in s) slot s.slots) → s2 ≡ with_slots s0 (told (engine_in s0) slot s.slots)
-told_over s0 s s2 slot same tells = tells ∙ ap (λ (z : State). with_slots z (told (engine_in z) slot s.slots)) same
+pub told_over : (s0 s s2 : State) (slot : Slot) → s ≡ with_slots s0 s.slots → s2 ≡ with_slots s (with_update (engine_in s) slot s.slots) → s2 ≡ with_slots s0 (with_update (engine_in s0) slot s.slots)
+told_over s0 s s2 slot same tells = tells ∙ ap (λ (z : State). with_slots z (with_update (engine_in z) slot s.slots)) same

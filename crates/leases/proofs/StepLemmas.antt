@@ -15,7 +15,7 @@ use Rattle.laws_engine.proofs.BackLemmas.{same_plain, same_query, unequal}
 use Rattle.laws_engine.proofs.LeaseLemmas.{lease_good}
 use Rattle.laws_engine.proofs.PromiseLemmas.{first_in, slot_is}
 use Rattle.laws_engine.proofs.TableLemmas.{same_slot_at, same_slot_in}
-use Rattle.leases.specs.Applied.{GivesNothing, HasApplied, HasWiredOperators, IsAbove, IsBroken, IsOutIn, IsRetold, MayApplyIn, with_slot, without_turn}
+use Rattle.leases.specs.Applied.{Forgets, GivesNothing, HasApplied, HasWiredOperators, IsAbove, IsBroken, IsOutIn, IsUpdated, MayApplyIn, with_slot, without_turn}
 use Rattle.leases.specs.Asked.{HasOperatorAt}
 use Rattle.leases.specs.Drains.{OneHasFailed, OneHasRun}
 use Rattle.leases.specs.Leasing.{turn_with}
@@ -33,7 +33,6 @@ use Rattle.leases.proofs.FinishSoundLemmas.{sound_broken}
 use Rattle.leases.proofs.LeaseLemmas.{any_last, out_of, some_slot, turn_out}
 use Rattle.leases.proofs.LeaveLemmas.{fewer}
 use Rattle.leases.proofs.LookLemmas.{asks_on}
-use Rattle.leases.proofs.ReaderLemmas.{reads_on}
 use Rattle.leases.proofs.RetoldLemmas.{changed_again, changed_leaves}
 
 -- A NUMBER is counted
@@ -78,7 +77,7 @@ counted_sound s h lt = record {
   gone = h.gone;
   columns = h.columns;
   closed = h.closed;
-  readers = reads_on (engine_in s) (engine_in (counted s)) refl refl s.readers.items h.readers;
+  readers = h.readers;
 }
 
 -- ANOTHER OPERATOR is leased as before
@@ -169,7 +168,7 @@ module _ (old : State) (s : Slot) (rows : ℕ) (d : Parts) (sound : IsSound old)
     pub broke_one : OneHasFailed rows (engine_in old) (engine_in new)
     broke_one = (t, (e1, (goes, (out.1.1.out, (out.0, (out.1.0, (out.1.1.of, is_broken)))))))
 
-    pub broke_sound : GivesNothing (counted old) new → IsSound new
+    pub broke_sound : Forgets d.node.query (counted old) new → IsSound new
     broke_sound r =
         let few : length (of_others d.node.query e1.leases) ≤ length (engine_in old).leases =
         subst (λ ls. length ls ≤ length (engine_in old).leases) (sym turns_end) (fewer (λ l. not (l.query == d.node.query)) (engine_in old).leases) in
@@ -226,7 +225,7 @@ module _ (old : State) (s : Slot) (rows : ℕ) (d : Parts) (sound : IsSound old)
     may_retell = asks_on home e2.leases e2.next e2.slots s.query s.operator (retell_here e1 d s.query s.operator d.lease (with_instant s None) above still home good run.done out steps)
 
     -- its slot is told once, and not first that nothing may be taken
-    told_once : (e3 : PlainEngine) → IsRetold e2 s e3 → IsRetold home (with_instant s None) e3
+    told_once : (e3 : PlainEngine) → IsUpdated e2 s e3 → IsUpdated home (with_instant s None) e3
     told_once e3 told q p registered is =
         let took = applied out.1.0 out.1.1.of.running in
         let leases : e2.leases ≡ home.leases = ap (λ e. e.leases) took.1.1 ∙ sym others_left in
@@ -239,22 +238,22 @@ module _ (old : State) (s : Slot) (rows : ℕ) (d : Parts) (sound : IsSound old)
     comes_home : (e3 : PlainEngine) → HasComeBack e1 d e3 → OneHasRun rows (engine_in old) e3
     comes_home e3 h = (t, (e1, (goes, (out.1.1.out, (h.0, (h.1.0, (h.1.1.0, h.1.1.1.1)))))))
 
-    module _ (e3 : PlainEngine) (told : IsRetold e2 s e3) where
+    module _ (e3 : PlainEngine) (told : IsUpdated e2 s e3) where
       pub may_retell_over : (a : Slot) → above ≡ Some a → HasOperatorAt e3 a.query a.operator
       may_retell_over a some = retell_over e1 d s.query s.operator d.lease (with_instant s None) above still home good run.done out steps e3 (told_once e3 told) a some
 
       pub ran_root : above ≡ None → OneHasRun rows (engine_in old) e3
       ran_root none = comes_home e3 (back_root e1 d s.query s.operator d.lease (with_instant s None) above still home good run.done out steps e3 (told_once e3 told) none)
 
-      pub ran_below : (e4 : PlainEngine) (a : Slot) → above ≡ Some a → IsRetold e3 a e4 → OneHasRun rows (engine_in old) e4
+      pub ran_below : (e4 : PlainEngine) (a : Slot) → above ≡ Some a → IsUpdated e3 a e4 → OneHasRun rows (engine_in old) e4
       ran_below e4 a some again = comes_home e4 (back_below e1 d s.query s.operator d.lease (with_instant s None) above still home good run.done out steps e3 e4 (told_once e3 told) a some again)
 
-    pub ran_root_sound : (new : State) → IsRetold e2 s (engine_in new) → above ≡ None → GivesNothing (counted old) new → IsSound new
+    pub ran_root_sound : (new : State) → IsUpdated e2 s (engine_in new) → above ≡ None → GivesNothing (counted old) new → IsSound new
     ran_root_sound new told none r =
         sound_root (counted old) e1.leases e1.slots d s.query s.operator d.lease (with_instant s None) above still home (counted_sound old sound numbers) good few_left run.done out steps new
         (told_once (engine_in new) told) none r
 
-    pub ran_below_sound : (e3 : PlainEngine) (new : State) → IsRetold e2 s e3 → (a : Slot) → above ≡ Some a → IsRetold e3 a (engine_in new) → GivesNothing (counted old) new → IsSound new
+    pub ran_below_sound : (e3 : PlainEngine) (new : State) → IsUpdated e2 s e3 → (a : Slot) → above ≡ Some a → IsUpdated e3 a (engine_in new) → GivesNothing (counted old) new → IsSound new
     ran_below_sound e3 new told a some again r =
         sound_below (counted old) e1.leases e1.slots d s.query s.operator d.lease (with_instant s None) above still home (counted_sound old sound numbers) good few_left run.done out steps e3 new
         (told_once e3 told) a some again r

@@ -17,7 +17,6 @@ use Rattle.laws_engine.proofs.DeclaredLemmas.{declare_good}
 use Rattle.leases.specs.Shown.{engine_in}
 use Rattle.leases.specs.Sound.{IsSound}
 use Rattle.leases.specs.declared.state.State.{State}
-use Rattle.leases.proofs.ReaderLemmas.{reads_on}
 
 -- WHAT A STEP SAYS: accepted, no test failed; refused, all is as it was
 module _ {A B : Type 0} (view : A → B) (old next : World) (b : B) where
@@ -88,7 +87,7 @@ at_streams s streams = record s { streams = streams }
 
 pub sound_over : (s : State) (streams : List Stream) → IsSound s → GoodEngine (over_streams (engine_in s) streams) → HaveColumnNames (over_streams (engine_in s) streams).machine
     → HaveFewClosed (over_streams (engine_in s) streams).machine → IsSound (at_streams s streams)
-sound_over s streams h good columns closed = record { good = good; kinds = λ g i. h.kinds g i; few = h.few; numbers = h.numbers; named = h.named; gone = h.gone; columns = columns; closed = closed; readers = reads_on (engine_in s) (over_streams (engine_in s) streams) refl refl s.readers.items h.readers }
+sound_over s streams h good columns closed = record { good = good; kinds = λ g i. h.kinds g i; few = h.few; numbers = h.numbers; named = h.named; gone = h.gone; columns = columns; closed = closed; readers = h.readers }
 
 stays_sound : {A B : Type 0} (view : A → B) (b : B) (s : State) (c : Command) (streams : List Stream) → IsSound s → (first_fault (engine_in s).machine c ≡ None → GoodEngine (commanded (engine_in s) c))
     → (r : Result A Fault) → Did view b (engine_in s) c r streams → IsSound (at_streams s streams)

@@ -12,7 +12,6 @@ use Rattle.names.specs.Faults.{first_of}
 use Rattle.operators.specs.Operators.{PlainOperator}
 use Rattle.reference.proofs.StepLemmas.{get_or-map, set-change}
 use Rattle.reference.specs.CallViews.{handed_of}
-use Rattle.plan.specs.Nodes as plan
 use Rattle.reference.specs.Commands.{Take, change, first_fault, of_query, take_tests, took}
 use Rattle.reference.specs.Inputs.{are_signed}
 use Rattle.reference.specs.Machine as machine
@@ -23,11 +22,12 @@ use Rattle.reference.specs.declared.fault.Fault.{Fault}
 use Rattle.reference.specs.declared.fault.Fault.TheVariants as fault
 use Rattle.reference.specs.declared.fault.Fault.TheVariants.{Query, BadName, NameTaken, BadColumns, TooMany, UnknownStream, UnknownQuery, BadWidth, ValueRange, InstantRange, Late, Backward, Leap, StreamFull, BadLimit, UnknownLease, Stranger, TooManyLeases, HistoryFull, OutOfMemory, Foreign}
 use Rattle.laws_queries.specs.Registrations.{HaveColumnNames}
-use Rattle.laws_queries.specs.Queries.{PlainQuery, node_at, operator_at}
-use Rattle.laws_engine.specs.Calls.{IsTake, is_reading, kept_after, taken, with_taken}
+use Rattle.laws_queries.specs.Queries.{PlainQuery, operator_at}
+use Rattle.laws_engine.specs.Calls.{IsTake, kept_after, taken}
 use Rattle.laws_engine.specs.Engines.{Broken, Dropped, GoodEngine, IsIn, Kept, PlainEngine, Running, answers_in, kept_at, query_at}
 use Rattle.laws_engine.proofs.TakeLemmas.{take_good}
-use Rattle.leases.specs.Readers.{ListsReaders}
+use Rattle.leases.specs.Readers.{readers_from, readers_of, runs}
+use Rattle.leases.proofs.ListedLemmas.{readers_changed}
 use Rattle.leases.specs.Shown.{engine_in}
 use Rattle.leases.specs.Sound.{IsSound, is_gone}
 use Rattle.leases.specs.Takes.{HandsOut, Takes, count_in, count_of}
@@ -35,7 +35,6 @@ use Rattle.leases.specs.Views.{HasKind, kept_of, query_of}
 use Rattle.leases.specs.declared.given.Given.{Given}
 use Rattle.leases.specs.declared.kept.KeptQuery.{KeptQuery}
 use Rattle.leases.specs.declared.limits.TheConstants.{LEASE_NUMBERS, MAX_LEASES}
-use Rattle.leases.specs.declared.reader.Reader.{Reader}
 use Rattle.leases.specs.declared.registered.Registration.{Registration}
 use Rattle.leases.specs.declared.state.State.{State}
 
@@ -144,7 +143,7 @@ sound_again s s2 h same leases next names readers = record {
   gone = subst (λ e. map (λ q. q.is_dropped) e.machine.queries ≡ map is_gone e.queries) (sym same) h.gone;
   columns = subst (λ e. HaveColumnNames e.machine) (sym same) h.columns;
   closed = subst (λ e. HaveFewClosed e.machine) (sym same) h.closed;
-  readers = subst (λ e. ListsReaders e s2.readers.items) (sym same) (subst (ListsReaders (engine_in s)) (sym readers) h.readers);
+  readers = readers ∙ h.readers ∙ ap readers_of (sym same);
 }
 
 took_by : {X : Type 0} (f : Registered → X) (count n : ℕ) (qs : List Registered) → ((q : Registered) → f (took count q) ≡ f q) → map f (change n (took count) qs) ≡ map f qs
@@ -161,6 +160,17 @@ gone_taken : (count n : ℕ) (ks : List Kept) → map is_gone (change n (kept_af
 gone_taken count n [] = refl
 gone_taken count zero (k ∷ ks) = ap (λ z. z ∷ map is_gone ks) (gone_after count k)
 gone_taken count (suc n) (k ∷ ks) = ap (λ zs. is_gone k ∷ zs) (gone_taken count n ks)
+
+-- it runs as before
+runs_after : (count : ℕ) (k : Kept) → runs (kept_after count k) ≡ runs k
+runs_after count (Running p) = refl
+runs_after count (Broken answers) = refl
+runs_after count Dropped = refl
+
+runs_taken : (count n : ℕ) (ks : List Kept) → map runs (change n (kept_after count) ks) ≡ map runs ks
+runs_taken count n [] = refl
+runs_taken count zero (k ∷ ks) = ap (λ z. z ∷ map runs ks) (runs_after count k)
+runs_taken count (suc n) (k ∷ ks) = ap (λ zs. runs k ∷ zs) (runs_taken count n ks)
 
 -- a query that runs ran before, with the same operators
 record Ran (k : Kept) (p : PlainQuery) : Type 0 where
@@ -191,45 +201,6 @@ kind_taken e n limit count g h p running =
     get_operator : List PlainOperator → ℕ → PlainOperator
     get_operator os k = operator_at os k
 
--- a query that is registered was, with the same nodes and places
-record Was (qs : List Registered) (j : ℕ) (q : Registered) : Type 0 where
-  before : Registered
-  was : slice_get qs j ≡ Some before
-  taken : ℕ
-  is : with_taken before taken ≡ q
-
-was_at : (count n j : ℕ) (qs : List Registered) (q : Registered) → slice_get (change n (took count) qs) j ≡ Some q → Was qs j q
-was_at count n j [] q h = absurd (cc)
-was_at count zero zero (x ∷ qs) q h = record { before = x; was = refl; taken = x.taken + count; is = same h }
-  where
-    same : {a b : Registered} → Some a ≡ Some b → a ≡ b
-    same e = cc
-was_at count zero (suc j) (x ∷ qs) q h = record { before = q; was = h; taken = q.taken; is = refl }
-was_at count (suc n) zero (x ∷ qs) q h = record { before = q; was = h; taken = q.taken; is = refl }
-was_at count (suc n) (suc j) (x ∷ qs) q h = let w = was_at count n j qs q h in record { before = w.before; was = w.was; taken = w.taken; is = w.is }
-
-reads_again : (q : Registered) (taken s : ℕ) (node : plan.Node) → is_reading (with_taken q taken) s node ≡ true → is_reading q s node ≡ true
-reads_again q taken s (plan.Window j) h = h
-reads_again q taken s (plan.Select i cs) h = h
-reads_again q taken s (plan.Join i j ks) h = h
-reads_again q taken s (plan.Project i columns) h = h
-reads_again q taken s (plan.Group i by items) h = h
-reads_again q taken s (plan.Distinct i) h = h
-reads_again q taken s (plan.ToStream i op) h = h
-
-reads_taken : (e : PlainEngine) (n : ℕ) (limit : ℤ) (count : ℕ) (rs : List Reader) → ListsReaders e rs → ListsReaders (taken e n limit count) rs
-reads_taken e n limit count rs h s j k is =
-    let w = was_at count n j e.machine.queries is.query is.registered in
-    let r = ran_at count n j e.queries is.kept is.running in
-    h s j k (record {
-      query = w.before;
-      registered = w.was;
-      kept = r.before;
-      running = r.ran;
-      within = subst (λ (z : Registered). k < length z.nodes) (sym w.is) is.within;
-      reads = reads_again w.before w.taken s (node_at w.before k) (subst (λ (z : Registered). is_reading z s (node_at z k) ≡ true) (sym w.is) is.reads);
-    })
-
 pub sound_taken : (s s2 : State) (n : ℕ) (limit : ℤ) (count : ℕ) → IsSound s → IsTake (engine_in s) n limit count → engine_in s2 ≡ taken (engine_in s) n limit count → s2.leases.items ≡ s.leases.items → s2.next ≡ s.next → s2.names ≡ s.names
     → s2.readers.items ≡ s.readers.items → IsSound s2
 sound_taken s s2 n limit count h t is leases next names readers = record {
@@ -241,7 +212,10 @@ sound_taken s s2 n limit count h t is leases next names readers = record {
   gone = ap (λ e. map (λ q. q.is_dropped) e.machine.queries) is ∙ took_by (λ q. q.is_dropped) count n (engine_in s).machine.queries (λ q. refl) ∙ h.gone ∙ sym (ap (λ e. map is_gone e.queries) is ∙ gone_taken count n (engine_in s).queries);
   columns = subst (λ e. HaveColumnNames e.machine) (sym is) h.columns;
   closed = subst (λ e. HaveFewClosed e.machine) (sym is) (few_closed_stand.goes_on (engine_in s).machine (Take n limit) count t.accepted h.closed);
-  readers = subst (λ e. ListsReaders e s2.readers.items) (sym is) (subst (ListsReaders (taken (engine_in s) n limit count)) (sym readers) (reads_taken (engine_in s) n limit count s.readers.items h.readers));
+  readers =
+      readers ∙ h.readers
+      ∙ sym (ap readers_of is ∙ readers_changed (took count) (λ q j. refl) (λ q. refl) 0 n (engine_in s).machine.queries (map runs (change n (kept_after count) (engine_in s).queries))
+      ∙ ap (readers_from 0 (engine_in s).machine.queries) (runs_taken count n (engine_in s).queries));
 }
 
 -- A TAKE THAT IS REFUSED

@@ -9,7 +9,7 @@ use Rattle.reference.specs.declared.fault.Fault.TheVariants.{Query, BadName, Nam
 use Rattle.laws_queries.specs.Queries.{PlainQuery}
 use Rattle.laws_engine.specs.Calls.{dropped, kept_after, of_others, registered, taken}
 use Rattle.laws_engine.specs.Engines.{Broken, Dropped, Kept, PlainEngine, Running}
-use Rattle.leases.specs.Registering.{IsRegistered}
+use Rattle.leases.specs.Registering.{Registers}
 use Rattle.leases.specs.Takes.{Takes, count_of}
 use Rattle.leases.specs.Whole.{IsWholeEngine}
 
@@ -34,7 +34,7 @@ registered_whole : (e : PlainEngine) (q : Registered) (p : PlainQuery) → IsWho
 registered_whole e q p w = record { returned = w.returned; unbroken = λ n answers h. w.unbroken n answers (unbroken_more e.queries n p answers h) }
 
 pub registration_whole : (r : Result ℕ Fault) (old new : PlainEngine) (name text : List ℕ) (chart : Option (List (ℤ × ℤ)))
-    → OnOk r ((q : Registered) × ((p : PlainQuery) × (IsRegistered old name text chart q p × (new ≡ registered old q p)))) → OnErr r (new ≡ old) → IsWholeEngine old → IsWholeEngine new
+    → OnOk r (Registers old name text chart new) → OnErr r (new ≡ old) → IsWholeEngine old → IsWholeEngine new
 registration_whole (Ok a) old new name text chart ok err w = subst IsWholeEngine (sym ok.1.1.1) (registered_whole old ok.0 ok.1.0 w)
 registration_whole (Err f) old new name text chart ok err w = subst IsWholeEngine (sym err) w
 
@@ -68,7 +68,7 @@ taken_before count (k ∷ ks) (suc i) (suc n) answers h = taken_before count ks 
 taken_whole : (e : PlainEngine) (n : ℕ) (limit : ℤ) (count : ℕ) → IsWholeEngine e → IsWholeEngine (taken e n limit count)
 taken_whole e n limit count w = record { returned = w.returned; unbroken = λ j answers h. let was = taken_before count e.queries n j answers h in w.unbroken j was.0 was.1 }
 
-take_makes : {A : Type 0} (view : A → List (ℤ × Row)) (old : PlainEngine) (n : ℕ) (limit : ℤ) (r : Result A Fault) (new : PlainEngine) → Takes view old n limit r new
+pub take_makes : {A : Type 0} (view : A → List (ℤ × Row)) (old : PlainEngine) (n : ℕ) (limit : ℤ) (r : Result A Fault) (new : PlainEngine) → Takes view old n limit r new
     → (new ≡ taken old n limit (count_of old n limit)) ⊎ (new ≡ old)
 take_makes view old n limit (Ok rows) new h = inl h.2
 take_makes view old n limit (Err fault.Broken) new h = inr h.2

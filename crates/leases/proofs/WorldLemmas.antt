@@ -1,18 +1,22 @@
 -- What clients see of an engine that takes and drains.
-use Rattle.std.proofs.Common.{◌≡◌, ◌≢◌, ℕ, zero, suc, ℤ, true, false, Option, Some, None, Result, Ok, Err, OnOk, List, [], ◌∷◌, drop, get_or, length, map, min, nat_abs, take, refl, sym, ap, ap₂, subst, ◌∙◌, arith}
+use Rattle.std.proofs.Common.{◌≡◌, ◌≢◌, ℕ, zero, suc, ℤ, true, false, cond, Option, Some, None, option_and_then, Result, Ok, Err, IfOk, OnOk, List, [], ◌∷◌, ◌++◌, drop, get_or, length, map, min, nat_abs, take, refl, sym, ap, ap₂, subst, ◌∙◌, arith}
 use Rattle.std.specs.Prelude.{⊤, slice_get}
 use Rattle.values.specs.Row.{Row}
 use Rattle.reference.specs.Commands.{Take, after, change, first_fault}
-use Rattle.reference.specs.Machine.{Machine, Registered, closed_answers}
-use Rattle.reference.specs.World.{Does, Drains, IsPlenty, MayLackMemory, World, drain_fault, drain_step, handed, take_step, unless, untaken}
+use Rattle.plan.proofs.Lists.{by_test}
+use Rattle.reference.specs.Machine.{Machine, Registered, closed_answers, unless_dropped}
+use Rattle.reference.specs.Steps.{AreNext}
+use Rattle.reference.proofs.CommandSteps.{take_is_step}
+use Rattle.reference.specs.World.{Does, Drains, IsPlenty, MayLackMemory, StopsEarly, WaitingAreNext, World, drain_fault, drain_step, handed, take_step, unless, untaken}
 use Rattle.reference.specs.declared.fault.Fault.{Fault}
 use Rattle.reference.specs.declared.fault.Fault.TheVariants as fault
 use Rattle.reference.specs.declared.fault.Fault.TheVariants.{Query, BadName, NameTaken, BadColumns, TooMany, UnknownStream, UnknownQuery, BadWidth, ValueRange, InstantRange, Late, Backward, Leap, StreamFull, BadLimit, UnknownLease, Stranger, TooManyLeases, HistoryFull, OutOfMemory, Foreign}
 use Rattle.run_queue.specs.Slots.{first_of}
 use Rattle.laws_engine.specs.Calls.{kept_after, taken}
 use Rattle.laws_engine.specs.Engines.{Broken, Dropped, GoodEngine, Kept, PlainEngine, Running, answers_in, kept_at, query_at, world_of}
-use Rattle.laws_engine.specs.Promises.{HasAllWaiting}
+use Rattle.laws_engine.specs.Promises.{GivesBeginnings, HasAllWaiting}
 use Rattle.laws_engine.proofs.IdleLemmas.{idle_waits}
+use Rattle.laws_engine.proofs.PromiseLemmas.{keeps_its_promises}
 use Rattle.leases.proofs.DrainLemmas.{drain_machine}
 use Rattle.leases.specs.Drains.{RunsTurns}
 use Rattle.leases.specs.Sound.{is_gone}
@@ -69,6 +73,32 @@ may_lack : {A : Type 0} (o : Option Fault) (w made : World) (a : A) → o ≡ No
 may_lack None w made a none = tt
 may_lack (Some x) w made a none = absurd (cc)
 
+-- WHAT WAITS comes next behind the answers that were taken
+drop_front : {X : Type 0} (xs ys zs : List X) (n : ℕ) → length xs ≡ n → drop n ((xs ++ ys) ++ zs) ≡ ys ++ zs
+drop_front [] ys zs zero e = refl
+drop_front [] ys zs (suc n) e = absurd (cc)
+drop_front (x ∷ xs) ys zs zero e = absurd (cc)
+drop_front (x ∷ xs) ys zs (suc n) e = drop_front xs ys zs n (omega (arith, e))
+
+waiting_same : (ks : List Kept) (n : ℕ) → get_or (map answers_in ks) n [] ≡ answers_in (get_or ks n Dropped)
+waiting_same [] n = refl
+waiting_same (k ∷ ks) zero = refl
+waiting_same (k ∷ ks) (suc n) = waiting_same ks n
+
+kept_there : (r q : Registered) → unless_dropped r ≡ Some q → r ≡ q
+kept_there r q e = by_test r.is_dropped
+    (λ t. let none : None ≡ Some q = subst (λ b. cond b None (Some r) ≡ Some q) t e in absurd (cc))
+    (λ f. some_same (subst (λ b. cond b None (Some r) ≡ Some q) f e))
+
+there : (o : Option Registered) (q : Registered) → option_and_then unless_dropped o ≡ Some q → o ≡ Some q
+there None q e = absurd (cc)
+there (Some r) q e = ap Some (kept_there r q e)
+
+pub waits_next : (e : PlainEngine) → GivesBeginnings e → WaitingAreNext (world_of e)
+waits_next e begins n q at =
+    let h = begins n q (there (slice_get e.machine.queries n) q at) in
+    (h.rest, ap (drop q.taken) h.begins ∙ drop_front h.taken (answers_in (kept_at e n)) h.rest q.taken h.counted ∙ ap (λ ws. ws ++ h.rest) (sym (waiting_same e.queries n)))
+
 -- A DRAIN
 module _ (old new : PlainEngine) (rows : ℕ) (machine : new.machine ≡ old.machine) where
   drain_done : drain_fault rows ≡ None → map answers_in new.queries ≡ map (untaken new.machine) new.machine.queries → (u : ⊤) → drain_step (world_of old) rows ≡ (Ok u, world_of new)
@@ -86,38 +116,36 @@ module _ (old new : PlainEngine) (rows : ℕ) (machine : new.machine ≡ old.mac
   unfolding drain_step
   drain_refused f some same = step_refused (drain_fault rows) (world_of old) _ (world_of new) tt f some (ap world_of same)
 
-  drain_stops : (f : Fault) → RunsTurns old rows (Err f) new → Drains (world_of old) (drain_step (world_of old) rows) (Err f) (world_of new)
-  drain_stops BadLimit h = drain_refused BadLimit h.0 h.1
-  drain_stops TooManyLeases h = (machine, drain_lacks h.0)
-  drain_stops OutOfMemory h = (machine, drain_lacks h.0)
-  drain_stops (Query x) h = absurd h
-  drain_stops BadName h = absurd h
-  drain_stops NameTaken h = absurd h
-  drain_stops BadColumns h = absurd h
-  drain_stops TooMany h = absurd h
-  drain_stops UnknownStream h = absurd h
-  drain_stops UnknownQuery h = absurd h
-  drain_stops BadWidth h = absurd h
-  drain_stops ValueRange h = absurd h
-  drain_stops InstantRange h = absurd h
-  drain_stops Late h = absurd h
-  drain_stops Backward h = absurd h
-  drain_stops Leap h = absurd h
-  drain_stops StreamFull h = absurd h
-  drain_stops fault.Broken h = absurd h
-  drain_stops UnknownLease h = absurd h
-  drain_stops Stranger h = absurd h
-  drain_stops HistoryFull h = absurd h
-  drain_stops (Foreign entries) h = absurd h
+  stops_early : GoodEngine new → drain_fault rows ≡ None → StopsEarly (world_of old) (drain_step (world_of old) rows) (world_of new)
+  stops_early g none = record { machine = machine; lacks = drain_lacks none; next = λ before. waits_next new (keeps_its_promises new g).begins }
+
+  drain_stops : GoodEngine new → (f : Fault) → RunsTurns old rows (Err f) new → Drains (world_of old) (drain_step (world_of old) rows) (Err f) (world_of new)
+  drain_stops g BadLimit h = drain_refused BadLimit h.0 h.1
+  drain_stops g TooManyLeases h = stops_early g h.0
+  drain_stops g OutOfMemory h = stops_early g h.0
+  drain_stops g (Query x) h = absurd h
+  drain_stops g BadName h = absurd h
+  drain_stops g NameTaken h = absurd h
+  drain_stops g BadColumns h = absurd h
+  drain_stops g TooMany h = absurd h
+  drain_stops g UnknownStream h = absurd h
+  drain_stops g UnknownQuery h = absurd h
+  drain_stops g BadWidth h = absurd h
+  drain_stops g ValueRange h = absurd h
+  drain_stops g InstantRange h = absurd h
+  drain_stops g Late h = absurd h
+  drain_stops g Backward h = absurd h
+  drain_stops g Leap h = absurd h
+  drain_stops g StreamFull h = absurd h
+  drain_stops g fault.Broken h = absurd h
+  drain_stops g UnknownLease h = absurd h
+  drain_stops g Stranger h = absurd h
+  drain_stops g HistoryFull h = absurd h
+  drain_stops g (Foreign entries) h = absurd h
 
 -- A TAKE
 abbrev the_world : Machine → List (List (ℕ × Row)) → World
 the_world m ws = record { machine = m; waiting = ws }
-
-waiting_same : (ks : List Kept) (n : ℕ) → get_or (map answers_in ks) n [] ≡ answers_in (get_or ks n Dropped)
-waiting_same [] n = refl
-waiting_same (k ∷ ks) zero = refl
-waiting_same (k ∷ ks) (suc n) = waiting_same ks n
 
 none_dropped : (count : ℕ) → [] ≡ drop {A = ℕ × Row} count []
 none_dropped zero = refl
@@ -133,7 +161,7 @@ changed_waiting count n [] = refl
 changed_waiting count zero (k ∷ ks) = ap (λ a. a ∷ map answers_in ks) (sym (kept_dropped count k))
 changed_waiting count (suc n) (k ∷ ks) = ap (λ rest. answers_in k ∷ rest) (changed_waiting count n ks)
 
-module _ {A : Type 0} (view : A → List (ℤ × Row)) (old : PlainEngine) (n : ℕ) (limit : ℤ) (whole : IsWholeEngine old) where
+module _ {A : Type 0} (view : A → List (ℤ × Row)) (old : PlainEngine) (n : ℕ) (limit : ℤ) where
   abbrev waits : List (ℕ × Row)
   waits = get_or (map answers_in old.queries) n []
 
@@ -168,36 +196,36 @@ module _ {A : Type 0} (view : A → List (ℤ × Row)) (old : PlainEngine) (n : 
   unfolding take_step
   take_lacks none = may_lack (first_fault old.machine (Take n limit)) (world_of old) _ _ none
 
-  takes : (r : Result A Fault) (new : PlainEngine) → Takes view old n limit r new → Does view (world_of old) (take_step (world_of old) n limit) r (world_of new)
-  takes (Ok rows) new h = take_done rows new h.0 h.1 h.2
-  takes (Err OutOfMemory) new h = (ap world_of h.1, take_lacks h.0)
-  takes (Err fault.Broken) new h = absurd (whole.unbroken n [] h.1)
-  takes (Err (Query x)) new h = take_refused new (Query x) h.0 h.1
-  takes (Err BadName) new h = take_refused new BadName h.0 h.1
-  takes (Err NameTaken) new h = take_refused new NameTaken h.0 h.1
-  takes (Err BadColumns) new h = take_refused new BadColumns h.0 h.1
-  takes (Err TooMany) new h = take_refused new TooMany h.0 h.1
-  takes (Err UnknownStream) new h = take_refused new UnknownStream h.0 h.1
-  takes (Err UnknownQuery) new h = take_refused new UnknownQuery h.0 h.1
-  takes (Err BadWidth) new h = take_refused new BadWidth h.0 h.1
-  takes (Err ValueRange) new h = take_refused new ValueRange h.0 h.1
-  takes (Err InstantRange) new h = take_refused new InstantRange h.0 h.1
-  takes (Err Late) new h = take_refused new Late h.0 h.1
-  takes (Err Backward) new h = take_refused new Backward h.0 h.1
-  takes (Err Leap) new h = take_refused new Leap h.0 h.1
-  takes (Err StreamFull) new h = take_refused new StreamFull h.0 h.1
-  takes (Err BadLimit) new h = take_refused new BadLimit h.0 h.1
-  takes (Err UnknownLease) new h = take_refused new UnknownLease h.0 h.1
-  takes (Err Stranger) new h = take_refused new Stranger h.0 h.1
-  takes (Err HistoryFull) new h = take_refused new HistoryFull h.0 h.1
-  takes (Err (Foreign entries)) new h = take_refused new (Foreign entries) h.0 h.1
-  takes (Err TooManyLeases) new h = take_refused new TooManyLeases h.0 h.1
+  takes : IsWholeEngine old → (r : Result A Fault) (new : PlainEngine) → Takes view old n limit r new → Does view (world_of old) (take_step (world_of old) n limit) r (world_of new)
+  takes whole (Ok rows) new h = take_done rows new h.0 h.1 h.2
+  takes whole (Err OutOfMemory) new h = (ap world_of h.1, take_lacks h.0)
+  takes whole (Err fault.Broken) new h = absurd (whole.unbroken n [] h.1)
+  takes whole (Err (Query x)) new h = take_refused new (Query x) h.0 h.1
+  takes whole (Err BadName) new h = take_refused new BadName h.0 h.1
+  takes whole (Err NameTaken) new h = take_refused new NameTaken h.0 h.1
+  takes whole (Err BadColumns) new h = take_refused new BadColumns h.0 h.1
+  takes whole (Err TooMany) new h = take_refused new TooMany h.0 h.1
+  takes whole (Err UnknownStream) new h = take_refused new UnknownStream h.0 h.1
+  takes whole (Err UnknownQuery) new h = take_refused new UnknownQuery h.0 h.1
+  takes whole (Err BadWidth) new h = take_refused new BadWidth h.0 h.1
+  takes whole (Err ValueRange) new h = take_refused new ValueRange h.0 h.1
+  takes whole (Err InstantRange) new h = take_refused new InstantRange h.0 h.1
+  takes whole (Err Late) new h = take_refused new Late h.0 h.1
+  takes whole (Err Backward) new h = take_refused new Backward h.0 h.1
+  takes whole (Err Leap) new h = take_refused new Leap h.0 h.1
+  takes whole (Err StreamFull) new h = take_refused new StreamFull h.0 h.1
+  takes whole (Err BadLimit) new h = take_refused new BadLimit h.0 h.1
+  takes whole (Err UnknownLease) new h = take_refused new UnknownLease h.0 h.1
+  takes whole (Err Stranger) new h = take_refused new Stranger h.0 h.1
+  takes whole (Err HistoryFull) new h = take_refused new HistoryFull h.0 h.1
+  takes whole (Err (Foreign entries)) new h = take_refused new (Foreign entries) h.0 h.1
+  takes whole (Err TooManyLeases) new h = take_refused new TooManyLeases h.0 h.1
 
 -- BOTH, as clients see them
 pub drains_are : (old new : PlainEngine) (rows : ℕ) (r : Result ⊤ Fault) → GoodEngine new → map (λ q. q.is_dropped) new.machine.queries ≡ map is_gone new.queries → RunsTurns old rows r new
     → OnOk r (first_of new.slots ≡ None) → (r ≢ Err OutOfMemory → IsWholeEngine new) → Drains (world_of old) (drain_step (world_of old) rows) r (world_of new)
 drains_are old new rows (Ok u) g gone runs idle whole = drain_done old new rows (drain_machine old new rows (Ok u) runs) runs.0 (all_wait new g (whole (λ e. cc)) idle gone) u
-drains_are old new rows (Err f) g gone runs idle whole = drain_stops old new rows (drain_machine old new rows (Err f) runs) f runs
+drains_are old new rows (Err f) g gone runs idle whole = drain_stops old new rows (drain_machine old new rows (Err f) runs) g f runs
 
 pub drains_wait : (new : PlainEngine) (r : Result ⊤ Fault) → GoodEngine new → OnOk r (first_of new.slots ≡ None) → OnOk r (HasAllWaiting new)
 drains_wait new (Ok u) g idle = idle_waits new g idle
@@ -210,3 +238,9 @@ plenty_has r plenty e = let lacks : true ≡ false = subst IsPlenty e plenty in 
 pub takes_are : {A : Type 0} (view : A → List (ℤ × Row)) (old : PlainEngine) (n : ℕ) (limit : ℤ) (r : Result A Fault) (new : PlainEngine) → IsWholeEngine old → Takes view old n limit r new
     → Does view (world_of old) (take_step (world_of old) n limit) r (world_of new)
 takes_are view old n limit r new whole h = takes view old n limit whole r new h
+
+-- what is handed out comes next, behind what was taken
+pub takes_next : {A : Type 0} (view : A → List (ℤ × Row)) (old : PlainEngine) (n : ℕ) (limit : ℤ) (r : Result A Fault) (new : PlainEngine) → GivesBeginnings old → Takes view old n limit r new → IfOk r (λ v. AreNext old.machine n limit (view v))
+takes_next view old n limit (Ok rows) new begins h =
+    (take_is_step (world_of old) (world_of new) n limit (view rows) (waits_next old begins) (take_done view old n limit rows new h.0 h.1 h.2)).gives
+takes_next view old n limit (Err f) new begins h = tt

@@ -1,5 +1,5 @@
 -- A turn that comes back, step by step.
-use Rattle.std.specs.Prelude.{ℕ, ◌≡◌, ◌+◌, ◌<◌, ◌≤◌, MatchOption, Option, Some, List, length, set}
+use Rattle.std.specs.Prelude.{ℕ, ◌≡◌, ◌+◌, ◌<◌, ◌≤◌, ◌==◌, not, filter, MatchOption, Option, Some, List, length, set}
 use Rattle.turn.specs.Turns.{outs_in}
 use Rattle.turn.specs.declared.parts.Parts.{Parts}
 use Rattle.reference.specs.Machine.{Registered, Stream}
@@ -56,6 +56,12 @@ IsBroken old n new = (p : PlainQuery) → kept_at old n ≡ Running p → new �
 abbrev pub without_turn : PlainEngine → ℕ → PlainEngine
 without_turn e n = record e { leases = others n e.leases }
 
+-- a query leaves: names are as they were, its windows are listed no more, and no turn goes out
+pub record Forgets (n : ℕ) (old new : State) : Type 0 where
+  pub names : new.names ≡ old.names
+  pub readers : new.readers.items ≡ filter (λ r. not (r.query == n)) old.readers.items
+  pub leases : (g : Given) → IsIn new.leases.items g → IsIn old.leases.items g
+
 -- names and readers are as they were, and no turn goes out
 pub record GivesNothing (old new : State) : Type 0 where
   pub names : new.names ≡ old.names
@@ -77,5 +83,5 @@ IsAbove e n k above =
 abbrev pub with_slot : PlainEngine → Slot → Registered → PlainQuery → PlainEngine
 with_slot e s q p = record e { slots = changed s (instant_at e s.query q p s.operator) e.slots }
 
-abbrev pub IsRetold : PlainEngine → Slot → PlainEngine → Type 0
-IsRetold old s new = (q : Registered) (p : PlainQuery) → query_at old s.query ≡ Some q → kept_at old s.query ≡ Running p → new ≡ with_slot old s q p
+abbrev pub IsUpdated : PlainEngine → Slot → PlainEngine → Type 0
+IsUpdated old s new = (q : Registered) (p : PlainQuery) → query_at old s.query ≡ Some q → kept_at old s.query ≡ Running p → new ≡ with_slot old s q p

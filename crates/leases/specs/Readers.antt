@@ -1,15 +1,14 @@
 -- The windows of running queries that read a stream, and what they are told.
-use Rattle.std.specs.Prelude.{ℕ, ◌≡◌, ◌<◌, ◌==◌, ◌&&◌, ⊤, Bool, true, false, cond, nat_lt, is_none, Option, Some, None, List, [], ◌∷◌, ◌++◌, length}
+use Rattle.std.specs.Prelude.{ℕ, suc, ◌<◌, ◌==◌, ◌&&◌, ⊤, Bool, true, false, cond, nat_lt, is_none, Option, Some, None, List, [], ◌∷◌, ◌++◌, length, map}
 use Rattle.std.specs.Option.{option_to_list}
 use Rattle.plan.specs.Nodes as plan
 use Rattle.operators.specs.Operators.{ready}
 use Rattle.reference.specs.Machine.{Registered, Stream}
-use Rattle.laws_queries.specs.Queries.{PlainQuery, node_at, operator_at, place_of}
+use Rattle.laws_queries.specs.Queries.{operator_at, place_of}
 use Rattle.query_runtime.specs.Turns.{log_of}
 use Rattle.run_queue.specs.Slots.{changed}
 use Rattle.run_queue.specs.declared.slots.Slot.{Slot}
-use Rattle.laws_engine.specs.Calls.{is_reading}
-use Rattle.laws_engine.specs.Engines.{Broken, Dropped, IsIn, Kept, PlainEngine, Running, instant_at, kept_at, query_at, slot_of}
+use Rattle.laws_engine.specs.Engines.{Broken, Dropped, Kept, PlainEngine, Running, instant_at, kept_at, query_at, slot_of}
 use Rattle.leases.specs.declared.reader.Reader.{Reader}
 use Rattle.leases.specs.declared.state.State.{State}
 
@@ -37,39 +36,41 @@ reader_in q n k (plan.Group i by items) = None
 reader_in q n k (plan.Distinct i) = None
 reader_in q n k (plan.ToStream i op) = None
 
--- the operator k of the query n, which runs, is a window over the stream s
-pub record IsReading (e : PlainEngine) (s n k : ℕ) : Type 0 where
-  pub query : Registered
-  pub registered : query_at e n ≡ Some query
-  pub kept : PlainQuery
-  pub running : kept_at e n ≡ Running kept
-  pub within : k < length query.nodes
-  pub reads : is_reading query s (node_at query k) ≡ true
+-- the windows among the nodes of the query n, of which the first is its operator k
+abbrev pub windows_from : Registered → ℕ → ℕ → List plan.Node → List Reader
+windows_from q n k [] = []
+windows_from q n k (node ∷ nodes) = option_to_list (reader_in q n k node) ++ windows_from q n (suc k) nodes
 
--- all that do are listed
-abbrev pub ListsReaders : PlainEngine → List Reader → Type 0
-ListsReaders e rs = (s n k : ℕ) → IsReading e s n k → IsIn rs (reader s n k)
+-- whether a query runs
+abbrev pub runs : Kept → Bool
+runs (Running p) = true
+runs (Broken answers) = false
+runs Dropped = false
 
--- the windows among the first operators of a query n have come to them, and the others stayed
-pub record HaveCome (q : Registered) (n count : ℕ) (old new : List Reader) : Type 0 where
-  pub stay : (r : Reader) → IsIn old r → IsIn new r
-  pub come : (s k : ℕ) → k < count → is_reading q s (node_at q k) ≡ true → IsIn new (reader s n k)
+-- THE LIST OF READERS: just the windows of the queries that run, each once; the first query has the number n, and each stands beside whether it runs
+abbrev pub readers_from : ℕ → List Registered → List Bool → List Reader
+readers_from n [] bs = []
+readers_from n (q ∷ qs) [] = []
+readers_from n (q ∷ qs) (b ∷ bs) = cond b (windows_from q n 0 q.nodes) [] ++ readers_from (suc n) qs bs
+
+abbrev pub readers_of : PlainEngine → List Reader
+readers_of e = readers_from 0 e.machine.queries (map runs e.queries)
 
 -- THE SLOTS of the readers of the stream s that have nothing to take
-abbrev pub rests_in : List Stream → ℕ → Kept → Bool
-rests_in streams k (Running p) = nat_lt k (length p.operators) && is_none (ready (operator_at p.operators k) (log_of streams p k))
-rests_in streams k (Broken answers) = false
-rests_in streams k Dropped = false
+abbrev pub is_idle_in : List Stream → ℕ → Kept → Bool
+is_idle_in streams k (Running p) = nat_lt k (length p.operators) && is_none (ready (operator_at p.operators k) (log_of streams p k))
+is_idle_in streams k (Broken answers) = false
+is_idle_in streams k Dropped = false
 
-abbrev pub rests : PlainEngine → ℕ → ℕ → Bool
-rests e n k = rests_in e.machine.streams k (kept_at e n)
+abbrev pub is_idle_at : PlainEngine → ℕ → ℕ → Bool
+is_idle_at e n k = is_idle_in e.machine.streams k (kept_at e n)
 
-abbrev pub resting_slot : PlainEngine → ℕ → ℕ → List Slot
-resting_slot e n k = cond (rests e n k) (option_to_list (slot_of e n k)) []
+abbrev pub idle_slot : PlainEngine → ℕ → ℕ → List Slot
+idle_slot e n k = cond (is_idle_at e n k) (option_to_list (slot_of e n k)) []
 
-abbrev pub resting_slots : PlainEngine → ℕ → List Reader → List Slot
-resting_slots e s [] = []
-resting_slots e s (r ∷ rs) = cond (r.stream == s) (resting_slot e r.query r.operator) [] ++ resting_slots e s rs
+abbrev pub idle_slots : PlainEngine → ℕ → List Reader → List Slot
+idle_slots e s [] = []
+idle_slots e s (r ∷ rs) = cond (r.stream == s) (idle_slot e r.query r.operator) [] ++ idle_slots e s rs
 
 -- WHAT AN OPERATOR MAY TAKE, by its number
 abbrev pub instant_in : PlainEngine → ℕ → ℕ → Option Registered → Kept → Option ℕ
@@ -81,14 +82,14 @@ instant_in e n k (Some q) Dropped = None
 abbrev pub instant_of : PlainEngine → ℕ → ℕ → Option ℕ
 instant_of e n k = instant_in e n k (query_at e n) (kept_at e n)
 
--- its slot is told that
-abbrev pub told : PlainEngine → Slot → List Slot → List Slot
-told e s slots = changed s (instant_of e s.query s.operator) slots
+-- its slot gets that
+abbrev pub with_update : PlainEngine → Slot → List Slot → List Slot
+with_update e s slots = changed s (instant_of e s.query s.operator) slots
 
 -- and one slot after the other
-abbrev pub told_all : PlainEngine → List Slot → List Slot → List Slot
-told_all e [] slots = slots
-told_all e (s ∷ ss) slots = told_all e ss (told e s slots)
+abbrev pub with_updates : PlainEngine → List Slot → List Slot → List Slot
+with_updates e [] slots = slots
+with_updates e (s ∷ ss) slots = with_updates e ss (with_update e s slots)
 
 -- only the slots are others
 abbrev pub with_slots : State → List Slot → State

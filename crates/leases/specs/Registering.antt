@@ -9,7 +9,7 @@ use Rattle.laws_queries.specs.Queries.{PlainQuery, operator_at}
 use Rattle.query_runtime.specs.Turns.{HasOperator, log_of}
 use Rattle.run_queue.specs.Slots.{put, slot}
 use Rattle.run_queue.specs.declared.slots.Slot.{Slot}
-use Rattle.laws_engine.specs.Calls.{IsRegistration}
+use Rattle.laws_engine.specs.Calls.{IsRegistration, registered}
 use Rattle.laws_engine.specs.Engines.{PlainEngine}
 use Rattle.laws_engine.specs.Accepted.{IsBegun, IsPlanOfText, newest}
 
@@ -29,6 +29,14 @@ pub record IsRegistered (e : PlainEngine) (name text : List ℕ) (chart : Option
   pub of_text : IsPlanOfText e.machine text chart plan
   pub is : q ≡ newest e.machine name plan
   pub begun : IsBegun plan q p
+
+-- it comes behind the others
+abbrev pub Registers : PlainEngine → List ℕ → List ℕ → Option (List (ℤ × ℤ)) → PlainEngine → Type 0
+Registers old name text chart new = (q : Registered) × ((p : PlainQuery) × (IsRegistered old name text chart q p × (new ≡ registered old q p)))
+
+-- of a plan that was made
+abbrev pub RegistersPlan : PlainEngine → List ℕ → Plan → PlainEngine → Type 0
+RegistersPlan old name plan new = (p : PlainQuery) × (IsBegun plan (newest old.machine name plan) p × (new ≡ registered old (newest old.machine name plan) p))
 
 -- all its operators are there, each with a slope
 pub record IsNewQuery (streams : List Stream) (p : PlainQuery) (slopes : List Fraction) : Type 0 where

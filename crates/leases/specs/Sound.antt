@@ -4,7 +4,7 @@ use Rattle.reference.specs.Named.{name_of_registered}
 use Rattle.laws_queries.specs.Registrations.{HaveColumnNames}
 use Rattle.laws_engine.specs.Bounds.{HaveFewClosed}
 use Rattle.laws_engine.specs.Engines.{Broken, Dropped, GoodEngine, IsIn, Kept, Running}
-use Rattle.leases.specs.Readers.{ListsReaders}
+use Rattle.leases.specs.Readers.{readers_of}
 use Rattle.leases.specs.Shown.{engine_in}
 use Rattle.leases.specs.Views.{HasKind}
 use Rattle.leases.specs.declared.given.Given.{Given}
@@ -18,7 +18,7 @@ is_gone (Broken answers) = false
 is_gone Dropped = true
 
 -- it is a good engine, whose turns do what their operators do; few are out, and no number above the last was given; it finds queries by the names of
--- those that were not dropped, and all windows of running queries by the streams that they read
+-- those that were not dropped, and lists just the windows of those that run
 pub record IsSound (s : State) : Type 0 where
   pub good : GoodEngine (engine_in s)
   pub kinds : (g : Given) → IsIn s.leases.items g → HasKind (engine_in s) g
@@ -28,4 +28,4 @@ pub record IsSound (s : State) : Type 0 where
   pub gone : map (λ q. q.is_dropped) (engine_in s).machine.queries ≡ map is_gone (engine_in s).queries
   pub columns : HaveColumnNames (engine_in s).machine
   pub closed : HaveFewClosed (engine_in s).machine
-  pub readers : ListsReaders (engine_in s) s.readers.items
+  pub readers : s.readers.items ≡ readers_of (engine_in s)

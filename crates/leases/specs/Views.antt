@@ -36,10 +36,10 @@ query_of r = record {
 abbrev pub lease_of : Given → Lease
 lease_of g = record { number = g.number; query = g.node.query; operator = g.node.operator; side = g.node.side; item = g.item; excerpt = g.near }
 
--- what is left of a query; of a broken one only what waits counts
+-- what is left of a query
 abbrev pub kept_of : KeptQuery → Kept
 kept_of (code.Running p) = Running p
-kept_of (code.Broken p) = Broken p.answers
+kept_of (code.Broken answers) = Broken answers
 kept_of code.Dropped = Dropped
 
 abbrev pub engine_of : List Stream → List Registration → List KeptQuery → List Given → ℕ → List Slot → PlainEngine

@@ -15,4 +15,4 @@ IsWhole s = IsWholeEngine (engine_in s)
 
 -- Some numbers for turns were not given yet.
 abbrev pub HasNumbers : State → Type 0
-HasNumbers s = s.next < LEASE_NUMBERS
+HasNumbers s = (engine_in s).next < LEASE_NUMBERS

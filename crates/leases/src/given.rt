@@ -4,12 +4,16 @@ ghost use Rattle.std.specs.Prelude.{◌≡◌, ◌==◌, filter, not};
 use op_queue::Item;
 use turn::{Near, Node};
 
-/// A turn that is out: its number, the operator that it is of, and the item with its excerpt.
+/// A turn that is out.
 #[derive(Drop)]
 pub(crate) struct Given {
+    /// Its number.
     pub(crate) number: u64,
+    /// The operator that it is of, and at a join the side of the item.
     pub(crate) node: Node,
+    /// A copy of the item, which stands first in the operator's queue.
     pub(crate) item: Item,
+    /// A copy of the excerpt of the operator's state.
     pub(crate) near: Near,
 }
 
@@ -17,7 +21,7 @@ impl Given {
     ghost use Rattle.laws_engine.specs.Engines.{is_of};
     ghost use Rattle.leases.specs.Views.{lease_of};
 
-    /// Whether it is of this operator.
+    /// Tells whether it is of this operator.
     pub(crate) fn is_of(&self, query: u64, operator: usize) -> bool
         ensures { result ≡ is_of query operator (lease_of self.now) }
     {
@@ -25,14 +29,14 @@ impl Given {
     }
 }
 
-/// The turn of a number is not out any longer.
+/// Ends the turn of a number.
 pub(crate) fn end_turn(turns: &mut Vec<Given>, number: u64)
     ensures { turns.new.items ≡ filter (λ g. not (g.number == number)) turns.old.items }
 {
     turns.retain(|given| given.number != number);
 }
 
-/// The turns of a query are not out any longer.
+/// Ends the turns of a query.
 pub(crate) fn end_turns_of(turns: &mut Vec<Given>, query: u64)
     ensures { turns.new.items ≡ filter (λ g. not (g.node.query == query)) turns.old.items }
 {

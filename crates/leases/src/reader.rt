@@ -1,17 +1,19 @@
 //! Windows as readers of streams.
 ghost use Rattle.std.specs.Prelude.{◌≡◌, ◌==◌, filter, not};
 
-/// A window of a registered query: the number of the stream that it reads, the query's and the
-/// operator's.
+/// A window of a registered query.
 #[derive(Clone, Copy)]
 pub(crate) struct Reader {
+    /// The number of the stream that it reads.
     pub(crate) stream: u64,
+    /// The number of the query.
     pub(crate) query: u64,
+    /// The number of the window among the query's operators.
     pub(crate) operator: usize,
 }
 
 impl Reader {
-    /// Whether it reads the stream of this number.
+    /// Tells whether it reads the stream of this number.
     pub(crate) fn reads(&self, stream: u64) -> bool
         ensures { result ≡ (self.now.stream == stream) }
     {
@@ -19,7 +21,7 @@ impl Reader {
     }
 }
 
-/// The windows of a query are listed no more.
+/// Removes the windows of a query from the list.
 pub(crate) fn forget_readers(readers: &mut Vec<Reader>, query: u64)
     ensures { readers.new.items ≡ filter (λ r. not (r.query == query)) readers.old.items }
 {

@@ -18,18 +18,27 @@ use run_queue::RunQueue;
 use std::alloc::Global;
 use stream_store::Streams;
 
-/// What an engine keeps: its streams, the names of its queries, its registered queries and what is
-/// left of each, their readers of streams, the turns that are out, the number of the next, and the
-/// slots of all operators.
+/// What an engine keeps. It has no invariant, so that small methods may stand between two changes;
+/// `Engine` holds one that is sound.
 #[derive(Drop)]
 pub(crate) struct State {
+    /// Where memory is taken from.
     alloc: Global,
-    streams: Streams,
+    /// The declared streams, by number, with their open rows and with those that are closed.
+    pub(crate) streams: Streams,
+    /// By the queries' numbers, the name of each that was not dropped.
     names: NameTable,
+    /// By the queries' numbers, each as it was registered.
     registered: Vec<Registration>,
+    /// By the queries' numbers, what is left of each: as many as were registered.
     kept: Vec<KeptQuery>,
+    /// The windows of the queries that run, each once, by the queries' numbers and then by the
+    /// operators'.
     readers: Vec<Reader>,
-    leases: Vec<Given>,
+    /// The turns that are out, at most `MAX_LEASES`, in the order in which they went.
+    pub(crate) leases: Vec<Given>,
+    /// The number of the next turn, at most `LEASE_NUMBERS`.
     next: u64,
+    /// The slots of all operators of the queries that run, in the order in which they are leased.
     slots: RunQueue,
 }

@@ -1,18 +1,19 @@
 -- A table as the list of its names.
-use Rattle.std.proofs.Common.{◌≡◌, ◌<◌, ◌+◌, ◌==◌, nat_lt, ℕ, zero, suc, Bool, true, false, cond, Option, Some, None, List, [], ◌∷◌, ◌++◌, length, map, get_or, set, position, slice_get, refl, sym, ap, subst, ◌∙◌, arith, string_bytes}
+use Rattle.std.proofs.Common.{◌≡◌, ◌≤◌, ◌<◌, ◌+◌, ◌==◌, nat_lt, ℕ, zero, suc, Bool, true, false, cond, Option, Some, None, List, [], ◌∷◌, ◌++◌, length, map, get_or, set, position, slice_get, count_by, is_some, refl, sym, ap, subst, ◌∙◌, arith, string_bytes}
 use Rattle.std.specs.String.{string_cmp}
 use Rattle.std.specs.Map.{remove_entry, keys_of}
 use Rattle.std.specs.List.Sorted.{IsStrictlySortedBy}
 use Rattle.std.specs.BTreeMap.{insert_entry}
-use Rattle.std.specs.List.{range_with_len, position_or_len}
+use Rattle.std.specs.List.{range_with_len, position_or_len, AllByRecursion}
 use Rattle.std.proofs.lemmas.Slice.Eq.{bytes_eq-Decides}
 use Rattle.std.proofs.lemmas.Bool.{eqb-true, eqb-false, eq-eqb, ne_eqb, lt-ltb, le-ltb}
 use Rattle.std.proofs.lemmas.List.{same_lists, length-set, get_or-set_same, get_or-set_other}
 use Rattle.std.proofs.lemmas.List.FromFn.{length-map-range_with_len, get_or-map-range_with_len, map-range_with_len_more}
+use Rattle.std.proofs.lemmas.List.Recursion.{is_count_by}
 use Rattle.std.proofs.lemmas.List.Sums.{position_or_len_is}
 use Rattle.std.proofs.lemmas.Option.{get_or_from_slice_get, slice_get_within}
 use Rattle.name_table.specs.Names.{bears}
-use Rattle.name_table.specs.Entries.{name_at, names_in, IsTable}
+use Rattle.name_table.specs.Entries.{name_at, names_in, IsOnce, IsTable}
 use Rattle.name_table.proofs.EntryLemmas.{Key, at, found, named, numbered, given_below, named-insert_entry, given-insert_entry, once-insert_entry, named-remove_entry, given-remove_entry, once-remove_entry}
 
 pub length-names : (count : ℕ) (es : List (Key × ℕ)) → length (names_in count es) ≡ count
@@ -118,3 +119,58 @@ table-remove_entry cs count es t sorted = record {
   given = given-remove_entry cs count es t.given;
   once = once-remove_entry cs es t.once;
 }
+
+-- ---- how many names there are
+abbrev borne : List (Option (List ℕ)) → ℕ
+borne [] = 0
+borne (x ∷ xs) = cond (is_some x) (suc (borne xs)) (borne xs)
+
+abbrev borne_over : List (Key × ℕ) → ℕ → ℕ → ℕ
+borne_over es a n = borne (map (name_at es) (range_with_len a n))
+
+none_over : (a n : ℕ) → borne_over [] a n ≡ 0
+none_over a zero = refl
+none_over a (suc n) = none_over (a + 1) n
+
+-- a number before the others counts with none of them
+earlier_over : (e : Key × ℕ) (es : List (Key × ℕ)) (a n : ℕ) → e.1 < a → borne_over (e ∷ es) a n ≡ borne_over es a n
+earlier_over e es a zero lt = refl
+earlier_over e es a (suc n) lt =
+    let later : borne_over (e ∷ es) (a + 1) n ≡ borne_over es (a + 1) n = earlier_over e es (a + 1) n (omega (arith, lt)) in
+    let other : (e.1 == a) ≡ false = ne_eqb e.1 a (λ i. omega (arith, i, lt)) in
+    ap (λ b. cond (is_some (cond b (Some (string_bytes e.0)) (name_at es a))) (suc (borne_over (e ∷ es) (a + 1) n)) (borne_over (e ∷ es) (a + 1) n)) other
+    ∙ ap (λ k. cond (is_some (name_at es a)) (suc k) k) later
+
+next_above : (x y : ℕ) → x ≤ y → (y ≡ x → ⊥) → x + 1 ≤ y
+next_above x y le apart = grind (arith, le, apart)
+
+one_here : (b : Bool) (k : ℕ) → cond b (suc (suc k)) (suc k) ≡ suc (cond b (suc k) k)
+one_here true k = refl
+one_here false k = refl
+
+-- a number that had no name counts once
+one_over : (e : Key × ℕ) (es : List (Key × ℕ)) (a n : ℕ) → name_at es e.1 ≡ None → a ≤ e.1 → e.1 < a + n → borne_over (e ∷ es) a n ≡ suc (borne_over es a n)
+one_over e es a zero alone low high = absurd (omega (arith, low, high))
+one_over e es a (suc n) alone low high = here (one_over e es (a + 1) n alone) (e.1 == a) refl
+  where
+    here : (a + 1 ≤ e.1 → e.1 < a + 1 + n → borne_over (e ∷ es) (a + 1) n ≡ suc (borne_over es (a + 1) n)) → (b : Bool) → (e.1 == a) ≡ b → borne_over (e ∷ es) a (suc n) ≡ suc (borne_over es a (suc n))
+    here ih true i =
+        let j : e.1 ≡ a = eqb-true e.1 a i in
+        let none : name_at es a ≡ None = subst (λ z. name_at es z ≡ None) j alone in
+        ap (λ b. cond (is_some (cond b (Some (string_bytes e.0)) (name_at es a))) (suc (borne_over (e ∷ es) (a + 1) n)) (borne_over (e ∷ es) (a + 1) n)) i
+        ∙ ap suc (earlier_over e es (a + 1) n (omega (arith, j)))
+        ∙ ap (λ (o : Option (List ℕ)). suc (cond (is_some o) (suc (borne_over es (a + 1) n)) (borne_over es (a + 1) n))) (sym none)
+    here ih false i =
+        let later = ih (next_above a e.1 low (eqb-false e.1 a i)) (omega (arith, high)) in
+        ap (λ b. cond (is_some (cond b (Some (string_bytes e.0)) (name_at es a))) (suc (borne_over (e ∷ es) (a + 1) n)) (borne_over (e ∷ es) (a + 1) n)) i
+        ∙ ap (λ k. cond (is_some (name_at es a)) (suc k) k) later
+        ∙ one_here (is_some (name_at es a)) (borne_over es (a + 1) n)
+
+-- each entry is the name of one number
+entries_over : (count : ℕ) (es : List (Key × ℕ)) → AllByRecursion (λ e. e.1 < count) es → IsOnce es → borne_over es 0 count ≡ length es
+entries_over count [] given once = none_over 0 count
+entries_over count (e ∷ es) given once =
+    one_over e es 0 count once.0 (omega arith) (omega (arith, given.0)) ∙ ap suc (entries_over count es given.1 once.1)
+
+pub count-names : (count : ℕ) (es : List (Key × ℕ)) → IsTable count es → count_by is_some (names_in count es) ≡ length es
+count-names count es t = sym (is_count_by borne is_some refl (λ x xs. ap (λ (k : ℕ). cond (is_some x) k (borne xs)) (omega arith)) (names_in count es)) ∙ entries_over count es t.given t.once

@@ -1,5 +1,6 @@
 //! Tables of names.
-ghost use Rattle.std.specs.Prelude.{◌≡◌, ℕ, ◌<◌, ◌^◌, ◌++◌, [], ◌∷◌, None, Some, OnOk, OnErr, length, position, slice_get, slice_set};
+ghost use Rattle.std.specs.Prelude.{◌≡◌, ℕ, ◌<◌, ◌^◌, ◌++◌, [], ◌∷◌, None, Some, OnOk, OnErr};
+ghost use Rattle.std.specs.Prelude.{count_by, is_some, length, position, slice_get, slice_set};
 ghost use Rattle.name_table.specs.Names.{bears};
 
 use std::alloc::{AllocError, Global};
@@ -47,11 +48,19 @@ impl NameTable {
         self.count
     }
 
+    /// How many numbers bear a name: those that were given, without those whose names were freed.
+    pub fn count_names(&self) -> usize
+        ensures { result ≡ count_by is_some self.now }
+    {
+        self.numbers.len()
+    }
+
     /// The number that bears the name. Takes no memory; its time grows with the logarithm of how
     /// many names there are.
     pub fn number(&self, name: &str) -> Option<usize>
         ensures first { result ≡ position (bears name.now) self.now }
-        ensures once { (number : ℕ) → slice_get self.now number ≡ Some (Some name.now) → result ≡ Some number }
+        ensures once { (number : ℕ) → slice_get self.now number ≡ Some (Some name.now)
+            → result ≡ Some number }
     {
         self.numbers.get(name).copied()
     }
@@ -71,7 +80,8 @@ impl NameTable {
 
     /// No number bears the name any longer, so that it may be given again. Takes no memory.
     pub fn free(&mut self, name: &str)
-        ensures freed { (number : ℕ) → slice_get self.old number ≡ Some (Some name.now) → self.new ≡ slice_set self.old number None }
+        ensures freed { (number : ℕ) → slice_get self.old number ≡ Some (Some name.now)
+            → self.new ≡ slice_set self.old number None }
         ensures unknown { position (bears name.now) self.old ≡ None → self.new ≡ self.old }
     {
         self.numbers.remove(name);

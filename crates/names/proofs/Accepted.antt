@@ -9,6 +9,7 @@ use Rattle.std.proofs.lemmas.List.Sums.{sum_by-cons}
 use Rattle.std.proofs.lemmas.Bool.{le-leb, lt-ltb, ltb-false}
 use Rattle.std.proofs.lemmas.Bool.Decides.{nat_tests}
 use Rattle.std.proofs.Math.Nat.{mul-suc}
+use Rattle.values.specs.declared.TheConstants.{MAX_COLUMNS}
 use Rattle.values.specs.Condition as conditions
 use Rattle.values.specs.Relation as relations
 use Rattle.values.specs.Resolved.{column_of, columns_of, item_of, items_of, window_of, shape_of}
@@ -36,9 +37,9 @@ or_false false b h = (refl, h)
 pub record Accepted (q : syntax.Query) (catalog : List Stream) : Type 0 where
   pub streams : list_any (λ s. is_none (number_in catalog s.stream)) q.sources ≡ false
   pub partitions : list_any is_missing (flat_map (λ s. map (λ r. matches_in 0 r (table_of catalog s)) (partition_of s.window)) q.sources) ≡ false
-  pub items : length (entry_list q.entries) ≤ 16
-  pub group : length q.group ≤ 16
-  pub windows : list_any (λ s. nat_lt 16 (length (partition_of s.window))) q.sources ≡ false
+  pub items : length (entry_list q.entries) ≤ MAX_COLUMNS
+  pub group : length q.group ≤ MAX_COLUMNS
+  pub windows : list_any (λ s. nat_lt MAX_COLUMNS (length (partition_of s.window))) q.sources ≡ false
 
 none_of_seven : (a b c d e f g : Bool) → first_of_tests a b c d e f g ≡ None
     → (a ≡ false) × (b ≡ false) × (c ≡ false) × (d ≡ false) × (e ≡ false) × (f ≡ false) × (g ≡ false)
@@ -54,17 +55,17 @@ none_of_seven false false false false false false false h = (refl, refl, refl, r
 pub accepted : (q : syntax.Query) (catalog : List Stream) → first_fault q catalog ≡ None → Accepted q catalog
 accepted q catalog h =
     let after : List (List conditions.Column) = map (matches.matches 0 (tables catalog q.sources)) (flat_map named_by (entry_list q.entries) ++ (references_of_where q.condition ++ q.group)) in
-    let long : Bool = list_any (λ s. nat_lt 16 (length (partition_of s.window))) q.sources in
+    let long : Bool = list_any (λ s. nat_lt MAX_COLUMNS (length (partition_of s.window))) q.sources in
     let none = none_of_seven (list_any (λ s. is_none (number_in catalog s.stream)) q.sources) (list_any is_missing (all_matches q catalog))
     (list_any is_many (all_matches q catalog)) (has_repeat (map matches.name_of q.sources))
     (lacks_key (length q.sources) (all_conjuncts (spec.resolved q catalog).condition)) (is_ungrouped (tables catalog q.sources) q) (is_wide q) h in
-    let wide = or_false (nat_lt 16 (length (entry_list q.entries))) (nat_lt 16 (length q.group) || long) none.6 in
-    let group = or_false (nat_lt 16 (length q.group)) long wide.1 in
+    let wide = or_false (nat_lt MAX_COLUMNS (length (entry_list q.entries))) (nat_lt MAX_COLUMNS (length q.group) || long) none.6 in
+    let group = or_false (nat_lt MAX_COLUMNS (length q.group)) long wide.1 in
     record {
       streams = none.0;
       partitions = (or_false (list_any is_missing (partition_matches q catalog)) (list_any is_missing after) (sym (any_append is_missing (partition_matches q catalog) after) ∙ none.1)).0;
-      items = ltb-false 16 (length (entry_list q.entries)) wide.0;
-      group = ltb-false 16 (length q.group) group.0;
+      items = ltb-false MAX_COLUMNS (length (entry_list q.entries)) wide.0;
+      group = ltb-false MAX_COLUMNS (length q.group) group.0;
       windows = group.1;
     }
 
@@ -100,7 +101,7 @@ length-all_columns s (t ∷ ts) =
     ∙ ap (λ (n : ℕ). length t.columns + n) (length-all_columns (suc s) ts)
     ∙ sym (sum_by-cons (λ n. n) (length t.columns) (map (λ t. length t.columns) ts))
 
-listed_few : (ts : List Table) (es : syntax.Entries) → length (entry_list es) ≤ 16 → sum (map (λ t. length t.columns) ts) ≤ 16 → length (listed_columns ts es) ≤ 16
+listed_few : (ts : List Table) (es : syntax.Entries) → length (entry_list es) ≤ MAX_COLUMNS → sum (map (λ t. length t.columns) ts) ≤ MAX_COLUMNS → length (listed_columns ts es) ≤ MAX_COLUMNS
 listed_few ts syntax.All h w = omega (arith, w, length-all_columns 0 ts)
 listed_few ts (syntax.Each es) h w = omega (arith, h, named_few es, length-map (flat_map named_by es) (matches.column_of ts))
 
@@ -108,17 +109,17 @@ both_true : (a b : Bool) → a ≡ true → b ≡ true → (a && b) ≡ true
 both_true a b e f = rw e f
 
 -- the rows of a query without a fault are narrow, where those of all sources together are
-pub narrow : (s : Shape) (ts : List Table) (q : syntax.Query) → shape_of s ≡ spec.shape_of ts q → length (entry_list q.entries) ≤ 16 → length q.group ≤ 16
-    → sum (map (λ t. length t.columns) ts) ≤ 16 → has_narrow_rows s ≡ true
+pub narrow : (s : Shape) (ts : List Table) (q : syntax.Query) → shape_of s ≡ spec.shape_of ts q → length (entry_list q.entries) ≤ MAX_COLUMNS → length q.group ≤ MAX_COLUMNS
+    → sum (map (λ t. length t.columns) ts) ≤ MAX_COLUMNS → has_narrow_rows s ≡ true
 narrow (Listed columns) ts q e items group w =
     let is : columns_of columns.items ≡ listed_columns ts q.entries = listed_is (is_grouped q) _ _ _ _ e in
-    le-leb (length columns.items) 16 (omega (arith, ap length is, length-map columns.items column_of, listed_few ts q.entries items w))
+    le-leb (length columns.items) MAX_COLUMNS (omega (arith, ap length is, length-map columns.items column_of, listed_few ts q.entries items w))
 narrow (Grouped by listed) ts q e items group w =
     let is = grouped_is (is_grouped q) (columns_of by.items) (map (matches.column_of ts) q.group) (listed_columns ts q.entries)
     (items_of listed.items) (map (spec.item_of ts (map (matches.column_of ts) q.group)) (entry_list q.entries)) e in
-    both_true (nat_le (length by.items) 16) (nat_le (length listed.items) 16)
-    (le-leb (length by.items) 16 (omega (arith, ap length is.0, length-map by.items column_of, length-map q.group (matches.column_of ts), group)))
-    (le-leb (length listed.items) 16 (omega (
+    both_true (nat_le (length by.items) MAX_COLUMNS) (nat_le (length listed.items) MAX_COLUMNS)
+    (le-leb (length by.items) MAX_COLUMNS (omega (arith, ap length is.0, length-map by.items column_of, length-map q.group (matches.column_of ts), group)))
+    (le-leb (length listed.items) MAX_COLUMNS (omega (
       arith,
       ap length is.1,
       length-map listed.items item_of,
@@ -179,7 +180,7 @@ places_here t (r ∷ rs) h =
     (lt-ltb (place_in t r) (length t.columns) (place_here t r both.0)) (places_here t rs both.1)
 
 window_within : (w : Window) (t : Table) (v : syntax.Window) → window_of w ≡ spec.window_of t v
-    → list_any is_missing (map (λ r. matches_in 0 r t) (partition_of v)) ≡ false → nat_lt 16 (length (partition_of v)) ≡ false → is_within w (length t.columns) ≡ true
+    → list_any is_missing (map (λ r. matches_in 0 r t) (partition_of v)) ≡ false → nat_lt MAX_COLUMNS (length (partition_of v)) ≡ false → is_within w (length t.columns) ≡ true
 window_within (Range n) t v h m p = refl
 window_within (RangeSlide n l) t v h m p = refl
 window_within Unbounded t v h m p = refl
@@ -191,13 +192,13 @@ window_within (LastRows columns n) t (syntax.Rows rows) h m p =
     rw is refl
 window_within (LastRows columns n) t (syntax.Partition by rows) h m p =
     let is : columns.items ≡ map (place_in t) by = cc in
-    rw is (both_true (list_all (λ k. nat_lt k (length t.columns)) (map (place_in t) by)) (nat_le (length (map (place_in t) by)) 16)
-    (places_here t by m) (le-leb (length (map (place_in t) by)) 16 (omega (arith, length-map by (place_in t), ltb-false 16 (length by) p))))
+    rw is (both_true (list_all (λ k. nat_lt k (length t.columns)) (map (place_in t) by)) (nat_le (length (map (place_in t) by)) MAX_COLUMNS)
+    (places_here t by m) (le-leb (length (map (place_in t) by)) MAX_COLUMNS (omega (arith, length-map by (place_in t), ltb-false MAX_COLUMNS (length by) p))))
 
 pub within : (ws : List Window) (vs : List ℕ) (catalog : List Stream) (ss : List syntax.Source) → map window_of ws ≡ windows_of catalog ss
     → vs ≡ map (λ t. length t.columns) (tables catalog ss)
     → list_any is_missing (flat_map (λ s. map (λ r. matches_in 0 r (table_of catalog s)) (partition_of s.window)) ss) ≡ false
-    → list_any (λ s. nat_lt 16 (length (partition_of s.window))) ss ≡ false → all_within ws vs ≡ true
+    → list_any (λ s. nat_lt MAX_COLUMNS (length (partition_of s.window))) ss ≡ false → all_within ws vs ≡ true
 within [] vs catalog ss h v m p = refl
 within (w ∷ ws) vs catalog [] h v m p = absurd (cc)
 within (w ∷ ws) [] catalog (s ∷ ss) h v m p = absurd (cc)
@@ -210,7 +211,7 @@ within (w ∷ ws) (k ∷ vs) catalog (s ∷ ss) h v m p =
     let mine : List (List conditions.Column) = map (λ r. matches_in 0 r t) (partition_of s.window) in
     let others : List (List conditions.Column) = flat_map (λ s. map (λ r. matches_in 0 r (table_of catalog s)) (partition_of s.window)) ss in
     let found = or_false (list_any is_missing mine) (list_any is_missing others) (sym (any_append is_missing mine others) ∙ m) in
-    let short = or_false (nat_lt 16 (length (partition_of s.window))) (list_any (λ s. nat_lt 16 (length (partition_of s.window))) ss) p in
+    let short = or_false (nat_lt MAX_COLUMNS (length (partition_of s.window))) (list_any (λ s. nat_lt MAX_COLUMNS (length (partition_of s.window))) ss) p in
     both_true (is_within w k) (all_within ws vs) (rw width (window_within w t s.window here found.0 short.0)) (within ws vs catalog ss rest more found.1 short.1)
 
 -- STREAMS

@@ -6,6 +6,7 @@ use Rattle.std.proofs.lemmas.List.{length-map, map-append}
 use Rattle.std.proofs.lemmas.List.FromFn.{map-range_with_len_more}
 use Rattle.std.proofs.Math.Seq.{drop-cons}
 use Rattle.std.proofs.lemmas.Bool.Decides.{nat_tests}
+use Rattle.values.specs.declared.TheConstants.{MAX_COLUMNS}
 
 place-map : {X Y : Type 0} (p : Y → Bool) (f : X → Y) (xs : List X) → position_or_len p (map f xs) ≡ position_or_len (λ x. p (f x)) xs
 place-map p f [] = refl
@@ -50,9 +51,9 @@ range_more view f a n old new x j e pushed is h =
     ap (map view) pushed ∙ map-append view old (x ∷ []) ∙ ap (λ ys. ys ++ view x ∷ []) h ∙ ap (λ y. map f (range_with_len a n) ++ y ∷ []) is
     ∙ sym (map-range_with_len_more f a n j e)
 
-over : (n : ℕ) → n ≤ 16 → nat_lt 16 n ≡ false
+over : (n : ℕ) → n ≤ MAX_COLUMNS → nat_lt MAX_COLUMNS n ≡ false
 over n h = grind (arith, nat_tests)
 
 -- neither of two numbers is over the most
-pub none_over : (m n : ℕ) (w : Bool) → m ≤ 16 → n ≤ 16 → w ≡ (nat_lt 16 m || (nat_lt 16 n || w))
+pub none_over : (m n : ℕ) (w : Bool) → m ≤ MAX_COLUMNS → n ≤ MAX_COLUMNS → w ≡ (nat_lt MAX_COLUMNS m || (nat_lt MAX_COLUMNS n || w))
 none_over m n w h k = rw (over m h) (rw (over n k) refl)

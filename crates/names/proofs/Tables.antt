@@ -14,7 +14,9 @@ use Rattle.names.specs.declared.matching.Table as code
 use Rattle.names.specs.Catalog.{Stream}
 use Rattle.names.specs.Matches.{Table, table_of, tables, matches_in, matches}
 use Rattle.names.specs.Resolved.{window_of, windows_of, condition_of, named_by, entry_list, resolved}
-use Rattle.names.specs.Faults.{Fault, UnknownStream, UnknownColumn, AmbiguousColumn, DuplicateAlias, NoJoinKey, NotGrouped, TooWide, first_of, partition_of, references_of_where, all_matches}
+use Rattle.names.specs.declared.fault.ResolveFault.{ResolveFault}
+use Rattle.names.specs.declared.fault.ResolveFault.TheVariants.{UnknownStream, UnknownColumn, AmbiguousColumn, DuplicateAlias, NoJoinKey, NotGrouped, TooWide}
+use Rattle.names.specs.Faults.{first_of, partition_of, references_of_where, all_matches}
 use Rattle.names.specs.Views.{table_of as code_table, tables_of, windows_in, partitions_in, resolved_in, verdict_of}
 use Rattle.names.specs.Split.{all_conjuncts}
 use Rattle.names.specs.declared.verdict.Verdict.{Verdict}
@@ -51,7 +53,7 @@ verdict_is ts q catalog v t e =
     ∙ ap (λ (ps : List (List Column)). verdict_of (ps ++ map (matches 0 (tables catalog q.sources)) (references q))) (partitions_in-tables catalog q.sources)
 
 -- the first of seven tests that is met
-abbrev pub first_of_tests : Bool → Bool → Bool → Bool → Bool → Bool → Bool → Option Fault
+abbrev pub first_of_tests : Bool → Bool → Bool → Bool → Bool → Bool → Bool → Option ResolveFault
 first_of_tests a b c d e f g =
     first_of ((a, UnknownStream) ∷ (b, UnknownColumn) ∷ (c, AmbiguousColumn) ∷ (d, DuplicateAlias) ∷ (e, NoJoinKey) ∷ (f, NotGrouped) ∷ (g, TooWide) ∷ [])
 

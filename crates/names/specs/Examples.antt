@@ -10,7 +10,8 @@ use Rattle.cql_reader.specs.Query.{Reference, Entry, Column, CountAll, Sum, Entr
 use Rattle.names.specs.Catalog.{Stream}
 use Rattle.names.specs.Resolved.{resolved, streams, widths}
 use Rattle.names.specs.Split.{all_conjuncts, own_of, join_keys_of, remaining}
-use Rattle.names.specs.Faults.{first_fault, UnknownStream, UnknownColumn, AmbiguousColumn, DuplicateAlias, NoJoinKey, NotGrouped, TooWide}
+use Rattle.names.specs.Faults.{first_fault}
+use Rattle.names.specs.declared.fault.ResolveFault.TheVariants.{UnknownStream, UnknownColumn, AmbiguousColumn, DuplicateAlias, NoJoinKey, NotGrouped, TooWide}
 
 -- a name of one letter, by its byte
 abbrev pub name : ℕ → List ℕ

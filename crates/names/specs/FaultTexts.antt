@@ -1,10 +1,9 @@
 -- The texts of faults.
 use Rattle.std.specs.Prelude.{ℕ, List, codes}
 use Rattle.names.specs.declared.fault.ResolveFault.{ResolveFault}
-use Rattle.names.specs.declared.fault.ResolveFault.TheVariants.{OutOfMemory, UnknownStream, UnknownColumn, AmbiguousColumn, DuplicateAlias, NoJoinKey, NotGrouped, TooWide}
+use Rattle.names.specs.declared.fault.ResolveFault.TheVariants.{UnknownStream, UnknownColumn, AmbiguousColumn, DuplicateAlias, NoJoinKey, NotGrouped, TooWide}
 
 abbrev pub fault_text : ResolveFault → List ℕ
-fault_text OutOfMemory = codes "E20 OutOfMemory"
 fault_text UnknownStream = codes "Q7 UnknownStream"
 fault_text UnknownColumn = codes "Q8 UnknownColumn"
 fault_text AmbiguousColumn = codes "Q9 AmbiguousColumn"

@@ -3,21 +3,15 @@ use Rattle.std.specs.Prelude.{ℕ, ◌-◌, ◌==◌, Bool, true, false, not, �
 use Rattle.std.specs.List.{list_any, flat_map, range_with_len}
 use Rattle.std.specs.Option.{is_none}
 use Rattle.std.specs.Str.{bytes_eq}
+use Rattle.values.specs.declared.TheConstants.{MAX_COLUMNS}
 use Rattle.values.specs.Condition.{Column, Condition}
 use Rattle.cql_reader.specs.Query as syntax
 use Rattle.names.specs.Catalog.{Stream, number_in}
 use Rattle.names.specs.Matches.{Table, name_of, table_of, tables, matches_in, matches, column_of}
 use Rattle.names.specs.Split.{all_conjuncts, is_key}
 use Rattle.names.specs.Resolved.{same_column, named_by, entry_list, is_grouped, resolved}
-
-pub data Fault : Type 0 where
-  UnknownStream : Fault
-  UnknownColumn : Fault
-  AmbiguousColumn : Fault
-  DuplicateAlias : Fault
-  NoJoinKey : Fault
-  NotGrouped : Fault
-  TooWide : Fault
+use Rattle.names.specs.declared.fault.ResolveFault.{ResolveFault}
+use Rattle.names.specs.declared.fault.ResolveFault.TheVariants.{UnknownStream, UnknownColumn, AmbiguousColumn, DuplicateAlias, NoJoinKey, NotGrouped, TooWide}
 
 -- the references of a condition
 abbrev pub references_of_operand : syntax.Operand → List syntax.Reference
@@ -86,16 +80,14 @@ has_outside ts by entries = is_all entries || list_any (is_outside ts by) (entry
 abbrev pub is_ungrouped : List Table → syntax.Query → Bool
 is_ungrouped ts q = is_grouped q && has_outside ts (map (column_of ts) q.group) q.entries
 
--- the most items, Group By columns, and Partition By columns
-abbrev pub most : ℕ
-most = 16
-
+-- there are more items, Group By columns or Partition By columns than a row may have
 abbrev pub is_wide : syntax.Query → Bool
 is_wide q =
-    nat_lt most (length (entry_list q.entries)) || (nat_lt most (length q.group) || list_any (λ s. nat_lt most (length (partition_of s.window))) q.sources)
+    nat_lt MAX_COLUMNS (length (entry_list q.entries))
+    || (nat_lt MAX_COLUMNS (length q.group) || list_any (λ s. nat_lt MAX_COLUMNS (length (partition_of s.window))) q.sources)
 
 -- the tests, in their order
-abbrev pub fault_tests : syntax.Query → List Stream → List (Bool × Fault)
+abbrev pub fault_tests : syntax.Query → List Stream → List (Bool × ResolveFault)
 fault_tests q catalog =
     (list_any (λ s. is_none (number_in catalog s.stream)) q.sources, UnknownStream)
     ∷ (list_any is_missing (all_matches q catalog), UnknownColumn)
@@ -112,5 +104,5 @@ first_of ((true, fault) ∷ tests) = Some fault
 first_of ((false, fault) ∷ tests) = first_of tests
 
 -- the first fault of a query over a catalog, each test being over the whole query
-abbrev pub first_fault : syntax.Query → List Stream → Option Fault
+abbrev pub first_fault : syntax.Query → List Stream → Option ResolveFault
 first_fault q catalog = first_of (fault_tests q catalog)

@@ -11,7 +11,8 @@ use std::alloc::{AllocError, Global};
 use values::{Condition, Operand};
 
 fn resolve_operand(tables: &[Table], operand: &cql_reader::Operand) -> Operand
-    ensures { operand_of result ≡ spec.operand_of (tables_of tables.now) (syntax.operand_of operand.now) }
+    ensures { operand_of result
+        ≡ spec.operand_of (tables_of tables.now) (syntax.operand_of operand.now) }
 {
     match operand {
         cql_reader::Operand::Column(reference) => Operand::Field(named_column(tables, reference)),
@@ -25,7 +26,8 @@ fn resolve_condition(
     tables: &[Table],
     condition: &cql_reader::Condition,
 ) -> Result<Condition, AllocError>
-    ensures { IfOk result (λ c. condition_of c ≡ spec.condition_of (tables_of tables.now) (syntax.condition_of condition.now)) }
+    ensures { IfOk result (λ c. condition_of c
+        ≡ spec.condition_of (tables_of tables.now) (syntax.condition_of condition.now)) }
 {
     match condition {
         cql_reader::Condition::Compared(a, how, b) => Ok(Condition::Compared(
@@ -56,7 +58,8 @@ pub(crate) fn resolve_where(
     tables: &[Table],
     condition: &Option<cql_reader::Condition>,
 ) -> Result<Option<Condition>, AllocError>
-    ensures { IfOk result (λ o. where_of o ≡ option_map (spec.condition_of (tables_of tables.now)) (syntax.where_of condition.now)) }
+    ensures { IfOk result (λ o. where_of o
+        ≡ option_map (spec.condition_of (tables_of tables.now)) (syntax.where_of condition.now)) }
 {
     match condition {
         None => Ok(None),

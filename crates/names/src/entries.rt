@@ -19,7 +19,8 @@ pub(crate) fn columns_of(
     tables: &[Table],
     references: &[Reference],
 ) -> Result<Vec<Column>, AllocError>
-    ensures { IfOk result (λ v. columns_of v.items ≡ map (matches.column_of (tables_of tables.now)) (syntax.references_of references.now)) }
+    ensures { IfOk result (λ v. columns_of v.items
+        ≡ map (matches.column_of (tables_of tables.now)) (syntax.references_of references.now)) }
 {
     let mut columns = Vec::new(alloc);
     for reference in references {
@@ -30,7 +31,9 @@ pub(crate) fn columns_of(
 
 /// Adds the columns of a source.
 fn add_columns(columns: &mut Vec<Column>, source: usize, width: usize) -> Result<(), AllocError>
-    ensures { OnOk result (columns_of columns.new.items ≡ columns_of columns.old.items ++ map (λ k. record { source = source; column = k }) (range_with_len 0 width)) }
+    ensures { OnOk result (columns_of columns.new.items
+        ≡ columns_of columns.old.items
+        ++ map (λ k. record { source = source; column = k }) (range_with_len 0 width)) }
 {
     for column in 0..width {
         columns.push(Column { source, column })?;
@@ -51,7 +54,10 @@ fn all_columns(alloc: Global, tables: &[Table]) -> Result<Vec<Column>, AllocErro
 
 /// Adds the column of an item, where it has one.
 fn add_entry(columns: &mut Vec<Column>, tables: &[Table], entry: &Entry) -> Result<(), AllocError>
-    ensures { OnOk result (columns_of columns.new.items ≡ columns_of columns.old.items ++ map (matches.column_of (tables_of tables.now)) (spec.named_by (syntax.entry_of entry.now))) }
+    ensures { OnOk result (columns_of columns.new.items
+        ≡ columns_of columns.old.items
+        ++ map (matches.column_of (tables_of tables.now))
+        (spec.named_by (syntax.entry_of entry.now))) }
 {
     match entry {
         Entry::CountAll => {}
@@ -70,7 +76,9 @@ fn entry_columns(
     tables: &[Table],
     entries: &[Entry],
 ) -> Result<Vec<Column>, AllocError>
-    ensures { IfOk result (λ v. columns_of v.items ≡ map (matches.column_of (tables_of tables.now)) (flat_map spec.named_by (map syntax.entry_of entries.now))) }
+    ensures { IfOk result (λ v. columns_of v.items
+        ≡ map (matches.column_of (tables_of tables.now))
+        (flat_map spec.named_by (map syntax.entry_of entries.now))) }
 {
     let mut columns = Vec::new(alloc);
     for entry in entries {
@@ -85,7 +93,8 @@ fn listed_columns(
     tables: &[Table],
     entries: &Entries,
 ) -> Result<Vec<Column>, AllocError>
-    ensures { IfOk result (λ v. columns_of v.items ≡ spec.listed_columns (tables_of tables.now) (syntax.entries_of entries.now)) }
+    ensures { IfOk result (λ v. columns_of v.items
+        ≡ spec.listed_columns (tables_of tables.now) (syntax.entries_of entries.now)) }
 {
     match entries {
         Entries::All => all_columns(alloc, tables),
@@ -102,14 +111,16 @@ fn same_column(a: Column, b: Column) -> bool
 
 /// The first place of a column among columns.
 fn place_among(column: Column, columns: &[Column]) -> Option<usize>
-    ensures { result ≡ position (λ k. spec.same_column (column_of k) (column_of column)) columns.now }
+    ensures { result
+        ≡ position (λ k. spec.same_column (column_of k) (column_of column)) columns.now }
 {
     columns.iter().position(|key| same_column(*key, column))
 }
 
 /// Whether a column is among columns.
 fn is_among(column: Column, columns: &[Column]) -> bool
-    ensures { result ≡ list_any (λ k. spec.same_column (column_of k) (column_of column)) columns.now }
+    ensures { result
+        ≡ list_any (λ k. spec.same_column (column_of k) (column_of column)) columns.now }
 {
     columns.iter().any(|key| same_column(*key, column))
 }
@@ -123,7 +134,8 @@ fn key_place(column: Column, by: &[Column]) -> usize
 
 /// An item of the list of a grouped query.
 fn item_of(tables: &[Table], by: &[Column], entry: &Entry) -> ListItem
-    ensures { item_of result ≡ spec.item_of (tables_of tables.now) (columns_of by.now) (syntax.entry_of entry.now) }
+    ensures { item_of result
+        ≡ spec.item_of (tables_of tables.now) (columns_of by.now) (syntax.entry_of entry.now) }
 {
     match entry {
         Entry::Column(reference) => ListItem::Key(key_place(named_column(tables, reference), by)),
@@ -142,7 +154,9 @@ fn items_of(
     by: &[Column],
     entries: &[Entry],
 ) -> Result<Vec<ListItem>, AllocError>
-    ensures { IfOk result (λ v. items_of v.items ≡ map (spec.item_of (tables_of tables.now) (columns_of by.now)) (map syntax.entry_of entries.now)) }
+    ensures { IfOk result (λ v. items_of v.items
+        ≡ map (spec.item_of (tables_of tables.now) (columns_of by.now))
+        (map syntax.entry_of entries.now)) }
 {
     let mut items = Vec::new(alloc);
     for entry in entries {
@@ -201,8 +215,10 @@ pub(crate) fn shape_of(
     by: Vec<Column>,
     query: &Query,
 ) -> Result<Shape, AllocError>
-    requires { columns_of by.items ≡ map (matches.column_of (tables_of tables.now)) (syntax.query_of query.now).group }
-    ensures { IfOk result (λ s. shape_of s ≡ spec.shape_of (tables_of tables.now) (syntax.query_of query.now)) }
+    requires { columns_of by.items
+        ≡ map (matches.column_of (tables_of tables.now)) (syntax.query_of query.now).group }
+    ensures { IfOk result (λ s. shape_of s
+        ≡ spec.shape_of (tables_of tables.now) (syntax.query_of query.now)) }
 {
     if is_grouped(query) {
         let items = items_of(alloc, tables, &by, entry_list(&query.entries))?;
@@ -214,7 +230,8 @@ pub(crate) fn shape_of(
 
 /// Whether an item is a column that Group By does not have.
 fn is_outside(tables: &[Table], by: &[Column], entry: &Entry) -> bool
-    ensures { result ≡ faults.is_outside (tables_of tables.now) (columns_of by.now) (syntax.entry_of entry.now) }
+    ensures { result
+        ≡ faults.is_outside (tables_of tables.now) (columns_of by.now) (syntax.entry_of entry.now) }
 {
     match entry {
         Entry::Column(reference) => !is_among(named_column(tables, reference), by),
@@ -224,14 +241,19 @@ fn is_outside(tables: &[Table], by: &[Column], entry: &Entry) -> bool
 
 /// Whether some item is a column that Group By does not have.
 fn is_some_outside(tables: &[Table], by: &[Column], entries: &[Entry]) -> bool
-    ensures { result ≡ list_any (λ e. faults.is_outside (tables_of tables.now) (columns_of by.now) (syntax.entry_of e)) entries.now }
+    ensures { result
+        ≡ list_any (λ e.
+        faults.is_outside (tables_of tables.now) (columns_of by.now) (syntax.entry_of e))
+        entries.now }
 {
     entries.iter().any(|entry| is_outside(tables, by, entry))
 }
 
 /// Whether a list is `*`, or has a column that Group By does not have.
 fn has_outside(tables: &[Table], by: &[Column], entries: &Entries) -> bool
-    ensures { result ≡ faults.has_outside (tables_of tables.now) (columns_of by.now) (syntax.entries_of entries.now) }
+    ensures { result
+        ≡ faults.has_outside (tables_of tables.now) (columns_of by.now)
+        (syntax.entries_of entries.now) }
 {
     match entries {
         Entries::All => true,
@@ -242,15 +264,17 @@ fn has_outside(tables: &[Table], by: &[Column], entries: &Entries) -> bool
 /// Whether a grouped query lists `*`, or a column that Group By, whose columns are these, does not
 /// have.
 pub(crate) fn is_ungrouped(tables: &[Table], by: &[Column], query: &Query) -> bool
-    requires { columns_of by.now ≡ map (matches.column_of (tables_of tables.now)) (syntax.query_of query.now).group }
+    requires { columns_of by.now
+        ≡ map (matches.column_of (tables_of tables.now)) (syntax.query_of query.now).group }
     ensures { result ≡ faults.is_ungrouped (tables_of tables.now) (syntax.query_of query.now) }
 {
     is_grouped(query) && has_outside(tables, by, &query.entries)
 }
 
-/// Whether a source's Partition By has more than 16 columns.
+/// Whether a source's Partition By has more than `MAX_COLUMNS`.
 fn is_wide_source(source: &Source) -> bool
-    ensures { result ≡ nat_lt 16 (length (faults.partition_of (syntax.source_of source.now).window)) }
+    ensures { result
+        ≡ nat_lt MAX_COLUMNS (length (faults.partition_of (syntax.source_of source.now).window)) }
 {
     match &source.window {
         Window::Partition(by, _) => by.len() > MAX_COLUMNS,
@@ -258,9 +282,11 @@ fn is_wide_source(source: &Source) -> bool
     }
 }
 
-/// Whether a Partition By has more than 16 columns.
+/// Whether a Partition By has more than `MAX_COLUMNS`.
 fn has_wide_source(sources: &[Source]) -> bool
-    ensures { result ≡ list_any (λ s. nat_lt 16 (length (faults.partition_of (syntax.source_of s).window))) sources.now }
+    ensures { result
+        ≡ list_any (λ s.
+        nat_lt MAX_COLUMNS (length (faults.partition_of (syntax.source_of s).window))) sources.now }
 {
     sources.iter().any(|source| is_wide_source(source))
 }
@@ -272,7 +298,7 @@ fn item_count(entries: &Entries) -> usize
     entry_list(entries).len()
 }
 
-/// Whether there are more than 16 items, Group By columns or Partition By columns.
+/// Whether there are more than `MAX_COLUMNS` items, Group By columns or Partition By columns.
 pub(crate) fn is_wide(query: &Query) -> bool
     ensures { result ≡ faults.is_wide (syntax.query_of query.now) }
 {

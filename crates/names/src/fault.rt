@@ -6,11 +6,10 @@ ghost use Rattle.names.specs.Told.{Refuses, tests_of};
 use std::alloc::AllocError;
 use std::fmt;
 
-/// Why a query is not resolved.
+/// What is wrong with the names of a query. That memory was refused is none of these: it says
+/// nothing of the query, and stands beside them in `ResolveError`.
 #[derive(Clone, Copy, Debug, PartialEq, Eq)]
 pub enum ResolveFault {
-    /// A growth was refused. It says nothing of the query.
-    OutOfMemory,
     /// A source names no declared stream.
     UnknownStream,
     /// A reference matches no column.
@@ -23,17 +22,35 @@ pub enum ResolveFault {
     NoJoinKey,
     /// In a grouped query the list is `*`, or has a column that Group By does not have.
     NotGrouped,
-    /// More than 16 items, Group By columns or Partition By columns.
+    /// More than `MAX_COLUMNS` items, Group By columns or Partition By columns.
     TooWide,
 }
 
-impl From<AllocError> for ResolveFault {
-    ghost use Rattle.names.specs.declared.fault.ResolveFault.TheVariants.{OutOfMemory};
+/// Why the names of a query were not resolved.
+#[derive(Clone, Copy, Debug, PartialEq, Eq)]
+pub enum ResolveError {
+    /// A growth was refused. It says nothing of the query.
+    OutOfMemory,
+    /// The query is at fault.
+    Fault(ResolveFault),
+}
 
-    ghost from_gives = { λ _ e. e ≡ OutOfMemory };
+impl ResolveFault {
+    ghost use Rattle.names.specs.FaultTexts.{fault_text};
 
-    fn from(_: AllocError) -> Self {
-        ResolveFault::OutOfMemory
+    /// Its number and name.
+    pub fn name(&self) -> &'static str
+        ensures { result.now ≡ fault_text self.now }
+    {
+        match self {
+            ResolveFault::UnknownStream => "Q7 UnknownStream",
+            ResolveFault::UnknownColumn => "Q8 UnknownColumn",
+            ResolveFault::AmbiguousColumn => "Q9 AmbiguousColumn",
+            ResolveFault::DuplicateAlias => "Q10 DuplicateAlias",
+            ResolveFault::NoJoinKey => "Q11 NoJoinKey",
+            ResolveFault::NotGrouped => "Q12 NotGrouped",
+            ResolveFault::TooWide => "Q13 TooWide",
+        }
     }
 }
 
@@ -44,16 +61,27 @@ impl fmt::Display for ResolveFault {
     ghost output = { λ fault. Some (fault_text fault) };
 
     fn fmt<W: fmt::Write>(&self, f: &mut fmt::Formatter<W>) -> fmt::Result {
-        match self {
-            ResolveFault::OutOfMemory => write!(f, "E20 OutOfMemory"),
-            ResolveFault::UnknownStream => write!(f, "Q7 UnknownStream"),
-            ResolveFault::UnknownColumn => write!(f, "Q8 UnknownColumn"),
-            ResolveFault::AmbiguousColumn => write!(f, "Q9 AmbiguousColumn"),
-            ResolveFault::DuplicateAlias => write!(f, "Q10 DuplicateAlias"),
-            ResolveFault::NoJoinKey => write!(f, "Q11 NoJoinKey"),
-            ResolveFault::NotGrouped => write!(f, "Q12 NotGrouped"),
-            ResolveFault::TooWide => write!(f, "Q13 TooWide"),
-        }
+        f.write_str(self.name())
+    }
+}
+
+impl From<AllocError> for ResolveError {
+    ghost use Rattle.names.specs.declared.fault.ResolveError.TheVariants.{OutOfMemory};
+
+    ghost from_gives = { λ _ e. e ≡ OutOfMemory };
+
+    fn from(_: AllocError) -> Self {
+        ResolveError::OutOfMemory
+    }
+}
+
+impl From<ResolveFault> for ResolveError {
+    ghost use Rattle.names.specs.declared.fault.ResolveError.TheVariants.{Fault};
+
+    ghost from_gives = { λ fault e. e ≡ Fault fault };
+
+    fn from(fault: ResolveFault) -> Self {
+        ResolveError::Fault(fault)
     }
 }
 

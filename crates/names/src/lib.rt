@@ -14,7 +14,7 @@ mod split;
 mod streams;
 mod verdict;
 
-pub use fault::ResolveFault;
+pub use fault::{ResolveError, ResolveFault};
 pub use laws::matches_bear_the_name;
 pub use meaning::{Named, resolve};
 pub use split::Key;

@@ -54,7 +54,9 @@ impl Found {
 
 /// What a name matches at one column of a source.
 fn find_there(source: usize, place: usize, name: &Name, column: &Name) -> Found
-    ensures { result ≡ found_of (spec.columns_at source (spec.places place (syntax.name_of name.now) (syntax.name_of column.now ∷ []))) }
+    ensures { result
+        ≡ found_of (spec.columns_at source
+        (spec.places place (syntax.name_of name.now) (syntax.name_of column.now ∷ []))) }
 {
     if column.as_bytes() == name.as_bytes() {
         Found::One(Column {
@@ -68,7 +70,9 @@ fn find_there(source: usize, place: usize, name: &Name, column: &Name) -> Found
 
 /// What a name matches in the columns of a source.
 fn find_in(source: usize, name: &Name, columns: &[Name]) -> Found
-    ensures { result ≡ found_of (spec.columns_at source (spec.places 0 (syntax.name_of name.now) (map syntax.name_of columns.now))) }
+    ensures { result
+        ≡ found_of (spec.columns_at source
+        (spec.places 0 (syntax.name_of name.now) (map syntax.name_of columns.now))) }
 {
     let mut found = Found::Missing;
     for i in 0..columns.len() {
@@ -89,7 +93,9 @@ fn allows(qualifier: &Option<Name>, name: &Name) -> bool
 
 /// What the reference matches in one source.
 pub(crate) fn find_at(source: usize, table: &Table, reference: &Reference) -> Found
-    ensures { result ≡ found_of (spec.matches_in source (syntax.reference_of reference.now) (table_of table.now)) }
+    ensures { result
+        ≡ found_of (spec.matches_in source (syntax.reference_of reference.now)
+        (table_of table.now)) }
 {
     if allows(&reference.qualifier, &table.name) {
         find_in(source, &reference.name, table.columns)
@@ -100,7 +106,8 @@ pub(crate) fn find_at(source: usize, table: &Table, reference: &Reference) -> Fo
 
 /// What the reference matches in the sources.
 pub(crate) fn find(tables: &[Table], reference: &Reference) -> Found
-    ensures { result ≡ found_of (spec.matches 0 (tables_of tables.now) (syntax.reference_of reference.now)) }
+    ensures { result
+        ≡ found_of (spec.matches 0 (tables_of tables.now) (syntax.reference_of reference.now)) }
 {
     let mut found = Found::Missing;
     for i in 0..tables.len() {
@@ -111,7 +118,8 @@ pub(crate) fn find(tables: &[Table], reference: &Reference) -> Found
 
 /// The column that the reference names.
 pub(crate) fn named_column(tables: &[Table], reference: &Reference) -> Column
-    ensures { column_of result ≡ spec.column_of (tables_of tables.now) (syntax.reference_of reference.now) }
+    ensures { column_of result
+        ≡ spec.column_of (tables_of tables.now) (syntax.reference_of reference.now) }
 {
     find(tables, reference).column()
 }

@@ -1,5 +1,6 @@
 //! What a query means over the declared streams.
-ghost use Rattle.std.specs.Prelude.{◌≡◌, ◌≤◌, ◌<◌, ◌*◌, ℕ, IfOk, IfErr, None, length, map, sum, true};
+ghost use Rattle.std.specs.Prelude.{◌≡◌, ◌≤◌, ◌<◌, ◌*◌, ℕ, IfOk, IfErr, None, length, map, sum};
+ghost use Rattle.std.specs.Prelude.{true};
 ghost use Rattle.std.specs.List.{AllByRecursion};
 ghost use Rattle.std.specs.Option.{option_map};
 ghost use Rattle.values.specs.Resolved.{columns_of, where_of, resolved_of};
@@ -12,10 +13,11 @@ ghost use Rattle.names.specs.Told.{Told, Refuses};
 ghost use Rattle.names.specs.Matches as matches;
 ghost use Rattle.names.specs.Views as views;
 ghost use Rattle.names.specs.Views.{owns_of, conditions_of};
+ghost use Rattle.values.specs.declared.TheConstants.{MAX_COLUMNS};
 
 use crate::condition::resolve_where;
 use crate::entries::{columns_of, is_ungrouped, is_wide, shape_of};
-use crate::fault::{ResolveFault, Tests, refuse};
+use crate::fault::{ResolveError, ResolveFault, Tests, refuse};
 use crate::matching::Table;
 use crate::sources::{
     has_repeat, has_unknown_stream, streams_of, tables_of, widths_of, windows_of,
@@ -51,27 +53,39 @@ pub struct Named {
 /// # Errors
 /// The first fault of the query, in the order of `ResolveFault`, each test being over the whole
 /// query. `OutOfMemory` where a growth is refused, which says nothing of the query.
-pub fn resolve(alloc: Global, query: &Query, catalog: &Catalog) -> Result<Named, ResolveFault>
+pub fn resolve(alloc: Global, query: &Query, catalog: &Catalog) -> Result<Named, ResolveError>
     ensures accepted { IfOk result (λ n. first_fault (query_of query.now) catalog.now ≡ None) }
-    ensures meaning { IfOk result (λ n. resolved_of n.meaning ≡ spec.resolved (query_of query.now) catalog.now) }
-    ensures streams { IfOk result (λ n. n.streams.items ≡ spec.streams (query_of query.now) catalog.now) }
-    ensures widths { IfOk result (λ n. n.widths.items ≡ spec.widths (query_of query.now) catalog.now) }
+    ensures meaning { IfOk result (λ n. resolved_of n.meaning
+        ≡ spec.resolved (query_of query.now) catalog.now) }
+    ensures streams { IfOk result (λ n. n.streams.items
+        ≡ spec.streams (query_of query.now) catalog.now) }
+    ensures widths { IfOk result (λ n. n.widths.items
+        ≡ spec.widths (query_of query.now) catalog.now) }
     ensures own { IfOk result (λ n. owns_of n.own.items
-        ≡ own_of (length query.now.sources.items) (all_conjuncts (spec.resolved (query_of query.now) catalog.now).condition)) }
+        ≡ own_of (length query.now.sources.items)
+        (all_conjuncts (spec.resolved (query_of query.now) catalog.now).condition)) }
     ensures keys { IfOk result (λ n. views.join_keys_of n.keys.items
-        ≡ join_keys_of (length query.now.sources.items) (all_conjuncts (spec.resolved (query_of query.now) catalog.now).condition)) }
+        ≡ join_keys_of (length query.now.sources.items)
+        (all_conjuncts (spec.resolved (query_of query.now) catalog.now).condition)) }
     ensures rest { IfOk result (λ n. conditions_of n.rest.items
-        ≡ remaining (length query.now.sources.items) (all_conjuncts (spec.resolved (query_of query.now) catalog.now).condition)) }
-    ensures counts { IfOk result (λ n. length n.meaning.windows.items ≡ length query.now.sources.items) }
-    ensures streams_count { IfOk result (λ n. length n.streams.items ≡ length query.now.sources.items) }
-    ensures widths_count { IfOk result (λ n. length n.widths.items ≡ length query.now.sources.items) }
-    ensures narrow { IfOk result (λ n. sum n.widths.items ≤ 16 → has_narrow_rows n.meaning.shape ≡ true) }
-    ensures few { IfOk result (λ n. (most : ℕ) → AllByRecursion (λ s. length s.columns ≤ most) catalog.now
+        ≡ remaining (length query.now.sources.items)
+        (all_conjuncts (spec.resolved (query_of query.now) catalog.now).condition)) }
+    ensures counts { IfOk result (λ n. length n.meaning.windows.items
+        ≡ length query.now.sources.items) }
+    ensures streams_count { IfOk result (λ n. length n.streams.items
+        ≡ length query.now.sources.items) }
+    ensures widths_count { IfOk result (λ n. length n.widths.items
+        ≡ length query.now.sources.items) }
+    ensures narrow { IfOk result (λ n. sum n.widths.items ≤ MAX_COLUMNS
+        → has_narrow_rows n.meaning.shape ≡ true) }
+    ensures few { IfOk result (λ n. (most : ℕ)
+        → AllByRecursion (λ s. length s.columns ≤ most) catalog.now
         → sum n.widths.items ≤ most * length query.now.sources.items) }
     ensures slides { IfOk result (λ n. all_slide n.meaning.windows.items ≡ true) }
     ensures within { IfOk result (λ n. all_within n.meaning.windows.items n.widths.items ≡ true) }
-    ensures known { IfOk result (λ n. AllByRecursion (λ s. s < length catalog.now) n.streams.items) }
-    ensures err { IfErr result (λ f. Told f (first_fault (query_of query.now) catalog.now)) }
+    ensures known { IfOk result (λ n.
+        AllByRecursion (λ s. s < length catalog.now) n.streams.items) }
+    ensures err { IfErr result (λ e. Told e (first_fault (query_of query.now) catalog.now)) }
 {
     let tables = tables_of(alloc, catalog, &query.sources)?;
     let by = columns_of(alloc, &tables, &query.group)?;
@@ -89,9 +103,13 @@ fn test(
     by: &[Column],
     condition: &Option<Condition>,
 ) -> Result<(), ResolveFault>
-    requires tables { views.tables_of tables.now ≡ matches.tables catalog.now (query_of query.now).sources }
-    requires by { columns_of by.now ≡ map (matches.column_of (views.tables_of tables.now)) (query_of query.now).group }
-    requires condition { where_of condition.now ≡ option_map (spec.condition_of (views.tables_of tables.now)) (query_of query.now).condition }
+    requires tables { views.tables_of tables.now
+        ≡ matches.tables catalog.now (query_of query.now).sources }
+    requires by { columns_of by.now
+        ≡ map (matches.column_of (views.tables_of tables.now)) (query_of query.now).group }
+    requires condition { where_of condition.now
+        ≡ option_map (spec.condition_of (views.tables_of tables.now))
+        (query_of query.now).condition }
     ensures { Refuses result (first_fault (query_of query.now) catalog.now) }
 {
     let verdict = judge_query(tables, query);
@@ -116,9 +134,13 @@ fn meaning_of(
     condition: Option<Condition>,
 ) -> Result<Resolved, AllocError>
     requires sources { length tables.now ≡ length query.now.sources.items }
-    requires by { columns_of by.items ≡ map (matches.column_of (views.tables_of tables.now)) (query_of query.now).group }
-    requires condition { where_of condition ≡ option_map (spec.condition_of (views.tables_of tables.now)) (query_of query.now).condition }
-    ensures { IfOk result (λ r. resolved_of r ≡ views.resolved_in (views.tables_of tables.now) (query_of query.now)) }
+    requires by { columns_of by.items
+        ≡ map (matches.column_of (views.tables_of tables.now)) (query_of query.now).group }
+    requires condition { where_of condition
+        ≡ option_map (spec.condition_of (views.tables_of tables.now))
+        (query_of query.now).condition }
+    ensures { IfOk result (λ r. resolved_of r
+        ≡ views.resolved_in (views.tables_of tables.now) (query_of query.now)) }
 {
     let windows = windows_of(alloc, tables, &query.sources)?;
     let shape = shape_of(alloc, tables, by, query)?;
@@ -142,14 +164,23 @@ fn named_of(
     condition: Option<Condition>,
 ) -> Result<Named, AllocError>
     requires sources { length tables.now ≡ length query.now.sources.items }
-    requires by { columns_of by.items ≡ map (matches.column_of (views.tables_of tables.now)) (query_of query.now).group }
-    requires condition { where_of condition ≡ option_map (spec.condition_of (views.tables_of tables.now)) (query_of query.now).condition }
-    ensures meaning { IfOk result (λ n. resolved_of n.meaning ≡ views.resolved_in (views.tables_of tables.now) (query_of query.now)) }
-    ensures streams { IfOk result (λ n. n.streams.items ≡ spec.streams (query_of query.now) catalog.now) }
-    ensures widths { IfOk result (λ n. n.widths.items ≡ map (λ t. length t.columns) (views.tables_of tables.now)) }
-    ensures own { IfOk result (λ n. owns_of n.own.items ≡ own_of (length query.now.sources.items) (all_conjuncts (where_of condition))) }
-    ensures keys { IfOk result (λ n. views.join_keys_of n.keys.items ≡ join_keys_of (length query.now.sources.items) (all_conjuncts (where_of condition))) }
-    ensures rest { IfOk result (λ n. conditions_of n.rest.items ≡ remaining (length query.now.sources.items) (all_conjuncts (where_of condition))) }
+    requires by { columns_of by.items
+        ≡ map (matches.column_of (views.tables_of tables.now)) (query_of query.now).group }
+    requires condition { where_of condition
+        ≡ option_map (spec.condition_of (views.tables_of tables.now))
+        (query_of query.now).condition }
+    ensures meaning { IfOk result (λ n. resolved_of n.meaning
+        ≡ views.resolved_in (views.tables_of tables.now) (query_of query.now)) }
+    ensures streams { IfOk result (λ n. n.streams.items
+        ≡ spec.streams (query_of query.now) catalog.now) }
+    ensures widths { IfOk result (λ n. n.widths.items
+        ≡ map (λ t. length t.columns) (views.tables_of tables.now)) }
+    ensures own { IfOk result (λ n. owns_of n.own.items
+        ≡ own_of (length query.now.sources.items) (all_conjuncts (where_of condition))) }
+    ensures keys { IfOk result (λ n. views.join_keys_of n.keys.items
+        ≡ join_keys_of (length query.now.sources.items) (all_conjuncts (where_of condition))) }
+    ensures rest { IfOk result (λ n. conditions_of n.rest.items
+        ≡ remaining (length query.now.sources.items) (all_conjuncts (where_of condition))) }
 {
     let sources = query.sources.len();
     let streams = streams_of(alloc, catalog, &query.sources)?;

@@ -33,7 +33,8 @@ pub(crate) fn tables_of<'a>(
     catalog: &'a Catalog,
     sources: &[Source],
 ) -> Result<Vec<Table<'a>>, AllocError>
-    ensures { IfOk result (λ v. tables_of v.items ≡ spec.tables catalog.now (syntax.sources_of sources.now)) }
+    ensures { IfOk result (λ v. tables_of v.items
+        ≡ spec.tables catalog.now (syntax.sources_of sources.now)) }
 {
     let mut tables = Vec::new(alloc);
     for source in sources {
@@ -51,7 +52,8 @@ pub(crate) fn streams_of(
     catalog: &Catalog,
     sources: &[Source],
 ) -> Result<Vec<usize>, AllocError>
-    ensures { IfOk result (λ v. v.items ≡ map (λ s. unwrap_or (number_in catalog.now s.stream) 0) (syntax.sources_of sources.now)) }
+    ensures { IfOk result (λ v. v.items
+        ≡ map (λ s. unwrap_or (number_in catalog.now s.stream) 0) (syntax.sources_of sources.now)) }
 {
     let mut streams = Vec::new(alloc);
     for source in sources {
@@ -73,7 +75,8 @@ pub(crate) fn widths_of(alloc: Global, tables: &[Table]) -> Result<Vec<usize>, A
 
 /// Whether a source names no declared stream.
 pub(crate) fn has_unknown_stream(catalog: &Catalog, sources: &[Source]) -> bool
-    ensures { result ≡ list_any (λ s. is_none (number_in catalog.now (syntax.source_of s).stream)) sources.now }
+    ensures { result
+        ≡ list_any (λ s. is_none (number_in catalog.now (syntax.source_of s).stream)) sources.now }
 {
     sources.iter().any(|source| catalog.number_of(source.stream.as_bytes()).is_none())
 }
@@ -84,7 +87,8 @@ fn places_of(
     table: &Table,
     references: &[Reference],
 ) -> Result<Vec<usize>, AllocError>
-    ensures { IfOk result (λ v. v.items ≡ map (spec.place_in (table_of table.now)) (syntax.references_of references.now)) }
+    ensures { IfOk result (λ v. v.items
+        ≡ map (spec.place_in (table_of table.now)) (syntax.references_of references.now)) }
 {
     let mut places = Vec::new(alloc);
     for reference in references {
@@ -99,7 +103,8 @@ fn window_of(
     table: &Table,
     window: &cql_reader::Window,
 ) -> Result<Window, AllocError>
-    ensures { IfOk result (λ w. window_of w ≡ meaning.window_of (table_of table.now) (syntax.window_of window.now)) }
+    ensures { IfOk result (λ w. window_of w
+        ≡ meaning.window_of (table_of table.now) (syntax.window_of window.now)) }
 {
     match window {
         cql_reader::Window::Now => Ok(Window::Range(0)),
@@ -120,7 +125,8 @@ pub(crate) fn windows_of(
     sources: &[Source],
 ) -> Result<Vec<Window>, AllocError>
     requires { length tables.now ≡ length sources.now }
-    ensures { IfOk result (λ v. map window_of v.items ≡ windows_in (tables_of tables.now) (syntax.sources_of sources.now)) }
+    ensures { IfOk result (λ v. map window_of v.items
+        ≡ windows_in (tables_of tables.now) (syntax.sources_of sources.now)) }
 {
     let mut windows = Vec::new(alloc);
     for i in 0..sources.len() {
@@ -141,7 +147,8 @@ pub(crate) fn has_repeat(sources: &[Source]) -> bool
 
 /// Whether a source has the name.
 fn is_name_among(name: &[u8], sources: &[Source]) -> bool
-    ensures { result ≡ list_any (λ s. bytes_eq name.now (spec.name_of (syntax.source_of s))) sources.now }
+    ensures { result
+        ≡ list_any (λ s. bytes_eq name.now (spec.name_of (syntax.source_of s))) sources.now }
 {
     sources
         .iter()
@@ -150,7 +157,9 @@ fn is_name_among(name: &[u8], sources: &[Source]) -> bool
 
 /// Whether one of the others has the name of the source.
 fn has_namesake(source: &Source, others: &[Source]) -> bool
-    ensures { result ≡ list_any (bytes_eq (spec.name_of (syntax.source_of source.now))) (map spec.name_of (syntax.sources_of others.now)) }
+    ensures { result
+        ≡ list_any (bytes_eq (spec.name_of (syntax.source_of source.now)))
+        (map spec.name_of (syntax.sources_of others.now)) }
 {
     let name = name_of(source);
     is_name_among(name.as_bytes(), others)

@@ -57,7 +57,9 @@ impl Catalog {
     /// # Errors
     /// `AllocError` where a growth is refused: nothing has changed.
     pub fn declare(&mut self, name: Name, columns: Vec<Name>) -> Result<(), AllocError>
-        ensures ok { OnOk result (self.new ≡ self.old ++ record { name = name_of name; columns = map name_of columns.items } ∷ []) }
+        ensures ok { OnOk result (self.new
+            ≡ self.old ++ record { name = name_of name; columns = map name_of columns.items }
+            ∷ []) }
         ensures err { OnErr result (self.new ≡ self.old) }
     {
         self.streams.push(Declared { name, columns })?;

@@ -4,8 +4,10 @@ ghost use Rattle.std.specs.List.{flat_map};
 ghost use Rattle.cql_reader.specs.Views as syntax;
 ghost use Rattle.names.specs.Matches as spec;
 ghost use Rattle.names.specs.Resolved.{named_by, entry_list};
-ghost use Rattle.names.specs.Faults.{references_of_operand, references_of_condition, references_of_where, partition_of};
-ghost use Rattle.names.specs.Views.{table_of, tables_of, verdict_of, verdict_on, both_verdicts, judged, partitions_in};
+ghost use Rattle.names.specs.Faults.{references_of_operand, references_of_condition};
+ghost use Rattle.names.specs.Faults.{references_of_where, partition_of};
+ghost use Rattle.names.specs.Views.{table_of, tables_of, verdict_of, verdict_on, both_verdicts};
+ghost use Rattle.names.specs.Views.{judged, partitions_in};
 
 use crate::matching::{Found, Table, find, find_at};
 use cql_reader::{Condition, Entries, Entry, Operand, Query, Reference, Source, Window};
@@ -90,7 +92,8 @@ fn judge_entry(tables: &[Table], entry: &Entry) -> Verdict
 
 /// The verdict on the references of items.
 fn judge_entries(tables: &[Table], entries: &[Entry]) -> Verdict
-    ensures { result ≡ verdict_on (tables_of tables.now) (flat_map named_by (map syntax.entry_of entries.now)) }
+    ensures { result
+        ≡ verdict_on (tables_of tables.now) (flat_map named_by (map syntax.entry_of entries.now)) }
 {
     let mut verdict = Verdict::good();
     for entry in entries {
@@ -101,7 +104,9 @@ fn judge_entries(tables: &[Table], entries: &[Entry]) -> Verdict
 
 /// The verdict on the references of a list.
 fn judge_list(tables: &[Table], entries: &Entries) -> Verdict
-    ensures { result ≡ verdict_on (tables_of tables.now) (flat_map named_by (entry_list (syntax.entries_of entries.now))) }
+    ensures { result
+        ≡ verdict_on (tables_of tables.now)
+        (flat_map named_by (entry_list (syntax.entries_of entries.now))) }
 {
     match entries {
         Entries::All => Verdict::good(),
@@ -111,7 +116,9 @@ fn judge_list(tables: &[Table], entries: &Entries) -> Verdict
 
 /// The verdict on a side of a comparison.
 fn judge_operand(tables: &[Table], operand: &Operand) -> Verdict
-    ensures { result ≡ verdict_on (tables_of tables.now) (references_of_operand (syntax.operand_of operand.now)) }
+    ensures { result
+        ≡ verdict_on (tables_of tables.now)
+        (references_of_operand (syntax.operand_of operand.now)) }
 {
     match operand {
         Operand::Column(reference) => judge(tables, reference),
@@ -121,7 +128,9 @@ fn judge_operand(tables: &[Table], operand: &Operand) -> Verdict
 
 /// The verdict on the references of a condition.
 fn judge_condition(tables: &[Table], condition: &Condition) -> Verdict
-    ensures { result ≡ verdict_on (tables_of tables.now) (references_of_condition (syntax.condition_of condition.now)) }
+    ensures { result
+        ≡ verdict_on (tables_of tables.now)
+        (references_of_condition (syntax.condition_of condition.now)) }
 {
     match condition {
         Condition::Compared(a, _, b) => judge_operand(tables, a).and(judge_operand(tables, b)),
@@ -133,7 +142,8 @@ fn judge_condition(tables: &[Table], condition: &Condition) -> Verdict
 
 /// The verdict on the references of Where.
 fn judge_where(tables: &[Table], condition: &Option<Condition>) -> Verdict
-    ensures { result ≡ verdict_on (tables_of tables.now) (references_of_where (syntax.where_of condition.now)) }
+    ensures { result
+        ≡ verdict_on (tables_of tables.now) (references_of_where (syntax.where_of condition.now)) }
 {
     match condition {
         None => Verdict::good(),
@@ -143,7 +153,10 @@ fn judge_where(tables: &[Table], condition: &Option<Condition>) -> Verdict
 
 /// The verdict on references to columns of one source.
 fn judge_within(table: &Table, references: &[Reference]) -> Verdict
-    ensures { result ≡ verdict_of (map (λ r. spec.matches_in 0 r (table_of table.now)) (syntax.references_of references.now)) }
+    ensures { result
+        ≡ verdict_of
+        (map (λ r. spec.matches_in 0 r (table_of table.now))
+        (syntax.references_of references.now)) }
 {
     let mut verdict = Verdict::good();
     for reference in references {
@@ -154,7 +167,10 @@ fn judge_within(table: &Table, references: &[Reference]) -> Verdict
 
 /// The verdict on the columns of Partition By.
 fn judge_window(table: &Table, window: &Window) -> Verdict
-    ensures { result ≡ verdict_of (map (λ r. spec.matches_in 0 r (table_of table.now)) (partition_of (syntax.window_of window.now))) }
+    ensures { result
+        ≡ verdict_of
+        (map (λ r. spec.matches_in 0 r (table_of table.now))
+        (partition_of (syntax.window_of window.now))) }
 {
     match window {
         Window::Partition(by, _) => judge_within(table, by),
@@ -169,7 +185,8 @@ fn judge_window(table: &Table, window: &Window) -> Verdict
 /// tables.
 fn judge_windows(tables: &[Table], sources: &[Source]) -> Verdict
     requires { length tables.now ≡ length sources.now }
-    ensures { result ≡ verdict_of (partitions_in (tables_of tables.now) (syntax.sources_of sources.now)) }
+    ensures { result
+        ≡ verdict_of (partitions_in (tables_of tables.now) (syntax.sources_of sources.now)) }
 {
     let mut verdict = Verdict::good();
     for i in 0..sources.len() {
@@ -181,9 +198,12 @@ fn judge_windows(tables: &[Table], sources: &[Source]) -> Verdict
 /// The verdict on all references of a query, whose sources are the tables.
 pub(crate) fn judge_query(tables: &[Table], query: &Query) -> Verdict
     requires { length tables.now ≡ length query.now.sources.items }
-    ensures { result ≡ verdict_of (partitions_in (tables_of tables.now) (syntax.query_of query.now).sources
-        ++ map (spec.matches 0 (tables_of tables.now)) (flat_map named_by (entry_list (syntax.query_of query.now).entries)
-        ++ (references_of_where (syntax.query_of query.now).condition ++ (syntax.query_of query.now).group))) }
+    ensures { result
+        ≡ verdict_of (partitions_in (tables_of tables.now) (syntax.query_of query.now).sources
+        ++ map (spec.matches 0 (tables_of tables.now))
+        (flat_map named_by (entry_list (syntax.query_of query.now).entries)
+        ++ (references_of_where (syntax.query_of query.now).condition
+        ++ (syntax.query_of query.now).group))) }
 {
     let windows = judge_windows(tables, &query.sources);
     let list = judge_list(tables, &query.entries);

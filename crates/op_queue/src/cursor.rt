@@ -58,7 +58,8 @@ impl Cursor {
         requires waits { 0 < length (cursor_entries self.now log.now) }
         requires some { 0 < count }
         ensures part { IfOk result (IsFrontPart count (cursor_entries self.now log.now)) }
-        ensures value { IfOk result (λ item. entries_of item ≡ front_part (min count MAX_ROWS) (cursor_entries self.now log.now)) }
+        ensures value { IfOk result (λ item. entries_of item
+            ≡ front_part (min count MAX_ROWS) (cursor_entries self.now log.now)) }
     {
         let _until = log.until();
         let (from, to) = self.left(log);
@@ -74,7 +75,8 @@ impl Cursor {
     pub fn drop_front(&mut self, log: &Log, count: usize)
         requires waits { count ≤ length (cursor_entries self.old log.now) }
         requires within { IsWithin self.old log.now }
-        ensures entries { cursor_entries self.new log.now ≡ drop count (cursor_entries self.old log.now) }
+        ensures entries { cursor_entries self.new log.now
+            ≡ drop count (cursor_entries self.old log.now) }
         ensures within { IsWithin self.new log.now }
         ensures goes_on { GoesOn log.now self.old self.new }
     {
@@ -112,7 +114,8 @@ impl Cursor {
         requires { self.now.at < log.now.until }
         ensures some { result.0 ≤ result.1 }
         ensures within { result.1 ≤ length log.now.elements }
-        ensures left { drop self.now.passed (shown self.now.place self.now.at log.now.elements) ≡ slice_range log.now.elements result.0 result.1 }
+        ensures left { drop self.now.passed (shown self.now.place self.now.at log.now.elements)
+            ≡ slice_range log.now.elements result.0 result.1 }
     {
         let (first, end) = log.places(self.place, self.at);
         let passed = ((end - first) as u64).min(self.passed);

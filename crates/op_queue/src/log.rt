@@ -1,9 +1,12 @@
 //! Logs.
-ghost use Rattle.std.specs.Prelude.{◌≡◌, replicate, ℕ, ◌+◌, ◌-◌, ◌<◌, ◌≤◌, ◌++◌, [], All, false, length, take, map, slice_range, get_or, nat_le, IfOk, OnOk, OnErr};
+ghost use Rattle.std.specs.Prelude.{◌≡◌, replicate, ℕ, ◌+◌, ◌-◌, ◌<◌, ◌≤◌, ◌++◌, [], All, false};
+ghost use Rattle.std.specs.Prelude.{length, take, map, slice_range, get_or, nat_le, IfOk, OnOk};
+ghost use Rattle.std.specs.Prelude.{OnErr};
 ghost use Rattle.std.specs.List.{filter};
 ghost use Rattle.op_queue.specs.Cursors.{GainsClosed};
 ghost use Rattle.op_queue.specs.Logs.{IsClosing, IsInOrder, entering, is_waiting, shown};
-ghost use Rattle.op_queue.specs.Tables.{IsLonger, IsRising, KeepsFirst, IsTableOf, element, elements_in, lists};
+ghost use Rattle.op_queue.specs.Tables.{IsLonger, IsRising, KeepsFirst, IsTableOf, element};
+ghost use Rattle.op_queue.specs.Tables.{elements_in, lists};
 ghost use Rattle.values.specs.Row.{value_at};
 
 use column::{Batch, Column, MAX_ROWS, Mask};
@@ -44,9 +47,11 @@ impl Model for Log {
 
     ghost use Rattle.op_queue.specs.Tables.{IsLog, closed_in, lists};
 
-    ghost view = { λ l. closed_in l.len l.instants.items l.numbers.items (lists l.columns.items) l.until };
+    ghost view = { λ l.
+        closed_in l.len l.instants.items l.numbers.items (lists l.columns.items) l.until };
 
-    ghost invariant = { λ l. IsLog l.len l.instants.items l.numbers.items (lists l.columns.items) l.until };
+    ghost invariant = { λ l.
+        IsLog l.len l.instants.items l.numbers.items (lists l.columns.items) l.until };
 }
 
 impl Log {
@@ -75,7 +80,8 @@ impl Log {
     /// An error says that memory was refused; nothing is changed.
     pub fn close(&mut self, rows: &[Arrival], until: u64) -> Result<(), AllocError>
         requires { IsClosing self.old (map element rows.now) until }
-        ensures elements { OnOk result (self.new.elements ≡ self.old.elements ++ map element rows.now) }
+        ensures elements { OnOk result (self.new.elements
+            ≡ self.old.elements ++ map element rows.now) }
         ensures until { OnOk result (self.new.until ≡ until) }
         ensures width { self.new.width ≡ self.old.width }
         ensures queues { OnOk result (GainsClosed self.old (map element rows.now) until self.new) }
@@ -114,7 +120,8 @@ impl Log {
         requires { at < self.now.until }
         ensures some { result.0 ≤ result.1 }
         ensures within { result.1 ≤ length self.now.elements }
-        ensures shown { shown place at self.now.elements ≡ slice_range self.now.elements result.0 result.1 }
+        ensures shown { shown place at self.now.elements
+            ≡ slice_range self.now.elements result.0 result.1 }
     {
         let _until = self.until;
         let first = lower_bound(&self.instants, 0, self.len, at);
@@ -180,9 +187,16 @@ fn append(
     ensures len { OnOk result (length instants.new.items ≡ len + length rows.now) }
     ensures width { length columns.new.items ≡ length columns.old.items }
     ensures table { IsTableOf len instants.new.items numbers.new.items (lists columns.new.items) }
-    ensures whole { OnOk result (IsTableOf (len + length rows.now) instants.new.items numbers.new.items (lists columns.new.items)) }
-    ensures same { elements_in len instants.new.items numbers.new.items (lists columns.new.items) ≡ elements_in len instants.old.items numbers.old.items (lists columns.old.items) }
-    ensures more { OnOk result (elements_in (len + length rows.now) instants.new.items numbers.new.items (lists columns.new.items) ≡ elements_in len instants.old.items numbers.old.items (lists columns.old.items) ++ map element rows.now) }
+    ensures whole { OnOk result
+        (IsTableOf (len + length rows.now) instants.new.items numbers.new.items
+        (lists columns.new.items)) }
+    ensures same { elements_in len instants.new.items numbers.new.items (lists columns.new.items)
+        ≡ elements_in len instants.old.items numbers.old.items (lists columns.old.items) }
+    ensures more { OnOk result
+        (elements_in (len + length rows.now) instants.new.items numbers.new.items
+        (lists columns.new.items)
+        ≡ elements_in len instants.old.items numbers.old.items (lists columns.old.items)
+        ++ map element rows.now) }
 {
     append_values(columns, len, rows)?;
     append_numbers(numbers, len, rows)?;
@@ -193,7 +207,8 @@ fn append(
 fn append_instants(instants: &mut Vec<u64>, len: usize, rows: &[Arrival]) -> Result<(), AllocError>
     requires { len ≤ length instants.old.items }
     ensures same { take len instants.new.items ≡ take len instants.old.items }
-    ensures more { OnOk result (instants.new.items ≡ take len instants.old.items ++ map (λ e. e.instant) (map element rows.now)) }
+    ensures more { OnOk result (instants.new.items
+        ≡ take len instants.old.items ++ map (λ e. e.instant) (map element rows.now)) }
 {
     instants.truncate(len);
     for row in rows {
@@ -205,7 +220,8 @@ fn append_instants(instants: &mut Vec<u64>, len: usize, rows: &[Arrival]) -> Res
 fn append_numbers(numbers: &mut Vec<u64>, len: usize, rows: &[Arrival]) -> Result<(), AllocError>
     requires { len ≤ length numbers.old.items }
     ensures same { take len numbers.new.items ≡ take len numbers.old.items }
-    ensures more { OnOk result (numbers.new.items ≡ take len numbers.old.items ++ map (λ e. e.arrival) (map element rows.now)) }
+    ensures more { OnOk result (numbers.new.items
+        ≡ take len numbers.old.items ++ map (λ e. e.arrival) (map element rows.now)) }
 {
     numbers.truncate(len);
     for row in rows {
@@ -221,7 +237,8 @@ fn append_values(
 ) -> Result<(), AllocError>
     requires { All (λ c. len ≤ length c) (lists columns.old.items) }
     ensures same { KeepsFirst len (lists columns.old.items) (lists columns.new.items) }
-    ensures more { OnOk result (IsLonger len (map element rows.now) (lists columns.old.items) (lists columns.new.items)) }
+    ensures more { OnOk result
+        (IsLonger len (map element rows.now) (lists columns.old.items) (lists columns.new.items)) }
 {
     for k in 0..columns.len() {
         append_column(&mut columns[k], len, rows, k)?;
@@ -238,7 +255,8 @@ fn append_column(
 ) -> Result<(), AllocError>
     requires { len ≤ length column.old.items }
     ensures same { take len column.new.items ≡ take len column.old.items }
-    ensures more { OnOk result (column.new.items ≡ take len column.old.items ++ map (λ e. value_at e.row k) (map element rows.now)) }
+    ensures more { OnOk result (column.new.items
+        ≡ take len column.old.items ++ map (λ e. value_at e.row k) (map element rows.now)) }
 {
     column.truncate(len);
     for row in rows {
@@ -257,7 +275,8 @@ fn parts(
     requires some { from < to }
     requires few { to ≤ from + MAX_ROWS }
     requires within { All (λ c. to ≤ length c) (lists columns.now) }
-    ensures { IfOk result (λ parts. parts.items ≡ map (λ c. slice_range c from to) (lists columns.now)) }
+    ensures { IfOk result (λ parts. parts.items
+        ≡ map (λ c. slice_range c from to) (lists columns.now)) }
 {
     let mut parts = Vec::with_capacity(alloc, columns.len())?;
     for column in columns {

@@ -1,10 +1,13 @@
 //! Queues.
-ghost use Rattle.std.specs.Prelude.{◌≡◌, ◌↔◌, IsTrue, Some, ◌+◌, ◌-◌, ◌^◌, ◌<◌, ◌≤◌, ◌++◌, [], length, take, drop, IfOk, OnOk, OnErr, min};
+ghost use Rattle.std.specs.Prelude.{◌≡◌, ◌↔◌, IsTrue, Some, ◌+◌, ◌-◌, ◌^◌, ◌<◌, ◌≤◌, ◌++◌, []};
+ghost use Rattle.std.specs.Prelude.{length, take, drop, IfOk, OnOk, OnErr, min};
 ghost use Rattle.std.specs.Bool.{OnTrue, OnFalse};
 ghost use Rattle.op_queue.specs.Entries.{IsForward};
 ghost use Rattle.op_queue.specs.Items.{entries_of, front_of, ticks, IsFrontPart};
-ghost use Rattle.op_queue.specs.Queues.{at_once, each_begins, first_begins, item_pieces, last_entry, pieces_of, run_pieces};
-ghost use Rattle.op_queue.specs.Pieces.{end_of_pieces, piece_begins, piece_entries, piece_size, IsApart, IsLongerRun, IsPiece};
+ghost use Rattle.op_queue.specs.Queues.{at_once, each_begins, first_begins, item_pieces};
+ghost use Rattle.op_queue.specs.Queues.{last_entry, pieces_of, run_pieces};
+ghost use Rattle.op_queue.specs.Pieces.{end_of_pieces, piece_begins, piece_entries, piece_size};
+ghost use Rattle.op_queue.specs.Pieces.{IsApart, IsLongerRun, IsPiece};
 
 use crate::item::Item;
 use column::Batch;
@@ -98,8 +101,10 @@ impl Queue {
     pub fn push(&mut self, item: Item) -> Result<(), AllocError>
         requires { IsForward (self.old.entries ++ entries_of item) }
         ensures entries { OnOk result (self.new.entries ≡ self.old.entries ++ entries_of item) }
-        ensures begins { OnOk result (self.new.begins ≡ self.old.begins ++ first_begins (entries_of item)) }
-        ensures pieces { OnOk result (self.new.pieces ≡ self.old.pieces + item_pieces (last_entry self.old.entries) item) }
+        ensures begins { OnOk result (self.new.begins
+            ≡ self.old.begins ++ first_begins (entries_of item)) }
+        ensures pieces { OnOk result (self.new.pieces
+            ≡ self.old.pieces + item_pieces (last_entry self.old.entries) item) }
         ensures err { OnErr result (self.new ≡ self.old) }
     {
         match item {
@@ -117,8 +122,10 @@ impl Queue {
         requires some { first ≤ last }
         requires forward { IsForward (self.old.entries ++ ticks first last) }
         ensures entries { OnOk result (self.new.entries ≡ self.old.entries ++ ticks first last) }
-        ensures begins { OnOk result (self.new.begins ≡ self.old.begins ++ each_begins (ticks first last)) }
-        ensures pieces { OnOk result (self.new.pieces ≡ self.old.pieces + run_pieces (last_entry self.old.entries) first) }
+        ensures begins { OnOk result (self.new.begins
+            ≡ self.old.begins ++ each_begins (ticks first last)) }
+        ensures pieces { OnOk result (self.new.pieces
+            ≡ self.old.pieces + run_pieces (last_entry self.old.entries) first) }
         ensures err { OnErr result (self.new ≡ self.old) }
     {
         let size = last as u128 + 1 - first as u128;
@@ -145,7 +152,8 @@ impl Queue {
         requires waits { 0 < length self.now.entries }
         requires some { 0 < count }
         ensures part { IfOk result (IsFrontPart count self.now.entries) }
-        ensures value { IfOk result (λ item. entries_of item ≡ take (min count (at_once self.now.begins)) self.now.entries) }
+        ensures value { IfOk result (λ item. entries_of item
+            ≡ take (min count (at_once self.now.begins)) self.now.entries) }
     {
         let piece = &self.pieces[0];
         let item = piece.cut(alloc, self.taken, count)?;
@@ -158,7 +166,8 @@ impl Queue {
         ensures entries { self.new.entries ≡ drop count self.old.entries }
         ensures begins { self.new.begins ≡ drop count self.old.begins }
         ensures pieces { self.new.pieces ≤ self.old.pieces }
-        ensures counted { self.new.pieces ≡ pieces_of (drop count self.old.entries) (drop count self.old.begins) }
+        ensures counted { self.new.pieces
+            ≡ pieces_of (drop count self.old.entries) (drop count self.old.begins) }
     {
         let mut left = count as u64;
         while left > 0
@@ -226,7 +235,9 @@ impl Piece {
         requires part { taken < piece_size self.now }
         requires some { 0 < count }
         ensures part { IfOk result (IsFrontPart count (drop taken (piece_entries self.now))) }
-        ensures value { IfOk result (λ item. entries_of item ≡ take (min count (at_once (drop taken (piece_begins self.now)))) (drop taken (piece_entries self.now))) }
+        ensures value { IfOk result (λ item. entries_of item
+            ≡ take (min count (at_once (drop taken (piece_begins self.now))))
+            (drop taken (piece_entries self.now))) }
     {
         match self {
             Piece::Rows(at, batch) => {

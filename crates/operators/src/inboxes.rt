@@ -2,7 +2,8 @@
 ghost use Rattle.std.specs.Prelude.{◌≡◌, ◌<◌, ◌≤◌, ◌++◌, [], true, length, drop, IfOk, OnOk};
 ghost use Rattle.op_queue.specs.Entries.{IsForward};
 ghost use Rattle.op_queue.specs.Items.{IsFrontPart, entries_of, front_of};
-ghost use Rattle.operators.specs.Inboxes.{IsInboxWithin, ReadsOn, all_begins, all_entries, begins_in, cut_of, entries_in, is_fed, queued};
+ghost use Rattle.operators.specs.Inboxes.{IsInboxWithin, ReadsOn, all_begins, all_entries};
+ghost use Rattle.operators.specs.Inboxes.{begins_in, cut_of, entries_in, is_fed, queued};
 
 use op_queue::{Cursor, Front, Item, Log, Queue};
 use std::alloc::{AllocError, Global};
@@ -65,8 +66,10 @@ impl Inbox {
     pub fn push(&mut self, items: Vec<Item>) -> Result<(), AllocError>
         requires fed { is_fed self.old ≡ true }
         requires forward { IsForward (queued self.old ++ all_entries items.items) }
-        ensures entries { OnOk result (queued self.new ≡ queued self.old ++ all_entries items.items) }
-        ensures begins { OnOk result (begins_in self.new ≡ begins_in self.old ++ all_begins items.items) }
+        ensures entries { OnOk result (queued self.new
+            ≡ queued self.old ++ all_entries items.items) }
+        ensures begins { OnOk result (begins_in self.new
+            ≡ begins_in self.old ++ all_begins items.items) }
         ensures same { OnOk result (is_fed self.new ≡ is_fed self.old) }
     {
         match self {
@@ -88,7 +91,8 @@ impl Inbox {
 
 fn push_all(queue: &mut Queue, items: Vec<Item>) -> Result<(), AllocError>
     requires { IsForward (queue.old.entries ++ all_entries items.items) }
-    ensures entries { OnOk result (queue.new.entries ≡ queue.old.entries ++ all_entries items.items) }
+    ensures entries { OnOk result (queue.new.entries
+        ≡ queue.old.entries ++ all_entries items.items) }
     ensures begins { OnOk result (queue.new.begins ≡ queue.old.begins ++ all_begins items.items) }
 {
     for item in items {

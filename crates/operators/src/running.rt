@@ -4,8 +4,11 @@ ghost use Rattle.std.specs.Arc.{arc_value};
 ghost use Rattle.op_queue.specs.Entries.{IsForward};
 ghost use Rattle.op_queue.specs.Items.{IsFrontPart, entries_of};
 ghost use Rattle.turn.specs.Turns.{FitsKind};
-ghost use Rattle.operators.specs.Inboxes.{IsDropped, IsInboxWithin, all_entries, cut_of, entries_in, is_fed, queued};
-ghost use Rattle.operators.specs.Operators.{Belongs, HasNamedColumns, IsFed, IsFinished, KeepsBatches, front_instant, inbox_of, other, ready, ready_at, waiting};
+ghost use Rattle.operators.specs.Inboxes.{IsDropped, IsInboxWithin, all_entries, cut_of};
+ghost use Rattle.operators.specs.Inboxes.{entries_in, is_fed, queued};
+ghost use Rattle.operators.specs.Operators.{Belongs, HasNamedColumns, IsFed, IsFinished};
+ghost use Rattle.operators.specs.Operators.{KeepsBatches, front_instant, inbox_of, other, ready};
+ghost use Rattle.operators.specs.Operators.{ready_at, waiting};
 ghost use Rattle.operators.specs.States.{HasColumns, IsNext, Takes, near_of, usable};
 ghost use Rattle.operators.specs.declared.inboxes.Inbox.TheVariants.{Between};
 
@@ -36,14 +39,21 @@ impl Model for Operator {
 
     ghost Value = { PlainOperator };
 
-    ghost view = { λ o. record { kind = arc_value o.kind; state = o.state; left = o.left; right = o.right } };
+    ghost view = { λ o.
+        record { kind = arc_value o.kind; state = o.state; left = o.left; right = o.right } };
 }
 
 impl Operator {
     /// An operator of this kind with this state, and with this input on the left; nothing waits on
     /// the right.
     pub fn new(alloc: Global, kind: Arc<Kind>, state: State, left: Inbox) -> Operator
-        ensures { result ≡ record { kind = arc_value kind; state = state; left = left; right = Between (record { entries = []; begins = []; pieces = 0 }) } }
+        ensures { result
+            ≡ record {
+              kind = arc_value kind;
+              state = state;
+              left = left;
+              right = Between (record { entries = []; begins = []; pieces = 0 });
+            } }
     {
         Operator {
             kind,
@@ -88,7 +98,8 @@ impl Operator {
         requires waits { 0 < length (waiting self.now log.now side) }
         requires some { 0 < rows }
         ensures part { IfOk result (IsFrontPart rows (waiting self.now log.now side)) }
-        ensures value { IfOk result (λ item. entries_of item ≡ cut_of rows (inbox_of self.now side) log.now) }
+        ensures value { IfOk result (λ item. entries_of item
+            ≡ cut_of rows (inbox_of self.now side) log.now) }
     {
         self.inbox(side).front_cut(alloc, log, rows)
     }
@@ -169,7 +180,8 @@ impl Operator {
     fn change(&mut self, side: Side, item: &Item, change: &Change) -> Result<(), AllocError>
         requires { Takes self.old.state side item.now change.now }
         ensures kind { self.new.kind ≡ self.old.kind }
-        ensures state { OnOk result (IsNext self.old.state side item.now change.now self.new.state) }
+        ensures state { OnOk result
+            (IsNext self.old.state side item.now change.now self.new.state) }
         ensures left { self.new.left ≡ self.old.left }
         ensures right { self.new.right ≡ self.old.right }
     {
@@ -181,7 +193,8 @@ impl Operator {
         requires within { IsInboxWithin (inbox_of self.old side) log.now }
         ensures kind { self.new.kind ≡ self.old.kind }
         ensures state { self.new.state ≡ self.old.state }
-        ensures dropped { IsDropped (length (entries_of item.now)) log.now (inbox_of self.old side) (inbox_of self.new side) }
+        ensures dropped { IsDropped (length (entries_of item.now)) log.now (inbox_of self.old side)
+            (inbox_of self.new side) }
         ensures other { inbox_of self.new (other side) ≡ inbox_of self.old (other side) }
     {
         let count = size_of(item);

@@ -1,6 +1,7 @@
 -- The operators of a plan at their beginning.
 use Rattle.std.specs.Prelude.{ℕ, ◌+◌, ◌≡◌, ◌≤◌, Option, Some, None, false, List, [], ◌∷◌, ◌++◌, map, length, get_or}
 use Rattle.std.specs.List.{AllByRecursion}
+use Rattle.values.specs.declared.TheConstants.{MAX_COLUMNS}
 use Rattle.values.specs.Row.{Row}
 use Rattle.values.specs.Resolved.{condition_of}
 use Rattle.values.specs.declared.resolved.ListItem.{ListItem}
@@ -122,21 +123,21 @@ pub record IsMade (ws : List Window) (vs widths places : List ℕ) (start : ℕ)
   pub left : InboxStarts places start node o.left
   pub right : o.right ≡ nothing_waits
 
--- THE CALLER'S CONDITIONS, which the plan of a query that a row has room for meets: lists of columns are of at most 16, and conditions speak of
+-- THE CALLER'S CONDITIONS, which the plan of a query that a row has room for meets: lists of columns are of at most MAX_COLUMNS, and conditions speak of
 -- the one row that goes between operators
 abbrev pub IsNarrowWindow : Window → Type 0
 IsNarrowWindow (window.Range n) = Unit {0}
 IsNarrowWindow (window.RangeSlide n l) = Unit {0}
 IsNarrowWindow window.Unbounded = Unit {0}
-IsNarrowWindow (window.LastRows columns n) = length columns.items ≤ 16
+IsNarrowWindow (window.LastRows columns n) = length columns.items ≤ MAX_COLUMNS
 
 abbrev pub IsMakeable : List Window → List ℕ → Node → Type 0
 IsMakeable ws widths (Source s) = IsNarrowWindow (window_at ws s)
 IsMakeable ws widths (Select i cs) = AllByRecursion (λ c. IsOfOneSource (condition_of c)) cs.items
-IsMakeable ws widths (Join i j keys) = get_or widths i 0 + get_or widths j 0 ≤ 16
-IsMakeable ws widths (Project i places) = length places.items ≤ 16
-IsMakeable ws widths (Group i by items) = (length by.items ≤ 16) × (length items.items ≤ 16)
-IsMakeable ws widths (Distinct i) = get_or widths i 0 ≤ 16
+IsMakeable ws widths (Join i j keys) = get_or widths i 0 + get_or widths j 0 ≤ MAX_COLUMNS
+IsMakeable ws widths (Project i places) = length places.items ≤ MAX_COLUMNS
+IsMakeable ws widths (Group i by items) = (length by.items ≤ MAX_COLUMNS) × (length items.items ≤ MAX_COLUMNS)
+IsMakeable ws widths (Distinct i) = get_or widths i 0 ≤ MAX_COLUMNS
 IsMakeable ws widths (ToStream i op) = Unit {0}
 
 -- each operator of the plan in its place
@@ -146,7 +147,7 @@ AreMade ws vs widths places start [] (o ∷ os) = ⊥
 AreMade ws vs widths places start (n ∷ nodes) [] = ⊥
 AreMade ws vs widths places start (n ∷ nodes) (o ∷ os) = IsMade ws vs widths places start n o × AreMade ws vs widths places start nodes os
 
--- the rows of each operator have at most 16 columns
+-- the rows of each operator have at most MAX_COLUMNS
 abbrev pub HaveNarrowRows : List ℕ → List ℕ → List Node → Type 0
 HaveNarrowRows vs done [] = Unit {0}
-HaveNarrowRows vs done (n ∷ nodes) = (width_made vs done n ≤ 16) × HaveNarrowRows vs (done ++ width_made vs done n ∷ []) nodes
+HaveNarrowRows vs done (n ∷ nodes) = (width_made vs done n ≤ MAX_COLUMNS) × HaveNarrowRows vs (done ++ width_made vs done n ∷ []) nodes

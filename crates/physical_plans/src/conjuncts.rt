@@ -31,7 +31,8 @@ fn first_and_further(
 ) -> Result<Vec<Step>, AllocError>
     requires first { IsOfOneSource (condition_of first.now) }
     requires further { AllByRecursion (λ c. IsOfOneSource (condition_of c)) conditions.now }
-    ensures { IfOk result (λ ss. ss.items ≡ all_steps (condition_of first.now ∷ conditions_of conditions.now)) }
+    ensures { IfOk result (λ ss. ss.items
+        ≡ all_steps (condition_of first.now ∷ conditions_of conditions.now)) }
 {
     let mut all = steps(alloc, first)?;
     add_further(alloc, &mut all, conditions)?;
@@ -53,7 +54,8 @@ fn add_further(
     conditions: &[Condition],
 ) -> Result<(), AllocError>
     requires { AllByRecursion (λ c. IsOfOneSource (condition_of c)) conditions.now }
-    ensures { OnOk result (all.new.items ≡ all.old.items ++ further_steps (conditions_of conditions.now)) }
+    ensures { OnOk result (all.new.items
+        ≡ all.old.items ++ further_steps (conditions_of conditions.now)) }
 {
     match conditions {
         [] => Ok(()),

@@ -7,7 +7,8 @@ ghost use Rattle.group.specs.Groups.{column_at, once_each};
 ghost use Rattle.names.specs.Views.{conditions_of};
 ghost use Rattle.row_nodes.specs.Steps.{IsOfOneSource};
 ghost use Rattle.turn.specs.declared.kinds.Kind.TheVariants as kind;
-ghost use Rattle.physical_plans.specs.Beginnings.{IsMakeable, grouping, kind_made, window_at, window_kind};
+ghost use Rattle.physical_plans.specs.Beginnings.{IsMakeable, grouping, kind_made, window_at};
+ghost use Rattle.physical_plans.specs.Beginnings.{window_kind};
 ghost use Rattle.physical_plans.specs.Conjuncts.{all_steps};
 
 use crate::conjuncts::all_steps;

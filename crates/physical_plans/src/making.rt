@@ -1,7 +1,10 @@
 //! The operators of a plan.
 ghost use Rattle.std.specs.Prelude.{◌≡◌, ◌≤◌, IfOk, OnOk, All, get_or, []};
 ghost use Rattle.std.specs.Arc.{arc_value};
-ghost use Rattle.physical_plans.specs.Beginnings.{AreMade, HaveNarrowRows, InboxStarts, IsMade, IsMakeable, ReadsSource, kind_made, nothing_waits, width_made, widths_from, widths_of};
+ghost use Rattle.physical_plans.specs.Beginnings.{AreMade, HaveNarrowRows, InboxStarts, IsMade};
+ghost use Rattle.physical_plans.specs.Beginnings.{IsMakeable, ReadsSource, kind_made};
+ghost use Rattle.physical_plans.specs.Beginnings.{nothing_waits, width_made, widths_from};
+ghost use Rattle.physical_plans.specs.Beginnings.{widths_of};
 
 use crate::holdings::state_made;
 use crate::kinds::{kind_made, width_at};
@@ -23,8 +26,12 @@ pub fn operators_of(
     start: u64,
 ) -> Result<Vec<Operator>, AllocError>
     requires narrow { HaveNarrowRows plan.now.widths.items [] plan.now.nodes.items }
-    requires makeable { All (IsMakeable plan.now.meaning.windows.items (widths_of plan.now.widths.items plan.now.nodes.items)) plan.now.nodes.items }
-    ensures { IfOk result (λ operators. AreMade plan.now.meaning.windows.items plan.now.widths.items (widths_of plan.now.widths.items plan.now.nodes.items)
+    requires makeable { All
+        (IsMakeable plan.now.meaning.windows.items
+        (widths_of plan.now.widths.items plan.now.nodes.items)) plan.now.nodes.items }
+    ensures { IfOk result (λ operators.
+        AreMade plan.now.meaning.windows.items plan.now.widths.items
+        (widths_of plan.now.widths.items plan.now.nodes.items)
         places.now start plan.now.nodes.items operators.items) }
 {
     let mut widths = Vec::new(alloc);
@@ -40,7 +47,9 @@ fn all_made(
     start: u64,
 ) -> Result<Vec<Operator>, AllocError>
     requires { All (IsMakeable plan.now.meaning.windows.items widths.now) plan.now.nodes.items }
-    ensures { IfOk result (λ operators. AreMade plan.now.meaning.windows.items plan.now.widths.items widths.now places.now start plan.now.nodes.items operators.items) }
+    ensures { IfOk result (λ operators.
+        AreMade plan.now.meaning.windows.items plan.now.widths.items widths.now places.now start
+        plan.now.nodes.items operators.items) }
 {
     let mut operators = Vec::with_capacity(alloc, plan.nodes.len())?;
     for number in 0..plan.nodes.len() {
@@ -59,7 +68,9 @@ fn made(
     node: &Node,
 ) -> Result<Operator, AllocError>
     requires { IsMakeable plan.now.meaning.windows.items widths.now node.now }
-    ensures { IfOk result (λ operator. IsMade plan.now.meaning.windows.items plan.now.widths.items widths.now places.now start node.now operator) }
+    ensures { IfOk result (λ operator.
+        IsMade plan.now.meaning.windows.items plan.now.widths.items widths.now places.now start
+        node.now operator) }
 {
     let kind = shared(
         alloc,

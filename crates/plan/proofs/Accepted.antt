@@ -11,7 +11,8 @@ use Rattle.std.specs.Str.{bytes_eq}
 use Rattle.names.specs.Catalog.{Stream}
 use Rattle.names.specs.Matches.{Table, table_of, tables, places, allows, matches_in, matches, first_column, column_of}
 use Rattle.names.specs.Resolved.{operand_of, condition_of, item_of, named_by, all_columns, entry_list, is_grouped, listed_columns, shape_of, resolved, widths}
-use Rattle.names.specs.Faults.{Fault, references_of_operand, references_of_condition, references_of_where, partition_matches, all_matches, is_missing, first_of, fault_tests, first_fault}
+use Rattle.names.specs.Faults.{references_of_operand, references_of_condition, references_of_where, partition_matches, all_matches, is_missing, first_of, fault_tests, first_fault}
+use Rattle.names.specs.declared.fault.ResolveFault.{ResolveFault}
 use Rattle.std.specs.List.{AllByRecursion}
 use Rattle.plan.specs.Scope.{InScope, ItemInScope, ShapeInScope, ConditionInScope, Scoped}
 use Rattle.plan.specs.Scope.{Tables}
@@ -22,7 +23,7 @@ use Rattle.values.specs.Row.{Row}
 use Rattle.values.specs.Answers.{body}
 use Rattle.plan.proofs.Lists.{by_test, each-append, each-left, each-right, each-weaken, each-map, each-unmap}
 
-none_met : (ts : List (Bool × Fault)) → first_of ts ≡ None → AllByRecursion (λ t. t.0 ≡ false) ts
+none_met : (ts : List (Bool × ResolveFault)) → first_of ts ≡ None → AllByRecursion (λ t. t.0 ≡ false) ts
 none_met [] h = tt
 none_met ((true, fault) ∷ ts) h = absurd (cc)
 none_met ((false, fault) ∷ ts) h = (refl, none_met ts h)

@@ -22,7 +22,7 @@ use Rattle.plan.specs.Faults.{after_names, first_fault}
 use Rattle.plan.specs.Scope.{InScope, ColumnsInScope, ShapeInScope, Scoped}
 use Rattle.plan.specs.Told.{Told}
 use Rattle.plan.specs.Views.{node_of, nodes_of}
-use Rattle.plan.specs.declared.fault.PlanFault.{PlanFault}
+use Rattle.plan.specs.declared.fault.PlanError.{PlanError}
 use Rattle.plan.specs.declared.node.Node.{Node}
 use Rattle.plan.proofs.Accepted.{accepted-scoped}
 use Rattle.plan.proofs.Scopes.{keys_scope, rest_scope}
@@ -46,8 +46,8 @@ module _ (q : syntax.Query) (catalog : List Stream) (accepted : names.first_faul
       rw (e, s) scoped.shape
 
   pub fault_told : (given : Option (List (ℤ × ℤ))) (nodes lent : List Node) → lent ≡ nodes → nodes_of nodes ≡ plan_of (widths q catalog) (resolved q catalog)
-      → (fault : PlanFault) → Told fault (after_names None (is_bad_chart (length lent) given)) → Told fault (first_fault q catalog given)
-  fault_told given nodes lent l p fault h =
+      → (error : PlanError) → Told error (after_names None (is_bad_chart (length lent) given)) → Told error (first_fault q catalog given)
+  fault_told given nodes lent l p error h =
       let e : length lent ≡ length (plan_of (widths q catalog) (resolved q catalog)) = ap length l ∙ sym (length-map nodes node_of) ∙ ap length p in
       rw accepted (rw e at h)
 

@@ -8,7 +8,8 @@ use Rattle.names.specs.Examples.{declared, three, partly, of, query}
 use Rattle.names.specs.Resolved.{resolved, widths}
 use Rattle.plan.specs.Nodes.{Node, Window, Select, Join, Project, ToStream, plan_value}
 use Rattle.plan.specs.Build.{at, plan_of}
-use Rattle.plan.specs.Faults.{first_fault, BadChart}
+use Rattle.plan.specs.Faults.{first_fault}
+use Rattle.plan.specs.declared.fault.PlanFault.TheVariants.{BadChart}
 
 abbrev planned : Query → List Node
 planned q = plan_of (widths q declared) (resolved q declared)

@@ -111,7 +111,8 @@ impl Chart {
     /// What is given for each operator.
     pub(crate) fn measures(&self, alloc: Global) -> Result<Vec<Measure>, AllocError>
         requires { list_all is_measure self.now.operators.items ≡ true }
-        ensures { IfOk result (λ measures. measures.items ≡ map measure_of self.now.operators.items) }
+        ensures { IfOk result (λ measures. measures.items
+            ≡ map measure_of self.now.operators.items) }
     {
         let mut measures = Vec::with_capacity(alloc, self.operators.len())?;
         for given in &self.operators {

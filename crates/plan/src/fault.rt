@@ -1,59 +1,39 @@
 //! The faults of plans, in the order of their tests.
-use names::ResolveFault;
+use names::{ResolveError, ResolveFault};
 use std::alloc::AllocError;
 use std::fmt;
 
-/// Why a query has no plan.
+/// What is wrong with the names of a query, or with its chart. That memory was refused is none of
+/// these: it says nothing of the query, and stands beside them in `PlanError`.
 #[derive(Clone, Copy, Debug, PartialEq, Eq)]
 pub enum PlanFault {
-    /// A growth was refused. It says nothing of the query.
-    OutOfMemory,
-    /// A source names no declared stream.
-    UnknownStream,
-    /// A reference matches no column.
-    UnknownColumn,
-    /// A reference matches more than one column.
-    AmbiguousColumn,
-    /// Two sources have the same name.
-    DuplicateAlias,
-    /// A source after the first has no join key.
-    NoJoinKey,
-    /// In a grouped query the list is `*`, or has a column that Group By does not have.
-    NotGrouped,
-    /// More than 16 items, Group By columns or Partition By columns.
-    TooWide,
+    /// The names of the query.
+    Unresolved(ResolveFault),
     /// A chart of another length than the plan, a cost or size out of range, or a root size that is
     /// not 0.
     BadChart,
 }
 
-impl From<AllocError> for PlanFault {
-    ghost use Rattle.std.specs.Prelude.{◌≡◌};
-    ghost use Rattle.plan.specs.declared.fault.PlanFault.TheVariants.{OutOfMemory};
-
-    ghost from_gives = { λ _ fault. fault ≡ OutOfMemory };
-
-    fn from(_: AllocError) -> Self {
-        PlanFault::OutOfMemory
-    }
+/// Why a query was not planned.
+#[derive(Clone, Copy, Debug, PartialEq, Eq)]
+pub enum PlanError {
+    /// A growth was refused. It says nothing of the query.
+    OutOfMemory,
+    /// The query or its chart is at fault.
+    Fault(PlanFault),
 }
 
-impl From<ResolveFault> for PlanFault {
+impl PlanFault {
     ghost use Rattle.std.specs.Prelude.{◌≡◌};
-    ghost use Rattle.plan.specs.Told.{fault_from};
+    ghost use Rattle.plan.specs.FaultTexts.{fault_text};
 
-    ghost from_gives = { λ resolving fault. fault ≡ fault_from resolving };
-
-    fn from(fault: ResolveFault) -> Self {
-        match fault {
-            ResolveFault::OutOfMemory => PlanFault::OutOfMemory,
-            ResolveFault::UnknownStream => PlanFault::UnknownStream,
-            ResolveFault::UnknownColumn => PlanFault::UnknownColumn,
-            ResolveFault::AmbiguousColumn => PlanFault::AmbiguousColumn,
-            ResolveFault::DuplicateAlias => PlanFault::DuplicateAlias,
-            ResolveFault::NoJoinKey => PlanFault::NoJoinKey,
-            ResolveFault::NotGrouped => PlanFault::NotGrouped,
-            ResolveFault::TooWide => PlanFault::TooWide,
+    /// Its number and name.
+    pub fn name(&self) -> &'static str
+        ensures { result.now ≡ fault_text self.now }
+    {
+        match self {
+            PlanFault::Unresolved(fault) => fault.name(),
+            PlanFault::BadChart => "Q14 BadChart",
         }
     }
 }
@@ -65,16 +45,31 @@ impl fmt::Display for PlanFault {
     ghost output = { λ fault. Some (fault_text fault) };
 
     fn fmt<W: fmt::Write>(&self, f: &mut fmt::Formatter<W>) -> fmt::Result {
-        match self {
-            PlanFault::OutOfMemory => write!(f, "E20 OutOfMemory"),
-            PlanFault::UnknownStream => write!(f, "Q7 UnknownStream"),
-            PlanFault::UnknownColumn => write!(f, "Q8 UnknownColumn"),
-            PlanFault::AmbiguousColumn => write!(f, "Q9 AmbiguousColumn"),
-            PlanFault::DuplicateAlias => write!(f, "Q10 DuplicateAlias"),
-            PlanFault::NoJoinKey => write!(f, "Q11 NoJoinKey"),
-            PlanFault::NotGrouped => write!(f, "Q12 NotGrouped"),
-            PlanFault::TooWide => write!(f, "Q13 TooWide"),
-            PlanFault::BadChart => write!(f, "Q14 BadChart"),
+        f.write_str(self.name())
+    }
+}
+
+impl From<AllocError> for PlanError {
+    ghost use Rattle.std.specs.Prelude.{◌≡◌};
+    ghost use Rattle.plan.specs.declared.fault.PlanError.TheVariants.{OutOfMemory};
+
+    ghost from_gives = { λ _ e. e ≡ OutOfMemory };
+
+    fn from(_: AllocError) -> Self {
+        PlanError::OutOfMemory
+    }
+}
+
+impl From<ResolveError> for PlanError {
+    ghost use Rattle.std.specs.Prelude.{◌≡◌};
+    ghost use Rattle.plan.specs.Told.{error_from};
+
+    ghost from_gives = { λ resolving e. e ≡ error_from resolving };
+
+    fn from(error: ResolveError) -> Self {
+        match error {
+            ResolveError::OutOfMemory => PlanError::OutOfMemory,
+            ResolveError::Fault(fault) => PlanError::Fault(PlanFault::Unresolved(fault)),
         }
     }
 }

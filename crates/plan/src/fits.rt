@@ -13,8 +13,10 @@ use values::MAX_COLUMNS;
 /// with the sources times the streams.
 pub fn fits_a_row(query: &Query, catalog: &Catalog) -> bool
     ensures { MatchBool result
-        ((length query.now.sources.items ≤ MAX_COLUMNS) × (sum (widths (query_of query.now) catalog.now) ≤ MAX_COLUMNS))
-        (¬ ((length query.now.sources.items ≤ MAX_COLUMNS) × (sum (widths (query_of query.now) catalog.now) ≤ MAX_COLUMNS))) }
+        ((length query.now.sources.items ≤ MAX_COLUMNS)
+        × (sum (widths (query_of query.now) catalog.now) ≤ MAX_COLUMNS))
+        (¬ ((length query.now.sources.items ≤ MAX_COLUMNS)
+        × (sum (widths (query_of query.now) catalog.now) ≤ MAX_COLUMNS))) }
 {
     if query.sources.len() > MAX_COLUMNS {
         return false;

@@ -21,7 +21,7 @@ mod place;
 mod planner;
 
 pub use chart::{Chart, MAX_COST, MAX_SIZE, Measure};
-pub use fault::PlanFault;
+pub use fault::{PlanError, PlanFault};
 pub use fits::fits_a_row;
 pub use laws::plans_are_right;
 pub use node::{Key, Kind, Node};

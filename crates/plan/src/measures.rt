@@ -7,7 +7,7 @@ ghost use Rattle.plan.specs.Told.{Told};
 ghost use Rattle.plan.specs.Views.{nodes_of};
 
 use crate::chart::{Chart, Measure};
-use crate::fault::PlanFault;
+use crate::fault::{PlanError, PlanFault};
 use crate::node::Node;
 use std::alloc::{AllocError, Global};
 
@@ -16,16 +16,20 @@ pub fn measures(
     alloc: Global,
     nodes: &[Node],
     chart: Option<&Chart>,
-) -> Result<Vec<Measure>, PlanFault>
-    ensures good { IfOk result (λ measures. is_bad_chart (length nodes.now) (given_by (option_copied chart.entry)) ≡ false) }
-    ensures ok { IfOk result (λ measures. measures.items ≡ measures_of (nodes_of nodes.now) (given_by (option_copied chart.entry))) }
-    ensures err { IfErr result (λ fault. Told fault (after_names None (is_bad_chart (length nodes.now) (given_by (option_copied chart.entry))))) }
+) -> Result<Vec<Measure>, PlanError>
+    ensures good { IfOk result (λ measures.
+        is_bad_chart (length nodes.now) (given_by (option_copied chart.entry)) ≡ false) }
+    ensures ok { IfOk result (λ measures. measures.items
+        ≡ measures_of (nodes_of nodes.now) (given_by (option_copied chart.entry))) }
+    ensures err { IfErr result (λ error.
+        Told error (after_names None
+        (is_bad_chart (length nodes.now) (given_by (option_copied chart.entry))))) }
 {
     match chart {
         None => Ok(default_measures(alloc, nodes)?),
         Some(chart) => {
             if chart.is_bad(nodes.len()) {
-                return Err(PlanFault::BadChart);
+                return Err(PlanError::Fault(PlanFault::BadChart));
             }
             Ok(chart.measures(alloc)?)
         }

@@ -1,6 +1,7 @@
 //! The slopes of a plan's operators, over the paths from its windows to its root (Chain: Babcock,
 //! Babu, Datar and Motwani, SIGMOD 2003).
-ghost use Rattle.std.specs.Prelude.{◌≡◌, ◌<◌, ◌++◌, ℕ, [], ◌∷◌, IfOk, cond, fold, map, length, slice_index_or};
+ghost use Rattle.std.specs.Prelude.{◌≡◌, ◌<◌, ◌++◌, ℕ, [], ◌∷◌, IfOk, cond, fold, map, length};
+ghost use Rattle.std.specs.Prelude.{slice_index_or};
 ghost use Rattle.std.specs.List.{range_with_len};
 ghost use Rattle.envelope.specs.Chart.{IsChart};
 ghost use Rattle.envelope.specs.Formula.{greater};
@@ -21,7 +22,8 @@ use std::alloc::{AllocError, Global};
 /// # Errors
 /// `AllocError` where a growth is refused.
 pub fn slopes(alloc: Global, plan: &Plan) -> Result<Vec<Slope>, AllocError>
-    ensures { IfOk result (λ slopes. slopes.items ≡ spec.plan_slopes (nodes_of plan.now.nodes.items) plan.now.measures.items) }
+    ensures { IfOk result (λ slopes. slopes.items
+        ≡ spec.plan_slopes (nodes_of plan.now.nodes.items) plan.now.measures.items) }
 {
     let windows = windows(alloc, &plan.nodes)?;
     greatest_slopes(alloc, &plan.nodes, &plan.measures, &windows)
@@ -34,9 +36,13 @@ fn greatest_slopes(
     measures: &[Measure],
     windows: &[usize],
 ) -> Result<Vec<Slope>, AllocError>
-    requires charts { (k : ℕ) → k < length windows.now → IsChart (spec.points_of measures.now (spec.path_from (nodes_of nodes.now) (slice_index_or windows.now k 0))) }
+    requires charts { (k : ℕ) → k < length windows.now
+        → IsChart (spec.points_of measures.now
+        (spec.path_from (nodes_of nodes.now) (slice_index_or windows.now k 0))) }
     ensures { IfOk result (λ slopes. slopes.items
-        ≡ map (λ k. fold greater nought (map (spec.slope_from (nodes_of nodes.now) measures.now k) windows.now)) (range_with_len 0 (length nodes.now))) }
+        ≡ map (λ k. fold greater nought
+        (map (spec.slope_from (nodes_of nodes.now) measures.now k) windows.now))
+        (range_with_len 0 (length nodes.now))) }
 {
     let mut greatest = noughts(alloc, nodes.len())?;
     for window in windows {
@@ -55,7 +61,8 @@ fn raised(
 ) -> Result<Vec<Slope>, AllocError>
     requires { IsChart (spec.points_of measures.now (spec.path_from (nodes_of nodes.now) window)) }
     ensures { IfOk result (λ raised. raised.items ≡ map
-        (λ k. greater (slice_index_or slopes.now k nought) (spec.slope_from (nodes_of nodes.now) measures.now k window))
+        (λ k. greater (slice_index_or slopes.now k nought)
+        (spec.slope_from (nodes_of nodes.now) measures.now k window))
         (range_with_len 0 (length slopes.now))) }
 {
     let path = path_from(alloc, nodes, window)?;
@@ -72,7 +79,8 @@ fn raised_along(
     along: &[Slope],
 ) -> Result<Vec<Slope>, AllocError>
     ensures { IfOk result (λ raised. raised.items ≡ map
-        (λ k. greater (slice_index_or slopes.now k nought) (spec.slope_on k path.now along.now)) (range_with_len 0 (length slopes.now))) }
+        (λ k. greater (slice_index_or slopes.now k nought) (spec.slope_on k path.now along.now))
+        (range_with_len 0 (length slopes.now))) }
 {
     let mut raised = Vec::with_capacity(alloc, slopes.len())?;
     for k in 0..slopes.len() {
@@ -147,7 +155,8 @@ fn windows(alloc: Global, nodes: &[Node]) -> Result<Vec<usize>, AllocError>
 }
 
 fn push_if(numbers: &mut Vec<usize>, number: usize, is_one: bool) -> Result<(), AllocError>
-    ensures { IfOk result (λ _. numbers.new.items ≡ numbers.old.items ++ cond is_one (number ∷ []) []) }
+    ensures { IfOk result (λ _. numbers.new.items
+        ≡ numbers.old.items ++ cond is_one (number ∷ []) []) }
 {
     if is_one {
         numbers.push(number)?;
@@ -174,7 +183,8 @@ fn step(
     next: usize,
     is_taken: bool,
 ) -> Result<usize, AllocError>
-    ensures path { IfOk result (λ last. path.new.items ≡ path.old.items ++ cond is_taken (next ∷ []) []) }
+    ensures path { IfOk result (λ last. path.new.items
+        ≡ path.old.items ++ cond is_taken (next ∷ []) []) }
     ensures last { IfOk result (λ reached. reached ≡ cond is_taken next last) }
 {
     if is_taken {

@@ -1,7 +1,8 @@
 //! Columns as places in the rows that go between operators.
 ghost use Rattle.std.specs.Prelude.{◌≡◌, ◌<◌, ◌^◌, IfOk, sum, map};
 ghost use Rattle.std.specs.List.{AllByRecursion};
-ghost use Rattle.values.specs.Resolved.{column_of, columns_of, operand_of, condition_of, item_of, items_of};
+ghost use Rattle.values.specs.Resolved.{column_of, columns_of, operand_of, condition_of, item_of};
+ghost use Rattle.values.specs.Resolved.{items_of};
 ghost use Rattle.names.specs.Views as names;
 ghost use Rattle.plan.specs.Build as spec;
 ghost use Rattle.plan.specs.Scope.{InScope, ItemInScope, OperandInScope, ColumnsInScope};
@@ -36,7 +37,8 @@ fn at(place: usize) -> Column
 
 /// Takes the columns of conditions for those of their own source's row.
 pub fn set_all_alone(conditions: &mut [Condition])
-    ensures { names.conditions_of conditions.new ≡ map (spec.moved spec.alone) (names.conditions_of conditions.old) }
+    ensures { names.conditions_of conditions.new
+        ≡ map (spec.moved spec.alone) (names.conditions_of conditions.old) }
 {
     for condition in conditions.iter_mut() {
         set_alone(condition);
@@ -74,8 +76,10 @@ fn set_operand_alone(operand: &mut Operand)
 /// Takes the columns of conditions for their places in the joined row.
 pub fn set_all_places(conditions: &mut [Condition], widths: &[usize])
     requires room { sum widths.now < 2 ^ 64 }
-    requires scope { AllByRecursion (λ c. ColumnsInScope widths.now (condition_of c)) conditions.old }
-    ensures { names.conditions_of conditions.new ≡ map (spec.moved (spec.placed widths.now)) (names.conditions_of conditions.old) }
+    requires scope { AllByRecursion (λ c.
+        ColumnsInScope widths.now (condition_of c)) conditions.old }
+    ensures { names.conditions_of conditions.new
+        ≡ map (spec.moved (spec.placed widths.now)) (names.conditions_of conditions.old) }
 {
     for condition in conditions.iter_mut() {
         set_places(condition, widths);
@@ -85,7 +89,8 @@ pub fn set_all_places(conditions: &mut [Condition], widths: &[usize])
 fn set_places(condition: &mut Condition, widths: &[usize])
     requires room { sum widths.now < 2 ^ 64 }
     requires scope { ColumnsInScope widths.now (condition_of condition.old) }
-    ensures { condition_of condition.new ≡ spec.moved (spec.placed widths.now) (condition_of condition.old) }
+    ensures { condition_of condition.new
+        ≡ spec.moved (spec.placed widths.now) (condition_of condition.old) }
 {
     match condition {
         Condition::Compared(left, _, right) => {
@@ -107,7 +112,8 @@ fn set_places(condition: &mut Condition, widths: &[usize])
 fn set_operand_place(operand: &mut Operand, widths: &[usize])
     requires room { sum widths.now < 2 ^ 64 }
     requires scope { OperandInScope widths.now (operand_of operand.old) }
-    ensures { operand_of operand.new ≡ spec.operand_moved (spec.placed widths.now) (operand_of operand.old) }
+    ensures { operand_of operand.new
+        ≡ spec.operand_moved (spec.placed widths.now) (operand_of operand.old) }
 {
     if let Operand::Field(column) = operand {
         *column = at(offset(widths, *column));
@@ -118,7 +124,8 @@ fn set_operand_place(operand: &mut Operand, widths: &[usize])
 pub fn places(alloc: Global, columns: &[Column], widths: &[usize]) -> Result<Vec<usize>, AllocError>
     requires room { sum widths.now < 2 ^ 64 }
     requires scope { AllByRecursion (λ c. InScope widths.now (column_of c)) columns.now }
-    ensures { IfOk result (λ places. columns_at places.items ≡ map (spec.placed widths.now) (columns_of columns.now)) }
+    ensures { IfOk result (λ places. columns_at places.items
+        ≡ map (spec.placed widths.now) (columns_of columns.now)) }
 {
     let mut places = Vec::with_capacity(alloc, columns.len())?;
     for column in columns {
@@ -135,7 +142,8 @@ pub fn placed_keys(
 ) -> Result<Vec<Key>, AllocError>
     requires room { sum widths.now < 2 ^ 64 }
     requires scope { AllByRecursion (λ k. InScope widths.now (column_of k.earlier)) keys.now }
-    ensures { IfOk result (λ placed. keys_of placed.items ≡ map (spec.key_placed widths.now) (names.keys_of keys.now)) }
+    ensures { IfOk result (λ placed. keys_of placed.items
+        ≡ map (spec.key_placed widths.now) (names.keys_of keys.now)) }
 {
     let mut placed = Vec::with_capacity(alloc, keys.len())?;
     for key in keys {
@@ -155,7 +163,8 @@ pub fn placed_items(
 ) -> Result<Vec<ListItem>, AllocError>
     requires room { sum widths.now < 2 ^ 64 }
     requires scope { AllByRecursion (λ i. ItemInScope widths.now (item_of i)) items.now }
-    ensures { IfOk result (λ placed. items_of placed.items ≡ map (spec.item_moved (spec.placed widths.now)) (items_of items.now)) }
+    ensures { IfOk result (λ placed. items_of placed.items
+        ≡ map (spec.item_moved (spec.placed widths.now)) (items_of items.now)) }
 {
     let mut placed = Vec::with_capacity(alloc, items.len())?;
     for item in items {

@@ -15,7 +15,7 @@ ghost use Rattle.plan.specs.Views.{nodes_of};
 
 use crate::build::build;
 use crate::chart::Chart;
-use crate::fault::PlanFault;
+use crate::fault::PlanError;
 use crate::measures::measures;
 use crate::operators::Plan;
 use cql_reader::Query;
@@ -36,22 +36,34 @@ pub fn plan(
     query: &Query,
     catalog: &Catalog,
     chart: Option<&Chart>,
-) -> Result<Plan, PlanFault>
+) -> Result<Plan, PlanError>
     requires few { length query.now.sources.items ≤ MAX_COLUMNS }
     requires narrow { sum (widths (query_of query.now) catalog.now) ≤ MAX_COLUMNS }
-    ensures accepted { IfOk result (λ plan. first_fault (query_of query.now) catalog.now (given_by (option_copied chart.entry)) ≡ None) }
+    ensures accepted { IfOk result (λ plan.
+        first_fault (query_of query.now) catalog.now (given_by (option_copied chart.entry))
+        ≡ None) }
     ensures nodes { IfOk result (λ plan. nodes_of plan.nodes.items
-        ≡ plan_of (widths (query_of query.now) catalog.now) (resolved (query_of query.now) catalog.now)) }
-    ensures measures { IfOk result (λ plan. plan.measures.items ≡ measures_of (nodes_of plan.nodes.items) (given_by (option_copied chart.entry))) }
-    ensures streams { IfOk result (λ plan. plan.streams.items ≡ streams (query_of query.now) catalog.now) }
-    ensures widths { IfOk result (λ plan. plan.widths.items ≡ widths (query_of query.now) catalog.now) }
-    ensures meaning { IfOk result (λ plan. resolved_of plan.meaning ≡ resolved (query_of query.now) catalog.now) }
-    ensures counts { IfOk result (λ plan. length plan.meaning.windows.items ≡ length query.now.sources.items) }
-    ensures known { IfOk result (λ plan. AllByRecursion (λ s. s < length catalog.now) plan.streams.items) }
+        ≡ plan_of (widths (query_of query.now) catalog.now)
+        (resolved (query_of query.now) catalog.now)) }
+    ensures measures { IfOk result (λ plan. plan.measures.items
+        ≡ measures_of (nodes_of plan.nodes.items) (given_by (option_copied chart.entry))) }
+    ensures streams { IfOk result (λ plan. plan.streams.items
+        ≡ streams (query_of query.now) catalog.now) }
+    ensures widths { IfOk result (λ plan. plan.widths.items
+        ≡ widths (query_of query.now) catalog.now) }
+    ensures meaning { IfOk result (λ plan. resolved_of plan.meaning
+        ≡ resolved (query_of query.now) catalog.now) }
+    ensures counts { IfOk result (λ plan. length plan.meaning.windows.items
+        ≡ length query.now.sources.items) }
+    ensures known { IfOk result (λ plan.
+        AllByRecursion (λ s. s < length catalog.now) plan.streams.items) }
     ensures rows { IfOk result (λ plan. has_narrow_rows plan.meaning.shape ≡ true) }
     ensures slides { IfOk result (λ plan. all_slide plan.meaning.windows.items ≡ true) }
-    ensures within { IfOk result (λ plan. all_within plan.meaning.windows.items plan.widths.items ≡ true) }
-    ensures err { IfErr result (λ fault. Told fault (first_fault (query_of query.now) catalog.now (given_by (option_copied chart.entry)))) }
+    ensures within { IfOk result (λ plan. all_within plan.meaning.windows.items plan.widths.items
+        ≡ true) }
+    ensures err { IfErr result (λ error.
+        Told error (first_fault (query_of query.now) catalog.now
+        (given_by (option_copied chart.entry)))) }
 {
     let Named {
         meaning,

@@ -1,17 +1,19 @@
 -- What a run answers, and why it may not run.
-use Rattle.std.proofs.Common.{◌≡◌, ◌≢◌, ℕ, List, [], ◌∷◌, ◌++◌, Option, Some, Result, refl, ap, sym, ◌∙◌, subst, ◌⊎◌, inl, inr}
+use Rattle.std.proofs.Common.{◌≡◌, ◌≢◌, ℕ, Bool, true, false, List, [], ◌∷◌, ◌++◌, Option, Some, Result, refl, ap, sym, ◌∙◌, subst, ◌⊎◌, inl, inr}
 use Rattle.std.specs.Prelude.{⊤}
-use Rattle.clap.specs.Words.{Kinds, HasKind, IsAmong, kind_of}
+use Rattle.std.proofs.lemmas.Bool.{false≢true}
+use Rattle.clap.specs.Words.{Kinds, Text, HasKind, IsAmong, kind_of}
 use Rattle.clap.specs.declared.error.Error.{Error}
 use Rattle.clap.specs.declared.error.kind.ErrorKind.TheVariants.{DisplayHelp, DisplayVersion, OutOfMemory}
 use Rattle.reference.specs.World.{World}
 use Rattle.wire.specs.Calls.{Call}
 use Rattle.wire.specs.Requests.{requests_of}
 use Rattle.wire.specs.declared.request.WireFault.{WireFault}
-use Rattle.wire.specs.Script.{script, BeginsScarce, Says, Begins, HasRunOut, Runs, Scripts, Stands}
+use Rattle.wire.specs.Script.{script, Says, Begins, Runs, Scripts, Stands}
 use Rattle.wire.proofs.Sinks.{append_nothing}
-use Rattle.wire.proofs.Scripts.{says_all}
-use Rattle.programs.specs.Run.{Answers, IsWrong, Leads}
+use Rattle.wire.proofs.Scripts.{begins_wider, says_all}
+use Rattle.programs.specs.CommandLine.{IsPlain}
+use Rattle.programs.specs.Run.{Answers, AnswersBy, IsWrong, Leads}
 
 pub says_begins : (N : Type 0) (w : World) (source old new : Option (List ℕ)) → Scripts (λ text written. Says N (requests_of text) (script w text) written) source old new
     → Scripts (λ text written. Begins N (requests_of text) (script w text) written) source old new
@@ -45,9 +47,6 @@ answers_nothing N w status source old new is same = (
 )
 
 -- what numbers were wanted for may be said more widely
-begins_wider : (N M : Type 0) → (N → M) → (request : Result Call WireFault) (written : List ℕ) → BeginsScarce N request written → BeginsScarce M request written
-begins_wider N M f request written b = (b.0, b.1, b.2, λ drain told. f (b.3 drain told), b.4)
-
 says_wider : (N M : Type 0) → (N → M) → (requests : List (Result Call WireFault)) (lines : List (List ℕ)) (written : List ℕ) → Says N requests lines written → Says M requests lines written
 says_wider N M f [] [] written s = s
 says_wider N M f [] (line ∷ lines) written s = absurd s
@@ -66,9 +65,15 @@ answers_wider N M f w status source old new a = (
 )
 
 -- the plain engine never wants numbers
-pub plain_answers : {P : Type 0} (M : Type 0) (w : World) (status : ℕ) (source old new : Option (List ℕ)) → Answers (HasRunOut {E = P} (λ p. ⊤)) w status source old new
-    → Answers M w status source old new
-plain_answers M w status source old new a = answers_wider _ M (λ out. absurd (out.1 tt)) w status source old new a
+pub plain_answers : {P : Type 0} (words : List Text) (w : World) (status : ℕ) (source old new : Option (List ℕ)) → AnswersBy (λ (p : P). ⊤) w status source old new
+    → Answers (¬ IsPlain words) w status source old new
+plain_answers words w status source old new a = answers_wider _ (¬ IsPlain words) (λ out. absurd (out tt)) w status source old new a.1
+
+-- where the words do not ask for it, another engine may
+pub engine_answers : {P : Type 0} (has_numbers : P → Type 0) (words : List Text) (is_plain : Bool) → (IsPlain words → is_plain ≡ true) → is_plain ≡ false
+    → (w : World) (status : ℕ) (source old new : Option (List ℕ)) → AnswersBy has_numbers w status source old new → Answers (¬ IsPlain words) w status source old new
+engine_answers has_numbers words is_plain asks is w status source old new a =
+    answers_wider _ (¬ IsPlain words) (λ out plain. false≢true (sym is ∙ asks plain)) w status source old new a.1
 
 -- words that ask for a run fail for want of memory alone
 pub lacks_memory : (kinds : Kinds) (e : Error) → HasKind kinds e → kinds ≡ [] → kind_of e ≡ OutOfMemory

@@ -1,5 +1,5 @@
 -- The command lines, as clap's own definition of a parse sees them.
-use Rattle.std.specs.Prelude.{ℕ, pos, List, Option, Some, None, codes}
+use Rattle.std.specs.Prelude.{◌≡◌, ℕ, pos, List, Option, Some, None, codes}
 use Rattle.std.specs.Str.Parse.{digits_value, without_leading_plus}
 use Rattle.clap.specs.Words.{App, Rule, Text, Kinds, new_app, new_rule, with_rule, fault_of, matches_of, one_of}
 use Rattle.clap.specs.declared.builder.action.ArgAction.TheVariants.{SetTrue}
@@ -24,6 +24,10 @@ refusals words = fault_of cqlrun words
 -- the text of the flag `--plain`: `true` where it stands among the words, else `false`
 unfoldable pub plain_text : List Text → Option Text
 plain_text words = one_of (codes "plain") (matches_of cqlrun words)
+
+-- the words ask for the plain engine
+abbrev pub IsPlain : List Text → Type 0
+IsPlain words = plain_text words ≡ Some (codes "true")
 
 -- the text of the option `--turn`, where it stands among the words
 unfoldable pub turn_text : List Text → Option Text

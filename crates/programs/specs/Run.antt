@@ -18,6 +18,10 @@ Answers wanted world status source old new =
     (status ≡ 0 → Scripts (λ text written. Says wanted (requests_of text) (script world text) written) source old new)
     × Scripts (λ text written. Begins wanted (requests_of text) (script world text) written) source old new
 
+-- What an engine of the run's own answers: it tells want of numbers only where it is left with none.
+abbrev pub AnswersBy : {E : Type 0} → (E → Type 0) → World → ℕ → Option (List ℕ) → Option (List ℕ) → Option (List ℕ) → Type 0
+AnswersBy {E = E} has_numbers world status source old new = (last : E) × Answers (¬ has_numbers last) world status source old new
+
 -- The requests lead from the world `first` to the world `now`: at the status 0 all of them, and else those carried out.
 abbrev pub Leads : Type 0 → World → World → ℕ → Option (List ℕ) → Option (List ℕ) → Option (List ℕ) → Type 0
 Leads wanted first now status source old new =

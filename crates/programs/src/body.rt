@@ -1,20 +1,20 @@
 //! The body of `cqlrun`.
-ghost use Rattle.std.specs.Prelude.{◌≡◌, ◌≢◌, ◌<◌, ◌≤◌, ◌⊎◌, ◌∷◌, [], map, IfOk};
+ghost use Rattle.std.specs.Prelude.{◌≡◌, ◌≢◌, ◌<◌, ◌≤◌, ◌⊎◌, ◌∷◌, [], map};
 ghost use Rattle.clap.specs.Words.{kind_of};
 ghost use Rattle.reference.specs.World as world;
-ghost use Rattle.leases.specs.Whole.{HasNumbers};
 ghost use Rattle.wire.specs.Devices.{Rises};
 ghost use Rattle.wire.specs.Requests.{requests_of};
-ghost use Rattle.wire.specs.Script.{HasRunOut, Scripts, TellsScarcity};
-ghost use Rattle.programs.specs.CommandLine.{refusals};
-ghost use Rattle.programs.specs.Run.{Answers, Leads, Failed, Told, ToldSome, IsWrong, fault_line};
+ghost use Rattle.wire.specs.Script.{Scripts, TellsScarcity};
+ghost use Rattle.programs.specs.CommandLine.{IsPlain, refusals};
+ghost use Rattle.programs.specs.Run.{Answers, AnswersBy, Leads, Failed, Told, ToldSome, IsWrong};
+ghost use Rattle.programs.specs.Run.{fault_line};
 
 use crate::faults::{WRONG_WORDS, fail, lack_memory, tell};
 use crate::options::run_options;
 use clap::Error;
 use clap::error::ErrorKind;
 use leases::Engine;
-use reference::{Answering, Fault, Plain};
+use reference::{Answering, Plain};
 use std::alloc::Global;
 use std::convert::AsStr;
 use wire::{ScriptFault, Sink, Source, put, run_script};
@@ -22,7 +22,8 @@ use wire::{ScriptFault, Sink, Source, put, run_script};
 // Says clap's text of a wrong command line, or where memory is refused for it, a line of our own.
 fn correct<E: Sink>(alloc: Global, error: &Error, errors: &mut E) -> u8
     ensures status { result ≡ 2 }
-    ensures told { ToldSome (E.taken errors.old) (E.taken errors.new) (E.failures errors.old) (E.failures errors.new) }
+    ensures told { ToldSome (E.taken errors.old) (E.taken errors.new) (E.failures errors.old)
+        (E.failures errors.new) }
 {
     match format!(in alloc; "{error}") {
         Ok(text) if !text.is_empty() => tell(errors, text.as_str()),
@@ -34,19 +35,25 @@ fn correct<E: Sink>(alloc: Global, error: &Error, errors: &mut E) -> u8
 // Answers words that ask for no run.
 fn refuse<O: Sink, E: Sink>(alloc: Global, error: &Error, sink: &mut O, errors: &mut E) -> u8
     ensures lacks { kind_of error.now ≡ ErrorKind.OutOfMemory → result ≡ 3 }
-    ensures wrong { kind_of error.now ≢ ErrorKind.DisplayHelp → kind_of error.now ≢ ErrorKind.DisplayVersion
+    ensures wrong { kind_of error.now ≢ ErrorKind.DisplayHelp
+        → kind_of error.now ≢ ErrorKind.DisplayVersion
         → ((result ≡ 2) ⊎ (result ≡ 3)) × (sink.new ≡ sink.old) }
-    ensures mistaken { kind_of error.now ≢ ErrorKind.OutOfMemory → kind_of error.now ≢ ErrorKind.DisplayHelp
+    ensures mistaken { kind_of error.now ≢ ErrorKind.OutOfMemory
+        → kind_of error.now ≢ ErrorKind.DisplayHelp
         → kind_of error.now ≢ ErrorKind.DisplayVersion → result ≡ 2 }
-    ensures help { kind_of error.now ≡ ErrorKind.DisplayHelp → (result ≡ 0) ⊎ (result ≡ 1) ⊎ (result ≡ 3) }
+    ensures help { kind_of error.now ≡ ErrorKind.DisplayHelp → (result ≡ 0) ⊎ (result ≡ 1)
+        ⊎ (result ≡ 3) }
     ensures silent { result ≡ 0 → errors.new ≡ errors.old }
     ensures sound { result ≢ 1 → O.failures sink.new ≡ O.failures sink.old }
     ensures failed { result ≡ 1 → Rises (O.failures sink.old) (O.failures sink.new)
-        × Told (E.taken errors.old) (E.taken errors.new) (E.failures errors.old) (E.failures errors.new) (fault_line ScriptFault.Write) }
+        × Told (E.taken errors.old) (E.taken errors.new) (E.failures errors.old)
+        (E.failures errors.new) (fault_line ScriptFault.Write) }
     ensures told { result ≡ 2 → (sink.new ≡ sink.old)
-        × ToldSome (E.taken errors.old) (E.taken errors.new) (E.failures errors.old) (E.failures errors.new) }
+        × ToldSome (E.taken errors.old) (E.taken errors.new) (E.failures errors.old)
+        (E.failures errors.new) }
     ensures memory { result ≡ 3 → (sink.new ≡ sink.old)
-        × Told (E.taken errors.old) (E.taken errors.new) (E.failures errors.old) (E.failures errors.new) (fault_line ScriptFault.Memory) }
+        × Told (E.taken errors.old) (E.taken errors.new) (E.failures errors.old)
+        (E.failures errors.new) (fault_line ScriptFault.Memory) }
 {
     if error.kind() == ErrorKind::OutOfMemory {
         return lack_memory(errors);
@@ -74,21 +81,29 @@ fn run_lines<N: Answering, I: Source, O: Sink, E: Sink>(
 ) -> u8
     requires turn { 0 < turn × turn ≤ 1024 }
     requires whole { N.is_whole engine.old }
-    ensures answers { Answers (HasRunOut N.has_numbers) (N.world engine.old) result
+    ensures answers { Answers (¬ N.has_numbers engine.new) (N.world engine.old) result
         (I.left source.old) (O.taken sink.old) (O.taken sink.new) }
-    ensures leads { Leads (HasRunOut N.has_numbers) (N.world engine.old) (N.world engine.new) result
-        (I.left source.old) (O.taken sink.old) (O.taken sink.new) }
+    ensures leads { Leads (¬ N.has_numbers engine.new) (N.world engine.old) (N.world engine.new)
+        result (I.left source.old) (O.taken sink.old) (O.taken sink.new) }
     ensures kept { result ≡ 0
-        → Scripts (λ text written. N.is_whole engine.new ⊎ TellsScarcity (HasRunOut N.has_numbers)
-        (requests_of text) written)
+        → Scripts (λ text written. N.is_whole engine.new
+        ⊎ TellsScarcity (¬ N.has_numbers engine.new) (requests_of text) written)
         (I.left source.old) (O.taken sink.old) (O.taken sink.new) }
+    ensures spent { N.has_numbers engine.new → N.has_numbers engine.old }
     ensures status { (result ≡ 0) ⊎ (result ≡ 1) ⊎ (result ≡ 3) }
     ensures silent { result ≡ 0 → errors.new ≡ errors.old }
-    ensures sound { result ≢ 1 → (I.failures source.new ≡ I.failures source.old) × (O.failures sink.new ≡ O.failures sink.old) }
-    ensures failed { result ≡ 1 → Failed (λ fault. Told (E.taken errors.old) (E.taken errors.new) (E.failures errors.old) (E.failures errors.new) (fault_line fault))
-        (I.failures source.old) (I.failures source.new) (O.failures sink.old) (O.failures sink.new) }
-    ensures memory { result ≡ 3 → (source.new ≡ source.old) × (sink.new ≡ sink.old) × (engine.new ≡ engine.old)
-        × Told (E.taken errors.old) (E.taken errors.new) (E.failures errors.old) (E.failures errors.new) (fault_line ScriptFault.Memory) }
+    ensures sound { result ≢ 1 → (I.failures source.new ≡ I.failures source.old)
+        × (O.failures sink.new ≡ O.failures sink.old) }
+    ensures failed { result ≡ 1
+        → Failed (λ fault.
+        Told (E.taken errors.old) (E.taken errors.new) (E.failures errors.old)
+        (E.failures errors.new) (fault_line fault))
+        (I.failures source.old) (I.failures source.new) (O.failures sink.old)
+        (O.failures sink.new) }
+    ensures memory { result ≡ 3 → (source.new ≡ source.old) × (sink.new ≡ sink.old)
+        × (engine.new ≡ engine.old)
+        × Told (E.taken errors.old) (E.taken errors.new) (E.failures errors.old)
+        (E.failures errors.new) (fault_line ScriptFault.Memory) }
 {
     match run_script(alloc, source, sink, engine, turn) {
         Ok(()) => 0,
@@ -115,26 +130,40 @@ pub fn run_over<'a, S: AsStr, N: Answering, I: Source, O: Sink, E: Sink>(
 ) -> u8
     requires { N.is_whole engine.old }
     ensures answers { refusals (map S.text words.entry.now) ≡ []
-        → Answers (HasRunOut N.has_numbers) (N.world engine.old) result (I.left source.old)
+        → Answers (¬ N.has_numbers engine.new) (N.world engine.old) result (I.left source.old)
         (O.taken sink.old) (O.taken sink.new) }
     ensures leads { refusals (map S.text words.entry.now) ≡ []
-        → Leads (HasRunOut N.has_numbers) (N.world engine.old) (N.world engine.new) result
+        → Leads (¬ N.has_numbers engine.new) (N.world engine.old) (N.world engine.new) result
         (I.left source.old) (O.taken sink.old) (O.taken sink.new) }
     ensures kept { refusals (map S.text words.entry.now) ≡ [] → result ≡ 0
-        → Scripts (λ text written. N.is_whole engine.new ⊎ TellsScarcity (HasRunOut N.has_numbers)
-        (requests_of text) written)
+        → Scripts (λ text written. N.is_whole engine.new
+        ⊎ TellsScarcity (¬ N.has_numbers engine.new) (requests_of text) written)
         (I.left source.old) (O.taken sink.old) (O.taken sink.new) }
-    ensures status { refusals (map S.text words.entry.now) ≡ [] → (result ≡ 0) ⊎ (result ≡ 1) ⊎ (result ≡ 3) }
-    ensures help { refusals (map S.text words.entry.now) ≡ ErrorKind.DisplayHelp ∷ [] → (result ≡ 0) ⊎ (result ≡ 1) ⊎ (result ≡ 3) }
-    ensures wrong { IsWrong (refusals (map S.text words.entry.now)) → ((result ≡ 2) ⊎ (result ≡ 3)) × (sink.new ≡ sink.old) }
-    ensures unread { refusals (map S.text words.entry.now) ≢ [] → (source.new ≡ source.old) × (engine.new ≡ engine.old) }
+    ensures spent { N.has_numbers engine.new → N.has_numbers engine.old }
+    ensures status { refusals (map S.text words.entry.now) ≡ [] → (result ≡ 0) ⊎ (result ≡ 1)
+        ⊎ (result ≡ 3) }
+    ensures help { refusals (map S.text words.entry.now) ≡ ErrorKind.DisplayHelp ∷ [] → (result ≡ 0)
+        ⊎ (result ≡ 1) ⊎ (result ≡ 3) }
+    ensures wrong { IsWrong (refusals (map S.text words.entry.now)) → ((result ≡ 2) ⊎ (result ≡ 3))
+        × (sink.new ≡ sink.old) }
+    ensures unread { refusals (map S.text words.entry.now) ≢ [] → (source.new ≡ source.old)
+        × (engine.new ≡ engine.old) }
     ensures silent { result ≡ 0 → errors.new ≡ errors.old }
-    ensures sound { result ≢ 1 → (I.failures source.new ≡ I.failures source.old) × (O.failures sink.new ≡ O.failures sink.old) }
-    ensures failed { result ≡ 1 → Failed (λ fault. Told (E.taken errors.old) (E.taken errors.new) (E.failures errors.old) (E.failures errors.new) (fault_line fault))
-        (I.failures source.old) (I.failures source.new) (O.failures sink.old) (O.failures sink.new) }
-    ensures told { result ≡ 2 → ToldSome (E.taken errors.old) (E.taken errors.new) (E.failures errors.old) (E.failures errors.new) }
-    ensures memory { result ≡ 3 → (source.new ≡ source.old) × (sink.new ≡ sink.old) × (engine.new ≡ engine.old)
-        × Told (E.taken errors.old) (E.taken errors.new) (E.failures errors.old) (E.failures errors.new) (fault_line ScriptFault.Memory) }
+    ensures sound { result ≢ 1 → (I.failures source.new ≡ I.failures source.old)
+        × (O.failures sink.new ≡ O.failures sink.old) }
+    ensures failed { result ≡ 1
+        → Failed (λ fault.
+        Told (E.taken errors.old) (E.taken errors.new) (E.failures errors.old)
+        (E.failures errors.new) (fault_line fault))
+        (I.failures source.old) (I.failures source.new) (O.failures sink.old)
+        (O.failures sink.new) }
+    ensures told { result ≡ 2
+        → ToldSome (E.taken errors.old) (E.taken errors.new) (E.failures errors.old)
+        (E.failures errors.new) }
+    ensures memory { result ≡ 3 → (source.new ≡ source.old) × (sink.new ≡ sink.old)
+        × (engine.new ≡ engine.old)
+        × Told (E.taken errors.old) (E.taken errors.new) (E.failures errors.old)
+        (E.failures errors.new) (fault_line ScriptFault.Memory) }
 {
     match run_options(alloc, words) {
         Ok(options) => run_lines(alloc, options.turn, engine, source, sink, errors),
@@ -142,37 +171,39 @@ pub fn run_over<'a, S: AsStr, N: Answering, I: Source, O: Sink, E: Sink>(
     }
 }
 
-// Answers the lines of the source over an engine that has been told nothing, where memory sufficed
-// for it.
+// Answers the lines of the source over an engine that has been told nothing.
 fn run_made<N: Answering + Drop, I: Source, O: Sink, E: Sink>(
     alloc: Global,
     turn: u32,
-    made: Result<N, Fault>,
+    mut engine: N,
     source: &mut I,
     sink: &mut O,
     errors: &mut E,
 ) -> u8
     requires turn { 0 < turn × turn ≤ 1024 }
-    requires made { IfOk made (λ engine. N.is_whole engine × (N.world engine ≡ world.empty)) }
-    ensures answers { Answers (HasRunOut N.has_numbers) world.empty result (I.left source.old)
+    requires whole { N.is_whole engine }
+    requires empty { N.world engine ≡ world.empty }
+    ensures answers { AnswersBy N.has_numbers world.empty result (I.left source.old)
         (O.taken sink.old) (O.taken sink.new) }
     ensures status { (result ≡ 0) ⊎ (result ≡ 1) ⊎ (result ≡ 3) }
     ensures silent { result ≡ 0 → errors.new ≡ errors.old }
-    ensures sound { result ≢ 1 → (I.failures source.new ≡ I.failures source.old) × (O.failures sink.new ≡ O.failures sink.old) }
-    ensures failed { result ≡ 1 → Failed (λ fault. Told (E.taken errors.old) (E.taken errors.new) (E.failures errors.old) (E.failures errors.new) (fault_line fault))
-        (I.failures source.old) (I.failures source.new) (O.failures sink.old) (O.failures sink.new) }
+    ensures sound { result ≢ 1 → (I.failures source.new ≡ I.failures source.old)
+        × (O.failures sink.new ≡ O.failures sink.old) }
+    ensures failed { result ≡ 1
+        → Failed (λ fault.
+        Told (E.taken errors.old) (E.taken errors.new) (E.failures errors.old)
+        (E.failures errors.new) (fault_line fault))
+        (I.failures source.old) (I.failures source.new) (O.failures sink.old)
+        (O.failures sink.new) }
     ensures memory { result ≡ 3 → (source.new ≡ source.old) × (sink.new ≡ sink.old)
-        × Told (E.taken errors.old) (E.taken errors.new) (E.failures errors.old) (E.failures errors.new) (fault_line ScriptFault.Memory) }
+        × Told (E.taken errors.old) (E.taken errors.new) (E.failures errors.old)
+        (E.failures errors.new) (fault_line ScriptFault.Memory) }
 {
-    match made {
-        Ok(mut engine) => run_lines(alloc, turn, &mut engine, source, sink, errors),
-        Err(_) => lack_memory(errors),
-    }
+    run_lines(alloc, turn, &mut engine, source, sink, errors)
 }
 
 /// The body of `cqlrun`: as `run_over` an engine that has been told nothing, which is the plain
-/// engine where the words ask for it.
-#[tactic(auto, using(crate::proofs::Outcomes::plain_answers))]
+/// engine where the words ask for it. The plain engine never wants numbers for turns.
 pub fn run<'a, S: AsStr, I: Source, O: Sink, E: Sink>(
     alloc: Global,
     words: &'a [S],
@@ -181,29 +212,41 @@ pub fn run<'a, S: AsStr, I: Source, O: Sink, E: Sink>(
     errors: &mut E,
 ) -> u8
     ensures answers { refusals (map S.text words.entry.now) ≡ []
-        → Answers (HasRunOut HasNumbers) world.empty result (I.left source.old) (O.taken sink.old)
-        (O.taken sink.new) }
-    ensures status { refusals (map S.text words.entry.now) ≡ [] → (result ≡ 0) ⊎ (result ≡ 1) ⊎ (result ≡ 3) }
-    ensures help { refusals (map S.text words.entry.now) ≡ ErrorKind.DisplayHelp ∷ [] → (result ≡ 0) ⊎ (result ≡ 1) ⊎ (result ≡ 3) }
-    ensures wrong { IsWrong (refusals (map S.text words.entry.now)) → ((result ≡ 2) ⊎ (result ≡ 3)) × (sink.new ≡ sink.old) }
+        → Answers (¬ IsPlain (map S.text words.entry.now)) world.empty result (I.left source.old)
+        (O.taken sink.old) (O.taken sink.new) }
+    ensures status { refusals (map S.text words.entry.now) ≡ [] → (result ≡ 0) ⊎ (result ≡ 1)
+        ⊎ (result ≡ 3) }
+    ensures help { refusals (map S.text words.entry.now) ≡ ErrorKind.DisplayHelp ∷ [] → (result ≡ 0)
+        ⊎ (result ≡ 1) ⊎ (result ≡ 3) }
+    ensures wrong { IsWrong (refusals (map S.text words.entry.now)) → ((result ≡ 2) ⊎ (result ≡ 3))
+        × (sink.new ≡ sink.old) }
     ensures unread { refusals (map S.text words.entry.now) ≢ [] → source.new ≡ source.old }
     ensures silent { result ≡ 0 → errors.new ≡ errors.old }
-    ensures sound { result ≢ 1 → (I.failures source.new ≡ I.failures source.old) × (O.failures sink.new ≡ O.failures sink.old) }
-    ensures failed { result ≡ 1 → Failed (λ fault. Told (E.taken errors.old) (E.taken errors.new) (E.failures errors.old) (E.failures errors.new) (fault_line fault))
-        (I.failures source.old) (I.failures source.new) (O.failures sink.old) (O.failures sink.new) }
-    ensures told { result ≡ 2 → ToldSome (E.taken errors.old) (E.taken errors.new) (E.failures errors.old) (E.failures errors.new) }
+    ensures sound { result ≢ 1 → (I.failures source.new ≡ I.failures source.old)
+        × (O.failures sink.new ≡ O.failures sink.old) }
+    ensures failed { result ≡ 1
+        → Failed (λ fault.
+        Told (E.taken errors.old) (E.taken errors.new) (E.failures errors.old)
+        (E.failures errors.new) (fault_line fault))
+        (I.failures source.old) (I.failures source.new) (O.failures sink.old)
+        (O.failures sink.new) }
+    ensures told { result ≡ 2
+        → ToldSome (E.taken errors.old) (E.taken errors.new) (E.failures errors.old)
+        (E.failures errors.new) }
     ensures memory { result ≡ 3 → (source.new ≡ source.old) × (sink.new ≡ sink.old)
-        × Told (E.taken errors.old) (E.taken errors.new) (E.failures errors.old) (E.failures errors.new) (fault_line ScriptFault.Memory) }
+        × Told (E.taken errors.old) (E.taken errors.new) (E.failures errors.old)
+        (E.failures errors.new) (fault_line ScriptFault.Memory) }
 {
     match run_options(alloc, words) {
-        Ok(options) if options.is_plain => {
-            run_made(alloc, options.turn, Plain::new(alloc), source, sink, errors)
-        }
+        Ok(options) if options.is_plain => match Plain::new(alloc) {
+            Ok(engine) => run_made(alloc, options.turn, engine, source, sink, errors),
+            Err(_) => lack_memory(errors),
+        },
         Ok(options) => {
             run_made(
                 alloc,
                 options.turn,
-                Ok(Engine::new(alloc)),
+                Engine::new(alloc),
                 source,
                 sink,
                 errors,

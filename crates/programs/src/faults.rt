@@ -11,7 +11,8 @@ pub(crate) const WRONG_WORDS: u8 = 2;
 
 /// Gives a sink of errors this text. One that fails is left alone.
 pub(crate) fn tell<E: Sink>(errors: &mut E, text: &str)
-    ensures { Told (E.taken errors.old) (E.taken errors.new) (E.failures errors.old) (E.failures errors.new) text.now }
+    ensures { Told (E.taken errors.old) (E.taken errors.new) (E.failures errors.old)
+        (E.failures errors.new) text.now }
 {
     let _ = put(errors, text.as_bytes());
 }
@@ -38,7 +39,8 @@ fn status_of(fault: &ScriptFault) -> u8
 /// Says a fault behind the program's name, and gives the program's status.
 pub(crate) fn fail<E: Sink>(errors: &mut E, fault: &ScriptFault) -> u8
     ensures status { result ≡ status_of fault.now }
-    ensures told { Told (E.taken errors.old) (E.taken errors.new) (E.failures errors.old) (E.failures errors.new)
+    ensures told { Told (E.taken errors.old) (E.taken errors.new) (E.failures errors.old)
+        (E.failures errors.new)
         (fault_line fault.now) }
 {
     tell(errors, line_of(fault));
@@ -48,7 +50,8 @@ pub(crate) fn fail<E: Sink>(errors: &mut E, fault: &ScriptFault) -> u8
 /// Says that memory was refused at the start, and gives the program's status.
 pub fn lack_memory<E: Sink>(errors: &mut E) -> u8
     ensures status { result ≡ 3 }
-    ensures told { Told (E.taken errors.old) (E.taken errors.new) (E.failures errors.old) (E.failures errors.new)
+    ensures told { Told (E.taken errors.old) (E.taken errors.new) (E.failures errors.old)
+        (E.failures errors.new)
         (fault_line ScriptFault.Memory) }
 {
     fail(errors, &ScriptFault::Memory)
@@ -59,10 +62,14 @@ pub fn lack_memory<E: Sink>(errors: &mut E) -> u8
 /// that of `std::env::args`.
 pub fn lack_words<E: Sink>(errors: &mut E, error: &Error) -> u8
     ensures memory { error_kind error.now ≡ ErrorKind.OutOfMemory → result ≡ 3 }
-    ensures lacks { result ≡ 3 → Told (E.taken errors.old) (E.taken errors.new) (E.failures errors.old) (E.failures errors.new)
+    ensures lacks { result ≡ 3
+        → Told (E.taken errors.old) (E.taken errors.new) (E.failures errors.old)
+        (E.failures errors.new)
         (fault_line ScriptFault.Memory) }
     ensures wrong { error_kind error.now ≢ ErrorKind.OutOfMemory → result ≡ 2 }
-    ensures told { result ≡ 2 → Told (E.taken errors.old) (E.taken errors.new) (E.failures errors.old) (E.failures errors.new)
+    ensures told { result ≡ 2
+        → Told (E.taken errors.old) (E.taken errors.new) (E.failures errors.old)
+        (E.failures errors.new)
         no_text_line }
 {
     if error.kind() == ErrorKind::OutOfMemory {

@@ -1,7 +1,7 @@
 //! Command lines.
 ghost use Rattle.std.specs.Prelude.{◌≡◌, ◌<◌, ◌≤◌, IfOk, Some, true, false, codes, map};
 ghost use Rattle.clap.specs.Words.{FailsBy};
-ghost use Rattle.programs.specs.CommandLine.{refusals, plain_text, turn_text, turn_of};
+ghost use Rattle.programs.specs.CommandLine.{IsPlain, refusals, plain_text, turn_text, turn_of};
 
 use clap::{Arg, ArgAction, Command, Error, value_parser};
 use reference::MAX_TURN;
@@ -27,8 +27,9 @@ pub struct RunOptions {
 /// line.
 pub fn run_options<'a, S: AsStr>(alloc: Global, words: &'a [S]) -> Result<RunOptions, Error>
     ensures refusals { FailsBy (refusals (map S.text words.entry.now)) result }
-    ensures plain { IfOk result (λ o. plain_text (map S.text words.entry.now) ≡ Some (codes "true") → o.is_plain ≡ true) }
-    ensures default { IfOk result (λ o. plain_text (map S.text words.entry.now) ≡ Some (codes "false") → o.is_plain ≡ false) }
+    ensures plain { IfOk result (λ o. IsPlain (map S.text words.entry.now) → o.is_plain ≡ true) }
+    ensures default { IfOk result (λ o. plain_text (map S.text words.entry.now)
+        ≡ Some (codes "false") → o.is_plain ≡ false) }
     ensures turn { IfOk result (λ o. o.turn ≡ turn_of (turn_text (map S.text words.entry.now))) }
     ensures range { IfOk result (λ o. (0 < o.turn) × (o.turn ≤ 1024)) }
 {

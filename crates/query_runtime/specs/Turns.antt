@@ -131,5 +131,8 @@ pub record OnlyAt (k : ℕ) (os os2 : List PlainOperator) : Type 0 where
 abbrev pub taken : ℕ → List (ℕ × Row) → List (ℕ × Row)
 taken limit answers = take (min limit (length answers)) answers
 
+abbrev pub left_behind : ℕ → List (ℕ × Row) → List (ℕ × Row)
+left_behind limit answers = drop (min limit (length answers)) answers
+
 abbrev pub handed_out : ℕ → PlainQuery → PlainQuery
-handed_out limit p = record { operators = p.operators; wires = p.wires; sources = p.sources; answers = drop (min limit (length p.answers)) p.answers }
+handed_out limit p = record { operators = p.operators; wires = p.wires; sources = p.sources; answers = left_behind limit p.answers }

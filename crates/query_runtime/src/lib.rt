@@ -11,6 +11,8 @@ mod laws;
 mod moves;
 mod queries;
 mod sources;
+mod waiting;
 
 pub use laws::plain_queries_run;
 pub use queries::RunningQuery;
+pub use waiting::WaitingAnswers;

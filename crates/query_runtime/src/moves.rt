@@ -1,12 +1,7 @@
-//! What changes at one operator, and what leaves the answers.
-ghost use Rattle.std.specs.Prelude.{◌≡◌, ◌<◌, ◌≤◌, ◌+◌, ◌++◌, true, length, min, take, drop, vec_len, vec_capacity, OnOk, IfOk};
-ghost use Rattle.std.specs.VecDeque.{deque_len};
-ghost use Rattle.to_stream.specs.Turns.{answers_of};
+//! What changes at one operator.
+ghost use Rattle.std.specs.Prelude.{◌≡◌, ◌<◌, length, min, OnOk, IfOk};
 ghost use Rattle.operators.specs.Inboxes.{all_entries};
 ghost use Rattle.operators.specs.Operators.{IsFed, IsFinished, KeepsBatches};
-ghost use Rattle.reference.specs.CallViews.{handed_of};
-ghost use Rattle.reference.specs.Inputs.{are_signed};
-ghost use Rattle.reference.specs.World.{handed};
 ghost use Rattle.laws_queries.specs.Queries.{MayFeed, operator_at, stream_log};
 ghost use Rattle.query_runtime.specs.Turns.{CanFinish, CanLease, IsLeased, OnlyAt};
 
@@ -14,10 +9,8 @@ use column::{MAX_ROWS, Side};
 use op_queue::{Item, Log};
 use operators::Operator;
 use std::alloc::{AllocError, Global};
-use std::collections::VecDeque;
 use stream_store::Streams;
 use turn::{Change, Near};
-use values::Row;
 
 /// What the stream of a number has closed.
 pub(crate) fn log_at(streams: &Streams, stream: u64) -> &Log
@@ -62,8 +55,11 @@ pub(crate) fn finish_at(
     change: &Change,
 ) -> Result<(), AllocError>
     requires here { number < length operators.old.items }
-    requires may { CanFinish (operator_at operators.old.items number) log.now side item.now change.now }
-    ensures finished { OnOk result (IsFinished (operator_at operators.old.items number) log.now side item.now change.now (operator_at operators.new.items number)) }
+    requires may { CanFinish
+        (operator_at operators.old.items number) log.now side item.now change.now }
+    ensures finished { OnOk result
+        (IsFinished (operator_at operators.old.items number) log.now side item.now change.now
+        (operator_at operators.new.items number)) }
     ensures only { OnOk result (OnlyAt number operators.old.items operators.new.items) }
 {
     operators[number].finish_item(log, side, item, change)
@@ -78,29 +74,13 @@ pub(crate) fn feed_at(
 ) -> Result<(), AllocError>
     requires here { number < length operators.old.items }
     requires may { MayFeed (operator_at operators.old.items number) side (all_entries items.items) }
-    ensures fed { OnOk result (IsFed (operator_at operators.old.items number) side (all_entries items.items) (operator_at operators.new.items number)) }
-    ensures batches { OnOk result (KeepsBatches (operator_at operators.old.items number) side items.items (operator_at operators.new.items number)) }
+    ensures fed { OnOk result
+        (IsFed (operator_at operators.old.items number) side (all_entries items.items)
+        (operator_at operators.new.items number)) }
+    ensures batches { OnOk result
+        (KeepsBatches (operator_at operators.old.items number) side items.items
+        (operator_at operators.new.items number)) }
     ensures only { OnOk result (OnlyAt number operators.old.items operators.new.items) }
 {
     operators[number].feed(side, items)
-}
-
-/// Moves the first `count` answers behind the rows, which have room for them.
-pub(crate) fn move_front(
-    answers: &mut VecDeque<(u64, Row)>,
-    rows: &mut Vec<(i64, Row)>,
-    count: usize,
-)
-    requires enough { count ≤ deque_len answers.old }
-    requires room { vec_len rows.old + count ≤ vec_capacity rows.old }
-    requires instants { are_signed (answers_of answers.old.items) ≡ true }
-    ensures rows { handed_of rows.new.items ≡ handed_of rows.old.items ++ handed (take count (answers_of answers.old.items)) }
-    ensures answers { answers_of answers.new.items ≡ drop count (answers_of answers.old.items) }
-{
-    for _ in 0..count {
-        match answers.pop_front() {
-            Some((at, row)) => rows.push_reserved((at as i64, row)),
-            None => unreachable!(),
-        }
-    }
 }

@@ -1,5 +1,5 @@
 //! Running queries.
-ghost use Rattle.std.specs.Prelude.{◌≡◌, ◌<◌, ◌≤◌, [], true, length, min, All, IfOk, OnOk, OnErr};
+ghost use Rattle.std.specs.Prelude.{◌≡◌, ◌<◌, [], true, length, All, IfOk, OnOk, OnErr};
 ghost use Rattle.std.specs.Arc.{arc_value};
 ghost use Rattle.op_queue.specs.Items.{entries_of};
 ghost use Rattle.turn.specs.Turns.{outs_in};
@@ -12,40 +12,52 @@ ghost use Rattle.reference.specs.CallViews.{handed_of};
 ghost use Rattle.reference.specs.Inputs.{are_signed};
 ghost use Rattle.reference.specs.World.{handed};
 ghost use Rattle.laws_queries.specs.Queries.{operator_at};
-ghost use Rattle.query_runtime.specs.Turns.{CanFeed, CanFinish, CanLease, CanPut, HasAnswered, HasFed, HasFinished, HasBatches, HasOperator, HasPut, IsBeginning, IsLeased, handed_out, log_of, source_at, taken, wire_at};
+ghost use Rattle.query_runtime.specs.Turns.{CanFeed, CanFinish, CanLease, CanPut, HasAnswered};
+ghost use Rattle.query_runtime.specs.Turns.{HasFed, HasFinished, HasBatches, HasOperator, HasPut};
+ghost use Rattle.query_runtime.specs.Turns.{IsBeginning, IsLeased, handed_out, log_of, source_at};
+ghost use Rattle.query_runtime.specs.Turns.{taken, wire_at};
 
-use crate::moves::{feed_at, finish_at, leased, log_at, move_front};
+use crate::moves::{feed_at, finish_at, leased, log_at};
 use crate::sources::sources_of;
+use crate::waiting::WaitingAnswers;
 use column::Side;
 use op_queue::{Item, Log};
 use operators::Operator;
 use physical_plans::{Wire, operators_of, wires};
 use plan::Plan;
 use std::alloc::{AllocError, Global};
-use std::collections::VecDeque;
 use std::marker::Model;
 use std::sync::Arc;
 use stream_store::Streams;
 use turn::{Change, Kind, Near, Outputs};
 use values::Row;
 
-/// A running query: its operators, by the number of each where its outputs go and which stream it
-/// reads, and the answers that wait.
+/// A running query.
 #[derive(Drop)]
 pub struct RunningQuery {
+    /// The operators with their queues, by number: each stands behind those that feed it, the root
+    /// last.
     operators: Vec<Operator>,
+    /// By the operators' numbers, where the outputs of each go.
     wires: Vec<Wire>,
+    /// By the operators' numbers, the number of the stream that each reads.
     sources: Vec<u64>,
-    answers: VecDeque<(u64, Row)>,
+    /// The answers of the root that wait to be taken.
+    answers: WaitingAnswers,
 }
 
 impl Model for RunningQuery {
-    ghost use Rattle.to_stream.specs.Turns.{answers_of};
     ghost use Rattle.laws_queries.specs.Queries.{PlainQuery};
 
     ghost Value = { PlainQuery };
 
-    ghost view = { λ q. record { operators = q.operators.items; wires = q.wires.items; sources = q.sources.items; answers = answers_of q.answers.items } };
+    ghost view = { λ q.
+        record {
+          operators = q.operators.items;
+          wires = q.wires.items;
+          sources = q.sources.items;
+          answers = q.answers;
+        } };
 }
 
 impl RunningQuery {
@@ -60,14 +72,18 @@ impl RunningQuery {
         start: u64,
     ) -> Result<RunningQuery, AllocError>
         requires narrow { HaveNarrowRows plan.now.widths.items [] plan.now.nodes.items }
-        requires makeable { All (IsMakeable plan.now.meaning.windows.items (widths_of plan.now.widths.items plan.now.nodes.items)) plan.now.nodes.items }
-        ensures { IfOk result (λ query. IsBeginning plan.now.meaning.windows.items plan.now.widths.items streams.now places.now start plan.now.nodes.items query) }
+        requires makeable { All
+            (IsMakeable plan.now.meaning.windows.items
+            (widths_of plan.now.widths.items plan.now.nodes.items)) plan.now.nodes.items }
+        ensures { IfOk result (λ query.
+            IsBeginning plan.now.meaning.windows.items plan.now.widths.items streams.now places.now
+            start plan.now.nodes.items query) }
     {
         Ok(RunningQuery {
             operators: operators_of(alloc, plan, places, start)?,
             wires: wires(alloc, &plan.nodes)?,
             sources: sources_of(alloc, streams, &plan.nodes)?,
-            answers: VecDeque::new(alloc),
+            answers: WaitingAnswers::new(alloc),
         })
     }
 
@@ -89,7 +105,9 @@ impl RunningQuery {
     /// nothing to take.
     pub fn ready(&self, streams: &Streams, operator: usize) -> Option<(Side, u64)>
         requires { HasOperator streams.now self.now operator }
-        ensures { result ≡ ready (operator_at self.now.operators operator) (log_of streams.now self.now operator) }
+        ensures { result
+            ≡ ready (operator_at self.now.operators operator)
+            (log_of streams.now self.now operator) }
     {
         let log = self.log(streams, operator);
         self.operator(operator).ready(log)
@@ -99,8 +117,12 @@ impl RunningQuery {
     /// wait, else nothing.
     pub fn pending(&self, streams: &Streams, operator: usize) -> (u128, u128)
         requires { HasOperator streams.now self.now operator }
-        ensures left { result.0 ≡ length (waiting (operator_at self.now.operators operator) (log_of streams.now self.now operator) Left) }
-        ensures right { result.1 ≡ length (waiting (operator_at self.now.operators operator) (log_of streams.now self.now operator) Right) }
+        ensures left { result.0
+            ≡ length (waiting (operator_at self.now.operators operator)
+            (log_of streams.now self.now operator) Left) }
+        ensures right { result.1
+            ≡ length (waiting (operator_at self.now.operators operator)
+            (log_of streams.now self.now operator) Right) }
     {
         let log = self.log(streams, operator);
         let operator = self.operator(operator);
@@ -114,7 +136,8 @@ impl RunningQuery {
     /// owners can be counted, and nothing is changed.
     pub fn kind(&self, operator: usize) -> Result<Arc<Kind>, AllocError>
         requires { operator < length self.now.operators }
-        ensures { IfOk result (λ kind. arc_value kind ≡ (operator_at self.now.operators operator).kind) }
+        ensures { IfOk result (λ kind. arc_value kind
+            ≡ (operator_at self.now.operators operator).kind) }
     {
         self.operator(operator).kind()
     }
@@ -131,8 +154,11 @@ impl RunningQuery {
         rows: usize,
     ) -> Result<(Item, Near), AllocError>
         requires here { HasOperator streams.now self.now operator }
-        requires may { CanLease (operator_at self.now.operators operator) (log_of streams.now self.now operator) side rows }
-        ensures { IfOk result (λ leased. IsLeased (operator_at self.now.operators operator) (log_of streams.now self.now operator) side rows leased.0 leased.1) }
+        requires may { CanLease (operator_at self.now.operators operator)
+            (log_of streams.now self.now operator) side rows }
+        ensures { IfOk result (λ leased.
+            IsLeased (operator_at self.now.operators operator)
+            (log_of streams.now self.now operator) side rows leased.0 leased.1) }
     {
         let log = self.log(streams, operator);
         leased(alloc, self.operator(operator), log, side, rows)
@@ -151,9 +177,12 @@ impl RunningQuery {
         outputs: Outputs,
     ) -> Result<(), AllocError>
         requires here { HasOperator streams.now self.old operator }
-        requires may { CanFinish (operator_at self.old.operators operator) (log_of streams.now self.old operator) side item.now change.now }
-        requires puts { CanPut streams.now self.old operator side item.now change.now (outs_in outputs) }
-        ensures finished { OnOk result (HasFinished streams.now self.old operator side item.now change.now self.new) }
+        requires may { CanFinish (operator_at self.old.operators operator)
+            (log_of streams.now self.old operator) side item.now change.now }
+        requires puts { CanPut streams.now self.old operator side item.now change.now
+            (outs_in outputs) }
+        ensures finished { OnOk result
+            (HasFinished streams.now self.old operator side item.now change.now self.new) }
         ensures put { OnOk result (HasPut self.old operator (outs_in outputs) self.new) }
         ensures batches { OnOk result (HasBatches self.old operator outputs self.new) }
         ensures err { OnErr result (self.new.answers ≡ self.old.answers) }
@@ -172,22 +201,19 @@ impl RunningQuery {
     /// is refused it is as it was.
     pub fn take(&mut self, alloc: Global, limit: usize) -> Result<Vec<(i64, Row)>, AllocError>
         requires { are_signed self.old.answers ≡ true }
-        ensures handed { IfOk result (λ rows. handed_of rows.items ≡ handed (taken limit self.old.answers)) }
+        ensures handed { IfOk result (λ rows. handed_of rows.items
+            ≡ handed (taken limit self.old.answers)) }
         ensures rest { OnOk result (self.new ≡ handed_out limit self.old) }
         ensures err { OnErr result (self.new ≡ self.old) }
     {
-        let count = limit.min(self.answers.len());
-        let mut rows = Vec::with_capacity(alloc, count)?;
-        move_front(&mut self.answers, &mut rows, count);
-        Ok(rows)
+        self.answers.take(alloc, limit)
     }
 
-    /// Gives up its operators with what waits for them; its answers wait on. Takes no memory.
-    pub fn give_up(&mut self)
-        ensures operators { self.new.operators ≡ [] }
-        ensures answers { self.new.answers ≡ self.old.answers }
+    /// Gives up its operators with what waits for them: the answers are left. Takes no memory.
+    pub fn into_answers(self) -> WaitingAnswers
+        ensures { result ≡ self.answers }
     {
-        self.operators.clear();
+        self.answers
     }
 
     fn operator(&self, operator: usize) -> &Operator
@@ -230,11 +256,17 @@ impl RunningQuery {
         items: Vec<Item>,
     ) -> Result<(), AllocError>
         requires here { HasOperator streams.now self.old operator }
-        requires may { CanFinish (operator_at self.old.operators operator) (log_of streams.now self.old operator) side item.now change.now }
-        requires feeds { CanFeed streams.now self.old operator side item.now change.now (all_entries items.items) }
-        ensures finished { OnOk result (HasFinished streams.now self.old operator side item.now change.now self.new) }
+        requires may { CanFinish (operator_at self.old.operators operator)
+            (log_of streams.now self.old operator) side item.now change.now }
+        requires feeds { CanFeed streams.now self.old operator side item.now change.now
+            (all_entries items.items) }
+        ensures finished { OnOk result
+            (HasFinished streams.now self.old operator side item.now change.now self.new) }
         ensures fed { OnOk result (HasFed self.old operator (all_entries items.items) self.new) }
-        ensures batches { OnOk result (KeepsBatches (operator_at self.old.operators (wire_at self.old operator).to) (wire_at self.old operator).side items.items (operator_at self.new.operators (wire_at self.old operator).to)) }
+        ensures batches { OnOk result
+            (KeepsBatches (operator_at self.old.operators (wire_at self.old operator).to)
+            (wire_at self.old operator).side items.items
+            (operator_at self.new.operators (wire_at self.old operator).to)) }
         ensures err { OnErr result (self.new.answers ≡ self.old.answers) }
     {
         let log = self.log(streams, operator);
@@ -253,14 +285,16 @@ impl RunningQuery {
         answers: Vec<(u64, Row)>,
     ) -> Result<(), AllocError>
         requires here { HasOperator streams.now self.old operator }
-        requires may { CanFinish (operator_at self.old.operators operator) (log_of streams.now self.old operator) side item.now change.now }
-        ensures finished { OnOk result (HasFinished streams.now self.old operator side item.now change.now self.new) }
-        ensures answered { OnOk result (HasAnswered self.old operator (answers_of answers.items) self.new) }
+        requires may { CanFinish (operator_at self.old.operators operator)
+            (log_of streams.now self.old operator) side item.now change.now }
+        ensures finished { OnOk result
+            (HasFinished streams.now self.old operator side item.now change.now self.new) }
+        ensures answered { OnOk result
+            (HasAnswered self.old operator (answers_of answers.items) self.new) }
         ensures err { OnErr result (self.new.answers ≡ self.old.answers) }
     {
         let log = self.log(streams, operator);
-        let mut answers = VecDeque::from_vec(answers);
         finish_at(&mut self.operators, log, operator, side, item, change)?;
-        self.answers.append(&mut answers)
+        self.answers.add(answers)
     }
 }

@@ -13,7 +13,8 @@ pub(crate) fn sources_of(
     streams: &[u64],
     nodes: &[Node],
 ) -> Result<Vec<u64>, AllocError>
-    ensures { IfOk result (λ sources. sources.items ≡ map (source_among streams.now) (nodes_of nodes.now)) }
+    ensures { IfOk result (λ sources. sources.items
+        ≡ map (source_among streams.now) (nodes_of nodes.now)) }
 {
     let mut sources = Vec::with_capacity(alloc, nodes.len())?;
     for node in nodes {

@@ -1,14 +1,13 @@
 -- The steps of a world are steps of its machine.
-use Rattle.std.proofs.Common.{◌≡◌, ◌≤◌, ◌∙◌, ℕ, ℤ, Option, Some, None, Result, Ok, Err, List, [], ◌∷◌, ◌++◌, length, map, take, drop, min, nat_abs, refl, sym, ap, subst, arith}
-use Rattle.std.specs.Prelude.{⊤}
+use Rattle.std.proofs.Common.{◌≡◌, ◌∙◌, ℕ, ℤ, Option, Some, None, Result, Ok, Err, List, [], ◌++◌, length, take, drop, min, nat_abs, refl, sym, ap, subst, arith}
 use Rattle.std.proofs.lemmas.List.{take-append-le, length-take-le, length-map}
 use Rattle.values.specs.Row.{Row}
 use Rattle.reference.specs.declared.fault.Fault.{Fault}
 use Rattle.reference.specs.Machine.{Machine, Registered, query_at, closed_answers}
 use Rattle.reference.specs.Commands.{Declare, Register, Append, Heartbeat, Take, Drop, first_fault, after, of_query, take_tests}
 use Rattle.reference.specs.Replies.{Number, Done, Rows}
-use Rattle.reference.specs.Steps.{AreNext, IsStep, WaitingAreNext}
-use Rattle.reference.specs.World.{World, Step, unless, declare_step, register_step, append_step, heartbeat_step, take_step, drop_step, handed, waiting_at}
+use Rattle.reference.specs.Steps.{AreNext, IsStep}
+use Rattle.reference.specs.World.{World, Step, WaitingAreNext, unless, declare_step, register_step, append_step, heartbeat_step, take_step, drop_step, handed, waiting_at}
 
 ok_is : {A : Type 0} (a b : A) (r : Result A Fault) → r ≡ Ok a → r ≡ Ok b → b ≡ a
 ok_is a b r first second = cc
@@ -72,25 +71,31 @@ module _ (waiting rest : List (ℕ × Row)) (most : ℕ) where
   handed_next =
       ap handed (sym (take-append-le (min most (length waiting)) waiting rest (omega arith))) ∙ ap (λ k. handed (take k (waiting ++ rest))) (sym handed_length)
 
+-- what a take hands out, where the next answers wait
+pub next_handed : (w : World) (n : ℕ) (limit : ℤ) (rows : List (ℤ × Row)) → WaitingAreNext w → first_fault w.machine (Take n limit) ≡ None
+    → rows ≡ handed (take (min (nat_abs limit) (length (waiting_at w n))) (waiting_at w n)) → AreNext w.machine n limit rows
+next_handed w n limit rows next accepts is =
+    let waiting = waiting_at w n in
+    let q = query_of w.machine n limit (query_at w.machine n) refl accepts in
+    let more = next n q.0 q.1 in
+    let long : length rows ≡ min (nat_abs limit) (length waiting) = ap length is ∙ handed_length waiting more.0 (nat_abs limit) in
+    let all = handed_next waiting more.0 (nat_abs limit) in
+    record {
+      query = q.0;
+      registered = q.1;
+      few = omega (arith, long);
+      next = subst (λ (rs : List (ℤ × Row)). rs ≡ handed (take (length rs) (drop q.0.taken (closed_answers w.machine q.0)))) (sym is)
+          (subst (λ (xs : List (ℕ × Row)). handed (take (min (nat_abs limit) (length waiting)) waiting) ≡ handed (take (length (handed (take (min (nat_abs limit) (length waiting)) waiting))) xs)) (sym more.1) all);
+    }
+
 pub take_is_step : (w new : World) (n : ℕ) (limit : ℤ) (rows : List (ℤ × Row)) → WaitingAreNext w → take_step w n limit ≡ (Ok rows, new)
     → IsStep w.machine (Take n limit) (Rows rows) new.machine
 unfolding take_step
 take_is_step w new n limit rows next e =
-    let waiting = waiting_at w n in
     let h = accepted (first_fault w.machine (Take n limit)) w _ new _ rows e in
-    let q = query_of w.machine n limit (query_at w.machine n) refl h.0 in
-    let more = next n q.0 q.1 in
-    let count = handed_length waiting more.0 (nat_abs limit) in
-    let long : length rows ≡ min (nat_abs limit) (length waiting) = ap length h.1 ∙ count in
-    let all = handed_next waiting more.0 (nat_abs limit) in
+    let long : length rows ≡ min (nat_abs limit) (length (waiting_at w n)) = ap length h.1 ∙ handed_length (waiting_at w n) [] (nat_abs limit) in
     record {
       accepted = h.0;
-      gives = record {
-        query = q.0;
-        registered = q.1;
-        few = omega (arith, long);
-        next = subst (λ (rs : List (ℤ × Row)). rs ≡ handed (take (length rs) (drop q.0.taken (closed_answers w.machine q.0)))) (sym h.1)
-            (subst (λ (xs : List (ℕ × Row)). handed (take (min (nat_abs limit) (length waiting)) waiting) ≡ handed (take (length (handed (take (min (nat_abs limit) (length waiting)) waiting))) xs)) (sym more.1) all);
-      };
+      gives = next_handed w n limit rows next h.0 h.1;
       after = ap (λ (x : World). x.machine) h.2 ∙ ap (after w.machine (Take n limit)) (sym long);
     }

@@ -1,8 +1,8 @@
 -- What a drain that leaves all as it was where it is refused promises.
-use Rattle.std.proofs.Common.{◌≡◌, Bool, true, false, [], ◌∷◌, Result, Ok, Err, ap, subst, ℕ}
+use Rattle.std.proofs.Common.{◌≡◌, Bool, true, false, [], ◌∷◌, Result, Ok, Err, ap, subst, sym, ℕ}
 use Rattle.std.specs.Prelude.{not, ◌&&◌, nat_le, ⊤}
 use Rattle.names.specs.Faults.{first_of}
-use Rattle.reference.specs.World.{World, Step, Does, Drains, drain_step, unless}
+use Rattle.reference.specs.World.{World, Step, Does, Drains, WaitingAreNext, drain_step, unless}
 use Rattle.reference.specs.declared.limits.TheConstants.{MAX_TURN}
 use Rattle.reference.specs.declared.fault.Fault.{Fault}
 use Rattle.reference.specs.declared.fault.Fault.TheVariants.{Query, BadName, NameTaken, BadColumns, TooMany, UnknownStream, UnknownQuery, BadWidth, ValueRange, InstantRange, Late, Backward, Leap, StreamFull, BadLimit, Broken, UnknownLease, Stranger, TooManyLeases, HistoryFull, OutOfMemory, Foreign}
@@ -50,4 +50,5 @@ drains w new rows (Err Stranger) d = d
 drains w new rows (Err HistoryFull) d = d
 drains w new rows (Err (Foreign entries)) d = d
 drains w new rows (Err TooManyLeases) d = absurd (not_numbers w new rows d)
-drains w new rows (Err OutOfMemory) d = (ap (λ (x : World). x.machine) d.0, d.1)
+drains w new rows (Err OutOfMemory) d =
+    record { machine = ap (λ (x : World). x.machine) d.0; lacks = d.1; next = subst WaitingAreNext (sym d.0) }

@@ -20,6 +20,7 @@ use Rattle.plan.specs.Faults as planning
 use Rattle.plan.specs.Nodes.{Node}
 use Rattle.plan.specs.Views.{nodes_of}
 use Rattle.plan.specs.declared.chart.Measure.{Measure}
+use Rattle.plan.specs.declared.fault.PlanFault.{PlanFault}
 use Rattle.plan.specs.declared.operators.Plan.{Plan}
 use Rattle.reference.specs.Commands.{Found, found_by, nodes_by, unless_faulty}
 use Rattle.reference.specs.Standing.{found_of}
@@ -34,7 +35,7 @@ pub found-ok : (catalog : List catalogs.Stream) (given : Option (List (ℤ × �
 unfolding found_by
 found-ok catalog given q p accepted numbers meaning nodes measures =
     let f : Found = record { streams = streams q catalog; meaning = resolved q catalog; nodes = nodes_by catalog q; measures = measures_of (nodes_by catalog q) given } in
-    let unless : Option planning.Fault → Result Found QueryFault = λ o. unless_faulty o f in
+    let unless : Option PlanFault → Result Found QueryFault = λ o. unless_faulty o f in
     ap unless accepted
     ∙ sym (ap (λ (ss : List ℕ). found ss (resolved_of p.meaning) (nodes_of p.nodes.items) p.measures.items) numbers
     ∙ ap (λ (r : Resolved). found (streams q catalog) r (nodes_of p.nodes.items) p.measures.items) meaning
@@ -68,9 +69,9 @@ few_widths catalog (s ∷ sources) h =
     let both = sum_by-cons (λ (n : ℕ). n) (length (columns_in catalog s.stream)) (map (λ t. length t.columns) (tables catalog sources)) in
     omega (arith, more, one, both)
 
--- a query of at most two sources over them has rows of at most 16 values
+-- a query of at most two sources over them has rows of at most MAX_COLUMNS values
 pub narrow : (catalog : List catalogs.Stream) (query : Query) → IsWellFormed (query_of query) → AreNarrow catalog
-    → sum (widths (query_of query) catalog) ≤ 16
+    → sum (widths (query_of query) catalog) ≤ MAX_COLUMNS
 narrow catalog query good h =
     let few = few_widths catalog (map source_of query.sources.items) h in
     omega (arith, few, good.few_sources, length-map query.sources.items source_of)

@@ -1,8 +1,10 @@
 -- The tables of names beside the streams and the queries.
-use Rattle.std.proofs.Common.{◌≡◌, ◌<◌, ℕ, Bool, true, false, cond, not, ◌&&◌, nat_le, Option, Some, None, is_some, List, [], ◌∷◌, ◌++◌, length, map, position, set, slice_get, get_or, refl, sym, ap, ◌∙◌, arith, suc, zero, ◌||◌, ℤ, All, Result, Ok, Err, OnOk, OnErr, option_and_then}
+use Rattle.std.proofs.Common.{◌≡◌, ◌<◌, ℕ, Bool, true, false, cond, not, ◌&&◌, nat_le, Option, Some, None, is_some, List, [], ◌∷◌, ◌++◌, length, map, position, set, slice_get, get_or, count_by, ◌+◌, refl, sym, ap, ◌∙◌, arith, suc, zero, ◌||◌, ℤ, All, Result, Ok, Err, OnOk, OnErr, option_and_then}
 use Rattle.std.specs.List.{position_or_len, AllByRecursion}
 use Rattle.std.specs.Str.{bytes_eq}
 use Rattle.std.proofs.lemmas.List.{map-append}
+use Rattle.std.proofs.lemmas.List.Recursion.{is_count_by}
+use Rattle.std.proofs.lemmas.List.Sums.{sum_by-cons}
 use Rattle.std.proofs.Math.Seq.{map-set_same}
 use Rattle.name_table.specs.Names.{bears}
 use Rattle.names.specs.Catalog as catalogs
@@ -53,6 +55,22 @@ query-place name qs =
 map-twice : {X Y Z : Type 0} (f : Y → Z) (g : X → Y) (xs : List X) → map f (map g xs) ≡ map (λ x. f (g x)) xs
 map-twice f g [] = refl
 map-twice f g (x ∷ xs) = ap (λ zs. f (g x) ∷ zs) (map-twice f g xs)
+
+-- the table has the names of the queries as the machine has them
+pub registered-names : (qs : List StandingQuery) → map query_name qs ≡ map name_of_registered (map query_of qs)
+registered-names qs = sym (map-twice name_of_registered query_of qs)
+
+-- as many names as queries that were not dropped
+undropped_step : (q : Registered) (qs : List Registered) → count_by is_some (map name_of_registered (q ∷ qs)) ≡ cond (not q.is_dropped) (1 + count_by is_some (map name_of_registered qs)) (count_by is_some (map name_of_registered qs))
+undropped_step q qs =
+    sum_by-cons (λ (o : Option (List ℕ)). cond (is_some o) 1 0) (name_of_registered q) (map name_of_registered qs) ∙ here q.is_dropped
+  where
+    here : (b : Bool) → cond (is_some (cond b None (Some q.name))) 1 0 + count_by is_some (map name_of_registered qs) ≡ cond (not b) (1 + count_by is_some (map name_of_registered qs)) (count_by is_some (map name_of_registered qs))
+    here true = omega arith
+    here false = refl
+
+pub names-undropped : (qs : List Registered) → count_by is_some (map name_of_registered qs) ≡ count_by (λ q. not q.is_dropped) qs
+names-undropped qs = is_count_by (λ qs. count_by is_some (map name_of_registered qs)) (λ q. not q.is_dropped) refl undropped_step qs
 
 -- queries that are the same to the machine have the same names
 pub names_stay : (new old : List StandingQuery) → map query_of new ≡ map query_of old → map query_name new ≡ map query_name old

@@ -1,6 +1,7 @@
 -- The tests of a meaning, and what they say.
 use Rattle.std.proofs.Common.{◌≡◌, ◌&&◌, zero, suc, Bool, true, false, nat_le, List, [], ◌∷◌, length, All, arith, refl}
 use Rattle.std.proofs.lemmas.Bool.{leb-true, ltb-true}
+use Rattle.values.specs.declared.TheConstants.{MAX_COLUMNS}
 use Rattle.values.specs.declared.resolved.Shape.{Shape}
 use Rattle.values.specs.declared.resolved.Shape.TheVariants.{Listed, Grouped}
 use Rattle.values.specs.declared.resolved.Window.{Window}
@@ -18,9 +19,9 @@ right true b h = h
 right false b h = cc
 
 pub fits : (s : Shape) → has_narrow_rows s ≡ true → FitsRows s
-fits (Listed columns) h = leb-true (length columns.items) 16 h
+fits (Listed columns) h = leb-true (length columns.items) MAX_COLUMNS h
 fits (Grouped by items) h =
-    (leb-true (length by.items) 16 (left _ (nat_le (length items.items) 16) h), leb-true (length items.items) 16 (right (nat_le (length by.items) 16) _ h))
+    (leb-true (length by.items) MAX_COLUMNS (left _ (nat_le (length items.items) MAX_COLUMNS) h), leb-true (length items.items) MAX_COLUMNS (right (nat_le (length by.items) MAX_COLUMNS) _ h))
 
 slides : (w : Window) → can_slide w ≡ true → CanSlide w
 slides (Range n) h = tt

@@ -12,6 +12,7 @@ use Rattle.reference.specs.Machine.{Stream}
 use Rattle.reference.specs.Commands.{append_tests, is_stream_value, is_instant}
 use Rattle.reference.specs.Views.{pairs_of}
 use Rattle.reference.specs.Appended.{can_be_kept, kept_of}
+use Rattle.values.specs.declared.TheConstants.{MAX_COLUMNS}
 
 -- where no test fails, the first does not, and none of the others
 pub none_first : (b : Bool) (fault : Fault) (tests : List (Bool × Fault)) → first_of ((b, fault) ∷ tests) ≡ None → b ≡ false
@@ -49,7 +50,7 @@ kept : (width : ℕ) → width ≤ 8 → (rows : List (ℤ × List (Option ℤ))
 kept width few [] h v i = refl
 kept width few (r ∷ rows) h v i =
     let here : length r.1 ≡ width = eqb-true (length r.1) width (not_false _ (or_left _ _ h)) in
-    let narrow : nat_le (length r.1) 16 ≡ true = le-leb (length r.1) 16 (omega arith) in
+    let narrow : nat_le (length r.1) MAX_COLUMNS ≡ true = le-leb (length r.1) MAX_COLUMNS (omega arith) in
     let good : list_all is_stream_value r.1 ≡ true = not_false _ (or_left _ _ v) in
     let late : int_le (pos 0) r.0 ≡ true = and_left _ (int_le r.0 MAX_INSTANT) (not_false _ (or_left _ _ i)) in
     let rest : list_all can_be_kept rows ≡ true = kept width few rows (or_right _ _ h) (or_right _ _ v) (or_right _ _ i) in

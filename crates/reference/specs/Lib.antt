@@ -12,6 +12,7 @@ pub mod Totals
 pub mod Appended
 pub mod Inputs
 pub mod Standing
+pub mod Waiting
 pub mod Named
 pub mod Places
 pub mod PlainViews

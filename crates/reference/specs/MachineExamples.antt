@@ -1,5 +1,7 @@
 -- The machine at worked examples.
+use Rattle.std.proofs.Common.{arith}
 use Rattle.std.specs.Prelude.{◌≡◌, ℕ, false, [], ◌∷◌, Option, Some, None, Ok, ℤ, pos, refl}
+use Rattle.cql_reader.specs.Lexis as words
 use Rattle.values.specs.Window.{Range}
 use Rattle.values.specs.Condition.{Column}
 use Rattle.values.specs.Relation.{Listed}
@@ -8,7 +10,9 @@ use Rattle.reference.specs.declared.fault.Fault.TheVariants.{UnknownStream, Unkn
 use Rattle.plan.specs.Build.{plan_of}
 use Rattle.plan.specs.Chart.{measures_of}
 use Rattle.reference.specs.Machine.{Machine, Stream, Registered}
-use Rattle.reference.specs.Commands.{Append, Heartbeat, Take, Drop, first_fault, after}
+use Rattle.reference.specs.Commands.{Declare, Append, Heartbeat, Take, Drop, first_fault, after}
+use Rattle.reference.specs.Replies.{Number, Done, Rows}
+use Rattle.reference.specs.Steps.{AreNext, IsStep}
 use Rattle.reference.specs.World.{World, take_step, drain_step}
 
 -- a value, and the column a of the source S
@@ -99,3 +103,27 @@ third_take = refl
 drained_again : drain_step (take_step waits 0 (pos 2)).1 1 ≡ (Ok tt, (take_step waits 0 (pos 2)).1)
 unfolding drain_step take_step
 drained_again = refl
+
+-- STEPS OF THE MACHINE
+declaration : IsStep told (Declare (84 ∷ []) ((98 ∷ []) ∷ []) (pos 5)) (Number 1) (after told (Declare (84 ∷ []) ((98 ∷ []) ∷ []) (pos 5)) 0)
+unfolding words.is_name words.all_word words.kind_in words.reserved words.same_letters words.same_bytes
+declaration = record { accepted = refl; gives = refl; after = refl }
+
+rows_come : IsStep told (Append 0 ((pos 3, num 7 ∷ []) ∷ [])) Done (after told (Append 0 ((pos 3, num 7 ∷ []) ∷ [])) 0)
+rows_come = record { accepted = refl; gives = tt; after = refl }
+
+heartbeat_closes : IsStep told (Heartbeat 0 (pos 3)) Done (record { streams = record fresh { first_open = 4 } ∷ []; queries = [] })
+heartbeat_closes = record { accepted = refl; gives = tt; after = refl }
+
+-- a take of at most 2 may hand out the next 2, or fewer of them
+two_are_next : AreNext came 0 (pos 2) ((pos 1, num 5 ∷ []) ∷ (pos 3, num 6 ∷ []) ∷ [])
+two_are_next = record { query = query; registered = refl; few = omega arith; next = refl }
+
+two_are_taken : IsStep came (Take 0 (pos 2)) (Rows ((pos 1, num 5 ∷ []) ∷ (pos 3, num 6 ∷ []) ∷ [])) (record came { queries = record query { taken = 2 } ∷ [] })
+two_are_taken = record { accepted = refl; gives = two_are_next; after = refl }
+
+one_is_next : AreNext came 0 (pos 2) ((pos 1, num 5 ∷ []) ∷ [])
+one_is_next = record { query = query; registered = refl; few = omega arith; next = refl }
+
+one_is_taken : IsStep came (Take 0 (pos 2)) (Rows ((pos 1, num 5 ∷ []) ∷ [])) (record came { queries = record query { taken = 1 } ∷ [] })
+one_is_taken = record { accepted = refl; gives = one_is_next; after = refl }

@@ -1,9 +1,9 @@
 -- The steps of the machine.
-use Rattle.std.specs.Prelude.{ℕ, ℤ, ◌≡◌, ◌≤◌, ◌++◌, ⊤, Some, None, List, length, take, drop, nat_abs}
+use Rattle.std.specs.Prelude.{ℕ, ℤ, ◌≡◌, ◌≤◌, ⊤, Some, None, List, length, take, drop, nat_abs}
 use Rattle.values.specs.Row.{Row}
 use Rattle.reference.specs.Machine.{Machine, Registered, query_at, closed_answers}
 use Rattle.reference.specs.Commands.{Command, Declare, Register, Append, Heartbeat, Take, Drop, first_fault, after}
-use Rattle.reference.specs.World.{World, handed, waiting_at}
+use Rattle.reference.specs.World.{handed}
 use Rattle.reference.specs.Replies.{Reply, Number, Done, Rows, count_in}
 
 -- the next answers of a query behind those that were taken, at most so many
@@ -28,8 +28,3 @@ pub record IsStep (old : Machine) (c : Command) (r : Reply) (new : Machine) : Ty
   pub accepted : first_fault old c ≡ None
   pub gives : Gives old c r
   pub after : new ≡ after old c (count_in r)
-
--- At each query the next of its closed answers wait, in their order.
-abbrev pub WaitingAreNext : World → Type 0
-WaitingAreNext w = (n : ℕ) (q : Registered) → query_at w.machine n ≡ Some q
-    → (rest : List (ℕ × Row)) × (drop q.taken (closed_answers w.machine q) ≡ waiting_at w n ++ rest)

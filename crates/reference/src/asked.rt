@@ -10,7 +10,7 @@ ghost use Rattle.reference.specs.Views.{inputs_of, timed_of};
 
 use crate::evaluate::evaluate;
 use cql_reader::Query;
-use names::{Catalog, ResolveFault, resolve};
+use names::{Catalog, ResolveError, resolve};
 use std::alloc::{AllocError, Global};
 use values::Row;
 
@@ -38,11 +38,12 @@ pub fn answers(
     requires base { IsClosed base }
     requires upto { IsClosed upto }
     ensures { IfOk result (λ v. timed_of v.items
-        ≡ cql.answers (resolved (query_of query.now) catalog.now) (nat_abs (base +ℤ pos 1)) (nat_abs (upto +ℤ pos 1)) (inputs_of inputs.now)) }
+        ≡ cql.answers (resolved (query_of query.now) catalog.now) (nat_abs (base +ℤ pos 1))
+        (nat_abs (upto +ℤ pos 1)) (inputs_of inputs.now)) }
 {
     let named = match resolve(alloc, query, catalog) {
         Ok(named) => named,
-        Err(ResolveFault::OutOfMemory) => return Err(AllocError),
+        Err(ResolveError::OutOfMemory) => return Err(AllocError),
         Err(_) => unreachable!(),
     };
     let first = first_open(base);

@@ -20,7 +20,7 @@ ghost use Rattle.reference.specs.Finds.{Finds, FindsFault};
 use crate::fault::{Fault, QueryFault};
 use cql_reader::{Query, ReadFault, read};
 use names::Catalog;
-use plan::{Chart, Plan, PlanFault, plan};
+use plan::{Chart, Plan, PlanError, plan};
 use std::alloc::Global;
 
 /// The plan of the text of a query over the declared streams, of which each has at most 8 columns.
@@ -35,11 +35,13 @@ pub fn find_plan(
     chart: Option<&Chart>,
 ) -> Result<Plan, Fault>
     requires few { AllByRecursion (λ s. length s.columns ≤ 8) catalog.now }
-    ensures finds { Finds (found_of catalog.now (given_by (option_copied chart.entry)) (reading text.now)) result }
+    ensures finds { Finds
+        (found_of catalog.now (given_by (option_copied chart.entry)) (reading text.now)) result }
     ensures fits { IfOk result (λ p. has_narrow_rows p.meaning.shape ≡ true) }
     ensures sources { IfOk result (λ p. length p.meaning.windows.items ≡ length p.streams.items) }
     ensures slides { IfOk result (λ p. all_slide p.meaning.windows.items ≡ true) }
-    ensures widths { IfOk result (λ p. (query : syntax.Query) → reading text.now ≡ Ok query → p.widths.items ≡ widths query catalog.now) }
+    ensures widths { IfOk result (λ p. (query : syntax.Query) → reading text.now ≡ Ok query
+        → p.widths.items ≡ widths query catalog.now) }
 {
     match read(alloc, text.as_bytes()) {
         Ok(query) => plan_over(alloc, catalog, &query, chart),
@@ -56,7 +58,8 @@ fn plan_over(
 ) -> Result<Plan, Fault>
     requires formed { IsWellFormed (query_of query.now) }
     requires few { AllByRecursion (λ s. length s.columns ≤ 8) catalog.now }
-    ensures finds { Finds (found_by catalog.now (given_by (option_copied chart.entry)) (query_of query.now)) result }
+    ensures finds { Finds
+        (found_by catalog.now (given_by (option_copied chart.entry)) (query_of query.now)) result }
     ensures fits { IfOk result (λ p. has_narrow_rows p.meaning.shape ≡ true) }
     ensures sources { IfOk result (λ p. length p.meaning.windows.items ≡ length p.streams.items) }
     ensures slides { IfOk result (λ p. all_slide p.meaning.windows.items ≡ true) }
@@ -64,13 +67,15 @@ fn plan_over(
 {
     match plan(alloc, query, catalog, chart) {
         Ok(plan) => Ok(plan),
-        Err(fault) => Err(plan_fault(fault)),
+        Err(error) => Err(plan_fault(error)),
     }
 }
 
 /// A text that was not read is refused for this.
 fn text_fault(fault: ReadFault) -> Fault
-    ensures { (catalog : List catalogs.Stream) (given : Option (List (ℤ × ℤ))) (defined : Result syntax.Query text.Fault) → Tells defined fault → FindsFault (found_of catalog given defined) result }
+    ensures { (catalog : List catalogs.Stream) (given : Option (List (ℤ × ℤ)))
+        (defined : Result syntax.Query text.Fault) → Tells defined fault
+        → FindsFault (found_of catalog given defined) result }
 {
     match fault {
         ReadFault::OutOfMemory => Fault::OutOfMemory,
@@ -85,18 +90,12 @@ fn text_fault(fault: ReadFault) -> Fault
 
 /// A query that was not planned is refused for this.
 #[tactic(auto, unfolding(crate::specs::Commands::found_by))]
-fn plan_fault(fault: PlanFault) -> Fault
-    ensures { (catalog : List catalogs.Stream) (given : Option (List (ℤ × ℤ))) (q : syntax.Query) → Told fault (first_fault q catalog given) → FindsFault (found_by catalog given q) result }
+fn plan_fault(error: PlanError) -> Fault
+    ensures { (catalog : List catalogs.Stream) (given : Option (List (ℤ × ℤ))) (q : syntax.Query)
+        → Told error (first_fault q catalog given) → FindsFault (found_by catalog given q) result }
 {
-    match fault {
-        PlanFault::OutOfMemory => Fault::OutOfMemory,
-        PlanFault::UnknownStream => Fault::Query(QueryFault::UnknownStream),
-        PlanFault::UnknownColumn => Fault::Query(QueryFault::UnknownColumn),
-        PlanFault::AmbiguousColumn => Fault::Query(QueryFault::AmbiguousColumn),
-        PlanFault::DuplicateAlias => Fault::Query(QueryFault::DuplicateAlias),
-        PlanFault::NoJoinKey => Fault::Query(QueryFault::NoJoinKey),
-        PlanFault::NotGrouped => Fault::Query(QueryFault::NotGrouped),
-        PlanFault::TooWide => Fault::Query(QueryFault::TooWide),
-        PlanFault::BadChart => Fault::Query(QueryFault::BadChart),
+    match error {
+        PlanError::OutOfMemory => Fault::OutOfMemory,
+        PlanError::Fault(fault) => Fault::Query(QueryFault::Planned(fault)),
     }
 }

@@ -9,22 +9,27 @@ ghost use Rattle.values.specs.Answers.{Resolved, answers, shown_at};
 
 /// Answers only grow: those of a shorter run are the beginning of those of a longer one.
 pub fn answers_only_grow()
-    ensures { (q : Resolved) (start : ℕ) (until : ℕ) (later : ℕ) (inputs : List (List Element)) → start ≤ until → until ≤ later
-        → (rest : List (ℕ × Row)) × (answers q start later inputs ≡ answers q start until inputs ++ rest) }
+    ensures { (q : Resolved) (start : ℕ) (until : ℕ) (later : ℕ) (inputs : List (List Element))
+        → start ≤ until → until ≤ later
+        → (rest : List (ℕ × Row))
+        × (answers q start later inputs ≡ answers q start until inputs ++ rest) }
 {}
 
 /// The law of two worlds: inputs whose windows show the same bags at every instant have the same
 /// answers.
 pub fn equal_window_bags_have_equal_answers()
-    ensures { (q : Resolved) (start : ℕ) (until : ℕ) (inputs : List (List Element)) (others : List (List Element))
-        → ((t : ℕ) → start ≤ t → t < until → SameTables (shown_at start q.windows t inputs) (shown_at start q.windows t others))
+    ensures { (q : Resolved) (start : ℕ) (until : ℕ) (inputs : List (List Element))
+        (others : List (List Element))
+        → ((t : ℕ) → start ≤ t → t < until
+        → SameTables (shown_at start q.windows t inputs) (shown_at start q.windows t others))
         → answers q start until inputs ≡ answers q start until others }
 {}
 
 /// Elements that come later, at instants that are not closed yet, change no answer of a closed
 /// instant.
 pub fn later_elements_change_no_closed_answer()
-    ensures { (q : Resolved) (start : ℕ) (until : ℕ) (inputs : List (List Element)) (longer : List (List Element))
+    ensures { (q : Resolved) (start : ℕ) (until : ℕ) (inputs : List (List Element))
+        (longer : List (List Element))
         → Longer until inputs longer → answers q start until inputs ≡ answers q start until longer }
 {}
 
@@ -32,9 +37,11 @@ pub fn later_elements_change_no_closed_answer()
 /// inputs with the same elements at each window, those of each instant in the same order where it
 /// is one of last rows, the answers are the same.
 pub fn order_of_arrival_matters_to_last_rows_within_an_instant_alone()
-    ensures { (q : Resolved) (start : ℕ) (until : ℕ) (inputs : List (List (ℕ × Row))) (others : List (List (ℕ × Row)))
+    ensures { (q : Resolved) (start : ℕ) (until : ℕ) (inputs : List (List (ℕ × Row)))
+        (others : List (List (ℕ × Row)))
         → AllCameAlike q.windows inputs others
-        → answers q start until (map (numbered 0) inputs) ≡ answers q start until (map (numbered 0) others) }
+        → answers q start until (map (numbered 0) inputs)
+        ≡ answers q start until (map (numbered 0) others) }
 {}
 
 /// Says that a window shows the same rows from an instant on, whatever comes later, where all that

@@ -10,9 +10,11 @@ mod fault;
 mod finding;
 mod laws;
 mod limits;
+mod named;
 mod new_rows;
 mod place;
 mod plain;
+mod refusals;
 mod standing;
 mod stream;
 
@@ -30,8 +32,13 @@ pub use limits::{
     MAX_APPENDED, MAX_INSTANT, MAX_LEAP, MAX_QUERIES, MAX_REGISTRATIONS, MAX_STREAM_COLUMNS,
     MAX_STREAM_ROWS, MAX_STREAMS, MAX_TAKE, MAX_TURN,
 };
+pub use named::{count_undropped, query_place, stream_place};
+pub use names::ResolveFault;
 pub use new_rows::NewRows;
 pub use plain::Plain;
 pub use plain::changes::names_of;
-pub use plain::lookup::are_columns;
-pub use plan::{Chart, Kind};
+pub use plan::{Chart, Kind, PlanFault};
+pub use refusals::{
+    append_fault, are_columns, declare_fault, heartbeat_fault, register_fault, take_fault,
+    turn_fault,
+};

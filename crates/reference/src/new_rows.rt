@@ -1,10 +1,13 @@
 //! Rows on their way into a stream.
-ghost use Rattle.std.specs.Prelude.{◌≡◌, ◌↔◌, ◌+◌, ◌≤◌, ◌++◌, ◌∷◌, [], IsTrue, IfOk, OnOk, OnErr, length, map, nat_abs, pos, true, false, sum, not, ◌==◌, int_lt, vec_len, vec_capacity};
+ghost use Rattle.std.specs.Prelude.{◌≡◌, ◌↔◌, ◌+◌, ◌≤◌, ◌++◌, ◌∷◌, [], IsTrue, IfOk, OnOk, OnErr};
+ghost use Rattle.std.specs.Prelude.{length, map, nat_abs, pos, true, false, sum, not, ◌==◌, int_lt};
+ghost use Rattle.std.specs.Prelude.{vec_len, vec_capacity};
 ghost use Rattle.std.specs.List.{list_any, list_all};
 ghost use Rattle.reference.specs.NewRows.{rows_in};
 ghost use Rattle.reference.specs.Commands.{is_stream_value, is_instant};
 ghost use Rattle.reference.specs.Appended.{can_be_kept, kept_of, instants_of, values_of};
 ghost use Rattle.reference.specs.Views.{pairs_of};
+ghost use Rattle.values.specs.declared.TheConstants.{MAX_COLUMNS};
 
 use crate::limits::MAX_INSTANT;
 use std::alloc::{AllocError, Global};
@@ -29,7 +32,8 @@ impl Model for NewRows {
 
     ghost view = { λ r. rows_in r.instants.items r.widths.items r.values.items };
 
-    ghost invariant = { λ r. (length r.widths.items ≡ length r.instants.items) × (sum r.widths.items ≡ length r.values.items) };
+    ghost invariant = { λ r. (length r.widths.items ≡ length r.instants.items)
+        × (sum r.widths.items ≡ length r.values.items) };
 }
 
 impl NewRows {
@@ -44,8 +48,9 @@ impl NewRows {
         }
     }
 
-    /// No rows yet, with room for as many rows of one value each. `AllocError` where it was
-    /// refused.
+    /// No rows yet, with room for as many rows of one value each, so that they come without another
+    /// growth. How much room there is saves time alone: no clause says it. `AllocError` where it
+    /// was refused.
     pub fn with_capacity(alloc: Global, rows: usize) -> Result<NewRows, AllocError>
         ensures { IfOk result (λ made. made ≡ []) }
     {
@@ -160,8 +165,10 @@ impl NewRows {
     pub(crate) fn copy_flat_to(&self, instants: &mut Vec<u64>, values: &mut Vec<Value>)
         requires good_instants { list_any (λ r. not (is_instant r.0)) self.now ≡ false }
         requires good_values { list_any (λ r. not (list_all is_stream_value r.1)) self.now ≡ false }
-        requires room_for_instants { vec_len instants.old + length self.now ≤ vec_capacity instants.old }
-        requires room_for_values { vec_len values.old + length (values_of self.now) ≤ vec_capacity values.old }
+        requires room_for_instants { vec_len instants.old + length self.now
+            ≤ vec_capacity instants.old }
+        requires room_for_values { vec_len values.old + length (values_of self.now)
+            ≤ vec_capacity values.old }
         ensures instants { instants.new.items ≡ instants.old.items ++ instants_of self.now }
         ensures values { values.new.items ≡ values.old.items ++ values_of self.now }
     {
@@ -259,7 +266,7 @@ fn value_of(value: Option<i64>) -> Value
 }
 
 fn row_of(values: &[Option<i64>]) -> Row
-    requires few { length values.now ≤ 16 }
+    requires few { length values.now ≤ MAX_COLUMNS }
     requires in_range { list_all is_stream_value values.now ≡ true }
     ensures { result.items ≡ values.now }
 {
@@ -280,7 +287,8 @@ fn copy_rows(
     requires all { sum widths.now ≡ length values.now }
     requires good { list_all can_be_kept (rows_in instants.now widths.now values.now) ≡ true }
     requires room { vec_len elements.old + length instants.now ≤ vec_capacity elements.old }
-    ensures { pairs_of elements.new.items ≡ pairs_of elements.old.items ++ kept_of (rows_in instants.now widths.now values.now) }
+    ensures { pairs_of elements.new.items
+        ≡ pairs_of elements.old.items ++ kept_of (rows_in instants.now widths.now values.now) }
 {
     let mut rest = values;
     for i in 0..instants.len() {

@@ -20,7 +20,8 @@ pub(crate) struct Place {
 }
 
 fn first_open_at(streams: &[Stream], place: Place) -> u64
-    ensures open { result ≡ option_map_or (λ s. s.first_open) (slice_get streams.now place.stream) 0 }
+    ensures open { result
+        ≡ option_map_or (λ s. s.first_open) (slice_get streams.now place.stream) 0 }
     ensures range { result ≤ 1099511627777 }
 {
     match streams.get(place.stream) {
@@ -66,7 +67,8 @@ fn input_at(
     first: u64,
     place: Place,
 ) -> Result<Vec<(u64, Row)>, AllocError>
-    ensures { IfOk result (λ v. ShowsSame (input_at streams.now first (place_of place)) (elements_of v.items)) }
+    ensures { IfOk result (λ v.
+        ShowsSame (input_at streams.now first (place_of place)) (elements_of v.items)) }
 {
     match streams.get(place.stream) {
         Some(stream) => stream.input(alloc, place.arrivals, first),
@@ -81,7 +83,9 @@ pub(crate) fn inputs_at(
     first: u64,
     places: &[Place],
 ) -> Result<Vec<Vec<(u64, Row)>>, AllocError>
-    ensures inputs { IfOk result (λ v. EachShowsSame (map (input_at streams.now first) (map place_of places.now)) (inputs_of v.items)) }
+    ensures inputs { IfOk result (λ v.
+        EachShowsSame (map (input_at streams.now first) (map place_of places.now))
+        (inputs_of v.items)) }
     ensures len { IfOk result (λ v. length v.items ≡ length places.now) }
 {
     let mut inputs = Vec::new(alloc);
@@ -111,7 +115,8 @@ pub(crate) fn places_of(
     streams: &[Stream],
     numbers: &[usize],
 ) -> Result<Vec<Place>, AllocError>
-    ensures places { IfOk result (λ v. map place_of v.items ≡ map (place_at (machine_of streams.now)) numbers.now) }
+    ensures places { IfOk result (λ v. map place_of v.items
+        ≡ map (place_at (machine_of streams.now)) numbers.now) }
     ensures len { IfOk result (λ v. length v.items ≡ length numbers.now) }
 {
     let mut places = Vec::new(alloc);

@@ -2,6 +2,8 @@
 ghost use Rattle.std.specs.Prelude.{◌≡◌, ◌≤◌, All, length, map};
 ghost use Rattle.reference.specs.Commands.{catalog_of};
 ghost use Rattle.reference.specs.Named.{stream_name, query_name};
+ghost use Rattle.reference.specs.Standing.{waiting_of};
+ghost use Rattle.reference.specs.Waiting.{next_wait};
 
 mod answering;
 mod catalog;
@@ -9,7 +11,6 @@ pub(crate) mod changes;
 mod empty;
 mod faults;
 mod finding;
-pub(crate) mod lookup;
 
 use crate::standing::StandingQuery;
 use crate::stream::Stream;
@@ -32,4 +33,5 @@ pub struct Plain {
     ghost few: { All (λ s. length s.columns ≤ 8) catalog },
     ghost streams_are_named: { stream_names ≡ map stream_name streams.items },
     ghost queries_are_named: { query_names ≡ map query_name queries.items },
+    ghost next_wait: { map waiting_of queries.items ≡ next_wait streams.items queries.items },
 }

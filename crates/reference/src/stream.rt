@@ -1,7 +1,9 @@
 //! A declared stream and what came to it.
-ghost use Rattle.std.specs.Prelude.{◌≡◌, ◌≤◌, ◌*◌, [], None, OnOk, OnErr, IfOk, IfSome, length, ◌∷◌, ◌++◌, ◌&&◌, nat_le};
+ghost use Rattle.std.specs.Prelude.{◌≡◌, ◌≤◌, ◌*◌, [], None, OnOk, OnErr, IfOk, IfSome, length};
+ghost use Rattle.std.specs.Prelude.{◌∷◌, ◌++◌, ◌&&◌, nat_le};
 ghost use Rattle.values.specs.Window.{input_of, plain, numbered};
-ghost use Rattle.reference.specs.Commands.{append_tests, heartbeat_tests, appended, closed_to, catalog_of};
+ghost use Rattle.reference.specs.Commands.{append_tests, heartbeat_tests, appended, closed_to};
+ghost use Rattle.reference.specs.Commands.{catalog_of};
 ghost use Rattle.names.specs.Faults.{first_of};
 ghost use Rattle.names.specs.Views.{names_of};
 ghost use Rattle.cql_reader.specs.Views.{name_of};
@@ -11,8 +13,8 @@ ghost use Rattle.reference.specs.Told.{IsTold};
 ghost use Rattle.reference.specs.Views.{pairs_of, elements_of};
 
 use crate::fault::Fault;
-use crate::limits::{MAX_APPENDED, MAX_INSTANT, MAX_LEAP, MAX_STREAM_ROWS};
 use crate::new_rows::NewRows;
+use crate::refusals::{append_fault, heartbeat_fault};
 use cql_reader::Name;
 use names::Catalog;
 use std::alloc::{AllocError, Global};
@@ -44,9 +46,18 @@ impl Model for Stream {
 
     ghost Value = { machine.Stream };
 
-    ghost view = { λ s. record { name = name_of s.name; columns = names_of s.columns.items; elements = numbered 0 (kept_in (length s.columns.items) s.instants.items s.values.items); arrivals = length s.instants.items; first_open = s.first_open } };
+    ghost view = { λ s.
+        record {
+          name = name_of s.name;
+          columns = names_of s.columns.items;
+          elements = numbered 0 (kept_in (length s.columns.items) s.instants.items s.values.items);
+          arrivals = length s.instants.items;
+          first_open = s.first_open;
+        } };
 
-    ghost invariant = { λ s. (length s.columns.items ≤ 8) × (length s.instants.items ≤ 1073741824) × (s.first_open ≤ 1099511627777) × (length s.values.items ≡ length s.instants.items * length s.columns.items) };
+    ghost invariant = { λ s. (length s.columns.items ≤ 8) × (length s.instants.items ≤ 1073741824)
+        × (s.first_open ≤ 1099511627777)
+        × (length s.values.items ≡ length s.instants.items * length s.columns.items) };
 }
 
 impl Stream {
@@ -54,7 +65,14 @@ impl Stream {
     pub(crate) fn new(alloc: Global, name: Name, columns: Vec<Name>, first_open: u64) -> Stream
         requires few { length columns.items ≤ 8 }
         requires instant { first_open ≤ 1099511627776 }
-        ensures { result ≡ record { name = name_of name; columns = names_of columns.items; elements = []; arrivals = 0; first_open = first_open } }
+        ensures { result
+            ≡ record {
+              name = name_of name;
+              columns = names_of columns.items;
+              elements = [];
+              arrivals = 0;
+              first_open = first_open;
+            } }
     {
         Stream {
             name,
@@ -95,25 +113,7 @@ impl Stream {
         ensures first { result ≡ first_of (append_tests self.now rows.now) }
         ensures told { IfSome result IsTold }
     {
-        if MAX_APPENDED < rows.len() {
-            return Some(Fault::TooMany);
-        }
-        if rows.has_other_width(self.columns.len()) {
-            return Some(Fault::BadWidth);
-        }
-        if rows.has_other_value() {
-            return Some(Fault::ValueRange);
-        }
-        if rows.has_other_instant() {
-            return Some(Fault::InstantRange);
-        }
-        if rows.has_late_row(self.first_open as i64) {
-            return Some(Fault::Late);
-        }
-        if MAX_STREAM_ROWS < self.instants.len() + rows.len() {
-            return Some(Fault::StreamFull);
-        }
-        None
+        append_fault(rows, self.columns.len(), self.arrivals(), self.first_open)
     }
 
     /// The first test of a heartbeat that fails.
@@ -121,17 +121,7 @@ impl Stream {
         ensures first { result ≡ first_of (heartbeat_tests self.now at) }
         ensures told { IfSome result IsTold }
     {
-        if at < 0 || MAX_INSTANT < at {
-            return Some(Fault::InstantRange);
-        }
-        let first_open = self.first_open as i64;
-        if at < first_open {
-            return Some(Fault::Backward);
-        }
-        if first_open + MAX_LEAP <= at {
-            return Some(Fault::Leap);
-        }
-        None
+        heartbeat_fault(at, self.first_open)
     }
 
     /// Appends the rows. On Err it is as it was.
@@ -162,7 +152,8 @@ impl Stream {
         arrivals: u64,
         first: u64,
     ) -> Result<Vec<(u64, Row)>, AllocError>
-        ensures { IfOk result (λ v. ShowsSame (input_of arrivals first self.now.elements) (elements_of v.items)) }
+        ensures { IfOk result (λ v.
+            ShowsSame (input_of arrivals first self.now.elements) (elements_of v.items)) }
     {
         copy_input(
             alloc,
@@ -185,7 +176,8 @@ fn copy_input(
 ) -> Result<Vec<(u64, Row)>, AllocError>
     requires few { width ≤ 8 }
     requires all { length values.now ≡ length instants.now * width }
-    ensures { IfOk result (λ v. pairs_of v.items ≡ plain (input_of arrivals first (numbered 0 (kept_in width instants.now values.now)))) }
+    ensures { IfOk result (λ v. pairs_of v.items
+        ≡ plain (input_of arrivals first (numbered 0 (kept_in width instants.now values.now)))) }
 {
     let mut input = Vec::new(alloc);
     let mut rest = values;

@@ -71,7 +71,8 @@ impl RowList {
     /// The rows without those that left, and with those that entered: one walk over the three
     /// lists.
     fn merged(&self, alloc: Global, left: &[Row], entered: &[Row]) -> Result<Vec<Row>, AllocError>
-        ensures { IfOk result (λ rows. rows_of rows.items ≡ merged (staying self.now (rows_of left.now)) (rows_of entered.now)) }
+        ensures { IfOk result (λ rows. rows_of rows.items
+            ≡ merged (staying self.now (rows_of left.now)) (rows_of entered.now)) }
     {
         let mut rows = Vec::with_capacity(alloc, self.widths.len().saturating_add(entered.len()))?;
         let mut start = 0;
@@ -151,8 +152,10 @@ fn push_up_to(
     start: usize,
 ) -> Result<usize, AllocError>
     requires { start ≤ length entered.now }
-    ensures rows { OnOk result (rows_of rows.new.items ≡ rows_of rows.old.items ++ up_to last.now.items (drop start (rows_of entered.now))) }
-    ensures rest { IfOk result (λ place. drop place (rows_of entered.now) ≡ past last.now.items (drop start (rows_of entered.now))) }
+    ensures rows { OnOk result (rows_of rows.new.items
+        ≡ rows_of rows.old.items ++ up_to last.now.items (drop start (rows_of entered.now))) }
+    ensures rest { IfOk result (λ place. drop place (rows_of entered.now)
+        ≡ past last.now.items (drop start (rows_of entered.now))) }
     ensures within { IfOk result (λ place. place ≤ length entered.now) }
 {
     for place in start..entered.len() {
@@ -168,7 +171,8 @@ fn push_up_to(
 /// Writes the rest of those that entered behind the others.
 fn push_rest(rows: &mut Vec<Row>, entered: &[Row], start: usize) -> Result<(), AllocError>
     requires { start ≤ length entered.now }
-    ensures { OnOk result (rows_of rows.new.items ≡ rows_of rows.old.items ++ drop start (rows_of entered.now)) }
+    ensures { OnOk result (rows_of rows.new.items
+        ≡ rows_of rows.old.items ++ drop start (rows_of entered.now)) }
 {
     for place in start..entered.len() {
         rows.push(copy_row(&entered[place]))?;

@@ -15,15 +15,21 @@ ghost use Rattle.row_nodes.specs.Steps.{Whole, open_at_once, truths_needed};
 /// A turn of Select turns the rows at which its condition was true of what it had taken into those
 /// of what it has taken now, wherever its outputs are cut.
 pub fn select_keeps_its_value()
-    ensures law { (c : Condition) (steps : List Step) (t : ℕ) (xs : List (Bool × Row)) (i : List Row) (i2 : List Row) (o : List Row)
-        → Mean steps c → Adds i xs i2 → RowsLaw (select_value c) i xs o (rows_in (selected steps (Rows t xs))) i2 (select_value c i2) }
+    ensures law { (c : Condition) (steps : List Step) (t : ℕ) (xs : List (Bool × Row))
+        (i : List Row) (i2 : List Row) (o : List Row)
+        → Mean steps c → Adds i xs i2
+        → RowsLaw (select_value c) i xs o (rows_in (selected steps (Rows t xs))) i2
+        (select_value c i2) }
     ensures lawful { (c : Condition) → IsLawful (select_value c) }
 {}
 
 /// The same of Project and the rows' columns.
 pub fn project_keeps_its_value()
-    ensures law { (columns : List ℕ) (t : ℕ) (xs : List (Bool × Row)) (i : List Row) (i2 : List Row) (o : List Row)
-        → Adds i xs i2 → RowsLaw (project_value columns) i xs o (rows_in (projected columns (Rows t xs))) i2 (project_value columns i2) }
+    ensures law { (columns : List ℕ) (t : ℕ) (xs : List (Bool × Row)) (i : List Row) (i2 : List Row)
+        (o : List Row)
+        → Adds i xs i2
+        → RowsLaw (project_value columns) i xs o (rows_in (projected columns (Rows t xs))) i2
+        (project_value columns i2) }
     ensures lawful { (columns : List ℕ) → IsLawful (project_value columns) }
 {}
 

@@ -6,7 +6,8 @@ ghost use Rattle.values.specs.Condition.{truth};
 ghost use Rattle.values.specs.Row.{Row};
 ghost use Rattle.values.specs.Resolved as resolved;
 ghost use Rattle.lane_kernels.specs.Steps.{StepsFit, steps_truth};
-ghost use Rattle.row_nodes.specs.Steps.{IsOfOneSource, IsOver, comparison_step, steps_of, truths_needed, turned};
+ghost use Rattle.row_nodes.specs.Steps.{IsOfOneSource, IsOver, comparison_step, steps_of};
+ghost use Rattle.row_nodes.specs.Steps.{truths_needed, turned};
 
 use lane_kernels::{MAX_TRUTHS, Step};
 use std::alloc::{AllocError, Global};
@@ -22,8 +23,11 @@ use values::{Compare, Condition, Operand};
 pub fn steps(alloc: Global, condition: &Condition) -> Result<Vec<Step>, AllocError>
     requires { IsOfOneSource (resolved.condition_of condition.now) }
     ensures value { IfOk result (λ ss. ss.items ≡ steps_of (resolved.condition_of condition.now)) }
-    ensures means { IfOk result (λ ss. (row : Row) → steps_truth ss.items row ≡ truth (resolved.condition_of condition.now) (row ∷ [])) }
-    ensures fits { IfOk result (λ ss. (w : ℕ) → IsOver w (resolved.condition_of condition.now) → truths_needed (resolved.condition_of condition.now) ≤ MAX_TRUTHS → StepsFit w 0 ss.items) }
+    ensures means { IfOk result (λ ss. (row : Row)
+        → steps_truth ss.items row ≡ truth (resolved.condition_of condition.now) (row ∷ [])) }
+    ensures fits { IfOk result (λ ss. (w : ℕ) → IsOver w (resolved.condition_of condition.now)
+        → truths_needed (resolved.condition_of condition.now) ≤ MAX_TRUTHS
+        → StepsFit w 0 ss.items) }
 {
     let mut steps = Vec::new(alloc);
     add(&mut steps, condition)?;
@@ -32,7 +36,8 @@ pub fn steps(alloc: Global, condition: &Condition) -> Result<Vec<Step>, AllocErr
 
 /// The steps of a condition behind others.
 fn add(steps: &mut Vec<Step>, condition: &Condition) -> Result<(), AllocError>
-    ensures { OnOk result (steps.new.items ≡ steps.old.items ++ steps_of (resolved.condition_of condition.now)) }
+    ensures { OnOk result (steps.new.items
+        ≡ steps.old.items ++ steps_of (resolved.condition_of condition.now)) }
 {
     match condition {
         Condition::Compared(left, how, right) => {

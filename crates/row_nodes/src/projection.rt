@@ -16,7 +16,8 @@ use values::MAX_COLUMNS;
 pub fn project(alloc: Global, columns: &[usize], item: &Item) -> Result<Vec<Item>, AllocError>
     requires narrow { length columns.now ≤ MAX_COLUMNS }
     requires within { AreColumns columns.now item.now }
-    ensures { IfOk result (λ outs. flat_map entries_of outs.items ≡ projected columns.now item.now) }
+    ensures { IfOk result (λ outs. flat_map entries_of outs.items
+        ≡ projected columns.now item.now) }
 {
     match item {
         Item::Rows(at, batch) => {

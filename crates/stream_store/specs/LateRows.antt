@@ -1,6 +1,7 @@
 -- How open rows are kept: their heads, and their values one row after another.
 use Rattle.std.specs.Prelude.{◌≡◌, ℕ, suc, ℤ, ◌*◌, ◌≤◌, ◌++◌, Option, Bool, nat_lt, List, [], ◌∷◌, length, take, drop}
 use Rattle.std.specs.List.{filter}
+use Rattle.values.specs.declared.TheConstants.{MAX_COLUMNS}
 use Rattle.values.specs.Row.{Row}
 
 -- the open rows of an instant: how many columns they have, and each with its number in the order of arrival
@@ -15,7 +16,7 @@ rows_in width (head ∷ heads) values = (head, take width values) ∷ rows_in wi
 
 -- as many values as the rows have
 pub record IsFlat {K : Type 0} (width : ℕ) (heads : List K) (values : List (Option ℤ)) : Type 0 where
-  pub few : width ≤ 16
+  pub few : width ≤ MAX_COLUMNS
   pub full : length values ≡ length heads * width
 
 -- no rows of so many columns

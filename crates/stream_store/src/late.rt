@@ -4,7 +4,8 @@ ghost use Rattle.std.specs.List.Sorted.{IsStrictlySortedBy};
 ghost use Rattle.std.specs.Map.{keys_of};
 ghost use Rattle.std.specs.Ordering.{nat_cmp};
 ghost use Rattle.reference.specs.Views.{pairs_of};
-ghost use Rattle.stream_store.specs.Open.{AreWide, HaveWidth, below, count_at, instants_past, put_rows};
+ghost use Rattle.stream_store.specs.Open.{AreWide, HaveWidth, below, count_at, instants_past};
+ghost use Rattle.stream_store.specs.Open.{put_rows};
 
 use crate::late_rows::LateRows;
 use std::alloc::{AllocError, Global};
@@ -39,7 +40,8 @@ pub(crate) fn put(
     requires room { first + length rows.now < 2 ^ 32 }
     requires rows { HaveWidth width (pairs_of rows.now) }
     requires wide { AreWide width late.old.entries }
-    ensures ok { OnOk result (late.new.entries ≡ put_rows width instant first (pairs_of rows.now) late.old.entries) }
+    ensures ok { OnOk result (late.new.entries
+        ≡ put_rows width instant first (pairs_of rows.now) late.old.entries) }
     ensures err { OnErr result (late.new.entries ≡ late.old.entries) }
     ensures ordered { IsStrictlySortedBy nat_cmp (keys_of late.old.entries) }
 {

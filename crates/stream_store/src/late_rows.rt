@@ -1,10 +1,12 @@
 //! The open rows of one instant.
-ghost use Rattle.std.specs.Prelude.{◌≡◌, ℕ, ◌+◌, ◌*◌, ◌^◌, ◌<◌, ◌≤◌, ◌++◌, OnOk, OnErr, length, map, nat_lt, vec_len, vec_capacity};
+ghost use Rattle.std.specs.Prelude.{◌≡◌, ℕ, ◌+◌, ◌*◌, ◌^◌, ◌<◌, ◌≤◌, ◌++◌, OnOk, OnErr, length};
+ghost use Rattle.std.specs.Prelude.{map, nat_lt, vec_len, vec_capacity};
 ghost use Rattle.std.specs.List.{filter};
 ghost use Rattle.op_queue.specs.Tables.{element};
 ghost use Rattle.reference.specs.Views.{pairs_of};
 ghost use Rattle.stream_store.specs.Open.{HaveWidth, elements_at};
-ghost use Rattle.stream_store.specs.LateRows.{first_below, has_rows, none_at, numbered_rows, rows_in, with_rows};
+ghost use Rattle.stream_store.specs.LateRows.{first_below, has_rows, none_at, numbered_rows};
+ghost use Rattle.stream_store.specs.LateRows.{rows_in, with_rows};
 
 use op_queue::Arrival;
 use std::alloc::{AllocError, Global};
@@ -29,7 +31,8 @@ impl Model for LateRows {
 
     ghost use Rattle.stream_store.specs.LateRows.{rows_in, IsFlat};
 
-    ghost view = { λ o. record { width = o.width; rows = rows_in o.width o.numbers.items o.values.items } };
+    ghost view = { λ o.
+        record { width = o.width; rows = rows_in o.width o.numbers.items o.values.items } };
 
     ghost invariant = { λ o. IsFlat o.width o.numbers.items o.values.items };
 }
@@ -73,7 +76,8 @@ impl LateRows {
 
     /// Puts copies of the rows, with their instant, behind others.
     pub(crate) fn copy_to(&self, instant: u64, rows: &mut Vec<Arrival>) -> Result<(), AllocError>
-        ensures { OnOk result (map element rows.new.items ≡ map element rows.old.items ++ elements_at instant self.now.rows) }
+        ensures { OnOk result (map element rows.new.items
+            ≡ map element rows.old.items ++ elements_at instant self.now.rows) }
     {
         copy_rows(self.width, &self.numbers, &self.values, instant, rows)
     }
@@ -96,10 +100,13 @@ fn push_rows(
 )
     requires room { first + length rows.now < 2 ^ 32 }
     requires room_for_numbers { vec_len numbers.old + length rows.now ≤ vec_capacity numbers.old }
-    requires room_for_values { vec_len values.old + length rows.now * width ≤ vec_capacity values.old }
+    requires room_for_values { vec_len values.old + length rows.now * width
+        ≤ vec_capacity values.old }
     requires rows { HaveWidth width (pairs_of rows.now) }
     requires full { length values.old.items ≡ length numbers.old.items * width }
-    ensures rows { rows_in width numbers.new.items values.new.items ≡ rows_in width numbers.old.items values.old.items ++ numbered_rows first (pairs_of rows.now) }
+    ensures rows { rows_in width numbers.new.items values.new.items
+        ≡ rows_in width numbers.old.items values.old.items
+        ++ numbered_rows first (pairs_of rows.now) }
     ensures full { length values.new.items ≡ length numbers.new.items * width }
 {
     let mut number = first;
@@ -142,7 +149,9 @@ fn copy_rows(
 ) -> Result<(), AllocError>
     requires few { width ≤ MAX_COLUMNS }
     requires full { length values.now ≡ length numbers.now * width }
-    ensures { OnOk result (map element rows.new.items ≡ map element rows.old.items ++ elements_at instant (rows_in width numbers.now values.now)) }
+    ensures { OnOk result (map element rows.new.items
+        ≡ map element rows.old.items
+        ++ elements_at instant (rows_in width numbers.now values.now)) }
 {
     rows.reserve(numbers.len())?;
     let mut rest = values;

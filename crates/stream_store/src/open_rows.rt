@@ -1,5 +1,6 @@
 //! The open rows of a stream.
-ghost use Rattle.std.specs.Prelude.{◌≡◌, ◌≤◌, ◌<◌, ◌+◌, ◌^◌, ◌++◌, [], IfOk, OnOk, OnErr, length, map, take, drop};
+ghost use Rattle.std.specs.Prelude.{◌≡◌, ◌≤◌, ◌<◌, ◌+◌, ◌^◌, ◌++◌, [], IfOk, OnOk, OnErr, length};
+ghost use Rattle.std.specs.Prelude.{map, take, drop};
 ghost use Rattle.std.specs.List.{AllByRecursion};
 ghost use Rattle.op_queue.specs.Tables.{element};
 ghost use Rattle.reference.specs.Views.{pairs_of};
@@ -62,7 +63,8 @@ impl OpenRows {
         requires rows { HaveWidth self.old.width (pairs_of rows.now) }
         requires numbered { AllByRecursion (λ e. e.arrival < first) self.old.rows }
         ensures width { self.new.width ≡ self.old.width }
-        ensures ok { OnOk result (self.new.rows ≡ after_put first (pairs_of rows.now) self.old.rows) }
+        ensures ok { OnOk result (self.new.rows
+            ≡ after_put first (pairs_of rows.now) self.old.rows) }
         ensures err { OnErr result (self.new ≡ self.old) }
     {
         let count = self.rising.len();
@@ -111,7 +113,8 @@ fn put_run(
     requires rows { HaveWidth rising.old.width (pairs_of rows.now) }
     requires at { AreAt instant (pairs_of rows.now) }
     requires parts { IsOpen rising.old late.old.entries }
-    ensures ok { OnOk result (IsMore first (pairs_of rows.now) rising.old late.old.entries rising.new late.new.entries) }
+    ensures ok { OnOk result
+        (IsMore first (pairs_of rows.now) rising.old late.old.entries rising.new late.new.entries) }
     ensures rising { OnErr result (rising.new ≡ rising.old) }
     ensures late { OnErr result (late.new.entries ≡ late.old.entries) }
 {
@@ -133,7 +136,9 @@ fn put_runs(
     requires room { first + length rows.now < 2 ^ 32 }
     requires rows { HaveWidth rising.old.width (pairs_of rows.now) }
     requires parts { IsOpen rising.old late.old.entries }
-    ensures ok { OnOk result (with_late (open_of late.new.entries) rising.new.rows ≡ after_put first (pairs_of rows.now) (with_late (open_of late.old.entries) rising.old.rows)) }
+    ensures ok { OnOk result (with_late (open_of late.new.entries) rising.new.rows
+        ≡ after_put first (pairs_of rows.now)
+        (with_late (open_of late.old.entries) rising.old.rows)) }
     ensures parts { IsOpen rising.new late.new.entries }
     ensures width { rising.new.width ≡ rising.old.width }
     ensures longer { length rising.old.rows ≤ length rising.new.rows }
@@ -160,7 +165,10 @@ fn copy_late(
     rows: &mut Vec<Arrival>,
 ) -> Result<usize, AllocError>
     ensures within { IfOk result (λ place. place ≤ length rising.now.rows) }
-    ensures rows { IfOk result (λ place. map element rows.new.items ++ up_to at (drop place rising.now.rows) ≡ map element rows.old.items ++ up_to at (with_late (open_of late.now.entries) rising.now.rows)) }
+    ensures rows { IfOk result (λ place.
+        map element rows.new.items ++ up_to at (drop place rising.now.rows)
+        ≡ map element rows.old.items
+        ++ up_to at (with_late (open_of late.now.entries) rising.now.rows)) }
 {
     let mut place = 0;
     for (instant, open) in late.iter() {

@@ -1,11 +1,13 @@
 //! One declared stream.
-ghost use Rattle.std.specs.Prelude.{◌≡◌, ◌≤◌, ◌++◌, ◌∷◌, [], suc, nat_abs, None, OnOk, OnErr, IfOk, IfSome, length, map};
+ghost use Rattle.std.specs.Prelude.{◌≡◌, ◌≤◌, ◌++◌, ◌∷◌, [], suc, nat_abs, None, OnOk, OnErr, IfOk};
+ghost use Rattle.std.specs.Prelude.{IfSome, length, map};
 ghost use Rattle.cql_reader.specs.Views.{name_of};
 ghost use Rattle.names.specs.Views.{names_of};
 ghost use Rattle.op_queue.specs.Cursors.{GainsClosed};
 ghost use Rattle.op_queue.specs.Tables.{element};
 ghost use Rattle.names.specs.Faults.{first_of};
-ghost use Rattle.reference.specs.Commands.{append_tests, heartbeat_tests, appended, closed_to, catalog_of};
+ghost use Rattle.reference.specs.Commands.{append_tests, heartbeat_tests, appended, closed_to};
+ghost use Rattle.reference.specs.Commands.{catalog_of};
 ghost use Rattle.reference.specs.Told.{IsTold};
 ghost use Rattle.stream_store.specs.Closing.{closed_of, closing_of};
 
@@ -13,7 +15,7 @@ use crate::open_rows::OpenRows;
 use cql_reader::Name;
 use names::Catalog;
 use op_queue::{Arrival, Log};
-use reference::{Fault, MAX_APPENDED, MAX_INSTANT, MAX_LEAP, MAX_STREAM_ROWS, NewRows};
+use reference::{Fault, NewRows, append_fault, heartbeat_fault};
 use std::alloc::{AllocError, Global};
 use std::marker::Model;
 
@@ -39,9 +41,11 @@ impl Model for Stored {
 
     ghost use Rattle.stream_store.specs.Stored.{stream_in, IsStored};
 
-    ghost view = { λ s. stream_in (name_of s.name) (names_of s.columns.items) s.arrivals s.log s.open_rows.rows };
+    ghost view = { λ s.
+        stream_in (name_of s.name) (names_of s.columns.items) s.arrivals s.log s.open_rows.rows };
 
-    ghost invariant = { λ s. IsStored (length s.columns.items) s.arrivals s.log s.open_rows.rows × (s.open_rows.width ≡ length s.columns.items) };
+    ghost invariant = { λ s. IsStored (length s.columns.items) s.arrivals s.log s.open_rows.rows
+        × (s.open_rows.width ≡ length s.columns.items) };
 }
 
 impl Stored {
@@ -54,7 +58,14 @@ impl Stored {
     ) -> Result<Stored, AllocError>
         requires few { length columns.items ≤ 8 }
         requires instant { first_open ≤ 1099511627776 }
-        ensures { IfOk result (λ s. s ≡ record { name = name_of name; columns = names_of columns.items; elements = []; arrivals = 0; first_open = first_open }) }
+        ensures { IfOk result (λ s. s
+            ≡ record {
+              name = name_of name;
+              columns = names_of columns.items;
+              elements = [];
+              arrivals = 0;
+              first_open = first_open;
+            }) }
     {
         let log = Log::new(alloc, columns.len(), first_open)?;
         let open_rows = OpenRows::new(alloc, columns.len());
@@ -106,25 +117,7 @@ impl Stored {
         ensures first { result ≡ first_of (append_tests self.now rows.now) }
         ensures told { IfSome result IsTold }
     {
-        if MAX_APPENDED < rows.len() {
-            return Some(Fault::TooMany);
-        }
-        if rows.has_other_width(self.columns.len()) {
-            return Some(Fault::BadWidth);
-        }
-        if rows.has_other_value() {
-            return Some(Fault::ValueRange);
-        }
-        if rows.has_other_instant() {
-            return Some(Fault::InstantRange);
-        }
-        if rows.has_late_row(self.first_open() as i64) {
-            return Some(Fault::Late);
-        }
-        if MAX_STREAM_ROWS < self.arrivals as usize + rows.len() {
-            return Some(Fault::StreamFull);
-        }
-        None
+        append_fault(rows, self.columns.len(), self.arrivals, self.first_open())
     }
 
     /// The first test of a heartbeat that fails.
@@ -132,17 +125,7 @@ impl Stored {
         ensures first { result ≡ first_of (heartbeat_tests self.now at) }
         ensures told { IfSome result IsTold }
     {
-        if at < 0 || MAX_INSTANT < at {
-            return Some(Fault::InstantRange);
-        }
-        let first_open = self.first_open() as i64;
-        if at < first_open {
-            return Some(Fault::Backward);
-        }
-        if first_open + MAX_LEAP <= at {
-            return Some(Fault::Leap);
-        }
-        None
+        heartbeat_fault(at, self.first_open())
     }
 
     /// Appends the rows. On Err it is as it was.
@@ -184,7 +167,9 @@ impl Stored {
         requires accepted { first_of (heartbeat_tests self.old at) ≡ None }
         requires closing { map element rows.now ≡ closing_of at self.old }
         ensures ok { OnOk result (self.new ≡ closed_to at self.old) }
-        ensures queues { OnOk result (GainsClosed (closed_of self.old) (closing_of at self.old) (suc (nat_abs at)) (closed_of self.new)) }
+        ensures queues { OnOk result
+            (GainsClosed (closed_of self.old) (closing_of at self.old) (suc (nat_abs at))
+            (closed_of self.new)) }
         ensures err { OnErr result (self.new ≡ self.old) }
     {
         let last = self.last_closed(at);

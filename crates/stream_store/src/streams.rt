@@ -1,11 +1,13 @@
 //! The declared streams.
-ghost use Rattle.std.specs.Prelude.{◌≡◌, ◌++◌, ◌∷◌, [], ℕ, ◌≤◌, None, Some, IfOk, IfSome, OnOk, OnErr, MatchOption, length, map, slice_get, position};
+ghost use Rattle.std.specs.Prelude.{◌≡◌, ◌++◌, ◌∷◌, [], ℕ, ◌≤◌, None, Some, IfOk, IfSome, OnOk};
+ghost use Rattle.std.specs.Prelude.{OnErr, MatchOption, length, map, slice_get, position};
 ghost use Rattle.std.specs.Option.{option_map, option_map_or};
 ghost use Rattle.std.specs.Str.{bytes_eq};
 ghost use Rattle.std.specs.List.{AllByRecursion};
 ghost use Rattle.op_queue.specs.Tables.{element};
 ghost use Rattle.reference.specs.CallViews.{texts_of};
-ghost use Rattle.reference.specs.Commands.{first_fault, declared, appended, closed_to, catalog_of, change, Declare, Append, Heartbeat};
+ghost use Rattle.reference.specs.Commands.{first_fault, declared, appended, closed_to, catalog_of};
+ghost use Rattle.reference.specs.Commands.{change, Declare, Append, Heartbeat};
 ghost use Rattle.reference.specs.Machine.{Stream};
 ghost use Rattle.reference.specs.Places.{machine_of};
 ghost use Rattle.reference.specs.Told.{IsTold};
@@ -14,11 +16,11 @@ ghost use Rattle.stream_store.specs.Beside.{DoesBeside};
 ghost use Rattle.stream_store.specs.Closing.{closed_of, closing_at, closing_in, QueuesGain};
 
 use crate::stored::Stored;
-use cql_reader::{Name, is_name};
+use cql_reader::Name;
 use name_table::NameTable;
 use names::Catalog;
 use op_queue::{Arrival, Log};
-use reference::{Fault, MAX_INSTANT, MAX_STREAMS, NewRows, are_columns, names_of};
+use reference::{Fault, NewRows, declare_fault, names_of, stream_place};
 use std::alloc::{AllocError, Global};
 use std::marker::Model;
 
@@ -61,13 +63,7 @@ impl Streams {
     pub fn named(&self, name: &str) -> Option<u64>
         ensures { result ≡ position (λ s. bytes_eq s.name name.now) self.now }
     {
-        self.place_of(name).map(|number| number as u64)
-    }
-
-    fn place_of(&self, name: &str) -> Option<usize>
-        ensures { result ≡ position (λ s. bytes_eq s.name name.now) self.now }
-    {
-        self.names.number(name)
+        stream_place(&self.names, name)
     }
 
     /// How many streams were declared.
@@ -78,14 +74,16 @@ impl Streams {
     }
 
     fn stream_at(&self, number: u64) -> Option<&Stored>
-        ensures { MatchOption result (slice_get self.now number ≡ None) (λ s. slice_get self.now number ≡ Some s.now) }
+        ensures { MatchOption result (slice_get self.now number ≡ None) (λ s.
+            slice_get self.now number ≡ Some s.now) }
     {
         self.streams.get(number as usize)
     }
 
     /// What the stream of a number has closed, for the cursors of queries.
     pub fn log(&self, stream: u64) -> Option<&Log>
-        ensures { MatchOption result (slice_get self.now stream ≡ None) (λ log. option_map closed_of (slice_get self.now stream) ≡ Some log.now) }
+        ensures { MatchOption result (slice_get self.now stream ≡ None) (λ log.
+            option_map closed_of (slice_get self.now stream) ≡ Some log.now) }
     {
         match self.stream_at(stream) {
             Some(stream) => Some(stream.log()),
@@ -127,25 +125,12 @@ impl Streams {
     }
 
     fn declare_fault(&self, name: &str, columns: &[String], from: i64) -> Option<Fault>
-        ensures first { result ≡ first_fault (machine_of self.now) (Declare name.now (texts_of columns.now) from) }
+        ensures first { result
+            ≡ first_fault (machine_of self.now) (Declare name.now (texts_of columns.now) from) }
         ensures told { IfSome result IsTold }
     {
-        if !is_name(name) {
-            return Some(Fault::BadName);
-        }
-        if self.named(name).is_some() {
-            return Some(Fault::NameTaken);
-        }
-        if !are_columns(columns) {
-            return Some(Fault::BadColumns);
-        }
-        if from < 0 || MAX_INSTANT < from {
-            return Some(Fault::InstantRange);
-        }
-        if MAX_STREAMS <= self.streams.len() {
-            return Some(Fault::TooMany);
-        }
-        None
+        let is_taken = self.named(name).is_some();
+        declare_fault(name, columns, from, is_taken, self.streams.len())
     }
 
     fn append_fault(&self, stream: u64, rows: &NewRows) -> Option<Fault>
@@ -170,9 +155,11 @@ impl Streams {
 
     /// Adds a stream. On Err all is as it was.
     fn add(&mut self, name: &str, columns: &[String], from: i64) -> Result<u64, AllocError>
-        requires { first_fault (machine_of self.old) (Declare name.now (texts_of columns.now) from) ≡ None }
+        requires { first_fault (machine_of self.old) (Declare name.now (texts_of columns.now) from)
+            ≡ None }
         ensures number { IfOk result (λ n. n ≡ length self.old) }
-        ensures ok { OnOk result (self.new ≡ (declared (machine_of self.old) name.now (texts_of columns.now) from).streams) }
+        ensures ok { OnOk result (self.new
+            ≡ (declared (machine_of self.old) name.now (texts_of columns.now) from).streams) }
         ensures err { OnErr result (self.new ≡ self.old) }
     {
         let columns = names_of(self.alloc, columns)?;
@@ -224,7 +211,8 @@ impl Streams {
     /// `BadName`, `NameTaken`, `BadColumns`, `InstantRange`, `TooMany`: the first test that fails;
     /// `OutOfMemory` where none does and memory is refused. Then all is as it was.
     pub fn declare(&mut self, name: &str, columns: &[String], from: i64) -> Result<u64, Fault>
-        ensures { DoesBeside (λ (n : ℕ). n) (λ w. declare_step w name.now (texts_of columns.now) from) self.old result self.new }
+        ensures { DoesBeside (λ (n : ℕ). n) (λ w.
+            declare_step w name.now (texts_of columns.now) from) self.old result self.new }
     {
         match self.declare_fault(name, columns, from) {
             Some(fault) => Err(fault),
@@ -242,7 +230,8 @@ impl Streams {
     /// the first test that fails; `OutOfMemory` where none does and memory is refused. Then all is
     /// as it was.
     pub fn append(&mut self, stream: u64, rows: &NewRows) -> Result<(), Fault>
-        ensures { DoesBeside (λ u. u) (λ w. append_step w stream rows.now) self.old result self.new }
+        ensures { DoesBeside (λ u. u) (λ w.
+            append_step w stream rows.now) self.old result self.new }
     {
         match self.append_fault(stream, rows) {
             Some(fault) => Err(fault),
@@ -258,7 +247,8 @@ impl Streams {
     /// `OutOfMemory` where none does and memory is refused.
     pub fn closing(&self, stream: u64, at: i64) -> Result<Vec<Arrival>, Fault>
         ensures looks { Looks (λ v. map element v.items) (closing_in self.now stream at) result }
-        ensures accepted { OnOk result (first_fault (machine_of self.now) (Heartbeat stream at) ≡ None) }
+        ensures accepted { OnOk result (first_fault (machine_of self.now) (Heartbeat stream at)
+            ≡ None) }
         ensures rows { IfOk result (λ v. map element v.items ≡ closing_at self.now stream at) }
     {
         match self.heartbeat_fault(stream, at) {

@@ -20,7 +20,8 @@ const COMMAND_LINES: [&[&str]; 4] = [
 
 /// The scripts of a text. A record separator parts them, which no JSON text has.
 fn scripts_of<'a>(alloc: Global, text: &'a str) -> Result<Vec<&'a str>, AllocError>
-    ensures { IfOk result (λ scripts. map (λ script. script.now) scripts.items ≡ scripts_of text.now) }
+    ensures { IfOk result (λ scripts. map (λ script. script.now) scripts.items
+        ≡ scripts_of text.now) }
 {
     text.split('\u{1e}').collect(alloc)
 }

@@ -4,7 +4,7 @@ ghost use Rattle.std.specs.List.{AllByRecursion};
 
 use crate::texts::add_name;
 use cql_reader::{Name, read};
-use names::{Catalog, Key as NamedKey, Named, resolve};
+use names::{Catalog, Key as NamedKey, Named, ResolveError, resolve};
 use plan::{Key, Node, Plan};
 use reference::{Fault, are_columns, find_plan, names_of};
 use std::alloc::{AllocError, Global};
@@ -67,7 +67,8 @@ pub(crate) fn resolved(alloc: Global, text: &str) -> Result<String, AllocError> 
     let catalog = catalog(alloc)?;
     match resolve(alloc, &query, &catalog) {
         Ok(found) => named(alloc, &found),
-        Err(fault) => format!(in alloc; "{fault}"),
+        Err(ResolveError::OutOfMemory) => Err(AllocError),
+        Err(ResolveError::Fault(fault)) => format!(in alloc; "{fault}"),
     }
 }
 

@@ -1,5 +1,5 @@
 //! Worked groups, turn by turn.
-ghost use Rattle.std.specs.Prelude.{◌≡◌, ◌≤◌, length, IfOk, OnOk};
+ghost use Rattle.std.specs.Prelude.{◌≡◌, ◌≤◌, ◌+◌, length, IfOk, OnOk};
 ghost use Rattle.group.specs.Turns.{RoomFor, KeepsRoom};
 
 use crate::rows::{NULL, two};
@@ -232,5 +232,88 @@ fn distinct_rows_stay_until_the_last_copy_leaves(rt: HostRuntime) -> Result<(), 
     ];
     let rows = [0, 1, 1, 1, 0, 1, 2, -7, 2, 0, 1, 1];
     assert!(rt; distinct_puts_out(rt.alloc(), &items, 5, &rows)?);
+    Ok(())
+}
+
+/// The greatest number of a stream.
+const GREATEST: i64 = 1_099_511_627_775;
+
+/// A row of it.
+fn lone(alloc: Global, instant: u64, enters: bool) -> Result<Queued, AllocError> {
+    let rows = [two(enters, 1, GREATEST)];
+    let batch = Batch::from_rows(alloc, &rows)?;
+    Ok(Queued::Rows(instant, batch))
+}
+
+/// As many rows of it that enter at the instant 0 as a batch may have.
+fn full(alloc: Global) -> Result<Queued, AllocError> {
+    let rows = [two(true, 1, GREATEST)];
+    let row = Batch::from_rows(alloc, &rows)?;
+    let batch = row.picked(alloc, &[0; 1_024])?;
+    Ok(Queued::Rows(0, batch))
+}
+
+/// The outputs of turns: some of the same item, then one of each further item.
+fn outputs_after(
+    alloc: Global,
+    shape: &GroupBy,
+    kept: GroupBy,
+    item: &Queued,
+    times: usize,
+    more: &[Queued],
+) -> Result<Vec<Queued>, AllocError>
+    requires { times + length more.now ≤ 10_000 }
+{
+    let mut group = Group::new(alloc, kept)?;
+    let mut all = Vec::new(alloc);
+    for number in 0..times + more.len() {
+        let next = if number < times {
+            item
+        } else {
+            &more[number - times]
+        };
+        let mut outputs = turn(alloc, &mut group, shape, next)?;
+        all.append(&mut outputs)?;
+    }
+    Ok(all)
+}
+
+/// The totals of 8,388,609 rows of the greatest number, and of one row less.
+fn totals_of_greatest(alloc: Global) -> Result<Vec<i128>, AllocError> {
+    let shape = totals(alloc)?;
+    let kept = totals(alloc)?;
+    let more = [
+        lone(alloc, 0, true)?,
+        Queued::Tick(0),
+        lone(alloc, 1, false)?,
+        Queued::Tick(1),
+    ];
+    let full = full(alloc)?;
+    let outputs = outputs_after(alloc, &shape, kept, &full, 8_192, &more)?;
+    numbers(alloc, &outputs)
+}
+
+#[test]
+fn a_sum_past_the_range_is_kept_exactly_and_shown_at_its_end(rt: HostRuntime) -> Result<(), Fail> {
+    let totals = totals_of_greatest(rt.alloc())?;
+    let most = 9_223_372_036_854_775_807;
+    let rows = [
+        0,
+        1,
+        8_388_609,
+        8_388_609,
+        most,
+        1,
+        0,
+        8_388_609,
+        8_388_609,
+        most,
+        1,
+        1,
+        8_388_608,
+        8_388_608,
+        9_223_372_036_846_387_200,
+    ];
+    assert_eq!(rt; totals.as_slice(), rows.as_slice());
     Ok(())
 }

@@ -40,13 +40,20 @@ impl Model for ToStream {
 
     ghost Value = { RootState };
 
-    ghost view = { λ r. record { operator = r.operator; delta = r.delta; whole = r.whole; last = r.last } };
+    ghost view = { λ r.
+        record { operator = r.operator; delta = r.delta; whole = r.whole; last = r.last } };
 }
 
 impl ToStream {
     /// A root that has taken nothing.
     pub fn new(alloc: Global, operator: StreamOperator) -> ToStream
-        ensures state { result ≡ record { operator = operator; delta = record { entered = []; left = [] }; whole = []; last = None } }
+        ensures state { result
+            ≡ record {
+              operator = operator;
+              delta = record { entered = []; left = [] };
+              whole = [];
+              last = None;
+            } }
         ensures stands { Stands result [] [] }
     {
         ToStream {
@@ -144,7 +151,8 @@ pub fn work(alloc: Global, item: &Item, near: &[Row]) -> Result<Vec<(u64, Row)>,
 }
 
 fn at_instant(alloc: Global, at: u64, rows: &[Row]) -> Result<Vec<(u64, Row)>, AllocError>
-    ensures { IfOk result (λ answers. answers_of answers.items ≡ map (λ r. (at, r)) (rows_of rows.now)) }
+    ensures { IfOk result (λ answers. answers_of answers.items
+        ≡ map (λ r. (at, r)) (rows_of rows.now)) }
 {
     let mut answers = Vec::with_capacity(alloc, rows.len())?;
     for row in rows {

@@ -39,12 +39,13 @@ pub struct ColumnList {
 
 impl Model for ColumnList {
     ghost use Rattle.std.specs.Prelude.{ℕ, List, ◌≤◌, length};
+    ghost use Rattle.values.specs.declared.TheConstants.{MAX_COLUMNS};
 
     ghost Value = { List ℕ };
 
     ghost view = { λ c. c.columns.items };
 
-    ghost invariant = { λ c. length c.columns.items ≤ 16 };
+    ghost invariant = { λ c. length c.columns.items ≤ MAX_COLUMNS };
 }
 
 impl ColumnList {

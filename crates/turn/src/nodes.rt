@@ -27,7 +27,8 @@ impl Model for Node {
 
     ghost Value = { PlainNode };
 
-    ghost view = { λ n. record { query = n.query; operator = n.operator; side = n.side; kind = arc_value n.kind } };
+    ghost view = { λ n.
+        record { query = n.query; operator = n.operator; side = n.side; kind = arc_value n.kind } };
 }
 
 impl Node {

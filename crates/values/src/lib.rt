@@ -7,7 +7,8 @@
 
 ghost use Rattle.std.specs.Prelude.{◌≡◌, None, IfSome, SomeIff, refl};
 ghost use Rattle.std.proofs.Common.{rules};
-ghost use Rattle.std.specs.Cmp.{partial_order_from_own_ties, partial_equiv_from_equiv, int_eq_equiv, int_cmp_total};
+ghost use Rattle.std.specs.Cmp.{partial_order_from_own_ties, partial_equiv_from_equiv};
+ghost use Rattle.std.specs.Cmp.{int_eq_equiv, int_cmp_total};
 ghost use Rattle.std.specs.Cmp.Lexicographic.{options_total, options_equiv};
 ghost use Rattle.std.specs.Cmp.Rules.{comparing};
 ghost use Rattle.std.specs.Option.{option_cmp, option_eq};
@@ -59,7 +60,8 @@ impl Model for Value {
 
     ghost inverse = { λ o. record { word = word_of_value o } };
 
-    ghost inverse_ok = { λ a h. let f : ℤ → Inside = λ w. record { word = w } in ap f (word_back a.word) };
+    ghost inverse_ok = { λ a h. let f : ℤ
+        → Inside = λ w. record { word = w } in ap f (word_back a.word) };
 }
 
 /// A row: at most `MAX_COLUMNS` values.

@@ -1,5 +1,6 @@
 //! Rows that are held, with their instants.
-ghost use Rattle.std.specs.Prelude.{◌≡◌, ◌≤◌, ◌++◌, [], length, map, drop, IfOk, OnOk, OnErr, nat_lt};
+ghost use Rattle.std.specs.Prelude.{◌≡◌, ◌≤◌, ◌++◌, [], length, map, drop, IfOk, OnOk, OnErr};
+ghost use Rattle.std.specs.Prelude.{nat_lt};
 ghost use Rattle.std.specs.List.{filter};
 ghost use Rattle.std.specs.List.Sorted.{IsNonDecreasingBy};
 ghost use Rattle.column.specs.Rows.{IsTable, width};
@@ -53,7 +54,8 @@ impl HeldRows {
     /// A copy of the rows of instants below `first`. It costs these rows.
     pub(crate) fn older(&self, alloc: Global, first: u64) -> Result<Vec<Row>, AllocError>
         requires { IsNonDecreasingBy (λ h. h.0) self.now.held }
-        ensures { IfOk result (λ rows. rows_of rows.items ≡ map (λ h. h.1) (filter (λ h. nat_lt h.0 first) self.now.held)) }
+        ensures { IfOk result (λ rows. rows_of rows.items
+            ≡ map (λ h. h.1) (filter (λ h. nat_lt h.0 first) self.now.held)) }
     {
         let _len = self.rows.len();
         let count = count_below(&self.runs, first);

@@ -1,5 +1,6 @@
 //! The last rows of each partition, for keys of at most `N` values.
-ghost use Rattle.std.specs.Prelude.{◌≡◌, ◌≤◌, ◌++◌, ◌∷◌, [], cond, length, IfOk, OnOk, OnErr, IsSome};
+ghost use Rattle.std.specs.Prelude.{◌≡◌, ◌≤◌, ◌++◌, ◌∷◌, [], cond, length, IfOk, OnOk, OnErr};
+ghost use Rattle.std.specs.Prelude.{IsSome};
 ghost use Rattle.std.specs.Option.{option_map};
 ghost use Rattle.std.specs.Ordering.{is_eq};
 ghost use Rattle.std.specs.BTreeMap as tree;
@@ -7,7 +8,8 @@ ghost use Rattle.std.specs.BTreeMap.{is_at};
 ghost use Rattle.std.specs.Map.{set_value};
 ghost use Rattle.column.specs.Rows.{IsTable, width};
 ghost use Rattle.values.specs.Row.{Row as PlainRow};
-ghost use Rattle.windows.specs.Latest.{AreParts, all_after, all_fallen, fallen_in, fallen_rows, held_in, key_cmp, key_in, last_of, part, row_in};
+ghost use Rattle.windows.specs.Latest.{AreParts, all_after, all_fallen, fallen_in, fallen_rows};
+ghost use Rattle.windows.specs.Latest.{held_in, key_cmp, key_in, last_of, part, row_in};
 ghost use Rattle.windows.specs.Widths.{AreWide, OneRow};
 
 use crate::last::Last;
@@ -60,7 +62,10 @@ impl<const N: usize> KeyedParts<N> {
     ) -> Result<(), AllocError>
         requires few { length (part key self.old) ≤ count }
         requires wide { AreWide (length row.now.items) (part key self.old) }
-        ensures ok { OnOk result ((k : OneRow) → part k self.new ≡ cond (is_eq (key_cmp key.entry k)) (last_of count (part key.entry self.old ++ row.now.items ∷ [])) (part k self.old)) }
+        ensures ok { OnOk result ((k : OneRow)
+            → part k self.new
+            ≡ cond (is_eq (key_cmp key.entry k))
+            (last_of count (part key.entry self.old ++ row.now.items ∷ [])) (part k self.old)) }
         ensures err { OnErr result (self.new ≡ self.old) }
     {
         if self.parts.contains_key(&key) {
@@ -103,7 +108,8 @@ impl<const N: usize> KeyedParts<N> {
     ) -> Result<Vec<Option<Row>>, AllocError>
         requires narrow { length columns.now ≤ N }
         requires few { (k : PlainRow) → length (held_in self.now k) ≤ count }
-        ensures value { IfOk result (λ fallen. fallen_rows fallen.items ≡ all_fallen columns.now count (held_in self.now) batch.now) }
+        ensures value { IfOk result (λ fallen. fallen_rows fallen.items
+            ≡ all_fallen columns.now count (held_in self.now) batch.now) }
         ensures table { IsTable (width batch.now) batch.now }
     {
         let _ = &self.parts;
@@ -129,7 +135,8 @@ impl<const N: usize> KeyedParts<N> {
     ) -> Result<(), AllocError>
         requires narrow { length columns.now ≤ N }
         requires parts { AreParts count (width batch.now) (held_in self.old) }
-        ensures ok { OnOk result ((k : PlainRow) → held_in self.new k ≡ all_after columns.now count (held_in self.old) batch.now k) }
+        ensures ok { OnOk result ((k : PlainRow)
+            → held_in self.new k ≡ all_after columns.now count (held_in self.old) batch.now k) }
         ensures parts { AreParts count (width batch.now) (held_in self.new) }
     {
         let _ = &self.parts;
@@ -164,7 +171,9 @@ fn enter_at<const N: usize>(
     requires has { IsSome (tree.get key_cmp parts.old key.now) }
     requires few { length (part key.now parts.old.entries) ≤ count }
     requires wide { AreWide (length row.now.items) (part key.now parts.old.entries) }
-    ensures ok { OnOk result (parts.new.entries ≡ set_value (is_at (key_cmp key.now)) parts.old.entries (last_of count (part key.now parts.old.entries ++ row.now.items ∷ []))) }
+    ensures ok { OnOk result (parts.new.entries
+        ≡ set_value (is_at (key_cmp key.now)) parts.old.entries
+        (last_of count (part key.now parts.old.entries ++ row.now.items ∷ []))) }
     ensures err { OnErr result (parts.new.entries ≡ parts.old.entries) }
 {
     match parts.get_mut(key) {
@@ -185,7 +194,8 @@ fn fallen<const N: usize>(
     key: &ArrayVec<Value, N>,
     row: &Row,
 ) -> Option<Row>
-    ensures { option_map (λ r. r.items) result ≡ fallen_in count (part key.now held.now ++ (part key.now came.now ++ row.now.items ∷ [])) }
+    ensures { option_map (λ r. r.items) result
+        ≡ fallen_in count (part key.now held.now ++ (part key.now came.now ++ row.now.items ∷ [])) }
 {
     let first = held.len_at(key) as u128;
     let before = first + came.len_at(key) as u128;

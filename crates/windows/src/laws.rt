@@ -5,36 +5,49 @@ ghost use Rattle.values.specs.Window.{Element, LastRows};
 ghost use Rattle.op_queue.specs.Paths.{rows_in};
 ghost use Rattle.op_queue.specs.declared.item.Item.TheVariants.{Rows, Tick};
 ghost use Rattle.windows.specs.Latest as latest;
-ghost use Rattle.windows.specs.Laws.{Each, IsRising, LatestStands, RangeStands, WindowRows, WindowTick, coming, range_of, rows_in_order, shown_of};
+ghost use Rattle.windows.specs.Laws.{Each, IsRising, LatestStands, RangeStands, WindowRows};
+ghost use Rattle.windows.specs.Laws.{WindowTick, coming, range_of, rows_in_order, shown_of};
 ghost use Rattle.windows.specs.Range as range;
 
 /// Rows of the instant t at a window of the last instants.
 pub fn range_takes_rows()
-    ensures { (from : ℕ) (s : range.RangeState) (t : ℕ) (held : List Element) (es : List Element) → RangeStands t s.held held → Each (λ e. e.instant ≡ t) es
-        → WindowRows from (range_of s.span) t held (rows_in_order held) es (rows_in (range.out (Rows t (coming es)) (range.near s (Rows t (coming es))))) (held ++ es) (rows_in_order (held ++ es))
+    ensures { (from : ℕ) (s : range.RangeState) (t : ℕ) (held : List Element) (es : List Element)
+        → RangeStands t s.held held → Each (λ e. e.instant ≡ t) es
+        → WindowRows from (range_of s.span) t held (rows_in_order held) es
+        (rows_in (range.out (Rows t (coming es)) (range.near s (Rows t (coming es))))) (held ++ es)
+        (rows_in_order (held ++ es))
         × RangeStands t (range.next s (Rows t (coming es))) (held ++ es) }
 {}
 
 /// The tick of the instant t there.
 pub fn range_takes_ticks()
-    ensures { (from : ℕ) (s : range.RangeState) (t : ℕ) (held : List Element) → RangeStands t s.held held
-        → (held2 : List Element) × (WindowTick from (range_of s.span) t held (rows_in_order held) (rows_in (range.out (Tick t) (range.near s (Tick t)))) held2 (rows_in_order held2)
+    ensures { (from : ℕ) (s : range.RangeState) (t : ℕ) (held : List Element)
+        → RangeStands t s.held held
+        → (held2 : List Element)
+        × (WindowTick from (range_of s.span) t held (rows_in_order held)
+        (rows_in (range.out (Tick t) (range.near s (Tick t)))) held2 (rows_in_order held2)
         × RangeStands (t + 1) (range.next s (Tick t)) held2) }
 {}
 
 /// Rows of the instant t at a window of the last rows of each partition: then it holds what it
 /// shows.
 pub fn latest_takes_rows()
-    ensures { (from : ℕ) (s : latest.LatestState) (t : ℕ) (held : List Element) (es : List Element) → LatestStands from s.columns s.count t (latest.held_in s.entries) held
+    ensures { (from : ℕ) (s : latest.LatestState) (t : ℕ) (held : List Element) (es : List Element)
+        → LatestStands from s.columns s.count t (latest.held_in s.entries) held
         → Each (λ e. e.instant ≡ t) es → IsRising (held ++ es)
-        → WindowRows from (LastRows s.columns s.count) t held (rows_in_order held) es (rows_in (latest.out (Rows t (coming es)) (latest.near s (Rows t (coming es)))))
-        (shown_of from (LastRows s.columns s.count) t (held ++ es)) (rows_in_order (shown_of from (LastRows s.columns s.count) t (held ++ es)))
-        × LatestStands from s.columns s.count t (latest.next s (Rows t (coming es))) (shown_of from (LastRows s.columns s.count) t (held ++ es)) }
+        → WindowRows from (LastRows s.columns s.count) t held (rows_in_order held) es
+        (rows_in (latest.out (Rows t (coming es)) (latest.near s (Rows t (coming es)))))
+        (shown_of from (LastRows s.columns s.count) t (held ++ es))
+        (rows_in_order (shown_of from (LastRows s.columns s.count) t (held ++ es)))
+        × LatestStands from s.columns s.count t (latest.next s (Rows t (coming es)))
+        (shown_of from (LastRows s.columns s.count) t (held ++ es)) }
 {}
 
 /// The tick of the instant t there.
 pub fn latest_takes_ticks()
-    ensures { (from : ℕ) (s : latest.LatestState) (t : ℕ) (held : List Element) → LatestStands from s.columns s.count t (latest.held_in s.entries) held
-        → WindowTick from (LastRows s.columns s.count) t held (rows_in_order held) (rows_in (latest.out (Tick t) (latest.near s (Tick t)))) held (rows_in_order held)
+    ensures { (from : ℕ) (s : latest.LatestState) (t : ℕ) (held : List Element)
+        → LatestStands from s.columns s.count t (latest.held_in s.entries) held
+        → WindowTick from (LastRows s.columns s.count) t held (rows_in_order held)
+        (rows_in (latest.out (Tick t) (latest.near s (Tick t)))) held (rows_in_order held)
         × LatestStands from s.columns s.count (t + 1) (latest.next s (Tick t)) held }
 {}

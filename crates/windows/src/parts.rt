@@ -47,7 +47,8 @@ impl Parts {
     ) -> Result<Vec<Option<Row>>, AllocError>
         requires narrow { length columns.now ≤ room_of self.now }
         requires few { (k : PlainRow) → length (held_in (entries_in self.now) k) ≤ count }
-        ensures value { IfOk result (λ fallen. fallen_rows fallen.items ≡ all_fallen columns.now count (held_in (entries_in self.now)) batch.now) }
+        ensures value { IfOk result (λ fallen. fallen_rows fallen.items
+            ≡ all_fallen columns.now count (held_in (entries_in self.now)) batch.now) }
         ensures table { IsTable (width batch.now) batch.now }
     {
         match self {
@@ -69,7 +70,9 @@ impl Parts {
     ) -> Result<(), AllocError>
         requires narrow { length columns.now ≤ room_of self.old }
         requires parts { AreParts count (width batch.now) (held_in (entries_in self.old)) }
-        ensures ok { OnOk result ((k : PlainRow) → held_in (entries_in self.new) k ≡ all_after columns.now count (held_in (entries_in self.old)) batch.now k) }
+        ensures ok { OnOk result ((k : PlainRow)
+            → held_in (entries_in self.new) k
+            ≡ all_after columns.now count (held_in (entries_in self.old)) batch.now k) }
         ensures parts { AreParts count (width batch.now) (held_in (entries_in self.new)) }
         ensures room { room_of self.new ≡ room_of self.old }
     {

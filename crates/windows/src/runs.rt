@@ -20,7 +20,8 @@ pub(crate) fn lengthen(runs: &mut VecDeque<Run>, at: u64, count: usize)
     requires some { 0 < count }
     requires few { length (instants_in runs.old.items) + count < 2 ^ 64 }
     ensures counted { AreRuns runs.new.items }
-    ensures instants { instants_in runs.new.items ≡ instants_in runs.old.items ++ replicate count at }
+    ensures instants { instants_in runs.new.items
+        ≡ instants_in runs.old.items ++ replicate count at }
 {
     let before = take_last(runs, at);
     runs.push_back_reserved(Run {
@@ -31,7 +32,8 @@ pub(crate) fn lengthen(runs: &mut VecDeque<Run>, at: u64, count: usize)
 
 /// Takes the last run away if it is one of this instant, and says what it counted.
 fn take_last(runs: &mut VecDeque<Run>, at: u64) -> usize
-    ensures instants { instants_in runs.old.items ≡ instants_in runs.new.items ++ replicate result at }
+    ensures instants { instants_in runs.old.items
+        ≡ instants_in runs.new.items ++ replicate result at }
     ensures counted { AreRuns runs.old.items → AreRuns runs.new.items }
     ensures len { deque_len runs.new ≤ deque_len runs.old }
     ensures capacity { deque_capacity runs.new ≡ deque_capacity runs.old }

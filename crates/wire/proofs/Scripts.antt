@@ -3,10 +3,10 @@ use Rattle.std.proofs.Common.{◌≡◌, ℕ, Bool, true, false, List, [], ◌�
 use Rattle.std.specs.Io.KnownBytes.{Appends, prepend_known}
 use Rattle.wire.specs.Devices.{AppendsFront}
 use Rattle.wire.specs.Calls.{Call, call_of}
-use Rattle.wire.specs.Printed.{Answer, unread, line_of}
+use Rattle.wire.specs.Printed.{Answer, done, rows, operators, refused, unread, line_of}
 use Rattle.wire.specs.Requests.{requests_of, Reads, BeginsWithRequest, HasNoRequest}
 use Rattle.reference.specs.World.{World}
-use Rattle.wire.specs.Script.{replies, script, Says, Begins, Scripts, Replies, Runs, Stands, TellsScarcity, RestsOn, served, is_scarce_reply}
+use Rattle.wire.specs.Script.{replies, script, Says, Begins, BeginsScarce, Scripts, AnswersCall, Replies, Runs, Stands, TellsScarcity, RestsOn, served, is_scarce_answer, is_scarce_reply}
 use Rattle.wire.specs.declared.request.Request.{Request}
 use Rattle.wire.specs.declared.request.WireFault.{WireFault}
 use Rattle.wire.specs.declared.request.WireFault.TheVariants.{NotJson, BadRequest, LineTooLong, OutOfMemory}
@@ -14,162 +14,234 @@ use Rattle.wire.proofs.Sinks.{append_nothing}
 
 -- ---- one request
 
+-- a reply that says nothing scarce is such an answer
+pub plenty_answered : (call : Call) (answer : Answer) → is_scarce_reply (Ok call) answer ≡ false → is_scarce_answer call answer ≡ false
+plenty_answered call done plenty = plenty
+plenty_answered call (rows taken) plenty = plenty
+plenty_answered call (operators found) plenty = plenty
+plenty_answered call (refused fault) plenty = plenty
+plenty_answered call (unread NotJson) plenty = plenty
+plenty_answered call (unread BadRequest) plenty = plenty
+plenty_answered call (unread LineTooLong) plenty = plenty
+plenty_answered call (unread OutOfMemory) plenty = cc
+
+replies_call : (w : World) (call : Call) (answer : Answer) (new : World) → AnswersCall w call answer new → Replies w (Ok call) answer new
+replies_call w call answer new met plenty = met (plenty_answered call answer plenty)
+
 pub serves_call : (w : World) (request : Request) (answer : Answer) (new : World) (defined : Result Call WireFault) → defined ≡ Ok (call_of request)
-    → Replies w (Ok (call_of request)) answer new → Replies w defined answer new
-serves_call w request answer new defined is met = subst (λ d. Replies w d answer new) (sym is) met
+    → AnswersCall w (call_of request) answer new → Replies w defined answer new
+serves_call w request answer new defined is met = subst (λ d. Replies w d answer new) (sym is) (replies_call w (call_of request) answer new met)
 
 pub serves_fault : (w : World) (fault : WireFault) (defined : Result Call WireFault) → Reads defined (Err fault) → Replies w defined (unread fault) w
 serves_fault w NotJson defined is plenty = ap (served w) is
 serves_fault w BadRequest defined is plenty = ap (served w) is
 serves_fault w LineTooLong defined is plenty = ap (served w) is
-serves_fault w OutOfMemory defined is plenty = cc
+serves_fault w OutOfMemory (Ok call) is plenty = cc
+serves_fault w OutOfMemory (Err NotJson) is plenty = cc
+serves_fault w OutOfMemory (Err BadRequest) is plenty = cc
+serves_fault w OutOfMemory (Err LineTooLong) is plenty = absurd (is refl)
+serves_fault w OutOfMemory (Err OutOfMemory) is plenty = cc
 
 pub rests_call : (N : Type 0) (request : Request) (answer : Answer) (defined : Result Call WireFault) → defined ≡ Ok (call_of request)
     → RestsOn N (Ok (call_of request)) answer → RestsOn N defined answer
 rests_call N request answer defined is met = subst (λ d. RestsOn N d answer) (sym is) met
 
+pub whole_call : (W : Type 0) (request : Request) (answer : Answer) (defined : Result Call WireFault) → defined ≡ Ok (call_of request)
+    → (is_scarce_answer (call_of request) answer ≡ false → W) → is_scarce_reply defined answer ≡ false → W
+whole_call W request answer defined is keeps plenty =
+    keeps (plenty_answered (call_of request) answer (ap (λ d. is_scarce_reply d answer) (sym is) ∙ plenty))
+
 -- ---- what was said so far
 
--- more text may follow, in answer to these requests from the state w on: any, once something was scarce
-abbrev pub Follows : (N : Type 0) → Bool → World → List (Result Call WireFault) → List ℕ → Type 0
-Follows N true w requests more = Unit {0}
-Follows N false w requests more = Says N requests (replies w requests) more
+-- these requests were answered so one after the other, and led from the world `first` to the world `now`
+abbrev pub Answered : World → List (Result Call WireFault) → List ℕ → World → Type 0
+Answered first [] written now = (written ≡ []) × (now ≡ first)
+Answered first (request ∷ more) written now =
+    (rest : List ℕ) × (written ≡ line_of (served first request).0 ++ rest) × Answered (served first request).1 more rest now
 
--- more requests may be answered so from the state w on: in any way, once something was scarce
-abbrev pub Goes : (N : Type 0) → Bool → World → List (Result Call WireFault) → List ℕ → World → Type 0
-Goes N true w later more now = Unit {0}
-Goes N false w later more now = Runs N w later more now
+-- these requests were answered so up to one of them, whose reply says that something was scarce
+abbrev pub RunsShort : Type 0 → World → List (Result Call WireFault) → List ℕ → Type 0
+RunsShort N first [] written = ⊥
+RunsShort N first (request ∷ more) written =
+    ((rest : List ℕ) × (written ≡ line_of (served first request).0 ++ rest) × RunsShort N (served first request).1 more rest)
+    ⊎ BeginsScarce N request written
 
--- From the state w and the rest of the text on, the written text can go on, and so can what is carried out. W says that the
--- engine is whole.
-pub record SoFar (N W : Type 0) (first : World) (text : List ℕ) (w : World) (rest : List ℕ) (written : List ℕ) : Type 0 where
-  pub scarce : Bool
-  pub whole : scarce ≡ false → W
-  pub goes_on : (more : List ℕ) → Follows N scarce w (requests_of rest) more → Says N (requests_of text) (script first text) (written ++ more)
+-- What was written answers the carried requests, behind which the rest of the text goes on. W says that the engine is whole,
+-- and N that it has no numbers for turns left.
+pub record SoFar (N W : Type 0) (first : World) (text : List ℕ) (w : World) (rest written : List ℕ) : Type 0 where
   pub carried : List (Result Call WireFault)
-  pub tells : scarce ≡ true → (later : List (Result Call WireFault)) (more : List ℕ) → TellsScarcity N (carried ++ later) (written ++ more)
-  pub tells_on : (later : List (Result Call WireFault)) (more : List ℕ) → TellsScarcity N later more → TellsScarcity N (carried ++ later) (written ++ more)
   pub split : requests_of text ≡ carried ++ requests_of rest
-  pub runs_on : (later : List (Result Call WireFault)) (more : List ℕ) (now : World) → Goes N scarce w later more now → Runs N first (carried ++ later) (written ++ more) now
+  pub goes : (W × Answered first carried written w) ⊎ RunsShort N first carried written
+
+-- ---- one more request
+
+-- what numbers were wanted for may be said more widely
+pub begins_wider : (N M : Type 0) → (N → M) → (request : Result Call WireFault) (written : List ℕ) → BeginsScarce N request written → BeginsScarce M request written
+begins_wider N M f request written b = (b.0, b.1, b.2, λ drain told. f (b.3 drain told), b.4)
+
+short_wider : (N M : Type 0) → (N → M) → (first : World) (carried : List (Result Call WireFault)) (written : List ℕ) → RunsShort N first carried written → RunsShort M first carried written
+short_wider N M f first [] written s = absurd s
+short_wider N M f first (request ∷ more) written (inl s) = inl (s.0, s.1, short_wider N M f (served first request).1 more s.0 s.2)
+short_wider N M f first (request ∷ more) written (inr b) = inr (begins_wider N M f request written b)
+
+-- what follows a text that begins with a line
+behind : (written line rest more : List ℕ) → written ≡ line ++ rest → written ++ more ≡ line ++ (rest ++ more)
+behind written line rest more e = ap (λ l. l ++ more) e ∙ append_assoc line rest more
+
+begins_more : (N : Type 0) (request : Result Call WireFault) (written more : List ℕ) → BeginsScarce N request written → BeginsScarce N request (written ++ more)
+begins_more N request written more b = (b.0, b.1 ++ more, b.2, b.3, behind written (line_of b.0) b.1 more b.4)
+
+-- the next request was answered as it is defined
+answered_more : (first : World) (carried : List (Result Call WireFault)) (written : List ℕ) (w new : World) (defined : Result Call WireFault) (answer : Answer)
+    → Answered first carried written w → served w defined ≡ (answer, new) → Answered first (carried ++ defined ∷ []) (written ++ line_of answer) new
+answered_more first [] written w new defined answer a s =
+    let step : served first defined ≡ (answer, new) = ap (λ v. served v defined) (sym a.1) ∙ s in (
+      [],
+      ap (λ l. l ++ line_of answer) a.0 ∙ sym (append_nothing (line_of answer)) ∙ ap (λ p. line_of p.0 ++ []) (sym step),
+      (refl, ap (λ p. p.1) (sym step)),
+    )
+answered_more first (request ∷ more) written w new defined answer a s = (
+  a.0 ++ line_of answer,
+  behind written (line_of (served first request).0) a.0 (line_of answer) a.1,
+  answered_more (served first request).1 more a.0 w new defined answer a.2 s,
+)
+
+-- the reply to the next request says that something was scarce
+answered_short : (N : Type 0) (first : World) (carried : List (Result Call WireFault)) (written : List ℕ) (w : World) (defined : Result Call WireFault) (answer : Answer)
+    → Answered first carried written w → is_scarce_reply defined answer ≡ true → RestsOn N defined answer
+    → RunsShort N first (carried ++ defined ∷ []) (written ++ line_of answer)
+answered_short N first [] written w defined answer a short rests =
+    inr (answer, [], short, rests, ap (λ l. l ++ line_of answer) a.0 ∙ sym (append_nothing (line_of answer)))
+answered_short N first (request ∷ more) written w defined answer a short rests = inl (
+  a.0 ++ line_of answer,
+  behind written (line_of (served first request).0) a.0 (line_of answer) a.1,
+  answered_short N (served first request).1 more a.0 w defined answer a.2 short rests,
+)
+
+-- once something was scarce, the next request is answered in any way
+short_more : (N : Type 0) (first : World) (carried : List (Result Call WireFault)) (written : List ℕ) (defined : Result Call WireFault) (line : List ℕ)
+    → RunsShort N first carried written → RunsShort N first (carried ++ defined ∷ []) (written ++ line)
+short_more N first [] written defined line s = absurd s
+short_more N first (request ∷ more) written defined line (inl s) = inl (
+  s.0 ++ line,
+  behind written (line_of (served first request).0) s.0 line s.1,
+  short_more N (served first request).1 more s.0 defined line s.2,
+)
+short_more N first (request ∷ more) written defined line (inr b) = inr (begins_more N request written line b)
+
+goes_more : (N N' W W' : Type 0) (first : World) (carried : List (Result Call WireFault)) (written : List ℕ) (w new : World) (defined : Result Call WireFault) (answer : Answer) (b : Bool) → is_scarce_reply defined answer ≡ b
+    → (N → N') → (W × Answered first carried written w) ⊎ RunsShort N first carried written
+    → (W → Replies w defined answer new) → (W → RestsOn N' defined answer) → (W → is_scarce_reply defined answer ≡ false → W')
+    → (W' × Answered first (carried ++ defined ∷ []) (written ++ line_of answer) new) ⊎ RunsShort N' first (carried ++ defined ∷ []) (written ++ line_of answer)
+goes_more N N' W W' first carried written w new defined answer b is spent (inr short) s rests keeps =
+    inr (short_more N' first carried written defined (line_of answer) (short_wider N N' spent first carried written short))
+goes_more N N' W W' first carried written w new defined answer true is spent (inl a) s rests keeps =
+    inr (answered_short N' first carried written w defined answer a.1 is (rests a.0))
+goes_more N N' W W' first carried written w new defined answer false is spent (inl a) s rests keeps =
+    inl (keeps a.0 is, answered_more first carried written w new defined answer a.1 (s a.0 is))
+
+pub more_so_far : (N N' W W' : Type 0) (first : World) (text : List ℕ) (w new : World) (rest left written : List ℕ) (defined : Result Call WireFault) (answer : Answer)
+    → (N → N') → SoFar N W first text w rest written → requests_of rest ≡ defined ∷ requests_of left
+    → (W → Replies w defined answer new) → (W → RestsOn N' defined answer) → (W → is_scarce_reply defined answer ≡ false → W')
+    → SoFar N' W' first text new left (written ++ line_of answer)
+more_so_far N N' W W' first text w new rest left written defined answer spent so e s rests keeps = record {
+  carried = so.carried ++ defined ∷ [];
+  split = so.split ∙ ap (λ l. so.carried ++ l) e ∙ sym (append_assoc so.carried (defined ∷ []) (requests_of left));
+  goes = goes_more N N' W W' first so.carried written w new defined answer (is_scarce_reply defined answer) refl spent so.goes s rests keeps;
+}
+
+-- ---- what that says of the text
 
 pub says_all : (N : Type 0) (w : World) (requests : List (Result Call WireFault)) → (more : List ℕ) × Says N requests (replies w requests) more
 says_all N w [] = ([], refl)
 says_all N w (request ∷ requests) =
     let rest = says_all N (served w request).1 requests in (line_of (served w request).0 ++ rest.0, inl (rest.0, refl, rest.1))
 
-follows_some : (N : Type 0) (scarce : Bool) (w : World) (requests : List (Result Call WireFault)) → (more : List ℕ) × Follows N scarce w requests more
-follows_some N true w requests = ([], tt)
-follows_some N false w requests = says_all N w requests
+answered_says : (N : Type 0) (first : World) (carried : List (Result Call WireFault)) (written : List ℕ) (w : World) (later : List (Result Call WireFault)) (more : List ℕ)
+    → Answered first carried written w → Says N later (replies w later) more → Says N (carried ++ later) (replies first (carried ++ later)) (written ++ more)
+answered_says N first [] written w later more a says =
+    subst (λ t. Says N later (replies first later) t) (ap (λ l. l ++ more) (sym a.0)) (subst (λ v. Says N later (replies v later) more) a.1 says)
+answered_says N first (request ∷ carried) written w later more a says = inl (
+  a.0 ++ more,
+  behind written (line_of (served first request).0) a.0 more a.1,
+  answered_says N (served first request).1 carried a.0 w later more a.2 says,
+)
+
+short_says : (N : Type 0) (first : World) (carried : List (Result Call WireFault)) (written : List ℕ) (later : List (Result Call WireFault)) (more : List ℕ)
+    → RunsShort N first carried written → Says N (carried ++ later) (replies first (carried ++ later)) (written ++ more)
+short_says N first [] written later more s = absurd s
+short_says N first (request ∷ carried) written later more (inl s) = inl (
+  s.0 ++ more,
+  behind written (line_of (served first request).0) s.0 more s.1,
+  short_says N (served first request).1 carried s.0 later more s.2,
+)
+short_says N first (request ∷ carried) written later more (inr b) = inr (begins_more N request written more b)
+
+goes_says : (N W : Type 0) (first : World) (carried : List (Result Call WireFault)) (written : List ℕ) (w : World) (later : List (Result Call WireFault)) (more : List ℕ)
+    → (W × Answered first carried written w) ⊎ RunsShort N first carried written → Says N later (replies w later) more
+    → Says N (carried ++ later) (replies first (carried ++ later)) (written ++ more)
+goes_says N W first carried written w later more (inl a) says = answered_says N first carried written w later more a.1 says
+goes_says N W first carried written w later more (inr s) says = short_says N first carried written later more s
+
+-- what follows as it is defined goes on so
+says_so : (N W : Type 0) (first : World) (text : List ℕ) (w : World) (rest written : List ℕ) → SoFar N W first text w rest written → (more : List ℕ) → Says N (requests_of rest) (replies w (requests_of rest)) more
+    → Says N (requests_of text) (script first text) (written ++ more)
+says_so N W first text w rest written so more says =
+    subst (λ rs. Says N rs (replies first rs) (written ++ more)) (sym so.split) (goes_says N W first so.carried written w (requests_of rest) more so.goes says)
 
 -- some text can follow
 pub begins_so_far : (N : Type 0) (W : Type 0) (first : World) (text : List ℕ) (w : World) (rest written : List ℕ) → SoFar N W first text w rest written
     → Begins N (requests_of text) (script first text) written
-begins_so_far N W first text w rest written so = let more = follows_some N so.scarce w (requests_of rest) in (more.0, so.goes_on more.0 more.1)
-
-follows_nothing : (N : Type 0) (scarce : Bool) (w : World) (requests : List (Result Call WireFault)) → requests ≡ [] → Follows N scarce w requests []
-follows_nothing N true w requests e = tt
-follows_nothing N false w requests e = subst (λ rs. Says N rs (replies w rs) []) (sym e) refl
+begins_so_far N W first text w rest written so =
+    let more = says_all N w (requests_of rest) in (more.0, says_so N W first text w rest written so more.0 more.1)
 
 -- all was said
 pub says_so_far : (N : Type 0) (W : Type 0) (first : World) (text : List ℕ) (w : World) (rest written : List ℕ) → SoFar N W first text w rest written → requests_of rest ≡ []
     → Says N (requests_of text) (script first text) written
 says_so_far N W first text w rest written so e =
-    subst (λ t. Says N (requests_of text) (script first text) t) (append_nothing written) (so.goes_on [] (follows_nothing N so.scarce w (requests_of rest) e))
+    subst (λ t. Says N (requests_of text) (script first text) t) (append_nothing written)
+    (says_so N W first text w rest written so [] (subst (λ rs. Says N rs (replies w rs) []) (sym e) refl))
+
+-- ---- what that says of the calls that were carried out
+
+answered_runs : (N : Type 0) (first : World) (carried : List (Result Call WireFault)) (written : List ℕ) (now : World) → Answered first carried written now → Runs N first carried written now
+answered_runs N first [] written now a = a
+answered_runs N first (request ∷ more) written now a = inl (a.0, a.1, answered_runs N (served first request).1 more a.0 now a.2)
+
+short_runs : (N : Type 0) (first : World) (carried : List (Result Call WireFault)) (written : List ℕ) (now : World) → RunsShort N first carried written → Runs N first carried written now
+short_runs N first [] written now s = absurd s
+short_runs N first (request ∷ more) written now (inl s) = inl (s.0, s.1, short_runs N (served first request).1 more s.0 now s.2)
+short_runs N first (request ∷ more) written now (inr b) = inr b
+
+goes_runs : (N W : Type 0) (first : World) (carried : List (Result Call WireFault)) (written : List ℕ) (now : World)
+    → (W × Answered first carried written now) ⊎ RunsShort N first carried written → Runs N first carried written now
+goes_runs N W first carried written now (inl a) = answered_runs N first carried written now a.1
+goes_runs N W first carried written now (inr s) = short_runs N first carried written now s
+
+-- what was carried out led here
+pub runs_so_far : (N : Type 0) (W : Type 0) (first : World) (text : List ℕ) (w : World) (rest written : List ℕ) (so : SoFar N W first text w rest written) → Runs N first so.carried written w
+runs_so_far N W first text w rest written so = goes_runs N W first so.carried written w so.goes
 
 append_none : (xs : List (Result Call WireFault)) → xs ++ [] ≡ xs
 append_none [] = refl
 append_none (x ∷ xs) = ap (λ l. x ∷ l) (append_none xs)
 
-goes_nowhere : (N : Type 0) (scarce : Bool) (w : World) → Goes N scarce w [] [] w
-goes_nowhere N true w = tt
-goes_nowhere N false w = (refl, refl)
+-- every request was carried out
+carried_all : (N : Type 0) (W : Type 0) (first : World) (text : List ℕ) (w : World) (rest written : List ℕ) (so : SoFar N W first text w rest written) → requests_of rest ≡ [] → so.carried ≡ requests_of text
+carried_all N W first text w rest written so none = sym (so.split ∙ ap (λ l. so.carried ++ l) none ∙ append_none so.carried)
 
--- what was carried out led here
-pub runs_so_far : (N : Type 0) (W : Type 0) (first : World) (text : List ℕ) (w : World) (rest written : List ℕ) (so : SoFar N W first text w rest written) → Runs N first so.carried written w
-runs_so_far N W first text w rest written so =
-    subst (λ rs. Runs N first rs written w) (append_none so.carried)
-    (subst (λ t. Runs N first (so.carried ++ []) t w) (append_nothing written) (so.runs_on [] [] w (goes_nowhere N so.scarce w)))
+-- ---- what that says of the engine
 
-follows_line : (N : Type 0) (scarce : Bool) (w new : World) (requests : List (Result Call WireFault)) (defined : Result Call WireFault) (answer : Answer) (more : List ℕ)
-    → (scarce ≡ false → Replies w defined answer new) → is_scarce_reply defined answer ≡ false → Follows N scarce new requests more → Follows N scarce w (defined ∷ requests) (line_of answer ++ more)
-follows_line N true w new requests defined answer more s plenty f = tt
-follows_line N false w new requests defined answer more s plenty f =
-    let step = sym (s refl plenty) in inl (more, ap (λ p. line_of p.0 ++ more) step, subst (λ p. Says N requests (replies p.1 requests) more) step f)
+-- one of the lines written so far says that something was scarce
+short_tells : (N : Type 0) (first : World) (carried : List (Result Call WireFault)) (written : List ℕ) → RunsShort N first carried written → TellsScarcity N carried written
+short_tells N first [] written s = s
+short_tells N first (request ∷ more) written (inl s) = inr ((served first request).0, s.0, s.1, short_tells N (served first request).1 more s.0 s.2)
+short_tells N first (request ∷ more) written (inr b) = inl b
 
-follows_scarce : (N : Type 0) (scarce : Bool) (w : World) (requests : List (Result Call WireFault)) (defined : Result Call WireFault) (answer : Answer) (more : List ℕ)
-    → is_scarce_reply defined answer ≡ true → (scarce ≡ false → RestsOn N defined answer) → Follows N scarce w (defined ∷ requests) (line_of answer ++ more)
-follows_scarce N true w requests defined answer more short rests = tt
-follows_scarce N false w requests defined answer more short rests = inr (answer, more, short, rests refl, refl)
-
-goes_line : (N : Type 0) (scarce : Bool) (w new : World) (defined : Result Call WireFault) (answer : Answer) (later : List (Result Call WireFault)) (more : List ℕ) (now : World)
-    → (scarce ≡ false → Replies w defined answer new) → is_scarce_reply defined answer ≡ false → Goes N scarce new later more now → Goes N scarce w (defined ∷ later) (line_of answer ++ more) now
-goes_line N true w new defined answer later more now s plenty f = tt
-goes_line N false w new defined answer later more now s plenty f =
-    let step = sym (s refl plenty) in inl (more, ap (λ p. line_of p.0 ++ more) step, subst (λ p. Runs N p.1 later more now) step f)
-
-goes_scarce : (N : Type 0) (scarce : Bool) (w : World) (defined : Result Call WireFault) (answer : Answer) (later : List (Result Call WireFault)) (more : List ℕ) (now : World)
-    → is_scarce_reply defined answer ≡ true → (scarce ≡ false → RestsOn N defined answer) → Goes N scarce w (defined ∷ later) (line_of answer ++ more) now
-goes_scarce N true w defined answer later more now short rests = tt
-goes_scarce N false w defined answer later more now short rests = inr (answer, more, short, rests refl, refl)
-
-tells_scarce : (N : Type 0) (scarce : Bool) (defined : Result Call WireFault) (answer : Answer) (carried later : List (Result Call WireFault)) (written more : List ℕ)
-    → (scarce ≡ true → (later : List (Result Call WireFault)) (more : List ℕ) → TellsScarcity N (carried ++ later) (written ++ more))
-    → ((later : List (Result Call WireFault)) (more : List ℕ) → TellsScarcity N later more → TellsScarcity N (carried ++ later) (written ++ more))
-    → is_scarce_reply defined answer ≡ true → (scarce ≡ false → RestsOn N defined answer)
-    → TellsScarcity N (carried ++ defined ∷ later) (written ++ (line_of answer ++ more))
-tells_scarce N true defined answer carried later written more tells on short rests = tells refl (defined ∷ later) (line_of answer ++ more)
-tells_scarce N false defined answer carried later written more tells on short rests =
-    on (defined ∷ later) (line_of answer ++ more) (inl (answer, more, short, rests refl, refl))
-
-runs_past : (N : Type 0) (first : World) (carried : List (Result Call WireFault)) (defined : Result Call WireFault) (later : List (Result Call WireFault)) (written line more : List ℕ) (now : World)
-    → Runs N first (carried ++ defined ∷ later) (written ++ (line ++ more)) now → Runs N first ((carried ++ defined ∷ []) ++ later) ((written ++ line) ++ more) now
-runs_past N first carried defined later written line more now run =
-    subst (λ rs. Runs N first rs ((written ++ line) ++ more) now) (sym (append_assoc carried (defined ∷ []) later))
-    (subst (λ t. Runs N first (carried ++ defined ∷ later) t now) (sym (append_assoc written line more)) run)
-
-tells_past : (N : Type 0) (carried : List (Result Call WireFault)) (defined : Result Call WireFault) (later : List (Result Call WireFault)) (written line more : List ℕ)
-    → TellsScarcity N (carried ++ defined ∷ later) (written ++ (line ++ more)) → TellsScarcity N ((carried ++ defined ∷ []) ++ later) ((written ++ line) ++ more)
-tells_past N carried defined later written line more t =
-    subst (λ rs. TellsScarcity N rs ((written ++ line) ++ more)) (sym (append_assoc carried (defined ∷ []) later))
-    (subst (λ l. TellsScarcity N (carried ++ defined ∷ later) l) (sym (append_assoc written line more)) t)
-
-more_by : (N : Type 0) (W W' : Type 0) (first : World) (text : List ℕ) (w new : World) (rest left written : List ℕ) (defined : Result Call WireFault) (answer : Answer) (b : Bool) → is_scarce_reply defined answer ≡ b
-    → SoFar N W first text w rest written → requests_of rest ≡ defined ∷ requests_of left → (W → Replies w defined answer new) → (W → RestsOn N defined answer) → (W → is_scarce_reply defined answer ≡ false → W')
-    → SoFar N W' first text new left (written ++ line_of answer)
-more_by N W W' first text w new rest left written defined answer true is so e s rests keeps = record {
-  scarce = true;
-  whole = λ plenty. absurd (cc);
-  tells = λ scarce later more. tells_past N so.carried defined later written (line_of answer) more
-      (tells_scarce N so.scarce defined answer so.carried later written more so.tells so.tells_on is (λ plenty. rests (so.whole plenty)));
-  tells_on = λ later more t. tells_past N so.carried defined later written (line_of answer) more
-      (so.tells_on (defined ∷ later) (line_of answer ++ more) (inr (answer, more, refl, t)));
-  goes_on = λ more f. subst (λ t. Says N (requests_of text) (script first text) t) (sym (append_assoc written (line_of answer) more))
-      (so.goes_on (line_of answer ++ more) (subst (λ rs. Follows N so.scarce w rs (line_of answer ++ more)) (sym e) (follows_scarce N so.scarce w (requests_of left) defined answer more is (λ plenty. rests (so.whole plenty)))));
-  carried = so.carried ++ defined ∷ [];
-  split = so.split ∙ ap (λ l. so.carried ++ l) e ∙ sym (append_assoc so.carried (defined ∷ []) (requests_of left));
-  runs_on = λ later more now f. runs_past N first so.carried defined later written (line_of answer) more now
-      (so.runs_on (defined ∷ later) (line_of answer ++ more) now (goes_scarce N so.scarce w defined answer later more now is (λ plenty. rests (so.whole plenty))));
-}
-more_by N W W' first text w new rest left written defined answer false is so e s rests keeps = record {
-  scarce = so.scarce;
-  whole = λ plenty. keeps (so.whole plenty) is;
-  tells = λ scarce later more. tells_past N so.carried defined later written (line_of answer) more
-      (so.tells scarce (defined ∷ later) (line_of answer ++ more));
-  tells_on = λ later more t. tells_past N so.carried defined later written (line_of answer) more
-      (so.tells_on (defined ∷ later) (line_of answer ++ more) (inr (answer, more, refl, t)));
-  goes_on = λ more f. subst (λ t. Says N (requests_of text) (script first text) t) (sym (append_assoc written (line_of answer) more))
-      (so.goes_on (line_of answer ++ more) (subst (λ rs. Follows N so.scarce w rs (line_of answer ++ more)) (sym e) (follows_line N so.scarce w new (requests_of left) defined answer more (λ plenty. s (so.whole plenty)) is f)));
-  carried = so.carried ++ defined ∷ [];
-  split = so.split ∙ ap (λ l. so.carried ++ l) e ∙ sym (append_assoc so.carried (defined ∷ []) (requests_of left));
-  runs_on = λ later more now f. runs_past N first so.carried defined later written (line_of answer) more now
-      (so.runs_on (defined ∷ later) (line_of answer ++ more) now (goes_line N so.scarce w new defined answer later more now (λ plenty. s (so.whole plenty)) is f));
-}
-
--- one more request
-pub more_so_far : (N : Type 0) (W W' : Type 0) (first : World) (text : List ℕ) (w new : World) (rest left written : List ℕ) (defined : Result Call WireFault) (answer : Answer)
-    → SoFar N W first text w rest written → requests_of rest ≡ defined ∷ requests_of left → (W → Replies w defined answer new) → (W → RestsOn N defined answer) → (W → is_scarce_reply defined answer ≡ false → W')
-    → SoFar N W' first text new left (written ++ line_of answer)
-more_so_far N W W' first text w new rest left written defined answer = more_by N W W' first text w new rest left written defined answer (is_scarce_reply defined answer) refl
+goes_whole : (N W : Type 0) (first : World) (carried : List (Result Call WireFault)) (written : List ℕ) (now : World)
+    → (W × Answered first carried written now) ⊎ RunsShort N first carried written → W ⊎ TellsScarcity N carried written
+goes_whole N W first carried written now (inl a) = inl a.0
+goes_whole N W first carried written now (inr s) = inr (short_tells N first carried written s)
 
 -- ---- over a source and a sink that tell their bytes
 
@@ -183,7 +255,7 @@ progress_none N W first source sink pending whole e text held is told = (
   [],
   ap (prepend_known pending) is ∙ ap (λ p. Some (p ++ text)) e,
   told ∙ ap Some (sym (append_nothing held)),
-  record { scarce = false; whole = λ plenty. whole; goes_on = λ more f. f; carried = []; tells = λ scarce. absurd (cc); tells_on = λ later more t. t; split = refl; runs_on = λ later more now f. f },
+  record { carried = []; split = refl; goes = inl (whole, (refl, refl)) },
 )
 
 some_same : (x y : List ℕ) → Some x ≡ Some y → x ≡ y
@@ -205,37 +277,37 @@ no_request None rest h e = absurd (cc)
 no_request (Some text) rest h e = ap requests_of (some_same rest text (sym e)) ∙ h
 
 -- one more reply was written
-pub progress_more : (N : Type 0) (W W' : Type 0) (first : World) (source old : Option (List ℕ)) (w new : World) (before after : Option (List ℕ)) (sink sink' : Option (List ℕ)) (read : Result Request WireFault) (answer : Answer)
-    → Progress N W first source old w before sink → BeginsWithRequest before after read → (W → (defined : Result Call WireFault) → Reads defined read → Replies w defined answer new)
-    → (W → (defined : Result Call WireFault) → Reads defined read → RestsOn N defined answer)
+pub progress_more : (N N' : Type 0) (W W' : Type 0) (first : World) (source old : Option (List ℕ)) (w new : World) (before after : Option (List ℕ)) (sink sink' : Option (List ℕ)) (read : Result Request WireFault) (answer : Answer)
+    → (N → N') → Progress N W first source old w before sink → BeginsWithRequest before after read → (W → (defined : Result Call WireFault) → Reads defined read → Replies w defined answer new)
+    → (W → (defined : Result Call WireFault) → Reads defined read → RestsOn N' defined answer)
     → (W → (defined : Result Call WireFault) → Reads defined read → is_scarce_reply defined answer ≡ false → W')
-    → Appends sink sink' (line_of answer) → Progress N W' first source old new after sink'
-progress_more N W W' first source old w new before after sink sink' read answer p b s rests keeps a text held is told =
+    → Appends sink sink' (line_of answer) → Progress N' W' first source old new after sink'
+progress_more N N' W W' first source old w new before after sink sink' read answer spent p b s rests keeps a text held is told =
     let q = p text held is told in
     let r = begins_with before after read q.0 b q.2 in (
       r.0,
       q.1 ++ line_of answer,
       r.2,
       appends_to sink sink' (line_of answer) (held ++ q.1) a q.3 ∙ ap Some (append_assoc held q.1 (line_of answer)),
-      more_so_far N W W' first text w new q.0 r.0 q.1 r.1 answer q.4 r.3 (λ whole. s whole r.1 r.4) (λ whole. rests whole r.1 r.4) (λ whole. keeps whole r.1 r.4),
+      more_so_far N N' W W' first text w new q.0 r.0 q.1 r.1 answer spent q.4 r.3 (λ whole. s whole r.1 r.4) (λ whole. rests whole r.1 r.4) (λ whole. keeps whole r.1 r.4),
     )
 
 -- a front of one more reply was written
-pub progress_failed : (N : Type 0) (W W' : Type 0) (first : World) (source old : Option (List ℕ)) (w new : World) (before after : Option (List ℕ)) (sink sink' : Option (List ℕ)) (read : Result Request WireFault) (answer : Answer)
-    → Progress N W first source old w before sink → BeginsWithRequest before after read → (W → (defined : Result Call WireFault) → Reads defined read → Replies w defined answer new)
-    → (W → (defined : Result Call WireFault) → Reads defined read → RestsOn N defined answer)
+pub progress_failed : (N N' : Type 0) (W W' : Type 0) (first : World) (source old : Option (List ℕ)) (w new : World) (before after : Option (List ℕ)) (sink sink' : Option (List ℕ)) (read : Result Request WireFault) (answer : Answer)
+    → (N → N') → Progress N W first source old w before sink → BeginsWithRequest before after read → (W → (defined : Result Call WireFault) → Reads defined read → Replies w defined answer new)
+    → (W → (defined : Result Call WireFault) → Reads defined read → RestsOn N' defined answer)
     → (W → (defined : Result Call WireFault) → Reads defined read → is_scarce_reply defined answer ≡ false → W')
-    → AppendsFront sink sink' (line_of answer) → Scripts (λ text written. Begins N (requests_of text) (script first text) written) source old sink'
-progress_failed N W W' first source old w new before after sink sink' read answer p b s rests keeps a text held is told =
+    → AppendsFront sink sink' (line_of answer) → Scripts (λ text written. Begins N' (requests_of text) (script first text) written) source old sink'
+progress_failed N N' W W' first source old w new before after sink sink' read answer spent p b s rests keeps a text held is told =
     let q = p text held is told in
     let r = begins_with before after read q.0 b q.2 in
-    let so = more_so_far N W W' first text w new q.0 r.0 q.1 r.1 answer q.4 r.3 (λ whole. s whole r.1 r.4) (λ whole. rests whole r.1 r.4) (λ whole. keeps whole r.1 r.4) in
-    let begun = begins_so_far N W' first text new r.0 (q.1 ++ line_of answer) so in
+    let so = more_so_far N N' W W' first text w new q.0 r.0 q.1 r.1 answer spent q.4 r.3 (λ whole. s whole r.1 r.4) (λ whole. rests whole r.1 r.4) (λ whole. keeps whole r.1 r.4) in
+    let begun = begins_so_far N' W' first text new r.0 (q.1 ++ line_of answer) so in
     let whole : (q.1 ++ line_of answer) ++ begun.0 ≡ (q.1 ++ a.0) ++ (a.1 ++ begun.0) =
     ap (λ l. (q.1 ++ l) ++ begun.0) a.2 ∙ ap (λ l. l ++ begun.0) (sym (append_assoc q.1 a.0 a.1)) ∙ append_assoc (q.1 ++ a.0) a.1 begun.0 in (
       q.1 ++ a.0,
       appends_to sink sink' a.0 (held ++ q.1) a.3 q.3 ∙ ap Some (append_assoc held q.1 a.0),
-      (a.1 ++ begun.0, subst (λ t. Says N (requests_of text) (script first text) t) whole begun.1),
+      (a.1 ++ begun.0, subst (λ t. Says N' (requests_of text) (script first text) t) whole begun.1),
     )
 
 -- nothing more is written
@@ -252,15 +324,15 @@ progress_ends N W first source old w before sink p none text held is told =
 -- ---- the same, of what was carried out
 
 -- a front of one more reply was written
-pub stands_failed : (N : Type 0) (W W' : Type 0) (first : World) (source old : Option (List ℕ)) (w new : World) (before after : Option (List ℕ)) (sink sink' : Option (List ℕ)) (read : Result Request WireFault) (answer : Answer)
-    → Progress N W first source old w before sink → BeginsWithRequest before after read → (W → (defined : Result Call WireFault) → Reads defined read → Replies w defined answer new)
-    → (W → (defined : Result Call WireFault) → Reads defined read → RestsOn N defined answer)
+pub stands_failed : (N N' : Type 0) (W W' : Type 0) (first : World) (source old : Option (List ℕ)) (w new : World) (before after : Option (List ℕ)) (sink sink' : Option (List ℕ)) (read : Result Request WireFault) (answer : Answer)
+    → (N → N') → Progress N W first source old w before sink → BeginsWithRequest before after read → (W → (defined : Result Call WireFault) → Reads defined read → Replies w defined answer new)
+    → (W → (defined : Result Call WireFault) → Reads defined read → RestsOn N' defined answer)
     → (W → (defined : Result Call WireFault) → Reads defined read → is_scarce_reply defined answer ≡ false → W')
-    → AppendsFront sink sink' (line_of answer) → Scripts (λ text written. Stands N first (requests_of text) written new) source old sink'
-stands_failed N W W' first source old w new before after sink sink' read answer p b s rests keeps a text held is told =
+    → AppendsFront sink sink' (line_of answer) → Scripts (λ text written. Stands N' first (requests_of text) written new) source old sink'
+stands_failed N N' W W' first source old w new before after sink sink' read answer spent p b s rests keeps a text held is told =
     let q = p text held is told in
     let r = begins_with before after read q.0 b q.2 in
-    let so = more_so_far N W W' first text w new q.0 r.0 q.1 r.1 answer q.4 r.3 (λ whole. s whole r.1 r.4) (λ whole. rests whole r.1 r.4) (λ whole. keeps whole r.1 r.4) in (
+    let so = more_so_far N N' W W' first text w new q.0 r.0 q.1 r.1 answer spent q.4 r.3 (λ whole. s whole r.1 r.4) (λ whole. rests whole r.1 r.4) (λ whole. keeps whole r.1 r.4) in (
       q.1 ++ a.0,
       appends_to sink sink' a.0 (held ++ q.1) a.3 q.3 ∙ ap Some (append_assoc held q.1 a.0),
       (
@@ -268,7 +340,7 @@ stands_failed N W W' first source old w new before after sink sink' read answer 
         requests_of r.0,
         a.1,
         so.split,
-        subst (λ t. Runs N first so.carried t new) (ap (λ l. q.1 ++ l) a.2 ∙ sym (append_assoc q.1 a.0 a.1)) (runs_so_far N W' first text new r.0 (q.1 ++ line_of answer) so),
+        subst (λ t. Runs N' first so.carried t new) (ap (λ l. q.1 ++ l) a.2 ∙ sym (append_assoc q.1 a.0 a.1)) (runs_so_far N' W' first text new r.0 (q.1 ++ line_of answer) so),
       ),
     )
 
@@ -281,9 +353,6 @@ stands_so_far N W first source old w before sink p text held is told =
     (q.1, q.3, (so.carried, requests_of q.0, [], so.split, subst (λ t. Runs N first so.carried t w) (sym (append_nothing q.1)) (runs_so_far N W first text w q.0 q.1 so)))
 
 -- every request was carried out
-carried_all : (N : Type 0) (W : Type 0) (first : World) (text : List ℕ) (w : World) (rest written : List ℕ) (so : SoFar N W first text w rest written) → requests_of rest ≡ [] → so.carried ≡ requests_of text
-carried_all N W first text w rest written so none = sym (so.split ∙ ap (λ l. so.carried ++ l) none ∙ append_none so.carried)
-
 pub ran_all : (N : Type 0) (W : Type 0) (first : World) (source old : Option (List ℕ)) (w : World) (before sink : Option (List ℕ)) → Progress N W first source old w before sink → HasNoRequest before
     → Scripts (λ text written. Runs N first (requests_of text) written w) source old sink
 ran_all N W first source old w before sink p none text held is told =
@@ -294,21 +363,10 @@ ran_all N W first source old w before sink p none text held is told =
 
 -- ---- the same, of the engine
 
-whole_or : (N : Type 0) (W : Type 0) (requests : List (Result Call WireFault)) (written : List ℕ) (scarce : Bool) → (scarce ≡ false → W) → (scarce ≡ true → TellsScarcity N requests written)
-    → W ⊎ TellsScarcity N requests written
-whole_or N W requests written true whole tells = inr (tells refl)
-whole_or N W requests written false whole tells = inl (whole refl)
-
--- one of the lines written so far says so
-tells_so_far : (N : Type 0) (W : Type 0) (first : World) (text : List ℕ) (w : World) (rest written : List ℕ) (so : SoFar N W first text w rest written) → so.scarce ≡ true → so.carried ≡ requests_of text
-    → TellsScarcity N (requests_of text) written
-tells_so_far N W first text w rest written so scarce all =
-    subst (λ rs. TellsScarcity N rs written) (append_none so.carried ∙ all)
-    (subst (λ t. TellsScarcity N (so.carried ++ []) t) (append_nothing written) (so.tells scarce [] []))
-
 pub whole_so_far : (N : Type 0) (W : Type 0) (first : World) (source old : Option (List ℕ)) (w : World) (before sink : Option (List ℕ)) → Progress N W first source old w before sink → HasNoRequest before
     → Scripts (λ text written. W ⊎ TellsScarcity N (requests_of text) written) source old sink
 whole_so_far N W first source old w before sink p none text held is told =
     let q = p text held is told in
     let so = q.4 in
-    (q.1, q.3, whole_or N W (requests_of text) q.1 so.scarce so.whole (λ scarce. tells_so_far N W first text w q.0 q.1 so scarce (carried_all N W first text w q.0 q.1 so (no_request before q.0 none q.2))))
+    let all = carried_all N W first text w q.0 q.1 so (no_request before q.0 none q.2) in
+    (q.1, q.3, subst (λ rs. W ⊎ TellsScarcity N rs q.1) all (goes_whole N W first so.carried q.1 w so.goes))

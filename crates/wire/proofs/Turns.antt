@@ -9,7 +9,7 @@ use Rattle.reference.specs.declared.fault.Fault.{Fault}
 use Rattle.reference.specs.declared.fault.Fault.TheVariants.{Query, BadName, NameTaken, BadColumns, TooMany, UnknownStream, UnknownQuery, BadWidth, ValueRange, InstantRange, Late, Backward, Leap, StreamFull, BadLimit, Broken, UnknownLease, Stranger, TooManyLeases, HistoryFull, OutOfMemory, Foreign}
 use Rattle.wire.specs.Calls.{drain}
 use Rattle.wire.specs.Printed.{Answer, refused}
-use Rattle.wire.specs.Script.{done_of, done_step, is_scarce_reply, HasRunOut, Replies, RestsOn}
+use Rattle.wire.specs.Script.{done_of, done_step, is_scarce_answer, AnswersCall, RestsOn}
 
 legal : (rows : ℕ) → 0 < rows → rows ≤ 1024 → (nat_le 1 rows && nat_le rows MAX_TURN) ≡ true
 legal rows low high = ap (λ b. b && nat_le rows MAX_TURN) (le-leb 1 rows low) ∙ le-leb rows MAX_TURN high
@@ -46,7 +46,7 @@ refused_drain old new step TooManyLeases d plenty = cc
 refused_drain old new step OutOfMemory d plenty = cc
 
 -- of a drain's faults those are scarce that say so
-scarce_drain : (fault : Fault) → is_scarce_reply (Ok drain) (refused fault) ≡ is_scarce fault
+scarce_drain : (fault : Fault) → is_scarce_answer drain (refused fault) ≡ is_scarce fault
 scarce_drain (Query f) = refl
 scarce_drain BadName = refl
 scarce_drain NameTaken = refl
@@ -71,13 +71,13 @@ scarce_drain TooManyLeases = refl
 scarce_drain OutOfMemory = refl
 
 drained : (old new : World) (rows : ℕ) → 0 < rows → rows ≤ 1024 → (result : Result ⊤ Fault) → Drains old (drain_step old rows) result new
-    → Replies old (Ok drain) (done_of result) new
+    → AnswersCall old drain (done_of result) new
 drained old new rows low high (Ok a) d plenty = ap done_step (sym (same_drain old rows low high) ∙ d)
 drained old new rows low high (Err fault) d plenty =
     ap done_step (sym (same_drain old rows low high) ∙ refused_drain old new (drain_step old rows) fault d (sym (scarce_drain fault) ∙ plenty))
 
 -- a drain whose reply says nothing scarce
-drained_plenty : (result : Result ⊤ Fault) → is_scarce_reply (Ok drain) (done_of result) ≡ false → IsPlenty result
+drained_plenty : (result : Result ⊤ Fault) → is_scarce_answer drain (done_of result) ≡ false → IsPlenty result
 drained_plenty (Ok a) plenty = tt
 drained_plenty (Err fault) plenty = sym (scarce_drain fault) ∙ plenty
 
@@ -87,15 +87,15 @@ told_fault (Ok a) fault e = cc
 told_fault (Err f) fault e = cc
 
 -- what a drain that is told as it ended is answered
-pub drain_replies : (old new : World) (rows : ℕ) (result : Result ⊤ Fault) (answer : Answer) → 0 < rows × rows ≤ 1024
-    → answer ≡ done_of result → Drains old (drain_step old rows) result new → Replies old (Ok drain) answer new
-drain_replies old new rows result answer range is d =
-    subst (λ a. Replies old (Ok drain) a new) (sym is) (drained old new rows range.0 range.1 result d)
+pub drain_answers : (old new : World) (rows : ℕ) (result : Result ⊤ Fault) (answer : Answer) → 0 < rows × rows ≤ 1024
+    → answer ≡ done_of result → Drains old (drain_step old rows) result new → AnswersCall old drain answer new
+drain_answers old new rows result answer range is d =
+    subst (λ a. AnswersCall old drain a new) (sym is) (drained old new rows range.0 range.1 result d)
 
-pub drain_rests : {E : Type 0} (has_numbers : E → Type 0) (new : E) (result : Result ⊤ Fault) (answer : Answer)
-    → answer ≡ done_of result → (result ≡ Err TooManyLeases → ¬ has_numbers new) → RestsOn (HasRunOut has_numbers) (Ok drain) answer
-drain_rests has_numbers new result answer is wants same told = (new, wants (told_fault result TooManyLeases (sym is ∙ told)))
+pub drain_rests : (N : Type 0) (result : Result ⊤ Fault) (answer : Answer)
+    → answer ≡ done_of result → (result ≡ Err TooManyLeases → N) → RestsOn N (Ok drain) answer
+drain_rests N result answer is wants same told = wants (told_fault result TooManyLeases (sym is ∙ told))
 
 pub drain_leaves_whole : (W : Type 0) (result : Result ⊤ Fault) (answer : Answer) → answer ≡ done_of result
-    → (IsPlenty result → W) → is_scarce_reply (Ok drain) answer ≡ false → W
-drain_leaves_whole W result answer is keeps plenty = keeps (drained_plenty result (ap (is_scarce_reply (Ok drain)) (sym is) ∙ plenty))
+    → (IsPlenty result → W) → is_scarce_answer drain answer ≡ false → W
+drain_leaves_whole W result answer is keeps plenty = keeps (drained_plenty result (ap (is_scarce_answer drain) (sym is) ∙ plenty))

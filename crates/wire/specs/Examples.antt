@@ -2,10 +2,12 @@
 use Rattle.std.specs.Prelude.{◌≡◌, [], ◌∷◌, Some, None, true, codes, pos, negsuc, refl}
 use Rattle.std.specs.Fmt.{digits}
 use Rattle.envelope.specs.Fraction.{fraction}
+use Rattle.names.specs.declared.fault.ResolveFault.TheVariants.{NotGrouped}
+use Rattle.plan.specs.declared.fault.PlanFault.TheVariants.{Unresolved}
 use Rattle.plan.specs.declared.node.Kind.TheVariants.{Window, ToStream}
 use Rattle.reference.specs.FaultTexts.{fault_text}
 use Rattle.reference.specs.declared.fault.Fault.TheVariants.{Query, Late}
-use Rattle.reference.specs.declared.fault.QueryFault.TheVariants.{Unexpected}
+use Rattle.reference.specs.declared.fault.QueryFault.TheVariants.{Unexpected, Planned}
 use Rattle.wire.specs.Lines.{lines_of}
 use Rattle.wire.specs.Requests.{is_blank}
 use Rattle.wire.specs.Printed.{rows, operators, refused, line_of, rows_text, row_text, value_text, operators_text, operator_text}
@@ -38,3 +40,8 @@ late = refl
 misread : line_of (refused (Query (Unexpected 17))) ≡ codes "{\"error\":\"Q4 Unexpected at 17\"}\n"
 unfolding line_of fault_text digits
 misread = refl
+
+-- a fault of the names, which plans and engines hand on
+ungrouped : line_of (refused (Query (Planned (Unresolved NotGrouped)))) ≡ codes "{\"error\":\"Q12 NotGrouped\"}\n"
+unfolding line_of fault_text
+ungrouped = refl

@@ -1,5 +1,5 @@
 -- The requests of a text.
-use Rattle.std.specs.Prelude.{◌≡◌, ℕ, Bool, List, ◌∷◌, [], length, Option, Some, None, Result, Ok, Err, ok_or, if◌then◌else◌, nat_lt, ◌==◌, ◌||◌, ◌&&◌, not, filter_map, ⊤}
+use Rattle.std.specs.Prelude.{◌≡◌, ◌≢◌, ℕ, Bool, List, ◌∷◌, [], length, Option, Some, None, Result, Ok, Err, ok_or, if◌then◌else◌, nat_lt, ◌==◌, ◌||◌, ◌&&◌, not, filter_map, ⊤}
 use Rattle.std.specs.List.{list_all}
 use Rattle.std.specs.Str.{is_utf8}
 use Rattle.serde_json.specs.Data.{Data}
@@ -37,13 +37,13 @@ request_in line = if is_blank line then None else Some (asked_in line)
 abbrev pub requests_of : List ℕ → List (Result Call WireFault)
 requests_of text = filter_map request_in (lines_of text)
 
--- what was read is what was asked, unless memory ran out
+-- what was read is what was asked, unless memory ran out, which no line meets that is too long
 abbrev pub Reads : Result Call WireFault → Result Request WireFault → Type 0
 Reads defined (Ok request) = defined ≡ Ok (call_of request)
 Reads defined (Err NotJson) = defined ≡ Err NotJson
 Reads defined (Err BadRequest) = defined ≡ Err BadRequest
 Reads defined (Err LineTooLong) = defined ≡ Err LineTooLong
-Reads defined (Err OutOfMemory) = ⊤
+Reads defined (Err OutOfMemory) = defined ≢ Err LineTooLong
 
 -- The known text has the same requests as the rest.
 abbrev pub SameRequests : Option (List ℕ) → Option (List ℕ) → Type 0

@@ -11,7 +11,7 @@ use Rattle.wire.specs.Calls.{Call, declare, register, append, heartbeat, drain, 
 use Rattle.wire.specs.Printed.{Answer, done, rows, operators, refused, unread, line_of}
 use Rattle.wire.specs.Requests.{requests_of}
 use Rattle.wire.specs.declared.request.WireFault.{WireFault}
-use Rattle.wire.specs.declared.request.WireFault.TheVariants.{OutOfMemory}
+use Rattle.wire.specs.declared.request.WireFault.TheVariants.{LineTooLong, OutOfMemory}
 
 abbrev pub done_of : {A : Type 0} → Result A Fault → Answer
 done_of (Ok a) = done
@@ -61,20 +61,28 @@ replies w (request ∷ more) = line_of (served w request).0 ∷ replies (served 
 abbrev pub script : World → List ℕ → List (List ℕ)
 script w text = replies w (requests_of text)
 
--- The reply to this request says want of memory, which any request may meet, or of numbers for turns, which a drain alone may.
-abbrev pub is_scarce_reply : Result Call WireFault → Answer → Bool
-is_scarce_reply request (refused in_engine.OutOfMemory) = true
-is_scarce_reply request (unread OutOfMemory) = true
-is_scarce_reply (Ok drain) (refused TooManyLeases) = true
-is_scarce_reply request answer = false
+-- The engine's answer to this call says that something was wanted: memory, of which a drop takes none, or numbers for turns,
+-- which a drain alone gives.
+abbrev pub is_scarce_answer : Call → Answer → Bool
+is_scarce_answer (discard query) answer = false
+is_scarce_answer call (refused in_engine.OutOfMemory) = true
+is_scarce_answer drain (refused TooManyLeases) = true
+is_scarce_answer call answer = false
 
--- There is an engine that has no numbers for turns left.
-abbrev pub HasRunOut : {E : Type 0} → (E → Type 0) → Type 0
-HasRunOut {E = E} has_numbers = (engine : E) × (¬ has_numbers engine)
+-- The reply to this request says so, or that memory was wanted where its line was read; none is where it is too long.
+abbrev pub is_scarce_reply : Result Call WireFault → Answer → Bool
+is_scarce_reply (Err LineTooLong) answer = false
+is_scarce_reply request (unread OutOfMemory) = true
+is_scarce_reply (Ok call) answer = is_scarce_answer call answer
+is_scarce_reply (Err fault) answer = false
 
 -- Where the reply to a drain says that numbers for turns were wanted, they were.
 abbrev pub RestsOn : Type 0 → Result Call WireFault → Answer → Type 0
 RestsOn wanted request answer = request ≡ Ok drain → answer ≡ refused TooManyLeases → wanted
+
+-- The engine's answer to a call and the world after it are the defined ones, unless the answer says that something was scarce.
+abbrev pub AnswersCall : World → Call → Answer → World → Type 0
+AnswersCall old call answer new = is_scarce_answer call answer ≡ false → answered old call ≡ (answer, new)
 
 -- The reply and the world after it are the defined ones, unless the reply says that something was scarce.
 abbrev pub Replies : World → Result Call WireFault → Answer → World → Type 0

@@ -1,11 +1,15 @@
 //! From a JSON value to the request that it is.
-ghost use Rattle.std.specs.Prelude.{◌≡◌, IfOk, Some, None, cond, codes, option_map, option_and_then, map};
+ghost use Rattle.std.specs.Prelude.{◌≡◌, IfOk, Some, None, cond, codes, option_map};
+ghost use Rattle.std.specs.Prelude.{option_and_then, map};
 ghost use Rattle.serde_json.specs.View.{view, items_view};
 ghost use Rattle.serde_json.specs.Find.{get, as_str, as_array};
 ghost use Rattle.reference.specs.CallViews.{texts_of};
 ghost use Rattle.plan.specs.Chart.{given_by};
 ghost use Rattle.wire.specs.Calls.{call_of};
-ghost use Rattle.wire.specs.Asked.{text_at, integer_at, list_at, each, value_of, integer_of, row_from, row_in, pair_from, pair_in, chart_from as asked_chart, declare_in, register_in, append_in, heartbeat_in, take_in, discard_in, plan_in, asked_by, asked};
+ghost use Rattle.wire.specs.Asked.{text_at, integer_at, list_at, each, value_of, integer_of};
+ghost use Rattle.wire.specs.Asked.{row_from, row_in, pair_from, pair_in, chart_from as asked_chart};
+ghost use Rattle.wire.specs.Asked.{declare_in, register_in, append_in, heartbeat_in, take_in};
+ghost use Rattle.wire.specs.Asked.{discard_in, plan_in, asked_by, asked};
 
 use crate::request::Request;
 use reference::{Chart, NewRows};
@@ -68,7 +72,8 @@ fn value_of(value: &Value) -> Option<Option<i64>>
 
 /// Reads values, in place of those that stood in the list.
 fn values_of(items: &[Value], values: &mut Vec<Option<i64>>) -> Result<bool, AllocError>
-    ensures { IfOk result (λ all. cond all (Some values.new.items) None ≡ each value_of (items_view items.now)) }
+    ensures { IfOk result (λ all. cond all (Some values.new.items) None
+        ≡ each value_of (items_view items.now)) }
 {
     values.clear();
     for item in items {
@@ -82,7 +87,8 @@ fn values_of(items: &[Value], values: &mut Vec<Option<i64>>) -> Result<bool, All
 
 /// Reads a row: its values into the list, and its instant.
 fn row_from(items: &[Value], values: &mut Vec<Option<i64>>) -> Result<Option<i64>, AllocError>
-    ensures { IfOk result (λ o. option_map (λ at. (at, values.new.items)) o ≡ row_from (items_view items.now)) }
+    ensures { IfOk result (λ o. option_map (λ at. (at, values.new.items)) o
+        ≡ row_from (items_view items.now)) }
 {
     let Some((first, rest)) = items.split_first() else {
         return Ok(None);
@@ -97,7 +103,8 @@ fn row_from(items: &[Value], values: &mut Vec<Option<i64>>) -> Result<Option<i64
 }
 
 fn row_in(value: &Value, values: &mut Vec<Option<i64>>) -> Result<Option<i64>, AllocError>
-    ensures { IfOk result (λ o. option_map (λ at. (at, values.new.items)) o ≡ row_in (view value.now)) }
+    ensures { IfOk result (λ o. option_map (λ at. (at, values.new.items)) o
+        ≡ row_in (view value.now)) }
 {
     match value.as_array() {
         Some(items) => row_from(items, values),
@@ -143,7 +150,8 @@ fn pair_in(value: &Value) -> Option<(i64, i64)>
 }
 
 fn chart_from(alloc: Global, items: &[Value]) -> Result<Option<Chart>, AllocError>
-    ensures { IfOk result (λ o. option_map (λ c. c.operators.items) o ≡ each pair_in (items_view items.now)) }
+    ensures { IfOk result (λ o. option_map (λ c. c.operators.items) o
+        ≡ each pair_in (items_view items.now)) }
 {
     let mut operators = Vec::new(alloc);
     for item in items {
@@ -157,7 +165,8 @@ fn chart_from(alloc: Global, items: &[Value]) -> Result<Option<Chart>, AllocErro
 
 /// Reads the chart, which may be missing.
 fn chart_at(alloc: Global, value: &Value) -> Result<Option<Option<Chart>>, AllocError>
-    ensures { IfOk result (λ o. option_map given_by o ≡ asked_chart (get (codes "chart") (view value.now))) }
+    ensures { IfOk result (λ o. option_map given_by o
+        ≡ asked_chart (get (codes "chart") (view value.now))) }
 {
     let Some(found) = value.get("chart") else {
         return Ok(Some(None));

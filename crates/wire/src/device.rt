@@ -1,5 +1,6 @@
 //! Where request bytes come from, and where reply bytes go.
-ghost use Rattle.std.specs.Prelude.{◌≡◌, ◌<◌, ◌≤◌, [], ◌+◌, ◌-◌, ◌^◌, ℕ, List, Option, Some, None, IfOk, OnOk, OnErr, length, take, nat_lt, if◌then◌else◌};
+ghost use Rattle.std.specs.Prelude.{◌≡◌, ◌<◌, ◌≤◌, [], ◌+◌, ◌-◌, ◌^◌, ℕ, List, Option, Some, None};
+ghost use Rattle.std.specs.Prelude.{IfOk, OnOk, OnErr, length, take, nat_lt, if◌then◌else◌};
 ghost use Rattle.std.specs.Io.KnownBytes.{Appends, Consumes, IsAtEnd, Keeps};
 ghost use Rattle.wire.specs.Devices.{AppendsFront, Rises, Puts};
 
@@ -31,7 +32,8 @@ pub trait Source {
     fn read(&mut self, buffer: &mut [u8]) -> Result<usize, DeviceFailed>
         requires room { 0 < length buffer.old }
         ensures count { IfOk result (λ n. n ≤ length buffer.new) }
-        ensures bytes { IfOk result (λ n. Consumes (left self.old) (left self.new) (take n buffer.new)) }
+        ensures bytes { IfOk result (λ n.
+            Consumes (left self.old) (left self.new) (take n buffer.new)) }
         ensures end { IfOk result (λ n. n ≡ 0 → IsAtEnd (left self.old)) }
         ensures fewer { IfOk result (λ n. 0 < n → turns self.new < turns self.old) }
         ensures no_more { OnOk result (turns self.new ≤ turns self.old) }
@@ -54,7 +56,8 @@ pub trait Sink {
         requires some { 0 < length bytes.now }
         ensures count { IfOk result (λ n. n ≤ length bytes.now) }
         ensures progress { IfOk result (λ n. 0 < n) }
-        ensures bytes { IfOk result (λ n. Appends (taken self.old) (taken self.new) (take n bytes.now)) }
+        ensures bytes { IfOk result (λ n.
+            Appends (taken self.old) (taken self.new) (take n bytes.now)) }
         ensures ok { OnOk result (failures self.new ≡ failures self.old) }
         ensures failed { OnErr result (Rises (failures self.old) (failures self.new)) }
         ensures kept { OnErr result (Keeps (taken self.old) (taken self.new)) };

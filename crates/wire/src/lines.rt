@@ -1,5 +1,8 @@
 //! Lines out of a source that gives some bytes at a time.
-ghost use Rattle.std.specs.Prelude.{◌≡◌, ◌≢◌, ◌<◌, ◌≤◌, ◌+◌, ◌-◌, ℕ, List, [], ◌∷◌, ◌++◌, IfOk, IfErr, OnOk, OnErr, IfSome, MatchOption, Bool, true, false, length, take, drop, slice_index, slice_range, vec_len, vec_capacity};
+ghost use Rattle.std.specs.Prelude.{◌≡◌, ◌≢◌, ◌<◌, ◌≤◌, ◌+◌, ◌-◌, ℕ, List, [], ◌∷◌, ◌++◌, IfOk};
+ghost use Rattle.std.specs.Prelude.{IfErr, OnOk, OnErr, IfSome, MatchOption, Bool, true, false};
+ghost use Rattle.std.specs.Prelude.{length, take, drop, slice_index, slice_range, vec_len};
+ghost use Rattle.std.specs.Prelude.{vec_capacity};
 ghost use Rattle.std.specs.Io.KnownBytes.{IsAtEnd, Consumes, Keeps as Same};
 ghost use Rattle.wire.specs.Devices.{Rises};
 ghost use Rattle.wire.specs.Lines.{EachOther, NoFeed, Keeps, longest_line, BeginsWithLine};
@@ -105,7 +108,8 @@ impl Lines {
     fn move_piece(&mut self, fits: bool) -> Moved
         ensures piece { (piece : List ℕ) × NoFeed piece
             × Moves result.ended (pending self.old) (pending self.new) piece
-            × (length piece + feed_len result.ended + (self.new.end - self.new.start) ≡ self.old.end - self.old.start)
+            × (length piece + feed_len result.ended + (self.new.end - self.new.start)
+            ≡ self.old.end - self.old.start)
             × ((seen : List ℕ) → Keeps fits self.old.line.items seen
             → Keeps result.fits self.new.line.items (seen ++ piece)) }
         ensures emptied { result.ended ≡ false → self.new.start ≡ self.new.end }
@@ -128,10 +132,13 @@ impl Lines {
     // Reads more bytes, and gives whether there are any.
     fn fill<S: Source>(&mut self, source: &mut S) -> Result<bool, DeviceFailed>
         requires { self.old.start ≡ self.old.end }
-        ensures bytes { OnOk result (Consumes (S.left source.old) (S.left source.new) (pending self.new)) }
-        ensures end { IfOk result (λ more. more ≡ false → IsAtEnd (S.left source.old) × (self.new.start ≡ self.new.end)) }
+        ensures bytes { OnOk result
+            (Consumes (S.left source.old) (S.left source.new) (pending self.new)) }
+        ensures end { IfOk result (λ more. more ≡ false → IsAtEnd (S.left source.old)
+            × (self.new.start ≡ self.new.end)) }
         ensures some { IfOk result (λ more. more ≡ true → self.new.start < self.new.end) }
-        ensures fewer { OnOk result (work self.new (S.turns source.new) ≤ work self.old (S.turns source.old)) }
+        ensures fewer { OnOk result (work self.new (S.turns source.new)
+            ≤ work self.old (S.turns source.old)) }
         ensures kept { OnOk result (self.new.line ≡ self.old.line) }
         ensures ok { OnOk result (S.failures source.new ≡ S.failures source.old) }
         ensures failed { OnErr result (Rises (S.failures source.old) (S.failures source.new)) }
@@ -145,10 +152,13 @@ impl Lines {
 
     // Sees that bytes are pending, and gives whether there are any.
     fn ready<S: Source>(&mut self, source: &mut S) -> Result<bool, DeviceFailed>
-        ensures same { OnOk result (Same (ahead self.old (S.left source.old)) (ahead self.new (S.left source.new))) }
-        ensures end { IfOk result (λ more. more ≡ false → IsAtEnd (ahead self.old (S.left source.old))) }
+        ensures same { OnOk result
+            (Same (ahead self.old (S.left source.old)) (ahead self.new (S.left source.new))) }
+        ensures end { IfOk result (λ more. more ≡ false
+            → IsAtEnd (ahead self.old (S.left source.old))) }
         ensures some { IfOk result (λ more. more ≡ true → self.new.start < self.new.end) }
-        ensures fewer { OnOk result (work self.new (S.turns source.new) ≤ work self.old (S.turns source.old)) }
+        ensures fewer { OnOk result (work self.new (S.turns source.new)
+            ≤ work self.old (S.turns source.old)) }
         ensures kept { OnOk result (self.new.line ≡ self.old.line) }
         ensures ok { OnOk result (S.failures source.new ≡ S.failures source.old) }
         ensures failed { OnErr result (Rises (S.failures source.old) (S.failures source.new)) }
@@ -169,7 +179,8 @@ impl Lines {
     ) -> Result<Option<bool>, DeviceFailed>
         ensures line { IfOk result (λ o. MatchOption o
             (IsAtEnd (ahead self.old (S.left source.old)))
-            (λ fits. BeginsWithLine (ahead self.old (S.left source.old)) (ahead self.new (S.left source.new)) fits self.new.line.items)) }
+            (λ fits. BeginsWithLine (ahead self.old (S.left source.old))
+            (ahead self.new (S.left source.new)) fits self.new.line.items)) }
         ensures fewer { IfOk result (λ o. IfSome o
             (λ _. work self.new (S.turns source.new) < work self.old (S.turns source.old))) }
         ensures ok { OnOk result (S.failures source.new ≡ S.failures source.old) }

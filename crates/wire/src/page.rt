@@ -33,7 +33,8 @@ impl Page {
 
     /// Gives the sink what is held.
     pub(crate) fn turn<K: Sink>(&mut self, sink: &mut K)
-        ensures writes { Writes (K.taken sink.old) (K.failures sink.old) self.old (K.taken sink.new) (K.failures sink.new) self.new [] }
+        ensures writes { Writes (K.taken sink.old) (K.failures sink.old) self.old (K.taken sink.new)
+            (K.failures sink.new) self.new [] }
         ensures empty { self.new.bytes.items ≡ [] }
     {
         if !self.going {
@@ -47,7 +48,8 @@ impl Page {
     // Adds bytes that do not fit behind those that were held.
     fn add_to_empty<K: Sink>(&mut self, sink: &mut K, bytes: &[u8])
         requires { self.old.bytes.items ≡ [] }
-        ensures { Writes (K.taken sink.old) (K.failures sink.old) self.old (K.taken sink.new) (K.failures sink.new) self.new bytes.now }
+        ensures { Writes (K.taken sink.old) (K.failures sink.old) self.old (K.taken sink.new)
+            (K.failures sink.new) self.new bytes.now }
     {
         if !self.going {
             return;
@@ -60,7 +62,8 @@ impl Page {
 
     /// Adds bytes to the line. Nothing more is written once a write has failed.
     pub(crate) fn add<K: Sink>(&mut self, sink: &mut K, bytes: &[u8])
-        ensures { Writes (K.taken sink.old) (K.failures sink.old) self.old (K.taken sink.new) (K.failures sink.new) self.new bytes.now }
+        ensures { Writes (K.taken sink.old) (K.failures sink.old) self.old (K.taken sink.new)
+            (K.failures sink.new) self.new bytes.now }
     {
         if self.bytes.try_extend_from_slice(bytes).is_ok() {
             return;
@@ -71,7 +74,8 @@ impl Page {
 
     /// Adds the decimal digits of a number.
     pub(crate) fn add_digits<K: Sink>(&mut self, sink: &mut K, number: u64)
-        ensures { Writes (K.taken sink.old) (K.failures sink.old) self.old (K.taken sink.new) (K.failures sink.new) self.new (decimal number) }
+        ensures { Writes (K.taken sink.old) (K.failures sink.old) self.old (K.taken sink.new)
+            (K.failures sink.new) self.new (decimal number) }
     {
         if number < 10 {
             self.add(sink, &[b'0' + number as u8]);
@@ -83,14 +87,16 @@ impl Page {
 
     /// Adds the decimal digits of a place.
     pub(crate) fn add_place<K: Sink>(&mut self, sink: &mut K, place: usize)
-        ensures { Writes (K.taken sink.old) (K.failures sink.old) self.old (K.taken sink.new) (K.failures sink.new) self.new (decimal place) }
+        ensures { Writes (K.taken sink.old) (K.failures sink.old) self.old (K.taken sink.new)
+            (K.failures sink.new) self.new (decimal place) }
     {
         self.add_digits(sink, place as u64);
     }
 
     /// Adds a number in decimal.
     pub(crate) fn add_number<K: Sink>(&mut self, sink: &mut K, number: i64)
-        ensures { Writes (K.taken sink.old) (K.failures sink.old) self.old (K.taken sink.new) (K.failures sink.new) self.new (signed_decimal number) }
+        ensures { Writes (K.taken sink.old) (K.failures sink.old) self.old (K.taken sink.new)
+            (K.failures sink.new) self.new (signed_decimal number) }
     {
         if number < 0 {
             self.add(sink, b"-");

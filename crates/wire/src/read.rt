@@ -1,10 +1,12 @@
 //! From lines to requests.
-ghost use Rattle.std.specs.Prelude.{◌≡◌, ◌<◌, ◌≤◌, IfOk, IfErr, IfSome, OnOk, OnErr, MatchOption, length};
+ghost use Rattle.std.specs.Prelude.{◌≡◌, ◌<◌, ◌≤◌, IfOk, IfErr, IfSome, OnOk, OnErr, MatchOption};
+ghost use Rattle.std.specs.Prelude.{length};
 ghost use Rattle.std.specs.List.{list_all};
 ghost use Rattle.wire.specs.Devices.{Rises};
 ghost use Rattle.wire.specs.Lines.{longest_line};
 ghost use Rattle.wire.specs.Held.{ahead, work, HoldsNothing};
-ghost use Rattle.wire.specs.Requests.{is_blank_byte, asked_in, call_in, json_of, Reads, BeginsWithRequest, HasNoRequest};
+ghost use Rattle.wire.specs.Requests.{is_blank_byte, asked_in, call_in, json_of, Reads};
+ghost use Rattle.wire.specs.Requests.{BeginsWithRequest, HasNoRequest};
 
 use crate::decode::request_of;
 use crate::device::Source;
@@ -22,6 +24,7 @@ fn is_blank(line: &[u8]) -> bool
 }
 
 /// The request that a line of at most 65,536 bytes is.
+#[tactic(auto, using(crate::proofs::Reading::value_fits))]
 fn short_request(alloc: Global, line: &[u8]) -> Result<Request, WireFault>
     ensures { Reads (call_in (json_of line.now)) result }
 {
@@ -69,7 +72,8 @@ pub fn next_request<S: Source>(
 ) -> Result<Option<Result<Request, WireFault>>, ScriptFault>
     ensures request { IfOk result (λ o. MatchOption o
         (HasNoRequest (ahead lines.old (S.left source.old)))
-        (λ read. BeginsWithRequest (ahead lines.old (S.left source.old)) (ahead lines.new (S.left source.new)) read)) }
+        (λ read. BeginsWithRequest (ahead lines.old (S.left source.old))
+        (ahead lines.new (S.left source.new)) read)) }
     ensures fewer { IfOk result (λ o. IfSome o
         (λ _. work lines.new (S.turns source.new) < work lines.old (S.turns source.old))) }
     ensures ok { OnOk result (S.failures source.new ≡ S.failures source.old) }

@@ -7,7 +7,9 @@ ghost use Rattle.reference.specs.CallViews.{handed_of};
 ghost use Rattle.reference.specs.FaultTexts.{place_text};
 ghost use Rattle.wire.specs.Devices.{Puts};
 ghost use Rattle.wire.specs.Paged.{Writes};
-ghost use Rattle.wire.specs.Printed.{value_text, after_commas, row_text, rows_text, operator_text, operators_text, wire_fault_text, line_of, answer_of, error_line};
+ghost use Rattle.wire.specs.Printed.{value_text, after_commas, row_text, rows_text, operator_text};
+ghost use Rattle.wire.specs.Printed.{operators_text, wire_fault_text, line_of, answer_of};
+ghost use Rattle.wire.specs.Printed.{error_line};
 
 use crate::device::Sink;
 use crate::fault::ScriptFault;
@@ -66,7 +68,8 @@ fn add_row<K: Sink>(sink: &mut K, page: &mut Page, at: i64, row: &Row)
 #[tactic(auto, using(crate::proofs::Printing::writes_both))]
 fn add_more_rows<K: Sink>(sink: &mut K, page: &mut Page, rows: &[(i64, Row)])
     ensures { Writes (K.taken sink.old) (K.failures sink.old) page.old
-        (K.taken sink.new) (K.failures sink.new) page.new (after_commas row_text (handed_of rows.now)) }
+        (K.taken sink.new) (K.failures sink.new) page.new
+        (after_commas row_text (handed_of rows.now)) }
 {
     for (at, row) in rows {
         page.add(sink, b",");
@@ -125,7 +128,8 @@ fn add_operator<K: Sink>(sink: &mut K, page: &mut Page, kind: Kind, slope: Slope
 #[tactic(auto, using(crate::proofs::Printing::writes_both))]
 fn add_more_operators<K: Sink>(sink: &mut K, page: &mut Page, operators: &[(Kind, Slope)])
     ensures { Writes (K.taken sink.old) (K.failures sink.old) page.old
-        (K.taken sink.new) (K.failures sink.new) page.new (after_commas operator_text operators.now) }
+        (K.taken sink.new) (K.failures sink.new) page.new
+        (after_commas operator_text operators.now) }
 {
     for (kind, slope) in operators {
         page.add(sink, b",");
@@ -168,7 +172,8 @@ fn add_place<K: Sink>(sink: &mut K, page: &mut Page, place: Option<usize>)
 #[tactic(auto, using(crate::proofs::Printing::writes_both))]
 fn add_error<K: Sink>(sink: &mut K, page: &mut Page, name: &str, place: Option<usize>)
     ensures { Writes (K.taken sink.old) (K.failures sink.old) page.old
-        (K.taken sink.new) (K.failures sink.new) page.new (error_line (name.now ++ place_text place)) }
+        (K.taken sink.new) (K.failures sink.new) page.new
+        (error_line (name.now ++ place_text place)) }
 {
     page.add(sink, b"{\"error\":\"");
     page.add(sink, name.as_bytes());

@@ -1,10 +1,14 @@
 //! Scripts of requests.
-ghost use Rattle.std.specs.Prelude.{◌≡◌, ◌<◌, ◌≤◌, ℕ, List, Result, Ok, IfErr, OnOk, OnErr, false, ◌⊎◌};
+ghost use Rattle.std.specs.Prelude.{◌≡◌, ◌<◌, ◌≤◌, ℕ, List, Result, Ok, IfErr, OnOk, OnErr, false};
+ghost use Rattle.std.specs.Prelude.{◌⊎◌};
 ghost use Rattle.wire.specs.Devices.{Puts, Rises};
-ghost use Rattle.wire.specs.Calls.{Call, append, heartbeat, drain, take_rows, discard, show_plan, call_of};
+ghost use Rattle.wire.specs.Calls.{Call, append, heartbeat, drain, take_rows, discard, show_plan};
+ghost use Rattle.wire.specs.Calls.{call_of};
 ghost use Rattle.wire.specs.Printed.{Answer, answer_of, line_of};
 ghost use Rattle.wire.specs.Requests.{Reads, requests_of};
-ghost use Rattle.wire.specs.Script.{answered, done_of, is_scarce_reply, script, Says, Begins, Runs, Scripts, Stands, TellsScarcity, HasRunOut, RestsOn, Replies, served};
+ghost use Rattle.wire.specs.Script.{answered, done_of, is_scarce_answer, is_scarce_reply, script};
+ghost use Rattle.wire.specs.Script.{served, Says, Begins, Runs, Scripts, Stands, TellsScarcity};
+ghost use Rattle.wire.specs.Script.{AnswersCall, RestsOn, Replies};
 ghost use Rattle.wire.specs.declared.request.WireFault.{WireFault};
 
 use crate::device::{Sink, Source};
@@ -27,8 +31,10 @@ fn done<T: Drop>(answer: Result<T, Fault>) -> Reply
 }
 
 fn append<E: Answering>(engine: &mut E, stream: &str, rows: &NewRows) -> Reply
-    ensures replies { Replies (E.world engine.old) (Ok (append stream.now rows.now)) (answer_of result) (E.world engine.new) }
+    ensures answers { AnswersCall (E.world engine.old) (append stream.now rows.now)
+        (answer_of result) (E.world engine.new) }
     ensures whole { E.is_whole engine.old → E.is_whole engine.new }
+    ensures spent { E.has_numbers engine.new → E.has_numbers engine.old }
 {
     match engine.stream_named(stream) {
         Some(number) => done(engine.append(number, rows)),
@@ -37,8 +43,10 @@ fn append<E: Answering>(engine: &mut E, stream: &str, rows: &NewRows) -> Reply
 }
 
 fn heartbeat<E: Answering>(engine: &mut E, stream: &str, at: i64) -> Reply
-    ensures replies { Replies (E.world engine.old) (Ok (heartbeat stream.now at)) (answer_of result) (E.world engine.new) }
+    ensures answers { AnswersCall (E.world engine.old) (heartbeat stream.now at)
+        (answer_of result) (E.world engine.new) }
     ensures whole { E.is_whole engine.old → E.is_whole engine.new }
+    ensures spent { E.has_numbers engine.new → E.has_numbers engine.old }
 {
     match engine.stream_named(stream) {
         Some(number) => done(engine.heartbeat(number, at)),
@@ -47,20 +55,26 @@ fn heartbeat<E: Answering>(engine: &mut E, stream: &str, at: i64) -> Reply
 }
 
 // By turns of at most so many rows.
-#[tactic(auto, using(crate::proofs::Turns::drain_replies, crate::proofs::Turns::drain_rests, crate::proofs::Turns::drain_leaves_whole))]
+#[tactic(auto, using(crate::proofs::Turns::drain_answers, crate::proofs::Turns::drain_rests, crate::proofs::Turns::drain_leaves_whole))]
 fn drain<E: Answering>(engine: &mut E, rows: u32) -> Reply
     requires rows { 0 < rows × rows ≤ 1024 }
-    ensures replies { E.is_whole engine.old → Replies (E.world engine.old) (Ok drain) (answer_of result) (E.world engine.new) }
+    ensures answers { E.is_whole engine.old
+        → AnswersCall (E.world engine.old) drain (answer_of result) (E.world engine.new) }
     ensures rests { E.is_whole engine.old
-        → RestsOn (HasRunOut E.has_numbers) (Ok drain) (answer_of result) }
-    ensures whole { E.is_whole engine.old → is_scarce_reply (Ok drain) (answer_of result) ≡ false → E.is_whole engine.new }
+        → RestsOn (¬ E.has_numbers engine.new) (Ok drain) (answer_of result) }
+    ensures whole { E.is_whole engine.old → is_scarce_answer drain (answer_of result) ≡ false
+        → E.is_whole engine.new }
+    ensures spent { E.has_numbers engine.new → E.has_numbers engine.old }
 {
     done(engine.drain(rows))
 }
 
 fn take<E: Answering>(engine: &mut E, query: &str, limit: i64) -> Reply
-    ensures replies { E.is_whole engine.old → Replies (E.world engine.old) (Ok (take_rows query.now limit)) (answer_of result) (E.world engine.new) }
+    ensures answers { E.is_whole engine.old
+        → AnswersCall (E.world engine.old) (take_rows query.now limit) (answer_of result)
+        (E.world engine.new) }
     ensures whole { E.is_whole engine.old → E.is_whole engine.new }
+    ensures spent { E.has_numbers engine.new → E.has_numbers engine.old }
 {
     let Some(number) = engine.query_named(query) else {
         return Reply::Refused(Fault::UnknownQuery);
@@ -72,8 +86,10 @@ fn take<E: Answering>(engine: &mut E, query: &str, limit: i64) -> Reply
 }
 
 fn discard<E: Answering>(engine: &mut E, query: &str) -> Reply
-    ensures replies { Replies (E.world engine.old) (Ok (discard query.now)) (answer_of result) (E.world engine.new) }
+    ensures answers { AnswersCall (E.world engine.old) (discard query.now) (answer_of result)
+        (E.world engine.new) }
     ensures whole { E.is_whole engine.old → E.is_whole engine.new }
+    ensures spent { E.has_numbers engine.new → E.has_numbers engine.old }
 {
     match engine.query_named(query) {
         Some(number) => done(engine.drop_query(number)),
@@ -82,7 +98,8 @@ fn discard<E: Answering>(engine: &mut E, query: &str) -> Reply
 }
 
 fn show_plan<E: Answering>(engine: &E, query: &str) -> Reply
-    ensures { Replies (E.world engine.now) (Ok (show_plan query.now)) (answer_of result) (E.world engine.now) }
+    ensures { AnswersCall (E.world engine.now) (show_plan query.now) (answer_of result)
+        (E.world engine.now) }
 {
     let Some(number) = engine.query_named(query) else {
         return Reply::Refused(Fault::UnknownQuery);
@@ -94,12 +111,20 @@ fn show_plan<E: Answering>(engine: &E, query: &str) -> Reply
 }
 
 /// Runs a request on an engine. A drain's turns have at most `rows` rows, 1 to 1,024.
+///
+/// The answer is the machine's, unless it is want of memory, which no drop is answered, or, of a
+/// drain, want of numbers for turns: then the engine has none left.
 pub fn answer<E: Answering>(engine: &mut E, request: &Request, rows: u32) -> Reply
     requires rows { 0 < rows × rows ≤ 1024 }
-    ensures replies { E.is_whole engine.old → Replies (E.world engine.old) (Ok (call_of request.now)) (answer_of result) (E.world engine.new) }
+    ensures answers { E.is_whole engine.old
+        → AnswersCall (E.world engine.old) (call_of request.now) (answer_of result)
+        (E.world engine.new) }
     ensures rests { E.is_whole engine.old
-        → RestsOn (HasRunOut E.has_numbers) (Ok (call_of request.now)) (answer_of result) }
-    ensures whole { E.is_whole engine.old → is_scarce_reply (Ok (call_of request.now)) (answer_of result) ≡ false → E.is_whole engine.new }
+        → RestsOn (¬ E.has_numbers engine.new) (Ok (call_of request.now)) (answer_of result) }
+    ensures whole { E.is_whole engine.old
+        → is_scarce_answer (call_of request.now) (answer_of result) ≡ false
+        → E.is_whole engine.new }
+    ensures spent { E.has_numbers engine.new → E.has_numbers engine.old }
 {
     match request {
         Request::Stream {
@@ -125,9 +150,10 @@ fn serve<E: Answering>(engine: &mut E, read: Result<Request, WireFault>, rows: u
     ensures serves { E.is_whole engine.old → (defined : Result Call WireFault) → Reads defined read
         → Replies (E.world engine.old) defined (answer_of result) (E.world engine.new) }
     ensures rests { E.is_whole engine.old → (defined : Result Call WireFault) → Reads defined read
-        → RestsOn (HasRunOut E.has_numbers) defined (answer_of result) }
+        → RestsOn (¬ E.has_numbers engine.new) defined (answer_of result) }
     ensures whole { E.is_whole engine.old → (defined : Result Call WireFault) → Reads defined read
         → is_scarce_reply defined (answer_of result) ≡ false → E.is_whole engine.new }
+    ensures spent { E.has_numbers engine.new → E.has_numbers engine.old }
 {
     match read {
         Ok(request) => answer(engine, &request, rows),
@@ -144,11 +170,15 @@ fn respond<K: Sink, E: Answering>(
 ) -> Result<(), ScriptFault>
     requires rows { 0 < rows × rows ≤ 1024 }
     ensures written { (answer : Answer)
-        × (E.is_whole engine.old → (defined : Result Call WireFault) → Reads defined read → Replies (E.world engine.old) defined answer (E.world engine.new))
         × (E.is_whole engine.old → (defined : Result Call WireFault) → Reads defined read
-        → RestsOn (HasRunOut E.has_numbers) defined answer)
-        × (E.is_whole engine.old → (defined : Result Call WireFault) → Reads defined read → is_scarce_reply defined answer ≡ false → E.is_whole engine.new)
-        × Puts (K.taken sink.old) (K.taken sink.new) (K.failures sink.old) (K.failures sink.new) result (line_of answer) }
+        → Replies (E.world engine.old) defined answer (E.world engine.new))
+        × (E.is_whole engine.old → (defined : Result Call WireFault) → Reads defined read
+        → RestsOn (¬ E.has_numbers engine.new) defined answer)
+        × (E.is_whole engine.old → (defined : Result Call WireFault) → Reads defined read
+        → is_scarce_reply defined answer ≡ false → E.is_whole engine.new)
+        × Puts (K.taken sink.old) (K.taken sink.new) (K.failures sink.old)
+        (K.failures sink.new) result (line_of answer) }
+    ensures spent { E.has_numbers engine.new → E.has_numbers engine.old }
     ensures fault { IfErr result (λ e. e ≡ ScriptFault.Write) }
 {
     let reply = serve(engine, read, rows);
@@ -161,7 +191,8 @@ fn respond<K: Sink, E: Answering>(
 ///
 /// What is written is the script's text of what the source gave, up to the first reply that says
 /// want of memory, or, to a drain, of numbers for turns, from which on it rests with the engine.
-/// Want of numbers is told only where the engine has none. Where no reply says so, the engine is
+/// Want of numbers is told only where the engine has none, and then it has none afterwards. A drop
+/// is told want of memory only for the reading of its line. Where no reply says so, the engine is
 /// whole at the end. `ScriptFault::Read` and `ScriptFault::Write` where that device failed: then
 /// what is written is a beginning of that text, and the calls carried out stand: the engine is as
 /// they left it. `ScriptFault::Memory` where the line's buffers were refused, before anything was
@@ -175,26 +206,30 @@ pub fn run_script<S: Source, K: Sink, E: Answering>(
 ) -> Result<(), ScriptFault>
     requires rows { 0 < rows × rows ≤ 1024 }
     requires whole { E.is_whole engine.old }
-    ensures text { OnOk result (Scripts (λ text written. Says (HasRunOut E.has_numbers)
+    ensures text { OnOk result (Scripts (λ text written. Says (¬ E.has_numbers engine.new)
         (requests_of text) (script (E.world engine.old) text) written)
         (S.left source.old) (K.taken sink.old) (K.taken sink.new)) }
-    ensures begun { OnErr result (Scripts (λ text written. Begins (HasRunOut E.has_numbers)
+    ensures begun { OnErr result (Scripts (λ text written. Begins (¬ E.has_numbers engine.new)
         (requests_of text) (script (E.world engine.old) text) written)
         (S.left source.old) (K.taken sink.old) (K.taken sink.new)) }
-    ensures ran { OnOk result (Scripts (λ text written. Runs (HasRunOut E.has_numbers)
+    ensures ran { OnOk result (Scripts (λ text written. Runs (¬ E.has_numbers engine.new)
         (E.world engine.old) (requests_of text) written (E.world engine.new))
         (S.left source.old) (K.taken sink.old) (K.taken sink.new)) }
-    ensures stands { OnErr result (Scripts (λ text written. Stands (HasRunOut E.has_numbers)
+    ensures stands { OnErr result (Scripts (λ text written. Stands (¬ E.has_numbers engine.new)
         (E.world engine.old) (requests_of text) written (E.world engine.new))
         (S.left source.old) (K.taken sink.old) (K.taken sink.new)) }
     ensures kept { OnOk result (Scripts (λ text written. E.is_whole engine.new
-        ⊎ TellsScarcity (HasRunOut E.has_numbers) (requests_of text) written)
+        ⊎ TellsScarcity (¬ E.has_numbers engine.new) (requests_of text) written)
         (S.left source.old) (K.taken sink.old) (K.taken sink.new)) }
+    ensures spent { E.has_numbers engine.new → E.has_numbers engine.old }
     ensures read { IfErr result (λ e. e ≡ ScriptFault.Read
-        → Rises (S.failures source.old) (S.failures source.new) × (K.failures sink.new ≡ K.failures sink.old)) }
+        → Rises (S.failures source.old) (S.failures source.new)
+        × (K.failures sink.new ≡ K.failures sink.old)) }
     ensures write { IfErr result (λ e. e ≡ ScriptFault.Write
-        → Rises (K.failures sink.old) (K.failures sink.new) × (S.failures source.new ≡ S.failures source.old)) }
-    ensures sound { OnOk result ((S.failures source.new ≡ S.failures source.old) × (K.failures sink.new ≡ K.failures sink.old)) }
+        → Rises (K.failures sink.old) (K.failures sink.new)
+        × (S.failures source.new ≡ S.failures source.old)) }
+    ensures sound { OnOk result ((S.failures source.new ≡ S.failures source.old)
+        × (K.failures sink.new ≡ K.failures sink.old)) }
     ensures memory { IfErr result (λ e. e ≡ ScriptFault.Memory
         → (source.new ≡ source.old) × (sink.new ≡ sink.old) × (engine.new ≡ engine.old)) }
 {

@@ -1,19 +1,20 @@
 //! What clients call.
-ghost use Rattle.std.specs.Prelude.{◌≡◌, ◌≢◌, ℕ, Err, None, OnErr, OnOk, slice_get};
+ghost use Rattle.std.specs.Prelude.{◌≡◌, ◌≢◌, ℕ, Err, IfOk, None, OnErr, OnOk, slice_get};
 ghost use Rattle.std.specs.Option.{option_copied};
 ghost use Rattle.plan.specs.Chart.{given_by};
 ghost use Rattle.reference.specs.CallViews.{handed_of, texts_of};
-ghost use Rattle.reference.specs.Machine.{Registered};
-ghost use Rattle.reference.specs.World.{Does, Drains, IsPlenty, append_step, declare_step, drain_step, drop_step, heartbeat_step, register_step, take_step};
+ghost use Rattle.reference.specs.Steps.{AreNext};
+ghost use Rattle.reference.specs.World.{Does, Drains, IsPlenty, append_step, declare_step};
+ghost use Rattle.reference.specs.World.{drain_step, drop_step, heartbeat_step, register_step};
+ghost use Rattle.reference.specs.World.{take_step};
 ghost use Rattle.reference.specs.declared.fault.Fault.TheVariants.{OutOfMemory, TooManyLeases};
 ghost use Rattle.stream_store.specs.Closing.{QueuesGain};
-ghost use Rattle.laws_queries.specs.Queries.{PlainQuery};
 ghost use Rattle.run_queue.specs.Slots.{first_of};
-ghost use Rattle.laws_engine.specs.Calls.{appended, beaten, declared, dropped, registered};
+ghost use Rattle.laws_engine.specs.Calls.{appended, beaten, declared, dropped};
 ghost use Rattle.laws_engine.specs.Promises.{HasAllWaiting, KeepsItsPromises};
 ghost use Rattle.leases.specs.Drains.{LeavesOthers, RunsTurns};
 ghost use Rattle.leases.specs.Queues.{LeavesQueues, LengthensQueues};
-ghost use Rattle.leases.specs.Registering.{IsRegistered};
+ghost use Rattle.leases.specs.Registering.{Registers};
 ghost use Rattle.leases.specs.Shown.{engine_in, world_in};
 ghost use Rattle.leases.specs.Takes.{Takes};
 ghost use Rattle.leases.specs.Whole.{HasNumbers, IsWhole};
@@ -32,48 +33,71 @@ impl Answering for Engine {
     ghost has_numbers = { HasNumbers };
 
     fn stream(&mut self, name: &str, columns: &[String], from: i64) -> Result<u64, Fault>
-        ensures does { Does (λ (n : ℕ). n) (world_in self.old) (declare_step (world_in self.old) name.now (texts_of columns.now) from) result (world_in self.new) }
+        ensures does { Does (λ (n : ℕ). n) (world_in self.old)
+            (declare_step (world_in self.old) name.now (texts_of columns.now) from) result
+            (world_in self.new) }
         ensures whole { IsWhole self.old → IsWhole self.new }
-        ensures engine { OnOk result (engine_in self.new ≡ declared (engine_in self.old) name.now (texts_of columns.now) from) }
+        ensures spent { HasNumbers self.new → HasNumbers self.old }
+        ensures engine { OnOk result (engine_in self.new
+            ≡ declared (engine_in self.old) name.now (texts_of columns.now) from) }
         ensures err { OnErr result (engine_in self.new ≡ engine_in self.old) }
+        ensures promises { KeepsItsPromises (engine_in self.new) }
     {
         self.state.declare(name, columns, from)
     }
 
     fn query(&mut self, name: &str, text: &str, chart: Option<&Chart>) -> Result<u64, Fault>
-        ensures does { Does (λ (n : ℕ). n) (world_in self.old) (register_step (world_in self.old) name.now text.now (given_by (option_copied chart.entry))) result (world_in self.new) }
+        ensures does { Does (λ (n : ℕ). n) (world_in self.old)
+            (register_step (world_in self.old) name.now text.now
+            (given_by (option_copied chart.entry))) result (world_in self.new) }
         ensures whole { IsWhole self.old → IsWhole self.new }
-        ensures engine { OnOk result ((q : Registered) × ((p : PlainQuery) × (IsRegistered (engine_in self.old) name.now text.now (given_by (option_copied chart.entry)) q p × (engine_in self.new ≡ registered (engine_in self.old) q p)))) }
+        ensures spent { HasNumbers self.new → HasNumbers self.old }
+        ensures engine { OnOk result
+            (Registers (engine_in self.old) name.now text.now
+            (given_by (option_copied chart.entry)) (engine_in self.new)) }
         ensures err { OnErr result (engine_in self.new ≡ engine_in self.old) }
+        ensures promises { KeepsItsPromises (engine_in self.new) }
     {
         self.state.query(name, text, chart)
     }
 
     fn append(&mut self, stream: u64, rows: &NewRows) -> Result<(), Fault>
-        ensures does { Does (λ u. u) (world_in self.old) (append_step (world_in self.old) stream rows.now) result (world_in self.new) }
+        ensures does { Does (λ u. u) (world_in self.old)
+            (append_step (world_in self.old) stream rows.now) result (world_in self.new) }
         ensures whole { IsWhole self.old → IsWhole self.new }
-        ensures engine { OnOk result (engine_in self.new ≡ appended (engine_in self.old) stream rows.now) }
+        ensures spent { HasNumbers self.new → HasNumbers self.old }
+        ensures engine { OnOk result (engine_in self.new
+            ≡ appended (engine_in self.old) stream rows.now) }
         ensures queues { LeavesQueues (engine_in self.old) (engine_in self.new) }
         ensures err { OnErr result (engine_in self.new ≡ engine_in self.old) }
+        ensures promises { KeepsItsPromises (engine_in self.new) }
     {
         self.state.append(stream, rows)
     }
 
     fn heartbeat(&mut self, stream: u64, at: i64) -> Result<(), Fault>
-        ensures does { Does (λ u. u) (world_in self.old) (heartbeat_step (world_in self.old) stream at) result (world_in self.new) }
+        ensures does { Does (λ u. u) (world_in self.old)
+            (heartbeat_step (world_in self.old) stream at) result (world_in self.new) }
         ensures whole { IsWhole self.old → IsWhole self.new }
+        ensures spent { HasNumbers self.new → HasNumbers self.old }
         ensures engine { OnOk result (engine_in self.new ≡ beaten (engine_in self.old) stream at) }
-        ensures closes { OnOk result (QueuesGain (slice_get (engine_in self.old).machine.streams stream) at) }
-        ensures queues { OnOk result (LengthensQueues stream at (engine_in self.old) (engine_in self.new)) }
+        ensures closes { OnOk result
+            (QueuesGain (slice_get (engine_in self.old).machine.streams stream) at) }
+        ensures queues { OnOk result
+            (LengthensQueues stream at (engine_in self.old) (engine_in self.new)) }
         ensures err { OnErr result (engine_in self.new ≡ engine_in self.old) }
+        ensures promises { KeepsItsPromises (engine_in self.new) }
     {
         self.state.heartbeat(stream, at)
     }
 
     #[tactic(auto, using(crate::proofs::DrainLemmas::drain_machine))]
     fn drain(&mut self, rows: u32) -> Result<(), Fault>
-        ensures does { IsWhole self.old → Drains (world_in self.old) (drain_step (world_in self.old) rows) result (world_in self.new) }
+        ensures does { IsWhole self.old
+            → Drains (world_in self.old) (drain_step (world_in self.old) rows) result
+            (world_in self.new) }
         ensures whole { IsWhole self.old → IsPlenty result → IsWhole self.new }
+        ensures spent { HasNumbers self.new → HasNumbers self.old }
         ensures numbers { IsWhole self.old → result ≡ Err TooManyLeases → ¬ HasNumbers self.new }
         ensures stays_whole { IsWhole self.old → result ≢ Err OutOfMemory → IsWhole self.new }
         ensures runs { RunsTurns (engine_in self.old) rows result (engine_in self.new) }
@@ -87,9 +111,15 @@ impl Answering for Engine {
     }
 
     fn take(&mut self, query: u64, limit: i64) -> Result<Vec<(i64, Row)>, Fault>
-        ensures does { IsWhole self.old → Does (λ v. handed_of v.items) (world_in self.old) (take_step (world_in self.old) query limit) result (world_in self.new) }
+        ensures does { IsWhole self.old
+            → Does (λ v. handed_of v.items) (world_in self.old)
+            (take_step (world_in self.old) query limit) result (world_in self.new) }
         ensures whole { IsWhole self.old → IsWhole self.new }
-        ensures takes { Takes (λ v. handed_of v.items) (engine_in self.old) query limit result (engine_in self.new) }
+        ensures spent { HasNumbers self.new → HasNumbers self.old }
+        ensures next { IfOk result (λ v.
+            AreNext (world_in self.old).machine query limit (handed_of v.items)) }
+        ensures takes { Takes (λ v. handed_of v.items) (engine_in self.old) query limit result
+            (engine_in self.new) }
         ensures promises { KeepsItsPromises (engine_in self.new) }
     {
         self.state.take(query, limit)
@@ -99,8 +129,10 @@ impl Answering for Engine {
         ensures does { result ≡ (drop_step (world_in self.old) query).0 }
         ensures world { world_in self.new ≡ (drop_step (world_in self.old) query).1 }
         ensures whole { IsWhole self.old → IsWhole self.new }
+        ensures spent { HasNumbers self.new → HasNumbers self.old }
         ensures engine { OnOk result (engine_in self.new ≡ dropped (engine_in self.old) query) }
         ensures err { OnErr result (engine_in self.new ≡ engine_in self.old) }
+        ensures promises { KeepsItsPromises (engine_in self.new) }
     {
         self.state.drop_query(query)
     }
@@ -109,11 +141,13 @@ impl Answering for Engine {
         self.state.slopes(query)
     }
 
+    #[tactic(auto, unfolding(reference::specs::World::stream_named))]
     fn stream_named(&self, name: &str) -> Option<u64> {
-        self.state.stream_named(name)
+        self.state.streams.named(name)
     }
 
+    #[tactic(auto, unfolding(reference::specs::World::query_named))]
     fn query_named(&self, name: &str) -> Option<u64> {
-        self.state.query_named(name)
+        self.state.query_number(name).map(|number| number as u64)
     }
 }

@@ -18,6 +18,7 @@ impl Engine {
         ensures empty { engine_in result ≡ empty_engine }
         ensures world { world_in result ≡ world.empty }
         ensures whole { IsWhole result }
+        ensures promises { KeepsItsPromises (engine_in result) }
     {
         Engine {
             state: State::new(alloc),
@@ -28,7 +29,7 @@ impl Engine {
     pub fn leases_out(&self) -> usize
         ensures { result ≡ length (engine_in self.now).leases }
     {
-        self.state.leases_out()
+        self.state.leases.len()
     }
 
     /// How many answers of the query of a number wait. They stand behind those that were taken, and

@@ -88,9 +88,9 @@ impl State {
         let above = self.above(slot.query(), slot.operator());
         self.next += 1;
         self.apply(done.into_parts())?;
-        self.retell_slot(slot);
+        self.update_slot(slot);
         if let Some(above) = &above {
-            self.retell_slot(above);
+            self.update_slot(above);
         }
         Ok(())
     }

@@ -6,15 +6,19 @@ ghost use Rattle.turn.specs.Finished.{IsDone};
 ghost use Rattle.reference.specs.declared.fault.Fault.TheVariants.{OutOfMemory};
 ghost use Rattle.laws_queries.specs.Queries.{PlainQuery};
 ghost use Rattle.laws_engine.specs.Engines.{Broken, Running};
-ghost use Rattle.leases.specs.Applied.{GivesNothing, HasApplied, HasWiredOperators, IsAbove, IsApplied, IsBroken, IsOutIn, IsRetold, IsTurn, MayApply, MayApplyIn, without_turn};
+ghost use Rattle.leases.specs.Applied.{Forgets, GivesNothing, HasApplied, HasWiredOperators};
+ghost use Rattle.leases.specs.Applied.{IsAbove, IsApplied, IsBroken, IsOutIn, IsTurn, IsUpdated};
+ghost use Rattle.leases.specs.Applied.{MayApply, MayApplyIn, without_turn};
 ghost use Rattle.leases.specs.Asked.{HasOperatorAt, IsRunningAt};
+ghost use Rattle.leases.specs.Readers.{with_slots, with_update};
 ghost use Rattle.leases.specs.Shown.{engine_in};
 ghost use Rattle.leases.specs.Sound.{IsSound};
 ghost use Rattle.leases.specs.Turns.{Finishes};
 ghost use Rattle.leases.specs.Views.{kept_of};
 
-use crate::given::Given;
+use crate::given::{Given, end_turns_of};
 use crate::kept::KeptQuery;
+use crate::reader::forget_readers;
 use crate::state::State;
 use reference::Fault;
 use run_queue::Slot;
@@ -40,7 +44,8 @@ impl State {
 
     /// The turn of a number, if it is out.
     pub(crate) fn turn_out(&self, number: u64) -> Option<&Given>
-        ensures { option_map (λ g. g.now) result ≡ find (λ g. g.number == number) self.now.leases.items }
+        ensures { option_map (λ g. g.now) result
+            ≡ find (λ g. g.number == number) self.now.leases.items }
     {
         self.leases.iter().find(|given| given.number == number)
     }
@@ -50,8 +55,10 @@ impl State {
         requires sound { IsSound self.old }
         requires out { IsOutIn (engine_in self.old) parts }
         requires done { IsDone parts }
-        ensures back { OnOk result (Finishes (engine_in self.old) parts (Ok tt) (engine_in self.new)) }
-        ensures err { OnErr result (Finishes (engine_in self.old) parts (Err OutOfMemory) (engine_in self.new)) }
+        ensures back { OnOk result
+            (Finishes (engine_in self.old) parts (Ok tt) (engine_in self.new)) }
+        ensures err { OnErr result
+            (Finishes (engine_in self.old) parts (Err OutOfMemory) (engine_in self.new)) }
         ensures sound { IsSound self.new }
     {
         let lease = parts.lease;
@@ -61,9 +68,9 @@ impl State {
         let above = self.above(query, operator);
         self.apply(parts)?;
         self.end_turn(lease);
-        self.retell_slot(&slot);
+        self.update_slot(&slot);
         if let Some(above) = &above {
-            self.retell_slot(above);
+            self.update_slot(above);
         }
         Ok(())
     }
@@ -87,8 +94,10 @@ impl State {
     pub(crate) fn apply(&mut self, parts: Parts) -> Result<(), AllocError>
         requires { MayApplyIn (engine_in self.old) parts }
         ensures ok { OnOk result (HasApplied (engine_in self.old) parts (engine_in self.new)) }
-        ensures err { OnErr result (IsBroken (engine_in self.old) parts.node.query (engine_in self.new)) }
-        ensures rest { GivesNothing self.old self.new }
+        ensures err { OnErr result
+            (IsBroken (engine_in self.old) parts.node.query (engine_in self.new)) }
+        ensures rest { OnOk result (GivesNothing self.old self.new) }
+        ensures forgets { OnErr result (Forgets parts.node.query self.old self.new) }
     {
         let query = parts.node.query;
         match take_turn(&mut self.kept[query as usize], &self.streams, parts) {
@@ -108,25 +117,28 @@ impl State {
         self.leases.retain(|given| given.number != lease);
     }
 
-    /// The slot's operator has something else to take, or nothing.
-    pub(crate) fn retell_slot(&mut self, slot: &Slot)
+    /// Gives the slot the instant of what its operator may take next, or none.
+    pub(crate) fn update_slot(&mut self, slot: &Slot)
         requires { HasOperatorAt (engine_in self.old) slot.now.query slot.now.operator }
-        ensures slot { IsRetold (engine_in self.old) slot.now (engine_in self.new) }
+        ensures state { self.new
+            ≡ with_slots self.old (with_update (engine_in self.old) slot.now self.old.slots) }
+        ensures slot { IsUpdated (engine_in self.old) slot.now (engine_in self.new) }
         ensures rest { GivesNothing self.old self.new }
     {
         let instant = self.instant(slot.query(), slot.operator());
         self.slots.change(*slot, instant);
     }
 
-    /// The query runs no more: its turns end, its slots leave, and what waits can be taken still.
-    /// Takes no memory.
+    /// Breaks the query: its turns end, its slots and windows leave, and what waits can be taken
+    /// still. Takes no memory.
     fn break_query(&mut self, query: u64)
         requires { IsRunningAt (engine_in self.old) query }
         ensures engine { IsBroken (engine_in self.old) query (engine_in self.new) }
-        ensures rest { GivesNothing self.old self.new }
+        ensures forgets { Forgets query self.old self.new }
     {
         self.kept[query as usize].give_up();
-        self.leases.retain(|given| given.node.query != query);
+        end_turns_of(&mut self.leases, query);
+        forget_readers(&mut self.readers, query);
         self.slots.drop_query(query);
     }
 }
@@ -147,8 +159,10 @@ fn is_turn(given: &Given, parts: &Parts) -> bool
 /// The running query takes the turn. After an error only its answers are as they were.
 fn take_turn(kept: &mut KeptQuery, streams: &Streams, parts: Parts) -> Result<(), AllocError>
     requires { (p : PlainQuery) × ((kept_of kept.old ≡ Running p) × MayApply streams.now p parts) }
-    ensures ok { OnOk result ((p : PlainQuery) → kept_of kept.old ≡ Running p → (p2 : PlainQuery) × ((kept_of kept.new ≡ Running p2) × IsApplied streams.now p parts p2)) }
-    ensures err { OnErr result ((p : PlainQuery) → kept_of kept.old ≡ Running p → (p2 : PlainQuery) × ((kept_of kept.new ≡ Running p2) × (p2.answers ≡ p.answers))) }
+    ensures ok { OnOk result ((p : PlainQuery) → kept_of kept.old ≡ Running p → (p2 : PlainQuery)
+        × ((kept_of kept.new ≡ Running p2) × IsApplied streams.now p parts p2)) }
+    ensures err { OnErr result ((p : PlainQuery) → kept_of kept.old ≡ Running p → (p2 : PlainQuery)
+        × ((kept_of kept.new ≡ Running p2) × (p2.answers ≡ p.answers))) }
 {
     let Parts {
         lease: _,

@@ -44,7 +44,8 @@ impl State {
         requires few { length self.old.leases.items < MAX_LEASES }
         requires numbers { self.old.next < LEASE_NUMBERS }
         requires allowed { lease_fault (engine_in self.old) rows ≡ None }
-        ensures turn { IfOk result (λ turn. IsTurnOf (engine_in self.old) rows turn (engine_in self.new)) }
+        ensures turn { IfOk result (λ turn.
+            IsTurnOf (engine_in self.old) rows turn (engine_in self.new)) }
         ensures err { OnErr result (engine_in self.new ≡ engine_in self.old) }
         ensures sound { IsSound self.new }
     {
@@ -64,7 +65,8 @@ impl State {
     pub(crate) fn side(&self, query: u64, operator: usize) -> Side
         requires sound { IsSound self.now }
         requires ready { IsReadyAt (engine_in self.now) query operator }
-        ensures { (rows : ℕ) → 0 < rows → MayLeaseOn (engine_in self.now) query operator result rows }
+        ensures { (rows : ℕ) → 0 < rows
+            → MayLeaseOn (engine_in self.now) query operator result rows }
     {
         match self.running(query).ready(&self.streams, operator) {
             Some((side, _)) => side,

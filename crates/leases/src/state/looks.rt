@@ -4,7 +4,8 @@ ghost use Rattle.reference.specs.Commands.{Drop, first_fault};
 ghost use Rattle.reference.specs.Machine.{Registered};
 ghost use Rattle.reference.specs.Told.{IsTold};
 ghost use Rattle.laws_queries.specs.Queries.{PlainQuery};
-ghost use Rattle.laws_engine.specs.Engines.{Running, instant_at, is_leased, kept_at, query_at, slope_at, slot_at};
+ghost use Rattle.laws_engine.specs.Engines.{Running, instant_at, is_leased, kept_at, query_at};
+ghost use Rattle.laws_engine.specs.Engines.{slope_at, slot_at};
 ghost use Rattle.leases.specs.Asked.{HasOperatorAt, IsRunningAt};
 ghost use Rattle.leases.specs.Shown.{engine_in};
 ghost use Rattle.leases.specs.Views.{query_of};
@@ -53,13 +54,6 @@ impl State {
         }
     }
 
-    /// How many turns are out.
-    pub(crate) fn leases_out(&self) -> usize
-        ensures { result ≡ length (engine_in self.now).leases }
-    {
-        self.leases.len()
-    }
-
     /// The running query of a number.
     pub(crate) fn running(&self, query: u64) -> &RunningQuery
         requires { IsRunningAt (engine_in self.now) query }
@@ -82,7 +76,9 @@ impl State {
     /// out.
     pub(crate) fn instant(&self, query: u64, operator: usize) -> Option<u64>
         requires { HasOperatorAt (engine_in self.now) query operator }
-        ensures { (q : Registered) (p : PlainQuery) → query_at (engine_in self.now) query ≡ Some q → kept_at (engine_in self.now) query ≡ Running p → result ≡ instant_at (engine_in self.now) query q p operator }
+        ensures { (q : Registered) (p : PlainQuery) → query_at (engine_in self.now) query ≡ Some q
+            → kept_at (engine_in self.now) query ≡ Running p
+            → result ≡ instant_at (engine_in self.now) query q p operator }
     {
         if self.is_leased(query, operator) {
             return None;
@@ -96,7 +92,9 @@ impl State {
     /// The slot of the operator.
     pub(crate) fn slot(&self, query: u64, operator: usize) -> Slot
         requires { HasOperatorAt (engine_in self.now) query operator }
-        ensures { (q : Registered) (p : PlainQuery) → query_at (engine_in self.now) query ≡ Some q → kept_at (engine_in self.now) query ≡ Running p → result ≡ slot_at (engine_in self.now) query q p operator }
+        ensures { (q : Registered) (p : PlainQuery) → query_at (engine_in self.now) query ≡ Some q
+            → kept_at (engine_in self.now) query ≡ Running p
+            → result ≡ slot_at (engine_in self.now) query q p operator }
     {
         let slope = slope_of(&self.registered[query as usize], operator);
         Slot::new(slope, self.instant(query, operator), query, operator)

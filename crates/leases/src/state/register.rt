@@ -1,5 +1,6 @@
 //! Queries that are registered.
-ghost use Rattle.std.specs.Prelude.{◌≡◌, ◌<◌, ◌≤◌, ◌+◌, ℕ, false, not, count_by, [], IfOk, IfSome, None, OnErr, OnOk, length, map};
+ghost use Rattle.std.specs.Prelude.{◌≡◌, ◌<◌, ◌≤◌, ◌+◌, ◌++◌, ℕ, false, not, count_by, [], IfOk};
+ghost use Rattle.std.specs.Prelude.{IfSome, None, OnErr, OnOk, length, map};
 ghost use Rattle.std.specs.Option.{option_copied};
 ghost use Rattle.std.specs.Vec.{vec_capacity, vec_len};
 ghost use Rattle.names.specs.Faults.{first_of};
@@ -19,8 +20,9 @@ ghost use Rattle.laws_engine.specs.Engines.{GoodEngine};
 ghost use Rattle.laws_engine.specs.Accepted.{IsBegun, IsPlanOfText, newest};
 ghost use Rattle.query_runtime.specs.Turns.{IsBeginning};
 ghost use Rattle.values.specs.Resolved.{resolved_of};
-ghost use Rattle.leases.specs.Readers.{HasSource, HaveCome, reader_in};
-ghost use Rattle.leases.specs.Registering.{IsNewQuery, IsRegistered, new_slot, with_first};
+ghost use Rattle.leases.specs.Readers.{HasSource, reader_in, windows_from};
+ghost use Rattle.leases.specs.Registering.{IsNewQuery, Registers, RegistersPlan, new_slot};
+ghost use Rattle.leases.specs.Registering.{with_first};
 ghost use Rattle.leases.specs.Shown.{engine_in, world_in};
 ghost use Rattle.leases.specs.Sound.{IsSound};
 ghost use Rattle.leases.specs.Views.{place_of, query_of};
@@ -47,8 +49,12 @@ impl State {
         chart: Option<&Chart>,
     ) -> Result<u64, Fault>
         requires { IsSound self.old }
-        ensures does { Does (λ (n : ℕ). n) (world_in self.old) (register_step (world_in self.old) name.now text.now (given_by (option_copied chart.entry))) result (world_in self.new) }
-        ensures engine { OnOk result ((q : Registered) × ((p : PlainQuery) × (IsRegistered (engine_in self.old) name.now text.now (given_by (option_copied chart.entry)) q p × (engine_in self.new ≡ registered (engine_in self.old) q p)))) }
+        ensures does { Does (λ (n : ℕ). n) (world_in self.old)
+            (register_step (world_in self.old) name.now text.now
+            (given_by (option_copied chart.entry))) result (world_in self.new) }
+        ensures engine { OnOk result
+            (Registers (engine_in self.old) name.now text.now
+            (given_by (option_copied chart.entry)) (engine_in self.new)) }
         ensures err { OnErr result (engine_in self.new ≡ engine_in self.old) }
         ensures sound { IsSound self.new }
     {
@@ -85,8 +91,12 @@ impl State {
 
     /// The plan of the text over the declared streams.
     fn find(&self, text: &str, chart: Option<&Chart>) -> Result<Plan, Fault>
-        ensures finds { Finds (found (engine_in self.now).machine text.now (given_by (option_copied chart.entry))) result }
-        ensures plan { IfOk result (IsPlanOfText (engine_in self.now).machine text.now (given_by (option_copied chart.entry))) }
+        ensures finds { Finds
+            (found (engine_in self.now).machine text.now (given_by (option_copied chart.entry)))
+            result }
+        ensures plan { IfOk result
+            (IsPlanOfText (engine_in self.now).machine text.now
+            (given_by (option_copied chart.entry))) }
     {
         let catalog = self.streams.catalog()?;
         find_plan(self.alloc, &catalog, text, chart)
@@ -97,9 +107,14 @@ impl State {
         requires sound { IsSound self.old }
         requires fresh { first_of (register_tests (engine_in self.old).machine name.now) ≡ None }
         requires may { MayMake plan.meaning.windows.items plan.widths.items plan.nodes.items }
-        requires good { (p : PlainQuery) → IsBegun plan (newest (engine_in self.old).machine name.now plan) p → GoodEngine (registered (engine_in self.old) (newest (engine_in self.old).machine name.now plan) p) }
+        requires good { (p : PlainQuery)
+            → IsBegun plan (newest (engine_in self.old).machine name.now plan) p
+            → GoodEngine
+            (registered (engine_in self.old)
+            (newest (engine_in self.old).machine name.now plan) p) }
         ensures number { IfOk result (λ n. n ≡ length (engine_in self.old).machine.queries) }
-        ensures engine { OnOk result ((p : PlainQuery) × (IsBegun plan (newest (engine_in self.old).machine name.now plan) p × (engine_in self.new ≡ registered (engine_in self.old) (newest (engine_in self.old).machine name.now plan) p))) }
+        ensures engine { OnOk result
+            (RegistersPlan (engine_in self.old) name.now plan (engine_in self.new)) }
         ensures err { OnErr result (engine_in self.new ≡ engine_in self.old) }
         ensures sound { IsSound self.new }
     {
@@ -131,7 +146,8 @@ impl State {
         requires live { (query_of told).is_dropped ≡ false }
         requires good { GoodEngine (registered (engine_in self.old) (query_of told) running) }
         ensures number { IfOk result (λ n. n ≡ length (engine_in self.old).machine.queries) }
-        ensures engine { OnOk result (engine_in self.new ≡ registered (engine_in self.old) (query_of told) running) }
+        ensures engine { OnOk result (engine_in self.new
+            ≡ registered (engine_in self.old) (query_of told) running) }
         ensures err { OnErr result (engine_in self.new ≡ engine_in self.old) }
         ensures sound { IsSound self.new }
     {
@@ -186,7 +202,8 @@ fn first_for(streams: &Streams, numbers: &[usize]) -> u64
 
 /// The sources that are registered now.
 fn places_of(alloc: Global, streams: &Streams, numbers: &[usize]) -> Result<Vec<Place>, AllocError>
-    ensures { IfOk result (λ v. map place_of v.items ≡ map (place_at (machine_of streams.now)) numbers.now) }
+    ensures { IfOk result (λ v. map place_of v.items
+        ≡ map (place_at (machine_of streams.now)) numbers.now) }
 {
     let mut places = Vec::new(alloc);
     for number in numbers {
@@ -229,7 +246,10 @@ fn running_of(
     first: u64,
 ) -> Result<RunningQuery, AllocError>
     requires { MayMake plan.now.meaning.windows.items plan.now.widths.items plan.now.nodes.items }
-    ensures { IfOk result (IsBeginning plan.now.meaning.windows.items plan.now.widths.items (map (λ p. (place_of p).stream) places.now) (map (λ p. (place_of p).arrivals) places.now) first plan.now.nodes.items) }
+    ensures { IfOk result
+        (IsBeginning plan.now.meaning.windows.items plan.now.widths.items
+        (map (λ p. (place_of p).stream) places.now)
+        (map (λ p. (place_of p).arrivals) places.now) first plan.now.nodes.items) }
 {
     let numbers = numbers_of(alloc, places)?;
     let lengths = lengths_of(alloc, places)?;
@@ -280,7 +300,8 @@ fn put_slots(
 ) -> Result<(), AllocError>
     requires operators { IsNewQuery streams.now running.now slopes.now }
     requires new { without_query number slots.old ≡ slots.old }
-    ensures ok { OnOk result (slots.new ≡ with_first streams.now running.now slopes.now number (length slopes.now) slots.old) }
+    ensures ok { OnOk result (slots.new
+        ≡ with_first streams.now running.now slopes.now number (length slopes.now) slots.old) }
     ensures err { OnErr result (slots.new ≡ slots.old) }
 {
     for operator in 0..slopes.len() {
@@ -313,9 +334,13 @@ fn new_slot(
 
 /// The windows of a new query are listed as readers behind the others. There is room for them.
 fn put_readers(readers: &mut Vec<Reader>, query: &Registration, number: u64)
-    requires room { vec_len readers.old + length (query_of query.now).nodes ≤ vec_capacity readers.old }
-    requires sources { (k : ℕ) → k < length (query_of query.now).nodes → HasSource (query_of query.now) (node_at (query_of query.now) k) }
-    ensures { HaveCome (query_of query.now) number (length (query_of query.now).nodes) readers.old.items readers.new.items }
+    requires room { vec_len readers.old + length (query_of query.now).nodes
+        ≤ vec_capacity readers.old }
+    requires sources { (k : ℕ) → k < length (query_of query.now).nodes
+        → HasSource (query_of query.now) (node_at (query_of query.now) k) }
+    ensures { readers.new.items
+        ≡ readers.old.items
+        ++ windows_from (query_of query.now) number 0 (query_of query.now).nodes }
 {
     for operator in 0..query.plan.nodes.len() {
         if let Some(reader) = reader_of(query, number, operator) {
@@ -328,7 +353,8 @@ fn put_readers(readers: &mut Vec<Reader>, query: &Registration, number: u64)
 fn reader_of(query: &Registration, number: u64, operator: usize) -> Option<Reader>
     requires within { operator < length (query_of query.now).nodes }
     requires source { HasSource (query_of query.now) (node_at (query_of query.now) operator) }
-    ensures { result ≡ reader_in (query_of query.now) number operator (node_at (query_of query.now) operator) }
+    ensures { result
+        ≡ reader_in (query_of query.now) number operator (node_at (query_of query.now) operator) }
 {
     match &query.plan.nodes[operator] {
         Node::Window(source) => Some(Reader {

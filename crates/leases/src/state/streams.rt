@@ -10,7 +10,8 @@ ghost use Rattle.laws_engine.specs.Engines.{GoodEngine, Running};
 ghost use Rattle.leases.specs.Asked.{HasOperatorAt};
 ghost use Rattle.query_runtime.specs.Turns.{HasOperator};
 ghost use Rattle.leases.specs.Queues.{LeavesQueues, LengthensQueues};
-ghost use Rattle.leases.specs.Readers.{resting_slot, resting_slots, rests, rests_in, told, told_all, with_slots};
+ghost use Rattle.leases.specs.Readers.{idle_slot, idle_slots, is_idle_at, is_idle_in, with_slots};
+ghost use Rattle.leases.specs.Readers.{with_updates};
 ghost use Rattle.leases.specs.Shown.{engine_in, world_in};
 ghost use Rattle.leases.specs.Sound.{IsSound};
 ghost use Rattle.leases.specs.Views.{kept_of};
@@ -32,8 +33,11 @@ impl State {
         from: i64,
     ) -> Result<u64, Fault>
         requires { IsSound self.old }
-        ensures does { Does (λ (n : ℕ). n) (world_in self.old) (declare_step (world_in self.old) name.now (texts_of columns.now) from) result (world_in self.new) }
-        ensures engine { OnOk result (engine_in self.new ≡ declared (engine_in self.old) name.now (texts_of columns.now) from) }
+        ensures does { Does (λ (n : ℕ). n) (world_in self.old)
+            (declare_step (world_in self.old) name.now (texts_of columns.now) from) result
+            (world_in self.new) }
+        ensures engine { OnOk result (engine_in self.new
+            ≡ declared (engine_in self.old) name.now (texts_of columns.now) from) }
         ensures err { OnErr result (engine_in self.new ≡ engine_in self.old) }
         ensures sound { IsSound self.new }
     {
@@ -43,8 +47,10 @@ impl State {
     /// Appends rows to the stream of a number.
     pub(crate) fn append(&mut self, stream: u64, rows: &NewRows) -> Result<(), Fault>
         requires { IsSound self.old }
-        ensures does { Does (λ u. u) (world_in self.old) (append_step (world_in self.old) stream rows.now) result (world_in self.new) }
-        ensures engine { OnOk result (engine_in self.new ≡ appended (engine_in self.old) stream rows.now) }
+        ensures does { Does (λ u. u) (world_in self.old)
+            (append_step (world_in self.old) stream rows.now) result (world_in self.new) }
+        ensures engine { OnOk result (engine_in self.new
+            ≡ appended (engine_in self.old) stream rows.now) }
         ensures queues { LeavesQueues (engine_in self.old) (engine_in self.new) }
         ensures err { OnErr result (engine_in self.new ≡ engine_in self.old) }
         ensures sound { IsSound self.new }
@@ -58,81 +64,81 @@ impl State {
     /// of the slots of those over the stream that had nothing to take.
     pub(crate) fn heartbeat(&mut self, stream: u64, at: i64) -> Result<(), Fault>
         requires { IsSound self.old }
-        ensures does { Does (λ u. u) (world_in self.old) (heartbeat_step (world_in self.old) stream at) result (world_in self.new) }
+        ensures does { Does (λ u. u) (world_in self.old)
+            (heartbeat_step (world_in self.old) stream at) result (world_in self.new) }
         ensures engine { OnOk result (engine_in self.new ≡ beaten (engine_in self.old) stream at) }
-        ensures closes { OnOk result (QueuesGain (slice_get (engine_in self.old).machine.streams stream) at) }
-        ensures queues { OnOk result (LengthensQueues stream at (engine_in self.old) (engine_in self.new)) }
+        ensures closes { OnOk result
+            (QueuesGain (slice_get (engine_in self.old).machine.streams stream) at) }
+        ensures queues { OnOk result
+            (LengthensQueues stream at (engine_in self.old) (engine_in self.new)) }
         ensures err { OnErr result (engine_in self.new ≡ engine_in self.old) }
         ensures sound { IsSound self.new }
     {
         let rows = self.streams.closing(stream, at)?;
-        let slots = self.resting(stream)?;
+        let slots = self.idle_readers(stream)?;
         self.streams.close(stream, at, &rows)?;
-        self.retell(&slots);
+        self.update_slots(&slots);
         Ok(())
     }
 
-    /// The slots of the readers of the stream that have nothing to take.
-    fn resting(&self, stream: u64) -> Result<Vec<Slot>, AllocError>
+    /// Lists the slots of the readers of the stream that have nothing to take.
+    fn idle_readers(&self, stream: u64) -> Result<Vec<Slot>, AllocError>
         requires { GoodEngine (engine_in self.now) }
-        ensures { IfOk result (λ slots. slots.items ≡ resting_slots (engine_in self.now) stream self.now.readers.items) }
+        ensures { IfOk result (λ slots. slots.items
+            ≡ idle_slots (engine_in self.now) stream self.now.readers.items) }
     {
         let mut slots = Vec::new(self.alloc);
         for place in 0..self.readers.len() {
             if self.readers[place].reads(stream) {
-                self.push_resting(&self.readers[place], &mut slots)?;
+                self.push_if_idle(&self.readers[place], &mut slots)?;
             }
         }
         Ok(slots)
     }
 
-    /// That of one comes behind the slots, if it has nothing to take.
-    fn push_resting(&self, reader: &Reader, slots: &mut Vec<Slot>) -> Result<(), AllocError>
+    /// Adds the reader's slot behind the others, if it has nothing to take.
+    fn push_if_idle(&self, reader: &Reader, slots: &mut Vec<Slot>) -> Result<(), AllocError>
         requires { GoodEngine (engine_in self.now) }
-        ensures { OnOk result (slots.new.items ≡ slots.old.items ++ resting_slot (engine_in self.now) reader.now.query reader.now.operator) }
+        ensures { OnOk result (slots.new.items
+            ≡ slots.old.items
+            ++ idle_slot (engine_in self.now) reader.now.query reader.now.operator) }
     {
-        if !self.rests(reader.query, reader.operator) {
+        if !self.is_idle(reader.query, reader.operator) {
             return Ok(());
         }
         slots.push(self.slot(reader.query, reader.operator))?;
         Ok(())
     }
 
-    /// Whether an operator is one of a query that runs, and has nothing to take.
-    fn rests(&self, query: u64, operator: usize) -> bool
+    /// Tells whether an operator is one of a query that runs, and has nothing to take.
+    fn is_idle(&self, query: u64, operator: usize) -> bool
         requires { GoodEngine (engine_in self.now) }
-        ensures { result ≡ rests (engine_in self.now) query operator }
+        ensures { result ≡ is_idle_at (engine_in self.now) query operator }
     {
         match self.kept.get(query as usize) {
-            Some(kept) => rests_in(&self.streams, operator, kept),
+            Some(kept) => is_idle_in(&self.streams, operator, kept),
             None => false,
         }
     }
 
-    /// Tells the slots, one after the other, what their operators may take now.
-    fn retell(&mut self, slots: &[Slot])
-        requires { AllByRecursion (λ s. HasOperatorAt (engine_in self.old) s.query s.operator) slots.now }
-        ensures { self.new ≡ with_slots self.old (told_all (engine_in self.old) slots.now self.old.slots) }
+    /// Gives each of the slots the instant of what its operator may take next, one after the other.
+    fn update_slots(&mut self, slots: &[Slot])
+        requires { AllByRecursion (λ s.
+            HasOperatorAt (engine_in self.old) s.query s.operator) slots.now }
+        ensures { self.new
+            ≡ with_slots self.old (with_updates (engine_in self.old) slots.now self.old.slots) }
     {
         for place in 0..slots.len() {
-            self.tell(&slots[place]);
+            self.update_slot(&slots[place]);
         }
-    }
-
-    /// Tells the slot what its operator may take now.
-    fn tell(&mut self, slot: &Slot)
-        requires { HasOperatorAt (engine_in self.old) slot.now.query slot.now.operator }
-        ensures { self.new ≡ with_slots self.old (told (engine_in self.old) slot.now self.old.slots) }
-    {
-        let instant = self.instant(slot.query(), slot.operator());
-        self.slots.change(*slot, instant);
     }
 }
 
-/// Whether an operator is one of a query that runs, and has nothing to take.
-fn rests_in(streams: &Streams, operator: usize, kept: &KeptQuery) -> bool
-    requires { (p : PlainQuery) → kept_of kept.now ≡ Running p → operator < length p.operators → HasOperator streams.now p operator }
-    ensures { result ≡ rests_in streams.now operator (kept_of kept.now) }
+/// Tells whether an operator is one of a query that runs, and has nothing to take.
+fn is_idle_in(streams: &Streams, operator: usize, kept: &KeptQuery) -> bool
+    requires { (p : PlainQuery) → kept_of kept.now ≡ Running p → operator < length p.operators
+        → HasOperator streams.now p operator }
+    ensures { result ≡ is_idle_in streams.now operator (kept_of kept.now) }
 {
     match kept {
         KeptQuery::Running(running) => {

@@ -1,5 +1,6 @@
 //! Answers that are handed out, and what clients look at.
-ghost use Rattle.std.specs.Prelude.{ℕ, ◌≡◌, ◌+◌, ◌++◌, ◌<◌, ◌^◌, IfOk, IfSome, None, OnOk, Some, length, map, pos, true};
+ghost use Rattle.std.specs.Prelude.{ℕ, ◌≡◌, ◌+◌, ◌++◌, ◌<◌, ◌^◌, IfOk, IfSome, None, OnOk, Some};
+ghost use Rattle.std.specs.Prelude.{length, map, pos, true};
 ghost use Rattle.std.specs.List.{zip};
 ghost use Rattle.std.specs.Option.{option_map};
 ghost use Rattle.plan.specs.Kinds.{kind_of};
@@ -10,10 +11,11 @@ ghost use Rattle.reference.specs.Inputs.{are_signed};
 ghost use Rattle.reference.specs.Machine as machine;
 ghost use Rattle.reference.specs.Machine.{Registered};
 ghost use Rattle.reference.specs.Told.{IsTold};
-ghost use Rattle.reference.specs.World.{Looks, operators_of, query_named, slopes_at, stream_named};
+ghost use Rattle.reference.specs.World.{Looks, operators_of, slopes_at};
 ghost use Rattle.query_runtime.specs.Turns.{HasOperator, log_of};
 ghost use Rattle.laws_engine.specs.Engines.{answers_in, kept_at, query_at};
-ghost use Rattle.leases.specs.Looks.{IsPending, WaitsAt, lengths_from, lengths_in, noughts_of, queues_of};
+ghost use Rattle.leases.specs.Looks.{IsPending, WaitsAt, lengths_from, lengths_in, noughts_of};
+ghost use Rattle.leases.specs.Looks.{queues_of};
 ghost use Rattle.leases.specs.Shown.{engine_in, world_in};
 ghost use Rattle.leases.specs.Sound.{IsSound};
 ghost use Rattle.leases.specs.Takes.{HandsOut, Takes};
@@ -34,7 +36,8 @@ impl State {
     /// Hands out the first answers that wait.
     pub(crate) fn take(&mut self, query: u64, limit: i64) -> Result<Vec<(i64, Row)>, Fault>
         requires { IsSound self.old }
-        ensures takes { Takes (λ v. handed_of v.items) (engine_in self.old) query limit result (engine_in self.new) }
+        ensures takes { Takes (λ v. handed_of v.items) (engine_in self.old) query limit result
+            (engine_in self.new) }
         ensures sound { IsSound self.new }
     {
         if let Some(fault) = self.take_fault(query, limit) {
@@ -46,8 +49,10 @@ impl State {
     /// Hands out the first answers that wait of a query that is there, at most `limit`.
     fn take_out(&mut self, query: u64, limit: usize) -> Result<Vec<(i64, Row)>, Fault>
         requires sound { IsSound self.old }
-        requires accepted { first_fault (engine_in self.old).machine (Take query (pos limit)) ≡ None }
-        ensures takes { Takes (λ v. handed_of v.items) (engine_in self.old) query (pos limit) result (engine_in self.new) }
+        requires accepted { first_fault (engine_in self.old).machine (Take query (pos limit))
+            ≡ None }
+        ensures takes { Takes (λ v. handed_of v.items) (engine_in self.old) query (pos limit) result
+            (engine_in self.new) }
         ensures sound { IsSound self.new }
     {
         let rows = hand_out(self.alloc, &mut self.kept[query as usize], limit)?;
@@ -106,7 +111,9 @@ impl State {
     fn lengths(&self, query: u64) -> Result<Vec<u128>, AllocError>
         requires sound { IsSound self.now }
         requires accepted { first_fault (engine_in self.now).machine (Drop query) ≡ None }
-        ensures { IfOk result (λ v. (q : Registered) → query_at (engine_in self.now) query ≡ Some q → v.items ≡ lengths_in (engine_in self.now).machine q (kept_at (engine_in self.now) query)) }
+        ensures { IfOk result (λ v. (q : Registered) → query_at (engine_in self.now) query ≡ Some q
+            → v.items ≡ lengths_in (engine_in self.now).machine q
+            (kept_at (engine_in self.now) query)) }
     {
         match &self.kept[query as usize] {
             KeptQuery::Running(running) => queues(
@@ -135,29 +142,13 @@ impl State {
 
     /// The query of a number that was not dropped.
     fn query_at(&self, query: u64) -> Option<&Registration>
-        ensures { option_map (λ q. query_of q.now) result ≡ machine.query_at (engine_in self.now).machine query }
+        ensures { option_map (λ q. query_of q.now) result
+            ≡ machine.query_at (engine_in self.now).machine query }
     {
         match self.registered.get(query as usize) {
             Some(registered) if !registered.is_dropped => Some(registered),
             _ => None,
         }
-    }
-
-    /// The number of the stream of a name.
-    #[tactic(auto, unfolding(reference::specs::World::stream_named))]
-    pub(crate) fn stream_named(&self, name: &str) -> Option<u64>
-        ensures { result ≡ stream_named (world_in self.now) name.now }
-    {
-        self.streams.named(name)
-    }
-
-    /// The number of the query of a name that was not dropped.
-    #[tactic(auto, unfolding(reference::specs::World::query_named))]
-    pub(crate) fn query_named(&self, name: &str) -> Option<u64>
-        requires { IsSound self.now }
-        ensures { result ≡ query_named (world_in self.now) name.now }
-    {
-        self.query_number(name).map(|number| number as u64)
     }
 
     /// The number of the query of a name that was not dropped.
@@ -177,11 +168,11 @@ fn hand_out(alloc: Global, kept: &mut KeptQuery, limit: usize) -> Result<Vec<(i6
 {
     match kept {
         KeptQuery::Running(query) => Ok(query.take(alloc, limit)?),
-        KeptQuery::Broken(query) => {
-            if query.waiting() == 0 {
+        KeptQuery::Broken(answers) => {
+            if answers.len() == 0 {
                 return Err(Fault::Broken);
             }
-            Ok(query.take(alloc, limit)?)
+            Ok(answers.take(alloc, limit)?)
         }
         KeptQuery::Dropped => Ok(Vec::new(alloc)),
     }
@@ -222,7 +213,8 @@ fn queues(
     nodes: &[Node],
 ) -> Result<Vec<u128>, AllocError>
     requires { (k : ℕ) → k < length nodes.now → HasOperator streams.now query.now k }
-    ensures { IfOk result (λ v. v.items ≡ lengths_from (log_of streams.now query.now) query.now 0 (nodes_of nodes.now)) }
+    ensures { IfOk result (λ v. v.items
+        ≡ lengths_from (log_of streams.now query.now) query.now 0 (nodes_of nodes.now)) }
 {
     let mut lengths = Vec::new(alloc);
     for k in 0..nodes.len() {
@@ -250,7 +242,8 @@ fn push_queues(
     left: u128,
     right: u128,
 ) -> Result<(), AllocError>
-    ensures { OnOk result (lengths.new.items ≡ lengths.old.items ++ queues_of (node_of node.now) left right) }
+    ensures { OnOk result (lengths.new.items
+        ≡ lengths.old.items ++ queues_of (node_of node.now) left right) }
 {
     lengths.push(left)?;
     if let Node::Join(_, _, _) = node {

@@ -22,7 +22,8 @@ pub(crate) fn remove_one(rows: &mut Vec<Row>, row: &Row)
 
 /// The first bag without the second, cut at nought.
 pub(crate) fn difference(mut rows: Vec<Row>, taken: &[Row]) -> Vec<Row>
-    ensures { rows_of result.items ≡ bags.bag_minus row_cmp (rows_of rows.items) (rows_of taken.now) }
+    ensures { rows_of result.items
+        ≡ bags.bag_minus row_cmp (rows_of rows.items) (rows_of taken.now) }
 {
     for row in taken {
         remove_one(&mut rows, row);

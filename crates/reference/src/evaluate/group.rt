@@ -21,7 +21,8 @@ use values::{Column, ListItem, MAX_COLUMNS, Row, Value, same_rows, value_at};
 /// Whether the combination has the key.
 pub(crate) fn has_key(by: &[Column], key: &Row, rows: &[&Row]) -> bool
     requires { length by.now ≤ MAX_COLUMNS }
-    ensures { result ≡ same_row key.now.items (relations.key_of (columns_of by.now) (lent_of rows.now)) }
+    ensures { result
+        ≡ same_row key.now.items (relations.key_of (columns_of by.now) (lent_of rows.now)) }
 {
     same_rows(key, &listed_row(by, rows))
 }
@@ -36,7 +37,8 @@ pub(crate) fn members<'a>(
     requires { length by.now ≤ MAX_COLUMNS }
     ensures { IfOk result
         (λ v. tables_of v.items
-        ≡ filter (λ rows. same_row key.now.items (relations.key_of (columns_of by.now) rows)) (tables_of all.now)) }
+        ≡ filter (λ rows. same_row key.now.items (relations.key_of (columns_of by.now) rows))
+        (tables_of all.now)) }
 {
     let mut chosen = Vec::new(alloc);
     for combination in all {
@@ -77,7 +79,8 @@ pub(crate) fn shown_sum(total: Option<i128>) -> Value
 pub(crate) fn sum_of(column: Column, group: &[Vec<&Row>]) -> Value
     requires { length group.now < 2 ^ 63 }
     ensures { result
-        ≡ option_map clamp_answer (reduce ◌+ℤ◌ (relations.numbers (column_of column) (tables_of group.now))) }
+        ≡ option_map clamp_answer
+        (reduce ◌+ℤ◌ (relations.numbers (column_of column) (tables_of group.now))) }
 {
     let mut total = None;
     for rows in group {
@@ -163,7 +166,8 @@ pub(crate) fn item_value(item: ListItem, key: &Row, group: &[Vec<&Row>]) -> Valu
 pub(crate) fn group_row(items: &[ListItem], key: &Row, group: &[Vec<&Row>]) -> Row
     requires few { length items.now ≤ MAX_COLUMNS }
     requires fits { length group.now < 2 ^ 63 }
-    ensures { result.items ≡ map (relations.item_value key.now.items (tables_of group.now)) (items_of items.now) }
+    ensures { result.items
+        ≡ map (relations.item_value key.now.items (tables_of group.now)) (items_of items.now) }
 {
     let mut row = Row::new();
     for item in items {
@@ -180,7 +184,8 @@ pub(crate) fn keys_of(
     all: &[Vec<&Row>],
 ) -> Result<Vec<Row>, AllocError>
     requires { length by.now ≤ MAX_COLUMNS }
-    ensures { IfOk result (λ v. rows_of v.items ≡ relations.keys_of (columns_of by.now) (tables_of all.now)) }
+    ensures { IfOk result (λ v. rows_of v.items
+        ≡ relations.keys_of (columns_of by.now) (tables_of all.now)) }
 {
     if by.is_empty() {
         let mut keys = Vec::new(alloc);
@@ -204,7 +209,8 @@ pub(crate) fn group_rows(
     requires few_items { length items.now ≤ MAX_COLUMNS }
     ensures { IfOk result
         (λ v. rows_of v.items
-        ≡ map (relations.group_row (columns_of by.now) (items_of items.now) (tables_of all.now)) (rows_of keys.now)) }
+        ≡ map (relations.group_row (columns_of by.now) (items_of items.now) (tables_of all.now))
+        (rows_of keys.now)) }
 {
     let mut rows = Vec::new(alloc);
     for key in keys {
@@ -225,7 +231,8 @@ pub(crate) fn grouped(
     requires few_items { length items.now ≤ MAX_COLUMNS }
     ensures { IfOk result
         (λ v. rows_of v.items
-        ≡ relations.shaped (relations.Grouped (columns_of by.now) (items_of items.now)) (tables_of all.now)) }
+        ≡ relations.shaped (relations.Grouped (columns_of by.now) (items_of items.now))
+        (tables_of all.now)) }
 {
     let keys = keys_of(alloc, by, all)?;
     group_rows(alloc, by, items, all, &keys)

@@ -28,7 +28,8 @@ pub(crate) fn same_partition(columns: &[usize], a: &Row, b: &Row) -> bool
 pub(crate) fn counts(columns: &[usize], at: u64, input: &[(u64, Row)], i: usize, j: usize) -> bool
     requires i_in { i < length input.now }
     requires j_in { j < length input.now }
-    ensures { result ≡ windows.counts columns.now at (element_at input.now i) (element_at input.now j) }
+    ensures { result
+        ≡ windows.counts columns.now at (element_at input.now i) (element_at input.now j) }
 {
     input[j].0 <= at && is_later(input, i, j) && same_partition(columns, &input[i].1, &input[j].1)
 }
@@ -36,7 +37,8 @@ pub(crate) fn counts(columns: &[usize], at: u64, input: &[(u64, Row)], i: usize,
 /// How many elements up to `at` of the partition of the element at `i` came later.
 pub(crate) fn count_later(columns: &[usize], at: u64, input: &[(u64, Row)], i: usize) -> usize
     requires { i < length input.now }
-    ensures { result ≡ windows.count_later columns.now at (elements_of input.now) (element_at input.now i) }
+    ensures { result
+        ≡ windows.count_later columns.now at (elements_of input.now) (element_at input.now i) }
 {
     let mut count = 0;
     for j in 0..input.len() {
@@ -52,7 +54,8 @@ pub(crate) fn shows(from: u64, window: &Window, at: u64, input: &[(u64, Row)], i
     requires i_in { i < length input.now }
     requires slides { CanSlide window.now }
     ensures { result
-        ≡ windows.shows from (window_of window.now) at (elements_of input.now) (element_at input.now i) }
+        ≡ windows.shows from (window_of window.now) at (elements_of input.now)
+        (element_at input.now i) }
 {
     let instant = input[i].0;
     match window {
@@ -78,7 +81,8 @@ pub(crate) fn window_rows<'a>(
 ) -> Result<Vec<&'a Row>, AllocError>
     requires { CanSlide window.now }
     ensures { IfOk result
-        (λ v. lent_of v.items ≡ windows.window_rows from (window_of window.now) at (elements_of input.now)) }
+        (λ v. lent_of v.items
+        ≡ windows.window_rows from (window_of window.now) at (elements_of input.now)) }
 {
     let mut rows = Vec::new(alloc);
     for i in 0..input.len() {

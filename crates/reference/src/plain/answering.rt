@@ -7,7 +7,7 @@ use crate::answering::Answering;
 use crate::fault::Fault;
 use crate::new_rows::NewRows;
 use crate::plain::Plain;
-use crate::plain::faults::turn_fault;
+use crate::refusals::turn_fault;
 use envelope::Slope;
 use plan::{Chart, Kind};
 use values::Row;
@@ -57,7 +57,8 @@ impl Answering for Plain {
 
     #[tactic(auto, unfolding(crate::specs::World::drain_step))]
     fn drain(&mut self, rows: u32) -> Result<(), Fault>
-        ensures does { Does (λ u. u) (world_of self.old) (drain_step (world_of self.old) rows) result (world_of self.new) }
+        ensures does { Does (λ u. u) (world_of self.old)
+            (drain_step (world_of self.old) rows) result (world_of self.new) }
     {
         if let Some(fault) = turn_fault(rows) {
             return Err(fault);
@@ -92,11 +93,11 @@ impl Answering for Plain {
 
     #[tactic(auto, unfolding(crate::specs::World::stream_named))]
     fn stream_named(&self, name: &str) -> Option<u64> {
-        self.stream_number(name).map(|number| number as u64)
+        self.stream_number(name)
     }
 
     #[tactic(auto, unfolding(crate::specs::World::query_named))]
     fn query_named(&self, name: &str) -> Option<u64> {
-        self.query_number(name).map(|number| number as u64)
+        self.query_number(name)
     }
 }

@@ -25,7 +25,8 @@ pub(crate) fn catalog_with(
     streams: &[Stream],
     stream: &Stream,
 ) -> Result<Catalog, AllocError>
-    ensures catalog { IfOk result (λ c. c ≡ catalog_of streams.now ++ catalog_of (stream.now ∷ [])) }
+    ensures catalog { IfOk result (λ c. c
+        ≡ catalog_of streams.now ++ catalog_of (stream.now ∷ [])) }
     ensures few { IfOk result (λ c. AllByRecursion (λ s. length s.columns ≤ 8) c) }
 {
     let mut catalog = catalog_of(alloc, streams)?;

@@ -1,7 +1,9 @@
 //! What an accepted call changes.
 ghost use Rattle.std.specs.List.{list_all};
-ghost use Rattle.std.specs.Prelude.{◌≡◌, IfOk, OnOk, OnErr, None, length, min, true, [], ◌∷◌, ◌++◌, nat_abs, drop, take, map};
-ghost use Rattle.reference.specs.Commands.{first_fault, register_tests, after, change, registered_as, Declare, Append, Heartbeat, Take, Drop};
+ghost use Rattle.std.specs.Prelude.{◌≡◌, IfOk, OnOk, OnErr, None, length, min, true, [], ◌∷◌, ◌++◌};
+ghost use Rattle.std.specs.Prelude.{nat_abs, drop, take, map};
+ghost use Rattle.reference.specs.Commands.{first_fault, register_tests, after, change};
+ghost use Rattle.reference.specs.Commands.{registered_as, Declare, Append, Heartbeat, Take, Drop};
 ghost use Rattle.reference.specs.CallViews.{texts_of, handed_of};
 ghost use Rattle.reference.specs.World.{handed, waiting_at, untaken};
 ghost use Rattle.reference.specs.PlainViews.{machine_in, world_of};
@@ -43,9 +45,14 @@ impl Plain {
         columns: &[String],
         from: i64,
     ) -> Result<u64, AllocError>
-        requires { first_fault (machine_in self.old) (Declare name.now (texts_of columns.now) from) ≡ None }
+        requires { first_fault (machine_in self.old) (Declare name.now (texts_of columns.now) from)
+            ≡ None }
         ensures number { IfOk result (λ n. n ≡ length self.old.streams.items) }
-        ensures ok { OnOk result (world_of self.new ≡ record (world_of self.old) { machine = after (machine_in self.old) (Declare name.now (texts_of columns.now) from) 0 }) }
+        ensures ok { OnOk result (world_of self.new
+            ≡ record (world_of self.old) {
+              machine = after (machine_in self.old)
+                  (Declare name.now (texts_of columns.now) from) 0;
+            }) }
         ensures err { OnErr result (world_of self.new ≡ world_of self.old) }
     {
         let columns = names_of(self.alloc, columns)?;
@@ -67,7 +74,15 @@ impl Plain {
         requires sources { length plan.meaning.windows.items ≡ length plan.streams.items }
         requires slides { all_slide plan.meaning.windows.items ≡ true }
         ensures number { IfOk result (λ n. n ≡ length self.old.queries.items) }
-        ensures ok { OnOk result (world_of self.new ≡ record { machine = record (machine_in self.old) { queries = (machine_in self.old).queries ++ registered_as (machine_in self.old) name.now (found_of plan) ∷ [] }; waiting = (world_of self.old).waiting ++ [] ∷ [] }) }
+        ensures ok { OnOk result (world_of self.new
+            ≡ record {
+              machine = record
+                  (machine_in self.old) {
+                    queries = (machine_in self.old).queries
+                        ++ registered_as (machine_in self.old) name.now (found_of plan) ∷ [];
+                  };
+              waiting = (world_of self.old).waiting ++ [] ∷ [];
+            }) }
         ensures err { OnErr result (world_of self.new ≡ world_of self.old) }
     {
         let own_name = String::from_str(self.alloc, name)?;
@@ -82,7 +97,11 @@ impl Plain {
     /// Appends the rows. On Err all is as it was.
     pub(crate) fn append_rows(&mut self, stream: u64, rows: &NewRows) -> Result<(), AllocError>
         requires { first_fault (machine_in self.old) (Append stream rows.now) ≡ None }
-        ensures ok { OnOk result (world_of self.new ≡ record (world_of self.old) { machine = after (machine_in self.old) (Append stream rows.now) 0 }) }
+        ensures ok { OnOk result (world_of self.new
+            ≡ record (world_of self.old) {
+              machine = after (machine_in self.old)
+                  (Append stream rows.now) 0;
+            }) }
         ensures err { OnErr result (world_of self.new ≡ world_of self.old) }
     {
         self.streams[stream as usize].append(rows)
@@ -91,7 +110,11 @@ impl Plain {
     /// Closes all instants of the stream up to `at`.
     pub(crate) fn close(&mut self, stream: u64, at: i64)
         requires { first_fault (machine_in self.old) (Heartbeat stream at) ≡ None }
-        ensures { world_of self.new ≡ record (world_of self.old) { machine = after (machine_in self.old) (Heartbeat stream at) 0 } }
+        ensures { world_of self.new
+            ≡ record (world_of self.old) {
+              machine = after (machine_in self.old)
+                  (Heartbeat stream at) 0;
+            } }
     {
         self.streams[stream as usize].close(at);
     }
@@ -99,9 +122,16 @@ impl Plain {
     /// Hands out the first answers that wait. On Err all is as it was.
     pub(crate) fn hand_out(&mut self, query: u64, limit: i64) -> Result<Vec<(i64, Row)>, AllocError>
         requires { first_fault (machine_in self.old) (Take query limit) ≡ None }
-        ensures rows { IfOk result (λ v. handed_of v.items ≡ handed (take (min (nat_abs limit) (length (waiting_at (world_of self.old) query))) (waiting_at (world_of self.old) query))) }
-        ensures machine { OnOk result (machine_in self.new ≡ after (machine_in self.old) (Take query limit) (min (nat_abs limit) (length (waiting_at (world_of self.old) query)))) }
-        ensures waiting { OnOk result ((world_of self.new).waiting ≡ change query (drop (min (nat_abs limit) (length (waiting_at (world_of self.old) query)))) (world_of self.old).waiting) }
+        ensures rows { IfOk result (λ v. handed_of v.items
+            ≡ handed (take (min (nat_abs limit) (length (waiting_at (world_of self.old) query)))
+            (waiting_at (world_of self.old) query))) }
+        ensures machine { OnOk result (machine_in self.new
+            ≡ after (machine_in self.old) (Take query limit)
+            (min (nat_abs limit) (length (waiting_at (world_of self.old) query)))) }
+        ensures waiting { OnOk result ((world_of self.new).waiting
+            ≡ change query
+            (drop (min (nat_abs limit) (length (waiting_at (world_of self.old) query))))
+            (world_of self.old).waiting) }
         ensures err { OnErr result (world_of self.new ≡ world_of self.old) }
     {
         self.queries[query as usize].take(self.alloc, limit as usize)
@@ -109,7 +139,11 @@ impl Plain {
 
     /// Makes the untaken answers of each query wait. On Err all is as it was.
     pub(crate) fn evaluate_all(&mut self) -> Result<(), AllocError>
-        ensures ok { OnOk result (world_of self.new ≡ record (world_of self.old) { waiting = map (untaken (machine_in self.old)) (machine_in self.old).queries }) }
+        ensures ok { OnOk result (world_of self.new
+            ≡ record (world_of self.old) {
+              waiting = map (untaken (machine_in self.old))
+                  (machine_in self.old).queries;
+            }) }
         ensures err { OnErr result (world_of self.new ≡ world_of self.old) }
     {
         refresh_all(&mut self.queries, self.alloc, &self.streams)
@@ -119,7 +153,8 @@ impl Plain {
     pub(crate) fn drop_out(&mut self, query: u64)
         requires { first_fault (machine_in self.old) (Drop query) ≡ None }
         ensures machine { machine_in self.new ≡ after (machine_in self.old) (Drop query) 0 }
-        ensures waiting { (world_of self.new).waiting ≡ change query (λ rows. []) (world_of self.old).waiting }
+        ensures waiting { (world_of self.new).waiting
+            ≡ change query (λ rows. []) (world_of self.old).waiting }
     {
         self.query_names.free(self.queries[query as usize].name());
         self.queries[query as usize].drop_out();
@@ -134,7 +169,8 @@ fn evaluate_each(
 ) -> Result<(), AllocError>
     ensures queries { map query_of queries.new ≡ map query_of queries.old }
     ensures waiting { map waiting_of queries.new ≡ map waiting_of queries.old }
-    ensures fresh { OnOk result (map fresh_of queries.new ≡ map (untaken (machine_of streams.now)) (map query_of queries.new)) }
+    ensures fresh { OnOk result (map fresh_of queries.new
+        ≡ map (untaken (machine_of streams.now)) (map query_of queries.new)) }
 {
     for i in 0..queries.len() {
         queries[i].evaluate(alloc, streams)?;
@@ -169,7 +205,8 @@ fn refresh_all(
     streams: &[Stream],
 ) -> Result<(), AllocError>
     ensures queries { map query_of queries.new ≡ map query_of queries.old }
-    ensures waiting { OnOk result (map waiting_of queries.new ≡ map (untaken (machine_of streams.now)) (map query_of queries.new)) }
+    ensures waiting { OnOk result (map waiting_of queries.new
+        ≡ map (untaken (machine_of streams.now)) (map query_of queries.new)) }
     ensures err { OnErr result (map waiting_of queries.new ≡ map waiting_of queries.old) }
 {
     match evaluate_each(queries, alloc, streams) {

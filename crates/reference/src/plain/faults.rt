@@ -1,44 +1,52 @@
 //! The first test that a call fails.
-ghost use Rattle.std.specs.Prelude.{◌≡◌, IfSome, MatchOption, None, Some, slice_get, map, count_by, not};
-ghost use Rattle.reference.specs.Commands.{first_fault, register_tests, Declare, Append, Heartbeat, Take, Drop};
+ghost use Rattle.std.specs.Prelude.{◌≡◌, IfSome, MatchOption, None, Some, slice_get};
+ghost use Rattle.reference.specs.Commands as commands;
+ghost use Rattle.reference.specs.Commands.{first_fault, register_tests};
+ghost use Rattle.reference.specs.Commands.{Declare, Append, Heartbeat, Take, Drop};
 ghost use Rattle.names.specs.Faults.{first_of};
-ghost use Rattle.reference.specs.Machine.{query_at};
-ghost use Rattle.reference.specs.World.{drain_fault};
+ghost use Rattle.reference.specs.Machine.{query_at, query_named, stream_named};
 ghost use Rattle.reference.specs.CallViews.{texts_of};
 ghost use Rattle.reference.specs.PlainViews.{machine_in};
 ghost use Rattle.reference.specs.Standing.{query_of};
 ghost use Rattle.reference.specs.Told.{IsTold};
 
 use crate::fault::Fault;
-use crate::limits::{MAX_INSTANT, MAX_QUERIES, MAX_REGISTRATIONS, MAX_STREAMS, MAX_TAKE, MAX_TURN};
+use crate::named::{count_undropped, query_place, stream_place};
 use crate::new_rows::NewRows;
 use crate::plain::Plain;
-use crate::plain::lookup::are_columns;
+use crate::refusals::{declare_fault, register_fault, take_fault};
 use crate::standing::StandingQuery;
 use crate::stream::Stream;
-use cql_reader::is_name;
 
 impl Plain {
+    /// The number of the stream of a name.
+    pub(crate) fn stream_number(&self, name: &str) -> Option<u64>
+        ensures { result ≡ stream_named (machine_in self.now) name.now }
+    {
+        stream_place(&self.stream_names, name)
+    }
+
+    /// The number of the query of a name that was not dropped.
+    pub(crate) fn query_number(&self, name: &str) -> Option<u64>
+        ensures { result ≡ query_named (machine_in self.now) name.now }
+    {
+        query_place(&self.query_names, name)
+    }
+
+    /// How many queries were not dropped.
+    fn undropped(&self) -> usize
+        ensures { result ≡ commands.count_undropped (machine_in self.now) }
+    {
+        count_undropped(&self.query_names)
+    }
+
     pub(crate) fn declare_fault(&self, name: &str, columns: &[String], from: i64) -> Option<Fault>
-        ensures first { result ≡ first_fault (machine_in self.now) (Declare name.now (texts_of columns.now) from) }
+        ensures first { result
+            ≡ first_fault (machine_in self.now) (Declare name.now (texts_of columns.now) from) }
         ensures told { IfSome result IsTold }
     {
-        if !is_name(name) {
-            return Some(Fault::BadName);
-        }
-        if self.stream_number(name).is_some() {
-            return Some(Fault::NameTaken);
-        }
-        if !are_columns(columns) {
-            return Some(Fault::BadColumns);
-        }
-        if from < 0 || MAX_INSTANT < from {
-            return Some(Fault::InstantRange);
-        }
-        if MAX_STREAMS <= self.streams.len() {
-            return Some(Fault::TooMany);
-        }
-        None
+        let is_taken = self.stream_number(name).is_some();
+        declare_fault(name, columns, from, is_taken, self.streams.len())
     }
 
     /// The first test before that of the text.
@@ -46,17 +54,8 @@ impl Plain {
         ensures first { result ≡ first_of (register_tests (machine_in self.now) name.now) }
         ensures told { IfSome result IsTold }
     {
-        if !is_name(name) {
-            return Some(Fault::BadName);
-        }
-        if self.query_number(name).is_some() {
-            return Some(Fault::NameTaken);
-        }
-        let undropped = count_undropped(&self.queries);
-        if MAX_QUERIES <= undropped || MAX_REGISTRATIONS <= self.queries.len() {
-            return Some(Fault::TooMany);
-        }
-        None
+        let is_taken = self.query_number(name).is_some();
+        register_fault(name, is_taken, self.undropped(), self.queries.len())
     }
 
     pub(crate) fn append_fault(&self, stream: u64, rows: &NewRows) -> Option<Fault>
@@ -70,7 +69,8 @@ impl Plain {
     }
 
     fn stream_at(&self, number: u64) -> Option<&Stream>
-        ensures { MatchOption result (slice_get self.now.streams.items number ≡ None) (λ s. slice_get self.now.streams.items number ≡ Some s.now) }
+        ensures { MatchOption result (slice_get self.now.streams.items number ≡ None)
+            (λ s. slice_get self.now.streams.items number ≡ Some s.now) }
     {
         self.streams.get(number as usize)
     }
@@ -92,15 +92,13 @@ impl Plain {
         if let Some(fault) = self.drop_fault(query) {
             return Some(fault);
         }
-        if limit < 1 || MAX_TAKE < limit {
-            return Some(Fault::BadLimit);
-        }
-        None
+        take_fault(limit)
     }
 
     /// The query of a number, if it was not dropped.
     pub(crate) fn query_at(&self, number: u64) -> Option<&StandingQuery>
-        ensures { MatchOption result (query_at (machine_in self.now) number ≡ None) (λ q. query_at (machine_in self.now) number ≡ Some (query_of q.now)) }
+        ensures { MatchOption result (query_at (machine_in self.now) number ≡ None)
+            (λ q. query_at (machine_in self.now) number ≡ Some (query_of q.now)) }
     {
         match self.queries.get(number as usize) {
             Some(query) if !query.is_dropped() => Some(query),
@@ -117,26 +115,4 @@ impl Plain {
             _ => Some(Fault::UnknownQuery),
         }
     }
-}
-
-pub(crate) fn turn_fault(rows: u32) -> Option<Fault>
-    ensures first { result ≡ drain_fault rows }
-    ensures told { IfSome result IsTold }
-{
-    if rows < 1 || MAX_TURN < rows {
-        return Some(Fault::BadLimit);
-    }
-    None
-}
-
-fn count_undropped(queries: &[StandingQuery]) -> usize
-    ensures { result ≡ count_by (λ q. not q.is_dropped) (map query_of queries.now) }
-{
-    let mut count = 0;
-    for query in queries {
-        if !query.is_dropped() {
-            count += 1;
-        }
-    }
-    count
 }

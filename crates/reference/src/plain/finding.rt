@@ -15,9 +15,11 @@ use plan::{Chart, Plan};
 impl Plain {
     /// The plan of the text over the declared streams.
     pub(crate) fn find(&self, text: &str, chart: Option<&Chart>) -> Result<Plan, Fault>
-        ensures finds { Finds (found (machine_in self.now) text.now (given_by (option_copied chart.entry))) result }
+        ensures finds { Finds
+            (found (machine_in self.now) text.now (given_by (option_copied chart.entry))) result }
         ensures fits { IfOk result (λ p. has_narrow_rows p.meaning.shape ≡ true) }
-        ensures sources { IfOk result (λ p. length p.meaning.windows.items ≡ length p.streams.items) }
+        ensures sources { IfOk result (λ p. length p.meaning.windows.items
+            ≡ length p.streams.items) }
         ensures slides { IfOk result (λ p. all_slide p.meaning.windows.items ≡ true) }
     {
         find_plan(self.alloc, &self.catalog, text, chart)

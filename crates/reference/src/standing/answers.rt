@@ -24,7 +24,8 @@ impl StandingQuery {
         alloc: Global,
         streams: &[Stream],
     ) -> Result<Vec<(u64, Row)>, AllocError>
-        ensures answers { IfOk result (λ v. timed_of v.items ≡ closed_answers (machine_of streams.now) (query_of self.now)) }
+        ensures answers { IfOk result (λ v. timed_of v.items
+            ≡ closed_answers (machine_of streams.now) (query_of self.now)) }
         ensures instants { IfOk result (λ v. are_signed (pairs_of v.items) ≡ true) }
     {
         let inputs = inputs_at(alloc, streams, self.first, &self.places)?;
@@ -38,7 +39,8 @@ impl StandingQuery {
         alloc: Global,
         streams: &[Stream],
     ) -> Result<VecDeque<(u64, Row)>, AllocError>
-        ensures answers { IfOk result (λ v. pairs_of v.items ≡ untaken (machine_of streams.now) (query_of self.now)) }
+        ensures answers { IfOk result (λ v. pairs_of v.items
+            ≡ untaken (machine_of streams.now) (query_of self.now)) }
         ensures counts { IfOk result (λ v. (query_of self.now).taken + deque_len v < 2 ^ 64) }
         ensures instants { IfOk result (λ v. are_signed (pairs_of v.items) ≡ true) }
     {
@@ -53,7 +55,8 @@ impl StandingQuery {
     pub(crate) fn evaluate(&mut self, alloc: Global, streams: &[Stream]) -> Result<(), AllocError>
         ensures query { query_of self.new ≡ query_of self.old }
         ensures waiting { waiting_of self.new ≡ waiting_of self.old }
-        ensures fresh { OnOk result (fresh_of self.new ≡ untaken (machine_of streams.now) (query_of self.old)) }
+        ensures fresh { OnOk result (fresh_of self.new
+            ≡ untaken (machine_of streams.now) (query_of self.old)) }
     {
         self.fresh = self.untaken(alloc, streams)?;
         Ok(())

@@ -1,5 +1,6 @@
 //! What is done with a registered query.
-ghost use Rattle.std.specs.Prelude.{◌≡◌, ◌≤◌, ◌<◌, ◌+◌, ◌^◌, ◌++◌, [], IfOk, OnOk, OnErr, length, min, take, drop, vec_len, vec_capacity, string_bytes, true};
+ghost use Rattle.std.specs.Prelude.{◌≡◌, ◌≤◌, ◌<◌, ◌+◌, ◌^◌, ◌++◌, [], IfOk, OnOk, OnErr, length};
+ghost use Rattle.std.specs.Prelude.{min, take, drop, vec_len, vec_capacity, string_bytes, true};
 ghost use Rattle.reference.specs.Inputs.{are_signed};
 ghost use Rattle.std.specs.VecDeque.{deque_len};
 ghost use Rattle.reference.specs.Commands as commands;
@@ -30,7 +31,8 @@ impl StandingQuery {
         requires fits { has_narrow_rows plan.meaning.shape ≡ true }
         requires sources { length plan.meaning.windows.items ≡ length plan.streams.items }
         requires slides { all_slide plan.meaning.windows.items ≡ true }
-        ensures query { IfOk result (λ q. query_of q ≡ registered_as (machine_of streams.now) (string_bytes name) (found_of plan)) }
+        ensures query { IfOk result (λ q. query_of q
+            ≡ registered_as (machine_of streams.now) (string_bytes name) (found_of plan)) }
         ensures waiting { IfOk result (λ q. waiting_of q ≡ []) }
     {
         let places = places_of(alloc, streams, &plan.streams)?;
@@ -67,9 +69,12 @@ impl StandingQuery {
         alloc: Global,
         limit: usize,
     ) -> Result<Vec<(i64, Row)>, AllocError>
-        ensures handed { IfOk result (λ v. handed_of v.items ≡ handed (take (min limit (length (waiting_of self.old))) (waiting_of self.old))) }
-        ensures query { OnOk result (query_of self.new ≡ took (min limit (length (waiting_of self.old))) (query_of self.old)) }
-        ensures waiting { OnOk result (waiting_of self.new ≡ drop (min limit (length (waiting_of self.old))) (waiting_of self.old)) }
+        ensures handed { IfOk result (λ v. handed_of v.items
+            ≡ handed (take (min limit (length (waiting_of self.old))) (waiting_of self.old))) }
+        ensures query { OnOk result (query_of self.new
+            ≡ took (min limit (length (waiting_of self.old))) (query_of self.old)) }
+        ensures waiting { OnOk result (waiting_of self.new
+            ≡ drop (min limit (length (waiting_of self.old))) (waiting_of self.old)) }
         ensures err { OnErr result (self.new ≡ self.old) }
     {
         let count = limit.min(self.waiting.len());
@@ -96,7 +101,8 @@ fn move_front(waiting: &mut VecDeque<(u64, Row)>, rows: &mut Vec<(i64, Row)>, co
     requires enough { count ≤ deque_len waiting.old }
     requires room { vec_len rows.old + count ≤ vec_capacity rows.old }
     requires instants { are_signed (pairs_of waiting.old.items) ≡ true }
-    ensures rows { handed_of rows.new.items ≡ handed_of rows.old.items ++ handed (take count (pairs_of waiting.old.items)) }
+    ensures rows { handed_of rows.new.items
+        ≡ handed_of rows.old.items ++ handed (take count (pairs_of waiting.old.items)) }
     ensures waiting { pairs_of waiting.new.items ≡ drop count (pairs_of waiting.old.items) }
     ensures len { deque_len waiting.new + count ≡ deque_len waiting.old }
     ensures instants_stay { are_signed (pairs_of waiting.new.items) ≡ true }

@@ -1,6 +1,7 @@
 use Rattle.std.proofs.Common.{◌≡◌, ◌∙◌, ◌≤◌, ◌<◌, ◌*◌, ℕ, None, List, map, length, sum, sym, ap, subst}
 use Rattle.std.specs.List.{AllByRecursion}
 use Rattle.std.proofs.lemmas.List.{length-map}
+use Rattle.values.specs.declared.TheConstants.{MAX_COLUMNS}
 use Rattle.values.specs.Answers as answers
 use Rattle.values.specs.Resolved.{resolved_of, window_of}
 use Rattle.cql_reader.specs.Views.{query_of, source_of, sources_of}
@@ -51,7 +52,7 @@ returns-clause-narrow c few =
     let q = query_of c.args.query.now in
     let none = no_fault c in
     narrow c.in_ok-named_of.field-0.meaning.shape (tables c.args.catalog.now q.sources) q (ap (λ (r : answers.Resolved). r.shape) (returns-clause-meaning c)) none.items none.group
-    (subst (λ (vs : List ℕ). sum vs ≤ 16) (widths_are c) few)
+    (subst (λ (vs : List ℕ). sum vs ≤ MAX_COLUMNS) (widths_are c) few)
 
 pub returns-clause-few : goal.returns-clause-few
 returns-clause-few c most each =

@@ -12,6 +12,7 @@ use Rattle.names.specs.Faults as faults
 use Rattle.names.specs.Split.{all_conjuncts}
 use Rattle.names.specs.Told.{Refuses}
 use Rattle.names.specs.Views.{tables_of, verdict_of}
+use Rattle.names.specs.declared.fault.ResolveFault.{ResolveFault}
 use Rattle.names.specs.declared.verdict.Verdict.{Verdict}
 use Rattle.names.proofs.Lists.{any_map}
 use Rattle.names.proofs.Tables.{verdict_is, conjuncts_are, same_first}
@@ -36,6 +37,6 @@ returns c =
     ∙ ap (faults.lacks_key (length q.sources)) (conjuncts_are ts q catalog (where_of c.args.condition.now) c.requires.tables c.requires.condition) in
     let ungrouped : c.is_ungrouped.result ≡ faults.is_ungrouped (tables catalog q.sources) q =
     c.is_ungrouped.ensures ∙ ap (λ (ts : List Table). faults.is_ungrouped ts q) c.requires.tables in
-    subst (λ (o : Option faults.Fault). Refuses c.refuse.result o)
+    subst (λ (o : Option ResolveFault). Refuses c.refuse.result o)
     (same_first _ _ _ _ _ _ _ _ _ _ _ _ _ _ unknown (ap (λ (v : Verdict). v.is_missing) verdict) (ap (λ (v : Verdict). v.is_many) verdict) repeat key ungrouped c.is_wide.ensures)
     c.refuse.ensures

@@ -9,7 +9,7 @@ use Rattle.plan.specs.Chart.{given_by, is_bad_chart}
 use Rattle.plan.specs.Faults.{after_names, first_fault}
 use Rattle.plan.specs.Told.{Told}
 use Rattle.plan.specs.Views.{node_of, nodes_of}
-use Rattle.plan.specs.declared.fault.PlanFault.{PlanFault}
+use Rattle.plan.specs.declared.fault.PlanError.{PlanError}
 use Rattle.plan.proofs.Charted.{have_charts}
 use Rattle.plan.proofs.Planned.{keys_ready, rest_ready, shape_ready, fault_told, no_fault, planned, err_kept}
 use Rattle.plan.proofs.planner.plan.Goals as goal
@@ -34,8 +34,8 @@ returns-in_err-measures-clause-err c =
     let nodes : nodes_of c.in_ok-nodes.nodes.items ≡ plan_of (widths (query_of c.args.query.now) c.args.catalog.now) (resolved (query_of c.args.query.now) c.args.catalog.now) =
     c.in_ok-nodes.ensures ∙ planned (query_of c.args.query.now) c.args.catalog.now (length c.args.query.now.sources.items) c.deref-2.result.now _ _ _ _
     (sym (length-map c.args.query.now.sources.items _)) (c.deref-2.ensures.value ∙ c.in_ok-meaning.ensures.widths) c.in_ok-meaning.ensures.meaning c.in_ok-meaning.ensures.own (ap join_keys_of c.deref.ensures.value ∙ c.in_ok-meaning.ensures.keys) c.in_ok-meaning.ensures.rest in
-    let told : (fault : PlanFault) → Told fault (after_names None (is_bad_chart (length c.deref-3.result.now) (given_by (option_copied c.args.chart))))
-    → Told fault (first_fault (query_of c.args.query.now) c.args.catalog.now (given_by (option_copied c.args.chart))) =
+    let told : (error : PlanError) → Told error (after_names None (is_bad_chart (length c.deref-3.result.now) (given_by (option_copied c.args.chart))))
+    → Told error (first_fault (query_of c.args.query.now) c.args.catalog.now (given_by (option_copied c.args.chart))) =
     fault_told (query_of c.args.query.now) c.args.catalog.now c.in_ok-meaning.ensures.accepted (given_by (option_copied c.args.chart)) c.in_ok-nodes.nodes.items c.deref-3.result.now c.deref-3.ensures.value nodes in
     err_kept c.from_residual-in_err-measures.result c.in_err-measures.field-0.0 _ c.from_residual-in_err-measures.ensures.1 (told c.in_err-measures.field-0.0 c.in_err-measures.ensures.err)
 

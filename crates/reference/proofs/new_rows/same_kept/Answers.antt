@@ -1,4 +1,4 @@
-use Rattle.std.proofs.Common.{refl, rules}
+use Rattle.std.proofs.Common.{refl}
 use Rattle.reference.proofs.KeptLemmas.{same_parts}
 use Rattle.reference.proofs.new_rows.same_kept.Goals as goal
 

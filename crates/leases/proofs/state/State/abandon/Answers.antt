@@ -43,5 +43,5 @@ returns-clause-sound c = record {
   gone = c.requires.gone;
   columns = c.requires.columns;
   closed = c.requires.closed;
-  readers = λ s n k is. c.requires.readers s n k (record { query = is.query; registered = is.registered; kept = is.kept; running = is.running; within = is.within; reads = is.reads });
+  readers = c.requires.readers;
 }

@@ -3,7 +3,7 @@ use Rattle.std.specs.List.{position}
 use Rattle.name_table.specs.Names.{bears}
 use Rattle.run_queue.specs.Slots.{without_query}
 use Rattle.laws_engine.specs.Calls.{registered}
-use Rattle.leases.specs.Readers.{HaveCome}
+use Rattle.leases.specs.Readers.{windows_from}
 use Rattle.leases.specs.Registering.{with_first}
 use Rattle.leases.specs.Shown.{engine_in}
 use Rattle.leases.specs.Views.{query_of}
@@ -37,7 +37,7 @@ returns-clause-sound c =
     let s = c.args.self.now in
     sound_with s _ (query_of c.args.told) c.args.running c.requires.sound c.requires.good c.requires.live refl (returns-clause-engine c) refl refl
     (c.in-Ok.ensures.ok ∙ ap (λ n. s.names ++ Some n ∷ []) (sym c.requires.named))
-    (subst₂ (λ n rs. HaveCome (query_of c.args.told) n (length (query_of c.args.told).nodes) rs c.put_readers.new.readers.items) c.next_query-number.ensures c.reserve-3.ensures.items c.put_readers.ensures)
+    (subst₂ (λ n rs. c.put_readers.new.readers.items ≡ rs ++ windows_from (query_of c.args.told) n 0 (query_of c.args.told).nodes) c.next_query-number.ensures c.reserve-3.ensures.items c.put_readers.ensures)
 
 pub returns-in_default-clause-err : goal.returns-in_default-clause-err
 returns-in_default-clause-err c =

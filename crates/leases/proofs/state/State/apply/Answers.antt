@@ -1,5 +1,5 @@
 -- What is left of the turn's query.
-use Rattle.std.proofs.Common.{◌≡◌, List, map, set, ap, ◌∙◌, get_or}
+use Rattle.std.proofs.Common.{◌≡◌, ◌==◌, not, filter, List, map, set, ap, ◌∙◌, get_or}
 use Rattle.std.proofs.lemmas.List.{set-set}
 use Rattle.turn.specs.declared.parts.Parts.{Parts}
 use Rattle.run_queue.specs.Slots.{without_query}
@@ -7,6 +7,7 @@ use Rattle.laws_engine.specs.Calls.{of_others}
 use Rattle.laws_engine.specs.Engines.{Broken, Dropped, Kept, Running}
 use Rattle.leases.specs.Shown.{engine_in}
 use Rattle.leases.specs.Views.{kept_of}
+use Rattle.leases.specs.declared.reader.Reader.{Reader}
 use Rattle.leases.proofs.FinishGivenLemmas.{item_running, kept_written, kept_written_here}
 use Rattle.leases.proofs.state.State.apply.Goals as goal
 
@@ -44,3 +45,9 @@ returns-in-Err-clause-err c p running =
     c.break_query.ensures.engine now.0 here
     ∙ ap (λ z. record (engine_in c.args.self.now) { queries = set (map kept_of (set c.args.self.now.kept.items c.parts.inside.0.1.0.query c.take_turn.new.kept)) z (Broken now.0.answers); leases = of_others z (engine_in c.args.self.now).leases; slots = without_query z c.args.self.now.slots }) same
     ∙ ap (λ (qs : List Kept). record (engine_in c.args.self.now) { queries = qs; leases = of_others c.args.parts.node.query (engine_in c.args.self.now).leases; slots = without_query c.args.parts.node.query c.args.self.now.slots }) queries
+
+pub returns-in-Err-clause-forgets : goal.returns-in-Err-clause-forgets
+returns-in-Err-clause-forgets c =
+    let same : c.parts.inside.0.1.0.query ≡ c.args.parts.node.query = ap (λ (d : Parts). d.node.query) c.parts.view_is in
+    let f = c.break_query.ensures.forgets in
+    record { names = f.names; readers = f.readers ∙ ap (λ n. filter (λ (r : Reader). not (r.query == n)) c.args.self.now.readers.items) same; leases = f.leases }

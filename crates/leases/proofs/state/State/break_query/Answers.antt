@@ -1,6 +1,5 @@
 -- What is left of the query, of the turns and of the slots.
-use Rattle.std.proofs.Common.{rules, ◌≡◌, ◌==◌, not, List, filter, map, set, refl, ap, ◌∙◌}
-use Rattle.std.proofs.lemmas.Fn.{filter_same}
+use Rattle.std.proofs.Common.{◌≡◌, ◌==◌, not, List, map, set, refl, ap, ◌∙◌}
 use Rattle.run_queue.specs.declared.slots.Slot.{Slot}
 use Rattle.laws_engine.specs.Calls.{of_others}
 use Rattle.laws_engine.specs.Engines.{Broken, Kept, Lease, Running}
@@ -12,20 +11,19 @@ use Rattle.leases.proofs.state.State.break_query.Goals as goal
 
 pub returns-clause-engine : goal.returns-clause-engine
 returns-clause-engine c p running =
-    let is : c.retain.new.self.items ≡ filter (λ (g : Given). not (g.node.query == c.args.query)) c.args.self.now.leases.items =
-    filter_same _ (λ (g : Given). not (g.node.query == c.args.query)) _ (λ x b f h. search rules) _ _ c.retain.ensures.filtered in
-    let leases : map lease_of c.retain.new.self.items ≡ of_others c.args.query (engine_in c.args.self.now).leases =
-    ap (λ gs. map lease_of gs) is ∙ leases_left (λ (l : Lease). not (l.query == c.args.query)) c.args.self.now.leases.items in
+    let leases : map lease_of c.end_turns_of.new.turns.items ≡ of_others c.args.query (engine_in c.args.self.now).leases =
+    ap (λ gs. map lease_of gs) c.end_turns_of.ensures ∙ leases_left (λ (l : Lease). not (l.query == c.args.query)) c.args.self.now.leases.items in
     let here : kept_of c.index_mut.result.now ≡ Running p =
     ap kept_of c.index_mut.ensures.value ∙ item_kept c.args.self.now.kept.items c.args.query c.index_mut.result.now p running in
     let queries : map kept_of (set c.args.self.now.kept.items c.args.query c.give_up.new.self) ≡ set (engine_in c.args.self.now).queries c.args.query (Broken p.answers) =
     kept_set c.args.self.now.kept.items c.args.query c.give_up.new.self ∙ ap (set (engine_in c.args.self.now).queries c.args.query) (c.give_up.ensures p here) in
-    ap (λ (qs : List Kept). record (engine_in c.args.self.now) { queries = qs; leases = map lease_of c.retain.new.self.items; slots = c.drop_query.new.self }) queries
+    ap (λ (qs : List Kept). record (engine_in c.args.self.now) { queries = qs; leases = map lease_of c.end_turns_of.new.turns.items; slots = c.drop_query.new.self }) queries
     ∙ ap (λ (ls : List Lease). record (engine_in c.args.self.now) { queries = set (engine_in c.args.self.now).queries c.args.query (Broken p.answers); leases = ls; slots = c.drop_query.new.self }) leases
     ∙ ap (λ (ss : List Slot). record (engine_in c.args.self.now) { queries = set (engine_in c.args.self.now).queries c.args.query (Broken p.answers); leases = of_others c.args.query (engine_in c.args.self.now).leases; slots = ss }) c.drop_query.ensures
 
-pub returns-clause-rest : goal.returns-clause-rest
-returns-clause-rest c =
-    let is : c.retain.new.self.items ≡ filter (λ (g : Given). not (g.node.query == c.args.query)) c.args.self.now.leases.items =
-    filter_same _ (λ (g : Given). not (g.node.query == c.args.query)) _ (λ x b f h. search rules) _ _ c.retain.ensures.filtered in
-    record { names = refl; readers = refl; leases = left_in (λ (g : Given). not (g.node.query == c.args.query)) c.args.self.now.leases.items c.retain.new.self.items is }
+pub returns-clause-forgets : goal.returns-clause-forgets
+returns-clause-forgets c = record {
+  names = refl;
+  readers = c.forget_readers.ensures;
+  leases = left_in (λ (g : Given). not (g.node.query == c.args.query)) c.args.self.now.leases.items c.end_turns_of.new.turns.items c.end_turns_of.ensures;
+}

@@ -1,4 +1,4 @@
-use Rattle.std.proofs.Common.{◌≡◌, ◌<◌, ◌==◌, not, None, Some, length, map, set, get_or, string_bytes, refl, sym, ap, ◌∙◌, subst, arith}
+use Rattle.std.proofs.Common.{◌≡◌, ◌<◌, ◌==◌, false, not, filter, None, Some, length, map, set, get_or, string_bytes, refl, sym, ap, ◌∙◌, subst, arith}
 use Rattle.std.specs.Prelude.{slice_get}
 use Rattle.laws_engine.specs.Bounds.{HaveFewClosed}
 use Rattle.laws_engine.specs.Engines.{Dropped, GoodEngine, IsIn, PlainEngine, world_of}
@@ -6,17 +6,22 @@ use Rattle.laws_engine.proofs.InstantLemmas.{few_closed_stand}
 use Rattle.laws_engine.proofs.DropLemmas.{drop_good}
 use Rattle.laws_engine.proofs.SlotLemmas.{in_filter}
 use Rattle.laws_engine.proofs.TakeLemmas.{changed_or_there}
+use Rattle.std.proofs.lemmas.List.{map-set}
 use Rattle.reference.specs.Commands as machine
+use Rattle.reference.specs.Commands.{change}
 use Rattle.reference.specs.Named.{name_of_registered}
-use Rattle.laws_engine.specs.Calls.{dropped}
-use Rattle.leases.specs.Readers.{ListsReaders}
+use Rattle.leases.specs.Readers.{readers_from, runs}
 use Rattle.leases.specs.Shown.{engine_in}
 use Rattle.leases.specs.Sound.{is_gone}
 use Rattle.leases.specs.Views.{kept_of, query_of}
 use Rattle.leases.specs.declared.given.Given.{Given}
+use Rattle.leases.specs.declared.reader.Reader.{Reader}
 use Rattle.leases.specs.declared.registered.Registration.{Registration}
-use Rattle.leases.proofs.DropLemmas.{another, drops, gone_dropped, is_dropped, kept_dropped, kept_within, named_there, names_dropped, readers_dropped, refused, registered_dropped, registered_within, there}
+use Rattle.leases.proofs.DropLemmas.{another, drops, gone_dropped, is_dropped, kept_dropped, kept_within, named_there, names_dropped, refused, registered_dropped, registered_within, there}
 use Rattle.leases.proofs.LeaveLemmas.{fewer}
+use Rattle.leases.specs.declared.kept.KeptQuery.TheVariants as code
+use Rattle.leases.proofs.FinishGivenLemmas.{kept_set}
+use Rattle.leases.proofs.ListedLemmas.{readers_changed, readers_left}
 use Rattle.leases.proofs.state.State.drop_query.Goals as goal
 
 pub returns-in-Some-clause-does : goal.returns-in-Some-clause-does
@@ -84,6 +89,11 @@ returns-clause-sound c = record {
   columns = c.requires.columns;
   closed = subst (λ (e : PlainEngine). HaveFewClosed e.machine) (sym (returns-clause-engine c))
       (few_closed_stand.goes_on (engine_in c.args.self.now).machine (machine.Drop c.args.query) 0 (sym c.query_fault.ensures.first ∙ c.in_default.is) c.requires.closed);
-  readers = subst (λ z. ListsReaders z c.forget_readers.new.readers.items) (sym (returns-clause-engine c))
-      (subst (ListsReaders (dropped (engine_in c.args.self.now) c.args.query)) (sym c.forget_readers.ensures) (readers_dropped (engine_in c.args.self.now) c.args.query c.args.self.now.readers.items c.requires.readers));
+  readers =
+      c.forget_readers.ensures ∙ ap (λ rs. filter (λ (r : Reader). not (r.query == c.args.query)) rs) c.requires.readers
+      ∙ readers_left c.args.query 0 c.args.query (map query_of c.args.self.now.registered.items) (map runs (map kept_of c.args.self.now.kept.items)) (omega arith)
+      ∙ sym (readers_changed machine.dropped (λ q j. refl) (λ q. refl) 0 c.args.query (map query_of c.args.self.now.registered.items) (set (map runs (map kept_of c.args.self.now.kept.items)) c.args.query false))
+      ∙ ap (readers_from 0 (change c.args.query machine.dropped (map query_of c.args.self.now.registered.items)))
+      (sym (ap (λ ks. map runs ks) (kept_set c.args.self.now.kept.items c.args.query code.Dropped) ∙ map-set runs (map kept_of c.args.self.now.kept.items) c.args.query Dropped))
+      ∙ ap (λ z. readers_from 0 z (map runs (map kept_of (set c.args.self.now.kept.items c.args.query code.Dropped)))) (sym (registered_dropped c.args.self.now.registered.items c.args.query c.leave.new.query c.index_mut.result.now (c.leave.ensures ∙ ap (λ z. machine.dropped (query_of z)) c.index_mut.ensures.value)));
 }

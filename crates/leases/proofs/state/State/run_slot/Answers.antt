@@ -30,24 +30,24 @@ returns-in_err-apply-clause-err c =
 pub returns-in_err-apply-clause-sound : goal.returns-in_err-apply-clause-sound
 returns-in_err-apply-clause-sound c =
     let run : IsRunOf (engine_in c.args.self.now) c.args.slot.now c.args.rows c.into_parts.result = subst (IsRunOf (engine_in c.args.self.now) c.args.slot.now c.args.rows) (sym c.into_parts.ensures.value) c.in_ok-done.ensures in
-    broke_sound c.args.self.now c.args.slot.now c.args.rows c.into_parts.result c.requires.sound c.requires.first c.requires.allowed c.requires.numbers run c.apply.new.self c.in_err-apply.ensures.err c.in_err-apply.ensures.rest
+    broke_sound c.args.self.now c.args.slot.now c.args.rows c.into_parts.result c.requires.sound c.requires.first c.requires.allowed c.requires.numbers run c.apply.new.self c.in_err-apply.ensures.err c.in_err-apply.ensures.forgets
 
 -- IT TAKES THE TURN
-pub retell_slot-requires : goal.retell_slot-requires
-retell_slot-requires c =
+pub update_slot-requires : goal.update_slot-requires
+update_slot-requires c =
     let run : IsRunOf (engine_in c.args.self.now) c.args.slot.now c.args.rows c.into_parts.result = subst (IsRunOf (engine_in c.args.self.now) c.args.slot.now c.args.rows) (sym c.into_parts.ensures.value) c.in_ok-done.ensures in
     let over : IsAbove (engine_in c.args.self.now) c.args.slot.now.query c.args.slot.now.operator c.above-above.result =
     subst (λ n. IsAbove (engine_in c.args.self.now) n c.args.slot.now.operator c.above-above.result) c.query.ensures
     (subst (λ k. IsAbove (engine_in c.args.self.now) c.query.result k c.above-above.result) c.operator.ensures c.above-above.ensures) in
     may_retell c.args.self.now c.args.slot.now c.args.rows c.into_parts.result c.requires.sound c.requires.first c.requires.allowed c.requires.numbers run c.above-above.result over (engine_in c.apply.new.self) c.in_ok-apply.ensures.ok
 
-pub retell_slot-requires-in-Some : goal.retell_slot-requires-in-Some
-retell_slot-requires-in-Some c =
+pub update_slot-requires-in-Some : goal.update_slot-requires-in-Some
+update_slot-requires-in-Some c =
     let run : IsRunOf (engine_in c.args.self.now) c.args.slot.now c.args.rows c.into_parts.result = subst (IsRunOf (engine_in c.args.self.now) c.args.slot.now c.args.rows) (sym c.into_parts.ensures.value) c.in_ok-done.ensures in
     let over : IsAbove (engine_in c.args.self.now) c.args.slot.now.query c.args.slot.now.operator c.above-above.result =
     subst (λ n. IsAbove (engine_in c.args.self.now) n c.args.slot.now.operator c.above-above.result) c.query.ensures
     (subst (λ k. IsAbove (engine_in c.args.self.now) c.query.result k c.above-above.result) c.operator.ensures c.above-above.ensures) in
-    may_retell_over c.args.self.now c.args.slot.now c.args.rows c.into_parts.result c.requires.sound c.requires.first c.requires.allowed c.requires.numbers run c.above-above.result over (engine_in c.apply.new.self) c.in_ok-apply.ensures.ok (engine_in c.retell_slot.new.self) c.retell_slot.ensures.slot c.in-Some.above c.in-Some.is
+    may_retell_over c.args.self.now c.args.slot.now c.args.rows c.into_parts.result c.requires.sound c.requires.first c.requires.allowed c.requires.numbers run c.above-above.result over (engine_in c.apply.new.self) c.in_ok-apply.ensures.ok (engine_in c.update_slot.new.self) c.update_slot.ensures.slot c.in-Some.above c.in-Some.is
 
 pub returns-in-Some-clause-ok : goal.returns-in-Some-clause-ok
 returns-in-Some-clause-ok c =
@@ -55,8 +55,8 @@ returns-in-Some-clause-ok c =
     let over : IsAbove (engine_in c.args.self.now) c.args.slot.now.query c.args.slot.now.operator c.above-above.result =
     subst (λ n. IsAbove (engine_in c.args.self.now) n c.args.slot.now.operator c.above-above.result) c.query.ensures
     (subst (λ k. IsAbove (engine_in c.args.self.now) c.query.result k c.above-above.result) c.operator.ensures c.above-above.ensures) in
-    ran_below c.args.self.now c.args.slot.now c.args.rows c.into_parts.result c.requires.sound c.requires.first c.requires.allowed c.requires.numbers run c.above-above.result over (engine_in c.apply.new.self) c.in_ok-apply.ensures.ok (engine_in c.retell_slot.new.self) c.retell_slot.ensures.slot
-    (engine_in c.retell_slot-in-Some.new.self) c.in-Some.above c.in-Some.is c.retell_slot-in-Some.ensures.slot
+    ran_below c.args.self.now c.args.slot.now c.args.rows c.into_parts.result c.requires.sound c.requires.first c.requires.allowed c.requires.numbers run c.above-above.result over (engine_in c.apply.new.self) c.in_ok-apply.ensures.ok (engine_in c.update_slot.new.self) c.update_slot.ensures.slot
+    (engine_in c.update_slot-in-Some.new.self) c.in-Some.above c.in-Some.is c.update_slot-in-Some.ensures.slot
 
 pub returns-in-Some-clause-sound : goal.returns-in-Some-clause-sound
 returns-in-Some-clause-sound c =
@@ -64,9 +64,9 @@ returns-in-Some-clause-sound c =
     let over : IsAbove (engine_in c.args.self.now) c.args.slot.now.query c.args.slot.now.operator c.above-above.result =
     subst (λ n. IsAbove (engine_in c.args.self.now) n c.args.slot.now.operator c.above-above.result) c.query.ensures
     (subst (λ k. IsAbove (engine_in c.args.self.now) c.query.result k c.above-above.result) c.operator.ensures c.above-above.ensures) in
-    let rest : GivesNothing (counted c.args.self.now) c.retell_slot.new.self = gives_on (counted c.args.self.now) c.apply.new.self c.retell_slot.new.self c.in_ok-apply.ensures.rest c.retell_slot.ensures.rest in
-    ran_below_sound c.args.self.now c.args.slot.now c.args.rows c.into_parts.result c.requires.sound c.requires.first c.requires.allowed c.requires.numbers run c.above-above.result over (engine_in c.apply.new.self) c.in_ok-apply.ensures.ok (engine_in c.retell_slot.new.self) c.retell_slot-in-Some.new.self c.retell_slot.ensures.slot
-    c.in-Some.above c.in-Some.is c.retell_slot-in-Some.ensures.slot (gives_on (counted c.args.self.now) c.retell_slot.new.self c.retell_slot-in-Some.new.self rest c.retell_slot-in-Some.ensures.rest)
+    let rest : GivesNothing (counted c.args.self.now) c.update_slot.new.self = gives_on (counted c.args.self.now) c.apply.new.self c.update_slot.new.self c.in_ok-apply.ensures.rest c.update_slot.ensures.rest in
+    ran_below_sound c.args.self.now c.args.slot.now c.args.rows c.into_parts.result c.requires.sound c.requires.first c.requires.allowed c.requires.numbers run c.above-above.result over (engine_in c.apply.new.self) c.in_ok-apply.ensures.ok (engine_in c.update_slot.new.self) c.update_slot-in-Some.new.self c.update_slot.ensures.slot
+    c.in-Some.above c.in-Some.is c.update_slot-in-Some.ensures.slot (gives_on (counted c.args.self.now) c.update_slot.new.self c.update_slot-in-Some.new.self rest c.update_slot-in-Some.ensures.rest)
 
 pub returns-in_default-clause-ok : goal.returns-in_default-clause-ok
 returns-in_default-clause-ok c =
@@ -74,7 +74,7 @@ returns-in_default-clause-ok c =
     let over : IsAbove (engine_in c.args.self.now) c.args.slot.now.query c.args.slot.now.operator c.above-above.result =
     subst (λ n. IsAbove (engine_in c.args.self.now) n c.args.slot.now.operator c.above-above.result) c.query.ensures
     (subst (λ k. IsAbove (engine_in c.args.self.now) c.query.result k c.above-above.result) c.operator.ensures c.above-above.ensures) in
-    ran_root c.args.self.now c.args.slot.now c.args.rows c.into_parts.result c.requires.sound c.requires.first c.requires.allowed c.requires.numbers run c.above-above.result over (engine_in c.apply.new.self) c.in_ok-apply.ensures.ok (engine_in c.retell_slot.new.self) c.retell_slot.ensures.slot c.in_default.is
+    ran_root c.args.self.now c.args.slot.now c.args.rows c.into_parts.result c.requires.sound c.requires.first c.requires.allowed c.requires.numbers run c.above-above.result over (engine_in c.apply.new.self) c.in_ok-apply.ensures.ok (engine_in c.update_slot.new.self) c.update_slot.ensures.slot c.in_default.is
 
 pub returns-in_default-clause-sound : goal.returns-in_default-clause-sound
 returns-in_default-clause-sound c =
@@ -82,5 +82,5 @@ returns-in_default-clause-sound c =
     let over : IsAbove (engine_in c.args.self.now) c.args.slot.now.query c.args.slot.now.operator c.above-above.result =
     subst (λ n. IsAbove (engine_in c.args.self.now) n c.args.slot.now.operator c.above-above.result) c.query.ensures
     (subst (λ k. IsAbove (engine_in c.args.self.now) c.query.result k c.above-above.result) c.operator.ensures c.above-above.ensures) in
-    ran_root_sound c.args.self.now c.args.slot.now c.args.rows c.into_parts.result c.requires.sound c.requires.first c.requires.allowed c.requires.numbers run c.above-above.result over (engine_in c.apply.new.self) c.in_ok-apply.ensures.ok c.retell_slot.new.self c.retell_slot.ensures.slot c.in_default.is
-    (gives_on (counted c.args.self.now) c.apply.new.self c.retell_slot.new.self c.in_ok-apply.ensures.rest c.retell_slot.ensures.rest)
+    ran_root_sound c.args.self.now c.args.slot.now c.args.rows c.into_parts.result c.requires.sound c.requires.first c.requires.allowed c.requires.numbers run c.above-above.result over (engine_in c.apply.new.self) c.in_ok-apply.ensures.ok c.update_slot.new.self c.update_slot.ensures.slot c.in_default.is
+    (gives_on (counted c.args.self.now) c.apply.new.self c.update_slot.new.self c.in_ok-apply.ensures.rest c.update_slot.ensures.rest)

@@ -20,10 +20,10 @@ pub apply-requires : goal.apply-requires
 apply-requires c = may_apply (engine_in c.args.self.now) c.args.parts c.requires.sound.good c.requires.out c.requires.done
 
 pub returns-in_err-apply-clause-sound : goal.returns-in_err-apply-clause-sound
-returns-in_err-apply-clause-sound c = broken_sound c.args.self.now c.apply.new.self c.args.parts c.requires.sound c.requires.out c.in_err-apply.ensures.err c.in_err-apply.ensures.rest
+returns-in_err-apply-clause-sound c = broken_sound c.args.self.now c.apply.new.self c.args.parts c.requires.sound c.requires.out c.in_err-apply.ensures.err c.in_err-apply.ensures.forgets
 
-pub retell_slot-requires : goal.retell_slot-requires
-retell_slot-requires c =
+pub update_slot-requires : goal.update_slot-requires
+update_slot-requires c =
     let steps : AreSteps (engine_in c.args.self.now) c.args.parts c.parts.inside.0.1.0.query c.parts.inside.0.1.0.operator c.parts.inside.0.0 c.slot-slot.result c.above-above.result (engine_in c.apply.new.self) (engine_in c.end_turn.new.self) = record {
       query = ap (λ (d : Parts). d.node.query) c.parts.view_is;
       operator = ap (λ (d : Parts). d.node.operator) c.parts.view_is;
@@ -35,8 +35,8 @@ retell_slot-requires c =
     } in
     retell_here (engine_in c.args.self.now) c.args.parts c.parts.inside.0.1.0.query c.parts.inside.0.1.0.operator c.parts.inside.0.0 c.slot-slot.result c.above-above.result (engine_in c.apply.new.self) (engine_in c.end_turn.new.self) c.requires.sound.good c.requires.done c.requires.out steps
 
-pub retell_slot-requires-in-Some : goal.retell_slot-requires-in-Some
-retell_slot-requires-in-Some c =
+pub update_slot-requires-in-Some : goal.update_slot-requires-in-Some
+update_slot-requires-in-Some c =
     let steps : AreSteps (engine_in c.args.self.now) c.args.parts c.parts.inside.0.1.0.query c.parts.inside.0.1.0.operator c.parts.inside.0.0 c.slot-slot.result c.above-above.result (engine_in c.apply.new.self) (engine_in c.end_turn.new.self) = record {
       query = ap (λ (d : Parts). d.node.query) c.parts.view_is;
       operator = ap (λ (d : Parts). d.node.operator) c.parts.view_is;
@@ -46,7 +46,7 @@ retell_slot-requires-in-Some c =
       applied = c.in_ok-apply.ensures.ok;
       ended = c.end_turn.ensures.engine;
     } in
-    retell_over (engine_in c.args.self.now) c.args.parts c.parts.inside.0.1.0.query c.parts.inside.0.1.0.operator c.parts.inside.0.0 c.slot-slot.result c.above-above.result (engine_in c.apply.new.self) (engine_in c.end_turn.new.self) c.requires.sound.good c.requires.done c.requires.out steps (engine_in c.retell_slot.new.self) c.retell_slot.ensures.slot c.in-Some.above c.in-Some.is
+    retell_over (engine_in c.args.self.now) c.args.parts c.parts.inside.0.1.0.query c.parts.inside.0.1.0.operator c.parts.inside.0.0 c.slot-slot.result c.above-above.result (engine_in c.apply.new.self) (engine_in c.end_turn.new.self) c.requires.sound.good c.requires.done c.requires.out steps (engine_in c.update_slot.new.self) c.update_slot.ensures.slot c.in-Some.above c.in-Some.is
 
 pub returns-in-Some-clause-back : goal.returns-in-Some-clause-back
 returns-in-Some-clause-back c =
@@ -59,7 +59,7 @@ returns-in-Some-clause-back c =
       applied = c.in_ok-apply.ensures.ok;
       ended = c.end_turn.ensures.engine;
     } in
-    back_below (engine_in c.args.self.now) c.args.parts c.parts.inside.0.1.0.query c.parts.inside.0.1.0.operator c.parts.inside.0.0 c.slot-slot.result c.above-above.result (engine_in c.apply.new.self) (engine_in c.end_turn.new.self) c.requires.sound.good c.requires.done c.requires.out steps (engine_in c.retell_slot.new.self) (engine_in c.retell_slot-in-Some.new.self) c.retell_slot.ensures.slot c.in-Some.above c.in-Some.is c.retell_slot-in-Some.ensures.slot
+    back_below (engine_in c.args.self.now) c.args.parts c.parts.inside.0.1.0.query c.parts.inside.0.1.0.operator c.parts.inside.0.0 c.slot-slot.result c.above-above.result (engine_in c.apply.new.self) (engine_in c.end_turn.new.self) c.requires.sound.good c.requires.done c.requires.out steps (engine_in c.update_slot.new.self) (engine_in c.update_slot-in-Some.new.self) c.update_slot.ensures.slot c.in-Some.above c.in-Some.is c.update_slot-in-Some.ensures.slot
 
 pub returns-in-Some-clause-sound : goal.returns-in-Some-clause-sound
 returns-in-Some-clause-sound c =
@@ -72,10 +72,10 @@ returns-in-Some-clause-sound c =
       applied = c.in_ok-apply.ensures.ok;
       ended = c.end_turn.ensures.engine;
     } in
-    let rest : GivesNothing c.args.self.now c.retell_slot.new.self =
-    gives_on c.args.self.now c.apply.new.self c.retell_slot.new.self c.in_ok-apply.ensures.rest (gives_on c.apply.new.self c.end_turn.new.self c.retell_slot.new.self c.end_turn.ensures.rest c.retell_slot.ensures.rest) in
-    sound_below c.args.self.now (engine_in c.args.self.now).leases c.args.self.now.slots c.args.parts c.parts.inside.0.1.0.query c.parts.inside.0.1.0.operator c.parts.inside.0.0 c.slot-slot.result c.above-above.result (engine_in c.apply.new.self) (engine_in c.end_turn.new.self) c.requires.sound c.requires.sound.good (fewer (λ l. not (l.number == c.args.parts.lease)) (engine_in c.args.self.now).leases) c.requires.done c.requires.out steps (engine_in c.retell_slot.new.self) c.retell_slot-in-Some.new.self c.retell_slot.ensures.slot c.in-Some.above c.in-Some.is c.retell_slot-in-Some.ensures.slot
-    (gives_on c.args.self.now c.retell_slot.new.self c.retell_slot-in-Some.new.self rest c.retell_slot-in-Some.ensures.rest)
+    let rest : GivesNothing c.args.self.now c.update_slot.new.self =
+    gives_on c.args.self.now c.apply.new.self c.update_slot.new.self c.in_ok-apply.ensures.rest (gives_on c.apply.new.self c.end_turn.new.self c.update_slot.new.self c.end_turn.ensures.rest c.update_slot.ensures.rest) in
+    sound_below c.args.self.now (engine_in c.args.self.now).leases c.args.self.now.slots c.args.parts c.parts.inside.0.1.0.query c.parts.inside.0.1.0.operator c.parts.inside.0.0 c.slot-slot.result c.above-above.result (engine_in c.apply.new.self) (engine_in c.end_turn.new.self) c.requires.sound c.requires.sound.good (fewer (λ l. not (l.number == c.args.parts.lease)) (engine_in c.args.self.now).leases) c.requires.done c.requires.out steps (engine_in c.update_slot.new.self) c.update_slot-in-Some.new.self c.update_slot.ensures.slot c.in-Some.above c.in-Some.is c.update_slot-in-Some.ensures.slot
+    (gives_on c.args.self.now c.update_slot.new.self c.update_slot-in-Some.new.self rest c.update_slot-in-Some.ensures.rest)
 
 pub returns-in_default-clause-back : goal.returns-in_default-clause-back
 returns-in_default-clause-back c =
@@ -88,7 +88,7 @@ returns-in_default-clause-back c =
       applied = c.in_ok-apply.ensures.ok;
       ended = c.end_turn.ensures.engine;
     } in
-    back_root (engine_in c.args.self.now) c.args.parts c.parts.inside.0.1.0.query c.parts.inside.0.1.0.operator c.parts.inside.0.0 c.slot-slot.result c.above-above.result (engine_in c.apply.new.self) (engine_in c.end_turn.new.self) c.requires.sound.good c.requires.done c.requires.out steps (engine_in c.retell_slot.new.self) c.retell_slot.ensures.slot c.in_default.is
+    back_root (engine_in c.args.self.now) c.args.parts c.parts.inside.0.1.0.query c.parts.inside.0.1.0.operator c.parts.inside.0.0 c.slot-slot.result c.above-above.result (engine_in c.apply.new.self) (engine_in c.end_turn.new.self) c.requires.sound.good c.requires.done c.requires.out steps (engine_in c.update_slot.new.self) c.update_slot.ensures.slot c.in_default.is
 
 pub returns-in_default-clause-sound : goal.returns-in_default-clause-sound
 returns-in_default-clause-sound c =
@@ -101,6 +101,6 @@ returns-in_default-clause-sound c =
       applied = c.in_ok-apply.ensures.ok;
       ended = c.end_turn.ensures.engine;
     } in
-    let rest : GivesNothing c.args.self.now c.retell_slot.new.self =
-    gives_on c.args.self.now c.apply.new.self c.retell_slot.new.self c.in_ok-apply.ensures.rest (gives_on c.apply.new.self c.end_turn.new.self c.retell_slot.new.self c.end_turn.ensures.rest c.retell_slot.ensures.rest) in
-    sound_root c.args.self.now (engine_in c.args.self.now).leases c.args.self.now.slots c.args.parts c.parts.inside.0.1.0.query c.parts.inside.0.1.0.operator c.parts.inside.0.0 c.slot-slot.result c.above-above.result (engine_in c.apply.new.self) (engine_in c.end_turn.new.self) c.requires.sound c.requires.sound.good (fewer (λ l. not (l.number == c.args.parts.lease)) (engine_in c.args.self.now).leases) c.requires.done c.requires.out steps c.retell_slot.new.self c.retell_slot.ensures.slot c.in_default.is rest
+    let rest : GivesNothing c.args.self.now c.update_slot.new.self =
+    gives_on c.args.self.now c.apply.new.self c.update_slot.new.self c.in_ok-apply.ensures.rest (gives_on c.apply.new.self c.end_turn.new.self c.update_slot.new.self c.end_turn.ensures.rest c.update_slot.ensures.rest) in
+    sound_root c.args.self.now (engine_in c.args.self.now).leases c.args.self.now.slots c.args.parts c.parts.inside.0.1.0.query c.parts.inside.0.1.0.operator c.parts.inside.0.0 c.slot-slot.result c.above-above.result (engine_in c.apply.new.self) (engine_in c.end_turn.new.self) c.requires.sound c.requires.sound.good (fewer (λ l. not (l.number == c.args.parts.lease)) (engine_in c.args.self.now).leases) c.requires.done c.requires.out steps c.update_slot.new.self c.update_slot.ensures.slot c.in_default.is rest

@@ -1,5 +1,5 @@
 -- One operator's queues after the other's.
-use Rattle.std.proofs.Common.{◌≡◌, ◌∙◌, ◌+◌, ◌++◌, ℕ, suc, drop, ap, sym, subst, arith}
+use Rattle.std.proofs.Common.{◌≡◌, ◌∙◌, ◌+◌, ◌++◌, suc, drop, ap, sym, subst, arith}
 use Rattle.plan.specs.Views.{node_of, nodes_of}
 use Rattle.leases.proofs.PendingLemmas.{noughts_all, noughts_next}
 use Rattle.leases.specs.Looks.{noughts_of, queues_of}

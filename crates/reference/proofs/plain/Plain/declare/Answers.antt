@@ -1,4 +1,4 @@
-use Rattle.std.proofs.Common.{◌≡◌, ◌≤◌, ◌++◌, ◌∷◌, [], Some, List, length, position, map, sym, ap, ◌∙◌, arith}
+use Rattle.std.proofs.Common.{◌≡◌, ◌≤◌, ◌++◌, ◌∷◌, [], Some, List, length, position, map, sym, ap, subst, ◌∙◌, arith}
 use Rattle.std.proofs.lemmas.List.{length-map, map-append}
 use Rattle.name_table.specs.Names.{bears}
 use Rattle.reference.specs.Machine.{Stream}
@@ -8,6 +8,8 @@ use Rattle.reference.specs.CallViews.{texts_of}
 use Rattle.reference.specs.PlainViews.{machine_in}
 use Rattle.reference.proofs.NameLemmas.{short, declared_name, declared_columns}
 use Rattle.reference.proofs.NamedLemmas.{stream-place, declared_new, declared_few, all_of, streams-pushed, as_declared}
+use Rattle.reference.proofs.ClosedLemmas.{pushed_later}
+use Rattle.reference.proofs.WaitingLemmas.{NextWait, later_wait, wait_all, wait_each}
 use Rattle.reference.proofs.plain.Plain.declare.Goals as goal
 
 pub new-requires : goal.new-requires
@@ -47,4 +49,8 @@ invariant_of-self-2 c =
       few = all_of (λ s. length s.columns ≤ 8) c.in_ok-catalog.catalog c.in_ok-catalog.ensures.few;
       streams_are_named = streams-pushed _ p.streams.items s c.args.name.now names (ap (λ (s : Stream). s.name) c.new-stream.ensures ∙ c.new.ensures ∙ c.as_bytes.ensures.value) ∙ ap (map stream_name) (sym items);
       queries_are_named = p.queries_are_named;
+      next_wait =
+          wait_all _ _
+          (subst (λ (ss : List Stream). NextWait ss p.queries.items) (sym items)
+          (later_wait p.streams.items (p.streams.items ++ s ∷ []) (pushed_later p.streams.items s) p.queries.items (wait_each p.streams.items p.queries.items p.next_wait)));
     }

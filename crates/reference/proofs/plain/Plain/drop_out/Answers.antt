@@ -1,4 +1,4 @@
-use Rattle.std.proofs.Common.{◌≡◌, ◌<◌, ℕ, List, [], length, ap, sym, ◌∙◌, map, get_or, set}
+use Rattle.std.proofs.Common.{◌≡◌, ◌<◌, ℕ, List, [], length, ap, sym, subst, refl, ◌∙◌, map, get_or, set}
 use Rattle.reference.specs.Machine.{Machine, Registered}
 use Rattle.reference.specs.Commands.{dropped}
 use Rattle.reference.specs.Standing.{query_of, waiting_of}
@@ -8,6 +8,7 @@ use Rattle.std.proofs.Common.{Some, None, Option, slice_get}
 use Rattle.std.proofs.lemmas.List.{map-set}
 use Rattle.reference.specs.Named.{name_of_registered, query_name}
 use Rattle.reference.proofs.NamedLemmas.{named_at}
+use Rattle.reference.proofs.WaitingLemmas.{IsNext, set_wait, wait_all, wait_each}
 use Rattle.reference.proofs.plain.Plain.drop_out.Goals as goal
 
 pub returns-clause-machine : goal.returns-clause-machine
@@ -40,4 +41,8 @@ invariant_of-self c =
       few = p.few;
       streams_are_named = p.streams_are_named;
       queries_are_named = c.free.ensures.freed n borne ∙ ap (λ names. set names n None) p.queries_are_named ∙ sym kept;
+      next_wait =
+          wait_all _ _
+          (set_wait p.streams.items qs n x d (query_in [] qs n c.requires)
+          (λ before. subst (λ ws. IsNext p.streams.items (query_of x) ws) (sym c.drop_out.ensures.waiting) refl) (wait_each p.streams.items p.queries.items p.next_wait));
     }

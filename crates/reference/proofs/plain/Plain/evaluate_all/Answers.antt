@@ -1,4 +1,4 @@
-use Rattle.std.proofs.Common.{◌≡◌, ℕ, List, length, ap, sym, ◌∙◌, map, arith}
+use Rattle.std.proofs.Common.{◌≡◌, ℕ, List, length, ap, sym, subst, ◌∙◌, map, arith}
 use Rattle.std.proofs.lemmas.List.{with_items_is, length-map}
 use Rattle.values.specs.Row.{Row}
 use Rattle.reference.specs.Machine.{Registered}
@@ -10,7 +10,8 @@ use Rattle.reference.specs.declared.plain.Plain.{Plain}
 use Rattle.reference.specs.declared.standing.StandingQuery.{StandingQuery}
 use Rattle.reference.proofs.StepLemmas.{on_ok, on_err, made}
 use Rattle.reference.specs.Named.{query_name}
-use Rattle.reference.proofs.NamedLemmas.{names_stay}
+use Rattle.reference.proofs.NamedLemmas.{either_way, names_stay}
+use Rattle.reference.proofs.WaitingLemmas.{NextWait, drained_wait, same_wait, wait_all, wait_each}
 use Rattle.reference.proofs.plain.Plain.evaluate_all.Goals as goal
 
 abbrev waits : Plain → List (List (ℕ × Row)) → World
@@ -53,4 +54,10 @@ invariant_of-self c =
       few = p.few;
       streams_are_named = p.streams_are_named;
       queries_are_named = p.queries_are_named ∙ sym (ap (map query_name) (with_items_is p.queries new len) ∙ names_stay new p.queries.items same);
+      next_wait =
+          wait_all _ _
+          (subst (λ (qs : List StandingQuery). NextWait p.streams.items qs) (sym (with_items_is p.queries new len))
+          (either_way c.refresh_all.result
+          (on_ok c.refresh_all.result (λ h. drained_wait p.streams.items new h) (rw c.deref.ensures.value at c.refresh_all.ensures.waiting))
+          (on_err c.refresh_all.result (λ h. same_wait p.streams.items new p.queries.items same h (wait_each p.streams.items p.queries.items p.next_wait)) (rw c.deref_mut.ensures.value at c.refresh_all.ensures.err))));
     }

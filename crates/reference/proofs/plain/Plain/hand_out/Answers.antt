@@ -1,4 +1,4 @@
-use Rattle.std.proofs.Common.{◌≡◌, ◌<◌, ℕ, List, length, ap, sym, ◌∙◌, min, nat_abs, drop, get_or, w64}
+use Rattle.std.proofs.Common.{◌≡◌, ◌<◌, ℕ, List, length, ap, sym, subst, ◌∙◌, min, nat_abs, drop, get_or, w64}
 use Rattle.std.proofs.lemmas.Int.{to_z-of_z}
 use Rattle.reference.specs.Machine.{Machine, Registered}
 use Rattle.reference.specs.World.{waiting_at}
@@ -11,6 +11,7 @@ use Rattle.std.proofs.Math.Seq.{map-set_same}
 use Rattle.reference.specs.Named.{name_of_registered, query_name}
 use Rattle.reference.proofs.StepLemmas.{on_err}
 use Rattle.reference.proofs.NamedLemmas.{either_way}
+use Rattle.reference.proofs.WaitingLemmas.{IsNext, on_ok₂, set_wait, taken_wait, wait_all, wait_each}
 use Rattle.reference.proofs.plain.Plain.hand_out.Goals as goal
 
 pub returns-clause-machine : goal.returns-clause-machine
@@ -46,6 +47,7 @@ invariant_of-self c =
     let qs = p.queries.items in
     let x = c.take.new.self in
     let d = c.index_mut.result.now in
+    let lt : c.args.query < length qs = query_in (take_tests c.args.limit) qs c.args.query c.requires in
     let name : query_name x ≡ query_name (get_or qs c.args.query d) =
     either_way c.take.result
     (on_ok c.take.result (λ h. ap name_of_registered h ∙ ap query_name c.index_mut.ensures.value) c.take.ensures.query)
@@ -55,4 +57,14 @@ invariant_of-self c =
       few = p.few;
       streams_are_named = p.streams_are_named;
       queries_are_named = p.queries_are_named ∙ sym (map-set_same query_name qs c.args.query x d name);
+      next_wait =
+          wait_all _ _
+          (set_wait p.streams.items qs c.args.query x d lt
+          (λ before.
+          let at : IsNext p.streams.items (query_of d) (waiting_of d) =
+          subst (λ (q : StandingQuery). IsNext p.streams.items (query_of q) (waiting_of q)) (sym c.index_mut.ensures.value) before in
+          either_way c.take.result
+          (on_ok₂ c.take.result (λ query waiting. taken_wait p.streams.items x d _ query waiting at) c.take.ensures.query c.take.ensures.waiting)
+          (on_err c.take.result (λ h. subst (λ (q : StandingQuery). IsNext p.streams.items (query_of q) (waiting_of q)) (sym h) at) c.take.ensures.err))
+          (wait_each p.streams.items p.queries.items p.next_wait));
     }

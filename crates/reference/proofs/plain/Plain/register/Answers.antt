@@ -1,4 +1,4 @@
-use Rattle.std.proofs.Common.{◌≡◌, ℕ, List, [], length, ap, sym, ◌∙◌, map, ◌++◌, ◌∷◌, arith}
+use Rattle.std.proofs.Common.{◌≡◌, ℕ, List, [], length, ap, sym, subst, ◌∙◌, map, ◌++◌, ◌∷◌, arith}
 use Rattle.reference.specs.Commands.{registered_as}
 use Rattle.reference.specs.PlainViews.{machine_in}
 use Rattle.reference.specs.Places.{machine_of}
@@ -10,6 +10,7 @@ use Rattle.std.proofs.lemmas.List.{length-map}
 use Rattle.name_table.specs.Names.{bears}
 use Rattle.reference.specs.Named.{name_of_registered, query_name}
 use Rattle.reference.proofs.NamedLemmas.{query-place, registered_new, registered_few, queries-pushed}
+use Rattle.reference.proofs.WaitingLemmas.{NextWait, pushed_wait, wait_all, wait_each}
 use Rattle.reference.proofs.plain.Plain.register.Goals as goal
 
 pub returns-clause-ok : goal.returns-clause-ok
@@ -52,4 +53,8 @@ invariant_of-self-2 c =
       few = p.few;
       streams_are_named = p.streams_are_named;
       queries_are_named = queries-pushed _ p.queries.items q c.args.name.now names name ∙ ap (map query_name) (sym items);
+      next_wait =
+          wait_all _ _
+          (subst (λ (qs : List StandingQuery). NextWait p.streams.items qs) (sym items)
+          (pushed_wait p.streams.items p.queries.items q c.in_ok-query.ensures.waiting (wait_each p.streams.items p.queries.items p.next_wait)));
     }

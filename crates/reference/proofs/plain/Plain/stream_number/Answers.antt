@@ -1,9 +1,4 @@
-use Rattle.std.proofs.Common.{◌∙◌, ap, position}
-use Rattle.name_table.specs.Names.{bears}
-use Rattle.reference.proofs.NamedLemmas.{stream-place}
 use Rattle.reference.proofs.plain.Plain.stream_number.Goals as goal
 
 pub returns : goal.returns
-returns c =
-    let p = c.args.self.now in
-    c.number.ensures.first ∙ ap (position (bears c.args.name.now)) p.streams_are_named ∙ stream-place c.args.name.now p.streams.items
+returns c = let p = c.args.self.now in c.stream_place.ensures p.streams.items p.streams_are_named

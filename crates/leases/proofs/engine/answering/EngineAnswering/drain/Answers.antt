@@ -1,14 +1,15 @@
 -- Where no operator may take anything and all turns are back, all that is closed and not taken waits.
-use Rattle.std.proofs.Common.{◌<◌, ◌≤◌, OnOk, arith, subst, sym}
+use Rattle.std.proofs.Common.{◌<◌, ◌≤◌, arith, subst, sym}
 use Rattle.leases.proofs.WorldLemmas.{drains_are, drains_wait, plenty_has}
 use Rattle.leases.proofs.DrainLemmas.{wants_numbers}
 use Rattle.laws_engine.proofs.PromiseLemmas.{keeps_its_promises}
-use Rattle.laws_engine.specs.Promises.{HasAllWaiting}
 use Rattle.reference.specs.World.{Drains, drain_step}
 use Rattle.leases.specs.Shown.{world_in}
 use Rattle.leases.specs.Shown.{engine_in}
 use Rattle.leases.specs.Whole.{IsWhole}
 use Rattle.leases.specs.declared.limits.TheConstants.{LEASE_NUMBERS}
+use Rattle.leases.specs.Whole.{HasNumbers}
+use Rattle.leases.proofs.NumberLemmas.{drain_gives, spent}
 use Rattle.leases.proofs.engine.answering.EngineAnswering.drain.Goals as goal
 
 pub returns-clause-does : goal.returns-clause-does
@@ -34,3 +35,8 @@ returns-clause-numbers c = λ whole is some.
     wants_numbers (engine_in c.self.inside.state) (engine_in c.drain.new.self) c.args.rows c.drain.result c.drain.ensures.runs c.drain.ensures.others before.returned is in
     let left : c.drain.new.self.next < LEASE_NUMBERS = some in
     omega (arith, all, left)
+
+pub returns-clause-spent : goal.returns-clause-spent
+returns-clause-spent c =
+    subst (λ s. HasNumbers c.drain.new.self → HasNumbers s) c.self.view_is
+    (spent (engine_in c.self.inside.state) (engine_in c.drain.new.self) (drain_gives (engine_in c.self.inside.state) (engine_in c.drain.new.self) c.args.rows c.drain.result c.drain.ensures.runs))

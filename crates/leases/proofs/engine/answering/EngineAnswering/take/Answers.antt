@@ -1,13 +1,16 @@
-use Rattle.std.proofs.Common.{subst, w64}
+use Rattle.std.proofs.Common.{IfOk, subst, w64}
 use Rattle.std.proofs.lemmas.Int.{to_z-of_z}
 use Rattle.leases.proofs.WholeLemmas.{takes_whole}
-use Rattle.leases.proofs.WorldLemmas.{takes_are}
+use Rattle.leases.proofs.WorldLemmas.{takes_are, takes_next}
 use Rattle.laws_engine.proofs.PromiseLemmas.{keeps_its_promises}
 use Rattle.reference.specs.CallViews.{handed_of}
+use Rattle.reference.specs.Steps.{AreNext}
 use Rattle.reference.specs.World.{Does, take_step}
 use Rattle.leases.specs.Shown.{world_in}
 use Rattle.leases.specs.Shown.{engine_in}
 use Rattle.leases.specs.Whole.{IsWhole}
+use Rattle.leases.specs.Whole.{HasNumbers}
+use Rattle.leases.proofs.NumberLemmas.{spent, take_gives_none}
 use Rattle.leases.proofs.engine.answering.EngineAnswering.take.Goals as goal
 
 pub returns-clause-does : goal.returns-clause-does
@@ -22,3 +25,15 @@ returns-clause-whole c =
 
 pub returns-clause-promises : goal.returns-clause-promises
 returns-clause-promises c = keeps_its_promises _ c.take.ensures.sound.good
+
+pub returns-clause-spent : goal.returns-clause-spent
+returns-clause-spent c =
+    subst (λ s. HasNumbers c.take.new.self → HasNumbers s) c.self.view_is
+    (spent (engine_in c.self.inside.state) (engine_in c.take.new.self)
+    (take_gives_none (λ v. handed_of v.items) (engine_in c.self.inside.state) c.args.query c.args.limit c.take.result (engine_in c.take.new.self) (simp (to_z-of_z w64 c.args.limit c.ranges.limit) at c.take.ensures.takes)))
+
+pub returns-clause-next : goal.returns-clause-next
+returns-clause-next c =
+    subst (λ s. IfOk c.take.result (λ v. AreNext (world_in s).machine c.args.query c.args.limit (handed_of v.items))) c.self.view_is
+    (takes_next (λ v. handed_of v.items) (engine_in c.self.inside.state) c.args.query c.args.limit c.take.result (engine_in c.take.new.self) (keeps_its_promises _ c.self.invariant.good).begins
+    (simp (to_z-of_z w64 c.args.limit c.ranges.limit) at c.take.ensures.takes))

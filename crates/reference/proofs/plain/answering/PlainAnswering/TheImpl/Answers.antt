@@ -7,4 +7,5 @@ drain-tells c = record {
   does = λ whole. drains (world_of c.args.self.now) (world_of c.new.self.now) c.args.rows c.result c.ensures.does;
   numbers = λ whole is some. not_wanted (world_of c.args.self.now) (world_of c.new.self.now) c.args.rows c.result c.ensures.does is;
   whole = λ w p. tt;
+  spent = λ has. tt;
 }

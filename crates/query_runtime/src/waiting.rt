@@ -1,0 +1,90 @@
+//! Answers that wait to be taken.
+ghost use Rattle.std.specs.Prelude.{◌≡◌, ◌≤◌, ◌+◌, ◌++◌, [], true, length, min, take, drop};
+ghost use Rattle.std.specs.Prelude.{IfOk, OnErr, OnOk, vec_capacity, vec_len};
+ghost use Rattle.std.specs.VecDeque.{deque_len};
+ghost use Rattle.to_stream.specs.Turns.{answers_of};
+ghost use Rattle.reference.specs.CallViews.{handed_of};
+ghost use Rattle.reference.specs.Inputs.{are_signed};
+ghost use Rattle.reference.specs.World.{handed};
+ghost use Rattle.query_runtime.specs.Turns.{left_behind, taken};
+
+use std::alloc::{AllocError, Global};
+use std::collections::VecDeque;
+use std::marker::Model;
+use values::Row;
+
+/// Answers of a query that wait to be taken, in their order.
+#[derive(Drop)]
+pub struct WaitingAnswers {
+    /// The answers, each with its instant; the first to be taken stands in front.
+    answers: VecDeque<(u64, Row)>,
+}
+
+impl Model for WaitingAnswers {
+    ghost use Rattle.std.specs.Prelude.{ℕ, List};
+    ghost use Rattle.values.specs.Row.{Row as PlainRow};
+    ghost use Rattle.to_stream.specs.Turns.{answers_of};
+
+    ghost Value = { List (ℕ × PlainRow) };
+
+    ghost view = { λ a. answers_of a.answers.items };
+}
+
+impl WaitingAnswers {
+    /// Makes a queue of no answers. Takes no memory.
+    pub(crate) fn new(alloc: Global) -> WaitingAnswers
+        ensures { result ≡ [] }
+    {
+        WaitingAnswers {
+            answers: VecDeque::new(alloc),
+        }
+    }
+
+    /// Counts the answers.
+    pub fn len(&self) -> usize
+        ensures { result ≡ length self.now }
+    {
+        self.answers.len()
+    }
+
+    /// Adds answers behind the others. Where memory is refused it is as it was.
+    pub(crate) fn add(&mut self, answers: Vec<(u64, Row)>) -> Result<(), AllocError>
+        ensures ok { OnOk result (self.new ≡ self.old ++ answers_of answers.items) }
+        ensures err { OnErr result (self.new ≡ self.old) }
+    {
+        let mut answers = VecDeque::from_vec(answers);
+        self.answers.append(&mut answers)
+    }
+
+    /// Hands out the first answers, at most `limit`, at the cost of these. Where memory is refused
+    /// it is as it was.
+    pub fn take(&mut self, alloc: Global, limit: usize) -> Result<Vec<(i64, Row)>, AllocError>
+        requires { are_signed self.old ≡ true }
+        ensures handed { IfOk result (λ rows. handed_of rows.items
+            ≡ handed (taken limit self.old)) }
+        ensures rest { OnOk result (self.new ≡ left_behind limit self.old) }
+        ensures err { OnErr result (self.new ≡ self.old) }
+    {
+        let count = limit.min(self.answers.len());
+        let mut rows = Vec::with_capacity(alloc, count)?;
+        move_front(&mut self.answers, &mut rows, count);
+        Ok(rows)
+    }
+}
+
+/// Moves the first `count` answers behind the rows, which have room for them.
+fn move_front(answers: &mut VecDeque<(u64, Row)>, rows: &mut Vec<(i64, Row)>, count: usize)
+    requires enough { count ≤ deque_len answers.old }
+    requires room { vec_len rows.old + count ≤ vec_capacity rows.old }
+    requires instants { are_signed (answers_of answers.old.items) ≡ true }
+    ensures rows { handed_of rows.new.items
+        ≡ handed_of rows.old.items ++ handed (take count (answers_of answers.old.items)) }
+    ensures answers { answers_of answers.new.items ≡ drop count (answers_of answers.old.items) }
+{
+    for _ in 0..count {
+        match answers.pop_front() {
+            Some((at, row)) => rows.push_reserved((at as i64, row)),
+            None => unreachable!(),
+        }
+    }
+}

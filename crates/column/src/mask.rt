@@ -12,7 +12,9 @@ use std::marker::Model;
 /// At most `MAX_ROWS` truths, a bit each; the bits past the last are 0.
 #[derive(Drop)]
 pub struct Mask {
+    /// The truths, 64 to a word, the first one in the lowest bit.
     words: Vec<u64>,
+    /// How many truths there are.
     len: usize,
 }
 

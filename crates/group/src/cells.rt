@@ -149,8 +149,12 @@ fn sum_added(total: i128, more: i64) -> i128
 /// and where a least or a greatest is asked for, how often each stands there.
 #[derive(Drop)]
 pub(crate) struct Tally {
+    /// How many numbers entered, less those that left; nulls do not count.
     numbers: i64,
+    /// Their exact sum.
     total: i128,
+    /// Where a least or a greatest is asked for, by the number how often it stands there; else
+    /// empty.
     values: BTreeMap<Value, u64>,
 }
 
@@ -311,7 +315,9 @@ impl Tally {
 /// stands in a row.
 #[derive(Clone, Copy, PartialEq, Eq, Drop)]
 pub(crate) struct Figure {
+    /// The count or the exact sum; `None` where the figure is a value.
     pub(crate) number: Option<i128>,
+    /// The value; null where the figure is a number.
     pub(crate) value: Value,
 }
 
@@ -378,8 +384,11 @@ fn greatest(values: &BTreeMap<Value, u64>) -> Value
 /// that was shown of it last, in room for its values.
 #[derive(Drop)]
 pub(crate) struct Cell {
+    /// How many rows entered, less those that left.
     rows: i64,
+    /// For each item of the list, in order, its tally.
     tallies: Vec<Tally>,
+    /// The row that was shown last; `None` where none was yet.
     shown: Option<Vec<Value>>,
 }
 

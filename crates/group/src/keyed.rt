@@ -22,6 +22,7 @@ use values::{ListItem, MAX_COLUMNS, Row, Value, copy_row};
 /// What is kept of each group, by keys of at most `N` values: a key takes some `8 * N` bytes.
 #[derive(Drop)]
 pub(crate) struct Keyed<const N: usize> {
+    /// By the key, what is kept of each group.
     cells: BTreeMap<ArrayVec<Value, N>, Cell>,
 }
 

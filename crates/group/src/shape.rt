@@ -13,7 +13,9 @@ use values::{Column, ListItem, MAX_COLUMNS, Row};
 /// between operators counts as the one row of a combination: its columns are those of source 0.
 #[derive(Drop)]
 pub struct GroupBy {
+    /// Group By's columns; none where it is missing.
     by: Vec<Column>,
+    /// The items of the list, in order.
     items: Vec<ListItem>,
 }
 

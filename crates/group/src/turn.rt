@@ -27,9 +27,13 @@ const BATCH: usize = 1024;
 /// it has to show.
 #[derive(Drop)]
 pub(crate) struct Touched {
+    /// The group's key.
     pub(crate) key: Row,
+    /// The row that was shown of it last; `None` where none was yet.
     pub(crate) shown: Option<Row>,
+    /// How many rows it has.
     pub(crate) rows: i64,
+    /// For each item of the list, in order, its exact figure.
     pub(crate) figures: Vec<Figure>,
 }
 
@@ -71,6 +75,7 @@ impl Eq for Touched {
 /// The excerpt of a turn: each touched group where the item is a tick, else none.
 #[derive(Drop)]
 pub struct Near {
+    /// The groups, by key.
     groups: Vec<Touched>,
 }
 
@@ -86,7 +91,9 @@ impl Model for Near {
 /// What a group shows from a tick on.
 #[derive(Drop)]
 pub(crate) struct Shown {
+    /// The group's key.
     pub(crate) key: Row,
+    /// The row; `None` where the group shows none and is no longer kept.
     pub(crate) row: Option<Row>,
 }
 
@@ -101,6 +108,7 @@ impl Model for Shown {
 /// The change of a turn: what each touched group shows from the tick on; at rows nothing.
 #[derive(Drop)]
 pub struct Change {
+    /// What each of the groups shows, by key.
     shown: Vec<Shown>,
 }
 

@@ -11,9 +11,11 @@ use std::marker::Model;
 /// none.
 #[derive(Drop)]
 pub struct NameTable {
+    /// Where memory is taken from.
     alloc: Global,
+    /// By the name the number that bears it.
     numbers: BTreeMap<String, usize>,
-    // how many numbers were given
+    /// How many numbers were given, also those whose names were freed.
     count: usize,
 }
 

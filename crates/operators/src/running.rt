@@ -27,9 +27,13 @@ use turn::{Change, Kind, Near};
 /// stream that a window reads; other operators read none, and any log will do.
 #[derive(Drop)]
 pub struct Operator {
+    /// What it does, shared with the turns of it that are out.
     kind: Arc<Kind>,
+    /// What it holds between turns.
     state: State,
+    /// What waits on the left side, or for the one input.
     left: Inbox,
+    /// What waits on the right side of a join.
     right: Inbox,
 }
 

@@ -19,8 +19,11 @@ use values::{Row, STREAM_MAX, Value};
 /// They are kept flat, so a row takes no allocation of its own. Contracts see them as a list.
 #[derive(Drop)]
 pub struct NewRows {
+    /// The instant of each row as it was given, of any range.
     instants: Vec<i64>,
+    /// How many values each row has.
     widths: Vec<usize>,
+    /// The rows' values, one row behind the other; `None` is null.
     values: Vec<Option<i64>>,
 }
 

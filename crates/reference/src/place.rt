@@ -16,7 +16,9 @@ use values::Row;
 /// registration.
 #[derive(Clone, Copy)]
 pub(crate) struct Place {
+    /// The stream's number.
     stream: usize,
+    /// How many rows had come to the stream before the registration.
     arrivals: u64,
 }
 

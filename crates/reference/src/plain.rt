@@ -21,13 +21,17 @@ use std::alloc::Global;
 /// An engine that keeps what it was told, and evaluates each query anew at each drain.
 #[derive(Drop)]
 pub struct Plain {
+    /// Where memory is taken from.
     alloc: Global,
+    /// The declared streams by number, with all rows that came.
     streams: Vec<Stream>,
-    // what the streams are called, and their columns, for queries to name
+    /// By the streams' numbers, what each is called, and its columns, for queries to name.
     catalog: Catalog,
+    /// By the streams' numbers, the name of each.
     stream_names: NameTable,
+    /// The registered queries by number, the dropped ones among them.
     queries: Vec<StandingQuery>,
-    // without the names of dropped queries
+    /// By the queries' numbers, the name of each that was not dropped.
     query_names: NameTable,
     ghost declared: { catalog ≡ catalog_of streams.items },
     ghost few: { All (λ s. length s.columns ≤ 8) catalog },

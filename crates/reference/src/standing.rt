@@ -14,18 +14,25 @@ use plan::Plan;
 use std::collections::VecDeque;
 use values::Row;
 
-/// A registered query: its name, its plan, the places of its sources, the first instant above its
-/// base, how many answers were taken, whether it was dropped, the answers that wait for a take, and
-/// those that a drain under way found.
+/// A registered query, and those of its answers that were found and not taken.
 #[derive(Drop)]
 pub(crate) struct StandingQuery {
+    /// Its name.
     name: String,
+    /// What its text means, and the operators of its plan.
     plan: Plan,
+    /// Its sources, in the order of From.
     places: Vec<Place>,
+    /// The first instant above its base: rows of earlier ones do not count.
     first: u64,
+    /// How many answers were taken.
     taken: u64,
+    /// Whether it was dropped.
     is_dropped: bool,
+    /// The answers that wait for a take, each an instant and a row, the next one in front.
     waiting: VecDeque<(u64, Row)>,
+    /// The answers that a drain under way found, which take the place of those that wait once it
+    /// has found them of every query.
     fresh: VecDeque<(u64, Row)>,
     ghost fits: { has_narrow_rows plan.meaning.shape ≡ true },
     ghost sources: { length plan.meaning.windows.items ≡ length places.items },

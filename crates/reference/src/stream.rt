@@ -21,17 +21,21 @@ use std::alloc::{AllocError, Global};
 use std::marker::Model;
 use values::{Row, Value};
 
-/// A declared stream: its name, its columns' names, its elements by arrival, and the first instant
-/// that no heartbeat has closed.
+/// A declared stream, and the elements that came to it.
 ///
 /// The elements are kept flat, an instant each and as many values as there are columns: 8 bytes
 /// each.
 #[derive(Drop)]
 pub(crate) struct Stream {
+    /// Its name.
     name: Name,
+    /// The names of its columns, at most 8.
     columns: Vec<Name>,
+    /// The instant of each row that came, in the order of arrival.
     instants: Vec<u64>,
+    /// The rows' values in the same order, one row behind the other: one for each column.
     values: Vec<Value>,
+    /// The first instant that no heartbeat has closed.
     first_open: u64,
 }
 

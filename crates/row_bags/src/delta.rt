@@ -14,7 +14,9 @@ use values::Row;
 /// neither.
 #[derive(Drop)]
 pub struct Delta {
+    /// The rows that entered, without those that left again.
     entered: RowBag,
+    /// The rows that left, without those that entered again.
     left: RowBag,
 }
 

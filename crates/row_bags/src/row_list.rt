@@ -14,7 +14,9 @@ use values::{MAX_COLUMNS, Row, Value, compare_rows, copy_row, same_rows};
 /// It is made for lists in order, which change seldom and then by a walk over all of it.
 #[derive(Drop)]
 pub struct RowList {
+    /// How many values each row has.
     widths: Vec<u8>,
+    /// The rows' values, one row behind the other.
     values: Vec<Value>,
 }
 

@@ -19,8 +19,11 @@ use values::{MAX_COLUMNS, Row, Value};
 /// own.
 #[derive(Drop)]
 pub(crate) struct LateRows {
+    /// How many values each row has.
     width: usize,
+    /// The number of each row in the order of arrival, the first one in front.
     numbers: Vec<u64>,
+    /// The rows' values in the same order, one row behind the other: `width` for each.
     values: Vec<Value>,
 }
 

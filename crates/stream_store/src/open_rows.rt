@@ -23,8 +23,11 @@ use values::{MAX_COLUMNS, Row};
 /// instant. What is late is therefore earlier than what comes next.
 #[derive(Drop)]
 pub(crate) struct OpenRows {
+    /// Where memory is taken from.
     alloc: Global,
+    /// The rows that came with instants that never fall, and the instant that they have reached.
     rising: OrderedRows,
+    /// By instant the rows that came late, all below the instant that `rising` has reached.
     late: BTreeMap<u64, LateRows>,
 }
 

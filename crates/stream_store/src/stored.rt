@@ -19,15 +19,20 @@ use reference::{Fault, NewRows, append_fault, heartbeat_fault};
 use std::alloc::{AllocError, Global};
 use std::marker::Model;
 
-/// A declared stream: its name, its columns' names, the closed rows, the open ones, and how many
-/// came.
+/// A declared stream, and the rows that came to it.
 #[derive(Drop)]
 pub(crate) struct Stored {
+    /// Where memory is taken from.
     alloc: Global,
+    /// The stream's name.
     name: Name,
+    /// The names of its columns, at most 8.
     columns: Vec<Name>,
+    /// The closed rows, and the first open instant.
     log: Log,
+    /// The rows of open instants.
     open_rows: OpenRows,
+    /// How many rows came: the number of the next one.
     arrivals: u64,
 }
 

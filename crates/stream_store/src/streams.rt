@@ -30,8 +30,11 @@ use std::marker::Model;
 /// until a heartbeat closes them.
 #[derive(Drop)]
 pub struct Streams {
+    /// Where memory is taken from.
     alloc: Global,
+    /// The declared streams by number, in the order of declaration.
     streams: Vec<Stored>,
+    /// By the streams' numbers, the name of each.
     names: NameTable,
 }
 

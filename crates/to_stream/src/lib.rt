@@ -27,11 +27,15 @@ use values::{Row, StreamOperator, copy_row};
 /// Rstream the whole relation at that tick.
 #[derive(Drop)]
 pub struct ToStream {
+    /// Whether it is Istream, Dstream or Rstream.
     operator: StreamOperator,
+    /// What entered and left since the last tick.
     delta: Delta,
+    /// Of Rstream the relation at the last tick, in order; else no rows.
     whole: RowList,
-    // the instant of the last tick
+    /// The instant of the last tick; `None` before the first.
     last: Option<u64>,
+    /// Where memory is taken from.
     alloc: Global,
 }
 

@@ -20,7 +20,9 @@ use values::Row;
 /// A row costs eight bytes a column, and rows of one instant that stand together cost one run more.
 #[derive(Drop)]
 pub(crate) struct HeldRows {
+    /// The rows, the oldest first.
     rows: FlatRows,
+    /// The rows' instants in the same order, each with how many rows in succession have it.
     runs: VecDeque<Run>,
 }
 

@@ -24,6 +24,7 @@ use values::{MAX_COLUMNS, Row, Value, copy_row, value_at};
 /// bytes.
 #[derive(Drop)]
 pub(crate) struct KeyedParts<const N: usize> {
+    /// By a partition's key its last rows, the oldest first.
     parts: BTreeMap<ArrayVec<Value, N>, Last>,
 }
 

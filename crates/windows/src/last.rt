@@ -12,6 +12,7 @@ use values::Row;
 /// The rows of a partition, the oldest first, with eight bytes for each value.
 #[derive(Drop)]
 pub(crate) struct Last {
+    /// The rows, the oldest first.
     rows: FlatRows,
 }
 

@@ -9,7 +9,9 @@ use std::collections::VecDeque;
 /// An instant that stands `count` times behind itself.
 #[derive(Clone, Copy)]
 pub(crate) struct Run {
+    /// The instant.
     instant: u64,
+    /// How many rows in succession have it.
     count: usize,
 }
 

@@ -66,6 +66,7 @@ pub trait Sink {
 /// Bytes in memory, as a source: those that are not yet read.
 #[derive(Drop)]
 pub struct MemorySource<'a> {
+    /// The bytes that are not yet read.
     pub bytes: &'a [u8],
 }
 
@@ -97,7 +98,9 @@ impl Source for MemorySource<'_> {
 /// A list in memory, as a sink: the bytes that it took. Want of memory is a failure.
 #[derive(Drop)]
 pub struct MemorySink {
+    /// The bytes that it took, in order.
     pub bytes: Vec<u8>,
+    /// How many writes have failed; the count stops where 64 bits are full.
     pub failures: u64,
 }
 
@@ -132,8 +135,11 @@ impl Sink for MemorySink {
 /// does, which these two do not.
 #[derive(Drop)]
 pub struct ReaderSource<R> {
+    /// What is read.
     reader: R,
+    /// How often the reader may still be read.
     turns: u64,
+    /// How many reads have failed; the count stops where 64 bits are full.
     pub failures: u64,
 }
 
@@ -190,7 +196,9 @@ impl<R: Read> Source for ReaderSource<R> {
 /// the writer does, which these two do not.
 #[derive(Drop)]
 pub struct WriterSink<W> {
+    /// What is written to.
     writer: W,
+    /// How many writes have failed; the count stops where 64 bits are full.
     pub failures: u64,
 }
 

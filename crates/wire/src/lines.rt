@@ -21,9 +21,14 @@ const GROUP: usize = 64;
 /// last.
 #[derive(Drop)]
 pub struct Lines {
+    /// 65,536 bytes, into which the source is read.
     chunk: Vec<u8>,
+    /// The place in `chunk` of the first byte that is read ahead.
     start: usize,
+    /// The place behind the last byte that is read ahead.
     end: usize,
+    /// The line that was read last, without its line feed; there is room for 65,536 bytes. Of a
+    /// longer line it has a part alone.
     line: Vec<u8>,
     ghost ordered: { start ≤ end },
     ghost within: { end ≤ vec_len chunk },
@@ -75,7 +80,9 @@ fn keep(line: &mut Vec<u8>, fits: bool, piece: &[u8]) -> bool
 
 #[derive(Drop)]
 struct Moved {
+    /// Whether a line feed ended the line.
     ended: bool,
+    /// Whether all bytes of the line are kept so far.
     fits: bool,
 }
 

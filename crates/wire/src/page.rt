@@ -16,7 +16,9 @@ const PAGE: usize = 4096;
 /// write.
 #[derive(Drop)]
 pub(crate) struct Page {
+    /// The bytes of the line that wait for the next write, at most `PAGE`.
     pub(crate) bytes: ArrayVec<u8, PAGE>,
+    /// Whether no write of the line has failed.
     pub(crate) going: bool,
 }
 

@@ -1,16 +1,18 @@
 -- Turns that go out and come back one after the other leave the machine as it is, the turns of others out, and an engine that was whole whole.
-use Rattle.std.proofs.Common.{◌≡◌, ◌≢◌, ◌==◌, ◌≤◌, ◌<◌, ◌⊎◌, ℕ, zero, suc, ◌+◌, Bool, true, false, inl, inr, None, IsErrAnd, Result, Ok, Err, List, [], ◌∷◌, ◌++◌, length, get_or, set, refl, sym, ap, ◌∙◌, subst, arith, eq-eqb}
+use Rattle.std.proofs.Common.{◌≡◌, ◌≢◌, ◌==◌, ◌≤◌, ◌<◌, ◌⊎◌, ℕ, zero, suc, ◌+◌, ◌&&◌, not, nat_le, Bool, true, false, inl, inr, Some, None, IsErrAnd, Result, Ok, Err, List, [], ◌∷◌, ◌++◌, length, get_or, set, refl, sym, ap, ◌∙◌, subst, arith, eq-eqb}
 use Rattle.std.specs.Prelude.{⊤}
 use Rattle.std.proofs.lemmas.Bool.{ne_eqb}
 use Rattle.std.proofs.lemmas.Option.{slice_get_within}
 use Rattle.values.specs.Row.{Row}
 use Rattle.turn.specs.declared.turns.Turn.{Turn}
 use Rattle.plan.proofs.Lists.{by_test}
+use Rattle.names.specs.Faults as faults
 use Rattle.reference.specs.Machine.{Registered}
 use Rattle.reference.specs.World.{drain_fault}
 use Rattle.reference.specs.declared.fault.Fault.{Fault}
 use Rattle.reference.specs.declared.fault.Fault.TheVariants as fault
 use Rattle.reference.specs.declared.fault.Fault.TheVariants.{Query, BadName, NameTaken, BadColumns, TooMany, UnknownStream, UnknownQuery, BadWidth, ValueRange, InstantRange, Late, Backward, Leap, StreamFull, BadLimit, UnknownLease, Stranger, TooManyLeases, HistoryFull, OutOfMemory, Foreign}
+use Rattle.reference.specs.declared.limits.TheConstants.{MAX_TURN}
 use Rattle.laws_queries.specs.Queries.{PlainQuery}
 use Rattle.run_queue.specs.Slots.{first_of}
 use Rattle.laws_engine.proofs.BackLemmas.{kept_here}
@@ -46,6 +48,17 @@ has_run e1 e2 rows ran is h = subst (λ b. RunsFirst e1 rows (Ok b) e2) is h
 
 pub has_none : (e1 e2 : PlainEngine) (rows : ℕ) (ran : Bool) → ran ≡ false → RunsFirst e1 rows (Ok ran) e2 → (first_of e1.slots ≡ None) × (e2 ≡ e1)
 has_none e1 e2 rows ran is h = subst (λ b. RunsFirst e1 rows (Ok b) e2) is h
+
+-- A DRAIN THAT IS REFUSED does nothing
+told_limit : (b : Bool) (f : Fault) → Some f ≡ faults.first_of ((b, BadLimit) ∷ []) → f ≡ BadLimit
+told_limit true f h = cc
+told_limit false f h = absurd (cc)
+
+pub refused_drain : (e : PlainEngine) (rows : ℕ) (f : Fault) → Some f ≡ drain_fault rows → RunsTurns e rows (Err f) e × LeavesOthers e (Err f) e
+refused_drain e rows f h =
+    let is : f ≡ BadLimit = told_limit (not (nat_le 1 rows && nat_le rows MAX_TURN)) f h in
+    let limit : drain_fault rows ≡ Some BadLimit = sym h ∙ ap Some is in
+    subst (λ z. RunsTurns e rows (Err z) e × LeavesOthers e (Err z) e) (sym is) ((limit, refl), refl)
 
 -- A STEP THAT IS REFUSED ends a drain
 pub step_ends : (e1 e2 e3 : PlainEngine) (rows : ℕ) (f : Fault) → drain_fault rows ≡ None → SomeHaveRun rows e1 e2 → RunsFirst e2 rows (Err f) e3 → RunsTurns e1 rows (Err f) e3

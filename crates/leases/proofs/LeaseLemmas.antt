@@ -1,5 +1,5 @@
 -- A turn that goes out, and the engine after it.
-use Rattle.std.proofs.Common.{◌≡◌, ℕ, ◌+◌, ◌<◌, ◌++◌, ◌||◌, ◌==◌, Bool, cond, true, false, inl, inr, ◌⊎◌, ⊎_elim, Option, Some, None, Result, Ok, List, [], ◌∷◌, length, map, min, refl, sym, ap, ◌∙◌, subst, arith, eq-eqb, length-append}
+use Rattle.std.proofs.Common.{◌≡◌, ℕ, ◌+◌, ◌<◌, ◌++◌, ◌||◌, ◌&&◌, ◌==◌, not, nat_le, is_some, Bool, cond, true, false, inl, inr, ◌⊎◌, ⊎_elim, Option, Some, None, Result, Ok, Err, List, [], ◌∷◌, length, map, min, refl, sym, ap, ◌∙◌, subst, arith, eq-eqb, length-append}
 use Rattle.std.specs.List.{list_any}
 use Rattle.std.specs.Option.{option_map}
 use Rattle.std.proofs.lemmas.List.{map-append}
@@ -16,7 +16,11 @@ use Rattle.operators.specs.Inboxes.{cut_of}
 use Rattle.operators.specs.Operators.{inbox_of, ready}
 use Rattle.operators.specs.States.{near_of}
 use Rattle.reference.specs.Machine.{Registered}
+use Rattle.names.specs.Faults as faults
+use Rattle.reference.specs.World.{drain_fault}
 use Rattle.reference.specs.declared.fault.Fault.{Fault}
+use Rattle.reference.specs.declared.fault.Fault.TheVariants.{BadLimit, TooManyLeases}
+use Rattle.reference.specs.declared.limits.TheConstants.{MAX_TURN}
 use Rattle.reference.specs.Named.{name_of_registered}
 use Rattle.laws_queries.specs.Queries.{PlainQuery, log_at, operator_at}
 use Rattle.laws_queries.specs.Registrations.{HaveColumnNames}
@@ -264,6 +268,17 @@ module _ (old new : State) (s : Slot) (side : Side) (rows n k : ℕ) (g : Given)
     closed = subst (λ (z : PlainEngine). HaveFewClosed z.machine) (sym is) sound.closed;
     readers = gone.readers ∙ sound.readers ∙ ap readers_of (sym is);
   }
+
+-- THE TEST of the number of rows comes first, whatever the other tests are
+test_fails : (b : Bool) (tests : List (Bool × Fault)) (f : Fault) → Some f ≡ faults.first_of ((b, BadLimit) ∷ []) → (f ≡ BadLimit) × (faults.first_of ((b, BadLimit) ∷ tests) ≡ Some BadLimit)
+test_fails true tests f h = let same : f ≡ BadLimit = cc in (same, refl)
+test_fails false tests f h = absurd (cc)
+
+pub refused_lease : (e : PlainEngine) (rows : ℕ) (f : Fault) → Some f ≡ drain_fault rows → Leases e rows (Err f) e
+refused_lease e rows f h =
+    let fails =
+    test_fails (not (nat_le 1 rows && nat_le rows MAX_TURN)) ((is_some (first_of e.slots) && (nat_le MAX_LEASES (length e.leases) || nat_le LEASE_NUMBERS e.next), TooManyLeases) ∷ []) f h in
+    subst (λ z. Leases e rows (Err z) e) (sym fails.0) (fails.1, refl)
 
 -- WHERE NOTHING WENT OUT there is nothing that may
 pub idle_waits_for_all : (old new : PlainEngine) (rows : ℕ) (result : Result Leased Fault) → GoodEngine new → Leases old rows result new → result ≡ Ok Idle → HasAllWaiting new

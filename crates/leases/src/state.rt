@@ -27,7 +27,7 @@ pub(crate) struct State {
     /// The declared streams, by number, with their open rows and with those that are closed.
     pub(crate) streams: Streams,
     /// By the queries' numbers, the name of each that was not dropped.
-    names: NameTable,
+    pub(crate) names: NameTable,
     /// By the queries' numbers, each as it was registered.
     registered: Vec<Registration>,
     /// By the queries' numbers, what is left of each: as many as were registered.

@@ -22,7 +22,7 @@ ghost use Rattle.leases.specs.Whole.{HasNumbers, IsWhole};
 use crate::engine::Engine;
 use envelope::Slope;
 use plan::{Chart, Kind};
-use reference::{Answering, Fault, NewRows};
+use reference::{Answering, Fault, NewRows, query_place};
 use values::Row;
 
 impl Answering for Engine {
@@ -148,6 +148,6 @@ impl Answering for Engine {
 
     #[tactic(auto, unfolding(reference::specs::World::query_named))]
     fn query_named(&self, name: &str) -> Option<u64> {
-        self.state.query_number(name).map(|number| number as u64)
+        query_place(&self.state.names, name)
     }
 }

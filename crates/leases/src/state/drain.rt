@@ -13,7 +13,7 @@ ghost use Rattle.leases.specs.Whole.{IsWhole};
 use crate::limits::{LEASE_NUMBERS, MAX_LEASES};
 use crate::state::State;
 use crate::state::lease::turn_of;
-use reference::{Fault, MAX_TURN};
+use reference::{Fault, turn_fault};
 use run_queue::Slot;
 use std::alloc::AllocError;
 use turn::Done;
@@ -28,8 +28,8 @@ impl State {
         ensures whole { IsWhole self.old → result ≢ Err OutOfMemory → IsWhole self.new }
         ensures sound { IsSound self.new }
     {
-        if rows < 1 || MAX_TURN < rows {
-            return Err(Fault::BadLimit);
+        if let Some(fault) = turn_fault(rows) {
+            return Err(fault);
         }
         self.run_turns(rows)
     }

@@ -11,7 +11,7 @@ use crate::leased::Leased;
 use crate::limits::{LEASE_NUMBERS, MAX_LEASES};
 use crate::state::State;
 use column::Side;
-use reference::{Fault, MAX_TURN};
+use reference::{Fault, turn_fault};
 use run_queue::Slot;
 use std::alloc::AllocError;
 use turn::{Node, Turn};
@@ -24,8 +24,8 @@ impl State {
         ensures leases { Leases (engine_in self.old) rows result (engine_in self.new) }
         ensures sound { IsSound self.new }
     {
-        if rows < 1 || MAX_TURN < rows {
-            return Err(Fault::BadLimit);
+        if let Some(fault) = turn_fault(rows) {
+            return Err(fault);
         }
         let Some(slot) = self.slots.first() else {
             return Ok(Leased::Idle);

@@ -1,6 +1,8 @@
 //! An engine's state before any call, and what its calls look up.
 ghost use Rattle.std.specs.Prelude.{◌≡◌, ◌<◌, IfSome, Some, length, slice_get};
+ghost use Rattle.std.specs.Option.{option_map};
 ghost use Rattle.reference.specs.Commands.{Drop, first_fault};
+ghost use Rattle.reference.specs.Machine as machine;
 ghost use Rattle.reference.specs.Machine.{Registered};
 ghost use Rattle.reference.specs.Told.{IsTold};
 ghost use Rattle.laws_queries.specs.Queries.{PlainQuery};
@@ -48,9 +50,20 @@ impl State {
         ensures first { result ≡ first_fault (engine_in self.now).machine (Drop query) }
         ensures told { IfSome result IsTold }
     {
+        match self.query_at(query) {
+            Some(_) => None,
+            None => Some(Fault::UnknownQuery),
+        }
+    }
+
+    /// The query of a number that was not dropped.
+    pub(crate) fn query_at(&self, query: u64) -> Option<&Registration>
+        ensures { option_map (λ q. query_of q.now) result
+            ≡ machine.query_at (engine_in self.now).machine query }
+    {
         match self.registered.get(query as usize) {
-            Some(registered) if !registered.is_dropped => None,
-            _ => Some(Fault::UnknownQuery),
+            Some(registered) if !registered.is_dropped => Some(registered),
+            _ => None,
         }
     }
 

@@ -1,5 +1,5 @@
 //! Queries that are registered.
-ghost use Rattle.std.specs.Prelude.{◌≡◌, ◌<◌, ◌≤◌, ◌+◌, ◌++◌, ℕ, false, not, count_by, [], IfOk};
+ghost use Rattle.std.specs.Prelude.{◌≡◌, ◌<◌, ◌≤◌, ◌+◌, ◌++◌, ℕ, false, [], IfOk};
 ghost use Rattle.std.specs.Prelude.{IfSome, None, OnErr, OnOk, length, map};
 ghost use Rattle.std.specs.Option.{option_copied};
 ghost use Rattle.std.specs.Vec.{vec_capacity, vec_len};
@@ -31,11 +31,10 @@ use crate::kept::KeptQuery;
 use crate::reader::Reader;
 use crate::registered::{Place, Registration};
 use crate::state::State;
-use cql_reader::is_name;
 use envelope::Slope;
 use plan::{Chart, Node, Plan, slopes};
 use query_runtime::RunningQuery;
-use reference::{Fault, MAX_QUERIES, MAX_REGISTRATIONS, find_plan};
+use reference::{Fault, count_undropped, find_plan, query_place, register_fault};
 use run_queue::{RunQueue, Slot};
 use std::alloc::{AllocError, Global};
 use stream_store::Streams;
@@ -76,17 +75,9 @@ impl State {
         ensures first { result ≡ first_of (register_tests (engine_in self.now).machine name.now) }
         ensures told { IfSome result IsTold }
     {
-        if !is_name(name) {
-            return Some(Fault::BadName);
-        }
-        if self.query_number(name).is_some() {
-            return Some(Fault::NameTaken);
-        }
-        let undropped = count_undropped(&self.registered);
-        if MAX_QUERIES <= undropped || MAX_REGISTRATIONS <= self.registered.len() {
-            return Some(Fault::TooMany);
-        }
-        None
+        let is_taken = query_place(&self.names, name).is_some();
+        let undropped = count_undropped(&self.names);
+        register_fault(name, is_taken, undropped, self.registered.len())
     }
 
     /// The plan of the text over the declared streams.
@@ -171,18 +162,6 @@ impl State {
         self.kept.push_reserved(KeptQuery::Running(running));
         Ok(number)
     }
-}
-
-fn count_undropped(queries: &[Registration]) -> usize
-    ensures { result ≡ count_by (λ q. not q.is_dropped) (map query_of queries.now) }
-{
-    let mut count = 0;
-    for query in queries {
-        if !query.is_dropped {
-            count += 1;
-        }
-    }
-    count
 }
 
 /// The greatest of the first open instants of the streams of these numbers.

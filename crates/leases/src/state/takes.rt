@@ -2,13 +2,11 @@
 ghost use Rattle.std.specs.Prelude.{ℕ, ◌≡◌, ◌+◌, ◌++◌, ◌<◌, ◌^◌, IfOk, IfSome, None, OnOk, Some};
 ghost use Rattle.std.specs.Prelude.{length, map, pos, true};
 ghost use Rattle.std.specs.List.{zip};
-ghost use Rattle.std.specs.Option.{option_map};
 ghost use Rattle.plan.specs.Kinds.{kind_of};
 ghost use Rattle.plan.specs.Views.{node_of, nodes_of};
 ghost use Rattle.reference.specs.CallViews.{handed_of};
 ghost use Rattle.reference.specs.Commands.{Drop, Take, first_fault, took};
 ghost use Rattle.reference.specs.Inputs.{are_signed};
-ghost use Rattle.reference.specs.Machine as machine;
 ghost use Rattle.reference.specs.Machine.{Registered};
 ghost use Rattle.reference.specs.Told.{IsTold};
 ghost use Rattle.reference.specs.World.{Looks, operators_of, slopes_at};
@@ -27,7 +25,7 @@ use crate::state::State;
 use envelope::Slope;
 use plan::{Kind, Node};
 use query_runtime::RunningQuery;
-use reference::{Fault, MAX_TAKE};
+use reference::{Fault, take_fault};
 use std::alloc::{AllocError, Global};
 use stream_store::Streams;
 use values::Row;
@@ -68,10 +66,7 @@ impl State {
         if let Some(fault) = self.query_fault(query) {
             return Some(fault);
         }
-        if limit < 1 || MAX_TAKE < limit {
-            return Some(Fault::BadLimit);
-        }
-        None
+        take_fault(limit)
     }
 
     /// How many answers of a query wait.
@@ -138,25 +133,6 @@ impl State {
             Some(query) => Ok(operators(self.alloc, query)?),
             None => Err(Fault::UnknownQuery),
         }
-    }
-
-    /// The query of a number that was not dropped.
-    fn query_at(&self, query: u64) -> Option<&Registration>
-        ensures { option_map (λ q. query_of q.now) result
-            ≡ machine.query_at (engine_in self.now).machine query }
-    {
-        match self.registered.get(query as usize) {
-            Some(registered) if !registered.is_dropped => Some(registered),
-            _ => None,
-        }
-    }
-
-    /// The number of the query of a name that was not dropped.
-    pub(crate) fn query_number(&self, name: &str) -> Option<usize>
-        requires { IsSound self.now }
-        ensures { result ≡ machine.query_named (engine_in self.now).machine name.now }
-    {
-        self.names.number(name)
     }
 }
 

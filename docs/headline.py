@@ -20,14 +20,14 @@ LEVELS = [
     ("the engine of the code", "Engine"),
     ("a script's replies", "bytes"),
 ]
-# from each to the next: what it says, the function that says it, and the crates
+# from each to the next: what it says, the function or the lemma that says it, and the crates
 STEPS = [
     ("what the grammar and the names give, or the first fault", "read, resolve",
      "cql_reader, names"),
     ("the plan's value is the relation of the meaning", "plans_are_right", "plan"),
     ("each operator keeps its law; edges are paths", "good_queries_give_their_answers",
      "operators' crates, laws_dataflow"),
-    ("the code's operators are such operators", "accepted_registrations_run",
+    ("the code's operators are such operators", "registrations_run",
      "laws_queries, laws_engine"),
     ("each call keeps a good engine good", "engines_keep_their_promises", "laws_engine"),
     ("each call does what the plain engine does", "Engine's clauses", "leases"),

@@ -15,10 +15,8 @@ use Rattle.laws_queries.specs.Machines.{IsQuery, columns_of, widths_of}
 use Rattle.laws_queries.specs.Queries.{IsLeftInbox, IsRunning, PlainQuery, change_at_first, log_at, node_at, operator_at, source_of, stream_log}
 use Rattle.laws_queries.specs.Steps.{IsFirst, outs_at_first}
 use Rattle.laws_queries.proofs.MachineCounts.{queries_stand}
-use Rattle.laws_queries.proofs.NodeLemmas.{roots_run, turns_run}
-use Rattle.query_runtime.specs.Laws.{PlainQueriesRun}
 use Rattle.query_runtime.specs.Turns.{CanFinish, CanLease, CanPut, HasOperator, log_of}
-use Rattle.query_runtime.proofs.RunLemmas.{plain_queries_run}
+use Rattle.query_runtime.proofs.RunLemmas.{PlainQueriesRun, plain_queries_run}
 use Rattle.laws_engine.specs.Asks.{IsOperator, MayAsk}
 use Rattle.laws_engine.specs.Calls.{IsOf}
 use Rattle.laws_engine.specs.Engines.{Goes, GoodEngine, IsKept, Lease, PlainEngine}
@@ -57,9 +55,7 @@ module _ (e : PlainEngine) (g : GoodEngine e) (n k : ℕ) (q : Registered) (p : 
   query = subst (IsQuery e.machine.streams) (get_or_from_slice_get e.machine.queries n q q o.registered) ((queries_stand e.machine g.machine).each n q (slice_get_within e.machine.queries n q o.registered))
 
   runs : PlainQueriesRun (widths_of e.machine.streams q) goes.widths e.machine q
-  runs =
-      let b = query_bounded e g n q o.registered in
-      plain_queries_run (widths_of e.machine.streams q) goes.widths e.machine q (turns_run (widths_of e.machine.streams q) goes.widths e.machine q b) (roots_run (widths_of e.machine.streams q) goes.widths e.machine q b)
+  runs = plain_queries_run (widths_of e.machine.streams q) goes.widths e.machine q (query_bounded e g n q o.registered)
 
   some_source : 0 < length q.places
   some_source =
@@ -91,6 +87,7 @@ module _ (e : PlainEngine) (g : GoodEngine e) (n k : ℕ) (q : Registered) (p : 
 operator_of : (e : PlainEngine) (l : Lease) (q : Registered) (p : PlainQuery) → IsOf e l q p → IsOperator e l.query l.operator q p
 operator_of e l q p of = record { registered = of.registered; running = of.running; within = of.within }
 
+-- EACH OPERATOR of a running query is there with its stream, may be leased where it is ready, and may finish its turn that is out
 pub may_ask : (e : PlainEngine) → GoodEngine e → MayAsk e
 may_ask e g = record {
   operators = λ n k q p o. has_operator e g n k q p o;

@@ -43,6 +43,8 @@ found_query m name text chart f sound accepted is =
     let same : one.found_as ≡ f = ok_same one.found_as f (sym one.is ∙ is) in
     subst (λ z. IsFoundQuery m name z) same (record { query = one.query; fresh = one.fresh })
 
+-- what an accepted text means fits its sources, whatever it says: each has a column or more, and they have at most MAX_COLUMNS together; no window slides,
+-- or has a longer list; the condition needs at most 67 truths at a time; and a row of the query has 1 to MAX_COLUMNS columns
 pub texts_fit : (m : Machine) (name text : List ℕ) (chart : Option (List (ℤ × ℤ))) (f : Found) → GoodMachine m → first_fault m (Register name text chart) ≡ None → found m text chart ≡ Ok f
     → IsFit (widths_of m.streams (registered_as m name f)) f.meaning
 texts_fit m name text chart f sound accepted is =
@@ -71,6 +73,7 @@ coded m name p = record { shows = refl; runs = refl }
 plan_widths : (m : Machine) (name text : List ℕ) (chart : Option (List (ℤ × ℤ))) (p : Plan) → IsPlanOfText m text chart p → widths_of m.streams (newest m name p) ≡ p.widths.items
 plan_widths m name text chart p of = place_widths m p.streams.items ∙ sym of.widths
 
+-- what is asked of a plan from which a running query is made
 pub plans_may_be_made : (m : Machine) (name text : List ℕ) (chart : Option (List (ℤ × ℤ))) (p : Plan) → GoodMachine m → first_fault m (Register name text chart) ≡ None → IsPlanOfText m text chart p
     → MayMake p.meaning.windows.items p.widths.items p.nodes.items
 plans_may_be_made m name text chart p sound accepted of =
@@ -133,6 +136,7 @@ module _ (m : Machine) (name text : List ℕ) (chart : Option (List (ℤ × ℤ)
     };
   }
 
+-- what is made of the plan, with the numbers of its sources' streams, how long these are, and the query's first instant: a good engine may register the query with it
 pub registrations_run : (e : PlainEngine) (name text : List ℕ) (chart : Option (List (ℤ × ℤ))) (p : Plan) (running : PlainQuery) → GoodEngine e → HaveColumnNames e.machine
     → first_fault e.machine (Register name text chart) ≡ None → IsPlanOfText e.machine text chart p → IsBegun p (newest e.machine name p) running
     → IsRegistration e name text chart (newest e.machine name p) running

@@ -1,17 +1,15 @@
 -- A text that the machine accepts, the plan of it that the code has, and the query that is registered with it.
-use Rattle.std.specs.Prelude.{ℕ, ℤ, ◌≡◌, Ok, Option, None, List, map}
+use Rattle.std.specs.Prelude.{ℕ, ℤ, ◌≡◌, Ok, Option, List, map}
 use Rattle.plan.specs.declared.operators.Plan.{Plan}
-use Rattle.reference.specs.Commands.{Found, Register, first_fault, found, registered_as}
+use Rattle.reference.specs.Commands.{found, registered_as}
 use Rattle.reference.specs.Finds.{Finds}
 use Rattle.reference.specs.Machine.{Machine, Registered}
 use Rattle.reference.specs.Standing.{found_of}
-use Rattle.laws_queries.specs.Machines.{IsMachine, columns_of, widths_of}
+use Rattle.laws_queries.specs.Machines.{IsMachine, columns_of}
 use Rattle.laws_queries.specs.Queries.{PlainQuery}
-use Rattle.laws_queries.specs.Registrations.{HaveColumnNames, IsFit, MayMake, lengths_of}
+use Rattle.laws_queries.specs.Registrations.{HaveColumnNames, lengths_of}
 use Rattle.laws_queries.specs.Rows.{HaveRows}
 use Rattle.query_runtime.specs.Turns.{IsBeginning}
-use Rattle.laws_engine.specs.Calls.{IsRegistration}
-use Rattle.laws_engine.specs.Engines.{GoodEngine, PlainEngine}
 
 -- THE MACHINE'S STREAMS AND QUERIES are as they are at all times
 pub record GoodMachine (m : Machine) : Type 0 where
@@ -31,23 +29,3 @@ newest m name plan = registered_as m name (found_of plan)
 -- THE RUNNING QUERY as it is made of the plan, with the numbers of its streams, over streams that were so long, from the query's first instant on
 abbrev pub IsBegun : Plan → Registered → PlainQuery → Type 0
 IsBegun plan q p = IsBeginning plan.meaning.windows.items plan.widths.items plan.streams.items (lengths_of q) q.first plan.nodes.items p
-
--- WHAT IS SAID OF AN ACCEPTED TEXT
--- what it means fits its sources
-abbrev pub TextsFit : Type 0
-TextsFit =
-    (m : Machine) (name text : List ℕ) (chart : Option (List (ℤ × ℤ))) (f : Found) → GoodMachine m → first_fault m (Register name text chart) ≡ None → found m text chart ≡ Ok f
-    → IsFit (widths_of m.streams (registered_as m name f)) f.meaning
-
--- the operators of its plan may be made
-abbrev pub PlansMayBeMade : Type 0
-PlansMayBeMade =
-    (m : Machine) (name text : List ℕ) (chart : Option (List (ℤ × ℤ))) (plan : Plan) → GoodMachine m → first_fault m (Register name text chart) ≡ None → IsPlanOfText m text chart plan
-    → MayMake plan.meaning.windows.items plan.widths.items plan.nodes.items
-
--- and as they are made a good engine may register the query with them
-abbrev pub RegistrationsRun : Type 0
-RegistrationsRun =
-    (e : PlainEngine) (name text : List ℕ) (chart : Option (List (ℤ × ℤ))) (plan : Plan) (p : PlainQuery) → GoodEngine e → HaveColumnNames e.machine
-    → first_fault e.machine (Register name text chart) ≡ None → IsPlanOfText e.machine text chart plan → IsBegun plan (newest e.machine name plan) p
-    → IsRegistration e name text chart (newest e.machine name plan) p

@@ -1,5 +1,5 @@
--- Matches are the columns that bear a name.
-use Rattle.std.proofs.Common.{◌≡◌, ℕ, suc, ◌+◌, Bool, true, false, cond, List, [], ◌∷◌, ◌++◌, filter, length, get_or, refl, sym, ap, ◌∙◌, arith, append_assoc, length-append}
+-- What a reference matches: of all columns of the sources those that bear its name, each once.
+use Rattle.std.proofs.Common.{◌≡◌, ℕ, suc, ◌+◌, Bool, true, false, ◌&&◌, cond, List, [], ◌∷◌, ◌++◌, filter, length, get_or, refl, sym, ap, ◌∙◌, arith, append_assoc, length-append}
 use Rattle.std.specs.List.{range_with_len}
 use Rattle.std.specs.Str.{bytes_eq}
 use Rattle.std.proofs.Math.Seq.{get_or-append_seam}
@@ -7,7 +7,13 @@ use Rattle.values.specs.Condition.{Column}
 use Rattle.cql_reader.specs.Query.{Reference}
 use Rattle.names.specs.Matches.{Table, allows, places, columns_at, matches_in, matches}
 use Rattle.names.specs.Resolved.{all_columns}
-use Rattle.names.specs.Laws.{bears, MatchesBearTheName}
+
+abbrev source_at : List Table → Column → Table
+source_at ts c = get_or ts c.source (record { name = []; columns = [] })
+
+-- the column has the reference's name, and its source the name of the qualifier, where there is one
+abbrev pub bears : List Table → Reference → Column → Bool
+bears ts r c = allows r.qualifier (source_at ts c).name && bytes_eq (get_or (source_at ts c).columns c.column []) r.name
 
 filter-append : {X : Type 0} (p : X → Bool) (xs ys : List X) → filter p (xs ++ ys) ≡ filter p xs ++ filter p ys
 filter-append p [] ys = refl
@@ -84,5 +90,6 @@ matches_after before (t ∷ ts) r s e =
     ∙ ap (λ (cs : List Column). filter (bears all r) (columns_at s (range_with_len 0 (length t.columns))) ++ cs) rest
     ∙ sym (filter-append (bears all r) (columns_at s (range_with_len 0 (length t.columns))) (all_columns (suc s) ts))
 
-pub matches-bear : MatchesBearTheName
-matches-bear ts r = matches_after [] ts r 0 refl
+-- OF ALL COLUMNS of the sources
+pub matches_bear : (ts : List Table) (r : Reference) → matches 0 ts r ≡ filter (bears ts r) (all_columns 0 ts)
+matches_bear ts r = matches_after [] ts r 0 refl

@@ -6,6 +6,5 @@ pub mod Faults
 pub mod FaultTexts
 pub mod Sound
 pub mod Views
-pub mod Laws
 pub mod Told
 pub mod Examples

@@ -6,7 +6,6 @@
 mod condition;
 mod entries;
 mod fault;
-mod laws;
 mod matching;
 mod meaning;
 mod sources;
@@ -15,7 +14,6 @@ mod streams;
 mod verdict;
 
 pub use fault::{ResolveError, ResolveFault};
-pub use laws::matches_bear_the_name;
 pub use meaning::{Named, resolve};
 pub use split::Key;
 pub use streams::Catalog;

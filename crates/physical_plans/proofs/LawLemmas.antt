@@ -1,4 +1,4 @@
--- The values of the kinds are those of the plan's nodes.
+-- What the operators of a plan mean: the value that turns keep, of each kind, is that of the plan's node.
 use Rattle.std.proofs.Common.{◌≡◌, ◌∙◌, ◌+◌, ◌≤◌, ℕ, Bool, true, false, ◌&&◌, Some, List, [], ◌∷◌, ◌++◌, map, filter, cond, refl, ap, ap₂, arith}
 use Rattle.std.specs.List.{AllByRecursion, flat_map}
 use Rattle.values.specs.Row.{Row, value_at}
@@ -21,7 +21,6 @@ use Rattle.plan.specs.Views.{columns_at, keys_of}
 use Rattle.plan.specs.declared.node.Key.{Key}
 use Rattle.physical_plans.specs.Beginnings.{grouping, key_pair}
 use Rattle.physical_plans.specs.Conjuncts.{all_steps, joined}
-use Rattle.physical_plans.specs.Laws.{KindsMeanTheirNodes}
 
 -- ---- Select
 of_one_source : (c : Condition) (cs : List Condition) → IsOfOneSource c → AllByRecursion IsOfOneSource cs → IsOfOneSource (joined c cs)
@@ -85,6 +84,17 @@ matches_same keys l (r ∷ rs) = ap₂ (λ b (rest : List Row). cond b ((l ++ r)
 joins : (keys : List Key) (ls rs : List Row) → pairs.joined (map key_pair keys) ls rs ≡ nodes.joined (keys_of keys) ls rs
 joins keys [] rs = refl
 joins keys (l ∷ ls) rs = ap₂ (λ (xs : List Row) (rest : List Row). xs ++ rest) (matches_same keys l rs) (joins keys ls rs)
+
+-- ---- OF EACH KIND; of Distinct, which is the groups of all columns, the groups' own law says it
+pub record KindsMeanTheirNodes : Type 0 where
+  -- Select's steps mean the conditions joined by And, which hold where all of them do
+  pub steps : (c : Condition) (cs : List Condition) → AllByRecursion IsOfOneSource (c ∷ cs) → Mean (all_steps (c ∷ cs)) (joined c cs)
+  pub selects : (c : Condition) (cs : List Condition) (rows : List Row) → select_value (joined c cs) rows ≡ nodes.selected (c ∷ cs) rows
+  -- they need no more truths than n where the first condition needs no more, and each further one fewer
+  pub truths : (n : ℕ) (c : Condition) (cs : List Condition) → truths_needed c ≤ n → AllByRecursion (λ d. truths_needed d + 1 ≤ n) cs → truths_needed (joined c cs) ≤ n
+  pub projects : (places : List ℕ) (rows : List Row) → project_value places rows ≡ nodes.shaped_rows (Listed (columns_at places)) rows
+  pub groups : (by : List ℕ) (items : List ListItem) (rows : List Row) → grouped (grouping by items) rows ≡ nodes.shaped_rows (Grouped (columns_at by) (items_of items)) rows
+  pub joins : (keys : List Key) (ls rs : List Row) → pairs.joined (map key_pair keys) ls rs ≡ nodes.joined (keys_of keys) ls rs
 
 pub kinds_mean : KindsMeanTheirNodes
 kinds_mean = record { steps = mean; selects = selects; truths = truths; projects = projects; groups = groups; joins = joins }

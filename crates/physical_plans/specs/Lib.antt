@@ -1,4 +1,3 @@
 pub mod Conjuncts
 pub mod Wiring
 pub mod Beginnings
-pub mod Laws

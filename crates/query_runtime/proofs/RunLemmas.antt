@@ -20,9 +20,10 @@ use Rattle.reference.specs.Machine.{Machine, Registered}
 use Rattle.laws_dataflow.specs.Plans.{below_root}
 use Rattle.laws_queries.specs.Laws.{RootsRun, TurnsRun}
 use Rattle.laws_queries.specs.Queries.{IsAnswered, IsPlainQuery, IsRunning, IsTurned, MayFeed, MayFinish, PlainQuery, change_at_first, log_at, node_at, operator_at, source_of, stream_log}
+use Rattle.laws_queries.specs.Rooms.{IsBounded}
 use Rattle.laws_queries.specs.Steps.{IsFirst, outs_at_first}
+use Rattle.laws_queries.proofs.NodeLemmas.{roots_run, turns_run}
 use Rattle.laws_queries.proofs.WireLemmas.{Wired, wired}
-use Rattle.query_runtime.specs.Laws.{PlainQueriesRun}
 use Rattle.query_runtime.specs.Turns as took
 use Rattle.query_runtime.specs.Turns.{CanFeed, CanFinish, CanLease, CanPut, HasAnswered, HasFed, HasFinished, HasOperator, HasPut, handed_out, log_of, source_at, wire_at}
 
@@ -185,8 +186,29 @@ still_runs vs ws m q before p limit h =
     let parts : (before ++ take count p.answers) ++ drop count p.answers ≡ before ++ p.answers = append_assoc before (take count p.answers) (drop count p.answers) ∙ ap (λ x. before ++ x) (take-append-drop count p.answers) in
     record { wires = h.wires; sources = h.sources; runs = subst (IsRunning vs ws m q p.operators) (sym parts) h.runs }
 
-pub plain_queries_run : (vs ws : List ℕ) (m : Machine) (q : Registered) → TurnsRun vs ws m q → RootsRun vs ws m q → PlainQueriesRun vs ws m q
-plain_queries_run vs ws m q turns roots = record {
+-- OF AN OPERATOR of a query that runs, of which some answers were taken
+pub record PlainQueriesRun (vs ws : List ℕ) (m : Machine) (q : Registered) : Type 0 where
+  -- it stands in the query where its stream stands in the machine
+  pub operators : (before : List (ℕ × Row)) (p : PlainQuery) (k : ℕ) → IsPlainQuery vs ws m q before p → k < length q.nodes → source_of q (node_at q k) < length m.streams → HasOperator m.streams p k
+  -- where it is ready, it may be leased
+  pub leases : (before : List (ℕ × Row)) (p : PlainQuery) (k : ℕ) (side : Side) (at rows : ℕ) → IsPlainQuery vs ws m q before p → k < length q.nodes
+      → ready (operator_at p.operators k) (log_of m.streams p k) ≡ Some (side, at) → 0 < rows → CanLease (operator_at p.operators k) (log_of m.streams p k) side rows
+  -- a turn with the item that stands first may come back
+  pub finishes : (before : List (ℕ × Row)) (p : PlainQuery) (k : ℕ) (side : Side) (i : Item) → IsPlainQuery vs ws m q before p → k < length q.nodes
+      → IsFirst (operator_at p.operators k) (log_of m.streams p k) side i → CanFinish (operator_at p.operators k) (log_of m.streams p k) side i (change_at_first (operator_at p.operators k) side i)
+  -- and what it puts out may go on
+  pub puts : (before : List (ℕ × Row)) (p : PlainQuery) (k : ℕ) (side : Side) (i : Item) → IsPlainQuery vs ws m q before p → k < length q.nodes
+      → IsFirst (operator_at p.operators k) (log_of m.streams p k) side i
+      → CanPut m.streams p k side i (change_at_first (operator_at p.operators k) side i) (outs_at_first (operator_at p.operators k) side i)
+  -- and then the query runs on
+  pub runs : (before : List (ℕ × Row)) (p p2 : PlainQuery) (k : ℕ) (side : Side) (i : Item) → IsPlainQuery vs ws m q before p → k < length q.nodes
+      → IsFirst (operator_at p.operators k) (log_of m.streams p k) side i
+      → HasFinished m.streams p k side i (change_at_first (operator_at p.operators k) side i) p2 → HasPut p k (outs_at_first (operator_at p.operators k) side i) p2 → IsPlainQuery vs ws m q before p2
+  -- it also runs on when answers were taken
+  pub takes : (before : List (ℕ × Row)) (p : PlainQuery) (limit : ℕ) → IsPlainQuery vs ws m q before p → IsPlainQuery vs ws m q (before ++ took.taken limit p.answers) (handed_out limit p)
+
+run_of : (vs ws : List ℕ) (m : Machine) (q : Registered) → TurnsRun vs ws m q → RootsRun vs ws m q → PlainQueriesRun vs ws m q
+run_of vs ws m q turns roots = record {
   operators = λ taken p k h kc s. has_operator vs ws m q turns roots taken p h k kc s;
   leases = λ taken p k side at rows h kc e some. can_lease vs ws m q turns roots taken p h k kc side at rows e some;
   finishes = λ taken p k side i h kc f. can_come_back vs ws m q turns roots taken p h k kc side i f;
@@ -194,3 +216,7 @@ plain_queries_run vs ws m q turns roots = record {
   runs = λ taken p p2 k side i h kc f done put. runs vs ws m q turns roots taken p h k kc side i f p2 done put;
   takes = still_runs vs ws m q;
 }
+
+-- each operator that is ready may be leased; a turn with what stands first at an operator may come back, and what it puts out may go on; and then the query runs on
+pub plain_queries_run : (vs ws : List ℕ) (m : Machine) (q : Registered) → IsBounded vs m q → PlainQueriesRun vs ws m q
+plain_queries_run vs ws m q h = run_of vs ws m q (turns_run vs ws m q h) (roots_run vs ws m q h)

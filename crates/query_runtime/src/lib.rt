@@ -7,12 +7,10 @@
 //! read what is closed.
 #![tactic(auto)]
 
-mod laws;
 mod moves;
 mod queries;
 mod sources;
 mod waiting;
 
-pub use laws::plain_queries_run;
 pub use queries::RunningQuery;
 pub use waiting::WaitingAnswers;

@@ -35,6 +35,7 @@ pub use limits::{
 pub use named::{count_undropped, query_place, stream_place};
 pub use names::ResolveFault;
 pub use new_rows::NewRows;
+pub use place::first_instant;
 pub use plain::Plain;
 pub use plain::changes::names_of;
 pub use plan::{Chart, Kind, PlanFault};

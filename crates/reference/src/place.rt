@@ -1,7 +1,8 @@
 //! The sources of a registered query.
-ghost use Rattle.std.specs.Prelude.{◌≡◌, ◌≤◌, IfOk, length, map, slice_get};
+ghost use Rattle.std.specs.Prelude.{◌≡◌, ◌≤◌, IfOk, length, map, max, slice_get, unwrap_or};
+ghost use Rattle.std.specs.List.{reduce};
 ghost use Rattle.std.specs.Option.{option_map_or};
-ghost use Rattle.reference.specs.Machine.{input_at, first_for, until_for};
+ghost use Rattle.reference.specs.Machine.{input_at, opens, until_for};
 ghost use Rattle.reference.specs.Commands.{place_at};
 ghost use Rattle.reference.specs.Inputs.{EachShowsSame, ShowsSame};
 ghost use Rattle.reference.specs.Places.{place_of, machine_of};
@@ -32,19 +33,27 @@ fn first_open_at(streams: &[Stream], place: Place) -> u64
     }
 }
 
-/// The greatest of the sources' first open instants.
-pub(crate) fn first_for(streams: &[Stream], places: &[Place]) -> u64
-    ensures { result ≡ first_for streams.now (map place_of places.now) }
+/// The first instant of a query that is registered now, by the first open instants of its sources:
+/// the greatest of them. Takes no memory.
+pub fn first_instant(opens: &[u64]) -> u64
+    ensures { result ≡ unwrap_or (reduce max opens.now) 0 }
 {
-    let mut greatest: Option<u64> = None;
+    opens.iter().copied().max().unwrap_or(0)
+}
+
+/// The first open instants of the sources.
+pub(crate) fn opens_of(
+    alloc: Global,
+    streams: &[Stream],
+    places: &[Place],
+) -> Result<Vec<u64>, AllocError>
+    ensures { IfOk result (λ v. v.items ≡ opens streams.now (map place_of places.now)) }
+{
+    let mut opens = Vec::new(alloc);
     for place in places {
-        let open = first_open_at(streams, *place);
-        greatest = Some(match greatest {
-            None => open,
-            Some(so_far) => so_far.max(open),
-        });
+        opens.push(first_open_at(streams, *place))?;
     }
-    greatest.unwrap_or(0)
+    Ok(opens)
 }
 
 /// The least of the sources' first open instants.

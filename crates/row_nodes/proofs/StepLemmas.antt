@@ -121,3 +121,7 @@ needs (Or c d) =
     let h : Needs c = needs c in
     let k : Needs d = needs d in
     record { whole = omega (arith, h.whole, k.in_or); in_or = omega (arith, h.whole, k.in_or); in_and = omega (arith, h.whole, k.in_or) }
+
+-- two truths for each level of brackets and Nots, the text itself being one, and one more are enough: 67 for 32 open at once
+pub nested_conditions_fit : (c : Condition) → open_at_once Whole c ≤ 32 → truths_needed c ≤ 67
+nested_conditions_fit c h = omega (arith, (needs c).whole, h)

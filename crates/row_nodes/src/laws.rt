@@ -1,16 +1,14 @@
 //! What holds of every turn of Select and Project: functions that do nothing, each with one law.
-ghost use Rattle.std.specs.Prelude.{◌≡◌, ◌≤◌, ◌∷◌, [], ℕ, Bool, List};
+ghost use Rattle.std.specs.Prelude.{ℕ, Bool, List};
 ghost use Rattle.values.specs.Row.{Row};
 ghost use Rattle.values.specs.Condition.{Condition};
 ghost use Rattle.lane_kernels.specs.declared.condition.Step.{Step};
-ghost use Rattle.op_queue.specs.Entries.{TickAt};
 ghost use Rattle.op_queue.specs.Paths.{rows_in};
 ghost use Rattle.op_queue.specs.Signed.{Adds};
-ghost use Rattle.op_queue.specs.declared.item.Item.TheVariants.{Rows, Tick};
+ghost use Rattle.op_queue.specs.declared.item.Item.TheVariants.{Rows};
 ghost use Rattle.row_nodes.specs.Laws.{IsLawful, Mean, RowsLaw, project_value, select_value};
 ghost use Rattle.row_nodes.specs.Project.{projected};
 ghost use Rattle.row_nodes.specs.Select.{selected};
-ghost use Rattle.row_nodes.specs.Steps.{Whole, open_at_once, truths_needed};
 
 /// A turn of Select turns the rows at which its condition was true of what it had taken into those
 /// of what it has taken now, wherever its outputs are cut.
@@ -31,16 +29,4 @@ pub fn project_keeps_its_value()
         → RowsLaw (project_value columns) i xs o (rows_in (projected columns (Rows t xs))) i2
         (project_value columns i2) }
     ensures lawful { (columns : List ℕ) → IsLawful (project_value columns) }
-{}
-
-/// A tick goes on alone.
-pub fn ticks_pass()
-    ensures selected { (steps : List Step) (t : ℕ) → selected steps (Tick t) ≡ TickAt t ∷ [] }
-    ensures projected { (columns : List ℕ) (t : ℕ) → projected columns (Tick t) ≡ TickAt t ∷ [] }
-{}
-
-/// Two truths for each level of brackets and Nots, the text itself being one, and one more are
-/// enough: 67 for 32 open at once.
-pub fn nested_conditions_fit()
-    ensures { (c : Condition) → open_at_once Whole c ≤ 32 → truths_needed c ≤ 67 }
 {}

@@ -9,9 +9,7 @@ mod postfix;
 mod projection;
 mod selection;
 
-pub use laws::{
-    nested_conditions_fit, project_keeps_its_value, select_keeps_its_value, ticks_pass,
-};
+pub use laws::{project_keeps_its_value, select_keeps_its_value};
 pub use postfix::steps;
 pub use projection::project;
 pub use selection::select;

@@ -2,7 +2,7 @@
 
 use crate::answers::{are, row};
 use cql_reader::{Name, Query, every_query_is_well_formed, every_text_has_one_answer, read};
-use names::{Catalog, matches_bear_the_name, resolve};
+use names::{Catalog, resolve};
 use plan::{fits_a_row, plans_are_right};
 use reference::{
     answers, answers_only_grow, equal_window_bags_have_equal_answers,
@@ -69,7 +69,6 @@ fn text_is_answered(alloc: Global, text: &str, wanted: &[(u64, i64)]) -> Result<
 fn answers_are_those_of_the_closed_instants(rt: HostRuntime) -> Result<(), Fail> {
     every_text_has_one_answer();
     every_query_is_well_formed();
-    matches_bear_the_name();
     plans_are_right();
     answers_only_grow();
     equal_window_bags_have_equal_answers();

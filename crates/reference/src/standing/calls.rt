@@ -12,7 +12,7 @@ ghost use Rattle.reference.specs.Places.{machine_of};
 ghost use Rattle.reference.specs.Standing.{query_of, waiting_of, found_of};
 ghost use Rattle.reference.specs.Views.{pairs_of};
 
-use crate::place::{first_for, places_of};
+use crate::place::{first_instant, opens_of, places_of};
 use crate::standing::StandingQuery;
 use crate::stream::Stream;
 use plan::Plan;
@@ -36,7 +36,8 @@ impl StandingQuery {
         ensures waiting { IfOk result (λ q. waiting_of q ≡ []) }
     {
         let places = places_of(alloc, streams, &plan.streams)?;
-        let first = first_for(streams, &places);
+        let opens = opens_of(alloc, streams, &places)?;
+        let first = first_instant(&opens);
         Ok(StandingQuery {
             name,
             plan,

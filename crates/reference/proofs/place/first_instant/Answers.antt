@@ -1,0 +1,11 @@
+use Rattle.std.proofs.Common.{ap, sym, ◌∙◌, unwrap_or}
+use Rattle.std.proofs.lemmas.Iterator.{YieldsList-from_slice}
+use Rattle.std.proofs.lemmas.Iterator.Adapters.{option_map_id}
+use Rattle.std.proofs.lemmas.Iterator.Consumers.{max_from_yields_List, YieldsList-from_copied}
+use Rattle.reference.proofs.place.first_instant.Goals as goal
+
+pub returns : goal.returns
+returns c =
+    let road = YieldsList-from_copied (YieldsList-from_slice c.args.opens.now cc) in
+    let most = sym (option_map_id _) ∙ max_from_yields_List c.copied.result _ c.max.ensures.ran road in
+    c.unwrap_or.ensures ∙ ap (λ o. unwrap_or o 0) most

@@ -21,18 +21,25 @@ use values::StreamOperator;
 /// What is complete of a query, and what is at work.
 #[derive(Drop)]
 pub struct Draft {
+    /// How the query's relation becomes a stream.
     pub operator: StreamOperator,
+    /// Whether `Distinct` was read.
     pub is_distinct: bool,
+    /// The entries of the list that are complete.
     pub entries: Vec<Entry>,
-    // the column that is read, and the list of columns
+    /// The column that is read.
     pub reference: Reference,
+    /// The columns of the list that is read.
     pub columns: Vec<Reference>,
-    // the source that is read, and those that are complete
+    /// The source that is read.
     pub source: Source,
+    /// The sources that are complete.
     pub sources: Vec<Source>,
+    /// What is known of the condition.
     pub terms: Terms,
+    /// The columns of `Group By` that are complete.
     pub group: Vec<Reference>,
-    // how many ( and Not of the condition are open
+    /// How many `(` and `Not` of the condition are open.
     pub depth: usize,
 }
 

@@ -76,10 +76,13 @@ pub enum Condition {
 pub struct Query {
     /// How the query's relation becomes a stream.
     pub operator: StreamOperator,
+    /// Whether each row is taken once.
     pub is_distinct: bool,
+    /// The list: all columns, or entries.
     pub entries: Entries,
     /// The sources of the `From`, in order: one or two.
     pub sources: Vec<Source>,
+    /// What stands behind `Where`, if the query has it.
     pub condition: Option<Condition>,
     /// The columns of `Group By`; none where it is missing.
     pub group: Vec<Reference>,

@@ -13,9 +13,13 @@ use values::Compare;
 /// The last two operands, the last comparison, and the conditions that stand, the last on top.
 #[derive(Drop)]
 pub struct Terms {
+    /// The operand before the last.
     pub left: Operand,
+    /// The last operand.
     pub right: Operand,
+    /// The last comparison.
     pub how: Compare,
+    /// The conditions that stand, the last on top.
     pub standing: Vec<Condition>,
 }
 

@@ -11,7 +11,9 @@ use std::marker::Model;
 /// A declared stream: its name, and its columns' names.
 #[derive(Drop)]
 pub(crate) struct Declared {
+    /// Its name.
     name: Name,
+    /// The names of its columns, in the order of its declaration.
     columns: Vec<Name>,
 }
 
@@ -20,6 +22,7 @@ pub(crate) struct Declared {
 /// streams and adds to it at each declaration.
 #[derive(Drop)]
 pub struct Catalog {
+    /// The streams by their numbers.
     streams: Vec<Declared>,
 }
 

@@ -34,6 +34,7 @@ impl StepList {
 /// At most `MAX_COLUMNS` places of columns.
 #[derive(Drop)]
 pub struct ColumnList {
+    /// The places, counted from 0.
     columns: Vec<usize>,
 }
 

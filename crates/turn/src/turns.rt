@@ -29,6 +29,7 @@ pub struct Turn {
 /// `Turn::run` makes one.
 #[derive(Drop)]
 pub struct Done {
+    /// The turn, its outputs and its change.
     parts: Parts,
 }
 

@@ -98,8 +98,10 @@ pub struct Resolved {
     pub windows: Vec<Window>,
     /// Where, if the query has it.
     pub condition: Option<Condition>,
+    /// What the query's rows are made of.
     pub shape: Shape,
     /// Whether each row of the list is taken once.
     pub is_distinct: bool,
+    /// How the query's relation becomes a stream.
     pub operator: StreamOperator,
 }

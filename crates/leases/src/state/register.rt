@@ -34,7 +34,7 @@ use crate::state::State;
 use envelope::Slope;
 use plan::{Chart, Node, Plan, slopes};
 use query_runtime::RunningQuery;
-use reference::{Fault, count_undropped, find_plan, query_place, register_fault};
+use reference::{Fault, count_undropped, find_plan, first_instant, query_place, register_fault};
 use run_queue::{RunQueue, Slot};
 use std::alloc::{AllocError, Global};
 use stream_store::Streams;
@@ -109,7 +109,7 @@ impl State {
         ensures err { OnErr result (engine_in self.new ≡ engine_in self.old) }
         ensures sound { IsSound self.new }
     {
-        let first = first_for(&self.streams, &plan.streams);
+        let first = first_for(self.alloc, &self.streams, &plan.streams)?;
         let places = places_of(self.alloc, &self.streams, &plan.streams)?;
         let running = running_of(self.alloc, &plan, &places, first)?;
         let told = registration(self.alloc, name, plan, places, first)?;
@@ -164,19 +164,16 @@ impl State {
     }
 }
 
-/// The greatest of the first open instants of the streams of these numbers.
-fn first_for(streams: &Streams, numbers: &[usize]) -> u64
-    ensures { result ≡ first_for streams.now (map (place_at (machine_of streams.now)) numbers.now) }
+/// The first instant of a query that is registered now over the streams of these numbers.
+fn first_for(alloc: Global, streams: &Streams, numbers: &[usize]) -> Result<u64, AllocError>
+    ensures { IfOk result (λ n. n
+        ≡ first_for streams.now (map (place_at (machine_of streams.now)) numbers.now)) }
 {
-    let mut greatest: Option<u64> = None;
+    let mut opens = Vec::new(alloc);
     for number in numbers {
-        let open = streams.first_open(*number as u64);
-        greatest = Some(match greatest {
-            None => open,
-            Some(so_far) => so_far.max(open),
-        });
+        opens.push(streams.first_open(*number as u64))?;
     }
-    greatest.unwrap_or(0)
+    Ok(first_instant(&opens))
 }
 
 /// The sources that are registered now.

@@ -29,13 +29,6 @@ impl Given {
     }
 }
 
-/// Ends the turn of a number.
-pub(crate) fn end_turn(turns: &mut Vec<Given>, number: u64)
-    ensures { turns.new.items ≡ filter (λ g. not (g.number == number)) turns.old.items }
-{
-    turns.retain(|given| given.number != number);
-}
-
 /// Ends the turns of a query.
 pub(crate) fn end_turns_of(turns: &mut Vec<Given>, query: u64)
     ensures { turns.new.items ≡ filter (λ g. not (g.node.query == query)) turns.old.items }

@@ -8,7 +8,7 @@ ghost use Rattle.leases.specs.Sound.{IsSound};
 ghost use Rattle.leases.specs.Turns.{Abandons};
 ghost use Rattle.leases.specs.Views.{query_of};
 
-use crate::given::{end_turn, end_turns_of};
+use crate::given::end_turns_of;
 use crate::kept::KeptQuery;
 use crate::reader::forget_readers;
 use crate::registered::Registration;
@@ -25,12 +25,8 @@ impl State {
         let Some(given) = self.turn_out(lease) else {
             return Err(Fault::UnknownLease);
         };
-        let query = given.node.query;
-        let operator = given.node.operator;
-        let slot = self.slot(query, operator);
-        end_turn(&mut self.leases, lease);
-        let instant = self.instant(query, operator);
-        self.slots.change(slot, instant);
+        let slot = self.slot(given.node.query, given.node.operator);
+        self.end_turn(lease, &slot);
         Ok(())
     }
 

@@ -16,9 +16,8 @@ ghost use Rattle.leases.specs.Sound.{IsSound};
 ghost use Rattle.leases.specs.Turns.{Finishes};
 ghost use Rattle.leases.specs.Views.{kept_of};
 
-use crate::given::{Given, end_turns_of};
+use crate::given::Given;
 use crate::kept::KeptQuery;
-use crate::reader::forget_readers;
 use crate::state::State;
 use reference::Fault;
 use run_queue::Slot;
@@ -140,9 +139,7 @@ impl State {
         ensures forgets { Forgets query self.old self.new }
     {
         self.kept[query as usize].give_up();
-        end_turns_of(&mut self.leases, query);
-        forget_readers(&mut self.readers, query);
-        self.slots.drop_query(query);
+        self.stop(query);
     }
 }
 

@@ -38,13 +38,13 @@ use Rattle.leases.proofs.FinishGivenLemmas.{given_in}
 use Rattle.leases.proofs.ListedLemmas.{readers_left}
 
 -- THE REST of what an engine knows, where its machine and its next number are as they were, no turn has gone out, and no query was dropped
-record StaysBut (old new : PlainEngine) : Type 0 where
+pub record StaysBut (old new : PlainEngine) : Type 0 where
   pub machine : new.machine ≡ old.machine
   pub next : new.next ≡ old.next
   pub few : length new.leases ≤ length old.leases
   pub gone : map is_gone new.queries ≡ map is_gone old.queries
 
-sound_from : (old new : State) → IsSound old → new.names ≡ old.names → new.readers.items ≡ readers_of (engine_in new) → ((g : Given) → IsIn new.leases.items g → IsIn old.leases.items g) → GoodEngine (engine_in new) → StaysBut (engine_in old) (engine_in new)
+pub sound_from : (old new : State) → IsSound old → new.names ≡ old.names → new.readers.items ≡ readers_of (engine_in new) → ((g : Given) → IsIn new.leases.items g → IsIn old.leases.items g) → GoodEngine (engine_in new) → StaysBut (engine_in old) (engine_in new)
     → ((g : Given) → IsIn old.leases.items g → HasKind (engine_in new) g) → IsSound new
 sound_from old new s names readers leases good st kinds = record {
   good = good;

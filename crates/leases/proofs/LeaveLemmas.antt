@@ -1,22 +1,25 @@
 -- Turns and queries that leave an engine: its code's lists, and those of the plain engine.
-use Rattle.std.proofs.Common.{◌≡◌, ◌≤◌, ℕ, ◌==◌, Bool, Option, Some, List, [], ◌∷◌, filter, length, sym, ap, ◌∙◌, subst, arith, eqb-true}
+use Rattle.std.proofs.Common.{◌≡◌, ◌≤◌, ℕ, ◌==◌, not, Bool, Some, List, [], ◌∷◌, filter, length, refl, sym, ap, ◌∙◌, subst, arith, eqb-true}
 use Rattle.std.specs.Prelude.{Ok}
 use Rattle.std.specs.List.{find}
 use Rattle.plan.proofs.Lists.{by_test}
 use Rattle.reference.specs.Machine.{Registered}
 use Rattle.laws_queries.specs.Queries.{PlainQuery}
-use Rattle.run_queue.specs.Slots.{changed}
 use Rattle.run_queue.specs.declared.slots.Slot.{Slot}
-use Rattle.laws_engine.specs.Calls.{IsOf, abandoned, others}
+use Rattle.laws_engine.specs.Calls.{IsOf, abandoned}
 use Rattle.laws_engine.proofs.FinishLemmas.{abandon_good}
-use Rattle.laws_engine.specs.Engines.{GoodEngine, IsIn, IsLease, Lease, PlainEngine, Running, instant_at, kept_at, query_at, slot_at}
+use Rattle.laws_engine.specs.Engines.{GoodEngine, IsIn, IsLease, Lease, PlainEngine, Running, kept_at, query_at, slot_at}
+use Rattle.leases.specs.Applied.{GivesNothing, IsUpdated, without_turn}
 use Rattle.leases.specs.Asked.{HasOperatorAt}
+use Rattle.leases.specs.Readers.{readers_of}
 use Rattle.leases.specs.Shown.{engine_in}
 use Rattle.leases.specs.Turns.{Abandons}
-use Rattle.leases.specs.Views.{lease_of}
+use Rattle.leases.specs.Sound.{IsSound}
+use Rattle.leases.specs.Views.{HasKind, lease_of}
 use Rattle.leases.specs.declared.given.Given.{Given}
 use Rattle.leases.specs.declared.state.State.{State}
 use Rattle.leases.proofs.FinishGivenLemmas.{found_in, given_in}
+use Rattle.leases.proofs.FinishSoundLemmas.{StaysBut, sound_from}
 use Rattle.leases.proofs.LookLemmas.{asks}
 
 -- TURNS END
@@ -41,31 +44,40 @@ turn_asks e g n l t =
     asks e g l.query l.operator is.query is.kept is.registered is.running is.within
 
 -- THE TURN IS ABANDONED: it is not out any longer, and its slot is told anew
-module _ (e : PlainEngine) (g : GoodEngine e) (n : ℕ) (l : Lease) (t : IsNumbered e n l) (ls : List Lease) (s : Slot) (instant : Option ℕ) (slots : List Slot)
-    (turns : ls ≡ others n e.leases)
-    (before : (q : Registered) (p : PlainQuery) → query_at e l.query ≡ Some q → kept_at e l.query ≡ Running p → s ≡ slot_at e l.query q p l.operator)
-    (after : (q : Registered) (p : PlainQuery) → query_at e l.query ≡ Some q → kept_at e l.query ≡ Running p → instant ≡ instant_at (record e { leases = ls }) l.query q p l.operator)
-    (told : slots ≡ changed s instant e.slots) where
+module _ (e : PlainEngine) (g : GoodEngine e) (n : ℕ) (l : Lease) (t : IsNumbered e n l) (s : Slot)
+    (before : (q : Registered) (p : PlainQuery) → query_at e l.query ≡ Some q → kept_at e l.query ≡ Running p → s ≡ slot_at e l.query q p l.operator) where
   abbrev is : IsLease e l
   is = g.leases l t.out
 
   abbrev of : IsOf e l is.query is.kept
   of = record { registered = is.registered; running = is.running; within = is.within }
 
-  ends : ls ≡ others l.number e.leases
-  ends = turns ∙ ap (λ z. others z e.leases) (sym t.number)
+  slot_is : s ≡ slot_at e l.query is.query is.kept l.operator
+  slot_is = before is.query is.kept is.registered is.running
 
-  instant_is : instant ≡ instant_at (record e { leases = others l.number e.leases }) l.query is.query is.kept l.operator
-  instant_is = after is.query is.kept is.registered is.running ∙ ap (λ z. instant_at (record e { leases = z }) l.query is.query is.kept l.operator) ends
+  pub may_end : HasOperatorAt e s.query s.operator
+  may_end = subst (λ (z : Slot). HasOperatorAt e z.query z.operator) (sym slot_is) (turn_asks e g n l t)
 
-  is_abandoned : record e { leases = ls; slots = slots } ≡ abandoned e l is.query is.kept
-  is_abandoned =
-      ap (λ z. record e { leases = z; slots = slots }) ends
-      ∙ ap (λ z. record e { leases = others l.number e.leases; slots = z })
-      (told ∙ ap (λ z. changed z instant e.slots) (before is.query is.kept is.registered is.running) ∙ ap (λ z. changed (slot_at e l.query is.query is.kept l.operator) z e.slots) instant_is)
+  module _ (new : PlainEngine) (told : IsUpdated (without_turn e n) s new) where
+    is_abandoned : new ≡ abandoned e l is.query is.kept
+    is_abandoned =
+        let here : IsUpdated (without_turn e l.number) (slot_at e l.query is.query is.kept l.operator) new =
+        subst (λ z. IsUpdated (without_turn e z) (slot_at e l.query is.query is.kept l.operator) new) (sym t.number) (subst (λ z. IsUpdated (without_turn e n) z new) slot_is told) in
+        here is.query is.kept is.registered is.running
 
-  pub stays_good : GoodEngine (record e { leases = ls; slots = slots })
-  stays_good = subst GoodEngine (sym is_abandoned) (abandon_good e l is.query is.kept g t.out of)
+    stays_good : GoodEngine new
+    stays_good = subst GoodEngine (sym is_abandoned) (abandon_good e l is.query is.kept g t.out of)
 
-  pub abandons : Abandons e n (Ok tt) (record e { leases = ls; slots = slots })
-  abandons = (l, (is.query, (is.kept, (t.out, (t.number, (of, is_abandoned))))))
+    pub abandons : Abandons e n (Ok tt) new
+    abandons = (l, (is.query, (is.kept, (t.out, (t.number, (of, is_abandoned))))))
+
+-- and the engine knows of itself what it knew
+pub stays_sound : (old new : State) (sound : IsSound old) (n : ℕ) (l : Lease) (t : IsNumbered (engine_in old) n l) (s : Slot)
+    → ((q : Registered) (p : PlainQuery) → query_at (engine_in old) l.query ≡ Some q → kept_at (engine_in old) l.query ≡ Running p → s ≡ slot_at (engine_in old) l.query q p l.operator)
+    → IsUpdated (without_turn (engine_in old) n) s (engine_in new) → GivesNothing old new → IsSound new
+stays_sound old new sound n l t s before told r =
+    let l_is : IsLease (engine_in old) l = sound.good.leases l t.out in
+    let same : engine_in new ≡ abandoned (engine_in old) l l_is.query l_is.kept = is_abandoned (engine_in old) sound.good n l t s before (engine_in new) told in
+    let stays : StaysBut (engine_in old) (abandoned (engine_in old) l l_is.query l_is.kept) = record { machine = refl; next = refl; few = fewer (λ z. not (z.number == l.number)) (engine_in old).leases; gone = refl } in
+    sound_from old new sound r.names (r.readers ∙ sound.readers ∙ ap readers_of (sym same)) r.leases (stays_good (engine_in old) sound.good n l t s before (engine_in new) told) (subst (StaysBut (engine_in old)) (sym same) stays)
+    (λ g i. subst (λ z. HasKind z g) (sym same) (sound.kinds g i))

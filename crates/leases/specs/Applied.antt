@@ -5,7 +5,7 @@ use Rattle.turn.specs.declared.parts.Parts.{Parts}
 use Rattle.reference.specs.Machine.{Registered, Stream}
 use Rattle.laws_queries.specs.Queries.{PlainQuery, operator_at}
 use Rattle.query_runtime.specs.Turns.{CanFinish, CanPut, HasBatches, HasFinished, HasOperator, HasPut, log_of, wire_at}
-use Rattle.run_queue.specs.Slots.{changed}
+use Rattle.run_queue.specs.Slots.{changed, without_query}
 use Rattle.run_queue.specs.declared.slots.Slot.{Slot}
 use Rattle.laws_engine.specs.Calls.{broken, others}
 use Rattle.laws_engine.specs.Engines.{IsIn, Kept, PlainEngine, Running, instant_at, kept_at, query_at, slot_at}
@@ -55,6 +55,13 @@ IsBroken old n new = (p : PlainQuery) → kept_at old n ≡ Running p → new �
 -- THE TURN ENDS
 abbrev pub without_turn : PlainEngine → ℕ → PlainEngine
 without_turn e n = record e { leases = others n e.leases }
+
+-- A QUERY RUNS NO MORE: its turns end, its windows and slots leave, and nothing else is changed
+pub record Stops (n : ℕ) (old new : State) : Type 0 where
+  pub leases : new.leases.items ≡ filter (λ g. not (g.node.query == n)) old.leases.items
+  pub readers : new.readers.items ≡ filter (λ r. not (r.query == n)) old.readers.items
+  pub slots : new.slots ≡ without_query n old.slots
+  pub rest : new ≡ record old { leases = new.leases; readers = new.readers; slots = new.slots }
 
 -- a query leaves: names are as they were, its windows are listed no more, and no turn goes out
 pub record Forgets (n : ℕ) (old new : State) : Type 0 where

@@ -1,5 +1,5 @@
 //! Turns that are out.
-ghost use Rattle.std.specs.Prelude.{◌≡◌, ◌==◌, filter, not};
+ghost use Rattle.std.specs.Prelude.{◌≡◌};
 
 use op_queue::Item;
 use turn::{Near, Node};
@@ -27,18 +27,4 @@ impl Given {
     {
         self.node.query == query && self.node.operator == operator
     }
-}
-
-/// Ends the turn of a number.
-pub(crate) fn end_turn(turns: &mut Vec<Given>, number: u64)
-    ensures { turns.new.items ≡ filter (λ g. not (g.number == number)) turns.old.items }
-{
-    turns.retain(|given| given.number != number);
-}
-
-/// Ends the turns of a query.
-pub(crate) fn end_turns_of(turns: &mut Vec<Given>, query: u64)
-    ensures { turns.new.items ≡ filter (λ g. not (g.node.query == query)) turns.old.items }
-{
-    turns.retain(|given| given.node.query != query);
 }

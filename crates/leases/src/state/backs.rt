@@ -3,12 +3,12 @@ ghost use Rattle.std.specs.Prelude.{◌≡◌, OnErr, OnOk};
 ghost use Rattle.reference.specs.Commands as machine;
 ghost use Rattle.reference.specs.World.{drop_step};
 ghost use Rattle.laws_engine.specs.Calls.{dropped};
+ghost use Rattle.leases.specs.Applied.{Stops};
 ghost use Rattle.leases.specs.Shown.{engine_in, world_in};
 ghost use Rattle.leases.specs.Sound.{IsSound};
 ghost use Rattle.leases.specs.Turns.{Abandons};
 ghost use Rattle.leases.specs.Views.{query_of};
 
-use crate::given::{end_turn, end_turns_of};
 use crate::kept::KeptQuery;
 use crate::reader::forget_readers;
 use crate::registered::Registration;
@@ -25,12 +25,8 @@ impl State {
         let Some(given) = self.turn_out(lease) else {
             return Err(Fault::UnknownLease);
         };
-        let query = given.node.query;
-        let operator = given.node.operator;
-        let slot = self.slot(query, operator);
-        end_turn(&mut self.leases, lease);
-        let instant = self.instant(query, operator);
-        self.slots.change(slot, instant);
+        let slot = self.slot(given.node.query, given.node.operator);
+        self.end_turn(lease, &slot);
         Ok(())
     }
 
@@ -50,10 +46,17 @@ impl State {
             .free(self.registered[query as usize].name.as_str());
         leave(&mut self.registered[query as usize]);
         self.kept[query as usize] = KeptQuery::Dropped;
-        end_turns_of(&mut self.leases, query);
+        self.stop(query);
+        Ok(())
+    }
+
+    /// A query runs no more: its turns end, and its windows and slots leave. Takes no memory.
+    pub(crate) fn stop(&mut self, query: u64)
+        ensures { Stops query self.old self.new }
+    {
+        self.leases.retain(|given| given.node.query != query);
         forget_readers(&mut self.readers, query);
         self.slots.drop_query(query);
-        Ok(())
     }
 }
 

@@ -16,9 +16,8 @@ ghost use Rattle.leases.specs.Sound.{IsSound};
 ghost use Rattle.leases.specs.Turns.{Finishes};
 ghost use Rattle.leases.specs.Views.{kept_of};
 
-use crate::given::{Given, end_turns_of};
+use crate::given::Given;
 use crate::kept::KeptQuery;
-use crate::reader::forget_readers;
 use crate::state::State;
 use reference::Fault;
 use run_queue::Slot;
@@ -67,8 +66,7 @@ impl State {
         let slot = self.slot(query, operator);
         let above = self.above(query, operator);
         self.apply(parts)?;
-        self.end_turn(lease);
-        self.update_slot(&slot);
+        self.end_turn(lease, &slot);
         if let Some(above) = &above {
             self.update_slot(above);
         }
@@ -109,12 +107,16 @@ impl State {
         }
     }
 
-    /// The turn of a number is out no more.
-    fn end_turn(&mut self, lease: u64)
-        ensures engine { engine_in self.new ≡ without_turn (engine_in self.old) lease }
+    /// The turn of a number is out no more, and the slot of its operator gets the instant of what
+    /// that may take next.
+    pub(crate) fn end_turn(&mut self, number: u64, slot: &Slot)
+        requires { HasOperatorAt (engine_in self.old) slot.now.query slot.now.operator }
+        ensures slot { IsUpdated (without_turn (engine_in self.old) number) slot.now
+            (engine_in self.new) }
         ensures rest { GivesNothing self.old self.new }
     {
-        self.leases.retain(|given| given.number != lease);
+        self.leases.retain(|given| given.number != number);
+        self.update_slot(slot);
     }
 
     /// Gives the slot the instant of what its operator may take next, or none.
@@ -137,9 +139,7 @@ impl State {
         ensures forgets { Forgets query self.old self.new }
     {
         self.kept[query as usize].give_up();
-        end_turns_of(&mut self.leases, query);
-        forget_readers(&mut self.readers, query);
-        self.slots.drop_query(query);
+        self.stop(query);
     }
 }
 

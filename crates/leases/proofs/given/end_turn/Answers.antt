@@ -1,7 +1,0 @@
-use Rattle.std.proofs.Common.{rules, ◌==◌, not}
-use Rattle.std.proofs.lemmas.Fn.{filter_same}
-use Rattle.leases.specs.declared.given.Given.{Given}
-use Rattle.leases.proofs.given.end_turn.Goals as goal
-
-pub returns : goal.returns
-returns c = filter_same _ (λ (g : Given). not (g.number == c.args.number)) _ (λ x b f h. search rules) _ _ c.retain.ensures.filtered

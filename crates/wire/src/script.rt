@@ -194,12 +194,12 @@ fn respond<K: Sink, E: Answering>(
 ///
 /// What is written is the script's text of what the source gave, up to the first reply that says
 /// want of memory, or, to a drain, of numbers for turns, from which on it rests with the engine.
-/// Want of numbers is told only where the engine has none, and then it has none afterwards. A drop
-/// is told want of memory only for the reading of its line. Where no reply says so, the engine is
-/// whole at the end. `ScriptFault::Read` and `ScriptFault::Write` where that device failed: then
-/// what is written is a beginning of that text, and the calls carried out stand: the engine is as
-/// they left it. `ScriptFault::Memory` where the line's buffers were refused, before anything was
-/// read: all is as it was.
+/// Want of numbers is told only where the engine has none, and then it has none afterwards. The
+/// text does not tell whether a call or the reading of its line wanted memory; `answer` says which
+/// calls may. Where no reply says so, the engine is whole at the end. `ScriptFault::Read` and
+/// `ScriptFault::Write` where that device failed: then what is written is a beginning of that text,
+/// and the calls carried out stand: the engine is as they left it. `ScriptFault::Memory` where the
+/// line's buffers were refused, before anything was read: all is as it was.
 pub fn run_script<S: Source, K: Sink, E: Answering>(
     alloc: Global,
     source: &mut S,

@@ -26,7 +26,7 @@ plenty_answered call (unread LineTooLong) plenty = plenty
 plenty_answered call (unread OutOfMemory) plenty = cc
 
 replies_call : (w : World) (call : Call) (answer : Answer) (new : World) → AnswersCall w call answer new → Replies w (Ok call) answer new
-replies_call w call answer new met plenty = met (plenty_answered call answer plenty)
+replies_call w call answer new met plenty = met.0 (plenty_answered call answer plenty)
 
 pub serves_call : (w : World) (request : Request) (answer : Answer) (new : World) (defined : Result Call WireFault) → defined ≡ Ok (call_of request)
     → AnswersCall w (call_of request) answer new → Replies w defined answer new

@@ -1,8 +1,8 @@
 -- The rows of a drain's turns change nothing.
-use Rattle.std.proofs.Common.{◌≡◌, ◌≤◌, ◌<◌, ℕ, Bool, true, false, refl, ap, sym, subst, ◌∙◌, [], ◌∷◌, Result, Ok, Err, map}
+use Rattle.std.proofs.Common.{◌≡◌, ◌≤◌, ◌<◌, ℕ, Bool, true, false, refl, ap, sym, subst, ◌∙◌, [], ◌∷◌, Result, Ok, Err, map, ◌⊎◌, inl, inr}
 use Rattle.std.specs.Prelude.{not, ◌&&◌, nat_le, None, ⊤}
-use Rattle.std.proofs.lemmas.Bool.{le-leb}
-use Rattle.reference.specs.World.{World, Step, Drains, IsPlenty, is_scarce, drain_step, drain_fault, unless, untaken}
+use Rattle.std.proofs.lemmas.Bool.{le-leb, false≢true}
+use Rattle.reference.specs.World.{World, Step, Drains, StopsEarly, IsPlenty, is_scarce, drain_step, drain_fault, unless, untaken}
 use Rattle.names.specs.Faults.{first_of}
 use Rattle.reference.specs.declared.limits.TheConstants.{MAX_TURN}
 use Rattle.reference.specs.declared.fault.Fault.{Fault}
@@ -21,29 +21,31 @@ same_drain : (w : World) (rows : ℕ) → 0 < rows → rows ≤ 1024 → drain_s
 unfolding drain_step
 same_drain w rows low high = ap (λ f. unless f w tt (record w { waiting = map (untaken w.machine) w.machine.queries })) (no_fault rows low high)
 
-refused_drain : (old new : World) (step : Step ⊤) (fault : Fault) → Drains old step (Err fault) new → is_scarce fault ≡ false → step ≡ (Err fault, new)
-refused_drain old new step (Query f) d plenty = d
-refused_drain old new step BadName d plenty = d
-refused_drain old new step NameTaken d plenty = d
-refused_drain old new step BadColumns d plenty = d
-refused_drain old new step TooMany d plenty = d
-refused_drain old new step UnknownStream d plenty = d
-refused_drain old new step UnknownQuery d plenty = d
-refused_drain old new step BadWidth d plenty = d
-refused_drain old new step ValueRange d plenty = d
-refused_drain old new step InstantRange d plenty = d
-refused_drain old new step Late d plenty = d
-refused_drain old new step Backward d plenty = d
-refused_drain old new step Leap d plenty = d
-refused_drain old new step StreamFull d plenty = d
-refused_drain old new step BadLimit d plenty = d
-refused_drain old new step Broken d plenty = d
-refused_drain old new step UnknownLease d plenty = d
-refused_drain old new step Stranger d plenty = d
-refused_drain old new step HistoryFull d plenty = d
-refused_drain old new step (Foreign entries) d plenty = d
-refused_drain old new step TooManyLeases d plenty = cc
-refused_drain old new step OutOfMemory d plenty = cc
+-- a drain that was refused stopped early for what was scarce, or did what its step says
+refused_drain : (old new : World) (step : Step ⊤) (fault : Fault) → Drains old step (Err fault) new
+    → (is_scarce fault ≡ true × StopsEarly old step new) ⊎ (is_scarce fault ≡ false × step ≡ (Err fault, new))
+refused_drain old new step (Query f) d = inr (refl, d)
+refused_drain old new step BadName d = inr (refl, d)
+refused_drain old new step NameTaken d = inr (refl, d)
+refused_drain old new step BadColumns d = inr (refl, d)
+refused_drain old new step TooMany d = inr (refl, d)
+refused_drain old new step UnknownStream d = inr (refl, d)
+refused_drain old new step UnknownQuery d = inr (refl, d)
+refused_drain old new step BadWidth d = inr (refl, d)
+refused_drain old new step ValueRange d = inr (refl, d)
+refused_drain old new step InstantRange d = inr (refl, d)
+refused_drain old new step Late d = inr (refl, d)
+refused_drain old new step Backward d = inr (refl, d)
+refused_drain old new step Leap d = inr (refl, d)
+refused_drain old new step StreamFull d = inr (refl, d)
+refused_drain old new step BadLimit d = inr (refl, d)
+refused_drain old new step Broken d = inr (refl, d)
+refused_drain old new step UnknownLease d = inr (refl, d)
+refused_drain old new step Stranger d = inr (refl, d)
+refused_drain old new step HistoryFull d = inr (refl, d)
+refused_drain old new step (Foreign entries) d = inr (refl, d)
+refused_drain old new step TooManyLeases d = inl (refl, d)
+refused_drain old new step OutOfMemory d = inl (refl, d)
 
 -- of a drain's faults those are scarce that say so
 scarce_drain : (fault : Fault) → is_scarce_answer drain (refused fault) ≡ is_scarce fault
@@ -72,9 +74,18 @@ scarce_drain OutOfMemory = refl
 
 drained : (old new : World) (rows : ℕ) → 0 < rows → rows ≤ 1024 → (result : Result ⊤ Fault) → Drains old (drain_step old rows) result new
     → AnswersCall old drain (done_of result) new
-drained old new rows low high (Ok a) d plenty = ap done_step (sym (same_drain old rows low high) ∙ d)
-drained old new rows low high (Err fault) d plenty =
-    ap done_step (sym (same_drain old rows low high) ∙ refused_drain old new (drain_step old rows) fault d (sym (scarce_drain fault) ∙ plenty))
+drained old new rows low high (Ok a) d = (λ plenty. ap done_step (sym (same_drain old rows low high) ∙ d), λ short. absurd (false≢true short))
+drained old new rows low high (Err fault) d =
+    elim (refused_drain old new (drain_step old rows) fault d) [
+      | inl early ↦ (
+        λ plenty. absurd (false≢true (sym plenty ∙ scarce_drain fault ∙ early.0)),
+        λ short. subst (λ (step : Step ⊤). StopsEarly old step new) (same_drain old rows low high) early.1,
+      )
+      | inr done ↦ (
+        λ plenty. ap done_step (sym (same_drain old rows low high) ∙ done.1),
+        λ short. absurd (false≢true (sym done.0 ∙ sym (scarce_drain fault) ∙ short)),
+      )
+    ]
 
 -- a drain whose reply says nothing scarce
 drained_plenty : (result : Result ⊤ Fault) → is_scarce_answer drain (done_of result) ≡ false → IsPlenty result

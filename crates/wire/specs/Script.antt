@@ -1,9 +1,9 @@
 -- The text that a script of requests is answered.
-use Rattle.std.specs.Prelude.{◌≡◌, ℕ, ℤ, Bool, true, false, List, [], ◌∷◌, ◌++◌, Option, Some, None, Result, Ok, Err, ◌⊎◌}
+use Rattle.std.specs.Prelude.{◌≡◌, ℕ, ℤ, Bool, true, false, List, [], ◌∷◌, ◌++◌, Option, Some, None, Result, Ok, Err, ◌⊎◌, ⊤}
 use Rattle.values.specs.Row.{Row}
 use Rattle.envelope.specs.Fraction.{Fraction}
 use Rattle.plan.specs.declared.node.Kind.{Kind}
-use Rattle.reference.specs.World.{World, Step, stream_named, query_named, declare_step, register_step, append_step, heartbeat_step, drain_step, take_step, drop_step, slopes_at}
+use Rattle.reference.specs.World.{World, Step, MayLackMemory, StopsEarly, stream_named, query_named, declare_step, register_step, append_step, heartbeat_step, drain_step, take_step, drop_step, slopes_at}
 use Rattle.reference.specs.declared.fault.Fault.{Fault}
 use Rattle.reference.specs.declared.fault.Fault.TheVariants as in_engine
 use Rattle.reference.specs.declared.fault.Fault.TheVariants.{TooManyLeases}
@@ -80,9 +80,28 @@ is_scarce_reply (Err fault) answer = false
 abbrev pub RestsOn : Type 0 → Result Call WireFault → Answer → Type 0
 RestsOn wanted request answer = request ≡ Ok drain → answer ≡ refused TooManyLeases → wanted
 
+-- an answer as the result of a call: a refusal, or what was asked for
+abbrev pub result_of : Answer → Result Answer Fault
+result_of (refused fault) = Err fault
+result_of answer = Ok answer
+
+-- What a call leaves that says that something was scarce: all is as it was, but that a drain may have made some of the answers
+-- wait. Want of memory may stand in place of an acceptance, and of a query's fault, and of no other.
+abbrev pub LeavesOff : World → Call → World → Type 0
+LeavesOff old drain new = StopsEarly old (drain_step old 1) new
+LeavesOff old call new = (new ≡ old) × MayLackMemory (result_of (answered old call).0)
+
 -- The engine's answer to a call and the world after it are the defined ones, unless the answer says that something was scarce.
 abbrev pub AnswersCall : World → Call → Answer → World → Type 0
-AnswersCall old call answer new = is_scarce_answer call answer ≡ false → answered old call ≡ (answer, new)
+AnswersCall old call answer new =
+    (is_scarce_answer call answer ≡ false → answered old call ≡ (answer, new))
+    × (is_scarce_answer call answer ≡ true → LeavesOff old call new)
+
+-- An engine has to be whole for its drains and its takes to be answered so.
+abbrev pub NeedsWhole : Call → Type 0
+NeedsWhole drain = ⊤
+NeedsWhole (take_rows query limit) = ⊤
+NeedsWhole call = ⊥
 
 -- The reply and the world after it are the defined ones, unless the reply says that something was scarce.
 abbrev pub Replies : World → Result Call WireFault → Answer → World → Type 0

@@ -8,7 +8,7 @@ ghost use Rattle.wire.specs.Printed.{Answer, answer_of, line_of};
 ghost use Rattle.wire.specs.Requests.{Reads, requests_of};
 ghost use Rattle.wire.specs.Script.{answered, done_of, is_scarce_answer, is_scarce_reply, script};
 ghost use Rattle.wire.specs.Script.{served, Says, Begins, Runs, Scripts, Stands, TellsScarcity};
-ghost use Rattle.wire.specs.Script.{AnswersCall, RestsOn, Replies};
+ghost use Rattle.wire.specs.Script.{AnswersCall, NeedsWhole, RestsOn, Replies};
 ghost use Rattle.wire.specs.declared.request.WireFault.{WireFault};
 
 use crate::device::{Sink, Source};
@@ -55,7 +55,7 @@ fn heartbeat<E: Answering>(engine: &mut E, stream: &str, at: i64) -> Reply
 }
 
 // By turns of at most so many rows.
-#[tactic(auto, using(crate::proofs::Turns::drain_answers, crate::proofs::Turns::drain_rests, crate::proofs::Turns::drain_leaves_whole))]
+#[tactic(auto, using(crate::proofs::Turns::drain_rests, crate::proofs::Turns::drain_leaves_whole))]
 fn drain<E: Answering>(engine: &mut E, rows: u32) -> Reply
     requires rows { 0 < rows × rows ≤ 1024 }
     ensures answers { E.is_whole engine.old
@@ -113,10 +113,13 @@ fn show_plan<E: Answering>(engine: &E, query: &str) -> Reply
 /// Runs a request on an engine. A drain's turns have at most `rows` rows, 1 to 1,024.
 ///
 /// The answer is the machine's, unless it is want of memory, which no drop is answered, or, of a
-/// drain, want of numbers for turns: then the engine has none left.
+/// drain, want of numbers for turns: then the engine has none left. Want of memory stands only in
+/// place of an acceptance or of a fault of a query's text, and then all is as it was, but that a
+/// drain may have made some answers wait. A drain and a take are answered so by an engine that is
+/// whole, and all other requests by any engine.
 pub fn answer<E: Answering>(engine: &mut E, request: &Request, rows: u32) -> Reply
     requires rows { 0 < rows × rows ≤ 1024 }
-    ensures answers { E.is_whole engine.old
+    ensures answers { (NeedsWhole (call_of request.now) → E.is_whole engine.old)
         → AnswersCall (E.world engine.old) (call_of request.now) (answer_of result)
         (E.world engine.new) }
     ensures rests { E.is_whole engine.old
@@ -191,12 +194,12 @@ fn respond<K: Sink, E: Answering>(
 ///
 /// What is written is the script's text of what the source gave, up to the first reply that says
 /// want of memory, or, to a drain, of numbers for turns, from which on it rests with the engine.
-/// Want of numbers is told only where the engine has none, and then it has none afterwards. A drop
-/// is told want of memory only for the reading of its line. Where no reply says so, the engine is
-/// whole at the end. `ScriptFault::Read` and `ScriptFault::Write` where that device failed: then
-/// what is written is a beginning of that text, and the calls carried out stand: the engine is as
-/// they left it. `ScriptFault::Memory` where the line's buffers were refused, before anything was
-/// read: all is as it was.
+/// Want of numbers is told only where the engine has none, and then it has none afterwards. The
+/// text does not tell whether a call or the reading of its line wanted memory; `answer` says which
+/// calls may. Where no reply says so, the engine is whole at the end. `ScriptFault::Read` and
+/// `ScriptFault::Write` where that device failed: then what is written is a beginning of that text,
+/// and the calls carried out stand: the engine is as they left it. `ScriptFault::Memory` where the
+/// line's buffers were refused, before anything was read: all is as it was.
 pub fn run_script<S: Source, K: Sink, E: Answering>(
     alloc: Global,
     source: &mut S,

@@ -13,7 +13,7 @@ use Rattle.wire.specs.Script.{script, Says, Begins, Runs, Scripts, Stands}
 use Rattle.wire.proofs.Sinks.{append_nothing}
 use Rattle.wire.proofs.Scripts.{begins_wider, says_all}
 use Rattle.programs.specs.CommandLine.{IsPlain}
-use Rattle.programs.specs.Run.{Answers, AnswersBy, IsWrong, Leads}
+use Rattle.programs.specs.Run.{Answers, MayRunOut, IsWrong, Leads}
 
 pub says_begins : (N : Type 0) (w : World) (source old new : Option (List ℕ)) → Scripts (λ text written. Says N (requests_of text) (script w text) written) source old new
     → Scripts (λ text written. Begins N (requests_of text) (script w text) written) source old new
@@ -54,7 +54,7 @@ says_wider N M f (request ∷ requests) [] written s = absurd s
 says_wider N M f (request ∷ requests) (line ∷ lines) written (inl s) = inl (s.0, s.1, says_wider N M f requests lines s.0 s.2)
 says_wider N M f (request ∷ requests) (line ∷ lines) written (inr b) = inr (begins_wider N M f request written b)
 
-answers_wider : (N M : Type 0) → (N → M) → (w : World) (status : ℕ) (source old new : Option (List ℕ)) → Answers N w status source old new → Answers M w status source old new
+pub answers_wider : (N M : Type 0) → (N → M) → (w : World) (status : ℕ) (source old new : Option (List ℕ)) → Answers N w status source old new → Answers M w status source old new
 answers_wider N M f w status source old new a = (
   λ is text held from_text told.
       let r = a.0 is text held from_text told in
@@ -65,15 +65,15 @@ answers_wider N M f w status source old new a = (
 )
 
 -- the plain engine never wants numbers
-pub plain_answers : {P : Type 0} (words : List Text) (w : World) (status : ℕ) (source old new : Option (List ℕ)) → AnswersBy (λ (p : P). ⊤) w status source old new
+pub plain_answers : {P : Type 0} (words : List Text) (w : World) (status : ℕ) (source old new : Option (List ℕ)) → Answers (MayRunOut (λ (p : P). ⊤)) w status source old new
     → Answers (¬ IsPlain words) w status source old new
-plain_answers words w status source old new a = answers_wider _ (¬ IsPlain words) (λ out. absurd (out tt)) w status source old new a.1
+plain_answers words w status source old new a = answers_wider _ (¬ IsPlain words) (λ out. absurd (out.1 tt)) w status source old new a
 
 -- where the words do not ask for it, another engine may
-pub engine_answers : {P : Type 0} (has_numbers : P → Type 0) (words : List Text) (is_plain : Bool) → (IsPlain words → is_plain ≡ true) → is_plain ≡ false
-    → (w : World) (status : ℕ) (source old new : Option (List ℕ)) → AnswersBy has_numbers w status source old new → Answers (¬ IsPlain words) w status source old new
-engine_answers has_numbers words is_plain asks is w status source old new a =
-    answers_wider _ (¬ IsPlain words) (λ out plain. false≢true (sym is ∙ asks plain)) w status source old new a.1
+pub engine_answers : (N : Type 0) (words : List Text) (is_plain : Bool) → (IsPlain words → is_plain ≡ true) → is_plain ≡ false
+    → (w : World) (status : ℕ) (source old new : Option (List ℕ)) → Answers N w status source old new → Answers (¬ IsPlain words) w status source old new
+engine_answers N words is_plain asks is w status source old new a =
+    answers_wider N (¬ IsPlain words) (λ out plain. false≢true (sym is ∙ asks plain)) w status source old new a
 
 -- words that ask for a run fail for want of memory alone
 pub lacks_memory : (kinds : Kinds) (e : Error) → HasKind kinds e → kinds ≡ [] → kind_of e ≡ OutOfMemory

@@ -18,9 +18,10 @@ Answers wanted world status source old new =
     (status ≡ 0 → Scripts (λ text written. Says wanted (requests_of text) (script world text) written) source old new)
     × Scripts (λ text written. Begins wanted (requests_of text) (script world text) written) source old new
 
--- What an engine of the run's own answers: it tells want of numbers only where it is left with none.
-abbrev pub AnswersBy : {E : Type 0} → (E → Type 0) → World → ℕ → Option (List ℕ) → Option (List ℕ) → Option (List ℕ) → Type 0
-AnswersBy {E = E} has_numbers world status source old new = (last : E) × Answers (¬ has_numbers last) world status source old new
+-- Some engine of this type has no numbers for turns left: whether the one that ran had any is not said. Of a type whose
+-- engines always have numbers it never holds.
+abbrev pub MayRunOut : {E : Type 0} → (E → Type 0) → Type 0
+MayRunOut {E = E} has_numbers = (last : E) × (¬ has_numbers last)
 
 -- The requests lead from the world `first` to the world `now`: at the status 0 all of them, and else those carried out.
 abbrev pub Leads : Type 0 → World → World → ℕ → Option (List ℕ) → Option (List ℕ) → Option (List ℕ) → Type 0
@@ -48,16 +49,27 @@ fault_line Memory = codes "cqlrun: out of memory\n"
 abbrev pub no_text_line : List ℕ
 no_text_line = codes "cqlrun: a word is not UTF-8\n"
 
--- A sink was given this text: it took all of it and did not fail, or it failed and took a front of it.
-abbrev pub Told : Option (List ℕ) → Option (List ℕ) → ℕ → ℕ → List ℕ → Type 0
-Told old new before after text =
-    (Appends old new text × (after ≡ before)) ⊎ (AppendsFront old new text × Rises before after)
+-- A sink was given this text: it took all of it and did not fail, or it failed and took a front of it. `taken` says what a
+-- sink tells that it took, and `failures` how often it failed.
+abbrev pub Told : {E : Type 0} → (E → Option (List ℕ)) → (E → ℕ) → E → E → List ℕ → Type 0
+Told taken failures old new text =
+    (Appends (taken old) (taken new) text × (failures new ≡ failures old))
+    ⊎ (AppendsFront (taken old) (taken new) text × Rises (failures old) (failures new))
 
 -- a sink was given some text
-abbrev pub ToldSome : Option (List ℕ) → Option (List ℕ) → ℕ → ℕ → Type 0
-ToldSome old new before after = (text : List ℕ) × (text ≢ []) × Told old new before after text
+abbrev pub ToldSome : {E : Type 0} → (E → Option (List ℕ)) → (E → ℕ) → E → E → Type 0
+ToldSome taken failures old new = (text : List ℕ) × (text ≢ []) × Told taken failures old new text
 
--- Either the source failed or the sink, the other one did not, and P holds of that fault.
-abbrev pub Failed : (ScriptFault → Type 0) → ℕ → ℕ → ℕ → ℕ → Type 0
-Failed P source source' sink sink' =
-    (Rises source source' × (sink' ≡ sink) × P Read) ⊎ (Rises sink sink' × (source' ≡ source) × P Write)
+-- Either the source failed or the sink, the other one did not, and which one is told.
+abbrev pub Failed : {I O : Type 0} → (I → ℕ) → I → I → (O → ℕ) → O → O → (List ℕ → Type 0) → Type 0
+Failed reads source source' writes sink sink' told =
+    (Rises (reads source) (reads source') × (writes sink' ≡ writes sink) × told (fault_line Read))
+    ⊎ (Rises (writes sink) (writes sink') × (reads source' ≡ reads source) × told (fault_line Write))
+
+-- the statuses of words that are not wrong
+abbrev pub IsOfRun : ℕ → Type 0
+IsOfRun status = (status ≡ 0) ⊎ (status ≡ 1) ⊎ (status ≡ 3)
+
+-- the statuses of words that are wrong
+abbrev pub IsOfWrong : ℕ → Type 0
+IsOfWrong status = (status ≡ 2) ⊎ (status ≡ 3)

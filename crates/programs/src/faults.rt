@@ -11,8 +11,7 @@ pub(crate) const WRONG_WORDS: u8 = 2;
 
 /// Gives a sink of errors this text. One that fails is left alone.
 pub(crate) fn tell<E: Sink>(errors: &mut E, text: &str)
-    ensures { Told (E.taken errors.old) (E.taken errors.new) (E.failures errors.old)
-        (E.failures errors.new) text.now }
+    ensures { Told E.taken E.failures errors.old errors.new text.now }
 {
     let _ = put(errors, text.as_bytes());
 }
@@ -39,9 +38,7 @@ fn status_of(fault: &ScriptFault) -> u8
 /// Says a fault behind the program's name, and gives the program's status.
 pub(crate) fn fail<E: Sink>(errors: &mut E, fault: &ScriptFault) -> u8
     ensures status { result ≡ status_of fault.now }
-    ensures told { Told (E.taken errors.old) (E.taken errors.new) (E.failures errors.old)
-        (E.failures errors.new)
-        (fault_line fault.now) }
+    ensures told { Told E.taken E.failures errors.old errors.new (fault_line fault.now) }
 {
     tell(errors, line_of(fault));
     status_of(fault)
@@ -50,9 +47,7 @@ pub(crate) fn fail<E: Sink>(errors: &mut E, fault: &ScriptFault) -> u8
 /// Says that memory was refused at the start, and gives the program's status.
 pub fn lack_memory<E: Sink>(errors: &mut E) -> u8
     ensures status { result ≡ 3 }
-    ensures told { Told (E.taken errors.old) (E.taken errors.new) (E.failures errors.old)
-        (E.failures errors.new)
-        (fault_line ScriptFault.Memory) }
+    ensures told { Told E.taken E.failures errors.old errors.new (fault_line ScriptFault.Memory) }
 {
     fail(errors, &ScriptFault::Memory)
 }
@@ -63,14 +58,10 @@ pub fn lack_memory<E: Sink>(errors: &mut E) -> u8
 pub fn lack_words<E: Sink>(errors: &mut E, error: &Error) -> u8
     ensures memory { error_kind error.now ≡ ErrorKind.OutOfMemory → result ≡ 3 }
     ensures lacks { result ≡ 3
-        → Told (E.taken errors.old) (E.taken errors.new) (E.failures errors.old)
-        (E.failures errors.new)
-        (fault_line ScriptFault.Memory) }
+        → Told E.taken E.failures errors.old errors.new (fault_line ScriptFault.Memory) }
     ensures wrong { error_kind error.now ≢ ErrorKind.OutOfMemory → result ≡ 2 }
     ensures told { result ≡ 2
-        → Told (E.taken errors.old) (E.taken errors.new) (E.failures errors.old)
-        (E.failures errors.new)
-        no_text_line }
+        → Told E.taken E.failures errors.old errors.new no_text_line }
 {
     if error.kind() == ErrorKind::OutOfMemory {
         return lack_memory(errors);

@@ -17,6 +17,9 @@ const VOLUMES: &str =
 
 /// Runs turns until no operator has anything to take: then all answers wait to be taken.
 ///
+/// A turn that was refused memory comes back as it went out. It is abandoned, so that none stays
+/// out, and a later call leases it again.
+///
 /// # Errors
 /// `TooManyLeases` where all numbers of turns were given; `OutOfMemory`.
 fn run_turns(alloc: Global, engine: &mut Engine) -> Result<(), Fault>
@@ -25,10 +28,13 @@ fn run_turns(alloc: Global, engine: &mut Engine) -> Result<(), Fault>
     for _ in 0..u64::MAX {
         match engine.lease(256)? {
             Leased::Idle => return Ok(()),
-            Leased::Turn(turn) => {
-                let done = turn.run(alloc).map_err(|_| Fault::OutOfMemory)?;
-                engine.finish(done)?;
-            }
+            Leased::Turn(turn) => match turn.run(alloc) {
+                Ok(done) => engine.finish(done)?,
+                Err(turn) => {
+                    engine.abandon(turn.lease)?;
+                    return Err(Fault::OutOfMemory);
+                }
+            },
         }
     }
     Err(Fault::TooManyLeases)

@@ -281,18 +281,10 @@ fn is_answered_over(alloc: Global) -> Result<bool, AllocError> {
     ) else {
         return Ok(false);
     };
-    let words = ["cqlrun", "--turn=7"];
     let mut source = MemorySource::new(input.as_bytes());
     let mut sink = MemorySink::new(alloc);
     let mut errors = MemorySink::new(alloc);
-    let ended = run_over(
-        alloc,
-        words.as_slice(),
-        &mut engine,
-        &mut source,
-        &mut sink,
-        &mut errors,
-    );
+    let ended = run_over(alloc, 7, &mut engine, &mut source, &mut sink, &mut errors);
     Ok(
         ended == 0
             && sink.bytes.as_slice() == replies.as_bytes()
@@ -319,33 +311,22 @@ fn a_script_is_answered_over_the_engine_that_it_is_given(rt: HostRuntime) {
     assert!(rt; is_answered_by_lines(rt.alloc()));
 }
 
-// Whether wrong words leave the engine and the source alone.
-fn wrong_words_leave_all(alloc: Global) -> bool {
+// Whether wrong words leave the source alone and are told of.
+fn wrong_words_read_nothing(alloc: Global) -> bool {
     let words = ["cqlrun", "--plane"];
-    let Ok(mut engine) = Plain::new(alloc) else {
-        return false;
-    };
     let mut source = MemorySource::new(FIRST.as_bytes());
     let mut sink = MemorySink::new(alloc);
     let mut errors = MemorySink::new(alloc);
-    let ended = run_over(
-        alloc,
-        words.as_slice(),
-        &mut engine,
-        &mut source,
-        &mut sink,
-        &mut errors,
-    );
+    let ended = run(alloc, words.as_slice(), &mut source, &mut sink, &mut errors);
     ended == 2
         && source.bytes.len() == FIRST.len()
         && sink.bytes.is_empty()
-        && engine.stream_named("S").is_none()
         && errors.bytes.as_slice().starts_with(b"error: ".as_slice())
 }
 
 #[test]
 fn a_run_goes_on_over_the_engine_that_it_is_given(rt: HostRuntime) -> Result<(), Fail> {
     assert!(rt; is_answered_over(rt.alloc())?);
-    assert!(rt; wrong_words_leave_all(rt.alloc()));
+    assert!(rt; wrong_words_read_nothing(rt.alloc()));
     Ok(())
 }

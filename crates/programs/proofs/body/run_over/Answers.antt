@@ -1,24 +1,10 @@
-use Rattle.std.proofs.Common.{ap, inl, inr}
-use Rattle.programs.proofs.Outcomes.{answers_nothing, leads_nowhere, lacks_memory, asks_no_help, asks_no_version, asks_help}
+use Rattle.programs.proofs.Outcomes.{says_begins, runs_stands}
 use Rattle.programs.proofs.body.run_over.Goals as goal
 
-pub returns-in-Err-clause-answers : goal.returns-in-Err-clause-answers
-returns-in-Err-clause-answers g c runs =
-    let lacks = c.refuse.ensures.lacks (lacks_memory _ c.in-Err.error c.in-Err.ensures.refusals runs) in
-    answers_nothing _ (g.N.Answering.world c.args.engine.now) c.refuse.result (g.I.Source.left c.args.source.now) (g.O.Sink.taken c.args.sink.now) (g.O.Sink.taken c.refuse.new.sink) lacks (ap g.O.Sink.taken (c.refuse.ensures.memory lacks).0)
+pub returns-in-Ok-clause-answers : goal.returns-in-Ok-clause-answers
+returns-in-Ok-clause-answers g c =
+    (λ is. c.in-Ok.ensures.text, says_begins _ (g.N.Answering.world c.args.engine.now) (g.I.Source.left c.args.source.now) (g.O.Sink.taken c.args.sink.now) (g.O.Sink.taken c.run_script.new.sink) c.in-Ok.ensures.text)
 
-pub returns-in-Err-clause-wrong : goal.returns-in-Err-clause-wrong
-returns-in-Err-clause-wrong g c wrong =
-    c.refuse.ensures.wrong (asks_no_help _ c.in-Err.error c.in-Err.ensures.refusals wrong) (asks_no_version _ c.in-Err.error c.in-Err.ensures.refusals wrong)
-
-pub returns-in-Err-clause-help : goal.returns-in-Err-clause-help
-returns-in-Err-clause-help g c is =
-    elim (asks_help _ c.in-Err.error c.in-Err.ensures.refusals is) [
-      | inl memory ↦ inr (inr (c.refuse.ensures.lacks memory))
-      | inr help ↦ c.refuse.ensures.help help
-    ]
-
-pub returns-in-Err-clause-leads : goal.returns-in-Err-clause-leads
-returns-in-Err-clause-leads g c runs =
-    let lacks = c.refuse.ensures.lacks (lacks_memory _ c.in-Err.error c.in-Err.ensures.refusals runs) in
-    rw (ap g.O.Sink.taken (c.refuse.ensures.memory lacks).0) (leads_nowhere _ (g.N.Answering.world c.args.engine.now) c.refuse.result (g.I.Source.left c.args.source.now) (g.O.Sink.taken c.args.sink.now) lacks)
+pub returns-in-Ok-clause-leads : goal.returns-in-Ok-clause-leads
+returns-in-Ok-clause-leads g c =
+    (λ is. c.in-Ok.ensures.ran, runs_stands _ (g.N.Answering.world c.args.engine.now) (g.N.Answering.world c.run_script.new.engine) (g.I.Source.left c.args.source.now) (g.O.Sink.taken c.args.sink.now) (g.O.Sink.taken c.run_script.new.sink) c.in-Ok.ensures.ran)

@@ -28,7 +28,7 @@ use Rattle.leases.specs.Registering.{IsNewQuery, with_first}
 use Rattle.leases.specs.Shown.{engine_in}
 use Rattle.leases.specs.Sound.{IsSound, is_gone}
 use Rattle.leases.specs.Views.{HasKind, engine_of, kept_of, lease_of, query_of}
-use Rattle.leases.specs.declared.given.Given.{Given}
+use Rattle.turn.specs.declared.turns.Turn.{Turn}
 use Rattle.leases.specs.declared.kept.KeptQuery.{KeptQuery}
 use Rattle.leases.specs.declared.kept.KeptQuery.TheVariants as code
 use Rattle.leases.specs.declared.registered.Registration.{Registration}
@@ -140,7 +140,7 @@ sound_with s t q p h good live none_earlier same leases next names readers =
     gone_more : (qs : List Registered) (ks : List Kept) → map (λ r. r.is_dropped) qs ≡ map is_gone ks → map (λ (r : Registered). r.is_dropped) (qs ++ q ∷ []) ≡ map is_gone (ks ++ Running p ∷ [])
     gone_more qs ks g = map-append (λ (r : Registered). r.is_dropped) qs (q ∷ []) ∙ ap (λ l. l ++ q.is_dropped ∷ []) g ∙ ap (λ b. map is_gone ks ++ b ∷ []) live ∙ sym (map-append is_gone ks (Running p ∷ []))
 
-pub engine_with : (streams : List Stream) (rs rs2 : List Registration) (ks ks2 : List KeptQuery) (gs : List Given) (next : ℕ) (slots slots2 : List Slot) (told : Registration) (p : PlainQuery) → rs2 ≡ rs ++ told ∷ [] → ks2 ≡ ks ++ code.Running p ∷ []
+pub engine_with : (streams : List Stream) (rs rs2 : List Registration) (ks ks2 : List KeptQuery) (gs : List Turn) (next : ℕ) (slots slots2 : List Slot) (told : Registration) (p : PlainQuery) → rs2 ≡ rs ++ told ∷ [] → ks2 ≡ ks ++ code.Running p ∷ []
     → slots2 ≡ (registered (engine_of streams rs ks gs next slots) (query_of told) p).slots → engine_of streams rs2 ks2 gs next slots2 ≡ registered (engine_of streams rs ks gs next slots) (query_of told) p
 engine_with streams rs rs2 ks ks2 gs next slots slots2 told p queries kept put =
     let q : map query_of rs2 ≡ map query_of rs ++ query_of told ∷ [] = ap (map query_of) queries ∙ map-append query_of rs (told ∷ []) in
@@ -150,6 +150,6 @@ engine_with streams rs rs2 ks ks2 gs next slots slots2 told p queries kept put =
 pub many_told : (rs : List Registration) → length (map query_of rs) ≡ length rs
 many_told rs = length-map rs query_of
 
-pub engine_still : (streams : List Stream) (rs rs2 : List Registration) (ks ks2 : List KeptQuery) (gs : List Given) (next : ℕ) (slots slots2 : List Slot) → rs2 ≡ rs → ks2 ≡ ks → slots2 ≡ slots
+pub engine_still : (streams : List Stream) (rs rs2 : List Registration) (ks ks2 : List KeptQuery) (gs : List Turn) (next : ℕ) (slots slots2 : List Slot) → rs2 ≡ rs → ks2 ≡ ks → slots2 ≡ slots
     → engine_of streams rs2 ks2 gs next slots2 ≡ engine_of streams rs ks gs next slots
 engine_still streams rs rs2 ks ks2 gs next slots slots2 queries kept same = rw (queries, kept, same) refl

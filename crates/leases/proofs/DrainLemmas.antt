@@ -21,7 +21,8 @@ use Rattle.laws_engine.specs.Engines.{Broken, Dropped, GoodEngine, IsIn, Kept, L
 use Rattle.laws_engine.specs.Histories as history
 use Rattle.laws_engine.specs.Histories.{ComesBack, IsStep}
 use Rattle.leases.specs.Drains.{HasBrokenOne, HasWanted, HaveRun, LeavesOthers, OneHasRun, RunsFirst, RunsTurns, SomeHaveRun}
-use Rattle.leases.specs.Turns.{HasReady, IsTurnOf, lease_of_turn}
+use Rattle.leases.specs.Turns.{HasReady, IsTurnOf}
+use Rattle.leases.specs.Views.{lease_of}
 use Rattle.leases.specs.Whole.{IsWholeEngine}
 use Rattle.leases.specs.declared.limits.TheConstants.{LEASE_NUMBERS, MAX_LEASES}
 
@@ -30,7 +31,7 @@ pub none_run : (rows : ℕ) (e : PlainEngine) → SomeHaveRun rows e e
 none_run rows e = ([], refl)
 
 -- one more goes out and comes back
-one_more : (rows : ℕ) (e1 e2 e3 e4 : PlainEngine) (turns : List Turn) (t : Turn) → HaveRun rows e1 turns e2 → IsTurnOf e2 rows t e3 → IsStep e3 (history.Finishes (lease_of_turn t)) e4 → HaveRun rows e1 (turns ++ t ∷ []) e4
+one_more : (rows : ℕ) (e1 e2 e3 e4 : PlainEngine) (turns : List Turn) (t : Turn) → HaveRun rows e1 turns e2 → IsTurnOf e2 rows t e3 → IsStep e3 (history.Finishes (lease_of t)) e4 → HaveRun rows e1 (turns ++ t ∷ []) e4
 one_more rows e1 e2 e3 e4 [] t ran out home = (e3, (e4, (subst (λ e. IsTurnOf e rows t e3) ran out, (home, refl))))
 one_more rows e1 e2 e3 e4 (s ∷ turns) t ran out home = (ran.0, (ran.1.0, (ran.1.1.0, (ran.1.1.1.0, one_more rows ran.1.0 e2 e3 e4 turns t ran.1.1.1.1 out home))))
 
@@ -132,7 +133,7 @@ comes_queries e1 e2 l q p p2 (inr h) = ap (λ e. e.queries) h.1
 pub step_counts : (e1 e2 : PlainEngine) (rows : ℕ) → OneHasRun rows e1 e2 → e2.next ≡ e1.next + 1
 step_counts e1 e2 rows one =
     let home = one.1.1.1 in
-    comes_next one.1.0 e2 (lease_of_turn one.0) home.1.0 home.1.1.0 home.1.1.1.0 home.1.1.1.1 ∙ ap (λ e. e.next) one.1.1.0.after
+    comes_next one.1.0 e2 (lease_of one.0) home.1.0 home.1.1.0 home.1.1.1.0 home.1.1.1.1 ∙ ap (λ e. e.next) one.1.1.0.after
 
 -- NUMBERS are wanted where no turn is out and a drain is refused a lease
 none_out : (e : PlainEngine) → (MAX_LEASES ≤ length e.leases) ⊎ (LEASE_NUMBERS ≤ e.next) → e.leases ≡ [] → LEASE_NUMBERS ≤ e.next
@@ -151,14 +152,14 @@ have_machine : (rows : ℕ) (turns : List Turn) (e1 e2 : PlainEngine) → HaveRu
 have_machine rows [] e1 e2 ran = ap (λ e. e.machine) ran
 have_machine rows (t ∷ turns) e1 e2 ran =
     let home = ran.1.1.1.0 in
-    have_machine rows turns ran.1.0 e2 ran.1.1.1.1 ∙ comes_machine ran.0 ran.1.0 (lease_of_turn t) home.1.0 home.1.1.0 home.1.1.1.0 home.1.1.1.1 ∙ ap (λ e. e.machine) ran.1.1.0.after
+    have_machine rows turns ran.1.0 e2 ran.1.1.1.1 ∙ comes_machine ran.0 ran.1.0 (lease_of t) home.1.0 home.1.1.0 home.1.1.1.0 home.1.1.1.1 ∙ ap (λ e. e.machine) ran.1.1.0.after
 
 breaks_machine : (e1 e2 : PlainEngine) (l : Lease) → IsStep e1 (history.Breaks l) e2 → e2.machine ≡ e1.machine
 breaks_machine e1 e2 l h = ap (λ e. e.machine) h.1.1.1.1
 
 last_machine : (rows : ℕ) (e1 e2 : PlainEngine) → HasWanted rows e1 e2 → e2.machine ≡ e1.machine
 last_machine rows e1 e2 (inl h) = ap (λ e. e.machine) h.2
-last_machine rows e1 e2 (inr h) = breaks_machine h.1.0 e2 (lease_of_turn h.0) h.1.1.1 ∙ ap (λ e. e.machine) h.1.1.0.after
+last_machine rows e1 e2 (inr h) = breaks_machine h.1.0 e2 (lease_of h.0) h.1.1.1 ∙ ap (λ e. e.machine) h.1.1.0.after
 
 pub drain_machine : (old new : PlainEngine) (rows : ℕ) (r : Result ⊤ Fault) → RunsTurns old rows r new → new.machine ≡ old.machine
 drain_machine old new rows (Ok u) h = have_machine rows h.1.0 old new h.1.1
@@ -203,7 +204,7 @@ last_goes (x ∷ ls) l = by_test (x.query == l.query) (λ t. rw t (last_goes ls 
 
 module _ (e1 e2 : PlainEngine) (rows : ℕ) (t : Turn) (good : GoodEngine e1) (out : IsTurnOf e1 rows t e2) where
   abbrev turn : Lease
-  turn = lease_of_turn t
+  turn = lease_of t
 
   before : (a : Lease) → IsIn e1.leases a → a.number < turn.number
   before a i = omega (arith, (good.leases a i).numbered, out.leasable.number)
@@ -274,7 +275,7 @@ unbroken_set (k ∷ ks) (suc i) (suc n) p answers h = unbroken_set ks i n p answ
 
 module _ (e1 e2 : PlainEngine) (rows : ℕ) (whole : IsWholeEngine e1) (one : OneHasRun rows e1 e2) where
   abbrev l : Lease
-  l = lease_of_turn one.0
+  l = lease_of one.0
 
   abbrev home : IsStep one.1.0 (history.Finishes l) e2
   home = one.1.1.1

@@ -18,11 +18,11 @@ use Rattle.laws_engine.specs.Engines.{Dropped, GoodEngine, IsIn, Kept, Lease, Pl
 use Rattle.laws_engine.proofs.SlotLemmas.{in_filter}
 use Rattle.leases.specs.Sound.{is_gone}
 use Rattle.leases.specs.Views.{engine_of, kept_of, lease_of, query_of}
-use Rattle.leases.specs.declared.given.Given.{Given}
+use Rattle.turn.specs.declared.turns.Turn.{Turn}
 use Rattle.leases.specs.declared.kept.KeptQuery.{KeptQuery}
 use Rattle.leases.specs.declared.kept.KeptQuery.TheVariants as code
 use Rattle.leases.specs.declared.registered.Registration.{Registration}
-use Rattle.leases.proofs.FinishGivenLemmas.{leases_left}
+use Rattle.leases.proofs.OutLemmas.{leases_left}
 
 -- THE QUERY OF A NUMBER that was not dropped
 pub record IsThere (qs : List Registered) (n : ℕ) : Type 0 where
@@ -107,7 +107,7 @@ unfolding drop_step
 refused e n f h = ap (λ z. unless z (world_of e) tt (record { machine = after e.machine (Drop n) 0; waiting = change n (λ rows. []) (map answers_in e.queries) })) h
 
 -- THE ENGINE of the code's lists
-module _ (streams : List Stream) (rs : List Registration) (ks : List KeptQuery) (gs gs2 : List Given) (next : ℕ) (slots slots2 : List Slot) (n : ℕ)
+module _ (streams : List Stream) (rs : List Registration) (ks : List KeptQuery) (gs gs2 : List Turn) (next : ℕ) (slots slots2 : List Slot) (n : ℕ)
     (turns : gs2 ≡ filter (λ g. not (g.node.query == n)) gs) (told : slots2 ≡ without_query n slots) where
   turns_are : map lease_of gs2 ≡ of_others n (map lease_of gs)
   turns_are = ap (λ z. map lease_of z) turns ∙ leases_left (λ l. not (l.query == n)) gs
@@ -123,9 +123,9 @@ module _ (streams : List Stream) (rs : List Registration) (ks : List KeptQuery) 
       ap one (registered_dropped rs n r d h) ∙ ap two (kept_dropped ks n) ∙ ap three turns_are ∙ ap four told
 
 -- THE TURNS of other queries that are out
-pub another : (n : ℕ) (gs : List Given) (g : Given) → IsIn (filter (λ z. not (z.node.query == n)) gs) g → g.node.query ≢ n
+pub another : (n : ℕ) (gs : List Turn) (g : Turn) → IsIn (filter (λ z. not (z.node.query == n)) gs) g → g.node.query ≢ n
 another n gs g i e =
-    let f = in_filter (λ (z : Given). not (z.node.query == n)) gs g i in
+    let f = in_filter (λ (z : Turn). not (z.node.query == n)) gs g i in
     let t : (g.node.query == n) ≡ true = eq-eqb g.node.query n e in
     let bad : false ≡ true = ap not (sym t) ∙ f.1 in
     absurd (cc)

@@ -31,10 +31,10 @@ use Rattle.laws_engine.specs.Bounds.{HaveFewClosed}
 use Rattle.leases.specs.Sound.{IsSound, is_gone}
 use Rattle.leases.specs.Turns.{IsOut, IsStranger, lease_of_parts}
 use Rattle.leases.specs.Views.{HasKind, lease_of}
-use Rattle.leases.specs.declared.given.Given.{Given}
+use Rattle.turn.specs.declared.turns.Turn.{Turn}
 use Rattle.leases.specs.declared.reader.Reader.{Reader}
 use Rattle.leases.specs.declared.state.State.{State}
-use Rattle.leases.proofs.FinishGivenLemmas.{given_in}
+use Rattle.leases.proofs.OutLemmas.{turn_in}
 use Rattle.leases.proofs.ListedLemmas.{readers_left}
 
 -- THE REST of what an engine knows, where its machine and its next number are as they were, no turn has gone out, and no query was dropped
@@ -44,8 +44,8 @@ pub record StaysBut (old new : PlainEngine) : Type 0 where
   pub few : length new.leases ≤ length old.leases
   pub gone : map is_gone new.queries ≡ map is_gone old.queries
 
-pub sound_from : (old new : State) → IsSound old → new.names ≡ old.names → new.readers.items ≡ readers_of (engine_in new) → ((g : Given) → IsIn new.leases.items g → IsIn old.leases.items g) → GoodEngine (engine_in new) → StaysBut (engine_in old) (engine_in new)
-    → ((g : Given) → IsIn old.leases.items g → HasKind (engine_in new) g) → IsSound new
+pub sound_from : (old new : State) → IsSound old → new.names ≡ old.names → new.readers.items ≡ readers_of (engine_in new) → ((g : Turn) → IsIn new.leases.items g → IsIn old.leases.items g) → GoodEngine (engine_in new) → StaysBut (engine_in old) (engine_in new)
+    → ((g : Turn) → IsIn old.leases.items g → HasKind (engine_in new) g) → IsSound new
 sound_from old new s names readers leases good st kinds = record {
   good = good;
   kinds = λ g i. kinds g (leases g i);
@@ -92,7 +92,7 @@ module _ (old new : State) (ls : List Lease) (slots : List Slot) (d : Parts) (q 
 
   -- comes back
   module _ (r : GivesNothing old new) (p2 : PlainQuery) (a : IsApplied e.machine.streams p d p2) (few : length (others d.lease ls) ≤ length (engine_in old).leases) where
-    kinds_back : (after : List Slot) (g : Given) → IsIn old.leases.items g → HasKind (record (given_back e (lease_of_parts d) p2) { slots = after }) g
+    kinds_back : (after : List Slot) (g : Turn) → IsIn old.leases.items g → HasKind (record (given_back e (lease_of_parts d) p2) { slots = after }) g
     kinds_back after g i p3 running = by_test (g.node.query == d.node.query)
         (λ t.
         let same : g.node.query ≡ d.node.query = eqb-true g.node.query d.node.query t in
@@ -119,7 +119,7 @@ module _ (old new : State) (ls : List Lease) (slots : List Slot) (d : Parts) (q 
     sound_back (inr t) = sound_at (answered e (lease_of_parts d) q p p2).slots t.1 (subst GoodEngine (sym t.1) (answer_good e (lease_of_parts d) q p p2 good out.out t.0))
 
   -- breaks its query
-  kinds_broken : (g : Given) → IsIn old.leases.items g → HasKind (broken e d.node.query p) g
+  kinds_broken : (g : Turn) → IsIn old.leases.items g → HasKind (broken e d.node.query p) g
   kinds_broken g i p3 running = by_test (g.node.query == d.node.query)
       (λ t.
       let same : g.node.query ≡ d.node.query = eqb-true g.node.query d.node.query t in
@@ -149,9 +149,9 @@ lease_with n v i x = record { number = n; query = v.query; operator = v.operator
 abbrev node_with : ℕ → ℕ → Side → Kind → PlainNode
 node_with n k side kind = record { query = n; operator = k; side = side; kind = kind }
 
-module _ (s : State) (d : Parts) (g : Given) (sound : IsSound s) (known : IsIn s.leases.items g) (numbered : g.number ≡ d.lease) where
+module _ (s : State) (d : Parts) (g : Turn) (sound : IsSound s) (known : IsIn s.leases.items g) (numbered : g.lease ≡ d.lease) where
   there : IsIn (engine_in s).leases (lease_of g)
-  there = given_in s.leases.items g known
+  there = turn_in s.leases.items g known
 
   -- is this one
   pub turn_out : IsTurn g d → IsOutIn (engine_in s) d

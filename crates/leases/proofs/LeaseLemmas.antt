@@ -36,13 +36,12 @@ use Rattle.laws_engine.proofs.AskLemmas.{may_ask}
 use Rattle.laws_engine.proofs.IdleLemmas.{idle_waits}
 use Rattle.laws_engine.proofs.LeaseLemmas.{lease_good}
 use Rattle.laws_engine.proofs.PromiseLemmas.{first_in, keeps_its_promises, slot_is}
-use Rattle.leases.specs.Leasing.{IsOfSide, IsReady, IsReadyAt, IsTurnOn, MayLeaseOn, node_on, turn_with}
+use Rattle.leases.specs.Leasing.{IsOfSide, IsReady, IsReadyAt, IsTurnOn, MayLeaseOn, node_on}
 use Rattle.leases.specs.Readers.{readers_of}
 use Rattle.leases.specs.Shown.{engine_in}
 use Rattle.leases.specs.Sound.{IsSound, is_gone}
 use Rattle.leases.specs.Turns.{IsTurnOf, Leases, lease_fault}
 use Rattle.leases.specs.Views.{HasKind, engine_of, lease_of}
-use Rattle.leases.specs.declared.given.Given.{Given}
 use Rattle.leases.specs.declared.leased.Leased.{Leased}
 use Rattle.leases.specs.declared.leased.Leased.TheVariants.{Idle}
 use Rattle.leases.specs.declared.limits.TheConstants.{LEASE_NUMBERS, MAX_LEASES}
@@ -75,27 +74,27 @@ known_item (Tick t) (Tick u) h e = let f : TickAt t ∷ [] ≡ TickAt u ∷ [] =
 same_running : {p r : PlainQuery} → Running p ≡ Running r → p ≡ r
 same_running e = cc
 
-made_of : (e : PlainEngine) (n k : ℕ) (side : Side) (rows : ℕ) (g : Given) (p : PlainQuery) → kept_at e n ≡ Running p → IsTurnOn e n k side rows g → IsOfSide e n k side rows g p
+made_of : (e : PlainEngine) (n k : ℕ) (side : Side) (rows : ℕ) (g : Turn) (p : PlainQuery) → kept_at e n ≡ Running p → IsTurnOn e n k side rows g → IsOfSide e n k side rows g p
 made_of e n k side rows g p running made = subst (IsOfSide e n k side rows g) (same_running (sym made.1.running ∙ running)) made.1
 
 -- one with an item and an excerpt
-abbrev given_with : PlainEngine → PlainQuery → ℕ → ℕ → Side → Item → Near → Given
-given_with e p n k side i near = record { number = e.next; node = node_on p n k side; item = i; near = near }
+abbrev turn_with : PlainEngine → PlainQuery → ℕ → ℕ → Side → Item → Near → Turn
+turn_with e p n k side i near = record { lease = e.next; node = node_on p n k side; item = i; near = near }
 
-abbrev with_number : ℕ → PlainNode → Item → Near → Given
-with_number a node i near = record { number = a; node = node; item = i; near = near }
+abbrev with_number : ℕ → PlainNode → Item → Near → Turn
+with_number a node i near = record { lease = a; node = node; item = i; near = near }
 
-given_is : (e : PlainEngine) (n k : ℕ) (side : Side) (rows : ℕ) (g : Given) (p : PlainQuery) → IsOfSide e n k side rows g p → g ≡ given_with e p n k side g.item g.near
-given_is e n k side rows g p of = ap (λ z. with_number z g.node g.item g.near) of.number ∙ ap (λ z. with_number e.next z g.item g.near) of.node
+is_turn_with : (e : PlainEngine) (n k : ℕ) (side : Side) (rows : ℕ) (g : Turn) (p : PlainQuery) → IsOfSide e n k side rows g p → g ≡ turn_with e p n k side g.item g.near
+is_turn_with e n k side rows g p of = ap (λ z. with_number z g.node g.item g.near) of.number ∙ ap (λ z. with_number e.next z g.item g.near) of.node
 
-pub same_turn : (e : PlainEngine) (n k : ℕ) (side : Side) (rows : ℕ) (g h : Given) → IsTurnOn e n k side rows g → IsTurnOn e n k side rows h → g ≡ h
+pub same_turn : (e : PlainEngine) (n k : ℕ) (side : Side) (rows : ℕ) (g h : Turn) → IsTurnOn e n k side rows g → IsTurnOn e n k side rows h → g ≡ h
 same_turn e n k side rows g h made again =
     let p : PlainQuery = made.0 in
     let a : IsOfSide e n k side rows g p = made.1 in
     let b : IsOfSide e n k side rows h p = made_of e n k side rows h p made.1.running again in
     let item : g.item ≡ h.item = known_item g.item h.item a.leased.first.some (a.leased.cut ∙ sym b.leased.cut) in
     let near : g.near ≡ h.near = a.leased.near ∙ ap (near_of (operator_at p.operators k).state side) item ∙ sym b.leased.near in
-    given_is e n k side rows g p a ∙ (ap (λ z. given_with e p n k side z g.near) item ∙ (ap (given_with e p n k side h.item) near ∙ sym (given_is e n k side rows h p b)))
+    is_turn_with e n k side rows g p a ∙ (ap (λ z. turn_with e p n k side z g.near) item ∙ (ap (turn_with e p n k side h.item) near ∙ sym (is_turn_with e n k side rows h p b)))
 
 -- AN OPERATOR that may take something
 ready_of : (e : PlainEngine) (n k : ℕ) (p : PlainQuery) → IsReadyAt e n k → kept_at e n ≡ Running p → (q : Registered) × IsReady e n k q p
@@ -129,7 +128,7 @@ first_ready e s n k good first is_query is_operator =
     subst (λ z. IsReadyAt e z k) (sym is_query) (subst (IsReadyAt e s.query) (sym is_operator) ready)
 
 -- THE ENGINE after it
-abbrev pub out_of : PlainEngine → Slot → Given → PlainEngine
+abbrev pub out_of : PlainEngine → Slot → Turn → PlainEngine
 out_of e s g = record e { leases = e.leases ++ lease_of g ∷ []; next = e.next + 1; slots = changed s None e.slots }
 
 pub any_last : (f : Lease → Bool) (ls : List Lease) (l : Lease) → f l ≡ true → list_any f (ls ++ l ∷ []) ≡ true
@@ -166,8 +165,8 @@ module _ (e : PlainEngine) (s : Slot) (side : Side) (rows : ℕ) (good : GoodEng
 
   module _ (i : Item) (near : Near) (is : IsLeased (operator_at top.kept.operators s.operator) (log_of e.machine.streams top.kept s.operator) side rows i near)
       (at : ℕ) (takes : ready (operator_at top.kept.operators s.operator) (log_of e.machine.streams top.kept s.operator) ≡ Some (side, at)) where
-    abbrev made : Given
-    made = given_with e top.kept s.query s.operator side i near
+    abbrev made : Turn
+    made = turn_with e top.kept s.query s.operator side i near
 
     item_first : IsFirst (operator_at top.kept.operators s.operator) (log_at e.machine top.query s.operator) side i
     item_first = subst (λ z. IsFirst (operator_at top.kept.operators s.operator) z side i) log_is is.first
@@ -197,7 +196,7 @@ module _ (e : PlainEngine) (s : Slot) (side : Side) (rows : ℕ) (good : GoodEng
         let here : ready (operator_at top.kept.operators s.operator) (log_at e.machine top.query s.operator) ≡ Some (side, at) = ap (ready (operator_at top.kept.operators s.operator)) (sym log_is) ∙ takes in
         here ∙ ap (λ z. Some (side, z)) (ready_since (is_leased e s.query s.operator) _ side at s.instant top.instant here)
 
-    out_made : IsTurnOf e rows (turn_with made) (out_of e s made)
+    out_made : IsTurnOf e rows made (out_of e s made)
     out_made = record {
       query = top.query;
       kept = top.kept;
@@ -212,13 +211,13 @@ module _ (e : PlainEngine) (s : Slot) (side : Side) (rows : ℕ) (good : GoodEng
       after = out_leased;
     }
 
-  pub turn_out : (g : Given) → IsTurnOn e s.query s.operator side rows g → IsTurnOf e rows (turn_with g) (out_of e s g)
+  pub turn_out : (g : Turn) → IsTurnOn e s.query s.operator side rows g → IsTurnOf e rows g (out_of e s g)
   turn_out g made =
       let of : IsOfSide e s.query s.operator side rows g top.kept = made_of e s.query s.operator side rows g top.kept top.running made in
-      subst (λ z. IsTurnOf e rows (turn_with z) (out_of e s z)) (sym (given_is e s.query s.operator side rows g top.kept of)) (out_made g.item g.near of.leased of.at of.takes)
+      subst (λ z. IsTurnOf e rows z (out_of e s z)) (sym (is_turn_with e s.query s.operator side rows g top.kept of)) (out_made g.item g.near of.leased of.at of.takes)
 
 -- THE STATE after it
-pub record HasGone (old new : State) (s : Slot) (g : Given) : Type 0 where
+pub record HasGone (old new : State) (s : Slot) (g : Turn) : Type 0 where
   pub engine : engine_in new ≡ engine_of old.streams old.registered.items old.kept.items new.leases.items (old.next + 1) new.slots
   pub leases : new.leases.items ≡ old.leases.items ++ g ∷ []
   pub slots : new.slots ≡ changed s None old.slots
@@ -226,30 +225,30 @@ pub record HasGone (old new : State) (s : Slot) (g : Given) : Type 0 where
   pub names : new.names ≡ old.names
   pub readers : new.readers.items ≡ old.readers.items
 
-gone_engine : (old new : State) (s : Slot) (g : Given) → HasGone old new s g → engine_in new ≡ out_of (engine_in old) s g
+gone_engine : (old new : State) (s : Slot) (g : Turn) → HasGone old new s g → engine_in new ≡ out_of (engine_in old) s g
 gone_engine old new s g h =
     h.engine
     ∙ (ap (λ z. engine_of old.streams old.registered.items old.kept.items z (old.next + 1) new.slots) h.leases
     ∙ (ap (engine_of old.streams old.registered.items old.kept.items (old.leases.items ++ g ∷ []) (old.next + 1)) h.slots
     ∙ ap (λ z. record (engine_in old) { leases = z; next = old.next + 1; slots = changed s None old.slots }) (map-append lease_of old.leases.items (g ∷ []))))
 
-in_last : (ls : List Given) (g a : Given) → IsIn (ls ++ g ∷ []) a → IsIn ls a ⊎ (g ≡ a)
+in_last : (ls : List Turn) (g a : Turn) → IsIn (ls ++ g ∷ []) a → IsIn ls a ⊎ (g ≡ a)
 in_last [] g a (inl e) = inr e
 in_last [] g a (inr i) = absurd i
 in_last (x ∷ ls) g a (inl e) = inl (inl e)
 in_last (x ∷ ls) g a (inr i) = ⊎_elim (λ j. inl (inr j)) (λ e. inr e) (in_last ls g a i)
 
 -- the turn of which this is, made of the operator of the first slot
-module _ (old new : State) (s : Slot) (side : Side) (rows n k : ℕ) (g : Given) (sound : IsSound old) (first : first_of old.slots ≡ Some s) (allowed : lease_fault (engine_in old) rows ≡ None)
+module _ (old new : State) (s : Slot) (side : Side) (rows n k : ℕ) (g : Turn) (sound : IsSound old) (first : first_of old.slots ≡ Some s) (allowed : lease_fault (engine_in old) rows ≡ None)
     (is_query : n ≡ s.query) (is_operator : k ≡ s.operator) (made : IsTurnOn (engine_in old) n k side rows g) (gone : HasGone old new s g) where
   is : engine_in new ≡ out_of (engine_in old) s g
   is = gone_engine old new s g gone
 
-  turn_is : IsTurnOf (engine_in old) rows (turn_with g) (out_of (engine_in old) s g)
+  turn_is : IsTurnOf (engine_in old) rows g (out_of (engine_in old) s g)
   turn_is = turn_out (engine_in old) s side rows sound.good first allowed g (subst (λ z. IsTurnOn (engine_in old) s.query z side rows g) is_operator (subst (λ z. IsTurnOn (engine_in old) z k side rows g) is_query made))
 
-  pub goes_out : (t : Turn) → t ≡ turn_with g → IsTurnOf (engine_in old) rows t (engine_in new)
-  goes_out t same = subst (λ z. IsTurnOf (engine_in old) rows z (engine_in new)) (sym same) (subst (IsTurnOf (engine_in old) rows (turn_with g)) (sym is) turn_is)
+  pub goes_out : IsTurnOf (engine_in old) rows g (engine_in new)
+  goes_out = subst (IsTurnOf (engine_in old) rows g) (sym is) turn_is
 
   new_kind : HasKind (engine_in old) g
   new_kind p running = turn_is.kind ∙ ap (λ (z : PlainQuery). (operator_at z.operators g.node.operator).kind) (same_running (sym turn_is.leasable.of.running ∙ running))

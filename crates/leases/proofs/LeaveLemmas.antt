@@ -16,9 +16,9 @@ use Rattle.leases.specs.Shown.{engine_in}
 use Rattle.leases.specs.Turns.{Abandons}
 use Rattle.leases.specs.Sound.{IsSound}
 use Rattle.leases.specs.Views.{HasKind, lease_of}
-use Rattle.leases.specs.declared.given.Given.{Given}
+use Rattle.turn.specs.declared.turns.Turn.{Turn}
 use Rattle.leases.specs.declared.state.State.{State}
-use Rattle.leases.proofs.FinishGivenLemmas.{found_in, given_in}
+use Rattle.leases.proofs.OutLemmas.{found_in, turn_in}
 use Rattle.leases.proofs.FinishSoundLemmas.{StaysBut, sound_from}
 use Rattle.leases.proofs.LookLemmas.{asks}
 
@@ -32,10 +32,10 @@ pub record IsNumbered (e : PlainEngine) (n : ℕ) (l : Lease) : Type 0 where
   pub out : IsIn e.leases l
   pub number : l.number ≡ n
 
-pub known : (s : State) (n : ℕ) (g found : Given) → g ≡ found → Some found ≡ find (λ z. z.number == n) s.leases.items → IsNumbered (engine_in s) n (lease_of g)
+pub known : (s : State) (n : ℕ) (g found : Turn) → g ≡ found → Some found ≡ find (λ z. z.lease == n) s.leases.items → IsNumbered (engine_in s) n (lease_of g)
 known s n g found same is =
-    let f = found_in (λ (z : Given). z.number == n) s.leases.items g (ap (λ (z : Given). Some z) same ∙ is) in
-    record { out = given_in s.leases.items g f.0; number = eqb-true g.number n f.1 }
+    let f = found_in (λ (z : Turn). z.lease == n) s.leases.items g (ap (λ (z : Turn). Some z) same ∙ is) in
+    record { out = turn_in s.leases.items g f.0; number = eqb-true g.lease n f.1 }
 
 -- its operator may be looked up
 pub turn_asks : (e : PlainEngine) → GoodEngine e → (n : ℕ) (l : Lease) → IsNumbered e n l → HasOperatorAt e l.query l.operator

@@ -5,7 +5,7 @@ mod LeaveLemmas
 mod DropLemmas
 pub mod AddLemmas
 pub mod LeaseLemmas
-mod FinishGivenLemmas
+mod OutLemmas
 mod FinishLemmas
 mod FinishSoundLemmas
 mod FinishBackLemmas

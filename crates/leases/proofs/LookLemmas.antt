@@ -13,10 +13,10 @@ use Rattle.laws_engine.specs.Engines.{GoodEngine, Lease, PlainEngine, Running, k
 use Rattle.laws_engine.proofs.AskLemmas.{may_ask}
 use Rattle.leases.specs.Asked.{HasOperatorAt}
 use Rattle.leases.specs.Views.{lease_of}
-use Rattle.leases.specs.declared.given.Given.{Given}
+use Rattle.turn.specs.declared.turns.Turn.{Turn}
 
 -- TURNS that are out
-pub any_out : (p : Lease → Bool) (gs : List Given) → list_any p (map lease_of gs) ≡ list_any (λ g. p (lease_of g)) gs
+pub any_out : (p : Lease → Bool) (gs : List Turn) → list_any p (map lease_of gs) ≡ list_any (λ g. p (lease_of g)) gs
 any_out p [] = refl
 any_out p (g ∷ gs) = ap (λ b. p (lease_of g) || b) (any_out p gs)
 

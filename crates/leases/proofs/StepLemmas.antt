@@ -18,8 +18,7 @@ use Rattle.laws_engine.proofs.TableLemmas.{same_slot_at, same_slot_in}
 use Rattle.leases.specs.Applied.{Forgets, GivesNothing, HasApplied, HasWiredOperators, IsAbove, IsBroken, IsOutIn, IsUpdated, MayApplyIn, with_slot, without_turn}
 use Rattle.leases.specs.Asked.{HasOperatorAt}
 use Rattle.leases.specs.Drains.{OneHasFailed, OneHasRun}
-use Rattle.leases.specs.Leasing.{turn_with}
-use Rattle.leases.specs.Runs.{IsRunOf, given_in}
+use Rattle.leases.specs.Runs.{IsRunOf, turn_in}
 use Rattle.leases.specs.Shown.{engine_in}
 use Rattle.leases.specs.Sound.{IsSound}
 use Rattle.leases.specs.Turns.{IsTurnOf, lease_fault, lease_of_parts}
@@ -103,22 +102,22 @@ held_on_err (Err e) h = h
 -- THE TURN of the first slot, that was run
 module _ (old : State) (s : Slot) (rows : ℕ) (d : Parts) (sound : IsSound old) (first : first_of old.slots ≡ Some s) (allowed : lease_fault (engine_in old) rows ≡ None) (numbers : old.next < LEASE_NUMBERS) (run : IsRunOf (engine_in old) s rows d) where
   abbrev t : Turn
-  t = turn_with (given_in d)
+  t = turn_in d
 
   -- THE ENGINE that has it out
   abbrev e1 : PlainEngine
-  e1 = out_of (engine_in old) s (given_in d)
+  e1 = out_of (engine_in old) s t
 
   goes : IsTurnOf (engine_in old) rows t e1
-  goes = turn_out (engine_in old) s run.side rows sound.good first allowed (given_in d) run.made
+  goes = turn_out (engine_in old) s run.side rows sound.good first allowed t run.made
 
   good : GoodEngine e1
-  good = subst GoodEngine (sym goes.after) (lease_good (engine_in old) (lease_of (given_in d)) goes.query goes.kept goes.slot sound.good goes.leasable)
+  good = subst GoodEngine (sym goes.after) (lease_good (engine_in old) (lease_of t) goes.query goes.kept goes.slot sound.good goes.leasable)
 
   out : IsOutIn e1 d
   out =
       let of : IsOf e1 (lease_of_parts d) goes.query goes.kept = record { registered = goes.leasable.of.registered; running = goes.leasable.of.running; within = goes.leasable.of.within } in
-      (goes.query, (goes.kept, record { out = in_end (engine_in old).leases (lease_of (given_in d)); of = of; kind = goes.kind }))
+      (goes.query, (goes.kept, record { out = in_end (engine_in old).leases (lease_of t); of = of; kind = goes.kind }))
 
   query_is : s.query ≡ d.node.query
   query_is = sym (ap (λ v. v.query) run.made.1.node)
@@ -136,7 +135,7 @@ module _ (old : State) (s : Slot) (rows : ℕ) (d : Parts) (sound : IsSound old)
   running = ap (kept_at e1) query_is ∙ out.1.1.of.running
 
   others_left : others d.lease e1.leases ≡ (engine_in old).leases
-  others_left = drain.all_left (engine_in old).leases (lease_of (given_in d)) (λ a i. omega (arith, (sound.good.leases a i).numbered, number_is))
+  others_left = drain.all_left (engine_in old).leases (lease_of t) (λ a i. omega (arith, (sound.good.leases a i).numbered, number_is))
 
   few_left : length (others d.lease e1.leases) ≤ length (engine_in old).leases
   few_left = let same : length (others d.lease e1.leases) ≡ length (engine_in old).leases = ap (λ ls. length ls) others_left in omega (arith, same)
@@ -157,7 +156,7 @@ module _ (old : State) (s : Slot) (rows : ℕ) (d : Parts) (sound : IsSound old)
     slots_leave = subst (λ n. without_query n old.slots ≡ without_query n e1.slots) query_is (sym (changed_leaves (engine_in old) s sound.good there))
 
     turns_end : of_others d.node.query e1.leases ≡ of_others d.node.query (engine_in old).leases
-    turns_end = drain.last_goes (engine_in old).leases (lease_of (given_in d))
+    turns_end = drain.last_goes (engine_in old).leases (lease_of t)
 
     is_broken : engine_in new ≡ broken e1 d.node.query out.1.0
     is_broken =
@@ -190,7 +189,7 @@ module _ (old : State) (s : Slot) (rows : ℕ) (d : Parts) (sound : IsSound old)
     leased_here =
         let same_query : (d.node.query == s.query) ≡ true = eq-eqb d.node.query s.query (sym query_is) in
         let same_operator : (d.node.operator == s.operator) ≡ true = eq-eqb d.node.operator s.operator (sym operator_is) in
-        any_last (is_of s.query s.operator) (engine_in old).leases (lease_of (given_in d)) (rw (same_query, same_operator) refl)
+        any_last (is_of s.query s.operator) (engine_in old).leases (lease_of t) (rw (same_query, same_operator) refl)
 
     slot_here : (q : Registered) (p : PlainQuery) → query_at e1 s.query ≡ Some q → kept_at e1 s.query ≡ Running p → with_instant s None ≡ slot_at e1 s.query q p s.operator
     slot_here q p registered is =
@@ -214,7 +213,7 @@ module _ (old : State) (s : Slot) (rows : ℕ) (d : Parts) (sound : IsSound old)
         (λ lt.
         let apart : d.node.operator ≢ (wire_at p s.operator).to = λ z. absurd (omega (arith, later p is lt, operator_is, z)) in
         let leased : list_any (is_of s.query (wire_at p s.operator).to) e1.leases ≡ list_any (is_of s.query (wire_at p s.operator).to) (engine_in old).leases =
-        any_push (is_of s.query (wire_at p s.operator).to) (engine_in old).leases (lease_of (given_in d)) (other_operator s.query (wire_at p s.operator).to (lease_of (given_in d)) apart) in
+        any_push (is_of s.query (wire_at p s.operator).to) (engine_in old).leases (lease_of t) (other_operator s.query (wire_at p s.operator).to (lease_of t) apart) in
         sym (same_slot_at (engine_in old) e1.queries e1.leases e1.next e1.slots s.query (wire_at p s.operator).to leased q p p refl))
         (over q p registered is)
 

@@ -32,7 +32,7 @@ use Rattle.leases.specs.Shown.{engine_in}
 use Rattle.leases.specs.Sound.{IsSound, is_gone}
 use Rattle.leases.specs.Takes.{HandsOut, Takes, count_in, count_of}
 use Rattle.leases.specs.Views.{HasKind, kept_of, query_of}
-use Rattle.leases.specs.declared.given.Given.{Given}
+use Rattle.turn.specs.declared.turns.Turn.{Turn}
 use Rattle.leases.specs.declared.kept.KeptQuery.{KeptQuery}
 use Rattle.leases.specs.declared.limits.TheConstants.{LEASE_NUMBERS, MAX_LEASES}
 use Rattle.leases.specs.declared.registered.Registration.{Registration}
@@ -193,7 +193,7 @@ ran_at count zero (suc j) (k ∷ ks) p h = record { before = p; ran = h; operato
 ran_at count (suc n) zero (k ∷ ks) p h = record { before = p; ran = h; operators = refl }
 ran_at count (suc n) (suc j) (k ∷ ks) p h = ran_at count n j ks p h
 
-kind_taken : (e : PlainEngine) (n : ℕ) (limit : ℤ) (count : ℕ) (g : Given) → HasKind e g → HasKind (taken e n limit count) g
+kind_taken : (e : PlainEngine) (n : ℕ) (limit : ℤ) (count : ℕ) (g : Turn) → HasKind e g → HasKind (taken e n limit count) g
 kind_taken e n limit count g h p running =
     let r = ran_at count n g.node.query e.queries p running in
     subst (λ os. g.node.kind ≡ (get_operator os g.node.operator).kind) (sym r.operators) (h r.before r.ran)

@@ -8,7 +8,7 @@ use Rattle.laws_queries.specs.Machines.{IsMachine}
 use Rattle.laws_queries.proofs.RowLemmas.{rows_stand}
 use Rattle.laws_engine.specs.Engines.{Broken, Dropped, GoodEngine, query_at, slot_of}
 use Rattle.leases.specs.Views.{empty_engine, engine_of, kept_of, lease_of, waiting_in}
-use Rattle.leases.specs.declared.given.Given.{Given}
+use Rattle.turn.specs.declared.turns.Turn.{Turn}
 use Rattle.leases.specs.Shown.{engine_in}
 use Rattle.leases.specs.Whole.{IsWhole, IsWholeEngine}
 use Rattle.leases.specs.declared.kept.KeptQuery.{KeptQuery}
@@ -43,7 +43,7 @@ pub whole_at_first : (s : State) → engine_in s ≡ empty_engine → IsWhole s
 whole_at_first s e = subst IsWholeEngine (sym e) empty_whole
 
 -- WHAT WAITS
-pub many_out : (ls : List Given) → length (map lease_of ls) ≡ length ls
+pub many_out : (ls : List Turn) → length (map lease_of ls) ≡ length ls
 many_out ls = length-map ls lease_of
 
 pub past_kept : (ks : List KeptQuery) (n : ℕ) → length ks ≤ n → None ≡ waiting_in (get_or (map kept_of ks) n Dropped)

@@ -2,6 +2,7 @@
 use Rattle.std.specs.Prelude.{ℕ, ◌≡◌, ◌+◌, ◌<◌, ◌≤◌, ◌==◌, not, filter, MatchOption, Option, Some, List, length, set}
 use Rattle.turn.specs.Turns.{outs_in}
 use Rattle.turn.specs.declared.parts.Parts.{Parts}
+use Rattle.turn.specs.declared.turns.Turn.{Turn}
 use Rattle.reference.specs.Machine.{Registered, Stream}
 use Rattle.laws_queries.specs.Queries.{PlainQuery, operator_at}
 use Rattle.query_runtime.specs.Turns.{CanFinish, CanPut, HasBatches, HasFinished, HasOperator, HasPut, log_of, wire_at}
@@ -11,14 +12,13 @@ use Rattle.laws_engine.specs.Calls.{broken, others}
 use Rattle.laws_engine.specs.Engines.{IsIn, Kept, PlainEngine, Running, instant_at, kept_at, query_at, slot_at}
 use Rattle.leases.specs.Asked.{HasOperatorAt}
 use Rattle.leases.specs.Turns.{IsOut}
-use Rattle.leases.specs.declared.given.Given.{Given}
 use Rattle.leases.specs.declared.state.State.{State}
 
 -- THE TURN that was run is the one that was handed out: operator, item and excerpt are the same by value
-pub record IsTurn (g : Given) (d : Parts) : Type 0 where
-  pub node : g.node ≡ d.node
-  pub item : g.item ≡ d.item
-  pub near : g.near ≡ d.near
+pub record IsTurn (t : Turn) (d : Parts) : Type 0 where
+  pub node : t.node ≡ d.node
+  pub item : t.item ≡ d.item
+  pub near : t.near ≡ d.near
 
 -- it is out
 abbrev pub IsOutIn : PlainEngine → Parts → Type 0
@@ -58,7 +58,7 @@ without_turn e n = record e { leases = others n e.leases }
 
 -- A QUERY RUNS NO MORE: its turns end, its windows and slots leave, and nothing else is changed
 pub record Stops (n : ℕ) (old new : State) : Type 0 where
-  pub leases : new.leases.items ≡ filter (λ g. not (g.node.query == n)) old.leases.items
+  pub leases : new.leases.items ≡ filter (λ t. not (t.node.query == n)) old.leases.items
   pub readers : new.readers.items ≡ filter (λ r. not (r.query == n)) old.readers.items
   pub slots : new.slots ≡ without_query n old.slots
   pub rest : new ≡ record old { leases = new.leases; readers = new.readers; slots = new.slots }
@@ -67,13 +67,13 @@ pub record Stops (n : ℕ) (old new : State) : Type 0 where
 pub record Forgets (n : ℕ) (old new : State) : Type 0 where
   pub names : new.names ≡ old.names
   pub readers : new.readers.items ≡ filter (λ r. not (r.query == n)) old.readers.items
-  pub leases : (g : Given) → IsIn new.leases.items g → IsIn old.leases.items g
+  pub leases : (t : Turn) → IsIn new.leases.items t → IsIn old.leases.items t
 
 -- names and readers are as they were, and no turn goes out
 pub record GivesNothing (old new : State) : Type 0 where
   pub names : new.names ≡ old.names
   pub readers : new.readers.items ≡ old.readers.items
-  pub leases : (g : Given) → IsIn new.leases.items g → IsIn old.leases.items g
+  pub leases : (t : Turn) → IsIn new.leases.items t → IsIn old.leases.items t
 
 -- SLOTS THAT ARE TOLD ANEW
 -- the query's operators are there, and the wire of each but the last leads to one

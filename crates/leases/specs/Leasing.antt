@@ -9,7 +9,6 @@ use Rattle.laws_queries.specs.Queries.{PlainQuery, operator_at}
 use Rattle.query_runtime.specs.Turns.{CanLease, HasOperator, IsLeased, log_of}
 use Rattle.laws_engine.specs.Asks.{IsOperator}
 use Rattle.laws_engine.specs.Engines.{PlainEngine, Running, instant_at, kept_at}
-use Rattle.leases.specs.declared.given.Given.{Given}
 
 -- the operator k of the query n may take something, and no turn of it is out
 pub record IsReady (e : PlainEngine) (n k : ℕ) (q : Registered) (p : PlainQuery) : Type 0 where
@@ -36,17 +35,13 @@ abbrev pub node_on : PlainQuery → ℕ → ℕ → Side → PlainNode
 node_on p n k side = record { query = n; operator = k; side = side; kind = (operator_at p.operators k).kind }
 
 -- a turn of it has the next number, and what comes out at once on the side with the excerpt for that
-pub record IsOfSide (e : PlainEngine) (n k : ℕ) (side : Side) (rows : ℕ) (g : Given) (p : PlainQuery) : Type 0 where
+pub record IsOfSide (e : PlainEngine) (n k : ℕ) (side : Side) (rows : ℕ) (t : Turn) (p : PlainQuery) : Type 0 where
   pub running : kept_at e n ≡ Running p
-  pub number : g.number ≡ e.next
-  pub node : g.node ≡ node_on p n k side
-  pub leased : IsLeased (operator_at p.operators k) (log_of e.machine.streams p k) side rows g.item g.near
+  pub number : t.lease ≡ e.next
+  pub node : t.node ≡ node_on p n k side
+  pub leased : IsLeased (operator_at p.operators k) (log_of e.machine.streams p k) side rows t.item t.near
   pub at : ℕ
   pub takes : ready (operator_at p.operators k) (log_of e.machine.streams p k) ≡ Some (side, at)
 
-abbrev pub IsTurnOn : PlainEngine → ℕ → ℕ → Side → ℕ → Given → Type 0
-IsTurnOn e n k side rows g = (p : PlainQuery) × IsOfSide e n k side rows g p
-
--- the turn that goes out
-abbrev pub turn_with : Given → Turn
-turn_with g = record { lease = g.number; node = g.node; item = g.item; near = g.near }
+abbrev pub IsTurnOn : PlainEngine → ℕ → ℕ → Side → ℕ → Turn → Type 0
+IsTurnOn e n k side rows t = (p : PlainQuery) × IsOfSide e n k side rows t p

@@ -1,5 +1,6 @@
 -- What an engine knows of itself.
 use Rattle.std.specs.Prelude.{◌≡◌, ◌≤◌, Bool, true, false, length, map}
+use Rattle.turn.specs.declared.turns.Turn.{Turn}
 use Rattle.reference.specs.Named.{name_of_registered}
 use Rattle.laws_queries.specs.Registrations.{HaveColumnNames}
 use Rattle.laws_engine.specs.Bounds.{HaveFewClosed}
@@ -7,7 +8,6 @@ use Rattle.laws_engine.specs.Engines.{Broken, Dropped, GoodEngine, IsIn, Kept, R
 use Rattle.leases.specs.Readers.{readers_of}
 use Rattle.leases.specs.Shown.{engine_in}
 use Rattle.leases.specs.Views.{HasKind}
-use Rattle.leases.specs.declared.given.Given.{Given}
 use Rattle.leases.specs.declared.limits.TheConstants.{LEASE_NUMBERS, MAX_LEASES}
 use Rattle.leases.specs.declared.state.State.{State}
 
@@ -21,7 +21,7 @@ is_gone Dropped = true
 -- those that were not dropped, and lists just the windows of those that run
 pub record IsSound (s : State) : Type 0 where
   pub good : GoodEngine (engine_in s)
-  pub kinds : (g : Given) → IsIn s.leases.items g → HasKind (engine_in s) g
+  pub kinds : (t : Turn) → IsIn s.leases.items t → HasKind (engine_in s) t
   pub few : length s.leases.items ≤ MAX_LEASES
   pub numbers : s.next ≤ LEASE_NUMBERS
   pub named : s.names ≡ map name_of_registered (engine_in s).machine.queries

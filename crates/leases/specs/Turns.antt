@@ -21,6 +21,7 @@ use Rattle.laws_engine.specs.Histories.{ComesBack}
 use Rattle.laws_engine.specs.Promises.{IsOfSteepest}
 use Rattle.leases.specs.declared.leased.Leased.{Leased}
 use Rattle.leases.specs.declared.leased.Leased.TheVariants as answer
+use Rattle.leases.specs.Views.{lease_of}
 use Rattle.leases.specs.declared.limits.TheConstants.{LEASE_NUMBERS, MAX_LEASES}
 
 -- A LEASE of at most so many rows
@@ -35,10 +36,6 @@ lease_fault e rows = first_of (
 abbrev pub HasReady : PlainEngine → Type 0
 HasReady e = is_some (slots.first_of e.slots) ≡ true
 
--- the turn that was handed out
-abbrev pub lease_of_turn : Turn → Lease
-lease_of_turn t = record { number = t.lease; query = t.node.query; operator = t.node.operator; side = t.node.side; item = t.item; excerpt = t.near }
-
 -- no test fails, and it is of an operator of greatest slope, on the side that is ready, the left one where both are, with the next number and what comes out at
 -- once of what waits there, at most so many rows; it may be run
 pub record IsTurnOf (old : PlainEngine) (rows : ℕ) (t : Turn) (new : PlainEngine) : Type 0 where
@@ -46,13 +43,13 @@ pub record IsTurnOf (old : PlainEngine) (rows : ℕ) (t : Turn) (new : PlainEngi
   pub kept : PlainQuery
   pub slot : Slot
   pub allowed : lease_fault old rows ≡ None
-  pub leasable : IsLeasable old (lease_of_turn t) query kept slot
+  pub leasable : IsLeasable old (lease_of t) query kept slot
   pub steepest : IsOfSteepest old slot
   pub takes : ready (operator_at kept.operators t.node.operator) (log_at old.machine query t.node.operator) ≡ Some (t.node.side, slot.instant)
   pub kind : t.node.kind ≡ (operator_at kept.operators t.node.operator).kind
   pub fits : Fits t.node t.item t.near
   pub cut : entries_of t.item ≡ cut_of (min rows 1024) (inbox_of (operator_at kept.operators t.node.operator) t.node.side) (log_at old.machine query t.node.operator)
-  pub after : new ≡ leased old (lease_of_turn t) query kept
+  pub after : new ≡ leased old (lease_of t) query kept
 
 abbrev pub Leases : PlainEngine → ℕ → Result Leased Fault → PlainEngine → Type 0
 Leases old rows (Ok (answer.Turn t)) new = IsTurnOf old rows t new

@@ -1,13 +1,13 @@
 -- The engine of the code as a plain value.
 use Rattle.std.specs.Prelude.{ℕ, ◌≡◌, Option, Some, None, List, [], length, map, string_bytes}
 use Rattle.values.specs.Resolved.{resolved_of}
+use Rattle.turn.specs.declared.turns.Turn.{Turn}
 use Rattle.plan.specs.Views.{nodes_of}
 use Rattle.reference.specs.Machine as machine
 use Rattle.reference.specs.Machine.{Registered, Stream, empty}
 use Rattle.laws_queries.specs.Queries.{PlainQuery, operator_at}
 use Rattle.run_queue.specs.declared.slots.Slot.{Slot}
 use Rattle.laws_engine.specs.Engines.{Broken, Dropped, Kept, Lease, PlainEngine, Running, kept_at}
-use Rattle.leases.specs.declared.given.Given.{Given}
 use Rattle.leases.specs.declared.kept.KeptQuery.{KeptQuery}
 use Rattle.leases.specs.declared.kept.KeptQuery.TheVariants as code
 use Rattle.leases.specs.declared.registered.Place.{Place}
@@ -33,8 +33,8 @@ query_of r = record {
 }
 
 -- a turn that is out; what its operator does is known of the operator
-abbrev pub lease_of : Given → Lease
-lease_of g = record { number = g.number; query = g.node.query; operator = g.node.operator; side = g.node.side; item = g.item; excerpt = g.near }
+abbrev pub lease_of : Turn → Lease
+lease_of t = record { number = t.lease; query = t.node.query; operator = t.node.operator; side = t.node.side; item = t.item; excerpt = t.near }
 
 -- what is left of a query
 abbrev pub kept_of : KeptQuery → Kept
@@ -42,7 +42,7 @@ kept_of (code.Running p) = Running p
 kept_of (code.Broken answers) = Broken answers
 kept_of code.Dropped = Dropped
 
-abbrev pub engine_of : List Stream → List Registration → List KeptQuery → List Given → ℕ → List Slot → PlainEngine
+abbrev pub engine_of : List Stream → List Registration → List KeptQuery → List Turn → ℕ → List Slot → PlainEngine
 engine_of streams registered kept leases next slots = record {
   machine = record { streams = streams; queries = map query_of registered };
   queries = map kept_of kept;
@@ -52,8 +52,8 @@ engine_of streams registered kept leases next slots = record {
 }
 
 -- a turn that is out does what its operator does
-abbrev pub HasKind : PlainEngine → Given → Type 0
-HasKind e g = (p : PlainQuery) → kept_at e g.node.query ≡ Running p → g.node.kind ≡ (operator_at p.operators g.node.operator).kind
+abbrev pub HasKind : PlainEngine → Turn → Type 0
+HasKind e t = (p : PlainQuery) → kept_at e t.node.query ≡ Running p → t.node.kind ≡ (operator_at p.operators t.node.operator).kind
 
 -- before any call
 abbrev pub empty_engine : PlainEngine

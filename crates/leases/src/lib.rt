@@ -2,7 +2,6 @@
 #![tactic(auto)]
 
 mod engine;
-mod given;
 mod kept;
 mod leased;
 mod limits;

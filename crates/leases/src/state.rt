@@ -9,7 +9,6 @@ mod register;
 mod streams;
 mod takes;
 
-use crate::given::Given;
 use crate::kept::KeptQuery;
 use crate::reader::Reader;
 use crate::registered::Registration;
@@ -17,6 +16,7 @@ use name_table::NameTable;
 use run_queue::RunQueue;
 use std::alloc::Global;
 use stream_store::Streams;
+use turn::Turn;
 
 /// What an engine keeps. It has no invariant, so that small methods may stand between two changes;
 /// `Engine` holds one that is sound.
@@ -35,8 +35,8 @@ pub(crate) struct State {
     /// The windows of the queries that run, each once, by the queries' numbers and then by the
     /// operators'.
     readers: Vec<Reader>,
-    /// The turns that are out, at most `MAX_LEASES`, in the order in which they went.
-    pub(crate) leases: Vec<Given>,
+    /// Copies of the turns that are out, at most `MAX_LEASES`, in the order in which they went.
+    pub(crate) leases: Vec<Turn>,
     /// The number of the next turn, at most `LEASE_NUMBERS`.
     next: u64,
     /// The slots of all operators of the queries that run, in the order in which they are leased.

@@ -22,10 +22,10 @@ impl State {
         ensures abandons { Abandons (engine_in self.old) lease result (engine_in self.new) }
         ensures sound { IsSound self.new }
     {
-        let Some(given) = self.turn_out(lease) else {
+        let Some(turn) = self.turn_out(lease) else {
             return Err(Fault::UnknownLease);
         };
-        let slot = self.slot(given.node.query, given.node.operator);
+        let slot = self.slot(turn.node.query, turn.node.operator);
         self.end_turn(lease, &slot);
         Ok(())
     }
@@ -54,7 +54,7 @@ impl State {
     pub(crate) fn stop(&mut self, query: u64)
         ensures { Stops query self.old self.new }
     {
-        self.leases.retain(|given| given.node.query != query);
+        self.leases.retain(|turn| turn.node.query != query);
         forget_readers(&mut self.readers, query);
         self.slots.drop_query(query);
     }

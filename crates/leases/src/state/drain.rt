@@ -12,7 +12,6 @@ ghost use Rattle.leases.specs.Whole.{IsWhole};
 
 use crate::limits::{LEASE_NUMBERS, MAX_LEASES};
 use crate::state::State;
-use crate::state::lease::turn_of;
 use reference::{Fault, turn_fault};
 use run_queue::Slot;
 use std::alloc::AllocError;
@@ -105,7 +104,7 @@ impl State {
         let query = slot.query();
         let operator = slot.operator();
         let side = self.side(query, operator);
-        let turn = turn_of(self.given(query, operator, side, rows)?);
+        let turn = self.turn(query, operator, side, rows)?;
         match turn.run(self.alloc) {
             Ok(done) => Ok(done),
             Err(_) => Err(AllocError),

@@ -16,14 +16,13 @@ ghost use Rattle.leases.specs.Sound.{IsSound};
 ghost use Rattle.leases.specs.Turns.{Finishes};
 ghost use Rattle.leases.specs.Views.{kept_of};
 
-use crate::given::Given;
 use crate::kept::KeptQuery;
 use crate::state::State;
 use reference::Fault;
 use run_queue::Slot;
 use std::alloc::AllocError;
 use stream_store::Streams;
-use turn::{Done, Parts, same_item};
+use turn::{Done, Parts, Turn, same_item};
 
 impl State {
     /// A turn that was run comes back.
@@ -32,21 +31,21 @@ impl State {
         ensures finishes { Finishes (engine_in self.old) done result (engine_in self.new) }
         ensures sound { IsSound self.new }
     {
-        let Some(given) = self.turn_out(done.parts().lease) else {
+        let Some(turn) = self.turn_out(done.parts().lease) else {
             return Err(Fault::UnknownLease);
         };
-        if !is_turn(given, done.parts()) {
+        if !is_turn(turn, done.parts()) {
             return Err(Fault::Stranger);
         }
         Ok(self.take_back(done.into_parts())?)
     }
 
     /// The turn of a number, if it is out.
-    pub(crate) fn turn_out(&self, number: u64) -> Option<&Given>
-        ensures { option_map (λ g. g.now) result
-            ≡ find (λ g. g.number == number) self.now.leases.items }
+    pub(crate) fn turn_out(&self, number: u64) -> Option<&Turn>
+        ensures { option_map (λ t. t.now) result
+            ≡ find (λ t. t.lease == number) self.now.leases.items }
     {
-        self.leases.iter().find(|given| given.number == number)
+        self.leases.iter().find(|turn| turn.lease == number)
     }
 
     /// The turn is out, and comes back; a growth that is refused breaks its query.
@@ -115,7 +114,7 @@ impl State {
             (engine_in self.new) }
         ensures rest { GivesNothing self.old self.new }
     {
-        self.leases.retain(|given| given.number != number);
+        self.leases.retain(|turn| turn.lease != number);
         self.update_slot(slot);
     }
 
@@ -144,16 +143,16 @@ impl State {
 }
 
 /// Whether this turn is the one that was run.
-fn is_turn(given: &Given, parts: &Parts) -> bool
-    ensures { IsTrue result ↔ IsTurn given.now parts.now }
+fn is_turn(turn: &Turn, parts: &Parts) -> bool
+    ensures { IsTrue result ↔ IsTurn turn.now parts.now }
 {
-    if !given.node.is_same(&parts.node) {
+    if !turn.node.is_same(&parts.node) {
         return false;
     }
-    if !same_item(&given.item, &parts.item) {
+    if !same_item(&turn.item, &parts.item) {
         return false;
     }
-    given.near.is_same(&parts.near)
+    turn.near.is_same(&parts.near)
 }
 
 /// The running query takes the turn. After an error only its answers are as they were.

@@ -1,12 +1,11 @@
 //! Turns that go out.
 ghost use Rattle.std.specs.Prelude.{ℕ, ◌≡◌, ◌<◌, IfOk, OnErr, Some, length};
 ghost use Rattle.run_queue.specs.Slots.{first_of};
-ghost use Rattle.leases.specs.Leasing.{IsReadyAt, IsTurnOn, MayLeaseOn, turn_with};
+ghost use Rattle.leases.specs.Leasing.{IsReadyAt, IsTurnOn, MayLeaseOn};
 ghost use Rattle.leases.specs.Shown.{engine_in};
 ghost use Rattle.leases.specs.Sound.{IsSound};
 ghost use Rattle.leases.specs.Turns.{IsTurnOf, Leases, lease_fault};
 
-use crate::given::Given;
 use crate::leased::Leased;
 use crate::limits::{LEASE_NUMBERS, MAX_LEASES};
 use crate::state::State;
@@ -52,13 +51,13 @@ impl State {
         let query = slot.query();
         let operator = slot.operator();
         let side = self.side(query, operator);
-        let turn = self.given(query, operator, side, rows)?;
-        let kept = self.given(query, operator, side, rows)?;
+        let turn = self.turn(query, operator, side, rows)?;
+        let kept = self.turn(query, operator, side, rows)?;
         self.leases.reserve(1)?;
         self.leases.push_reserved(kept);
         self.next += 1;
         self.slots.change(*slot, None);
-        Ok(turn_of(turn))
+        Ok(turn)
     }
 
     /// The side that a lease takes of an operator that may take something.
@@ -75,13 +74,13 @@ impl State {
     }
 
     /// A turn of an operator, with the next number.
-    pub(crate) fn given(
+    pub(crate) fn turn(
         &self,
         query: u64,
         operator: usize,
         side: Side,
         rows: usize,
-    ) -> Result<Given, AllocError>
+    ) -> Result<Turn, AllocError>
         requires { MayLeaseOn (engine_in self.now) query operator side rows }
         ensures { IfOk result (IsTurnOn (engine_in self.now) query operator side rows) }
     {
@@ -93,23 +92,11 @@ impl State {
             side,
             kind: running.kind(operator)?,
         };
-        Ok(Given {
-            number: self.next,
+        Ok(Turn {
+            lease: self.next,
             node,
             item,
             near,
         })
-    }
-}
-
-/// A turn that goes out.
-pub(crate) fn turn_of(given: Given) -> Turn
-    ensures { result ≡ turn_with given }
-{
-    Turn {
-        lease: given.number,
-        node: given.node,
-        item: given.item,
-        near: given.near,
     }
 }

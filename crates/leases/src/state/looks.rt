@@ -82,7 +82,7 @@ impl State {
     pub(crate) fn is_leased(&self, query: u64, operator: usize) -> bool
         ensures { result ≡ is_leased (engine_in self.now) query operator }
     {
-        self.leases.iter().any(|given| given.is_of(query, operator))
+        self.leases.iter().any(|turn| turn.node.query == query && turn.node.operator == operator)
     }
 
     /// The instant of what the operator may take next, if it may take anything and no turn of it is

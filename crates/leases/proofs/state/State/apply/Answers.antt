@@ -8,7 +8,7 @@ use Rattle.laws_engine.specs.Engines.{Broken, Dropped, Kept, Running}
 use Rattle.leases.specs.Shown.{engine_in}
 use Rattle.leases.specs.Views.{kept_of}
 use Rattle.leases.specs.declared.reader.Reader.{Reader}
-use Rattle.leases.proofs.FinishGivenLemmas.{item_running, kept_written, kept_written_here}
+use Rattle.leases.proofs.OutLemmas.{item_running, kept_written, kept_written_here}
 use Rattle.leases.proofs.state.State.apply.Goals as goal
 
 pub break_query-requires : goal.break_query-requires

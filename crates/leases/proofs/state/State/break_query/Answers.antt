@@ -5,9 +5,9 @@ use Rattle.laws_engine.specs.Calls.{of_others}
 use Rattle.laws_engine.specs.Engines.{Broken, Kept, Lease, Running}
 use Rattle.leases.specs.Shown.{engine_in}
 use Rattle.leases.specs.Views.{kept_of, lease_of}
-use Rattle.leases.specs.declared.given.Given.{Given}
+use Rattle.turn.specs.declared.turns.Turn.{Turn}
 use Rattle.leases.specs.declared.state.State.{State}
-use Rattle.leases.proofs.FinishGivenLemmas.{item_kept, kept_set, leases_left, left_in}
+use Rattle.leases.proofs.OutLemmas.{item_kept, kept_set, leases_left, left_in}
 use Rattle.leases.proofs.state.State.break_query.Goals as goal
 
 pub returns-clause-engine : goal.returns-clause-engine
@@ -27,5 +27,5 @@ pub returns-clause-forgets : goal.returns-clause-forgets
 returns-clause-forgets c = record {
   names = ap (λ (s : State). s.names) c.stop.ensures.rest;
   readers = c.stop.ensures.readers;
-  leases = left_in (λ (g : Given). not (g.node.query == c.args.query)) c.args.self.now.leases.items c.stop.new.self.leases.items c.stop.ensures.leases;
+  leases = left_in (λ (g : Turn). not (g.node.query == c.args.query)) c.args.self.now.leases.items c.stop.new.self.leases.items c.stop.ensures.leases;
 }

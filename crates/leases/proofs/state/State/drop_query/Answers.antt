@@ -14,14 +14,14 @@ use Rattle.leases.specs.Readers.{readers_from, runs}
 use Rattle.leases.specs.Shown.{engine_in}
 use Rattle.leases.specs.Sound.{IsSound, is_gone}
 use Rattle.leases.specs.Views.{kept_of, query_of}
-use Rattle.leases.specs.declared.given.Given.{Given}
+use Rattle.turn.specs.declared.turns.Turn.{Turn}
 use Rattle.leases.specs.declared.reader.Reader.{Reader}
 use Rattle.leases.specs.declared.registered.Registration.{Registration}
 use Rattle.leases.specs.declared.state.State.{State}
 use Rattle.leases.proofs.DropLemmas.{another, drops, gone_dropped, is_dropped, kept_dropped, kept_within, named_there, names_dropped, refused, registered_dropped, registered_within, there}
 use Rattle.leases.proofs.LeaveLemmas.{fewer}
 use Rattle.leases.specs.declared.kept.KeptQuery.TheVariants as code
-use Rattle.leases.proofs.FinishGivenLemmas.{kept_set}
+use Rattle.leases.proofs.OutLemmas.{kept_set}
 use Rattle.leases.proofs.ListedLemmas.{readers_changed, readers_left}
 use Rattle.leases.proofs.state.State.drop_query.Goals as goal
 
@@ -70,12 +70,12 @@ returns-clause-sound c =
       kinds = λ g i p runs.
           let left = subst (λ gs. IsIn gs g) c.stop.ensures.leases i in
           let other = another c.args.query c.args.self.now.leases.items g left in
-          c.requires.kinds g (in_filter (λ (z : Given). not (z.node.query == c.args.query)) c.args.self.now.leases.items g left).0 p
+          c.requires.kinds g (in_filter (λ (z : Turn). not (z.node.query == c.args.query)) c.args.self.now.leases.items g left).0 p
           (sym (changed_or_there (λ kept. Dropped) c.args.query g.node.query (map kept_of c.args.self.now.kept.items) Dropped other)
           ∙ ap (λ ks. get_or ks g.node.query Dropped) (sym (kept_dropped c.args.self.now.kept.items c.args.query)) ∙ runs);
       few =
           let many : length c.stop.new.self.leases.items ≡ _ = ap (λ gs. length gs) c.stop.ensures.leases in
-          let less = fewer (λ (z : Given). not (z.node.query == c.args.query)) c.args.self.now.leases.items in
+          let less = fewer (λ (z : Turn). not (z.node.query == c.args.query)) c.args.self.now.leases.items in
           omega (arith, many, less, c.requires.few);
       numbers = c.requires.numbers;
       named =

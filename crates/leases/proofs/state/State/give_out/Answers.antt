@@ -2,7 +2,7 @@ use Rattle.std.proofs.Common.{None, ◌≡◌, ◌+◌, ◌∷◌, [], ◌++◌,
 use Rattle.run_queue.specs.Slots.{changed}
 use Rattle.leases.proofs.LeaseLemmas.{HasGone, first_ready, goes_out, same_turn, sound_out}
 use Rattle.leases.specs.Shown.{engine_in}
-use Rattle.leases.specs.declared.given.Given.{Given}
+use Rattle.turn.specs.declared.turns.Turn.{Turn}
 use Rattle.leases.specs.declared.state.State.{State}
 use Rattle.leases.proofs.state.State.give_out.Goals as goal
 
@@ -11,7 +11,7 @@ side-side-requires-clause-ready c =
     first_ready (engine_in c.args.self.now) c.args.slot.now c.query-query.result c.operator-operator.result c.requires.sound.good c.requires.first c.query-query.ensures c.operator-operator.ensures
 
 -- the state at the return
-abbrev after : goal.After-turn_of → State
+abbrev after : goal.After-change → State
 after c = record {
   alloc = c.args.self.now.alloc;
   streams = c.args.self.now.streams;
@@ -25,15 +25,15 @@ after c = record {
 }
 
 -- what is kept is what goes out
-same : (c : goal.After-turn_of) → c.in_ok-kept.kept ≡ c.in_ok-turn.turn
+same : (c : goal.After-change) → c.in_ok-kept.kept ≡ c.in_ok-turn.turn
 same c =
     same_turn (engine_in c.args.self.now) c.query-query.result c.operator-operator.result c.side-side.result c.args.rows c.in_ok-kept.kept c.in_ok-turn.turn c.in_ok-kept.ensures c.in_ok-turn.ensures
 
 -- the slot is retold, and the turn kept
-gone : (c : goal.After-turn_of) → c.change.new.self ≡ changed c.args.slot.now None c.args.self.now.slots → HasGone c.args.self.now (after c) c.args.slot.now c.in_ok-turn.turn
+gone : (c : goal.After-change) → c.change.new.self ≡ changed c.args.slot.now None c.args.self.now.slots → HasGone c.args.self.now (after c) c.args.slot.now c.in_ok-turn.turn
 gone c retold = record {
   engine = refl;
-  leases = c.push_reserved.ensures.items ∙ (ap (λ z. z ++ c.in_ok-kept.kept ∷ []) c.reserve.ensures.items ∙ ap (λ (z : Given). c.args.self.now.leases.items ++ z ∷ []) (same c));
+  leases = c.push_reserved.ensures.items ∙ (ap (λ z. z ++ c.in_ok-kept.kept ∷ []) c.reserve.ensures.items ∙ ap (λ (z : Turn). c.args.self.now.leases.items ++ z ∷ []) (same c));
   slots = retold;
   next = refl;
   names = refl;
@@ -43,7 +43,7 @@ gone c retold = record {
 pub returns-clause-turn : goal.returns-clause-turn
 returns-clause-turn c =
     goes_out c.args.self.now (after c) c.args.slot.now c.side-side.result c.args.rows c.query-query.result c.operator-operator.result c.in_ok-turn.turn c.requires.sound c.requires.first c.requires.allowed
-    c.query-query.ensures c.operator-operator.ensures c.in_ok-turn.ensures (gone c c.change.ensures) c.turn_of.result c.turn_of.ensures
+    c.query-query.ensures c.operator-operator.ensures c.in_ok-turn.ensures (gone c c.change.ensures)
 
 pub returns-clause-sound : goal.returns-clause-sound
 returns-clause-sound c =

@@ -7,52 +7,52 @@ use Rattle.laws_queries.specs.Queries.{PlainQuery}
 use Rattle.laws_engine.specs.Engines.{Dropped, IsIn, Kept, Lease, Running}
 use Rattle.laws_engine.proofs.SlotLemmas.{in_filter}
 use Rattle.leases.specs.Views.{kept_of, lease_of}
-use Rattle.leases.specs.declared.given.Given.{Given}
+use Rattle.turn.specs.declared.turns.Turn.{Turn}
 use Rattle.leases.specs.declared.kept.KeptQuery.{KeptQuery}
 
 -- THE TURNS that are out
-pub given_in : (gs : List Given) (g : Given) → IsIn gs g → IsIn (map lease_of gs) (lease_of g)
-given_in [] g i = absurd i
-given_in (x ∷ gs) g (inl e) = inl (ap lease_of e)
-given_in (x ∷ gs) g (inr i) = inr (given_in gs g i)
+pub turn_in : (gs : List Turn) (g : Turn) → IsIn gs g → IsIn (map lease_of gs) (lease_of g)
+turn_in [] g i = absurd i
+turn_in (x ∷ gs) g (inl e) = inl (ap lease_of e)
+turn_in (x ∷ gs) g (inr i) = inr (turn_in gs g i)
 
-pub record IsOfGiven (gs : List Given) (l : Lease) : Type 0 where
-  pub given : Given
-  pub known : IsIn gs given
-  pub is : lease_of given ≡ l
+pub record IsOfTurn (gs : List Turn) (l : Lease) : Type 0 where
+  pub turn : Turn
+  pub known : IsIn gs turn
+  pub is : lease_of turn ≡ l
 
-pub given_of : (gs : List Given) (l : Lease) → IsIn (map lease_of gs) l → IsOfGiven gs l
-given_of [] l i = absurd i
-given_of (x ∷ gs) l (inl e) = record { given = x; known = inl refl; is = e }
-given_of (x ∷ gs) l (inr i) = let r = given_of gs l i in record { given = r.given; known = inr r.known; is = r.is }
+pub turn_of : (gs : List Turn) (l : Lease) → IsIn (map lease_of gs) l → IsOfTurn gs l
+turn_of [] l i = absurd i
+turn_of (x ∷ gs) l (inl e) = record { turn = x; known = inl refl; is = e }
+turn_of (x ∷ gs) l (inr i) = let r = turn_of gs l i in record { turn = r.turn; known = inr r.known; is = r.is }
 
 -- those that pass a test
-pub leases_left : (p : Lease → Bool) (gs : List Given) → map lease_of (filter (λ g. p (lease_of g)) gs) ≡ filter p (map lease_of gs)
+pub leases_left : (p : Lease → Bool) (gs : List Turn) → map lease_of (filter (λ g. p (lease_of g)) gs) ≡ filter p (map lease_of gs)
 leases_left p [] = refl
 leases_left p (g ∷ gs) = by_test (p (lease_of g)) (λ t. rw t (ap (λ z. lease_of g ∷ z) (leases_left p gs))) (λ f. rw f (leases_left p gs))
 
-pub left_in : (test : Given → Bool) (gs left : List Given) → left ≡ filter test gs → (g : Given) → IsIn left g → IsIn gs g
+pub left_in : (test : Turn → Bool) (gs left : List Turn) → left ≡ filter test gs → (g : Turn) → IsIn left g → IsIn gs g
 left_in test gs left e g i = (in_filter test gs g (subst (λ z. IsIn z g) e i)).0
 
 -- the first that passes a test
-pub found_in : (p : Given → Bool) (gs : List Given) (g : Given) → Some g ≡ find p gs → IsIn gs g × (p g ≡ true)
+pub found_in : (p : Turn → Bool) (gs : List Turn) (g : Turn) → Some g ≡ find p gs → IsIn gs g × (p g ≡ true)
 found_in p [] g e = absurd (cc)
 found_in p (x ∷ gs) g e = by_test (p x)
     (λ t. let f : Some g ≡ Some x = rw t at e in let same : x ≡ g = cc in (inl same, ap p (sym same) ∙ t))
     (λ h. let f : Some g ≡ find p gs = rw h at e in let r = found_in p gs g f in (inr r.0, r.1))
 
-pub none_found : (p : Given → Bool) (gs : List Given) → None ≡ find p gs → (g : Given) → IsIn gs g → p g ≡ false
+pub none_found : (p : Turn → Bool) (gs : List Turn) → None ≡ find p gs → (g : Turn) → IsIn gs g → p g ≡ false
 none_found p [] e g i = absurd i
 none_found p (x ∷ gs) e g (inl is) = by_test (p x) (λ t. let bad : None ≡ Some x = rw t at e in absurd (cc)) (λ f. ap p (sym is) ∙ f)
 none_found p (x ∷ gs) e g (inr i) = by_test (p x) (λ t. let bad : None ≡ Some x = rw t at e in absurd (cc)) (λ f. none_found p gs (rw f at e) g i)
 
 -- none has a number
-pub none_numbered : (gs : List Given) (n : ℕ) → None ≡ find (λ g. g.number == n) gs → (l : Lease) → IsIn (map lease_of gs) l → l.number ≢ n
+pub none_numbered : (gs : List Turn) (n : ℕ) → None ≡ find (λ g. g.lease == n) gs → (l : Lease) → IsIn (map lease_of gs) l → l.number ≢ n
 none_numbered gs n e l i same =
-    let r = given_of gs l i in
-    let no : (r.given.number == n) ≡ false = none_found (λ g. g.number == n) gs e r.given r.known in
-    let is : r.given.number ≡ n = ap (λ z. z.number) r.is ∙ same in
-    let bad : (r.given.number == n) ≡ true = eq-eqb r.given.number n is in
+    let r = turn_of gs l i in
+    let no : (r.turn.lease == n) ≡ false = none_found (λ g. g.lease == n) gs e r.turn r.known in
+    let is : r.turn.lease ≡ n = ap (λ z. z.number) r.is ∙ same in
+    let bad : (r.turn.lease == n) ≡ true = eq-eqb r.turn.lease n is in
     cc
 
 -- WHAT IS LEFT of queries

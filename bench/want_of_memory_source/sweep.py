@@ -82,15 +82,18 @@ def main(program, refuse, stdin, stdout):
         scripts = file.read().split(SEPARATOR)
     with open(stdout) as file:
         replies = [json.loads(line) for line in file]
-    first = 0
+    first, seen = 0, [Counter(), Counter()]
     for script in scripts:
         count = len(script.splitlines())
         wanted, first = replies[first : first + count], first + count
         refused, at_start, (by_turns, by_drains) = sweep(program, refuse, script, wanted)
+        seen = [seen[0] + by_turns, seen[1] + by_drains]
         print(f"{count} requests: {refused} growths refused in turn, {at_start} of them at the start")
         for way, ends in ("turns", by_turns), ("drains", by_drains):
             told = ", ".join(f"{name} after {rows} answers: {times}" for (name, rows), times in sorted(ends.items()))
             print(f"  by {way}, broken {told or 'none'}", flush=True)
+    for way, ends in zip(("turns", "drains"), seen):
+        assert ("p", 3) in ends, f"by {way} no run broke p behind its first three answers"
 
 
 if __name__ == "__main__":

@@ -10,13 +10,16 @@ use wire::{Reply, Request, answer};
 /// The most rows of the turns of a drain.
 const ROWS: u32 = 7;
 
-/// An engine, how many queries were registered at it, and whether its drains are made of turns that
-/// go out.
+/// An engine under test, as its clients call it.
 #[derive(Drop)]
 pub(crate) struct Client {
     pub(crate) engine: Engine,
+    /// How many queries were registered.
     registered: u64,
+    /// Whether its drains are made of turns that go out.
     by_turns: bool,
+    /// How many calls wanted memory that may break a query: drains, and turns that came back.
+    pub(crate) breaking: usize,
 }
 
 /// Whether the reply says want of memory.
@@ -31,6 +34,7 @@ impl Client {
             engine,
             registered: 0,
             by_turns,
+            breaking: 0,
         }
     }
 
@@ -46,6 +50,16 @@ impl Client {
         Err(Stop::Wrong("a call that was refused changed the engine\n"))
     }
 
+    /// Fails where the engine shows what a drain may not leave that wanted memory: it may have run
+    /// turns, and have broken one query.
+    fn expect_drained(&mut self, alloc: Global, before: &Look) -> Result<(), Stop> {
+        self.breaking = self.breaking.saturating_add(1);
+        if before.goes_on_to(&self.look(alloc)?) {
+            return Ok(());
+        }
+        Err(Stop::Wrong("a drain that was refused lost answers\n"))
+    }
+
     /// What the engine answers to a request. Where it says want of memory, all is as it was, but
     /// that a drain may have broken a query and have run turns, and it is asked once more.
     fn ask(&mut self, alloc: Global, request: &Request) -> Result<Reply, Stop> {
@@ -54,8 +68,9 @@ impl Client {
         if !wants_memory(&reply) {
             return Ok(reply);
         }
-        if !matches!(request, Request::Drain) {
-            self.expect_same(alloc, &before)?;
+        match request {
+            Request::Drain => self.expect_drained(alloc, &before)?,
+            _ => self.expect_same(alloc, &before)?,
         }
         Ok(answer(&mut self.engine, request, ROWS))
     }
@@ -82,17 +97,36 @@ impl Client {
         }
     }
 
-    /// Fails where the script's broken query, if there is one, has something to take once streams
-    /// have closed further instants, or may not be dropped.
+    /// Whether the query is broken, which takes say once nothing waits.
+    fn is_broken(&mut self, query: u64) -> bool {
+        for _ in 0..16u32 {
+            match self.engine.take(query, 4_096) {
+                Ok(rows) if rows.is_empty() => return false,
+                Ok(_) | Err(Fault::OutOfMemory) => {}
+                Err(fault) => return fault == Fault::Broken,
+            }
+        }
+        false
+    }
+
+    /// Fails where more queries are broken than calls wanted memory that may break one; and where a
+    /// broken query has something to take once streams have closed further instants, or may not be
+    /// dropped.
     pub(crate) fn end(&mut self, alloc: Global) -> Result<(), Stop> {
         self.close_further();
         let look = self.look(alloc)?;
+        let mut broken = 0usize;
         for (number, shown) in look.queries.iter().enumerate() {
             let query = number as u64;
-            let is_broken = matches!(self.engine.take(query, 1), Err(Fault::Broken));
-            if is_broken && !(shown.is_idle() && self.engine.drop_query(query).is_ok()) {
-                return Err(Stop::Wrong("a broken query was fed, or could not be dropped\n"));
+            if self.is_broken(query) {
+                broken = broken.saturating_add(1);
+                if !(shown.is_idle() && self.engine.drop_query(query).is_ok()) {
+                    return Err(Stop::Wrong("a broken query was fed, or could not be dropped\n"));
+                }
             }
+        }
+        if broken > self.breaking {
+            return Err(Stop::Wrong("more queries broke than calls wanted memory\n"));
         }
         Ok(())
     }

@@ -55,6 +55,19 @@ impl Shown {
         self.is_like(other) && self.queues.as_slice() == other.queues.as_slice()
     }
 
+    /// Whether the query shows afterwards that nothing that waited is gone, and has the same slopes
+    /// and as many queues.
+    fn goes_on_to(&self, after: &Shown) -> bool {
+        let is_kept = match (self.waiting, after.waiting) {
+            (Some(before), Some(now)) => before <= now,
+            (None, None) => true,
+            _ => false,
+        };
+        is_kept
+            && self.slopes.as_slice() == after.slopes.as_slice()
+            && self.queues.len() == after.queues.len()
+    }
+
     /// Whether nothing is in its queues.
     pub(crate) fn is_idle(&self) -> bool {
         self.queues.iter().all(|length| *length == 0)
@@ -99,6 +112,18 @@ impl Look {
                 .iter()
                 .zip(after.queries.iter())
                 .all(|(a, b)| a.is_same(b))
+    }
+
+    /// Whether the engine shows afterwards what turns that came back may leave: as many are out, and
+    /// of each query nothing that waited is gone.
+    pub(crate) fn goes_on_to(&self, after: &Look) -> bool {
+        self.out == after.out
+            && self.queries.len() == after.queries.len()
+            && self
+                .queries
+                .iter()
+                .zip(after.queries.iter())
+                .all(|(a, b)| a.goes_on_to(b))
     }
 
     /// Whether the engine shows the same afterwards, but that one query is broken and its turn is

@@ -76,7 +76,10 @@ impl Client {
         let before = self.look(alloc)?;
         match self.engine.finish(done) {
             Ok(()) => Ok(()),
-            Err(Fault::OutOfMemory) if before.breaks(&self.look(alloc)?, query) => Ok(()),
+            Err(Fault::OutOfMemory) if before.breaks(&self.look(alloc)?, query) => {
+                self.breaking = self.breaking.saturating_add(1);
+                Ok(())
+            }
             Err(_) => Err(Stop::Wrong("a finish changed more than its query\n")),
         }
     }

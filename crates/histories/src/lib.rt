@@ -1,0 +1,15 @@
+//! Histories: the commands that a machine accepted, each with its seat and its reply, and the
+//! receipts that seats hold of them.
+#![tactic(auto)]
+
+mod command;
+mod entry;
+mod history;
+mod receipt;
+mod reply;
+
+pub use command::{Command, CommandKind};
+pub use entry::Entry;
+pub use history::agrees;
+pub use receipt::Receipt;
+pub use reply::{Reply, ReplyKind};

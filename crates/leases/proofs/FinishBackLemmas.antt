@@ -7,9 +7,9 @@ use Rattle.laws_queries.specs.Queries.{PlainQuery}
 use Rattle.query_runtime.specs.Turns.{wire_at}
 use Rattle.run_queue.specs.declared.slots.Slot.{Slot}
 use Rattle.laws_engine.specs.Calls.{answered, given_back, others}
-use Rattle.laws_engine.specs.Engines.{GoodEngine, Lease, PlainEngine, Running, kept_at, query_at, slot_at}
+use Rattle.laws_engine.specs.Engines.{GoodEngine, Lease, PlainEngine, Running, query_at, remains_at, slot_at}
 use Rattle.laws_engine.specs.Histories.{ComesBack}
-use Rattle.leases.specs.Applied.{Forgets, GivesNothing, HasApplied, HasWiredOperators, IsAbove, IsApplied, IsBroken, IsOutIn, IsUpdated, MayApplyIn, with_kept, without_turn}
+use Rattle.leases.specs.Applied.{Forgets, GivesNothing, HasApplied, HasWiredOperators, IsAbove, IsApplied, IsBroken, IsOutIn, IsUpdated, MayApplyIn, with_remains, without_turn}
 use Rattle.leases.specs.Asked.{HasOperatorAt}
 use Rattle.leases.specs.Shown.{engine_in}
 use Rattle.leases.specs.Sound.{IsSound}
@@ -45,7 +45,7 @@ pub record AreSteps (e : PlainEngine) (d : Parts) (n k lease : ℕ) (s : Slot) (
   pub query : n ≡ d.node.query
   pub operator : k ≡ d.node.operator
   pub number : lease ≡ d.lease
-  pub slot : (q : Registered) (p : PlainQuery) → query_at e n ≡ Some q → kept_at e n ≡ Running p → s ≡ slot_at e n q p k
+  pub slot : (q : Registered) (p : PlainQuery) → query_at e n ≡ Some q → remains_at e n ≡ Running p → s ≡ slot_at e n q p k
   pub over : IsAbove e n k above
   pub applied : HasApplied e d e1
   pub ended : e2 ≡ without_turn e1 lease
@@ -59,8 +59,8 @@ module _ (e : PlainEngine) (d : Parts) (n k lease : ℕ) (s : Slot) (above : Opt
   registered : query_at e n ≡ Some q
   registered = ap (query_at e) st.query ∙ out.of.registered
 
-  running : kept_at e n ≡ Running p
-  running = ap (kept_at e) st.query ∙ out.of.running
+  running : remains_at e n ≡ Running p
+  running = ap (remains_at e) st.query ∙ out.of.running
 
   slot_is : s ≡ slot_at e d.node.query q p d.node.operator
   slot_is = st.slot q p registered running ∙ ap (λ z. slot_at e z q p k) st.query ∙ ap (λ z. slot_at e d.node.query q p z) st.operator
@@ -70,12 +70,12 @@ module _ (e : PlainEngine) (d : Parts) (n k lease : ℕ) (s : Slot) (above : Opt
       let is : IsAbove e d.node.query d.node.operator above = subst (λ z. IsAbove e z d.node.operator above) st.query (subst (λ z. IsAbove e n z above) st.operator st.over) in
       is q p out.of.registered out.of.running
 
-  module _ (p2 : PlainQuery) (a : IsApplied e.machine.streams p d p2) (at : e1 ≡ with_kept e d.node.query (Running p2)) where
+  module _ (p2 : PlainQuery) (a : IsApplied e.machine.streams p d p2) (at : e1 ≡ with_remains e d.node.query (Running p2)) where
     back : e2 ≡ given_back e (lease_of_parts d) p2
     back = plain.ended e d q p g out done p2 a e1 e2 at (st.ended ∙ ap (without_turn e1) st.number)
 
-    may_retell_here : HasOperatorAt e2 s.query s.operator
-    may_retell_here = plain.may_retell e d q p g out done p2 a e2 s back slot_is
+    may_update_here : HasOperatorAt e2 s.query s.operator
+    may_update_here = plain.may_update e d q p g out done p2 a e2 s back slot_is
 
     module _ (e3 : PlainEngine) (told : IsUpdated e2 s e3) where
       third : e3 ≡ answered e (lease_of_parts d) q p p2
@@ -92,8 +92,8 @@ module _ (e : PlainEngine) (d : Parts) (n k lease : ℕ) (s : Slot) (above : Opt
         over_is =
             subst (λ o. MatchOption o (length p.operators ≤ d.node.operator + 1) (λ t. (d.node.operator + 1 < length p.operators) × (t ≡ slot_at e d.node.query q p (wire_at p d.node.operator).to))) some above_is
 
-        may_retell_over : HasOperatorAt e3 t.query t.operator
-        may_retell_over = plain.may_retell_above e d q p g out done p2 a e3 t third over_is.1 over_is.0
+        may_update_over : HasOperatorAt e3 t.query t.operator
+        may_update_over = plain.may_update_above e d q p g out done p2 a e3 t third over_is.1 over_is.0
 
         come_back_below : (e4 : PlainEngine) → IsUpdated e3 t e4 → ComesBack e (lease_of_parts d) q p p2 e4
         come_back_below e4 again =
@@ -101,14 +101,14 @@ module _ (e : PlainEngine) (d : Parts) (n k lease : ℕ) (s : Slot) (above : Opt
 
 -- WHERE IT IS OUT
 module _ (e : PlainEngine) (d : Parts) (n k lease : ℕ) (s : Slot) (above : Option Slot) (e1 e2 : PlainEngine) (good : GoodEngine e) (done : IsDone d) (out : IsOutIn e d) (st : AreSteps e d n k lease s above e1 e2) where
-  took : (p2 : PlainQuery) × (IsApplied e.machine.streams out.1.0 d p2 × (e1 ≡ with_kept e d.node.query (Running p2)))
+  took : (p2 : PlainQuery) × (IsApplied e.machine.streams out.1.0 d p2 × (e1 ≡ with_remains e d.node.query (Running p2)))
   took = st.applied out.1.0 out.1.1.of.running
 
-  pub retell_here : HasOperatorAt e2 s.query s.operator
-  retell_here = may_retell_here e d n k lease s above e1 e2 good done out.0 out.1.0 out.1.1 st took.0 took.1.0 took.1.1
+  pub update_here : HasOperatorAt e2 s.query s.operator
+  update_here = may_update_here e d n k lease s above e1 e2 good done out.0 out.1.0 out.1.1 st took.0 took.1.0 took.1.1
 
-  pub retell_over : (e3 : PlainEngine) → IsUpdated e2 s e3 → (t : Slot) → above ≡ Some t → HasOperatorAt e3 t.query t.operator
-  retell_over e3 told t some = may_retell_over e d n k lease s above e1 e2 good done out.0 out.1.0 out.1.1 st took.0 took.1.0 took.1.1 e3 told t some
+  pub update_over : (e3 : PlainEngine) → IsUpdated e2 s e3 → (t : Slot) → above ≡ Some t → HasOperatorAt e3 t.query t.operator
+  update_over e3 told t some = may_update_over e d n k lease s above e1 e2 good done out.0 out.1.0 out.1.1 st took.0 took.1.0 took.1.1 e3 told t some
 
   root : (e3 : PlainEngine) → IsUpdated e2 s e3 → above ≡ None → ComesBack e (lease_of_parts d) out.0 out.1.0 took.0 e3
   root e3 told none = come_back_root e d n k lease s above e1 e2 good done out.0 out.1.0 out.1.1 st took.0 took.1.0 took.1.1 e3 told none

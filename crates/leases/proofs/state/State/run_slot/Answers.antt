@@ -5,7 +5,7 @@ use Rattle.leases.specs.Asked.{HasOperatorAt}
 use Rattle.leases.specs.Runs.{IsRunOf}
 use Rattle.leases.specs.Shown.{engine_in}
 use Rattle.leases.proofs.FinishBackLemmas.{gives_on}
-use Rattle.leases.proofs.StepLemmas.{broke_one, broke_sound, counted, held_on_err, may_look_here, may_look_over, may_retell, may_retell_over, may_take, ran_below, ran_below_sound, ran_root, ran_root_sound}
+use Rattle.leases.proofs.StepLemmas.{broke_one, broke_sound, counted, held_on_err, may_look_here, may_look_over, may_take, may_update, may_update_over, ran_below, ran_below_sound, ran_root, ran_root_sound}
 use Rattle.leases.proofs.state.State.run_slot.Goals as goal
 
 pub above-above-requires-clause-here : goal.above-above-requires-clause-here
@@ -39,7 +39,7 @@ update_slot-requires c =
     let over : IsAbove (engine_in c.args.self.now) c.args.slot.now.query c.args.slot.now.operator c.above-above.result =
     subst (λ n. IsAbove (engine_in c.args.self.now) n c.args.slot.now.operator c.above-above.result) c.query.ensures
     (subst (λ k. IsAbove (engine_in c.args.self.now) c.query.result k c.above-above.result) c.operator.ensures c.above-above.ensures) in
-    may_retell c.args.self.now c.args.slot.now c.args.rows c.into_parts.result c.requires.sound c.requires.first c.requires.allowed c.requires.numbers run c.above-above.result over (engine_in c.apply.new.self) c.in_ok-apply.ensures.ok
+    may_update c.args.self.now c.args.slot.now c.args.rows c.into_parts.result c.requires.sound c.requires.first c.requires.allowed c.requires.numbers run c.above-above.result over (engine_in c.apply.new.self) c.in_ok-apply.ensures.ok
 
 pub update_slot-requires-in-Some : goal.update_slot-requires-in-Some
 update_slot-requires-in-Some c =
@@ -47,7 +47,7 @@ update_slot-requires-in-Some c =
     let over : IsAbove (engine_in c.args.self.now) c.args.slot.now.query c.args.slot.now.operator c.above-above.result =
     subst (λ n. IsAbove (engine_in c.args.self.now) n c.args.slot.now.operator c.above-above.result) c.query.ensures
     (subst (λ k. IsAbove (engine_in c.args.self.now) c.query.result k c.above-above.result) c.operator.ensures c.above-above.ensures) in
-    may_retell_over c.args.self.now c.args.slot.now c.args.rows c.into_parts.result c.requires.sound c.requires.first c.requires.allowed c.requires.numbers run c.above-above.result over (engine_in c.apply.new.self) c.in_ok-apply.ensures.ok (engine_in c.update_slot.new.self) c.update_slot.ensures.slot c.in-Some.above c.in-Some.is
+    may_update_over c.args.self.now c.args.slot.now c.args.rows c.into_parts.result c.requires.sound c.requires.first c.requires.allowed c.requires.numbers run c.above-above.result over (engine_in c.apply.new.self) c.in_ok-apply.ensures.ok (engine_in c.update_slot.new.self) c.update_slot.ensures.slot c.in-Some.above c.in-Some.is
 
 pub returns-in-Some-clause-ok : goal.returns-in-Some-clause-ok
 returns-in-Some-clause-ok c =

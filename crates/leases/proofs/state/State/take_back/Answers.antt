@@ -3,7 +3,7 @@ use Rattle.std.proofs.Common.{◌==◌, not, refl, ap}
 use Rattle.turn.specs.declared.parts.Parts.{Parts}
 use Rattle.leases.specs.Applied.{GivesNothing, without_turn}
 use Rattle.leases.specs.Shown.{engine_in}
-use Rattle.leases.proofs.FinishBackLemmas.{AreSteps, back_below, back_root, broken_sound, gives_on, may_apply, may_look, retell_here, retell_over, sound_below, sound_root, wired_operators}
+use Rattle.leases.proofs.FinishBackLemmas.{AreSteps, back_below, back_root, broken_sound, gives_on, may_apply, may_look, sound_below, sound_root, update_here, update_over, wired_operators}
 use Rattle.leases.proofs.LeaveLemmas.{fewer}
 use Rattle.leases.proofs.LookLemmas.{asks_on}
 use Rattle.leases.proofs.state.State.take_back.Goals as goal
@@ -36,7 +36,7 @@ end_turn-requires c =
     } in
     let after = engine_in c.apply.new.self in
     asks_on (without_turn after c.parts.inside.0.0) after.leases after.next after.slots c.slot-slot.result.query c.slot-slot.result.operator
-    (retell_here (engine_in c.args.self.now) c.args.parts c.parts.inside.0.1.0.query c.parts.inside.0.1.0.operator c.parts.inside.0.0 c.slot-slot.result c.above-above.result after (without_turn after c.parts.inside.0.0) c.requires.sound.good c.requires.done c.requires.out steps)
+    (update_here (engine_in c.args.self.now) c.args.parts c.parts.inside.0.1.0.query c.parts.inside.0.1.0.operator c.parts.inside.0.0 c.slot-slot.result c.above-above.result after (without_turn after c.parts.inside.0.0) c.requires.sound.good c.requires.done c.requires.out steps)
 
 pub update_slot-requires : goal.update_slot-requires
 update_slot-requires c =
@@ -49,7 +49,7 @@ update_slot-requires c =
       applied = c.in_ok-apply.ensures.ok;
       ended = refl;
     } in
-    retell_over (engine_in c.args.self.now) c.args.parts c.parts.inside.0.1.0.query c.parts.inside.0.1.0.operator c.parts.inside.0.0 c.slot-slot.result c.above-above.result (engine_in c.apply.new.self) (without_turn (engine_in c.apply.new.self) c.parts.inside.0.0) c.requires.sound.good c.requires.done c.requires.out steps (engine_in c.end_turn.new.self) c.end_turn.ensures.slot c.in-Some.above c.in-Some.is
+    update_over (engine_in c.args.self.now) c.args.parts c.parts.inside.0.1.0.query c.parts.inside.0.1.0.operator c.parts.inside.0.0 c.slot-slot.result c.above-above.result (engine_in c.apply.new.self) (without_turn (engine_in c.apply.new.self) c.parts.inside.0.0) c.requires.sound.good c.requires.done c.requires.out steps (engine_in c.end_turn.new.self) c.end_turn.ensures.slot c.in-Some.above c.in-Some.is
 
 pub returns-in-Some-clause-back : goal.returns-in-Some-clause-back
 returns-in-Some-clause-back c =

@@ -3,10 +3,10 @@
 mod backs;
 mod drain;
 mod finish;
+mod heartbeats;
 mod lease;
 mod looks;
 mod register;
-mod streams;
 mod takes;
 
 use crate::reader::Reader;

@@ -43,7 +43,7 @@ impl Answering for Engine {
         ensures err { OnErr result (engine_in self.new ≡ engine_in self.old) }
         ensures promises { KeepsItsPromises (engine_in self.new) }
     {
-        self.state.declare(name, columns, from)
+        self.state.streams.declare(name, columns, from)
     }
 
     fn query(&mut self, name: &str, text: &str, chart: Option<&Chart>) -> Result<u64, Fault>
@@ -72,7 +72,7 @@ impl Answering for Engine {
         ensures err { OnErr result (engine_in self.new ≡ engine_in self.old) }
         ensures promises { KeepsItsPromises (engine_in self.new) }
     {
-        self.state.append(stream, rows)
+        self.state.streams.append(stream, rows)
     }
 
     fn heartbeat(&mut self, stream: u64, at: i64) -> Result<(), Fault>

@@ -1,21 +1,63 @@
-use Rattle.std.proofs.Common.{refl, subst}
-use Rattle.leases.proofs.WholeLemmas.{whole_same}
+-- The engine over the streams that the append leaves.
+use Rattle.std.proofs.Common.{◌≡◌, OnErr, OnOk, map, refl, subst}
+use Rattle.std.specs.Prelude.{⊤}
+use Rattle.reference.specs.World.{Does, append_step}
+use Rattle.laws_engine.specs.Calls.{appended}
+use Rattle.laws_engine.specs.Engines.{answers_in}
 use Rattle.laws_engine.proofs.PromiseLemmas.{keeps_its_promises}
-use Rattle.leases.specs.Shown.{engine_in}
-use Rattle.leases.specs.Whole.{IsWhole}
-use Rattle.leases.specs.Whole.{HasNumbers}
+use Rattle.leases.specs.Queues.{LeavesQueues}
+use Rattle.leases.specs.Shown.{engine_in, world_in}
+use Rattle.leases.specs.Sound.{IsSound}
+use Rattle.leases.specs.Whole.{HasNumbers, IsWhole}
+use Rattle.leases.specs.declared.state.State.{State}
 use Rattle.leases.proofs.NumberLemmas.{gives_none, spent}
+use Rattle.leases.proofs.QueueLemmas.{append_leaves_queues}
+use Rattle.leases.proofs.StreamLemmas.{at_streams, append_changes, append_changes_not, append_sound}
+use Rattle.leases.proofs.WholeLemmas.{whole_same}
 use Rattle.leases.proofs.engine.answering.EngineAnswering.append.Goals as goal
 
-pub returns-clause-whole : goal.returns-clause-whole
-returns-clause-whole c =
-    subst (λ s. IsWhole s → IsWhole c.append.new.self) c.self.view_is
-    (whole_same c.append.result (engine_in c.self.inside.state) _ (engine_in c.append.new.self) c.append.ensures.engine c.append.ensures.err refl refl)
+-- the state afterwards
+abbrev after : goal.After-append → State
+after c = at_streams c.self.inside.state c.append.new.self
 
-pub returns-clause-promises : goal.returns-clause-promises
-returns-clause-promises c = keeps_its_promises _ c.append.ensures.sound.good
+did : (c : goal.After-append) → Does (λ (u : ⊤). u) (world_in c.self.inside.state) (append_step (world_in c.self.inside.state) c.args.stream c.args.rows.now) c.append.result (world_in (after c))
+did c =
+    let e = engine_in c.self.inside.state in
+    c.append.ensures.does e.machine.queries (map answers_in e.queries)
+
+changes : (c : goal.After-append) → OnOk c.append.result (engine_in (after c) ≡ appended (engine_in c.self.inside.state) c.args.stream c.args.rows.now)
+changes c = append_changes c.self.inside.state c.append.new.self c.args.stream c.args.rows.now c.append.result (did c)
+
+changes_not : (c : goal.After-append) → OnErr c.append.result (engine_in (after c) ≡ engine_in c.self.inside.state)
+changes_not c = append_changes_not c.self.inside.state c.append.new.self c.args.stream c.args.rows.now c.append.result (did c)
+
+sound : (c : goal.After-append) → IsSound (after c)
+sound c = append_sound c.self.inside.state c.append.new.self c.args.stream c.args.rows.now c.append.result c.self.invariant (did c)
+
+pub invariant_of-self : goal.invariant_of-self
+invariant_of-self c = sound c
+
+pub returns-clause-does : goal.returns-clause-does
+returns-clause-does c =
+    subst (λ s. Does (λ (u : ⊤). u) (world_in s) (append_step (world_in s) c.args.stream c.args.rows.now) c.append.result (world_in (after c))) c.self.view_is (did c)
+
+pub returns-clause-engine : goal.returns-clause-engine
+returns-clause-engine c = subst (λ s. OnOk c.append.result (engine_in (after c) ≡ appended (engine_in s) c.args.stream c.args.rows.now)) c.self.view_is (changes c)
+
+pub returns-clause-err : goal.returns-clause-err
+returns-clause-err c = subst (λ s. OnErr c.append.result (engine_in (after c) ≡ engine_in s)) c.self.view_is (changes_not c)
+
+pub returns-clause-whole : goal.returns-clause-whole
+returns-clause-whole c = subst (λ s. IsWhole s → IsWhole (after c)) c.self.view_is (whole_same c.append.result (engine_in c.self.inside.state) _ (engine_in (after c)) (changes c) (changes_not c) refl refl)
 
 pub returns-clause-spent : goal.returns-clause-spent
 returns-clause-spent c =
-    subst (λ s. HasNumbers c.append.new.self → HasNumbers s) c.self.view_is
-    (spent (engine_in c.self.inside.state) (engine_in c.append.new.self) (gives_none c.append.result (engine_in c.self.inside.state) _ (engine_in c.append.new.self) c.append.ensures.engine c.append.ensures.err refl))
+    subst (λ s. HasNumbers (after c) → HasNumbers s) c.self.view_is
+    (spent (engine_in c.self.inside.state) (engine_in (after c)) (gives_none c.append.result (engine_in c.self.inside.state) _ (engine_in (after c)) (changes c) (changes_not c) refl))
+
+pub returns-clause-promises : goal.returns-clause-promises
+returns-clause-promises c = keeps_its_promises _ (sound c).good
+
+pub returns-clause-queues : goal.returns-clause-queues
+returns-clause-queues c =
+    subst (λ s. LeavesQueues (engine_in s) (engine_in (after c))) c.self.view_is (append_leaves_queues c.self.inside.state c.append.new.self c.args.stream c.args.rows.now c.append.result (did c))

@@ -1,15 +1,14 @@
-//! Streams that are declared, lengthened and closed.
+//! Heartbeats: what is closed is told to the windows that wait for it.
 ghost use Rattle.std.specs.Prelude.{◌≡◌, ◌<◌, ◌++◌, ℕ, IfOk, OnErr, OnOk, length, slice_get};
 ghost use Rattle.std.specs.List.{AllByRecursion};
-ghost use Rattle.reference.specs.CallViews.{texts_of};
-ghost use Rattle.reference.specs.World.{Does, append_step, declare_step, heartbeat_step};
+ghost use Rattle.reference.specs.World.{Does, heartbeat_step};
 ghost use Rattle.stream_store.specs.Closing.{QueuesGain};
-ghost use Rattle.laws_engine.specs.Calls.{appended, declared, heartbeat_taken};
+ghost use Rattle.laws_engine.specs.Calls.{heartbeat_taken};
 ghost use Rattle.laws_queries.specs.Queries.{PlainQuery};
 ghost use Rattle.laws_engine.specs.Engines.{GoodEngine, Running};
 ghost use Rattle.leases.specs.Asked.{HasOperatorAt};
 ghost use Rattle.query_runtime.specs.Turns.{HasOperator};
-ghost use Rattle.leases.specs.Queues.{LeavesQueues, LengthensQueues};
+ghost use Rattle.leases.specs.Queues.{LengthensQueues};
 ghost use Rattle.leases.specs.Readers.{idle_slot, idle_slots, is_idle_at, is_idle_in, with_slots};
 ghost use Rattle.leases.specs.Readers.{with_updates};
 ghost use Rattle.leases.specs.Shown.{engine_in, world_in};
@@ -19,45 +18,12 @@ ghost use Rattle.leases.specs.Views.{remains_of};
 use crate::reader::Reader;
 use crate::remains::Remains;
 use crate::state::State;
-use reference::{Fault, NewRows};
+use reference::Fault;
 use run_queue::Slot;
 use std::alloc::AllocError;
 use stream_store::Streams;
 
 impl State {
-    /// Declares a stream.
-    pub(crate) fn declare(
-        &mut self,
-        name: &str,
-        columns: &[String],
-        from: i64,
-    ) -> Result<u64, Fault>
-        requires { IsSound self.old }
-        ensures does { Does (λ (n : ℕ). n) (world_in self.old)
-            (declare_step (world_in self.old) name.now (texts_of columns.now) from) result
-            (world_in self.new) }
-        ensures engine { OnOk result (engine_in self.new
-            ≡ declared (engine_in self.old) name.now (texts_of columns.now) from) }
-        ensures err { OnErr result (engine_in self.new ≡ engine_in self.old) }
-        ensures sound { IsSound self.new }
-    {
-        self.streams.declare(name, columns, from)
-    }
-
-    /// Appends rows to the stream of a number.
-    pub(crate) fn append(&mut self, stream: u64, rows: &NewRows) -> Result<(), Fault>
-        requires { IsSound self.old }
-        ensures does { Does (λ u. u) (world_in self.old)
-            (append_step (world_in self.old) stream rows.now) result (world_in self.new) }
-        ensures engine { OnOk result (engine_in self.new
-            ≡ appended (engine_in self.old) stream rows.now) }
-        ensures queues { LeavesQueues (engine_in self.old) (engine_in self.new) }
-        ensures err { OnErr result (engine_in self.new ≡ engine_in self.old) }
-        ensures sound { IsSound self.new }
-    {
-        self.streams.append(stream, rows)
-    }
-
     /// Closes all instants of the stream up to `at`.
     ///
     /// It costs the rows, a look at each window of the queries that were not dropped, and a change

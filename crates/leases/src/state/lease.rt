@@ -52,9 +52,9 @@ impl State {
         let operator = slot.operator();
         let side = self.side(query, operator);
         let turn = self.turn(query, operator, side, rows)?;
-        let remains = self.turn(query, operator, side, rows)?;
+        let kept = self.turn(query, operator, side, rows)?;
         self.leases.reserve(1)?;
-        self.leases.push_reserved(remains);
+        self.leases.push_reserved(kept);
         self.next += 1;
         self.slots.change(*slot, None);
         Ok(turn)

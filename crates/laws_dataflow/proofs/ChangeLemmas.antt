@@ -14,7 +14,7 @@ use Rattle.windows.specs.Laws.{ComeAfter, Each, IsLater, IsRising}
 use Rattle.windows.proofs.WindowLemmas.{Each_append, Each_map}
 use Rattle.laws_dataflow.specs.Windows.{Brings, opened, AreFrom, AreBelow, GoodWindow}
 use Rattle.laws_dataflow.specs.Nets.{Node, window, unary, join, World, Cell, at_window, at_unary, at_join, cell_shown, cell_next, Input, IsLawful, GoodCell, value_by, past, left_of, right_of, input_of, GoodAt, LeastAt, ComesLater, Planned}
-use Rattle.laws_dataflow.specs.Worlds.{beaten, Beat, fed_cell, Change, appended, forgotten, Keeps}
+use Rattle.laws_dataflow.specs.Worlds.{heartbeat_taken, Beat, fed_cell, Change, appended, forgotten, Keeps}
 use Rattle.laws_dataflow.proofs.BagLemmas.{perm_same, same_of}
 use Rattle.laws_dataflow.proofs.IdleLemmas.{all_below}
 use Rattle.laws_dataflow.proofs.JoinLemmas.{past-after}
@@ -51,7 +51,7 @@ fed_input fresh more (unary f x) c vs = refl
 fed_input fresh more (join f x y) c vs = refl
 
 module _ (w : World) (closed2 : ℕ → ℕ) (fresh : ℕ → List Element) (more : ℕ → List (Entry Row)) (b : Beat w closed2 fresh more) where
-  fed_good : (node : Node) (a : Cell) (c d : Input) → GoodCell w node a c d → GoodCell (beaten w closed2) node (fed_cell fresh more node a) c d
+  fed_good : (node : Node) (a : Cell) (c d : Input) → GoodCell w node a c d → GoodCell (heartbeat_taken w closed2) node (fed_cell fresh more node a) c d
   fed_good (window k) (at_window h e o q n) c d g = window_beats w.first (w.windows k) (w.inputs k) (w.closed k) (closed2 k) h e (fresh k) n q (more k) (b.brings k) (b.rising k) (b.below k) (b.parted k) g
   fed_good (window k) (at_unary q i o n) c d g = absurd g
   fed_good (window k) (at_join q r l m o n x y) c d g = absurd g
@@ -64,9 +64,9 @@ module _ (w : World) (closed2 : ℕ → ℕ) (fresh : ℕ → List Element) (mor
 
   -- A HEARTBEAT keeps what is true of all operators
   pub all_fed : (nodes : ℕ → Node) (count : ℕ) (v : ℕ → ℕ → List Row) (s : ℕ → Cell) → ((k : ℕ) → k < count → GoodAt w nodes v s k)
-      → (k : ℕ) → k < count → GoodAt (beaten w closed2) nodes v (λ x. fed_cell fresh more (nodes x) (s x)) k
+      → (k : ℕ) → k < count → GoodAt (heartbeat_taken w closed2) nodes v (λ x. fed_cell fresh more (nodes x) (s x)) k
   all_fed nodes count v s g k kc =
-      subst₂ (λ c d. GoodCell (beaten w closed2) (nodes k) (fed_cell fresh more (nodes k) (s k)) c d)
+      subst₂ (λ c d. GoodCell (heartbeat_taken w closed2) (nodes k) (fed_cell fresh more (nodes k) (s k)) c d)
       (sym (fed_input fresh more (nodes (left_of (nodes k))) (s (left_of (nodes k))) (v (left_of (nodes k)))))
       (sym (fed_input fresh more (nodes (right_of (nodes k))) (s (right_of (nodes k))) (v (right_of (nodes k)))))
       (fed_good (nodes k) (s k) _ _ (g k kc))

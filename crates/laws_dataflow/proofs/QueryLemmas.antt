@@ -9,7 +9,7 @@ use Rattle.op_queue.specs.declared.item.Item.TheVariants.{Rows, Tick}
 use Rattle.to_stream.specs.Turns.{State, near, out}
 use Rattle.to_stream.specs.Law.{StepLaw}
 use Rattle.laws_dataflow.specs.Nets.{Node, window, unary, join, World, Cell, at_window, at_unary, at_join, cell_shown, cell_next, batch, Turn, Feeds, to_unary, to_left, to_right, Planned, Laid}
-use Rattle.laws_dataflow.specs.Worlds.{beaten, Beat, fed_cell, Change, appended}
+use Rattle.laws_dataflow.specs.Worlds.{heartbeat_taken, Beat, fed_cell, Change, appended}
 use Rattle.laws_dataflow.specs.Windows.{AreFrom}
 use Rattle.laws_dataflow.specs.Queries.{given_from, GoodRoot, GoodQuery, Idle}
 use Rattle.laws_dataflow.proofs.KeptLemmas.{all_kept, last_kept, LastKept}
@@ -88,7 +88,7 @@ module _ (w : World) (nodes : ℕ → Node) (count : ℕ) (v : ℕ → ℕ → L
   fed_same fresh more (join f x y) c = (refl, refl)
 
   pub query_beats : (closed2 : ℕ → ℕ) (fresh : ℕ → List Element) (more : ℕ → List (Entry Row)) → Beat w closed2 fresh more → (cells : ℕ → Cell) (s : State) (q : List (Entry Row)) (given : List (ℕ × Row))
-      → GoodQuery w nodes count v start earlier cells s q given → GoodQuery (beaten w closed2) nodes count v start earlier (λ k. fed_cell fresh more (nodes k) (cells k)) s q given
+      → GoodQuery w nodes count v start earlier cells s q given → GoodQuery (heartbeat_taken w closed2) nodes count v start earlier (λ k. fed_cell fresh more (nodes k) (cells k)) s q given
   query_beats closed2 fresh more b cells s q given g =
       let same : (cell_shown (fed_cell fresh more (nodes (count - 1)) (cells (count - 1))) ≡ cell_shown (cells (count - 1))) × (cell_next (fed_cell fresh more (nodes (count - 1)) (cells (count - 1))) ≡ cell_next (cells (count - 1))) = fed_same fresh more (nodes (count - 1)) (cells (count - 1)) in
       record {

@@ -12,8 +12,8 @@ use Rattle.laws_dataflow.specs.Nets.{World, bag_at, Node, window, unary, join, C
 -- HEARTBEATS
 
 -- the world with other closed instants
-abbrev pub beaten : World → (ℕ → ℕ) → World
-beaten w closed2 = record { first = w.first; windows = w.windows; inputs = w.inputs; closed = closed2; came = w.came }
+abbrev pub heartbeat_taken : World → (ℕ → ℕ) → World
+heartbeat_taken w closed2 = record { first = w.first; windows = w.windows; inputs = w.inputs; closed = closed2; came = w.came }
 
 -- of each source the instants from closed to closed2 are closed, and these entries, which bring these elements, go to the end of its window's queue
 pub record Beat (w : World) (closed2 : ℕ → ℕ) (fresh : ℕ → List Element) (more : ℕ → List (Entry Row)) : Type 0 where

@@ -12,9 +12,9 @@ use Rattle.laws_queries.proofs.AppendLemmas.{append_logs}
 use Rattle.laws_queries.proofs.MachineCounts.{machines_stand, queries_stand}
 use Rattle.laws_queries.proofs.RowLemmas.{rows_stand}
 use Rattle.run_queue.specs.Slots.{slot}
-use Rattle.laws_engine.specs.Engines.{Broken, Dropped, GoodEngine, IsLease, Kept, Lease, PlainEngine, Running, is_leased, kept_at, query_at, slope_at, slot_in, slot_of}
+use Rattle.laws_engine.specs.Engines.{Broken, Dropped, GoodEngine, IsLease, Lease, PlainEngine, PlainRemains, Running, is_leased, query_at, remains_at, slope_at, slot_in, slot_of}
 use Rattle.laws_engine.specs.Calls.{appended}
-use Rattle.laws_engine.proofs.StreamLemmas.{append_kept}
+use Rattle.laws_engine.proofs.StreamLemmas.{append_remains}
 use Rattle.laws_engine.proofs.TakeLemmas.{equal_slots}
 
 -- a query of a good engine is one of its machine
@@ -30,15 +30,15 @@ module _ (e : PlainEngine) (s : ℕ) (rows : List (ℤ × List (Option ℤ))) (g
     numbered = is.numbered;
     query = is.query;
     registered = is.registered;
-    kept = is.kept;
+    plain = is.plain;
     running = is.running;
     within = is.within;
-    first = subst (λ z. IsFirst (operator_at is.kept.operators a.operator) z a.side a.item) (sym (logs is.query a.operator)) is.first;
+    first = subst (λ z. IsFirst (operator_at is.plain.operators a.operator) z a.side a.item) (sym (logs is.query a.operator)) is.first;
     near = is.near;
   }
 
-  appended_slot : (n k : ℕ) (o : Option Registered) (kept : Kept) → slot_in (appended e s rows) n k o kept ≡ slot_in e n k o kept
-  appended_slot n k None kept = refl
+  appended_slot : (n k : ℕ) (o : Option Registered) (remains : PlainRemains) → slot_in (appended e s rows) n k o remains ≡ slot_in e n k o remains
+  appended_slot n k None remains = refl
   appended_slot n k (Some q) (Running p) =
       ap (λ x. cond (nat_lt k (length q.nodes)) (Some (slot (slope_at q k) (cond (is_leased e n k) None (option_map (λ r. r.1) (ready (operator_at p.operators k) x))) n k)) None) (logs q k)
   appended_slot n k (Some q) (Broken answers) = refl
@@ -49,8 +49,8 @@ module _ (e : PlainEngine) (s : ℕ) (rows : List (ℤ × List (Option ℤ))) (g
     machine = machines_stand.goes_on e.machine (Append s rows) 0 accepted g.machine;
     rows = rows_stand.goes_on e.machine (Append s rows) 0 accepted g.rows;
     many = g.many;
-    queries = λ n q r. append_kept e.machine s rows accepted q (kept_at e n) g.machine (is_query e g n q r) (g.queries n q r);
+    queries = λ n q r. append_remains e.machine s rows accepted q (remains_at e n) g.machine (is_query e g n q r) (g.queries n q r);
     leases = λ a i. appended_lease a (g.leases a i);
     apart = g.apart;
-    slots = equal_slots (slot_of e) (slot_of (appended e s rows)) e.slots (λ n k. appended_slot n k (query_at e n) (kept_at e n)) g.slots;
+    slots = equal_slots (slot_of e) (slot_of (appended e s rows)) e.slots (λ n k. appended_slot n k (query_at e n) (remains_at e n)) g.slots;
   }

@@ -21,7 +21,7 @@ use Rattle.query_runtime.specs.Turns.{CanFinish, CanLease, CanPut, HasOperator, 
 use Rattle.query_runtime.proofs.RunLemmas.{plain_queries_run}
 use Rattle.laws_engine.specs.Asks.{IsOperator, MayAsk}
 use Rattle.laws_engine.specs.Calls.{IsOf}
-use Rattle.laws_engine.specs.Engines.{Goes, GoodEngine, IsKept, Lease, PlainEngine}
+use Rattle.laws_engine.specs.Engines.{AreRemains, Goes, GoodEngine, Lease, PlainEngine}
 use Rattle.laws_engine.proofs.FinishLemmas.{lease_first, query_bounded}
 
 -- THE STREAM that an operator reads is there
@@ -51,7 +51,7 @@ left_inbox vs ws e q os given k r h = by_number k (length q.nodes) h
 -- AN OPERATOR of a running query
 module _ (e : PlainEngine) (g : GoodEngine e) (n k : ℕ) (q : Registered) (p : PlainQuery) (o : IsOperator e n k q p) where
   goes : Goes e.machine q p
-  goes = subst (IsKept e.machine q) o.running (g.queries n q o.registered)
+  goes = subst (AreRemains e.machine q) o.running (g.queries n q o.registered)
 
   query : IsQuery e.machine.streams q
   query = subst (IsQuery e.machine.streams) (get_or_from_slice_get e.machine.queries n q q o.registered) ((queries_stand e.machine g.machine).each n q (slice_get_within e.machine.queries n q o.registered))

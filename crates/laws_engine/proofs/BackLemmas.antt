@@ -13,7 +13,7 @@ use Rattle.reference.specs.Machine.{Registered}
 use Rattle.laws_queries.specs.Queries.{PlainQuery, log_at, operator_at}
 use Rattle.laws_queries.specs.Steps.{IsFirst}
 use Rattle.run_queue.specs.declared.slots.Slot.{Slot}
-use Rattle.laws_engine.specs.Engines.{AreApart, Dropped, GoodEngine, HasSlots, IsIn, IsKept, IsLease, Kept, Lease, PlainEngine, Running, is_of, kept_at, query_at, slot_of}
+use Rattle.laws_engine.specs.Engines.{AreApart, AreRemains, Dropped, GoodEngine, HasSlots, IsIn, IsLease, Lease, PlainEngine, PlainRemains, Running, is_of, query_at, remains_at, slot_of}
 use Rattle.laws_engine.specs.Calls.{IsOf, given_back, others}
 use Rattle.laws_engine.proofs.PromiseLemmas.{is_slot}
 use Rattle.laws_engine.proofs.SlotLemmas.{AreNumbered, in_filter}
@@ -67,11 +67,11 @@ same_leased ls l n k h i ne = any_left (is_of n k) (λ a. not (a.number == l.num
     (λ g. let bad : not (a.number == l.number) ≡ true = ap not g in let worse : true ≡ false = sym bad ∙ f in absurd (cc)))
 
 -- THE QUERIES
-pub kept_here : (e : PlainEngine) (n : ℕ) (kept : Kept) → n < length e.queries → get_or (set e.queries n kept) n Dropped ≡ kept
-kept_here e n kept h = get_or-set_same e.queries n kept Dropped h
+pub remains_here : (e : PlainEngine) (n : ℕ) (remains : PlainRemains) → n < length e.queries → get_or (set e.queries n remains) n Dropped ≡ remains
+remains_here e n remains h = get_or-set_same e.queries n remains Dropped h
 
-pub kept_there : (e : PlainEngine) (n j : ℕ) (kept : Kept) → j ≢ n → get_or (set e.queries n kept) j Dropped ≡ get_or e.queries j Dropped
-kept_there e n j kept ne = get_or-set_other e.queries n j kept Dropped ne
+pub remains_there : (e : PlainEngine) (n j : ℕ) (remains : PlainRemains) → j ≢ n → get_or (set e.queries n remains) j Dropped ≡ get_or e.queries j Dropped
+remains_there e n j remains ne = get_or-set_other e.queries n j remains Dropped ne
 
 pub same_query : {a b : Registered} → Some a ≡ Some b → a ≡ b
 same_query e = cc
@@ -88,23 +88,23 @@ pub stays_same : (a b : PlainOperator) (log : Closed) → b ≡ a → FirstStays
 stays_same a b log e = record { state = ap (λ z. z.state) e; first = λ side i f. subst (λ z. IsFirst z log side i) (sym e) f }
 
 -- A QUERY'S OPERATORS CHANGE, and a turn of one comes back
-module _ (e : PlainEngine) (l : Lease) (q : Registered) (p p2 : PlainQuery) (g : GoodEngine e) (out : IsIn e.leases l) (of : IsOf e l q p) (goes : IsKept e.machine q (Running p2))
+module _ (e : PlainEngine) (l : Lease) (q : Registered) (p p2 : PlainQuery) (g : GoodEngine e) (out : IsIn e.leases l) (of : IsOf e l q p) (goes : AreRemains e.machine q (Running p2))
     (stays : (j : ℕ) → j ≢ l.operator → FirstStays (operator_at p.operators j) (operator_at p2.operators j) (log_at e.machine q j)) where
   e2 : PlainEngine
   e2 = given_back e l p2
 
-  here : kept_at e2 l.query ≡ Running p2
+  here : remains_at e2 l.query ≡ Running p2
   unfolding e2
-  here = kept_here e l.query (Running p2) (omega (arith, g.many, slice_get_within e.machine.queries l.query q of.registered))
+  here = remains_here e l.query (Running p2) (omega (arith, g.many, slice_get_within e.machine.queries l.query q of.registered))
 
-  back_queries : (n : ℕ) (r : Registered) → query_at e2 n ≡ Some r → IsKept e2.machine r (kept_at e2 n)
+  back_queries : (n : ℕ) (r : Registered) → query_at e2 n ≡ Some r → AreRemains e2.machine r (remains_at e2 n)
   unfolding e2
   back_queries n r at = by_test (n == l.query)
       (λ t.
       let same : n ≡ l.query = eqb-true n l.query t in
       let is : r ≡ q = same_query (sym at ∙ ap (query_at e) same ∙ of.registered) in
-      subst (λ z. IsKept e.machine r (kept_at (given_back e l p2) z)) (sym same) (subst (IsKept e.machine r) (sym here) (subst (λ z. IsKept e.machine z (Running p2)) (sym is) goes)))
-      (λ f. subst (IsKept e.machine r) (sym (kept_there e l.query n (Running p2) (λ z. absurd (let h : (n == l.query) ≡ true = eq-eqb n l.query z in cc)))) (g.queries n r at))
+      subst (λ z. AreRemains e.machine r (remains_at (given_back e l p2) z)) (sym same) (subst (AreRemains e.machine r) (sym here) (subst (λ z. AreRemains e.machine z (Running p2)) (sym is) goes)))
+      (λ f. subst (AreRemains e.machine r) (sym (remains_there e l.query n (Running p2) (λ z. absurd (let h : (n == l.query) ≡ true = eq-eqb n l.query z in cc)))) (g.queries n r at))
 
   back_lease : (a : Lease) → IsIn (others l.number e.leases) a → IsLease e2 a
   unfolding e2
@@ -115,26 +115,26 @@ module _ (e : PlainEngine) (l : Lease) (q : Registered) (p p2 : PlainQuery) (g :
       (λ t.
       let same : a.query ≡ l.query = eqb-true a.query l.query t in
       let sq : is.query ≡ q = same_query (sym is.registered ∙ ap (query_at e) same ∙ of.registered) in
-      let sp : is.kept ≡ p = same_plain (sym is.running ∙ ap (kept_at e) same ∙ of.running) in
+      let sp : is.plain ≡ p = same_plain (sym is.running ∙ ap (remains_at e) same ∙ of.running) in
       let ne : a.operator ≢ l.operator = ⊎_elim (λ d. absurd (d same)) (λ d. d) apart in
       let st = stays a.operator ne in
       record {
         numbered = is.numbered;
         query = q;
         registered = ap (query_at e) same ∙ of.registered;
-        kept = p2;
-        running = ap (kept_at (given_back e l p2)) same ∙ here;
+        plain = p2;
+        running = ap (remains_at (given_back e l p2)) same ∙ here;
         within = subst (λ z. a.operator < length z.nodes) sq is.within;
         first = st.first a.side a.item (subst (λ z. IsFirst (operator_at z.operators a.operator) (log_at e.machine q a.operator) a.side a.item) sp
-            (subst (λ z. IsFirst (operator_at is.kept.operators a.operator) (log_at e.machine z a.operator) a.side a.item) sq is.first));
+            (subst (λ z. IsFirst (operator_at is.plain.operators a.operator) (log_at e.machine z a.operator) a.side a.item) sq is.first));
         near = is.near ∙ ap (λ z. near_of (operator_at z.operators a.operator).state a.side a.item) sp ∙ ap (λ z. near_of z a.side a.item) (sym st.state);
       })
       (λ f. record {
         numbered = is.numbered;
         query = is.query;
         registered = is.registered;
-        kept = is.kept;
-        running = kept_there e l.query a.query (Running p2) (λ z. absurd (let h : (a.query == l.query) ≡ true = eq-eqb a.query l.query z in cc)) ∙ is.running;
+        plain = is.plain;
+        running = remains_there e l.query a.query (Running p2) (λ z. absurd (let h : (a.query == l.query) ≡ true = eq-eqb a.query l.query z in cc)) ∙ is.running;
         within = is.within;
         first = is.first;
         near = is.near;
@@ -148,7 +148,7 @@ module _ (e : PlainEngine) (l : Lease) (q : Registered) (p p2 : PlainQuery) (g :
     rows = g.rows;
     many = length-set e.queries l.query (Running p2) ∙ g.many;
     queries = back_queries;
-    leases = λ a i. let is = back_lease a i in record { numbered = is.numbered; query = is.query; registered = is.registered; kept = is.kept; running = is.running; within = is.within; first = is.first; near = is.near };
+    leases = λ a i. let is = back_lease a i in record { numbered = is.numbered; query = is.query; registered = is.registered; plain = is.plain; running = is.running; within = is.within; first = is.first; near = is.near };
     apart = left_apart _ e.leases g.apart;
     slots = h;
   }

@@ -16,9 +16,9 @@ use Rattle.laws_queries.specs.Machines.{IsMachine, IsQuery, QueriesStand, widths
 use Rattle.laws_queries.specs.Counts.{count}
 use Rattle.laws_queries.proofs.MachineCounts.{queries_stand}
 use Rattle.laws_queries.proofs.PlanCounts.{count_is, root_has_room}
-use Rattle.laws_engine.specs.Engines.{GoodEngine, HasGiven, PlainEngine, answers_in, kept_at, query_at}
+use Rattle.laws_engine.specs.Engines.{GoodEngine, HasGiven, PlainEngine, answers_in, query_at, remains_at}
 use Rattle.laws_engine.proofs.AppendedLemmas.{is_query}
-use Rattle.laws_engine.proofs.PromiseLemmas.{kept_given}
+use Rattle.laws_engine.proofs.PromiseLemmas.{remains_given}
 use Rattle.laws_engine.specs.Bounds.{HasFewEarlier, HaveFewClosed, instants}
 use Rattle.laws_engine.proofs.AnswerLemmas.{answers_are_few, answers_lie_below}
 use Rattle.laws_engine.proofs.InstantLemmas.{until_few}
@@ -61,10 +61,10 @@ module _ (e : PlainEngine) (n : ℕ) (q : Registered) (g : GoodEngine e) (closed
   inputs = map (input_at e.machine.streams q.first) q.places
 
   abbrev waiting : List (ℕ × Row)
-  waiting = answers_in (kept_at e n)
+  waiting = answers_in (remains_at e n)
 
   given : HasGiven e.machine q waiting
-  given = kept_given e.machine q (kept_at e n) (g.queries n q here)
+  given = remains_given e.machine q (remains_at e n) (g.queries n q here)
 
   until_is_few : until ≤ instants
   until_is_few = until_few e.machine.streams q.places closed.streams
@@ -82,7 +82,7 @@ module _ (e : PlainEngine) (n : ℕ) (q : Registered) (g : GoodEngine e) (closed
       (answers_lie_below q.meaning q.first q.start until (2 ^ 63) inputs (omega (arith, until_is_few)))
 
   -- the instants of what waits are small
-  pub waiting_signed : are_signed (answers_in (kept_at e n)) ≡ true
+  pub waiting_signed : are_signed (answers_in (remains_at e n)) ≡ true
   waiting_signed =
       all_signed waiting
       (each-right IsSigned given.taken waiting (each-left IsSigned (given.taken ++ waiting) given.rest (subst (AllByRecursion IsSigned) given.begins all_below)))
@@ -94,7 +94,7 @@ module _ (e : PlainEngine) (n : ℕ) (q : Registered) (g : GoodEngine e) (closed
   all_few = omega (arith, length-append q.earlier later, before.few, later_few, until_is_few)
 
   -- and few were taken and wait
-  pub taken_room : q.taken + length (answers_in (kept_at e n)) < 2 ^ 101
+  pub taken_room : q.taken + length (answers_in (remains_at e n)) < 2 ^ 101
   taken_room =
       omega (
         arith,

@@ -31,7 +31,7 @@ use Rattle.laws_queries.proofs.MachineCounts.{machines_stand}
 use Rattle.laws_queries.proofs.QueryLemmas.{same_count}
 use Rattle.laws_queries.proofs.RowLemmas.{rows_stand}
 use Rattle.run_queue.specs.Slots.{slot}
-use Rattle.laws_engine.specs.Engines.{Broken, Dropped, GoodEngine, HasGiven, IsKept, IsLease, Kept, Lease, PlainEngine, Running, is_leased, kept_at, query_at, slope_at, slot_in, slot_of}
+use Rattle.laws_engine.specs.Engines.{AreRemains, Broken, Dropped, GoodEngine, HasGiven, IsLease, Lease, PlainEngine, PlainRemains, Running, is_leased, query_at, remains_at, slope_at, slot_in, slot_of}
 use Rattle.laws_engine.specs.Calls.{declared}
 use Rattle.laws_engine.proofs.AppendedLemmas.{is_query}
 use Rattle.laws_engine.proofs.TakeLemmas.{equal_slots}
@@ -130,8 +130,8 @@ module _ (m : Machine) (ts : List Stream) (q : Registered) (is : IsQuery m.strea
   given_left : (waiting : List (ℕ × Row)) → HasGiven m q waiting → HasGiven (record m { streams = m.streams ++ ts }) q waiting
   given_left waiting g = record { taken = g.taken; counted = g.counted; rest = g.rest; begins = closed_left ∙ g.begins }
 
-  pub kept_left : (kept : Kept) → IsKept m q kept → IsKept (record m { streams = m.streams ++ ts }) q kept
-  kept_left (Running p) g = record {
+  pub remains_left : (remains : PlainRemains) → AreRemains m q remains → AreRemains (record m { streams = m.streams ++ ts }) q remains
+  remains_left (Running p) g = record {
     widths = g.widths;
     sources = λ k s kc e. g.sources k s kc e ∙ sym (ap (λ o. option_map_or (λ t. length t.columns) o 0) (left_stream m.streams ts (place_of q s).stream (source_there s)));
     taken = g.taken;
@@ -143,8 +143,8 @@ module _ (m : Machine) (ts : List Stream) (q : Registered) (is : IsQuery m.strea
           (runs_left (widths_of m.streams q) g.widths p.operators (g.taken ++ p.answers) g.runs.runs);
     };
   }
-  kept_left (Broken answers) g = given_left answers g
-  kept_left Dropped g = given_left [] g
+  remains_left (Broken answers) g = given_left answers g
+  remains_left Dropped g = given_left [] g
 
 -- A DECLARATION
 module _ (e : PlainEngine) (name : List ℕ) (columns : List (List ℕ)) (start : ℤ) (g : GoodEngine e) (accepted : first_fault e.machine (Declare name columns start) ≡ None) where
@@ -153,16 +153,16 @@ module _ (e : PlainEngine) (name : List ℕ) (columns : List (List ℕ)) (start 
     numbered = is.numbered;
     query = is.query;
     registered = is.registered;
-    kept = is.kept;
+    plain = is.plain;
     running = is.running;
     within = is.within;
-    first = subst (λ z. IsFirst (operator_at is.kept.operators a.operator) z a.side a.item)
+    first = subst (λ z. IsFirst (operator_at is.plain.operators a.operator) z a.side a.item)
         (sym (logs_left e.machine (record { name = name; columns = columns; elements = []; arrivals = 0; first_open = nat_abs start } ∷ []) is.query (is_query e g a.query is.query is.registered) a.operator)) is.first;
     near = is.near;
   }
 
-  declared_slot : (n k : ℕ) (o : Option Registered) (kept : Kept) → query_at e n ≡ o → slot_in (declared e name columns start) n k o kept ≡ slot_in e n k o kept
-  declared_slot n k None kept r = refl
+  declared_slot : (n k : ℕ) (o : Option Registered) (remains : PlainRemains) → query_at e n ≡ o → slot_in (declared e name columns start) n k o remains ≡ slot_in e n k o remains
+  declared_slot n k None remains r = refl
   declared_slot n k (Some q) (Running p) r =
       ap (λ x. cond (nat_lt k (length q.nodes)) (Some (slot (slope_at q k) (cond (is_leased e n k) None (option_map (λ z. z.1) (ready (operator_at p.operators k) x))) n k)) None)
       (logs_left e.machine (record { name = name; columns = columns; elements = []; arrivals = 0; first_open = nat_abs start } ∷ []) q (is_query e g n q r) k)
@@ -174,8 +174,8 @@ module _ (e : PlainEngine) (name : List ℕ) (columns : List (List ℕ)) (start 
     machine = machines_stand.goes_on e.machine (Declare name columns start) 0 accepted g.machine;
     rows = rows_stand.goes_on e.machine (Declare name columns start) 0 accepted g.rows;
     many = g.many;
-    queries = λ n q r. kept_left e.machine (record { name = name; columns = columns; elements = []; arrivals = 0; first_open = nat_abs start } ∷ []) q (is_query e g n q r) (kept_at e n) (g.queries n q r);
+    queries = λ n q r. remains_left e.machine (record { name = name; columns = columns; elements = []; arrivals = 0; first_open = nat_abs start } ∷ []) q (is_query e g n q r) (remains_at e n) (g.queries n q r);
     leases = λ a i. declared_lease a (g.leases a i);
     apart = g.apart;
-    slots = equal_slots (slot_of e) (slot_of (declared e name columns start)) e.slots (λ n k. declared_slot n k (query_at e n) (kept_at e n) refl) g.slots;
+    slots = equal_slots (slot_of e) (slot_of (declared e name columns start)) e.slots (λ n k. declared_slot n k (query_at e n) (remains_at e n) refl) g.slots;
   }

@@ -28,9 +28,9 @@ use Rattle.laws_queries.proofs.MachineCounts.{queries_stand}
 use Rattle.laws_queries.proofs.NodeLemmas.{roots_run, turns_run}
 use Rattle.laws_queries.proofs.WireLemmas.{Wired, wired}
 use Rattle.run_queue.specs.declared.slots.Slot.{Slot}
-use Rattle.laws_engine.specs.Engines.{Dropped, Goes, GoodEngine, HasSlots, IsIn, IsKept, IsLease, Lease, PlainEngine, Running, instant_at, kept_at, query_at, slot_at, slot_in, slot_of}
-use Rattle.laws_engine.specs.Calls.{IsAnsweredTurn, IsFinishedTurn, IsOf, abandoned, answered, finished, given_back, others, retold}
-use Rattle.laws_engine.proofs.BackLemmas.{FirstStays, back_good, kept_here, kept_there, numbered, same_leased, same_plain, same_query, stays_same}
+use Rattle.laws_engine.specs.Engines.{AreRemains, Dropped, Goes, GoodEngine, HasSlots, IsIn, IsLease, Lease, PlainEngine, Running, instant_at, query_at, remains_at, slot_at, slot_in, slot_of}
+use Rattle.laws_engine.specs.Calls.{IsAnsweredTurn, IsFinishedTurn, IsOf, abandoned, answered, finished, given_back, others, slot_updated}
+use Rattle.laws_engine.proofs.BackLemmas.{FirstStays, back_good, numbered, remains_here, remains_there, same_leased, same_plain, same_query, stays_same}
 use Rattle.laws_engine.proofs.PromiseLemmas.{slot_is}
 use Rattle.laws_engine.proofs.SlotLemmas.{changed_slots, numbers}
 use Rattle.laws_engine.proofs.TableLemmas.{running_slot, same_slot_at, same_slot_in, updated, updated_here, updated_numbered, updated_there}
@@ -39,7 +39,7 @@ use Rattle.laws_engine.proofs.TableLemmas.{running_slot, same_slot_at, same_slot
 pub lease_first : (e : PlainEngine) (l : Lease) (q : Registered) (p : PlainQuery) → IsLease e l → IsOf e l q p → IsFirst (operator_at p.operators l.operator) (log_at e.machine q l.operator) l.side l.item
 lease_first e l q p is of =
     subst (λ z. IsFirst (operator_at z.operators l.operator) (log_at e.machine q l.operator) l.side l.item) (same_plain (sym is.running ∙ of.running))
-    (subst (λ z. IsFirst (operator_at is.kept.operators l.operator) (log_at e.machine z l.operator) l.side l.item) (same_query (sym is.registered ∙ of.registered)) is.first)
+    (subst (λ z. IsFirst (operator_at is.plain.operators l.operator) (log_at e.machine z l.operator) l.side l.item) (same_query (sym is.registered ∙ of.registered)) is.first)
 
 -- WHAT IS FED stands behind what waits
 queued_is : (i : Inbox) (log : Closed) → is_fed i ≡ true → entries_in i log ≡ queued i
@@ -80,16 +80,16 @@ module _ (e : PlainEngine) (l : Lease) (q : Registered) (p p2 : PlainQuery) (g :
   e2 : PlainEngine
   e2 = given_back e l p2
 
-  here : kept_at e2 l.query ≡ Running p2
+  here : remains_at e2 l.query ≡ Running p2
   unfolding e2
-  here = kept_here e l.query (Running p2) (omega (arith, g.many, slice_get_within e.machine.queries l.query q of.registered))
+  here = remains_here e l.query (Running p2) (omega (arith, g.many, slice_get_within e.machine.queries l.query q of.registered))
 
   -- of another query
   other_query : (n k : ℕ) → n ≢ l.query → slot_of e2 n k ≡ slot_of e n k
   unfolding e2
   other_query n k ne =
-      ap (slot_in (given_back e l p2) n k (query_at e n)) (kept_there e l.query n (Running p2) ne)
-      ∙ same_slot_in e (set e.queries l.query (Running p2)) (others l.number e.leases) e.next e.slots n k (same_leased e.leases l n k g.apart out (inl ne)) (query_at e n) (kept_at e n)
+      ap (slot_in (given_back e l p2) n k (query_at e n)) (remains_there e l.query n (Running p2) ne)
+      ∙ same_slot_in e (set e.queries l.query (Running p2)) (others l.number e.leases) e.next e.slots n k (same_leased e.leases l n k g.apart out (inl ne)) (query_at e n) (remains_at e n)
 
   -- of another operator that is as it was
   other_slot : (k : ℕ) → k ≢ l.operator → operator_at p2.operators k ≡ operator_at p.operators k → slot_of e2 l.query k ≡ slot_of e l.query k
@@ -112,7 +112,7 @@ module _ (e : PlainEngine) (l : Lease) (q : Registered) (p p2 : PlainQuery) (g :
       (λ f. other_query n k (λ z. absurd (let h : (n == l.query) ≡ true = eq-eqb n l.query z in cc)))
 
   -- one of them
-  pub one_slot : ((k : ℕ) → k ≢ l.operator → operator_at p2.operators k ≡ operator_at p.operators k) → HasSlots (slot_of (given_back e l p2)) (retold e (given_back e l p2) l.query q p p2 l.operator e.slots)
+  pub one_slot : ((k : ℕ) → k ≢ l.operator → operator_at p2.operators k ≡ operator_at p.operators k) → HasSlots (slot_of (given_back e l p2)) (slot_updated e (given_back e l p2) l.query q p p2 l.operator e.slots)
   unfolding e2
   one_slot o = changed_slots (slot_of e) (slot_of (given_back e l p2)) e.slots (slot_at e l.query q p l.operator) (instant_at (given_back e l p2) l.query q p2 l.operator) g.slots (numbered e)
       (slot_is e l.query l.operator q p of.registered of.running of.within) (slot_here l.operator of.within)
@@ -120,15 +120,15 @@ module _ (e : PlainEngine) (l : Lease) (q : Registered) (p p2 : PlainQuery) (g :
 
   -- and the one that it feeds
   pub two_slots : (to : ℕ) → to < length q.nodes → to ≢ l.operator → ((k : ℕ) → k ≢ l.operator → k ≢ to → operator_at p2.operators k ≡ operator_at p.operators k)
-      → HasSlots (slot_of (given_back e l p2)) (retold e (given_back e l p2) l.query q p p2 to (retold e (given_back e l p2) l.query q p p2 l.operator e.slots))
+      → HasSlots (slot_of (given_back e l p2)) (slot_updated e (given_back e l p2) l.query q p p2 to (slot_updated e (given_back e l p2) l.query q p p2 l.operator e.slots))
   unfolding e2
   two_slots to within apart o =
       let new : Slot = slot_at (given_back e l p2) l.query q p2 l.operator in
       let table : ℕ → ℕ → Option Slot = updated (slot_of e) l.query l.operator new in
-      let one : HasSlots table (retold e (given_back e l p2) l.query q p p2 l.operator e.slots) =
+      let one : HasSlots table (slot_updated e (given_back e l p2) l.query q p p2 l.operator e.slots) =
       changed_slots (slot_of e) table e.slots (slot_at e l.query q p l.operator) (instant_at (given_back e l p2) l.query q p2 l.operator) g.slots (numbered e)
       (slot_is e l.query l.operator q p of.registered of.running of.within) (updated_here (slot_of e) l.query l.operator new) (λ n k ne. updated_there (slot_of e) l.query l.operator new n k ne) in
-      changed_slots table (slot_of (given_back e l p2)) (retold e (given_back e l p2) l.query q p p2 l.operator e.slots) (slot_at e l.query q p to) (instant_at (given_back e l p2) l.query q p2 to) one
+      changed_slots table (slot_of (given_back e l p2)) (slot_updated e (given_back e l p2) l.query q p p2 l.operator e.slots) (slot_at e l.query q p to) (instant_at (given_back e l p2) l.query q p2 to) one
       (updated_numbered (slot_of e) l.query l.operator new refl refl (numbered e))
       (updated_there (slot_of e) l.query l.operator new l.query to (inr apart) ∙ slot_is e l.query to q p of.registered of.running within) (slot_here to within)
       (λ n k ne. ⊎_elim
@@ -140,7 +140,7 @@ module _ (e : PlainEngine) (l : Lease) (q : Registered) (p p2 : PlainQuery) (g :
 -- A FINISHED TURN below the root
 pub finish_good : (e : PlainEngine) (l : Lease) (q : Registered) (p p2 : PlainQuery) → GoodEngine e → IsIn e.leases l → IsFinishedTurn e l q p p2 → GoodEngine (finished e l q p p2)
 finish_good e l q p p2 g out t =
-    let goes : Goes e.machine q p = subst (IsKept e.machine q) t.of.running (g.queries l.query q t.of.registered) in
+    let goes : Goes e.machine q p = subst (AreRemains e.machine q) t.of.running (g.queries l.query q t.of.registered) in
     let first = lease_first e l q p (g.leases l out) t.of in
     let turns : TurnsRun (widths_of e.machine.streams q) goes.widths e.machine q = turns_run (widths_of e.machine.streams q) goes.widths e.machine q (query_bounded e g l.query q t.of.registered) in
     let fed : MayFeed (operator_at p.operators (wire_from 0 q.nodes l.operator).to) (wire_from 0 q.nodes l.operator).side t.outs =
@@ -171,7 +171,7 @@ finish_good e l q p p2 g out t =
 -- A FINISHED TURN of the root
 pub answer_good : (e : PlainEngine) (l : Lease) (q : Registered) (p p2 : PlainQuery) → GoodEngine e → IsIn e.leases l → IsAnsweredTurn e l q p p2 → GoodEngine (answered e l q p p2)
 answer_good e l q p p2 g out t =
-    let goes : Goes e.machine q p = subst (IsKept e.machine q) t.of.running (g.queries l.query q t.of.registered) in
+    let goes : Goes e.machine q p = subst (AreRemains e.machine q) t.of.running (g.queries l.query q t.of.registered) in
     let first0 = lease_first e l q p (g.leases l out) t.of in
     let root : ℕ = below_root q.nodes in
     let first : IsFirst (operator_at p.operators root) (log_at e.machine q root) l.side l.item = subst (λ k. IsFirst (operator_at p.operators k) (log_at e.machine q k) l.side l.item) t.root first0 in
@@ -195,7 +195,7 @@ answer_good e l q p p2 g out t =
 -- AN ABANDONED TURN
 pub abandon_good : (e : PlainEngine) (l : Lease) (q : Registered) (p : PlainQuery) → GoodEngine e → IsIn e.leases l → IsOf e l q p → GoodEngine (abandoned e l q p)
 abandon_good e l q p g out of =
-    let goes : Goes e.machine q p = subst (IsKept e.machine q) of.running (g.queries l.query q of.registered) in
+    let goes : Goes e.machine q p = subst (AreRemains e.machine q) of.running (g.queries l.query q of.registered) in
     let same : set e.queries l.query (Running p) ≡ e.queries = ap (set e.queries l.query) (sym of.running) ∙ set-get_or e.queries l.query Dropped in
     let good : GoodEngine (answered e l q p p) =
     back_good e l q p p g out of goes (λ j ne. stays_same (operator_at p.operators j) (operator_at p.operators j) (log_at e.machine q j) refl) _ (one_slot e l q p p g out of (λ k ne. refl)) in
@@ -204,5 +204,5 @@ abandon_good e l q p g out of =
       queries = z;
       leases = others l.number e.leases;
       next = e.next;
-      slots = retold e (record { machine = e.machine; queries = z; leases = others l.number e.leases; next = e.next; slots = e.slots }) l.query q p p l.operator e.slots;
+      slots = slot_updated e (record { machine = e.machine; queries = z; leases = others l.number e.leases; next = e.next; slots = e.slots }) l.query q p p l.operator e.slots;
     })) same good

@@ -7,16 +7,16 @@ use Rattle.laws_dataflow.specs.Queries.{behind}
 use Rattle.reference.specs.Machine.{Registered}
 use Rattle.operators.specs.declared.states.State.TheVariants as state
 use Rattle.laws_queries.specs.Queries.{PlainQuery, operator_at}
-use Rattle.laws_engine.specs.Engines.{Dropped, GoodEngine, Goes, Kept, PlainEngine, Running, kept_at, query_at}
+use Rattle.laws_engine.specs.Engines.{Dropped, GoodEngine, Goes, PlainRemains, PlainEngine, Running, remains_at, query_at}
 use Rattle.laws_engine.specs.Openings.{forgotten, last_in, mark_in, marks_by, next_of}
 use Rattle.laws_engine.proofs.OpenedLemmas.{Marked, goes, opened_good}
 
-pub length-marks : (qs : List Registered) (ks : List Kept) → length (marks_by qs ks) ≡ length qs
+pub length-marks : (qs : List Registered) (ks : List PlainRemains) → length (marks_by qs ks) ≡ length qs
 length-marks [] ks = refl
 length-marks (q ∷ qs) [] = ap suc (length-marks qs [])
 length-marks (q ∷ qs) (k ∷ ks) = ap suc (length-marks qs ks)
 
-pub marks_at : (qs : List Registered) (ks : List Kept) (n : ℕ) (q : Registered) → slice_get qs n ≡ Some q → slice_get (marks_by qs ks) n ≡ Some (mark_in q (get_or ks n Dropped))
+pub marks_at : (qs : List Registered) (ks : List PlainRemains) (n : ℕ) (q : Registered) → slice_get qs n ≡ Some q → slice_get (marks_by qs ks) n ≡ Some (mark_in q (get_or ks n Dropped))
 marks_at [] ks n q h = absurd (cc)
 marks_at (p ∷ qs) [] zero q h = refl
 marks_at (p ∷ qs) [] (suc n) q h = marks_at qs [] n q h

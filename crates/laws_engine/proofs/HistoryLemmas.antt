@@ -8,10 +8,10 @@ use Rattle.laws_queries.proofs.RowLemmas.{rows_stand}
 use Rattle.laws_queries.specs.Queries.{PlainQuery}
 use Rattle.run_queue.specs.Slots.{slot_cmp}
 use Rattle.laws_engine.specs.Engines.{GoodEngine, IsIn, Lease, PlainEngine}
-use Rattle.laws_engine.specs.Histories.{Abandons, Breaks, Call, ComesBack, Finishes, IsStep, IsTold, LeadTo, Leases, Stays, Told, empty}
+use Rattle.laws_engine.specs.Histories.{Abandons, Breaks, Call, ComesBack, Finishes, IsCallStep, IsCommandStep, LeadTo, Leases, Stays, Told, empty}
 use Rattle.laws_engine.specs.Promises.{KeepsItsPromises}
 use Rattle.laws_engine.proofs.AppendedLemmas.{append_good}
-use Rattle.laws_engine.proofs.BeatenLemmas.{heartbeat_good}
+use Rattle.laws_engine.proofs.HeartbeatLemmas.{heartbeat_good}
 use Rattle.laws_engine.proofs.DeclaredLemmas.{declare_good}
 use Rattle.laws_engine.proofs.DropLemmas.{drop_good}
 use Rattle.laws_engine.proofs.FinishLemmas.{abandon_good, answer_good, finish_good}
@@ -35,7 +35,7 @@ empty_good = record {
   slots = record { ordered = no_slots; there = λ n k s t. absurd (cc); only = λ s i. absurd i };
 }
 
-told_good : (e e2 : PlainEngine) (c : Command) → GoodEngine e → IsTold e c e2 → GoodEngine e2
+told_good : (e e2 : PlainEngine) (c : Command) → GoodEngine e → IsCommandStep e c e2 → GoodEngine e2
 told_good e e2 (Declare name columns start) g t = subst GoodEngine (sym t.1) (declare_good e name columns start g t.0)
 told_good e e2 (Register name text chart) g t = subst GoodEngine (sym t.1.1.1) (register_good e t.0 t.1.0 name text chart g t.1.1.0)
 told_good e e2 (Append s rows) g t = subst GoodEngine (sym t.1) (append_good e s rows g t.0)
@@ -47,7 +47,7 @@ comes_good : (e e2 : PlainEngine) (l : Lease) (q : Registered) (p p2 : PlainQuer
 comes_good e e2 l q p p2 g out (inl t) = subst GoodEngine (sym t.1) (finish_good e l q p p2 g out t.0)
 comes_good e e2 l q p p2 g out (inr t) = subst GoodEngine (sym t.1) (answer_good e l q p p2 g out t.0)
 
-pub step_good : (e e2 : PlainEngine) (c : Call) → GoodEngine e → IsStep e c e2 → GoodEngine e2
+pub step_good : (e e2 : PlainEngine) (c : Call) → GoodEngine e → IsCallStep e c e2 → GoodEngine e2
 step_good e e2 (Told c) g t = told_good e e2 c g t
 step_good e e2 (Leases l) g t = subst GoodEngine (sym t.1.1.1.1) (lease_good e l t.0 t.1.0 t.1.1.0 g t.1.1.1.0)
 step_good e e2 (Finishes l) g t = comes_good e e2 l t.1.0 t.1.1.0 t.1.1.1.0 g t.0 t.1.1.1.1

@@ -13,7 +13,7 @@ behind (suc n) [] ys e = absurd (omega (arith, e))
 behind (suc n) (x ∷ xs) ys e = behind n xs ys (omega (arith, e))
 
 pub idle_waits : (e : PlainEngine) → GoodEngine e → first_of e.slots ≡ None → HasAllWaiting e
-idle_waits e g none n q p r kept returned =
+idle_waits e g none n q p r remains returned =
     let promises : KeepsItsPromises e = keeps_its_promises e g in
-    let h : HasGivenAll e q p = promises.all n q p r kept (record { unready = λ k within. promises.idle none n k q p r kept within; returned = returned }) in
+    let h : HasGivenAll e q p = promises.all n q p r remains (record { unready = λ k within. promises.idle none n k q p r remains within; returned = returned }) in
     sym (behind q.taken h.taken p.answers h.counted) ∙ ap (drop q.taken) h.all

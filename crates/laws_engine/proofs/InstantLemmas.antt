@@ -40,9 +40,9 @@ declared_few m name columns start e =
     let few : suc (nat_abs start) ≤ instants = instant_few start (was_true (is_instant start) (none_first (not (is_instant start)) InstantRange many three)) in
     omega (arith, few)
 
-beaten_few : (at : ℤ) (o : Option Stream) (s : Stream) → of_stream (λ s. heartbeat_tests s at) o ≡ None → o ≡ Some s → suc (nat_abs at) ≤ instants
-beaten_few at None s h e = absurd (cc)
-beaten_few at (Some s2) s h e =
+heartbeat_few : (at : ℤ) (o : Option Stream) (s : Stream) → of_stream (λ s. heartbeat_tests s at) o ≡ None → o ≡ Some s → suc (nat_abs at) ≤ instants
+heartbeat_few at None s h e = absurd (cc)
+heartbeat_few at (Some s2) s h e =
     let rest : List (Bool × Fault) = (int_lt at (pos s2.first_open), Backward) ∷ (int_le (pos s2.first_open +ℤ MAX_LEAP) at, Leap) ∷ [] in
     instant_few at (was_true (is_instant at) (none_first (not (is_instant at)) InstantRange rest h))
 
@@ -79,7 +79,7 @@ few_after m (Declare name columns start) count e h = record {
 few_after m (Register name source given) count e h = registered_few m name (found m source given) h
 few_after m (Append n rows) count e h = record { streams = changed_each (appended rows) n m.streams (λ s is i. record { few = i.few }) h.streams; queries = h.queries }
 few_after m (Heartbeat n at) count e h = record {
-  streams = changed_each (closed_to at) n m.streams (λ s is i. record { few = beaten_few at (slice_get m.streams n) s e is }) h.streams;
+  streams = changed_each (closed_to at) n m.streams (λ s is i. record { few = heartbeat_few at (slice_get m.streams n) s e is }) h.streams;
   queries = h.queries;
 }
 few_after m (Take n limit) count e h = record { streams = h.streams; queries = told_each (took count) n m.queries (λ q i. record { early = i.early; few = i.few }) h.queries }

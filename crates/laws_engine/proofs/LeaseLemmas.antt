@@ -7,11 +7,11 @@ use Rattle.plan.proofs.Lists.{by_test}
 use Rattle.reference.specs.Machine.{Registered}
 use Rattle.laws_queries.specs.Queries.{PlainQuery}
 use Rattle.run_queue.specs.declared.slots.Slot.{Slot}
-use Rattle.laws_engine.specs.Engines.{AreApart, Broken, Goes, GoodEngine, HasGiven, HasSlots, IsIn, IsKept, IsLease, Lease, PlainEngine, Running, instant_at, is_leased, is_of, kept_at, query_at, slot_at, slot_in, slot_of}
+use Rattle.laws_engine.specs.Engines.{AreApart, AreRemains, Broken, Goes, GoodEngine, HasGiven, HasSlots, IsIn, IsLease, Lease, PlainEngine, Running, instant_at, is_leased, is_of, query_at, remains_at, slot_at, slot_in, slot_of}
 use Rattle.laws_engine.specs.Promises.{IsOfSteepest}
-use Rattle.laws_engine.specs.Calls.{IsLeasable, broken, given_out, leased, of_others, retold}
-use Rattle.laws_engine.proofs.BackLemmas.{kept_here, kept_there, left_apart, numbered, same_query, unequal}
-use Rattle.laws_engine.proofs.PromiseLemmas.{kept_given, keeps_its_promises, slot_is}
+use Rattle.laws_engine.specs.Calls.{IsLeasable, broken, given_out, leased, of_others, slot_updated}
+use Rattle.laws_engine.proofs.BackLemmas.{left_apart, numbered, remains_here, remains_there, same_query, unequal}
+use Rattle.laws_engine.proofs.PromiseLemmas.{remains_given, keeps_its_promises, slot_is}
 use Rattle.laws_engine.proofs.SlotLemmas.{changed_slots, in_filter, left_slots}
 use Rattle.laws_engine.proofs.TableLemmas.{same_slot_in}
 
@@ -76,7 +76,7 @@ module _ (e : PlainEngine) (l : Lease) (q : Registered) (p : PlainQuery) (s : Sl
     numbered = omega (arith, h.number);
     query = q;
     registered = h.of.registered;
-    kept = p;
+    plain = p;
     running = h.of.running;
     within = h.of.within;
     first = h.item;
@@ -84,12 +84,12 @@ module _ (e : PlainEngine) (l : Lease) (q : Registered) (p : PlainQuery) (s : Sl
   }
 
   old_lease : (a : Lease) → IsLease e a → IsLease (leased e l q p) a
-  old_lease a is = record { numbered = omega (arith, is.numbered); query = is.query; registered = is.registered; kept = is.kept; running = is.running; within = is.within; first = is.first; near = is.near }
+  old_lease a is = record { numbered = omega (arith, is.numbered); query = is.query; registered = is.registered; plain = is.plain; running = is.running; within = is.within; first = is.first; near = is.near }
 
-  out_slots : HasSlots (slot_of (given_out e l)) (retold e (given_out e l) l.query q p p l.operator e.slots)
+  out_slots : HasSlots (slot_of (given_out e l)) (slot_updated e (given_out e l) l.query q p p l.operator e.slots)
   out_slots = changed_slots (slot_of e) (slot_of (given_out e l)) e.slots (slot_at e l.query q p l.operator) (instant_at (given_out e l) l.query q p l.operator) g.slots (numbered e)
       (slot_is e l.query l.operator q p h.of.registered h.of.running h.of.within) (slot_is (given_out e l) l.query l.operator q p h.of.registered h.of.running h.of.within)
-      (λ n k ne. same_slot_in e e.queries (e.leases ++ l ∷ []) (e.next + 1) e.slots n k (any_push (is_of n k) e.leases l (is_of_other n k l ne)) (query_at e n) (kept_at e n))
+      (λ n k ne. same_slot_in e e.queries (e.leases ++ l ∷ []) (e.next + 1) e.slots n k (any_push (is_of n k) e.leases l (is_of_other n k l ne)) (query_at e n) (remains_at e n))
 
   pub lease_good : GoodEngine (leased e l q p)
   lease_good = record {
@@ -116,11 +116,11 @@ any_of_others n k j (x ∷ ls) ne = by_test (x.query == n)
     (λ t. let f : is_of k j x ≡ false = is_of_other k j x (inl (λ z. ne (z ∙ eqb-true x.query n t))) in rw (t, f) (any_of_others n k j ls ne))
     (λ f. rw f (ap (λ b. is_of k j x || b) (any_of_others n k j ls ne)))
 
-pub break_good : (e : PlainEngine) (n : ℕ) (q : Registered) (p : PlainQuery) → GoodEngine e → query_at e n ≡ Some q → kept_at e n ≡ Running p → GoodEngine (broken e n p)
+pub break_good : (e : PlainEngine) (n : ℕ) (q : Registered) (p : PlainQuery) → GoodEngine e → query_at e n ≡ Some q → remains_at e n ≡ Running p → GoodEngine (broken e n p)
 break_good e n q p g registered running =
     let few : n < length e.queries = omega (arith, g.many, slice_get_within e.machine.queries n q registered) in
-    let goes : Goes e.machine q p = subst (IsKept e.machine q) running (g.queries n q registered) in
-    let here : kept_at (broken e n p) n ≡ Broken p.answers = kept_here e n (Broken p.answers) few in
+    let goes : Goes e.machine q p = subst (AreRemains e.machine q) running (g.queries n q registered) in
+    let here : remains_at (broken e n p) n ≡ Broken p.answers = remains_here e n (Broken p.answers) few in
     let far : (j : ℕ) → (j == n) ≡ false → j ≢ n = λ j f z. absurd (let h : (j == n) ≡ true = eq-eqb j n z in cc) in
     record {
       machine = g.machine;
@@ -129,21 +129,21 @@ break_good e n q p g registered running =
       queries = λ j r at. by_test (j == n)
           (λ t. let same : j ≡ n = eqb-true j n t in
           let is : q ≡ r = same_query (sym registered ∙ ap (query_at e) (sym same) ∙ at) in
-          subst (λ z. IsKept e.machine r (kept_at (broken e n p) z)) (sym same) (subst (IsKept e.machine r) (sym here) (subst (λ z. HasGiven e.machine z p.answers) is (kept_given e.machine q (Running p) goes))))
-          (λ f. subst (IsKept e.machine r) (sym (kept_there e n j (Broken p.answers) (far j f))) (g.queries j r at));
+          subst (λ z. AreRemains e.machine r (remains_at (broken e n p) z)) (sym same) (subst (AreRemains e.machine r) (sym here) (subst (λ z. HasGiven e.machine z p.answers) is (remains_given e.machine q (Running p) goes))))
+          (λ f. subst (AreRemains e.machine r) (sym (remains_there e n j (Broken p.answers) (far j f))) (g.queries j r at));
       leases = λ a i. let is : IsLease e a = g.leases a (in_filter _ e.leases a i).0 in record {
         numbered = is.numbered;
         query = is.query;
         registered = is.registered;
-        kept = is.kept;
-        running = kept_there e n a.query (Broken p.answers) (other_turn n e.leases a i) ∙ is.running;
+        plain = is.plain;
+        running = remains_there e n a.query (Broken p.answers) (other_turn n e.leases a i) ∙ is.running;
         within = is.within;
         first = is.first;
         near = is.near;
       };
       apart = left_apart _ e.leases g.apart;
       slots = left_slots (slot_of e) (slot_of (broken e n p)) e.slots n g.slots (numbered e)
-          (λ k. ap (λ z. slot_in (broken e n p) n k z (kept_at (broken e n p) n)) registered ∙ ap (slot_in (broken e n p) n k (Some q)) here)
-          (λ j k ne. ap (slot_in (broken e n p) j k (query_at e j)) (kept_there e n j (Broken p.answers) ne)
-          ∙ same_slot_in e (set e.queries n (Broken p.answers)) (of_others n e.leases) e.next e.slots j k (any_of_others n j k e.leases ne) (query_at e j) (kept_at e j));
+          (λ k. ap (λ z. slot_in (broken e n p) n k z (remains_at (broken e n p) n)) registered ∙ ap (slot_in (broken e n p) n k (Some q)) here)
+          (λ j k ne. ap (slot_in (broken e n p) j k (query_at e j)) (remains_there e n j (Broken p.answers) ne)
+          ∙ same_slot_in e (set e.queries n (Broken p.answers)) (of_others n e.leases) e.next e.slots j k (any_of_others n j k e.leases ne) (query_at e j) (remains_at e j));
     }

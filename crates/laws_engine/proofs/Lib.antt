@@ -9,7 +9,7 @@ pub mod TakeLemmas
 pub mod DropLemmas
 pub mod StreamLemmas
 pub mod AppendedLemmas
-pub mod BeatenLemmas
+pub mod HeartbeatLemmas
 pub mod DeclaredLemmas
 pub mod RegisteredLemmas
 pub mod HistoryLemmas

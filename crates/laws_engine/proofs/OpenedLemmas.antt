@@ -27,7 +27,7 @@ use Rattle.laws_queries.proofs.ForgetLemmas.{forgetting_runs, kept_stream, strea
 use Rattle.laws_queries.proofs.HeartbeatLemmas.{input_at_source}
 use Rattle.laws_queries.proofs.MachineCounts.{queries_stand}
 use Rattle.run_queue.specs.Slots.{slot}
-use Rattle.laws_engine.specs.Engines.{Broken, Dropped, GoodEngine, Goes, HasGiven, IsIn, IsKept, IsLease, Kept, Lease, PlainEngine, Running, answers_in, is_leased, kept_at, query_at, slope_at, slot_in, slot_of}
+use Rattle.laws_engine.specs.Engines.{Broken, Dropped, GoodEngine, Goes, HasGiven, IsIn, AreRemains, IsLease, PlainRemains, Lease, PlainEngine, Running, answers_in, is_leased, remains_at, query_at, slope_at, slot_in, slot_of}
 use Rattle.laws_engine.specs.Openings.{opened}
 use Rattle.laws_engine.proofs.AppendedLemmas.{is_query}
 use Rattle.laws_engine.proofs.TakeLemmas.{equal_slots}
@@ -82,7 +82,7 @@ length-restarted (q ∷ qs) [] ws = refl
 length-restarted (q ∷ qs) (m ∷ marks) [] = refl
 length-restarted (q ∷ qs) (m ∷ marks) (w ∷ ws) = ap suc (length-restarted qs marks ws)
 
-pub waits_at : (ks : List Kept) (n : ℕ) → get_or (map answers_in ks) n [] ≡ answers_in (get_or ks n Dropped)
+pub waits_at : (ks : List PlainRemains) (n : ℕ) → get_or (map answers_in ks) n [] ≡ answers_in (get_or ks n Dropped)
 waits_at [] n = refl
 waits_at (k ∷ ks) zero = refl
 waits_at (k ∷ ks) (suc n) = waits_at ks n
@@ -172,11 +172,11 @@ module _ (keep : ℕ → Element → Bool) where
 
 -- THE ENGINE
 module _ (e : PlainEngine) (g : GoodEngine e) (marks : List (Option ℕ)) (long : length marks ≡ length e.machine.queries) where
-  pub goes : (n : ℕ) (q : Registered) (p : PlainQuery) → query_at e n ≡ Some q → kept_at e n ≡ Running p → Goes e.machine q p
-  goes n q p r k = subst (IsKept e.machine q) k (g.queries n q r)
+  pub goes : (n : ℕ) (q : Registered) (p : PlainQuery) → query_at e n ≡ Some q → remains_at e n ≡ Running p → Goes e.machine q p
+  goes n q p r k = subst (AreRemains e.machine q) k (g.queries n q r)
 
   -- the mark of a query that runs is the instant after the last tick that its root has taken
-  pub record Marked (n : ℕ) (q : Registered) (p : PlainQuery) (r : query_at e n ≡ Some q) (k : kept_at e n ≡ Running p) : Type 0 where
+  pub record Marked (n : ℕ) (q : Registered) (p : PlainQuery) (r : query_at e n ≡ Some q) (k : remains_at e n ≡ Running p) : Type 0 where
     pub next : ℕ
     pub is : slice_get marks n ≡ Some (Some next)
     pub opens : (goes n q p r k).runs.runs.good.root.opens ≡ next
@@ -190,7 +190,7 @@ module _ (e : PlainEngine) (g : GoodEngine e) (marks : List (Option ℕ)) (long 
   pub long_waits : length waits ≡ length e.machine.queries
   long_waits = length-map e.queries answers_in ∙ g.many
 
-  module _ (marked : (n : ℕ) (q : Registered) (p : PlainQuery) (r : query_at e n ≡ Some q) (k : kept_at e n ≡ Running p) → Marked n q p r k) where
+  module _ (marked : (n : ℕ) (q : Registered) (p : PlainQuery) (r : query_at e n ≡ Some q) (k : remains_at e n ≡ Running p) → Marked n q p r k) where
     keeps : (n : ℕ) (q : Registered) (next : ℕ) → query_at e n ≡ Some q → slice_get marks n ≡ Some (Some next) → KeepsFor e.machine q next keep
     keeps n q next r k = record {
       keeps = λ j f l c need.
@@ -213,8 +213,8 @@ module _ (e : PlainEngine) (g : GoodEngine e) (marks : List (Option ℕ)) (long 
         from (x ∷ ms) zero h = ap (λ o. unwrap_or (unwrap_or o None) q.start) h
         from (x ∷ ms) (suc n) h = from ms n h
 
-    kept_opened : (n : ℕ) (q : Registered) (r : query_at e n ≡ Some q) (kept : Kept) → kept_at e n ≡ kept → IsKept (opened e marks).machine (restart q (get_or marks n None) (answers_in kept)) kept
-    kept_opened n q r (Running p) k =
+    remains_opened : (n : ℕ) (q : Registered) (r : query_at e n ≡ Some q) (remains : PlainRemains) → remains_at e n ≡ remains → AreRemains (opened e marks).machine (restart q (get_or marks n None) (answers_in remains)) remains
+    remains_opened n q r (Running p) k =
         let a : Marked n q p r k = marked n q p r k in
         let h : Goes e.machine q p = goes n q p r k in
         let is2 : IsQuery (opened e marks).machine.streams q = query_over keep e.machine.streams q (is_query e g n q r) in
@@ -233,20 +233,20 @@ module _ (e : PlainEngine) (g : GoodEngine e) (marks : List (Option ℕ)) (long 
             runs = subst (λ vs. IsRunning vs h.widths (opened e marks).machine (restarted q a.next p.answers) p.operators p.answers) (sym widths) runs;
           };
         })
-    kept_opened n q r (Broken answers) k = record { taken = []; counted = refl; rest = _; begins = refl }
-    kept_opened n q r Dropped k = record { taken = []; counted = refl; rest = _; begins = refl }
+    remains_opened n q r (Broken answers) k = record { taken = []; counted = refl; rest = _; begins = refl }
+    remains_opened n q r Dropped k = record { taken = []; counted = refl; rest = _; begins = refl }
 
     query_opened : (n : ℕ) → query_at (opened e marks) n ≡ option_map (λ q. restart q (get_or marks n None) (get_or waits n [])) (query_at e n)
     query_opened n = restarted_at e.machine.queries marks waits n long long_waits
 
-    queries_opened : (n : ℕ) (q2 : Registered) → query_at (opened e marks) n ≡ Some q2 → IsKept (opened e marks).machine q2 (kept_at e n)
+    queries_opened : (n : ℕ) (q2 : Registered) → query_at (opened e marks) n ≡ Some q2 → AreRemains (opened e marks).machine q2 (remains_at e n)
     queries_opened n q2 r =
         let b : Before (λ q. restart q (get_or marks n None) (get_or waits n [])) (query_at e n) q2 = before _ (query_at e n) q2 (sym (query_opened n) ∙ r) in
-        subst (λ z. IsKept (opened e marks).machine z (kept_at e n)) (sym b.is)
-        (subst (λ w. IsKept (opened e marks).machine (restart b.query (get_or marks n None) w) (kept_at e n)) (sym (waits_at e.queries n)) (kept_opened n b.query b.there (kept_at e n) refl))
+        subst (λ z. AreRemains (opened e marks).machine z (remains_at e n)) (sym b.is)
+        (subst (λ w. AreRemains (opened e marks).machine (restart b.query (get_or marks n None) w) (remains_at e n)) (sym (waits_at e.queries n)) (remains_opened n b.query b.there (remains_at e n) refl))
 
     -- what waits for an operator is as it was
-    waits_same : (n : ℕ) (q : Registered) (p : PlainQuery) (r : query_at e n ≡ Some q) (k : kept_at e n ≡ Running p) (j : ℕ) → j < length q.nodes → (side : Side)
+    waits_same : (n : ℕ) (q : Registered) (p : PlainQuery) (r : query_at e n ≡ Some q) (k : remains_at e n ≡ Running p) (j : ℕ) → j < length q.nodes → (side : Side)
         → waiting (operator_at p.operators j) (log_at (opened e marks).machine q j) side ≡ waiting (operator_at p.operators j) (log_at e.machine q j) side
     waits_same n q p r k j l side =
         let a : Marked n q p r k = marked n q p r k in
@@ -263,15 +263,15 @@ module _ (e : PlainEngine) (g : GoodEngine e) (marks : List (Option ℕ)) (long 
       numbered = is.numbered;
       query = restart is.query (get_or marks a.query None) (get_or waits a.query []);
       registered = query_opened a.query ∙ ap (option_map (λ q. restart q (get_or marks a.query None) (get_or waits a.query []))) is.registered;
-      kept = is.kept;
+      plain = is.plain;
       running = is.running;
       within = is.within;
-      first = record { rest = is.first.rest; some = is.first.some; few = is.first.few; is = waits_same a.query is.query is.kept is.registered is.running a.operator is.within a.side ∙ is.first.is; usable = is.first.usable };
+      first = record { rest = is.first.rest; some = is.first.some; few = is.first.few; is = waits_same a.query is.query is.plain is.registered is.running a.operator is.within a.side ∙ is.first.is; usable = is.first.usable };
       near = is.near;
     }
 
-    slot_opened : (n k : ℕ) (o : Option Registered) (kept : Kept) → query_at e n ≡ o → kept_at e n ≡ kept → slot_in (opened e marks) n k (option_map (λ q. restart q (get_or marks n None) (get_or waits n [])) o) kept ≡ slot_in e n k o kept
-    slot_opened n k None kept r h = refl
+    slot_opened : (n k : ℕ) (o : Option Registered) (remains : PlainRemains) → query_at e n ≡ o → remains_at e n ≡ remains → slot_in (opened e marks) n k (option_map (λ q. restart q (get_or marks n None) (get_or waits n [])) o) remains ≡ slot_in e n k o remains
+    slot_opened n k None remains r h = refl
     slot_opened n k (Some q) (Running p) r h = here (nat_lt k (length q.nodes)) refl
       where
         here : (b : Bool) → nat_lt k (length q.nodes) ≡ b
@@ -293,5 +293,5 @@ module _ (e : PlainEngine) (g : GoodEngine e) (marks : List (Option ℕ)) (long 
       leases = λ a i. lease_opened a (g.leases a i);
       apart = g.apart;
       slots = equal_slots (slot_of e) (slot_of (opened e marks)) e.slots
-          (λ n k. ap (λ o. slot_in (opened e marks) n k o (kept_at e n)) (query_opened n) ∙ slot_opened n k (query_at e n) (kept_at e n) refl refl) g.slots;
+          (λ n k. ap (λ o. slot_in (opened e marks) n k o (remains_at e n)) (query_opened n) ∙ slot_opened n k (query_at e n) (remains_at e n) refl refl) g.slots;
     }

@@ -15,19 +15,19 @@ use Rattle.laws_queries.proofs.NodeLemmas.{gives_its_answers}
 use Rattle.run_queue.specs.Slots.{AreIdle, IsSteepest, first_of, slot_cmp}
 use Rattle.run_queue.specs.declared.slots.Slot.{Slot}
 use Rattle.run_queue.proofs.FirstLemmas.{first_is_steepest}
-use Rattle.laws_engine.specs.Engines.{Broken, Dropped, Goes, GoodEngine, HasGiven, IsIn, IsKept, Kept, PlainEngine, Running, answers_in, instant_at, is_leased, kept_at, query_at, ready_instant, slope_at, slot_at, slot_in, slot_of}
+use Rattle.laws_engine.specs.Engines.{AreRemains, Broken, Dropped, Goes, GoodEngine, HasGiven, IsIn, PlainEngine, PlainRemains, Running, answers_in, instant_at, is_leased, query_at, ready_instant, remains_at, slope_at, slot_at, slot_in, slot_of}
 use Rattle.laws_engine.specs.Promises.{GivesAll, GivesBeginnings, KeepsItsPromises, LeasesSteepest, TellsIdleness}
 
 -- WHAT WAS GIVEN
-pub kept_given : (m : Machine) (q : Registered) (kept : Kept) → IsKept m q kept → HasGiven m q (answers_in kept)
-kept_given m q (Running p) g =
+pub remains_given : (m : Machine) (q : Registered) (remains : PlainRemains) → AreRemains m q remains → HasGiven m q (answers_in remains)
+remains_given m q (Running p) g =
     let r = (gives_its_answers (widths_of m.streams q) g.widths m q).beginning p.operators (g.taken ++ p.answers) g.runs.runs in
     record { taken = g.taken; counted = g.counted; rest = r.0; begins = r.1 }
-kept_given m q (Broken answers) g = g
-kept_given m q Dropped g = g
+remains_given m q (Broken answers) g = g
+remains_given m q Dropped g = g
 
 begins : (e : PlainEngine) → GoodEngine e → GivesBeginnings e
-begins e g n q r = kept_given e.machine q (kept_at e n) (g.queries n q r)
+begins e g n q r = remains_given e.machine q (remains_at e n) (g.queries n q r)
 
 -- THE SLOT of an operator of a running query
 within_true : (a b : ℕ) → a < b → nat_lt a b ≡ true
@@ -36,29 +36,29 @@ within_true a b h = lt-ltb a b h
 true_within : (a b : ℕ) → nat_lt a b ≡ true → a < b
 true_within a b h = ltb-true a b h
 
-pub slot_is : (e : PlainEngine) (n k : ℕ) (q : Registered) (p : PlainQuery) → query_at e n ≡ Some q → kept_at e n ≡ Running p → k < length q.nodes → slot_of e n k ≡ Some (slot_at e n q p k)
-slot_is e n k q p r kept within =
-    ap (λ z. slot_in e n k z (kept_at e n)) r ∙ ap (slot_in e n k (Some q)) kept ∙ ap (λ b. cond b (Some (slot_at e n q p k)) None) (within_true k (length q.nodes) within)
+pub slot_is : (e : PlainEngine) (n k : ℕ) (q : Registered) (p : PlainQuery) → query_at e n ≡ Some q → remains_at e n ≡ Running p → k < length q.nodes → slot_of e n k ≡ Some (slot_at e n q p k)
+slot_is e n k q p r remains within =
+    ap (λ z. slot_in e n k z (remains_at e n)) r ∙ ap (slot_in e n k (Some q)) remains ∙ ap (λ b. cond b (Some (slot_at e n q p k)) None) (within_true k (length q.nodes) within)
 
 -- and every slot is one
 pub record IsSlot (e : PlainEngine) (n k : ℕ) (s : Slot) : Type 0 where
   pub query : Registered
   pub registered : query_at e n ≡ Some query
-  pub kept : PlainQuery
-  pub running : kept_at e n ≡ Running kept
+  pub plain : PlainQuery
+  pub running : remains_at e n ≡ Running plain
   pub within : k < length query.nodes
-  pub is : slot_at e n query kept k ≡ s
+  pub is : slot_at e n query plain k ≡ s
 
-slot_from : (e : PlainEngine) (n k : ℕ) (s : Slot) (o : Option Registered) (kept : Kept) → query_at e n ≡ o → kept_at e n ≡ kept → slot_in e n k o kept ≡ Some s → IsSlot e n k s
-slot_from e n k s None kept r f h = absurd (cc)
+slot_from : (e : PlainEngine) (n k : ℕ) (s : Slot) (o : Option Registered) (remains : PlainRemains) → query_at e n ≡ o → remains_at e n ≡ remains → slot_in e n k o remains ≡ Some s → IsSlot e n k s
+slot_from e n k s None remains r f h = absurd (cc)
 slot_from e n k s (Some q) (Running p) r f h = by_test (nat_lt k (length q.nodes))
-    (λ t. let g : Some (slot_at e n q p k) ≡ Some s = rw t at h in record { query = q; registered = r; kept = p; running = f; within = true_within k (length q.nodes) t; is = cc })
+    (λ t. let g : Some (slot_at e n q p k) ≡ Some s = rw t at h in record { query = q; registered = r; plain = p; running = f; within = true_within k (length q.nodes) t; is = cc })
     (λ b. let g : None ≡ Some s = rw b at h in absurd (cc))
 slot_from e n k s (Some q) (Broken answers) r f h = absurd (cc)
 slot_from e n k s (Some q) Dropped r f h = absurd (cc)
 
 pub is_slot : (e : PlainEngine) (n k : ℕ) (s : Slot) → slot_of e n k ≡ Some s → IsSlot e n k s
-is_slot e n k s h = slot_from e n k s (query_at e n) (kept_at e n) refl refl h
+is_slot e n k s h = slot_from e n k s (query_at e n) (remains_at e n) refl refl h
 
 -- NOTHING IS READY
 idle_in : (slots : List Slot) (s : Slot) → AreIdle slots → IsIn slots s → s.is_idle ≡ true
@@ -78,14 +78,14 @@ none_at None h = refl
 none_at (Some t) h = absurd (cc)
 
 tells_idleness : (e : PlainEngine) → GoodEngine e → TellsIdleness e
-tells_idleness e g first n k q p r kept within =
+tells_idleness e g first n k q p r remains within =
     let idle : AreIdle e.slots = all_idle e.slots None first (first_is_steepest e.slots g.slots.ordered) in
-    let at : (slot_at e n q p k).is_idle ≡ true = idle_in e.slots (slot_at e n q p k) idle (g.slots.there n k (slot_at e n q p k) (slot_is e n k q p r kept within)) in
+    let at : (slot_at e n q p k).is_idle ≡ true = idle_in e.slots (slot_at e n q p k) idle (g.slots.there n k (slot_at e n q p k) (slot_is e n k q p r remains within)) in
     none_at (instant_at e n q p k) at
 
 gives_all : (e : PlainEngine) → GoodEngine e → GivesAll e
-gives_all e g n q p r kept ran =
-    let goes : Goes e.machine q p = subst (IsKept e.machine q) kept (g.queries n q r) in
+gives_all e g n q p r remains ran =
+    let goes : Goes e.machine q p = subst (AreRemains e.machine q) remains (g.queries n q r) in
     let unready : NoneReady e.machine q p.operators = λ k within.
     let out : is_leased e n k ≡ false = ran.returned k in
     let is : instant_at e n q p k ≡ ready_instant e.machine q p k = rw out refl in
@@ -137,14 +137,14 @@ steepest e g s first =
     record {
       query = is.query;
       registered = is.registered;
-      kept = is.kept;
+      plain = is.plain;
       running = is.running;
       within = is.within;
-      instant = some_by (instant_at e s.query is.query is.kept s.operator) s.instant (ap (λ z. z.is_idle) is.is ∙ at.1) (ap (λ z. z.instant) is.is);
-      steepest = λ n k q p t r kept within ready_at.
+      instant = some_by (instant_at e s.query is.query is.plain s.operator) s.instant (ap (λ z. z.is_idle) is.is ∙ at.1) (ap (λ z. z.instant) is.is);
+      steepest = λ n k q p t r remains within ready_at.
           subst (λ z. NoGreater (slope_at q k) z.slope.0) (sym is.is)
-          (steepest_in e.slots s (slot_at e n q p k) most (g.slots.there n k (slot_at e n q p k) (slot_is e n k q p r kept within)) (ap is_none ready_at));
-      first = λ n k q p t r kept within ready_at. behind_first e.slots s (slot_at e n q p k) g.slots.ordered first (g.slots.there n k (slot_at e n q p k) (slot_is e n k q p r kept within));
+          (steepest_in e.slots s (slot_at e n q p k) most (g.slots.there n k (slot_at e n q p k) (slot_is e n k q p r remains within)) (ap is_none ready_at));
+      first = λ n k q p t r remains within ready_at. behind_first e.slots s (slot_at e n q p k) g.slots.ordered first (g.slots.there n k (slot_at e n q p k) (slot_is e n k q p r remains within));
     }
 
 pub keeps_its_promises : (e : PlainEngine) → GoodEngine e → KeepsItsPromises e

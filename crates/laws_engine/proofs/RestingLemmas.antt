@@ -26,9 +26,9 @@ use Rattle.laws_queries.specs.Runs.{Runs, WindowStands}
 use Rattle.laws_queries.specs.Widths.{width_at}
 use Rattle.run_queue.specs.Slots.{slot}
 use Rattle.laws_engine.specs.Calls.{IsHeartbeat, closed_over, is_reading}
-use Rattle.laws_engine.specs.Engines.{Broken, Dropped, GoodEngine, Kept, PlainEngine, Running, is_leased, kept_at, query_at, slope_at, slot_in, slot_of}
+use Rattle.laws_engine.specs.Engines.{Broken, Dropped, GoodEngine, PlainEngine, PlainRemains, Running, is_leased, query_at, remains_at, slope_at, slot_in, slot_of}
 use Rattle.laws_engine.specs.Resting.{IsResting}
-use Rattle.laws_engine.proofs.BeatenLemmas.{arrivals, beyond_in, goes_at, inboxes, left_more, quiet_slot}
+use Rattle.laws_engine.proofs.HeartbeatLemmas.{arrivals, beyond_in, goes_at, inboxes, left_more, quiet_slot}
 use Rattle.laws_engine.proofs.PromiseLemmas.{slot_is}
 
 -- WHAT STANDS FIRST, where more comes behind it
@@ -77,24 +77,24 @@ window_stays o log log2 ls u l = ⊎_elim
 
 -- A HEARTBEAT
 module _ (e : PlainEngine) (s : ℕ) (at : ℤ) (g : GoodEngine e) (h : IsHeartbeat e s at) where
-  window_beat : (n k : ℕ) (q : Registered) (p : PlainQuery) → query_at e n ≡ Some q → kept_at e n ≡ Running p → k < length q.nodes → is_reading q s (node_at q k) ≡ true → IsResting e s n k ⊎ (slot_of (closed_over e s at) n k ≡ slot_of e n k)
-  window_beat n k q p r kept within is =
-      let goes = goes_at e s at g h n q p r kept in
-      let m = left_more e.machine s at h.accepted h.queues (arrivals e s at g h [] q p goes) q (node_at q k) (operator_at p.operators k) (inboxes e s at g h n k q p r kept within) in
+  window_beat : (n k : ℕ) (q : Registered) (p : PlainQuery) → query_at e n ≡ Some q → remains_at e n ≡ Running p → k < length q.nodes → is_reading q s (node_at q k) ≡ true → IsResting e s n k ⊎ (slot_of (closed_over e s at) n k ≡ slot_of e n k)
+  window_beat n k q p r remains within is =
+      let goes = goes_at e s at g h n q p r remains in
+      let m = left_more e.machine s at h.accepted h.queues (arrivals e s at g h [] q p goes) q (node_at q k) (operator_at p.operators k) (inboxes e s at g h n k q p r remains within) in
       ⊎_elim
-      (λ none. inl (record { query = q; registered = r; kept = p; running = kept; within = within; reads = is; empty = ap (option_map (λ z. z.1)) none }))
-      (λ same. inr (slot_is (closed_over e s at) n k q p r kept within ∙ ap (λ x. Some (slot (slope_at q k) (cond (is_leased e n k) None (option_map (λ z. z.1) x)) n k)) same ∙ sym (slot_is e n k q p r kept within)))
+      (λ none. inl (record { query = q; registered = r; plain = p; running = remains; within = within; reads = is; empty = ap (option_map (λ z. z.1)) none }))
+      (λ same. inr (slot_is (closed_over e s at) n k q p r remains within ∙ ap (λ x. Some (slot (slope_at q k) (cond (is_leased e n k) None (option_map (λ z. z.1) x)) n k)) same ∙ sym (slot_is e n k q p r remains within)))
       (window_stays (operator_at p.operators k) (log_at e.machine q k) (log_at (closed_over e s at).machine q k) m.0
       (running_usable (widths_of e.machine.streams q) goes.widths e q p.operators (goes.taken ++ p.answers) s k goes.runs.runs within is) m.1)
 
   -- only the slots of windows that rest are told something new
   pub beat_or_rest : (n k : ℕ) → IsResting e s n k ⊎ (slot_of (closed_over e s at) n k ≡ slot_of e n k)
-  beat_or_rest n k = by_query (query_at e n) (kept_at e n) refl refl where
-    by_query : (o : Option Registered) (kept : Kept) → query_at e n ≡ o → kept_at e n ≡ kept → IsResting e s n k ⊎ (slot_of (closed_over e s at) n k ≡ slot_of e n k)
-    by_query None kept r f = inr (ap (λ z. slot_in (closed_over e s at) n k z (kept_at e n)) r ∙ sym (ap (λ z. slot_in e n k z (kept_at e n)) r))
+  beat_or_rest n k = by_query (query_at e n) (remains_at e n) refl refl where
+    by_query : (o : Option Registered) (remains : PlainRemains) → query_at e n ≡ o → remains_at e n ≡ remains → IsResting e s n k ⊎ (slot_of (closed_over e s at) n k ≡ slot_of e n k)
+    by_query None remains r f = inr (ap (λ z. slot_in (closed_over e s at) n k z (remains_at e n)) r ∙ sym (ap (λ z. slot_in e n k z (remains_at e n)) r))
     by_query (Some q) (Running p) r f = ⊎_elim
         (λ within. by_test (is_reading q s (node_at q k)) (λ t. window_beat n k q p r f within t) (λ away. inr (quiet_slot e s at g h n k q p r f within away)))
-        (λ l. inr (ap (λ z. slot_in (closed_over e s at) n k z (kept_at e n)) r ∙ beyond_in e s at g h n k q (kept_at e n) l ∙ sym (ap (λ z. slot_in e n k z (kept_at e n)) r)))
+        (λ l. inr (ap (λ z. slot_in (closed_over e s at) n k z (remains_at e n)) r ∙ beyond_in e s at g h n k q (remains_at e n) l ∙ sym (ap (λ z. slot_in e n k z (remains_at e n)) r)))
         (cases_lt k (length q.nodes))
     by_query (Some q) (Broken answers) r f = inr (ap₂ (λ z x. slot_in (closed_over e s at) n k z x) r f ∙ sym (ap₂ (λ z x. slot_in e n k z x) r f))
     by_query (Some q) Dropped r f = inr (ap₂ (λ z x. slot_in (closed_over e s at) n k z x) r f ∙ sym (ap₂ (λ z x. slot_in e n k z x) r f))

@@ -27,7 +27,7 @@ use Rattle.laws_queries.proofs.PlanCounts.{has_short_inputs}
 use Rattle.laws_queries.proofs.RowLemmas.{rows_stand}
 use Rattle.laws_queries.specs.Machines.{IsQuery}
 use Rattle.laws_dataflow.specs.Laws as nets
-use Rattle.laws_engine.specs.Engines.{Broken, Dropped, Goes, HasGiven, IsKept, Kept, Running}
+use Rattle.laws_engine.specs.Engines.{AreRemains, Broken, Dropped, Goes, HasGiven, PlainRemains, Running}
 
 -- COLUMNS
 pub columns_changed : (f : Stream → Stream) → ((s : Stream) → length (f s).columns ≡ length s.columns) → (n i : ℕ) (ss : List Stream) → columns_of (change n f ss) i ≡ columns_of ss i
@@ -123,8 +123,8 @@ module _ (m : Machine) (n : ℕ) (rows : List (ℤ × List (Option ℤ))) (accep
   given_over q waiting g = record { taken = g.taken; counted = g.counted; rest = g.rest; begins = append_closed q ∙ g.begins }
 
   -- a query goes on
-  pub append_kept : (q : Registered) (kept : Kept) → IsMachine m → IsQuery m.streams q → IsKept m q kept → IsKept (after m (Append n rows) 0) q kept
-  append_kept q (Running p) machine is g =
+  pub append_remains : (q : Registered) (remains : PlainRemains) → IsMachine m → IsQuery m.streams q → AreRemains m q remains → AreRemains (after m (Append n rows) 0) q remains
+  append_remains q (Running p) machine is g =
       let m2 : Machine = after m (Append n rows) 0 in
       let machine2 : IsMachine m2 = machines_stand.goes_on m (Append n rows) 0 accepted machine in
       let is2 : IsQuery m2.streams q = ((queries_stand m machine).keeps (Append n rows) 0 q is).query in
@@ -132,8 +132,8 @@ module _ (m : Machine) (n : ℕ) (rows : List (ℤ × List (Option ℤ))) (accep
       let stands : nets.Stands (widths_of m.streams q) m2 q = subst (λ vs. nets.Stands vs m2 q) (widths_by m.streams m2.streams columns q.places) ((queries_stand m2 machine2).stands q is2) in
       goes_over m m2 q p g columns
       (runs_on_at_appends (widths_of m.streams q) g.widths m q n rows accepted (has_short_inputs (widths_of m2.streams q) m2 q ((queries_stand m2 machine2).bounded q is2)) stands p.operators (g.taken ++ p.answers) g.runs.runs)
-  append_kept q (Broken answers) machine is g = given_over q answers g
-  append_kept q Dropped machine is g = given_over q [] g
+  append_remains q (Broken answers) machine is g = given_over q answers g
+  append_remains q Dropped machine is g = given_over q [] g
 
 -- A HEARTBEAT
 closes_more : (at : ℤ) (o : Option Stream) → IsLaterIn o at → option_map_or (λ s. s.first_open) o 0 ≤ option_map_or (λ s. s.first_open) (option_map (closed_to at) o) 0
@@ -166,9 +166,9 @@ module _ (m : Machine) (n : ℕ) (at : ℤ) (accepted : first_fault m (Heartbeat
       record { taken = g.taken; counted = g.counted; rest = g.rest ++ c.0; begins = c.1 ∙ ap (λ z. z ++ c.0) g.begins ∙ append_assoc (g.taken ++ waiting) g.rest c.0 }
 
   -- a query goes on
-  pub heartbeat_kept : (q : Registered) (kept : Kept) → IsMachine m → HaveRows m → QueuesGain (slice_get m.streams n) at → IsKept m q kept → IsKept (after m (Heartbeat n at) 0) q kept
-  heartbeat_kept q (Running p) machine rows queues g =
+  pub heartbeat_remains : (q : Registered) (remains : PlainRemains) → IsMachine m → HaveRows m → QueuesGain (slice_get m.streams n) at → AreRemains m q remains → AreRemains (after m (Heartbeat n at) 0) q remains
+  heartbeat_remains q (Running p) machine rows queues g =
       goes_over m (after m (Heartbeat n at) 0) q p g (λ i. columns_changed (closed_to at) (λ s. refl) n i m.streams)
       (runs_on_at_heartbeats (widths_of m.streams q) g.widths m q n at accepted queues (rows_stand.reads g.widths m q rows machine g.sources) p.operators (g.taken ++ p.answers) g.runs.runs)
-  heartbeat_kept q (Broken answers) machine rows queues g = given_later q answers g
-  heartbeat_kept q Dropped machine rows queues g = given_later q [] g
+  heartbeat_remains q (Broken answers) machine rows queues g = given_later q answers g
+  heartbeat_remains q Dropped machine rows queues g = given_later q [] g

@@ -8,7 +8,7 @@ use Rattle.operators.specs.Operators.{ready}
 use Rattle.reference.specs.Machine.{Registered}
 use Rattle.laws_queries.specs.Queries.{PlainQuery, log_at, operator_at}
 use Rattle.run_queue.specs.declared.slots.Slot.{Slot}
-use Rattle.laws_engine.specs.Engines.{Broken, Dropped, Kept, Lease, PlainEngine, Running, is_leased, is_of, kept_at, query_at, ready_instant, slope_at, slot_at, slot_in, slot_of}
+use Rattle.laws_engine.specs.Engines.{Broken, Dropped, Lease, PlainEngine, PlainRemains, Running, is_leased, is_of, query_at, ready_instant, remains_at, slope_at, slot_at, slot_in, slot_of}
 use Rattle.laws_engine.proofs.BackLemmas.{unequal}
 use Rattle.laws_engine.proofs.SlotLemmas.{AreNumbered}
 
@@ -37,22 +37,22 @@ updated_numbered table a b s q o h n k t e = by_test (n == a)
     (λ w. let f : table n k ≡ Some t = rw w at e in h n k t f)
 
 -- THE SLOTS of a running query's operators
-pub running_slot : (e : PlainEngine) (n k : ℕ) (q : Registered) (p : PlainQuery) → query_at e n ≡ Some q → kept_at e n ≡ Running p → slot_of e n k ≡ cond (nat_lt k (length q.nodes)) (Some (slot_at e n q p k)) None
-running_slot e n k q p r kept = ap (λ z. slot_in e n k z (kept_at e n)) r ∙ ap (slot_in e n k (Some q)) kept
+pub running_slot : (e : PlainEngine) (n k : ℕ) (q : Registered) (p : PlainQuery) → query_at e n ≡ Some q → remains_at e n ≡ Running p → slot_of e n k ≡ cond (nat_lt k (length q.nodes)) (Some (slot_at e n q p k)) None
+running_slot e n k q p r remains = ap (λ z. slot_in e n k z (remains_at e n)) r ∙ ap (slot_in e n k (Some q)) remains
 
 -- another engine over the same machine
-abbrev pub over : PlainEngine → List Kept → List Lease → ℕ → List Slot → PlainEngine
+abbrev pub over : PlainEngine → List PlainRemains → List Lease → ℕ → List Slot → PlainEngine
 over e queries leases next slots = record { machine = e.machine; queries = queries; leases = leases; next = next; slots = slots }
 
-module _ (e : PlainEngine) (queries : List Kept) (leases : List Lease) (next : ℕ) (slots : List Slot) (n k : ℕ) (leased : list_any (is_of n k) leases ≡ list_any (is_of n k) e.leases) where
+module _ (e : PlainEngine) (queries : List PlainRemains) (leases : List Lease) (next : ℕ) (slots : List Slot) (n k : ℕ) (leased : list_any (is_of n k) leases ≡ list_any (is_of n k) e.leases) where
   -- of an operator that is as it was
   pub same_slot_at : (q : Registered) (p p2 : PlainQuery) → operator_at p2.operators k ≡ operator_at p.operators k → slot_at (over e queries leases next slots) n q p2 k ≡ slot_at e n q p k
   same_slot_at q p p2 o =
       ap (λ b. slot (slope_at q k) (cond b None (ready_instant e.machine q p2 k)) n k) leased
       ∙ ap (λ x. slot (slope_at q k) (cond (is_leased e n k) None (option_map (λ r. r.1) (ready x (log_at e.machine q k)))) n k) o
 
-  pub same_slot_in : (o : Option Registered) (kept : Kept) → slot_in (over e queries leases next slots) n k o kept ≡ slot_in e n k o kept
-  same_slot_in None kept = refl
+  pub same_slot_in : (o : Option Registered) (remains : PlainRemains) → slot_in (over e queries leases next slots) n k o remains ≡ slot_in e n k o remains
+  same_slot_in None remains = refl
   same_slot_in (Some q) (Running p) = ap (λ s. cond (nat_lt k (length q.nodes)) (Some s) None) (same_slot_at q p p refl)
   same_slot_in (Some q) (Broken answers) = refl
   same_slot_in (Some q) Dropped = refl

@@ -16,8 +16,8 @@ use Rattle.laws_queries.specs.Steps.{IsFirst}
 use Rattle.laws_queries.proofs.BeatLemmas.{same_number}
 use Rattle.laws_queries.proofs.MachineCounts.{machines_stand}
 use Rattle.laws_queries.proofs.RowLemmas.{rows_stand}
-use Rattle.laws_engine.specs.Engines.{Broken, Dropped, Goes, GoodEngine, HasGiven, HasSlots, IsKept, IsLease, Kept, Lease, PlainEngine, Running, answers_in, is_leased, is_of, kept_at, query_at, ready_instant, slope_at, slot_at, slot_in, slot_of}
-use Rattle.laws_engine.specs.Calls.{IsTake, kept_after, taken, with_queries, with_taken}
+use Rattle.laws_engine.specs.Engines.{AreRemains, Broken, Dropped, Goes, GoodEngine, HasGiven, HasSlots, IsLease, Lease, PlainEngine, PlainRemains, Running, answers_in, is_leased, is_of, query_at, ready_instant, remains_at, slope_at, slot_at, slot_in, slot_of}
+use Rattle.laws_engine.specs.Calls.{IsTake, remains_after, taken, with_queries, with_taken}
 use Rattle.laws_engine.proofs.AgainLemmas.{log_again, runs_again, source_again}
 
 -- ONE OF A LIST is changed
@@ -88,10 +88,10 @@ given_again : (m : Machine) (qs : List Registered) (q : Registered) (t : ℕ) (w
 given_again m qs q t waiting behind before rest g counted begins = record { taken = before; counted = counted; rest = rest; begins = begins }
 
 -- as it was
-pub kept_again : (m : Machine) (qs : List Registered) (q : Registered) (kept : Kept) → IsKept m q kept → IsKept (with_queries m qs) q kept
-kept_again m qs q (Running p) g = goes_again m qs q q.taken p g g.taken p.answers g.counted refl
-kept_again m qs q (Broken answers) g = given_again m qs q q.taken answers answers g.taken g.rest g g.counted g.begins
-kept_again m qs q Dropped g = given_again m qs q q.taken [] [] g.taken g.rest g g.counted g.begins
+pub remains_again : (m : Machine) (qs : List Registered) (q : Registered) (remains : PlainRemains) → AreRemains m q remains → AreRemains (with_queries m qs) q remains
+remains_again m qs q (Running p) g = goes_again m qs q q.taken p g g.taken p.answers g.counted refl
+remains_again m qs q (Broken answers) g = given_again m qs q q.taken answers answers g.taken g.rest g g.counted g.begins
+remains_again m qs q Dropped g = given_again m qs q q.taken [] [] g.taken g.rest g g.counted g.begins
 
 -- the first answers that wait go to those that were taken
 moved : (before waiting : List (ℕ × Row)) (count : ℕ) → (before ++ take count waiting) ++ drop count waiting ≡ before ++ waiting
@@ -105,53 +105,53 @@ many_taken n before waiting count e few = omega (arith, length-append before (ta
   exact (x ∷ xs) zero h = refl
   exact (x ∷ xs) (suc c) h = ap suc (exact xs c (omega (arith, h)))
 
-kept_taken : (m : Machine) (qs : List Registered) (q : Registered) (count : ℕ) (kept : Kept) → count ≤ length (answers_in kept) → IsKept m q kept → IsKept (with_queries m qs) (with_taken q (q.taken + count)) (kept_after count kept)
-kept_taken m qs q count (Running p) few g =
+remains_taken : (m : Machine) (qs : List Registered) (q : Registered) (count : ℕ) (remains : PlainRemains) → count ≤ length (answers_in remains) → AreRemains m q remains → AreRemains (with_queries m qs) (with_taken q (q.taken + count)) (remains_after count remains)
+remains_taken m qs q count (Running p) few g =
     goes_again m qs q (q.taken + count) p g (g.taken ++ take count p.answers) (drop count p.answers) (many_taken q.taken g.taken p.answers count g.counted few) (moved g.taken p.answers count)
-kept_taken m qs q count (Broken answers) few g =
+remains_taken m qs q count (Broken answers) few g =
     given_again m qs q (q.taken + count) answers (drop count answers) (g.taken ++ take count answers) g.rest g (many_taken q.taken g.taken answers count g.counted few) (g.begins ∙ ap (λ z. z ++ g.rest) (sym (moved g.taken answers count)))
-kept_taken m qs q count Dropped few g = given_again m qs q (q.taken + count) [] [] g.taken g.rest g (omega (arith, g.counted, few)) g.begins
+remains_taken m qs q count Dropped few g = given_again m qs q (q.taken + count) [] [] g.taken g.rest g (omega (arith, g.counted, few)) g.begins
 
 -- THE ENGINE over a machine with the same streams
-abbrev pub anew : PlainEngine → List Registered → List Kept → List Lease → List Slot → PlainEngine
+abbrev pub anew : PlainEngine → List Registered → List PlainRemains → List Lease → List Slot → PlainEngine
 anew e qs queries leases slots = record { machine = with_queries e.machine qs; queries = queries; leases = leases; next = e.next; slots = slots }
 
-module _ (e : PlainEngine) (qs : List Registered) (queries : List Kept) (leases : List Lease) (slots : List Slot) (n k : ℕ) (leased : list_any (is_of n k) leases ≡ list_any (is_of n k) e.leases) where
+module _ (e : PlainEngine) (qs : List Registered) (queries : List PlainRemains) (leases : List Lease) (slots : List Slot) (n k : ℕ) (leased : list_any (is_of n k) leases ≡ list_any (is_of n k) e.leases) where
   slot_anew : (q : Registered) (t : ℕ) (p : PlainQuery) (answers : List (ℕ × Row)) → slot_at (anew e qs queries leases slots) n (with_taken q t) (record p { answers = answers }) k ≡ slot_at e n q p k
   slot_anew q t p answers =
       ap (λ b. slot (slope_at q k) (cond b None (ready_instant (with_queries e.machine qs) (with_taken q t) p k)) n k) leased
       ∙ ap (λ x. slot (slope_at q k) (cond (is_leased e n k) None (option_map (λ r. r.1) (ready (operator_at p.operators k) x))) n k) (log_again [] [] e.machine qs q t k)
 
-  pub same_anew : (o : Option Registered) (kept : Kept) → slot_in (anew e qs queries leases slots) n k o kept ≡ slot_in e n k o kept
-  same_anew None kept = refl
+  pub same_anew : (o : Option Registered) (remains : PlainRemains) → slot_in (anew e qs queries leases slots) n k o remains ≡ slot_in e n k o remains
+  same_anew None remains = refl
   same_anew (Some q) (Running p) = ap (λ s. cond (nat_lt k (length q.nodes)) (Some s) None) (slot_anew q q.taken p p.answers)
   same_anew (Some q) (Broken answers) = refl
   same_anew (Some q) Dropped = refl
 
-  taken_anew : (count : ℕ) (o : Option Registered) (kept : Kept) → slot_in (anew e qs queries leases slots) n k (option_map (took count) o) (kept_after count kept) ≡ slot_in e n k o kept
-  taken_anew count None kept = refl
+  taken_anew : (count : ℕ) (o : Option Registered) (remains : PlainRemains) → slot_in (anew e qs queries leases slots) n k (option_map (took count) o) (remains_after count remains) ≡ slot_in e n k o remains
+  taken_anew count None remains = refl
   taken_anew count (Some q) (Running p) = ap (λ s. cond (nat_lt k (length q.nodes)) (Some s) None) (slot_anew q (q.taken + count) p (drop count p.answers))
   taken_anew count (Some q) (Broken answers) = refl
   taken_anew count (Some q) Dropped = refl
 
 -- A TAKE
 module _ (e : PlainEngine) (n : ℕ) (limit : ℤ) (count : ℕ) (g : GoodEngine e) (t : IsTake e n limit count) where
-  here_kept : kept_at (taken e n limit count) n ≡ kept_after count (kept_at e n)
-  here_kept = changed_or_here (kept_after count) n e.queries Dropped refl
+  here_remains : remains_at (taken e n limit count) n ≡ remains_after count (remains_at e n)
+  here_remains = changed_or_here (remains_after count) n e.queries Dropped refl
 
-  few : count ≤ length (answers_in (kept_at e n))
+  few : count ≤ length (answers_in (remains_at e n))
   few = omega (arith, t.many)
 
-  take_queries : (j : ℕ) (r : Registered) → query_at (taken e n limit count) j ≡ Some r → IsKept (taken e n limit count).machine r (kept_at (taken e n limit count) j)
+  take_queries : (j : ℕ) (r : Registered) → query_at (taken e n limit count) j ≡ Some r → AreRemains (taken e n limit count).machine r (remains_at (taken e n limit count) j)
   take_queries j r at = ⊎_elim
       (λ same.
       let w : Was (took count) (slice_get e.machine.queries n) r = was (took count) _ r (sym (changed_here (took count) n e.machine.queries) ∙ ap (query_at (taken e n limit count)) (sym same) ∙ at) in
-      subst (λ z. IsKept (taken e n limit count).machine r (kept_at (taken e n limit count) z)) (sym same)
-      (subst (IsKept (taken e n limit count).machine r) (sym here_kept)
-      (subst (λ z. IsKept (taken e n limit count).machine z (kept_after count (kept_at e n))) (sym w.new)
-      (kept_taken e.machine (change n (took count) e.machine.queries) w.old count (kept_at e n) few (g.queries n w.old w.is)))))
-      (λ ne. subst (IsKept (taken e n limit count).machine r) (sym (changed_or_there (kept_after count) n j e.queries Dropped ne))
-      (kept_again e.machine (change n (took count) e.machine.queries) r (kept_at e j) (g.queries j r (sym (changed_there (took count) n j e.machine.queries ne) ∙ at))))
+      subst (λ z. AreRemains (taken e n limit count).machine r (remains_at (taken e n limit count) z)) (sym same)
+      (subst (AreRemains (taken e n limit count).machine r) (sym here_remains)
+      (subst (λ z. AreRemains (taken e n limit count).machine z (remains_after count (remains_at e n))) (sym w.new)
+      (remains_taken e.machine (change n (took count) e.machine.queries) w.old count (remains_at e n) few (g.queries n w.old w.is)))))
+      (λ ne. subst (AreRemains (taken e n limit count).machine r) (sym (changed_or_there (remains_after count) n j e.queries Dropped ne))
+      (remains_again e.machine (change n (took count) e.machine.queries) r (remains_at e j) (g.queries j r (sym (changed_there (took count) n j e.machine.queries ne) ∙ at))))
       (same_number j n)
 
   take_lease : (a : Lease) → IsLease e a → IsLease (taken e n limit count) a
@@ -160,20 +160,20 @@ module _ (e : PlainEngine) (n : ℕ) (limit : ℤ) (count : ℕ) (g : GoodEngine
         numbered = is.numbered;
         query = took count is.query;
         registered = ap (query_at (taken e n limit count)) same ∙ changed_here (took count) n e.machine.queries ∙ ap (option_map (took count)) (ap (query_at e) (sym same) ∙ is.registered);
-        kept = record is.kept { answers = drop count is.kept.answers };
-        running = ap (kept_at (taken e n limit count)) same ∙ here_kept ∙ ap (kept_after count) (ap (kept_at e) (sym same) ∙ is.running);
+        plain = record is.plain { answers = drop count is.plain.answers };
+        running = ap (remains_at (taken e n limit count)) same ∙ here_remains ∙ ap (remains_after count) (ap (remains_at e) (sym same) ∙ is.running);
         within = is.within;
-        first = subst (λ z. IsFirst (operator_at is.kept.operators a.operator) z a.side a.item) (sym (log_again [] [] e.machine (change n (took count) e.machine.queries) is.query (is.query.taken + count) a.operator)) is.first;
+        first = subst (λ z. IsFirst (operator_at is.plain.operators a.operator) z a.side a.item) (sym (log_again [] [] e.machine (change n (took count) e.machine.queries) is.query (is.query.taken + count) a.operator)) is.first;
         near = is.near;
       })
       (λ ne. record {
         numbered = is.numbered;
         query = is.query;
         registered = changed_there (took count) n a.query e.machine.queries ne ∙ is.registered;
-        kept = is.kept;
-        running = changed_or_there (kept_after count) n a.query e.queries Dropped ne ∙ is.running;
+        plain = is.plain;
+        running = changed_or_there (remains_after count) n a.query e.queries Dropped ne ∙ is.running;
         within = is.within;
-        first = subst (λ z. IsFirst (operator_at is.kept.operators a.operator) z a.side a.item) (sym (log_again [] [] e.machine (change n (took count) e.machine.queries) is.query is.query.taken a.operator)) is.first;
+        first = subst (λ z. IsFirst (operator_at is.plain.operators a.operator) z a.side a.item) (sym (log_again [] [] e.machine (change n (took count) e.machine.queries) is.query is.query.taken a.operator)) is.first;
         near = is.near;
       })
       (same_number a.query n)
@@ -181,19 +181,19 @@ module _ (e : PlainEngine) (n : ℕ) (limit : ℤ) (count : ℕ) (g : GoodEngine
   take_slot : (j k : ℕ) → slot_of (taken e n limit count) j k ≡ slot_of e j k
   take_slot j k = ⊎_elim
       (λ same. subst (λ z. slot_of (taken e n limit count) z k ≡ slot_of e z k) (sym same)
-      (ap (λ z. slot_in (taken e n limit count) n k z (kept_at (taken e n limit count) n)) (changed_here (took count) n e.machine.queries)
-      ∙ ap (slot_in (taken e n limit count) n k (option_map (took count) (query_at e n))) here_kept
-      ∙ taken_anew e (change n (took count) e.machine.queries) (change n (kept_after count) e.queries) e.leases e.slots n k refl count (query_at e n) (kept_at e n)))
-      (λ ne. ap (λ z. slot_in (taken e n limit count) j k z (kept_at (taken e n limit count) j)) (changed_there (took count) n j e.machine.queries ne)
-      ∙ ap (slot_in (taken e n limit count) j k (query_at e j)) (changed_or_there (kept_after count) n j e.queries Dropped ne)
-      ∙ same_anew e (change n (took count) e.machine.queries) (change n (kept_after count) e.queries) e.leases e.slots j k refl (query_at e j) (kept_at e j))
+      (ap (λ z. slot_in (taken e n limit count) n k z (remains_at (taken e n limit count) n)) (changed_here (took count) n e.machine.queries)
+      ∙ ap (slot_in (taken e n limit count) n k (option_map (took count) (query_at e n))) here_remains
+      ∙ taken_anew e (change n (took count) e.machine.queries) (change n (remains_after count) e.queries) e.leases e.slots n k refl count (query_at e n) (remains_at e n)))
+      (λ ne. ap (λ z. slot_in (taken e n limit count) j k z (remains_at (taken e n limit count) j)) (changed_there (took count) n j e.machine.queries ne)
+      ∙ ap (slot_in (taken e n limit count) j k (query_at e j)) (changed_or_there (remains_after count) n j e.queries Dropped ne)
+      ∙ same_anew e (change n (took count) e.machine.queries) (change n (remains_after count) e.queries) e.leases e.slots j k refl (query_at e j) (remains_at e j))
       (same_number j n)
 
   pub take_good : GoodEngine (taken e n limit count)
   take_good = record {
     machine = machines_stand.goes_on e.machine (Take n limit) count t.accepted g.machine;
     rows = rows_stand.goes_on e.machine (Take n limit) count t.accepted g.rows;
-    many = many_changed (kept_after count) n e.queries ∙ g.many ∙ sym (many_changed (took count) n e.machine.queries);
+    many = many_changed (remains_after count) n e.queries ∙ g.many ∙ sym (many_changed (took count) n e.machine.queries);
     queries = take_queries;
     leases = λ a i. take_lease a (g.leases a i);
     apart = g.apart;

@@ -6,13 +6,13 @@ use Rattle.reference.specs.Machine.{Registered}
 use Rattle.laws_queries.specs.Queries.{PlainQuery, change_at_first, log_at, operator_at}
 use Rattle.laws_queries.specs.Steps.{outs_at_first}
 use Rattle.query_runtime.specs.Turns.{CanFinish, CanLease, CanPut, HasOperator, log_of}
-use Rattle.laws_engine.specs.Engines.{IsIn, Lease, PlainEngine, Running, kept_at, query_at}
+use Rattle.laws_engine.specs.Engines.{IsIn, Lease, PlainEngine, Running, query_at, remains_at}
 use Rattle.laws_engine.specs.Calls.{IsOf}
 
 -- the number is of an operator of a running query
 pub record IsOperator (e : PlainEngine) (n k : ℕ) (q : Registered) (p : PlainQuery) : Type 0 where
   pub registered : query_at e n ≡ Some q
-  pub running : kept_at e n ≡ Running p
+  pub running : remains_at e n ≡ Running p
   pub within : k < length q.nodes
 
 -- OF SUCH AN OPERATOR

@@ -14,16 +14,16 @@ use Rattle.stream_store.specs.Closing.{QueuesGain}
 use Rattle.laws_queries.specs.Steps.{IsFirst, outs_at_first}
 use Rattle.run_queue.specs.Slots.{changed, first_of, put, without_query}
 use Rattle.run_queue.specs.declared.slots.Slot.{Slot}
-use Rattle.laws_engine.specs.Engines.{Broken, Dropped, Goes, Kept, Lease, PlainEngine, Running, answers_in, instant_at, kept_at, query_at, slot_at}
+use Rattle.laws_engine.specs.Engines.{Broken, Dropped, Goes, Lease, PlainEngine, PlainRemains, Running, answers_in, instant_at, query_at, remains_at, slot_at}
 
--- the slot of the operator k of the query n, which is in `old`, gets the instant that it has in `new`
-abbrev pub retold : PlainEngine → PlainEngine → ℕ → Registered → PlainQuery → PlainQuery → ℕ → List Slot → List Slot
-retold old new n q p p2 k slots = changed (slot_at old n q p k) (instant_at new n q p2 k) slots
+-- the slots with that of the operator k of the query n, which is in `old`, at the instant that it has in `new`
+abbrev pub slot_updated : PlainEngine → PlainEngine → ℕ → Registered → PlainQuery → PlainQuery → ℕ → List Slot → List Slot
+slot_updated old new n q p p2 k slots = changed (slot_at old n q p k) (instant_at new n q p2 k) slots
 
 -- THE QUERY AND THE OPERATOR that a turn is of
 pub record IsOf (e : PlainEngine) (l : Lease) (q : Registered) (p : PlainQuery) : Type 0 where
   pub registered : query_at e l.query ≡ Some q
-  pub running : kept_at e l.query ≡ Running p
+  pub running : remains_at e l.query ≡ Running p
   pub within : l.operator < length q.nodes
 
 -- A LEASE: a turn with the next number goes out
@@ -31,7 +31,7 @@ abbrev pub given_out : PlainEngine → Lease → PlainEngine
 given_out e l = record e { leases = e.leases ++ l ∷ []; next = e.next + 1 }
 
 abbrev pub leased : PlainEngine → Lease → Registered → PlainQuery → PlainEngine
-leased e l q p = record e { leases = e.leases ++ l ∷ []; next = e.next + 1; slots = retold e (given_out e l) l.query q p p l.operator e.slots }
+leased e l q p = record e { leases = e.leases ++ l ∷ []; next = e.next + 1; slots = slot_updated e (given_out e l) l.query q p p l.operator e.slots }
 
 -- it is of the operator of the first slot, with what stands first on one of its sides and the excerpt for that
 pub record IsLeasable (e : PlainEngine) (l : Lease) (q : Registered) (p : PlainQuery) (s : Slot) : Type 0 where
@@ -52,12 +52,12 @@ given_back e l p2 = record e { queries = set e.queries l.query (Running p2); lea
 
 -- AN ABANDONED TURN changes nothing of its query
 abbrev pub abandoned : PlainEngine → Lease → Registered → PlainQuery → PlainEngine
-abandoned e l q p = record e { leases = others l.number e.leases; slots = retold e (record e { leases = others l.number e.leases }) l.query q p p l.operator e.slots }
+abandoned e l q p = record e { leases = others l.number e.leases; slots = slot_updated e (record e { leases = others l.number e.leases }) l.query q p p l.operator e.slots }
 
 -- A FINISHED TURN below the root feeds the operator at the end of the wire
 abbrev pub finished : PlainEngine → Lease → Registered → PlainQuery → PlainQuery → PlainEngine
 finished e l q p p2 = record (given_back e l p2) {
-  slots = retold e (given_back e l p2) l.query q p p2 (wire_from 0 q.nodes l.operator).to (retold e (given_back e l p2) l.query q p p2 l.operator e.slots);
+  slots = slot_updated e (given_back e l p2) l.query q p p2 (wire_from 0 q.nodes l.operator).to (slot_updated e (given_back e l p2) l.query q p p2 l.operator e.slots);
 }
 
 pub record IsFinishedTurn (e : PlainEngine) (l : Lease) (q : Registered) (p p2 : PlainQuery) : Type 0 where
@@ -72,7 +72,7 @@ pub record IsFinishedTurn (e : PlainEngine) (l : Lease) (q : Registered) (p p2 :
 
 -- A FINISHED TURN of the root lengthens what waits
 abbrev pub answered : PlainEngine → Lease → Registered → PlainQuery → PlainQuery → PlainEngine
-answered e l q p p2 = record (given_back e l p2) { slots = retold e (given_back e l p2) l.query q p p2 l.operator e.slots }
+answered e l q p p2 = record (given_back e l p2) { slots = slot_updated e (given_back e l p2) l.query q p p2 l.operator e.slots }
 
 pub record IsAnsweredTurn (e : PlainEngine) (l : Lease) (q : Registered) (p p2 : PlainQuery) : Type 0 where
   pub of : IsOf e l q p
@@ -99,22 +99,22 @@ abbrev pub with_queries : Machine → List Registered → Machine
 with_queries m qs = record m { queries = qs }
 
 -- the first of the answers that wait are handed out, also of a broken query
-abbrev pub kept_after : ℕ → Kept → Kept
-kept_after count (Running p) = Running (record p { answers = drop count p.answers })
-kept_after count (Broken answers) = Broken (drop count answers)
-kept_after count Dropped = Dropped
+abbrev pub remains_after : ℕ → PlainRemains → PlainRemains
+remains_after count (Running p) = Running (record p { answers = drop count p.answers })
+remains_after count (Broken answers) = Broken (drop count answers)
+remains_after count Dropped = Dropped
 
 abbrev pub taken : PlainEngine → ℕ → ℤ → ℕ → PlainEngine
-taken e n limit count = record e { machine = after e.machine (Take n limit) count; queries = change n (kept_after count) e.queries }
+taken e n limit count = record e { machine = after e.machine (Take n limit) count; queries = change n (remains_after count) e.queries }
 
 -- as many as wait, and no more than the limit
 pub record IsTake (e : PlainEngine) (n : ℕ) (limit : ℤ) (count : ℕ) : Type 0 where
   pub accepted : first_fault e.machine (Take n limit) ≡ None
-  pub many : count ≡ min (nat_abs limit) (length (answers_in (kept_at e n)))
+  pub many : count ≡ min (nat_abs limit) (length (answers_in (remains_at e n)))
 
 -- A DROP: the query's turns end, its slots leave, and nothing of it waits
 abbrev pub dropped : PlainEngine → ℕ → PlainEngine
-dropped e n = record e { machine = after e.machine (Drop n) 0; queries = change n (λ kept. Dropped) e.queries; leases = of_others n e.leases; slots = without_query n e.slots }
+dropped e n = record e { machine = after e.machine (Drop n) 0; queries = change n (λ remains. Dropped) e.queries; leases = of_others n e.leases; slots = without_query n e.slots }
 
 -- AN APPEND changes the machine's stream, and nothing of a query
 abbrev pub appended : PlainEngine → ℕ → List (ℤ × List (Option ℤ)) → PlainEngine
@@ -130,26 +130,26 @@ is_reading q s (plan.Group i by items) = false
 is_reading q s (plan.Distinct i) = false
 is_reading q s (plan.ToStream i op) = false
 
--- the slots, where those of the windows over the stream s among the operators of the query n, from the operator k on, are told anew
-abbrev pub retold_windows : PlainEngine → PlainEngine → ℕ → ℕ → Registered → PlainQuery → ℕ → List plan.Node → List Slot → List Slot
-retold_windows old new s n q p k [] slots = slots
-retold_windows old new s n q p k (node ∷ nodes) slots = retold_windows old new s n q p (suc k) nodes (cond (is_reading q s node) (retold old new n q p p k slots) slots)
+-- the slots, where those of the windows over the stream s among the operators of the query n, from the operator k on, are updated
+abbrev pub windows_updated : PlainEngine → PlainEngine → ℕ → ℕ → Registered → PlainQuery → ℕ → List plan.Node → List Slot → List Slot
+windows_updated old new s n q p k [] slots = slots
+windows_updated old new s n q p k (node ∷ nodes) slots = windows_updated old new s n q p (suc k) nodes (cond (is_reading q s node) (slot_updated old new n q p p k slots) slots)
 
-abbrev pub retold_query : PlainEngine → PlainEngine → ℕ → ℕ → Registered → Kept → List Slot → List Slot
-retold_query old new s n q (Running p) slots = retold_windows old new s n q p 0 q.nodes slots
-retold_query old new s n q (Broken answers) slots = slots
-retold_query old new s n q Dropped slots = slots
+abbrev pub query_updated : PlainEngine → PlainEngine → ℕ → ℕ → Registered → PlainRemains → List Slot → List Slot
+query_updated old new s n q (Running p) slots = windows_updated old new s n q p 0 q.nodes slots
+query_updated old new s n q (Broken answers) slots = slots
+query_updated old new s n q Dropped slots = slots
 
 -- those of the queries from the number n on
-abbrev pub retold_queries : PlainEngine → PlainEngine → ℕ → ℕ → List Registered → List Slot → List Slot
-retold_queries old new s n [] slots = slots
-retold_queries old new s n (q ∷ qs) slots = retold_queries old new s (suc n) qs (retold_query old new s n q (kept_at old n) slots)
+abbrev pub queries_updated : PlainEngine → PlainEngine → ℕ → ℕ → List Registered → List Slot → List Slot
+queries_updated old new s n [] slots = slots
+queries_updated old new s n (q ∷ qs) slots = queries_updated old new s (suc n) qs (query_updated old new s n q (remains_at old n) slots)
 
 abbrev pub closed_over : PlainEngine → ℕ → ℤ → PlainEngine
 closed_over e s at = record e { machine = after e.machine (Heartbeat s at) 0 }
 
-abbrev pub beaten : PlainEngine → ℕ → ℤ → PlainEngine
-beaten e s at = record (closed_over e s at) { slots = retold_queries e (closed_over e s at) s 0 e.machine.queries e.slots }
+abbrev pub heartbeat_taken : PlainEngine → ℕ → ℤ → PlainEngine
+heartbeat_taken e s at = record (closed_over e s at) { slots = queries_updated e (closed_over e s at) s 0 e.machine.queries e.slots }
 
 -- the queues of all cursors over the stream gain what it closes
 pub record IsHeartbeat (e : PlainEngine) (s : ℕ) (at : ℤ) : Type 0 where

@@ -26,13 +26,13 @@ IsIn [] x = ⊥
 IsIn (y ∷ ys) x = (y ≡ x) ⊎ IsIn ys x
 
 -- what is left of a registered query: it runs, or was broken by a growth that was refused, or was dropped
-pub data Kept : Type 0 where
-  Running : PlainQuery → Kept
-  Broken : List (ℕ × Row) → Kept
-  Dropped : Kept
+pub data PlainRemains : Type 0 where
+  Running : PlainQuery → PlainRemains
+  Broken : List (ℕ × Row) → PlainRemains
+  Dropped : PlainRemains
 
 -- the answers that wait
-abbrev pub answers_in : Kept → List (ℕ × Row)
+abbrev pub answers_in : PlainRemains → List (ℕ × Row)
 answers_in (Running p) = p.answers
 answers_in (Broken answers) = answers
 answers_in Dropped = []
@@ -49,13 +49,13 @@ pub record Lease : Type 0 where
 -- the streams and queries, what is left of each query by its number, the turns that are out, the number of the next, and the slots of all operators
 pub record PlainEngine : Type 0 where
   pub machine : Machine
-  pub queries : List Kept
+  pub queries : List PlainRemains
   pub leases : List Lease
   pub next : ℕ
   pub slots : List Slot
 
-abbrev pub kept_at : PlainEngine → ℕ → Kept
-kept_at e n = get_or e.queries n Dropped
+abbrev pub remains_at : PlainEngine → ℕ → PlainRemains
+remains_at e n = get_or e.queries n Dropped
 
 abbrev pub query_at : PlainEngine → ℕ → Option Registered
 query_at e n = slice_get e.machine.queries n
@@ -86,14 +86,14 @@ abbrev pub slot_at : PlainEngine → ℕ → Registered → PlainQuery → ℕ �
 slot_at e n q p k = slot (slope_at q k) (instant_at e n q p k) n k
 
 -- the slot of the operator k of the query n, if that runs and has such an operator
-abbrev pub slot_in : PlainEngine → ℕ → ℕ → Option Registered → Kept → Option Slot
-slot_in e n k None kept = None
+abbrev pub slot_in : PlainEngine → ℕ → ℕ → Option Registered → PlainRemains → Option Slot
+slot_in e n k None remains = None
 slot_in e n k (Some q) (Running p) = cond (nat_lt k (length q.nodes)) (Some (slot_at e n q p k)) None
 slot_in e n k (Some q) (Broken answers) = None
 slot_in e n k (Some q) Dropped = None
 
 abbrev pub slot_of : PlainEngine → ℕ → ℕ → Option Slot
-slot_of e n k = slot_in e n k (query_at e n) (kept_at e n)
+slot_of e n k = slot_in e n k (query_at e n) (remains_at e n)
 
 -- a list of the slots that a table has
 pub record HasSlots (table : ℕ → ℕ → Option Slot) (slots : List Slot) : Type 0 where
@@ -117,10 +117,10 @@ pub record Goes (m : Machine) (q : Registered) (p : PlainQuery) : Type 0 where
   pub counted : length taken ≡ q.taken
   pub runs : IsPlainQuery (widths_of m.streams q) widths m q taken p
 
-abbrev pub IsKept : Machine → Registered → Kept → Type 0
-IsKept m q (Running p) = Goes m q p
-IsKept m q (Broken answers) = HasGiven m q answers
-IsKept m q Dropped = HasGiven m q []
+abbrev pub AreRemains : Machine → Registered → PlainRemains → Type 0
+AreRemains m q (Running p) = Goes m q p
+AreRemains m q (Broken answers) = HasGiven m q answers
+AreRemains m q Dropped = HasGiven m q []
 
 -- THE TURNS THAT ARE OUT
 -- the item stands first on its side of an operator of a running query, and the excerpt is what it needs of that operator's state
@@ -128,11 +128,11 @@ pub record IsLease (e : PlainEngine) (l : Lease) : Type 0 where
   pub numbered : l.number < e.next
   pub query : Registered
   pub registered : query_at e l.query ≡ Some query
-  pub kept : PlainQuery
-  pub running : kept_at e l.query ≡ Running kept
+  pub plain : PlainQuery
+  pub running : remains_at e l.query ≡ Running plain
   pub within : l.operator < length query.nodes
-  pub first : IsFirst (operator_at kept.operators l.operator) (log_at e.machine query l.operator) l.side l.item
-  pub near : l.excerpt ≡ near_of (operator_at kept.operators l.operator).state l.side l.item
+  pub first : IsFirst (operator_at plain.operators l.operator) (log_at e.machine query l.operator) l.side l.item
+  pub near : l.excerpt ≡ near_of (operator_at plain.operators l.operator).state l.side l.item
 
 -- no two are of one operator or of one number
 pub record AreApart (ls : List Lease) : Type 0 where
@@ -144,7 +144,7 @@ pub record GoodEngine (e : PlainEngine) : Type 0 where
   pub machine : IsMachine e.machine
   pub rows : HaveRows e.machine
   pub many : length e.queries ≡ length e.machine.queries
-  pub queries : (n : ℕ) (q : Registered) → query_at e n ≡ Some q → IsKept e.machine q (kept_at e n)
+  pub queries : (n : ℕ) (q : Registered) → query_at e n ≡ Some q → AreRemains e.machine q (remains_at e n)
   pub leases : (l : Lease) → IsIn e.leases l → IsLease e l
   pub apart : AreApart e.leases
   pub slots : HasSlots (slot_of e) e.slots

@@ -8,7 +8,7 @@ use Rattle.reference.specs.Opening.{opening}
 use Rattle.laws_dataflow.specs.Plans.{below_root}
 use Rattle.laws_dataflow.specs.Queries.{behind}
 use Rattle.laws_queries.specs.Queries.{PlainQuery, operator_at}
-use Rattle.laws_engine.specs.Engines.{Broken, Dropped, Kept, PlainEngine, Running, answers_in}
+use Rattle.laws_engine.specs.Engines.{Broken, Dropped, PlainEngine, PlainRemains, Running, answers_in}
 
 -- queues, turns that are out and answers that wait are as they were
 abbrev pub opened : PlainEngine → List (Option ℕ) → PlainEngine
@@ -28,15 +28,15 @@ last_in (state.Root s) = s.last
 abbrev pub next_of : Registered → PlainQuery → ℕ
 next_of q p = behind q.first (last_in (operator_at p.operators (below_root q.nodes)).state)
 
-abbrev pub mark_in : Registered → Kept → Option ℕ
+abbrev pub mark_in : Registered → PlainRemains → Option ℕ
 mark_in q (Running p) = Some (next_of q p)
 mark_in q (Broken answers) = None
 mark_in q Dropped = None
 
-abbrev pub marks_by : List Registered → List Kept → List (Option ℕ)
-marks_by [] kept = []
+abbrev pub marks_by : List Registered → List PlainRemains → List (Option ℕ)
+marks_by [] remains = []
 marks_by (q ∷ qs) [] = None ∷ marks_by qs []
-marks_by (q ∷ qs) (k ∷ kept) = mark_in q k ∷ marks_by qs kept
+marks_by (q ∷ qs) (k ∷ remains) = mark_in q k ∷ marks_by qs remains
 
 -- FORGETTING
 abbrev pub forgotten : PlainEngine → PlainEngine

@@ -18,19 +18,19 @@ use Rattle.laws_engine.proofs.InstantLemmas.{registered_closed}
 use Rattle.run_queue.specs.Slots.{without_query}
 use Rattle.run_queue.specs.declared.slots.Slot.{Slot}
 use Rattle.laws_engine.specs.Calls.{registered, with_query}
-use Rattle.laws_engine.specs.Engines.{GoodEngine, IsIn, Kept, Lease, PlainEngine, Running, kept_at, query_at}
+use Rattle.laws_engine.specs.Engines.{GoodEngine, IsIn, Lease, PlainEngine, PlainRemains, Running, query_at, remains_at}
 use Rattle.laws_engine.proofs.AskLemmas.{may_ask}
 use Rattle.laws_engine.proofs.PromiseLemmas.{is_slot}
-use Rattle.laws_engine.proofs.RegisteredLemmas.{kept_before, kept_more, more_here}
+use Rattle.laws_engine.proofs.RegisteredLemmas.{more_here, remains_before, remains_more}
 use Rattle.leases.specs.Readers.{HasSource, readers_of, windows_from}
 use Rattle.leases.proofs.ListedLemmas.{readers_added}
 use Rattle.leases.specs.Registering.{IsNewQuery, with_first}
 use Rattle.leases.specs.Shown.{engine_in}
 use Rattle.leases.specs.Sound.{IsSound, is_gone}
-use Rattle.leases.specs.Views.{HasKind, engine_of, kept_of, lease_of, query_of}
+use Rattle.leases.specs.Views.{HasKind, engine_of, lease_of, query_of, remains_of}
 use Rattle.turn.specs.declared.turns.Turn.{Turn}
-use Rattle.leases.specs.declared.kept.KeptQuery.{KeptQuery}
-use Rattle.leases.specs.declared.kept.KeptQuery.TheVariants as code
+use Rattle.leases.specs.declared.remains.Remains.{Remains}
+use Rattle.leases.specs.declared.remains.Remains.TheVariants as code
 use Rattle.leases.specs.declared.registered.Registration.{Registration}
 use Rattle.leases.specs.declared.state.State.{State}
 use Rattle.leases.proofs.LookLemmas.{many_slopes}
@@ -66,8 +66,8 @@ module _ (e : PlainEngine) (q : Registered) (p : PlainQuery) (slopes : List Frac
   here : query_at (registered e q p) (length e.machine.queries) ≡ Some q
   here = more_here e.machine.queries q
 
-  runs : kept_at (registered e q p) (length e.machine.queries) ≡ Running p
-  runs = ap (kept_at (registered e q p)) (sym many) ∙ kept_more e.queries (Running p)
+  runs : remains_at (registered e q p) (length e.machine.queries) ≡ Running p
+  runs = ap (remains_at (registered e q p)) (sym many) ∙ remains_more e.queries (Running p)
 
   all_sloped : length slopes ≡ length q.nodes
   all_sloped = ap (λ (ss : List Fraction). length ss) sloped ∙ many_slopes q.nodes q.measures
@@ -98,9 +98,9 @@ abbrev closed_in : PlainEngine → Type 0
 closed_in e = HaveFewClosed e.machine
 
 -- where nothing changed
-pub sound_still : (s t : State) → t.streams ≡ s.streams → t.names ≡ s.names → t.registered.items ≡ s.registered.items → t.kept.items ≡ s.kept.items → t.leases.items ≡ s.leases.items → t.next ≡ s.next → t.slots ≡ s.slots → t.readers.items ≡ s.readers.items → IsSound s → IsSound t
-sound_still s t streams names queries kept leases next slots readers h =
-    let same : engine_in t ≡ engine_in s = rw (streams, queries, kept, leases, next, slots) refl in
+pub sound_still : (s t : State) → t.streams ≡ s.streams → t.names ≡ s.names → t.registered.items ≡ s.registered.items → t.remains.items ≡ s.remains.items → t.leases.items ≡ s.leases.items → t.next ≡ s.next → t.slots ≡ s.slots → t.readers.items ≡ s.readers.items → IsSound s → IsSound t
+sound_still s t streams names queries remains leases next slots readers h =
+    let same : engine_in t ≡ engine_in s = rw (streams, queries, remains, leases, next, slots) refl in
     record {
       good = subst GoodEngine (sym same) h.good;
       kinds = λ g i. subst (λ e. HasKind e g) (sym same) (h.kinds g (subst (λ l. IsIn l g) leases i));
@@ -122,7 +122,7 @@ sound_with s t q p h good live none_earlier same leases next names readers =
       good = subst GoodEngine (sym same) good;
       kinds = λ g i. let j : IsIn s.leases.items g = subst (λ l. IsIn l g) leases i in
           let b : g.node.query < length e.machine.queries = old_lease e h.good (lease_of g) (in_map lease_of s.leases.items g j) in
-          let before : kept_at (registered e q p) g.node.query ≡ kept_at e g.node.query = kept_before e.queries (Running p ∷ []) g.node.query (omega (arith, b, h.good.many)) in
+          let before : remains_at (registered e q p) g.node.query ≡ remains_at e g.node.query = remains_before e.queries (Running p ∷ []) g.node.query (omega (arith, b, h.good.many)) in
           subst (λ (f : PlainEngine). HasKind f g) (sym same) (λ r k. h.kinds g j r (sym before ∙ k));
       few = rw leases h.few;
       numbers = rw next h.numbers;
@@ -137,19 +137,19 @@ sound_with s t q p h good live none_earlier same leases next names readers =
     named_more : (qs : List Registered) → map name_of_registered qs ++ Some q.name ∷ [] ≡ map name_of_registered (qs ++ q ∷ [])
     named_more qs = ap (λ (b : Bool). map name_of_registered qs ++ cond b None (Some q.name) ∷ []) (sym live) ∙ sym (map-append name_of_registered qs (q ∷ []))
 
-    gone_more : (qs : List Registered) (ks : List Kept) → map (λ r. r.is_dropped) qs ≡ map is_gone ks → map (λ (r : Registered). r.is_dropped) (qs ++ q ∷ []) ≡ map is_gone (ks ++ Running p ∷ [])
+    gone_more : (qs : List Registered) (ks : List PlainRemains) → map (λ r. r.is_dropped) qs ≡ map is_gone ks → map (λ (r : Registered). r.is_dropped) (qs ++ q ∷ []) ≡ map is_gone (ks ++ Running p ∷ [])
     gone_more qs ks g = map-append (λ (r : Registered). r.is_dropped) qs (q ∷ []) ∙ ap (λ l. l ++ q.is_dropped ∷ []) g ∙ ap (λ b. map is_gone ks ++ b ∷ []) live ∙ sym (map-append is_gone ks (Running p ∷ []))
 
-pub engine_with : (streams : List Stream) (rs rs2 : List Registration) (ks ks2 : List KeptQuery) (gs : List Turn) (next : ℕ) (slots slots2 : List Slot) (told : Registration) (p : PlainQuery) → rs2 ≡ rs ++ told ∷ [] → ks2 ≡ ks ++ code.Running p ∷ []
+pub engine_with : (streams : List Stream) (rs rs2 : List Registration) (ks ks2 : List Remains) (gs : List Turn) (next : ℕ) (slots slots2 : List Slot) (told : Registration) (p : PlainQuery) → rs2 ≡ rs ++ told ∷ [] → ks2 ≡ ks ++ code.Running p ∷ []
     → slots2 ≡ (registered (engine_of streams rs ks gs next slots) (query_of told) p).slots → engine_of streams rs2 ks2 gs next slots2 ≡ registered (engine_of streams rs ks gs next slots) (query_of told) p
-engine_with streams rs rs2 ks ks2 gs next slots slots2 told p queries kept put =
+engine_with streams rs rs2 ks ks2 gs next slots slots2 told p queries remains put =
     let q : map query_of rs2 ≡ map query_of rs ++ query_of told ∷ [] = ap (map query_of) queries ∙ map-append query_of rs (told ∷ []) in
-    let k : map kept_of ks2 ≡ map kept_of ks ++ Running p ∷ [] = ap (map kept_of) kept ∙ map-append kept_of ks (code.Running p ∷ []) in
+    let k : map remains_of ks2 ≡ map remains_of ks ++ Running p ∷ [] = ap (map remains_of) remains ∙ map-append remains_of ks (code.Running p ∷ []) in
     rw (q, k, put) refl
 
 pub many_told : (rs : List Registration) → length (map query_of rs) ≡ length rs
 many_told rs = length-map rs query_of
 
-pub engine_still : (streams : List Stream) (rs rs2 : List Registration) (ks ks2 : List KeptQuery) (gs : List Turn) (next : ℕ) (slots slots2 : List Slot) → rs2 ≡ rs → ks2 ≡ ks → slots2 ≡ slots
+pub engine_still : (streams : List Stream) (rs rs2 : List Registration) (ks ks2 : List Remains) (gs : List Turn) (next : ℕ) (slots slots2 : List Slot) → rs2 ≡ rs → ks2 ≡ ks → slots2 ≡ slots
     → engine_of streams rs2 ks2 gs next slots2 ≡ engine_of streams rs ks gs next slots
-engine_still streams rs rs2 ks ks2 gs next slots slots2 queries kept same = rw (queries, kept, same) refl
+engine_still streams rs rs2 ks ks2 gs next slots slots2 queries remains same = rw (queries, remains, same) refl

@@ -19,13 +19,13 @@ use Rattle.laws_queries.specs.Queries.{PlainQuery}
 use Rattle.run_queue.specs.Slots.{slot, with_instant}
 use Rattle.run_queue.specs.declared.slots.Slot.{Slot}
 use Rattle.laws_engine.specs.Asks.{IsOperator}
-use Rattle.laws_engine.specs.Calls.{IsHeartbeat, beaten, closed_over}
-use Rattle.laws_engine.specs.Engines.{GoodEngine, HasSlots, IsIn, PlainEngine, Running, instant_at, kept_at, query_at, slope_at, slot_at, slot_of}
+use Rattle.laws_engine.specs.Calls.{IsHeartbeat, closed_over, heartbeat_taken}
+use Rattle.laws_engine.specs.Engines.{GoodEngine, HasSlots, IsIn, PlainEngine, Running, instant_at, query_at, remains_at, slope_at, slot_at, slot_of}
 use Rattle.laws_engine.specs.Resting.{IsResting}
 use Rattle.laws_engine.proofs.InstantLemmas.{few_closed_stand}
 use Rattle.laws_engine.proofs.AskLemmas.{may_ask}
 use Rattle.laws_engine.proofs.BackLemmas.{numbered}
-use Rattle.laws_engine.proofs.BeatenLemmas.{heartbeat_good}
+use Rattle.laws_engine.proofs.HeartbeatLemmas.{heartbeat_good}
 use Rattle.laws_engine.proofs.PromiseLemmas.{is_slot, slot_is}
 use Rattle.laws_engine.proofs.RestingLemmas.{beat_or_rest}
 use Rattle.laws_engine.proofs.SlotLemmas.{AreNumbered, changed_slots, numbers, told_again}
@@ -40,7 +40,7 @@ use Rattle.leases.specs.declared.reader.Reader.{Reader}
 use Rattle.leases.specs.declared.state.State.{State}
 use Rattle.leases.proofs.ListedLemmas.{resting_listed}
 use Rattle.leases.proofs.ReaderLemmas.{resting_rests}
-use Rattle.leases.proofs.RetoldLemmas.{same_slots}
+use Rattle.leases.proofs.UpdateLemmas.{same_slots}
 use Rattle.leases.proofs.StreamLemmas.{at_streams}
 
 -- LISTS OF SLOTS
@@ -104,16 +104,16 @@ record ArePartly (e e2 : PlainEngine) (todo slots : List Slot) : Type 0 where
   has : HasSlots table slots
   each : (n k : ℕ) → (table n k ≡ slot_of e2 n k) ⊎ ((table n k ≡ slot_of e n k) × HasOne todo n k)
 
-instant_is : (e : PlainEngine) (n k : ℕ) (q : Registered) (p : PlainQuery) → query_at e n ≡ Some q → kept_at e n ≡ Running p → instant_of e n k ≡ instant_at e n q p k
-instant_is e n k q p r running = ap (λ z. instant_in e n k z (kept_at e n)) r ∙ ap (instant_in e n k (Some q)) running
+instant_is : (e : PlainEngine) (n k : ℕ) (q : Registered) (p : PlainQuery) → query_at e n ≡ Some q → remains_at e n ≡ Running p → instant_of e n k ≡ instant_at e n q p k
+instant_is e n k q p r running = ap (λ z. instant_in e n k z (remains_at e n)) r ∙ ap (instant_in e n k (Some q)) running
 
 module _ (e : PlainEngine) (s : ℕ) (at : ℤ) where
   -- a slot with what its operator may take after the heartbeat
   new_slot : (x : Slot) → slot_of e x.query x.operator ≡ Some x → slot_of (closed_over e s at) x.query x.operator ≡ Some (with_instant x (instant_of (closed_over e s at) x.query x.operator))
   new_slot x is =
       let o = is_slot e x.query x.operator x is in
-      slot_is (closed_over e s at) x.query x.operator o.query o.kept o.registered o.running o.within
-      ∙ ap (λ t. Some (slot (slope_at o.query x.operator) t x.query x.operator)) (sym (instant_is (closed_over e s at) x.query x.operator o.query o.kept o.registered o.running))
+      slot_is (closed_over e s at) x.query x.operator o.query o.plain o.registered o.running o.within
+      ∙ ap (λ t. Some (slot (slope_at o.query x.operator) t x.query x.operator)) (sym (instant_is (closed_over e s at) x.query x.operator o.query o.plain o.registered o.running))
       ∙ ap (λ z. Some (with_instant z (instant_of (closed_over e s at) x.query x.operator))) o.is
 
   one_told : (x : Slot) (todo slots : List Slot) → slot_of e x.query x.operator ≡ Some x → ArePartly e (closed_over e s at) (x ∷ todo) slots → ArePartly e (closed_over e s at) todo (with_update (closed_over e s at) x slots)
@@ -160,20 +160,20 @@ module _ (e : PlainEngine) (s : ℕ) (at : ℤ) (g : GoodEngine e) (h : IsHeartb
   all_asked = all_of (λ slot. HasOperatorAt (closed_over e s at) slot.query slot.operator) (idle_slots e s rs)
       (λ x i.
       let o = is_slot e x.query x.operator x (slots_are e s rs x i) in
-      let is : IsOperator (beaten e s at) x.query x.operator o.query o.kept = record { registered = o.registered; running = o.running; within = o.within } in
-      let may = may_ask (beaten e s at) (heartbeat_good e s at g h) in
-      (o.query, (o.kept, record { registered = o.registered; running = o.running; within = o.within; operator = may.operators x.query x.operator o.query o.kept is; log = may.logs x.query x.operator o.query o.kept is })))
+      let is : IsOperator (heartbeat_taken e s at) x.query x.operator o.query o.plain = record { registered = o.registered; running = o.running; within = o.within } in
+      let may = may_ask (heartbeat_taken e s at) (heartbeat_good e s at g h) in
+      (o.query, (o.plain, record { registered = o.registered; running = o.running; within = o.within; operator = may.operators x.query x.operator o.query o.plain is; log = may.logs x.query x.operator o.query o.plain is })))
 
   module _ (lists : (n k : ℕ) → IsResting e s n k → IsIn rs (reader s n k)) where
     waking : (n k : ℕ) → IsResting e s n k → HasOne (idle_slots e s rs) n k
     waking n k is =
-        let here : slot_of e n k ≡ Some (slot_at e n is.query is.kept k) = slot_is e n k is.query is.kept is.registered is.running is.within in
+        let here : slot_of e n k ≡ Some (slot_at e n is.query is.plain k) = slot_is e n k is.query is.plain is.registered is.running is.within in
         let idle : is_idle_at e n k ≡ true = resting_rests e g s n k is in (
-          slot_at e n is.query is.kept k,
-          (slot_comes e s n k rs (slot_at e n is.query is.kept k) (lists n k is) idle here, (refl, refl)),
+          slot_at e n is.query is.plain k,
+          (slot_comes e s n k rs (slot_at e n is.query is.plain k) (lists n k is) idle here, (refl, refl)),
         )
 
-    pub all_told : with_updates (closed_over e s at) (idle_slots e s rs) e.slots ≡ (beaten e s at).slots
+    pub all_told : with_updates (closed_over e s at) (idle_slots e s rs) e.slots ≡ (heartbeat_taken e s at).slots
     all_told =
         let start : ArePartly e (closed_over e s at) (idle_slots e s rs) e.slots = record {
           table = slot_of e;
@@ -181,7 +181,7 @@ module _ (e : PlainEngine) (s : ℕ) (at : ℤ) (g : GoodEngine e) (h : IsHeartb
           has = g.slots;
           each = λ n k. ⊎_elim (λ is. inr (refl, waking n k is)) (λ same. inl (sym same)) (beat_or_rest e s at g h n k);
         } in
-        same_slots (slot_of (closed_over e s at)) (with_updates (closed_over e s at) (idle_slots e s rs) e.slots) (beaten e s at).slots
+        same_slots (slot_of (closed_over e s at)) (with_updates (closed_over e s at) (idle_slots e s rs) e.slots) (heartbeat_taken e s at).slots
         (each_told e s at (idle_slots e s rs) e.slots (λ x i. slots_are e s rs x i) start) (heartbeat_good e s at g h).slots
 
 -- THE CALL: rows that the stream's heartbeat closes, the readers' slots, the streams closed, the slots told
@@ -195,14 +195,14 @@ module _ (s : State) (streams : List Stream) (n : ℕ) (at : ℤ) (h : IsSound s
     all_listed : (m k : ℕ) → IsResting (engine_in s) n m k → IsIn s.readers.items (reader n m k)
     all_listed m k is = subst (λ rs. IsIn rs (reader n m k)) (sym h.readers) (resting_listed (engine_in s) n m k is)
 
-    state_is : s2 ≡ with_slots (at_streams s (change n (closed_to at) s.streams)) (beaten (engine_in s) n at).slots
+    state_is : s2 ≡ with_slots (at_streams s (change n (closed_to at) s.streams)) (heartbeat_taken (engine_in s) n at).slots
     state_is =
         tells
         ∙ ap (λ z. with_slots (at_streams s z) (with_updates (engine_in (at_streams s z)) slots s.slots)) closes
         ∙ ap (λ z. with_slots (at_streams s (change n (closed_to at) s.streams)) (with_updates (closed_over (engine_in s) n at) z s.slots)) are
         ∙ ap (with_slots (at_streams s (change n (closed_to at) s.streams))) (all_told (engine_in s) n at h.good beats s.readers.items all_listed)
 
-    pub beats_engine : engine_in s2 ≡ beaten (engine_in s) n at
+    pub beats_engine : engine_in s2 ≡ heartbeat_taken (engine_in s) n at
     beats_engine = ap engine_in state_is
 
     pub beats_sound : IsSound s2

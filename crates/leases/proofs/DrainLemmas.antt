@@ -15,11 +15,11 @@ use Rattle.reference.specs.declared.fault.Fault.TheVariants.{Query, BadName, Nam
 use Rattle.reference.specs.declared.limits.TheConstants.{MAX_TURN}
 use Rattle.laws_queries.specs.Queries.{PlainQuery}
 use Rattle.run_queue.specs.Slots.{first_of}
-use Rattle.laws_engine.proofs.BackLemmas.{kept_here}
+use Rattle.laws_engine.proofs.BackLemmas.{remains_here}
 use Rattle.laws_engine.specs.Calls.{of_others, others}
-use Rattle.laws_engine.specs.Engines.{Broken, Dropped, GoodEngine, IsIn, Kept, Lease, PlainEngine, Running, kept_at}
+use Rattle.laws_engine.specs.Engines.{Broken, Dropped, GoodEngine, IsIn, Lease, PlainEngine, PlainRemains, Running, remains_at}
 use Rattle.laws_engine.specs.Histories as history
-use Rattle.laws_engine.specs.Histories.{ComesBack, IsStep}
+use Rattle.laws_engine.specs.Histories.{ComesBack, IsCallStep}
 use Rattle.leases.specs.Drains.{HasBrokenOne, HasWanted, HaveRun, LeavesOthers, OneHasRun, RunsFirst, RunsTurns, SomeHaveRun}
 use Rattle.leases.specs.Turns.{HasReady, IsTurnOf}
 use Rattle.leases.specs.Views.{lease_of}
@@ -31,7 +31,7 @@ pub none_run : (rows : ℕ) (e : PlainEngine) → SomeHaveRun rows e e
 none_run rows e = ([], refl)
 
 -- one more goes out and comes back
-one_more : (rows : ℕ) (e1 e2 e3 e4 : PlainEngine) (turns : List Turn) (t : Turn) → HaveRun rows e1 turns e2 → IsTurnOf e2 rows t e3 → IsStep e3 (history.Finishes (lease_of t)) e4 → HaveRun rows e1 (turns ++ t ∷ []) e4
+one_more : (rows : ℕ) (e1 e2 e3 e4 : PlainEngine) (turns : List Turn) (t : Turn) → HaveRun rows e1 turns e2 → IsTurnOf e2 rows t e3 → IsCallStep e3 (history.Finishes (lease_of t)) e4 → HaveRun rows e1 (turns ++ t ∷ []) e4
 one_more rows e1 e2 e3 e4 [] t ran out home = (e3, (e4, (subst (λ e. IsTurnOf e rows t e3) ran out, (home, refl))))
 one_more rows e1 e2 e3 e4 (s ∷ turns) t ran out home = (ran.0, (ran.1.0, (ran.1.1.0, (ran.1.1.1.0, one_more rows ran.1.0 e2 e3 e4 turns t ran.1.1.1.1 out home))))
 
@@ -154,7 +154,7 @@ have_machine rows (t ∷ turns) e1 e2 ran =
     let home = ran.1.1.1.0 in
     have_machine rows turns ran.1.0 e2 ran.1.1.1.1 ∙ comes_machine ran.0 ran.1.0 (lease_of t) home.1.0 home.1.1.0 home.1.1.1.0 home.1.1.1.1 ∙ ap (λ e. e.machine) ran.1.1.0.after
 
-breaks_machine : (e1 e2 : PlainEngine) (l : Lease) → IsStep e1 (history.Breaks l) e2 → e2.machine ≡ e1.machine
+breaks_machine : (e1 e2 : PlainEngine) (l : Lease) → IsCallStep e1 (history.Breaks l) e2 → e2.machine ≡ e1.machine
 breaks_machine e1 e2 l h = ap (λ e. e.machine) h.1.1.1.1
 
 last_machine : (rows : ℕ) (e1 e2 : PlainEngine) → HasWanted rows e1 e2 → e2.machine ≡ e1.machine
@@ -218,10 +218,10 @@ module _ (e1 e2 : PlainEngine) (rows : ℕ) (t : Turn) (good : GoodEngine e1) (o
   others_left : others turn.number e2.leases ≡ e1.leases
   others_left = ap (λ e. others turn.number e.leases) out.after ∙ all_left e1.leases turn before
 
-  leaves : (e3 : PlainEngine) → IsStep e2 (history.Finishes turn) e3 → e3.leases ≡ e1.leases
+  leaves : (e3 : PlainEngine) → IsCallStep e2 (history.Finishes turn) e3 → e3.leases ≡ e1.leases
   leaves e3 home = comes_leases e2 e3 turn home.1.0 home.1.1.0 home.1.1.1.0 home.1.1.1.1 ∙ others_left
 
-  breaks : (e3 : PlainEngine) → IsStep e2 (history.Breaks turn) e3 → HasBrokenOne e1 e3
+  breaks : (e3 : PlainEngine) → IsCallStep e2 (history.Breaks turn) e3 → HasBrokenOne e1 e3
   breaks e3 h =
       let many : length e2.queries ≡ length e1.queries = ap (λ e. length e.queries) out.after in
       let machine : length e2.machine.queries ≡ length e1.machine.queries = ap (λ e. length e.machine.queries) out.after in
@@ -229,7 +229,7 @@ module _ (e1 e2 : PlainEngine) (rows : ℕ) (t : Turn) (good : GoodEngine e1) (o
       record {
         query = t.node.query;
         answers = h.1.1.0.answers;
-        broken = ap (λ e. kept_at e t.node.query) h.1.1.1.1 ∙ kept_here e2 t.node.query (Broken h.1.1.0.answers) few;
+        broken = ap (λ e. remains_at e t.node.query) h.1.1.1.1 ∙ remains_here e2 t.node.query (Broken h.1.1.0.answers) few;
         left = ap (λ e. e.leases) h.1.1.1.1 ∙ ap (λ e. of_others t.node.query e.leases) out.after ∙ last_goes e1.leases turn;
       }
 
@@ -272,7 +272,7 @@ refused_leaves old e1 e2 rows HistoryFull same good h = absurd h
 refused_leaves old e1 e2 rows (Foreign entries) same good h = absurd h
 
 -- A WHOLE ENGINE stays whole when a turn went out and came back
-unbroken_set : (ks : List Kept) (i n : ℕ) (p : PlainQuery) (answers : List (ℕ × Row)) → get_or (set ks i (Running p)) n Dropped ≡ Broken answers → get_or ks n Dropped ≡ Broken answers
+unbroken_set : (ks : List PlainRemains) (i n : ℕ) (p : PlainQuery) (answers : List (ℕ × Row)) → get_or (set ks i (Running p)) n Dropped ≡ Broken answers → get_or ks n Dropped ≡ Broken answers
 unbroken_set [] i n p answers h = h
 unbroken_set (k ∷ ks) zero zero p answers h = absurd (cc)
 unbroken_set (k ∷ ks) zero (suc n) p answers h = h
@@ -283,7 +283,7 @@ module _ (e1 e2 : PlainEngine) (rows : ℕ) (whole : IsWholeEngine e1) (one : On
   abbrev l : Lease
   l = lease_of one.0
 
-  abbrev home : IsStep one.1.0 (history.Finishes l) e2
+  abbrev home : IsCallStep one.1.0 (history.Finishes l) e2
   home = one.1.1.1
 
   back : ComesBack one.1.0 l home.1.0 home.1.1.0 home.1.1.1.0 e2
@@ -293,10 +293,10 @@ module _ (e1 e2 : PlainEngine) (rows : ℕ) (whole : IsWholeEngine e1) (one : On
   none_left =
       comes_leases one.1.0 e2 l home.1.0 home.1.1.0 home.1.1.1.0 back ∙ ap (λ e. others l.number e.leases) one.1.1.0.after ∙ ap (λ ls. others l.number (ls ++ l ∷ [])) whole.returned ∙ last_left l
 
-  none_broken : (n : ℕ) (answers : List (ℕ × Row)) → kept_at e2 n ≡ Broken answers → ⊥
+  none_broken : (n : ℕ) (answers : List (ℕ × Row)) → remains_at e2 n ≡ Broken answers → ⊥
   none_broken n answers h =
-      let kept : e2.queries ≡ set e1.queries l.query (Running home.1.1.1.0) = comes_queries one.1.0 e2 l home.1.0 home.1.1.0 home.1.1.1.0 back ∙ ap (λ e. set e.queries l.query (Running home.1.1.1.0)) one.1.1.0.after in
-      whole.unbroken n answers (unbroken_set e1.queries l.query n home.1.1.1.0 answers (ap (λ ks. get_or ks n Dropped) (sym kept) ∙ h))
+      let remains : e2.queries ≡ set e1.queries l.query (Running home.1.1.1.0) = comes_queries one.1.0 e2 l home.1.0 home.1.1.0 home.1.1.1.0 back ∙ ap (λ e. set e.queries l.query (Running home.1.1.1.0)) one.1.1.0.after in
+      whole.unbroken n answers (unbroken_set e1.queries l.query n home.1.1.1.0 answers (ap (λ ks. get_or ks n Dropped) (sym remains) ∙ h))
 
   pub step_whole : IsWholeEngine e2
   step_whole = record { returned = none_left; unbroken = none_broken }

@@ -14,13 +14,13 @@ use Rattle.reference.specs.declared.fault.Fault.{Fault}
 use Rattle.run_queue.specs.Slots.{without_query}
 use Rattle.run_queue.specs.declared.slots.Slot.{Slot}
 use Rattle.laws_engine.specs.Calls.{dropped, of_others}
-use Rattle.laws_engine.specs.Engines.{Dropped, GoodEngine, IsIn, Kept, Lease, PlainEngine, answers_in, world_of}
+use Rattle.laws_engine.specs.Engines.{Dropped, GoodEngine, IsIn, Lease, PlainEngine, PlainRemains, answers_in, world_of}
 use Rattle.laws_engine.proofs.SlotLemmas.{in_filter}
 use Rattle.leases.specs.Sound.{is_gone}
-use Rattle.leases.specs.Views.{engine_of, kept_of, lease_of, query_of}
+use Rattle.leases.specs.Views.{engine_of, lease_of, query_of, remains_of}
 use Rattle.turn.specs.declared.turns.Turn.{Turn}
-use Rattle.leases.specs.declared.kept.KeptQuery.{KeptQuery}
-use Rattle.leases.specs.declared.kept.KeptQuery.TheVariants as code
+use Rattle.leases.specs.declared.remains.Remains.{Remains}
+use Rattle.leases.specs.declared.remains.Remains.TheVariants as code
 use Rattle.leases.specs.declared.registered.Registration.{Registration}
 use Rattle.leases.proofs.OutLemmas.{leases_left}
 
@@ -44,10 +44,10 @@ there m n h = there_by m.queries n (slice_get m.queries n) refl h
 pub registered_within : (rs : List Registration) (n : ℕ) → IsThere (map query_of rs) n → n < length rs
 registered_within rs n h = let many = length-map rs query_of in omega (arith, many, slice_get_within (map query_of rs) n h.query h.registered)
 
-pub kept_within : (e : PlainEngine) (ks : List KeptQuery) (n : ℕ) → GoodEngine e → e.queries ≡ map kept_of ks → IsThere e.machine.queries n → n < length ks
-kept_within e ks n g same h =
-    let many = length-map ks kept_of in
-    let all : length e.queries ≡ length (map kept_of ks) = ap (λ z. length z) same in
+pub remains_within : (e : PlainEngine) (ks : List Remains) (n : ℕ) → GoodEngine e → e.queries ≡ map remains_of ks → IsThere e.machine.queries n → n < length ks
+remains_within e ks n g same h =
+    let many = length-map ks remains_of in
+    let all : length e.queries ≡ length (map remains_of ks) = ap (λ z. length z) same in
     omega (arith, many, all, g.many, slice_get_within e.machine.queries n h.query h.registered)
 
 -- ITS NAME is free
@@ -74,13 +74,13 @@ registered_dropped [] n r d h = refl
 registered_dropped (x ∷ rs) zero r d h = ap (λ z. z ∷ map query_of rs) h
 registered_dropped (x ∷ rs) (suc n) r d h = ap (λ z. query_of x ∷ z) (registered_dropped rs n r d h)
 
-pub kept_dropped : (ks : List KeptQuery) (n : ℕ) → map kept_of (set ks n code.Dropped) ≡ change n (λ kept. Dropped) (map kept_of ks)
-kept_dropped [] n = refl
-kept_dropped (k ∷ ks) zero = refl
-kept_dropped (k ∷ ks) (suc n) = ap (λ z. kept_of k ∷ z) (kept_dropped ks n)
+pub remains_dropped : (ks : List Remains) (n : ℕ) → map remains_of (set ks n code.Dropped) ≡ change n (λ remains. Dropped) (map remains_of ks)
+remains_dropped [] n = refl
+remains_dropped (k ∷ ks) zero = refl
+remains_dropped (k ∷ ks) (suc n) = ap (λ z. remains_of k ∷ z) (remains_dropped ks n)
 
 -- NOTHING IS LEFT of it
-pub gone_dropped : (qs : List Registered) (ks : List Kept) (n : ℕ) → map (λ q. q.is_dropped) qs ≡ map is_gone ks → map (λ q. q.is_dropped) (change n machine.dropped qs) ≡ map is_gone (change n (λ kept. Dropped) ks)
+pub gone_dropped : (qs : List Registered) (ks : List PlainRemains) (n : ℕ) → map (λ q. q.is_dropped) qs ≡ map is_gone ks → map (λ q. q.is_dropped) (change n machine.dropped qs) ≡ map is_gone (change n (λ remains. Dropped) ks)
 gone_dropped [] [] n h = refl
 gone_dropped [] (k ∷ ks) n h = absurd (cc)
 gone_dropped (q ∷ qs) [] n h = absurd (cc)
@@ -90,7 +90,7 @@ gone_dropped (q ∷ qs) (k ∷ ks) (suc n) h =
     let later : map (λ z. z.is_dropped) qs ≡ map is_gone ks = cc in
     ap₂ (λ z zs. z ∷ zs) first (gone_dropped qs ks n later)
 
-pub waiting_dropped : (ks : List Kept) (n : ℕ) → map answers_in (change n (λ kept. Dropped) ks) ≡ change n (λ rows. []) (map answers_in ks)
+pub waiting_dropped : (ks : List PlainRemains) (n : ℕ) → map answers_in (change n (λ remains. Dropped) ks) ≡ change n (λ rows. []) (map answers_in ks)
 waiting_dropped [] n = refl
 waiting_dropped (k ∷ ks) zero = refl
 waiting_dropped (k ∷ ks) (suc n) = ap (λ z. answers_in k ∷ z) (waiting_dropped ks n)
@@ -107,7 +107,7 @@ unfolding drop_step
 refused e n f h = ap (λ z. unless z (world_of e) tt (record { machine = after e.machine (Drop n) 0; waiting = change n (λ rows. []) (map answers_in e.queries) })) h
 
 -- THE ENGINE of the code's lists
-module _ (streams : List Stream) (rs : List Registration) (ks : List KeptQuery) (gs gs2 : List Turn) (next : ℕ) (slots slots2 : List Slot) (n : ℕ)
+module _ (streams : List Stream) (rs : List Registration) (ks : List Remains) (gs gs2 : List Turn) (next : ℕ) (slots slots2 : List Slot) (n : ℕ)
     (turns : gs2 ≡ filter (λ g. not (g.node.query == n)) gs) (told : slots2 ≡ without_query n slots) where
   turns_are : map lease_of gs2 ≡ of_others n (map lease_of gs)
   turns_are = ap (λ z. map lease_of z) turns ∙ leases_left (λ l. not (l.query == n)) gs
@@ -115,12 +115,12 @@ module _ (streams : List Stream) (rs : List Registration) (ks : List KeptQuery) 
   pub is_dropped : (r d : Registration) → query_of r ≡ machine.dropped (query_of (get_or rs n d)) → engine_of streams (set rs n r) (set ks n code.Dropped) gs2 next slots2 ≡ dropped (engine_of streams rs ks gs next slots) n
   is_dropped r d h =
       let qs : List Registered = change n machine.dropped (map query_of rs) in
-      let left : List Kept = change n (λ kept. Dropped) (map kept_of ks) in
-      let one : List Registered → PlainEngine = λ z. record { machine = record { streams = streams; queries = z }; queries = map kept_of (set ks n code.Dropped); leases = map lease_of gs2; next = next; slots = slots2 } in
-      let two : List Kept → PlainEngine = λ z. record { machine = record { streams = streams; queries = qs }; queries = z; leases = map lease_of gs2; next = next; slots = slots2 } in
+      let left : List PlainRemains = change n (λ remains. Dropped) (map remains_of ks) in
+      let one : List Registered → PlainEngine = λ z. record { machine = record { streams = streams; queries = z }; queries = map remains_of (set ks n code.Dropped); leases = map lease_of gs2; next = next; slots = slots2 } in
+      let two : List PlainRemains → PlainEngine = λ z. record { machine = record { streams = streams; queries = qs }; queries = z; leases = map lease_of gs2; next = next; slots = slots2 } in
       let three : List Lease → PlainEngine = λ z. record { machine = record { streams = streams; queries = qs }; queries = left; leases = z; next = next; slots = slots2 } in
       let four : List Slot → PlainEngine = λ z. record { machine = record { streams = streams; queries = qs }; queries = left; leases = of_others n (map lease_of gs); next = next; slots = z } in
-      ap one (registered_dropped rs n r d h) ∙ ap two (kept_dropped ks n) ∙ ap three turns_are ∙ ap four told
+      ap one (registered_dropped rs n r d h) ∙ ap two (remains_dropped ks n) ∙ ap three turns_are ∙ ap four told
 
 -- THE TURNS of other queries that are out
 pub another : (n : ℕ) (gs : List Turn) (g : Turn) → IsIn (filter (λ z. not (z.node.query == n)) gs) g → g.node.query ≢ n

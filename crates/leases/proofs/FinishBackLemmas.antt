@@ -7,9 +7,9 @@ use Rattle.laws_queries.specs.Queries.{PlainQuery}
 use Rattle.query_runtime.specs.Turns.{wire_at}
 use Rattle.run_queue.specs.declared.slots.Slot.{Slot}
 use Rattle.laws_engine.specs.Calls.{answered, given_back, others}
-use Rattle.laws_engine.specs.Engines.{GoodEngine, Lease, PlainEngine, Running, kept_at, query_at, slot_at}
+use Rattle.laws_engine.specs.Engines.{GoodEngine, Lease, PlainEngine, Running, query_at, remains_at, slot_at}
 use Rattle.laws_engine.specs.Histories.{ComesBack}
-use Rattle.leases.specs.Applied.{Forgets, GivesNothing, HasApplied, HasEnded, HasWiredOperators, IsAbove, IsApplied, IsBroken, IsOutIn, IsUpdated, MayApplyIn, MayTell, with_kept, without_turn}
+use Rattle.leases.specs.Applied.{Forgets, GivesNothing, HasApplied, HasEnded, HasWiredOperators, IsAbove, IsApplied, IsBroken, IsOutIn, IsUpdated, MayApplyIn, MayTell, with_remains, without_turn}
 use Rattle.leases.specs.Asked.{HasOperatorAt}
 use Rattle.leases.specs.Shown.{engine_in}
 use Rattle.leases.specs.Sound.{IsSound}
@@ -46,7 +46,7 @@ pub record AreSteps (e : PlainEngine) (d : Parts) (n k lease : ℕ) (s : Slot) (
   pub query : n ≡ d.node.query
   pub operator : k ≡ d.node.operator
   pub number : lease ≡ d.lease
-  pub slot : (q : Registered) (p : PlainQuery) → query_at e n ≡ Some q → kept_at e n ≡ Running p → s ≡ slot_at e n q p k
+  pub slot : (q : Registered) (p : PlainQuery) → query_at e n ≡ Some q → remains_at e n ≡ Running p → s ≡ slot_at e n q p k
   pub over : IsAbove e n k above
   pub applied : HasApplied e d e1
 
@@ -59,8 +59,8 @@ module _ (e : PlainEngine) (d : Parts) (n k lease : ℕ) (s : Slot) (above : Opt
   registered : query_at e n ≡ Some q
   registered = ap (query_at e) st.query ∙ out.of.registered
 
-  running : kept_at e n ≡ Running p
-  running = ap (kept_at e) st.query ∙ out.of.running
+  running : remains_at e n ≡ Running p
+  running = ap (remains_at e) st.query ∙ out.of.running
 
   slot_is : s ≡ slot_at e d.node.query q p d.node.operator
   slot_is = st.slot q p registered running ∙ ap (λ z. slot_at e z q p k) st.query ∙ ap (λ z. slot_at e d.node.query q p z) st.operator
@@ -78,7 +78,7 @@ module _ (e : PlainEngine) (d : Parts) (n k lease : ℕ) (s : Slot) (above : Opt
   is_below t some =
       subst (λ o. MatchOption o (length p.operators ≤ d.node.operator + 1) (λ t. (d.node.operator + 1 < length p.operators) × (t ≡ slot_at e d.node.query q p (wire_at p d.node.operator).to))) some above_is
 
-  module _ (p2 : PlainQuery) (a : IsApplied e.machine.streams p d p2) (at : e1 ≡ with_kept e d.node.query (Running p2)) where
+  module _ (p2 : PlainQuery) (a : IsApplied e.machine.streams p d p2) (at : e1 ≡ with_remains e d.node.query (Running p2)) where
     abbrev home : PlainEngine
     home = without_turn e1 lease
 
@@ -86,14 +86,14 @@ module _ (e : PlainEngine) (d : Parts) (n k lease : ℕ) (s : Slot) (above : Opt
     back = plain.ended e d q p g out done p2 a e1 home at (ap (without_turn e1) st.number)
 
     tell_here : HasOperatorAt e1 s.query s.operator
-    tell_here = asks_on home e1.leases e1.next e1.slots s.query s.operator (plain.may_retell e d q p g out done p2 a home s back slot_is)
+    tell_here = asks_on home e1.leases e1.next e1.slots s.query s.operator (plain.may_update e d q p g out done p2 a home s back slot_is)
 
     tell_over : (t : Slot) → above ≡ Some t → HasOperatorAt e1 t.query t.operator
     tell_over t some =
         let told = answered e (lease_of_parts d) q p p2 in
         let gave = given_back e (lease_of_parts d) p2 in
         let is = is_below t some in
-        let over : HasOperatorAt gave t.query t.operator = asks_on told gave.leases gave.next gave.slots t.query t.operator (plain.may_retell_above e d q p g out done p2 a told t refl is.1 is.0) in
+        let over : HasOperatorAt gave t.query t.operator = asks_on told gave.leases gave.next gave.slots t.query t.operator (plain.may_update_above e d q p g out done p2 a told t refl is.1 is.0) in
         asks_on home e1.leases e1.next e1.slots t.query t.operator (subst (λ z. HasOperatorAt z t.query t.operator) (sym back) over)
 
     module _ (e3 : PlainEngine) (told : IsUpdated home s e3) where
@@ -108,7 +108,7 @@ module _ (e : PlainEngine) (d : Parts) (n k lease : ℕ) (s : Slot) (above : Opt
 
 -- WHERE IT IS OUT
 module _ (e : PlainEngine) (d : Parts) (n k lease : ℕ) (s : Slot) (above : Option Slot) (e1 : PlainEngine) (good : GoodEngine e) (done : IsDone d) (out : IsOutIn e d) (st : AreSteps e d n k lease s above e1) where
-  took : (p2 : PlainQuery) × (IsApplied e.machine.streams out.1.0 d p2 × (e1 ≡ with_kept e d.node.query (Running p2)))
+  took : (p2 : PlainQuery) × (IsApplied e.machine.streams out.1.0 d p2 × (e1 ≡ with_remains e d.node.query (Running p2)))
   took = st.applied out.1.0 out.1.1.of.running
 
   pub tells_here : HasOperatorAt e1 s.query s.operator

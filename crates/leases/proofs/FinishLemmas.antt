@@ -24,12 +24,12 @@ use Rattle.query_runtime.specs.Turns.{CanFinish, CanPut, HasAnswered, HasFed, Ha
 use Rattle.run_queue.specs.declared.slots.Slot.{Slot}
 use Rattle.laws_engine.specs.Asks.{IsOperator, MayAsk}
 use Rattle.laws_engine.specs.Calls.{IsAnsweredTurn, IsFinishedTurn, IsOf, answered, finished, given_back}
-use Rattle.laws_engine.specs.Engines.{Goes, GoodEngine, IsKept, IsLease, Lease, PlainEngine, Running, kept_at, slot_at}
+use Rattle.laws_engine.specs.Engines.{AreRemains, Goes, GoodEngine, IsLease, Lease, PlainEngine, Running, remains_at, slot_at}
 use Rattle.laws_engine.specs.Histories.{ComesBack}
 use Rattle.laws_engine.proofs.AskLemmas.{may_ask}
-use Rattle.laws_engine.proofs.BackLemmas.{kept_here, same_plain}
+use Rattle.laws_engine.proofs.BackLemmas.{remains_here, same_plain}
 use Rattle.laws_engine.proofs.FinishLemmas.{query_bounded}
-use Rattle.leases.specs.Applied.{HasWiredOperators, IsApplied, IsUpdated, MayApply, MayApplyIn, with_kept, without_turn}
+use Rattle.leases.specs.Applied.{HasWiredOperators, IsApplied, IsUpdated, MayApply, MayApplyIn, with_remains, without_turn}
 use Rattle.leases.specs.Asked.{HasOperatorAt, IsAt}
 use Rattle.leases.specs.Turns.{IsOut, lease_of_parts}
 
@@ -56,7 +56,7 @@ module _ (e : PlainEngine) (d : Parts) (q : Registered) (p : PlainQuery) (g : Go
   operator j lt = record { registered = out.of.registered; running = out.of.running; within = lt }
 
   goes : Goes e.machine q p
-  goes = subst (IsKept e.machine q) out.of.running (g.queries d.node.query q out.of.registered)
+  goes = subst (AreRemains e.machine q) out.of.running (g.queries d.node.query q out.of.registered)
 
   many : length p.operators ≡ length q.nodes
   many = goes.runs.runs.many
@@ -186,8 +186,8 @@ module _ (e : PlainEngine) (d : Parts) (q : Registered) (p : PlainQuery) (g : Go
           }
 
       -- ITS OPERATORS stand where they stood
-      here : kept_at (given_back e (lease_of_parts d) p2) d.node.query ≡ Running p2
-      here = kept_here e d.node.query (Running p2) (omega (arith, g.many, slice_get_within e.machine.queries d.node.query q out.of.registered))
+      here : remains_at (given_back e (lease_of_parts d) p2) d.node.query ≡ Running p2
+      here = remains_here e d.node.query (Running p2) (omega (arith, g.many, slice_get_within e.machine.queries d.node.query q out.of.registered))
 
       back_at : (j : ℕ) → j < length q.nodes → IsAt (given_back e (lease_of_parts d) p2) d.node.query j q p2
       back_at j lt =
@@ -205,13 +205,13 @@ module _ (e : PlainEngine) (d : Parts) (q : Registered) (p : PlainQuery) (g : Go
             log = ap (λ (ss : List ℕ). stream_log e.machine.streams (get_or ss j 0)) a.finished.sources ∙ was.log;
           }
 
-      -- THE SLOTS that are told anew: that of the operator
-      pub ended : (e1 e2 : PlainEngine) → e1 ≡ with_kept e d.node.query (Running p2) → e2 ≡ without_turn e1 d.lease → e2 ≡ given_back e (lease_of_parts d) p2
+      -- THE SLOTS that are updated: that of the operator
+      pub ended : (e1 e2 : PlainEngine) → e1 ≡ with_remains e d.node.query (Running p2) → e2 ≡ without_turn e1 d.lease → e2 ≡ given_back e (lease_of_parts d) p2
       ended e1 e2 a b = b ∙ ap (λ z. without_turn z d.lease) a
 
       module _ (e2 : PlainEngine) (s : Slot) (back : e2 ≡ given_back e (lease_of_parts d) p2) (is : s ≡ slot_at e d.node.query q p d.node.operator) where
-        pub may_retell : HasOperatorAt e2 s.query s.operator
-        may_retell =
+        pub may_update : HasOperatorAt e2 s.query s.operator
+        may_update =
             subst (λ z. HasOperatorAt z s.query s.operator) (sym back)
             (subst (λ z. HasOperatorAt (given_back e (lease_of_parts d) p2) z.query z.operator) (sym is) (q, (p2, back_at d.node.operator out.of.within)))
 
@@ -223,8 +223,8 @@ module _ (e : PlainEngine) (d : Parts) (q : Registered) (p : PlainQuery) (g : Go
 
       -- and that of the one that it feeds
       module _ (e3 : PlainEngine) (s : Slot) (back : e3 ≡ answered e (lease_of_parts d) q p p2) (is : s ≡ slot_at e d.node.query q p (wire_at p d.node.operator).to) where
-        pub may_retell_above : d.node.operator + 1 < length p.operators → HasOperatorAt e3 s.query s.operator
-        may_retell_above lt =
+        pub may_update_above : d.node.operator + 1 < length p.operators → HasOperatorAt e3 s.query s.operator
+        may_update_above lt =
             let at : IsAt (answered e (lease_of_parts d) q p p2) d.node.query (wire_at p d.node.operator).to q p2 =
             at_slots (given_back e (lease_of_parts d) p2) (answered e (lease_of_parts d) q p p2).slots d.node.query (wire_at p d.node.operator).to q p2
             (back_at (wire_at p d.node.operator).to (to_within d.node.operator (below_of lt))) in

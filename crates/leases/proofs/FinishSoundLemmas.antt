@@ -19,9 +19,9 @@ use Rattle.query_runtime.specs.Turns.{HasPut, wire_at}
 use Rattle.run_queue.specs.declared.slots.Slot.{Slot}
 use Rattle.laws_engine.specs.Bounds.{HaveFewClosed}
 use Rattle.laws_engine.specs.Calls.{answered, broken, finished, given_back, of_others, others}
-use Rattle.laws_engine.specs.Engines.{Broken, Dropped, GoodEngine, IsIn, IsLease, Lease, PlainEngine, Running, kept_at}
+use Rattle.laws_engine.specs.Engines.{Broken, Dropped, GoodEngine, IsIn, IsLease, Lease, PlainEngine, Running, remains_at}
 use Rattle.laws_engine.specs.Histories.{ComesBack}
-use Rattle.laws_engine.proofs.BackLemmas.{kept_here, kept_there, same_plain}
+use Rattle.laws_engine.proofs.BackLemmas.{remains_here, remains_there, same_plain}
 use Rattle.laws_engine.proofs.FinishLemmas.{answer_good, finish_good}
 use Rattle.laws_engine.proofs.LeaseLemmas.{break_good}
 use Rattle.leases.specs.Applied.{Forgets, GivesNothing, IsApplied, IsOutIn, IsTurn}
@@ -84,10 +84,10 @@ module _ (old new : State) (ls : List Lease) (slots : List Slot) (d : Parts) (q 
   within : d.node.query < length e.queries
   within = omega (arith, s.good.many, slice_get_within e.machine.queries d.node.query q out.of.registered)
 
-  running_gone : is_gone (kept_at e d.node.query) ≡ false
+  running_gone : is_gone (remains_at e d.node.query) ≡ false
   running_gone = ap is_gone out.of.running
 
-  running_runs : runs (kept_at e d.node.query) ≡ true
+  running_runs : runs (remains_at e d.node.query) ≡ true
   running_runs = ap runs out.of.running
 
   -- comes back
@@ -96,11 +96,11 @@ module _ (old new : State) (ls : List Lease) (slots : List Slot) (d : Parts) (q 
     kinds_back after g i p3 running = by_test (g.node.query == d.node.query)
         (λ t.
         let same : g.node.query ≡ d.node.query = eqb-true g.node.query d.node.query t in
-        let is : p2 ≡ p3 = same_plain (sym (kept_here e d.node.query (Running p2) within) ∙ ap (kept_at (given_back e (lease_of_parts d) p2)) (sym same) ∙ running) in
-        s.kinds g i p (ap (kept_at e) same ∙ out.of.running)
+        let is : p2 ≡ p3 = same_plain (sym (remains_here e d.node.query (Running p2) within) ∙ ap (remains_at (given_back e (lease_of_parts d) p2)) (sym same) ∙ running) in
+        s.kinds g i p (ap (remains_at e) same ∙ out.of.running)
         ∙ sym (kinds_put p p2 d.node.operator (outs_in d.outputs) a.finished.finished.kind a.put g.node.operator)
         ∙ ap (λ (z : PlainQuery). (operator_at z.operators g.node.operator).kind) is)
-        (λ f. s.kinds g i p3 (sym (kept_there e d.node.query g.node.query (Running p2) (λ z. absurd (let h : (g.node.query == d.node.query) ≡ true = eq-eqb g.node.query d.node.query z in cc))) ∙ running))
+        (λ f. s.kinds g i p3 (sym (remains_there e d.node.query g.node.query (Running p2) (λ z. absurd (let h : (g.node.query == d.node.query) ≡ true = eq-eqb g.node.query d.node.query z in cc))) ∙ running))
 
     stays_back : (after : List Slot) → StaysBut (engine_in old) (record (given_back e (lease_of_parts d) p2) { slots = after })
     stays_back after = record {
@@ -123,9 +123,9 @@ module _ (old new : State) (ls : List Lease) (slots : List Slot) (d : Parts) (q 
   kinds_broken g i p3 running = by_test (g.node.query == d.node.query)
       (λ t.
       let same : g.node.query ≡ d.node.query = eqb-true g.node.query d.node.query t in
-      let bad : Broken p.answers ≡ Running p3 = sym (kept_here e d.node.query (Broken p.answers) within) ∙ ap (kept_at (broken e d.node.query p)) (sym same) ∙ running in
+      let bad : Broken p.answers ≡ Running p3 = sym (remains_here e d.node.query (Broken p.answers) within) ∙ ap (remains_at (broken e d.node.query p)) (sym same) ∙ running in
       absurd (cc))
-      (λ f. s.kinds g i p3 (sym (kept_there e d.node.query g.node.query (Broken p.answers) (λ z. absurd (let h : (g.node.query == d.node.query) ≡ true = eq-eqb g.node.query d.node.query z in cc))) ∙ running))
+      (λ f. s.kinds g i p3 (sym (remains_there e d.node.query g.node.query (Broken p.answers) (λ z. absurd (let h : (g.node.query == d.node.query) ≡ true = eq-eqb g.node.query d.node.query z in cc))) ∙ running))
 
   pub sound_broken : Forgets d.node.query old new → length (of_others d.node.query ls) ≤ length (engine_in old).leases → engine_in new ≡ broken e d.node.query p → IsSound new
   sound_broken f few is =
@@ -161,12 +161,12 @@ module _ (s : State) (d : Parts) (g : Turn) (sound : IsSound s) (known : IsIn s.
       let l : IsLease (engine_in s) (lease_of_parts d) = subst (IsLease (engine_in s)) is (sound.good.leases (lease_of g) there) in (
         l.query,
         (
-          l.kept,
+          l.plain,
           record {
             out = subst (IsIn (engine_in s).leases) is there;
             of = record { registered = l.registered; running = l.running; within = l.within };
-            kind = sym (ap (λ (v : PlainNode). v.kind) t.node) ∙ sound.kinds g known l.kept (ap (λ (v : PlainNode). kept_at (engine_in s) v.query) t.node ∙ l.running)
-                ∙ ap (λ (v : PlainNode). (operator_at l.kept.operators v.operator).kind) t.node;
+            kind = sym (ap (λ (v : PlainNode). v.kind) t.node) ∙ sound.kinds g known l.plain (ap (λ (v : PlainNode). remains_at (engine_in s) v.query) t.node ∙ l.running)
+                ∙ ap (λ (v : PlainNode). (operator_at l.plain.operators v.operator).kind) t.node;
           },
         ),
       )
@@ -178,7 +178,7 @@ module _ (s : State) (d : Parts) (g : Turn) (sound : IsSound s) (known : IsIn s.
       let query : g.node.query ≡ d.node.query = ap (λ (l : Lease). l.query) same in
       let operator : g.node.operator ≡ d.node.operator = ap (λ (l : Lease). l.operator) same in
       let side : g.node.side ≡ d.node.side = ap (λ (l : Lease). l.side) same in
-      let kind : g.node.kind ≡ d.node.kind = sound.kinds g known p (ap (kept_at (engine_in s)) query ∙ o.of.running) ∙ ap (λ k. (operator_at p.operators k).kind) operator ∙ sym o.kind in
+      let kind : g.node.kind ≡ d.node.kind = sound.kinds g known p (ap (remains_at (engine_in s)) query ∙ o.of.running) ∙ ap (λ k. (operator_at p.operators k).kind) operator ∙ sym o.kind in
       record {
         node =
             ap (λ n. node_with n g.node.operator g.node.side g.node.kind) query ∙ ap (λ k. node_with d.node.query k g.node.side g.node.kind) operator

@@ -29,8 +29,8 @@ use Rattle.run_queue.specs.Slots.{changed, first_of}
 use Rattle.run_queue.specs.declared.slots.Slot.{Slot}
 use Rattle.query_runtime.specs.Turns.{HasOperator, IsLeased, log_of}
 use Rattle.laws_engine.specs.Bounds.{HaveFewClosed}
-use Rattle.laws_engine.specs.Calls.{IsLeasable, given_out, leased, retold}
-use Rattle.laws_engine.specs.Engines.{GoodEngine, IsIn, Lease, PlainEngine, Running, instant_at, is_leased, is_of, kept_at, slot_at}
+use Rattle.laws_engine.specs.Calls.{IsLeasable, given_out, leased, slot_updated}
+use Rattle.laws_engine.specs.Engines.{GoodEngine, IsIn, Lease, PlainEngine, Running, instant_at, is_leased, is_of, remains_at, slot_at}
 use Rattle.laws_engine.specs.Promises.{HasAllWaiting, IsOfSteepest}
 use Rattle.laws_engine.proofs.AskLemmas.{may_ask}
 use Rattle.laws_engine.proofs.IdleLemmas.{idle_waits}
@@ -74,7 +74,7 @@ known_item (Tick t) (Tick u) h e = let f : TickAt t ∷ [] ≡ TickAt u ∷ [] =
 same_running : {p r : PlainQuery} → Running p ≡ Running r → p ≡ r
 same_running e = cc
 
-made_of : (e : PlainEngine) (n k : ℕ) (side : Side) (rows : ℕ) (g : Turn) (p : PlainQuery) → kept_at e n ≡ Running p → IsTurnOn e n k side rows g → IsOfSide e n k side rows g p
+made_of : (e : PlainEngine) (n k : ℕ) (side : Side) (rows : ℕ) (g : Turn) (p : PlainQuery) → remains_at e n ≡ Running p → IsTurnOn e n k side rows g → IsOfSide e n k side rows g p
 made_of e n k side rows g p running made = subst (IsOfSide e n k side rows g) (same_running (sym made.1.running ∙ running)) made.1
 
 -- one with an item and an excerpt
@@ -97,10 +97,10 @@ same_turn e n k side rows g h made again =
     is_turn_with e n k side rows g p a ∙ (ap (λ z. turn_with e p n k side z g.near) item ∙ (ap (turn_with e p n k side h.item) near ∙ sym (is_turn_with e n k side rows h p b)))
 
 -- AN OPERATOR that may take something
-ready_of : (e : PlainEngine) (n k : ℕ) (p : PlainQuery) → IsReadyAt e n k → kept_at e n ≡ Running p → (q : Registered) × IsReady e n k q p
+ready_of : (e : PlainEngine) (n k : ℕ) (p : PlainQuery) → IsReadyAt e n k → remains_at e n ≡ Running p → (q : Registered) × IsReady e n k q p
 ready_of e n k p r running = (r.0, subst (IsReady e n k r.0) (same_running (sym r.1.1.operator.running ∙ running)) r.1.1)
 
-pub ready_operator : (e : PlainEngine) (n k : ℕ) (p : PlainQuery) → GoodEngine e → IsReadyAt e n k → kept_at e n ≡ Running p → HasOperator e.machine.streams p k
+pub ready_operator : (e : PlainEngine) (n k : ℕ) (p : PlainQuery) → GoodEngine e → IsReadyAt e n k → remains_at e n ≡ Running p → HasOperator e.machine.streams p k
 ready_operator e n k p good r running = let is = ready_of e n k p r running in (may_ask e good).operators n k is.0 p is.1.operator
 
 some_ready : (b : Bool) (o : Option (Side × ℕ)) (t : ℕ) → cond b None (option_map (λ r. r.1) o) ≡ Some t → o ≡ None → ⊥
@@ -108,13 +108,13 @@ some_ready true o t e f = absurd (cc)
 some_ready false None t e f = absurd (cc)
 some_ready false (Some r) t e f = absurd (cc)
 
-pub ready_takes : (e : PlainEngine) (n k : ℕ) (p : PlainQuery) → GoodEngine e → IsReadyAt e n k → kept_at e n ≡ Running p → ready (operator_at p.operators k) (log_of e.machine.streams p k) ≡ None → ⊥
+pub ready_takes : (e : PlainEngine) (n k : ℕ) (p : PlainQuery) → GoodEngine e → IsReadyAt e n k → remains_at e n ≡ Running p → ready (operator_at p.operators k) (log_of e.machine.streams p k) ≡ None → ⊥
 ready_takes e n k p good r running none =
     let is = ready_of e n k p r running in
     let log : log_of e.machine.streams p k ≡ log_at e.machine is.0 k = (may_ask e good).logs n k is.0 p is.1.operator in
     some_ready (is_leased e n k) (ready (operator_at p.operators k) (log_at e.machine is.0 k)) is.1.at is.1.instant (ap (ready (operator_at p.operators k)) (sym log) ∙ none)
 
-pub ready_leases : (e : PlainEngine) (n k : ℕ) (p : PlainQuery) (side : Side) (at rows : ℕ) → GoodEngine e → IsReadyAt e n k → kept_at e n ≡ Running p
+pub ready_leases : (e : PlainEngine) (n k : ℕ) (p : PlainQuery) (side : Side) (at rows : ℕ) → GoodEngine e → IsReadyAt e n k → remains_at e n ≡ Running p
     → ready (operator_at p.operators k) (log_of e.machine.streams p k) ≡ Some (side, at) → 0 < rows → MayLeaseOn e n k side rows
 ready_leases e n k p side at rows good r running is some =
     let of = ready_of e n k p r running in
@@ -124,7 +124,7 @@ pub first_ready : (e : PlainEngine) (s : Slot) (n k : ℕ) → GoodEngine e → 
 first_ready e s n k good first is_query is_operator =
     let top : IsOfSteepest e s = (keeps_its_promises e good).steepest s first in
     let ready : IsReadyAt e s.query s.operator =
-    (top.query, (top.kept, record { operator = record { registered = top.registered; running = top.running; within = top.within }; at = s.instant; instant = top.instant })) in
+    (top.query, (top.plain, record { operator = record { registered = top.registered; running = top.running; within = top.within }; at = s.instant; instant = top.instant })) in
     subst (λ z. IsReadyAt e z k) (sym is_query) (subst (IsReadyAt e s.query) (sym is_operator) ready)
 
 -- THE ENGINE after it
@@ -157,21 +157,21 @@ module _ (e : PlainEngine) (s : Slot) (side : Side) (rows : ℕ) (good : GoodEng
   top : IsOfSteepest e s
   top = (keeps_its_promises e good).steepest s first
 
-  first_slot : slot_at e s.query top.query top.kept s.operator ≡ s
-  first_slot = some_slot (sym (slot_is e s.query s.operator top.query top.kept top.registered top.running top.within) ∙ good.slots.only s (first_in e.slots s first).0)
+  first_slot : slot_at e s.query top.query top.plain s.operator ≡ s
+  first_slot = some_slot (sym (slot_is e s.query s.operator top.query top.plain top.registered top.running top.within) ∙ good.slots.only s (first_in e.slots s first).0)
 
-  log_is : log_of e.machine.streams top.kept s.operator ≡ log_at e.machine top.query s.operator
-  log_is = (may_ask e good).logs s.query s.operator top.query top.kept (record { registered = top.registered; running = top.running; within = top.within })
+  log_is : log_of e.machine.streams top.plain s.operator ≡ log_at e.machine top.query s.operator
+  log_is = (may_ask e good).logs s.query s.operator top.query top.plain (record { registered = top.registered; running = top.running; within = top.within })
 
-  module _ (i : Item) (near : Near) (is : IsLeased (operator_at top.kept.operators s.operator) (log_of e.machine.streams top.kept s.operator) side rows i near)
-      (at : ℕ) (takes : ready (operator_at top.kept.operators s.operator) (log_of e.machine.streams top.kept s.operator) ≡ Some (side, at)) where
+  module _ (i : Item) (near : Near) (is : IsLeased (operator_at top.plain.operators s.operator) (log_of e.machine.streams top.plain s.operator) side rows i near)
+      (at : ℕ) (takes : ready (operator_at top.plain.operators s.operator) (log_of e.machine.streams top.plain s.operator) ≡ Some (side, at)) where
     abbrev made : Turn
-    made = turn_with e top.kept s.query s.operator side i near
+    made = turn_with e top.plain s.query s.operator side i near
 
-    item_first : IsFirst (operator_at top.kept.operators s.operator) (log_at e.machine top.query s.operator) side i
-    item_first = subst (λ z. IsFirst (operator_at top.kept.operators s.operator) z side i) log_is is.first
+    item_first : IsFirst (operator_at top.plain.operators s.operator) (log_at e.machine top.query s.operator) side i
+    item_first = subst (λ z. IsFirst (operator_at top.plain.operators s.operator) z side i) log_is is.first
 
-    out_leasable : IsLeasable e (lease_of made) top.query top.kept s
+    out_leasable : IsLeasable e (lease_of made) top.query top.plain s
     out_leasable = record {
       first = first;
       query = refl;
@@ -182,24 +182,24 @@ module _ (e : PlainEngine) (s : Slot) (side : Side) (rows : ℕ) (good : GoodEng
       near = is.near;
     }
 
-    out_instant : instant_at (given_out e (lease_of made)) s.query top.query top.kept s.operator ≡ None
+    out_instant : instant_at (given_out e (lease_of made)) s.query top.query top.plain s.operator ≡ None
     out_instant = let out : is_leased (given_out e (lease_of made)) s.query s.operator ≡ true = any_last (is_of s.query s.operator) e.leases (lease_of made) (is_of_own (lease_of made)) in rw out refl
 
-    out_slots : changed s None e.slots ≡ retold e (given_out e (lease_of made)) s.query top.query top.kept top.kept s.operator e.slots
-    out_slots = ap (λ z. changed z None e.slots) (sym first_slot) ∙ ap (λ z. changed (slot_at e s.query top.query top.kept s.operator) z e.slots) (sym out_instant)
+    out_slots : changed s None e.slots ≡ slot_updated e (given_out e (lease_of made)) s.query top.query top.plain top.plain s.operator e.slots
+    out_slots = ap (λ z. changed z None e.slots) (sym first_slot) ∙ ap (λ z. changed (slot_at e s.query top.query top.plain s.operator) z e.slots) (sym out_instant)
 
-    out_leased : out_of e s made ≡ leased e (lease_of made) top.query top.kept
+    out_leased : out_of e s made ≡ leased e (lease_of made) top.query top.plain
     out_leased = ap (λ z. record (given_out e (lease_of made)) { slots = z }) out_slots
 
-    out_takes : ready (operator_at top.kept.operators s.operator) (log_at e.machine top.query s.operator) ≡ Some (side, s.instant)
+    out_takes : ready (operator_at top.plain.operators s.operator) (log_at e.machine top.query s.operator) ≡ Some (side, s.instant)
     out_takes =
-        let here : ready (operator_at top.kept.operators s.operator) (log_at e.machine top.query s.operator) ≡ Some (side, at) = ap (ready (operator_at top.kept.operators s.operator)) (sym log_is) ∙ takes in
+        let here : ready (operator_at top.plain.operators s.operator) (log_at e.machine top.query s.operator) ≡ Some (side, at) = ap (ready (operator_at top.plain.operators s.operator)) (sym log_is) ∙ takes in
         here ∙ ap (λ z. Some (side, z)) (ready_since (is_leased e s.query s.operator) _ side at s.instant top.instant here)
 
     out_made : IsTurnOf e rows made (out_of e s made)
     out_made = record {
       query = top.query;
-      kept = top.kept;
+      plain = top.plain;
       slot = s;
       allowed = allowed;
       leasable = out_leasable;
@@ -207,18 +207,18 @@ module _ (e : PlainEngine) (s : Slot) (side : Side) (rows : ℕ) (good : GoodEng
       takes = out_takes;
       kind = refl;
       fits = is.fits;
-      cut = is.cut ∙ ap (cut_of (min rows 1024) (inbox_of (operator_at top.kept.operators s.operator) side)) log_is;
+      cut = is.cut ∙ ap (cut_of (min rows 1024) (inbox_of (operator_at top.plain.operators s.operator) side)) log_is;
       after = out_leased;
     }
 
   pub turn_out : (g : Turn) → IsTurnOn e s.query s.operator side rows g → IsTurnOf e rows g (out_of e s g)
   turn_out g made =
-      let of : IsOfSide e s.query s.operator side rows g top.kept = made_of e s.query s.operator side rows g top.kept top.running made in
-      subst (λ z. IsTurnOf e rows z (out_of e s z)) (sym (is_turn_with e s.query s.operator side rows g top.kept of)) (out_made g.item g.near of.leased of.at of.takes)
+      let of : IsOfSide e s.query s.operator side rows g top.plain = made_of e s.query s.operator side rows g top.plain top.running made in
+      subst (λ z. IsTurnOf e rows z (out_of e s z)) (sym (is_turn_with e s.query s.operator side rows g top.plain of)) (out_made g.item g.near of.leased of.at of.takes)
 
 -- THE STATE after it
 pub record HasGone (old new : State) (s : Slot) (g : Turn) : Type 0 where
-  pub engine : engine_in new ≡ engine_of old.streams old.registered.items old.kept.items new.leases.items (old.next + 1) new.slots
+  pub engine : engine_in new ≡ engine_of old.streams old.registered.items old.remains.items new.leases.items (old.next + 1) new.slots
   pub leases : new.leases.items ≡ old.leases.items ++ g ∷ []
   pub slots : new.slots ≡ changed s None old.slots
   pub next : new.next ≡ old.next + 1
@@ -228,8 +228,8 @@ pub record HasGone (old new : State) (s : Slot) (g : Turn) : Type 0 where
 gone_engine : (old new : State) (s : Slot) (g : Turn) → HasGone old new s g → engine_in new ≡ out_of (engine_in old) s g
 gone_engine old new s g h =
     h.engine
-    ∙ (ap (λ z. engine_of old.streams old.registered.items old.kept.items z (old.next + 1) new.slots) h.leases
-    ∙ (ap (engine_of old.streams old.registered.items old.kept.items (old.leases.items ++ g ∷ []) (old.next + 1)) h.slots
+    ∙ (ap (λ z. engine_of old.streams old.registered.items old.remains.items z (old.next + 1) new.slots) h.leases
+    ∙ (ap (engine_of old.streams old.registered.items old.remains.items (old.leases.items ++ g ∷ []) (old.next + 1)) h.slots
     ∙ ap (λ z. record (engine_in old) { leases = z; next = old.next + 1; slots = changed s None old.slots }) (map-append lease_of old.leases.items (g ∷ []))))
 
 in_last : (ls : List Turn) (g a : Turn) → IsIn (ls ++ g ∷ []) a → IsIn ls a ⊎ (g ≡ a)
@@ -256,7 +256,7 @@ module _ (old new : State) (s : Slot) (side : Side) (rows n k : ℕ) (g : Turn) 
   -- the engine is sound as it was
   pub sound_out : length old.leases.items < MAX_LEASES → old.next < LEASE_NUMBERS → IsSound new
   sound_out few numbers = record {
-    good = subst GoodEngine (sym (is ∙ turn_is.after)) (lease_good (engine_in old) (lease_of g) turn_is.query turn_is.kept turn_is.slot sound.good turn_is.leasable);
+    good = subst GoodEngine (sym (is ∙ turn_is.after)) (lease_good (engine_in old) (lease_of g) turn_is.query turn_is.plain turn_is.slot sound.good turn_is.leasable);
     kinds = λ x i. subst (λ z. HasKind z x) (sym is)
         (⊎_elim (λ j. sound.kinds x j) (λ z. subst (HasKind (engine_in old)) z new_kind) (in_last old.leases.items g x (subst (λ z. IsIn z x) gone.leases i)));
     few = let many : length new.leases.items ≡ length old.leases.items + 1 = ap length gone.leases ∙ length-append old.leases.items (g ∷ []) in omega (arith, many, few);

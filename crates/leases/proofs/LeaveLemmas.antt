@@ -9,7 +9,7 @@ use Rattle.laws_queries.specs.Queries.{PlainQuery}
 use Rattle.run_queue.specs.declared.slots.Slot.{Slot}
 use Rattle.laws_engine.specs.Calls.{IsOf, abandoned}
 use Rattle.laws_engine.proofs.FinishLemmas.{abandon_good}
-use Rattle.laws_engine.specs.Engines.{GoodEngine, IsIn, IsLease, Lease, PlainEngine, Running, kept_at, query_at, slot_at}
+use Rattle.laws_engine.specs.Engines.{GoodEngine, IsIn, IsLease, Lease, PlainEngine, Running, query_at, remains_at, slot_at}
 use Rattle.leases.specs.Applied.{GivesNothing, HasEnded, IsUpdated, without_turn}
 use Rattle.leases.specs.Asked.{HasOperatorAt}
 use Rattle.leases.specs.Readers.{readers_of}
@@ -55,44 +55,44 @@ known s n g found same is =
 pub turn_asks : (e : PlainEngine) → GoodEngine e → (n : ℕ) (l : Lease) → IsNumbered e n l → HasOperatorAt e l.query l.operator
 turn_asks e g n l t =
     let is : IsLease e l = g.leases l t.out in
-    asks e g l.query l.operator is.query is.kept is.registered is.running is.within
+    asks e g l.query l.operator is.query is.plain is.registered is.running is.within
 
--- THE TURN IS ABANDONED: it is not out any longer, and its slot is told anew
+-- THE TURN IS ABANDONED: it is not out any longer, and its slot is updated
 module _ (e : PlainEngine) (g : GoodEngine e) (n : ℕ) (l : Lease) (t : IsNumbered e n l) (s : Slot)
-    (before : (q : Registered) (p : PlainQuery) → query_at e l.query ≡ Some q → kept_at e l.query ≡ Running p → s ≡ slot_at e l.query q p l.operator) where
+    (before : (q : Registered) (p : PlainQuery) → query_at e l.query ≡ Some q → remains_at e l.query ≡ Running p → s ≡ slot_at e l.query q p l.operator) where
   abbrev is : IsLease e l
   is = g.leases l t.out
 
-  abbrev of : IsOf e l is.query is.kept
+  abbrev of : IsOf e l is.query is.plain
   of = record { registered = is.registered; running = is.running; within = is.within }
 
-  slot_is : s ≡ slot_at e l.query is.query is.kept l.operator
-  slot_is = before is.query is.kept is.registered is.running
+  slot_is : s ≡ slot_at e l.query is.query is.plain l.operator
+  slot_is = before is.query is.plain is.registered is.running
 
   pub may_end : HasOperatorAt e s.query s.operator
   may_end = subst (λ (z : Slot). HasOperatorAt e z.query z.operator) (sym slot_is) (turn_asks e g n l t)
 
   module _ (new : PlainEngine) (ended : HasEnded e n s None new) where
-    is_abandoned : new ≡ abandoned e l is.query is.kept
+    is_abandoned : new ≡ abandoned e l is.query is.plain
     is_abandoned =
         let told : IsUpdated (without_turn e n) s new = subst (IsUpdated (without_turn e n) s) (sym ended.1.1) ended.1.0 in
-        let here : IsUpdated (without_turn e l.number) (slot_at e l.query is.query is.kept l.operator) new =
-        subst (λ z. IsUpdated (without_turn e z) (slot_at e l.query is.query is.kept l.operator) new) (sym t.number) (subst (λ z. IsUpdated (without_turn e n) z new) slot_is told) in
-        here is.query is.kept is.registered is.running
+        let here : IsUpdated (without_turn e l.number) (slot_at e l.query is.query is.plain l.operator) new =
+        subst (λ z. IsUpdated (without_turn e z) (slot_at e l.query is.query is.plain l.operator) new) (sym t.number) (subst (λ z. IsUpdated (without_turn e n) z new) slot_is told) in
+        here is.query is.plain is.registered is.running
 
     stays_good : GoodEngine new
-    stays_good = subst GoodEngine (sym is_abandoned) (abandon_good e l is.query is.kept g t.out of)
+    stays_good = subst GoodEngine (sym is_abandoned) (abandon_good e l is.query is.plain g t.out of)
 
     pub abandons : Abandons e n (Ok tt) new
-    abandons = (l, (is.query, (is.kept, (t.out, (t.number, (of, is_abandoned))))))
+    abandons = (l, (is.query, (is.plain, (t.out, (t.number, (of, is_abandoned))))))
 
 -- and the engine knows of itself what it knew
 pub stays_sound : (old new : State) (sound : IsSound old) (n : ℕ) (l : Lease) (t : IsNumbered (engine_in old) n l) (s : Slot)
-    → ((q : Registered) (p : PlainQuery) → query_at (engine_in old) l.query ≡ Some q → kept_at (engine_in old) l.query ≡ Running p → s ≡ slot_at (engine_in old) l.query q p l.operator)
+    → ((q : Registered) (p : PlainQuery) → query_at (engine_in old) l.query ≡ Some q → remains_at (engine_in old) l.query ≡ Running p → s ≡ slot_at (engine_in old) l.query q p l.operator)
     → HasEnded (engine_in old) n s None (engine_in new) → GivesNothing old new → IsSound new
 stays_sound old new sound n l t s before ended r =
     let l_is : IsLease (engine_in old) l = sound.good.leases l t.out in
-    let same : engine_in new ≡ abandoned (engine_in old) l l_is.query l_is.kept = is_abandoned (engine_in old) sound.good n l t s before (engine_in new) ended in
-    let stays : StaysBut (engine_in old) (abandoned (engine_in old) l l_is.query l_is.kept) = record { machine = refl; next = refl; few = fewer (λ z. not (z.number == l.number)) (engine_in old).leases; gone = refl } in
+    let same : engine_in new ≡ abandoned (engine_in old) l l_is.query l_is.plain = is_abandoned (engine_in old) sound.good n l t s before (engine_in new) ended in
+    let stays : StaysBut (engine_in old) (abandoned (engine_in old) l l_is.query l_is.plain) = record { machine = refl; next = refl; few = fewer (λ z. not (z.number == l.number)) (engine_in old).leases; gone = refl } in
     sound_from old new sound r.names (r.readers ∙ sound.readers ∙ ap readers_of (sym same)) r.leases (stays_good (engine_in old) sound.good n l t s before (engine_in new) ended) (subst (StaysBut (engine_in old)) (sym same) stays)
     (λ g i. subst (λ z. HasKind z g) (sym same) (sound.kinds g i))

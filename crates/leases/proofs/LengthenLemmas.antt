@@ -21,9 +21,9 @@ use Rattle.reference.specs.Machine.{Machine, Registered, Stream}
 use Rattle.stream_store.specs.Closing.{QueuesGain, closed_of, closing_of}
 use Rattle.laws_queries.specs.Queries.{HasInboxes, Reads, log_at, no_log, no_operator, node_at, operator_at, place_of, source_of, stream_log}
 use Rattle.laws_queries.proofs.BeatLemmas.{change_here, change_there}
-use Rattle.laws_engine.specs.Calls.{IsHeartbeat, beaten, closed_over}
-use Rattle.laws_engine.specs.Engines.{Broken, Dropped, GoodEngine, Kept, PlainEngine, Running, kept_at, query_at}
-use Rattle.laws_engine.proofs.BeatenLemmas.{goes_at, inboxes}
+use Rattle.laws_engine.specs.Calls.{IsHeartbeat, closed_over, heartbeat_taken}
+use Rattle.laws_engine.specs.Engines.{Broken, Dropped, GoodEngine, PlainEngine, PlainRemains, Running, query_at, remains_at}
+use Rattle.laws_engine.proofs.HeartbeatLemmas.{goes_at, inboxes}
 use Rattle.leases.specs.Queues.{LengthensQueues, brought_in, brought_to, closed_entries, queue_in}
 
 -- A CURSOR over the stream
@@ -87,23 +87,23 @@ none_waits Right log log2 = refl
 
 -- THE QUEUES OF AN ENGINE
 module _ (e : PlainEngine) (s : ℕ) (at : ℤ) (g : GoodEngine e) (h : IsHeartbeat e s at) where
-  kept_gains : (n k : ℕ) (side : Side) (q : Registered) (kept : Kept) → query_at e n ≡ Some q → kept_at e n ≡ kept
-      → queue_in (closed_over e s at).machine q kept k side ≡ queue_in e.machine q kept k side ++ brought_in e.machine s at q kept k side
-  kept_gains n k side q (Running p) r kept = ⊎_elim
+  remains_gains : (n k : ℕ) (side : Side) (q : Registered) (remains : PlainRemains) → query_at e n ≡ Some q → remains_at e n ≡ remains
+      → queue_in (closed_over e s at).machine q remains k side ≡ queue_in e.machine q remains k side ++ brought_in e.machine s at q remains k side
+  remains_gains n k side q (Running p) r remains = ⊎_elim
       (λ l. let t : nat_lt k (length q.nodes) ≡ true = lt-ltb k (length q.nodes) l in
-      rw t (side_gains e.machine s at h.queues q (node_at q k) (operator_at p.operators k) side (inboxes e s at g h n k q p r kept l)))
+      rw t (side_gains e.machine s at h.queues q (node_at q k) (operator_at p.operators k) side (inboxes e s at g h n k q p r remains l)))
       (λ l. let f : nat_lt k (length q.nodes) ≡ false = le-ltb k (length q.nodes) l in
       rw f (subst (λ o. waiting o (log_at (closed_over e s at).machine q k) side ≡ waiting o (log_at e.machine q k) side ++ [])
-      (sym (get_or_past p.operators k no_operator (omega (arith, l, (goes_at e s at g h n q p r kept).runs.runs.many))))
+      (sym (get_or_past p.operators k no_operator (omega (arith, l, (goes_at e s at g h n q p r remains).runs.runs.many))))
       (none_waits side (log_at e.machine q k) (log_at (closed_over e s at).machine q k))))
       (cases_lt k (length q.nodes))
-  kept_gains n k side q (Broken answers) r kept = refl
-  kept_gains n k side q Dropped r kept = refl
+  remains_gains n k side q (Broken answers) r remains = refl
+  remains_gains n k side q Dropped r remains = refl
 
   found_gains : (n k : ℕ) (side : Side) (o : Option Registered) → query_at e n ≡ o
-      → option_map_or (λ q. queue_in (closed_over e s at).machine q (kept_at e n) k side) o [] ≡ option_map_or (λ q. queue_in e.machine q (kept_at e n) k side) o [] ++ option_map_or (λ q. brought_in e.machine s at q (kept_at e n) k side) o []
+      → option_map_or (λ q. queue_in (closed_over e s at).machine q (remains_at e n) k side) o [] ≡ option_map_or (λ q. queue_in e.machine q (remains_at e n) k side) o [] ++ option_map_or (λ q. brought_in e.machine s at q (remains_at e n) k side) o []
   found_gains n k side None r = refl
-  found_gains n k side (Some q) r = kept_gains n k side q (kept_at e n) r refl
+  found_gains n k side (Some q) r = remains_gains n k side q (remains_at e n) r refl
 
-  pub heartbeat_lengthens : LengthensQueues s at e (beaten e s at)
+  pub heartbeat_lengthens : LengthensQueues s at e (heartbeat_taken e s at)
   heartbeat_lengthens = record { queues = λ n k side. found_gains n k side (query_at e n) refl; answers = λ n. refl }

@@ -17,7 +17,7 @@ mod BeatLemmas
 mod LengthenLemmas
 pub mod DrainLemmas
 mod MachineLemmas
-mod RetoldLemmas
+mod UpdateLemmas
 mod StepLemmas
 pub mod PairLemmas
 pub mod WorldLemmas

@@ -10,7 +10,7 @@ use Rattle.reference.specs.Commands.{change}
 use Rattle.reference.specs.Machine.{Place, Registered}
 use Rattle.laws_queries.specs.Queries.{PlainQuery, node_at, place_of}
 use Rattle.laws_engine.specs.Calls.{is_reading}
-use Rattle.laws_engine.specs.Engines.{Dropped, IsIn, Kept, PlainEngine, Running}
+use Rattle.laws_engine.specs.Engines.{Dropped, IsIn, PlainEngine, PlainRemains, Running}
 use Rattle.laws_engine.specs.Resting.{IsResting}
 use Rattle.leases.specs.Readers.{reader, reader_in, readers_from, readers_of, runs, windows_from}
 use Rattle.leases.specs.declared.reader.Reader.{Reader}
@@ -45,24 +45,24 @@ window_in q s n k (suc j) x (node ∷ nodes) at l h =
 some_query : {a b : Registered} → Some a ≡ Some b → a ≡ b
 some_query e = cc
 
-listed : (qs : List Registered) (ks : List Kept) (s m n k x : ℕ) (q : Registered) (p : PlainQuery) → x ≡ m + n → slice_get qs n ≡ Some q → get_or ks n Dropped ≡ Running p → k < length q.nodes → is_reading q s (node_at q k) ≡ true
+listed : (qs : List Registered) (ks : List PlainRemains) (s m n k x : ℕ) (q : Registered) (p : PlainQuery) → x ≡ m + n → slice_get qs n ≡ Some q → get_or ks n Dropped ≡ Running p → k < length q.nodes → is_reading q s (node_at q k) ≡ true
     → IsIn (readers_from m qs (map runs ks)) (reader s x k)
 listed [] ks s m n k x q p at here running within reads = absurd (cc)
 listed (r ∷ qs) [] s m n k x q p at here running within reads = absurd (cc)
-listed (r ∷ qs) (kept ∷ ks) s m zero k x q p at here running within reads =
+listed (r ∷ qs) (remains ∷ ks) s m zero k x q p at here running within reads =
     let same : r ≡ q = some_query here in
     let number : m ≡ x = omega (arith, at) in
-    let live : runs kept ≡ true = ap runs running in
+    let live : runs remains ≡ true = ap runs running in
     let first : IsIn (windows_from q m 0 q.nodes) (reader s m k) = window_in q s m 0 k k q.nodes (omega arith) within reads in
-    let all : IsIn (cond (runs kept) (windows_from q m 0 q.nodes) [] ++ readers_from (suc m) qs (map runs ks)) (reader s m k) =
+    let all : IsIn (cond (runs remains) (windows_from q m 0 q.nodes) [] ++ readers_from (suc m) qs (map runs ks)) (reader s m k) =
     subst (λ b. IsIn (cond b (windows_from q m 0 q.nodes) [] ++ readers_from (suc m) qs (map runs ks)) (reader s m k)) (sym live) (in_left (windows_from q m 0 q.nodes) (readers_from (suc m) qs (map runs ks)) (reader s m k) first) in
-    subst (λ z. IsIn (readers_from m (r ∷ qs) (map runs (kept ∷ ks))) (reader s z k)) number
-    (subst (λ (z : Registered). IsIn (cond (runs kept) (windows_from z m 0 z.nodes) [] ++ readers_from (suc m) qs (map runs ks)) (reader s m k)) (sym same) all)
-listed (r ∷ qs) (kept ∷ ks) s m (suc n) k x q p at here running within reads =
-    in_right (cond (runs kept) (windows_from r m 0 r.nodes) []) (readers_from (suc m) qs (map runs ks)) (reader s x k) (listed qs ks s (suc m) n k x q p (omega (arith, at)) here running within reads)
+    subst (λ z. IsIn (readers_from m (r ∷ qs) (map runs (remains ∷ ks))) (reader s z k)) number
+    (subst (λ (z : Registered). IsIn (cond (runs remains) (windows_from z m 0 z.nodes) [] ++ readers_from (suc m) qs (map runs ks)) (reader s m k)) (sym same) all)
+listed (r ∷ qs) (remains ∷ ks) s m (suc n) k x q p at here running within reads =
+    in_right (cond (runs remains) (windows_from r m 0 r.nodes) []) (readers_from (suc m) qs (map runs ks)) (reader s x k) (listed qs ks s (suc m) n k x q p (omega (arith, at)) here running within reads)
 
 pub resting_listed : (e : PlainEngine) (s n k : ℕ) → IsResting e s n k → IsIn (readers_of e) (reader s n k)
-resting_listed e s n k is = listed e.machine.queries e.queries s 0 n k n is.query is.kept (omega arith) is.registered is.running is.within is.reads
+resting_listed e s n k is = listed e.machine.queries e.queries s 0 n k n is.query is.plain (omega arith) is.registered is.running is.within is.reads
 
 -- A CHANGE OF A QUERY that leaves its sources and its nodes leaves the list
 reader_same : (q r : Registered) (n k : ℕ) (node : plan.Node) → ((j : ℕ) → place_of r j ≡ place_of q j) → reader_in r n k node ≡ reader_in q n k node
@@ -151,7 +151,7 @@ readers_left x m (suc n) (q ∷ qs) (b ∷ bs) at =
     ∙ ap₂ (λ a b. a ++ b) (if_stay x (windows_from q m 0 q.nodes) b (windows_stay q m x 0 q.nodes other)) (readers_left x (suc m) n qs bs (omega (arith, at)))
 
 -- A REGISTRATION brings those of its query
-pub readers_added : (m x : ℕ) (qs : List Registered) (ks : List Kept) (q : Registered) (p : PlainQuery) → x ≡ m + length qs → length ks ≡ length qs
+pub readers_added : (m x : ℕ) (qs : List Registered) (ks : List PlainRemains) (q : Registered) (p : PlainQuery) → x ≡ m + length qs → length ks ≡ length qs
     → readers_from m (qs ++ q ∷ []) (map runs (ks ++ Running p ∷ [])) ≡ readers_from m qs (map runs ks) ++ windows_from q x 0 q.nodes
 readers_added m x [] [] q p at many =
     let number : m ≡ x = omega (arith, at) in

@@ -9,7 +9,7 @@ use Rattle.reference.specs.Machine.{Registered}
 use Rattle.laws_queries.specs.Queries.{PlainQuery}
 use Rattle.run_queue.specs.declared.slots.Slot.{Slot}
 use Rattle.laws_engine.specs.Asks.{IsOperator, MayAsk}
-use Rattle.laws_engine.specs.Engines.{GoodEngine, Lease, PlainEngine, Running, kept_at, query_at}
+use Rattle.laws_engine.specs.Engines.{GoodEngine, Lease, PlainEngine, Running, query_at, remains_at}
 use Rattle.laws_engine.proofs.AskLemmas.{may_ask}
 use Rattle.leases.specs.Applied.{MayTell}
 use Rattle.leases.specs.Asked.{HasOperatorAt}
@@ -26,7 +26,7 @@ pub many_slopes : (nodes : List Node) (measures : List Measure) → length (plan
 many_slopes nodes measures = length-map-range_with_len (slope_of nodes measures) 0 (length nodes)
 
 -- AN OPERATOR of a running query of a good engine may be looked up
-pub asks : (e : PlainEngine) → GoodEngine e → (n k : ℕ) (q : Registered) (p : PlainQuery) → query_at e n ≡ Some q → kept_at e n ≡ Running p → k < length q.nodes → HasOperatorAt e n k
+pub asks : (e : PlainEngine) → GoodEngine e → (n k : ℕ) (q : Registered) (p : PlainQuery) → query_at e n ≡ Some q → remains_at e n ≡ Running p → k < length q.nodes → HasOperatorAt e n k
 asks e g n k q p registered running within =
     let is : IsOperator e n k q p = record { registered = registered; running = running; within = within } in
     let may : MayAsk e = may_ask e g in

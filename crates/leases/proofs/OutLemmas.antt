@@ -4,11 +4,11 @@ use Rattle.std.specs.List.{find}
 use Rattle.std.proofs.lemmas.List.{get_or-set_same, length-map, map-set}
 use Rattle.plan.proofs.Lists.{by_test}
 use Rattle.laws_queries.specs.Queries.{PlainQuery}
-use Rattle.laws_engine.specs.Engines.{Dropped, IsIn, Kept, Lease, Running}
+use Rattle.laws_engine.specs.Engines.{Dropped, IsIn, Lease, PlainRemains, Running}
 use Rattle.laws_engine.proofs.SlotLemmas.{in_filter}
-use Rattle.leases.specs.Views.{kept_of, lease_of}
+use Rattle.leases.specs.Views.{lease_of, remains_of}
 use Rattle.turn.specs.declared.turns.Turn.{Turn}
-use Rattle.leases.specs.declared.kept.KeptQuery.{KeptQuery}
+use Rattle.leases.specs.declared.remains.Remains.{Remains}
 
 -- THE TURNS that are out
 pub turn_in : (gs : List Turn) (g : Turn) → IsIn gs g → IsIn (map lease_of gs) (lease_of g)
@@ -56,30 +56,30 @@ none_numbered gs n e l i same =
     cc
 
 -- WHAT IS LEFT of queries
-pub item_kept : (ks : List KeptQuery) (n : ℕ) (d : KeptQuery) (p : PlainQuery) → get_or (map kept_of ks) n Dropped ≡ Running p → kept_of (get_or ks n d) ≡ Running p
-item_kept [] n d p e = absurd (cc)
-item_kept (k ∷ ks) zero d p e = e
-item_kept (k ∷ ks) (suc n) d p e = item_kept ks n d p e
+pub item_remains : (ks : List Remains) (n : ℕ) (d : Remains) (p : PlainQuery) → get_or (map remains_of ks) n Dropped ≡ Running p → remains_of (get_or ks n d) ≡ Running p
+item_remains [] n d p e = absurd (cc)
+item_remains (k ∷ ks) zero d p e = e
+item_remains (k ∷ ks) (suc n) d p e = item_remains ks n d p e
 
-pub item_within : (ks : List KeptQuery) (n : ℕ) (p : PlainQuery) → get_or (map kept_of ks) n Dropped ≡ Running p → n < length ks
+pub item_within : (ks : List Remains) (n : ℕ) (p : PlainQuery) → get_or (map remains_of ks) n Dropped ≡ Running p → n < length ks
 item_within [] n p e = absurd (cc)
 item_within (k ∷ ks) zero p e = omega arith
 item_within (k ∷ ks) (suc n) p e = let h = item_within ks n p e in omega (arith, h)
 
-pub kept_set : (ks : List KeptQuery) (n : ℕ) (k : KeptQuery) → map kept_of (set ks n k) ≡ set (map kept_of ks) n (kept_of k)
-kept_set ks n k = map-set kept_of ks n k
+pub remains_set : (ks : List Remains) (n : ℕ) (k : Remains) → map remains_of (set ks n k) ≡ set (map remains_of ks) n (remains_of k)
+remains_set ks n k = map-set remains_of ks n k
 
-pub kept_set_here : (ks : List KeptQuery) (n : ℕ) (k : KeptQuery) → n < length ks → get_or (map kept_of (set ks n k)) n Dropped ≡ kept_of k
-kept_set_here ks n k h = ap (λ z. get_or z n Dropped) (kept_set ks n k) ∙ get_or-set_same (map kept_of ks) n (kept_of k) Dropped (omega (arith, h, length-map ks kept_of))
+pub remains_set_here : (ks : List Remains) (n : ℕ) (k : Remains) → n < length ks → get_or (map remains_of (set ks n k)) n Dropped ≡ remains_of k
+remains_set_here ks n k h = ap (λ z. get_or z n Dropped) (remains_set ks n k) ∙ get_or-set_same (map remains_of ks) n (remains_of k) Dropped (omega (arith, h, length-map ks remains_of))
 
 -- one of them is written, at a number that is spelt in two ways
-pub kept_written : (ks : List KeptQuery) (n m : ℕ) (k : KeptQuery) (kept : Kept) → n ≡ m → kept_of k ≡ kept → map kept_of (set ks n k) ≡ set (map kept_of ks) m kept
-kept_written ks n m k kept same is = kept_set ks n k ∙ ap (λ z. set (map kept_of ks) z (kept_of k)) same ∙ ap (set (map kept_of ks) m) is
+pub remains_written : (ks : List Remains) (n m : ℕ) (k : Remains) (remains : PlainRemains) → n ≡ m → remains_of k ≡ remains → map remains_of (set ks n k) ≡ set (map remains_of ks) m remains
+remains_written ks n m k remains same is = remains_set ks n k ∙ ap (λ z. set (map remains_of ks) z (remains_of k)) same ∙ ap (set (map remains_of ks) m) is
 
-pub kept_written_here : (ks : List KeptQuery) (n m : ℕ) (k : KeptQuery) (kept : Kept) (p : PlainQuery) → n ≡ m → get_or (map kept_of ks) m Dropped ≡ Running p → kept_of k ≡ kept → get_or (map kept_of (set ks n k)) n Dropped ≡ kept
-kept_written_here ks n m k kept p same running is =
-    let at : get_or (map kept_of ks) n Dropped ≡ Running p = ap (λ z. get_or (map kept_of ks) z Dropped) same ∙ running in
-    kept_set_here ks n k (item_within ks n p at) ∙ is
+pub remains_written_here : (ks : List Remains) (n m : ℕ) (k : Remains) (remains : PlainRemains) (p : PlainQuery) → n ≡ m → get_or (map remains_of ks) m Dropped ≡ Running p → remains_of k ≡ remains → get_or (map remains_of (set ks n k)) n Dropped ≡ remains
+remains_written_here ks n m k remains p same running is =
+    let at : get_or (map remains_of ks) n Dropped ≡ Running p = ap (λ z. get_or (map remains_of ks) z Dropped) same ∙ running in
+    remains_set_here ks n k (item_within ks n p at) ∙ is
 
-pub item_running : (ks : List KeptQuery) (n m : ℕ) (k : KeptQuery) (p : PlainQuery) → n ≡ m → get_or (map kept_of ks) m Dropped ≡ Running p → k ≡ get_or ks n k → kept_of k ≡ Running p
-item_running ks n m k p same running is = ap kept_of is ∙ item_kept ks n k p (ap (λ z. get_or (map kept_of ks) z Dropped) same ∙ running)
+pub item_running : (ks : List Remains) (n m : ℕ) (k : Remains) (p : PlainQuery) → n ≡ m → get_or (map remains_of ks) m Dropped ≡ Running p → k ≡ get_or ks n k → remains_of k ≡ Running p
+item_running ks n m k p same running is = ap remains_of is ∙ item_remains ks n k p (ap (λ z. get_or (map remains_of ks) z Dropped) same ∙ running)

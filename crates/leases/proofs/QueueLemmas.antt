@@ -11,7 +11,7 @@ use Rattle.reference.specs.declared.fault.Fault.{Fault}
 use Rattle.laws_queries.specs.Queries.{node_at, operator_at, source_of}
 use Rattle.laws_queries.proofs.AppendLemmas.{append_logs}
 use Rattle.laws_engine.specs.Calls.{appended}
-use Rattle.laws_engine.specs.Engines.{Broken, Dropped, Kept, PlainEngine, Running, kept_at, query_at, world_of}
+use Rattle.laws_engine.specs.Engines.{Broken, Dropped, PlainEngine, PlainRemains, Running, query_at, remains_at, world_of}
 use Rattle.leases.specs.Queues.{LeavesQueues, queue_in}
 use Rattle.leases.specs.Shown.{engine_in}
 use Rattle.leases.specs.declared.state.State.{State}
@@ -21,19 +21,19 @@ leaves_all : (e : PlainEngine) → LeavesQueues e e
 leaves_all e = record { queues = λ n k side. refl; answers = λ n. refl }
 
 module _ (e : PlainEngine) (s : ℕ) (rows : List (ℤ × List (Option ℤ))) (accepted : first_fault e.machine (Append s rows) ≡ None) where
-  queue_left : (q : Registered) (kept : Kept) (k : ℕ) (side : Side) → queue_in (after e.machine (Append s rows) 0) q kept k side ≡ queue_in e.machine q kept k side
+  queue_left : (q : Registered) (remains : PlainRemains) (k : ℕ) (side : Side) → queue_in (after e.machine (Append s rows) 0) q remains k side ≡ queue_in e.machine q remains k side
   queue_left q (Running p) k side =
       ap (λ log. waiting (operator_at p.operators k) log side) (append_logs e.machine s rows accepted (source_of q (node_at q k)))
   queue_left q (Broken answers) k side = refl
   queue_left q Dropped k side = refl
 
-  queue_found : (found : Option Registered) (kept : Kept) (k : ℕ) (side : Side)
-      → option_map_or (λ q. queue_in (after e.machine (Append s rows) 0) q kept k side) found [] ≡ option_map_or (λ q. queue_in e.machine q kept k side) found []
-  queue_found None kept k side = refl
-  queue_found (Some q) kept k side = queue_left q kept k side
+  queue_found : (found : Option Registered) (remains : PlainRemains) (k : ℕ) (side : Side)
+      → option_map_or (λ q. queue_in (after e.machine (Append s rows) 0) q remains k side) found [] ≡ option_map_or (λ q. queue_in e.machine q remains k side) found []
+  queue_found None remains k side = refl
+  queue_found (Some q) remains k side = queue_left q remains k side
 
   append_leaves : LeavesQueues e (appended e s rows)
-  append_leaves = record { queues = λ n k side. queue_found (query_at e n) (kept_at e n) k side; answers = λ n. refl }
+  append_leaves = record { queues = λ n k side. queue_found (query_at e n) (remains_at e n) k side; answers = λ n. refl }
 
 was_accepted : (old next new : World) (first : Option Fault) (a : ⊤) → Does (λ (u : ⊤). u) old (unless first old tt next) (Ok a) new → first ≡ None
 was_accepted old next new None a h = refl

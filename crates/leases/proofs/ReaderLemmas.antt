@@ -18,7 +18,7 @@ use Rattle.laws_queries.specs.Machines.{widths_of}
 use Rattle.laws_queries.specs.Queries.{IsLeftInbox, IsRunning, PlainQuery, log_at, node_at, operator_at}
 use Rattle.run_queue.specs.declared.slots.Slot.{Slot}
 use Rattle.laws_engine.specs.Asks.{IsOperator}
-use Rattle.laws_engine.specs.Engines.{Broken, Dropped, Goes, GoodEngine, IsKept, Kept, PlainEngine, Running, kept_at, query_at, slot_at, slot_of}
+use Rattle.laws_engine.specs.Engines.{AreRemains, Broken, Dropped, Goes, GoodEngine, PlainEngine, PlainRemains, Running, query_at, remains_at, slot_at, slot_of}
 use Rattle.laws_engine.proofs.AskLemmas.{may_ask}
 use Rattle.laws_engine.proofs.PromiseLemmas.{slot_is}
 use Rattle.plan.proofs.Lists.{by_test}
@@ -30,8 +30,8 @@ use Rattle.leases.specs.Asked.{HasOperatorAt}
 use Rattle.reference.proofs.StepLemmas.{get_or-map}
 use Rattle.leases.specs.Readers.{HasSource, idle_slot, is_idle_at, is_idle_in, with_update, with_updates, with_slots}
 use Rattle.leases.specs.Shown.{engine_in}
-use Rattle.leases.specs.Views.{kept_of, query_of}
-use Rattle.leases.specs.declared.kept.KeptQuery.{KeptQuery}
+use Rattle.leases.specs.Views.{query_of, remains_of}
+use Rattle.leases.specs.declared.remains.Remains.{Remains}
 use Rattle.leases.specs.declared.registered.Registration.{Registration}
 use Rattle.leases.specs.declared.state.State.{State}
 
@@ -60,10 +60,10 @@ pub some_query : {a b : Registered} → Some a ≡ Some b → a ≡ b
 some_query e = cc
 
 -- AN OPERATOR of a running query of a good engine
-module _ (e : PlainEngine) (g : GoodEngine e) (n k : ℕ) (q : Registered) (p : PlainQuery) (r : query_at e n ≡ Some q) (running : kept_at e n ≡ Running p) (within : k < length q.nodes) where
+module _ (e : PlainEngine) (g : GoodEngine e) (n k : ℕ) (q : Registered) (p : PlainQuery) (r : query_at e n ≡ Some q) (running : remains_at e n ≡ Running p) (within : k < length q.nodes) where
   pub has_source : HasSource q (node_at q k)
   has_source =
-      let goes : Goes e.machine q p = subst (IsKept e.machine q) running (g.queries n q r) in
+      let goes : Goes e.machine q p = subst (AreRemains e.machine q) running (g.queries n q r) in
       source_of_running (widths_of e.machine.streams q) goes.widths e.machine q p.operators (goes.taken ++ p.answers) k goes.runs.runs within
 
   pub has_operator_at : HasOperatorAt e n k
@@ -72,14 +72,14 @@ module _ (e : PlainEngine) (g : GoodEngine e) (n k : ℕ) (q : Registered) (p : 
       (q, (p, record { registered = r; running = running; within = within; operator = (may_ask e g).operators n k q p o; log = (may_ask e g).logs n k q p o }))
 
 -- A QUERY OF THIS NUMBER, if one runs there: it is registered, and has as many operators as its plan has nodes
-pub runs_at : (e : PlainEngine) → GoodEngine e → (n : ℕ) (p : PlainQuery) → kept_at e n ≡ Running p → (q : Registered) × ((query_at e n ≡ Some q) × (length p.operators ≡ length q.nodes))
+pub runs_at : (e : PlainEngine) → GoodEngine e → (n : ℕ) (p : PlainQuery) → remains_at e n ≡ Running p → (q : Registered) × ((query_at e n ≡ Some q) × (length p.operators ≡ length q.nodes))
 runs_at e g n p running =
     let within : n < length e.queries = there e.queries n running in
     let r = some_at e.machine.queries n (omega (arith, within, g.many)) in
-    let goes : Goes e.machine r.0 p = subst (IsKept e.machine r.0) running (g.queries n r.0 r.1) in
+    let goes : Goes e.machine r.0 p = subst (AreRemains e.machine r.0) running (g.queries n r.0 r.1) in
     (r.0, (r.1, goes.runs.runs.many))
   where
-    there : (ks : List Kept) (i : ℕ) → get_or ks i Dropped ≡ Running p → i < length ks
+    there : (ks : List PlainRemains) (i : ℕ) → get_or ks i Dropped ≡ Running p → i < length ks
     there [] i h = absurd (cc)
     there (k ∷ ks) zero h = omega arith
     there (k ∷ ks) (suc i) h = let l : i < length ks = there ks i h in omega (arith, l)
@@ -89,7 +89,7 @@ runs_at e g n p running =
     some_at (q ∷ qs) zero l = (q, refl)
     some_at (q ∷ qs) (suc i) l = some_at qs i (omega (arith, l))
 
-module _ (e : PlainEngine) (g : GoodEngine e) (n k : ℕ) (p : PlainQuery) (running : kept_at e n ≡ Running p) (within : k < length p.operators) where
+module _ (e : PlainEngine) (g : GoodEngine e) (n k : ℕ) (p : PlainQuery) (running : remains_at e n ≡ Running p) (within : k < length p.operators) where
   abbrev found : (q : Registered) × ((query_at e n ≡ Some q) × (length p.operators ≡ length q.nodes))
   found = runs_at e g n p running
 
@@ -103,7 +103,7 @@ module _ (e : PlainEngine) (g : GoodEngine e) (n k : ℕ) (p : PlainQuery) (runn
   has_slot = (found.0, (found.1.0, is_operator.within))
 
 -- one that has nothing to take is there
-rests_running : (streams : List Stream) (k : ℕ) (kept : Kept) → is_idle_in streams k kept ≡ true → (p : PlainQuery) × ((kept ≡ Running p) × (k < length p.operators))
+rests_running : (streams : List Stream) (k : ℕ) (remains : PlainRemains) → is_idle_in streams k remains ≡ true → (p : PlainQuery) × ((remains ≡ Running p) × (k < length p.operators))
 rests_running streams k (Running p) h = by_test (nat_lt k (length p.operators))
     (λ t. (p, (refl, ltb-true k (length p.operators) t)))
     (λ f. let bad : false ≡ true = rw f at h in absurd (cc))
@@ -112,13 +112,13 @@ rests_running streams k Dropped h = absurd (cc)
 
 pub resting_asked : (e : PlainEngine) → GoodEngine e → (n k : ℕ) → is_idle_at e n k ≡ true → HasOperatorAt e n k
 resting_asked e g n k h =
-    let r = rests_running e.machine.streams k (kept_at e n) h in
+    let r = rests_running e.machine.streams k (remains_at e n) h in
     let s = has_slot e g n k r.0 r.1.0 r.1.1 in
     has_operator_at e g n k s.0 r.0 s.1.0 r.1.0 s.1.1
 
-pub resting_comes : (e : PlainEngine) → GoodEngine e → (n k : ℕ) (x : Slot) → is_idle_at e n k ≡ true → ((q : Registered) (p : PlainQuery) → query_at e n ≡ Some q → kept_at e n ≡ Running p → x ≡ slot_at e n q p k) → idle_slot e n k ≡ x ∷ []
+pub resting_comes : (e : PlainEngine) → GoodEngine e → (n k : ℕ) (x : Slot) → is_idle_at e n k ≡ true → ((q : Registered) (p : PlainQuery) → query_at e n ≡ Some q → remains_at e n ≡ Running p → x ≡ slot_at e n q p k) → idle_slot e n k ≡ x ∷ []
 resting_comes e g n k x h is =
-    let r = rests_running e.machine.streams k (kept_at e n) h in
+    let r = rests_running e.machine.streams k (remains_at e n) h in
     let s = has_slot e g n k r.0 r.1.0 r.1.1 in
     let here : slot_of e n k ≡ Some x = slot_is e n k s.0 r.0 s.1.0 r.1.0 s.1.1 ∙ ap Some (sym (is s.0 r.0 s.1.0 r.1.0)) in
     rw (h, here) refl
@@ -129,18 +129,18 @@ none_by (Some z) h = absurd (cc)
 
 pub resting_rests : (e : PlainEngine) → GoodEngine e → (s n k : ℕ) → IsResting e s n k → is_idle_at e n k ≡ true
 resting_rests e g s n k is =
-    let found = runs_at e g n is.kept is.running in
+    let found = runs_at e g n is.plain is.running in
     let same : found.0 ≡ is.query = some_query (sym found.1.0 ∙ is.registered) in
-    let many : length is.kept.operators ≡ length is.query.nodes = found.1.1 ∙ ap (λ (z : Registered). length z.nodes) same in
-    let within : k < length is.kept.operators = omega (arith, many, is.within) in
-    let inside : nat_lt k (length is.kept.operators) ≡ true = lt-ltb k (length is.kept.operators) within in
-    let log = (may_ask e g).logs n k is.query is.kept (record { registered = is.registered; running = is.running; within = is.within }) in
-    let nothing : is_none (ready (operator_at is.kept.operators k) (log_of e.machine.streams is.kept k)) ≡ true =
-    ap (λ x. is_none (ready (operator_at is.kept.operators k) x)) log ∙ ap is_none (none_by (ready (operator_at is.kept.operators k) (log_at e.machine is.query k)) is.empty) in
+    let many : length is.plain.operators ≡ length is.query.nodes = found.1.1 ∙ ap (λ (z : Registered). length z.nodes) same in
+    let within : k < length is.plain.operators = omega (arith, many, is.within) in
+    let inside : nat_lt k (length is.plain.operators) ≡ true = lt-ltb k (length is.plain.operators) within in
+    let log = (may_ask e g).logs n k is.query is.plain (record { registered = is.registered; running = is.running; within = is.within }) in
+    let nothing : is_none (ready (operator_at is.plain.operators k) (log_of e.machine.streams is.plain k)) ≡ true =
+    ap (λ x. is_none (ready (operator_at is.plain.operators k) x)) log ∙ ap is_none (none_by (ready (operator_at is.plain.operators k) (log_at e.machine is.query k)) is.empty) in
     ap (is_idle_in e.machine.streams k) is.running ∙ ap₂ (λ a b. a && b) inside nothing
 
-pub kept_looked : (ks vs : List KeptQuery) (n : ℕ) (k : KeptQuery) → vs ≡ ks → true ≡ nat_lt n (length vs) → k ≡ get_or vs n k → get_or (map kept_of ks) n Dropped ≡ kept_of k
-kept_looked ks vs n k same within is = ap (λ z. get_or (map kept_of z) n Dropped) (sym same) ∙ get_or-map kept_of vs n k Dropped (ltb-true n (length vs) (sym within)) ∙ ap kept_of (sym is)
+pub remains_looked : (ks vs : List Remains) (n : ℕ) (k : Remains) → vs ≡ ks → true ≡ nat_lt n (length vs) → k ≡ get_or vs n k → get_or (map remains_of ks) n Dropped ≡ remains_of k
+remains_looked ks vs n k same within is = ap (λ z. get_or (map remains_of z) n Dropped) (sym same) ∙ get_or-map remains_of vs n k Dropped (ltb-true n (length vs) (sym within)) ∙ ap remains_of (sym is)
 
 -- TOLD: the next of the slots
 pub told_next : (e : PlainEngine) (ss : List Slot) (k : ℕ) (s : Slot) (slots : List Slot) → k < length ss → s ≡ get_or ss k s → with_updates e (drop k ss) slots ≡ with_updates e (drop (k + 1) ss) (with_update e s slots)

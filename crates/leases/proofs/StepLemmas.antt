@@ -10,7 +10,7 @@ use Rattle.query_runtime.specs.Turns.{wire_at}
 use Rattle.run_queue.specs.Slots.{changed, first_of, slot, with_instant, without_query}
 use Rattle.run_queue.specs.declared.slots.Slot.{Slot}
 use Rattle.laws_engine.specs.Calls.{IsOf, broken, of_others, others}
-use Rattle.laws_engine.specs.Engines.{GoodEngine, HasSlots, IsIn, IsLease, Lease, PlainEngine, Running, instant_at, is_leased, is_of, kept_at, query_at, slope_at, slot_at, slot_of}
+use Rattle.laws_engine.specs.Engines.{GoodEngine, HasSlots, IsIn, IsLease, Lease, PlainEngine, Running, instant_at, is_leased, is_of, query_at, remains_at, slope_at, slot_at, slot_of}
 use Rattle.laws_engine.proofs.BackLemmas.{same_plain, same_query, unequal}
 use Rattle.laws_engine.proofs.LeaseLemmas.{lease_good}
 use Rattle.laws_engine.proofs.PromiseLemmas.{first_in, slot_is}
@@ -32,7 +32,7 @@ use Rattle.leases.proofs.FinishSoundLemmas.{sound_broken}
 use Rattle.leases.proofs.LeaseLemmas.{any_last, out_of, some_slot, turn_out}
 use Rattle.leases.proofs.LeaveLemmas.{fewer}
 use Rattle.leases.proofs.LookLemmas.{asks_on, tells_on}
-use Rattle.leases.proofs.RetoldLemmas.{changed_again, changed_leaves}
+use Rattle.leases.proofs.UpdateLemmas.{changed_again, changed_leaves}
 
 -- A NUMBER is counted
 abbrev pub counted : State → State
@@ -43,7 +43,7 @@ counted_lease e l is = record {
   numbered = omega (arith, is.numbered);
   query = is.query;
   registered = is.registered;
-  kept = is.kept;
+  plain = is.plain;
   running = is.running;
   within = is.within;
   first = is.first;
@@ -52,7 +52,7 @@ counted_lease e l is = record {
 
 counted_slots : (e : PlainEngine) → HasSlots (slot_of e) e.slots → HasSlots (slot_of (record e { next = e.next + 1 })) e.slots
 counted_slots e h =
-    let same : (n k : ℕ) → slot_of (record e { next = e.next + 1 }) n k ≡ slot_of e n k = λ n k. same_slot_in e e.queries e.leases (e.next + 1) e.slots n k refl (query_at e n) (kept_at e n) in
+    let same : (n k : ℕ) → slot_of (record e { next = e.next + 1 }) n k ≡ slot_of e n k = λ n k. same_slot_in e e.queries e.leases (e.next + 1) e.slots n k refl (query_at e n) (remains_at e n) in
     record { ordered = h.ordered; there = λ n k s is. h.there n k s (sym (same n k) ∙ is); only = λ s i. same s.query s.operator ∙ h.only s i }
 
 counted_good : (e : PlainEngine) → GoodEngine e → GoodEngine (record e { next = e.next + 1 })
@@ -112,12 +112,12 @@ module _ (old : State) (s : Slot) (rows : ℕ) (d : Parts) (sound : IsSound old)
   goes = turn_out (engine_in old) s run.side rows sound.good first allowed t run.made
 
   good : GoodEngine e1
-  good = subst GoodEngine (sym goes.after) (lease_good (engine_in old) (lease_of t) goes.query goes.kept goes.slot sound.good goes.leasable)
+  good = subst GoodEngine (sym goes.after) (lease_good (engine_in old) (lease_of t) goes.query goes.plain goes.slot sound.good goes.leasable)
 
   out : IsOutIn e1 d
   out =
-      let of : IsOf e1 (lease_of_parts d) goes.query goes.kept = record { registered = goes.leasable.of.registered; running = goes.leasable.of.running; within = goes.leasable.of.within } in
-      (goes.query, (goes.kept, record { out = in_end (engine_in old).leases (lease_of t); of = of; kind = goes.kind }))
+      let of : IsOf e1 (lease_of_parts d) goes.query goes.plain = record { registered = goes.leasable.of.registered; running = goes.leasable.of.running; within = goes.leasable.of.within } in
+      (goes.query, (goes.plain, record { out = in_end (engine_in old).leases (lease_of t); of = of; kind = goes.kind }))
 
   query_is : s.query ≡ d.node.query
   query_is = sym (ap (λ v. v.query) run.made.1.node)
@@ -131,8 +131,8 @@ module _ (old : State) (s : Slot) (rows : ℕ) (d : Parts) (sound : IsSound old)
   there : IsIn old.slots s
   there = (first_in old.slots s first).0
 
-  running : kept_at e1 s.query ≡ Running out.1.0
-  running = ap (kept_at e1) query_is ∙ out.1.1.of.running
+  running : remains_at e1 s.query ≡ Running out.1.0
+  running = ap (remains_at e1) query_is ∙ out.1.1.of.running
 
   others_left : others d.lease e1.leases ≡ (engine_in old).leases
   others_left = drain.all_left (engine_in old).leases (lease_of t) (λ a i. omega (arith, (sound.good.leases a i).numbered, number_is))
@@ -191,7 +191,7 @@ module _ (old : State) (s : Slot) (rows : ℕ) (d : Parts) (sound : IsSound old)
         let same_operator : (d.node.operator == s.operator) ≡ true = eq-eqb d.node.operator s.operator (sym operator_is) in
         any_last (is_of s.query s.operator) (engine_in old).leases (lease_of t) (rw (same_query, same_operator) refl)
 
-    slot_here : (q : Registered) (p : PlainQuery) → query_at e1 s.query ≡ Some q → kept_at e1 s.query ≡ Running p → with_instant s None ≡ slot_at e1 s.query q p s.operator
+    slot_here : (q : Registered) (p : PlainQuery) → query_at e1 s.query ≡ Some q → remains_at e1 s.query ≡ Running p → with_instant s None ≡ slot_at e1 s.query q p s.operator
     slot_here q p registered is =
         let here = may_look_here in
         let same : here.0 ≡ q = same_query (sym here.1.1.registered ∙ registered) in
@@ -200,7 +200,7 @@ module _ (old : State) (s : Slot) (rows : ℕ) (d : Parts) (sound : IsSound old)
         let none : instant_at e1 s.query q p s.operator ≡ None = rw leased_here refl in
         ap (λ z. with_instant z None) (sym was) ∙ ap (λ i. slot (slope_at q s.operator) i s.query s.operator) (sym none)
 
-    later : (p : PlainQuery) → kept_at e1 s.query ≡ Running p → s.operator + 1 < length p.operators → s.operator < (wire_at p s.operator).to
+    later : (p : PlainQuery) → remains_at e1 s.query ≡ Running p → s.operator + 1 < length p.operators → s.operator < (wire_at p s.operator).to
     later p is =
         let same : out.1.0 ≡ p = same_plain (sym running ∙ is) in
         subst (λ (z : PlainQuery). s.operator + 1 < length z.operators → s.operator < (wire_at z s.operator).to) same

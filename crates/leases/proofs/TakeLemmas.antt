@@ -23,17 +23,17 @@ use Rattle.reference.specs.declared.fault.Fault.TheVariants as fault
 use Rattle.reference.specs.declared.fault.Fault.TheVariants.{Query, BadName, NameTaken, BadColumns, TooMany, UnknownStream, UnknownQuery, BadWidth, ValueRange, InstantRange, Late, Backward, Leap, StreamFull, BadLimit, UnknownLease, Stranger, TooManyLeases, HistoryFull, OutOfMemory, Foreign}
 use Rattle.laws_queries.specs.Registrations.{HaveColumnNames}
 use Rattle.laws_queries.specs.Queries.{PlainQuery, operator_at}
-use Rattle.laws_engine.specs.Calls.{IsTake, kept_after, taken}
-use Rattle.laws_engine.specs.Engines.{Broken, Dropped, GoodEngine, IsIn, Kept, PlainEngine, Running, answers_in, kept_at, query_at}
+use Rattle.laws_engine.specs.Calls.{IsTake, remains_after, taken}
+use Rattle.laws_engine.specs.Engines.{Broken, Dropped, GoodEngine, IsIn, PlainEngine, PlainRemains, Running, answers_in, query_at, remains_at}
 use Rattle.laws_engine.proofs.TakeLemmas.{take_good}
 use Rattle.leases.specs.Readers.{readers_from, readers_of, runs}
 use Rattle.leases.proofs.ListedLemmas.{readers_changed}
 use Rattle.leases.specs.Shown.{engine_in}
 use Rattle.leases.specs.Sound.{IsSound, is_gone}
 use Rattle.leases.specs.Takes.{HandsOut, Takes, count_in, count_of}
-use Rattle.leases.specs.Views.{HasKind, kept_of, query_of}
+use Rattle.leases.specs.Views.{HasKind, query_of, remains_of}
 use Rattle.turn.specs.declared.turns.Turn.{Turn}
-use Rattle.leases.specs.declared.kept.KeptQuery.{KeptQuery}
+use Rattle.leases.specs.declared.remains.Remains.{Remains}
 use Rattle.leases.specs.declared.limits.TheConstants.{LEASE_NUMBERS, MAX_LEASES}
 use Rattle.leases.specs.declared.registered.Registration.{Registration}
 use Rattle.leases.specs.declared.state.State.{State}
@@ -65,20 +65,20 @@ registered_within s n limit h =
     let within : n < length (map query_of s.registered.items) = slice_get_within (engine_in s).machine.queries n q.0 q.1 in
     subst (λ z. n < z) (length-map s.registered.items query_of) within
 
-pub kept_within : (s : State) (n : ℕ) (limit : ℤ) → IsSound s → first_fault (engine_in s).machine (Take n limit) ≡ None → n < length s.kept.items
-kept_within s n limit sound h =
+pub remains_within : (s : State) (n : ℕ) (limit : ℤ) → IsSound s → first_fault (engine_in s).machine (Take n limit) ≡ None → n < length s.remains.items
+remains_within s n limit sound h =
     let a : n < length s.registered.items = registered_within s n limit h in
-    let b : length (map kept_of s.kept.items) ≡ length (map query_of s.registered.items) = sound.good.many in
-    omega (arith, a, b, length-map s.kept.items kept_of, length-map s.registered.items query_of)
+    let b : length (map remains_of s.remains.items) ≡ length (map query_of s.registered.items) = sound.good.many in
+    omega (arith, a, b, length-map s.remains.items remains_of, length-map s.registered.items query_of)
 
 -- what is left of it
-pub kept_is : (s : State) (n : ℕ) (x : KeptQuery) → n < length s.kept.items → x ≡ get_or s.kept.items n x → kept_at (engine_in s) n ≡ kept_of x
-kept_is s n x within is = get_or-map kept_of s.kept.items n x Dropped within ∙ ap kept_of (sym is)
+pub remains_is : (s : State) (n : ℕ) (x : Remains) → n < length s.remains.items → x ≡ get_or s.remains.items n x → remains_at (engine_in s) n ≡ remains_of x
+remains_is s n x within is = get_or-map remains_of s.remains.items n x Dropped within ∙ ap remains_of (sym is)
 
-pub signed_at : (s : State) (n : ℕ) (limit : ℤ) (x : KeptQuery) → IsSound s → first_fault (engine_in s).machine (Take n limit) ≡ None → x ≡ get_or s.kept.items n x → are_signed (answers_in (kept_of x)) ≡ true
+pub signed_at : (s : State) (n : ℕ) (limit : ℤ) (x : Remains) → IsSound s → first_fault (engine_in s).machine (Take n limit) ≡ None → x ≡ get_or s.remains.items n x → are_signed (answers_in (remains_of x)) ≡ true
 signed_at s n limit x sound h is =
     let q = query_there (engine_in s) n limit h in
-    subst (λ k. are_signed (answers_in k) ≡ true) (kept_is s n x (kept_within s n limit sound h) is) (waiting_signed (engine_in s) n q.0 sound.good sound.closed q.1)
+    subst (λ k. are_signed (answers_in k) ≡ true) (remains_is s n x (remains_within s n limit sound h) is) (waiting_signed (engine_in s) n q.0 sound.good sound.closed q.1)
 
 -- HOW MANY were taken
 slice_at : {X : Type 0} (xs : List X) (n : ℕ) (x d : X) → slice_get xs n ≡ Some x → get_or xs n d ≡ x
@@ -90,13 +90,13 @@ pub taken_at : (s : State) (n : ℕ) (q : Registered) (r : Registration) → n <
 taken_at s n q r within at is =
     sym (slice_at (map query_of s.registered.items) n q (query_of r) at) ∙ get_or-map query_of s.registered.items n r (query_of r) within ∙ ap query_of (sym is)
 
-pub room_at : (s : State) (n : ℕ) (limit : ℤ) (x : KeptQuery) (r : Registration) (count : ℕ) → IsSound s → first_fault (engine_in s).machine (Take n limit) ≡ None → x ≡ get_or s.kept.items n x → r ≡ get_or s.registered.items n r
-    → count ≤ length (answers_in (kept_of x)) → r.taken + count < 2 ^ 101
-room_at s n limit x r count sound h is_kept is_registered few =
+pub room_at : (s : State) (n : ℕ) (limit : ℤ) (x : Remains) (r : Registration) (count : ℕ) → IsSound s → first_fault (engine_in s).machine (Take n limit) ≡ None → x ≡ get_or s.remains.items n x → r ≡ get_or s.registered.items n r
+    → count ≤ length (answers_in (remains_of x)) → r.taken + count < 2 ^ 101
+room_at s n limit x r count sound h is_remains is_registered few =
     let q = query_there (engine_in s) n limit h in
     let room = taken_room (engine_in s) n q.0 sound.good sound.closed q.1 in
     let same : q.0.taken ≡ r.taken = ap (λ z. z.taken) (taken_at s n q.0 r (registered_within s n limit h) q.1 is_registered) in
-    let waits : length (answers_in (kept_at (engine_in s) n)) ≡ length (answers_in (kept_of x)) = ap (λ k. length (answers_in k)) (kept_is s n x (kept_within s n limit sound h) is_kept) in
+    let waits : length (answers_in (remains_at (engine_in s) n)) ≡ length (answers_in (remains_of x)) = ap (λ k. length (answers_in k)) (remains_is s n x (remains_within s n limit sound h) is_remains) in
     omega (arith, room, same, waits, few)
 
 -- as many rows as were handed out
@@ -107,30 +107,30 @@ handed_many rows waits count h few =
     let c : length (handed (take count waits)) ≡ length (take count waits) = length-map (take count waits) _ in
     omega (arith, a, b, c, length-take count waits)
 
-pub rows_many : (rows : List (ℤ × ArrayVec (Option ℤ))) (k : Kept) (limit : ℕ) → handed_of rows ≡ handed (take (count_in k limit) (answers_in k)) → length rows ≡ count_in k limit
+pub rows_many : (rows : List (ℤ × ArrayVec (Option ℤ))) (k : PlainRemains) (limit : ℕ) → handed_of rows ≡ handed (take (count_in k limit) (answers_in k)) → length rows ≡ count_in k limit
 rows_many rows k limit h = handed_many rows (answers_in k) (count_in k limit) h (omega arith)
 
-pub few_handed : (k : Kept) (limit : ℕ) → count_in k limit ≤ length (answers_in k)
+pub few_handed : (k : PlainRemains) (limit : ℕ) → count_in k limit ≤ length (answers_in k)
 few_handed k limit = omega arith
 
 -- THE ENGINE after a take that is refused is as it was
-abbrev with_kept : PlainEngine → List Kept → PlainEngine
-with_kept e ks = record e { queries = ks }
+abbrev with_remains : PlainEngine → List PlainRemains → PlainEngine
+with_remains e ks = record e { queries = ks }
 
-pub stays : (s : State) (e2 : PlainEngine) (n : ℕ) (x y : KeptQuery) → n < length s.kept.items → x ≡ get_or s.kept.items n x → kept_of y ≡ kept_of x → e2 ≡ with_kept (engine_in s) (map kept_of (set s.kept.items n y)) → e2 ≡ engine_in s
-stays s e2 n x y within is same made = made ∙ ap (with_kept (engine_in s)) (map-set_same kept_of s.kept.items n y x (same ∙ ap kept_of is))
+pub stays : (s : State) (e2 : PlainEngine) (n : ℕ) (x y : Remains) → n < length s.remains.items → x ≡ get_or s.remains.items n x → remains_of y ≡ remains_of x → e2 ≡ with_remains (engine_in s) (map remains_of (set s.remains.items n y)) → e2 ≡ engine_in s
+stays s e2 n x y within is same made = made ∙ ap (with_remains (engine_in s)) (map-set_same remains_of s.remains.items n y x (same ∙ ap remains_of is))
 
 -- after one that hands out answers it is what the take makes of it
-abbrev with_both : PlainEngine → List Registered → List Kept → PlainEngine
+abbrev with_both : PlainEngine → List Registered → List PlainRemains → PlainEngine
 with_both e qs ks = record e { machine = record { streams = e.machine.streams; queries = qs }; queries = ks }
 
-pub is_taken : (s : State) (e2 : PlainEngine) (n : ℕ) (limit : ℤ) (x y : KeptQuery) (r r2 : Registration) (count : ℕ) → n < length s.kept.items → n < length s.registered.items → x ≡ get_or s.kept.items n x → r ≡ get_or s.registered.items n r
-    → kept_of y ≡ kept_after count (kept_of x) → query_of r2 ≡ took count (query_of r) → e2 ≡ with_both (engine_in s) (map query_of (set s.registered.items n r2)) (map kept_of (set s.kept.items n y))
+pub is_taken : (s : State) (e2 : PlainEngine) (n : ℕ) (limit : ℤ) (x y : Remains) (r r2 : Registration) (count : ℕ) → n < length s.remains.items → n < length s.registered.items → x ≡ get_or s.remains.items n x → r ≡ get_or s.registered.items n r
+    → remains_of y ≡ remains_after count (remains_of x) → query_of r2 ≡ took count (query_of r) → e2 ≡ with_both (engine_in s) (map query_of (set s.registered.items n r2)) (map remains_of (set s.remains.items n y))
     → e2 ≡ taken (engine_in s) n limit count
-is_taken s e2 n limit x y r r2 count here there is_kept is_registered keeps takes made =
+is_taken s e2 n limit x y r r2 count here there is_remains is_registered keeps takes made =
     made
-    ∙ ap (λ qs. with_both (engine_in s) qs (map kept_of (set s.kept.items n y))) (set-change query_of (took count) s.registered.items n r2 r there (takes ∙ ap (λ z. took count (query_of z)) is_registered))
-    ∙ ap (with_both (engine_in s) (change n (took count) (map query_of s.registered.items))) (set-change kept_of (kept_after count) s.kept.items n y x here (keeps ∙ ap (λ z. kept_after count (kept_of z)) is_kept))
+    ∙ ap (λ qs. with_both (engine_in s) qs (map remains_of (set s.remains.items n y))) (set-change query_of (took count) s.registered.items n r2 r there (takes ∙ ap (λ z. took count (query_of z)) is_registered))
+    ∙ ap (with_both (engine_in s) (change n (took count) (map query_of s.registered.items))) (set-change remains_of (remains_after count) s.remains.items n y x here (keeps ∙ ap (λ z. remains_after count (remains_of z)) is_remains))
 
 -- WHAT IT KNOWS OF ITSELF after a take
 pub sound_again : (s s2 : State) → IsSound s → engine_in s2 ≡ engine_in s → s2.leases.items ≡ s.leases.items → s2.next ≡ s.next → s2.names ≡ s.names → s2.readers.items ≡ s.readers.items → IsSound s2
@@ -151,34 +151,34 @@ took_by f count n [] h = refl
 took_by f count zero (q ∷ qs) h = ap (λ z. z ∷ map f qs) (h q)
 took_by f count (suc n) (q ∷ qs) h = ap (λ zs. f q ∷ zs) (took_by f count n qs h)
 
-gone_after : (count : ℕ) (k : Kept) → is_gone (kept_after count k) ≡ is_gone k
+gone_after : (count : ℕ) (k : PlainRemains) → is_gone (remains_after count k) ≡ is_gone k
 gone_after count (Running p) = refl
 gone_after count (Broken answers) = refl
 gone_after count Dropped = refl
 
-gone_taken : (count n : ℕ) (ks : List Kept) → map is_gone (change n (kept_after count) ks) ≡ map is_gone ks
+gone_taken : (count n : ℕ) (ks : List PlainRemains) → map is_gone (change n (remains_after count) ks) ≡ map is_gone ks
 gone_taken count n [] = refl
 gone_taken count zero (k ∷ ks) = ap (λ z. z ∷ map is_gone ks) (gone_after count k)
 gone_taken count (suc n) (k ∷ ks) = ap (λ zs. is_gone k ∷ zs) (gone_taken count n ks)
 
 -- it runs as before
-runs_after : (count : ℕ) (k : Kept) → runs (kept_after count k) ≡ runs k
+runs_after : (count : ℕ) (k : PlainRemains) → runs (remains_after count k) ≡ runs k
 runs_after count (Running p) = refl
 runs_after count (Broken answers) = refl
 runs_after count Dropped = refl
 
-runs_taken : (count n : ℕ) (ks : List Kept) → map runs (change n (kept_after count) ks) ≡ map runs ks
+runs_taken : (count n : ℕ) (ks : List PlainRemains) → map runs (change n (remains_after count) ks) ≡ map runs ks
 runs_taken count n [] = refl
 runs_taken count zero (k ∷ ks) = ap (λ z. z ∷ map runs ks) (runs_after count k)
 runs_taken count (suc n) (k ∷ ks) = ap (λ zs. runs k ∷ zs) (runs_taken count n ks)
 
 -- a query that runs ran before, with the same operators
-record Ran (k : Kept) (p : PlainQuery) : Type 0 where
+record Ran (k : PlainRemains) (p : PlainQuery) : Type 0 where
   before : PlainQuery
   ran : k ≡ Running before
   operators : p.operators ≡ before.operators
 
-ran_after : (count : ℕ) (k : Kept) (p : PlainQuery) → kept_after count k ≡ Running p → Ran k p
+ran_after : (count : ℕ) (k : PlainRemains) (p : PlainQuery) → remains_after count k ≡ Running p → Ran k p
 ran_after count (Running before) p h = record { before = before; ran = refl; operators = let e : record before { answers = drop count before.answers } ≡ p = running_same h in ap (λ z. z.operators) (sym e) }
   where
     running_same : {a b : PlainQuery} → Running a ≡ Running b → a ≡ b
@@ -186,7 +186,7 @@ ran_after count (Running before) p h = record { before = before; ran = refl; ope
 ran_after count (Broken answers) p h = absurd (cc)
 ran_after count Dropped p h = absurd (cc)
 
-ran_at : (count n j : ℕ) (ks : List Kept) (p : PlainQuery) → get_or (change n (kept_after count) ks) j Dropped ≡ Running p → Ran (get_or ks j Dropped) p
+ran_at : (count n j : ℕ) (ks : List PlainRemains) (p : PlainQuery) → get_or (change n (remains_after count) ks) j Dropped ≡ Running p → Ran (get_or ks j Dropped) p
 ran_at count n j [] p h = record { before = p; ran = h; operators = refl }
 ran_at count zero zero (k ∷ ks) p h = ran_after count k p h
 ran_at count zero (suc j) (k ∷ ks) p h = record { before = p; ran = h; operators = refl }
@@ -214,12 +214,12 @@ sound_taken s s2 n limit count h t is leases next names readers = record {
   closed = subst (λ e. HaveFewClosed e.machine) (sym is) (few_closed_stand.goes_on (engine_in s).machine (Take n limit) count t.accepted h.closed);
   readers =
       readers ∙ h.readers
-      ∙ sym (ap readers_of is ∙ readers_changed (took count) (λ q j. refl) (λ q. refl) 0 n (engine_in s).machine.queries (map runs (change n (kept_after count) (engine_in s).queries))
+      ∙ sym (ap readers_of is ∙ readers_changed (took count) (λ q j. refl) (λ q. refl) 0 n (engine_in s).machine.queries (map runs (change n (remains_after count) (engine_in s).queries))
       ∙ ap (readers_from 0 (engine_in s).machine.queries) (runs_taken count n (engine_in s).queries));
 }
 
 -- A TAKE THAT IS REFUSED
-module _ {A : Type 0} (view : A → List (ℤ × Row)) (old new : PlainEngine) (n limit : ℕ) (x y : Kept) (none : first_fault old.machine (Take n (pos limit)) ≡ None) (at : kept_at old n ≡ x) where
+module _ {A : Type 0} (view : A → List (ℤ × Row)) (old new : PlainEngine) (n limit : ℕ) (x y : PlainRemains) (none : first_fault old.machine (Take n (pos limit)) ≡ None) (at : remains_at old n ≡ x) where
   refused_so : (f : Fault) → HandsOut view x limit (Err f) y → (y ≡ x → new ≡ old) → Takes view old n (pos limit) (Err f) new
   refused_so OutOfMemory h same = (none, same h.0, λ broken. h.1 (sym at ∙ broken))
   refused_so fault.Broken h same = (none, at ∙ h.0, same h.1)
@@ -244,51 +244,51 @@ module _ {A : Type 0} (view : A → List (ℤ × Row)) (old new : PlainEngine) (
   refused_so (Foreign entries) h same = absurd h
   refused_so TooManyLeases h same = absurd h
 
-kept_by : {A : Type 0} (view : A → List (ℤ × Row)) (x y : Kept) (limit : ℕ) (f : Fault) → HandsOut view x limit (Err f) y → y ≡ x
-kept_by view x y limit OutOfMemory h = h.0
-kept_by view x y limit fault.Broken h = h.1
-kept_by view x y limit (Query z) h = absurd h
-kept_by view x y limit BadName h = absurd h
-kept_by view x y limit NameTaken h = absurd h
-kept_by view x y limit BadColumns h = absurd h
-kept_by view x y limit TooMany h = absurd h
-kept_by view x y limit UnknownStream h = absurd h
-kept_by view x y limit UnknownQuery h = absurd h
-kept_by view x y limit BadWidth h = absurd h
-kept_by view x y limit ValueRange h = absurd h
-kept_by view x y limit InstantRange h = absurd h
-kept_by view x y limit Late h = absurd h
-kept_by view x y limit Backward h = absurd h
-kept_by view x y limit Leap h = absurd h
-kept_by view x y limit StreamFull h = absurd h
-kept_by view x y limit BadLimit h = absurd h
-kept_by view x y limit UnknownLease h = absurd h
-kept_by view x y limit Stranger h = absurd h
-kept_by view x y limit HistoryFull h = absurd h
-kept_by view x y limit (Foreign entries) h = absurd h
-kept_by view x y limit TooManyLeases h = absurd h
+remains_by : {A : Type 0} (view : A → List (ℤ × Row)) (x y : PlainRemains) (limit : ℕ) (f : Fault) → HandsOut view x limit (Err f) y → y ≡ x
+remains_by view x y limit OutOfMemory h = h.0
+remains_by view x y limit fault.Broken h = h.1
+remains_by view x y limit (Query z) h = absurd h
+remains_by view x y limit BadName h = absurd h
+remains_by view x y limit NameTaken h = absurd h
+remains_by view x y limit BadColumns h = absurd h
+remains_by view x y limit TooMany h = absurd h
+remains_by view x y limit UnknownStream h = absurd h
+remains_by view x y limit UnknownQuery h = absurd h
+remains_by view x y limit BadWidth h = absurd h
+remains_by view x y limit ValueRange h = absurd h
+remains_by view x y limit InstantRange h = absurd h
+remains_by view x y limit Late h = absurd h
+remains_by view x y limit Backward h = absurd h
+remains_by view x y limit Leap h = absurd h
+remains_by view x y limit StreamFull h = absurd h
+remains_by view x y limit BadLimit h = absurd h
+remains_by view x y limit UnknownLease h = absurd h
+remains_by view x y limit Stranger h = absurd h
+remains_by view x y limit HistoryFull h = absurd h
+remains_by view x y limit (Foreign entries) h = absurd h
+remains_by view x y limit TooManyLeases h = absurd h
 
-pub refused_same : {A : Type 0} (view : A → List (ℤ × Row)) (s : State) (e2 : PlainEngine) (n limit : ℕ) (x y : KeptQuery) (f : Fault) → IsSound s → first_fault (engine_in s).machine (Take n (pos limit)) ≡ None → x ≡ get_or s.kept.items n x
-    → HandsOut view (kept_of x) limit (Err f) (kept_of y) → e2 ≡ with_kept (engine_in s) (map kept_of (set s.kept.items n y)) → e2 ≡ engine_in s
-refused_same view s e2 n limit x y f sound none is h made = stays s e2 n x y (kept_within s n (pos limit) sound none) is (kept_by view (kept_of x) (kept_of y) limit f h) made
+pub refused_same : {A : Type 0} (view : A → List (ℤ × Row)) (s : State) (e2 : PlainEngine) (n limit : ℕ) (x y : Remains) (f : Fault) → IsSound s → first_fault (engine_in s).machine (Take n (pos limit)) ≡ None → x ≡ get_or s.remains.items n x
+    → HandsOut view (remains_of x) limit (Err f) (remains_of y) → e2 ≡ with_remains (engine_in s) (map remains_of (set s.remains.items n y)) → e2 ≡ engine_in s
+refused_same view s e2 n limit x y f sound none is h made = stays s e2 n x y (remains_within s n (pos limit) sound none) is (remains_by view (remains_of x) (remains_of y) limit f h) made
 
-pub refused_takes : {A : Type 0} (view : A → List (ℤ × Row)) (s : State) (e2 : PlainEngine) (n limit : ℕ) (x y : KeptQuery) (f : Fault) (r : Result A Fault) → r ≡ Err f → IsSound s → first_fault (engine_in s).machine (Take n (pos limit)) ≡ None
-    → x ≡ get_or s.kept.items n x → HandsOut view (kept_of x) limit (Err f) (kept_of y) → e2 ≡ with_kept (engine_in s) (map kept_of (set s.kept.items n y)) → Takes view (engine_in s) n (pos limit) r e2
+pub refused_takes : {A : Type 0} (view : A → List (ℤ × Row)) (s : State) (e2 : PlainEngine) (n limit : ℕ) (x y : Remains) (f : Fault) (r : Result A Fault) → r ≡ Err f → IsSound s → first_fault (engine_in s).machine (Take n (pos limit)) ≡ None
+    → x ≡ get_or s.remains.items n x → HandsOut view (remains_of x) limit (Err f) (remains_of y) → e2 ≡ with_remains (engine_in s) (map remains_of (set s.remains.items n y)) → Takes view (engine_in s) n (pos limit) r e2
 refused_takes view s e2 n limit x y f r err sound none is h made =
     subst (λ z. Takes view (engine_in s) n (pos limit) z e2) (sym err)
-    (refused_so view (engine_in s) e2 n limit (kept_of x) (kept_of y) none (kept_is s n x (kept_within s n (pos limit) sound none) is) f h
-    (λ same. stays s e2 n x y (kept_within s n (pos limit) sound none) is same made))
+    (refused_so view (engine_in s) e2 n limit (remains_of x) (remains_of y) none (remains_is s n x (remains_within s n (pos limit) sound none) is) f h
+    (λ same. stays s e2 n x y (remains_within s n (pos limit) sound none) is same made))
 
 -- A TAKE THAT HANDS OUT ROWS
-pub handed_takes : {A : Type 0} (view : A → List (ℤ × Row)) (s : State) (e2 : PlainEngine) (n limit : ℕ) (x y : KeptQuery) (r r2 : Registration) (rows : A) → IsSound s → first_fault (engine_in s).machine (Take n (pos limit)) ≡ None
-    → x ≡ get_or s.kept.items n x → r ≡ get_or s.registered.items n r → HandsOut view (kept_of x) limit (Ok rows) (kept_of y) → query_of r2 ≡ took (count_in (kept_of x) limit) (query_of r)
-    → e2 ≡ with_both (engine_in s) (map query_of (set s.registered.items n r2)) (map kept_of (set s.kept.items n y)) → Takes view (engine_in s) n (pos limit) (Ok rows) e2
-handed_takes view s e2 n limit x y r r2 rows sound none is_kept is_registered h takes made =
-    let within : n < length s.kept.items = kept_within s n (pos limit) sound none in
-    let at : kept_at (engine_in s) n ≡ kept_of x = kept_is s n x within is_kept in
-    let count : count_in (kept_of x) limit ≡ count_of (engine_in s) n (pos limit) = ap (λ k. min limit (length (answers_in k))) (sym at) in (
+pub handed_takes : {A : Type 0} (view : A → List (ℤ × Row)) (s : State) (e2 : PlainEngine) (n limit : ℕ) (x y : Remains) (r r2 : Registration) (rows : A) → IsSound s → first_fault (engine_in s).machine (Take n (pos limit)) ≡ None
+    → x ≡ get_or s.remains.items n x → r ≡ get_or s.registered.items n r → HandsOut view (remains_of x) limit (Ok rows) (remains_of y) → query_of r2 ≡ took (count_in (remains_of x) limit) (query_of r)
+    → e2 ≡ with_both (engine_in s) (map query_of (set s.registered.items n r2)) (map remains_of (set s.remains.items n y)) → Takes view (engine_in s) n (pos limit) (Ok rows) e2
+handed_takes view s e2 n limit x y r r2 rows sound none is_remains is_registered h takes made =
+    let within : n < length s.remains.items = remains_within s n (pos limit) sound none in
+    let at : remains_at (engine_in s) n ≡ remains_of x = remains_is s n x within is_remains in
+    let count : count_in (remains_of x) limit ≡ count_of (engine_in s) n (pos limit) = ap (λ k. min limit (length (answers_in k))) (sym at) in (
       none,
-      h.0 ∙ ap (λ c. handed (take c (answers_in (kept_of x)))) count ∙ ap (λ k. handed (take (count_of (engine_in s) n (pos limit)) (answers_in k))) (sym at),
-      is_taken s e2 n (pos limit) x y r r2 (count_in (kept_of x) limit) within (registered_within s n (pos limit) none) is_kept is_registered h.1 takes made ∙ ap (taken (engine_in s) n (pos limit)) count,
+      h.0 ∙ ap (λ c. handed (take c (answers_in (remains_of x)))) count ∙ ap (λ k. handed (take (count_of (engine_in s) n (pos limit)) (answers_in k))) (sym at),
+      is_taken s e2 n (pos limit) x y r r2 (count_in (remains_of x) limit) within (registered_within s n (pos limit) none) is_remains is_registered h.1 takes made ∙ ap (taken (engine_in s) n (pos limit)) count,
       (λ b. h.2 (sym at ∙ b)),
     )

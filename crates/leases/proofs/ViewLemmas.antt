@@ -7,11 +7,11 @@ use Rattle.reference.specs.Machine.{Registered, Stream, empty}
 use Rattle.laws_queries.specs.Machines.{IsMachine}
 use Rattle.laws_queries.proofs.RowLemmas.{rows_stand}
 use Rattle.laws_engine.specs.Engines.{Broken, Dropped, GoodEngine, query_at, slot_of}
-use Rattle.leases.specs.Views.{empty_engine, engine_of, kept_of, lease_of, waiting_in}
+use Rattle.leases.specs.Views.{empty_engine, engine_of, lease_of, remains_of, waiting_in}
 use Rattle.turn.specs.declared.turns.Turn.{Turn}
 use Rattle.leases.specs.Shown.{engine_in}
 use Rattle.leases.specs.Whole.{IsWhole, IsWholeEngine}
-use Rattle.leases.specs.declared.kept.KeptQuery.{KeptQuery}
+use Rattle.leases.specs.declared.remains.Remains.{Remains}
 use Rattle.leases.specs.declared.state.State.{State}
 use Rattle.laws_engine.proofs.PromiseLemmas.{is_slot}
 
@@ -46,20 +46,20 @@ whole_at_first s e = subst IsWholeEngine (sym e) empty_whole
 pub many_out : (ls : List Turn) → length (map lease_of ls) ≡ length ls
 many_out ls = length-map ls lease_of
 
-pub past_kept : (ks : List KeptQuery) (n : ℕ) → length ks ≤ n → None ≡ waiting_in (get_or (map kept_of ks) n Dropped)
-past_kept [] n e = refl
-past_kept (k ∷ ks) zero e = absurd (omega (arith, e))
-past_kept (k ∷ ks) (suc n) e = past_kept ks n (omega (arith, e))
+pub past_remains : (ks : List Remains) (n : ℕ) → length ks ≤ n → None ≡ waiting_in (get_or (map remains_of ks) n Dropped)
+past_remains [] n e = refl
+past_remains (k ∷ ks) zero e = absurd (omega (arith, e))
+past_remains (k ∷ ks) (suc n) e = past_remains ks n (omega (arith, e))
 
-pub none_kept : (ks : List KeptQuery) (n : ℕ) → slice_get ks n ≡ None → None ≡ waiting_in (get_or (map kept_of ks) n Dropped)
-none_kept [] n e = refl
-none_kept (k ∷ ks) zero e = absurd (cc)
-none_kept (k ∷ ks) (suc n) e = none_kept ks n e
+pub none_remain : (ks : List Remains) (n : ℕ) → slice_get ks n ≡ None → None ≡ waiting_in (get_or (map remains_of ks) n Dropped)
+none_remain [] n e = refl
+none_remain (k ∷ ks) zero e = absurd (cc)
+none_remain (k ∷ ks) (suc n) e = none_remain ks n e
 
 some_same : {X : Type 0} {a b : X} → Some a ≡ Some b → a ≡ b
 some_same e = cc
 
-pub some_kept : (ks : List KeptQuery) (n : ℕ) (k : KeptQuery) → slice_get ks n ≡ Some k → waiting_in (kept_of k) ≡ waiting_in (get_or (map kept_of ks) n Dropped)
-some_kept [] n k e = absurd (cc)
-some_kept (x ∷ ks) zero k e = let f : k ≡ x = some_same (sym e) in ap (λ z. waiting_in (kept_of z)) f
-some_kept (x ∷ ks) (suc n) k e = some_kept ks n k e
+pub some_remain : (ks : List Remains) (n : ℕ) (k : Remains) → slice_get ks n ≡ Some k → waiting_in (remains_of k) ≡ waiting_in (get_or (map remains_of ks) n Dropped)
+some_remain [] n k e = absurd (cc)
+some_remain (x ∷ ks) zero k e = let f : k ≡ x = some_same (sym e) in ap (λ z. waiting_in (remains_of z)) f
+some_remain (x ∷ ks) (suc n) k e = some_remain ks n k e

@@ -7,8 +7,8 @@ use Rattle.reference.specs.declared.fault.Fault.{Fault}
 use Rattle.reference.specs.declared.fault.Fault.TheVariants as fault
 use Rattle.reference.specs.declared.fault.Fault.TheVariants.{Query, BadName, NameTaken, BadColumns, TooMany, UnknownStream, UnknownQuery, BadWidth, ValueRange, InstantRange, Late, Backward, Leap, StreamFull, BadLimit, UnknownLease, Stranger, TooManyLeases, HistoryFull, OutOfMemory, Foreign}
 use Rattle.laws_queries.specs.Queries.{PlainQuery}
-use Rattle.laws_engine.specs.Calls.{dropped, kept_after, of_others, registered, taken}
-use Rattle.laws_engine.specs.Engines.{Broken, Dropped, Kept, PlainEngine, Running}
+use Rattle.laws_engine.specs.Calls.{dropped, of_others, registered, remains_after, taken}
+use Rattle.laws_engine.specs.Engines.{Broken, Dropped, PlainEngine, PlainRemains, Running}
 use Rattle.leases.specs.Registering.{Registers}
 use Rattle.leases.specs.Takes.{Takes, count_of}
 use Rattle.leases.specs.Whole.{IsWholeEngine}
@@ -24,7 +24,7 @@ whole_same r old made new ok err leases queries =
     whole_by r old made new ok err (λ w. record { returned = leases ∙ w.returned; unbroken = λ n answers h. w.unbroken n answers (ap (λ ks. get_or ks n Dropped) (sym queries) ∙ h) })
 
 -- A REGISTRATION: one more runs
-unbroken_more : (ks : List Kept) (n : ℕ) (p : PlainQuery) (answers : List (ℕ × Row)) → get_or (ks ++ Running p ∷ []) n Dropped ≡ Broken answers → get_or ks n Dropped ≡ Broken answers
+unbroken_more : (ks : List PlainRemains) (n : ℕ) (p : PlainQuery) (answers : List (ℕ × Row)) → get_or (ks ++ Running p ∷ []) n Dropped ≡ Broken answers → get_or ks n Dropped ≡ Broken answers
 unbroken_more [] zero p answers h = absurd (cc)
 unbroken_more [] (suc n) p answers h = h
 unbroken_more (k ∷ ks) zero p answers h = h
@@ -39,7 +39,7 @@ registration_whole (Ok a) old new name text chart ok err w = subst IsWholeEngine
 registration_whole (Err f) old new name text chart ok err w = subst IsWholeEngine (sym err) w
 
 -- A DROP
-unbroken_dropped : (ks : List Kept) (i n : ℕ) (answers : List (ℕ × Row)) → get_or (change i (λ kept. Dropped) ks) n Dropped ≡ Broken answers → get_or ks n Dropped ≡ Broken answers
+unbroken_dropped : (ks : List PlainRemains) (i n : ℕ) (answers : List (ℕ × Row)) → get_or (change i (λ remains. Dropped) ks) n Dropped ≡ Broken answers → get_or ks n Dropped ≡ Broken answers
 unbroken_dropped [] i n answers h = h
 unbroken_dropped (k ∷ ks) zero zero answers h = absurd (cc)
 unbroken_dropped (k ∷ ks) zero (suc n) answers h = h
@@ -50,15 +50,15 @@ pub dropped_whole : (e : PlainEngine) (n : ℕ) → IsWholeEngine e → IsWholeE
 dropped_whole e n w = record { returned = ap (of_others n) w.returned; unbroken = λ j answers h. w.unbroken j answers (unbroken_dropped e.queries n j answers h) }
 
 -- A TAKE
-abbrev IsBrokenSo : Kept → Type 0
+abbrev IsBrokenSo : PlainRemains → Type 0
 IsBrokenSo k = (before : List (ℕ × Row)) × (k ≡ Broken before)
 
-broken_before : (count : ℕ) (k : Kept) (answers : List (ℕ × Row)) → kept_after count k ≡ Broken answers → IsBrokenSo k
+broken_before : (count : ℕ) (k : PlainRemains) (answers : List (ℕ × Row)) → remains_after count k ≡ Broken answers → IsBrokenSo k
 broken_before count (Running p) answers h = absurd (cc)
 broken_before count (Broken before) answers h = (before, refl)
 broken_before count Dropped answers h = absurd (cc)
 
-taken_before : (count : ℕ) (ks : List Kept) (i n : ℕ) (answers : List (ℕ × Row)) → get_or (change i (kept_after count) ks) n Dropped ≡ Broken answers → IsBrokenSo (get_or ks n Dropped)
+taken_before : (count : ℕ) (ks : List PlainRemains) (i n : ℕ) (answers : List (ℕ × Row)) → get_or (change i (remains_after count) ks) n Dropped ≡ Broken answers → IsBrokenSo (get_or ks n Dropped)
 taken_before count [] i n answers h = (answers, h)
 taken_before count (k ∷ ks) zero zero answers h = broken_before count k answers h
 taken_before count (k ∷ ks) zero (suc n) answers h = (answers, h)

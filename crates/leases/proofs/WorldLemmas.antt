@@ -12,8 +12,8 @@ use Rattle.reference.specs.declared.fault.Fault.{Fault}
 use Rattle.reference.specs.declared.fault.Fault.TheVariants as fault
 use Rattle.reference.specs.declared.fault.Fault.TheVariants.{Query, BadName, NameTaken, BadColumns, TooMany, UnknownStream, UnknownQuery, BadWidth, ValueRange, InstantRange, Late, Backward, Leap, StreamFull, BadLimit, UnknownLease, Stranger, TooManyLeases, HistoryFull, OutOfMemory, Foreign}
 use Rattle.run_queue.specs.Slots.{first_of}
-use Rattle.laws_engine.specs.Calls.{kept_after, taken}
-use Rattle.laws_engine.specs.Engines.{Broken, Dropped, GoodEngine, Kept, PlainEngine, Running, answers_in, kept_at, query_at, world_of}
+use Rattle.laws_engine.specs.Calls.{remains_after, taken}
+use Rattle.laws_engine.specs.Engines.{Broken, Dropped, GoodEngine, PlainEngine, PlainRemains, Running, answers_in, query_at, remains_at, world_of}
 use Rattle.laws_engine.specs.Promises.{GivesBeginnings, HasAllWaiting}
 use Rattle.laws_engine.proofs.IdleLemmas.{idle_waits}
 use Rattle.laws_engine.proofs.PromiseLemmas.{keeps_its_promises}
@@ -28,7 +28,7 @@ some_same : {X : Type 0} {a b : X} → Some a ≡ Some b → a ≡ b
 some_same e = cc
 
 -- of a list of queries, and what is left of each
-all_in : (m : Machine) (qs : List Registered) (ks : List Kept) → length ks ≡ length qs → ((n : ℕ) (q : Registered) → slice_get qs n ≡ Some q → answers_in (get_or ks n Dropped) ≡ untaken m q)
+all_in : (m : Machine) (qs : List Registered) (ks : List PlainRemains) → length ks ≡ length qs → ((n : ℕ) (q : Registered) → slice_get qs n ≡ Some q → answers_in (get_or ks n Dropped) ≡ untaken m q)
     → map answers_in ks ≡ map (untaken m) qs
 all_in m [] [] many h = refl
 all_in m [] (k ∷ ks) many h = absurd (omega (arith, many))
@@ -36,7 +36,7 @@ all_in m (q ∷ qs) [] many h = absurd (omega (arith, many))
 all_in m (q ∷ qs) (k ∷ ks) many h = ap₂ (λ y ys. y ∷ ys) (h 0 q refl) (all_in m qs ks (omega (arith, many)) (λ n r e. h (suc n) r e))
 
 -- whether it was dropped is seen on both
-gone_at : (qs : List Registered) (ks : List Kept) (n : ℕ) (q : Registered) → map (λ r. r.is_dropped) qs ≡ map is_gone ks → slice_get qs n ≡ Some q → q.is_dropped ≡ is_gone (get_or ks n Dropped)
+gone_at : (qs : List Registered) (ks : List PlainRemains) (n : ℕ) (q : Registered) → map (λ r. r.is_dropped) qs ≡ map is_gone ks → slice_get qs n ≡ Some q → q.is_dropped ≡ is_gone (get_or ks n Dropped)
 gone_at [] ks n q h e = absurd (cc)
 gone_at (r ∷ qs) [] n q h e = absurd (cc)
 gone_at (r ∷ qs) (k ∷ ks) zero q h e = let first : r.is_dropped ≡ is_gone k = cc in let same : r ≡ q = some_same e in ap (λ z. z.is_dropped) (sym same) ∙ first
@@ -45,20 +45,20 @@ gone_at (r ∷ qs) (k ∷ ks) (suc n) q h e = let rest : map (λ z. z.is_dropped
 untaken_dropped : (m : Machine) (q : Registered) → q.is_dropped ≡ true → [] ≡ untaken m q
 untaken_dropped m q e = rw e refl
 
-untaken_kept : (m : Machine) (q : Registered) → q.is_dropped ≡ false → drop q.taken (closed_answers m q) ≡ untaken m q
-untaken_kept m q e = rw e refl
+untaken_remains : (m : Machine) (q : Registered) → q.is_dropped ≡ false → drop q.taken (closed_answers m q) ≡ untaken m q
+untaken_remains m q e = rw e refl
 
 module _ (e : PlainEngine) (g : GoodEngine e) (whole : IsWholeEngine e) (idle : first_of e.slots ≡ None) (gone : map (λ q. q.is_dropped) e.machine.queries ≡ map is_gone e.queries) where
   all : HasAllWaiting e
   all = idle_waits e g idle
 
-  waits_at : (n : ℕ) (q : Registered) (kept : Kept) → query_at e n ≡ Some q → kept_at e n ≡ kept → q.is_dropped ≡ is_gone kept → answers_in kept ≡ untaken e.machine q
-  waits_at n q (Running p) r k d = all n q p r k (λ j. rw whole.returned refl) ∙ untaken_kept e.machine q d
+  waits_at : (n : ℕ) (q : Registered) (remains : PlainRemains) → query_at e n ≡ Some q → remains_at e n ≡ remains → q.is_dropped ≡ is_gone remains → answers_in remains ≡ untaken e.machine q
+  waits_at n q (Running p) r k d = all n q p r k (λ j. rw whole.returned refl) ∙ untaken_remains e.machine q d
   waits_at n q (Broken answers) r k d = absurd (whole.unbroken n answers k)
   waits_at n q Dropped r k d = untaken_dropped e.machine q d
 
   all_wait : map answers_in e.queries ≡ map (untaken e.machine) e.machine.queries
-  all_wait = all_in e.machine e.machine.queries e.queries g.many (λ n q r. waits_at n q (kept_at e n) r refl (gone_at e.machine.queries e.queries n q gone r))
+  all_wait = all_in e.machine e.machine.queries e.queries g.many (λ n q r. waits_at n q (remains_at e n) r refl (gone_at e.machine.queries e.queries n q gone r))
 
 -- A STEP that is done, or refused
 step_done : {A : Type 0} (o : Option Fault) (w made new : World) (a b : A) → o ≡ None → a ≡ b → made ≡ new → unless o w a made ≡ (Ok b, new)
@@ -80,24 +80,24 @@ drop_front [] ys zs (suc n) e = absurd (cc)
 drop_front (x ∷ xs) ys zs zero e = absurd (cc)
 drop_front (x ∷ xs) ys zs (suc n) e = drop_front xs ys zs n (omega (arith, e))
 
-waiting_same : (ks : List Kept) (n : ℕ) → get_or (map answers_in ks) n [] ≡ answers_in (get_or ks n Dropped)
+waiting_same : (ks : List PlainRemains) (n : ℕ) → get_or (map answers_in ks) n [] ≡ answers_in (get_or ks n Dropped)
 waiting_same [] n = refl
 waiting_same (k ∷ ks) zero = refl
 waiting_same (k ∷ ks) (suc n) = waiting_same ks n
 
-kept_there : (r q : Registered) → unless_dropped r ≡ Some q → r ≡ q
-kept_there r q e = by_test r.is_dropped
+remains_there : (r q : Registered) → unless_dropped r ≡ Some q → r ≡ q
+remains_there r q e = by_test r.is_dropped
     (λ t. let none : None ≡ Some q = subst (λ b. cond b None (Some r) ≡ Some q) t e in absurd (cc))
     (λ f. some_same (subst (λ b. cond b None (Some r) ≡ Some q) f e))
 
 there : (o : Option Registered) (q : Registered) → option_and_then unless_dropped o ≡ Some q → o ≡ Some q
 there None q e = absurd (cc)
-there (Some r) q e = ap Some (kept_there r q e)
+there (Some r) q e = ap Some (remains_there r q e)
 
 pub waits_next : (e : PlainEngine) → GivesBeginnings e → WaitingAreNext (world_of e)
 waits_next e begins n q at =
     let h = begins n q (there (slice_get e.machine.queries n) q at) in
-    (h.rest, ap (drop q.taken) h.begins ∙ drop_front h.taken (answers_in (kept_at e n)) h.rest q.taken h.counted ∙ ap (λ ws. ws ++ h.rest) (sym (waiting_same e.queries n)))
+    (h.rest, ap (drop q.taken) h.begins ∙ drop_front h.taken (answers_in (remains_at e n)) h.rest q.taken h.counted ∙ ap (λ ws. ws ++ h.rest) (sym (waiting_same e.queries n)))
 
 -- A DRAIN
 module _ (old new : PlainEngine) (rows : ℕ) (machine : new.machine ≡ old.machine) where
@@ -151,21 +151,21 @@ none_dropped : (count : ℕ) → [] ≡ drop {A = ℕ × Row} count []
 none_dropped zero = refl
 none_dropped (suc count) = refl
 
-kept_dropped : (count : ℕ) (k : Kept) → answers_in (kept_after count k) ≡ drop count (answers_in k)
-kept_dropped count (Running p) = refl
-kept_dropped count (Broken answers) = refl
-kept_dropped count Dropped = none_dropped count
+remains_dropped : (count : ℕ) (k : PlainRemains) → answers_in (remains_after count k) ≡ drop count (answers_in k)
+remains_dropped count (Running p) = refl
+remains_dropped count (Broken answers) = refl
+remains_dropped count Dropped = none_dropped count
 
-changed_waiting : (count n : ℕ) (ks : List Kept) → change n (drop count) (map answers_in ks) ≡ map answers_in (change n (kept_after count) ks)
+changed_waiting : (count n : ℕ) (ks : List PlainRemains) → change n (drop count) (map answers_in ks) ≡ map answers_in (change n (remains_after count) ks)
 changed_waiting count n [] = refl
-changed_waiting count zero (k ∷ ks) = ap (λ a. a ∷ map answers_in ks) (sym (kept_dropped count k))
+changed_waiting count zero (k ∷ ks) = ap (λ a. a ∷ map answers_in ks) (sym (remains_dropped count k))
 changed_waiting count (suc n) (k ∷ ks) = ap (λ rest. answers_in k ∷ rest) (changed_waiting count n ks)
 
 module _ {A : Type 0} (view : A → List (ℤ × Row)) (old : PlainEngine) (n : ℕ) (limit : ℤ) where
   abbrev waits : List (ℕ × Row)
   waits = get_or (map answers_in old.queries) n []
 
-  here : waits ≡ answers_in (kept_at old n)
+  here : waits ≡ answers_in (remains_at old n)
   here = waiting_same old.queries n
 
   abbrev count : ℕ
@@ -180,7 +180,7 @@ module _ {A : Type 0} (view : A → List (ℤ × Row)) (old : PlainEngine) (n : 
   made_same : (c : ℕ) → World_of c ≡ world_of (taken old n limit c)
   made_same c = ap (the_world (after old.machine (Take n limit) c)) (changed_waiting c n old.queries)
 
-  take_done : (rows : A) (new : PlainEngine) → first_fault old.machine (Take n limit) ≡ None → view rows ≡ handed (take (count_of old n limit) (answers_in (kept_at old n))) → new ≡ taken old n limit (count_of old n limit)
+  take_done : (rows : A) (new : PlainEngine) → first_fault old.machine (Take n limit) ≡ None → view rows ≡ handed (take (count_of old n limit) (answers_in (remains_at old n))) → new ≡ taken old n limit (count_of old n limit)
       → take_step (world_of old) n limit ≡ (Ok (view rows), world_of new)
   unfolding take_step
   take_done rows new none hands is =

@@ -9,7 +9,7 @@ use Rattle.query_runtime.specs.Turns.{CanFinish, CanPut, HasBatches, HasFinished
 use Rattle.run_queue.specs.Slots.{changed, without_query}
 use Rattle.run_queue.specs.declared.slots.Slot.{Slot}
 use Rattle.laws_engine.specs.Calls.{broken, others}
-use Rattle.laws_engine.specs.Engines.{IsIn, Kept, PlainEngine, Running, instant_at, kept_at, query_at, slot_at}
+use Rattle.laws_engine.specs.Engines.{IsIn, PlainEngine, PlainRemains, Running, instant_at, query_at, remains_at, slot_at}
 use Rattle.leases.specs.Asked.{HasOperatorAt}
 use Rattle.leases.specs.Turns.{IsOut}
 use Rattle.leases.specs.declared.state.State.{State}
@@ -32,7 +32,7 @@ pub record MayApply (streams : List Stream) (p : PlainQuery) (d : Parts) : Type 
   pub puts : CanPut streams p d.node.operator d.node.side d.item d.change (outs_in d.outputs)
 
 abbrev pub MayApplyIn : PlainEngine → Parts → Type 0
-MayApplyIn e d = (p : PlainQuery) × ((kept_at e d.node.query ≡ Running p) × MayApply e.machine.streams p d)
+MayApplyIn e d = (p : PlainQuery) × ((remains_at e d.node.query ≡ Running p) × MayApply e.machine.streams p d)
 
 -- it has: the operator took the item, and what it put out went on
 pub record IsApplied (streams : List Stream) (p : PlainQuery) (d : Parts) (p2 : PlainQuery) : Type 0 where
@@ -41,16 +41,16 @@ pub record IsApplied (streams : List Stream) (p : PlainQuery) (d : Parts) (p2 : 
   pub batches : HasBatches p d.node.operator d.outputs p2
 
 -- only what is left of one query is another
-abbrev pub with_kept : PlainEngine → ℕ → Kept → PlainEngine
-with_kept e n kept = record e { queries = set e.queries n kept }
+abbrev pub with_remains : PlainEngine → ℕ → PlainRemains → PlainEngine
+with_remains e n remains = record e { queries = set e.queries n remains }
 
 abbrev pub HasApplied : PlainEngine → Parts → PlainEngine → Type 0
 HasApplied old d new =
-    (p : PlainQuery) → kept_at old d.node.query ≡ Running p → (p2 : PlainQuery) × (IsApplied old.machine.streams p d p2 × (new ≡ with_kept old d.node.query (Running p2)))
+    (p : PlainQuery) → remains_at old d.node.query ≡ Running p → (p2 : PlainQuery) × (IsApplied old.machine.streams p d p2 × (new ≡ with_remains old d.node.query (Running p2)))
 
 -- it is broken
 abbrev pub IsBroken : PlainEngine → ℕ → PlainEngine → Type 0
-IsBroken old n new = (p : PlainQuery) → kept_at old n ≡ Running p → new ≡ broken old n p
+IsBroken old n new = (p : PlainQuery) → remains_at old n ≡ Running p → new ≡ broken old n p
 
 -- THE TURN ENDS
 abbrev pub without_turn : PlainEngine → ℕ → PlainEngine
@@ -78,12 +78,12 @@ pub record GivesNothing (old new : State) : Type 0 where
 -- SLOTS THAT ARE TOLD ANEW
 -- the query's operators are there, and the wire of each but the last leads to one
 abbrev pub HasWiredOperators : PlainEngine → ℕ → Type 0
-HasWiredOperators e n = (k : ℕ) (p : PlainQuery) → kept_at e n ≡ Running p → k + 1 < length p.operators → HasOperatorAt e n (wire_at p k).to
+HasWiredOperators e n = (k : ℕ) (p : PlainQuery) → remains_at e n ≡ Running p → k + 1 < length p.operators → HasOperatorAt e n (wire_at p k).to
 
 -- the slot of the operator to which the wire of the operator k leads, unless that is the last
 abbrev pub IsAbove : PlainEngine → ℕ → ℕ → Option Slot → Type 0
 IsAbove e n k above =
-    (q : Registered) (p : PlainQuery) → query_at e n ≡ Some q → kept_at e n ≡ Running p
+    (q : Registered) (p : PlainQuery) → query_at e n ≡ Some q → remains_at e n ≡ Running p
     → MatchOption above (length p.operators ≤ k + 1) (λ s. (k + 1 < length p.operators) × (s ≡ slot_at e n q p (wire_at p k).to))
 
 -- a slot gets the instant of its operator
@@ -91,7 +91,7 @@ abbrev pub with_slot : PlainEngine → Slot → Registered → PlainQuery → Pl
 with_slot e s q p = record e { slots = changed s (instant_at e s.query q p s.operator) e.slots }
 
 abbrev pub IsUpdated : PlainEngine → Slot → PlainEngine → Type 0
-IsUpdated old s new = (q : Registered) (p : PlainQuery) → query_at old s.query ≡ Some q → kept_at old s.query ≡ Running p → new ≡ with_slot old s q p
+IsUpdated old s new = (q : Registered) (p : PlainQuery) → query_at old s.query ≡ Some q → remains_at old s.query ≡ Running p → new ≡ with_slot old s q p
 
 -- THE TURN OF A NUMBER HAS ENDED: it is out no more, its operator's slot is told, and then the one above
 abbrev pub HasEnded : PlainEngine → ℕ → Slot → Option Slot → PlainEngine → Type 0

@@ -7,8 +7,8 @@ use Rattle.reference.specs.declared.fault.Fault.{Fault}
 use Rattle.reference.specs.declared.fault.Fault.TheVariants.{BadLimit, OutOfMemory, TooManyLeases}
 use Rattle.run_queue.specs.Slots.{first_of}
 use Rattle.laws_engine.specs.Calls.{of_others}
-use Rattle.laws_engine.specs.Engines.{Broken, PlainEngine, kept_at}
-use Rattle.laws_engine.specs.Histories.{Breaks, Finishes, IsStep}
+use Rattle.laws_engine.specs.Engines.{Broken, PlainEngine, remains_at}
+use Rattle.laws_engine.specs.Histories.{Breaks, Finishes, IsCallStep}
 use Rattle.leases.specs.Turns.{HasReady, IsTurnOf, lease_fault}
 use Rattle.leases.specs.Views.{lease_of}
 use Rattle.leases.specs.declared.limits.TheConstants.{LEASE_NUMBERS, MAX_LEASES}
@@ -16,7 +16,7 @@ use Rattle.leases.specs.declared.limits.TheConstants.{LEASE_NUMBERS, MAX_LEASES}
 -- TURNS of at most so many rows went out and came back, one after the other: each of an operator of greatest slope, with the next number
 abbrev pub HaveRun : ℕ → PlainEngine → List Turn → PlainEngine → Type 0
 HaveRun rows old [] new = new ≡ old
-HaveRun rows old (t ∷ turns) new = (out : PlainEngine) × ((home : PlainEngine) × (IsTurnOf old rows t out × (IsStep out (Finishes (lease_of t)) home × HaveRun rows home turns new)))
+HaveRun rows old (t ∷ turns) new = (out : PlainEngine) × ((home : PlainEngine) × (IsTurnOf old rows t out × (IsCallStep out (Finishes (lease_of t)) home × HaveRun rows home turns new)))
 
 -- some did, and nothing else was done
 abbrev pub SomeHaveRun : ℕ → PlainEngine → PlainEngine → Type 0
@@ -24,7 +24,7 @@ SomeHaveRun rows old new = (turns : List Turn) × HaveRun rows old turns new
 
 -- one went out, and memory was wanted when it came back: its query is broken
 abbrev pub OneHasFailed : ℕ → PlainEngine → PlainEngine → Type 0
-OneHasFailed rows old new = (t : Turn) × ((out : PlainEngine) × (IsTurnOf old rows t out × IsStep out (Breaks (lease_of t)) new))
+OneHasFailed rows old new = (t : Turn) × ((out : PlainEngine) × (IsTurnOf old rows t out × IsCallStep out (Breaks (lease_of t)) new))
 
 -- memory was wanted for a turn that might go out: nothing was done, or it had gone out and broke its query
 abbrev pub HasWanted : ℕ → PlainEngine → PlainEngine → Type 0
@@ -32,7 +32,7 @@ HasWanted rows old new = ((lease_fault old rows ≡ None) × HasReady old × (ne
 
 -- ONE STEP: one went out and came back
 abbrev pub OneHasRun : ℕ → PlainEngine → PlainEngine → Type 0
-OneHasRun rows old new = (t : Turn) × ((out : PlainEngine) × (IsTurnOf old rows t out × IsStep out (Finishes (lease_of t)) new))
+OneHasRun rows old new = (t : Turn) × ((out : PlainEngine) × (IsTurnOf old rows t out × IsCallStep out (Finishes (lease_of t)) new))
 
 -- or no operator may take anything; a refused step did nothing where an operator may be leased and as many turns are out as may be, or all numbers were given;
 -- or memory was wanted
@@ -57,7 +57,7 @@ RunsTurns old rows (Err fault) new = ⊥
 pub record HasBrokenOne (old new : PlainEngine) : Type 0 where
   pub query : ℕ
   pub answers : List (ℕ × Row)
-  pub broken : kept_at new query ≡ Broken answers
+  pub broken : remains_at new query ≡ Broken answers
   pub left : new.leases ≡ of_others query old.leases
 
 -- they all are out, and no more; but where memory was wanted, a query may have broken

@@ -9,11 +9,11 @@ use Rattle.reference.specs.Machine.{Machine, Registered}
 use Rattle.reference.specs.declared.fault.Fault.{Fault}
 use Rattle.reference.specs.declared.fault.Fault.TheVariants as fault
 use Rattle.laws_queries.specs.Queries.{PlainQuery, log_at, operator_at}
-use Rattle.laws_engine.specs.Engines.{Broken, Dropped, Kept, PlainEngine, Running, answers_in, kept_at, query_at}
+use Rattle.laws_engine.specs.Engines.{Broken, Dropped, PlainEngine, PlainRemains, Running, answers_in, query_at, remains_at}
 
 -- HOW MANY ANSWERS WAIT
 abbrev pub WaitsAt : PlainEngine → ℕ → Result ℕ Fault → Type 0
-WaitsAt e n (Ok count) = (first_fault e.machine (Drop n) ≡ None) × (count ≡ length (answers_in (kept_at e n)))
+WaitsAt e n (Ok count) = (first_fault e.machine (Drop n) ≡ None) × (count ≡ length (answers_in (remains_at e n)))
 WaitsAt e n (Err f) = first_fault e.machine (Drop n) ≡ Some f
 
 -- HOW MUCH WAITS in the queues of an operator, by what waits on its two sides: a join has two queues
@@ -35,13 +35,13 @@ abbrev pub noughts_of : List plan.Node → List ℕ
 noughts_of [] = []
 noughts_of (node ∷ nodes) = queues_of node 0 0 ++ noughts_of nodes
 
-abbrev pub lengths_in : Machine → Registered → Kept → List ℕ
+abbrev pub lengths_in : Machine → Registered → PlainRemains → List ℕ
 lengths_in m q (Running p) = lengths_from (log_at m q) p 0 q.nodes
 lengths_in m q (Broken answers) = noughts_of q.nodes
 lengths_in m q Dropped = []
 
 -- what a look at them answers
 abbrev pub IsPending : {A : Type 0} → (A → List ℕ) → PlainEngine → ℕ → Result A Fault → Type 0
-IsPending view e n (Ok found) = (first_fault e.machine (Drop n) ≡ None) × ((q : Registered) → query_at e n ≡ Some q → view found ≡ lengths_in e.machine q (kept_at e n))
+IsPending view e n (Ok found) = (first_fault e.machine (Drop n) ≡ None) × ((q : Registered) → query_at e n ≡ Some q → view found ≡ lengths_in e.machine q (remains_at e n))
 IsPending view e n (Err fault.OutOfMemory) = first_fault e.machine (Drop n) ≡ None
 IsPending view e n (Err f) = first_fault e.machine (Drop n) ≡ Some f

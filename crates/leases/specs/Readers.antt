@@ -8,7 +8,7 @@ use Rattle.laws_queries.specs.Queries.{operator_at, place_of}
 use Rattle.query_runtime.specs.Turns.{log_of}
 use Rattle.run_queue.specs.Slots.{changed}
 use Rattle.run_queue.specs.declared.slots.Slot.{Slot}
-use Rattle.laws_engine.specs.Engines.{Broken, Dropped, Kept, PlainEngine, Running, instant_at, kept_at, query_at, slot_of}
+use Rattle.laws_engine.specs.Engines.{Broken, Dropped, PlainEngine, PlainRemains, Running, instant_at, query_at, remains_at, slot_of}
 use Rattle.leases.specs.declared.reader.Reader.{Reader}
 use Rattle.leases.specs.declared.state.State.{State}
 
@@ -42,7 +42,7 @@ windows_from q n k [] = []
 windows_from q n k (node ∷ nodes) = option_to_list (reader_in q n k node) ++ windows_from q n (suc k) nodes
 
 -- whether a query runs
-abbrev pub runs : Kept → Bool
+abbrev pub runs : PlainRemains → Bool
 runs (Running p) = true
 runs (Broken answers) = false
 runs Dropped = false
@@ -57,13 +57,13 @@ abbrev pub readers_of : PlainEngine → List Reader
 readers_of e = readers_from 0 e.machine.queries (map runs e.queries)
 
 -- THE SLOTS of the readers of the stream s that have nothing to take
-abbrev pub is_idle_in : List Stream → ℕ → Kept → Bool
+abbrev pub is_idle_in : List Stream → ℕ → PlainRemains → Bool
 is_idle_in streams k (Running p) = nat_lt k (length p.operators) && is_none (ready (operator_at p.operators k) (log_of streams p k))
 is_idle_in streams k (Broken answers) = false
 is_idle_in streams k Dropped = false
 
 abbrev pub is_idle_at : PlainEngine → ℕ → ℕ → Bool
-is_idle_at e n k = is_idle_in e.machine.streams k (kept_at e n)
+is_idle_at e n k = is_idle_in e.machine.streams k (remains_at e n)
 
 abbrev pub idle_slot : PlainEngine → ℕ → ℕ → List Slot
 idle_slot e n k = cond (is_idle_at e n k) (option_to_list (slot_of e n k)) []
@@ -73,14 +73,14 @@ idle_slots e s [] = []
 idle_slots e s (r ∷ rs) = cond (r.stream == s) (idle_slot e r.query r.operator) [] ++ idle_slots e s rs
 
 -- WHAT AN OPERATOR MAY TAKE, by its number
-abbrev pub instant_in : PlainEngine → ℕ → ℕ → Option Registered → Kept → Option ℕ
-instant_in e n k None kept = None
+abbrev pub instant_in : PlainEngine → ℕ → ℕ → Option Registered → PlainRemains → Option ℕ
+instant_in e n k None remains = None
 instant_in e n k (Some q) (Running p) = instant_at e n q p k
 instant_in e n k (Some q) (Broken answers) = None
 instant_in e n k (Some q) Dropped = None
 
 abbrev pub instant_of : PlainEngine → ℕ → ℕ → Option ℕ
-instant_of e n k = instant_in e n k (query_at e n) (kept_at e n)
+instant_of e n k = instant_in e n k (query_at e n) (remains_at e n)
 
 -- its slot gets that
 abbrev pub with_update : PlainEngine → Slot → List Slot → List Slot

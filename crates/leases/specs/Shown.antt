@@ -5,7 +5,7 @@ use Rattle.leases.specs.Views.{engine_of}
 use Rattle.leases.specs.declared.state.State.{State}
 
 abbrev pub engine_in : State → PlainEngine
-engine_in s = engine_of s.streams s.registered.items s.kept.items s.leases.items s.next s.slots
+engine_in s = engine_of s.streams s.registered.items s.remains.items s.leases.items s.next s.slots
 
 -- the machine, and the answers that wait
 abbrev pub world_in : State → World

@@ -4,7 +4,7 @@ use Rattle.turn.specs.declared.turns.Turn.{Turn}
 use Rattle.reference.specs.Named.{name_of_registered}
 use Rattle.laws_queries.specs.Registrations.{HaveColumnNames}
 use Rattle.laws_engine.specs.Bounds.{HaveFewClosed}
-use Rattle.laws_engine.specs.Engines.{Broken, Dropped, GoodEngine, IsIn, Kept, Running}
+use Rattle.laws_engine.specs.Engines.{Broken, Dropped, GoodEngine, IsIn, PlainRemains, Running}
 use Rattle.leases.specs.Readers.{readers_of}
 use Rattle.leases.specs.Shown.{engine_in}
 use Rattle.leases.specs.Views.{HasKind}
@@ -12,7 +12,7 @@ use Rattle.leases.specs.declared.limits.TheConstants.{LEASE_NUMBERS, MAX_LEASES}
 use Rattle.leases.specs.declared.state.State.{State}
 
 -- nothing is left of a query that was dropped
-abbrev pub is_gone : Kept → Bool
+abbrev pub is_gone : PlainRemains → Bool
 is_gone (Running p) = false
 is_gone (Broken answers) = false
 is_gone Dropped = true

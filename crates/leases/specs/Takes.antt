@@ -5,27 +5,27 @@ use Rattle.reference.specs.Commands.{Take, first_fault}
 use Rattle.reference.specs.World.{handed}
 use Rattle.reference.specs.declared.fault.Fault.{Fault}
 use Rattle.reference.specs.declared.fault.Fault.TheVariants as fault
-use Rattle.laws_engine.specs.Calls.{kept_after, taken}
-use Rattle.laws_engine.specs.Engines.{Broken, Kept, PlainEngine, answers_in, kept_at}
+use Rattle.laws_engine.specs.Calls.{remains_after, taken}
+use Rattle.laws_engine.specs.Engines.{Broken, PlainEngine, PlainRemains, answers_in, remains_at}
 
 -- how many answers are handed out
 abbrev pub count_of : PlainEngine → ℕ → ℤ → ℕ
-count_of e n limit = min (nat_abs limit) (length (answers_in (kept_at e n)))
+count_of e n limit = min (nat_abs limit) (length (answers_in (remains_at e n)))
 
 -- the first that wait, unless a test fails; of a broken query of which nothing waits that is said, and never want of memory
 abbrev pub Takes : {A : Type 0} → (A → List (ℤ × Row)) → PlainEngine → ℕ → ℤ → Result A Fault → PlainEngine → Type 0
 Takes view old n limit (Ok rows) new =
-    (first_fault old.machine (Take n limit) ≡ None) × (view rows ≡ handed (take (count_of old n limit) (answers_in (kept_at old n)))) × (new ≡ taken old n limit (count_of old n limit)) × (kept_at old n ≢ Broken [])
-Takes view old n limit (Err fault.OutOfMemory) new = (first_fault old.machine (Take n limit) ≡ None) × (new ≡ old) × (kept_at old n ≢ Broken [])
-Takes view old n limit (Err fault.Broken) new = (first_fault old.machine (Take n limit) ≡ None) × (kept_at old n ≡ Broken []) × (new ≡ old)
+    (first_fault old.machine (Take n limit) ≡ None) × (view rows ≡ handed (take (count_of old n limit) (answers_in (remains_at old n)))) × (new ≡ taken old n limit (count_of old n limit)) × (remains_at old n ≢ Broken [])
+Takes view old n limit (Err fault.OutOfMemory) new = (first_fault old.machine (Take n limit) ≡ None) × (new ≡ old) × (remains_at old n ≢ Broken [])
+Takes view old n limit (Err fault.Broken) new = (first_fault old.machine (Take n limit) ≡ None) × (remains_at old n ≡ Broken []) × (new ≡ old)
 Takes view old n limit (Err f) new = (first_fault old.machine (Take n limit) ≡ Some f) × (new ≡ old)
 
 -- OF WHAT IS LEFT OF A QUERY
-abbrev pub count_in : Kept → ℕ → ℕ
-count_in kept limit = min limit (length (answers_in kept))
+abbrev pub count_in : PlainRemains → ℕ → ℕ
+count_in remains limit = min limit (length (answers_in remains))
 
-abbrev pub HandsOut : {A : Type 0} → (A → List (ℤ × Row)) → Kept → ℕ → Result A Fault → Kept → Type 0
-HandsOut view old limit (Ok rows) new = (view rows ≡ handed (take (count_in old limit) (answers_in old))) × (new ≡ kept_after (count_in old limit) old) × (old ≢ Broken [])
+abbrev pub HandsOut : {A : Type 0} → (A → List (ℤ × Row)) → PlainRemains → ℕ → Result A Fault → PlainRemains → Type 0
+HandsOut view old limit (Ok rows) new = (view rows ≡ handed (take (count_in old limit) (answers_in old))) × (new ≡ remains_after (count_in old limit) old) × (old ≢ Broken [])
 HandsOut view old limit (Err fault.OutOfMemory) new = (new ≡ old) × (old ≢ Broken [])
 HandsOut view old limit (Err fault.Broken) new = (old ≡ Broken []) × (new ≡ old)
 HandsOut view old limit (Err f) new = ⊥

@@ -40,16 +40,16 @@ HasReady e = is_some (slots.first_of e.slots) ≡ true
 -- once of what waits there, at most so many rows; it may be run
 pub record IsTurnOf (old : PlainEngine) (rows : ℕ) (t : Turn) (new : PlainEngine) : Type 0 where
   pub query : Registered
-  pub kept : PlainQuery
+  pub plain : PlainQuery
   pub slot : Slot
   pub allowed : lease_fault old rows ≡ None
-  pub leasable : IsLeasable old (lease_of t) query kept slot
+  pub leasable : IsLeasable old (lease_of t) query plain slot
   pub steepest : IsOfSteepest old slot
-  pub takes : ready (operator_at kept.operators t.node.operator) (log_at old.machine query t.node.operator) ≡ Some (t.node.side, slot.instant)
-  pub kind : t.node.kind ≡ (operator_at kept.operators t.node.operator).kind
+  pub takes : ready (operator_at plain.operators t.node.operator) (log_at old.machine query t.node.operator) ≡ Some (t.node.side, slot.instant)
+  pub kind : t.node.kind ≡ (operator_at plain.operators t.node.operator).kind
   pub fits : Fits t.node t.item t.near
-  pub cut : entries_of t.item ≡ cut_of (min rows 1024) (inbox_of (operator_at kept.operators t.node.operator) t.node.side) (log_at old.machine query t.node.operator)
-  pub after : new ≡ leased old (lease_of t) query kept
+  pub cut : entries_of t.item ≡ cut_of (min rows 1024) (inbox_of (operator_at plain.operators t.node.operator) t.node.side) (log_at old.machine query t.node.operator)
+  pub after : new ≡ leased old (lease_of t) query plain
 
 abbrev pub Leases : PlainEngine → ℕ → Result Leased Fault → PlainEngine → Type 0
 Leases old rows (Ok (answer.Turn t)) new = IsTurnOf old rows t new

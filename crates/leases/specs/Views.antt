@@ -7,9 +7,9 @@ use Rattle.reference.specs.Machine as machine
 use Rattle.reference.specs.Machine.{Registered, Stream, empty}
 use Rattle.laws_queries.specs.Queries.{PlainQuery, operator_at}
 use Rattle.run_queue.specs.declared.slots.Slot.{Slot}
-use Rattle.laws_engine.specs.Engines.{Broken, Dropped, Kept, Lease, PlainEngine, Running, kept_at}
-use Rattle.leases.specs.declared.kept.KeptQuery.{KeptQuery}
-use Rattle.leases.specs.declared.kept.KeptQuery.TheVariants as code
+use Rattle.laws_engine.specs.Engines.{Broken, Dropped, Lease, PlainEngine, PlainRemains, Running, remains_at}
+use Rattle.leases.specs.declared.remains.Remains.{Remains}
+use Rattle.leases.specs.declared.remains.Remains.TheVariants as code
 use Rattle.leases.specs.declared.registered.Place.{Place}
 use Rattle.leases.specs.declared.registered.Registration.{Registration}
 
@@ -37,15 +37,15 @@ abbrev pub lease_of : Turn → Lease
 lease_of t = record { number = t.lease; query = t.node.query; operator = t.node.operator; side = t.node.side; item = t.item; excerpt = t.near }
 
 -- what is left of a query
-abbrev pub kept_of : KeptQuery → Kept
-kept_of (code.Running p) = Running p
-kept_of (code.Broken answers) = Broken answers
-kept_of code.Dropped = Dropped
+abbrev pub remains_of : Remains → PlainRemains
+remains_of (code.Running p) = Running p
+remains_of (code.Broken answers) = Broken answers
+remains_of code.Dropped = Dropped
 
-abbrev pub engine_of : List Stream → List Registration → List KeptQuery → List Turn → ℕ → List Slot → PlainEngine
-engine_of streams registered kept leases next slots = record {
+abbrev pub engine_of : List Stream → List Registration → List Remains → List Turn → ℕ → List Slot → PlainEngine
+engine_of streams registered remains leases next slots = record {
   machine = record { streams = streams; queries = map query_of registered };
-  queries = map kept_of kept;
+  queries = map remains_of remains;
   leases = map lease_of leases;
   next = next;
   slots = slots;
@@ -53,14 +53,14 @@ engine_of streams registered kept leases next slots = record {
 
 -- a turn that is out does what its operator does
 abbrev pub HasKind : PlainEngine → Turn → Type 0
-HasKind e t = (p : PlainQuery) → kept_at e t.node.query ≡ Running p → t.node.kind ≡ (operator_at p.operators t.node.operator).kind
+HasKind e t = (p : PlainQuery) → remains_at e t.node.query ≡ Running p → t.node.kind ≡ (operator_at p.operators t.node.operator).kind
 
 -- before any call
 abbrev pub empty_engine : PlainEngine
 empty_engine = record { machine = empty; queries = []; leases = []; next = 0; slots = [] }
 
 -- how many answers wait; of a dropped query that is not said
-abbrev pub waiting_in : Kept → Option ℕ
+abbrev pub waiting_in : PlainRemains → Option ℕ
 waiting_in (Running p) = Some (length p.answers)
 waiting_in (Broken answers) = Some (length answers)
 waiting_in Dropped = None

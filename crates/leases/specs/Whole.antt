@@ -1,14 +1,14 @@
 -- An engine with which nobody else has turns out, and of which no query is broken.
 use Rattle.std.specs.Prelude.{ℕ, ◌≡◌, ◌<◌, List, []}
 use Rattle.values.specs.Row.{Row}
-use Rattle.laws_engine.specs.Engines.{Broken, PlainEngine, kept_at}
+use Rattle.laws_engine.specs.Engines.{Broken, PlainEngine, remains_at}
 use Rattle.leases.specs.Shown.{engine_in}
 use Rattle.leases.specs.declared.limits.TheConstants.{LEASE_NUMBERS}
 use Rattle.leases.specs.declared.state.State.{State}
 
 pub record IsWholeEngine (e : PlainEngine) : Type 0 where
   pub returned : e.leases ≡ []
-  pub unbroken : (n : ℕ) (answers : List (ℕ × Row)) → kept_at e n ≡ Broken answers → ⊥
+  pub unbroken : (n : ℕ) (answers : List (ℕ × Row)) → remains_at e n ≡ Broken answers → ⊥
 
 abbrev pub IsWhole : State → Type 0
 IsWhole s = IsWholeEngine (engine_in s)

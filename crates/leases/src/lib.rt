@@ -2,11 +2,11 @@
 #![tactic(auto)]
 
 mod engine;
-mod kept;
 mod leased;
 mod limits;
 mod reader;
 mod registered;
+mod remains;
 mod state;
 
 pub use engine::Engine;

@@ -9,9 +9,9 @@ mod looks;
 mod register;
 mod takes;
 
-use crate::kept::KeptQuery;
 use crate::reader::Reader;
 use crate::registered::Registration;
+use crate::remains::Remains;
 use name_table::NameTable;
 use run_queue::RunQueue;
 use std::alloc::Global;
@@ -31,7 +31,7 @@ pub(crate) struct State {
     /// By the queries' numbers, each as it was registered.
     registered: Vec<Registration>,
     /// By the queries' numbers, what is left of each: as many as were registered.
-    kept: Vec<KeptQuery>,
+    remains: Vec<Remains>,
     /// The windows of the queries that run, each once, by the queries' numbers and then by the
     /// operators'.
     readers: Vec<Reader>,

@@ -10,7 +10,7 @@ ghost use Rattle.reference.specs.World.{take_step};
 ghost use Rattle.reference.specs.declared.fault.Fault.TheVariants.{OutOfMemory, TooManyLeases};
 ghost use Rattle.stream_store.specs.Closing.{QueuesGain};
 ghost use Rattle.run_queue.specs.Slots.{first_of};
-ghost use Rattle.laws_engine.specs.Calls.{appended, beaten, declared, dropped};
+ghost use Rattle.laws_engine.specs.Calls.{appended, declared, dropped, heartbeat_taken};
 ghost use Rattle.laws_engine.specs.Promises.{HasAllWaiting, KeepsItsPromises};
 ghost use Rattle.leases.specs.Drains.{LeavesOthers, RunsTurns};
 ghost use Rattle.leases.specs.Queues.{LeavesQueues, LengthensQueues};
@@ -80,7 +80,8 @@ impl Answering for Engine {
             (heartbeat_step (world_in self.old) stream at) result (world_in self.new) }
         ensures whole { IsWhole self.old → IsWhole self.new }
         ensures spent { HasNumbers self.new → HasNumbers self.old }
-        ensures engine { OnOk result (engine_in self.new ≡ beaten (engine_in self.old) stream at) }
+        ensures engine { OnOk result (engine_in self.new
+            ≡ heartbeat_taken (engine_in self.old) stream at) }
         ensures closes { OnOk result
             (QueuesGain (slice_get (engine_in self.old).machine.streams stream) at) }
         ensures queues { OnOk result

@@ -9,9 +9,9 @@ ghost use Rattle.leases.specs.Sound.{IsSound};
 ghost use Rattle.leases.specs.Turns.{Abandons};
 ghost use Rattle.leases.specs.Views.{query_of};
 
-use crate::kept::KeptQuery;
 use crate::reader::forget_readers;
 use crate::registered::Registration;
+use crate::remains::Remains;
 use crate::state::State;
 use reference::Fault;
 
@@ -45,7 +45,7 @@ impl State {
         self.names
             .free(self.registered[query as usize].name.as_str());
         leave(&mut self.registered[query as usize]);
-        self.kept[query as usize] = KeptQuery::Dropped;
+        self.remains[query as usize] = Remains::Dropped;
         self.stop(query);
         Ok(())
     }

@@ -14,9 +14,9 @@ ghost use Rattle.leases.specs.Readers.{with_slots, with_update};
 ghost use Rattle.leases.specs.Shown.{engine_in};
 ghost use Rattle.leases.specs.Sound.{IsSound};
 ghost use Rattle.leases.specs.Turns.{Finishes};
-ghost use Rattle.leases.specs.Views.{kept_of};
+ghost use Rattle.leases.specs.Views.{remains_of};
 
-use crate::kept::KeptQuery;
+use crate::remains::Remains;
 use crate::state::State;
 use reference::Fault;
 use run_queue::Slot;
@@ -94,7 +94,7 @@ impl State {
         ensures forgets { OnErr result (Forgets parts.node.query self.old self.new) }
     {
         let query = parts.node.query;
-        match take_turn(&mut self.kept[query as usize], &self.streams, parts) {
+        match take_turn(&mut self.remains[query as usize], &self.streams, parts) {
             Ok(()) => Ok(()),
             Err(error) => {
                 self.break_query(query);
@@ -137,7 +137,7 @@ impl State {
         ensures engine { IsBroken (engine_in self.old) query (engine_in self.new) }
         ensures forgets { Forgets query self.old self.new }
     {
-        self.kept[query as usize].give_up();
+        self.remains[query as usize].give_up();
         self.stop(query);
     }
 }
@@ -156,12 +156,15 @@ fn is_turn(turn: &Turn, parts: &Parts) -> bool
 }
 
 /// The running query takes the turn. After an error only its answers are as they were.
-fn take_turn(kept: &mut KeptQuery, streams: &Streams, parts: Parts) -> Result<(), AllocError>
-    requires { (p : PlainQuery) × ((kept_of kept.old ≡ Running p) × MayApply streams.now p parts) }
-    ensures ok { OnOk result ((p : PlainQuery) → kept_of kept.old ≡ Running p → (p2 : PlainQuery)
-        × ((kept_of kept.new ≡ Running p2) × IsApplied streams.now p parts p2)) }
-    ensures err { OnErr result ((p : PlainQuery) → kept_of kept.old ≡ Running p → (p2 : PlainQuery)
-        × ((kept_of kept.new ≡ Running p2) × (p2.answers ≡ p.answers))) }
+fn take_turn(remains: &mut Remains, streams: &Streams, parts: Parts) -> Result<(), AllocError>
+    requires { (p : PlainQuery) × ((remains_of remains.old ≡ Running p)
+        × MayApply streams.now p parts) }
+    ensures ok { OnOk result ((p : PlainQuery) → remains_of remains.old ≡ Running p
+        → (p2 : PlainQuery)
+        × ((remains_of remains.new ≡ Running p2) × IsApplied streams.now p parts p2)) }
+    ensures err { OnErr result ((p : PlainQuery) → remains_of remains.old ≡ Running p
+        → (p2 : PlainQuery)
+        × ((remains_of remains.new ≡ Running p2) × (p2.answers ≡ p.answers))) }
 {
     let Parts {
         lease: _,
@@ -171,8 +174,8 @@ fn take_turn(kept: &mut KeptQuery, streams: &Streams, parts: Parts) -> Result<()
         outputs,
         change,
     } = parts;
-    match kept {
-        KeptQuery::Running(query) => query.finish(
+    match remains {
+        Remains::Running(query) => query.finish(
             streams,
             node.operator,
             node.side,

@@ -3,7 +3,7 @@ ghost use Rattle.std.specs.Prelude.{◌≡◌, ◌<◌, ◌++◌, ℕ, IfOk, OnE
 ghost use Rattle.std.specs.List.{AllByRecursion};
 ghost use Rattle.reference.specs.World.{Does, heartbeat_step};
 ghost use Rattle.stream_store.specs.Closing.{QueuesGain};
-ghost use Rattle.laws_engine.specs.Calls.{beaten};
+ghost use Rattle.laws_engine.specs.Calls.{heartbeat_taken};
 ghost use Rattle.laws_queries.specs.Queries.{PlainQuery};
 ghost use Rattle.laws_engine.specs.Engines.{GoodEngine, Running};
 ghost use Rattle.leases.specs.Asked.{HasOperatorAt};
@@ -13,10 +13,10 @@ ghost use Rattle.leases.specs.Readers.{idle_slot, idle_slots, is_idle_at, is_idl
 ghost use Rattle.leases.specs.Readers.{with_updates};
 ghost use Rattle.leases.specs.Shown.{engine_in, world_in};
 ghost use Rattle.leases.specs.Sound.{IsSound};
-ghost use Rattle.leases.specs.Views.{kept_of};
+ghost use Rattle.leases.specs.Views.{remains_of};
 
-use crate::kept::KeptQuery;
 use crate::reader::Reader;
+use crate::remains::Remains;
 use crate::state::State;
 use reference::Fault;
 use run_queue::Slot;
@@ -32,7 +32,8 @@ impl State {
         requires { IsSound self.old }
         ensures does { Does (λ u. u) (world_in self.old)
             (heartbeat_step (world_in self.old) stream at) result (world_in self.new) }
-        ensures engine { OnOk result (engine_in self.new ≡ beaten (engine_in self.old) stream at) }
+        ensures engine { OnOk result (engine_in self.new
+            ≡ heartbeat_taken (engine_in self.old) stream at) }
         ensures closes { OnOk result
             (QueuesGain (slice_get (engine_in self.old).machine.streams stream) at) }
         ensures queues { OnOk result
@@ -81,8 +82,8 @@ impl State {
         requires { GoodEngine (engine_in self.now) }
         ensures { result ≡ is_idle_at (engine_in self.now) query operator }
     {
-        match self.kept.get(query as usize) {
-            Some(kept) => is_idle_in(&self.streams, operator, kept),
+        match self.remains.get(query as usize) {
+            Some(remains) => is_idle_in(&self.streams, operator, remains),
             None => false,
         }
     }
@@ -101,13 +102,13 @@ impl State {
 }
 
 /// Tells whether an operator is one of a query that runs, and has nothing to take.
-fn is_idle_in(streams: &Streams, operator: usize, kept: &KeptQuery) -> bool
-    requires { (p : PlainQuery) → kept_of kept.now ≡ Running p → operator < length p.operators
+fn is_idle_in(streams: &Streams, operator: usize, remains: &Remains) -> bool
+    requires { (p : PlainQuery) → remains_of remains.now ≡ Running p → operator < length p.operators
         → HasOperator streams.now p operator }
-    ensures { result ≡ is_idle_in streams.now operator (kept_of kept.now) }
+    ensures { result ≡ is_idle_in streams.now operator (remains_of remains.now) }
 {
-    match kept {
-        KeptQuery::Running(running) => {
+    match remains {
+        Remains::Running(running) => {
             operator < running.len() && running.ready(streams, operator).is_none()
         }
         _ => false,

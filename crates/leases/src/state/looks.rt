@@ -6,14 +6,14 @@ ghost use Rattle.reference.specs.Machine as machine;
 ghost use Rattle.reference.specs.Machine.{Registered};
 ghost use Rattle.reference.specs.Told.{IsTold};
 ghost use Rattle.laws_queries.specs.Queries.{PlainQuery};
-ghost use Rattle.laws_engine.specs.Engines.{Running, instant_at, is_leased, kept_at, query_at};
+ghost use Rattle.laws_engine.specs.Engines.{Running, instant_at, is_leased, query_at, remains_at};
 ghost use Rattle.laws_engine.specs.Engines.{slope_at, slot_at};
 ghost use Rattle.leases.specs.Asked.{HasOperatorAt, IsRunningAt};
 ghost use Rattle.leases.specs.Shown.{engine_in};
 ghost use Rattle.leases.specs.Views.{query_of};
 
-use crate::kept::KeptQuery;
 use crate::registered::Registration;
+use crate::remains::Remains;
 use crate::state::State;
 use envelope::Slope;
 use name_table::NameTable;
@@ -37,7 +37,7 @@ impl State {
             streams: Streams::new(alloc),
             names: NameTable::new(alloc),
             registered: Vec::new(alloc),
-            kept: Vec::new(alloc),
+            remains: Vec::new(alloc),
             readers: Vec::new(alloc),
             leases: Vec::new(alloc),
             next: 0,
@@ -70,10 +70,10 @@ impl State {
     /// The running query of a number.
     pub(crate) fn running(&self, query: u64) -> &RunningQuery
         requires { IsRunningAt (engine_in self.now) query }
-        ensures { kept_at (engine_in self.now) query ≡ Running result.now }
+        ensures { remains_at (engine_in self.now) query ≡ Running result.now }
     {
-        match &self.kept[query as usize] {
-            KeptQuery::Running(query) => query,
+        match &self.remains[query as usize] {
+            Remains::Running(query) => query,
             _ => unreachable!(),
         }
     }
@@ -90,7 +90,7 @@ impl State {
     pub(crate) fn instant(&self, query: u64, operator: usize) -> Option<u64>
         requires { HasOperatorAt (engine_in self.now) query operator }
         ensures { (q : Registered) (p : PlainQuery) → query_at (engine_in self.now) query ≡ Some q
-            → kept_at (engine_in self.now) query ≡ Running p
+            → remains_at (engine_in self.now) query ≡ Running p
             → result ≡ instant_at (engine_in self.now) query q p operator }
     {
         if self.is_leased(query, operator) {
@@ -106,7 +106,7 @@ impl State {
     pub(crate) fn slot(&self, query: u64, operator: usize) -> Slot
         requires { HasOperatorAt (engine_in self.now) query operator }
         ensures { (q : Registered) (p : PlainQuery) → query_at (engine_in self.now) query ≡ Some q
-            → kept_at (engine_in self.now) query ≡ Running p
+            → remains_at (engine_in self.now) query ≡ Running p
             → result ≡ slot_at (engine_in self.now) query q p operator }
     {
         let slope = slope_of(&self.registered[query as usize], operator);

@@ -27,9 +27,9 @@ ghost use Rattle.leases.specs.Shown.{engine_in, world_in};
 ghost use Rattle.leases.specs.Sound.{IsSound};
 ghost use Rattle.leases.specs.Views.{place_of, query_of};
 
-use crate::kept::KeptQuery;
 use crate::reader::Reader;
 use crate::registered::{Place, Registration};
+use crate::remains::Remains;
 use crate::state::State;
 use envelope::Slope;
 use plan::{Chart, Node, Plan, slopes};
@@ -144,7 +144,7 @@ impl State {
     {
         let number = self.next_query();
         self.registered.reserve(1)?;
-        self.kept.reserve(1)?;
+        self.remains.reserve(1)?;
         self.readers.reserve(told.plan.nodes.len())?;
         put_slots(
             &mut self.slots,
@@ -159,7 +159,7 @@ impl State {
         };
         put_readers(&mut self.readers, &told, number);
         self.registered.push_reserved(told);
-        self.kept.push_reserved(KeptQuery::Running(running));
+        self.remains.push_reserved(Remains::Running(running));
         Ok(number)
     }
 }

@@ -11,16 +11,16 @@ ghost use Rattle.reference.specs.Machine.{Registered};
 ghost use Rattle.reference.specs.Told.{IsTold};
 ghost use Rattle.reference.specs.World.{Looks, operators_of, slopes_at};
 ghost use Rattle.query_runtime.specs.Turns.{HasOperator, log_of};
-ghost use Rattle.laws_engine.specs.Engines.{answers_in, kept_at, query_at};
+ghost use Rattle.laws_engine.specs.Engines.{answers_in, query_at, remains_at};
 ghost use Rattle.leases.specs.Looks.{IsPending, WaitsAt, lengths_from, lengths_in, noughts_of};
 ghost use Rattle.leases.specs.Looks.{queues_of};
 ghost use Rattle.leases.specs.Shown.{engine_in, world_in};
 ghost use Rattle.leases.specs.Sound.{IsSound};
 ghost use Rattle.leases.specs.Takes.{HandsOut, Takes};
-ghost use Rattle.leases.specs.Views.{kept_of, query_of};
+ghost use Rattle.leases.specs.Views.{query_of, remains_of};
 
-use crate::kept::KeptQuery;
 use crate::registered::Registration;
+use crate::remains::Remains;
 use crate::state::State;
 use envelope::Slope;
 use plan::{Kind, Node};
@@ -53,7 +53,7 @@ impl State {
             (engine_in self.new) }
         ensures sound { IsSound self.new }
     {
-        let rows = hand_out(self.alloc, &mut self.kept[query as usize], limit)?;
+        let rows = hand_out(self.alloc, &mut self.remains[query as usize], limit)?;
         count_taken(&mut self.registered[query as usize], rows.len());
         Ok(rows)
     }
@@ -82,10 +82,10 @@ impl State {
 
     /// How many answers wait at the number of a query; none do where there is no query.
     fn answers_waiting(&self, query: u64) -> usize
-        ensures { result ≡ length (answers_in (kept_at (engine_in self.now) query)) }
+        ensures { result ≡ length (answers_in (remains_at (engine_in self.now) query)) }
     {
-        match self.kept.get(query as usize) {
-            Some(kept) => kept.waiting().unwrap_or(0),
+        match self.remains.get(query as usize) {
+            Some(remains) => remains.waiting().unwrap_or(0),
             None => 0,
         }
     }
@@ -108,19 +108,19 @@ impl State {
         requires accepted { first_fault (engine_in self.now).machine (Drop query) ≡ None }
         ensures { IfOk result (λ v. (q : Registered) → query_at (engine_in self.now) query ≡ Some q
             → v.items ≡ lengths_in (engine_in self.now).machine q
-            (kept_at (engine_in self.now) query)) }
+            (remains_at (engine_in self.now) query)) }
     {
-        match &self.kept[query as usize] {
-            KeptQuery::Running(running) => queues(
+        match &self.remains[query as usize] {
+            Remains::Running(running) => queues(
                 self.alloc,
                 &self.streams,
                 running,
                 &self.registered[query as usize].plan.nodes,
             ),
-            KeptQuery::Broken(_) => {
+            Remains::Broken(_) => {
                 empty_queues(self.alloc, &self.registered[query as usize].plan.nodes)
             },
-            KeptQuery::Dropped => Ok(Vec::new(self.alloc)),
+            Remains::Dropped => Ok(Vec::new(self.alloc)),
         }
     }
 
@@ -138,19 +138,20 @@ impl State {
 
 /// The first answers that wait, at most `limit`; of a broken query of which nothing waits that is
 /// said.
-fn hand_out(alloc: Global, kept: &mut KeptQuery, limit: usize) -> Result<Vec<(i64, Row)>, Fault>
-    requires { are_signed (answers_in (kept_of kept.old)) ≡ true }
-    ensures { HandsOut (λ v. handed_of v.items) (kept_of kept.old) limit result (kept_of kept.new) }
+fn hand_out(alloc: Global, remains: &mut Remains, limit: usize) -> Result<Vec<(i64, Row)>, Fault>
+    requires { are_signed (answers_in (remains_of remains.old)) ≡ true }
+    ensures { HandsOut (λ v. handed_of v.items) (remains_of remains.old) limit result
+        (remains_of remains.new) }
 {
-    match kept {
-        KeptQuery::Running(query) => Ok(query.take(alloc, limit)?),
-        KeptQuery::Broken(answers) => {
+    match remains {
+        Remains::Running(query) => Ok(query.take(alloc, limit)?),
+        Remains::Broken(answers) => {
             if answers.len() == 0 {
                 return Err(Fault::Broken);
             }
             Ok(answers.take(alloc, limit)?)
         }
-        KeptQuery::Dropped => Ok(Vec::new(alloc)),
+        Remains::Dropped => Ok(Vec::new(alloc)),
     }
 }
 

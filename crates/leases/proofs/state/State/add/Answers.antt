@@ -7,7 +7,7 @@ use Rattle.leases.specs.Readers.{windows_from}
 use Rattle.leases.specs.Registering.{with_first}
 use Rattle.leases.specs.Shown.{engine_in}
 use Rattle.leases.specs.Views.{query_of}
-use Rattle.leases.specs.declared.kept.KeptQuery.TheVariants as code
+use Rattle.leases.specs.declared.remains.Remains.TheVariants as code
 use Rattle.leases.proofs.AddLemmas.{engine_still, engine_with, free_name, new_operators, new_sources, none_there, slots_are, sound_still, sound_with}
 use Rattle.leases.proofs.RegisterLemmas.{left_again}
 use Rattle.leases.proofs.state.State.add.Goals as goal
@@ -29,7 +29,7 @@ returns-clause-engine c =
     let put : c.put_slots.new.slots ≡ (registered (engine_in s) (query_of c.args.told) c.args.running).slots =
     c.in_ok-put_slots.ensures.ok ∙ ap (λ n. with_first s.streams c.args.running c.deref.result.now n (length c.deref.result.now) s.slots) c.next_query-number.ensures
     ∙ slots_are (engine_in s) (query_of c.args.told) c.args.running c.deref.result.now c.requires.sound.good.many c.requires.good (c.deref.ensures.value ∙ c.args.told.sloped) c.requires.sound.good in
-    engine_with s.streams s.registered.items c.push_reserved.new.self.items s.kept.items c.push_reserved-2.new.self.items s.leases.items s.next s.slots c.put_slots.new.slots c.args.told c.args.running
+    engine_with s.streams s.registered.items c.push_reserved.new.self.items s.remains.items c.push_reserved-2.new.self.items s.leases.items s.next s.slots c.put_slots.new.slots c.args.told c.args.running
     (c.push_reserved.ensures.items ∙ ap (λ l. l ++ c.args.told ∷ []) c.reserve.ensures.items) (c.push_reserved-2.ensures.items ∙ ap (λ l. l ++ code.Running c.args.running ∷ []) c.reserve-2.ensures.items) put
 
 pub returns-clause-sound : goal.returns-clause-sound
@@ -43,7 +43,7 @@ pub returns-in_default-clause-err : goal.returns-in_default-clause-err
 returns-in_default-clause-err c =
     let s = c.args.self.now in
     let none : without_query c.next_query-number.result s.slots ≡ s.slots = subst (λ n. without_query n s.slots ≡ s.slots) (sym c.next_query-number.ensures) (none_there (engine_in s) c.requires.sound.good) in
-    engine_still s.streams s.registered.items c.reserve.new.self.items s.kept.items c.reserve-2.new.self.items s.leases.items s.next s.slots c.drop_query.new.self c.reserve.ensures.items c.reserve-2.ensures.items
+    engine_still s.streams s.registered.items c.reserve.new.self.items s.remains.items c.reserve-2.new.self.items s.leases.items s.next s.slots c.drop_query.new.self c.reserve.ensures.items c.reserve-2.ensures.items
     (left_again s.streams c.args.running c.deref.result.now c.next_query-number.result (length c.deref.result.now) s.slots c.put_slots.new.slots c.drop_query.new.self c.in_ok-put_slots.ensures.ok none c.drop_query.ensures)
 
 pub returns-in_default-clause-sound : goal.returns-in_default-clause-sound

@@ -13,15 +13,15 @@ use Rattle.reference.specs.Named.{name_of_registered}
 use Rattle.leases.specs.Readers.{readers_from, runs}
 use Rattle.leases.specs.Shown.{engine_in}
 use Rattle.leases.specs.Sound.{IsSound, is_gone}
-use Rattle.leases.specs.Views.{kept_of, query_of}
+use Rattle.leases.specs.Views.{query_of, remains_of}
 use Rattle.turn.specs.declared.turns.Turn.{Turn}
 use Rattle.leases.specs.declared.reader.Reader.{Reader}
 use Rattle.leases.specs.declared.registered.Registration.{Registration}
 use Rattle.leases.specs.declared.state.State.{State}
-use Rattle.leases.proofs.DropLemmas.{another, drops, gone_dropped, is_dropped, kept_dropped, kept_within, named_there, names_dropped, refused, registered_dropped, registered_within, there}
+use Rattle.leases.proofs.DropLemmas.{another, drops, gone_dropped, is_dropped, named_there, names_dropped, refused, registered_dropped, registered_within, remains_dropped, remains_within, there}
 use Rattle.leases.proofs.LeaveLemmas.{fewer}
-use Rattle.leases.specs.declared.kept.KeptQuery.TheVariants as code
-use Rattle.leases.proofs.OutLemmas.{kept_set}
+use Rattle.leases.specs.declared.remains.Remains.TheVariants as code
+use Rattle.leases.proofs.OutLemmas.{remains_set}
 use Rattle.leases.proofs.ListedLemmas.{readers_changed, readers_left}
 use Rattle.leases.proofs.state.State.drop_query.Goals as goal
 
@@ -43,7 +43,7 @@ index_mut-requires c =
 
 pub index_mut-requires-2 : goal.index_mut-requires-2
 index_mut-requires-2 c =
-    let within : c.args.query < length c.args.self.now.kept.items = kept_within (engine_in c.args.self.now) c.args.self.now.kept.items c.args.query c.requires.good refl (there (engine_in c.args.self.now).machine c.args.query (sym c.query_fault.ensures.first ∙ c.in_default.is)) in
+    let within : c.args.query < length c.args.self.now.remains.items = remains_within (engine_in c.args.self.now) c.args.self.now.remains.items c.args.query c.requires.good refl (there (engine_in c.args.self.now).machine c.args.query (sym c.query_fault.ensures.first ∙ c.in_default.is)) in
     omega (arith, within)
 
 pub returns-clause-does : goal.returns-clause-does
@@ -52,7 +52,7 @@ returns-clause-does c = sym (ap (λ z. z.0) (drops (engine_in c.args.self.now) c
 pub returns-clause-engine : goal.returns-clause-engine
 returns-clause-engine c =
     ap (λ (s : State). engine_in s) c.stop.ensures.rest
-    ∙ is_dropped c.args.self.now.streams c.args.self.now.registered.items c.args.self.now.kept.items c.args.self.now.leases.items c.stop.new.self.leases.items c.args.self.now.next c.args.self.now.slots c.stop.new.self.slots c.args.query
+    ∙ is_dropped c.args.self.now.streams c.args.self.now.registered.items c.args.self.now.remains.items c.args.self.now.leases.items c.stop.new.self.leases.items c.args.self.now.next c.args.self.now.slots c.stop.new.self.slots c.args.query
     c.stop.ensures.leases c.stop.ensures.slots c.leave.new.query c.index_mut.result.now (c.leave.ensures ∙ ap (λ z. machine.dropped (query_of z)) c.index_mut.ensures.value)
 
 pub returns-clause-world : goal.returns-clause-world
@@ -62,7 +62,7 @@ returns-clause-world c =
 
 pub returns-clause-sound : goal.returns-clause-sound
 returns-clause-sound c =
-    let is = is_dropped c.args.self.now.streams c.args.self.now.registered.items c.args.self.now.kept.items c.args.self.now.leases.items c.stop.new.self.leases.items c.args.self.now.next c.args.self.now.slots c.stop.new.self.slots c.args.query
+    let is = is_dropped c.args.self.now.streams c.args.self.now.registered.items c.args.self.now.remains.items c.args.self.now.leases.items c.stop.new.self.leases.items c.args.self.now.next c.args.self.now.slots c.stop.new.self.slots c.args.query
     c.stop.ensures.leases c.stop.ensures.slots c.leave.new.query c.index_mut.result.now (c.leave.ensures ∙ ap (λ z. machine.dropped (query_of z)) c.index_mut.ensures.value) in
     subst IsSound (sym c.stop.ensures.rest) (record {
       good = subst GoodEngine (sym is)
@@ -71,8 +71,8 @@ returns-clause-sound c =
           let left = subst (λ gs. IsIn gs g) c.stop.ensures.leases i in
           let other = another c.args.query c.args.self.now.leases.items g left in
           c.requires.kinds g (in_filter (λ (z : Turn). not (z.node.query == c.args.query)) c.args.self.now.leases.items g left).0 p
-          (sym (changed_or_there (λ kept. Dropped) c.args.query g.node.query (map kept_of c.args.self.now.kept.items) Dropped other)
-          ∙ ap (λ ks. get_or ks g.node.query Dropped) (sym (kept_dropped c.args.self.now.kept.items c.args.query)) ∙ runs);
+          (sym (changed_or_there (λ remains. Dropped) c.args.query g.node.query (map remains_of c.args.self.now.remains.items) Dropped other)
+          ∙ ap (λ ks. get_or ks g.node.query Dropped) (sym (remains_dropped c.args.self.now.remains.items c.args.query)) ∙ runs);
       few =
           let many : length c.stop.new.self.leases.items ≡ _ = ap (λ gs. length gs) c.stop.ensures.leases in
           let less = fewer (λ (z : Turn). not (z.node.query == c.args.query)) c.args.self.now.leases.items in
@@ -87,16 +87,16 @@ returns-clause-sound c =
           ∙ ap (λ z. map name_of_registered z) (sym (registered_dropped c.args.self.now.registered.items c.args.query c.leave.new.query c.index_mut.result.now (c.leave.ensures ∙ ap (λ z. machine.dropped (query_of z)) c.index_mut.ensures.value)));
       gone =
           ap (λ z. map (λ q. q.is_dropped) z) (registered_dropped c.args.self.now.registered.items c.args.query c.leave.new.query c.index_mut.result.now (c.leave.ensures ∙ ap (λ z. machine.dropped (query_of z)) c.index_mut.ensures.value))
-          ∙ gone_dropped (map query_of c.args.self.now.registered.items) (map kept_of c.args.self.now.kept.items) c.args.query c.requires.gone
-          ∙ ap (λ z. map is_gone z) (sym (kept_dropped c.args.self.now.kept.items c.args.query));
+          ∙ gone_dropped (map query_of c.args.self.now.registered.items) (map remains_of c.args.self.now.remains.items) c.args.query c.requires.gone
+          ∙ ap (λ z. map is_gone z) (sym (remains_dropped c.args.self.now.remains.items c.args.query));
       columns = c.requires.columns;
       closed = subst (λ (e : PlainEngine). HaveFewClosed e.machine) (sym is)
           (few_closed_stand.goes_on (engine_in c.args.self.now).machine (machine.Drop c.args.query) 0 (sym c.query_fault.ensures.first ∙ c.in_default.is) c.requires.closed);
       readers =
           c.stop.ensures.readers ∙ ap (λ rs. filter (λ (r : Reader). not (r.query == c.args.query)) rs) c.requires.readers
-          ∙ readers_left c.args.query 0 c.args.query (map query_of c.args.self.now.registered.items) (map runs (map kept_of c.args.self.now.kept.items)) (omega arith)
-          ∙ sym (readers_changed machine.dropped (λ q j. refl) (λ q. refl) 0 c.args.query (map query_of c.args.self.now.registered.items) (set (map runs (map kept_of c.args.self.now.kept.items)) c.args.query false))
+          ∙ readers_left c.args.query 0 c.args.query (map query_of c.args.self.now.registered.items) (map runs (map remains_of c.args.self.now.remains.items)) (omega arith)
+          ∙ sym (readers_changed machine.dropped (λ q j. refl) (λ q. refl) 0 c.args.query (map query_of c.args.self.now.registered.items) (set (map runs (map remains_of c.args.self.now.remains.items)) c.args.query false))
           ∙ ap (readers_from 0 (change c.args.query machine.dropped (map query_of c.args.self.now.registered.items)))
-          (sym (ap (λ ks. map runs ks) (kept_set c.args.self.now.kept.items c.args.query code.Dropped) ∙ map-set runs (map kept_of c.args.self.now.kept.items) c.args.query Dropped))
-          ∙ ap (λ z. readers_from 0 z (map runs (map kept_of (set c.args.self.now.kept.items c.args.query code.Dropped)))) (sym (registered_dropped c.args.self.now.registered.items c.args.query c.leave.new.query c.index_mut.result.now (c.leave.ensures ∙ ap (λ z. machine.dropped (query_of z)) c.index_mut.ensures.value)));
+          (sym (ap (λ ks. map runs ks) (remains_set c.args.self.now.remains.items c.args.query code.Dropped) ∙ map-set runs (map remains_of c.args.self.now.remains.items) c.args.query Dropped))
+          ∙ ap (λ z. readers_from 0 z (map runs (map remains_of (set c.args.self.now.remains.items c.args.query code.Dropped)))) (sym (registered_dropped c.args.self.now.registered.items c.args.query c.leave.new.query c.index_mut.result.now (c.leave.ensures ∙ ap (λ z. machine.dropped (query_of z)) c.index_mut.ensures.value)));
     })

@@ -17,7 +17,7 @@ after c = record {
   streams = c.args.self.now.streams;
   names = c.args.self.now.names;
   registered = c.args.self.now.registered;
-  kept = c.args.self.now.kept;
+  remains = c.args.self.now.remains;
   readers = c.args.self.now.readers;
   leases = c.push_reserved.new.self;
   next = c.args.self.now.next + 1;
@@ -29,12 +29,12 @@ same : (c : goal.After-change) → c.in_ok-kept.kept ≡ c.in_ok-turn.turn
 same c =
     same_turn (engine_in c.args.self.now) c.query-query.result c.operator-operator.result c.side-side.result c.args.rows c.in_ok-kept.kept c.in_ok-turn.turn c.in_ok-kept.ensures c.in_ok-turn.ensures
 
--- the slot is retold, and the turn kept
+-- the slot is updated, and the turn kept
 gone : (c : goal.After-change) → c.change.new.self ≡ changed c.args.slot.now None c.args.self.now.slots → HasGone c.args.self.now (after c) c.args.slot.now c.in_ok-turn.turn
-gone c retold = record {
+gone c slot_updated = record {
   engine = refl;
   leases = c.push_reserved.ensures.items ∙ (ap (λ z. z ++ c.in_ok-kept.kept ∷ []) c.reserve.ensures.items ∙ ap (λ (z : Turn). c.args.self.now.leases.items ++ z ∷ []) (same c));
-  slots = retold;
+  slots = slot_updated;
   next = refl;
   names = refl;
   readers = refl;

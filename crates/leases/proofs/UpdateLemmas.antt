@@ -1,4 +1,4 @@
--- Slots that are told something twice, or are told something before they leave: the last counts.
+-- Slots that are updated twice, or are updated before they leave: the last counts.
 use Rattle.std.proofs.Common.{◌≡◌, ◌≢◌, ℕ, ◌==◌, true, false, cond, inl, inr, ◌⊎◌, Option, Some, None, List, [], ◌∷◌, refl, sym, ap, ◌∙◌, subst, eq-eqb}
 use Rattle.std.specs.List.{AllByRecursion}
 use Rattle.std.specs.List.Sorted.{IsStrictlySortedBy}

@@ -29,16 +29,16 @@ use Rattle.laws_queries.proofs.MachineCounts.{machines_stand}
 use Rattle.laws_queries.proofs.RowLemmas.{rows_stand}
 use Rattle.run_queue.specs.Slots.{slot}
 use Rattle.run_queue.specs.declared.slots.Slot.{Slot}
-use Rattle.laws_engine.specs.Engines.{Broken, Dropped, Goes, GoodEngine, HasSlots, IsKept, IsLease, Kept, Lease, PlainEngine, Running, instant_at, is_leased, kept_at, query_at, slope_at, slot_at, slot_in, slot_of}
-use Rattle.laws_engine.specs.Calls.{IsHeartbeat, beaten, closed_over, is_reading, retold, retold_queries, retold_query, retold_windows}
+use Rattle.laws_engine.specs.Engines.{AreRemains, Broken, Dropped, Goes, GoodEngine, HasSlots, IsLease, Lease, PlainEngine, PlainRemains, Running, instant_at, is_leased, query_at, remains_at, slope_at, slot_at, slot_in, slot_of}
+use Rattle.laws_engine.specs.Calls.{IsHeartbeat, closed_over, heartbeat_taken, is_reading, queries_updated, query_updated, slot_updated, windows_updated}
 use Rattle.laws_engine.proofs.BackLemmas.{numbered}
 use Rattle.laws_engine.proofs.PromiseLemmas.{slot_is}
 use Rattle.laws_engine.proofs.SlotLemmas.{AreNumbered, changed_slots, numbers}
-use Rattle.laws_engine.proofs.StreamLemmas.{heartbeat_kept}
+use Rattle.laws_engine.proofs.StreamLemmas.{heartbeat_remains}
 use Rattle.laws_engine.proofs.TableLemmas.{updated, updated_here, updated_numbered, updated_there}
 use Rattle.laws_engine.proofs.TakeLemmas.{equal_slots}
 
--- THE SLOTS of two engines, told anew from the first operator of the first query on to the operator k of the query n
+-- THE SLOTS of two engines, updated from the first operator of the first query on to the operator k of the query n
 abbrev Before : ℕ → ℕ → ℕ → ℕ → Type 0
 Before n k i j = (i < n) ⊎ ((i ≡ n) × (j < k))
 
@@ -78,19 +78,19 @@ told_same e e2 n k slots p same = record {
   behind = λ i j b. p.behind i j (behind_next n k i j b).0;
 }
 
--- an operator whose slot is told anew
-told_anew : (e e2 : PlainEngine) (n k : ℕ) (q : Registered) (p : PlainQuery) (slots : List Slot) → Partly e e2 n k slots → query_at e n ≡ Some q → kept_at e n ≡ Running p → query_at e2 n ≡ Some q → kept_at e2 n ≡ Running p
-    → k < length q.nodes → Partly e e2 n (suc k) (retold e e2 n q p p k slots)
-told_anew e e2 n k q p slots part r kept r2 kept2 within =
+-- an operator whose slot is updated
+one_updated : (e e2 : PlainEngine) (n k : ℕ) (q : Registered) (p : PlainQuery) (slots : List Slot) → Partly e e2 n k slots → query_at e n ≡ Some q → remains_at e n ≡ Running p → query_at e2 n ≡ Some q → remains_at e2 n ≡ Running p
+    → k < length q.nodes → Partly e e2 n (suc k) (slot_updated e e2 n q p p k slots)
+one_updated e e2 n k q p slots part r remains r2 remains2 within =
     let new : Slot = slot_at e2 n q p k in
     let told : ℕ → ℕ → Option Slot = updated part.table n k new in
     record {
       table = told;
       named = updated_numbered part.table n k new refl refl part.named;
       has = changed_slots part.table told slots (slot_at e n q p k) (instant_at e2 n q p k) part.has part.named
-          (part.behind n k (inr (refl, omega arith)) ∙ slot_is e n k q p r kept within) (updated_here part.table n k new) (λ i j ne. updated_there part.table n k new i j ne);
+          (part.behind n k (inr (refl, omega arith)) ∙ slot_is e n k q p r remains within) (updated_here part.table n k new) (λ i j ne. updated_there part.table n k new i j ne);
       before = λ i j b. ⊎_elim
-          (λ at. ap (λ z. told z j) at.0 ∙ ap (told n) at.1 ∙ updated_here part.table n k new ∙ sym (slot_is e2 n k q p r2 kept2 within) ∙ sym (ap (λ z. slot_of e2 z j) at.0 ∙ ap (slot_of e2 n) at.1))
+          (λ at. ap (λ z. told z j) at.0 ∙ ap (told n) at.1 ∙ updated_here part.table n k new ∙ sym (slot_is e2 n k q p r2 remains2 within) ∙ sym (ap (λ z. slot_of e2 z j) at.0 ∙ ap (slot_of e2 n) at.1))
           (λ ne. updated_there part.table n k new i j ne ∙ part.before i j (⊎_elim (λ c. c) (λ at. absurd (⊎_elim (λ d. d at.0) (λ d. d at.1) ne)) (before_next n k i j b)))
           (numbers i j n k);
       behind = λ i j b. let c = behind_next n k i j b in updated_there part.table n k new i j c.1 ∙ part.behind i j c.0;
@@ -173,52 +173,52 @@ module _ (e : PlainEngine) (s : ℕ) (at : ℤ) (g : GoodEngine e) (h : IsHeartb
   pub arrivals : (ws : List ℕ) (q : Registered) (p : PlainQuery) → Goes e.machine q p → (n : ℕ) → IsByArrival (elements_at e.machine.streams n)
   arrivals ws q p goes = (rows_stand.reads goes.widths e.machine q g.rows g.machine goes.sources).arrival
 
-  pub goes_at : (n : ℕ) (q : Registered) (p : PlainQuery) → query_at e n ≡ Some q → kept_at e n ≡ Running p → Goes e.machine q p
-  goes_at n q p r kept = subst (IsKept e.machine q) kept (g.queries n q r)
+  pub goes_at : (n : ℕ) (q : Registered) (p : PlainQuery) → query_at e n ≡ Some q → remains_at e n ≡ Running p → Goes e.machine q p
+  goes_at n q p r remains = subst (AreRemains e.machine q) remains (g.queries n q r)
 
-  pub inboxes : (n k : ℕ) (q : Registered) (p : PlainQuery) → query_at e n ≡ Some q → kept_at e n ≡ Running p → k < length q.nodes → HasInboxes q (log_at e.machine q k) (node_at q k) (operator_at p.operators k)
-  inboxes n k q p r kept within = let goes = goes_at n q p r kept in inboxes_of (widths_of e.machine.streams q) goes.widths e.machine q p.operators (goes.taken ++ p.answers) k goes.runs.runs within
+  pub inboxes : (n k : ℕ) (q : Registered) (p : PlainQuery) → query_at e n ≡ Some q → remains_at e n ≡ Running p → k < length q.nodes → HasInboxes q (log_at e.machine q k) (node_at q k) (operator_at p.operators k)
+  inboxes n k q p r remains within = let goes = goes_at n q p r remains in inboxes_of (widths_of e.machine.streams q) goes.widths e.machine q p.operators (goes.taken ++ p.answers) k goes.runs.runs within
 
-  beaten_lease : (slots : List Slot) (a : Lease) → IsLease e a → IsLease (record (closed_over e s at) { slots = slots }) a
-  beaten_lease slots a is =
-      let goes = goes_at a.query is.query is.kept is.registered is.running in
-      let m = side_more e.machine s at h.accepted h.queues (arrivals [] is.query is.kept goes) is.query (node_at is.query a.operator) (operator_at is.kept.operators a.operator) a.side
-      (inboxes a.query a.operator is.query is.kept is.registered is.running is.within) in
+  heartbeat_lease : (slots : List Slot) (a : Lease) → IsLease e a → IsLease (record (closed_over e s at) { slots = slots }) a
+  heartbeat_lease slots a is =
+      let goes = goes_at a.query is.query is.plain is.registered is.running in
+      let m = side_more e.machine s at h.accepted h.queues (arrivals [] is.query is.plain goes) is.query (node_at is.query a.operator) (operator_at is.plain.operators a.operator) a.side
+      (inboxes a.query a.operator is.query is.plain is.registered is.running is.within) in
       record {
         numbered = is.numbered;
         query = is.query;
         registered = is.registered;
-        kept = is.kept;
+        plain = is.plain;
         running = is.running;
         within = is.within;
-        first = leases_stand_first.stays (operator_at is.kept.operators a.operator) (operator_at is.kept.operators a.operator) (log_at e.machine is.query a.operator) (log_at (closed_over e s at).machine is.query a.operator) a.side a.item m.0 refl m.1 is.first;
+        first = leases_stand_first.stays (operator_at is.plain.operators a.operator) (operator_at is.plain.operators a.operator) (log_at e.machine is.query a.operator) (log_at (closed_over e s at).machine is.query a.operator) a.side a.item m.0 refl m.1 is.first;
         near = is.near;
       }
 
   -- slots of no operator
-  pub beyond_in : (n k : ℕ) (q : Registered) (kept : Kept) → length q.nodes ≤ k → slot_in (closed_over e s at) n k (Some q) kept ≡ slot_in e n k (Some q) kept
+  pub beyond_in : (n k : ℕ) (q : Registered) (remains : PlainRemains) → length q.nodes ≤ k → slot_in (closed_over e s at) n k (Some q) remains ≡ slot_in e n k (Some q) remains
   beyond_in n k q (Running p) l = let f : nat_lt k (length q.nodes) ≡ false = not_less k (length q.nodes) l in rw f refl where
     not_less : (a b : ℕ) → b ≤ a → nat_lt a b ≡ false
     not_less a b l = grind (arith, l)
   beyond_in n k q (Broken answers) l = refl
   beyond_in n k q Dropped l = refl
 
-  pub quiet_slot : (n k : ℕ) (q : Registered) (p : PlainQuery) → query_at e n ≡ Some q → kept_at e n ≡ Running p → k < length q.nodes → is_reading q s (node_at q k) ≡ false → slot_of (closed_over e s at) n k ≡ slot_of e n k
-  quiet_slot n k q p r kept within away =
-      let goes = goes_at n q p r kept in
-      slot_is (closed_over e s at) n k q p r kept within
+  pub quiet_slot : (n k : ℕ) (q : Registered) (p : PlainQuery) → query_at e n ≡ Some q → remains_at e n ≡ Running p → k < length q.nodes → is_reading q s (node_at q k) ≡ false → slot_of (closed_over e s at) n k ≡ slot_of e n k
+  quiet_slot n k q p r remains within away =
+      let goes = goes_at n q p r remains in
+      slot_is (closed_over e s at) n k q p r remains within
       ∙ ap (λ x. Some (slot (slope_at q k) (cond (is_leased e n k) None (option_map (λ z. z.1) x)) n k))
-      (quiet e.machine s at h.accepted h.queues (arrivals [] q p goes) q (node_at q k) (operator_at p.operators k) (inboxes n k q p r kept within) away)
-      ∙ sym (slot_is e n k q p r kept within)
+      (quiet e.machine s at h.accepted h.queues (arrivals [] q p goes) q (node_at q k) (operator_at p.operators k) (inboxes n k q p r remains within) away)
+      ∙ sym (slot_is e n k q p r remains within)
 
   -- the operators of one query from the number k on
-  windows_told : (n k : ℕ) (q : Registered) (p : PlainQuery) (nodes : List plan.Node) (slots : List Slot) → query_at e n ≡ Some q → kept_at e n ≡ Running p
+  windows_told : (n k : ℕ) (q : Registered) (p : PlainQuery) (nodes : List plan.Node) (slots : List Slot) → query_at e n ≡ Some q → remains_at e n ≡ Running p
       → ((i : ℕ) → get_or nodes i (Window 0) ≡ node_at q (k + i)) → k + length nodes ≡ length q.nodes → Partly e (closed_over e s at) n k slots
-      → Partly e (closed_over e s at) (suc n) 0 (retold_windows e (closed_over e s at) s n q p k nodes slots)
-  windows_told n k q p [] slots r kept each many part = told_query e (closed_over e s at) n k slots part
-      (λ j l. ap (λ z. slot_in (closed_over e s at) n j z (kept_at e n)) r ∙ beyond_in n j q (kept_at e n) (omega (arith, l, many)) ∙ sym (ap (λ z. slot_in e n j z (kept_at e n)) r))
-  windows_told n k q p (node ∷ nodes) slots r kept each many part =
-      windows_told n (suc k) q p nodes (cond (is_reading q s node) (retold e (closed_over e s at) n q p p k slots) slots) r kept
+      → Partly e (closed_over e s at) (suc n) 0 (windows_updated e (closed_over e s at) s n q p k nodes slots)
+  windows_told n k q p [] slots r remains each many part = told_query e (closed_over e s at) n k slots part
+      (λ j l. ap (λ z. slot_in (closed_over e s at) n j z (remains_at e n)) r ∙ beyond_in n j q (remains_at e n) (omega (arith, l, many)) ∙ sym (ap (λ z. slot_in e n j z (remains_at e n)) r))
+  windows_told n k q p (node ∷ nodes) slots r remains each many part =
+      windows_told n (suc k) q p nodes (cond (is_reading q s node) (slot_updated e (closed_over e s at) n q p p k slots) slots) r remains
       (λ i. each (suc i) ∙ ap (node_at q) (omega arith)) (omega (arith, many)) (one (is_reading q s node) refl) where
         here : node ≡ node_at q k
         here = each 0 ∙ ap (node_at q) (omega arith)
@@ -226,40 +226,40 @@ module _ (e : PlainEngine) (s : ℕ) (at : ℤ) (g : GoodEngine e) (h : IsHeartb
         within : k < length q.nodes
         within = omega (arith, many)
 
-        one : (b : Bool) → is_reading q s node ≡ b → Partly e (closed_over e s at) n (suc k) (cond b (retold e (closed_over e s at) n q p p k slots) slots)
-        one true is = told_anew e (closed_over e s at) n k q p slots part r kept r kept within
-        one false is = told_same e (closed_over e s at) n k slots part (quiet_slot n k q p r kept within (sym (ap (is_reading q s) here) ∙ is))
+        one : (b : Bool) → is_reading q s node ≡ b → Partly e (closed_over e s at) n (suc k) (cond b (slot_updated e (closed_over e s at) n q p p k slots) slots)
+        one true is = one_updated e (closed_over e s at) n k q p slots part r remains r remains within
+        one false is = told_same e (closed_over e s at) n k slots part (quiet_slot n k q p r remains within (sym (ap (is_reading q s) here) ∙ is))
 
-  query_told : (n : ℕ) (q : Registered) (kept : Kept) (slots : List Slot) → query_at e n ≡ Some q → kept_at e n ≡ kept → Partly e (closed_over e s at) n 0 slots
-      → Partly e (closed_over e s at) (suc n) 0 (retold_query e (closed_over e s at) s n q kept slots)
-  query_told n q (Running p) slots r kept part = windows_told n 0 q p q.nodes slots r kept (λ i. ap (node_at q) (omega arith)) (omega arith) part
-  query_told n q (Broken answers) slots r kept part = told_query e (closed_over e s at) n 0 slots part
-      (λ j l. ap (slot_in (closed_over e s at) n j (query_at e n)) kept ∙ silent j (query_at e n) ∙ sym (ap (slot_in e n j (query_at e n)) kept)) where
+  query_told : (n : ℕ) (q : Registered) (remains : PlainRemains) (slots : List Slot) → query_at e n ≡ Some q → remains_at e n ≡ remains → Partly e (closed_over e s at) n 0 slots
+      → Partly e (closed_over e s at) (suc n) 0 (query_updated e (closed_over e s at) s n q remains slots)
+  query_told n q (Running p) slots r remains part = windows_told n 0 q p q.nodes slots r remains (λ i. ap (node_at q) (omega arith)) (omega arith) part
+  query_told n q (Broken answers) slots r remains part = told_query e (closed_over e s at) n 0 slots part
+      (λ j l. ap (slot_in (closed_over e s at) n j (query_at e n)) remains ∙ silent j (query_at e n) ∙ sym (ap (slot_in e n j (query_at e n)) remains)) where
         silent : (j : ℕ) (o : Option Registered) → slot_in (closed_over e s at) n j o (Broken answers) ≡ slot_in e n j o (Broken answers)
         silent j None = refl
         silent j (Some x) = refl
-  query_told n q Dropped slots r kept part = told_query e (closed_over e s at) n 0 slots part
-      (λ j l. ap (slot_in (closed_over e s at) n j (query_at e n)) kept ∙ silent j (query_at e n) ∙ sym (ap (slot_in e n j (query_at e n)) kept)) where
+  query_told n q Dropped slots r remains part = told_query e (closed_over e s at) n 0 slots part
+      (λ j l. ap (slot_in (closed_over e s at) n j (query_at e n)) remains ∙ silent j (query_at e n) ∙ sym (ap (slot_in e n j (query_at e n)) remains)) where
         silent : (j : ℕ) (o : Option Registered) → slot_in (closed_over e s at) n j o Dropped ≡ slot_in e n j o Dropped
         silent j None = refl
         silent j (Some x) = refl
 
   queries_told : (n : ℕ) (qs : List Registered) (slots : List Slot) → ((i : ℕ) → slice_get qs i ≡ query_at e (n + i)) → Partly e (closed_over e s at) n 0 slots
-      → HasSlots (slot_of (closed_over e s at)) (retold_queries e (closed_over e s at) s n qs slots)
+      → HasSlots (slot_of (closed_over e s at)) (queries_updated e (closed_over e s at) s n qs slots)
   queries_told n [] slots each part = at_end e (closed_over e s at) n slots part
       (λ i j l. let none : query_at e i ≡ None = ap (query_at e) (omega (arith, l)) ∙ sym (each (i - n)) in
-      ap (λ z. slot_in (closed_over e s at) i j z (kept_at e i)) none ∙ sym (ap (λ z. slot_in e i j z (kept_at e i)) none))
+      ap (λ z. slot_in (closed_over e s at) i j z (remains_at e i)) none ∙ sym (ap (λ z. slot_in e i j z (remains_at e i)) none))
   queries_told n (q ∷ qs) slots each part =
-      queries_told (suc n) qs (retold_query e (closed_over e s at) s n q (kept_at e n) slots) (λ i. each (suc i) ∙ ap (query_at e) (omega arith))
-      (query_told n q (kept_at e n) slots (ap (query_at e) (omega arith) ∙ sym (each 0)) refl part)
+      queries_told (suc n) qs (query_updated e (closed_over e s at) s n q (remains_at e n) slots) (λ i. each (suc i) ∙ ap (query_at e) (omega arith))
+      (query_told n q (remains_at e n) slots (ap (query_at e) (omega arith) ∙ sym (each 0)) refl part)
 
-  pub heartbeat_good : GoodEngine (beaten e s at)
+  pub heartbeat_good : GoodEngine (heartbeat_taken e s at)
   heartbeat_good = record {
     machine = machines_stand.goes_on e.machine (Heartbeat s at) 0 h.accepted g.machine;
     rows = rows_stand.goes_on e.machine (Heartbeat s at) 0 h.accepted g.rows;
     many = g.many;
-    queries = λ n q r. heartbeat_kept e.machine s at h.accepted q (kept_at e n) g.machine g.rows h.queues (g.queries n q r);
-    leases = λ a i. beaten_lease _ a (g.leases a i);
+    queries = λ n q r. heartbeat_remains e.machine s at h.accepted q (remains_at e n) g.machine g.rows h.queues (g.queries n q r);
+    leases = λ a i. heartbeat_lease _ a (g.leases a i);
     apart = g.apart;
     slots = queries_told 0 e.machine.queries e.slots (λ i. ap (query_at e) (omega arith)) (at_start e (closed_over e s at) g.slots);
   }

@@ -1,6 +1,7 @@
 -- Turns and queries that leave an engine: its code's lists, and those of the plain engine.
-use Rattle.std.proofs.Common.{◌≡◌, ◌≤◌, ℕ, ◌==◌, not, Bool, Some, List, [], ◌∷◌, filter, length, refl, sym, ap, ◌∙◌, subst, arith, eqb-true}
+use Rattle.std.proofs.Common.{◌≡◌, ◌≤◌, ℕ, ◌==◌, not, Bool, Option, Some, None, MatchOption, Vec, List, [], ◌∷◌, filter, length, map, refl, sym, ap, ◌∙◌, subst, arith, eqb-true}
 use Rattle.std.specs.Prelude.{Ok}
+use Rattle.std.specs.Global.{Global}
 use Rattle.std.specs.List.{find}
 use Rattle.plan.proofs.Lists.{by_test}
 use Rattle.reference.specs.Machine.{Registered}
@@ -9,7 +10,7 @@ use Rattle.run_queue.specs.declared.slots.Slot.{Slot}
 use Rattle.laws_engine.specs.Calls.{IsOf, abandoned}
 use Rattle.laws_engine.proofs.FinishLemmas.{abandon_good}
 use Rattle.laws_engine.specs.Engines.{GoodEngine, IsIn, IsLease, Lease, PlainEngine, Running, query_at, remains_at, slot_at}
-use Rattle.leases.specs.Applied.{GivesNothing, IsUpdated, without_turn}
+use Rattle.leases.specs.Applied.{GivesNothing, HasEnded, IsUpdated, without_turn}
 use Rattle.leases.specs.Asked.{HasOperatorAt}
 use Rattle.leases.specs.Readers.{readers_of}
 use Rattle.leases.specs.Shown.{engine_in}
@@ -18,7 +19,7 @@ use Rattle.leases.specs.Sound.{IsSound}
 use Rattle.leases.specs.Views.{HasKind, lease_of}
 use Rattle.turn.specs.declared.turns.Turn.{Turn}
 use Rattle.leases.specs.declared.state.State.{State}
-use Rattle.leases.proofs.OutLemmas.{found_in, turn_in}
+use Rattle.leases.proofs.OutLemmas.{found_in, leases_left, left_in, turn_in}
 use Rattle.leases.proofs.FinishSoundLemmas.{StaysBut, sound_from}
 use Rattle.leases.proofs.LookLemmas.{asks}
 
@@ -26,6 +27,19 @@ use Rattle.leases.proofs.LookLemmas.{asks}
 pub fewer : {X : Type 0} (p : X → Bool) (xs : List X) → length (filter p xs) ≤ length xs
 fewer p [] = omega arith
 fewer p (x ∷ xs) = let h : length (filter p xs) ≤ length xs = fewer p xs in by_test (p x) (λ t. rw t (omega (arith, h))) (λ f. rw f (omega (arith, h)))
+
+pub turn_ended : (s : State) (turns : Vec Turn Global) (n : ℕ) → turns.items ≡ filter (λ t. not (t.lease == n)) s.leases.items → engine_in (record s { leases = turns }) ≡ without_turn (engine_in s) n
+turn_ended s turns n left = ap (λ ls. record (engine_in s) { leases = ls }) (ap (λ ts. map lease_of ts) left ∙ leases_left (λ (l : Lease). not (l.number == n)) s.leases.items)
+
+pub turn_gives_nothing : (s : State) (turns : Vec Turn Global) (n : ℕ) → turns.items ≡ filter (λ t. not (t.lease == n)) s.leases.items → GivesNothing s (record s { leases = turns })
+turn_gives_nothing s turns n left = record { names = refl; readers = refl; leases = left_in (λ (t : Turn). not (t.lease == n)) s.leases.items turns.items left }
+
+-- and what is told of the operator above
+pub told_above : (told : PlainEngine) (above : Option Slot) (a : Slot) (new : PlainEngine) → above ≡ Some a → IsUpdated told a new → MatchOption above (new ≡ told) (λ z. IsUpdated told z new)
+told_above told above a new some is = subst (λ o. MatchOption o (new ≡ told) (λ z. IsUpdated told z new)) (sym some) is
+
+pub told_none : (told : PlainEngine) (above : Option Slot) → above ≡ None → MatchOption above (told ≡ told) (λ z. IsUpdated told z told)
+told_none told above none = subst (λ o. MatchOption o (told ≡ told) (λ z. IsUpdated told z told)) (sym none) refl
 
 -- THE TURN OF A NUMBER that the code found
 pub record IsNumbered (e : PlainEngine) (n : ℕ) (l : Lease) : Type 0 where
@@ -58,9 +72,10 @@ module _ (e : PlainEngine) (g : GoodEngine e) (n : ℕ) (l : Lease) (t : IsNumbe
   pub may_end : HasOperatorAt e s.query s.operator
   may_end = subst (λ (z : Slot). HasOperatorAt e z.query z.operator) (sym slot_is) (turn_asks e g n l t)
 
-  module _ (new : PlainEngine) (told : IsUpdated (without_turn e n) s new) where
+  module _ (new : PlainEngine) (ended : HasEnded e n s None new) where
     is_abandoned : new ≡ abandoned e l is.query is.plain
     is_abandoned =
+        let told : IsUpdated (without_turn e n) s new = subst (IsUpdated (without_turn e n) s) (sym ended.1.1) ended.1.0 in
         let here : IsUpdated (without_turn e l.number) (slot_at e l.query is.query is.plain l.operator) new =
         subst (λ z. IsUpdated (without_turn e z) (slot_at e l.query is.query is.plain l.operator) new) (sym t.number) (subst (λ z. IsUpdated (without_turn e n) z new) slot_is told) in
         here is.query is.plain is.registered is.running
@@ -74,10 +89,10 @@ module _ (e : PlainEngine) (g : GoodEngine e) (n : ℕ) (l : Lease) (t : IsNumbe
 -- and the engine knows of itself what it knew
 pub stays_sound : (old new : State) (sound : IsSound old) (n : ℕ) (l : Lease) (t : IsNumbered (engine_in old) n l) (s : Slot)
     → ((q : Registered) (p : PlainQuery) → query_at (engine_in old) l.query ≡ Some q → remains_at (engine_in old) l.query ≡ Running p → s ≡ slot_at (engine_in old) l.query q p l.operator)
-    → IsUpdated (without_turn (engine_in old) n) s (engine_in new) → GivesNothing old new → IsSound new
-stays_sound old new sound n l t s before told r =
+    → HasEnded (engine_in old) n s None (engine_in new) → GivesNothing old new → IsSound new
+stays_sound old new sound n l t s before ended r =
     let l_is : IsLease (engine_in old) l = sound.good.leases l t.out in
-    let same : engine_in new ≡ abandoned (engine_in old) l l_is.query l_is.plain = is_abandoned (engine_in old) sound.good n l t s before (engine_in new) told in
+    let same : engine_in new ≡ abandoned (engine_in old) l l_is.query l_is.plain = is_abandoned (engine_in old) sound.good n l t s before (engine_in new) ended in
     let stays : StaysBut (engine_in old) (abandoned (engine_in old) l l_is.query l_is.plain) = record { machine = refl; next = refl; few = fewer (λ z. not (z.number == l.number)) (engine_in old).leases; gone = refl } in
-    sound_from old new sound r.names (r.readers ∙ sound.readers ∙ ap readers_of (sym same)) r.leases (stays_good (engine_in old) sound.good n l t s before (engine_in new) told) (subst (StaysBut (engine_in old)) (sym same) stays)
+    sound_from old new sound r.names (r.readers ∙ sound.readers ∙ ap readers_of (sym same)) r.leases (stays_good (engine_in old) sound.good n l t s before (engine_in new) ended) (subst (StaysBut (engine_in old)) (sym same) stays)
     (λ g i. subst (λ z. HasKind z g) (sym same) (sound.kinds g i))

@@ -1,5 +1,5 @@
 -- What an engine's code looks up, in its lists and in the lists of the plain engine.
-use Rattle.std.proofs.Common.{◌≡◌, ◌<◌, ◌||◌, ℕ, Bool, Some, List, [], ◌∷◌, length, map, refl, ap}
+use Rattle.std.proofs.Common.{◌≡◌, ◌<◌, ◌||◌, ℕ, Bool, Option, Some, None, List, [], ◌∷◌, length, map, refl, ap}
 use Rattle.std.specs.List.{list_any}
 use Rattle.std.proofs.lemmas.List.FromFn.{length-map-range_with_len}
 use Rattle.plan.specs.Nodes.{Node}
@@ -11,6 +11,7 @@ use Rattle.run_queue.specs.declared.slots.Slot.{Slot}
 use Rattle.laws_engine.specs.Asks.{IsOperator, MayAsk}
 use Rattle.laws_engine.specs.Engines.{GoodEngine, Lease, PlainEngine, Running, query_at, remains_at}
 use Rattle.laws_engine.proofs.AskLemmas.{may_ask}
+use Rattle.leases.specs.Applied.{MayTell}
 use Rattle.leases.specs.Asked.{HasOperatorAt}
 use Rattle.leases.specs.Views.{lease_of}
 use Rattle.turn.specs.declared.turns.Turn.{Turn}
@@ -36,3 +37,7 @@ pub asks_on : (e : PlainEngine) (ls : List Lease) (next : ℕ) (slots : List Slo
 asks_on e ls next slots n k h =
     let is = h.1.1 in
     (h.0, (h.1.0, record { registered = is.registered; running = is.running; within = is.within; operator = is.operator; log = is.log }))
+
+pub tells_on : (e : PlainEngine) (ls : List Lease) (next : ℕ) (slots : List Slot) (above : Option Slot) → MayTell e above → MayTell (record e { leases = ls; next = next; slots = slots }) above
+tells_on e ls next slots None h = tt
+tells_on e ls next slots (Some a) h = asks_on e ls next slots a.query a.operator h

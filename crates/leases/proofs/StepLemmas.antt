@@ -15,7 +15,7 @@ use Rattle.laws_engine.proofs.BackLemmas.{same_plain, same_query, unequal}
 use Rattle.laws_engine.proofs.LeaseLemmas.{lease_good}
 use Rattle.laws_engine.proofs.PromiseLemmas.{first_in, slot_is}
 use Rattle.laws_engine.proofs.TableLemmas.{same_slot_at, same_slot_in}
-use Rattle.leases.specs.Applied.{Forgets, GivesNothing, HasApplied, HasWiredOperators, IsAbove, IsBroken, IsOutIn, IsUpdated, MayApplyIn, with_slot, without_turn}
+use Rattle.leases.specs.Applied.{Forgets, GivesNothing, HasApplied, HasEnded, HasWiredOperators, IsAbove, IsBroken, IsOutIn, IsUpdated, MayApplyIn, MayTell, with_slot, without_turn}
 use Rattle.leases.specs.Asked.{HasOperatorAt}
 use Rattle.leases.specs.Drains.{OneHasFailed, OneHasRun}
 use Rattle.leases.specs.Runs.{IsRunOf, turn_in}
@@ -26,12 +26,12 @@ use Rattle.leases.specs.Views.{lease_of}
 use Rattle.leases.specs.declared.limits.TheConstants.{LEASE_NUMBERS}
 use Rattle.leases.specs.declared.state.State.{State}
 use Rattle.leases.proofs.DrainLemmas as drain
-use Rattle.leases.proofs.FinishBackLemmas.{AreSteps, HasComeBack, back_below, back_root, may_apply, may_look, sound_below, sound_root, update_here, update_over, wired_operators}
+use Rattle.leases.proofs.FinishBackLemmas.{AreSteps, has_come_back, may_apply, may_look, sound_ended, tells_here, tells_over, wired_operators}
 use Rattle.leases.proofs.FinishLemmas.{below_of, to_later}
 use Rattle.leases.proofs.FinishSoundLemmas.{sound_broken}
 use Rattle.leases.proofs.LeaseLemmas.{any_last, out_of, some_slot, turn_out}
 use Rattle.leases.proofs.LeaveLemmas.{fewer}
-use Rattle.leases.proofs.LookLemmas.{asks_on}
+use Rattle.leases.proofs.LookLemmas.{asks_on, tells_on}
 use Rattle.leases.proofs.UpdateLemmas.{changed_again, changed_leaves}
 
 -- A NUMBER is counted
@@ -217,11 +217,14 @@ module _ (old : State) (s : Slot) (rows : ℕ) (d : Parts) (sound : IsSound old)
         sym (same_slot_at (engine_in old) e1.queries e1.leases e1.next e1.slots s.query (wire_at p s.operator).to leased q p p refl))
         (over q p registered is)
 
-    steps : AreSteps e1 d s.query s.operator d.lease (with_instant s None) above still home
-    steps = record { query = query_is; operator = operator_is; number = refl; slot = slot_here; over = over_still; applied = takes; ended = refl }
+    steps : AreSteps e1 d s.query s.operator d.lease (with_instant s None) above still
+    steps = record { query = query_is; operator = operator_is; number = refl; slot = slot_here; over = over_still; applied = takes }
 
-    pub may_update : HasOperatorAt e2 s.query s.operator
-    may_update = asks_on home e2.leases e2.next e2.slots s.query s.operator (update_here e1 d s.query s.operator d.lease (with_instant s None) above still home good run.done out steps)
+    pub may_tell_here : HasOperatorAt e2 s.query s.operator
+    may_tell_here = asks_on still e2.leases e2.next e2.slots s.query s.operator (tells_here e1 d s.query s.operator d.lease (with_instant s None) above still good run.done out steps)
+
+    pub may_tell_over : MayTell e2 above
+    may_tell_over = tells_on still e2.leases e2.next e2.slots above (tells_over e1 d s.query s.operator d.lease (with_instant s None) above still good run.done out steps)
 
     -- its slot is told once, and not first that nothing may be taken
     told_once : (e3 : PlainEngine) → IsUpdated e2 s e3 → IsUpdated home (with_instant s None) e3
@@ -234,25 +237,23 @@ module _ (old : State) (s : Slot) (rows : ℕ) (d : Parts) (sound : IsSound old)
         ∙ ap (λ ss. record e2 { slots = ss }) (sym (changed_again (engine_in old) s sound.good there (instant_at e2 s.query q p s.operator)))
         ∙ ap (λ ls. with_slot (record e2 { leases = ls; slots = e1.slots }) (with_instant s None) q p) leases
 
-    comes_home : (e3 : PlainEngine) → HasComeBack e1 d e3 → OneHasRun rows (engine_in old) e3
-    comes_home e3 h = (t, (e1, (goes, (out.1.1.out, (h.0, (h.1.0, (h.1.1.0, h.1.1.1.1)))))))
+    -- no turn of its number is kept, so none ends
+    none_ends : without_turn e2 d.lease ≡ e2
+    none_ends =
+        let took = applied out.1.0 out.1.1.of.running in
+        let leases : e2.leases ≡ (engine_in old).leases = ap (λ e. e.leases) took.1.1 in
+        let stays : others d.lease e2.leases ≡ e2.leases =
+        ap (others d.lease) leases ∙ (drain.none_numbered (engine_in old).leases d.lease (λ a i. omega (arith, (sound.good.leases a i).numbered, number_is)) ∙ sym leases) in
+        ap (λ ls. record e2 { leases = ls }) stays
 
-    module _ (e3 : PlainEngine) (told : IsUpdated e2 s e3) where
-      pub may_update_over : (a : Slot) → above ≡ Some a → HasOperatorAt e3 a.query a.operator
-      may_update_over a some = update_over e1 d s.query s.operator d.lease (with_instant s None) above still home good run.done out steps e3 (told_once e3 told) a some
+    ended : (new : PlainEngine) → HasEnded e2 d.lease s above new → HasEnded still d.lease (with_instant s None) above new
+    ended new h = (h.0, (told_once h.0 (subst (λ e. IsUpdated e s h.0) none_ends h.1.0), h.1.1))
 
-      pub ran_root : above ≡ None → OneHasRun rows (engine_in old) e3
-      ran_root none = comes_home e3 (back_root e1 d s.query s.operator d.lease (with_instant s None) above still home good run.done out steps e3 (told_once e3 told) none)
+    pub ran : (new : PlainEngine) → HasEnded e2 d.lease s above new → OneHasRun rows (engine_in old) new
+    ran new h =
+        let home = has_come_back e1 d s.query s.operator d.lease (with_instant s None) above still good run.done out steps new (ended new h) in
+        (t, (e1, (goes, (out.1.1.out, (home.0, (home.1.0, (home.1.1.0, home.1.1.1.1)))))))
 
-      pub ran_below : (e4 : PlainEngine) (a : Slot) → above ≡ Some a → IsUpdated e3 a e4 → OneHasRun rows (engine_in old) e4
-      ran_below e4 a some again = comes_home e4 (back_below e1 d s.query s.operator d.lease (with_instant s None) above still home good run.done out steps e3 e4 (told_once e3 told) a some again)
-
-    pub ran_root_sound : (new : State) → IsUpdated e2 s (engine_in new) → above ≡ None → GivesNothing (counted old) new → IsSound new
-    ran_root_sound new told none r =
-        sound_root (counted old) e1.leases e1.slots d s.query s.operator d.lease (with_instant s None) above still home (counted_sound old sound numbers) good few_left run.done out steps new
-        (told_once (engine_in new) told) none r
-
-    pub ran_below_sound : (e3 : PlainEngine) (new : State) → IsUpdated e2 s e3 → (a : Slot) → above ≡ Some a → IsUpdated e3 a (engine_in new) → GivesNothing (counted old) new → IsSound new
-    ran_below_sound e3 new told a some again r =
-        sound_below (counted old) e1.leases e1.slots d s.query s.operator d.lease (with_instant s None) above still home (counted_sound old sound numbers) good few_left run.done out steps e3 new
-        (told_once e3 told) a some again r
+    pub ran_sound : (new : State) → HasEnded e2 d.lease s above (engine_in new) → GivesNothing (counted old) new → IsSound new
+    ran_sound new h r =
+        sound_ended (counted old) e1.leases e1.slots d s.query s.operator d.lease (with_instant s None) above still (counted_sound old sound numbers) good few_left run.done out steps new (ended (engine_in new) h) r

@@ -1,5 +1,5 @@
 -- A turn that comes back, step by step.
-use Rattle.std.specs.Prelude.{ℕ, ◌≡◌, ◌+◌, ◌<◌, ◌≤◌, ◌==◌, not, filter, MatchOption, Option, Some, List, length, set}
+use Rattle.std.specs.Prelude.{ℕ, ⊤, ◌≡◌, ◌+◌, ◌<◌, ◌≤◌, ◌==◌, not, filter, MatchOption, Option, Some, List, length, set}
 use Rattle.turn.specs.Turns.{outs_in}
 use Rattle.turn.specs.declared.parts.Parts.{Parts}
 use Rattle.turn.specs.declared.turns.Turn.{Turn}
@@ -92,3 +92,10 @@ with_slot e s q p = record e { slots = changed s (instant_at e s.query q p s.ope
 
 abbrev pub IsUpdated : PlainEngine → Slot → PlainEngine → Type 0
 IsUpdated old s new = (q : Registered) (p : PlainQuery) → query_at old s.query ≡ Some q → remains_at old s.query ≡ Running p → new ≡ with_slot old s q p
+
+-- THE TURN OF A NUMBER HAS ENDED: it is out no more, its operator's slot is told, and then the one above
+abbrev pub HasEnded : PlainEngine → ℕ → Slot → Option Slot → PlainEngine → Type 0
+HasEnded old n s above new = (told : PlainEngine) × (IsUpdated (without_turn old n) s told × MatchOption above (new ≡ told) (λ a. IsUpdated told a new))
+
+abbrev pub MayTell : PlainEngine → Option Slot → Type 0
+MayTell e above = MatchOption above ⊤ (λ a. HasOperatorAt e a.query a.operator)

@@ -26,7 +26,7 @@ impl State {
             return Err(Fault::UnknownLease);
         };
         let slot = self.slot(turn.node.query, turn.node.operator);
-        self.end_turn(lease, &slot);
+        self.end_turn(lease, slot, None);
         Ok(())
     }
 

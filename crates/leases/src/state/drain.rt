@@ -86,11 +86,10 @@ impl State {
         let done = self.run_of(slot, rows)?;
         let above = self.above(slot.query(), slot.operator());
         self.next += 1;
-        self.apply(done.into_parts())?;
-        self.update_slot(slot);
-        if let Some(above) = &above {
-            self.update_slot(above);
-        }
+        let parts = done.into_parts();
+        let lease = parts.lease;
+        self.apply(parts)?;
+        self.end_turn(lease, *slot, above);
         Ok(())
     }
 

@@ -6,9 +6,9 @@ ghost use Rattle.turn.specs.Finished.{IsDone};
 ghost use Rattle.reference.specs.declared.fault.Fault.TheVariants.{OutOfMemory};
 ghost use Rattle.laws_queries.specs.Queries.{PlainQuery};
 ghost use Rattle.laws_engine.specs.Engines.{Broken, Running};
-ghost use Rattle.leases.specs.Applied.{Forgets, GivesNothing, HasApplied, HasWiredOperators};
-ghost use Rattle.leases.specs.Applied.{IsAbove, IsApplied, IsBroken, IsOutIn, IsTurn, IsUpdated};
-ghost use Rattle.leases.specs.Applied.{MayApply, MayApplyIn, without_turn};
+ghost use Rattle.leases.specs.Applied.{Forgets, GivesNothing, HasApplied, HasEnded};
+ghost use Rattle.leases.specs.Applied.{HasWiredOperators, IsAbove, IsApplied, IsBroken, IsOutIn};
+ghost use Rattle.leases.specs.Applied.{IsTurn, IsUpdated, MayApply, MayApplyIn, MayTell};
 ghost use Rattle.leases.specs.Asked.{HasOperatorAt, IsRunningAt};
 ghost use Rattle.leases.specs.Readers.{with_slots, with_update};
 ghost use Rattle.leases.specs.Shown.{engine_in};
@@ -65,10 +65,7 @@ impl State {
         let slot = self.slot(query, operator);
         let above = self.above(query, operator);
         self.apply(parts)?;
-        self.end_turn(lease, &slot);
-        if let Some(above) = &above {
-            self.update_slot(above);
-        }
+        self.end_turn(lease, slot, above);
         Ok(())
     }
 
@@ -106,16 +103,19 @@ impl State {
         }
     }
 
-    /// The turn of a number is out no more, and the slot of its operator gets the instant of what
-    /// that may take next.
-    pub(crate) fn end_turn(&mut self, number: u64, slot: &Slot)
-        requires { HasOperatorAt (engine_in self.old) slot.now.query slot.now.operator }
-        ensures slot { IsUpdated (without_turn (engine_in self.old) number) slot.now
-            (engine_in self.new) }
+    /// The turn of a number is out no more. The slot of its operator gets the instant of what that
+    /// may take next, and then the one above does, if the turn fed it.
+    pub(crate) fn end_turn(&mut self, number: u64, slot: Slot, above: Option<Slot>)
+        requires here { HasOperatorAt (engine_in self.old) slot.query slot.operator }
+        requires over { MayTell (engine_in self.old) above }
+        ensures ended { HasEnded (engine_in self.old) number slot above (engine_in self.new) }
         ensures rest { GivesNothing self.old self.new }
     {
         self.leases.retain(|turn| turn.lease != number);
-        self.update_slot(slot);
+        self.update_slot(&slot);
+        if let Some(above) = &above {
+            self.update_slot(above);
+        }
     }
 
     /// Gives the slot the instant of what its operator may take next, or none.

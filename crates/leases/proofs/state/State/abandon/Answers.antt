@@ -12,16 +12,16 @@ pub slot-slot-requires : goal.slot-slot-requires
 slot-slot-requires c =
     turn_asks (engine_in c.args.self.now) c.requires.good c.args.lease _ (known c.args.self.now c.args.lease _ c.in-Some.turn.now c.turn.view_is c.in-Some.ensures)
 
-pub end_turn-requires : goal.end_turn-requires
-end_turn-requires c =
+pub end_turn-requires-clause-here : goal.end_turn-requires-clause-here
+end_turn-requires-clause-here c =
     may_end (engine_in c.args.self.now) c.requires.good c.args.lease _ (known c.args.self.now c.args.lease _ c.in-Some.turn.now c.turn.view_is c.in-Some.ensures) c.slot-slot.result c.slot-slot.ensures
 
 pub returns-clause-abandons : goal.returns-clause-abandons
 returns-clause-abandons c =
     abandons (engine_in c.args.self.now) c.requires.good c.args.lease _ (known c.args.self.now c.args.lease _ c.in-Some.turn.now c.turn.view_is c.in-Some.ensures) c.slot-slot.result c.slot-slot.ensures
-    (engine_in c.end_turn.new.self) c.end_turn.ensures.slot
+    (engine_in c.end_turn.new.self) c.end_turn.ensures.ended
 
 pub returns-clause-sound : goal.returns-clause-sound
 returns-clause-sound c =
-    stays_sound c.args.self.now c.end_turn.new.self c.requires c.args.lease _ (known c.args.self.now c.args.lease _ c.in-Some.turn.now c.turn.view_is c.in-Some.ensures) c.slot-slot.result c.slot-slot.ensures c.end_turn.ensures.slot
+    stays_sound c.args.self.now c.end_turn.new.self c.requires c.args.lease _ (known c.args.self.now c.args.lease _ c.in-Some.turn.now c.turn.view_is c.in-Some.ensures) c.slot-slot.result c.slot-slot.ensures c.end_turn.ensures.ended
     c.end_turn.ensures.rest

@@ -166,10 +166,12 @@ impl Locked {
         let logged = Entry::new(seat.number, logged_command, reply.copy_into(logged_room));
         self.history.push_reserved(logged);
         let kept = Entry::new(seat.number, kept_command, reply.copy_into(kept_room));
-        seat.receipts.push_reserved(Receipt::new(number, kept));
+        let receipt = Receipt::new(number, kept);
+        seat.receipts.push_reserved(receipt);
         seat.own_reach = number + 1;
         let told = Entry::new(seat.number, told_command, reply.copy_into(told_room));
-        Ok((reply, Receipt::new(number, told)))
+        let answer = Receipt::new(number, told);
+        Ok((reply, answer))
     }
 
     // The tests that come before all others. Gives the number of the next entry.

@@ -14,16 +14,16 @@ invariant_of-self-2 c = (
   replays_next empty (engine_in c.self.inside.engine).machine (engine_in c.carry_out.new.engine).machine c.self.inside.history.items c.reserve.new.self.items c.push_reserved.new.self.items
       c.new-logged.result _ _ c.copy_into.result c.deref.result.now c.in_ok-reply.reply
       c.push_reserved.ensures.items c.in_ok-reserve.ensures.items c.new-logged.ensures
-      (search rules) c.copy_into.ensures c.self.invariant.0 c.in_ok-reply.ensures.step,
+      (search rules) c.copy_into.ensures c.self.invariant.0 c.in_ok-reply.ensures.ok.step,
   c.self.invariant.1,
 )
 
 pub invariant_of-seat-2 : goal.invariant_of-seat-2
 invariant_of-seat-2 c =
-    let number : c.new.result.number ≡ c.in_ok-number.number = ap (λ r. r.number) c.new.ensures in
+    let number : c.new-receipt.result.number ≡ c.in_ok-number.number = ap (λ r. r.number) c.new-receipt.ensures in
     let below : held c.seat.inside.receipts.items ≤ c.in_ok-number.number = omega (arith, c.in_ok-number.ensures.ok.2, ap (λ s. held s.receipts) c.seat.view_is) in
-    let fits : held c.seat.inside.receipts.items ≤ c.new.result.number = omega arith in
-    sym (held_next c.seat.inside.receipts.items c.reserve-2.new.self.items c.push_reserved-2.new.self.items c.new.result c.push_reserved-2.ensures.items c.in_ok-reserve-2.ensures.items fits
+    let fits : held c.seat.inside.receipts.items ≤ c.new-receipt.result.number = omega arith in
+    sym (held_next c.seat.inside.receipts.items c.reserve-2.new.self.items c.push_reserved-2.new.self.items c.new-receipt.result c.push_reserved-2.ensures.items c.in_ok-reserve-2.ensures.items fits
     ∙ ap (λ n. n + 1) number)
 
 pub returns-clause-ok : goal.returns-clause-ok
@@ -41,7 +41,7 @@ returns-clause-ok c =
     let kept = entry_is c.new-kept.result c.args.seat.now.number c.seat.inside.number c.args.command _ r _ c.new-kept.ensures seat c.in_ok-told_command.ensures.2 c.copy_into-2.ensures in
     let told = entry_is c.new-told.result c.args.seat.now.number c.seat.inside.number c.args.command _ r _ c.new-told.ensures seat c.in_ok-told_command.ensures.0 c.copy_into-3.ensures in
     let history = longer _ _ c.args.self.now.history _ _ c.push_reserved.ensures.items (c.in_ok-reserve.ensures.items ∙ ap (λ d. d.history) c.self.view_is) logged in
-    let receipts = longer _ _ c.args.seat.now.receipts _ _ c.push_reserved-2.ensures.items (c.in_ok-reserve-2.ensures.items ∙ ap (λ s. s.receipts) c.seat.view_is) (receipt_is c.new.result n _ _ c.new.ensures kept) in
-    accepting c.args.self.now _ c.args.seat.now _ c.args.command r n c.new-2.result legal answered c.in_ok-number.ensures.ok
-      history (ap (λ d. d.limit) c.self.view_is) (ap (λ d. d.seats) c.self.view_is) (ap (λ d. d.ended) c.self.view_is)
-      seat receipts (ap (λ s. s.learnt) c.seat.view_is) (receipt_is c.new-2.result n _ _ c.new-2.ensures told)
+    let receipts = longer _ _ c.args.seat.now.receipts _ _ c.push_reserved-2.ensures.items (c.in_ok-reserve-2.ensures.items ∙ ap (λ s. s.receipts) c.seat.view_is) (receipt_is c.new-receipt.result n _ _ c.new-receipt.ensures kept) in
+    accepting c.args.self.now _ c.args.seat.now _ c.args.command r n c.new-answer.result legal answered c.in_ok-number.ensures.ok
+      history (ap (λ d. d.limit) c.self.view_is) (ap (λ d. d.seats) c.self.view_is) (ap (λ d. d.has_ended) c.self.view_is)
+      seat receipts (ap (λ s. s.learnt) c.seat.view_is) (receipt_is c.new-answer.result n _ _ c.new-answer.ensures told)

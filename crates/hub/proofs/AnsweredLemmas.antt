@@ -17,6 +17,9 @@ use Rattle.leases.specs.Registering.{Registers}
 use Rattle.leases.specs.Takes.{Takes, count_of}
 use Rattle.hub.specs.Calls.{Answered}
 
+both : {A B : Type 0} (p : A × B) (a : A) (b : B) → a ≡ p.0 → b ≡ p.1 → p ≡ (a, b)
+both p a b e h = rw (e, h) refl
+
 module _ (old new : PlainEngine) where
   pub declare_done : (name : List ℕ) (columns : List (List ℕ)) (start : ℤ) (k : ℕ) → Does (λ (n : ℕ). n) (world_of old) (declare_step (world_of old) name columns start) (Ok k) (world_of new)
       → new ≡ declared old name columns start → Answered old (Declare name columns start) (Number k) new
@@ -35,9 +38,7 @@ module _ (old new : PlainEngine) where
   heartbeat_done s at u does is gain lengthens = record { step = heartbeat_is_step (world_of old) (world_of new) s at does; call = (is, gain, lengthens) }
 
   pub drop_done : (n : ℕ) (u : ⊤) → Ok u ≡ (drop_step (world_of old) n).0 → world_of new ≡ (drop_step (world_of old) n).1 → new ≡ dropped old n → Answered old (Drop n) Done new
-  drop_done n u does world is = record { step = drop_is_step (world_of old) (world_of new) n (both does world); call = is } where
-    both : {A B : Type 0} {p : A × B} {a : A} {b : B} → a ≡ p.0 → b ≡ p.1 → p ≡ (a, b)
-    both e h = rw (e, h) refl
+  drop_done n u does world is = record { step = drop_is_step (world_of old) (world_of new) n (both _ _ _ does world); call = is }
 
   -- how many answers are handed out
   handed_many : (n : ℕ) (limit : ℤ) (rows : List (ℤ × Row)) → rows ≡ handed (take (count_of old n limit) (answers_in (kept_at old n))) → length rows ≡ count_of old n limit
@@ -49,10 +50,36 @@ module _ (old new : PlainEngine) where
     step = record {
       accepted = takes.0;
       gives = next;
-      after = ap (λ e. e.machine) takes.2.1 ∙ ap (λ k. after old.machine (Take n limit) k) (sym (handed_many n limit rows takes.1));
+      after = ap (λ e. e.machine) takes.2 ∙ ap (λ k. after old.machine (Take n limit) k) (sym (handed_many n limit rows takes.1));
     };
     call = takes;
   }
 
-  pub few_handed : (n : ℕ) (limit : ℤ) (rows : List (ℤ × Row)) → Takes (λ rs. rs) old n limit (Ok rows) new → (length rows ≤ nat_abs limit) × (length rows ≤ length (answers_in (kept_at old n)))
-  few_handed n limit rows takes = let many = handed_many n limit rows takes.1 in (omega (arith, many), omega (arith, many))
+-- HOW MANY ANSWERS a reply to a command has at most
+abbrev pub most_of : PlainEngine → Command → ℕ
+most_of e (Declare name columns start) = 0
+most_of e (Register name text chart) = 0
+most_of e (Append s rows) = 0
+most_of e (Heartbeat s at) = 0
+most_of e (Take n limit) = count_of e n limit
+most_of e (Drop n) = 0
+
+pub answers_few : (e : PlainEngine) (c : Command) (r : Reply) (new : PlainEngine) → Answered e c r new → count_in r ≤ most_of e c
+answers_few e (Declare name columns start) (Number k) new h = omega arith
+answers_few e (Declare name columns start) Done new h = absurd h.step.gives
+answers_few e (Declare name columns start) (Rows rows) new h = absurd h.step.gives
+answers_few e (Register name text chart) (Number k) new h = omega arith
+answers_few e (Register name text chart) Done new h = absurd h.step.gives
+answers_few e (Register name text chart) (Rows rows) new h = absurd h.step.gives
+answers_few e (Append s more) (Number k) new h = absurd h.step.gives
+answers_few e (Append s more) Done new h = omega arith
+answers_few e (Append s more) (Rows rows) new h = absurd h.step.gives
+answers_few e (Heartbeat s at) (Number k) new h = absurd h.step.gives
+answers_few e (Heartbeat s at) Done new h = omega arith
+answers_few e (Heartbeat s at) (Rows rows) new h = absurd h.step.gives
+answers_few e (Take n limit) (Number k) new h = absurd h.step.gives
+answers_few e (Take n limit) Done new h = absurd h.step.gives
+answers_few e (Take n limit) (Rows rows) new h = omega (arith, handed_many e new n limit rows h.call.1)
+answers_few e (Drop n) (Number k) new h = absurd h.step.gives
+answers_few e (Drop n) Done new h = omega arith
+answers_few e (Drop n) (Rows rows) new h = absurd h.step.gives

@@ -1,5 +1,5 @@
 -- Why a command is refused: what the engine's clauses say of a call that answers a fault.
-use Rattle.std.proofs.Common.{◌≡◌, ◌∙◌, ◌⊎◌, inl, inr, ℕ, ℤ, Bool, true, false, not, ◌&&◌, Option, Some, None, Result, Ok, Err, List, [], ◌∷◌, refl, sym, ap, subst}
+use Rattle.std.proofs.Common.{◌≡◌, ◌∙◌, ◌⊎◌, inl, inr, ℕ, ℤ, Bool, true, false, not, ◌&&◌, Option, Some, None, Result, Ok, Err, List, [], ◌∷◌, ◌++◌, refl, sym, ap, subst}
 use Rattle.std.specs.List.{list_all}
 use Rattle.std.specs.Prelude.{⊤, slice_get}
 use Rattle.names.specs.Faults.{first_of}
@@ -120,10 +120,10 @@ first_of_step {A = A} (Some g) old made new a f h = err_is g f (Err g) refl h
 
 refused_by : {A B : Type 0} (view : A → B) (e : PlainEngine) (c : Command) (old made new : World) (a : B) (f : Fault)
     → Does view old (unless (first_fault e.machine c) old a made) (Err f) new → Refused e c f
-refused_by view e c old made new a f h =
+refused_by {B = B} view e c old made new a f h =
     elim (faulted view old (unless (first_fault e.machine c) old a made) f new h) [
       | inl wants ↦ subst (λ g. Refused e c g) (sym wants) tt
-      | inr step ↦ first_refused e c f (first_of_step (first_fault e.machine c) old made new a f (ap (λ s. s.0) step))
+      | inr step ↦ first_refused e c f (first_of_step (first_fault e.machine c) old made new a f (ap (λ (s : Step B). s.0) step))
     ]
 
 module _ (e : PlainEngine) (new : World) (f : Fault) where
@@ -145,7 +145,7 @@ module _ (e : PlainEngine) (new : World) (f : Fault) where
   unfolding heartbeat_step
   heartbeat_refused s at h = refused_by {A = ⊤} (λ u. u) e (Heartbeat s at) (world_of e) _ new _ f h
 
-pub drop_refused : (e : PlainEngine) (f : Fault) (n : ℕ) → Err {A = ⊤} f ≡ (drop_step (world_of e) n).0 → Refused e (Drop n) f
+pub drop_refused : (e : PlainEngine) (f : Fault) (n : ℕ) → Err f ≡ (drop_step (world_of e) n).0 → Refused e (Drop n) f
 unfolding drop_step
 drop_refused e f n h = first_refused e (Drop n) f (first_of_step (first_fault e.machine (Drop n)) (world_of e) _ (world_of e) tt f (sym h))
 

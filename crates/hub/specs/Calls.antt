@@ -1,5 +1,5 @@
 -- What an accepted command makes of an engine, and why one is refused.
-use Rattle.std.specs.Prelude.{◌≡◌, ⊤, None, Some, [], Ok, slice_get}
+use Rattle.std.specs.Prelude.{◌≡◌, ⊤, Option, None, Some, [], Ok, slice_get}
 use Rattle.reference.specs.Commands.{Command, Declare, Register, Append, Heartbeat, Take, Drop, first_fault}
 use Rattle.reference.specs.Replies.{Reply, Rows}
 use Rattle.reference.specs.Steps.{IsStep}
@@ -27,11 +27,19 @@ pub record Answered (old : PlainEngine) (c : Command) (r : Reply) (new : PlainEn
   pub step : IsStep old.machine c r new.machine
   pub call : IsCall old c r new
 
--- REFUSED for this fault, which is none of a hub's own: the first test that fails; or want of memory, which may stand in place of any; or nothing waits of a
--- broken query
+-- nothing waits of a broken query
+abbrev pub IsSpent : PlainEngine → Command → Type 0
+IsSpent e (Take n limit) = (first_fault e.machine (Take n limit) ≡ None) × (kept_at e n ≡ Broken [])
+IsSpent e c = ⊥
+
+-- the first test that fails, or want of memory, which may stand in place of any, or that nothing waits; but none of a hub's own faults
+abbrev pub IsFirst : Option Fault → Type 0 → Fault → Type 0
+IsFirst first spent fault.OutOfMemory = ⊤
+IsFirst first spent fault.HistoryFull = ⊥
+IsFirst first spent (fault.Foreign n) = ⊥
+IsFirst first spent fault.Broken = spent
+IsFirst first spent f = first ≡ Some f
+
+-- REFUSED for this fault
 abbrev pub Refused : PlainEngine → Command → Fault → Type 0
-Refused e c fault.OutOfMemory = ⊤
-Refused e c fault.HistoryFull = ⊥
-Refused e c (fault.Foreign n) = ⊥
-Refused e (Take n limit) fault.Broken = (first_fault e.machine (Take n limit) ≡ None) × (kept_at e n ≡ Broken [])
-Refused e c f = first_fault e.machine c ≡ Some f
+Refused e c f = IsFirst (first_fault e.machine c) (IsSpent e c) f

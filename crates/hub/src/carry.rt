@@ -122,6 +122,7 @@ pub(crate) fn carry_out(engine: &mut Engine, command: &Command) -> Result<Reply,
 }
 
 /// How many answers a reply to the command has at most.
+#[tactic(auto, using(crate::proofs::AnsweredLemmas::answers_few))]
 pub(crate) fn room_for(engine: &Engine, command: &Command) -> usize
     ensures { (r : replies.Reply) (new : PlainEngine)
         → Answered (engine_in engine.now) command.now r new → count_in r ≤ result }

@@ -3,12 +3,13 @@ ghost use Rattle.std.specs.Prelude.{◌≡◌, ◌↔◌, ◌≤◌, ◌<◌, If
 ghost use Rattle.std.specs.List.{range_with_len};
 ghost use Rattle.histories.specs.Histories.{IsLegal};
 ghost use Rattle.hub.specs.Seats.{IsAudited, opened};
+ghost use Rattle.hub.specs.declared.locked.TheConstants.{MAX_HISTORY, MAX_SEATS};
 
 mod calls;
 mod looks;
 mod turns;
 
-use crate::locked::{Closed, Locked, MAX_HISTORY, MAX_SEATS};
+use crate::locked::{Closed, Locked};
 use crate::seat::Seat;
 use reference::Fault;
 use std::alloc::Global;

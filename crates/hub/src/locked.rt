@@ -5,6 +5,7 @@ ghost use Rattle.histories.specs.Histories.{IsLegal};
 ghost use Rattle.reference.specs.declared.fault.Fault.TheVariants.{BadLimit, OutOfMemory};
 ghost use Rattle.hub.specs.Seats.{IsAudited, opened};
 ghost use Rattle.hub.specs.Steps.{IsFresh, IsReplayed};
+ghost use Rattle.hub.specs.declared.locked.TheConstants.{MAX_HISTORY, MAX_SEATS};
 
 mod calls;
 mod looks;

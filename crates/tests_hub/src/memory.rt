@@ -1,5 +1,5 @@
-//! A client's call that is refused memory changes nothing. `bench/want_of_memory_hub` runs this test
-//! with each growth refused in turn.
+//! A client's call that is refused memory changes nothing, and is answered when it is made once more.
+//! `rt try --test --fail-alloc N` runs this test with the growth N refused.
 
 use crate::fixture::{NOW, columns, rows};
 use hub::{Hub, Receipt, Seat};

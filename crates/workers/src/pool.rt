@@ -1,6 +1,7 @@
 //! A pool of workers.
 ghost use Rattle.std.specs.Prelude.{◌≡◌, ◌≤◌, ◌↔◌, OnOk};
 ghost use Rattle.reference.specs.declared.limits.TheConstants.{MAX_TURN};
+ghost use Rattle.workers.specs.declared.pool.TheConstants.{MAX_WORKERS};
 
 use crate::gate::Gate;
 use crate::worker::run_to_rest;

@@ -35,14 +35,17 @@ pub accepting : (old new : PlainLocked) (seat seat' : PlainSeat) (c : Command) (
     → t ≡ record { number = n; entry = entry seat.number c r }
     → (r ≡ t.entry.reply) × Accepted old seat c t new seat'
 accepting old new seat seat' c r n t legal answered ok history limit seats ended number receipts learnt is =
-    subst (λ x. (r ≡ x.entry.reply) × Accepted old seat c x new seat') (sym is) (refl, record {
-      legal = legal;
-      engine = answered;
-      history = locked_is new.engine new.history _ new.limit _ new.seats _ new.has_ended _ history limit seats ended;
-      room = omega (arith, ok.0, ok.1);
-      number = ok.0;
-      by = refl;
-      command = refl;
-      above = ok.2;
-      told = seat_is seat'.number _ seat'.receipts _ seat'.learnt _ number receipts learnt;
-    })
+    subst (λ x. (r ≡ x.entry.reply) × Accepted old seat c x new seat') (sym is) (
+      refl,
+      record {
+        legal = legal;
+        engine = answered;
+        history = locked_is new.engine new.history _ new.limit _ new.seats _ new.has_ended _ history limit seats ended;
+        room = omega (arith, ok.0, ok.1);
+        number = ok.0;
+        by = refl;
+        command = refl;
+        above = ok.2;
+        told = seat_is seat'.number _ seat'.receipts _ seat'.learnt _ number receipts learnt;
+      },
+    )

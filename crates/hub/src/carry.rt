@@ -16,12 +16,7 @@ use plan::Chart;
 use reference::{Answering, Fault, NewRows};
 
 #[tactic(auto, using(crate::proofs::AnsweredLemmas::declare_done, crate::proofs::RefusedLemmas::declare_refused))]
-fn declare(
-    engine: &mut Engine,
-    name: &str,
-    columns: &[String],
-    from: i64,
-) -> Result<Reply, Fault>
+fn declare(engine: &mut Engine, name: &str, columns: &[String], from: i64) -> Result<Reply, Fault>
     ensures ok { IfOk result (λ r. Answered (engine_in engine.old)
         (Declare name.now (texts_of columns.now) from) r (engine_in engine.new)) }
     ensures err { IfErr result

@@ -89,11 +89,11 @@ impl Model for Locked {
     ghost coded = { Prim.hlevel (codes, condition.the_row.coded) };
 
     ghost view = { λ l. record {
-        engine = l.engine;
-        history = l.history.items;
-        limit = l.limit;
-        seats = l.seats;
-        has_ended = l.has_ended;
+      engine = l.engine;
+      history = l.history.items;
+      limit = l.limit;
+      seats = l.seats;
+      has_ended = l.has_ended;
     } };
 
     ghost invariant = { λ l.

@@ -28,9 +28,9 @@ impl Model for Seat {
     ghost Value = { PlainSeat };
 
     ghost view = { λ s. record {
-        number = s.number;
-        receipts = s.receipts.items;
-        learnt = s.learnt;
+      number = s.number;
+      receipts = s.receipts.items;
+      learnt = s.learnt;
     } };
 
     ghost invariant = { λ s. s.own_reach ≡ held s.receipts.items };

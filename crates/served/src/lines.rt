@@ -36,7 +36,16 @@ pub fn run_hub<R: Threads + Wait + Sync, S: Source, K: Sink>(
     ensures memory { IfErr result (λ e. e ≡ ScriptFault.Memory
         → (source.new ≡ source.old) × (sink.new ≡ sink.old)) }
 {
-    run_lines(rt, alloc, source, sink, hub, seat, Drains::Pool(workers), rows)
+    run_lines(
+        rt,
+        alloc,
+        source,
+        sink,
+        hub,
+        seat,
+        Drains::Pool(workers),
+        rows,
+    )
 }
 
 /// Answers one connection until its input ends or a device fails. A drain is run by this thread.

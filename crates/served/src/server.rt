@@ -87,7 +87,10 @@ fn run_threads<R: Threads + Wait + Sync>(
     thread::scope(thread::scope_env(), rt, move |scope| {
         let mut held = door.lock(rt);
         for _ in 0..workers {
-            if scope.spawn(move || work(rt, alloc, hub, &Open, ROWS)).is_err() {
+            if scope
+                .spawn(move || work(rt, alloc, hub, &Open, ROWS))
+                .is_err()
+            {
                 held.lack_thread();
             }
         }

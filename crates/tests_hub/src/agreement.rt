@@ -111,7 +111,8 @@ fn leased_of_engine(alloc: Global) -> Result<Vec<usize>, Fault> {
         match engine.lease(256)? {
             Leased::Idle => return Ok(leased),
             Leased::Turn(turn) => {
-                leased.push(turn.node.operator)?;
+                leased.reserve(1)?;
+                leased.push_reserved(turn.node.operator);
                 let done = turn.run(alloc).map_err(|_| Fault::OutOfMemory)?;
                 engine.finish(done)?;
             }
@@ -133,7 +134,8 @@ fn leased_of_hub<R: Wait>(rt: &R, alloc: Global) -> Result<Vec<usize>, Fault> {
         match hub.lease(rt, 256)? {
             Leased::Idle => return Ok(leased),
             Leased::Turn(turn) => {
-                leased.push(turn.node.operator)?;
+                leased.reserve(1)?;
+                leased.push_reserved(turn.node.operator);
                 let done = turn.run(alloc).map_err(|_| Fault::OutOfMemory)?;
                 hub.finish(rt, done)?;
             }

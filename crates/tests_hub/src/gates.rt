@@ -26,6 +26,7 @@ fn is_raised<R: Clock>(rt: &R, flag: &AtomicBool) -> bool {
 }
 
 /// Holds the turn 0 back until something else was done.
+#[derive(Drop)]
 struct Held<'a, R: Clock> {
     rt: &'a R,
     /// The turn 0 went out.

@@ -58,7 +58,8 @@ fn call<R: Wait>(
         0 => {
             let name = String::from_str(alloc, "S")?;
             let columns = columns(alloc, &["a"])?;
-            hub.stream(rt, seat, name, columns, 0).map(|answer| answer.1)
+            hub.stream(rt, seat, name, columns, 0)
+                .map(|answer| answer.1)
         }
         1 => {
             let name = String::from_str(alloc, "q")?;
@@ -98,7 +99,8 @@ fn run<R: Wait>(rt: &R, alloc: Global) -> Result<u64, Stop> {
             Err(fault) => return Err(Stop::Wrong(fault)),
         }
     }
-    seats.push(seat)?;
+    seats.reserve(1)?;
+    seats.push_reserved(seat);
     match hub.close(seats) {
         Ok(closed) => Ok(closed.entries.len() as u64),
         Err(_) => Err(Stop::Wrong(Fault::Foreign(0))),

@@ -70,7 +70,16 @@ fn replies_by<R: Threads + Wait + Sync>(
     let mut sink = MemorySink::new(alloc);
     let ran = match workers {
         Some(workers) => {
-            run_hub(rt, alloc, &mut source, &mut sink, &hub, &mut seat, workers, rows)
+            run_hub(
+                rt,
+                alloc,
+                &mut source,
+                &mut sink,
+                &hub,
+                &mut seat,
+                workers,
+                rows,
+            )
         }
         None => serve_connection(rt, alloc, &mut source, &mut sink, &hub, &mut seat, rows),
     };
@@ -83,9 +92,19 @@ fn replies_by<R: Threads + Wait + Sync>(
 #[test]
 fn a_script_is_answered_by_its_text(rt: HostRuntime) -> Result<(), Fail> {
     let alloc = rt.alloc();
-    for (workers, rows) in [(Some(4), 256), (Some(1), 1), (Some(64), 7), (None, 256), (None, 1)] {
+    for (workers, rows) in [
+        (Some(4), 256),
+        (Some(1), 1),
+        (Some(64), 7),
+        (None, 256),
+        (None, 1),
+    ] {
         let sink = replies_by(&rt, alloc, workers, rows)?;
-        assert_eq!(rt; sink.bytes.as_slice(), REPLIES.as_bytes(), "by {workers:?} and {rows}");
+        assert_eq!(rt;
+            sink.bytes.as_slice(),
+            REPLIES.as_bytes(),
+            "by {workers:?} and {rows}"
+        );
     }
     Ok(())
 }
@@ -125,7 +144,10 @@ fn a_call_stands_whose_reply_was_not_written(rt: HostRuntime) -> Result<(), Fail
     let mut sink = MemorySink::new(alloc);
     let served = serve_connection(&rt, alloc, &mut source, &mut sink, &hub, &mut seat, 256);
     assert!(rt; served.is_ok());
-    assert_eq!(rt; sink.bytes.as_slice(), b"{\"error\":\"E2 NameTaken\"}\n".as_slice());
+    assert_eq!(rt;
+        sink.bytes.as_slice(),
+        b"{\"error\":\"E2 NameTaken\"}\n".as_slice()
+    );
     let mut seats = Vec::new(alloc);
     seats.push(seat)?;
     let closed = hub.close(seats).ok().ok_or("not closed")?;

@@ -9,7 +9,10 @@ use std::test::Fail;
 fn seats_and_entries_have_limits(rt: HostRuntime) {
     for (seats, entries) in [(0, 1), (65, 1), (1, 0), (1, 16_777_217)] {
         let opened = Hub::open(rt.alloc(), seats, entries);
-        assert!(rt; matches!(opened, Err(Fault::BadLimit)), "at {seats} and {entries}");
+        assert!(rt;
+            matches!(opened, Err(Fault::BadLimit)),
+            "at {seats} and {entries}"
+        );
     }
     let most = Hub::open(rt.alloc(), 64, 16_777_216);
     assert!(rt; matches!(most, Ok((_, seats)) if seats.len() == 64));
@@ -25,7 +28,10 @@ fn each_accepted_call_is_an_entry_and_no_refused_one_is(rt: HostRuntime) -> Resu
     let (query, second) = register(&rt, alloc, &hub, &mut zero, "q", None)?;
     let third = hub.append(&rt, &mut one, stream, rows(alloc, &[(0, 7)])?)?;
     assert_eq!(rt; (stream, query), (0, 0));
-    assert_eq!(rt; (first.number(), second.number(), third.number()), (0, 1, 2));
+    assert_eq!(rt;
+        (first.number(), second.number(), third.number()),
+        (0, 1, 2)
+    );
     let full = hub.heartbeat(&rt, &mut zero, stream, 0);
     assert_eq!(rt; full.err(), Some(Fault::HistoryFull));
     let unknown = hub.take(&rt, &mut zero, 9, 1);
@@ -43,7 +49,9 @@ fn each_accepted_call_is_an_entry_and_no_refused_one_is(rt: HostRuntime) -> Resu
         assert_eq!(rt; entry.seat(), seat);
     }
     let last = closed.entries.last().ok_or("no entry")?;
-    assert!(rt; matches!(last.command().kind(), CommandKind::Append { stream: 0, rows } if rows.len() == 1));
+    assert!(rt;
+        matches!(last.command().kind(), CommandKind::Append { stream: 0, rows } if rows.len() == 1)
+    );
     assert!(rt; matches!(last.reply().kind(), ReplyKind::Done));
     Ok(())
 }

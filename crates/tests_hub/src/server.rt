@@ -2,12 +2,11 @@
 
 use served::{ServeOptions, serve};
 use std::alloc::Global;
-use std::io;
 use std::io::{BufRead, BufReader, Write};
 use std::net::{Net, TcpListener, TcpStream};
 use std::sync::Wait;
-use std::thread;
 use std::thread::Threads;
+use std::{io, thread};
 use wire::MemorySink;
 
 const BEGINNING: &str = r#"{"op":"stream","name":"S","columns":["a"],"from":0}
@@ -91,8 +90,10 @@ fn a_server_answers_a_connection_and_ends(rt: HostRuntime) {
     match TcpListener::bind(&rt, "127.0.0.1:0") {
         Ok(listener) => {
             let served = served_once(&rt, rt.alloc(), listener);
-            assert!(rt; matches!(&served, Ok((taken, 0, errors))
-                if taken.as_str() == "[1,5],[3,6],[3,7]" && errors.bytes.is_empty()));
+            assert!(rt;
+                matches!(&served, Ok((taken, 0, errors))
+                if taken.as_str() == "[1,5],[3,6],[3,7]" && errors.bytes.is_empty())
+            );
         }
         // A machine without a network says nothing of the server.
         Err(_) => {}

@@ -37,7 +37,11 @@ fn the_history_has_the_calls_of_all_threads(rt: HostRuntime) -> Result<(), Fail>
     let closed = hub.close(back).ok().ok_or("not closed")?;
     assert_eq!(rt; closed.entries.len(), 401);
     for number in 0..4 {
-        let calls = closed.entries.iter().filter(|entry| entry.seat() == number).count();
+        let calls = closed
+            .entries
+            .iter()
+            .filter(|entry| entry.seat() == number)
+            .count();
         assert_eq!(rt; calls, 100, "of seat {number}");
     }
     Ok(())

@@ -123,12 +123,7 @@ impl Hub {
     ///
     /// # Errors
     /// `HistoryFull`, `Foreign`, then `UnknownQuery`; `OutOfMemory` for the entry and the receipt.
-    pub fn drop_query<R: Wait>(
-        &self,
-        rt: &R,
-        seat: &mut Seat,
-        query: u64,
-    ) -> Result<Receipt, Fault>
+    pub fn drop_query<R: Wait>(&self, rt: &R, seat: &mut Seat, query: u64) -> Result<Receipt, Fault>
         ensures ok { IfOk result (λ r. (r.entry.reply ≡ replies.Done)
             × Took seat.old (Drop query) r seat.new) }
         ensures err { IfErr result (λ f. Spurned seat.old (Drop query) f seat.new) }

@@ -83,12 +83,7 @@ impl Locked {
     ///
     /// # Errors
     /// `HistoryFull`, `Foreign`, then those of `Answering::append`.
-    pub fn append(
-        &mut self,
-        seat: &mut Seat,
-        stream: u64,
-        rows: NewRows,
-    ) -> Result<Receipt, Fault>
+    pub fn append(&mut self, seat: &mut Seat, stream: u64, rows: NewRows) -> Result<Receipt, Fault>
         ensures ok { IfOk result (λ r. (r.entry.reply ≡ replies.Done)
             × Accepted self.old seat.old (Append stream rows) r self.new seat.new) }
         ensures err { IfErr result (λ f.

@@ -43,5 +43,5 @@ returns-clause-ok c =
     let history = longer _ _ c.args.self.now.history _ _ c.push_reserved.ensures.items (c.in_ok-reserve.ensures.items ∙ ap (λ d. d.history) c.self.view_is) logged in
     let receipts = longer _ _ c.args.seat.now.receipts _ _ c.push_reserved-2.ensures.items (c.in_ok-reserve-2.ensures.items ∙ ap (λ s. s.receipts) c.seat.view_is) (receipt_is c.new-receipt.result n _ _ c.new-receipt.ensures kept) in
     accepting c.args.self.now _ c.args.seat.now _ c.args.command r n c.new-answer.result legal answered c.in_ok-number.ensures.ok
-      history (ap (λ d. d.limit) c.self.view_is) (ap (λ d. d.seats) c.self.view_is) (ap (λ d. d.has_ended) c.self.view_is)
-      seat receipts (ap (λ s. s.learnt) c.seat.view_is) (receipt_is c.new-answer.result n _ _ c.new-answer.ensures told)
+    history (ap (λ d. d.limit) c.self.view_is) (ap (λ d. d.seats) c.self.view_is) (ap (λ d. d.has_ended) c.self.view_is)
+    seat receipts (ap (λ s. s.learnt) c.seat.view_is) (receipt_is c.new-answer.result n _ _ c.new-answer.ensures told)

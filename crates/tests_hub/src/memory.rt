@@ -1,5 +1,5 @@
-//! A client's call that is refused memory changes nothing, and is answered when it is made once more.
-//! `rt try --test --fail-alloc N` runs this test with the growth N refused.
+//! A client's call that is refused memory changes nothing, and is answered when it is made once
+//! more. `rt try --test --fail-alloc N` runs this test with the growth N refused.
 
 use crate::fixture::{NOW, columns, rows};
 use hub::{Hub, Receipt, Seat};

@@ -66,8 +66,8 @@ fn tell_often<R: Wait>(
     seat
 }
 
-// Learns each receipt and then takes. Gives the seat back, with how many takes stand behind what was
-// learnt before them.
+// Learns each receipt and then takes. Gives the seat back, with how many takes stand behind what
+// was learnt before them.
 fn learn_often<R: Wait>(
     rt: &R,
     hub: &Hub,

@@ -144,7 +144,7 @@ impl Locked {
     }
 
     // Carries a client's command out. All that grows does so before the engine is changed.
-    #[tactic(auto, unfolding(crate::specs::Steps::engine_at), using(crate::proofs::DecliningLemmas::barred_declines, crate::proofs::DecliningLemmas::refused_declines))]
+    #[tactic(auto, unfolding(crate::specs::Steps::engine_at), using(crate::proofs::DecliningLemmas::barred_declines, crate::proofs::DecliningLemmas::refused_declines, crate::proofs::DecliningLemmas::short_declines))]
     fn call(&mut self, seat: &mut Seat, command: Command) -> Result<(Reply, Receipt), Fault>
         ensures ok { IfOk result (λ r. (r.0 ≡ r.1.entry.reply)
             × Accepted self.old seat.old command r.1 self.new seat.new) }

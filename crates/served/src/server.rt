@@ -38,7 +38,8 @@ pub fn serve<R: Threads + Wait + Sync, O: Sink, E: Sink>(
     sink: &mut O,
     errors: &mut E,
 ) -> u8
-    ensures { (result ≡ 0) ⊎ (result ≡ 1) ⊎ (result ≡ 3) }
+    ensures status { (result ≡ 0) ⊎ (result ≡ 1) ⊎ (result ≡ 3) }
+    ensures silent { result ≡ 0 → errors.new ≡ errors.old }
 {
     let Ok((hub, seats)) = Hub::open(alloc, options.clients, MAX_HISTORY) else {
         tell(errors, "cqld: out of memory\n");

@@ -217,7 +217,8 @@ fn push_cells(
     requires within { (i : ℕ) → i < count → start + i * stride < length values.now }
     requires room { vec_len numbers.old + count ≤ vec_capacity numbers.old }
     ensures numbers { numbers.new.items
-        ≡ numbers.old.items ++ numbers_of (at_places None (places_by start stride count) values.now) }
+        ≡ numbers.old.items
+        ++ numbers_of (at_places None (places_by start stride count) values.now) }
     ensures len { vec_len numbers.new ≡ vec_len numbers.old + count }
     ensures room { vec_capacity numbers.new ≡ vec_capacity numbers.old }
     ensures valid { bits count (result ∷ [])

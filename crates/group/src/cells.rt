@@ -164,6 +164,26 @@ impl Model for Tally {
 }
 
 impl Tally {
+    pub(crate) fn shown_now(&self, item: ListItem, key: &[Value], rows: i64) -> Value
+    {
+        match item {
+            ListItem::Key(column) => match key.get(column) {
+                Some(value) => *value,
+                None => Value::null(),
+            },
+            ListItem::CountAll => Value::clamped(rows as i128),
+            ListItem::Count(_) => Value::clamped(self.numbers as i128),
+            ListItem::Sum(_) => {
+                if self.numbers == 0 {
+                    Value::null()
+                } else {
+                    Value::clamped(self.total)
+                }
+            }
+            ListItem::Min(_) => least(&self.values),
+            ListItem::Max(_) => greatest(&self.values),
+        }
+    }
     /// Of no rows.
     fn new(alloc: Global) -> Tally
         ensures { result ≡ tally_zero }
@@ -381,6 +401,7 @@ pub(crate) struct Cell {
     rows: i64,
     tallies: Vec<Tally>,
     shown: Option<Vec<Value>>,
+    pub(crate) touched: bool,
 }
 
 impl Model for Cell {
@@ -483,6 +504,70 @@ fn figures_of(
 }
 
 impl Cell {
+    pub(crate) fn take_place(&mut self, items: &[ListItem], batch: &Batch, place: usize) -> Result<(), AllocError>
+    {
+        let enters = !batch.leaves(place);
+        for k in 0..items.len() {
+            let (keeps, value) = match items[k] {
+                ListItem::Key(_) => (false, Value::null()),
+                ListItem::CountAll => (false, Value::null()),
+                ListItem::Count(column) => (false, field_in(batch, place, column)),
+                ListItem::Sum(column) => (false, field_in(batch, place, column)),
+                ListItem::Min(column) => (true, field_in(batch, place, column)),
+                ListItem::Max(column) => (true, field_in(batch, place, column)),
+            };
+            if let Some(number) = value.number() {
+                self.tallies[k].count(enters, number);
+                if keeps {
+                    self.tallies[k].keep(true, enters, value)?;
+                }
+            }
+        }
+        self.rows = counted(self.rows, enters);
+        Ok(())
+    }
+    // the old row and the new one, where they differ; whether any row is there
+    pub(crate) fn swap(
+        &mut self,
+        alloc: Global,
+        items: &[ListItem],
+        key: &[Value],
+        values: &mut Vec<Value>,
+        leaves: &mut Vec<bool>,
+    ) -> Result<bool, AllocError>
+    {
+        self.touched = false;
+        let mut now = Row::new();
+        if 0 < self.rows {
+            for k in 0..items.len() {
+                now.push(self.tallies[k].shown_now(items[k], key, self.rows));
+            }
+        }
+        if 0 < self.rows {
+            match &mut self.shown {
+                Some(old) => {
+                    if old.as_slice() == now.as_slice() {
+                        return Ok(true);
+                    }
+                    values.extend_from_slice(old)?;
+                    leaves.push(true)?;
+                    old.clear();
+                    old.extend_from_slice(now.as_slice())?;
+                }
+                None => {
+                    self.shown = Some(Vec::from_slice(alloc, now.as_slice())?);
+                }
+            }
+            values.extend_from_slice(now.as_slice())?;
+            leaves.push(false)?;
+            return Ok(true);
+        }
+        if let Some(old) = &self.shown {
+            values.extend_from_slice(old)?;
+            leaves.push(true)?;
+        }
+        Ok(false)
+    }
     /// A group of no rows.
     pub(crate) fn new(alloc: Global, count: usize) -> Result<Cell, AllocError>
         ensures { IfOk result (λ c. c ≡ cell_zero count) }
@@ -495,6 +580,7 @@ impl Cell {
             rows: 0,
             tallies,
             shown: None,
+            touched: false,
         })
     }
 
@@ -562,5 +648,14 @@ impl Cell {
             Some(values) => Some(row_with(values)),
             None => None,
         }
+    }
+}
+
+pub(crate) fn field_in(batch: &Batch, place: usize, column: Column) -> Value
+{
+    if column.source == 0 && column.column < batch.width() {
+        batch.column(column.column).get(place)
+    } else {
+        Value::null()
     }
 }

@@ -13,7 +13,7 @@ use crate::keyed::Keyed;
 use crate::turn::Touched;
 use column::{Batch, SignedRow};
 use std::alloc::{AllocError, Global};
-use values::{ListItem, MAX_COLUMNS, Row};
+use values::{Column, ListItem, MAX_COLUMNS, Row, Value};
 
 /// What is kept of each group, by how many values a key may have.
 #[derive(Drop)]
@@ -25,6 +25,40 @@ pub(crate) enum HeldCells {
 }
 
 impl HeldCells {
+    pub(crate) fn take_places(
+        &mut self,
+        alloc: Global,
+        by: &[Column],
+        items: &[ListItem],
+        batch: &Batch,
+        touched: &mut Vec<Value>,
+    ) -> Result<(), AllocError>
+    {
+        match self {
+            HeldCells::Two(keyed) => keyed.take_places(alloc, by, items, batch, touched),
+            HeldCells::Four(keyed) => keyed.take_places(alloc, by, items, batch, touched),
+            HeldCells::Eight(keyed) => keyed.take_places(alloc, by, items, batch, touched),
+            HeldCells::Sixteen(keyed) => keyed.take_places(alloc, by, items, batch, touched),
+        }
+    }
+    pub(crate) fn swap_all(
+        &mut self,
+        alloc: Global,
+        items: &[ListItem],
+        width: usize,
+        touched: &[Value],
+        order: &[u32],
+        values: &mut Vec<Value>,
+        leaves: &mut Vec<bool>,
+    ) -> Result<(), AllocError>
+    {
+        match self {
+            HeldCells::Two(keyed) => keyed.swap_all(alloc, items, width, touched, order, values, leaves),
+            HeldCells::Four(keyed) => keyed.swap_all(alloc, items, width, touched, order, values, leaves),
+            HeldCells::Eight(keyed) => keyed.swap_all(alloc, items, width, touched, order, values, leaves),
+            HeldCells::Sixteen(keyed) => keyed.swap_all(alloc, items, width, touched, order, values, leaves),
+        }
+    }
     /// No groups, with room for keys of `width` values.
     pub(crate) fn new(alloc: Global, width: usize) -> HeldCells
         requires { width ≤ MAX_COLUMNS }

@@ -9,7 +9,7 @@ ghost use Rattle.group.specs.Batches.{AllInRange, batch_in};
 ghost use Rattle.group.specs.Cells.{held_cmp, CellRoom, ReadsInRange};
 ghost use Rattle.group.specs.Turns.{cell_of, taken_in, shown_in, excerpt};
 
-use crate::cells::Cell;
+use crate::cells::{Cell, field_in};
 use crate::turn::Touched;
 use arrayvec::ArrayVec;
 use column::{Batch, SignedRow};
@@ -17,7 +17,7 @@ use row_bags::{copied, fitted};
 use std::alloc::{AllocError, Global};
 use std::collections::BTreeMap;
 use std::marker::Model;
-use values::{ListItem, MAX_COLUMNS, Row, Value, copy_row};
+use values::{Column, ListItem, MAX_COLUMNS, Row, Value, copy_row};
 
 /// What is kept of each group, by keys of at most `N` values: a key takes some `8 * N` bytes.
 #[derive(Drop)]
@@ -39,6 +39,64 @@ impl<const N: usize> Model for Keyed<N> {
 }
 
 impl<const N: usize> Keyed<N> {
+    pub(crate) fn take_places(
+        &mut self,
+        alloc: Global,
+        by: &[Column],
+        items: &[ListItem],
+        batch: &Batch,
+        touched: &mut Vec<Value>,
+    ) -> Result<(), AllocError>
+    {
+        for place in 0..batch.len() {
+            let mut key = ArrayVec::<Value, N>::new();
+            for column in by {
+                key.push(field_in(batch, place, *column));
+            }
+            if let Some(cell) = self.cells.get_mut(&key) {
+                cell.take_place(items, batch, place)?;
+                if !cell.touched {
+                    cell.touched = true;
+                    touched.extend_from_slice(key.as_slice())?;
+                }
+            } else {
+                let mut cell = Cell::new(alloc, items.len())?;
+                cell.take_place(items, batch, place)?;
+                cell.touched = true;
+                touched.extend_from_slice(key.as_slice())?;
+                self.cells.insert(key, cell)?;
+            }
+        }
+        Ok(())
+    }
+    pub(crate) fn swap_all(
+        &mut self,
+        alloc: Global,
+        items: &[ListItem],
+        width: usize,
+        touched: &[Value],
+        order: &[u32],
+        values: &mut Vec<Value>,
+        leaves: &mut Vec<bool>,
+    ) -> Result<(), AllocError>
+    {
+        for at in order {
+            let from = *at as usize * width;
+            let part = &touched[from..from + width];
+            let mut key = ArrayVec::<Value, N>::new();
+            for value in part {
+                key.push(*value);
+            }
+            let stays = match self.cells.get_mut(&key) {
+                Some(cell) => cell.swap(alloc, items, part, values, leaves)?,
+                None => true,
+            };
+            if !stays {
+                self.cells.remove(&key);
+            }
+        }
+        Ok(())
+    }
     /// No groups.
     pub(crate) fn new(alloc: Global) -> Keyed<N>
         requires { N ≤ MAX_COLUMNS }

@@ -26,6 +26,11 @@ front_of [] = None
 front_of (RowAt t s ∷ es) = Some (front.Row t)
 front_of (TickAt t ∷ es) = Some (front.Tick t)
 
+-- the instant of the row or the tick that comes first
+abbrev pub front_instant : List (Entry Row) → Option ℕ
+front_instant [] = None
+front_instant (e ∷ es) = Some (instant_of e)
+
 -- the rows before the first tick
 abbrev pub front_rows : List (Entry Row) → List (Entry Row)
 front_rows [] = []

@@ -1,13 +1,14 @@
 //! Queues.
 ghost use Rattle.std.specs.Prelude.{◌≡◌, ◌↔◌, IsTrue, Some, ◌+◌, ◌-◌, ◌^◌, ◌<◌, ◌≤◌, ◌++◌, []};
-ghost use Rattle.std.specs.Prelude.{length, take, drop, IfOk, OnOk, OnErr, min};
+ghost use Rattle.std.specs.Prelude.{length, take, drop, IfOk, OnOk, OnErr, MatchOption, min};
 ghost use Rattle.std.specs.Bool.{OnTrue, OnFalse};
 ghost use Rattle.op_queue.specs.Entries.{IsForward};
-ghost use Rattle.op_queue.specs.Items.{entries_of, front_of, ticks, IsFrontPart};
+ghost use Rattle.op_queue.specs.Items.{entries_of, front_instant, front_of, ticks};
+ghost use Rattle.op_queue.specs.Items.{IsFrontPart};
 ghost use Rattle.op_queue.specs.Queues.{at_once, each_begins, first_begins, item_pieces};
 ghost use Rattle.op_queue.specs.Queues.{last_entry, pieces_of, run_pieces};
 ghost use Rattle.op_queue.specs.Pieces.{end_of_pieces, piece_begins, piece_entries, piece_size};
-ghost use Rattle.op_queue.specs.Pieces.{IsApart, IsLongerRun, IsPiece};
+ghost use Rattle.op_queue.specs.Pieces.{IsApart, IsLongerRun, IsPiece, IsTakenWhole};
 
 use crate::item::Item;
 use column::Batch;
@@ -146,6 +147,14 @@ impl Queue {
         Some(piece.front(self.taken))
     }
 
+    /// The instant at the front, if anything waits; found in constant time.
+    pub fn front_instant(&self) -> Option<u64>
+        ensures { result ≡ front_instant self.now.entries }
+    {
+        let piece = self.pieces.front()?;
+        Some(piece.instant(self.taken))
+    }
+
     /// A copy of the front: a tick, or what is left of a batch, at most `count` rows of it.
     /// An error says that memory was refused; nothing is changed.
     pub fn front_cut(&self, alloc: Global, count: usize) -> Result<Item, AllocError>
@@ -157,6 +166,35 @@ impl Queue {
     {
         let piece = &self.pieces[0];
         let item = piece.cut(alloc, self.taken, count)?;
+        Ok(item)
+    }
+
+    /// The front leaves: a tick, or what is left of a batch, at most `count` rows of it. A batch
+    /// that leaves whole is moved. An error says that memory was refused; the queue is as it was.
+    pub fn take(&mut self, alloc: Global, count: usize) -> Result<Item, AllocError>
+        requires waits { 0 < length self.old.entries }
+        requires some { 0 < count }
+        ensures part { IfOk result (IsFrontPart count self.old.entries) }
+        ensures value { IfOk result (λ item. entries_of item
+            ≡ take (min count (at_once self.old.begins)) self.old.entries) }
+        ensures entries { IfOk result (λ item. self.new.entries
+            ≡ drop (length (entries_of item)) self.old.entries) }
+        ensures begins { IfOk result (λ item. self.new.begins
+            ≡ drop (length (entries_of item)) self.old.begins) }
+        ensures pieces { self.new.pieces ≤ self.old.pieces }
+        ensures counted { IfOk result (λ item. self.new.pieces
+            ≡ pieces_of (drop (length (entries_of item)) self.old.entries)
+            (drop (length (entries_of item)) self.old.begins)) }
+        ensures err { OnErr result (self.new ≡ self.old) }
+    {
+        if self.taken == 0
+            && let Some(item) = take_batch(&mut self.pieces, count)
+        {
+            self.waiting -= item.len() as u128;
+            return Ok(item);
+        }
+        let item = self.front_cut(alloc, count)?;
+        self.drop_front(item.len());
         Ok(item)
     }
 
@@ -229,6 +267,18 @@ impl Piece {
         }
     }
 
+    /// The instant of what stands first after `taken` of its rows or ticks.
+    fn instant(&self, taken: u64) -> u64
+        requires shaped { IsPiece self.now }
+        requires part { taken < piece_size self.now }
+        ensures { Some result ≡ front_instant (drop taken (piece_entries self.now)) }
+    {
+        match self {
+            Piece::Rows(at, _) => *at,
+            Piece::Ticks(first, _) => *first + taken,
+        }
+    }
+
     /// A copy of what stands first after `taken` of its rows or ticks, of at most `count` rows.
     fn cut(&self, alloc: Global, taken: u64, count: usize) -> Result<Item, AllocError>
         requires shaped { IsPiece self.now }
@@ -249,6 +299,21 @@ impl Piece {
             }
             Piece::Ticks(first, _) => Ok(Item::Tick(*first + taken)),
         }
+    }
+}
+
+/// The piece at the front leaves where it is a batch of at most `count` rows.
+fn take_batch(pieces: &mut VecDeque<Piece>, count: usize) -> Option<Item>
+    ensures { MatchOption result (pieces.new.items ≡ pieces.old.items)
+        (IsTakenWhole count pieces.old.items pieces.new.items) }
+{
+    match pieces.front() {
+        Some(Piece::Rows(_, batch)) if batch.len() <= count => (),
+        _ => return None,
+    }
+    match pieces.pop_front() {
+        Some(Piece::Rows(at, batch)) => Some(Item::Rows(at, batch)),
+        _ => None,
     }
 }
 

@@ -21,6 +21,27 @@ pub enum Inbox {
 }
 
 impl Inbox {
+    pub fn front_instant(&self, log: &Log) -> Option<u64>
+    {
+        match self {
+            Inbox::First(cursor) => cursor.front_instant(log),
+            Inbox::Between(queue) => queue.front_instant(),
+        }
+    }
+    pub fn take(&mut self, alloc: Global, log: &Log, rows: usize) -> Result<Item, AllocError>
+    {
+        match self {
+            Inbox::First(cursor) => cursor.take(alloc, log, rows),
+            Inbox::Between(queue) => queue.take(alloc, rows),
+        }
+    }
+    pub fn queue(&mut self) -> &mut Queue
+    {
+        match self {
+            Inbox::First(_) => unreachable!(),
+            Inbox::Between(queue) => queue,
+        }
+    }
     /// What stands at the front, if anything waits.
     pub fn front(&self, log: &Log) -> Option<Front>
         ensures { result ≡ front_of (entries_in self.now log.now) }

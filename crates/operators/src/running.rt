@@ -18,7 +18,11 @@ use column::Side;
 use op_queue::{Front, Item, Log, Queue};
 use std::alloc::{AllocError, Global};
 use std::marker::Model;
+use row_nodes::{run_project, run_select};
+use std::collections::VecDeque;
 use std::sync::Arc;
+use values::Row;
+use windows::latest_work;
 use turn::{Change, Kind, Near};
 
 /// An operator of a running query: what it does, what it holds, and what waits for it.
@@ -44,6 +48,61 @@ impl Model for Operator {
 }
 
 impl Operator {
+    fn inbox_mut(&mut self, side: Side) -> &mut Inbox
+    {
+        match side {
+            Side::Left => &mut self.left,
+            Side::Right => &mut self.right,
+        }
+    }
+    pub fn run_below(
+        &mut self,
+        alloc: Global,
+        log: &Log,
+        side: Side,
+        rows: usize,
+        to: &mut Operator,
+        to_side: Side,
+    ) -> Result<(), AllocError>
+    {
+        let item = self.inbox_mut(side).take(alloc, log, rows)?;
+        let next = to.inbox_mut(to_side).queue();
+        match &mut self.state {
+            State::Range(window) => window.run(alloc, item, next),
+            State::Latest(window) => {
+                let near = window.near(alloc, &item)?;
+                let outputs = latest_work(alloc, &item, &near)?;
+                window.apply(&item)?;
+                for output in outputs {
+                    next.push(output)?;
+                }
+                Ok(())
+            }
+            State::Nothing => match &*self.kind {
+                Kind::Select(steps) => run_select(alloc, &steps.steps, item, next),
+                Kind::Project(columns) => run_project(alloc, columns.columns(), item, next),
+                _ => unreachable!(),
+            },
+            State::Join(join) => join.run(alloc, side, item, next),
+            State::Groups(groups) => groups.run(alloc, item, next),
+            State::Root(_) => unreachable!(),
+        }
+    }
+    pub fn run_root(
+        &mut self,
+        alloc: Global,
+        log: &Log,
+        side: Side,
+        rows: usize,
+        answers: &mut VecDeque<(u64, Row)>,
+    ) -> Result<(), AllocError>
+    {
+        let item = self.inbox_mut(side).take(alloc, log, rows)?;
+        match &mut self.state {
+            State::Root(root) => root.run(item, answers),
+            _ => unreachable!(),
+        }
+    }
     /// An operator of this kind with this state, and with this input on the left; nothing waits on
     /// the right.
     pub fn new(alloc: Global, kind: Arc<Kind>, state: State, left: Inbox) -> Operator
@@ -173,8 +232,7 @@ impl Operator {
         if !self.usable(side) {
             return None;
         }
-        let front = self.inbox(side).front(log)?;
-        Some(instant_of(front))
+        self.inbox(side).front_instant(log)
     }
 
     fn change(&mut self, side: Side, item: &Item, change: &Change) -> Result<(), AllocError>

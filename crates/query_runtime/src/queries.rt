@@ -61,6 +61,28 @@ impl Model for RunningQuery {
 }
 
 impl RunningQuery {
+    // a turn, and at once those of what it feeds; gives how many
+    pub fn log_of<'a>(&self, streams: &'a Streams, operator: usize) -> &'a Log
+    {
+        self.log(streams, operator)
+    }
+    pub fn run(
+        &mut self,
+        alloc: Global,
+        streams: &Streams,
+        operator: usize,
+        side: Side,
+        rows: usize,
+    ) -> Result<(), AllocError>
+    {
+        let log = self.log(streams, operator);
+        if operator + 1 == self.operators.len() {
+            return self.operators[operator].run_root(alloc, log, side, rows, &mut self.answers);
+        }
+        let wire = self.wire(operator);
+        let (below, above) = self.operators.split_at_mut(wire.to);
+        below[operator].run_below(alloc, log, side, rows, &mut above[0], wire.side)
+    }
     /// The query of a plan before anything has come. `streams` has the number of each source's
     /// stream and `places` how many rows that stream had when the query was registered; `start` is
     /// the query's first instant. An error says that memory was refused; nothing is changed.

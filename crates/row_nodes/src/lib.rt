@@ -13,5 +13,5 @@ pub use laws::{
     nested_conditions_fit, project_keeps_its_value, select_keeps_its_value, ticks_pass,
 };
 pub use postfix::steps;
-pub use projection::project;
-pub use selection::select;
+pub use projection::{project, run_project};
+pub use selection::{run_select, select};

@@ -5,7 +5,7 @@ ghost use Rattle.op_queue.specs.Items.{entries_of};
 ghost use Rattle.row_nodes.specs.Project.{AreColumns, projected};
 
 use crate::outputs::one;
-use op_queue::Item;
+use op_queue::{Item, Queue};
 use std::alloc::{AllocError, Global};
 use values::MAX_COLUMNS;
 
@@ -30,5 +30,16 @@ pub fn project(alloc: Global, columns: &[usize], item: &Item) -> Result<Vec<Item
             let outs = one(alloc, Item::Tick(*at))?;
             Ok(outs)
         }
+    }
+}
+
+pub fn run_project(alloc: Global, columns: &[usize], item: Item, next: &mut Queue) -> Result<(), AllocError>
+{
+    match item {
+        Item::Rows(at, batch) => {
+            let rows = batch.projected(alloc, columns)?;
+            next.push(Item::Rows(at, rows))
+        }
+        Item::Tick(at) => next.push(Item::Tick(at)),
     }
 }

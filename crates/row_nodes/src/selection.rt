@@ -10,7 +10,7 @@ ghost use Rattle.row_nodes.specs.Select.{FitItem, is_kept, selected};
 use crate::outputs::one;
 use column::{Batch, Mask};
 use lane_kernels::{Step, run_condition};
-use op_queue::Item;
+use op_queue::{Item, Queue};
 use std::alloc::{AllocError, Global};
 
 // as many words of 64 bits as a batch of `MAX_ROWS` rows needs
@@ -79,4 +79,22 @@ fn kept_by(
     run_condition(steps, batch, truth, known);
     let mask = Mask::from_words(alloc, truth, batch.len())?;
     Ok(mask)
+}
+
+pub fn run_select(alloc: Global, steps: &[Step], item: Item, next: &mut Queue) -> Result<(), AllocError>
+{
+    match item {
+        Item::Rows(at, batch) => {
+            let words = batch.len().div_ceil(64);
+            let mut truth = [0; MAX_WORDS];
+            let mut known = [0; MAX_WORDS];
+            run_condition(steps, &batch, &mut truth[..words], &mut known[..words]);
+            let mask = Mask::from_words(alloc, &truth[..words], batch.len())?;
+            match batch.kept(&mask) {
+                Some(rows) => next.push(Item::Rows(at, rows)),
+                None => Ok(()),
+            }
+        }
+        Item::Tick(at) => next.push(Item::Tick(at)),
+    }
 }

@@ -31,6 +31,29 @@ impl Model for RunQueue {
 }
 
 impl RunQueue {
+    pub fn change_first(&mut self, instant: Option<u64>)
+    {
+        let slot = self.slots[0];
+        if slot.instant() == instant {
+            return;
+        }
+        let slot = slot.with_instant(instant);
+        let mut to = 0;
+        while to + 1 < self.slots.len() && to < 8 && self.slots[to + 1] < slot {
+            self.slots[to] = self.slots[to + 1];
+            to += 1;
+        }
+        if to == 8 {
+            self.slots[to] = slot;
+            let end = match self.slots[to + 1..].binary_search(&slot) {
+                Ok(more) => to + more,
+                Err(more) => to + more,
+            };
+            move_slot(&mut self.slots, to, end, slot);
+            return;
+        }
+        self.slots[to] = slot;
+    }
     /// Makes a queue of no slots. Takes no memory.
     #[tactic(auto, using(crate::proofs::SlotLemmas::none_ordered))]
     pub fn new(alloc: Global) -> RunQueue

@@ -11,6 +11,8 @@
 //! however many are held.
 #![tactic(auto)]
 
+mod changes;
+
 ghost use Rattle.std.specs.Prelude.{◌≡◌, None, [], map, IfOk, OnOk};
 ghost use Rattle.row_bags.specs.Bags.{rows_of};
 ghost use Rattle.to_stream.specs.Turns.{State, shown, near, out, ticked, next, HasRoom, answers_of};
@@ -21,7 +23,10 @@ use op_queue::Item;
 use row_bags::{Delta, RowList};
 use std::alloc::{AllocError, Global};
 use std::marker::Model;
-use values::{Row, StreamOperator, copy_row};
+use std::mem::swap;
+use crate::changes::{Changes, row_of};
+use std::collections::VecDeque;
+use values::{Row, StreamOperator, Value, copy_row};
 
 /// The state of a root: what entered and left since the last tick, that tick's instant, and of
 /// Rstream the whole relation at that tick.
@@ -33,6 +38,9 @@ pub struct ToStream {
     // the instant of the last tick
     last: Option<u64>,
     alloc: Global,
+    changes: Changes,
+    rows: Vec<Value>,
+    spare: Vec<Value>,
 }
 
 impl Model for ToStream {
@@ -45,6 +53,36 @@ impl Model for ToStream {
 }
 
 impl ToStream {
+    pub fn run(&mut self, item: Item, answers: &mut VecDeque<(u64, Row)>) -> Result<(), AllocError>
+    {
+        match item {
+            Item::Rows(_, batch) => self.changes.add(&batch),
+            Item::Tick(at) => self.run_tick(at, answers),
+        }
+    }
+    fn run_tick(&mut self, at: u64, answers: &mut VecDeque<(u64, Row)>) -> Result<(), AllocError>
+    {
+        match self.operator {
+            StreamOperator::Istream => self.changes.show(at, true, answers)?,
+            StreamOperator::Dstream => self.changes.show(at, false, answers)?,
+            StreamOperator::Rstream => {
+                if self.changes.is_empty() {
+                    let width = self.changes.width();
+                    if width > 0 {
+                        for k in 0..self.rows.len() / width {
+                            answers.push_back((at, row_of(&self.rows[k * width..(k + 1) * width])))?;
+                        }
+                    }
+                } else {
+                    self.changes.merge(at, &self.rows, &mut self.spare, answers)?;
+                    swap(&mut self.rows, &mut self.spare);
+                }
+            }
+        }
+        self.changes.clear();
+        self.last = Some(at);
+        Ok(())
+    }
     /// A root that has taken nothing.
     pub fn new(alloc: Global, operator: StreamOperator) -> ToStream
         ensures state { result
@@ -62,6 +100,9 @@ impl ToStream {
             whole: RowList::new(alloc),
             last: None,
             alloc,
+            changes: Changes::new(alloc),
+            rows: Vec::new(alloc),
+            spare: Vec::new(alloc),
         }
     }
 

@@ -35,6 +35,14 @@ impl Model for HeldRows {
 }
 
 impl HeldRows {
+    pub(crate) fn count_older(&self, first: u64) -> usize
+    {
+        count_below(&self.runs, first)
+    }
+    pub(crate) fn leaving(&self, alloc: Global, from: usize, to: usize) -> Result<Batch, AllocError>
+    {
+        self.rows.leaving(alloc, from, to)
+    }
     pub(crate) fn new(alloc: Global, width: usize) -> HeldRows
         ensures width { result.width ≡ width }
         ensures held { result.held ≡ [] }

@@ -10,15 +10,27 @@ ghost use Rattle.leases.specs.Sound.{IsSound};
 ghost use Rattle.leases.specs.Turns.{lease_fault};
 ghost use Rattle.leases.specs.Whole.{IsWhole};
 
+use crate::kept::KeptQuery;
 use crate::limits::{LEASE_NUMBERS, MAX_LEASES};
 use crate::state::State;
 use crate::state::lease::turn_of;
 use reference::{Fault, MAX_TURN};
+use query_runtime::RunningQuery;
 use run_queue::Slot;
-use std::alloc::AllocError;
+use std::alloc::{AllocError, Global};
+use stream_store::Streams;
 use turn::Done;
 
 impl State {
+    fn above_at(&self, query: u64, operator: usize) -> Option<(usize, Option<u64>)>
+    {
+        let running = self.running(query);
+        if operator + 1 < running.len() {
+            let to = running.wire(operator).to;
+            return Some((to, self.instant(query, to)));
+        }
+        None
+    }
     /// Runs turns of at most `rows` rows until no operator may take anything.
     pub(crate) fn drain(&mut self, rows: u32) -> Result<(), Fault>
         requires { IsSound self.old }
@@ -84,13 +96,37 @@ impl State {
         ensures err { OnErr result (HasWanted rows (engine_in self.old) (engine_in self.new)) }
         ensures sound { IsSound self.new }
     {
-        let done = self.run_of(slot, rows)?;
-        let above = self.above(slot.query(), slot.operator());
-        self.next += 1;
-        self.apply(done.into_parts())?;
-        self.update_slot(slot);
-        if let Some(above) = &above {
-            self.update_slot(above);
+        let query = slot.query();
+        let operator = slot.operator();
+        let above = self.above_at(query, operator);
+        let rises = match &above {
+            Some((to, _)) => {
+                let slopes = &self.registered[query as usize].slopes;
+                slopes[operator] < slopes[*to]
+            }
+            None => false,
+        };
+        let ran = match &mut self.kept[query as usize] {
+            KeptQuery::Running(running) => {
+                run_instant(self.alloc, &self.streams, running, operator, rows, rises)
+            }
+            _ => unreachable!(),
+        };
+        match ran {
+            Ok(turns) => self.next += turns,
+            Err(error) => {
+                self.break_query(query);
+                return Err(error);
+            }
+        }
+        let now = self.instant(query, operator);
+        self.slots.change_first(now);
+        if let Some((to, before)) = above {
+            let now = self.instant(query, to);
+            if now != before {
+                let slope = self.registered[query as usize].slopes[to];
+                self.slots.change(Slot::new(slope, before, query, to), now);
+            }
         }
         Ok(())
     }
@@ -111,4 +147,33 @@ impl State {
             Err(_) => Err(AllocError),
         }
     }
+}
+
+// The turns of one instant of an operator; but one where that above it has a greater slope.
+fn run_instant(
+    alloc: Global,
+    streams: &Streams,
+    running: &mut RunningQuery,
+    operator: usize,
+    rows: usize,
+    rises: bool,
+) -> Result<u64, AllocError>
+{
+    let Some((first, at)) = running.ready(streams, operator) else {
+        unreachable!()
+    };
+    let mut side = first;
+    let mut turns = 0;
+    'turns: loop {
+        running.run(alloc, streams, operator, side, rows)?;
+        turns += 1;
+        if rises {
+            break 'turns;
+        }
+        match running.ready(streams, operator) {
+            Some((next, then)) if then == at => side = next,
+            _ => break 'turns,
+        }
+    }
+    Ok(turns)
 }

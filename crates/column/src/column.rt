@@ -2,7 +2,7 @@
 
 ghost use Rattle.std.specs.Prelude.{◌≡◌, ◌<◌, ◌≤◌, ◌+◌, ◌++◌, ◌∷◌, ◌==◌, [], ℕ, ℤ, pos, List};
 ghost use Rattle.std.specs.Prelude.{Option, None, Some, IfOk, IfSome, OnOk, OnErr, IsTrue, All};
-ghost use Rattle.std.specs.Prelude.{length, slice_index_or, slice_range, map, is_some, ◌↔◌};
+ghost use Rattle.std.specs.Prelude.{length, slice_index_or, slice_range, map, take, is_some, ◌↔◌};
 ghost use Rattle.std.specs.Prelude.{vec_len, vec_capacity, ◌*◌};
 ghost use Rattle.column.specs.Bits.{IsClear, at_places, bits, chosen, places_by};
 ghost use Rattle.column.specs.Columns.{IsColumn, IsStreamValue, numbers_of, values_of};
@@ -218,6 +218,7 @@ fn push_cells(
     requires room { vec_len numbers.old + count ≤ vec_capacity numbers.old }
     ensures numbers { numbers.new.items
         ≡ numbers.old.items ++ numbers_of (at_places None (places_by start stride count) values.now) }
+    ensures len { vec_len numbers.new ≡ vec_len numbers.old + count }
     ensures room { vec_capacity numbers.new ≡ vec_capacity numbers.old }
     ensures valid { bits count (result ∷ [])
         ≡ map is_some (at_places None (places_by start stride count) values.now) }
@@ -240,12 +241,21 @@ fn keep_numbers(numbers: &mut Vec<i64>, mask: &Mask)
     requires { length mask.now ≡ length numbers.old.items }
     ensures { numbers.new.items ≡ chosen mask.now numbers.old.items }
 {
+    let kept = move_kept(numbers.as_mut_slice(), mask);
+    numbers.truncate(kept);
+}
+
+/// Moves the numbers at whose places a mask is true to the front, and counts them.
+fn move_kept(numbers: &mut [i64], mask: &Mask) -> usize
+    requires { length mask.now ≡ length numbers.old }
+    ensures { take result numbers.new ≡ chosen mask.now numbers.old }
+{
     let mut kept = 0;
     for i in 0..numbers.len() {
         if mask.get(i) {
-            numbers[kept] = numbers[i];
+            numbers.swap(kept, i);
             kept += 1;
         }
     }
-    numbers.truncate(kept);
+    kept
 }

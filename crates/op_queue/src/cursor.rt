@@ -1,7 +1,7 @@
 //! Cursors.
 ghost use Rattle.std.specs.Prelude.{◌≡◌, ◌<◌, ◌≤◌, length, drop, min, slice_range, IfOk, OnErr};
 ghost use Rattle.op_queue.specs.Cursors.{GoesOn, IsWithin, cursor_entries};
-ghost use Rattle.op_queue.specs.Items.{IsFrontPart, entries_of, front_instant, front_of};
+ghost use Rattle.op_queue.specs.Items.{IsFrontPart, entries_of, first_instant, front_of};
 ghost use Rattle.op_queue.specs.Items.{front_part};
 ghost use Rattle.op_queue.specs.Logs.{Closed, log_entries, shown};
 
@@ -58,7 +58,7 @@ impl Cursor {
 
     /// The instant at the front, if anything waits. It does not look at the log's rows.
     pub fn front_instant(&self, log: &Log) -> Option<u64>
-        ensures { result ≡ front_instant (cursor_entries self.now log.now) }
+        ensures { result ≡ first_instant (cursor_entries self.now log.now) }
     {
         if log.until() <= self.at {
             return None;

@@ -165,11 +165,16 @@ fn tested_start(numbers: &[u64], to: usize, hint: usize, least: u64) -> usize
     ensures to { result ≤ to }
     ensures below { (i : ℕ) → i < result → get_or numbers.now i 0 < least }
 {
-    if 0 < hint && hint <= to && numbers[hint - 1] < least {
-        hint
-    } else {
-        0
+    if hint == 0 {
+        return 0;
     }
+    if to < hint {
+        return 0;
+    }
+    if least <= numbers[hint - 1] {
+        return 0;
+    }
+    hint
 }
 
 /// The same as `lower_bound`, quick where the place stands near the first one.

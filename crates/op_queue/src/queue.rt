@@ -3,10 +3,10 @@ ghost use Rattle.std.specs.Prelude.{◌≡◌, ◌↔◌, IsTrue, Some, ◌+◌,
 ghost use Rattle.std.specs.Prelude.{length, take, drop, IfOk, OnOk, OnErr, MatchOption, min};
 ghost use Rattle.std.specs.Bool.{OnTrue, OnFalse};
 ghost use Rattle.op_queue.specs.Entries.{IsForward};
-ghost use Rattle.op_queue.specs.Items.{entries_of, front_instant, front_of, ticks};
+ghost use Rattle.op_queue.specs.Items.{entries_of, first_instant, front_of, ticks};
 ghost use Rattle.op_queue.specs.Items.{IsFrontPart};
-ghost use Rattle.op_queue.specs.Queues.{at_once, each_begins, first_begins, item_pieces};
-ghost use Rattle.op_queue.specs.Queues.{last_entry, pieces_of, run_pieces};
+ghost use Rattle.op_queue.specs.Queues.{HasLeft, at_once, each_begins, first_begins};
+ghost use Rattle.op_queue.specs.Queues.{item_pieces, last_entry, pieces_of, run_pieces};
 ghost use Rattle.op_queue.specs.Pieces.{end_of_pieces, piece_begins, piece_entries, piece_size};
 ghost use Rattle.op_queue.specs.Pieces.{IsApart, IsLongerRun, IsPiece, IsTakenWhole};
 
@@ -149,7 +149,7 @@ impl Queue {
 
     /// The instant at the front, if anything waits; found in constant time.
     pub fn front_instant(&self) -> Option<u64>
-        ensures { result ≡ front_instant self.now.entries }
+        ensures { result ≡ first_instant self.now.entries }
     {
         let piece = self.pieces.front()?;
         Some(piece.instant(self.taken))
@@ -187,15 +187,25 @@ impl Queue {
             (drop (length (entries_of item)) self.old.begins)) }
         ensures err { OnErr result (self.new ≡ self.old) }
     {
-        if self.taken == 0
-            && let Some(item) = take_batch(&mut self.pieces, count)
-        {
-            self.waiting -= item.len() as u128;
+        if let Some(item) = self.take_whole(count) {
             return Ok(item);
         }
         let item = self.front_cut(alloc, count)?;
         self.drop_front(item.len());
         Ok(item)
+    }
+
+    /// The batch at the front leaves, where nothing of it has left and it has at most `count` rows.
+    fn take_whole(&mut self, count: usize) -> Option<Item>
+        requires { 0 < count }
+        ensures { MatchOption result (self.new ≡ self.old) (HasLeft count self.old self.new) }
+    {
+        if self.taken != 0 {
+            return None;
+        }
+        let item = take_batch(&mut self.pieces, count)?;
+        self.waiting -= item.len() as u128;
+        Some(item)
     }
 
     /// The first `count` rows and ticks leave.
@@ -271,7 +281,7 @@ impl Piece {
     fn instant(&self, taken: u64) -> u64
         requires shaped { IsPiece self.now }
         requires part { taken < piece_size self.now }
-        ensures { Some result ≡ front_instant (drop taken (piece_entries self.now)) }
+        ensures { Some result ≡ first_instant (drop taken (piece_entries self.now)) }
     {
         match self {
             Piece::Rows(at, _) => *at,

@@ -77,7 +77,7 @@ impl RunningQuery {
     {
         let log = self.log(streams, operator);
         if operator + 1 == self.operators.len() {
-            return self.operators[operator].run_root(alloc, log, side, rows, &mut self.answers);
+            return self.operators[operator].run_root(alloc, log, side, rows, self.answers.list());
         }
         let wire = self.wire(operator);
         let (below, above) = self.operators.split_at_mut(wire.to);

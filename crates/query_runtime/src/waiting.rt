@@ -40,6 +40,11 @@ impl WaitingAnswers {
         }
     }
 
+    pub(crate) fn list(&mut self) -> &mut VecDeque<(u64, Row)>
+    {
+        &mut self.answers
+    }
+
     /// Counts the answers.
     pub fn len(&self) -> usize
         ensures { result ≡ length self.now }

@@ -174,22 +174,22 @@ impl Queue {
     pub fn take(&mut self, alloc: Global, count: usize) -> Result<Item, AllocError>
         requires waits { 0 < length self.old.entries }
         requires some { 0 < count }
-        ensures part { IfOk result (IsFrontPart count self.old.entries) }
-        ensures value { IfOk result (λ item. entries_of item
-            ≡ take (min count (at_once self.old.begins)) self.old.entries) }
-        ensures entries { IfOk result (λ item. self.new.entries
-            ≡ drop (length (entries_of item)) self.old.entries) }
-        ensures begins { IfOk result (λ item. self.new.begins
-            ≡ drop (length (entries_of item)) self.old.begins) }
-        ensures pieces { self.new.pieces ≤ self.old.pieces }
-        ensures counted { IfOk result (λ item. self.new.pieces
-            ≡ pieces_of (drop (length (entries_of item)) self.old.entries)
-            (drop (length (entries_of item)) self.old.begins)) }
+        ensures left { IfOk result (HasLeft count self.old self.new) }
         ensures err { OnErr result (self.new ≡ self.old) }
     {
-        if let Some(item) = self.take_whole(count) {
-            return Ok(item);
+        match self.take_whole(count) {
+            Some(item) => Ok(item),
+            None => self.take_cut(alloc, count),
         }
+    }
+
+    /// `take` by a copy of what leaves.
+    fn take_cut(&mut self, alloc: Global, count: usize) -> Result<Item, AllocError>
+        requires waits { 0 < length self.old.entries }
+        requires some { 0 < count }
+        ensures left { IfOk result (HasLeft count self.old self.new) }
+        ensures err { OnErr result (self.new ≡ self.old) }
+    {
         let item = self.front_cut(alloc, count)?;
         self.drop_front(item.len());
         Ok(item)

@@ -1,7 +1,10 @@
 //! Some columns of each row.
 ghost use Rattle.std.specs.Prelude.{◌≡◌, ◌≤◌, IfOk, length};
 ghost use Rattle.std.specs.List.{flat_map};
+ghost use Rattle.std.specs.Prelude.{◌++◌, OnOk};
+ghost use Rattle.op_queue.specs.Entries.{IsForward};
 ghost use Rattle.op_queue.specs.Items.{entries_of};
+ghost use Rattle.op_queue.specs.Queues.{HasGained};
 ghost use Rattle.row_nodes.specs.Project.{AreColumns, projected};
 
 use crate::outputs::one;
@@ -33,13 +36,24 @@ pub fn project(alloc: Global, columns: &[usize], item: &Item) -> Result<Vec<Item
     }
 }
 
-pub fn run_project(alloc: Global, columns: &[usize], item: Item, next: &mut Queue) -> Result<(), AllocError>
+/// Puts what Project puts out at an item behind what waits in the next queue; columns are moved.
+/// Where memory is refused nothing is said of that queue.
+pub fn run_project(
+    alloc: Global,
+    columns: &[usize],
+    item: Item,
+    queue: &mut Queue,
+) -> Result<(), AllocError>
+    requires narrow { length columns.now ≤ MAX_COLUMNS }
+    requires within { AreColumns columns.now item }
+    requires forward { IsForward (queue.old.entries ++ projected columns.now item) }
+    ensures { OnOk result (HasGained (projected columns.now item) queue.old queue.new) }
 {
     match item {
         Item::Rows(at, batch) => {
             let rows = batch.projected(alloc, columns)?;
-            next.push(Item::Rows(at, rows))
+            queue.push(Item::Rows(at, rows))
         }
-        Item::Tick(at) => next.push(Item::Tick(at)),
+        Item::Tick(at) => queue.push(Item::Tick(at)),
     }
 }

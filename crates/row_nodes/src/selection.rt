@@ -4,7 +4,10 @@ ghost use Rattle.std.specs.List.{flat_map};
 ghost use Rattle.column.specs.Bits.{word_count};
 ghost use Rattle.column.specs.Rows.{width};
 ghost use Rattle.lane_kernels.specs.Steps.{StepsFit};
+ghost use Rattle.std.specs.Prelude.{◌++◌, OnOk};
+ghost use Rattle.op_queue.specs.Entries.{IsForward};
 ghost use Rattle.op_queue.specs.Items.{entries_of};
+ghost use Rattle.op_queue.specs.Queues.{HasGained};
 ghost use Rattle.row_nodes.specs.Select.{FitItem, is_kept, selected};
 
 use crate::outputs::one;
@@ -81,20 +84,26 @@ fn kept_by(
     Ok(mask)
 }
 
-pub fn run_select(alloc: Global, steps: &[Step], item: Item, next: &mut Queue) -> Result<(), AllocError>
+/// Puts what Select puts out at an item behind what waits in the next queue; the rows that are kept
+/// move to the front of their columns. Where memory is refused nothing is said of that queue.
+pub fn run_select(
+    alloc: Global,
+    steps: &[Step],
+    item: Item,
+    queue: &mut Queue,
+) -> Result<(), AllocError>
+    requires fits { FitItem steps.now item }
+    requires forward { IsForward (queue.old.entries ++ selected steps.now item) }
+    ensures { OnOk result (HasGained (selected steps.now item) queue.old queue.new) }
 {
     match item {
         Item::Rows(at, batch) => {
-            let words = batch.len().div_ceil(64);
-            let mut truth = [0; MAX_WORDS];
-            let mut known = [0; MAX_WORDS];
-            run_condition(steps, &batch, &mut truth[..words], &mut known[..words]);
-            let mask = Mask::from_words(alloc, &truth[..words], batch.len())?;
+            let mask = kept(alloc, steps, &batch)?;
             match batch.kept(&mask) {
-                Some(rows) => next.push(Item::Rows(at, rows)),
+                Some(rows) => queue.push(Item::Rows(at, rows)),
                 None => Ok(()),
             }
         }
-        Item::Tick(at) => next.push(Item::Tick(at)),
+        Item::Tick(at) => queue.push(Item::Tick(at)),
     }
 }

@@ -3,7 +3,6 @@ use Rattle.std.proofs.Common.{◌≡◌, Bool, true, false, Option, Some, None, 
 use Rattle.std.specs.Ordering.{int_eq}
 use Rattle.std.specs.Option.{option_eq}
 use Rattle.std.specs.Cmp.Lexicographic.{pointwise}
-use Rattle.values.specs.Row.{same_row}
 use Rattle.values.proofs.Equality.{row_decides}
 use Rattle.group.specs.Cells.{Held}
 use Rattle.group.specs.Turns.{same_shown}

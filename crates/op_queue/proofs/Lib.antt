@@ -15,3 +15,4 @@ pub mod PathLemmas
 pub mod ForwardLemmas
 pub mod BeginLemmas
 pub mod CountLemmas
+pub mod TakeLemmas

@@ -5,10 +5,9 @@ ghost use Rattle.std.specs.Prelude.{List, IfOk, OnOk, OnErr, IfErr, length, slic
 ghost use Rattle.std.specs.Prelude.{slice_range, slice_set, take, replicate, true, false, All};
 ghost use Rattle.column.specs.Bits.{IsClear, at_places, bits, chosen, place, true_places};
 ghost use Rattle.column.specs.Bits.{word_count};
-ghost use Rattle.smallvec.specs.SmallVec.{small_vec_len};
 
 use super::MAX_ROWS;
-use smallvec::SmallVec;
+use super::words::Words;
 use std::alloc::{AllocError, Global};
 use std::marker::Model;
 
@@ -16,7 +15,7 @@ use std::marker::Model;
 /// mask itself, and take no memory.
 #[derive(Drop)]
 pub struct Mask {
-    words: SmallVec<u64, 1>,
+    words: Words,
     len: usize,
 }
 
@@ -26,9 +25,9 @@ impl Model for Mask {
 
     ghost Value = { List Bool };
 
-    ghost view = { λ m. bits m.len m.words.items };
+    ghost view = { λ m. bits m.len m.words };
 
-    ghost invariant = { λ m. IsClear m.len m.words.items × (m.len ≤ 1024) };
+    ghost invariant = { λ m. IsClear m.len m.words × (m.len ≤ 1024) };
 }
 
 impl Mask {
@@ -37,7 +36,7 @@ impl Mask {
         ensures { result ≡ [] }
     {
         Mask {
-            words: SmallVec::new(alloc),
+            words: Words::new(alloc),
             len: 0,
         }
     }
@@ -46,7 +45,7 @@ impl Mask {
     pub fn with_capacity(alloc: Global, count: usize) -> Result<Mask, AllocError>
         ensures { IfOk result (λ m. m ≡ []) }
     {
-        let words = SmallVec::with_capacity(alloc, count.div_ceil(64))?;
+        let words = Words::with_capacity(alloc, count.div_ceil(64))?;
         Ok(Mask { words, len: 0 })
     }
 
@@ -57,7 +56,7 @@ impl Mask {
         requires clear { IsClear len words.now }
         ensures { IfOk result (λ m. m ≡ bits len words.now) }
     {
-        let words = SmallVec::from_slice(alloc, words)?;
+        let words = Words::from_slice(alloc, words)?;
         Ok(Mask { words, len })
     }
 
@@ -146,8 +145,8 @@ impl Mask {
             return Mask::with_capacity(alloc, 0);
         }
         let part = &self.words.as_slice()[from / 64..(end + 63) / 64];
-        let mut words = SmallVec::from_slice(alloc, part)?;
-        clear_past(words.as_mut_slice(), end - from);
+        let mut words = Words::from_slice(alloc, part)?;
+        clear_past(&mut words, end - from);
         Ok(Mask {
             words,
             len: end - from,
@@ -202,7 +201,7 @@ impl Mask {
         ensures { self.new ≡ slice_set self.old i truth }
     {
         if self.get(i) != truth {
-            flip_bit(self.words.as_mut_slice(), i);
+            flip_bit(&mut self.words, i);
         }
     }
 
@@ -212,7 +211,7 @@ impl Mask {
         ensures { self.new ≡ take count self.old }
     {
         self.words.truncate((count + 63) / 64);
-        clear_past(self.words.as_mut_slice(), count);
+        clear_past(&mut self.words, count);
         self.len = count;
     }
 
@@ -242,27 +241,27 @@ impl Mask {
 }
 
 /// Appends a bit to the first `at`.
-fn push_bit(words: &mut SmallVec<u64, 1>, at: usize, truth: bool) -> Result<(), AllocError>
+fn push_bit(words: &mut Words, at: usize, truth: bool) -> Result<(), AllocError>
     requires few { at < MAX_ROWS }
-    requires clear { IsClear at words.old.items }
-    ensures clear { OnOk result (IsClear (at + 1) words.new.items) }
-    ensures value { OnOk result (bits (at + 1) words.new.items
-        ≡ bits at words.old.items ++ truth ∷ []) }
-    ensures err { OnErr result (words.new.items ≡ words.old.items) }
+    requires clear { IsClear at words.old }
+    ensures clear { OnOk result (IsClear (at + 1) words.new) }
+    ensures value { OnOk result (bits (at + 1) words.new
+        ≡ bits at words.old ++ truth ∷ []) }
+    ensures err { OnErr result (words.new ≡ words.old) }
 {
     make_room(words, at)?;
     if truth {
-        set_bit(words.as_mut_slice(), at);
+        set_bit(words, at);
     }
     Ok(())
 }
 
 /// A word for the bit `at`, where it has none.
-fn make_room(words: &mut SmallVec<u64, 1>, at: usize) -> Result<(), AllocError>
-    requires { small_vec_len words.old ≡ word_count at }
-    ensures room { OnOk result (small_vec_len words.new ≡ word_count (at + 1)) }
-    ensures same { OnOk result ((i : ℕ) → place words.new.items i ≡ place words.old.items i) }
-    ensures err { OnErr result (words.new.items ≡ words.old.items) }
+fn make_room(words: &mut Words, at: usize) -> Result<(), AllocError>
+    requires { length words.old ≡ word_count at }
+    ensures room { OnOk result (length words.new ≡ word_count (at + 1)) }
+    ensures same { OnOk result ((i : ℕ) → place words.new i ≡ place words.old i) }
+    ensures err { OnErr result (words.new ≡ words.old) }
 {
     if at % 64 == 0 {
         words.push(0)?;
@@ -270,20 +269,22 @@ fn make_room(words: &mut SmallVec<u64, 1>, at: usize) -> Result<(), AllocError>
     Ok(())
 }
 
-fn set_bit(words: &mut [u64], at: usize)
+fn set_bit(words: &mut Words, at: usize)
     requires { at / 64 < length words.old }
     ensures set { place words.new at ≡ 1 }
     ensures same { (i : ℕ) → i ≢ at → place words.new i ≡ place words.old i }
 {
-    words[at / 64] |= 1 << (at % 64);
+    let word = words.as_slice()[at / 64];
+    words.set(at / 64, word | 1 << (at % 64));
 }
 
-fn flip_bit(words: &mut [u64], at: usize)
+fn flip_bit(words: &mut Words, at: usize)
     requires { at / 64 < length words.old }
     ensures flipped { place words.new at + place words.old at ≡ 1 }
     ensures same { (i : ℕ) → i ≢ at → place words.new i ≡ place words.old i }
 {
-    words[at / 64] ^= 1 << (at % 64);
+    let word = words.as_slice()[at / 64];
+    words.set(at / 64, word ^ 1 << (at % 64));
 }
 
 /// A word with the bit `at`.
@@ -305,18 +306,20 @@ fn all_bits(truth: bool, count: usize) -> u64
     if !truth {
         return 0;
     }
-    let mut words = [u64::MAX];
-    clear_past(&mut words, count);
-    words[0]
+    if count == 64 {
+        return u64::MAX;
+    }
+    (1 << count) - 1
 }
 
 /// Sets the bits from `len` on to 0, in as many words as `len` bits need.
-fn clear_past(words: &mut [u64], len: usize)
+fn clear_past(words: &mut Words, len: usize)
     requires { length words.old ≡ word_count len }
     ensures clear { IsClear len words.new }
     ensures same { (i : ℕ) → i < len → place words.new i ≡ place words.old i }
 {
     if len % 64 != 0 {
-        words[len / 64] &= (1 << (len % 64)) - 1;
+        let word = words.as_slice()[len / 64];
+        words.set(len / 64, word & ((1 << (len % 64)) - 1));
     }
 }

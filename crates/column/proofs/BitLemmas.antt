@@ -210,12 +210,25 @@ word_same w at h i d = elim (cases_lt i 64) [
 ]
 
 -- all bits of a word up to a place
-pub ones_kept : (count w : ℕ) → count ≤ 64 → ((i : ℕ) → i < count → place (w ∷ []) i ≡ place (18446744073709551615 ∷ []) i) → bits count (w ∷ []) ≡ replicate count true
-ones_kept count w few same =
-    ext_get_or false _ _ (length-bits count (w ∷ []) ∙ sym (length-replicate count true)) (λ i h.
-    let b : i < count = omega (arith, h, length-bits count (w ∷ [])) in
-    get_or-bits count (w ∷ []) i false b ∙ ap (λ n. n == 1) (same i b ∙ place_one 18446744073709551615 i (omega (arith, b, few)) ∙ bit_at_ones 64 i (omega (arith, b, few)))
+pub ones_filled : (count : ℕ) → count < 64 → bits count ((1 * 2 ^ count % 2 ^ 64 - 1) ∷ []) ≡ replicate count true
+ones_filled count h =
+    let w : ℕ = 1 * 2 ^ count % 2 ^ 64 - 1 in
+    ext_get_or false _ _ (length-bits count (w ∷ []) ∙ sym (length-replicate count true)) (λ i l.
+    let b : i < count = omega (arith, l, length-bits count (w ∷ [])) in
+    get_or-bits count (w ∷ []) i false b ∙ ap (λ n. n == 1) (place_one w i (omega (arith, b, h)) ∙ ap (λ m. bit_at m i) (low_ones count h) ∙ bit_at_ones count i b)
     ∙ sym (get_or-replicate count i true false b))
+
+pub ones_clear : (count : ℕ) → 1 ≤ count → count < 64 → IsClear count ((1 * 2 ^ count % 2 ^ 64 - 1) ∷ [])
+ones_clear count some h =
+    let w : ℕ = 1 * 2 ^ count % 2 ^ 64 - 1 in
+    let fit : 1 ≡ word_count count = omega arith in
+    record {
+      words_fit = fit;
+      clear = λ i l. elim (cases_lt i 64) [
+        | inl k ↦ place_one w i k ∙ ap (λ m. bit_at m i) (low_ones count h) ∙ bit_at_ones_above count i l
+        | inr k ↦ no_place_past (w ∷ []) i (omega (arith, k))
+      ];
+    }
 
 pub no_bits : (count : ℕ) → bits count (0 ∷ []) ≡ replicate count false
 no_bits count =
@@ -270,12 +283,6 @@ bits_first n count words words' bs e h same =
     let m : i < count = omega (arith, k, length-bits count words') in
     get_or-bits count words' i false m ∙ ap (λ x. x == 1) (same i m ∙ place_first words ((count + 63) / 64) i (omega (arith, m))) ∙ sym (get_or-bits n words i false (omega (arith, m, h)))
     ∙ ap (λ l. get_or l i false) e ∙ sym (get_or-take count bs i false m))
-
--- a word alone
-pub one_word : (words : List ℕ) → length words ≡ 1 → get_or words 0 0 ∷ [] ≡ words
-one_word [] h = absurd (omega arith)
-one_word (w ∷ []) h = refl
-one_word (w ∷ v ∷ words) h = absurd (omega arith)
 
 -- where a bit within the first ones was changed
 pub still_clear : (words words' : List ℕ) (n at : ℕ) → IsClear n words → length words' ≡ length words → at < n → ((i : ℕ) → (i ≡ at → ⊥) → place words' i ≡ place words i) → IsClear n words'

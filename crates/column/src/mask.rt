@@ -273,6 +273,7 @@ fn set_bit(words: &mut Words, at: usize)
     requires { at / 64 < length words.old }
     ensures set { place words.new at ≡ 1 }
     ensures same { (i : ℕ) → i ≢ at → place words.new i ≡ place words.old i }
+    ensures len { length words.new ≡ length words.old }
 {
     let word = words.as_slice()[at / 64];
     words.set(at / 64, word | 1 << (at % 64));
@@ -282,6 +283,7 @@ fn flip_bit(words: &mut Words, at: usize)
     requires { at / 64 < length words.old }
     ensures flipped { place words.new at + place words.old at ≡ 1 }
     ensures same { (i : ℕ) → i ≢ at → place words.new i ≡ place words.old i }
+    ensures len { length words.new ≡ length words.old }
 {
     let word = words.as_slice()[at / 64];
     words.set(at / 64, word ^ 1 << (at % 64));

@@ -8,4 +8,4 @@ bounds-as_slice-i c = omega (arith, c.requires, ap length c.as_slice.ensures, c.
 pub returns : goal.returns
 returns c =
     rw c.as_slice.ensures
-    (truth_read _ _ _ _ _ c.self.invariant.0 c.self.view_is c.requires (read_slice c.self.inside.words.items _ (omega (arith, c.requires, c.self.invariant.0.words_fit, length-seen _ _ _ c.self.view_is))))
+    (truth_read _ _ _ _ _ c.self.invariant.0 c.self.view_is c.requires (read_slice c.self.inside.words _ (omega (arith, c.requires, c.self.invariant.0.words_fit, length-seen _ _ _ c.self.view_is))))

@@ -1,6 +1,5 @@
-use Rattle.std.proofs.Common.{◌≡◌, ◌∙◌, ap, subst, arith, List, Bool, ◌/◌, ◌+◌, ◌-◌, IfOk, slice_range, length}
-use Rattle.smallvec.proofs.SmallVecLemmas.{items-with_items}
-use Rattle.column.specs.Bits.{bits, place}
+use Rattle.std.proofs.Common.{◌≡◌, ◌∙◌, ap, subst, arith, List, Bool, ◌/◌, ◌+◌, IfOk, slice_range}
+use Rattle.column.specs.Bits.{place}
 use Rattle.column.proofs.BitLemmas.{part_seen, length-seen}
 use Rattle.column.proofs.Slices.{slice_range_none}
 use Rattle.column.proofs.mask.Mask.part_by_words.Goals as goal
@@ -12,7 +11,5 @@ returns-then-end-from c =
 
 pub returns : goal.returns
 returns c =
-    let long : length c.clear_past.new.words ≡ length c.in_ok-words.words.items = omega (arith, ap length c.as_mut_slice.ensures.value) in
-    ap (bits (c.min-end.result - c.args.from)) (items-with_items c.in_ok-words.words c.clear_past.new.words long)
-    ∙ part_seen _ _ _ c.args.from c.args.to c.min-end.result c.clear_past.new.words c.self.view_is c.requires c.min-end.ensures c.if-end-from.false
-    (λ i h. c.clear_past.ensures.same i h ∙ ap (λ ws. place ws i) (c.as_mut_slice.ensures.value ∙ c.in_ok-words.ensures.ok ∙ ap (λ ws. slice_range ws (c.args.from / 64) ((c.min-end.result + 63) / 64)) c.as_slice.ensures))
+    part_seen _ _ _ c.args.from c.args.to c.min-end.result c.clear_past.new.words c.self.view_is c.requires c.min-end.ensures c.if-end-from.false
+    (λ i h. c.clear_past.ensures.same i h ∙ ap (λ ws. place ws i) (c.in_ok-words.ensures ∙ ap (λ ws. slice_range ws (c.args.from / 64) ((c.min-end.result + 63) / 64)) c.as_slice.ensures))

@@ -4,7 +4,7 @@ use Rattle.column.proofs.BitLemmas.{length-seen}
 use Rattle.column.proofs.mask.Mask.words.Goals as goal
 
 pub returns-clause-value : goal.returns-clause-value
-returns-clause-value c = ap (bits _) c.as_slice.ensures ∙ ap (λ n. bits n c.self.inside.words.items) (sym (length-seen _ _ _ c.self.view_is)) ∙ c.self.view_is
+returns-clause-value c = ap (bits _) c.as_slice.ensures ∙ ap (λ n. bits n c.self.inside.words) (sym (length-seen _ _ _ c.self.view_is)) ∙ c.self.view_is
 
 pub returns-clause-clear : goal.returns-clause-clear
 returns-clause-clear c =

@@ -17,7 +17,9 @@ use values::{STREAM_MAX, Value};
 /// At most `MAX_ROWS` values: their numbers, 0 at a null, and which of them are no nulls.
 #[derive(Drop)]
 pub struct Column {
+    /// By its place each number; 0 at a null.
     numbers: Vec<i64>,
+    /// For each place whether a number stands there, and no null.
     valid: Mask,
 }
 

@@ -15,7 +15,9 @@ use std::marker::Model;
 /// mask itself, and take no memory.
 #[derive(Drop)]
 pub struct Mask {
+    /// The truths, 64 to a word, the first one in the lowest bit.
     words: Words,
+    /// How many truths there are.
     len: usize,
 }
 

@@ -9,10 +9,11 @@ use std::marker::Model;
 /// Words of 64 bits. One alone lies in the struct itself, and takes no memory.
 #[derive(Drop)]
 pub(crate) struct Words {
-    /// Whether there is just the one.
+    /// Whether there is just one word, and it lies here.
     is_one: bool,
+    /// That word.
     one: [u64; 1],
-    /// The words, where they are not just the one.
+    /// All words, where there is not just one here.
     more: Vec<u64>,
 }
 

@@ -17,12 +17,13 @@ use std::alloc::{AllocError, Global};
 /// each closed instant's tick.
 #[derive(Clone, Copy, Debug)]
 pub struct Cursor {
+    /// The number in the order of arrival from which on rows are shown.
     place: u64,
-    // the instant at the front
+    /// The instant at the front.
     at: u64,
-    // how many of that instant's rows have left
+    /// How many of that instant's shown rows have left.
     passed: u64,
-    // where the instant's rows may begin in the log; a search tests it
+    /// Where that instant's rows may begin in the log. A search tests it and begins there.
     hint: usize,
 }
 

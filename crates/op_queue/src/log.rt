@@ -14,7 +14,7 @@ use std::alloc::{AllocError, Global};
 use std::marker::Model;
 use values::{MAX_COLUMNS, Row, Value, value_at};
 
-// how many places are looked at one by one before a search by halves
+/// How many places are looked at one by one before a search by halves.
 const NEAR_PLACES: usize = 16;
 
 /// A row that came to a stream, with its instant and its number in the order of arrival.
@@ -34,12 +34,16 @@ pub struct Arrival {
 /// costs the rows that are closed and nothing for a query.
 #[derive(Drop)]
 pub struct Log {
-    // the first `len` of each list count; what a refused growth left behind them goes before more
-    // comes
+    /// The instants of the closed rows, by instant, then arrival. Of each list the first `len`
+    /// count; what a refused growth left behind them goes before more comes.
     instants: Vec<u64>,
+    /// By the same places, the number of each row in the order of arrival.
     numbers: Vec<u64>,
+    /// For each column of the stream its values, by the same places.
     columns: Vec<Vec<Value>>,
+    /// How many rows are closed.
     len: usize,
+    /// The stream's first open instant.
     until: u64,
 }
 

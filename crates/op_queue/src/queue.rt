@@ -39,10 +39,12 @@ pub enum Front {
 /// run. Dropping rows of a batch moves an offset and copies nothing.
 #[derive(Drop)]
 pub struct Queue {
+    /// The batches and the runs of ticks that wait, in the order in which they came.
     pieces: VecDeque<Piece>,
-    // how many rows or ticks of the front piece have left
+    /// How many rows or ticks of the front piece have left: less than it has, 0 where no piece
+    /// waits.
     taken: u64,
-    // how many rows and ticks wait
+    /// How many rows and ticks wait, without those that have left.
     waiting: u128,
 }
 

@@ -16,3 +16,4 @@ pub mod ForwardLemmas
 pub mod BeginLemmas
 pub mod CountLemmas
 pub mod TakeLemmas
+pub mod GainLemmas

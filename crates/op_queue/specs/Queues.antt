@@ -1,6 +1,6 @@
 -- A queue as its callers see it.
-use Rattle.std.specs.Prelude.{◌≡◌, ℕ, ◌+◌, ◌≤◌, ◌==◌, Bool, true, false, cond, Option, None, Some, List, [], ◌∷◌, map, take, drop, min, length}
-use Rattle.std.specs.List.{last_or}
+use Rattle.std.specs.Prelude.{◌≡◌, ℕ, ◌+◌, ◌≤◌, ◌==◌, Bool, true, false, cond, Option, None, Some, List, [], ◌∷◌, ◌++◌, map, take, drop, min, length}
+use Rattle.std.specs.List.{flat_map, last_or}
 use Rattle.values.specs.Row.{Row}
 use Rattle.op_queue.specs.Entries.{Entry, RowAt, TickAt}
 use Rattle.op_queue.specs.Items.{IsFrontPart, entries_of}
@@ -72,3 +72,10 @@ pub record HasLeft (count : ℕ) (old new : Waiting) (i : Item) : Type 0 where
   pub begins : new.begins ≡ drop (length (entries_of i)) old.begins
   pub pieces : new.pieces ≤ old.pieces
   pub counted : new.pieces ≡ pieces_of (drop (length (entries_of i)) old.entries) (drop (length (entries_of i)) old.begins)
+
+-- items that stand for these entries were pushed, and each comes out at once
+pub record HasGained (es : List (Entry Row)) (old new : Waiting) : Type 0 where
+  pub items : List Item
+  pub stand : flat_map entries_of items ≡ es
+  pub entries : new.entries ≡ old.entries ++ es
+  pub begins : new.begins ≡ old.begins ++ flat_map (λ i. first_begins (entries_of i)) items

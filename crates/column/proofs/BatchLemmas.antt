@@ -112,10 +112,10 @@ part_made columns leaving rows columns' leaving' a b laid seen some within made 
       row = get_or-part rows a b i (true, []) (omega (arith, h, m));
     })
 
-length-at_places : {X : Type 0} (d : X) (ps : List ℕ) (xs : List X) → length (at_places d ps xs) ≡ length ps
+pub length-at_places : {X : Type 0} (d : X) (ps : List ℕ) (xs : List X) → length (at_places d ps xs) ≡ length ps
 length-at_places d ps xs = length-map ps (λ i. get_or xs i d)
 
-get_or-at_places : {X : Type 0} (d : X) (ps : List ℕ) (xs : List X) (i : ℕ) → i < length ps → get_or (at_places d ps xs) i d ≡ get_or xs (get_or ps i 0) d
+pub get_or-at_places : {X : Type 0} (d : X) (ps : List ℕ) (xs : List X) (i : ℕ) → i < length ps → get_or (at_places d ps xs) i d ≡ get_or xs (get_or ps i 0) d
 get_or-at_places d ps xs i h = get_or-map (λ j. get_or xs j d) ps i 0 d h
 
 pub picks_made : (columns : List (List (Option ℤ))) (leaving : List Bool) (rows : List (Bool × Row)) (columns' : List (List (Option ℤ))) (leaving' : List Bool) (ps : List ℕ)
@@ -133,12 +133,12 @@ picks_made columns leaving rows columns' leaving' ps laid seen some few within m
     })
 
 -- ---- a batch made of rows
-not_not : (b : Bool) → not (not b) ≡ b
+pub not_not : (b : Bool) → not (not b) ≡ b
 not_not true = refl
 not_not false = refl
 
 -- a row is its values, column by column
-values_again : (w : ℕ) (r : Row) → length r ≡ w → map (λ k. value_at r k) (range_with_len 0 w) ≡ r
+pub values_again : (w : ℕ) (r : Row) → length r ≡ w → map (λ k. value_at r k) (range_with_len 0 w) ≡ r
 values_again w r e =
     ext_get_or None _ _ (length-map-range_with_len (λ k. value_at r k) 0 w ∙ sym e)
     (λ i h. get_or-map-range_with_len (λ k. value_at r k) 0 w i i None (omega (arith, h, length-map-range_with_len (λ k. value_at r k) 0 w)) (omega arith))
@@ -166,7 +166,7 @@ rows_made rows w columns leaving some few narrow table made signs =
     })
 
 -- ---- chosen rows
-chosen-push : {X : Type 0} (bs : List Bool) (xs : List X) (b : Bool) (x : X) → length bs ≡ length xs → chosen (bs ++ b ∷ []) (xs ++ x ∷ []) ≡ chosen bs xs ++ cond b (x ∷ []) []
+pub chosen-push : {X : Type 0} (bs : List Bool) (xs : List X) (b : Bool) (x : X) → length bs ≡ length xs → chosen (bs ++ b ∷ []) (xs ++ x ∷ []) ≡ chosen bs xs ++ cond b (x ∷ []) []
 chosen-push [] [] true x e = refl
 chosen-push [] [] false x e = refl
 chosen-push [] (y ∷ ys) b x e = absurd (omega arith)
@@ -345,7 +345,7 @@ pub chosen_more : (columns : List (List (Option ℤ))) (ps : List ℕ) (k : ℕ)
 chosen_more columns ps k item h e =
     ap (λ l. at_places [] l columns) (take_more ps k 0 h) ∙ map-append (λ i. get_or columns i []) (take k ps) (get_or ps k 0 ∷ []) ∙ ap (λ x. at_places [] (take k ps) columns ++ x ∷ []) e
 
-get_or_same : (xs : List (List (Option ℤ))) (i : ℕ) (a b : List (Option ℤ)) → i < length xs → get_or xs i a ≡ get_or xs i b
+pub get_or_same : (xs : List (List (Option ℤ))) (i : ℕ) (a b : List (Option ℤ)) → i < length xs → get_or xs i a ≡ get_or xs i b
 get_or_same [] i a b h = absurd (omega arith)
 get_or_same (x ∷ xs) zero a b h = refl
 get_or_same (x ∷ xs) (suc i) a b h = get_or_same xs i a b (omega arith)

@@ -124,7 +124,7 @@ get_or_any [] i a b h = absurd (omega arith)
 get_or_any (x ∷ xs) zero a b h = refl
 get_or_any (x ∷ xs) (suc i) a b h = get_or_any xs i a b (omega arith)
 
-word_fits : (n : ℤ) → IsAnswerNumber n → FitsSigned w64 n
+pub word_fits : (n : ℤ) → IsAnswerNumber n → FitsSigned w64 n
 word_fits (pos a) h = let k : pos a ≤ℤ answer_max = h.1 in record { sfits = omega (arith, ints) }
 word_fits (negsuc a) h = let l : neg_ℤ answer_max ≤ℤ negsuc a = h.0 in record { sfits = omega (arith, ints) }
 
@@ -207,7 +207,7 @@ stream_number : (n : ℤ) (v : Bool) → IsCell n v → IsStreamValue (cond v (S
 stream_number n true c h = h
 stream_number n false c h = let P : ℤ → Type 0 = λ z. IsStreamNumber z in subst P (sym (c.zero refl)) (omega (arith, ints), omega (arith, ints))
 
-get_or_any_value : (xs : List (Option ℤ)) (i : ℕ) (a b : Option ℤ) → i < length xs → get_or xs i a ≡ get_or xs i b
+pub get_or_any_value : (xs : List (Option ℤ)) (i : ℕ) (a b : Option ℤ) → i < length xs → get_or xs i a ≡ get_or xs i b
 get_or_any_value [] i a b h = absurd (omega arith)
 get_or_any_value (x ∷ xs) zero a b h = refl
 get_or_any_value (x ∷ xs) (suc i) a b h = get_or_any_value xs i a b (omega arith)

@@ -1,5 +1,5 @@
 -- Bits in words of 64, and the truths that a list of words holds.
-use Rattle.std.specs.Prelude.{ℕ, Bool, false, List, [], ◌∷◌, map, filter, ◌≡◌, ◌≤◌, ◌+◌, ◌/◌, ◌%◌, cond, ◌==◌, length, get_or}
+use Rattle.std.specs.Prelude.{ℕ, Bool, false, List, [], ◌∷◌, map, filter, ◌≡◌, ◌≤◌, ◌+◌, ◌*◌, ◌/◌, ◌%◌, cond, ◌==◌, length, get_or}
 use Rattle.std.specs.List.{range_with_len}
 use Rattle.std.specs.Int.{bit_at}
 
@@ -29,6 +29,10 @@ chosen (b ∷ bs) (x ∷ xs) = cond b (x ∷ chosen bs xs) (chosen bs xs)
 -- the items at these places, in the order of the places
 abbrev pub at_places : {X : Type 0} → X → List ℕ → List X → List X
 at_places d places xs = map (λ i. get_or xs i d) places
+
+-- every so many-th place from a start on, so many of them
+abbrev pub places_by : ℕ → ℕ → ℕ → List ℕ
+places_by start stride n = map (λ i. start + i * stride) (range_with_len 0 n)
 
 -- the places at which a mask has true
 abbrev pub true_places : List Bool → List ℕ

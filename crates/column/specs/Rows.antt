@@ -1,5 +1,5 @@
 -- Batches: signed rows laid out in columns.
-use Rattle.std.specs.Prelude.{ℕ, ℤ, Bool, false, not, Option, None, List, [], ◌∷◌, ◌++◌, ◌≡◌, ◌≤◌, map, length, get_or, All}
+use Rattle.std.specs.Prelude.{ℕ, ℤ, Bool, false, not, Option, None, List, [], ◌∷◌, ◌++◌, ◌≡◌, ◌≤◌, map, length, get_or, take, drop, All}
 use Rattle.std.specs.List.{range_with_len}
 use Rattle.values.specs.declared.TheConstants.{MAX_COLUMNS}
 use Rattle.values.specs.Row.{Row, value_at}
@@ -31,6 +31,11 @@ column_of rows k = map (λ r. value_at r.1 k) rows
 -- every row has this many values
 abbrev pub IsTable : ℕ → List (Bool × Row) → Type 0
 IsTable n rows = All (λ r. length r.1 ≡ n) rows
+
+-- rows whose values stand one behind the other: each takes the next w of them, and leaves where its truth says so
+abbrev pub flat_rows : ℕ → List Bool → List (Option ℤ) → List (Bool × Row)
+flat_rows w [] values = []
+flat_rows w (l ∷ ls) values = (not l, take w values) ∷ flat_rows w ls (drop w values)
 
 -- 1 to 1,024 rows of one width, which is at most MAX_COLUMNS
 pub record IsBatch (rows : List (Bool × Row)) : Type 0 where

@@ -2,13 +2,14 @@
 
 ghost use Rattle.std.specs.Prelude.{◌≡◌, ◌<◌, ◌≤◌, ◌+◌, ◌++◌, ◌∷◌, ◌==◌, [], ℕ, ℤ, pos, List};
 ghost use Rattle.std.specs.Prelude.{Option, None, Some, IfOk, IfSome, OnOk, OnErr, IsTrue, All};
-ghost use Rattle.std.specs.Prelude.{length, slice_index_or, slice_range, map, is_some, ◌↔◌};
-ghost use Rattle.column.specs.Bits.{IsClear, at_places, bits};
+ghost use Rattle.std.specs.Prelude.{length, slice_index_or, slice_range, map, take, is_some, ◌↔◌};
+ghost use Rattle.std.specs.Prelude.{vec_len, vec_capacity, ◌*◌};
+ghost use Rattle.column.specs.Bits.{IsClear, at_places, bits, chosen, places_by};
 ghost use Rattle.column.specs.Columns.{IsColumn, IsStreamValue, numbers_of, values_of};
-ghost use Rattle.values.specs.Value.{IsAnswerNumber, IsStreamNumber};
+ghost use Rattle.values.specs.Value.{IsAnswerNumber, IsAnswerValue, IsStreamNumber};
 
 use super::MAX_ROWS;
-use super::mask::Mask;
+use super::mask::{Mask, with_bit};
 use std::alloc::{AllocError, Global};
 use std::marker::Model;
 use values::{STREAM_MAX, Value};
@@ -43,16 +44,49 @@ impl Column {
         Ok(Column { numbers, valid })
     }
 
+    /// No values, and no room. Takes no memory.
+    pub(crate) fn new(alloc: Global) -> Column
+        ensures { result ≡ [] }
+    {
+        Column {
+            numbers: Vec::new(alloc),
+            valid: Mask::new(alloc),
+        }
+    }
+
     /// A column of these values. An error says that memory was refused; nothing is changed.
     pub fn from_values(alloc: Global, values: &[Value]) -> Result<Column, AllocError>
         requires { length values.now ≤ MAX_ROWS }
         ensures { IfOk result (λ c. c ≡ values.now) }
     {
-        let mut column = Column::with_capacity(alloc, values.len())?;
-        for value in values {
-            column.push(*value)?;
-        }
+        let column = Column::strided(alloc, values, 0, 1, values.len())?;
         Ok(column)
+    }
+
+    /// A column of every `stride`-th of these values, from the place `start` on, `count` of them.
+    /// An error says that memory was refused.
+    pub fn strided(
+        alloc: Global,
+        values: &[Value],
+        start: usize,
+        stride: usize,
+        count: usize,
+    ) -> Result<Column, AllocError>
+        requires few { count ≤ MAX_ROWS }
+        requires within { (i : ℕ) → i < count → start + i * stride < length values.now }
+        ensures { IfOk result (λ c.
+            c ≡ at_places None (places_by start stride count) values.now) }
+    {
+        let mut numbers = Vec::with_capacity(alloc, count)?;
+        let mut valid = Mask::with_capacity(alloc, count)?;
+        let mut from = 0;
+        while from < count {
+            let more = (count - from).min(64);
+            let word = push_cells(&mut numbers, values, start + from * stride, stride, more);
+            valid.push_word(word, more)?;
+            from += more;
+        }
+        Ok(Column { numbers, valid })
     }
 
     /// One value more. An error says that memory was refused; nothing is changed.
@@ -119,6 +153,15 @@ impl Column {
         Ok(Column { numbers, valid })
     }
 
+    /// The values stay at whose places a mask is true. Takes no memory.
+    pub fn keep(&mut self, mask: &Mask)
+        requires { length mask.now ≡ length self.old }
+        ensures { self.new ≡ chosen mask.now self.old }
+    {
+        keep_numbers(&mut self.numbers, mask);
+        self.valid.keep(mask);
+    }
+
     /// The numbers, for the lanes: 0 at a null.
     pub fn numbers(&self) -> &[i64]
         ensures value { result.now ≡ numbers_of self.now }
@@ -161,4 +204,61 @@ fn numbers_at(alloc: Global, numbers: &[i64], places: &[usize]) -> Result<Vec<i6
         picked.push_reserved(numbers[*place]);
     }
     Ok(picked)
+}
+
+/// Pushes the numbers of at most 64 values, and gives the bits that say which are no nulls.
+fn push_cells(
+    numbers: &mut Vec<i64>,
+    values: &[Value],
+    start: usize,
+    stride: usize,
+    count: usize,
+) -> u64
+    requires some { 1 ≤ count }
+    requires few { count ≤ 64 }
+    requires within { (i : ℕ) → i < count → start + i * stride < length values.now }
+    requires room { vec_len numbers.old + count ≤ vec_capacity numbers.old }
+    ensures numbers { numbers.new.items
+        ≡ numbers.old.items
+        ++ numbers_of (at_places None (places_by start stride count) values.now) }
+    ensures len { vec_len numbers.new ≡ vec_len numbers.old + count }
+    ensures room { vec_capacity numbers.new ≡ vec_capacity numbers.old }
+    ensures valid { bits count (result ∷ [])
+        ≡ map is_some (at_places None (places_by start stride count) values.now) }
+    ensures clear { IsClear count (result ∷ []) }
+    ensures range { All IsAnswerValue (at_places None (places_by start stride count) values.now) }
+{
+    let mut word = 0;
+    for i in 0..count {
+        let number = values[start + i * stride].number();
+        if number.is_some() {
+            word = with_bit(word, i);
+        }
+        numbers.push_reserved(number.unwrap_or(0));
+    }
+    word
+}
+
+/// The numbers stay at whose places a mask is true.
+fn keep_numbers(numbers: &mut Vec<i64>, mask: &Mask)
+    requires { length mask.now ≡ length numbers.old.items }
+    ensures { numbers.new.items ≡ chosen mask.now numbers.old.items }
+{
+    let kept = move_kept(numbers.as_mut_slice(), mask);
+    numbers.truncate(kept);
+}
+
+/// Moves the numbers at whose places a mask is true to the front, and counts them.
+fn move_kept(numbers: &mut [i64], mask: &Mask) -> usize
+    requires { length mask.now ≡ length numbers.old }
+    ensures { take result numbers.new ≡ chosen mask.now numbers.old }
+{
+    let mut kept = 0;
+    for i in 0..numbers.len() {
+        if mask.get(i) {
+            numbers.swap(kept, i);
+            kept += 1;
+        }
+    }
+    kept
 }

@@ -8,6 +8,7 @@
 mod batch;
 mod column;
 mod mask;
+mod words;
 
 pub use batch::{Batch, Side, SignedRow};
 pub use column::Column;

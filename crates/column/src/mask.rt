@@ -2,18 +2,21 @@
 
 ghost use Rattle.std.specs.Prelude.{◌≡◌, ◌≢◌, ◌<◌, ◌≤◌, ◌+◌, ◌++◌, ◌∷◌, ◌==◌, ◌/◌, ◌%◌, [], ℕ};
 ghost use Rattle.std.specs.Prelude.{List, IfOk, OnOk, OnErr, IfErr, length, slice_index_or};
-ghost use Rattle.std.specs.Prelude.{slice_range, vec_len, false, All};
-ghost use Rattle.column.specs.Bits.{IsClear, at_places, bits, place, true_places, word_count};
+ghost use Rattle.std.specs.Prelude.{slice_range, slice_set, take, replicate, true, false, All};
+ghost use Rattle.column.specs.Bits.{IsClear, at_places, bits, chosen, place, true_places};
+ghost use Rattle.column.specs.Bits.{word_count};
 
 use super::MAX_ROWS;
+use super::words::Words;
 use std::alloc::{AllocError, Global};
 use std::marker::Model;
 
-/// At most `MAX_ROWS` truths, a bit each; the bits past the last are 0.
+/// At most `MAX_ROWS` truths, a bit each; the bits past the last are 0. Up to 64 of them lie in the
+/// mask itself, and take no memory.
 #[derive(Drop)]
 pub struct Mask {
     /// The truths, 64 to a word, the first one in the lowest bit.
-    words: Vec<u64>,
+    words: Words,
     /// How many truths there are.
     len: usize,
 }
@@ -24,17 +27,27 @@ impl Model for Mask {
 
     ghost Value = { List Bool };
 
-    ghost view = { λ m. bits m.len m.words.items };
+    ghost view = { λ m. bits m.len m.words };
 
-    ghost invariant = { λ m. IsClear m.len m.words.items × (m.len ≤ 1024) };
+    ghost invariant = { λ m. IsClear m.len m.words × (m.len ≤ 1024) };
 }
 
 impl Mask {
+    /// No truths. Takes no memory.
+    pub(crate) fn new(alloc: Global) -> Mask
+        ensures { result ≡ [] }
+    {
+        Mask {
+            words: Words::new(alloc),
+            len: 0,
+        }
+    }
+
     /// No truths, with room for this many. An error says that memory was refused.
     pub fn with_capacity(alloc: Global, count: usize) -> Result<Mask, AllocError>
         ensures { IfOk result (λ m. m ≡ []) }
     {
-        let words = Vec::with_capacity(alloc, count / 64 + 1)?;
+        let words = Words::with_capacity(alloc, count.div_ceil(64))?;
         Ok(Mask { words, len: 0 })
     }
 
@@ -45,8 +58,37 @@ impl Mask {
         requires clear { IsClear len words.now }
         ensures { IfOk result (λ m. m ≡ bits len words.now) }
     {
-        let words = Vec::from_slice(alloc, words)?;
+        let words = Words::from_slice(alloc, words)?;
         Ok(Mask { words, len })
+    }
+
+    /// So many truths, all of them this one. An error says that memory was refused.
+    pub fn filled(alloc: Global, truth: bool, count: usize) -> Result<Mask, AllocError>
+        requires { count ≤ MAX_ROWS }
+        ensures { IfOk result (λ m. m ≡ replicate count truth) }
+    {
+        let mut mask = Mask::with_capacity(alloc, count)?;
+        let mut from = 0;
+        while from < count {
+            let more = (count - from).min(64);
+            mask.push_word(all_bits(truth, more), more)?;
+            from += more;
+        }
+        Ok(mask)
+    }
+
+    /// The first bits of a word more, where those that are there fill whole words.
+    /// An error says that memory was refused; nothing is changed.
+    pub(crate) fn push_word(&mut self, word: u64, count: usize) -> Result<(), AllocError>
+        requires whole { length self.old % 64 ≡ 0 }
+        requires few { length self.old + count ≤ MAX_ROWS }
+        requires clear { IsClear count (word ∷ []) }
+        ensures ok { OnOk result (self.new ≡ self.old ++ bits count (word ∷ [])) }
+        ensures err { OnErr result (self.new ≡ self.old) }
+    {
+        self.words.push(word)?;
+        self.len += count;
+        Ok(())
     }
 
     /// One truth more. An error says that memory was refused; nothing is changed.
@@ -80,7 +122,7 @@ impl Mask {
         requires { i < length self.now }
         ensures { result ≡ slice_index_or self.now i false }
     {
-        self.words[i / 64] >> (i % 64) & 1 == 1
+        self.words.as_slice()[i / 64] >> (i % 64) & 1 == 1
     }
 
     /// A copy of the truths from the place `from` to below the place `to`, as far as there are any.
@@ -104,7 +146,8 @@ impl Mask {
         if end <= from {
             return Mask::with_capacity(alloc, 0);
         }
-        let mut words = Vec::from_slice(alloc, &self.words[from / 64..(end + 63) / 64])?;
+        let part = &self.words.as_slice()[from / 64..(end + 63) / 64];
+        let mut words = Words::from_slice(alloc, part)?;
         clear_past(&mut words, end - from);
         Ok(Mask {
             words,
@@ -138,6 +181,42 @@ impl Mask {
         Ok(mask)
     }
 
+    /// The truths stay at whose places another mask is true. Takes no memory.
+    pub fn keep(&mut self, mask: &Mask)
+        requires { length mask.now ≡ length self.old }
+        ensures { self.new ≡ chosen mask.now self.old }
+    {
+        let mut kept = 0;
+        for i in 0..self.len() {
+            if mask.get(i) {
+                let truth = self.get(i);
+                self.set(kept, truth);
+                kept += 1;
+            }
+        }
+        self.truncate(kept);
+    }
+
+    /// Writes the truth at a place.
+    fn set(&mut self, i: usize, truth: bool)
+        requires { i < length self.old }
+        ensures { self.new ≡ slice_set self.old i truth }
+    {
+        if self.get(i) != truth {
+            flip_bit(&mut self.words, i);
+        }
+    }
+
+    /// The first `count` truths stay.
+    fn truncate(&mut self, count: usize)
+        requires { count ≤ length self.old }
+        ensures { self.new ≡ take count self.old }
+    {
+        self.words.truncate((count + 63) / 64);
+        clear_past(&mut self.words, count);
+        self.len = count;
+    }
+
     /// The places that are true, in order. An error says that memory was refused; nothing is
     /// changed.
     pub fn places(&self, alloc: Global) -> Result<Vec<usize>, AllocError>
@@ -164,13 +243,13 @@ impl Mask {
 }
 
 /// Appends a bit to the first `at`.
-fn push_bit(words: &mut Vec<u64>, at: usize, truth: bool) -> Result<(), AllocError>
+fn push_bit(words: &mut Words, at: usize, truth: bool) -> Result<(), AllocError>
     requires few { at < MAX_ROWS }
-    requires clear { IsClear at words.old.items }
-    ensures clear { OnOk result (IsClear (at + 1) words.new.items) }
-    ensures value { OnOk result (bits (at + 1) words.new.items
-        ≡ bits at words.old.items ++ truth ∷ []) }
-    ensures err { OnErr result (words.new.items ≡ words.old.items) }
+    requires clear { IsClear at words.old }
+    ensures clear { OnOk result (IsClear (at + 1) words.new) }
+    ensures value { OnOk result (bits (at + 1) words.new
+        ≡ bits at words.old ++ truth ∷ []) }
+    ensures err { OnErr result (words.new ≡ words.old) }
 {
     make_room(words, at)?;
     if truth {
@@ -180,11 +259,11 @@ fn push_bit(words: &mut Vec<u64>, at: usize, truth: bool) -> Result<(), AllocErr
 }
 
 /// A word for the bit `at`, where it has none.
-fn make_room(words: &mut Vec<u64>, at: usize) -> Result<(), AllocError>
-    requires { vec_len words.old ≡ word_count at }
-    ensures room { OnOk result (vec_len words.new ≡ word_count (at + 1)) }
-    ensures same { OnOk result ((i : ℕ) → place words.new.items i ≡ place words.old.items i) }
-    ensures err { OnErr result (words.new.items ≡ words.old.items) }
+fn make_room(words: &mut Words, at: usize) -> Result<(), AllocError>
+    requires { length words.old ≡ word_count at }
+    ensures room { OnOk result (length words.new ≡ word_count (at + 1)) }
+    ensures same { OnOk result ((i : ℕ) → place words.new i ≡ place words.old i) }
+    ensures err { OnErr result (words.new ≡ words.old) }
 {
     if at % 64 == 0 {
         words.push(0)?;
@@ -192,22 +271,59 @@ fn make_room(words: &mut Vec<u64>, at: usize) -> Result<(), AllocError>
     Ok(())
 }
 
-fn set_bit(words: &mut Vec<u64>, at: usize)
-    requires { at / 64 < vec_len words.old }
-    ensures len { vec_len words.new ≡ vec_len words.old }
-    ensures set { place words.new.items at ≡ 1 }
-    ensures same { (i : ℕ) → i ≢ at → place words.new.items i ≡ place words.old.items i }
+fn set_bit(words: &mut Words, at: usize)
+    requires { at / 64 < length words.old }
+    ensures set { place words.new at ≡ 1 }
+    ensures same { (i : ℕ) → i ≢ at → place words.new i ≡ place words.old i }
+    ensures len { length words.new ≡ length words.old }
 {
-    words[at / 64] |= 1 << (at % 64);
+    let word = words.as_slice()[at / 64];
+    words.set(at / 64, word | 1 << (at % 64));
+}
+
+fn flip_bit(words: &mut Words, at: usize)
+    requires { at / 64 < length words.old }
+    ensures flipped { place words.new at + place words.old at ≡ 1 }
+    ensures same { (i : ℕ) → i ≢ at → place words.new i ≡ place words.old i }
+    ensures len { length words.new ≡ length words.old }
+{
+    let word = words.as_slice()[at / 64];
+    words.set(at / 64, word ^ 1 << (at % 64));
+}
+
+/// A word with the bit `at`.
+pub(crate) fn with_bit(word: u64, at: usize) -> u64
+    requires { at < 64 }
+    ensures set { place (result ∷ []) at ≡ 1 }
+    ensures same { (i : ℕ) → i ≢ at → place (result ∷ []) i ≡ place (word ∷ []) i }
+{
+    word | 1 << at
+}
+
+/// A word whose first bits are all set, or none.
+fn all_bits(truth: bool, count: usize) -> u64
+    requires some { 1 ≤ count }
+    requires few { count ≤ 64 }
+    ensures value { bits count (result ∷ []) ≡ replicate count truth }
+    ensures clear { IsClear count (result ∷ []) }
+{
+    if !truth {
+        return 0;
+    }
+    if count == 64 {
+        return u64::MAX;
+    }
+    (1 << count) - 1
 }
 
 /// Sets the bits from `len` on to 0, in as many words as `len` bits need.
-fn clear_past(words: &mut Vec<u64>, len: usize)
-    requires { vec_len words.old ≡ word_count len }
-    ensures clear { IsClear len words.new.items }
-    ensures same { (i : ℕ) → i < len → place words.new.items i ≡ place words.old.items i }
+fn clear_past(words: &mut Words, len: usize)
+    requires { length words.old ≡ word_count len }
+    ensures clear { IsClear len words.new }
+    ensures same { (i : ℕ) → i < len → place words.new i ≡ place words.old i }
 {
     if len % 64 != 0 {
-        words[len / 64] &= (1 << (len % 64)) - 1;
+        let word = words.as_slice()[len / 64];
+        words.set(len / 64, word & ((1 << (len % 64)) - 1));
     }
 }

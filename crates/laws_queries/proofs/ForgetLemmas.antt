@@ -131,7 +131,7 @@ module _ (keep : Element → Bool) (place next : ℕ) (keeps : (e : Element) →
   span_kept start (suc n) l = ap₂ (λ x y. x ++ y) (ap (λ es. row_entries start es ++ TickAt start ∷ []) (shown_kept start l)) (span_kept (start + 1) n (omega (arith, l)))
 
   cursor_kept : (c : Cursor) → c.place ≡ place → next ≤ c.at → cursor_entries c (closed_of (kept_stream keep s)) ≡ cursor_entries c (closed_of s)
-  cursor_kept c e l = subst (λ p. cursor_entries (record { place = p; at = c.at; passed = c.passed }) (closed_of (kept_stream keep s)) ≡ cursor_entries (record { place = p; at = c.at; passed = c.passed }) (closed_of s)) (sym e)
+  cursor_kept c e l = subst (λ p. cursor_entries (record { place = p; at = c.at; passed = c.passed; hint = c.hint }) (closed_of (kept_stream keep s)) ≡ cursor_entries (record { place = p; at = c.at; passed = c.passed; hint = c.hint }) (closed_of s)) (sym e)
       (ap₂ (λ xs ys. cond (nat_lt c.at s.first_open) (row_entries c.at (drop c.passed xs) ++ TickAt c.at ∷ ys) []) (shown_kept c.at l) (span_kept (c.at + 1) (s.first_open - (c.at + 1)) (omega (arith, l))))
 
   within_kept : (c : Cursor) → c.place ≡ place → next ≤ c.at → IsWithin c (closed_of s) → IsWithin c (closed_of (kept_stream keep s))

@@ -71,9 +71,9 @@ pub passing_open : {start : Cursor} {count left : ℕ} (c : Cursor) (log : Close
 passing_open c log h some = waits_open c log (omega (arith, h.enough))
 
 -- rows of the instant leave
-pub IsPassing-rows : {start : Cursor} {count left : ℕ} (c : Cursor) (log : Closed) (from to : ℕ) → rest_of c log ≡ slice_range log.elements from to → to ≤ length log.elements → IsPassing start count left c log → 0 < left → left ≤ to - from → IsPassing start count 0 (record { place = c.place; at = c.at; passed = c.passed + left }) log
+pub IsPassing-rows : {start : Cursor} {count left : ℕ} (c : Cursor) (log : Closed) (from to : ℕ) → rest_of c log ≡ slice_range log.elements from to → to ≤ length log.elements → IsPassing start count left c log → 0 < left → left ≤ to - from → IsPassing start count 0 (record { place = c.place; at = c.at; passed = c.passed + left; hint = c.hint }) log
 IsPassing-rows {start} {count} {left} c log from to is end h some few =
-    let d : Cursor = record { place = c.place; at = c.at; passed = c.passed + left } in
+    let d : Cursor = record { place = c.place; at = c.at; passed = c.passed + left; hint = c.hint } in
     let lt = passing_open c log h some in
     let g : Element → Entry Row = λ e. RowAt c.at (entering e) in
     let tail = TickAt c.at ∷ log_entries c.place (c.at + 1) log in
@@ -93,9 +93,9 @@ IsPassing-rows {start} {count} {left} c log from to is end h some few =
     }
 
 -- the rest of the instant leaves
-pub IsPassing-instant : {start : Cursor} {count left : ℕ} (c : Cursor) (log : Closed) (from to : ℕ) → rest_of c log ≡ slice_range log.elements from to → to ≤ length log.elements → IsPassing start count left c log → to - from < left → IsPassing start count (left - (to - from + 1)) (record { place = c.place; at = c.at + 1; passed = 0 }) log
+pub IsPassing-instant : {start : Cursor} {count left : ℕ} (c : Cursor) (log : Closed) (from to : ℕ) → rest_of c log ≡ slice_range log.elements from to → to ≤ length log.elements → IsPassing start count left c log → to - from < left → IsPassing start count (left - (to - from + 1)) (record { place = c.place; at = c.at + 1; passed = 0; hint = to }) log
 IsPassing-instant {start} {count} {left} c log from to is end h much =
-    let d : Cursor = record { place = c.place; at = c.at + 1; passed = 0 } in
+    let d : Cursor = record { place = c.place; at = c.at + 1; passed = 0; hint = to } in
     let lt = passing_open c log h (omega arith) in
     let rows = row_entries c.at (rest_of c log) in
     let tail = log_entries c.place (c.at + 1) log in

@@ -16,7 +16,7 @@ use Rattle.op_queue.specs.declared.queue.Front.TheVariants as front
 use Rattle.op_queue.specs.declared.queue.Piece.{Piece}
 use Rattle.op_queue.proofs.PieceLemmas.{length-piece_entries}
 
-drop-ticks : (first last taken : ℕ) → taken < last + 1 - first → drop taken (ticks first last) ≡ TickAt (first + taken) ∷ drop (taken + 1) (ticks first last)
+pub drop-ticks : (first last taken : ℕ) → taken < last + 1 - first → drop taken (ticks first last) ≡ TickAt (first + taken) ∷ drop (taken + 1) (ticks first last)
 drop-ticks first last taken h =
     let f : ℕ → Entry Row = TickAt in
     let n = length-map-range_with_len f first (last + 1 - first) in

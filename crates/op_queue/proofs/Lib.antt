@@ -15,3 +15,5 @@ pub mod PathLemmas
 pub mod ForwardLemmas
 pub mod BeginLemmas
 pub mod CountLemmas
+pub mod TakeLemmas
+pub mod GainLemmas

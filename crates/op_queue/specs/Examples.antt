@@ -40,7 +40,7 @@ above_the_base : log_entries 0 2 log ≡ TickAt 2 ∷ RowAt 3 (true, row 7) ∷ 
 above_the_base = refl
 
 -- one row of the first query's second instant has left
-a_row_has_left : cursor_entries (record { place = 0; at = 1; passed = 1 }) log ≡ RowAt 1 (true, row 6) ∷ TickAt 1 ∷ TickAt 2 ∷ RowAt 3 (true, row 7) ∷ TickAt 3 ∷ []
+a_row_has_left : cursor_entries (record { place = 0; at = 1; passed = 1; hint = 0 }) log ≡ RowAt 1 (true, row 6) ∷ TickAt 1 ∷ TickAt 2 ∷ RowAt 3 (true, row 7) ∷ TickAt 3 ∷ []
 a_row_has_left = refl
 
 -- a tick, three rows of a batch, and two rows of another

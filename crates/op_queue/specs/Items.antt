@@ -2,7 +2,7 @@
 use Rattle.std.specs.Prelude.{◌≡◌, ℕ, ◌+◌, ◌-◌, ◌<◌, ◌≤◌, Option, None, Some, List, ◌∷◌, [], length, map, take}
 use Rattle.std.specs.List.{range_with_len}
 use Rattle.values.specs.Row.{Row}
-use Rattle.op_queue.specs.Entries.{Entry, RowAt, TickAt}
+use Rattle.op_queue.specs.Entries.{Entry, RowAt, TickAt, instant_of}
 use Rattle.op_queue.specs.declared.item.Item.{Item}
 use Rattle.op_queue.specs.declared.item.Item.TheVariants.{Rows, Tick}
 use Rattle.op_queue.specs.declared.queue.Front.{Front}
@@ -25,6 +25,11 @@ abbrev pub front_of : List (Entry Row) → Option Front
 front_of [] = None
 front_of (RowAt t s ∷ es) = Some (front.Row t)
 front_of (TickAt t ∷ es) = Some (front.Tick t)
+
+-- the instant of the row or the tick that comes first
+abbrev pub first_instant : List (Entry Row) → Option ℕ
+first_instant [] = None
+first_instant (e ∷ es) = Some (instant_of e)
 
 -- the rows before the first tick
 abbrev pub front_rows : List (Entry Row) → List (Entry Row)

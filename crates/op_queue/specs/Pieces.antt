@@ -6,6 +6,8 @@ use Rattle.column.specs.Rows.{IsBatch}
 use Rattle.op_queue.specs.Entries.{Entry, RowAt, TickAt, IsForward}
 use Rattle.op_queue.specs.Items.{ticks}
 use Rattle.op_queue.specs.Queues.{Waiting, first_begins, each_begins, run_pieces}
+use Rattle.op_queue.specs.declared.item.Item.{Item}
+use Rattle.op_queue.specs.declared.item.Item.TheVariants as item
 use Rattle.op_queue.specs.declared.queue.Piece.{Piece}
 use Rattle.op_queue.specs.declared.queue.Piece.TheVariants.{Rows, Ticks}
 
@@ -72,3 +74,8 @@ pub record IsQueue (taken waiting : ℕ) (ps : List Piece) : Type 0 where
 abbrev pub IsLongerRun : ℕ → ℕ → List Piece → List Piece → Type 0
 IsLongerRun first last ps qs =
     (init : List Piece) × (start : ℕ) × (end : ℕ) × (ps ≡ init ++ Ticks start end ∷ []) × (qs ≡ init ++ Ticks start last ∷ []) × (end + 1 ≡ first)
+
+-- the item is the batch of the first piece, of at most `count` rows, and the other pieces stay
+abbrev pub IsTakenWhole : ℕ → List Piece → List Piece → Item → Type 0
+IsTakenWhole count ps qs (item.Rows t b) = (ps ≡ Rows t b ∷ qs) × (length b ≤ count)
+IsTakenWhole count ps qs (item.Tick t) = ⊥

@@ -1,8 +1,9 @@
 -- A queue as its callers see it.
-use Rattle.std.specs.Prelude.{ℕ, ◌+◌, ◌==◌, Bool, true, false, cond, Option, None, Some, List, [], ◌∷◌, map}
-use Rattle.std.specs.List.{last_or}
+use Rattle.std.specs.Prelude.{◌≡◌, ℕ, ◌+◌, ◌≤◌, ◌==◌, Bool, true, false, cond, Option, None, Some, List, [], ◌∷◌, ◌++◌, map, take, drop, min, length}
+use Rattle.std.specs.List.{flat_map, last_or}
 use Rattle.values.specs.Row.{Row}
 use Rattle.op_queue.specs.Entries.{Entry, RowAt, TickAt}
+use Rattle.op_queue.specs.Items.{IsFrontPart, entries_of}
 use Rattle.op_queue.specs.declared.item.Item.{Item}
 use Rattle.op_queue.specs.declared.item.Item.TheVariants as item
 
@@ -62,3 +63,19 @@ pieces_behind last (e ∷ es) (b ∷ bs) = entry_pieces e b last + pieces_behind
 -- in how many pieces entries are kept: one for each batch, and one for each run of ticks of instants that follow one another
 abbrev pub pieces_of : {X : Type 0} → List (Entry X) → List Bool → ℕ
 pieces_of es bs = pieces_behind None es bs
+
+-- the item came out at once of the front of what waited, and the rest waits
+pub record HasLeft (count : ℕ) (old new : Waiting) (i : Item) : Type 0 where
+  pub part : IsFrontPart count old.entries i
+  pub value : entries_of i ≡ take (min count (at_once old.begins)) old.entries
+  pub entries : new.entries ≡ drop (length (entries_of i)) old.entries
+  pub begins : new.begins ≡ drop (length (entries_of i)) old.begins
+  pub pieces : new.pieces ≤ old.pieces
+  pub counted : new.pieces ≡ pieces_of (drop (length (entries_of i)) old.entries) (drop (length (entries_of i)) old.begins)
+
+-- items that stand for these entries were pushed, and each comes out at once
+pub record HasGained (es : List (Entry Row)) (old new : Waiting) : Type 0 where
+  pub items : List Item
+  pub stand : flat_map entries_of items ≡ es
+  pub entries : new.entries ≡ old.entries ++ es
+  pub begins : new.begins ≡ old.begins ++ flat_map (λ i. first_begins (entries_of i)) items

@@ -1,7 +1,8 @@
 //! Cursors.
-ghost use Rattle.std.specs.Prelude.{◌≡◌, ◌<◌, ◌≤◌, length, drop, min, slice_range, IfOk};
+ghost use Rattle.std.specs.Prelude.{◌≡◌, ◌<◌, ◌≤◌, length, drop, min, slice_range, IfOk, OnErr};
 ghost use Rattle.op_queue.specs.Cursors.{GoesOn, IsWithin, cursor_entries};
-ghost use Rattle.op_queue.specs.Items.{IsFrontPart, entries_of, front_of, front_part};
+ghost use Rattle.op_queue.specs.Items.{IsFrontPart, entries_of, first_instant, front_of};
+ghost use Rattle.op_queue.specs.Items.{front_part};
 ghost use Rattle.op_queue.specs.Logs.{Closed, log_entries, shown};
 
 use crate::item::Item;
@@ -22,6 +23,8 @@ pub struct Cursor {
     at: u64,
     /// How many of that instant's shown rows have left.
     passed: u64,
+    /// Where that instant's rows may begin in the log. A search tests it and begins there.
+    hint: usize,
 }
 
 impl Cursor {
@@ -35,6 +38,7 @@ impl Cursor {
             place,
             at: start,
             passed: 0,
+            hint: 0,
         }
     }
 
@@ -51,6 +55,16 @@ impl Cursor {
         } else {
             Some(Front::Tick(self.at))
         }
+    }
+
+    /// The instant at the front, if anything waits. It does not look at the log's rows.
+    pub fn front_instant(&self, log: &Log) -> Option<u64>
+        ensures { result ≡ first_instant (cursor_entries self.now log.now) }
+    {
+        if log.until() <= self.at {
+            return None;
+        }
+        Some(self.at)
     }
 
     /// A copy of the front: a tick, or the rows that are left of its instant, at most `count` of
@@ -70,6 +84,26 @@ impl Cursor {
         let rows = count.min(MAX_ROWS).min(to - from);
         let batch = log.batch(alloc, from, from + rows)?;
         Ok(Item::Rows(self.at, batch))
+    }
+
+    /// The front leaves: a tick, or the rows that are left of its instant, at most `count` of them
+    /// and at most `MAX_ROWS`. An error says that memory was refused; nothing is changed.
+    pub fn take(&mut self, alloc: Global, log: &Log, count: usize) -> Result<Item, AllocError>
+        requires waits { 0 < length (cursor_entries self.old log.now) }
+        requires some { 0 < count }
+        requires within { IsWithin self.old log.now }
+        ensures part { IfOk result (IsFrontPart count (cursor_entries self.old log.now)) }
+        ensures value { IfOk result (λ item. entries_of item
+            ≡ front_part (min count MAX_ROWS) (cursor_entries self.old log.now)) }
+        ensures rest { IfOk result (λ item. cursor_entries self.new log.now
+            ≡ drop (length (entries_of item)) (cursor_entries self.old log.now)) }
+        ensures within { IsWithin self.new log.now }
+        ensures goes_on { GoesOn log.now self.old self.new }
+        ensures err { OnErr result (self.new ≡ self.old) }
+    {
+        let item = self.front_cut(alloc, log, count)?;
+        self.drop_front(log, item.len());
+        Ok(item)
     }
 
     /// The first `count` rows and ticks leave.
@@ -93,6 +127,7 @@ impl Cursor {
                 left -= to - from + 1;
                 self.at += 1;
                 self.passed = 0;
+                self.hint = to;
             }
         }
     }
@@ -118,7 +153,7 @@ impl Cursor {
         ensures left { drop self.now.passed (shown self.now.place self.now.at log.now.elements)
             ≡ slice_range log.now.elements result.0 result.1 }
     {
-        let (first, end) = log.places(self.place, self.at);
+        let (first, end) = log.places(self.hint, self.place, self.at);
         let passed = ((end - first) as u64).min(self.passed);
         (first + passed as usize, end)
     }

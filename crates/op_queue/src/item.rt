@@ -1,4 +1,6 @@
 //! Items.
+ghost use Rattle.std.specs.Prelude.{◌≡◌, length};
+ghost use Rattle.op_queue.specs.Items.{entries_of};
 
 use column::Batch;
 
@@ -10,4 +12,16 @@ pub enum Item {
     Rows(u64, Batch),
     /// The tick that closes this instant.
     Tick(u64),
+}
+
+impl Item {
+    /// For how many entries it stands: its rows, or one tick.
+    pub fn len(&self) -> usize
+        ensures { result ≡ length (entries_of self.now) }
+    {
+        match self {
+            Item::Rows(_, batch) => batch.len(),
+            Item::Tick(_) => 1,
+        }
+    }
 }

@@ -3,7 +3,7 @@
 //! A `Queue` is a list of entries, one a signed row of an instant and one a tick that closes an
 //! instant, whose instants never go back. A `Log` is what a stream has closed, and a `Cursor` with
 //! its log is again such a list: the queue that a query reads of the stream, of which it keeps
-//! three numbers alone.
+//! four numbers alone.
 //!
 //! The paths of `specs/Paths.antt` say what a queue means to its two ends: it leads from the bag
 //! that its consumer has taken to the bag that its producer has put out.

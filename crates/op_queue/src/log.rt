@@ -14,6 +14,9 @@ use std::alloc::{AllocError, Global};
 use std::marker::Model;
 use values::{MAX_COLUMNS, Row, Value, value_at};
 
+/// How many places are looked at one by one before a search by halves.
+const NEAR_PLACES: usize = 16;
+
 /// A row that came to a stream, with its instant and its number in the order of arrival.
 #[derive(Drop)]
 pub struct Arrival {
@@ -120,7 +123,8 @@ impl Log {
     }
 
     /// Between which places the rows of a closed instant stand that arrived at `place` or later.
-    pub(crate) fn places(&self, place: u64, at: u64) -> (usize, usize)
+    /// The search begins at the hint where the rows before that are of earlier instants.
+    pub(crate) fn places(&self, hint: usize, place: u64, at: u64) -> (usize, usize)
         requires { at < self.now.until }
         ensures some { result.0 ≤ result.1 }
         ensures within { result.1 ≤ length self.now.elements }
@@ -128,9 +132,10 @@ impl Log {
             ≡ slice_range self.now.elements result.0 result.1 }
     {
         let _until = self.until;
-        let first = lower_bound(&self.instants, 0, self.len, at);
-        let end = lower_bound(&self.instants, first, self.len, at + 1);
-        let from = lower_bound(&self.numbers, first, end, place);
+        let start = tested_start(&self.instants, self.len, hint, at);
+        let first = near_bound(&self.instants, start, self.len, at);
+        let end = near_bound(&self.instants, first, self.len, at + 1);
+        let from = near_bound(&self.numbers, first, end, place);
         (from, end)
     }
 
@@ -155,6 +160,44 @@ impl Log {
         let leaving = none_leave(alloc, to - from)?;
         Ok(Batch::from_columns(columns, leaving))
     }
+}
+
+/// The hint, where the numbers before it are below the least; else the first place.
+fn tested_start(numbers: &[u64], to: usize, hint: usize, least: u64) -> usize
+    requires within { to ≤ length numbers.now }
+    requires rising { IsRising numbers.now 0 to }
+    ensures to { result ≤ to }
+    ensures below { (i : ℕ) → i < result → get_or numbers.now i 0 < least }
+{
+    if hint == 0 {
+        return 0;
+    }
+    if to < hint {
+        return 0;
+    }
+    if least <= numbers[hint - 1] {
+        return 0;
+    }
+    hint
+}
+
+/// The same as `lower_bound`, quick where the place stands near the first one.
+fn near_bound(numbers: &[u64], from: usize, to: usize, least: u64) -> usize
+    requires some { from ≤ to }
+    requires within { to ≤ length numbers.now }
+    requires rising { IsRising numbers.now from to }
+    ensures from { from ≤ result }
+    ensures to { result ≤ to }
+    ensures below { (i : ℕ) → from ≤ i → i < result → get_or numbers.now i 0 < least }
+    ensures above { (i : ℕ) → result ≤ i → i < to → least ≤ get_or numbers.now i 0 }
+{
+    let near = from + NEAR_PLACES.min(to - from);
+    for i in from..near {
+        if least <= numbers[i] {
+            return i;
+        }
+    }
+    lower_bound(numbers, near, to, least)
 }
 
 /// The first place of a rising part of a list whose number is not below the least.
@@ -304,9 +347,6 @@ fn none_leave(alloc: Global, count: usize) -> Result<Mask, AllocError>
     requires { count ≤ MAX_ROWS }
     ensures { IfOk result (λ mask. mask ≡ replicate count false) }
 {
-    let mut leaving = Mask::with_capacity(alloc, count)?;
-    for _ in 0..count {
-        leaving.push(false)?;
-    }
+    let leaving = Mask::filled(alloc, false, count)?;
     Ok(leaving)
 }

@@ -1,13 +1,14 @@
 //! Queues.
 ghost use Rattle.std.specs.Prelude.{◌≡◌, ◌↔◌, IsTrue, Some, ◌+◌, ◌-◌, ◌^◌, ◌<◌, ◌≤◌, ◌++◌, []};
-ghost use Rattle.std.specs.Prelude.{length, take, drop, IfOk, OnOk, OnErr, min};
+ghost use Rattle.std.specs.Prelude.{length, take, drop, IfOk, OnOk, OnErr, MatchOption, min};
 ghost use Rattle.std.specs.Bool.{OnTrue, OnFalse};
 ghost use Rattle.op_queue.specs.Entries.{IsForward};
-ghost use Rattle.op_queue.specs.Items.{entries_of, front_of, ticks, IsFrontPart};
-ghost use Rattle.op_queue.specs.Queues.{at_once, each_begins, first_begins, item_pieces};
-ghost use Rattle.op_queue.specs.Queues.{last_entry, pieces_of, run_pieces};
+ghost use Rattle.op_queue.specs.Items.{entries_of, first_instant, front_of, ticks};
+ghost use Rattle.op_queue.specs.Items.{IsFrontPart};
+ghost use Rattle.op_queue.specs.Queues.{HasLeft, at_once, each_begins, first_begins};
+ghost use Rattle.op_queue.specs.Queues.{item_pieces, last_entry, pieces_of, run_pieces};
 ghost use Rattle.op_queue.specs.Pieces.{end_of_pieces, piece_begins, piece_entries, piece_size};
-ghost use Rattle.op_queue.specs.Pieces.{IsApart, IsLongerRun, IsPiece};
+ghost use Rattle.op_queue.specs.Pieces.{IsApart, IsLongerRun, IsPiece, IsTakenWhole};
 
 use crate::item::Item;
 use column::Batch;
@@ -148,6 +149,14 @@ impl Queue {
         Some(piece.front(self.taken))
     }
 
+    /// The instant at the front, if anything waits; found in constant time.
+    pub fn front_instant(&self) -> Option<u64>
+        ensures { result ≡ first_instant self.now.entries }
+    {
+        let piece = self.pieces.front()?;
+        Some(piece.instant(self.taken))
+    }
+
     /// A copy of the front: a tick, or what is left of a batch, at most `count` rows of it.
     /// An error says that memory was refused; nothing is changed.
     pub fn front_cut(&self, alloc: Global, count: usize) -> Result<Item, AllocError>
@@ -160,6 +169,45 @@ impl Queue {
         let piece = &self.pieces[0];
         let item = piece.cut(alloc, self.taken, count)?;
         Ok(item)
+    }
+
+    /// The front leaves: a tick, or what is left of a batch, at most `count` rows of it. A batch
+    /// that leaves whole is moved. An error says that memory was refused; the queue is as it was.
+    pub fn take(&mut self, alloc: Global, count: usize) -> Result<Item, AllocError>
+        requires waits { 0 < length self.old.entries }
+        requires some { 0 < count }
+        ensures left { IfOk result (HasLeft count self.old self.new) }
+        ensures err { OnErr result (self.new ≡ self.old) }
+    {
+        match self.take_whole(count) {
+            Some(item) => Ok(item),
+            None => self.take_cut(alloc, count),
+        }
+    }
+
+    /// `take` by a copy of what leaves.
+    fn take_cut(&mut self, alloc: Global, count: usize) -> Result<Item, AllocError>
+        requires waits { 0 < length self.old.entries }
+        requires some { 0 < count }
+        ensures left { IfOk result (HasLeft count self.old self.new) }
+        ensures err { OnErr result (self.new ≡ self.old) }
+    {
+        let item = self.front_cut(alloc, count)?;
+        self.drop_front(item.len());
+        Ok(item)
+    }
+
+    /// The batch at the front leaves, where nothing of it has left and it has at most `count` rows.
+    fn take_whole(&mut self, count: usize) -> Option<Item>
+        requires { 0 < count }
+        ensures { MatchOption result (self.new ≡ self.old) (HasLeft count self.old self.new) }
+    {
+        if self.taken != 0 {
+            return None;
+        }
+        let item = take_batch(&mut self.pieces, count)?;
+        self.waiting -= item.len() as u128;
+        Some(item)
     }
 
     /// The first `count` rows and ticks leave.
@@ -231,6 +279,18 @@ impl Piece {
         }
     }
 
+    /// The instant of what stands first after `taken` of its rows or ticks.
+    fn instant(&self, taken: u64) -> u64
+        requires shaped { IsPiece self.now }
+        requires part { taken < piece_size self.now }
+        ensures { Some result ≡ first_instant (drop taken (piece_entries self.now)) }
+    {
+        match self {
+            Piece::Rows(at, _) => *at,
+            Piece::Ticks(first, _) => *first + taken,
+        }
+    }
+
     /// A copy of what stands first after `taken` of its rows or ticks, of at most `count` rows.
     fn cut(&self, alloc: Global, taken: u64, count: usize) -> Result<Item, AllocError>
         requires shaped { IsPiece self.now }
@@ -251,6 +311,21 @@ impl Piece {
             }
             Piece::Ticks(first, _) => Ok(Item::Tick(*first + taken)),
         }
+    }
+}
+
+/// The piece at the front leaves where it is a batch of at most `count` rows.
+fn take_batch(pieces: &mut VecDeque<Piece>, count: usize) -> Option<Item>
+    ensures { MatchOption result (pieces.new.items ≡ pieces.old.items)
+        (IsTakenWhole count pieces.old.items pieces.new.items) }
+{
+    match pieces.front() {
+        Some(Piece::Rows(_, batch)) if batch.len() <= count => (),
+        _ => return None,
+    }
+    match pieces.pop_front() {
+        Some(Piece::Rows(at, batch)) => Some(Item::Rows(at, batch)),
+        _ => None,
     }
 }
 

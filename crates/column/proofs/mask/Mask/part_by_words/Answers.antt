@@ -11,5 +11,5 @@ returns-then-end-from c =
 
 pub returns : goal.returns
 returns c =
-    part_seen _ _ _ c.args.from c.args.to c.min-end.result c.clear_past.new.words.items c.self.view_is c.requires c.min-end.ensures c.if-end-from.false
-    (λ i h. c.clear_past.ensures.same i h ∙ ap (λ ws. place ws i) (c.in_ok-words.ensures.items ∙ ap (λ ws. slice_range ws (c.args.from / 64) ((c.min-end.result + 63) / 64)) c.deref.ensures.value))
+    part_seen _ _ _ c.args.from c.args.to c.min-end.result c.clear_past.new.words c.self.view_is c.requires c.min-end.ensures c.if-end-from.false
+    (λ i h. c.clear_past.ensures.same i h ∙ ap (λ ws. place ws i) (c.in_ok-words.ensures ∙ ap (λ ws. slice_range ws (c.args.from / 64) ((c.min-end.result + 63) / 64)) c.as_slice.ensures))

@@ -58,14 +58,13 @@ impl State {
         ensures runs { RunsFirst (engine_in self.old) rows result (engine_in self.new) }
         ensures sound { IsSound self.new }
     {
-        let Some(slot) = self.slots.first() else {
-            return Ok(false);
-        };
-        if MAX_LEASES <= self.leases.len() || LEASE_NUMBERS <= self.next {
-            return Err(Fault::TooManyLeases);
+        match self.next_slot()? {
+            Some(slot) => {
+                self.run_slot(&slot, rows as usize)?;
+                Ok(true)
+            },
+            None => Ok(false),
         }
-        self.run_slot(&slot, rows as usize)?;
-        Ok(true)
     }
 
     /// Runs a turn of the first slot, and its query takes it at once: nobody can see the turn

@@ -4,7 +4,7 @@ ghost use Rattle.run_queue.specs.Slots.{first_of};
 ghost use Rattle.leases.specs.Leasing.{IsReadyAt, IsTurnOn, MayLeaseOn};
 ghost use Rattle.leases.specs.Shown.{engine_in};
 ghost use Rattle.leases.specs.Sound.{IsSound};
-ghost use Rattle.leases.specs.Turns.{IsTurnOf, Leases, lease_fault};
+ghost use Rattle.leases.specs.Turns.{IsNext, IsTurnOf, Leases, lease_fault};
 
 use crate::leased::Leased;
 use crate::limits::{LEASE_NUMBERS, MAX_LEASES};
@@ -26,13 +26,23 @@ impl State {
         if let Some(fault) = turn_fault(rows) {
             return Err(fault);
         }
+        match self.next_slot()? {
+            Some(slot) => Ok(Leased::Turn(self.give_out(&slot, rows as usize)?)),
+            None => Ok(Leased::Idle),
+        }
+    }
+
+    /// The slot of which the next turn is, if any operator may take something.
+    pub(crate) fn next_slot(&self) -> Result<Option<Slot>, Fault>
+        ensures { IsNext (engine_in self.now) result }
+    {
         let Some(slot) = self.slots.first() else {
-            return Ok(Leased::Idle);
+            return Ok(None);
         };
         if MAX_LEASES <= self.leases.len() || LEASE_NUMBERS <= self.next {
             return Err(Fault::TooManyLeases);
         }
-        Ok(Leased::Turn(self.give_out(&slot, rows as usize)?))
+        Ok(Some(slot))
     }
 
     /// Hands out a turn of the first slot.

@@ -1,5 +1,5 @@
 //! Heartbeats: what is closed is told to the windows that wait for it.
-ghost use Rattle.std.specs.Prelude.{◌≡◌, ◌<◌, ◌++◌, ℕ, IfOk, OnErr, OnOk, length, slice_get};
+ghost use Rattle.std.specs.Prelude.{◌≡◌, ◌<◌, ◌++◌, IfOk, OnErr, OnOk, length, slice_get};
 ghost use Rattle.std.specs.List.{AllByRecursion};
 ghost use Rattle.reference.specs.World.{Does, heartbeat_step};
 ghost use Rattle.stream_store.specs.Closing.{QueuesGain};

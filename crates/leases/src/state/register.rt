@@ -9,7 +9,7 @@ ghost use Rattle.plan.specs.Views.{nodes_of};
 ghost use Rattle.reference.specs.Commands.{found, place_at, register_tests};
 ghost use Rattle.reference.specs.Finds.{Finds};
 ghost use Rattle.reference.specs.Places.{machine_of};
-ghost use Rattle.reference.specs.Machine.{Registered, first_for};
+ghost use Rattle.reference.specs.Machine.{first_for};
 ghost use Rattle.reference.specs.Told.{IsTold};
 ghost use Rattle.reference.specs.World.{Does, register_step};
 ghost use Rattle.laws_queries.specs.Queries.{PlainQuery, node_at};

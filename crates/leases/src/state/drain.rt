@@ -99,10 +99,7 @@ impl State {
         requires some { 0 < rows }
         ensures { IfOk result (λ d. IsRunOf (engine_in self.now) slot.now rows d) }
     {
-        let query = slot.query();
-        let operator = slot.operator();
-        let side = self.side(query, operator);
-        let turn = self.turn(query, operator, side, rows)?;
+        let turn = self.turn(slot, rows)?;
         match turn.run(self.alloc) {
             Ok(done) => Ok(done),
             Err(_) => Err(AllocError),

@@ -88,7 +88,7 @@ impl State {
         }
     }
 
-    /// Gives each of the slots the instant of what its operator may take next, one after the other.
+    /// Gives each of the slots what its operator may take next, one after the other.
     fn update_slots(&mut self, slots: &[Slot])
         requires { AllByRecursion (λ s.
             HasOperatorAt (engine_in self.old) s.query s.operator) slots.now }

@@ -301,11 +301,8 @@ fn new_slot(
     requires within { operator < length slopes.now }
     ensures { result ≡ new_slot streams.now running.now slopes.now number operator }
 {
-    let instant = match running.ready(streams, operator) {
-        Some((_, at)) => Some(at),
-        None => None,
-    };
-    Slot::new(slopes[operator], instant, number, operator)
+    let next = running.ready(streams, operator);
+    Slot::new(slopes[operator], next, number, operator)
 }
 
 /// The windows of a new query are listed as readers behind the others. There is room for them.

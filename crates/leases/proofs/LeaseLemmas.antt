@@ -136,11 +136,14 @@ module _ (e : PlainEngine) (s : Slot) (rows : ℕ) (good : GoodEngine e) (first 
 
   -- THE FIRST SLOT is of an operator that may be leased on its side
   pub first_leases : 0 < rows → MayLeaseOn e s rows
-  first_leases some = (top.plain, record {
-    running = top.running;
-    operator = (may_ask e good).operators s.query s.operator top.query top.plain operator_is;
-    may = (may_ask e good).leases s.query s.operator top.query top.plain s.side s.instant rows operator_is (ap (ready (operator_at top.plain.operators s.operator)) log_is ∙ takes) some;
-  })
+  first_leases some = (
+    top.plain,
+    record {
+      running = top.running;
+      operator = (may_ask e good).operators s.query s.operator top.query top.plain operator_is;
+      may = (may_ask e good).leases s.query s.operator top.query top.plain s.side s.instant rows operator_is (ap (ready (operator_at top.plain.operators s.operator)) log_is ∙ takes) some;
+    },
+  )
 
   module _ (allowed : lease_fault e rows ≡ None) where
     module _ (i : Item) (near : Near) (is : IsLeased (operator_at top.plain.operators s.operator) (log_of e.machine.streams top.plain s.operator) s.side rows i near) where

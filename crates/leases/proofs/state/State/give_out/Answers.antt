@@ -6,8 +6,11 @@ use Rattle.turn.specs.declared.turns.Turn.{Turn}
 use Rattle.leases.specs.declared.state.State.{State}
 use Rattle.leases.proofs.state.State.give_out.Goals as goal
 
-pub turn-turn-requires : goal.turn-turn-requires
-turn-turn-requires c = first_leases (engine_in c.args.self.now) c.args.slot.now c.args.rows c.requires.sound.good c.requires.first c.requires.some
+pub turn-requires : goal.turn-requires
+turn-requires c = first_leases (engine_in c.args.self.now) c.args.slot.now c.args.rows c.requires.sound.good c.requires.first c.requires.some
+
+pub turn-requires-2 : goal.turn-requires-2
+turn-requires-2 c = first_leases (engine_in c.args.self.now) c.args.slot.now c.args.rows c.requires.sound.good c.requires.first c.requires.some
 
 -- the state at the return
 abbrev after : goal.After-change → State

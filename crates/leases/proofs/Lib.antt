@@ -5,7 +5,6 @@ mod LeaveLemmas
 mod DropLemmas
 pub mod AddLemmas
 pub mod LeaseLemmas
-mod NextLemmas
 mod OutLemmas
 mod FinishLemmas
 mod FinishSoundLemmas

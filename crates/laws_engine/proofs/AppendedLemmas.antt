@@ -1,6 +1,5 @@
 -- An append leaves an engine good.
 use Rattle.std.proofs.Common.{◌≡◌, ℕ, ℤ, cond, Option, Some, None, List, length, nat_lt, refl, sym, ap, subst}
-use Rattle.std.specs.Option.{option_map}
 use Rattle.std.proofs.lemmas.Option.{get_or_from_slice_get, slice_get_within}
 use Rattle.operators.specs.Operators.{ready}
 use Rattle.reference.specs.Commands.{Append, first_fault}
@@ -40,7 +39,7 @@ module _ (e : PlainEngine) (s : ℕ) (rows : List (ℤ × List (Option ℤ))) (g
   appended_slot : (n k : ℕ) (o : Option Registered) (remains : PlainRemains) → slot_in (appended e s rows) n k o remains ≡ slot_in e n k o remains
   appended_slot n k None remains = refl
   appended_slot n k (Some q) (Running p) =
-      ap (λ x. cond (nat_lt k (length q.nodes)) (Some (slot (slope_at q k) (cond (is_leased e n k) None (option_map (λ r. r.1) (ready (operator_at p.operators k) x))) n k)) None) (logs q k)
+      ap (λ x. cond (nat_lt k (length q.nodes)) (Some (slot (slope_at q k) (cond (is_leased e n k) None (ready (operator_at p.operators k) x)) n k)) None) (logs q k)
   appended_slot n k (Some q) (Broken answers) = refl
   appended_slot n k (Some q) Dropped = refl
 

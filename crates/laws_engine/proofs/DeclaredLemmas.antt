@@ -2,7 +2,7 @@
 use Rattle.std.proofs.Common.{◌≡◌, ℕ, ℤ, zero, suc, nat_abs, ◌-◌, ◌<◌, ◌++◌, cond, min, nat_lt, ⊎_elim, Option, Some, None, unwrap_or, List, [], ◌∷◌, length, map, refl, sym, ap, ap₂, ◌∙◌, subst, subst₂, arith}
 use Rattle.std.specs.Prelude.{slice_get}
 use Rattle.std.specs.List.{AllByRecursion, reduce}
-use Rattle.std.specs.Option.{option_map, option_map_or}
+use Rattle.std.specs.Option.{option_map_or}
 use Rattle.std.proofs.lemmas.Bool.{cases_lt}
 use Rattle.std.proofs.lemmas.List.{get_or_past, length-map}
 use Rattle.values.specs.Row.{Row}
@@ -164,7 +164,7 @@ module _ (e : PlainEngine) (name : List ℕ) (columns : List (List ℕ)) (start 
   declared_slot : (n k : ℕ) (o : Option Registered) (remains : PlainRemains) → query_at e n ≡ o → slot_in (declared e name columns start) n k o remains ≡ slot_in e n k o remains
   declared_slot n k None remains r = refl
   declared_slot n k (Some q) (Running p) r =
-      ap (λ x. cond (nat_lt k (length q.nodes)) (Some (slot (slope_at q k) (cond (is_leased e n k) None (option_map (λ z. z.1) (ready (operator_at p.operators k) x))) n k)) None)
+      ap (λ x. cond (nat_lt k (length q.nodes)) (Some (slot (slope_at q k) (cond (is_leased e n k) None (ready (operator_at p.operators k) x)) n k)) None)
       (logs_left e.machine (record { name = name; columns = columns; elements = []; arrivals = 0; first_open = nat_abs start } ∷ []) q (is_query e g n q r) k)
   declared_slot n k (Some q) (Broken answers) r = refl
   declared_slot n k (Some q) Dropped r = refl

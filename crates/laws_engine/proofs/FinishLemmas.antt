@@ -28,7 +28,7 @@ use Rattle.laws_queries.proofs.MachineCounts.{queries_stand}
 use Rattle.laws_queries.proofs.NodeLemmas.{roots_run, turns_run}
 use Rattle.laws_queries.proofs.WireLemmas.{Wired, wired}
 use Rattle.run_queue.specs.declared.slots.Slot.{Slot}
-use Rattle.laws_engine.specs.Engines.{AreRemains, Dropped, Goes, GoodEngine, HasSlots, IsIn, IsLease, Lease, PlainEngine, Running, instant_at, query_at, remains_at, slot_at, slot_in, slot_of}
+use Rattle.laws_engine.specs.Engines.{AreRemains, Dropped, Goes, GoodEngine, HasSlots, IsIn, IsLease, Lease, PlainEngine, Running, next_at, query_at, remains_at, slot_at, slot_in, slot_of}
 use Rattle.laws_engine.specs.Calls.{IsAnsweredTurn, IsFinishedTurn, IsOf, abandoned, answered, finished, given_back, others, slot_updated}
 use Rattle.laws_engine.proofs.BackLemmas.{FirstStays, back_good, numbered, remains_here, remains_there, same_leased, same_plain, same_query, stays_same}
 use Rattle.laws_engine.proofs.PromiseLemmas.{slot_is}
@@ -114,7 +114,7 @@ module _ (e : PlainEngine) (l : Lease) (q : Registered) (p p2 : PlainQuery) (g :
   -- one of them
   pub one_slot : ((k : ℕ) → k ≢ l.operator → operator_at p2.operators k ≡ operator_at p.operators k) → HasSlots (slot_of (given_back e l p2)) (slot_updated e (given_back e l p2) l.query q p p2 l.operator e.slots)
   unfolding e2
-  one_slot o = changed_slots (slot_of e) (slot_of (given_back e l p2)) e.slots (slot_at e l.query q p l.operator) (instant_at (given_back e l p2) l.query q p2 l.operator) g.slots (numbered e)
+  one_slot o = changed_slots (slot_of e) (slot_of (given_back e l p2)) e.slots (slot_at e l.query q p l.operator) (next_at (given_back e l p2) l.query q p2 l.operator) g.slots (numbered e)
       (slot_is e l.query l.operator q p of.registered of.running of.within) (slot_here l.operator of.within)
       (λ n k ne. same_by n k ne (λ same. o k (⊎_elim (λ d. absurd (d same)) (λ d. d) ne)))
 
@@ -126,9 +126,9 @@ module _ (e : PlainEngine) (l : Lease) (q : Registered) (p p2 : PlainQuery) (g :
       let new : Slot = slot_at (given_back e l p2) l.query q p2 l.operator in
       let table : ℕ → ℕ → Option Slot = updated (slot_of e) l.query l.operator new in
       let one : HasSlots table (slot_updated e (given_back e l p2) l.query q p p2 l.operator e.slots) =
-      changed_slots (slot_of e) table e.slots (slot_at e l.query q p l.operator) (instant_at (given_back e l p2) l.query q p2 l.operator) g.slots (numbered e)
+      changed_slots (slot_of e) table e.slots (slot_at e l.query q p l.operator) (next_at (given_back e l p2) l.query q p2 l.operator) g.slots (numbered e)
       (slot_is e l.query l.operator q p of.registered of.running of.within) (updated_here (slot_of e) l.query l.operator new) (λ n k ne. updated_there (slot_of e) l.query l.operator new n k ne) in
-      changed_slots table (slot_of (given_back e l p2)) (slot_updated e (given_back e l p2) l.query q p p2 l.operator e.slots) (slot_at e l.query q p to) (instant_at (given_back e l p2) l.query q p2 to) one
+      changed_slots table (slot_of (given_back e l p2)) (slot_updated e (given_back e l p2) l.query q p p2 l.operator e.slots) (slot_at e l.query q p to) (next_at (given_back e l p2) l.query q p2 to) one
       (updated_numbered (slot_of e) l.query l.operator new refl refl (numbered e))
       (updated_there (slot_of e) l.query l.operator new l.query to (inr apart) ∙ slot_is e l.query to q p of.registered of.running within) (slot_here to within)
       (λ n k ne. ⊎_elim

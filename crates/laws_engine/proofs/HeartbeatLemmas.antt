@@ -29,7 +29,7 @@ use Rattle.laws_queries.proofs.MachineCounts.{machines_stand}
 use Rattle.laws_queries.proofs.RowLemmas.{rows_stand}
 use Rattle.run_queue.specs.Slots.{slot}
 use Rattle.run_queue.specs.declared.slots.Slot.{Slot}
-use Rattle.laws_engine.specs.Engines.{AreRemains, Broken, Dropped, Goes, GoodEngine, HasSlots, IsLease, Lease, PlainEngine, PlainRemains, Running, instant_at, is_leased, query_at, remains_at, slope_at, slot_at, slot_in, slot_of}
+use Rattle.laws_engine.specs.Engines.{AreRemains, Broken, Dropped, Goes, GoodEngine, HasSlots, IsLease, Lease, PlainEngine, PlainRemains, Running, is_leased, next_at, query_at, remains_at, slope_at, slot_at, slot_in, slot_of}
 use Rattle.laws_engine.specs.Calls.{IsHeartbeat, closed_over, heartbeat_taken, is_reading, queries_updated, query_updated, slot_updated, windows_updated}
 use Rattle.laws_engine.proofs.BackLemmas.{numbered}
 use Rattle.laws_engine.proofs.PromiseLemmas.{slot_is}
@@ -87,7 +87,7 @@ one_updated e e2 n k q p slots part r remains r2 remains2 within =
     record {
       table = told;
       named = updated_numbered part.table n k new refl refl part.named;
-      has = changed_slots part.table told slots (slot_at e n q p k) (instant_at e2 n q p k) part.has part.named
+      has = changed_slots part.table told slots (slot_at e n q p k) (next_at e2 n q p k) part.has part.named
           (part.behind n k (inr (refl, omega arith)) ∙ slot_is e n k q p r remains within) (updated_here part.table n k new) (λ i j ne. updated_there part.table n k new i j ne);
       before = λ i j b. ⊎_elim
           (λ at. ap (λ z. told z j) at.0 ∙ ap (told n) at.1 ∙ updated_here part.table n k new ∙ sym (slot_is e2 n k q p r2 remains2 within) ∙ sym (ap (λ z. slot_of e2 z j) at.0 ∙ ap (slot_of e2 n) at.1))
@@ -207,7 +207,7 @@ module _ (e : PlainEngine) (s : ℕ) (at : ℤ) (g : GoodEngine e) (h : IsHeartb
   quiet_slot n k q p r remains within away =
       let goes = goes_at n q p r remains in
       slot_is (closed_over e s at) n k q p r remains within
-      ∙ ap (λ x. Some (slot (slope_at q k) (cond (is_leased e n k) None (option_map (λ z. z.1) x)) n k))
+      ∙ ap (λ x. Some (slot (slope_at q k) (cond (is_leased e n k) None x) n k))
       (quiet e.machine s at h.accepted h.queues (arrivals [] q p goes) q (node_at q k) (operator_at p.operators k) (inboxes n k q p r remains within) away)
       ∙ sym (slot_is e n k q p r remains within)
 

@@ -7,7 +7,7 @@ use Rattle.plan.proofs.Lists.{by_test}
 use Rattle.reference.specs.Machine.{Registered}
 use Rattle.laws_queries.specs.Queries.{PlainQuery}
 use Rattle.run_queue.specs.declared.slots.Slot.{Slot}
-use Rattle.laws_engine.specs.Engines.{AreApart, AreRemains, Broken, Goes, GoodEngine, HasGiven, HasSlots, IsIn, IsLease, Lease, PlainEngine, Running, instant_at, is_leased, is_of, query_at, remains_at, slot_at, slot_in, slot_of}
+use Rattle.laws_engine.specs.Engines.{AreApart, AreRemains, Broken, Goes, GoodEngine, HasGiven, HasSlots, IsIn, IsLease, Lease, PlainEngine, Running, is_leased, is_of, next_at, query_at, remains_at, slot_at, slot_in, slot_of}
 use Rattle.laws_engine.specs.Promises.{IsOfSteepest}
 use Rattle.laws_engine.specs.Calls.{IsLeasable, broken, given_out, leased, of_others, slot_updated}
 use Rattle.laws_engine.proofs.BackLemmas.{left_apart, numbered, remains_here, remains_there, same_query, unequal}
@@ -38,7 +38,7 @@ is_of_other : (n k : ℕ) (l : Lease) → (n ≢ l.query) ⊎ (k ≢ l.operator)
 is_of_other n k l (inl ne) = let u : (l.query == n) ≡ false = unequal l.query n (λ e. ne (sym e)) in rw u refl
 is_of_other n k l (inr ne) = let u : (l.operator == k) ≡ false = unequal l.operator k (λ e. ne (sym e)) in by_test (l.query == n) (λ t. rw (t, u) refl) (λ f. rw f refl)
 
-none_leased : (b : Bool) (o : Option ℕ) (t : ℕ) → cond b None o ≡ Some t → b ≡ false
+none_leased : {X : Type 0} (b : Bool) (o : Option X) (t : X) → cond b None o ≡ Some t → b ≡ false
 none_leased true o t e = absurd (cc)
 none_leased false o t e = refl
 
@@ -49,7 +49,7 @@ module _ (e : PlainEngine) (l : Lease) (q : Registered) (p : PlainQuery) (s : Sl
   free =
       let top : IsOfSteepest e s = (keeps_its_promises e g).steepest s h.first in
       subst (λ z. is_leased e z l.operator ≡ false) (sym h.query)
-      (subst (λ z. is_leased e s.query z ≡ false) (sym h.operator) (none_leased (is_leased e s.query s.operator) _ s.instant top.instant))
+      (subst (λ z. is_leased e s.query z ≡ false) (sym h.operator) (none_leased (is_leased e s.query s.operator) _ (s.side, s.instant) top.next))
 
   not_one : (a : Lease) → IsIn e.leases a → l.query ≡ a.query → l.operator ≡ a.operator → ⊥
   not_one a i eq eo =
@@ -87,7 +87,7 @@ module _ (e : PlainEngine) (l : Lease) (q : Registered) (p : PlainQuery) (s : Sl
   old_lease a is = record { numbered = omega (arith, is.numbered); query = is.query; registered = is.registered; plain = is.plain; running = is.running; within = is.within; first = is.first; near = is.near }
 
   out_slots : HasSlots (slot_of (given_out e l)) (slot_updated e (given_out e l) l.query q p p l.operator e.slots)
-  out_slots = changed_slots (slot_of e) (slot_of (given_out e l)) e.slots (slot_at e l.query q p l.operator) (instant_at (given_out e l) l.query q p l.operator) g.slots (numbered e)
+  out_slots = changed_slots (slot_of e) (slot_of (given_out e l)) e.slots (slot_at e l.query q p l.operator) (next_at (given_out e l) l.query q p l.operator) g.slots (numbered e)
       (slot_is e l.query l.operator q p h.of.registered h.of.running h.of.within) (slot_is (given_out e l) l.query l.operator q p h.of.registered h.of.running h.of.within)
       (λ n k ne. same_slot_in e e.queries (e.leases ++ l ∷ []) (e.next + 1) e.slots n k (any_push (is_of n k) e.leases l (is_of_other n k l ne)) (query_at e n) (remains_at e n))
 

@@ -275,9 +275,9 @@ module _ (e : PlainEngine) (g : GoodEngine e) (marks : List (Option ℕ)) (long 
     slot_opened n k (Some q) (Running p) r h = here (nat_lt k (length q.nodes)) refl
       where
         here : (b : Bool) → nat_lt k (length q.nodes) ≡ b
-            → cond b (Some (slot (slope_at q k) (cond (is_leased e n k) None (option_map (λ z. z.1) (ready (operator_at p.operators k) (log_at (opened e marks).machine q k)))) n k)) None
-            ≡ cond b (Some (slot (slope_at q k) (cond (is_leased e n k) None (option_map (λ z. z.1) (ready (operator_at p.operators k) (log_at e.machine q k)))) n k)) None
-        here true l = ap (λ x. Some (slot (slope_at q k) (cond (is_leased e n k) None (option_map (λ z. z.1) x)) n k))
+            → cond b (Some (slot (slope_at q k) (cond (is_leased e n k) None (ready (operator_at p.operators k) (log_at (opened e marks).machine q k))) n k)) None
+            ≡ cond b (Some (slot (slope_at q k) (cond (is_leased e n k) None (ready (operator_at p.operators k) (log_at e.machine q k))) n k)) None
+        here true l = ap (λ x. Some (slot (slope_at q k) (cond (is_leased e n k) None x) n k))
             (ready_by (operator_at p.operators k) (log_at e.machine q k) (log_at (opened e marks).machine q k) (waits_same n q p r h k (ltb-true k (length q.nodes) l)))
         here false l = refl
     slot_opened n k (Some q) (Broken answers) r h = refl

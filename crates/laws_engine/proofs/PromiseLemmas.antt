@@ -1,21 +1,20 @@
 -- A good engine keeps its promises.
-use Rattle.std.proofs.Common.{◌≡◌, ℕ, Bool, true, false, ◌<◌, ◌++◌, ◌⊎◌, cond, inl, inr, Option, Some, None, MatchOption, is_none, unwrap_or, List, [], ◌∷◌, length, nat_lt, lt-ltb, ltb-true, refl, sym, ap, ◌∙◌, subst}
+use Rattle.std.proofs.Common.{◌≡◌, ℕ, Bool, true, false, ◌<◌, ◌++◌, ◌⊎◌, cond, inl, inr, Option, Some, None, MatchOption, is_none, unwrap_or, List, [], ◌∷◌, length, nat_lt, lt-ltb, ltb-true, refl, sym, ap, ap₂, ◌∙◌, subst}
 use Rattle.std.specs.List.{AllByRecursion}
 use Rattle.std.specs.List.Sorted.{IsStrictlySortedBy}
-use Rattle.std.specs.Option.{option_map}
 use Rattle.std.specs.declared.cmp.Ordering.TheVariants.{Less}
 use Rattle.column.specs.declared.batch.Side.{Side}
+use Rattle.column.specs.declared.batch.Side.TheVariants.{Left}
 use Rattle.envelope.specs.Fraction.{NoGreater}
-use Rattle.operators.specs.Operators.{ready}
 use Rattle.plan.proofs.Lists.{by_test}
 use Rattle.reference.specs.Machine.{Machine, Registered}
 use Rattle.laws_queries.specs.Machines.{widths_of}
-use Rattle.laws_queries.specs.Queries.{NoneReady, PlainQuery, log_at, operator_at}
+use Rattle.laws_queries.specs.Queries.{NoneReady, PlainQuery}
 use Rattle.laws_queries.proofs.NodeLemmas.{gives_its_answers}
 use Rattle.run_queue.specs.Slots.{AreIdle, IsSteepest, first_of, slot_cmp}
 use Rattle.run_queue.specs.declared.slots.Slot.{Slot}
 use Rattle.run_queue.proofs.FirstLemmas.{first_is_steepest}
-use Rattle.laws_engine.specs.Engines.{AreRemains, Broken, Dropped, Goes, GoodEngine, HasGiven, IsIn, PlainEngine, PlainRemains, Running, answers_in, instant_at, is_leased, query_at, ready_instant, remains_at, slope_at, slot_at, slot_in, slot_of}
+use Rattle.laws_engine.specs.Engines.{AreRemains, Broken, Dropped, Goes, GoodEngine, HasGiven, IsIn, PlainEngine, PlainRemains, Running, answers_in, is_leased, next_at, query_at, ready_in, remains_at, slope_at, slot_at, slot_in, slot_of}
 use Rattle.laws_engine.specs.Promises.{GivesAll, GivesBeginnings, KeepsItsPromises, LeasesSteepest, TellsIdleness}
 
 -- WHAT WAS GIVEN
@@ -69,11 +68,7 @@ idle_in (t ∷ slots) s h (inr i) = idle_in slots s h.1 i
 all_idle : (slots : List Slot) (o : Option Slot) → first_of slots ≡ o → MatchOption (first_of slots) (AreIdle slots) (IsSteepest slots) → MatchOption o (AreIdle slots) (IsSteepest slots)
 all_idle slots o e h = subst (λ z. MatchOption z (AreIdle slots) (IsSteepest slots)) e h
 
-none_by : (o : Option (Side × ℕ)) → is_none (option_map (λ r. r.1) o) ≡ true → o ≡ None
-none_by None h = refl
-none_by (Some r) h = absurd (cc)
-
-none_at : (o : Option ℕ) → is_none o ≡ true → o ≡ None
+none_at : (o : Option (Side × ℕ)) → is_none o ≡ true → o ≡ None
 none_at None h = refl
 none_at (Some t) h = absurd (cc)
 
@@ -81,15 +76,15 @@ tells_idleness : (e : PlainEngine) → GoodEngine e → TellsIdleness e
 tells_idleness e g first n k q p r remains within =
     let idle : AreIdle e.slots = all_idle e.slots None first (first_is_steepest e.slots g.slots.ordered) in
     let at : (slot_at e n q p k).is_idle ≡ true = idle_in e.slots (slot_at e n q p k) idle (g.slots.there n k (slot_at e n q p k) (slot_is e n k q p r remains within)) in
-    none_at (instant_at e n q p k) at
+    none_at (next_at e n q p k) at
 
 gives_all : (e : PlainEngine) → GoodEngine e → GivesAll e
 gives_all e g n q p r remains ran =
     let goes : Goes e.machine q p = subst (AreRemains e.machine q) remains (g.queries n q r) in
     let unready : NoneReady e.machine q p.operators = λ k within.
     let out : is_leased e n k ≡ false = ran.returned k in
-    let is : instant_at e n q p k ≡ ready_instant e.machine q p k = rw out refl in
-    none_by (ready (operator_at p.operators k) (log_at e.machine q k)) (ap is_none (sym is ∙ ran.unready k within)) in
+    let is : next_at e n q p k ≡ ready_in e.machine q p k = rw out refl in
+    sym is ∙ ran.unready k within in
     record {
       taken = goes.taken;
       counted = goes.counted;
@@ -125,9 +120,9 @@ behind_first [] s t h e i = absurd i
 behind_first (x ∷ slots) s t h e (inl same) = inl (sym same ∙ head_is x.is_idle x s e)
 behind_first (x ∷ slots) s t h e (inr i) = inr (subst (λ z. slot_cmp z t ≡ Less) (head_is x.is_idle x s e) (behind_in x slots t h.0 i))
 
-some_by : (o : Option ℕ) (t : ℕ) → is_none o ≡ false → unwrap_or o 0 ≡ t → o ≡ Some t
-some_by None t f e = absurd (cc)
-some_by (Some x) t f e = ap Some e
+some_by : (o : Option (Side × ℕ)) (side : Side) (t : ℕ) → is_none o ≡ false → (unwrap_or o (Left, 0)).0 ≡ side → (unwrap_or o (Left, 0)).1 ≡ t → o ≡ Some (side, t)
+some_by None side t f d e = absurd (cc)
+some_by (Some x) side t f d e = ap₂ (λ a b. Some (a, b)) d e
 
 steepest : (e : PlainEngine) → GoodEngine e → LeasesSteepest e
 steepest e g s first =
@@ -140,7 +135,7 @@ steepest e g s first =
       plain = is.plain;
       running = is.running;
       within = is.within;
-      instant = some_by (instant_at e s.query is.query is.plain s.operator) s.instant (ap (λ z. z.is_idle) is.is ∙ at.1) (ap (λ z. z.instant) is.is);
+      next = some_by (next_at e s.query is.query is.plain s.operator) s.side s.instant (ap (λ z. z.is_idle) is.is ∙ at.1) (ap (λ z. z.side) is.is) (ap (λ z. z.instant) is.is);
       steepest = λ n k q p t r remains within ready_at.
           subst (λ z. NoGreater (slope_at q k) z.slope.0) (sym is.is)
           (steepest_in e.slots s (slot_at e n q p k) most (g.slots.there n k (slot_at e n q p k) (slot_is e n k q p r remains within)) (ap is_none ready_at));

@@ -82,8 +82,8 @@ module _ (e : PlainEngine) (s : ℕ) (at : ℤ) (g : GoodEngine e) (h : IsHeartb
       let goes = goes_at e s at g h n q p r remains in
       let m = left_more e.machine s at h.accepted h.queues (arrivals e s at g h [] q p goes) q (node_at q k) (operator_at p.operators k) (inboxes e s at g h n k q p r remains within) in
       ⊎_elim
-      (λ none. inl (record { query = q; registered = r; plain = p; running = remains; within = within; reads = is; empty = ap (option_map (λ z. z.1)) none }))
-      (λ same. inr (slot_is (closed_over e s at) n k q p r remains within ∙ ap (λ x. Some (slot (slope_at q k) (cond (is_leased e n k) None (option_map (λ z. z.1) x)) n k)) same ∙ sym (slot_is e n k q p r remains within)))
+      (λ none. inl (record { query = q; registered = r; plain = p; running = remains; within = within; reads = is; empty = none }))
+      (λ same. inr (slot_is (closed_over e s at) n k q p r remains within ∙ ap (λ x. Some (slot (slope_at q k) (cond (is_leased e n k) None x) n k)) same ∙ sym (slot_is e n k q p r remains within)))
       (window_stays (operator_at p.operators k) (log_at e.machine q k) (log_at (closed_over e s at).machine q k) m.0
       (running_usable (widths_of e.machine.streams q) goes.widths e q p.operators (goes.taken ++ p.answers) s k goes.runs.runs within is) m.1)
 

@@ -1,12 +1,13 @@
 -- Slots of a table, of which one changes or those of a query leave.
-use Rattle.std.proofs.Common.{◌≡◌, ◌≢◌, ℕ, ◌<◌, Bool, true, false, not, ◌==◌, cond, inl, inr, ◌⊎◌, ⊎_elim, Option, Some, None, List, [], ◌∷◌, filter, is_none, unwrap_or, refl, sym, ap, ap₂, ◌∙◌, subst, eqb-true, eq-eqb}
+use Rattle.std.proofs.Common.{◌≡◌, ◌≢◌, ℕ, ◌<◌, Bool, true, false, not, ◌==◌, ◌||◌, cond, inl, inr, ◌⊎◌, ⊎_elim, Option, Some, None, List, [], ◌∷◌, filter, refl, sym, ap, ap₂, ◌∙◌, subst, eqb-true, eq-eqb}
 use Rattle.std.specs.Cmp.{ranks}
+use Rattle.column.specs.declared.batch.Side.{Side}
 use Rattle.envelope.specs.Fraction.{fraction_cmp}
 use Rattle.std.specs.Ordering.{MatchOrdering, bool_cmp, is_eq, match_ordering, nat_cmp, ordering_then, ordering_reverse}
 use Rattle.std.specs.declared.cmp.Ordering.{Ordering}
 use Rattle.std.specs.declared.cmp.Ordering.TheVariants.{Less, Equal, Greater}
 use Rattle.plan.proofs.Lists.{by_test}
-use Rattle.run_queue.specs.Slots.{changed, has, put, slot_cmp, with_instant, without, without_query}
+use Rattle.run_queue.specs.Slots.{changed, has, put, slot_cmp, with_next, without, without_query}
 use Rattle.run_queue.specs.declared.slots.Slot.{Slot}
 use Rattle.run_queue.proofs.SlotLemmas.{put_ordered, slots_total, without_ordered, without_query_ordered}
 use Rattle.laws_engine.specs.Engines.{HasSlots, IsIn}
@@ -102,36 +103,36 @@ none_some : {s : Slot} → None ≡ Some s → ⊥
 none_some e = cc
 
 -- ONE OPERATOR has something else to take
-module _ (table table2 : ℕ → ℕ → Option Slot) (slots : List Slot) (s : Slot) (instant : Option ℕ) (h : HasSlots table slots) (named : AreNumbered table)
-    (before : table s.query s.operator ≡ Some s) (after : table2 s.query s.operator ≡ Some (with_instant s instant))
+module _ (table table2 : ℕ → ℕ → Option Slot) (slots : List Slot) (s : Slot) (next : Option (Side × ℕ)) (h : HasSlots table slots) (named : AreNumbered table)
+    (before : table s.query s.operator ≡ Some s) (after : table2 s.query s.operator ≡ Some (with_next s next))
     (others : (n k : ℕ) → (n ≢ s.query) ⊎ (k ≢ s.operator) → table2 n k ≡ table n k) where
   is_there : IsIn slots s
   is_there = h.there s.query s.operator s before
 
   -- no other slot is of its operator
-  alone : (t : Slot) → IsIn (without s slots) t → slot_cmp (with_instant s instant) t ≢ Equal
+  alone : (t : Slot) → IsIn (without s slots) t → slot_cmp (with_next s next) t ≢ Equal
   alone t i e =
       let f = in_filter _ slots t i in
-      let n = same_operator (with_instant s instant) t e in
+      let n = same_operator (with_next s next) t e in
       let at : table s.query s.operator ≡ Some t = ap (λ z. table z s.operator) n.0 ∙ ap (λ z. table t.query z) n.1 ∙ h.only t f.0 in
       let same : s ≡ t = some_slot (sym before ∙ at) in
       let eq : is_eq (slot_cmp t s) ≡ true = ap (λ z. is_eq (slot_cmp z s)) (sym same) ∙ ap is_eq (itself s) in
       let bad : false ≡ true = ap not (sym eq) ∙ f.1 in
       cc
 
-  put_there : (n k : ℕ) (t : Slot) → table2 n k ≡ Some t → IsIn (put (without s slots) (with_instant s instant)) t
+  put_there : (n k : ℕ) (t : Slot) → table2 n k ≡ Some t → IsIn (put (without s slots) (with_next s next)) t
   put_there n k t e = ⊎_elim
-      (λ n2. let same : with_instant s instant ≡ t = some_slot (sym after ∙ ap (λ z. table2 z s.operator) (sym n2.0) ∙ ap (λ z. table2 n z) (sym n2.1) ∙ e) in
-      subst (IsIn (put (without s slots) (with_instant s instant))) same (put_new (without s slots) (with_instant s instant) alone))
+      (λ n2. let same : with_next s next ≡ t = some_slot (sym after ∙ ap (λ z. table2 z s.operator) (sym n2.0) ∙ ap (λ z. table2 n z) (sym n2.1) ∙ e) in
+      subst (IsIn (put (without s slots) (with_next s next))) same (put_new (without s slots) (with_next s next) alone))
       (λ ne.
       let e2 : table n k ≡ Some t = sym (others n k ne) ∙ e in
       let at = named n k t e2 in
       let differs : is_eq (slot_cmp t s) ≡ false = by_test (is_eq (slot_cmp t s))
       (λ eq. let same = same_operator t s (equal_by _ eq) in absurd (⊎_elim (λ bad. bad (sym at.0 ∙ same.0)) (λ bad. bad (sym at.1 ∙ same.1)) ne)) (λ f. f) in
-      put_old (without s slots) (with_instant s instant) t (filter_in _ slots t (h.there n k t e2) (ap not differs)))
+      put_old (without s slots) (with_next s next) t (filter_in _ slots t (h.there n k t e2) (ap not differs)))
       (numbers n k s.query s.operator)
 
-  put_only : (t : Slot) → IsIn (put (without s slots) (with_instant s instant)) t → table2 t.query t.operator ≡ Some t
+  put_only : (t : Slot) → IsIn (put (without s slots) (with_next s next)) t → table2 t.query t.operator ≡ Some t
   put_only t i = ⊎_elim
       (λ j.
       let f = in_filter _ slots t j in
@@ -145,17 +146,17 @@ module _ (table table2 : ℕ → ℕ → Option Slot) (slots : List Slot) (s : S
       (λ ne. others t.query t.operator ne ∙ at)
       (numbers t.query t.operator s.query s.operator))
       (λ e. subst (λ z. table2 z.query z.operator ≡ Some z) e after)
-      (put_cases (without s slots) (with_instant s instant) t i)
+      (put_cases (without s slots) (with_next s next) t i)
 
-  pub changed_slots : HasSlots table2 (changed s instant slots)
+  pub changed_slots : HasSlots table2 (changed s next slots)
   changed_slots =
       let t : has s slots ≡ true = has_in slots s is_there in
-      let new : HasSlots table2 (put (without s slots) (with_instant s instant)) = record {
-        ordered = put_ordered (without s slots) (with_instant s instant) (without_ordered slots s h.ordered);
+      let new : HasSlots table2 (put (without s slots) (with_next s next)) = record {
+        ordered = put_ordered (without s slots) (with_next s next) (without_ordered slots s h.ordered);
         there = put_there;
         only = put_only;
       } in
-      subst (λ b. HasSlots table2 (cond b (put (without s slots) (with_instant s instant)) slots)) (sym t) new
+      subst (λ b. HasSlots table2 (cond b (put (without s slots) (with_next s next)) slots)) (sym t) new
 
 -- ONE OPERATOR that was told already is told again
 has_one : (slots : List Slot) (s : Slot) → has s slots ≡ true → (t : Slot) × (IsIn slots t × (slot_cmp t s ≡ Equal))
@@ -164,27 +165,34 @@ has_one (y ∷ slots) s h = by_test (is_eq (slot_cmp y s))
     (λ b. (y, (inl refl, equal_by (slot_cmp y s) b)))
     (λ f. let g : has s slots ≡ true = rw f at h in let later = has_one slots s g in (later.0, (inr later.1.0, later.1.1)))
 
-bool_equal : (a b : Bool) → bool_cmp a b ≡ Equal → a ≡ b
-bool_equal true true e = refl
-bool_equal true false e = absurd (cc)
-bool_equal false true e = absurd (cc)
-bool_equal false false e = refl
+-- equal slots are found alike, and leave alike
+same_to : (a b t : Slot) → slot_cmp a b ≡ Equal → slot_cmp t a ≡ slot_cmp t b
+same_to a b t e = slots_total.antisymm t a ∙ ap ordering_reverse (slots_total.congr a b t e) ∙ sym (slots_total.antisymm t b)
 
-same_instant : (s : Slot) (instant : Option ℕ) → slot_cmp (with_instant s instant) s ≡ Equal → with_instant s instant ≡ s
-same_instant s instant e =
-    let one = then_equal (bool_cmp (is_none instant) s.is_idle) _ e in
-    let two = then_equal (fraction_cmp s.slope.0 s.slope.0) _ one.1 in
-    let three = then_equal (nat_cmp (unwrap_or instant 0) s.instant) _ two.1 in
-    ap₂ (λ b t. record s { is_idle = b; instant = t }) (bool_equal (is_none instant) s.is_idle one.0) (nat_equal (unwrap_or instant 0) s.instant three.0)
+has_alike : (slots : List Slot) (a b : Slot) → slot_cmp a b ≡ Equal → has a slots ≡ has b slots
+has_alike [] a b e = refl
+has_alike (t ∷ slots) a b e = ap₂ (λ o there. is_eq o || there) (same_to a b t e) (has_alike slots a b e)
 
-pub told_again : (table : ℕ → ℕ → Option Slot) (slots : List Slot) (s : Slot) (instant : Option ℕ) → HasSlots table slots → AreNumbered table → table s.query s.operator ≡ Some (with_instant s instant) → HasSlots table (changed s instant slots)
-told_again table slots s instant h named after = by_test (has s slots)
+without_alike : (slots : List Slot) (a b : Slot) → slot_cmp a b ≡ Equal → without a slots ≡ without b slots
+without_alike [] a b e = refl
+without_alike (t ∷ slots) a b e = ap₂ (λ o rest. cond (not (is_eq o)) (t ∷ rest) rest) (same_to a b t e) (without_alike slots a b e)
+
+changed_alike : (slots : List Slot) (a b : Slot) (next : Option (Side × ℕ)) → slot_cmp a b ≡ Equal → with_next a next ≡ with_next b next → changed a next slots ≡ changed b next slots
+changed_alike slots a b next e same =
+    ap (λ there. cond there (put (without a slots) (with_next a next)) slots) (has_alike slots a b e)
+    ∙ ap₂ (λ rest s. cond (has b slots) (put rest s) slots) (without_alike slots a b e) same
+
+pub told_again : (table : ℕ → ℕ → Option Slot) (slots : List Slot) (s : Slot) (next : Option (Side × ℕ)) → HasSlots table slots → AreNumbered table → table s.query s.operator ≡ Some (with_next s next) → HasSlots table (changed s next slots)
+told_again table slots s next h named after = by_test (has s slots)
     (λ b.
     let one = has_one slots s b in
-    let same = same_operator one.0 s one.1.1 in
-    let is : with_instant s instant ≡ one.0 = some_slot (sym after ∙ ap (λ z. table z s.operator) (sym same.0) ∙ ap (λ z. table one.0.query z) (sym same.1) ∙ h.only one.0 one.1.0) in
-    let old : with_instant s instant ≡ s = same_instant s instant (ap (λ z. slot_cmp z s) is ∙ one.1.1) in
-    changed_slots table table slots s instant h named (after ∙ ap Some old) after (λ n k ne. refl))
+    let t : Slot = one.0 in
+    let same = same_operator t s one.1.1 in
+    let before : table t.query t.operator ≡ Some t = h.only t one.1.0 in
+    let is : with_next s next ≡ t = some_slot (sym after ∙ ap (λ z. table z s.operator) (sym same.0) ∙ ap (λ z. table t.query z) (sym same.1) ∙ before) in
+    let again : with_next t next ≡ with_next s next = ap (λ z. with_next z next) (sym is) in
+    subst (HasSlots table) (changed_alike slots t s next one.1.1 again)
+    (changed_slots table table slots t next h named before (before ∙ ap Some (sym (again ∙ is))) (λ n k ne. refl)))
     (λ f. rw f h)
 
 -- A QUERY'S SLOTS leave

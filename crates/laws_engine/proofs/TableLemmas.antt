@@ -2,13 +2,12 @@
 use Rattle.std.proofs.Common.{◌≡◌, ◌≢◌, ℕ, ◌==◌, ◌&&◌, nat_lt, true, false, cond, inl, inr, ◌⊎◌, Option, Some, None, List, length, refl, sym, ap, ◌∙◌, eqb-true, eq-eqb}
 use Rattle.std.specs.List.{list_any}
 use Rattle.plan.proofs.Lists.{by_test}
-use Rattle.std.specs.Option.{option_map}
 use Rattle.run_queue.specs.Slots.{slot}
 use Rattle.operators.specs.Operators.{ready}
 use Rattle.reference.specs.Machine.{Registered}
 use Rattle.laws_queries.specs.Queries.{PlainQuery, log_at, operator_at}
 use Rattle.run_queue.specs.declared.slots.Slot.{Slot}
-use Rattle.laws_engine.specs.Engines.{Broken, Dropped, Lease, PlainEngine, PlainRemains, Running, is_leased, is_of, query_at, ready_instant, remains_at, slope_at, slot_at, slot_in, slot_of}
+use Rattle.laws_engine.specs.Engines.{Broken, Dropped, Lease, PlainEngine, PlainRemains, Running, is_leased, is_of, query_at, ready_in, remains_at, slope_at, slot_at, slot_in, slot_of}
 use Rattle.laws_engine.proofs.BackLemmas.{unequal}
 use Rattle.laws_engine.proofs.SlotLemmas.{AreNumbered}
 
@@ -48,8 +47,8 @@ module _ (e : PlainEngine) (queries : List PlainRemains) (leases : List Lease) (
   -- of an operator that is as it was
   pub same_slot_at : (q : Registered) (p p2 : PlainQuery) → operator_at p2.operators k ≡ operator_at p.operators k → slot_at (over e queries leases next slots) n q p2 k ≡ slot_at e n q p k
   same_slot_at q p p2 o =
-      ap (λ b. slot (slope_at q k) (cond b None (ready_instant e.machine q p2 k)) n k) leased
-      ∙ ap (λ x. slot (slope_at q k) (cond (is_leased e n k) None (option_map (λ r. r.1) (ready x (log_at e.machine q k)))) n k) o
+      ap (λ b. slot (slope_at q k) (cond b None (ready_in e.machine q p2 k)) n k) leased
+      ∙ ap (λ x. slot (slope_at q k) (cond (is_leased e n k) None (ready x (log_at e.machine q k))) n k) o
 
   pub same_slot_in : (o : Option Registered) (remains : PlainRemains) → slot_in (over e queries leases next slots) n k o remains ≡ slot_in e n k o remains
   same_slot_in None remains = refl

@@ -16,7 +16,7 @@ use Rattle.laws_queries.specs.Steps.{IsFirst}
 use Rattle.laws_queries.proofs.BeatLemmas.{same_number}
 use Rattle.laws_queries.proofs.MachineCounts.{machines_stand}
 use Rattle.laws_queries.proofs.RowLemmas.{rows_stand}
-use Rattle.laws_engine.specs.Engines.{AreRemains, Broken, Dropped, Goes, GoodEngine, HasGiven, HasSlots, IsLease, Lease, PlainEngine, PlainRemains, Running, answers_in, is_leased, is_of, query_at, ready_instant, remains_at, slope_at, slot_at, slot_in, slot_of}
+use Rattle.laws_engine.specs.Engines.{AreRemains, Broken, Dropped, Goes, GoodEngine, HasGiven, HasSlots, IsLease, Lease, PlainEngine, PlainRemains, Running, answers_in, is_leased, is_of, query_at, ready_in, remains_at, slope_at, slot_at, slot_in, slot_of}
 use Rattle.laws_engine.specs.Calls.{IsTake, remains_after, taken, with_queries, with_taken}
 use Rattle.laws_engine.proofs.AgainLemmas.{log_again, runs_again, source_again}
 
@@ -119,8 +119,8 @@ anew e qs queries leases slots = record { machine = with_queries e.machine qs; q
 module _ (e : PlainEngine) (qs : List Registered) (queries : List PlainRemains) (leases : List Lease) (slots : List Slot) (n k : ℕ) (leased : list_any (is_of n k) leases ≡ list_any (is_of n k) e.leases) where
   slot_anew : (q : Registered) (t : ℕ) (p : PlainQuery) (answers : List (ℕ × Row)) → slot_at (anew e qs queries leases slots) n (with_taken q t) (record p { answers = answers }) k ≡ slot_at e n q p k
   slot_anew q t p answers =
-      ap (λ b. slot (slope_at q k) (cond b None (ready_instant (with_queries e.machine qs) (with_taken q t) p k)) n k) leased
-      ∙ ap (λ x. slot (slope_at q k) (cond (is_leased e n k) None (option_map (λ r. r.1) (ready (operator_at p.operators k) x))) n k) (log_again [] [] e.machine qs q t k)
+      ap (λ b. slot (slope_at q k) (cond b None (ready_in (with_queries e.machine qs) (with_taken q t) p k)) n k) leased
+      ∙ ap (λ x. slot (slope_at q k) (cond (is_leased e n k) None (ready (operator_at p.operators k) x)) n k) (log_again [] [] e.machine qs q t k)
 
   pub same_anew : (o : Option Registered) (remains : PlainRemains) → slot_in (anew e qs queries leases slots) n k o remains ≡ slot_in e n k o remains
   same_anew None remains = refl

@@ -14,11 +14,11 @@ use Rattle.stream_store.specs.Closing.{QueuesGain}
 use Rattle.laws_queries.specs.Steps.{IsFirst, outs_at_first}
 use Rattle.run_queue.specs.Slots.{changed, first_of, put, without_query}
 use Rattle.run_queue.specs.declared.slots.Slot.{Slot}
-use Rattle.laws_engine.specs.Engines.{Broken, Dropped, Goes, Lease, PlainEngine, PlainRemains, Running, answers_in, instant_at, query_at, remains_at, slot_at}
+use Rattle.laws_engine.specs.Engines.{Broken, Dropped, Goes, Lease, PlainEngine, PlainRemains, Running, answers_in, next_at, query_at, remains_at, slot_at}
 
--- the slots with that of the operator k of the query n, which is in `old`, at the instant that it has in `new`
+-- the slots with that of the operator k of the query n, which is in `old`, with what this may take next in `new`
 abbrev pub slot_updated : PlainEngine → PlainEngine → ℕ → Registered → PlainQuery → PlainQuery → ℕ → List Slot → List Slot
-slot_updated old new n q p p2 k slots = changed (slot_at old n q p k) (instant_at new n q p2 k) slots
+slot_updated old new n q p p2 k slots = changed (slot_at old n q p k) (next_at new n q p2 k) slots
 
 -- THE QUERY AND THE OPERATOR that a turn is of
 pub record IsOf (e : PlainEngine) (l : Lease) (q : Registered) (p : PlainQuery) : Type 0 where

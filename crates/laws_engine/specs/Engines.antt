@@ -2,7 +2,6 @@
 use Rattle.std.specs.Prelude.{ℕ, Bool, ◌≡◌, ◌<◌, ◌==◌, ◌&&◌, ◌⊎◌, nat_lt, cond, Option, Some, None, List, [], ◌∷◌, ◌++◌, length, map, get_or, slice_get}
 use Rattle.std.specs.List.{list_any}
 use Rattle.std.specs.List.Sorted.{IsStrictlySortedBy}
-use Rattle.std.specs.Option.{option_map}
 use Rattle.values.specs.Row.{Row}
 use Rattle.column.specs.declared.batch.Side.{Side}
 use Rattle.op_queue.specs.declared.item.Item.{Item}
@@ -74,16 +73,16 @@ is_leased e n k = list_any (is_of n k) e.leases
 abbrev pub slope_at : Registered → ℕ → Fraction
 slope_at q k = get_or (plan_slopes q.nodes q.measures) k (fraction 0 1)
 
--- the instant of what the operator k of a running query may take next
-abbrev pub ready_instant : Machine → Registered → PlainQuery → ℕ → Option ℕ
-ready_instant m q p k = option_map (λ r. r.1) (ready (operator_at p.operators k) (log_at m q k))
+-- the side and the instant of what the operator k of a running query may take next
+abbrev pub ready_in : Machine → Registered → PlainQuery → ℕ → Option (Side × ℕ)
+ready_in m q p k = ready (operator_at p.operators k) (log_at m q k)
 
 -- it may not be leased twice
-abbrev pub instant_at : PlainEngine → ℕ → Registered → PlainQuery → ℕ → Option ℕ
-instant_at e n q p k = cond (is_leased e n k) None (ready_instant e.machine q p k)
+abbrev pub next_at : PlainEngine → ℕ → Registered → PlainQuery → ℕ → Option (Side × ℕ)
+next_at e n q p k = cond (is_leased e n k) None (ready_in e.machine q p k)
 
 abbrev pub slot_at : PlainEngine → ℕ → Registered → PlainQuery → ℕ → Slot
-slot_at e n q p k = slot (slope_at q k) (instant_at e n q p k) n k
+slot_at e n q p k = slot (slope_at q k) (next_at e n q p k) n k
 
 -- the slot of the operator k of the query n, if that runs and has such an operator
 abbrev pub slot_in : PlainEngine → ℕ → ℕ → Option Registered → PlainRemains → Option Slot

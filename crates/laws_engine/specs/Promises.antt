@@ -2,12 +2,13 @@
 use Rattle.std.specs.Prelude.{ℕ, false, ◌≡◌, ◌<◌, ◌++◌, ◌⊎◌, Some, None, List, drop, length}
 use Rattle.std.specs.declared.cmp.Ordering.TheVariants.{Less}
 use Rattle.values.specs.Row.{Row}
+use Rattle.column.specs.declared.batch.Side.{Side}
 use Rattle.envelope.specs.Fraction.{NoGreater}
 use Rattle.reference.specs.Machine.{Registered, closed_answers}
 use Rattle.laws_queries.specs.Queries.{PlainQuery}
 use Rattle.run_queue.specs.Slots.{first_of, slot_cmp}
 use Rattle.run_queue.specs.declared.slots.Slot.{Slot}
-use Rattle.laws_engine.specs.Engines.{HasGiven, PlainEngine, Running, answers_in, instant_at, is_leased, query_at, remains_at, slope_at, slot_at}
+use Rattle.laws_engine.specs.Engines.{HasGiven, PlainEngine, Running, answers_in, is_leased, next_at, query_at, remains_at, slope_at, slot_at}
 
 -- OF EACH QUERY the answers that were taken, and those that wait, are a beginning of CQL's answers for the instants that are closed
 abbrev pub GivesBeginnings : PlainEngine → Type 0
@@ -21,7 +22,7 @@ pub record HasGivenAll (e : PlainEngine) (q : Registered) (p : PlainQuery) : Typ
 
 -- none of the query's operators may be leased, and none is
 pub record HasNothingToRun (e : PlainEngine) (n : ℕ) (q : Registered) (p : PlainQuery) : Type 0 where
-  pub unready : (k : ℕ) → k < length q.nodes → instant_at e n q p k ≡ None
+  pub unready : (k : ℕ) → k < length q.nodes → next_at e n q p k ≡ None
   pub returned : (k : ℕ) → is_leased e n k ≡ false
 
 -- so of each query that runs of which nothing is left to run, whatever others have
@@ -36,10 +37,10 @@ pub record IsOfSteepest (e : PlainEngine) (s : Slot) : Type 0 where
   pub plain : PlainQuery
   pub running : remains_at e s.query ≡ Running plain
   pub within : s.operator < length query.nodes
-  pub instant : instant_at e s.query query plain s.operator ≡ Some s.instant
-  pub steepest : (n k : ℕ) (q : Registered) (p : PlainQuery) (t : ℕ) → query_at e n ≡ Some q → remains_at e n ≡ Running p → k < length q.nodes → instant_at e n q p k ≡ Some t
+  pub next : next_at e s.query query plain s.operator ≡ Some (s.side, s.instant)
+  pub steepest : (n k : ℕ) (q : Registered) (p : PlainQuery) (t : Side × ℕ) → query_at e n ≡ Some q → remains_at e n ≡ Running p → k < length q.nodes → next_at e n q p k ≡ Some t
       → NoGreater (slope_at q k) (slope_at query s.operator)
-  pub first : (n k : ℕ) (q : Registered) (p : PlainQuery) (t : ℕ) → query_at e n ≡ Some q → remains_at e n ≡ Running p → k < length q.nodes → instant_at e n q p k ≡ Some t
+  pub first : (n k : ℕ) (q : Registered) (p : PlainQuery) (t : Side × ℕ) → query_at e n ≡ Some q → remains_at e n ≡ Running p → k < length q.nodes → next_at e n q p k ≡ Some t
       → (slot_at e n q p k ≡ s) ⊎ (slot_cmp s (slot_at e n q p k) ≡ Less)
 
 abbrev pub LeasesSteepest : PlainEngine → Type 0
@@ -47,7 +48,7 @@ LeasesSteepest e = (s : Slot) → first_of e.slots ≡ Some s → IsOfSteepest e
 
 -- WHERE THERE IS NO FIRST SLOT no operator may be leased
 abbrev pub TellsIdleness : PlainEngine → Type 0
-TellsIdleness e = first_of e.slots ≡ None → (n k : ℕ) (q : Registered) (p : PlainQuery) → query_at e n ≡ Some q → remains_at e n ≡ Running p → k < length q.nodes → instant_at e n q p k ≡ None
+TellsIdleness e = first_of e.slots ≡ None → (n k : ℕ) (q : Registered) (p : PlainQuery) → query_at e n ≡ Some q → remains_at e n ≡ Running p → k < length q.nodes → next_at e n q p k ≡ None
 
 -- ALL FOUR
 pub record KeepsItsPromises (e : PlainEngine) : Type 0 where

@@ -3,7 +3,7 @@ use Rattle.std.specs.Prelude.{ℕ, ◌≡◌, ◌<◌, true, Some, None, length}
 use Rattle.reference.specs.Machine.{Registered}
 use Rattle.laws_queries.specs.Queries.{PlainQuery, node_at}
 use Rattle.laws_engine.specs.Calls.{is_reading}
-use Rattle.laws_engine.specs.Engines.{PlainEngine, Running, query_at, ready_instant, remains_at}
+use Rattle.laws_engine.specs.Engines.{PlainEngine, Running, query_at, ready_in, remains_at}
 
 -- the operator k of the query n, which runs, is a window over the stream s and has nothing to take
 pub record IsResting (e : PlainEngine) (s n k : ℕ) : Type 0 where
@@ -13,4 +13,4 @@ pub record IsResting (e : PlainEngine) (s n k : ℕ) : Type 0 where
   pub running : remains_at e n ≡ Running plain
   pub within : k < length query.nodes
   pub reads : is_reading query s (node_at query k) ≡ true
-  pub empty : ready_instant e.machine query plain k ≡ None
+  pub empty : ready_in e.machine query plain k ≡ None

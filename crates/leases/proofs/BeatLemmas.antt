@@ -16,11 +16,11 @@ use Rattle.reference.proofs.StepLemmas.{lacked}
 use Rattle.stream_store.specs.Closing.{closing_at, closing_in, unless_faulty}
 use Rattle.laws_queries.proofs.NewestLemmas.{registrations_stand}
 use Rattle.laws_queries.specs.Queries.{PlainQuery}
-use Rattle.run_queue.specs.Slots.{slot, with_instant}
+use Rattle.run_queue.specs.Slots.{slot, with_next}
 use Rattle.run_queue.specs.declared.slots.Slot.{Slot}
 use Rattle.laws_engine.specs.Asks.{IsOperator}
 use Rattle.laws_engine.specs.Calls.{IsHeartbeat, closed_over, heartbeat_taken}
-use Rattle.laws_engine.specs.Engines.{GoodEngine, HasSlots, IsIn, PlainEngine, Running, instant_at, query_at, remains_at, slope_at, slot_at, slot_of}
+use Rattle.laws_engine.specs.Engines.{GoodEngine, HasSlots, IsIn, PlainEngine, Running, next_at, query_at, remains_at, slope_at, slot_at, slot_of}
 use Rattle.laws_engine.specs.Resting.{IsResting}
 use Rattle.laws_engine.proofs.InstantLemmas.{few_closed_stand}
 use Rattle.laws_engine.proofs.AskLemmas.{may_ask}
@@ -33,7 +33,7 @@ use Rattle.laws_engine.proofs.TableLemmas.{updated, updated_here, updated_number
 use Rattle.laws_engine.proofs.TakeLemmas.{equal_slots}
 use Rattle.plan.proofs.Lists.{by_test}
 use Rattle.leases.specs.Asked.{HasOperatorAt}
-use Rattle.leases.specs.Readers.{instant_in, instant_of, reader, idle_slot, idle_slots, is_idle_at, with_update, with_updates, with_slots}
+use Rattle.leases.specs.Readers.{next_for, next_in, reader, idle_slot, idle_slots, is_idle_at, with_update, with_updates, with_slots}
 use Rattle.leases.specs.Shown.{engine_in, world_in}
 use Rattle.leases.specs.Sound.{IsSound}
 use Rattle.leases.specs.declared.reader.Reader.{Reader}
@@ -104,22 +104,22 @@ record ArePartly (e e2 : PlainEngine) (todo slots : List Slot) : Type 0 where
   has : HasSlots table slots
   each : (n k : ℕ) → (table n k ≡ slot_of e2 n k) ⊎ ((table n k ≡ slot_of e n k) × HasOne todo n k)
 
-instant_is : (e : PlainEngine) (n k : ℕ) (q : Registered) (p : PlainQuery) → query_at e n ≡ Some q → remains_at e n ≡ Running p → instant_of e n k ≡ instant_at e n q p k
-instant_is e n k q p r running = ap (λ z. instant_in e n k z (remains_at e n)) r ∙ ap (instant_in e n k (Some q)) running
+next_is : (e : PlainEngine) (n k : ℕ) (q : Registered) (p : PlainQuery) → query_at e n ≡ Some q → remains_at e n ≡ Running p → next_for e n k ≡ next_at e n q p k
+next_is e n k q p r running = ap (λ z. next_in e n k z (remains_at e n)) r ∙ ap (next_in e n k (Some q)) running
 
 module _ (e : PlainEngine) (s : ℕ) (at : ℤ) where
   -- a slot with what its operator may take after the heartbeat
-  new_slot : (x : Slot) → slot_of e x.query x.operator ≡ Some x → slot_of (closed_over e s at) x.query x.operator ≡ Some (with_instant x (instant_of (closed_over e s at) x.query x.operator))
+  new_slot : (x : Slot) → slot_of e x.query x.operator ≡ Some x → slot_of (closed_over e s at) x.query x.operator ≡ Some (with_next x (next_for (closed_over e s at) x.query x.operator))
   new_slot x is =
       let o = is_slot e x.query x.operator x is in
       slot_is (closed_over e s at) x.query x.operator o.query o.plain o.registered o.running o.within
-      ∙ ap (λ t. Some (slot (slope_at o.query x.operator) t x.query x.operator)) (sym (instant_is (closed_over e s at) x.query x.operator o.query o.plain o.registered o.running))
-      ∙ ap (λ z. Some (with_instant z (instant_of (closed_over e s at) x.query x.operator))) o.is
+      ∙ ap (λ t. Some (slot (slope_at o.query x.operator) t x.query x.operator)) (sym (next_is (closed_over e s at) x.query x.operator o.query o.plain o.registered o.running))
+      ∙ ap (λ z. Some (with_next z (next_for (closed_over e s at) x.query x.operator))) o.is
 
   one_told : (x : Slot) (todo slots : List Slot) → slot_of e x.query x.operator ≡ Some x → ArePartly e (closed_over e s at) (x ∷ todo) slots → ArePartly e (closed_over e s at) todo (with_update (closed_over e s at) x slots)
   one_told x todo slots is p =
-      let instant = instant_of (closed_over e s at) x.query x.operator in
-      let new = with_instant x instant in
+      let next = next_for (closed_over e s at) x.query x.operator in
+      let new = with_next x next in
       let table2 : ℕ → ℕ → Option Slot = updated p.table x.query x.operator new in
       record {
         table = table2;
@@ -132,8 +132,8 @@ module _ (e : PlainEngine) (s : ℕ) (at : ℤ) where
             (λ same. ap (λ z. table2 z k) same.0 ∙ ap (table2 x.query) same.1 ∙ updated_here p.table x.query x.operator new ∙ sym here ∙ sym (ap (λ z. p.table z k) same.0 ∙ ap (p.table x.query) same.1))
             (λ ne. updated_there p.table x.query x.operator new n k ne)
             (numbers n k x.query x.operator))
-            (told_again p.table slots x instant p.has p.named here))
-            (λ todo. changed_slots p.table table2 slots x instant p.has p.named (todo.0 ∙ is) (updated_here p.table x.query x.operator new) (λ n k ne. updated_there p.table x.query x.operator new n k ne))
+            (told_again p.table slots x next p.has p.named here))
+            (λ todo. changed_slots p.table table2 slots x next p.has p.named (todo.0 ∙ is) (updated_here p.table x.query x.operator new) (λ n k ne. updated_there p.table x.query x.operator new n k ne))
             (p.each x.query x.operator);
         each = λ n k. ⊎_elim
             (λ same. inl (ap (λ z. table2 z k) same.0 ∙ ap (table2 x.query) same.1 ∙ updated_here p.table x.query x.operator new ∙ sym (new_slot x is)

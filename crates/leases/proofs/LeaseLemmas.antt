@@ -1,7 +1,6 @@
 -- A turn that goes out, and the engine after it.
 use Rattle.std.proofs.Common.{◌≡◌, ℕ, ◌+◌, ◌<◌, ◌++◌, ◌||◌, ◌&&◌, ◌==◌, not, nat_le, is_some, Bool, cond, true, false, inl, inr, ◌⊎◌, ⊎_elim, Option, Some, None, Result, Ok, Err, List, [], ◌∷◌, length, map, min, refl, sym, ap, ◌∙◌, subst, arith, eq-eqb, length-append}
 use Rattle.std.specs.List.{list_any}
-use Rattle.std.specs.Option.{option_map}
 use Rattle.std.proofs.lemmas.List.{map-append}
 use Rattle.values.specs.Row.{Row}
 use Rattle.column.specs.declared.batch.Side.{Side}
@@ -27,16 +26,17 @@ use Rattle.laws_queries.specs.Registrations.{HaveColumnNames}
 use Rattle.laws_queries.specs.Steps.{IsFirst}
 use Rattle.run_queue.specs.Slots.{changed, first_of}
 use Rattle.run_queue.specs.declared.slots.Slot.{Slot}
-use Rattle.query_runtime.specs.Turns.{HasOperator, IsLeased, log_of}
+use Rattle.query_runtime.specs.Turns.{IsLeased, log_of}
+use Rattle.laws_engine.specs.Asks.{IsOperator}
 use Rattle.laws_engine.specs.Bounds.{HaveFewClosed}
 use Rattle.laws_engine.specs.Calls.{IsLeasable, given_out, leased, slot_updated}
-use Rattle.laws_engine.specs.Engines.{GoodEngine, IsIn, Lease, PlainEngine, Running, instant_at, is_leased, is_of, remains_at, slot_at}
+use Rattle.laws_engine.specs.Engines.{GoodEngine, IsIn, Lease, PlainEngine, Running, is_leased, is_of, next_at, ready_in, remains_at, slot_at}
 use Rattle.laws_engine.specs.Promises.{HasAllWaiting, IsOfSteepest}
 use Rattle.laws_engine.proofs.AskLemmas.{may_ask}
 use Rattle.laws_engine.proofs.IdleLemmas.{idle_waits}
 use Rattle.laws_engine.proofs.LeaseLemmas.{lease_good}
 use Rattle.laws_engine.proofs.PromiseLemmas.{first_in, keeps_its_promises, slot_is}
-use Rattle.leases.specs.Leasing.{IsOfSide, IsReady, IsReadyAt, IsTurnOn, MayLeaseOn, node_on}
+use Rattle.leases.specs.Leasing.{IsOfSlot, IsTurnOn, MayLeaseOn, node_on}
 use Rattle.leases.specs.Readers.{readers_of}
 use Rattle.leases.specs.Shown.{engine_in}
 use Rattle.leases.specs.Sound.{IsSound, is_gone}
@@ -74,58 +74,27 @@ known_item (Tick t) (Tick u) h e = let f : TickAt t ∷ [] ≡ TickAt u ∷ [] =
 same_running : {p r : PlainQuery} → Running p ≡ Running r → p ≡ r
 same_running e = cc
 
-made_of : (e : PlainEngine) (n k : ℕ) (side : Side) (rows : ℕ) (g : Turn) (p : PlainQuery) → remains_at e n ≡ Running p → IsTurnOn e n k side rows g → IsOfSide e n k side rows g p
-made_of e n k side rows g p running made = subst (IsOfSide e n k side rows g) (same_running (sym made.1.running ∙ running)) made.1
+made_of : (e : PlainEngine) (s : Slot) (rows : ℕ) (g : Turn) (p : PlainQuery) → remains_at e s.query ≡ Running p → IsTurnOn e s rows g → IsOfSlot e s rows g p
+made_of e s rows g p running made = subst (IsOfSlot e s rows g) (same_running (sym made.1.running ∙ running)) made.1
 
 -- one with an item and an excerpt
-abbrev turn_with : PlainEngine → PlainQuery → ℕ → ℕ → Side → Item → Near → Turn
-turn_with e p n k side i near = record { lease = e.next; node = node_on p n k side; item = i; near = near }
+abbrev turn_with : PlainEngine → PlainQuery → Slot → Item → Near → Turn
+turn_with e p s i near = record { lease = e.next; node = node_on p s; item = i; near = near }
 
 abbrev with_number : ℕ → PlainNode → Item → Near → Turn
 with_number a node i near = record { lease = a; node = node; item = i; near = near }
 
-is_turn_with : (e : PlainEngine) (n k : ℕ) (side : Side) (rows : ℕ) (g : Turn) (p : PlainQuery) → IsOfSide e n k side rows g p → g ≡ turn_with e p n k side g.item g.near
-is_turn_with e n k side rows g p of = ap (λ z. with_number z g.node g.item g.near) of.number ∙ ap (λ z. with_number e.next z g.item g.near) of.node
+is_turn_with : (e : PlainEngine) (s : Slot) (rows : ℕ) (g : Turn) (p : PlainQuery) → IsOfSlot e s rows g p → g ≡ turn_with e p s g.item g.near
+is_turn_with e s rows g p of = ap (λ z. with_number z g.node g.item g.near) of.number ∙ ap (λ z. with_number e.next z g.item g.near) of.node
 
-pub same_turn : (e : PlainEngine) (n k : ℕ) (side : Side) (rows : ℕ) (g h : Turn) → IsTurnOn e n k side rows g → IsTurnOn e n k side rows h → g ≡ h
-same_turn e n k side rows g h made again =
+pub same_turn : (e : PlainEngine) (s : Slot) (rows : ℕ) (g h : Turn) → IsTurnOn e s rows g → IsTurnOn e s rows h → g ≡ h
+same_turn e s rows g h made again =
     let p : PlainQuery = made.0 in
-    let a : IsOfSide e n k side rows g p = made.1 in
-    let b : IsOfSide e n k side rows h p = made_of e n k side rows h p made.1.running again in
+    let a : IsOfSlot e s rows g p = made.1 in
+    let b : IsOfSlot e s rows h p = made_of e s rows h p made.1.running again in
     let item : g.item ≡ h.item = known_item g.item h.item a.leased.first.some (a.leased.cut ∙ sym b.leased.cut) in
-    let near : g.near ≡ h.near = a.leased.near ∙ ap (near_of (operator_at p.operators k).state side) item ∙ sym b.leased.near in
-    is_turn_with e n k side rows g p a ∙ (ap (λ z. turn_with e p n k side z g.near) item ∙ (ap (turn_with e p n k side h.item) near ∙ sym (is_turn_with e n k side rows h p b)))
-
--- AN OPERATOR that may take something
-ready_of : (e : PlainEngine) (n k : ℕ) (p : PlainQuery) → IsReadyAt e n k → remains_at e n ≡ Running p → (q : Registered) × IsReady e n k q p
-ready_of e n k p r running = (r.0, subst (IsReady e n k r.0) (same_running (sym r.1.1.operator.running ∙ running)) r.1.1)
-
-pub ready_operator : (e : PlainEngine) (n k : ℕ) (p : PlainQuery) → GoodEngine e → IsReadyAt e n k → remains_at e n ≡ Running p → HasOperator e.machine.streams p k
-ready_operator e n k p good r running = let is = ready_of e n k p r running in (may_ask e good).operators n k is.0 p is.1.operator
-
-some_ready : (b : Bool) (o : Option (Side × ℕ)) (t : ℕ) → cond b None (option_map (λ r. r.1) o) ≡ Some t → o ≡ None → ⊥
-some_ready true o t e f = absurd (cc)
-some_ready false None t e f = absurd (cc)
-some_ready false (Some r) t e f = absurd (cc)
-
-pub ready_takes : (e : PlainEngine) (n k : ℕ) (p : PlainQuery) → GoodEngine e → IsReadyAt e n k → remains_at e n ≡ Running p → ready (operator_at p.operators k) (log_of e.machine.streams p k) ≡ None → ⊥
-ready_takes e n k p good r running none =
-    let is = ready_of e n k p r running in
-    let log : log_of e.machine.streams p k ≡ log_at e.machine is.0 k = (may_ask e good).logs n k is.0 p is.1.operator in
-    some_ready (is_leased e n k) (ready (operator_at p.operators k) (log_at e.machine is.0 k)) is.1.at is.1.instant (ap (ready (operator_at p.operators k)) (sym log) ∙ none)
-
-pub ready_leases : (e : PlainEngine) (n k : ℕ) (p : PlainQuery) (side : Side) (at rows : ℕ) → GoodEngine e → IsReadyAt e n k → remains_at e n ≡ Running p
-    → ready (operator_at p.operators k) (log_of e.machine.streams p k) ≡ Some (side, at) → 0 < rows → MayLeaseOn e n k side rows
-ready_leases e n k p side at rows good r running is some =
-    let of = ready_of e n k p r running in
-    (p, record { running = running; operator = (may_ask e good).operators n k of.0 p of.1.operator; may = (may_ask e good).leases n k of.0 p side at rows of.1.operator is some; at = at; takes = is })
-
-pub first_ready : (e : PlainEngine) (s : Slot) (n k : ℕ) → GoodEngine e → first_of e.slots ≡ Some s → n ≡ s.query → k ≡ s.operator → IsReadyAt e n k
-first_ready e s n k good first is_query is_operator =
-    let top : IsOfSteepest e s = (keeps_its_promises e good).steepest s first in
-    let ready : IsReadyAt e s.query s.operator =
-    (top.query, (top.plain, record { operator = record { registered = top.registered; running = top.running; within = top.within }; at = s.instant; instant = top.instant })) in
-    subst (λ z. IsReadyAt e z k) (sym is_query) (subst (IsReadyAt e s.query) (sym is_operator) ready)
+    let near : g.near ≡ h.near = a.leased.near ∙ ap (near_of (operator_at p.operators s.operator).state s.side) item ∙ sym b.leased.near in
+    is_turn_with e s rows g p a ∙ (ap (λ z. turn_with e p s z g.near) item ∙ (ap (turn_with e p s h.item) near ∙ sym (is_turn_with e s rows h p b)))
 
 -- THE ENGINE after it
 abbrev pub out_of : PlainEngine → Slot → Turn → PlainEngine
@@ -144,77 +113,85 @@ is_of_own l = let u : (l.query == l.query) ≡ true = eq-eqb l.query l.query ref
 pub some_slot : {a b : Slot} → Some a ≡ Some b → a ≡ b
 some_slot e = cc
 
--- what is ready is of the slot's instant
-ready_since : (b : Bool) (o : Option (Side × ℕ)) (side : Side) (at t : ℕ) → cond b None (option_map (λ r. r.1) o) ≡ Some t → o ≡ Some (side, at) → at ≡ t
-ready_since true o side at t e f = absurd (cc)
-ready_since false None side at t e f = absurd (cc)
-ready_since false (Some r) side at t e f =
-    let one : r ≡ (side, at) = cc in
-    let two : r.1 ≡ t = cc in
-    ap (λ z. z.1) (sym one) ∙ two
+-- what may be taken next of an operator of which no turn is out is what is ready
+next_ready : (b : Bool) (o : Option (Side × ℕ)) (next : Side × ℕ) → cond b None o ≡ Some next → o ≡ Some next
+next_ready true o next e = absurd (cc)
+next_ready false o next e = e
 
-module _ (e : PlainEngine) (s : Slot) (side : Side) (rows : ℕ) (good : GoodEngine e) (first : first_of e.slots ≡ Some s) (allowed : lease_fault e rows ≡ None) where
+module _ (e : PlainEngine) (s : Slot) (rows : ℕ) (good : GoodEngine e) (first : first_of e.slots ≡ Some s) where
   top : IsOfSteepest e s
   top = (keeps_its_promises e good).steepest s first
+
+  operator_is : IsOperator e s.query s.operator top.query top.plain
+  operator_is = record { registered = top.registered; running = top.running; within = top.within }
 
   first_slot : slot_at e s.query top.query top.plain s.operator ≡ s
   first_slot = some_slot (sym (slot_is e s.query s.operator top.query top.plain top.registered top.running top.within) ∙ good.slots.only s (first_in e.slots s first).0)
 
   log_is : log_of e.machine.streams top.plain s.operator ≡ log_at e.machine top.query s.operator
-  log_is = (may_ask e good).logs s.query s.operator top.query top.plain (record { registered = top.registered; running = top.running; within = top.within })
+  log_is = (may_ask e good).logs s.query s.operator top.query top.plain operator_is
 
-  module _ (i : Item) (near : Near) (is : IsLeased (operator_at top.plain.operators s.operator) (log_of e.machine.streams top.plain s.operator) side rows i near)
-      (at : ℕ) (takes : ready (operator_at top.plain.operators s.operator) (log_of e.machine.streams top.plain s.operator) ≡ Some (side, at)) where
-    abbrev made : Turn
-    made = turn_with e top.plain s.query s.operator side i near
+  takes : ready (operator_at top.plain.operators s.operator) (log_at e.machine top.query s.operator) ≡ Some (s.side, s.instant)
+  takes = next_ready (is_leased e s.query s.operator) (ready_in e.machine top.query top.plain s.operator) (s.side, s.instant) top.next
 
-    item_first : IsFirst (operator_at top.plain.operators s.operator) (log_at e.machine top.query s.operator) side i
-    item_first = subst (λ z. IsFirst (operator_at top.plain.operators s.operator) z side i) log_is is.first
+  -- THE FIRST SLOT is of an operator that may be leased on its side
+  pub first_leases : 0 < rows → MayLeaseOn e s rows
+  first_leases some = (
+    top.plain,
+    record {
+      running = top.running;
+      operator = (may_ask e good).operators s.query s.operator top.query top.plain operator_is;
+      may = (may_ask e good).leases s.query s.operator top.query top.plain s.side s.instant rows operator_is (ap (ready (operator_at top.plain.operators s.operator)) log_is ∙ takes) some;
+    },
+  )
 
-    out_leasable : IsLeasable e (lease_of made) top.query top.plain s
-    out_leasable = record {
-      first = first;
-      query = refl;
-      operator = refl;
-      number = refl;
-      of = record { registered = top.registered; running = top.running; within = top.within };
-      item = item_first;
-      near = is.near;
-    }
+  module _ (allowed : lease_fault e rows ≡ None) where
+    module _ (i : Item) (near : Near) (is : IsLeased (operator_at top.plain.operators s.operator) (log_of e.machine.streams top.plain s.operator) s.side rows i near) where
+      abbrev made : Turn
+      made = turn_with e top.plain s i near
 
-    out_instant : instant_at (given_out e (lease_of made)) s.query top.query top.plain s.operator ≡ None
-    out_instant = let out : is_leased (given_out e (lease_of made)) s.query s.operator ≡ true = any_last (is_of s.query s.operator) e.leases (lease_of made) (is_of_own (lease_of made)) in rw out refl
+      item_first : IsFirst (operator_at top.plain.operators s.operator) (log_at e.machine top.query s.operator) s.side i
+      item_first = subst (λ z. IsFirst (operator_at top.plain.operators s.operator) z s.side i) log_is is.first
 
-    out_slots : changed s None e.slots ≡ slot_updated e (given_out e (lease_of made)) s.query top.query top.plain top.plain s.operator e.slots
-    out_slots = ap (λ z. changed z None e.slots) (sym first_slot) ∙ ap (λ z. changed (slot_at e s.query top.query top.plain s.operator) z e.slots) (sym out_instant)
+      out_leasable : IsLeasable e (lease_of made) top.query top.plain s
+      out_leasable = record {
+        first = first;
+        query = refl;
+        operator = refl;
+        number = refl;
+        of = record { registered = top.registered; running = top.running; within = top.within };
+        item = item_first;
+        near = is.near;
+      }
 
-    out_leased : out_of e s made ≡ leased e (lease_of made) top.query top.plain
-    out_leased = ap (λ z. record (given_out e (lease_of made)) { slots = z }) out_slots
+      out_next : next_at (given_out e (lease_of made)) s.query top.query top.plain s.operator ≡ None
+      out_next = let out : is_leased (given_out e (lease_of made)) s.query s.operator ≡ true = any_last (is_of s.query s.operator) e.leases (lease_of made) (is_of_own (lease_of made)) in rw out refl
 
-    out_takes : ready (operator_at top.plain.operators s.operator) (log_at e.machine top.query s.operator) ≡ Some (side, s.instant)
-    out_takes =
-        let here : ready (operator_at top.plain.operators s.operator) (log_at e.machine top.query s.operator) ≡ Some (side, at) = ap (ready (operator_at top.plain.operators s.operator)) (sym log_is) ∙ takes in
-        here ∙ ap (λ z. Some (side, z)) (ready_since (is_leased e s.query s.operator) _ side at s.instant top.instant here)
+      out_slots : changed s None e.slots ≡ slot_updated e (given_out e (lease_of made)) s.query top.query top.plain top.plain s.operator e.slots
+      out_slots = ap (λ z. changed z None e.slots) (sym first_slot) ∙ ap (λ z. changed (slot_at e s.query top.query top.plain s.operator) z e.slots) (sym out_next)
 
-    out_made : IsTurnOf e rows made (out_of e s made)
-    out_made = record {
-      query = top.query;
-      plain = top.plain;
-      slot = s;
-      allowed = allowed;
-      leasable = out_leasable;
-      steepest = top;
-      takes = out_takes;
-      kind = refl;
-      fits = is.fits;
-      cut = is.cut ∙ ap (cut_of (min rows 1024) (inbox_of (operator_at top.plain.operators s.operator) side)) log_is;
-      after = out_leased;
-    }
+      out_leased : out_of e s made ≡ leased e (lease_of made) top.query top.plain
+      out_leased = ap (λ z. record (given_out e (lease_of made)) { slots = z }) out_slots
 
-  pub turn_out : (g : Turn) → IsTurnOn e s.query s.operator side rows g → IsTurnOf e rows g (out_of e s g)
-  turn_out g made =
-      let of : IsOfSide e s.query s.operator side rows g top.plain = made_of e s.query s.operator side rows g top.plain top.running made in
-      subst (λ z. IsTurnOf e rows z (out_of e s z)) (sym (is_turn_with e s.query s.operator side rows g top.plain of)) (out_made g.item g.near of.leased of.at of.takes)
+      out_made : IsTurnOf e rows made (out_of e s made)
+      out_made = record {
+        query = top.query;
+        plain = top.plain;
+        slot = s;
+        allowed = allowed;
+        leasable = out_leasable;
+        steepest = top;
+        takes = takes;
+        kind = refl;
+        fits = is.fits;
+        cut = is.cut ∙ ap (cut_of (min rows 1024) (inbox_of (operator_at top.plain.operators s.operator) s.side)) log_is;
+        after = out_leased;
+      }
+
+    pub turn_out : (g : Turn) → IsTurnOn e s rows g → IsTurnOf e rows g (out_of e s g)
+    turn_out g made =
+        let of : IsOfSlot e s rows g top.plain = made_of e s rows g top.plain top.running made in
+        subst (λ z. IsTurnOf e rows z (out_of e s z)) (sym (is_turn_with e s rows g top.plain of)) (out_made g.item g.near of.leased)
 
 -- THE STATE after it
 pub record HasGone (old new : State) (s : Slot) (g : Turn) : Type 0 where
@@ -238,14 +215,14 @@ in_last [] g a (inr i) = absurd i
 in_last (x ∷ ls) g a (inl e) = inl (inl e)
 in_last (x ∷ ls) g a (inr i) = ⊎_elim (λ j. inl (inr j)) (λ e. inr e) (in_last ls g a i)
 
--- the turn of which this is, made of the operator of the first slot
-module _ (old new : State) (s : Slot) (side : Side) (rows n k : ℕ) (g : Turn) (sound : IsSound old) (first : first_of old.slots ≡ Some s) (allowed : lease_fault (engine_in old) rows ≡ None)
-    (is_query : n ≡ s.query) (is_operator : k ≡ s.operator) (made : IsTurnOn (engine_in old) n k side rows g) (gone : HasGone old new s g) where
+-- the turn of which this is, made of the first slot
+module _ (old new : State) (s : Slot) (rows : ℕ) (g : Turn) (sound : IsSound old) (first : first_of old.slots ≡ Some s) (allowed : lease_fault (engine_in old) rows ≡ None)
+    (made : IsTurnOn (engine_in old) s rows g) (gone : HasGone old new s g) where
   is : engine_in new ≡ out_of (engine_in old) s g
   is = gone_engine old new s g gone
 
   turn_is : IsTurnOf (engine_in old) rows g (out_of (engine_in old) s g)
-  turn_is = turn_out (engine_in old) s side rows sound.good first allowed g (subst (λ z. IsTurnOn (engine_in old) s.query z side rows g) is_operator (subst (λ z. IsTurnOn (engine_in old) z k side rows g) is_query made))
+  turn_is = turn_out (engine_in old) s rows sound.good first allowed g made
 
   pub goes_out : IsTurnOf (engine_in old) rows g (engine_in new)
   goes_out = subst (IsTurnOf (engine_in old) rows g) (sym is) turn_is

@@ -123,10 +123,6 @@ resting_comes e g n k x h is =
     let here : slot_of e n k ≡ Some x = slot_is e n k s.0 r.0 s.1.0 r.1.0 s.1.1 ∙ ap Some (sym (is s.0 r.0 s.1.0 r.1.0)) in
     rw (h, here) refl
 
-none_by : (o : Option (Side × ℕ)) → option_map (λ z. z.1) o ≡ None → o ≡ None
-none_by None h = refl
-none_by (Some z) h = absurd (cc)
-
 pub resting_rests : (e : PlainEngine) → GoodEngine e → (s n k : ℕ) → IsResting e s n k → is_idle_at e n k ≡ true
 resting_rests e g s n k is =
     let found = runs_at e g n is.plain is.running in
@@ -136,7 +132,7 @@ resting_rests e g s n k is =
     let inside : nat_lt k (length is.plain.operators) ≡ true = lt-ltb k (length is.plain.operators) within in
     let log = (may_ask e g).logs n k is.query is.plain (record { registered = is.registered; running = is.running; within = is.within }) in
     let nothing : is_none (ready (operator_at is.plain.operators k) (log_of e.machine.streams is.plain k)) ≡ true =
-    ap (λ x. is_none (ready (operator_at is.plain.operators k) x)) log ∙ ap is_none (none_by (ready (operator_at is.plain.operators k) (log_at e.machine is.query k)) is.empty) in
+    ap (λ x. is_none (ready (operator_at is.plain.operators k) x)) log ∙ ap is_none is.empty in
     ap (is_idle_in e.machine.streams k) is.running ∙ ap₂ (λ a b. a && b) inside nothing
 
 pub remains_looked : (ks vs : List Remains) (n : ℕ) (k : Remains) → vs ≡ ks → true ≡ nat_lt n (length vs) → k ≡ get_or vs n k → get_or (map remains_of ks) n Dropped ≡ remains_of k

@@ -1,7 +1,6 @@
 -- A query that is registered: its slots, and what an engine knows of itself after it.
 use Rattle.std.proofs.Common.{◌≡◌, ◌≢◌, inl, inr, ℕ, zero, suc, ◌+◌, ◌<◌, Bool, false, not, ◌==◌, cond, None, List, [], ◌∷◌, filter, get_or, length, refl, sym, ap, ◌∙◌, arith}
 use Rattle.std.specs.List.{list_any}
-use Rattle.std.specs.Option.{option_map}
 use Rattle.std.specs.Ordering.{match_ordering}
 use Rattle.std.specs.declared.cmp.Ordering.{Ordering}
 use Rattle.std.specs.declared.cmp.Ordering.TheVariants.{Less, Equal, Greater}
@@ -64,6 +63,6 @@ none_of n k (l ∷ ls) others =
 pub new_slot_is : (e : PlainEngine) (n : ℕ) (q : Registered) (p : PlainQuery) (slopes : List Fraction) (k : ℕ) → slopes ≡ plan_slopes q.nodes q.measures → ((l : Lease) → IsIn e.leases l → l.query ≢ n)
     → log_of e.machine.streams p k ≡ log_at e.machine q k → slot_at e n q p k ≡ new_slot e.machine.streams p slopes n k
 new_slot_is e n q p slopes k sloped others log =
-    ap (λ b. slot (get_or (plan_slopes q.nodes q.measures) k (fraction 0 1)) (cond b None (option_map (λ r. r.1) (ready (operator_at p.operators k) (log_at e.machine q k)))) n k) (none_of n k e.leases others)
-    ∙ ap (λ g. slot (get_or (plan_slopes q.nodes q.measures) k (fraction 0 1)) (option_map (λ r. r.1) (ready (operator_at p.operators k) g)) n k) (sym log)
-    ∙ ap (λ ss. slot (get_or ss k (fraction 0 1)) (option_map (λ r. r.1) (ready (operator_at p.operators k) (log_of e.machine.streams p k))) n k) (sym sloped)
+    ap (λ b. slot (get_or (plan_slopes q.nodes q.measures) k (fraction 0 1)) (cond b None (ready (operator_at p.operators k) (log_at e.machine q k))) n k) (none_of n k e.leases others)
+    ∙ ap (λ g. slot (get_or (plan_slopes q.nodes q.measures) k (fraction 0 1)) (ready (operator_at p.operators k) g) n k) (sym log)
+    ∙ ap (λ ss. slot (get_or ss k (fraction 0 1)) (ready (operator_at p.operators k) (log_of e.machine.streams p k)) n k) (sym sloped)

@@ -7,10 +7,10 @@ use Rattle.plan.proofs.Lists.{by_test}
 use Rattle.reference.specs.Machine.{Registered}
 use Rattle.laws_queries.specs.Queries.{PlainQuery}
 use Rattle.query_runtime.specs.Turns.{wire_at}
-use Rattle.run_queue.specs.Slots.{changed, first_of, slot, with_instant, without_query}
+use Rattle.run_queue.specs.Slots.{changed, first_of, slot, with_next, without_query}
 use Rattle.run_queue.specs.declared.slots.Slot.{Slot}
 use Rattle.laws_engine.specs.Calls.{IsOf, broken, of_others, others}
-use Rattle.laws_engine.specs.Engines.{GoodEngine, HasSlots, IsIn, IsLease, Lease, PlainEngine, Running, instant_at, is_leased, is_of, query_at, remains_at, slope_at, slot_at, slot_of}
+use Rattle.laws_engine.specs.Engines.{GoodEngine, HasSlots, IsIn, IsLease, Lease, PlainEngine, Running, is_leased, is_of, next_at, query_at, remains_at, slope_at, slot_at, slot_of}
 use Rattle.laws_engine.proofs.BackLemmas.{same_plain, same_query, unequal}
 use Rattle.laws_engine.proofs.LeaseLemmas.{lease_good}
 use Rattle.laws_engine.proofs.PromiseLemmas.{first_in, slot_is}
@@ -109,7 +109,7 @@ module _ (old : State) (s : Slot) (rows : ℕ) (d : Parts) (sound : IsSound old)
   e1 = out_of (engine_in old) s t
 
   goes : IsTurnOf (engine_in old) rows t e1
-  goes = turn_out (engine_in old) s run.side rows sound.good first allowed t run.made
+  goes = turn_out (engine_in old) s rows sound.good first allowed t run.made
 
   good : GoodEngine e1
   good = subst GoodEngine (sym goes.after) (lease_good (engine_in old) (lease_of t) goes.query goes.plain goes.slot sound.good goes.leasable)
@@ -191,14 +191,14 @@ module _ (old : State) (s : Slot) (rows : ℕ) (d : Parts) (sound : IsSound old)
         let same_operator : (d.node.operator == s.operator) ≡ true = eq-eqb d.node.operator s.operator (sym operator_is) in
         any_last (is_of s.query s.operator) (engine_in old).leases (lease_of t) (rw (same_query, same_operator) refl)
 
-    slot_here : (q : Registered) (p : PlainQuery) → query_at e1 s.query ≡ Some q → remains_at e1 s.query ≡ Running p → with_instant s None ≡ slot_at e1 s.query q p s.operator
+    slot_here : (q : Registered) (p : PlainQuery) → query_at e1 s.query ≡ Some q → remains_at e1 s.query ≡ Running p → with_next s None ≡ slot_at e1 s.query q p s.operator
     slot_here q p registered is =
         let here = may_look_here in
         let same : here.0 ≡ q = same_query (sym here.1.1.registered ∙ registered) in
         let within : s.operator < length q.nodes = subst (λ (z : Registered). s.operator < length z.nodes) same here.1.1.within in
         let was : slot_at (engine_in old) s.query q p s.operator ≡ s = some_slot (sym (slot_is (engine_in old) s.query s.operator q p registered is within) ∙ sound.good.slots.only s there) in
-        let none : instant_at e1 s.query q p s.operator ≡ None = rw leased_here refl in
-        ap (λ z. with_instant z None) (sym was) ∙ ap (λ i. slot (slope_at q s.operator) i s.query s.operator) (sym none)
+        let none : next_at e1 s.query q p s.operator ≡ None = rw leased_here refl in
+        ap (λ z. with_next z None) (sym was) ∙ ap (λ i. slot (slope_at q s.operator) i s.query s.operator) (sym none)
 
     later : (p : PlainQuery) → remains_at e1 s.query ≡ Running p → s.operator + 1 < length p.operators → s.operator < (wire_at p s.operator).to
     later p is =
@@ -217,25 +217,25 @@ module _ (old : State) (s : Slot) (rows : ℕ) (d : Parts) (sound : IsSound old)
         sym (same_slot_at (engine_in old) e1.queries e1.leases e1.next e1.slots s.query (wire_at p s.operator).to leased q p p refl))
         (over q p registered is)
 
-    steps : AreSteps e1 d s.query s.operator d.lease (with_instant s None) above still
+    steps : AreSteps e1 d s.query s.operator d.lease (with_next s None) above still
     steps = record { query = query_is; operator = operator_is; number = refl; slot = slot_here; over = over_still; applied = takes }
 
     pub may_tell_here : HasOperatorAt e2 s.query s.operator
-    may_tell_here = asks_on still e2.leases e2.next e2.slots s.query s.operator (tells_here e1 d s.query s.operator d.lease (with_instant s None) above still good run.done out steps)
+    may_tell_here = asks_on still e2.leases e2.next e2.slots s.query s.operator (tells_here e1 d s.query s.operator d.lease (with_next s None) above still good run.done out steps)
 
     pub may_tell_over : MayTell e2 above
-    may_tell_over = tells_on still e2.leases e2.next e2.slots above (tells_over e1 d s.query s.operator d.lease (with_instant s None) above still good run.done out steps)
+    may_tell_over = tells_on still e2.leases e2.next e2.slots above (tells_over e1 d s.query s.operator d.lease (with_next s None) above still good run.done out steps)
 
     -- its slot is told once, and not first that nothing may be taken
-    told_once : (e3 : PlainEngine) → IsUpdated e2 s e3 → IsUpdated home (with_instant s None) e3
+    told_once : (e3 : PlainEngine) → IsUpdated e2 s e3 → IsUpdated home (with_next s None) e3
     told_once e3 told q p registered is =
         let took = applied out.1.0 out.1.1.of.running in
         let leases : e2.leases ≡ home.leases = ap (λ e. e.leases) took.1.1 ∙ sym others_left in
         let slots : e2.slots ≡ old.slots = ap (λ e. e.slots) took.1.1 in
         told q p registered is
-        ∙ ap (λ ss. record e2 { slots = changed s (instant_at e2 s.query q p s.operator) ss }) slots
-        ∙ ap (λ ss. record e2 { slots = ss }) (sym (changed_again (engine_in old) s sound.good there (instant_at e2 s.query q p s.operator)))
-        ∙ ap (λ ls. with_slot (record e2 { leases = ls; slots = e1.slots }) (with_instant s None) q p) leases
+        ∙ ap (λ ss. record e2 { slots = changed s (next_at e2 s.query q p s.operator) ss }) slots
+        ∙ ap (λ ss. record e2 { slots = ss }) (sym (changed_again (engine_in old) s sound.good there (next_at e2 s.query q p s.operator)))
+        ∙ ap (λ ls. with_slot (record e2 { leases = ls; slots = e1.slots }) (with_next s None) q p) leases
 
     -- no turn of its number is kept, so none ends
     none_ends : without_turn e2 d.lease ≡ e2
@@ -246,14 +246,14 @@ module _ (old : State) (s : Slot) (rows : ℕ) (d : Parts) (sound : IsSound old)
         ap (others d.lease) leases ∙ (drain.none_numbered (engine_in old).leases d.lease (λ a i. omega (arith, (sound.good.leases a i).numbered, number_is)) ∙ sym leases) in
         ap (λ ls. record e2 { leases = ls }) stays
 
-    ended : (new : PlainEngine) → HasEnded e2 d.lease s above new → HasEnded still d.lease (with_instant s None) above new
+    ended : (new : PlainEngine) → HasEnded e2 d.lease s above new → HasEnded still d.lease (with_next s None) above new
     ended new h = (h.0, (told_once h.0 (subst (λ e. IsUpdated e s h.0) none_ends h.1.0), h.1.1))
 
     pub ran : (new : PlainEngine) → HasEnded e2 d.lease s above new → OneHasRun rows (engine_in old) new
     ran new h =
-        let home = has_come_back e1 d s.query s.operator d.lease (with_instant s None) above still good run.done out steps new (ended new h) in
+        let home = has_come_back e1 d s.query s.operator d.lease (with_next s None) above still good run.done out steps new (ended new h) in
         (t, (e1, (goes, (out.1.1.out, (home.0, (home.1.0, (home.1.1.0, home.1.1.1.1)))))))
 
     pub ran_sound : (new : State) → HasEnded e2 d.lease s above (engine_in new) → GivesNothing (counted old) new → IsSound new
     ran_sound new h r =
-        sound_ended (counted old) e1.leases e1.slots d s.query s.operator d.lease (with_instant s None) above still (counted_sound old sound numbers) good few_left run.done out steps new (ended (engine_in new) h) r
+        sound_ended (counted old) e1.leases e1.slots d s.query s.operator d.lease (with_next s None) above still (counted_sound old sound numbers) good few_left run.done out steps new (ended (engine_in new) h) r

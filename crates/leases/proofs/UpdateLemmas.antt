@@ -4,7 +4,8 @@ use Rattle.std.specs.List.{AllByRecursion}
 use Rattle.std.specs.List.Sorted.{IsStrictlySortedBy}
 use Rattle.std.specs.Ordering.{ordering_reverse}
 use Rattle.std.specs.declared.cmp.Ordering.TheVariants.{Less, Greater}
-use Rattle.run_queue.specs.Slots.{changed, slot_cmp, with_instant, without_query}
+use Rattle.column.specs.declared.batch.Side.{Side}
+use Rattle.run_queue.specs.Slots.{changed, slot_cmp, with_next, without_query}
 use Rattle.run_queue.specs.declared.slots.Slot.{Slot}
 use Rattle.run_queue.proofs.SlotLemmas.{slots_total}
 use Rattle.laws_engine.specs.Engines.{GoodEngine, HasSlots, IsIn, PlainEngine, slot_of}
@@ -54,32 +55,32 @@ module _ (e : PlainEngine) (s : Slot) (g : GoodEngine e) (there : IsIn e.slots s
 
   -- is told that nothing may be taken
   told : ℕ → ℕ → Option Slot
-  told = updated (slot_of e) s.query s.operator (with_instant s None)
+  told = updated (slot_of e) s.query s.operator (with_next s None)
 
-  told_here : told s.query s.operator ≡ Some (with_instant s None)
+  told_here : told s.query s.operator ≡ Some (with_next s None)
   unfolding told
-  told_here = updated_here (slot_of e) s.query s.operator (with_instant s None)
+  told_here = updated_here (slot_of e) s.query s.operator (with_next s None)
 
   told_there : (n k : ℕ) → (n ≢ s.query) ⊎ (k ≢ s.operator) → told n k ≡ slot_of e n k
   unfolding told
-  told_there n k ne = updated_there (slot_of e) s.query s.operator (with_instant s None) n k ne
+  told_there n k ne = updated_there (slot_of e) s.query s.operator (with_next s None) n k ne
 
   told_numbered : AreNumbered told
   unfolding told
-  told_numbered = updated_numbered (slot_of e) s.query s.operator (with_instant s None) refl refl (numbered e)
+  told_numbered = updated_numbered (slot_of e) s.query s.operator (with_next s None) refl refl (numbered e)
 
   told_slots : HasSlots told (changed s None e.slots)
   told_slots = changed_slots (slot_of e) told e.slots s None g.slots (numbered e) before told_here told_there
 
   -- and then something else
-  pub changed_again : (instant : Option ℕ) → changed (with_instant s None) instant (changed s None e.slots) ≡ changed s instant e.slots
-  changed_again instant =
-      let here : updated told s.query s.operator (with_instant s instant) s.query s.operator ≡ Some (with_instant s instant) = updated_here told s.query s.operator (with_instant s instant) in
-      let there : (n k : ℕ) → (n ≢ s.query) ⊎ (k ≢ s.operator) → updated told s.query s.operator (with_instant s instant) n k ≡ told n k = λ n k ne.
-      updated_there told s.query s.operator (with_instant s instant) n k ne in
-      same_slots (updated told s.query s.operator (with_instant s instant)) (changed (with_instant s None) instant (changed s None e.slots)) (changed s instant e.slots)
-      (changed_slots told (updated told s.query s.operator (with_instant s instant)) (changed s None e.slots) (with_instant s None) instant told_slots told_numbered told_here here there)
-      (changed_slots (slot_of e) (updated told s.query s.operator (with_instant s instant)) e.slots s instant g.slots (numbered e) before here (λ n k ne. there n k ne ∙ told_there n k ne))
+  pub changed_again : (next : Option (Side × ℕ)) → changed (with_next s None) next (changed s None e.slots) ≡ changed s next e.slots
+  changed_again next =
+      let here : updated told s.query s.operator (with_next s next) s.query s.operator ≡ Some (with_next s next) = updated_here told s.query s.operator (with_next s next) in
+      let there : (n k : ℕ) → (n ≢ s.query) ⊎ (k ≢ s.operator) → updated told s.query s.operator (with_next s next) n k ≡ told n k = λ n k ne.
+      updated_there told s.query s.operator (with_next s next) n k ne in
+      same_slots (updated told s.query s.operator (with_next s next)) (changed (with_next s None) next (changed s None e.slots)) (changed s next e.slots)
+      (changed_slots told (updated told s.query s.operator (with_next s next)) (changed s None e.slots) (with_next s None) next told_slots told_numbered told_here here there)
+      (changed_slots (slot_of e) (updated told s.query s.operator (with_next s next)) e.slots s next g.slots (numbered e) before here (λ n k ne. there n k ne ∙ told_there n k ne))
 
   -- and then leaves, with the slots of its query
   abbrev left : ℕ → ℕ → Option Slot

@@ -9,7 +9,7 @@ use Rattle.query_runtime.specs.Turns.{CanFinish, CanPut, HasBatches, HasFinished
 use Rattle.run_queue.specs.Slots.{changed, without_query}
 use Rattle.run_queue.specs.declared.slots.Slot.{Slot}
 use Rattle.laws_engine.specs.Calls.{broken, others}
-use Rattle.laws_engine.specs.Engines.{IsIn, PlainEngine, PlainRemains, Running, instant_at, query_at, remains_at, slot_at}
+use Rattle.laws_engine.specs.Engines.{IsIn, PlainEngine, PlainRemains, Running, next_at, query_at, remains_at, slot_at}
 use Rattle.leases.specs.Asked.{HasOperatorAt}
 use Rattle.leases.specs.Turns.{IsOut}
 use Rattle.leases.specs.declared.state.State.{State}
@@ -86,9 +86,9 @@ IsAbove e n k above =
     (q : Registered) (p : PlainQuery) → query_at e n ≡ Some q → remains_at e n ≡ Running p
     → MatchOption above (length p.operators ≤ k + 1) (λ s. (k + 1 < length p.operators) × (s ≡ slot_at e n q p (wire_at p k).to))
 
--- a slot gets the instant of its operator
+-- a slot gets what its operator may take next
 abbrev pub with_slot : PlainEngine → Slot → Registered → PlainQuery → PlainEngine
-with_slot e s q p = record e { slots = changed s (instant_at e s.query q p s.operator) e.slots }
+with_slot e s q p = record e { slots = changed s (next_at e s.query q p s.operator) e.slots }
 
 abbrev pub IsUpdated : PlainEngine → Slot → PlainEngine → Type 0
 IsUpdated old s new = (q : Registered) (p : PlainQuery) → query_at old s.query ≡ Some q → remains_at old s.query ≡ Running p → new ≡ with_slot old s q p

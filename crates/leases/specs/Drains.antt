@@ -1,5 +1,5 @@
 -- What a drain does: turns go out and come back.
-use Rattle.std.specs.Prelude.{ℕ, Bool, true, false, ⊤, ◌≡◌, ◌≤◌, ◌⊎◌, None, Some, List, [], ◌∷◌, length, Result, Ok, Err}
+use Rattle.std.specs.Prelude.{ℕ, Bool, true, false, ⊤, ◌≡◌, ◌⊎◌, None, Some, List, [], ◌∷◌, Result, Ok, Err}
 use Rattle.values.specs.Row.{Row}
 use Rattle.turn.specs.declared.turns.Turn.{Turn}
 use Rattle.reference.specs.World.{drain_fault}
@@ -9,9 +9,8 @@ use Rattle.run_queue.specs.Slots.{first_of}
 use Rattle.laws_engine.specs.Calls.{of_others}
 use Rattle.laws_engine.specs.Engines.{Broken, PlainEngine, remains_at}
 use Rattle.laws_engine.specs.Histories.{Breaks, Finishes, IsCallStep}
-use Rattle.leases.specs.Turns.{HasReady, IsTurnOf, lease_fault}
+use Rattle.leases.specs.Turns.{HasReady, IsFull, IsTurnOf, lease_fault}
 use Rattle.leases.specs.Views.{lease_of}
-use Rattle.leases.specs.declared.limits.TheConstants.{LEASE_NUMBERS, MAX_LEASES}
 
 -- TURNS of at most so many rows went out and came back, one after the other: each of an operator of greatest slope, with the next number
 abbrev pub HaveRun : ℕ → PlainEngine → List Turn → PlainEngine → Type 0
@@ -39,7 +38,7 @@ OneHasRun rows old new = (t : Turn) × ((out : PlainEngine) × (IsTurnOf old row
 abbrev pub RunsFirst : PlainEngine → ℕ → Result Bool Fault → PlainEngine → Type 0
 RunsFirst old rows (Ok true) new = OneHasRun rows old new
 RunsFirst old rows (Ok false) new = (first_of old.slots ≡ None) × (new ≡ old)
-RunsFirst old rows (Err TooManyLeases) new = (new ≡ old) × ((MAX_LEASES ≤ length old.leases) ⊎ (LEASE_NUMBERS ≤ old.next)) × HasReady old
+RunsFirst old rows (Err TooManyLeases) new = (new ≡ old) × IsFull old × HasReady old
 RunsFirst old rows (Err OutOfMemory) new = HasWanted rows old new
 RunsFirst old rows (Err fault) new = ⊥
 
@@ -48,7 +47,7 @@ RunsFirst old rows (Err fault) new = ⊥
 abbrev pub RunsTurns : PlainEngine → ℕ → Result ⊤ Fault → PlainEngine → Type 0
 RunsTurns old rows (Ok u) new = (drain_fault rows ≡ None) × SomeHaveRun rows old new
 RunsTurns old rows (Err BadLimit) new = (drain_fault rows ≡ Some BadLimit) × (new ≡ old)
-RunsTurns old rows (Err TooManyLeases) new = (drain_fault rows ≡ None) × (SomeHaveRun rows old new × ((MAX_LEASES ≤ length new.leases) ⊎ (LEASE_NUMBERS ≤ new.next)) × HasReady new)
+RunsTurns old rows (Err TooManyLeases) new = (drain_fault rows ≡ None) × (SomeHaveRun rows old new × IsFull new × HasReady new)
 RunsTurns old rows (Err OutOfMemory) new = (drain_fault rows ≡ None) × ((last : PlainEngine) × (SomeHaveRun rows old last × HasWanted rows last new))
 RunsTurns old rows (Err fault) new = ⊥
 

@@ -1,6 +1,7 @@
 -- The windows of running queries that read a stream, and what they are told.
 use Rattle.std.specs.Prelude.{ℕ, suc, ◌<◌, ◌==◌, ◌&&◌, ⊤, Bool, true, false, cond, nat_lt, is_none, Option, Some, None, List, [], ◌∷◌, ◌++◌, length, map}
 use Rattle.std.specs.Option.{option_to_list}
+use Rattle.column.specs.declared.batch.Side.{Side}
 use Rattle.plan.specs.Nodes as plan
 use Rattle.operators.specs.Operators.{ready}
 use Rattle.reference.specs.Machine.{Registered, Stream}
@@ -8,7 +9,7 @@ use Rattle.laws_queries.specs.Queries.{operator_at, place_of}
 use Rattle.query_runtime.specs.Turns.{log_of}
 use Rattle.run_queue.specs.Slots.{changed}
 use Rattle.run_queue.specs.declared.slots.Slot.{Slot}
-use Rattle.laws_engine.specs.Engines.{Broken, Dropped, PlainEngine, PlainRemains, Running, instant_at, query_at, remains_at, slot_of}
+use Rattle.laws_engine.specs.Engines.{Broken, Dropped, PlainEngine, PlainRemains, Running, next_at, query_at, remains_at, slot_of}
 use Rattle.leases.specs.declared.reader.Reader.{Reader}
 use Rattle.leases.specs.declared.state.State.{State}
 
@@ -73,18 +74,18 @@ idle_slots e s [] = []
 idle_slots e s (r ∷ rs) = cond (r.stream == s) (idle_slot e r.query r.operator) [] ++ idle_slots e s rs
 
 -- WHAT AN OPERATOR MAY TAKE, by its number
-abbrev pub instant_in : PlainEngine → ℕ → ℕ → Option Registered → PlainRemains → Option ℕ
-instant_in e n k None remains = None
-instant_in e n k (Some q) (Running p) = instant_at e n q p k
-instant_in e n k (Some q) (Broken answers) = None
-instant_in e n k (Some q) Dropped = None
+abbrev pub next_in : PlainEngine → ℕ → ℕ → Option Registered → PlainRemains → Option (Side × ℕ)
+next_in e n k None remains = None
+next_in e n k (Some q) (Running p) = next_at e n q p k
+next_in e n k (Some q) (Broken answers) = None
+next_in e n k (Some q) Dropped = None
 
-abbrev pub instant_of : PlainEngine → ℕ → ℕ → Option ℕ
-instant_of e n k = instant_in e n k (query_at e n) (remains_at e n)
+abbrev pub next_for : PlainEngine → ℕ → ℕ → Option (Side × ℕ)
+next_for e n k = next_in e n k (query_at e n) (remains_at e n)
 
 -- its slot gets that
 abbrev pub with_update : PlainEngine → Slot → List Slot → List Slot
-with_update e s slots = changed s (instant_of e s.query s.operator) slots
+with_update e s slots = changed s (next_for e s.query s.operator) slots
 
 -- and one slot after the other
 abbrev pub with_updates : PlainEngine → List Slot → List Slot → List Slot

@@ -1,6 +1,5 @@
 -- What is made of a query before it is registered.
 use Rattle.std.specs.Prelude.{ℕ, ℤ, zero, suc, ◌≡◌, ◌<◌, Option, List, length, get_or}
-use Rattle.std.specs.Option.{option_map}
 use Rattle.envelope.specs.Fraction.{Fraction, fraction}
 use Rattle.operators.specs.Operators.{ready}
 use Rattle.plan.specs.declared.operators.Plan.{Plan}
@@ -15,7 +14,7 @@ use Rattle.laws_engine.specs.Accepted.{IsBegun, IsPlanOfText, newest}
 
 -- the slot of the operator k of a query n that is new, of which no turn is out
 abbrev pub new_slot : List Stream → PlainQuery → List Fraction → ℕ → ℕ → Slot
-new_slot streams p slopes n k = slot (get_or slopes k (fraction 0 1)) (option_map (λ r. r.1) (ready (operator_at p.operators k) (log_of streams p k))) n k
+new_slot streams p slopes n k = slot (get_or slopes k (fraction 0 1)) (ready (operator_at p.operators k) (log_of streams p k)) n k
 
 -- the slots with those of its first `count` operators
 abbrev pub with_first : List Stream → PlainQuery → List Fraction → ℕ → ℕ → List Slot → List Slot

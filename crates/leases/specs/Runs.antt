@@ -1,6 +1,5 @@
 -- A turn that is run before it goes out, and comes back at once.
 use Rattle.std.specs.Prelude.{ℕ}
-use Rattle.column.specs.declared.batch.Side.{Side}
 use Rattle.turn.specs.Finished.{IsDone}
 use Rattle.turn.specs.declared.parts.Parts.{Parts}
 use Rattle.turn.specs.declared.turns.Turn.{Turn}
@@ -14,6 +13,5 @@ turn_in d = record { lease = d.lease; node = d.node; item = d.item; near = d.nea
 
 -- it is one of the slot's operator with the next number, of at most so many rows, and was run
 pub record IsRunOf (e : PlainEngine) (s : Slot) (rows : ℕ) (d : Parts) : Type 0 where
-  pub side : Side
-  pub made : IsTurnOn e s.query s.operator side rows (turn_in d)
+  pub made : IsTurnOn e s rows (turn_in d)
   pub done : IsDone d

@@ -1,5 +1,5 @@
 -- What calls about turns answer, and make of an engine.
-use Rattle.std.specs.Prelude.{ℕ, ⊤, ◌≡◌, ◌≢◌, ◌||◌, ◌&&◌, not, nat_le, min, is_some, true, Option, Some, None, [], ◌∷◌, length, Result, Ok, Err}
+use Rattle.std.specs.Prelude.{ℕ, ⊤, ◌≡◌, ◌≢◌, ◌<◌, ◌≤◌, ◌⊎◌, ◌||◌, ◌&&◌, not, nat_le, min, is_some, true, Option, Some, None, [], ◌∷◌, length, Result, Ok, Err}
 use Rattle.names.specs.Faults.{first_of}
 use Rattle.op_queue.specs.Items.{entries_of}
 use Rattle.turn.specs.Turns.{Fits, outs_in}
@@ -35,6 +35,16 @@ lease_fault e rows = first_of (
 -- an operator may be leased
 abbrev pub HasReady : PlainEngine → Type 0
 HasReady e = is_some (slots.first_of e.slots) ≡ true
+
+-- as many turns are out as may be, or all numbers were given
+abbrev pub IsFull : PlainEngine → Type 0
+IsFull e = (MAX_LEASES ≤ length e.leases) ⊎ (LEASE_NUMBERS ≤ e.next)
+
+-- the slot of which the next turn is, if an operator may be leased; refused where the engine is full
+abbrev pub IsNext : PlainEngine → Result (Option Slot) Fault → Type 0
+IsNext e (Ok (Some s)) = (slots.first_of e.slots ≡ Some s) × (length e.leases < MAX_LEASES) × (e.next < LEASE_NUMBERS)
+IsNext e (Ok None) = slots.first_of e.slots ≡ None
+IsNext e (Err fault) = (fault ≡ TooManyLeases) × IsFull e × HasReady e
 
 -- no test fails, and it is of an operator of greatest slope, on the side that is ready, the left one where both are, with the next number and what comes out at
 -- once of what waits there, at most so many rows; it may be run

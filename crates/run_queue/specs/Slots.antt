@@ -5,22 +5,31 @@ use Rattle.std.specs.Ordering.{bool_cmp, nat_cmp, is_eq, ordering_then}
 use Rattle.std.specs.BTreeSet.{insert_key}
 use Rattle.std.specs.declared.cmp.Ordering.{Ordering}
 use Rattle.std.specs.declared.cmp.Ordering.TheVariants.{Less, Equal, Greater}
+use Rattle.column.specs.declared.batch.Side.{Side}
+use Rattle.column.specs.declared.batch.Side.TheVariants.{Left}
 use Rattle.envelope.specs.Fraction.{Fraction, NoGreater, fraction_cmp}
 use Rattle.run_queue.specs.declared.slots.Slot.{Slot}
 
--- an operator's slot; the instant is that of what it may take next, if it may take anything
-abbrev pub slot : Fraction → Option ℕ → ℕ → ℕ → Slot
-slot slope instant query operator = record { is_idle = is_none instant; slope = record { 0 = slope }; instant = unwrap_or instant 0; query = query; operator = operator }
+-- an operator's slot, with the side and the instant of what it may take next, if it may take anything
+abbrev pub slot : Fraction → Option (Side × ℕ) → ℕ → ℕ → Slot
+slot slope next query operator = record {
+  is_idle = is_none next;
+  slope = record { 0 = slope };
+  instant = (unwrap_or next (Left, 0)).1;
+  query = query;
+  operator = operator;
+  side = (unwrap_or next (Left, 0)).0;
+}
 
 -- those with something to take first, the greater slope first, then the earlier instant, then the lower number of a query, then the lower number of
--- an operator
+-- an operator; the side decides nothing
 abbrev pub slot_cmp : Slot → Slot → Ordering
 slot_cmp a b = ordering_then (bool_cmp a.is_idle b.is_idle) (ordering_then (fraction_cmp b.slope.0 a.slope.0)
     (ordering_then (nat_cmp a.instant b.instant) (ordering_then (nat_cmp a.query b.query) (nat_cmp a.operator b.operator))))
 
 -- the operator's slot with what it may take next
-abbrev pub with_instant : Slot → Option ℕ → Slot
-with_instant s instant = slot s.slope.0 instant s.query s.operator
+abbrev pub with_next : Slot → Option (Side × ℕ) → Slot
+with_next s next = slot s.slope.0 next s.query s.operator
 
 -- with a slot at its place, unless it is there
 abbrev pub put : List Slot → Slot → List Slot
@@ -34,8 +43,8 @@ abbrev pub without : Slot → List Slot → List Slot
 without s slots = filter (λ t. not (is_eq (slot_cmp t s))) slots
 
 -- with something else to take for the slot's operator, or nothing, where the slot is there
-abbrev pub changed : Slot → Option ℕ → List Slot → List Slot
-changed s instant slots = cond (has s slots) (put (without s slots) (with_instant s instant)) slots
+abbrev pub changed : Slot → Option (Side × ℕ) → List Slot → List Slot
+changed s next slots = cond (has s slots) (put (without s slots) (with_next s next)) slots
 
 -- without the slots of a query
 abbrev pub without_query : ℕ → List Slot → List Slot

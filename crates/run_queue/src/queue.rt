@@ -7,6 +7,7 @@ ghost use Rattle.std.specs.List.Sorted.{IsStrictlySortedBy};
 ghost use Rattle.std.specs.Vec.{vec_capacity, vec_len};
 
 use crate::slots::Slot;
+use column::Side;
 use std::alloc::{AllocError, Global};
 use std::marker::Model;
 
@@ -67,15 +68,15 @@ impl RunQueue {
         Ok(())
     }
 
-    /// Gives the slot's operator the instant of what it may take next, or none. Takes no memory,
-    /// and moves only the slots between its old place and its new one; where the slot is not in the
-    /// queue nothing changes.
+    /// Gives the slot's operator what it may take next, or nothing. Takes no memory, and moves only
+    /// the slots between its old place and its new one; where the slot is not in the queue nothing
+    /// changes.
     #[tactic(auto, using(crate::proofs::SlotLemmas::without_ordered, crate::proofs::SlotLemmas::put_ordered))]
-    pub fn change(&mut self, slot: Slot, instant: Option<u64>)
-        ensures { self.new ≡ changed slot instant self.old }
+    pub fn change(&mut self, slot: Slot, next: Option<(Side, u64)>)
+        ensures { self.new ≡ changed slot next self.old }
     {
         if let Ok(at) = place_of(&self.slots, &slot) {
-            replace(&mut self.slots, at, slot.with_instant(instant));
+            replace(&mut self.slots, at, slot.with_next(next));
         }
     }
 
@@ -99,7 +100,8 @@ fn place_of(slots: &[Slot], slot: &Slot) -> Result<usize, usize>
 }
 
 /// Removes the slot at a place and puts another at its own place, unless an equal one is there. It
-/// is written also where the place stays: an equal slope may be another fraction.
+/// is written also where the place stays: the side may be another, and an equal slope another
+/// fraction.
 fn replace(slots: &mut Vec<Slot>, at: usize, slot: Slot)
     requires within { at < vec_len slots.old }
     requires ordered { IsStrictlySortedBy slot_cmp slots.old.items }

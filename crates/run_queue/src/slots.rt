@@ -1,16 +1,19 @@
 //! An operator's place among the others.
 ghost use Rattle.std.specs.Prelude.{◌≡◌, cond, None, Some};
-ghost use Rattle.run_queue.specs.Slots.{slot, with_instant};
+ghost use Rattle.run_queue.specs.Slots.{slot, with_next};
 
+use column::Side;
 use envelope::Slope;
 use std::cmp::Reverse;
 
-/// An operator of a query, and the instant of what it may take next, if it may take anything.
+/// An operator of a query, with the side and the instant of what it may take next, if it may take
+/// anything.
 ///
 /// Slots are ordered by their fields, from the first on: those with something to take first, of
 /// these the greater slope first, then the earlier instant, then the lower number of a query, then
-/// the lower number of an operator.
-#[derive(Clone, Copy, PartialEq, Eq, PartialOrd, Ord, Drop)]
+/// the lower number of an operator. The side is no part of the order.
+#[derive(Drop)]
+#[derive_where(Clone, Copy, PartialEq, Eq, PartialOrd, Ord)]
 pub struct Slot {
     /// Whether the operator may take nothing.
     is_idle: bool,
@@ -22,29 +25,37 @@ pub struct Slot {
     query: u64,
     /// The number of the operator in its query.
     operator: usize,
+    /// The side on which that waits; the left one where the operator is idle.
+    #[derive_where(skip(EqHashOrd))]
+    side: Side,
 }
 
 impl Slot {
-    /// Makes the slot of an operator; `instant` is that of what it may take next, if anything.
-    pub fn new(slope: Slope, instant: Option<u64>, query: u64, operator: usize) -> Slot
-        ensures { result ≡ slot slope instant query operator }
+    /// Makes the slot of an operator; `next` is the side and the instant of what it may take next,
+    /// if anything.
+    pub fn new(slope: Slope, next: Option<(Side, u64)>, query: u64, operator: usize) -> Slot
+        ensures { result ≡ slot slope next query operator }
     {
+        let (side, instant) = next.unwrap_or((Side::Left, 0));
         Slot {
-            is_idle: instant.is_none(),
+            is_idle: next.is_none(),
             slope: Reverse(slope),
-            instant: instant.unwrap_or(0),
+            instant,
             query,
             operator,
+            side,
         }
     }
 
     /// The slot of the same operator with something else to take, or nothing.
-    pub fn with_instant(self, instant: Option<u64>) -> Slot
-        ensures { result ≡ with_instant self instant }
+    pub fn with_next(self, next: Option<(Side, u64)>) -> Slot
+        ensures { result ≡ with_next self next }
     {
+        let (side, instant) = next.unwrap_or((Side::Left, 0));
         Slot {
-            is_idle: instant.is_none(),
-            instant: instant.unwrap_or(0),
+            is_idle: next.is_none(),
+            instant,
+            side,
             ..self
         }
     }
@@ -67,6 +78,13 @@ impl Slot {
             return None;
         }
         Some(self.instant)
+    }
+
+    /// The side of what the operator may take next; the left one where it may take nothing.
+    pub fn side(self) -> Side
+        ensures { result ≡ self.side }
+    {
+        self.side
     }
 
     /// The number of the query.

@@ -1,6 +1,7 @@
 //! Which slots of a list are the first.
 
 use crate::charts::points_in;
+use column::Side;
 use envelope::{Slope, is_chart, slopes};
 use run_queue::{RunQueue, Slot};
 use std::alloc::{AllocError, Global};
@@ -9,15 +10,23 @@ fn number(word: &str) -> u64 {
     word.parse::<u64>().unwrap_or(0)
 }
 
-/// An instant; none where the word is no number.
-fn instant(word: &str) -> Option<u64> {
-    word.parse::<u64>().ok()
+/// A side and an instant: the right one where an `r` stands behind the number, and none where there
+/// is no number.
+fn next(word: &str) -> Option<(Side, u64)> {
+    let (side, at) = match word.strip_suffix('r') {
+        Some(at) => (Side::Right, at),
+        None => (Side::Left, word),
+    };
+    match at.parse::<u64>() {
+        Ok(at) => Some((side, at)),
+        Err(_) => None,
+    }
 }
 
 /// A slot of a slope that is a whole number.
 fn slot(slope: &str, at: &str, query: &str, operator: &str) -> Slot {
     let slope = Slope::new(number(slope), 1);
-    Slot::new(slope, instant(at), number(query), number(operator) as usize)
+    Slot::new(slope, next(at), number(query), number(operator) as usize)
 }
 
 /// The query and the operator of a slot.
@@ -25,12 +34,13 @@ fn named(slot: &Slot) -> (u64, usize) {
     (slot.query(), slot.operator())
 }
 
-/// The query, the operator and the instant of a slot.
+/// The query, the operator and the instant of a slot, and the side where it is the right one.
 fn shown(alloc: Global, slot: &Slot) -> Result<String, AllocError> {
     let (query, operator) = named(slot);
-    match slot.instant() {
-        Some(at) => format!(in alloc; "{query}.{operator} at {at}"),
-        None => format!(in alloc; "{query}.{operator}"),
+    match (slot.instant(), slot.side()) {
+        (Some(at), Side::Left) => format!(in alloc; "{query}.{operator} at {at}"),
+        (Some(at), Side::Right) => format!(in alloc; "{query}.{operator} at {at} on the right"),
+        (None, _) => format!(in alloc; "{query}.{operator}"),
     }
 }
 
@@ -71,7 +81,7 @@ fn put_path(
     if is_chart(&points) {
         let found = slopes(alloc, &points)?;
         for operator in 0..found.len() {
-            list.put(Slot::new(found[operator], Some(0), query, operator))?;
+            list.put(Slot::new(found[operator], Some((Side::Left, 0)), query, operator))?;
         }
     }
     Ok(())
@@ -85,8 +95,8 @@ pub(crate) fn listed(alloc: Global, list: &mut RunQueue, rest: &str) -> Result<S
             *list = RunQueue::new(alloc);
         }
         ["put", slope, at, query, operator] => list.put(slot(slope, at, query, operator))?,
-        ["change", slope, at, query, operator, next] => {
-            list.change(slot(slope, at, query, operator), instant(next));
+        ["change", slope, at, query, operator, then] => {
+            list.change(slot(slope, at, query, operator), next(then));
         }
         ["drop", query] => list.drop_query(number(query)),
         ["path", query, points @ ..] => put_path(alloc, list, number(query), points)?,

@@ -58,14 +58,13 @@ impl State {
         ensures runs { RunsFirst (engine_in self.old) rows result (engine_in self.new) }
         ensures sound { IsSound self.new }
     {
-        let Some(slot) = self.slots.first() else {
-            return Ok(false);
-        };
-        if MAX_LEASES <= self.leases.len() || LEASE_NUMBERS <= self.next {
-            return Err(Fault::TooManyLeases);
+        match self.next_slot()? {
+            Some(slot) => {
+                self.run_slot(&slot, rows as usize)?;
+                Ok(true)
+            },
+            None => Ok(false),
         }
-        self.run_slot(&slot, rows as usize)?;
-        Ok(true)
     }
 
     /// Runs a turn of the first slot, and its query takes it at once: nobody can see the turn
@@ -100,10 +99,7 @@ impl State {
         requires some { 0 < rows }
         ensures { IfOk result (λ d. IsRunOf (engine_in self.now) slot.now rows d) }
     {
-        let query = slot.query();
-        let operator = slot.operator();
-        let side = self.side(query, operator);
-        let turn = self.turn(query, operator, side, rows)?;
+        let turn = self.turn(slot, rows)?;
         match turn.run(self.alloc) {
             Ok(done) => Ok(done),
             Err(_) => Err(AllocError),

@@ -103,8 +103,8 @@ impl State {
         }
     }
 
-    /// The turn of a number is out no more. The slot of its operator gets the instant of what that
-    /// may take next, and then the one above does, if the turn fed it.
+    /// The turn of a number is out no more. The slot of its operator gets what that may take next,
+    /// and then the one above does, if the turn fed it.
     pub(crate) fn end_turn(&mut self, number: u64, slot: Slot, above: Option<Slot>)
         requires here { HasOperatorAt (engine_in self.old) slot.query slot.operator }
         requires over { MayTell (engine_in self.old) above }
@@ -118,7 +118,7 @@ impl State {
         }
     }
 
-    /// Gives the slot the instant of what its operator may take next, or none.
+    /// Gives the slot what its operator may take next, or nothing.
     pub(crate) fn update_slot(&mut self, slot: &Slot)
         requires { HasOperatorAt (engine_in self.old) slot.now.query slot.now.operator }
         ensures state { self.new
@@ -126,8 +126,8 @@ impl State {
         ensures slot { IsUpdated (engine_in self.old) slot.now (engine_in self.new) }
         ensures rest { GivesNothing self.old self.new }
     {
-        let instant = self.instant(slot.query(), slot.operator());
-        self.slots.change(*slot, instant);
+        let next = self.next_for(slot.query(), slot.operator());
+        self.slots.change(*slot, next);
     }
 
     /// Breaks the query: its turns end, its slots and windows leave, and what waits can be taken

@@ -1,5 +1,5 @@
 //! Heartbeats: what is closed is told to the windows that wait for it.
-ghost use Rattle.std.specs.Prelude.{◌≡◌, ◌<◌, ◌++◌, ℕ, IfOk, OnErr, OnOk, length, slice_get};
+ghost use Rattle.std.specs.Prelude.{◌≡◌, ◌<◌, ◌++◌, IfOk, OnErr, OnOk, length, slice_get};
 ghost use Rattle.std.specs.List.{AllByRecursion};
 ghost use Rattle.reference.specs.World.{Does, heartbeat_step};
 ghost use Rattle.stream_store.specs.Closing.{QueuesGain};
@@ -88,7 +88,7 @@ impl State {
         }
     }
 
-    /// Gives each of the slots the instant of what its operator may take next, one after the other.
+    /// Gives each of the slots what its operator may take next, one after the other.
     fn update_slots(&mut self, slots: &[Slot])
         requires { AllByRecursion (λ s.
             HasOperatorAt (engine_in self.old) s.query s.operator) slots.now }

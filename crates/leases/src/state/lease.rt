@@ -1,15 +1,14 @@
 //! Turns that go out.
-ghost use Rattle.std.specs.Prelude.{ℕ, ◌≡◌, ◌<◌, IfOk, OnErr, Some, length};
+ghost use Rattle.std.specs.Prelude.{◌≡◌, ◌<◌, IfOk, OnErr, Some, length};
 ghost use Rattle.run_queue.specs.Slots.{first_of};
-ghost use Rattle.leases.specs.Leasing.{IsReadyAt, IsTurnOn, MayLeaseOn};
+ghost use Rattle.leases.specs.Leasing.{IsTurnOn, MayLeaseOn};
 ghost use Rattle.leases.specs.Shown.{engine_in};
 ghost use Rattle.leases.specs.Sound.{IsSound};
-ghost use Rattle.leases.specs.Turns.{IsTurnOf, Leases, lease_fault};
+ghost use Rattle.leases.specs.Turns.{IsNext, IsTurnOf, Leases, lease_fault};
 
 use crate::leased::Leased;
 use crate::limits::{LEASE_NUMBERS, MAX_LEASES};
 use crate::state::State;
-use column::Side;
 use reference::{Fault, turn_fault};
 use run_queue::Slot;
 use std::alloc::AllocError;
@@ -26,13 +25,24 @@ impl State {
         if let Some(fault) = turn_fault(rows) {
             return Err(fault);
         }
+        match self.next_slot()? {
+            Some(slot) => Ok(Leased::Turn(self.give_out(&slot, rows as usize)?)),
+            None => Ok(Leased::Idle),
+        }
+    }
+
+    /// The slot of which the next turn is, if any operator may take something; `TooManyLeases`
+    /// where one may, and as many turns are out as may be, or all numbers were given.
+    pub(crate) fn next_slot(&self) -> Result<Option<Slot>, Fault>
+        ensures { IsNext (engine_in self.now) result }
+    {
         let Some(slot) = self.slots.first() else {
-            return Ok(Leased::Idle);
+            return Ok(None);
         };
         if MAX_LEASES <= self.leases.len() || LEASE_NUMBERS <= self.next {
             return Err(Fault::TooManyLeases);
         }
-        Ok(Leased::Turn(self.give_out(&slot, rows as usize)?))
+        Ok(Some(slot))
     }
 
     /// Hands out a turn of the first slot.
@@ -48,11 +58,8 @@ impl State {
         ensures err { OnErr result (engine_in self.new ≡ engine_in self.old) }
         ensures sound { IsSound self.new }
     {
-        let query = slot.query();
-        let operator = slot.operator();
-        let side = self.side(query, operator);
-        let turn = self.turn(query, operator, side, rows)?;
-        let kept = self.turn(query, operator, side, rows)?;
+        let turn = self.turn(slot, rows)?;
+        let kept = self.turn(slot, rows)?;
         self.leases.reserve(1)?;
         self.leases.push_reserved(kept);
         self.next += 1;
@@ -60,30 +67,14 @@ impl State {
         Ok(turn)
     }
 
-    /// The side that a lease takes of an operator that may take something.
-    pub(crate) fn side(&self, query: u64, operator: usize) -> Side
-        requires sound { IsSound self.now }
-        requires ready { IsReadyAt (engine_in self.now) query operator }
-        ensures { (rows : ℕ) → 0 < rows
-            → MayLeaseOn (engine_in self.now) query operator result rows }
+    /// A turn of the slot's operator on the slot's side, with the next number.
+    pub(crate) fn turn(&self, slot: &Slot, rows: usize) -> Result<Turn, AllocError>
+        requires { MayLeaseOn (engine_in self.now) slot.now rows }
+        ensures { IfOk result (IsTurnOn (engine_in self.now) slot.now rows) }
     {
-        match self.running(query).ready(&self.streams, operator) {
-            Some((side, _)) => side,
-            None => unreachable!(),
-        }
-    }
-
-    /// A turn of an operator, with the next number.
-    pub(crate) fn turn(
-        &self,
-        query: u64,
-        operator: usize,
-        side: Side,
-        rows: usize,
-    ) -> Result<Turn, AllocError>
-        requires { MayLeaseOn (engine_in self.now) query operator side rows }
-        ensures { IfOk result (IsTurnOn (engine_in self.now) query operator side rows) }
-    {
+        let query = slot.query();
+        let operator = slot.operator();
+        let side = slot.side();
         let running = self.running(query);
         let (item, near) = running.lease(self.alloc, &self.streams, operator, side, rows)?;
         let node = Node {

@@ -6,7 +6,7 @@ ghost use Rattle.reference.specs.Machine as machine;
 ghost use Rattle.reference.specs.Machine.{Registered};
 ghost use Rattle.reference.specs.Told.{IsTold};
 ghost use Rattle.laws_queries.specs.Queries.{PlainQuery};
-ghost use Rattle.laws_engine.specs.Engines.{Running, instant_at, is_leased, query_at, remains_at};
+ghost use Rattle.laws_engine.specs.Engines.{Running, is_leased, next_at, query_at, remains_at};
 ghost use Rattle.laws_engine.specs.Engines.{slope_at, slot_at};
 ghost use Rattle.leases.specs.Asked.{HasOperatorAt, IsRunningAt};
 ghost use Rattle.leases.specs.Shown.{engine_in};
@@ -15,6 +15,7 @@ ghost use Rattle.leases.specs.Views.{query_of};
 use crate::registered::Registration;
 use crate::remains::Remains;
 use crate::state::State;
+use column::Side;
 use envelope::Slope;
 use name_table::NameTable;
 use query_runtime::RunningQuery;
@@ -85,21 +86,18 @@ impl State {
         self.leases.iter().any(|turn| turn.node.query == query && turn.node.operator == operator)
     }
 
-    /// The instant of what the operator may take next, if it may take anything and no turn of it is
-    /// out.
-    pub(crate) fn instant(&self, query: u64, operator: usize) -> Option<u64>
+    /// The side and the instant of what the operator may take next, if it may take anything and no
+    /// turn of it is out.
+    pub(crate) fn next_for(&self, query: u64, operator: usize) -> Option<(Side, u64)>
         requires { HasOperatorAt (engine_in self.now) query operator }
         ensures { (q : Registered) (p : PlainQuery) → query_at (engine_in self.now) query ≡ Some q
             → remains_at (engine_in self.now) query ≡ Running p
-            → result ≡ instant_at (engine_in self.now) query q p operator }
+            → result ≡ next_at (engine_in self.now) query q p operator }
     {
         if self.is_leased(query, operator) {
             return None;
         }
-        match self.running(query).ready(&self.streams, operator) {
-            Some((_, at)) => Some(at),
-            None => None,
-        }
+        self.running(query).ready(&self.streams, operator)
     }
 
     /// The slot of the operator.
@@ -110,7 +108,7 @@ impl State {
             → result ≡ slot_at (engine_in self.now) query q p operator }
     {
         let slope = slope_of(&self.registered[query as usize], operator);
-        Slot::new(slope, self.instant(query, operator), query, operator)
+        Slot::new(slope, self.next_for(query, operator), query, operator)
     }
 }
 

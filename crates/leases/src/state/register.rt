@@ -9,7 +9,7 @@ ghost use Rattle.plan.specs.Views.{nodes_of};
 ghost use Rattle.reference.specs.Commands.{found, place_at, register_tests};
 ghost use Rattle.reference.specs.Finds.{Finds};
 ghost use Rattle.reference.specs.Places.{machine_of};
-ghost use Rattle.reference.specs.Machine.{Registered, first_for};
+ghost use Rattle.reference.specs.Machine.{first_for};
 ghost use Rattle.reference.specs.Told.{IsTold};
 ghost use Rattle.reference.specs.World.{Does, register_step};
 ghost use Rattle.laws_queries.specs.Queries.{PlainQuery, node_at};
@@ -301,11 +301,8 @@ fn new_slot(
     requires within { operator < length slopes.now }
     ensures { result ≡ new_slot streams.now running.now slopes.now number operator }
 {
-    let instant = match running.ready(streams, operator) {
-        Some((_, at)) => Some(at),
-        None => None,
-    };
-    Slot::new(slopes[operator], instant, number, operator)
+    let next = running.ready(streams, operator);
+    Slot::new(slopes[operator], next, number, operator)
 }
 
 /// The windows of a new query are listed as readers behind the others. There is room for them.

@@ -1,14 +1,16 @@
 use Rattle.std.proofs.Common.{None, ◌≡◌, ◌+◌, ◌∷◌, [], ◌++◌, refl, ap, ◌∙◌}
 use Rattle.run_queue.specs.Slots.{changed}
-use Rattle.leases.proofs.LeaseLemmas.{HasGone, first_ready, goes_out, same_turn, sound_out}
+use Rattle.leases.proofs.LeaseLemmas.{HasGone, first_leases, goes_out, same_turn, sound_out}
 use Rattle.leases.specs.Shown.{engine_in}
 use Rattle.turn.specs.declared.turns.Turn.{Turn}
 use Rattle.leases.specs.declared.state.State.{State}
 use Rattle.leases.proofs.state.State.give_out.Goals as goal
 
-pub side-side-requires-clause-ready : goal.side-side-requires-clause-ready
-side-side-requires-clause-ready c =
-    first_ready (engine_in c.args.self.now) c.args.slot.now c.query-query.result c.operator-operator.result c.requires.sound.good c.requires.first c.query-query.ensures c.operator-operator.ensures
+pub turn-requires : goal.turn-requires
+turn-requires c = first_leases (engine_in c.args.self.now) c.args.slot.now c.args.rows c.requires.sound.good c.requires.first c.requires.some
+
+pub turn-requires-2 : goal.turn-requires-2
+turn-requires-2 c = first_leases (engine_in c.args.self.now) c.args.slot.now c.args.rows c.requires.sound.good c.requires.first c.requires.some
 
 -- the state at the return
 abbrev after : goal.After-change → State
@@ -27,7 +29,7 @@ after c = record {
 -- what is kept is what goes out
 same : (c : goal.After-change) → c.in_ok-kept.kept ≡ c.in_ok-turn.turn
 same c =
-    same_turn (engine_in c.args.self.now) c.query-query.result c.operator-operator.result c.side-side.result c.args.rows c.in_ok-kept.kept c.in_ok-turn.turn c.in_ok-kept.ensures c.in_ok-turn.ensures
+    same_turn (engine_in c.args.self.now) c.args.slot.now c.args.rows c.in_ok-kept.kept c.in_ok-turn.turn c.in_ok-kept.ensures c.in_ok-turn.ensures
 
 -- the slot is updated, and the turn kept
 gone : (c : goal.After-change) → c.change.new.self ≡ changed c.args.slot.now None c.args.self.now.slots → HasGone c.args.self.now (after c) c.args.slot.now c.in_ok-turn.turn
@@ -42,10 +44,8 @@ gone c slot_updated = record {
 
 pub returns-clause-turn : goal.returns-clause-turn
 returns-clause-turn c =
-    goes_out c.args.self.now (after c) c.args.slot.now c.side-side.result c.args.rows c.query-query.result c.operator-operator.result c.in_ok-turn.turn c.requires.sound c.requires.first c.requires.allowed
-    c.query-query.ensures c.operator-operator.ensures c.in_ok-turn.ensures (gone c c.change.ensures)
+    goes_out c.args.self.now (after c) c.args.slot.now c.args.rows c.in_ok-turn.turn c.requires.sound c.requires.first c.requires.allowed c.in_ok-turn.ensures (gone c c.change.ensures)
 
 pub returns-clause-sound : goal.returns-clause-sound
 returns-clause-sound c =
-    sound_out c.args.self.now (after c) c.args.slot.now c.side-side.result c.args.rows c.query-query.result c.operator-operator.result c.in_ok-turn.turn c.requires.sound c.requires.first c.requires.allowed
-    c.query-query.ensures c.operator-operator.ensures c.in_ok-turn.ensures (gone c c.change.ensures) c.requires.few c.requires.numbers
+    sound_out c.args.self.now (after c) c.args.slot.now c.args.rows c.in_ok-turn.turn c.requires.sound c.requires.first c.requires.allowed c.in_ok-turn.ensures (gone c c.change.ensures) c.requires.few c.requires.numbers

@@ -1,7 +1,6 @@
-use Rattle.leases.proofs.LeaseLemmas.{first_ready}
+use Rattle.leases.proofs.LeaseLemmas.{first_leases}
 use Rattle.leases.specs.Shown.{engine_in}
 use Rattle.leases.proofs.state.State.run_of.Goals as goal
 
-pub side-side-requires-clause-ready : goal.side-side-requires-clause-ready
-side-side-requires-clause-ready c =
-    first_ready (engine_in c.args.self.now) c.args.slot.now c.query-query.result c.operator-operator.result c.requires.sound.good c.requires.first c.query-query.ensures c.operator-operator.ensures
+pub turn-requires : goal.turn-requires
+turn-requires c = first_leases (engine_in c.args.self.now) c.args.slot.now c.args.rows c.requires.sound.good c.requires.first c.requires.some

@@ -14,7 +14,6 @@ use Rattle.turn.specs.declared.turns.Turn.{Turn}
 use Rattle.operators.specs.Inboxes.{cut_of}
 use Rattle.operators.specs.Operators.{inbox_of, ready}
 use Rattle.operators.specs.States.{near_of}
-use Rattle.reference.specs.Machine.{Registered}
 use Rattle.names.specs.Faults as faults
 use Rattle.reference.specs.World.{drain_fault}
 use Rattle.reference.specs.declared.fault.Fault.{Fault}

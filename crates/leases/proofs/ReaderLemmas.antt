@@ -1,5 +1,5 @@
 -- The windows that read streams: what is known of their operators, and their slots, told one after the other.
-use Rattle.std.proofs.Common.{◌≡◌, ℕ, zero, suc, ◌+◌, ◌<◌, ◌≤◌, true, false, ⊎_elim, Some, List, [], ◌∷◌, ◌++◌, drop, get_or, length, map, refl, sym, ap, ◌∙◌, subst, arith, drop-cons, nat_lt, ltb-true, lt-ltb, is_none, Option, None, ◌&&◌, ap₂}
+use Rattle.std.proofs.Common.{◌≡◌, ℕ, zero, suc, ◌+◌, ◌<◌, ◌≤◌, true, false, ⊎_elim, Some, List, [], ◌∷◌, ◌++◌, drop, get_or, length, map, refl, sym, ap, ◌∙◌, subst, arith, drop-cons, nat_lt, ltb-true, lt-ltb, is_none, ◌&&◌, ap₂}
 use Rattle.std.specs.Prelude.{slice_get}
 use Rattle.std.specs.List.{AllByRecursion}
 use Rattle.std.specs.Option.{option_map}
@@ -25,7 +25,6 @@ use Rattle.plan.proofs.Lists.{by_test}
 use Rattle.query_runtime.specs.Turns.{HasOperator, log_of}
 use Rattle.laws_engine.specs.Resting.{IsResting}
 use Rattle.operators.specs.Operators.{ready}
-use Rattle.column.specs.declared.batch.Side.{Side}
 use Rattle.leases.specs.Asked.{HasOperatorAt}
 use Rattle.reference.proofs.StepLemmas.{get_or-map}
 use Rattle.leases.specs.Readers.{HasSource, idle_slot, is_idle_at, is_idle_in, with_update, with_updates, with_slots}

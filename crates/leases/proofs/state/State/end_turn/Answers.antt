@@ -1,5 +1,5 @@
 -- What is left of the turns, and what is told after that.
-use Rattle.std.proofs.Common.{rules, ◌≡◌, ◌==◌, Some, not, filter, map, refl, sym, subst}
+use Rattle.std.proofs.Common.{rules, ◌≡◌, ◌==◌, Some, not, filter, map, sym, subst}
 use Rattle.std.proofs.lemmas.Fn.{filter_same}
 use Rattle.turn.specs.declared.turns.Turn.{Turn}
 use Rattle.run_queue.specs.declared.slots.Slot.{Slot}

@@ -1,0 +1,86 @@
+//! The command line of `cqld`.
+ghost use Rattle.std.specs.Prelude.{◌≡◌, ◌≤◌, IfOk, IfSome, codes, map, option_map};
+ghost use Rattle.clap.specs.Words.{FailsBy};
+ghost use Rattle.command_lines.specs.CommandLine.{number_in, number_or, serve_refusals, serve_text};
+
+use crate::number::{number, wanted_number};
+use clap::{Command, Error, value_parser};
+use std::alloc::Global;
+use std::convert::AsStr;
+
+/// What the words of `cqld` ask for.
+#[derive(Clone, Copy, Debug, PartialEq, Eq)]
+pub struct ServeOptions {
+    /// The port to listen on; 0 where the system is to choose one.
+    pub port: u16,
+    /// How many threads run turns, 1 to 64.
+    pub workers: u32,
+    /// How many threads answer connections, 1 to 64, each with a seat.
+    pub clients: u32,
+    /// After how many connections it ends, at most 1,000,000; never where that is not said.
+    pub serve: Option<u32>,
+}
+
+/// Reads the words of `cqld`, of which the first is the program's own name. Port, workers and
+/// clients have to be there.
+///
+/// # Errors
+/// A request for help, a wrong command line, or want of memory: `kind` tells which, and what is
+/// printed is clap's text.
+pub fn serve_options<'a, S: AsStr>(alloc: Global, words: &'a [S]) -> Result<ServeOptions, Error>
+    ensures refusals { FailsBy (serve_refusals (map S.text words.entry.now)) result }
+    ensures port { IfOk result (λ o.
+        o.port ≡ number_or 0 (serve_text (codes "port") (map S.text words.entry.now))) }
+    ensures workers { IfOk result (λ o.
+        o.workers ≡ number_or 1 (serve_text (codes "workers") (map S.text words.entry.now))) }
+    ensures clients { IfOk result (λ o.
+        o.clients ≡ number_or 1 (serve_text (codes "clients") (map S.text words.entry.now))) }
+    ensures serve { IfOk result (λ o.
+        o.serve ≡ option_map number_in (serve_text (codes "serve") (map S.text words.entry.now))) }
+    ensures range { IfOk result (λ o. (o.port ≤ 65535) × (1 ≤ o.workers) × (o.workers ≤ 64)
+        × (1 ≤ o.clients) × (o.clients ≤ 64) × IfSome o.serve (λ k. k ≤ 1000000)) }
+{
+    let port = wanted_number(
+        alloc,
+        "port",
+        "P",
+        value_parser!(u16).range(0..=65535),
+        "Listen on this port of 127.0.0.1, 0 to 65535; 0 lets the system choose",
+    );
+    let workers = wanted_number(
+        alloc,
+        "workers",
+        "N",
+        value_parser!(u32).range(1..=64),
+        "Run turns in so many threads, 1 to 64",
+    );
+    let clients = wanted_number(
+        alloc,
+        "clients",
+        "C",
+        value_parser!(u32).range(1..=64),
+        "Answer so many connections at once, 1 to 64",
+    );
+    let serve = number(
+        alloc,
+        "serve",
+        "K",
+        value_parser!(u32).range(0..=1_000_000),
+        "End after so many connections, 0 to 1000000",
+    );
+    let command = Command::new(alloc, "cqld")
+        .arg(port)?
+        .arg(workers)?
+        .arg(clients)?
+        .arg(serve)?;
+    match command.try_get_matches_from(words) {
+        // what is required is there, so no default is taken
+        Ok(matches) => Ok(ServeOptions {
+            port: matches.get_one("port").unwrap_or(0),
+            workers: matches.get_one("workers").unwrap_or(1),
+            clients: matches.get_one("clients").unwrap_or(1),
+            serve: matches.get_one("serve"),
+        }),
+        Err(error) => Err(error),
+    }
+}

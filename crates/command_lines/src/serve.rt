@@ -11,8 +11,8 @@ use std::convert::AsStr;
 /// What the words of `cqld` ask for.
 #[derive(Clone, Copy, Debug, PartialEq, Eq)]
 pub struct ServeOptions {
-    /// The port to listen on; 0 where the system is to choose one.
-    pub port: u16,
+    /// The port to listen on, at most 65,535; 0 where the system is to choose one.
+    pub port: u32,
     /// How many threads run turns, 1 to 64.
     pub workers: u32,
     /// How many threads answer connections, 1 to 64, each with a seat.
@@ -44,7 +44,7 @@ pub fn serve_options<'a, S: AsStr>(alloc: Global, words: &'a [S]) -> Result<Serv
         alloc,
         "port",
         "P",
-        value_parser!(u16).range(0..=65535),
+        value_parser!(u32).range(0..=65535),
         "Listen on this port of 127.0.0.1, 0 to 65535; 0 lets the system choose",
     );
     let workers = wanted_number(

@@ -1,7 +1,8 @@
 //! What the program says of a fault, and its status then.
 ghost use Rattle.std.specs.Prelude.{◌≡◌, ◌≢◌};
 ghost use Rattle.std.specs.IoError.{error_kind};
-ghost use Rattle.programs.specs.Run.{Told, fault_line, no_text_line, status_of};
+ghost use Rattle.served.specs.Errors.{Told};
+ghost use Rattle.programs.specs.Run.{fault_line, no_text_line, status_of};
 
 use std::io::{Error, ErrorKind};
 use wire::{ScriptFault, Sink, put};

@@ -7,4 +7,4 @@ mod lines;
 mod server;
 
 pub use lines::{run_hub, serve_connection};
-pub use server::{ServeOptions, serve};
+pub use server::serve;

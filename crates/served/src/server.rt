@@ -1,8 +1,10 @@
 //! A server: client threads accept connections in turn, and workers run turns.
-ghost use Rattle.std.specs.Prelude.{◌≡◌, ◌⊎◌};
+ghost use Rattle.std.specs.Prelude.{◌≡◌, ◌≤◌, ◌⊎◌};
+ghost use Rattle.served.specs.Errors.{Told, accept_line, close_line, memory_line, thread_line};
 
 use crate::door::Door;
 use crate::lines::serve_connection;
+use command_lines::ServeOptions;
 use hub::{Hub, MAX_HISTORY, Seat};
 use std::alloc::Global;
 use std::net::TcpListener;
@@ -15,21 +17,10 @@ use workers::{Open, work};
 /// The rows of a turn.
 const ROWS: u32 = 256;
 
-/// What the words of the server ask for.
-#[derive(Clone, Copy, Debug, PartialEq, Eq)]
-pub struct ServeOptions {
-    /// How many threads run turns, 1 to 64.
-    pub workers: u64,
-    /// How many threads answer connections, 1 to 64, each with a seat.
-    pub clients: u64,
-    /// After how many connections it ends; never where that is not said.
-    pub serve: Option<u64>,
-}
-
 /// The body of the server after its listener was bound: tells where it listens, answers
 /// connections, and gives its status. 0 where nothing failed; 1 where a connection could not be
 /// accepted, or the history and the seats differ at the end; 3 where memory is refused at the start
-/// or a thread could not be started. A text of `errors` says which.
+/// or a thread could not be started. What is not 0 is said on `errors`, in one line.
 pub fn serve<R: Threads + Wait + Sync, O: Sink, E: Sink>(
     rt: &R,
     alloc: Global,
@@ -38,22 +29,25 @@ pub fn serve<R: Threads + Wait + Sync, O: Sink, E: Sink>(
     sink: &mut O,
     errors: &mut E,
 ) -> u8
+    requires clients { 1 ≤ options.now.clients × options.now.clients ≤ 64 }
     ensures status { (result ≡ 0) ⊎ (result ≡ 1) ⊎ (result ≡ 3) }
     ensures silent { result ≡ 0 → errors.new ≡ errors.old }
+    ensures failed { result ≡ 1
+        → Told E.taken E.failures errors.old errors.new accept_line
+        ⊎ Told E.taken E.failures errors.old errors.new close_line }
+    ensures lacks { result ≡ 3
+        → Told E.taken E.failures errors.old errors.new memory_line
+        ⊎ Told E.taken E.failures errors.old errors.new thread_line }
 {
-    let Ok((hub, seats)) = Hub::open(alloc, options.clients, MAX_HISTORY) else {
-        tell(errors, "cqld: out of memory\n");
-        return 3;
+    let clients = options.clients as u64;
+    let Ok((hub, seats)) = Hub::open(alloc, clients, MAX_HISTORY) else {
+        return lack_memory(errors);
     };
-    if let Ok(address) = listener.local_addr() {
-        if let Ok(line) = format!(in alloc; "cqld: listening on 127.0.0.1:{}\n", address.port()) {
-            tell(sink, line.as_str());
-        }
-    }
-    let door = Mutex::new(Door::new(listener, options.serve));
+    tell_address(alloc, &listener, sink);
+    let left = options.serve.map(|connections| connections as u64);
+    let door = Mutex::new(Door::new(listener, left));
     let Some(seats) = run_threads(rt, alloc, &door, &hub, seats, options.workers) else {
-        tell(errors, "cqld: out of memory\n");
-        return 3;
+        return lack_memory(errors);
     };
     let door = door.into_inner();
     if door.thread_failed {
@@ -73,6 +67,25 @@ pub fn serve<R: Threads + Wait + Sync, O: Sink, E: Sink>(
     }
 }
 
+fn lack_memory<E: Sink>(errors: &mut E) -> u8
+    ensures status { result ≡ 3 }
+    ensures told { Told E.taken E.failures errors.old errors.new memory_line }
+{
+    tell(errors, "cqld: out of memory\n");
+    3
+}
+
+// Says where it listens. A write that fails is ignored, as is an address that is not told.
+fn tell_address<O: Sink>(alloc: Global, listener: &TcpListener, sink: &mut O) {
+    let Ok(address) = listener.local_addr() else {
+        return;
+    };
+    let port = address.port();
+    if let Ok(line) = format!(in alloc; "cqld: listening on 127.0.0.1:{port}\n") {
+        tell(sink, line.as_str());
+    }
+}
+
 // Starts the threads while nobody may come in, and gives the seats back once the clients have
 // ended. None where memory is refused before the first is started.
 fn run_threads<R: Threads + Wait + Sync>(
@@ -81,7 +94,7 @@ fn run_threads<R: Threads + Wait + Sync>(
     door: &Mutex<Door>,
     hub: &Hub,
     seats: Vec<Seat>,
-    workers: u64,
+    workers: u32,
 ) -> Option<Vec<Seat>> {
     let mut handles: Vec<JoinHandle<Seat>> = Vec::with_capacity(alloc, seats.len()).ok()?;
     let mut back = Vec::with_capacity(alloc, seats.len()).ok()?;
@@ -134,6 +147,8 @@ fn client<R: Threads + Wait + Sync>(
 }
 
 // A failed write of a text is ignored: the status says the rest.
-fn tell<E: Sink>(errors: &mut E, text: &str) {
+fn tell<E: Sink>(errors: &mut E, text: &str)
+    ensures { Told E.taken E.failures errors.old errors.new text.now }
+{
     let _ = put(errors, text.as_bytes());
 }

@@ -26,7 +26,7 @@ impl From<std::alloc::AllocError> for Stop {
 
 // The number of receipts, and how much waits in the first query.
 #[derive(Clone, Copy, PartialEq, Eq, Debug)]
-struct Shown {
+struct Looks {
     receipts: usize,
     reach: u64,
     waiting: Option<usize>,
@@ -34,8 +34,8 @@ struct Shown {
     queries: Option<u64>,
 }
 
-fn shown<R: Wait>(rt: &R, hub: &Hub, seat: &Seat) -> Shown {
-    Shown {
+fn looks_of<R: Wait>(rt: &R, hub: &Hub, seat: &Seat) -> Looks {
+    Looks {
         receipts: seat.receipts().len(),
         reach: seat.reach(),
         waiting: hub.waiting(rt, 0).ok(),
@@ -84,11 +84,11 @@ fn run<R: Wait>(rt: &R, alloc: Global) -> Result<u64, Stop> {
         return Err(Stop::Wrong(Fault::BadLimit));
     };
     for kind in 0..CALLS {
-        let before = shown(rt, &hub, &seat);
+        let before = looks_of(rt, &hub, &seat);
         match call(rt, alloc, &hub, &mut seat, kind)? {
             Ok(_) => {}
             Err(Fault::OutOfMemory) => {
-                if shown(rt, &hub, &seat) != before {
+                if looks_of(rt, &hub, &seat) != before {
                     return Err(Stop::Wrong(Fault::OutOfMemory));
                 }
                 match call(rt, alloc, &hub, &mut seat, kind)? {

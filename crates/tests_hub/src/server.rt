@@ -1,9 +1,11 @@
-//! A server and its client, both in this process.
+//! A server and its clients, all in this process.
+ghost use Rattle.std.specs.Prelude.{◌≤◌};
 
-use served::{ServeOptions, serve};
+use command_lines::ServeOptions;
+use served::serve;
 use std::alloc::Global;
 use std::io::{BufRead, BufReader, Write};
-use std::net::{Net, TcpListener, TcpStream};
+use std::net::{Net, Shutdown, SocketAddr, TcpListener, TcpStream};
 use std::sync::Wait;
 use std::thread::Threads;
 use std::{io, thread};
@@ -18,6 +20,12 @@ const BEGINNING: &str = r#"{"op":"stream","name":"S","columns":["a"],"from":0}
 const ROUND: &str = r#"{"op":"drain"}
 {"op":"take","query":"q","limit":100}
 "#;
+
+const DECLARATION: &str = r#"{"op":"stream","name":"S","columns":["a"],"from":0}
+"#;
+
+/// How many clients call at once.
+const CROWD: u32 = 64;
 
 // The rows of a take's reply, without what stands round them.
 fn rows_in(reply: &str) -> Option<&str> {
@@ -57,32 +65,77 @@ fn ask(alloc: Global, stream: &TcpStream) -> io::Result<String> {
     Ok(taken)
 }
 
-// What the client took, and the status of the server with what it said.
+// Sends a text, and gives all that is answered until the server closes.
+fn send(alloc: Global, stream: &TcpStream, text: &str) -> io::Result<String> {
+    let mut writer = stream;
+    writer.write_all(text.as_bytes())?;
+    stream.shutdown(Shutdown::Write)?;
+    io::read_to_string(alloc, stream)
+}
+
+// How a server ended, and what it said.
+#[derive(Drop)]
+struct Ending {
+    status: u8,
+    told: MemorySink,
+    errors: MemorySink,
+}
+
+impl Ending {
+    // It ended well: it said where it listens, and nothing of errors.
+    fn is_well(&self) -> bool {
+        self.status == 0
+            && self.errors.bytes.is_empty()
+            && self
+                .told
+                .bytes
+                .as_slice()
+                .starts_with(b"cqld: listening on 127.0.0.1:".as_slice())
+    }
+}
+
+// Serves so many connections, by one worker.
+fn serve_some<R: Threads + Wait + Sync>(
+    rt: &R,
+    alloc: Global,
+    listener: TcpListener,
+    clients: u32,
+    connections: u32,
+) -> Ending
+    requires { 1 ≤ clients × clients ≤ 64 }
+{
+    let options = ServeOptions {
+        port: 0,
+        workers: 1,
+        clients,
+        serve: Some(connections),
+    };
+    let mut told = MemorySink::new(alloc);
+    let mut errors = MemorySink::new(alloc);
+    let status = serve(rt, alloc, listener, &options, &mut told, &mut errors);
+    Ending {
+        status,
+        told,
+        errors,
+    }
+}
+
+// What one client took, and how the server ended.
 fn served_once<R: Net<Listener = TcpListener, Stream = TcpStream> + Threads + Wait + Sync>(
     rt: &R,
     alloc: Global,
     listener: TcpListener,
-) -> io::Result<(String, u8, MemorySink)> {
+) -> io::Result<(String, Ending)> {
     let address = listener.local_addr()?;
-    let options = ServeOptions {
-        workers: 1,
-        clients: 1,
-        serve: Some(1),
-    };
-    let (taken, ended) = thread::join(
+    let (taken, ending) = thread::join(
         rt,
         || -> io::Result<String> {
             let stream = TcpStream::connect(rt, address)?;
             ask(alloc, &stream)
         },
-        || {
-            let mut sink = MemorySink::new(alloc);
-            let mut errors = MemorySink::new(alloc);
-            let status = serve(rt, alloc, listener, &options, &mut sink, &mut errors);
-            (status, errors)
-        },
+        || serve_some(rt, alloc, listener, 1, 1),
     );
-    Ok((taken?, ended.0, ended.1))
+    Ok((taken?, ending))
 }
 
 #[test]
@@ -91,11 +144,156 @@ fn a_server_answers_a_connection_and_ends(rt: HostRuntime) {
         Ok(listener) => {
             let served = served_once(&rt, rt.alloc(), listener);
             assert!(rt;
-                matches!(&served, Ok((taken, 0, errors))
-                if taken.as_str() == "[1,5],[3,6],[3,7]" && errors.bytes.is_empty())
+                matches!(&served, Ok((taken, ending))
+                if taken.as_str() == "[1,5],[3,6],[3,7]" && ending.is_well())
             );
         }
         // A machine without a network says nothing of the server.
+        Err(_) => {}
+    }
+}
+
+// Three clients, one after the other: one sends half a line, one is gone before it is answered, and
+// the third is answered as if the first had not been, and after the calls of the second.
+fn poor_clients<R: Net<Listener = TcpListener, Stream = TcpStream>>(
+    rt: &R,
+    alloc: Global,
+    address: SocketAddr,
+) -> io::Result<(String, String)> {
+    let half = TcpStream::connect(rt, address)?;
+    let (front, _) = DECLARATION.split_at(DECLARATION.len() / 2);
+    let told = send(alloc, &half, front)?;
+    drop(half);
+    let gone = TcpStream::connect(rt, address)?;
+    let mut writer = &gone;
+    writer.write_all(BEGINNING.as_bytes())?;
+    for _ in 0..1_000 {
+        writer.write_all(ROUND.as_bytes())?;
+    }
+    drop(gone);
+    let third = TcpStream::connect(rt, address)?;
+    let answered = send(alloc, &third, DECLARATION)?;
+    Ok((told, answered))
+}
+
+fn served_thrice<R: Net<Listener = TcpListener, Stream = TcpStream> + Threads + Wait + Sync>(
+    rt: &R,
+    alloc: Global,
+    listener: TcpListener,
+) -> io::Result<(String, String, Ending)> {
+    let address = listener.local_addr()?;
+    let (answers, ending) = thread::join(
+        rt,
+        || poor_clients(rt, alloc, address),
+        || serve_some(rt, alloc, listener, 1, 3),
+    );
+    let (told, answered) = answers?;
+    Ok((told, answered, ending))
+}
+
+#[test]
+fn a_client_that_goes_ends_its_connection_alone(rt: HostRuntime) {
+    match TcpListener::bind(&rt, "127.0.0.1:0") {
+        Ok(listener) => {
+            let served = served_thrice(&rt, rt.alloc(), listener);
+            assert!(rt;
+                matches!(&served, Ok((told, answered, ending))
+                if told.as_str() == "{\"error\":\"N1 NotJson\"}\n"
+                    && answered.as_str() == "{\"error\":\"E2 NameTaken\"}\n"
+                    && ending.is_well())
+            );
+        }
+        Err(_) => {}
+    }
+}
+
+// A client that sends nothing keeps its connection open, and another one is answered meanwhile.
+fn beside_a_silent_client<R: Net<Listener = TcpListener, Stream = TcpStream>>(
+    rt: &R,
+    alloc: Global,
+    address: SocketAddr,
+) -> io::Result<String> {
+    let silent = TcpStream::connect(rt, address)?;
+    let stream = TcpStream::connect(rt, address)?;
+    let taken = ask(alloc, &stream)?;
+    drop(silent);
+    Ok(taken)
+}
+
+fn served_beside<R: Net<Listener = TcpListener, Stream = TcpStream> + Threads + Wait + Sync>(
+    rt: &R,
+    alloc: Global,
+    listener: TcpListener,
+) -> io::Result<(String, Ending)> {
+    let address = listener.local_addr()?;
+    let (taken, ending) = thread::join(
+        rt,
+        || beside_a_silent_client(rt, alloc, address),
+        || serve_some(rt, alloc, listener, 2, 2),
+    );
+    Ok((taken?, ending))
+}
+
+#[test]
+fn a_silent_client_holds_no_other_one(rt: HostRuntime) {
+    match TcpListener::bind(&rt, "127.0.0.1:0") {
+        Ok(listener) => {
+            let served = served_beside(&rt, rt.alloc(), listener);
+            assert!(rt;
+                matches!(&served, Ok((taken, ending))
+                if taken.as_str() == "[1,5],[3,6],[3,7]" && ending.is_well())
+            );
+        }
+        Err(_) => {}
+    }
+}
+
+// Whether a client with a stream and a query of its own is answered its row.
+fn is_answered<R: Net<Listener = TcpListener, Stream = TcpStream>>(
+    rt: &R,
+    alloc: Global,
+    address: SocketAddr,
+    number: u32,
+) -> io::Result<bool> {
+    let stream = TcpStream::connect(rt, address)?;
+    let script = format!(in alloc;
+        "{{\"op\":\"stream\",\"name\":\"S{number}\",\"columns\":[\"a\"],\"from\":0}}\n\
+        {{\"op\":\"append\",\"stream\":\"S{number}\",\"rows\":[[0,{number}]]}}\n\
+        {{\"op\":\"append\",\"stream\":\"S{number}\",\"rows\":[[0]]}}\n\
+        {{\"op\":\"heartbeat\",\"stream\":\"S{number}\",\"at\":0}}\n"
+    )?;
+    let replies = send(alloc, &stream, script.as_str())?;
+    Ok(
+        replies.as_str()
+            == "{\"ok\":true}\n{\"ok\":true}\n{\"error\":\"E7 BadWidth\"}\n{\"ok\":true}\n",
+    )
+}
+
+// How many of so many clients at once are answered.
+fn served_crowd<R: Net<Listener = TcpListener, Stream = TcpStream> + Threads + Wait + Sync>(
+    rt: &R,
+    alloc: Global,
+    listener: TcpListener,
+) -> io::Result<(usize, Ending)> {
+    let address = listener.local_addr()?;
+    let numbers: Vec<u32> = (0..CROWD).collect(alloc)?;
+    let answer = |number: u32| matches!(is_answered(rt, alloc, address, number), Ok(true));
+    let (answered, ending) = thread::join(
+        rt,
+        || thread::map_vec(rt, numbers, &answer),
+        || serve_some(rt, alloc, listener, CROWD, CROWD),
+    );
+    let answered = answered?.iter().filter(|answered| **answered).count();
+    Ok((answered, ending))
+}
+
+#[test]
+fn as_many_clients_as_may_be_are_served_at_once(rt: HostRuntime) {
+    match TcpListener::bind(&rt, "127.0.0.1:0") {
+        Ok(listener) => {
+            let served = served_crowd(&rt, rt.alloc(), listener);
+            assert!(rt; matches!(&served, Ok((64, ending)) if ending.is_well()));
+        }
         Err(_) => {}
     }
 }

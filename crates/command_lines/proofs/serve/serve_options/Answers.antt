@@ -28,7 +28,7 @@ command_is g c =
     let clients_is : rule_of c.wanted_number-clients.result ≡ wanted (option (codes "clients") (between 1 64)) = search rules in
     let serve_is : rule_of c.number-serve.result ≡ option (codes "serve") (between 0 1000000) = search rules in
     c.in_ok-command.ensures.shape (search rules) ∙ ap₂ with_rule (c.in_ok-arg-3.ensures.shape (search rules) ∙ ap₂ with_rule (c.in_ok-arg-2.ensures.shape (search rules)
-    ∙ ap₂ with_rule (c.in_ok-arg.ensures.shape (search rules) ∙ ap₂ with_rule c.new-4.ensures.app port_is) workers_is) clients_is) serve_is
+    ∙ ap₂ with_rule (c.in_ok-arg.ensures.shape (search rules) ∙ ap₂ with_rule c.new-5.ensures.app port_is) workers_is) clients_is) serve_is
 
 abbrev args_are : (g : Over) (c : Joined-matches g) → List Arg
 args_are g c = c.wanted_number-port.result ∷ c.wanted_number-workers.result ∷ c.wanted_number-clients.result ∷ c.number-serve.result ∷ []
@@ -42,7 +42,7 @@ parsed g c =
     let clients_id : c.wanted_number-clients.result.id.now ≡ codes "clients" = search rules in
     let serve_id : c.number-serve.result.id.now ≡ codes "serve" = search rules in
     record {
-      start = c.new-4.result;
+      start = c.new-5.result;
       added = (c.in_ok-arg.field-0, c.in_ok-arg.ensures, (c.in_ok-arg-2.field-0, c.in_ok-arg-2.ensures, (c.in_ok-arg-3.field-0, c.in_ok-arg-3.ensures, (c.in_ok-command.command, c.in_ok-command.ensures, refl))));
       args = search rules;
       groups = search rules;
@@ -62,7 +62,7 @@ port_is g c =
     let id : c.wanted_number-port.result.id.now ≡ codes "port" = search rules in
     let rule : rule_of c.wanted_number-port.result ≡ wanted (option (codes "port") (between 0 65535)) = search rules in
     let parser : c.wanted_number-port.result.value_parser ≡ Some (between 0 65535) = ap (λ r. r.parser) rule in
-    number_at _ _ cqld (map g.S.AsStr.text c.args.words.now) (args_are g c) (parsed g c) _ (λ bs r. ParsesUnsigned 16 10 bs r × ExplainsUnsignedError 10 bs r × HasUnsignedDigitsIfOk bs r) 16 0 65535 (omega arith) (λ u x h. h.0)
+    number_at _ _ cqld (map g.S.AsStr.text c.args.words.now) (args_are g c) (parsed g c) _ (λ bs r. ParsesUnsigned 32 10 bs r × ExplainsUnsignedError 10 bs r × HasUnsignedDigitsIfOk bs r) 32 0 65535 (omega arith) (λ u x h. h.0)
     0 c.wanted_number-port.result (omega arith) (codes "port") id parser c.get_one.result c.get_one.ensures.none c.get_one.ensures.value
 
 workers_is : (g : Over) (c : Joined-matches g) → IsNumber 1 64 (serve_text (codes "workers") (map g.S.AsStr.text c.args.words.now)) c.get_one-in-Ok.result
@@ -130,5 +130,5 @@ returns-in-Err-clause-refusals g c =
     let clients_is : rule_of c.wanted_number-clients.result ≡ wanted (option (codes "clients") (between 1 64)) = search rules in
     let serve_is : rule_of c.number-serve.result ≡ option (codes "serve") (between 0 1000000) = search rules in
     let is : app_of c.in_ok-command.command ≡ cqld = c.in_ok-command.ensures.shape (search rules) ∙ ap₂ with_rule (c.in_ok-arg-3.ensures.shape (search rules) ∙ ap₂ with_rule (c.in_ok-arg-2.ensures.shape (search rules)
-    ∙ ap₂ with_rule (c.in_ok-arg.ensures.shape (search rules) ∙ ap₂ with_rule c.new-4.ensures.app port_is) workers_is) clients_is) serve_is in
+    ∙ ap₂ with_rule (c.in_ok-arg.ensures.shape (search rules) ∙ ap₂ with_rule c.new-5.ensures.app port_is) workers_is) clients_is) serve_is in
     subst (λ (a : App). HasKind (fault_of a (map g.S.AsStr.text c.args.words.now)) c.in-Err.error) is (c.in-Err.ensures.kinds (ap is_simple_and_free is ∙ is_free))

@@ -1,10 +1,11 @@
 //! The command line of `cqld`.
 ghost use Rattle.std.specs.Prelude.{◌≡◌, ◌≤◌, IfOk, IfSome, codes, map, option_map};
 ghost use Rattle.clap.specs.Words.{FailsBy};
-ghost use Rattle.command_lines.specs.CommandLine.{number_in, number_or, serve_refusals, serve_text};
+ghost use Rattle.command_lines.specs.CommandLine.{IsNumberArg, between, number_in, number_or, option};
+ghost use Rattle.command_lines.specs.CommandLine.{serve_refusals, serve_text, wanted};
 
 use crate::number::{number, wanted_number};
-use clap::{Command, Error, value_parser};
+use clap::{Arg, Command, Error, value_parser};
 use std::alloc::Global;
 use std::convert::AsStr;
 
@@ -40,13 +41,6 @@ pub fn serve_options<'a, S: AsStr>(alloc: Global, words: &'a [S]) -> Result<Serv
     ensures range { IfOk result (λ o. (o.port ≤ 65535) × (1 ≤ o.workers) × (o.workers ≤ 64)
         × (1 ≤ o.clients) × (o.clients ≤ 64) × IfSome o.serve (λ k. k ≤ 1000000)) }
 {
-    let port = wanted_number(
-        alloc,
-        "port",
-        "P",
-        value_parser!(u32).range(0..=65535),
-        "Listen on this port of 127.0.0.1, 0 to 65535; 0 lets the system choose",
-    );
     let workers = wanted_number(
         alloc,
         "workers",
@@ -69,7 +63,7 @@ pub fn serve_options<'a, S: AsStr>(alloc: Global, words: &'a [S]) -> Result<Serv
         "End after so many connections, 0 to 1000000",
     );
     let command = Command::new(alloc, "cqld")
-        .arg(port)?
+        .arg(port(alloc))?
         .arg(workers)?
         .arg(clients)?
         .arg(serve)?;
@@ -83,4 +77,18 @@ pub fn serve_options<'a, S: AsStr>(alloc: Global, words: &'a [S]) -> Result<Serv
         }),
         Err(error) => Err(error),
     }
+}
+
+// The option `--port P`.
+fn port<'a>(alloc: Global) -> Arg<'a>
+    ensures { IsNumberArg (wanted (option (codes "port") (between 0 65535))) (codes "port")
+        (between 0 65535) result }
+{
+    wanted_number(
+        alloc,
+        "port",
+        "P",
+        value_parser!(u32).range(0..=65535),
+        "Listen on this port of 127.0.0.1, 0 to 65535; 0 lets the system choose",
+    )
 }

@@ -10,8 +10,8 @@ use Rattle.reference.specs.Steps.{AreNext, IsStep}
 use Rattle.reference.specs.World.{Does, World, append_step, declare_step, drop_step, handed, heartbeat_step, register_step}
 use Rattle.reference.specs.declared.fault.Fault.{Fault}
 use Rattle.stream_store.specs.Closing.{QueuesGain}
-use Rattle.laws_engine.specs.Calls.{appended, beaten, declared, dropped}
-use Rattle.laws_engine.specs.Engines.{PlainEngine, answers_in, kept_at, world_of}
+use Rattle.laws_engine.specs.Calls.{appended, heartbeat_taken, declared, dropped}
+use Rattle.laws_engine.specs.Engines.{PlainEngine, answers_in, remains_at, world_of}
 use Rattle.leases.specs.Queues.{LeavesQueues, LengthensQueues}
 use Rattle.leases.specs.Registering.{Registers}
 use Rattle.leases.specs.Takes.{Takes, count_of}
@@ -34,16 +34,16 @@ module _ (old new : PlainEngine) where
   append_done s rows u does is leaves = record { step = append_is_step (world_of old) (world_of new) s rows does; call = (is, leaves) }
 
   pub heartbeat_done : (s : ℕ) (at : ℤ) (u : ⊤) → Does (λ u. u) (world_of old) (heartbeat_step (world_of old) s at) (Ok u) (world_of new)
-      → new ≡ beaten old s at → QueuesGain (slice_get old.machine.streams s) at → LengthensQueues s at old new → Answered old (Heartbeat s at) Done new
+      → new ≡ heartbeat_taken old s at → QueuesGain (slice_get old.machine.streams s) at → LengthensQueues s at old new → Answered old (Heartbeat s at) Done new
   heartbeat_done s at u does is gain lengthens = record { step = heartbeat_is_step (world_of old) (world_of new) s at does; call = (is, gain, lengthens) }
 
   pub drop_done : (n : ℕ) (u : ⊤) → Ok u ≡ (drop_step (world_of old) n).0 → world_of new ≡ (drop_step (world_of old) n).1 → new ≡ dropped old n → Answered old (Drop n) Done new
   drop_done n u does world is = record { step = drop_is_step (world_of old) (world_of new) n (both _ _ _ does world); call = is }
 
   -- how many answers are handed out
-  handed_many : (n : ℕ) (limit : ℤ) (rows : List (ℤ × Row)) → rows ≡ handed (take (count_of old n limit) (answers_in (kept_at old n))) → length rows ≡ count_of old n limit
+  handed_many : (n : ℕ) (limit : ℤ) (rows : List (ℤ × Row)) → rows ≡ handed (take (count_of old n limit) (answers_in (remains_at old n))) → length rows ≡ count_of old n limit
   handed_many n limit rows is =
-      ap length is ∙ length-map (take (count_of old n limit) (answers_in (kept_at old n))) _ ∙ length-take-le (count_of old n limit) (answers_in (kept_at old n)) (omega arith)
+      ap length is ∙ length-map (take (count_of old n limit) (answers_in (remains_at old n))) _ ∙ length-take-le (count_of old n limit) (answers_in (remains_at old n)) (omega arith)
 
   pub take_done : (n : ℕ) (limit : ℤ) (rows : List (ℤ × Row)) → Takes (λ rs. rs) old n limit (Ok rows) new → AreNext old.machine n limit rows → Answered old (Take n limit) (Rows rows) new
   take_done n limit rows takes next = record {

@@ -6,8 +6,8 @@ use Rattle.reference.specs.Steps.{IsStep}
 use Rattle.reference.specs.declared.fault.Fault.{Fault}
 use Rattle.reference.specs.declared.fault.Fault.TheVariants as fault
 use Rattle.stream_store.specs.Closing.{QueuesGain}
-use Rattle.laws_engine.specs.Calls.{appended, beaten, declared, dropped}
-use Rattle.laws_engine.specs.Engines.{Broken, PlainEngine, kept_at}
+use Rattle.laws_engine.specs.Calls.{appended, heartbeat_taken, declared, dropped}
+use Rattle.laws_engine.specs.Engines.{Broken, PlainEngine, remains_at}
 use Rattle.leases.specs.Queues.{LeavesQueues, LengthensQueues}
 use Rattle.leases.specs.Registering.{Registers}
 use Rattle.leases.specs.Takes.{Takes}
@@ -17,7 +17,7 @@ abbrev pub IsCall : PlainEngine → Command → Reply → PlainEngine → Type 0
 IsCall old (Declare name columns start) r new = new ≡ declared old name columns start
 IsCall old (Register name text chart) r new = Registers old name text chart new
 IsCall old (Append s rows) r new = (new ≡ appended old s rows) × LeavesQueues old new
-IsCall old (Heartbeat s at) r new = (new ≡ beaten old s at) × QueuesGain (slice_get old.machine.streams s) at × LengthensQueues s at old new
+IsCall old (Heartbeat s at) r new = (new ≡ heartbeat_taken old s at) × QueuesGain (slice_get old.machine.streams s) at × LengthensQueues s at old new
 IsCall old (Take n limit) (Rows rows) new = Takes (λ handed. handed) old n limit (Ok rows) new
 IsCall old (Take n limit) r new = ⊥
 IsCall old (Drop n) r new = new ≡ dropped old n
@@ -29,7 +29,7 @@ pub record Answered (old : PlainEngine) (c : Command) (r : Reply) (new : PlainEn
 
 -- nothing waits of a broken query
 abbrev pub IsSpent : PlainEngine → Command → Type 0
-IsSpent e (Take n limit) = (first_fault e.machine (Take n limit) ≡ None) × (kept_at e n ≡ Broken [])
+IsSpent e (Take n limit) = (first_fault e.machine (Take n limit) ≡ None) × (remains_at e n ≡ Broken [])
 IsSpent e c = ⊥
 
 -- the first test that fails, or want of memory, which may stand in place of any, or that nothing waits; but none of a hub's own faults

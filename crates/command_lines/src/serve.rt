@@ -41,32 +41,18 @@ pub fn serve_options<'a, S: AsStr>(alloc: Global, words: &'a [S]) -> Result<Serv
     ensures range { IfOk result (λ o. (o.port ≤ 65535) × (1 ≤ o.workers) × (o.workers ≤ 64)
         × (1 ≤ o.clients) × (o.clients ≤ 64) × IfSome o.serve (λ k. k ≤ 1000000)) }
 {
-    let workers = wanted_number(
-        alloc,
-        "workers",
-        "N",
-        value_parser!(u32).range(1..=64),
-        "Run turns in so many threads, 1 to 64",
-    );
-    let clients = wanted_number(
+    let workers = threads(alloc, "workers", "N", "Run turns in so many threads, 1 to 64");
+    let clients = threads(
         alloc,
         "clients",
         "C",
-        value_parser!(u32).range(1..=64),
         "Answer so many connections at once, 1 to 64",
-    );
-    let serve = number(
-        alloc,
-        "serve",
-        "K",
-        value_parser!(u32).range(0..=1_000_000),
-        "End after so many connections, 0 to 1000000",
     );
     let command = Command::new(alloc, "cqld")
         .arg(port(alloc))?
         .arg(workers)?
         .arg(clients)?
-        .arg(serve)?;
+        .arg(connections(alloc))?;
     match command.try_get_matches_from(words) {
         // what is required is there, so no default is taken
         Ok(matches) => Ok(ServeOptions {
@@ -90,5 +76,26 @@ fn port<'a>(alloc: Global) -> Arg<'a>
         "P",
         value_parser!(u32).range(0..=65535),
         "Listen on this port of 127.0.0.1, 0 to 65535; 0 lets the system choose",
+    )
+}
+
+// An option of this name that takes a number of threads.
+fn threads<'a>(alloc: Global, name: &'a str, value: &'a str, help: &'a str) -> Arg<'a>
+    ensures { IsNumberArg (wanted (option name.now (between 1 64))) name.now (between 1 64) result }
+{
+    wanted_number(alloc, name, value, value_parser!(u32).range(1..=64), help)
+}
+
+// The option `--serve K`.
+fn connections<'a>(alloc: Global) -> Arg<'a>
+    ensures { IsNumberArg (option (codes "serve") (between 0 1000000)) (codes "serve")
+        (between 0 1000000) result }
+{
+    number(
+        alloc,
+        "serve",
+        "K",
+        value_parser!(u32).range(0..=1_000_000),
+        "End after so many connections, 0 to 1000000",
     )
 }

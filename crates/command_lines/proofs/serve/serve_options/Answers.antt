@@ -24,25 +24,25 @@ is_plain_app = refl
 command_is : (g : Over) (c : Joined-matches g) → app_of c.in_ok-command.command ≡ cqld
 command_is g c =
     let port_is : rule_of c.port.result ≡ wanted (option (codes "port") (between 0 65535)) = c.port.ensures.ruled in
-    let workers_is : rule_of c.wanted_number-workers.result ≡ wanted (option (codes "workers") (between 1 64)) = search rules in
-    let clients_is : rule_of c.wanted_number-clients.result ≡ wanted (option (codes "clients") (between 1 64)) = search rules in
-    let serve_is : rule_of c.number-serve.result ≡ option (codes "serve") (between 0 1000000) = search rules in
+    let workers_is : rule_of c.threads-workers.result ≡ wanted (option (codes "workers") (between 1 64)) = c.threads-workers.ensures.ruled in
+    let clients_is : rule_of c.threads-clients.result ≡ wanted (option (codes "clients") (between 1 64)) = c.threads-clients.ensures.ruled in
+    let serve_is : rule_of c.connections.result ≡ option (codes "serve") (between 0 1000000) = c.connections.ensures.ruled in
     c.in_ok-command.ensures.shape (search rules) ∙ ap₂ with_rule (c.in_ok-arg-3.ensures.shape (search rules) ∙ ap₂ with_rule (c.in_ok-arg-2.ensures.shape (search rules)
-    ∙ ap₂ with_rule (c.in_ok-arg.ensures.shape (search rules) ∙ ap₂ with_rule c.new-3.ensures.app port_is) workers_is) clients_is) serve_is
+    ∙ ap₂ with_rule (c.in_ok-arg.ensures.shape (search rules) ∙ ap₂ with_rule c.new.ensures.app port_is) workers_is) clients_is) serve_is
 
 abbrev args_are : (g : Over) (c : Joined-matches g) → List Arg
-args_are g c = c.port.result ∷ c.wanted_number-workers.result ∷ c.wanted_number-clients.result ∷ c.number-serve.result ∷ []
+args_are g c = c.port.result ∷ c.threads-workers.result ∷ c.threads-clients.result ∷ c.connections.result ∷ []
 
 parsed : (g : Over) (c : Joined-matches g) → Parsed c.in_ok-command.command c.in-Ok.matches cqld (map g.S.AsStr.text c.args.words.now) (args_are g c)
 parsed g c =
     let is = command_is g c in
     let words = map g.S.AsStr.text c.args.words.now in
     let port_id : c.port.result.id.now ≡ codes "port" = c.port.ensures.named in
-    let workers_id : c.wanted_number-workers.result.id.now ≡ codes "workers" = search rules in
-    let clients_id : c.wanted_number-clients.result.id.now ≡ codes "clients" = search rules in
-    let serve_id : c.number-serve.result.id.now ≡ codes "serve" = search rules in
+    let workers_id : c.threads-workers.result.id.now ≡ codes "workers" = c.threads-workers.ensures.named in
+    let clients_id : c.threads-clients.result.id.now ≡ codes "clients" = c.threads-clients.ensures.named in
+    let serve_id : c.connections.result.id.now ≡ codes "serve" = c.connections.ensures.named in
     record {
-      start = c.new-3.result;
+      start = c.new.result;
       added = (c.in_ok-arg.field-0, c.in_ok-arg.ensures, (c.in_ok-arg-2.field-0, c.in_ok-arg-2.ensures, (c.in_ok-arg-3.field-0, c.in_ok-arg-3.ensures, (c.in_ok-command.command, c.in_ok-command.ensures, refl))));
       args = search rules;
       groups = search rules;
@@ -51,7 +51,7 @@ parsed g c =
       named = rw (port_id, workers_id, clients_id, serve_id) refl;
       distinct_ids = refl;
       ordinary_ids = refl;
-      each = four FitsElse c.port.result c.wanted_number-workers.result c.wanted_number-clients.result c.number-serve.result (c.port.ensures.plain, c.port.ensures.local) (c.wanted_number-workers.ensures.plain, c.wanted_number-workers.ensures.local) (c.wanted_number-clients.ensures.plain, c.wanted_number-clients.ensures.local) (c.number-serve.ensures.plain, c.number-serve.ensures.local);
+      each = four FitsElse c.port.result c.threads-workers.result c.threads-clients.result c.connections.result (c.port.ensures.plain, c.port.ensures.local) (c.threads-workers.ensures.plain, c.threads-workers.ensures.local) (c.threads-clients.ensures.plain, c.threads-clients.ensures.local) (c.connections.ensures.plain, c.connections.ensures.local);
       parsed = c.in-Ok.ensures.parsed;
       rows = (c.in-Ok.ensures.matches (ap is_simple is ∙ is_plain_app)).0 ∙ ap (λ a. matches_of a words) is;
     }
@@ -68,29 +68,29 @@ port_is g c =
 workers_is : (g : Over) (c : Joined-matches g) → IsNumber 1 64 (serve_text (codes "workers") (map g.S.AsStr.text c.args.words.now)) c.get_one-in-Ok.result
 unfolding serve_text
 workers_is g c =
-    let id : c.wanted_number-workers.result.id.now ≡ codes "workers" = search rules in
-    let rule : rule_of c.wanted_number-workers.result ≡ wanted (option (codes "workers") (between 1 64)) = search rules in
-    let parser : c.wanted_number-workers.result.value_parser ≡ Some (between 1 64) = ap (λ r. r.parser) rule in
+    let id : c.threads-workers.result.id.now ≡ codes "workers" = c.threads-workers.ensures.named in
+    let rule : rule_of c.threads-workers.result ≡ wanted (option (codes "workers") (between 1 64)) = c.threads-workers.ensures.ruled in
+    let parser : c.threads-workers.result.value_parser ≡ Some (between 1 64) = ap (λ r. r.parser) rule in
     number_at _ _ cqld (map g.S.AsStr.text c.args.words.now) (args_are g c) (parsed g c) _ (λ bs r. ParsesUnsigned 32 10 bs r × ExplainsUnsignedError 10 bs r × HasUnsignedDigitsIfOk bs r) 32 1 64 (omega arith) (λ u x h. h.0)
-    1 c.wanted_number-workers.result (omega arith) (codes "workers") id parser c.get_one-in-Ok.result c.get_one-in-Ok.ensures.none c.get_one-in-Ok.ensures.value
+    1 c.threads-workers.result (omega arith) (codes "workers") id parser c.get_one-in-Ok.result c.get_one-in-Ok.ensures.none c.get_one-in-Ok.ensures.value
 
 clients_is : (g : Over) (c : Joined-matches g) → IsNumber 1 64 (serve_text (codes "clients") (map g.S.AsStr.text c.args.words.now)) c.get_one-in-Ok-2.result
 unfolding serve_text
 clients_is g c =
-    let id : c.wanted_number-clients.result.id.now ≡ codes "clients" = search rules in
-    let rule : rule_of c.wanted_number-clients.result ≡ wanted (option (codes "clients") (between 1 64)) = search rules in
-    let parser : c.wanted_number-clients.result.value_parser ≡ Some (between 1 64) = ap (λ r. r.parser) rule in
+    let id : c.threads-clients.result.id.now ≡ codes "clients" = c.threads-clients.ensures.named in
+    let rule : rule_of c.threads-clients.result ≡ wanted (option (codes "clients") (between 1 64)) = c.threads-clients.ensures.ruled in
+    let parser : c.threads-clients.result.value_parser ≡ Some (between 1 64) = ap (λ r. r.parser) rule in
     number_at _ _ cqld (map g.S.AsStr.text c.args.words.now) (args_are g c) (parsed g c) _ (λ bs r. ParsesUnsigned 32 10 bs r × ExplainsUnsignedError 10 bs r × HasUnsignedDigitsIfOk bs r) 32 1 64 (omega arith) (λ u x h. h.0)
-    2 c.wanted_number-clients.result (omega arith) (codes "clients") id parser c.get_one-in-Ok-2.result c.get_one-in-Ok-2.ensures.none c.get_one-in-Ok-2.ensures.value
+    2 c.threads-clients.result (omega arith) (codes "clients") id parser c.get_one-in-Ok-2.result c.get_one-in-Ok-2.ensures.none c.get_one-in-Ok-2.ensures.value
 
 serve_is : (g : Over) (c : Joined-matches g) → IsNumber 0 1000000 (serve_text (codes "serve") (map g.S.AsStr.text c.args.words.now)) c.get_one-in-Ok-3.result
 unfolding serve_text
 serve_is g c =
-    let id : c.number-serve.result.id.now ≡ codes "serve" = search rules in
-    let rule : rule_of c.number-serve.result ≡ option (codes "serve") (between 0 1000000) = search rules in
-    let parser : c.number-serve.result.value_parser ≡ Some (between 0 1000000) = ap (λ r. r.parser) rule in
+    let id : c.connections.result.id.now ≡ codes "serve" = c.connections.ensures.named in
+    let rule : rule_of c.connections.result ≡ option (codes "serve") (between 0 1000000) = c.connections.ensures.ruled in
+    let parser : c.connections.result.value_parser ≡ Some (between 0 1000000) = ap (λ r. r.parser) rule in
     number_at _ _ cqld (map g.S.AsStr.text c.args.words.now) (args_are g c) (parsed g c) _ (λ bs r. ParsesUnsigned 32 10 bs r × ExplainsUnsignedError 10 bs r × HasUnsignedDigitsIfOk bs r) 32 0 1000000 (omega arith) (λ u x h. h.0)
-    3 c.number-serve.result (omega arith) (codes "serve") id parser c.get_one-in-Ok-3.result c.get_one-in-Ok-3.ensures.none c.get_one-in-Ok-3.ensures.value
+    3 c.connections.result (omega arith) (codes "serve") id parser c.get_one-in-Ok-3.result c.get_one-in-Ok-3.ensures.none c.get_one-in-Ok-3.ensures.value
 
 pub returns-in-Ok-clause-refusals : goal.returns-in-Ok-clause-refusals
 unfolding serve_refusals
@@ -126,9 +126,9 @@ pub returns-in-Err-clause-refusals : goal.returns-in-Err-clause-refusals
 unfolding serve_refusals
 returns-in-Err-clause-refusals g c =
     let port_is : rule_of c.port.result ≡ wanted (option (codes "port") (between 0 65535)) = c.port.ensures.ruled in
-    let workers_is : rule_of c.wanted_number-workers.result ≡ wanted (option (codes "workers") (between 1 64)) = search rules in
-    let clients_is : rule_of c.wanted_number-clients.result ≡ wanted (option (codes "clients") (between 1 64)) = search rules in
-    let serve_is : rule_of c.number-serve.result ≡ option (codes "serve") (between 0 1000000) = search rules in
+    let workers_is : rule_of c.threads-workers.result ≡ wanted (option (codes "workers") (between 1 64)) = c.threads-workers.ensures.ruled in
+    let clients_is : rule_of c.threads-clients.result ≡ wanted (option (codes "clients") (between 1 64)) = c.threads-clients.ensures.ruled in
+    let serve_is : rule_of c.connections.result ≡ option (codes "serve") (between 0 1000000) = c.connections.ensures.ruled in
     let is : app_of c.in_ok-command.command ≡ cqld = c.in_ok-command.ensures.shape (search rules) ∙ ap₂ with_rule (c.in_ok-arg-3.ensures.shape (search rules) ∙ ap₂ with_rule (c.in_ok-arg-2.ensures.shape (search rules)
-    ∙ ap₂ with_rule (c.in_ok-arg.ensures.shape (search rules) ∙ ap₂ with_rule c.new-3.ensures.app port_is) workers_is) clients_is) serve_is in
+    ∙ ap₂ with_rule (c.in_ok-arg.ensures.shape (search rules) ∙ ap₂ with_rule c.new.ensures.app port_is) workers_is) clients_is) serve_is in
     subst (λ (a : App). HasKind (fault_of a (map g.S.AsStr.text c.args.words.now)) c.in-Err.error) is (c.in-Err.ensures.kinds (ap is_simple_and_free is ∙ is_free))

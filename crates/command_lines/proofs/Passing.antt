@@ -1,5 +1,5 @@
 -- What a parse found of an option passed that option's parser.
-use Rattle.std.proofs.Common.{◌++◌, ◌≡◌, ◌⊎◌, ◌∙◌, ◌<◌, ◌||◌, ◌&&◌, not, ap, append-nil, append_assoc, map, ℕ, Bool, true, false, List, [], ◌∷◌, length, Option, Some, None, refl, sym, subst, inl, inr, arith, codes, zero, suc}
+use Rattle.std.proofs.Common.{◌++◌, ◌≡◌, ◌∙◌, ◌<◌, ◌||◌, ◌&&◌, not, ap, append-nil, append_assoc, map, ℕ, Bool, true, false, List, [], ◌∷◌, length, Option, Some, None, refl, sym, subst, inl, inr, arith, codes, zero, suc}
 use Rattle.std.specs.List.{All, slice_index_or}
 use Rattle.std.specs.Str.{bytes_eq}
 use Rattle.std.specs.Prelude.{option_map, slice_get}

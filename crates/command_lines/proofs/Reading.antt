@@ -1,9 +1,9 @@
 -- What is read of the options of a command line.
-use Rattle.std.proofs.Common.{◌≡◌, ◌≢◌, ◌∙◌, ◌<◌, ◌^◌, ◌↔◌, ◌≤◌, ap, ℕ, Bool, true, false, List, [], ◌∷◌, length, Option, Some, None, Result, Ok, Err, refl, sym, subst, codes, zero, suc, arith}
+use Rattle.std.proofs.Common.{◌≡◌, ◌∙◌, ◌<◌, ◌^◌, ◌↔◌, ◌≤◌, ap, ℕ, Bool, true, false, List, [], ◌∷◌, length, Option, Some, None, Result, Ok, Err, refl, sym, subst, codes, zero, suc, arith}
 use Rattle.std.specs.List.{All, slice_index_or}
-use Rattle.std.specs.Prelude.{pos, unwrap_or, option_map, MatchResult, IfOk, IfErr, IfSome, IsTrue}
+use Rattle.std.specs.Prelude.{unwrap_or, option_map, MatchResult, IfOk, IfErr}
 use Rattle.std.specs.Str.Parse.{ParsesUnsigned, ParsesBool}
-use Rattle.clap.specs.Words.{App, AddsArg, FailsBy, Kinds, Row, Text, args_of, found_of, groups_of, matches_of, one_of, one_text, rows_of, ReadsOne}
+use Rattle.clap.specs.Words.{App, AddsArg, Text, args_of, found_of, groups_of, matches_of, one_of, one_text, rows_of, ReadsOne}
 use Rattle.clap.specs.Built.{AddsInTurn, IsParsedFrom}
 use Rattle.clap.specs.declared.builder.arg.Arg.{Arg}
 use Rattle.clap.specs.declared.builder.command.Command.{Command}
@@ -81,11 +81,13 @@ flag_reads G parses (Some t) (Some true) none value =
     let is : t ≡ codes "true" = parses t (Ok true) (value t refl) in
     (λ e. ap Some is, λ e. refl)
 flag_reads G parses (Some t) (Some false) none value =
-    let is : t ≡ codes "false" = parses t (Ok false) (value t refl) in
-    (λ e. cc, λ e.
-        let other : t ≡ codes "true" = cc in
-        let bad : codes "false" ≡ codes "true" = sym is ∙ other in
-        absurd (cc))
+    let is : t ≡ codes "false" = parses t (Ok false) (value t refl) in (
+      λ e. cc,
+      λ e.
+          let other : t ≡ codes "true" = cc in
+          let bad : codes "false" ≡ codes "true" = sym is ∙ other in
+          absurd (cc),
+    )
 
 pub flag_at : (cmd : Command) (m : ArgMatches) (app : App) (words : List Text) (xs : List Arg) → Parsed cmd m app words xs
     → {E : Type 0} (G : List ℕ → Result Bool E → Type 0) → ((u : List ℕ) (x : Result Bool E) → G u x → ParsesBool u x)

@@ -41,7 +41,12 @@ pub fn serve_options<'a, S: AsStr>(alloc: Global, words: &'a [S]) -> Result<Serv
     ensures range { IfOk result (λ o. (o.port ≤ 65535) × (1 ≤ o.workers) × (o.workers ≤ 64)
         × (1 ≤ o.clients) × (o.clients ≤ 64) × IfSome o.serve (λ k. k ≤ 1000000)) }
 {
-    let workers = threads(alloc, "workers", "N", "Run turns in so many threads, 1 to 64");
+    let workers = threads(
+        alloc,
+        "workers",
+        "N",
+        "Run turns in so many threads, 1 to 64",
+    );
     let clients = threads(
         alloc,
         "clients",

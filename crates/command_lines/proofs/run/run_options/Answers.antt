@@ -1,11 +1,9 @@
-use Rattle.std.proofs.Common.{◌≡◌, rules, ap, ap₂, refl, subst, sym, ◌∙◌, true, map, codes, List, [], ◌∷◌, ℕ, Result, Some, arith}
-use Rattle.std.specs.Prelude.{IsTrue, ◌↔◌, IfSome, option_map, ◌≤◌}
+use Rattle.std.proofs.Common.{◌≡◌, rules, ap, ap₂, refl, subst, sym, ◌∙◌, true, map, codes, List, [], ◌∷◌, Some, arith}
 use Rattle.std.specs.Str.Parse.{ParsesUnsigned, ExplainsUnsignedError, HasUnsignedDigitsIfOk}
-use Rattle.clap.specs.Words.{App, AddsArg, HasKind, app_of, rule_of, with_rule, is_simple, is_simple_and_free, fault_of, found_of, rows_of, matches_of}
-use Rattle.clap.specs.Built.{AddsInTurn}
+use Rattle.clap.specs.Words.{App, HasKind, app_of, rule_of, with_rule, is_simple, is_simple_and_free, fault_of, matches_of}
 use Rattle.clap.specs.declared.builder.arg.Arg.{Arg}
 use Rattle.clap.proofs.OnLiterals.{clap_on_literals}
-use Rattle.command_lines.specs.CommandLine.{plain, option, between, cqlrun, refusals, run_text, number_in, number_or, IsPlain}
+use Rattle.command_lines.specs.CommandLine.{plain, option, between, cqlrun, refusals, run_text}
 use Rattle.command_lines.specs.declared.run.RunOptions.{RunOptions}
 use Rattle.command_lines.proofs.Numbers.{IsNumber, or_default, default_within}
 use Rattle.command_lines.proofs.Passing.{FitsElse}

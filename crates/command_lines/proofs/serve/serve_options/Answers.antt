@@ -1,7 +1,7 @@
 use Rattle.std.specs.Prelude.{IfSome, ◌≤◌}
-use Rattle.std.proofs.Common.{◌≡◌, Option, None, rules, ap, ap₂, refl, subst, sym, ◌∙◌, true, map, codes, List, [], ◌∷◌, ℕ, Result, Some, arith}
+use Rattle.std.proofs.Common.{◌≡◌, Option, None, rules, ap, ap₂, refl, subst, sym, ◌∙◌, true, map, codes, List, [], ◌∷◌, ℕ, Some, arith}
 use Rattle.std.specs.Str.Parse.{ParsesUnsigned, ExplainsUnsignedError, HasUnsignedDigitsIfOk}
-use Rattle.clap.specs.Words.{App, HasKind, app_of, rule_of, with_rule, is_simple, is_simple_and_free, fault_of, found_of, rows_of, matches_of}
+use Rattle.clap.specs.Words.{App, HasKind, app_of, rule_of, with_rule, is_simple, is_simple_and_free, fault_of, matches_of}
 use Rattle.clap.specs.declared.builder.arg.Arg.{Arg}
 use Rattle.clap.proofs.OnLiterals.{clap_on_literals}
 use Rattle.command_lines.specs.CommandLine.{option, wanted, between, cqld, serve_refusals, serve_text}

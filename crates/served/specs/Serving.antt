@@ -1,9 +1,11 @@
 -- What a seat of a hub answers the requests of a script, while other seats call as well.
 use Rattle.std.specs.Prelude.{◌≡◌, ◌≢◌, ◌≤◌, ℕ, List, [], ◌∷◌, ◌++◌, Option, Some, None, Result, Ok, Err, ◌⊎◌, ⊤}
+use Rattle.envelope.specs.Fraction.{Fraction}
 use Rattle.histories.specs.Histories.{Told}
 use Rattle.hub.specs.Seats.{PlainSeat}
 use Rattle.hub.specs.Steps.{PlainLocked, FindsQuery, FindsStream, Hands, SeesSlopes, Spurned, Took}
 use Rattle.leases.specs.declared.leased.Leased.TheVariants.{Idle}
+use Rattle.plan.specs.declared.node.Kind.{Kind}
 use Rattle.reference.specs.Commands.{Command, Declare, Register, Append, Heartbeat, Take, Drop}
 use Rattle.reference.specs.Replies as replies
 use Rattle.reference.specs.Replies.{Reply}
@@ -46,7 +48,7 @@ CarriesNamed Finds name fault command seat answer seat' =
 -- what a look at the slopes of a query's operators is answered
 abbrev pub Looks : ℕ → Answer → Type 0
 Looks n (operators found) = (l : PlainLocked) × SeesSlopes (λ seen. seen) l n (Ok found)
-Looks n (refused fault) = (l : PlainLocked) × SeesSlopes {List _} (λ seen. seen) l n (Err fault)
+Looks n (refused fault) = (l : PlainLocked) × SeesSlopes (λ (seen : List (Kind × Fraction)). seen) l n (Err fault)
 Looks n answer = ⊥
 
 abbrev pub LooksNamed : List ℕ → Answer → Type 0

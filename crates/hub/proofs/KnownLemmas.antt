@@ -2,7 +2,7 @@
 use Rattle.std.proofs.Common.{◌≡◌, ℕ, Result, Ok, Err, IfOk, IfErr, subst}
 use Rattle.reference.specs.Commands.{Command}
 use Rattle.histories.specs.Histories.{Told}
-use Rattle.hub.specs.Steps.{Accepted, Declined, PlainLocked, HasEnded, Lends, Rests, Spurned, Took}
+use Rattle.hub.specs.Steps.{Accepted, Declined, PlainLocked, HasEnded, Lends, Rests, Spurned, Took, Withholds}
 use Rattle.hub.specs.Seats.{PlainSeat}
 use Rattle.reference.specs.declared.fault.Fault.{Fault}
 use Rattle.turn.specs.declared.turns.Turn.{Turn}
@@ -37,3 +37,10 @@ turned_or w t Q R old new rows is h = let m : Lends old rows t new = subst (λ x
 
 pub rested_by : (w : Rested) (P : Turn → Type 0) (Q : Type 0) (old new : PlainLocked) (rows : ℕ) → w ≡ rested.Rest → MatchRested w P Q (Rests old rows new) → (old : PlainLocked) × (new : PlainLocked) × Rests old rows new
 rested_by w P Q old new rows is h = let m : Rests old rows new = subst (λ x. MatchRested x P Q (Rests old rows new)) is h in (old, new, m)
+
+-- why none went out
+pub withheld : (f : Fault) (F : Type 0) (old new : PlainLocked) (rows : ℕ) → F × Withholds old rows f new → (old : PlainLocked) × (new : PlainLocked) × Withholds old rows f new
+withheld f F old new rows h = (old, new, h.1)
+
+pub withheld_or : (f : Fault) (old new : PlainLocked) (rows : ℕ) → Withholds old rows f new → (old : PlainLocked) × (new : PlainLocked) × Withholds old rows f new
+withheld_or f old new rows h = (old, new, h)

@@ -12,7 +12,7 @@ use Rattle.wire.specs.declared.request.WireFault.{WireFault}
 use Rattle.wire.specs.Script.{script, Says, Begins, Runs, Scripts, Stands}
 use Rattle.wire.proofs.Sinks.{append_nothing}
 use Rattle.wire.proofs.Scripts.{begins_wider, says_all}
-use Rattle.programs.specs.CommandLine.{IsPlain}
+use Rattle.command_lines.specs.CommandLine.{IsPlain}
 use Rattle.programs.specs.Run.{Answers, MayRunOut, IsWrong, Leads}
 
 pub says_begins : (N : Type 0) (w : World) (source old new : Option (List ℕ)) → Scripts (λ text written. Says N (requests_of text) (script w text) written) source old new

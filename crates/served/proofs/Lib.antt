@@ -1,2 +1,2 @@
 mod Requests
-mod Lines
+mod Progressing

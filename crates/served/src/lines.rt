@@ -1,5 +1,5 @@
 //! The lines of a source.
-ghost use Rattle.std.specs.Prelude.{◌≡◌, ◌≤◌, IfErr, OnErr, OnOk, Result};
+ghost use Rattle.std.specs.Prelude.{◌≡◌, ◌≤◌, ⊤, IfErr, OnErr, OnOk, Result};
 ghost use Rattle.reference.specs.declared.limits.TheConstants.{MAX_TURN};
 ghost use Rattle.wire.specs.Calls.{Call};
 ghost use Rattle.wire.specs.Devices.{Puts, Rises};

@@ -248,43 +248,50 @@ fn a_silent_client_holds_no_other_one(rt: HostRuntime) {
     }
 }
 
-// Whether a client with a stream and a query of its own is answered its row.
-fn is_answered<R: Net<Listener = TcpListener, Stream = TcpStream>>(
-    rt: &R,
-    alloc: Global,
-    address: SocketAddr,
-    number: u32,
-) -> io::Result<bool> {
-    let stream = TcpStream::connect(rt, address)?;
+// Whether a client with a stream of its own is answered.
+fn is_answered(alloc: Global, number: u32, stream: &TcpStream) -> io::Result<bool> {
     let script = format!(in alloc;
         "{{\"op\":\"stream\",\"name\":\"S{number}\",\"columns\":[\"a\"],\"from\":0}}\n\
         {{\"op\":\"append\",\"stream\":\"S{number}\",\"rows\":[[0,{number}]]}}\n\
         {{\"op\":\"append\",\"stream\":\"S{number}\",\"rows\":[[0]]}}\n\
         {{\"op\":\"heartbeat\",\"stream\":\"S{number}\",\"at\":0}}\n"
     )?;
-    let replies = send(alloc, &stream, script.as_str())?;
+    let replies = send(alloc, stream, script.as_str())?;
     Ok(
         replies.as_str()
             == "{\"ok\":true}\n{\"ok\":true}\n{\"error\":\"E7 BadWidth\"}\n{\"ok\":true}\n",
     )
 }
 
-// How many of so many clients at once are answered.
+// Opens as many connections as may be, and gives how many of them are answered.
+fn ask_all<R: Net<Listener = TcpListener, Stream = TcpStream> + Threads + Sync>(
+    rt: &R,
+    alloc: Global,
+    address: SocketAddr,
+) -> io::Result<usize> {
+    let mut clients = Vec::new(alloc);
+    for number in 0..CROWD {
+        clients.push((number, TcpStream::connect(rt, address)?))?;
+    }
+    let answer = |client: (u32, TcpStream)| {
+        matches!(is_answered(alloc, client.0, &client.1), Ok(true))
+    };
+    let answered = thread::map_vec(rt, clients, &answer)?;
+    Ok(answered.iter().filter(|is_right| **is_right).count())
+}
+
 fn served_crowd<R: Net<Listener = TcpListener, Stream = TcpStream> + Threads + Wait + Sync>(
     rt: &R,
     alloc: Global,
     listener: TcpListener,
 ) -> io::Result<(usize, Ending)> {
     let address = listener.local_addr()?;
-    let numbers: Vec<u32> = (0..CROWD).collect(alloc)?;
-    let answer = |number: u32| matches!(is_answered(rt, alloc, address, number), Ok(true));
     let (answered, ending) = thread::join(
         rt,
-        || thread::map_vec(rt, numbers, &answer),
+        || ask_all(rt, alloc, address),
         || serve_some(rt, alloc, listener, CROWD, CROWD),
     );
-    let answered = answered?.iter().filter(|answered| **answered).count();
-    Ok((answered, ending))
+    Ok((answered?, ending))
 }
 
 #[test]

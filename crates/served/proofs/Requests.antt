@@ -98,3 +98,19 @@ keeps_both a b c k l = (
 
 pub keeps_none : (seat : PlainSeat) → Keeps seat seat
 keeps_none seat = keeps_itself seat
+
+-- a request of this kind was served as its call was
+pub serves_as : (R : Type 0) (seat seat' : PlainSeat) (request kind : Request) (answer : Answer) → request ≡ kind → Serves R seat (call_of kind) answer seat' → Serves R seat (call_of request) answer seat'
+serves_as R seat seat' request kind answer is s = subst (λ r. Serves R seat (call_of r) answer seat') (sym is) s
+
+-- each thing that is read is what was asked
+asked_of : (read : Result Request WireFault) → (defined : Result Call WireFault) × Reads defined read
+asked_of (Ok request) = (Ok (call_of request), refl)
+asked_of (Err NotJson) = (Err NotJson, refl)
+asked_of (Err BadRequest) = (Err BadRequest, refl)
+asked_of (Err LineTooLong) = (Err LineTooLong, refl)
+asked_of (Err in_line.OutOfMemory) = (Err NotJson, λ e. cc)
+
+pub keeps_read : (R : Type 0) (seat : PlainSeat) (read : Result Request WireFault) (answer : Answer) (seat' : PlainSeat)
+    → ((defined : Result Call WireFault) → Reads defined read → Replies R seat defined answer seat') → Keeps seat seat'
+keeps_read R seat read answer seat' replied = let a = asked_of read in keeps_replied R seat a.0 answer seat' (replied a.0 a.1)

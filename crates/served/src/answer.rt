@@ -72,15 +72,31 @@ fn answer<R: Threads + Wait + Sync>(
             name,
             columns,
             from,
-        } => done(hub.stream(rt, seat, name, columns, from)),
+        } => {
+            let first = number_at(&from);
+            done(hub.stream(rt, seat, name, columns, first))
+        }
         Request::Query { name, text, chart } => done(hub.query(rt, seat, name, text, chart)),
         Request::Append { stream, rows: more } => append(rt, hub, seat, stream.as_str(), more),
-        Request::Heartbeat { stream, at } => heartbeat(rt, hub, seat, stream.as_str(), at),
+        Request::Heartbeat { stream, at } => {
+            let last = number_at(&at);
+            heartbeat(rt, hub, seat, stream.as_str(), last)
+        }
         Request::Drain => drain(rt, alloc, hub, drains, rows),
-        Request::Take { query, limit } => take(rt, hub, seat, query.as_str(), limit),
+        Request::Take { query, limit } => {
+            let most = number_at(&limit);
+            take(rt, hub, seat, query.as_str(), most)
+        }
         Request::Drop { query } => discard(rt, hub, seat, query.as_str()),
         Request::Plan { query } => show_plan(rt, hub, query.as_str()),
     }
+}
+
+// A number of a request, of which the proof then knows that it has 64 bits.
+fn number_at(number: &i64) -> i64
+    ensures { result ≡ number.now }
+{
+    *number
 }
 
 // What a call that answers no rows is answered.

@@ -1,19 +1,16 @@
 //! The body of `cqld`.
 ghost use Rattle.std.specs.Prelude.{◌≡◌, ◌≢◌, ◌≤◌, ◌∷◌, [], map};
-ghost use Rattle.std.specs.IoError.{error_kind};
 ghost use Rattle.clap.specs.Words.{kind_of};
 ghost use Rattle.command_lines.specs.CommandLine.{serve_refusals};
-ghost use Rattle.served.specs.Errors.{Told, memory_line};
 ghost use Rattle.programs.specs.Run.{IsOfRun, IsOfWrong, IsWrong, ToldSome};
 
-use crate::faults::{WRONG_WORDS, tell};
+use crate::faults::{WRONG_WORDS, lack_server_memory, tell};
 use clap::Error;
 use clap::error::ErrorKind;
 use command_lines::{ServeOptions, serve_options};
 use served::serve;
 use std::alloc::Global;
 use std::convert::AsStr;
-use std::io;
 use std::net::{Net, TcpListener, TcpStream};
 use std::sync::Wait;
 use std::thread::Threads;
@@ -115,29 +112,5 @@ fn correct<E: Sink>(alloc: Global, error: &Error, errors: &mut E) -> u8
         Ok(text) if !text.is_empty() => tell(errors, text.as_str()),
         _ => tell(errors, "cqld: wrong command line\n"),
     }
-    WRONG_WORDS
-}
-
-/// Says that memory was refused at the start, and gives the program's status.
-pub fn lack_server_memory<E: Sink>(errors: &mut E) -> u8
-    ensures status { result ≡ 3 }
-    ensures told { Told E.taken E.failures errors.old errors.new memory_line }
-{
-    tell(errors, "cqld: out of memory\n");
-    3
-}
-
-/// Says why the program's words could not be read, and gives the program's status: 3 where memory
-/// was refused, and else 2, since a word that is not UTF-8 is a wrong command line. The error is
-/// that of `std::env::args`.
-pub fn lack_server_words<E: Sink>(errors: &mut E, error: &io::Error) -> u8
-    ensures memory { error_kind error.now ≡ io.ErrorKind.OutOfMemory → result ≡ 3 }
-    ensures wrong { error_kind error.now ≢ io.ErrorKind.OutOfMemory → result ≡ 2 }
-    ensures told { ToldSome E.taken E.failures errors.old errors.new }
-{
-    if error.kind() == io::ErrorKind::OutOfMemory {
-        return lack_server_memory(errors);
-    }
-    tell(errors, "cqld: a word is not UTF-8\n");
     WRONG_WORDS
 }

@@ -17,12 +17,6 @@ fn main(rt: HostRuntime) -> ExitCode {
     let Ok(words) = words else {
         return ExitCode::from(lack_server_memory(&mut errors));
     };
-    let status = run_server(
-        &rt,
-        rt.alloc(),
-        words.as_slice(),
-        &mut sink,
-        &mut errors,
-    );
+    let status = run_server(&rt, rt.alloc(), words.as_slice(), &mut sink, &mut errors);
     ExitCode::from(status)
 }

@@ -27,13 +27,7 @@ pub fn run_server<
     S: AsStr,
     O: Sink,
     E: Sink,
->(
-    rt: &R,
-    alloc: Global,
-    words: &'a [S],
-    sink: &mut O,
-    errors: &mut E,
-) -> u8
+>(rt: &R, alloc: Global, words: &'a [S], sink: &mut O, errors: &mut E) -> u8
     ensures status { serve_refusals (map S.text words.entry.now) ≡ [] → IsOfRun result }
     ensures help { serve_refusals (map S.text words.entry.now) ≡ ErrorKind.DisplayHelp ∷ []
         → IsOfRun result }
@@ -53,13 +47,7 @@ fn listen<
     R: Net<Listener = TcpListener, Stream = TcpStream> + Threads + Wait + Sync,
     O: Sink,
     E: Sink,
->(
-    rt: &R,
-    alloc: Global,
-    options: &ServeOptions,
-    sink: &mut O,
-    errors: &mut E,
-) -> u8
+>(rt: &R, alloc: Global, options: &ServeOptions, sink: &mut O, errors: &mut E) -> u8
     requires clients { 1 ≤ options.now.clients × options.now.clients ≤ 64 }
     ensures status { IsOfRun result }
     ensures silent { result ≡ 0 → errors.new ≡ errors.old }

@@ -41,7 +41,16 @@ pub(crate) fn run_shared<R: Threads + Wait + Sync, I: Source, O: Sink, E: Sink>(
     let Some(mut seat) = seats.pop() else {
         return lack_memory(errors);
     };
-    match run_hub(rt, alloc, source, sink, &hub, &mut seat, workers as u64, turn) {
+    match run_hub(
+        rt,
+        alloc,
+        source,
+        sink,
+        &hub,
+        &mut seat,
+        workers as u64,
+        turn,
+    ) {
         Ok(()) => 0,
         Err(fault) => fail(errors, &fault),
     }

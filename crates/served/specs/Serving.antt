@@ -1,5 +1,5 @@
 -- What a seat of a hub answers the requests of a script, while other seats call as well.
-use Rattle.std.specs.Prelude.{◌≡◌, ◌≢◌, ◌≤◌, ℕ, List, [], ◌∷◌, ◌++◌, Option, Some, None, Result, Ok, Err, ◌⊎◌, ⊤}
+use Rattle.std.specs.Prelude.{◌≡◌, ◌≢◌, ◌≤◌, ℕ, ℤ, pos, List, [], ◌∷◌, ◌++◌, Option, Some, None, Result, Ok, Err, ◌⊎◌, ⊤}
 use Rattle.envelope.specs.Fraction.{Fraction}
 use Rattle.histories.specs.Histories.{Told}
 use Rattle.hub.specs.Seats.{PlainSeat}
@@ -13,6 +13,8 @@ use Rattle.reference.specs.declared.fault.Fault.{Fault}
 use Rattle.reference.specs.declared.fault.Fault.TheVariants.{OutOfMemory, TooManyLeases, UnknownQuery, UnknownStream}
 use Rattle.wire.specs.Calls.{Call, declare, register, append, heartbeat, drain, take_rows, discard, show_plan}
 use Rattle.wire.specs.Printed.{Answer, done, rows, operators, refused, unread, line_of}
+use Rattle.wire.specs.declared.request.Request.{Request}
+use Rattle.wire.specs.declared.request.Request.TheVariants as request
 use Rattle.wire.specs.declared.request.WireFault.{WireFault}
 use Rattle.wire.specs.declared.request.WireFault.TheVariants as in_line
 use Rattle.workers.specs.declared.pool.TheConstants.{MAX_WORKERS}
@@ -20,6 +22,13 @@ use Rattle.served.specs.declared.answer.Drains.{Drains}
 use Rattle.served.specs.declared.answer.Drains.TheVariants.{Pool, Client}
 
 -- ---- one request
+
+-- the first instant of a stream, the instant of a heartbeat or the limit of a take
+abbrev pub number_in : Request → ℤ
+number_in (request.Stream name columns start) = start
+number_in (request.Heartbeat stream at) = at
+number_in (request.Take query limit) = limit
+number_in r = pos 0
 
 -- what a request is answered whose command has this reply in the history
 abbrev pub shown : Reply → Answer

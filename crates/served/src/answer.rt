@@ -12,7 +12,7 @@ ghost use Rattle.wire.specs.Requests.{Reads};
 ghost use Rattle.wire.specs.Script.{done_of};
 ghost use Rattle.wire.specs.declared.request.WireFault.{WireFault};
 ghost use Rattle.served.specs.Serving.{CarriesNamed, IsDrained, IsInRange, LooksNamed, Replies};
-ghost use Rattle.served.specs.Serving.{Rested, Serves, WasIdle};
+ghost use Rattle.served.specs.Serving.{Rested, Serves, WasIdle, number_in};
 
 use hub::{Hub, Seat};
 use leases::Leased;
@@ -67,36 +67,31 @@ fn answer<R: Threads + Wait + Sync>(
     requires workers { IsInRange drains }
     ensures { Serves (Rested drains rows) seat.old (call_of request) (answer_of result) seat.new }
 {
+    let number = number_in(&request);
     match request {
-        Request::Stream {
-            name,
-            columns,
-            from,
-        } => {
-            let first = number_at(&from);
-            done(hub.stream(rt, seat, name, columns, first))
+        Request::Stream { name, columns, .. } => {
+            done(hub.stream(rt, seat, name, columns, number))
         }
         Request::Query { name, text, chart } => done(hub.query(rt, seat, name, text, chart)),
         Request::Append { stream, rows: more } => append(rt, hub, seat, stream.as_str(), more),
-        Request::Heartbeat { stream, at } => {
-            let last = number_at(&at);
-            heartbeat(rt, hub, seat, stream.as_str(), last)
-        }
+        Request::Heartbeat { stream, .. } => heartbeat(rt, hub, seat, stream.as_str(), number),
         Request::Drain => drain(rt, alloc, hub, drains, rows),
-        Request::Take { query, limit } => {
-            let most = number_at(&limit);
-            take(rt, hub, seat, query.as_str(), most)
-        }
+        Request::Take { query, .. } => take(rt, hub, seat, query.as_str(), number),
         Request::Drop { query } => discard(rt, hub, seat, query.as_str()),
         Request::Plan { query } => show_plan(rt, hub, query.as_str()),
     }
 }
 
-// A number of a request, of which the proof then knows that it has 64 bits.
-fn number_at(number: &i64) -> i64
-    ensures { result ≡ number.now }
+// The first instant of a stream, the instant of a heartbeat or the limit of a take; else 0.
+fn number_in(request: &Request) -> i64
+    ensures { result ≡ number_in request.now }
 {
-    *number
+    match request {
+        Request::Stream { from, .. } => *from,
+        Request::Heartbeat { at, .. } => *at,
+        Request::Take { limit, .. } => *limit,
+        _ => 0,
+    }
 }
 
 // What a call that answers no rows is answered.

@@ -5,9 +5,9 @@ ghost use Rattle.std.specs.Prelude.{◌≤◌, length};
 use crate::devices::Ending;
 use crate::stored::{Stored, lines_in};
 use std::alloc::Global;
+use std::fmt::{self, Display, Formatter, Write};
 use std::sync::Wait;
 use std::thread::Threads;
-use std::fmt::{self, Display, Formatter, Write};
 use wire::{MemorySink, MemorySource};
 
 /// The reply to a line that lacks more than its line feed.
@@ -111,7 +111,12 @@ impl Display for Cuts {
 }
 
 /// Cuts the script after each of its bytes, and before the first.
-pub(crate) fn cut_after_each_byte<R: Threads + Wait + Sync>(rt: &R, alloc: Global, words: &[&str], stored: &Stored) -> Cuts {
+pub(crate) fn cut_after_each_byte<R: Threads + Wait + Sync>(
+    rt: &R,
+    alloc: Global,
+    words: &[&str],
+    stored: &Stored,
+) -> Cuts {
     let mut cuts = Cuts::new();
     for at in 0..=stored.script.len() {
         cuts.run(rt, alloc, words, stored, at);

@@ -3,9 +3,9 @@
 use crate::devices::{Ending, FailingSink, FailingSource};
 use crate::stored::{Stored, lines_in};
 use std::alloc::Global;
+use std::fmt::{self, Display, Formatter, Write};
 use std::sync::Wait;
 use std::thread::Threads;
-use std::fmt::{self, Display, Formatter, Write};
 use wire::{MemorySink, MemorySource};
 
 /// What a run came to.
@@ -63,7 +63,13 @@ impl Display for Failures {
 
 /// A run whose source fails after so many reads, and how many bytes it wrote. It has to answer just
 /// the lines that were given.
-fn fail_read<R: Threads + Wait + Sync>(rt: &R, alloc: Global, words: &[&str], stored: &Stored, reads: usize) -> (Outcome, usize) {
+fn fail_read<R: Threads + Wait + Sync>(
+    rt: &R,
+    alloc: Global,
+    words: &[&str],
+    stored: &Stored,
+    reads: usize,
+) -> (Outcome, usize) {
     let mut source = FailingSource::new(stored.script, reads);
     let mut sink = MemorySink::new(alloc);
     let ending = Ending::of_run(rt, alloc, words, &mut source, &mut sink);
@@ -80,7 +86,12 @@ fn fail_read<R: Threads + Wait + Sync>(rt: &R, alloc: Global, words: &[&str], st
 }
 
 /// Lets reads fail in turn, up to a run that reads all.
-pub(crate) fn fail_reads_in_turn<R: Threads + Wait + Sync>(rt: &R, alloc: Global, words: &[&str], stored: &Stored) -> Failures {
+pub(crate) fn fail_reads_in_turn<R: Threads + Wait + Sync>(
+    rt: &R,
+    alloc: Global,
+    words: &[&str],
+    stored: &Stored,
+) -> Failures {
     let mut failures = Failures::new("answer the lines given");
     for reads in 0..=stored.script.len() {
         let (outcome, bytes) = fail_read(rt, alloc, words, stored, reads);
@@ -94,7 +105,13 @@ pub(crate) fn fail_reads_in_turn<R: Threads + Wait + Sync>(rt: &R, alloc: Global
 
 /// A run whose sink fails after so many writes, and how many bytes it wrote. These have to be a
 /// beginning of all replies.
-fn fail_write<R: Threads + Wait + Sync>(rt: &R, alloc: Global, words: &[&str], stored: &Stored, writes: usize) -> (Outcome, usize) {
+fn fail_write<R: Threads + Wait + Sync>(
+    rt: &R,
+    alloc: Global,
+    words: &[&str],
+    stored: &Stored,
+    writes: usize,
+) -> (Outcome, usize) {
     let mut source = MemorySource::new(stored.script);
     let mut sink = FailingSink::new(alloc, writes);
     let ending = Ending::of_run(rt, alloc, words, &mut source, &mut sink);
@@ -110,7 +127,12 @@ fn fail_write<R: Threads + Wait + Sync>(rt: &R, alloc: Global, words: &[&str], s
 }
 
 /// Lets writes fail in turn, up to a run that writes all.
-pub(crate) fn fail_writes_in_turn<R: Threads + Wait + Sync>(rt: &R, alloc: Global, words: &[&str], stored: &Stored) -> Failures {
+pub(crate) fn fail_writes_in_turn<R: Threads + Wait + Sync>(
+    rt: &R,
+    alloc: Global,
+    words: &[&str],
+    stored: &Stored,
+) -> Failures {
     let mut failures = Failures::new("write a beginning");
     for writes in 0..=stored.replies.len() {
         let (outcome, bytes) = fail_write(rt, alloc, words, stored, writes);

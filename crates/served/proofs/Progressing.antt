@@ -1,5 +1,5 @@
 -- The requests of a source, one after the other.
-use Rattle.std.proofs.Common.{◌≡◌, ◌∙◌, ℕ, List, [], ◌∷◌, ◌++◌, Option, Some, None, Result, Ok, Err, refl, ap, sym, subst, append_assoc}
+use Rattle.std.proofs.Common.{◌≡◌, ◌∙◌, ℕ, List, [], ◌∷◌, ◌++◌, Option, Some, None, Result, refl, ap, sym, subst, append_assoc}
 use Rattle.std.specs.Io.KnownBytes.{Appends, prepend_known}
 use Rattle.hub.specs.Seats.{PlainSeat}
 use Rattle.wire.specs.Calls.{Call}

@@ -1,6 +1,6 @@
 -- One request of a seat.
-use Rattle.std.proofs.Common.{◌≡◌, ◌≢◌, ◌∙◌, ℕ, List, [], ◌∷◌, ◌++◌, Option, Some, None, Result, Ok, Err, refl, ap, sym, subst, append_assoc, ◌⊎◌, inl, inr}
-use Rattle.std.specs.Prelude.{IfOk, IfErr, ⊤}
+use Rattle.std.proofs.Common.{◌≡◌, ◌∙◌, ℕ, List, [], ◌∷◌, ◌++◌, Option, Some, Result, Ok, Err, refl, ap, sym, subst, append_assoc, ◌⊎◌, inl, inr}
+use Rattle.std.specs.Prelude.{IfOk, IfErr}
 use Rattle.histories.specs.Histories.{Told}
 use Rattle.hub.specs.Seats.{PlainSeat}
 use Rattle.hub.specs.Steps.{PlainLocked, FindsQuery, FindsStream, Spurned, Took}
@@ -9,14 +9,14 @@ use Rattle.reference.specs.Replies.{Reply}
 use Rattle.reference.specs.declared.fault.Fault.{Fault}
 use Rattle.reference.specs.declared.fault.Fault.TheVariants.{OutOfMemory, TooManyLeases}
 use Rattle.wire.specs.Calls.{Call, declare, register, append, heartbeat, drain, take_rows, discard, show_plan, call_of}
-use Rattle.wire.specs.Printed.{Answer, done, rows, refused, unread}
+use Rattle.wire.specs.Printed.{Answer, done, refused, unread}
 use Rattle.wire.specs.Requests.{Reads}
 use Rattle.wire.specs.Script.{done_of}
 use Rattle.wire.specs.declared.request.Request.{Request}
 use Rattle.wire.specs.declared.request.WireFault.{WireFault}
 use Rattle.wire.specs.declared.request.WireFault.TheVariants.{NotJson, BadRequest, LineTooLong}
 use Rattle.wire.specs.declared.request.WireFault.TheVariants as in_line
-use Rattle.served.specs.Serving.{Carries, CarriesNamed, IsDrained, IsServed, Keeps, LacksMemory, Replies, Serves, shown}
+use Rattle.served.specs.Serving.{Carries, CarriesNamed, IsDrained, Keeps, Replies, Serves, shown}
 
 -- a command whose acceptance is answered `done`
 pub carried : {A : Type 0} (told : A → Told) (reply : A → Reply) (seat seat' : PlainSeat) (command : Command) (r : Result A Fault) (answer : Answer)

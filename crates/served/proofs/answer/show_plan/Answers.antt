@@ -1,4 +1,4 @@
-use Rattle.std.proofs.Common.{refl, inl, inr}
+use Rattle.std.proofs.Common.{inl}
 use Rattle.served.proofs.answer.show_plan.Goals as goal
 
 pub returns-in-Ok : goal.returns-in-Ok

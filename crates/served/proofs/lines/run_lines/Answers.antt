@@ -1,4 +1,4 @@
-use Rattle.std.proofs.Common.{◌∙◌, [], refl}
+use Rattle.std.proofs.Common.{◌∙◌, refl}
 use Rattle.wire.specs.Held.{ahead, pending}
 use Rattle.served.specs.Serving.{Rested}
 use Rattle.served.proofs.Requests.{keeps_both, keeps_none}

@@ -32,7 +32,14 @@ fn is_answered_over_connection<R: Threads + Wait + Sync>(
     let mut source = ReaderSource::new(server);
     let mut sink = WriterSink::new(server);
     let mut errors = MemorySink::new(alloc);
-    let ended = run(rt, alloc, words.as_slice(), &mut source, &mut sink, &mut errors);
+    let ended = run(
+        rt,
+        alloc,
+        words.as_slice(),
+        &mut source,
+        &mut sink,
+        &mut errors,
+    );
     server.shutdown(Shutdown::Write)?;
     let replies = io::read_to_string(alloc, client)?;
     Ok(ended == 0 && replies.as_str() == FIRST_REPLIES)

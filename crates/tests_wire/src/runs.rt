@@ -1,5 +1,6 @@
-use programs::{ServeOptions, WordsFault, lack_memory, lack_words, run, run_options, run_over};
-use programs::serve_options;
+use programs::{
+    ServeOptions, WordsFault, lack_memory, lack_words, run, run_options, run_over, serve_options,
+};
 use reference::{Answering, Plain};
 use std::alloc::{AllocError, Global};
 use std::io;
@@ -91,18 +92,66 @@ fn workers_are_1_to_64_and_the_plain_engine_has_none(rt: HostRuntime) {
 
 #[test]
 fn a_server_has_a_port_workers_and_clients(rt: HostRuntime) {
-    let words = ["cqld", "--port=0", "--workers=1", "--clients", "64", "--serve=7"];
+    let words = [
+        "cqld",
+        "--port=0",
+        "--workers=1",
+        "--clients",
+        "64",
+        "--serve=7",
+    ];
     let options = serve_options(rt.alloc(), words.as_slice());
     assert!(rt;
         matches!(
             options,
-            Ok(ServeOptions { port: 0, workers: 1, clients: 64, serve: Some(7) })
+            Ok(ServeOptions {
+                port: 0,
+                workers: 1,
+                clients: 64,
+                serve: Some(7)
+            })
         )
     );
-    for wrong in ["--port=65536", "--workers=65", "--clients=0", "--serve=1000001"] {
-        let words = ["cqld", "--port=1", "--workers=1", "--clients=1", wrong];
-        assert!(rt; serve_options(rt.alloc(), words.as_slice()).is_err());
+    for wrong in [
+        [
+            "cqld",
+            "--port=65536",
+            "--workers=1",
+            "--clients=1",
+            "--serve=1",
+        ],
+        [
+            "cqld",
+            "--port=1",
+            "--workers=65",
+            "--clients=1",
+            "--serve=1",
+        ],
+        [
+            "cqld",
+            "--port=1",
+            "--workers=1",
+            "--clients=0",
+            "--serve=1",
+        ],
+        [
+            "cqld",
+            "--port=1",
+            "--workers=1",
+            "--clients=1",
+            "--serve=1000001",
+        ],
+    ] {
+        assert!(rt; serve_options(rt.alloc(), wrong.as_slice()).is_err());
     }
+    let right = [
+        "cqld",
+        "--port=1",
+        "--workers=1",
+        "--clients=1",
+        "--serve=1",
+    ];
+    assert!(rt; serve_options(rt.alloc(), right.as_slice()).is_ok());
     let portless = ["cqld", "--workers=1", "--clients=1"];
     assert!(rt; serve_options(rt.alloc(), portless.as_slice()).is_err());
 }
@@ -137,7 +186,14 @@ fn is_helped<R: Threads + Wait + Sync>(rt: &R, alloc: Global) -> bool {
     let mut source = MemorySource::new(FIRST.as_bytes());
     let mut sink = MemorySink::new(alloc);
     let mut errors = MemorySink::new(alloc);
-    let ended = run(rt, alloc, words.as_slice(), &mut source, &mut sink, &mut errors);
+    let ended = run(
+        rt,
+        alloc,
+        words.as_slice(),
+        &mut source,
+        &mut sink,
+        &mut errors,
+    );
     ended == 0 && sink.bytes.len() > 0 && errors.bytes.is_empty()
 }
 
@@ -213,7 +269,14 @@ fn reads_of<R: Threads + Wait + Sync>(rt: &R, alloc: Global) -> u64 {
     let mut source = device_failing_after(alloc, FIRST.as_bytes(), u64::MAX);
     let mut sink = MemorySink::new(alloc);
     let mut errors = MemorySink::new(alloc);
-    run(rt, alloc, words.as_slice(), &mut source, &mut sink, &mut errors);
+    run(
+        rt,
+        alloc,
+        words.as_slice(),
+        &mut source,
+        &mut sink,
+        &mut errors,
+    );
     u64::MAX.saturating_sub(source.until_failure)
 }
 
@@ -223,7 +286,14 @@ fn failing_source_ends<R: Threads + Wait + Sync>(rt: &R, alloc: Global, calls: u
     let mut source = device_failing_after(alloc, FIRST.as_bytes(), calls);
     let mut sink = MemorySink::new(alloc);
     let mut errors = MemorySink::new(alloc);
-    let ended = run(rt, alloc, words.as_slice(), &mut source, &mut sink, &mut errors);
+    let ended = run(
+        rt,
+        alloc,
+        words.as_slice(),
+        &mut source,
+        &mut sink,
+        &mut errors,
+    );
     ended == 1
         && errors.bytes.as_slice() == b"cqlrun: read failed\n".as_slice()
         && FIRST_REPLIES.as_bytes().starts_with(sink.bytes.as_slice())
@@ -245,7 +315,14 @@ fn writes_of<R: Threads + Wait + Sync>(rt: &R, alloc: Global) -> u64 {
     let mut source = MemorySource::new(FIRST.as_bytes());
     let mut sink = device_failing_after(alloc, b"", u64::MAX);
     let mut errors = MemorySink::new(alloc);
-    run(rt, alloc, words.as_slice(), &mut source, &mut sink, &mut errors);
+    run(
+        rt,
+        alloc,
+        words.as_slice(),
+        &mut source,
+        &mut sink,
+        &mut errors,
+    );
     u64::MAX.saturating_sub(sink.until_failure)
 }
 
@@ -255,7 +332,14 @@ fn failing_sink_ends<R: Threads + Wait + Sync>(rt: &R, alloc: Global, calls: u64
     let mut source = MemorySource::new(FIRST.as_bytes());
     let mut sink = device_failing_after(alloc, b"", calls);
     let mut errors = MemorySink::new(alloc);
-    let ended = run(rt, alloc, words.as_slice(), &mut source, &mut sink, &mut errors);
+    let ended = run(
+        rt,
+        alloc,
+        words.as_slice(),
+        &mut source,
+        &mut sink,
+        &mut errors,
+    );
     ended == 1
         && errors.bytes.as_slice() == b"cqlrun: write failed\n".as_slice()
         && FIRST_REPLIES
@@ -365,7 +449,14 @@ fn wrong_words_read_nothing<R: Threads + Wait + Sync>(rt: &R, alloc: Global) -> 
     let mut source = MemorySource::new(FIRST.as_bytes());
     let mut sink = MemorySink::new(alloc);
     let mut errors = MemorySink::new(alloc);
-    let ended = run(rt, alloc, words.as_slice(), &mut source, &mut sink, &mut errors);
+    let ended = run(
+        rt,
+        alloc,
+        words.as_slice(),
+        &mut source,
+        &mut sink,
+        &mut errors,
+    );
     ended == 2
         && source.bytes.len() == FIRST.len()
         && sink.bytes.is_empty()

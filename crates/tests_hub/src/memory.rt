@@ -189,7 +189,8 @@ fn run<R: Wait>(rt: &R, alloc: Global) -> Result<u64, Stop> {
         }
     }
     let mut seats = Vec::new(alloc);
-    seats.push(seat)?;
+    seats.reserve(1)?;
+    seats.push_reserved(seat);
     match hub.close(seats) {
         Ok(closed) => Ok(closed.entries.len() as u64),
         Err(_) => Err(Stop::Wrong(Fault::Foreign(0))),

@@ -80,7 +80,8 @@ fn replies_by<R: Threads + Wait + Sync>(
         return Err(Fault::OutOfMemory);
     }
     let mut seats = Vec::new(alloc);
-    seats.push(seat)?;
+    seats.reserve(1)?;
+    seats.push_reserved(seat);
     let entries = hub.close(seats).ok().map(|closed| closed.entries.len());
     Ok((sink, entries))
 }
@@ -147,7 +148,8 @@ fn a_call_stands_whose_reply_was_not_written(rt: HostRuntime) -> Result<(), Fail
         b"{\"error\":\"E2 NameTaken\"}\n".as_slice()
     );
     let mut seats = Vec::new(alloc);
-    seats.push(seat)?;
+    seats.reserve(1)?;
+    seats.push_reserved(seat);
     let closed = hub.close(seats).ok().ok_or("not closed")?;
     assert_eq!(rt; closed.entries.len(), 1);
     let entry = closed.entries.first().ok_or("no entry")?;

@@ -18,6 +18,15 @@ pub(crate) fn columns(alloc: Global, names: &[&str]) -> Result<Vec<String>, Allo
     Ok(columns)
 }
 
+/// A hub with one seat.
+pub(crate) fn opened(alloc: Global) -> Result<(Hub, Seat), Fault> {
+    let (hub, mut seats) = Hub::open(alloc, 1, 100)?;
+    match seats.pop() {
+        Some(seat) => Ok((hub, seat)),
+        None => Err(Fault::BadLimit),
+    }
+}
+
 /// Rows of one value each, by their instants.
 pub(crate) fn rows(alloc: Global, rows: &[(i64, i64)]) -> Result<NewRows, AllocError> {
     let mut made = NewRows::new(alloc);

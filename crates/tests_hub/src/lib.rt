@@ -21,3 +21,5 @@ mod seats;
 mod server;
 #[cfg(test)]
 mod threads;
+#[cfg(test)]
+mod wakes;

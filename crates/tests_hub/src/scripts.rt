@@ -1,6 +1,7 @@
 //! Scripts over a hub: by a pool, by a client's own thread, and where a device fails.
 
-use hub::{CommandKind, Hub, Seat};
+use crate::fixture::opened;
+use hub::CommandKind;
 use reference::Fault;
 use served::{run_hub, serve_connection};
 use std::alloc::Global;
@@ -49,22 +50,14 @@ const REPLIES: &str = r#"{"ok":true}
 {"error":"E6 UnknownQuery"}
 "#;
 
-// A hub with one seat.
-fn opened(alloc: Global) -> Result<(Hub, Seat), Fault> {
-    let (hub, mut seats) = Hub::open(alloc, 1, 100)?;
-    match seats.pop() {
-        Some(seat) => Ok((hub, seat)),
-        None => Err(Fault::BadLimit),
-    }
-}
-
-// The replies to the script by a pool of so many workers, or by the client's own thread.
+// The replies to the script by a pool of so many workers, or by the client's own thread; and how
+// many entries the hub has when it is closed behind it.
 fn replies_by<R: Threads + Wait + Sync>(
     rt: &R,
     alloc: Global,
     workers: Option<u64>,
     rows: u32,
-) -> Result<MemorySink, Fault> {
+) -> Result<(MemorySink, Option<usize>), Fault> {
     let (hub, mut seat) = opened(alloc)?;
     let mut source = MemorySource::new(TWO_STREAMS.as_bytes());
     let mut sink = MemorySink::new(alloc);
@@ -83,10 +76,14 @@ fn replies_by<R: Threads + Wait + Sync>(
         }
         None => serve_connection(rt, alloc, &mut source, &mut sink, &hub, &mut seat, rows),
     };
-    match ran {
-        Ok(()) => Ok(sink),
-        Err(_) => Err(Fault::OutOfMemory),
+    if ran.is_err() {
+        return Err(Fault::OutOfMemory);
     }
+    let mut seats = Vec::new(alloc);
+    seats.reserve(1)?;
+    seats.push_reserved(seat);
+    let entries = hub.close(seats).ok().map(|closed| closed.entries.len());
+    Ok((sink, entries))
 }
 
 #[test]
@@ -99,12 +96,14 @@ fn a_script_is_answered_by_its_text(rt: HostRuntime) -> Result<(), Fail> {
         (None, 256),
         (None, 1),
     ] {
-        let sink = replies_by(&rt, alloc, workers, rows)?;
+        let (sink, entries) = replies_by(&rt, alloc, workers, rows)?;
         assert_eq!(rt;
             sink.bytes.as_slice(),
             REPLIES.as_bytes(),
             "by {workers:?} and {rows}"
         );
+        // all requests but the two drains and the take that is refused
+        assert_eq!(rt; entries, Some(14));
     }
     Ok(())
 }
@@ -149,7 +148,8 @@ fn a_call_stands_whose_reply_was_not_written(rt: HostRuntime) -> Result<(), Fail
         b"{\"error\":\"E2 NameTaken\"}\n".as_slice()
     );
     let mut seats = Vec::new(alloc);
-    seats.push(seat)?;
+    seats.reserve(1)?;
+    seats.push_reserved(seat);
     let closed = hub.close(seats).ok().ok_or("not closed")?;
     assert_eq!(rt; closed.entries.len(), 1);
     let entry = closed.entries.first().ok_or("no entry")?;

@@ -7,6 +7,7 @@ use std::alloc::Global;
 use std::io::{BufRead, BufReader, Write};
 use std::net::{Net, Shutdown, SocketAddr, TcpListener, TcpStream};
 use std::sync::Wait;
+use std::test::Fail;
 use std::thread::Threads;
 use std::{io, thread};
 use wire::MemorySink;
@@ -139,18 +140,16 @@ fn served_once<R: Net<Listener = TcpListener, Stream = TcpStream> + Threads + Wa
 }
 
 #[test]
-fn a_server_answers_a_connection_and_ends(rt: HostRuntime) {
-    match TcpListener::bind(&rt, "127.0.0.1:0") {
-        Ok(listener) => {
-            let served = served_once(&rt, rt.alloc(), listener);
-            assert!(rt;
-                matches!(&served, Ok((taken, ending))
-                if taken.as_str() == "[1,5],[3,6],[3,7]" && ending.is_well())
-            );
-        }
-        // A machine without a network says nothing of the server.
-        Err(_) => {}
-    }
+fn a_server_answers_a_connection_and_ends(rt: HostRuntime) -> Result<(), Fail> {
+    let listener = TcpListener::bind(&rt, "127.0.0.1:0")
+        .ok()
+        .ok_or("no listener")?;
+    let served = served_once(&rt, rt.alloc(), listener);
+    assert!(rt;
+        matches!(&served, Ok((taken, ending))
+        if taken.as_str() == "[1,5],[3,6],[3,7]" && ending.is_well())
+    );
+    Ok(())
 }
 
 // Three clients, one after the other: one sends half a line, one is gone before it is answered, and
@@ -192,19 +191,18 @@ fn served_thrice<R: Net<Listener = TcpListener, Stream = TcpStream> + Threads + 
 }
 
 #[test]
-fn a_client_that_goes_ends_its_connection_alone(rt: HostRuntime) {
-    match TcpListener::bind(&rt, "127.0.0.1:0") {
-        Ok(listener) => {
-            let served = served_thrice(&rt, rt.alloc(), listener);
-            assert!(rt;
-                matches!(&served, Ok((told, answered, ending))
-                if told.as_str() == "{\"error\":\"N1 NotJson\"}\n"
-                    && answered.as_str() == "{\"error\":\"E2 NameTaken\"}\n"
-                    && ending.is_well())
-            );
-        }
-        Err(_) => {}
-    }
+fn a_client_that_goes_ends_its_connection_alone(rt: HostRuntime) -> Result<(), Fail> {
+    let listener = TcpListener::bind(&rt, "127.0.0.1:0")
+        .ok()
+        .ok_or("no listener")?;
+    let served = served_thrice(&rt, rt.alloc(), listener);
+    assert!(rt;
+        matches!(&served, Ok((told, answered, ending))
+        if told.as_str() == "{\"error\":\"N1 NotJson\"}\n"
+            && answered.as_str() == "{\"error\":\"E2 NameTaken\"}\n"
+            && ending.is_well())
+    );
+    Ok(())
 }
 
 // A client that sends nothing keeps its connection open, and another one is answered meanwhile.
@@ -235,21 +233,20 @@ fn served_beside<R: Net<Listener = TcpListener, Stream = TcpStream> + Threads + 
 }
 
 #[test]
-fn a_silent_client_holds_no_other_one(rt: HostRuntime) {
-    match TcpListener::bind(&rt, "127.0.0.1:0") {
-        Ok(listener) => {
-            let served = served_beside(&rt, rt.alloc(), listener);
-            assert!(rt;
-                matches!(&served, Ok((taken, ending))
-                if taken.as_str() == "[1,5],[3,6],[3,7]" && ending.is_well())
-            );
-        }
-        Err(_) => {}
-    }
+fn a_silent_client_holds_no_other_one(rt: HostRuntime) -> Result<(), Fail> {
+    let listener = TcpListener::bind(&rt, "127.0.0.1:0")
+        .ok()
+        .ok_or("no listener")?;
+    let served = served_beside(&rt, rt.alloc(), listener);
+    assert!(rt;
+        matches!(&served, Ok((taken, ending))
+        if taken.as_str() == "[1,5],[3,6],[3,7]" && ending.is_well())
+    );
+    Ok(())
 }
 
 // Whether a client with a stream of its own is answered.
-fn is_answered(alloc: Global, number: u32, stream: &TcpStream) -> io::Result<bool> {
+fn is_answered(alloc: Global, stream: &TcpStream, number: u32) -> io::Result<bool> {
     let script = format!(in alloc;
         "{{\"op\":\"stream\",\"name\":\"S{number}\",\"columns\":[\"a\"],\"from\":0}}\n\
         {{\"op\":\"append\",\"stream\":\"S{number}\",\"rows\":[[0,{number}]]}}\n\
@@ -263,21 +260,27 @@ fn is_answered(alloc: Global, number: u32, stream: &TcpStream) -> io::Result<boo
     )
 }
 
-// Opens as many connections as may be, and gives how many of them are answered.
-fn ask_all<R: Net<Listener = TcpListener, Stream = TcpStream> + Threads + Sync>(
+// Connects as many clients as may be, and then talks to the server from the last to the first: how
+// many are answered.
+fn answered_of_a_crowd<R: Net<Listener = TcpListener, Stream = TcpStream>>(
     rt: &R,
     alloc: Global,
     address: SocketAddr,
 ) -> io::Result<usize> {
-    let mut clients = Vec::new(alloc);
-    for number in 0..CROWD {
-        clients.push((number, TcpStream::connect(rt, address)?))?;
+    let mut streams = Vec::new(alloc);
+    for _ in 0..CROWD {
+        let stream = TcpStream::connect(rt, address)?;
+        streams.push(stream)?;
     }
-    let answer = |client: (u32, TcpStream)| {
-        matches!(is_answered(alloc, client.0, &client.1), Ok(true))
-    };
-    let answered = thread::map_vec(rt, clients, &answer)?;
-    Ok(answered.iter().filter(|is_right| **is_right).count())
+    let mut answered: usize = 0;
+    for number in 0..CROWD {
+        if let Some(stream) = streams.pop() {
+            if is_answered(alloc, &stream, number)? {
+                answered = answered.saturating_add(1);
+            }
+        }
+    }
+    Ok(answered)
 }
 
 fn served_crowd<R: Net<Listener = TcpListener, Stream = TcpStream> + Threads + Wait + Sync>(
@@ -288,19 +291,18 @@ fn served_crowd<R: Net<Listener = TcpListener, Stream = TcpStream> + Threads + W
     let address = listener.local_addr()?;
     let (answered, ending) = thread::join(
         rt,
-        || ask_all(rt, alloc, address),
+        || answered_of_a_crowd(rt, alloc, address),
         || serve_some(rt, alloc, listener, CROWD, CROWD),
     );
     Ok((answered?, ending))
 }
 
 #[test]
-fn as_many_clients_as_may_be_are_served_at_once(rt: HostRuntime) {
-    match TcpListener::bind(&rt, "127.0.0.1:0") {
-        Ok(listener) => {
-            let served = served_crowd(&rt, rt.alloc(), listener);
-            assert!(rt; matches!(&served, Ok((64, ending)) if ending.is_well()));
-        }
-        Err(_) => {}
-    }
+fn as_many_clients_as_may_be_are_served_at_once(rt: HostRuntime) -> Result<(), Fail> {
+    let listener = TcpListener::bind(&rt, "127.0.0.1:0")
+        .ok()
+        .ok_or("no listener")?;
+    let served = served_crowd(&rt, rt.alloc(), listener);
+    assert!(rt; matches!(&served, Ok((64, ending)) if ending.is_well()));
+    Ok(())
 }

@@ -113,14 +113,45 @@ fn a_server_has_a_port_workers_and_clients(rt: HostRuntime) {
         )
     );
     for wrong in [
-        "--port=65536",
-        "--workers=65",
-        "--clients=0",
-        "--serve=1000001",
+        [
+            "cqld",
+            "--port=65536",
+            "--workers=1",
+            "--clients=1",
+            "--serve=1",
+        ],
+        [
+            "cqld",
+            "--port=1",
+            "--workers=65",
+            "--clients=1",
+            "--serve=1",
+        ],
+        [
+            "cqld",
+            "--port=1",
+            "--workers=1",
+            "--clients=0",
+            "--serve=1",
+        ],
+        [
+            "cqld",
+            "--port=1",
+            "--workers=1",
+            "--clients=1",
+            "--serve=1000001",
+        ],
     ] {
-        let words = ["cqld", "--port=1", "--workers=1", "--clients=1", wrong];
-        assert!(rt; serve_options(rt.alloc(), words.as_slice()).is_err());
+        assert!(rt; serve_options(rt.alloc(), wrong.as_slice()).is_err());
     }
+    let right = [
+        "cqld",
+        "--port=1",
+        "--workers=1",
+        "--clients=1",
+        "--serve=1",
+    ];
+    assert!(rt; serve_options(rt.alloc(), right.as_slice()).is_ok());
     let portless = ["cqld", "--workers=1", "--clients=1"];
     assert!(rt; serve_options(rt.alloc(), portless.as_slice()).is_err());
 }

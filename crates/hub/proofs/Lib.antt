@@ -1,0 +1,7 @@
+mod RefusedLemmas
+mod AnsweredLemmas
+mod DecliningLemmas
+mod ReplayLemmas
+mod ReachLemmas
+mod AcceptingLemmas
+mod KnownLemmas

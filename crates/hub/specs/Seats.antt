@@ -1,0 +1,28 @@
+-- Seats and their receipts.
+use Rattle.std.specs.Prelude.{◌≡◌, ℕ, ◌+◌, ◌<◌, List, [], ◌∷◌, length, All, count_by, ◌==◌, max}
+use Rattle.histories.specs.Histories.{Entry, Told, own}
+
+-- a seat: its number, its own receipts, and one more than the greatest number that it was told of other seats' receipts, 0 where it was told of none
+pub record PlainSeat : Type 0 where
+  pub number : ℕ
+  pub receipts : List Told
+  pub learnt : ℕ
+
+abbrev pub opened : ℕ → PlainSeat
+opened n = record { number = n; receipts = []; learnt = 0 }
+
+-- one more than the greatest number among the receipts
+abbrev pub held : List Told → ℕ
+held [] = 0
+held (r ∷ rs) = max (r.number + 1) (held rs)
+
+-- one more than the greatest number that the seat holds or has learnt
+abbrev pub reach : PlainSeat → ℕ
+reach s = max (held s.receipts) s.learnt
+
+-- WHAT A HISTORY AND THE SEATS TELL ALIKE: each number of a seat is there once, every entry is of one of them, and the receipts of each are just those of its entries
+pub record IsAudited (seats : List PlainSeat) (count : ℕ) (entries : List Entry) : Type 0 where
+  pub many : length seats ≡ count
+  pub each : (k : ℕ) → k < count → count_by (λ (s : PlainSeat). s.number == k) seats ≡ 1
+  pub known : All (λ (e : Entry). e.seat < count) entries
+  pub told : All (λ (s : PlainSeat). own s.number 0 entries ≡ s.receipts) seats

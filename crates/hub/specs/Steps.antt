@@ -1,0 +1,137 @@
+-- What lies under the lock, and its steps: each is one call on the engine, or none.
+use Rattle.std.specs.Prelude.{◌≡◌, ℕ, ◌<◌, ◌≤◌, List, [], ◌∷◌, ◌++◌, length, Bool, false, true, Option, Result, Ok, ⊤}
+use Rattle.envelope.specs.Fraction.{Fraction}
+use Rattle.plan.specs.declared.node.Kind.{Kind}
+use Rattle.reference.specs.Commands.{Command}
+use Rattle.reference.specs.Machine.{empty, query_named, stream_named}
+use Rattle.reference.specs.World.{Looks, slopes_at}
+use Rattle.reference.specs.declared.fault.Fault.{Fault}
+use Rattle.reference.specs.declared.fault.Fault.TheVariants.{HistoryFull, Foreign}
+use Rattle.turn.specs.declared.parts.Parts.{Parts}
+use Rattle.turn.specs.declared.turns.Turn.{Turn}
+use Rattle.laws_engine.specs.Engines.{PlainEngine, world_of}
+use Rattle.leases.specs.Looks.{IsPending, WaitsAt}
+use Rattle.leases.specs.Shown.{engine_in}
+use Rattle.leases.specs.Turns.{Abandons, Finishes, IsTurnOf, Leases}
+use Rattle.leases.specs.Views.{empty_engine}
+use Rattle.leases.specs.declared.leased.Leased.{Leased}
+use Rattle.leases.specs.declared.leased.Leased.TheVariants as leased
+use Rattle.leases.specs.declared.state.State.{State}
+use Rattle.histories.specs.Histories.{Entry, Replays, Told}
+use Rattle.hub.specs.Seats.{PlainSeat, reach}
+use Rattle.hub.specs.Calls.{Answered, Refused}
+
+-- the engine as it is kept, the entries of its history, how many it may have, how many seats there are, and whether the end was called
+pub record PlainLocked : Type 0 where
+  pub engine : State
+  pub history : List Entry
+  pub limit : ℕ
+  pub seats : ℕ
+  pub has_ended : Bool
+
+-- the engine as a plain value; not unfolded, so that what is said of it stays short where the lock is taken
+unfoldable pub engine_at : PlainLocked → PlainEngine
+engine_at l = engine_in l.engine
+
+-- ONLY THE ENGINE is another
+abbrev pub with_engine : PlainLocked → State → PlainLocked
+with_engine l s = record l { engine = s }
+
+-- and as a plain value it is the same
+abbrev pub IsSame : PlainLocked → PlainLocked → Type 0
+IsSame old new = (new ≡ with_engine old new.engine) × (engine_at new ≡ engine_at old)
+
+-- the history leads from the machine that was told nothing to the engine's
+abbrev pub IsReplayed : PlainLocked → Type 0
+IsReplayed l = Replays empty l.history (engine_at l).machine
+
+-- AN ACCEPTED COMMAND of a seat: one call on the engine, one entry, one receipt, whose number is above all that the seat holds or has learnt
+pub record Accepted (old : PlainLocked) (seat : PlainSeat) (c : Command) (r : Told) (new : PlainLocked) (seat' : PlainSeat) : Type 0 where
+  pub legal : IsReplayed old
+  pub engine : Answered (engine_at old) c r.entry.reply (engine_at new)
+  pub history : new ≡ record (with_engine old new.engine) { history = old.history ++ r.entry ∷ [] }
+  pub room : length old.history < old.limit
+  pub number : r.number ≡ length old.history
+  pub by : r.entry.seat ≡ seat.number
+  pub command : r.entry.command ≡ c
+  pub above : reach seat ≤ r.number
+  pub told : seat' ≡ record seat { receipts = seat.receipts ++ r ∷ [] }
+
+-- why a command is refused: the hub's own faults come before all others. The history is full; the seat knows a number that no entry has
+abbrev pub Declines : PlainLocked → PlainSeat → Command → Fault → Type 0
+Declines l s c HistoryFull = l.limit ≤ length l.history
+Declines l s c (Foreign n) = (length l.history < l.limit) × (n ≡ length l.history) × (n < reach s)
+Declines l s c f = (length l.history < l.limit) × (reach s ≤ length l.history) × Refused (engine_at l) c f
+
+-- A REFUSED COMMAND changes nothing
+pub record Declined (old : PlainLocked) (seat : PlainSeat) (c : Command) (f : Fault) (new : PlainLocked) (seat' : PlainSeat) : Type 0 where
+  pub legal : IsReplayed old
+  pub same : IsSame old new
+  pub kept : seat' ≡ seat
+  pub line : Declines old seat c f
+
+-- the test of a full history, or of a seat that knows too much, fails
+abbrev pub Barred : PlainLocked → PlainSeat → Fault → Type 0
+Barred l s HistoryFull = l.limit ≤ length l.history
+Barred l s (Foreign n) = (length l.history < l.limit) × (n ≡ length l.history) × (n < reach s)
+Barred l s f = ⊥
+
+-- OF A NEW HUB
+pub record IsFresh (l : PlainLocked) (seats limit : ℕ) : Type 0 where
+  pub engine : engine_at l ≡ empty_engine
+  pub history : l.history ≡ []
+  pub limited : l.limit ≡ limit
+  pub seated : l.seats ≡ seats
+  pub going : l.has_ended ≡ false
+
+-- after the end was called
+abbrev pub ended : PlainLocked → PlainLocked
+ended l = record l { has_ended = true }
+
+-- WHAT WORKERS CALL, as of the engine
+pub record Hands (old : PlainLocked) (rows : ℕ) (result : Result Leased Fault) (new : PlainLocked) : Type 0 where
+  pub leases : Leases (engine_at old) rows result (engine_at new)
+
+pub record Ends (old : PlainLocked) (done : Parts) (result : Result ⊤ Fault) (new : PlainLocked) : Type 0 where
+  pub finishes : Finishes (engine_at old) done result (engine_at new)
+
+pub record GivesUp (old : PlainLocked) (lease : ℕ) (result : Result ⊤ Fault) (new : PlainLocked) : Type 0 where
+  pub abandons : Abandons (engine_at old) lease result (engine_at new)
+
+-- a turn of at most so many rows goes out
+pub record Lends (old : PlainLocked) (rows : ℕ) (t : Turn) (new : PlainLocked) : Type 0 where
+  pub turn : IsTurnOf (engine_at old) rows t (engine_at new)
+
+-- nothing is ready, and no turn is out
+pub record Rests (old : PlainLocked) (rows : ℕ) (new : PlainLocked) : Type 0 where
+  pub idle : Leases (engine_at old) rows (Ok leased.Idle) (engine_at new)
+  pub returned : (engine_at old).leases ≡ []
+
+-- the end was called
+pub record HasEnded (old new : PlainLocked) : Type 0 where
+  pub called : old.has_ended ≡ true
+  pub same : new ≡ old
+
+-- WHAT LOOK-UPS FIND
+pub record FindsStream (l : PlainLocked) (name : List ℕ) (found : Option ℕ) : Type 0 where
+  pub is : found ≡ stream_named (engine_at l).machine name
+
+pub record FindsQuery (l : PlainLocked) (name : List ℕ) (found : Option ℕ) : Type 0 where
+  pub is : found ≡ query_named (engine_at l).machine name
+
+-- WHAT LOOKS SEE
+pub record SeesWaiting (l : PlainLocked) (query : ℕ) (result : Result ℕ Fault) : Type 0 where
+  pub is : WaitsAt (engine_at l) query result
+
+pub record SeesPending {A : Type 0} (view : A → List ℕ) (l : PlainLocked) (query : ℕ) (result : Result A Fault) : Type 0 where
+  pub is : IsPending view (engine_at l) query result
+
+pub record SeesSlopes {A : Type 0} (view : A → List (Kind × Fraction)) (l : PlainLocked) (query : ℕ) (result : Result A Fault) : Type 0 where
+  pub is : Looks view (slopes_at (world_of (engine_at l)) query) result
+
+-- WHAT A SEAT KNOWS of its call: what lay under the lock had a legal history, and took the command just so, or refused it
+abbrev pub Took : PlainSeat → Command → Told → PlainSeat → Type 0
+Took seat c r seat' = (old : PlainLocked) × (new : PlainLocked) × Accepted old seat c r new seat'
+
+abbrev pub Spurned : PlainSeat → Command → Fault → PlainSeat → Type 0
+Spurned seat c f seat' = (old : PlainLocked) × (new : PlainLocked) × Declined old seat c f new seat'

@@ -1,0 +1,116 @@
+//! The hub: what lies under one lock, for threads.
+ghost use Rattle.std.specs.Prelude.{◌≡◌, ◌↔◌, ◌≤◌, ◌<◌, IfOk, IfErr, IsErrOf, map};
+ghost use Rattle.std.specs.List.{range_with_len};
+ghost use Rattle.histories.specs.Histories.{IsLegal};
+ghost use Rattle.hub.specs.Seats.{IsAudited, opened};
+ghost use Rattle.hub.specs.declared.locked.TheConstants.{MAX_HISTORY, MAX_SEATS};
+
+mod calls;
+mod looks;
+mod turns;
+
+use crate::locked::{Closed, Locked};
+use crate::seat::Seat;
+use reference::Fault;
+use std::alloc::Global;
+use std::marker::Model;
+use std::sync::{Condvar, Mutex};
+use turn::Turn;
+
+/// An engine that many threads may call, each client with a seat. Contracts see how many seats it
+/// was opened with.
+///
+/// Each call but `open` and `close` waits for the one lock, and runs one step of `Locked` under it.
+#[derive(Drop)]
+pub struct Hub {
+    /// The engine with its history.
+    locked: Mutex<Locked>,
+    /// Told of each step that may make an operator ready, or bring back the last turn.
+    moved: Condvar,
+    /// How many seats were opened.
+    seats: u64,
+}
+
+impl Model for Hub {
+    ghost use Rattle.std.specs.Prelude.{ℕ};
+
+    ghost Value = { ℕ };
+
+    ghost view = { λ h. h.seats };
+}
+
+/// What `lease_wait` answers.
+#[derive(Drop)]
+pub enum LeaseWait {
+    /// A turn, to be run and brought back.
+    Turn(Turn),
+    /// The end was called.
+    Ended,
+}
+
+/// What `lease_or_rest` answers.
+#[derive(Drop)]
+pub enum LeaseRest {
+    /// A turn, to be run and brought back.
+    Turn(Turn),
+    /// No operator may take anything, and no turn is out.
+    Rest,
+}
+
+impl Hub {
+    /// A hub with so many seats, whose history may have so many entries.
+    ///
+    /// # Errors
+    /// `BadLimit` where seats are not 1 to 64, or entries not 1 to 16,777,216; `OutOfMemory`.
+    pub fn open(alloc: Global, seats: u64, history_limit: u64) -> Result<(Hub, Vec<Seat>), Fault>
+        ensures ok { IfOk result (λ p.
+            (p.0 ≡ seats) × (p.1.items ≡ map opened (range_with_len 0 seats))) }
+        ensures bad { IsErrOf result Fault.BadLimit ↔ (¬ ((0 < seats) × (seats ≤ MAX_SEATS)
+            × (0 < history_limit) × (history_limit ≤ MAX_HISTORY))) }
+    {
+        let (locked, places) = Locked::new(alloc, seats, history_limit)?;
+        let hub = Hub {
+            locked: Mutex::new(locked),
+            moved: Condvar::new(),
+            seats,
+        };
+        Ok((hub, places))
+    }
+
+    /// Compares the seats' receipts with the history, and gives it. Takes no memory.
+    ///
+    /// # Errors
+    /// Hub and seats come back where the seats' numbers are not those of `open`, each once, or
+    /// where their receipts differ from the history.
+    pub fn close(self, seats: Vec<Seat>) -> Result<Closed, (Hub, Vec<Seat>)>
+        ensures ok { IfOk result (λ c.
+            IsLegal c.entries.items × IsAudited seats.items self c.entries.items) }
+        ensures err { IfErr result (λ p. (p.0 ≡ self) × (p.1 ≡ seats)) }
+    {
+        let Hub {
+            locked,
+            moved,
+            seats: count,
+        } = self;
+        let locked = locked.into_inner();
+        if locked.seats() != count {
+            let hub = Hub {
+                locked: Mutex::new(locked),
+                moved,
+                seats: count,
+            };
+            return Err((hub, seats));
+        }
+        match locked.close(seats) {
+            Ok(closed) => Ok(closed),
+            Err((locked, seats)) => {
+                let hub = Hub {
+                    locked: Mutex::new(locked),
+                    moved,
+                    seats: count,
+                };
+                Err((hub, seats))
+            }
+        }
+    }
+}

@@ -1,0 +1,136 @@
+//! What clients call, each with its own seat. One step of `Locked` each.
+ghost use Rattle.std.specs.Prelude.{◌≡◌, IfOk, IfErr, string_bytes};
+ghost use Rattle.plan.specs.Chart.{given_by};
+ghost use Rattle.reference.specs.CallViews.{texts_of, handed_of};
+ghost use Rattle.reference.specs.Commands.{Declare, Register, Append, Heartbeat, Take, Drop};
+ghost use Rattle.reference.specs.Replies as replies;
+ghost use Rattle.reference.specs.Replies.{Number, Rows};
+ghost use Rattle.hub.specs.Steps.{Spurned, Took};
+
+use crate::hub::Hub;
+use crate::seat::Seat;
+use histories::Receipt;
+use plan::Chart;
+use reference::{Fault, NewRows};
+use std::sync::Wait;
+use values::Row;
+
+impl Hub {
+    /// Declares a stream, and answers its number.
+    ///
+    /// # Errors
+    /// `HistoryFull`, `Foreign`, then those of `Answering::stream`.
+    pub fn stream<R: Wait>(
+        &self,
+        rt: &R,
+        seat: &mut Seat,
+        name: String,
+        columns: Vec<String>,
+        from: i64,
+    ) -> Result<(u64, Receipt), Fault>
+        ensures ok { IfOk result (λ r. (r.1.entry.reply ≡ Number r.0)
+            × Took seat.old (Declare (string_bytes name) (texts_of columns.items) from) r.1
+            seat.new) }
+        ensures err { IfErr result (λ f. Spurned seat.old
+            (Declare (string_bytes name) (texts_of columns.items) from) f seat.new) }
+    {
+        let mut locked = self.locked.lock(rt);
+        locked.stream(seat, name, columns, from)
+    }
+
+    /// Registers a query, and answers its number.
+    ///
+    /// # Errors
+    /// `HistoryFull`, `Foreign`, then those of `Answering::query`.
+    pub fn query<R: Wait>(
+        &self,
+        rt: &R,
+        seat: &mut Seat,
+        name: String,
+        text: String,
+        chart: Option<Chart>,
+    ) -> Result<(u64, Receipt), Fault>
+        ensures ok { IfOk result (λ r. (r.1.entry.reply ≡ Number r.0)
+            × Took seat.old (Register (string_bytes name) (string_bytes text) (given_by chart)) r.1
+            seat.new) }
+        ensures err { IfErr result (λ f. Spurned seat.old
+            (Register (string_bytes name) (string_bytes text) (given_by chart)) f seat.new) }
+    {
+        let mut locked = self.locked.lock(rt);
+        locked.query(seat, name, text, chart)
+    }
+
+    /// Appends rows to the stream of a number.
+    ///
+    /// # Errors
+    /// `HistoryFull`, `Foreign`, then those of `Answering::append`.
+    pub fn append<R: Wait>(
+        &self,
+        rt: &R,
+        seat: &mut Seat,
+        stream: u64,
+        rows: NewRows,
+    ) -> Result<Receipt, Fault>
+        ensures ok { IfOk result (λ r. (r.entry.reply ≡ replies.Done)
+            × Took seat.old (Append stream rows) r seat.new) }
+        ensures err { IfErr result (λ f. Spurned seat.old (Append stream rows) f seat.new) }
+    {
+        let mut locked = self.locked.lock(rt);
+        locked.append(seat, stream, rows)
+    }
+
+    /// Closes all instants of the stream of a number up to `at`.
+    ///
+    /// # Errors
+    /// `HistoryFull`, `Foreign`, then those of `Answering::heartbeat`.
+    pub fn heartbeat<R: Wait>(
+        &self,
+        rt: &R,
+        seat: &mut Seat,
+        stream: u64,
+        at: i64,
+    ) -> Result<Receipt, Fault>
+        ensures ok { IfOk result (λ r. (r.entry.reply ≡ replies.Done)
+            × Took seat.old (Heartbeat stream at) r seat.new) }
+        ensures err { IfErr result (λ f. Spurned seat.old (Heartbeat stream at) f seat.new) }
+    {
+        let mut locked = self.locked.lock(rt);
+        let answer = locked.heartbeat(seat, stream, at);
+        self.moved.notify_all();
+        answer
+    }
+
+    /// Hands out the first answers that wait at the query of a number, at most `limit`.
+    ///
+    /// # Errors
+    /// `HistoryFull`, `Foreign`, then those of `Answering::take`.
+    pub fn take<R: Wait>(
+        &self,
+        rt: &R,
+        seat: &mut Seat,
+        query: u64,
+        limit: i64,
+    ) -> Result<(Vec<(i64, Row)>, Receipt), Fault>
+        ensures ok { IfOk result (λ r. (r.1.entry.reply ≡ Rows (handed_of r.0.items))
+            × Took seat.old (Take query limit) r.1 seat.new) }
+        ensures err { IfErr result (λ f. Spurned seat.old (Take query limit) f seat.new) }
+    {
+        let mut locked = self.locked.lock(rt);
+        locked.take(seat, query, limit)
+    }
+
+    /// Drops the query of a number. Its turns end, so a pool may rest.
+    ///
+    /// # Errors
+    /// `HistoryFull`, `Foreign`, then `UnknownQuery`; `OutOfMemory` for the entry and the receipt.
+    pub fn drop_query<R: Wait>(&self, rt: &R, seat: &mut Seat, query: u64) -> Result<Receipt, Fault>
+        ensures ok { IfOk result (λ r. (r.entry.reply ≡ replies.Done)
+            × Took seat.old (Drop query) r seat.new) }
+        ensures err { IfErr result (λ f. Spurned seat.old (Drop query) f seat.new) }
+    {
+        let mut locked = self.locked.lock(rt);
+        let answer = locked.drop_query(seat, query);
+        self.moved.notify_all();
+        answer
+    }
+}

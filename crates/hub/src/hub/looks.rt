@@ -1,0 +1,56 @@
+//! What anyone may look at. No seat is needed, and nothing changes.
+ghost use Rattle.std.specs.Prelude.{◌≡◌};
+ghost use Rattle.hub.specs.Steps.{PlainLocked, FindsQuery, FindsStream, SeesPending, SeesSlopes};
+ghost use Rattle.hub.specs.Steps.{SeesWaiting};
+
+use crate::hub::Hub;
+use envelope::Slope;
+use plan::Kind;
+use reference::Fault;
+use std::sync::Wait;
+
+impl Hub {
+    /// How many answers of the query of a number wait.
+    ///
+    /// # Errors
+    /// `UnknownQuery`.
+    pub fn waiting<R: Wait>(&self, rt: &R, query: u64) -> Result<usize, Fault>
+        ensures { (l : PlainLocked) × SeesWaiting l query result }
+    {
+        self.locked.lock(rt).waiting(query)
+    }
+
+    /// How much waits in each queue of the query of a number.
+    ///
+    /// # Errors
+    /// `UnknownQuery`, `OutOfMemory`.
+    pub fn pending<R: Wait>(&self, rt: &R, query: u64) -> Result<Vec<u128>, Fault>
+        ensures { (l : PlainLocked) × SeesPending (λ v. v.items) l query result }
+    {
+        self.locked.lock(rt).pending(query)
+    }
+
+    /// What each operator of the query of a number does, and its slope.
+    ///
+    /// # Errors
+    /// `UnknownQuery`, `OutOfMemory`.
+    pub fn slopes<R: Wait>(&self, rt: &R, query: u64) -> Result<Vec<(Kind, Slope)>, Fault>
+        ensures { (l : PlainLocked) × SeesSlopes (λ v. v.items) l query result }
+    {
+        self.locked.lock(rt).slopes(query)
+    }
+
+    /// The number of the stream of a name.
+    pub fn stream_named<R: Wait>(&self, rt: &R, name: &str) -> Option<u64>
+        ensures { (l : PlainLocked) × FindsStream l name.now result }
+    {
+        self.locked.lock(rt).stream_named(name)
+    }
+
+    /// The number of the query of a name that was not dropped.
+    pub fn query_named<R: Wait>(&self, rt: &R, name: &str) -> Option<u64>
+        ensures { (l : PlainLocked) × FindsQuery l name.now result }
+    {
+        self.locked.lock(rt).query_named(name)
+    }
+}

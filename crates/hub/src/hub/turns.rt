@@ -1,0 +1,87 @@
+//! What workers call. They need no seat.
+ghost use Rattle.std.specs.Prelude.{◌≡◌, IfOk};
+ghost use Rattle.hub.specs.Steps.{PlainLocked, Ends, GivesUp, Hands, HasEnded, Lends, Rests};
+ghost use Rattle.hub.specs.Tries.{MatchLeaseRest, MatchLeaseWait};
+
+use crate::hub::{Hub, LeaseRest, LeaseWait};
+use crate::locked::{Rested, Waited};
+use leases::Leased;
+use reference::Fault;
+use std::sync::Wait;
+use turn::Done;
+
+impl Hub {
+    /// As `Engine::lease`: hands out a turn, of an operator of greatest slope.
+    pub fn lease<R: Wait>(&self, rt: &R, rows: u32) -> Result<Leased, Fault>
+        ensures { (old : PlainLocked) × (new : PlainLocked) × Hands old rows result new }
+    {
+        self.locked.lock(rt).lease(rows)
+    }
+
+    /// As `Engine::finish`: a turn that was run comes back.
+    pub fn finish<R: Wait>(&self, rt: &R, done: Done) -> Result<(), Fault>
+        ensures { (old : PlainLocked) × (new : PlainLocked) × Ends old done result new }
+    {
+        let mut locked = self.locked.lock(rt);
+        let answer = locked.finish(done);
+        self.moved.notify_all();
+        answer
+    }
+
+    /// As `Engine::abandon`: the turn of a number does not come back.
+    pub fn abandon<R: Wait>(&self, rt: &R, lease: u64) -> Result<(), Fault>
+        ensures { (old : PlainLocked) × (new : PlainLocked) × GivesUp old lease result new }
+    {
+        let mut locked = self.locked.lock(rt);
+        let answer = locked.abandon(lease);
+        self.moved.notify_all();
+        answer
+    }
+
+    /// From now on `lease_wait` answers `Ended`, also where it waits.
+    pub fn end<R: Wait>(&self, rt: &R) {
+        let mut locked = self.locked.lock(rt);
+        locked.end();
+        self.moved.notify_all();
+    }
+
+    /// Hands out a turn, or waits until there is one or the end was called.
+    ///
+    /// # Errors
+    /// Those of `Engine::lease`, and without a wait.
+    pub fn lease_wait<R: Wait>(&self, rt: &R, rows: u32) -> Result<LeaseWait, Fault>
+        ensures { IfOk result (λ l. MatchLeaseWait l
+            (λ t. (old : PlainLocked) × (new : PlainLocked) × Lends old rows t new)
+            ((old : PlainLocked) × (new : PlainLocked) × HasEnded old new)) }
+    {
+        let mut locked = self.locked.lock(rt);
+        for _ in rt.forever() {
+            match locked.lease_wait(rows)? {
+                Waited::Turn(turn) => return Ok(LeaseWait::Turn(turn)),
+                Waited::Ended => return Ok(LeaseWait::Ended),
+                Waited::Idle => locked = self.moved.wait(rt, locked),
+            }
+        }
+        unreachable!()
+    }
+
+    /// Hands out a turn, or waits until there is one or none is out. Takes no notice of the end.
+    ///
+    /// # Errors
+    /// Those of `Engine::lease`, and without a wait.
+    pub fn lease_or_rest<R: Wait>(&self, rt: &R, rows: u32) -> Result<LeaseRest, Fault>
+        ensures { IfOk result (λ l. MatchLeaseRest l
+            (λ t. (old : PlainLocked) × (new : PlainLocked) × Lends old rows t new)
+            ((old : PlainLocked) × (new : PlainLocked) × Rests old rows new)) }
+    {
+        let mut locked = self.locked.lock(rt);
+        for _ in rt.forever() {
+            match locked.lease_or_rest(rows)? {
+                Rested::Turn(turn) => return Ok(LeaseRest::Turn(turn)),
+                Rested::Rest => return Ok(LeaseRest::Rest),
+                Rested::Idle => locked = self.moved.wait(rt, locked),
+            }
+        }
+        unreachable!()
+    }
+}

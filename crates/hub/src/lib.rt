@@ -1,0 +1,14 @@
+//! A hub: one engine behind one lock, one history of all commands that it accepted, and seats that
+//! hold the receipts of their own.
+#![tactic(auto)]
+
+mod audit;
+mod carry;
+mod hub;
+mod locked;
+mod seat;
+
+pub use histories::{Command, CommandKind, Entry, Receipt, Reply, ReplyKind};
+pub use hub::{Hub, LeaseRest, LeaseWait};
+pub use locked::{Closed, Locked, MAX_HISTORY, MAX_SEATS, Rested, Waited};
+pub use seat::{Seat, reach_is_above_what_a_seat_knows};

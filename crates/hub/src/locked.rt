@@ -1,0 +1,174 @@
+//! What lies under the lock.
+ghost use Rattle.std.specs.Prelude.{◌≡◌, ◌<◌, ◌≤◌, ◌⊎◌, ◌↔◌, IfOk, IfErr, IsErrOf, map};
+ghost use Rattle.std.specs.List.{range_with_len};
+ghost use Rattle.histories.specs.Histories.{IsLegal};
+ghost use Rattle.reference.specs.declared.fault.Fault.TheVariants.{BadLimit, OutOfMemory};
+ghost use Rattle.hub.specs.Seats.{IsAudited, opened};
+ghost use Rattle.hub.specs.Steps.{IsFresh, IsReplayed};
+ghost use Rattle.hub.specs.declared.locked.TheConstants.{MAX_HISTORY, MAX_SEATS};
+
+mod calls;
+mod looks;
+mod turns;
+
+use crate::audit::is_audited;
+use crate::seat::Seat;
+use histories::Entry;
+use leases::Engine;
+use reference::Fault;
+use std::alloc::{AllocError, Global};
+use std::marker::Model;
+use turn::Turn;
+
+/// The most entries of a history.
+pub const MAX_HISTORY: u64 = 16_777_216;
+
+/// The most seats of a hub.
+pub const MAX_SEATS: u64 = 64;
+
+/// The history of a hub that was closed.
+#[derive(Drop)]
+pub struct Closed {
+    /// Its entries, by their numbers.
+    pub entries: Vec<Entry>,
+}
+
+/// What one try of `lease_wait` answers.
+#[derive(Drop)]
+pub enum Waited {
+    /// A turn, to be run and brought back.
+    Turn(Turn),
+    /// No operator may take anything.
+    Idle,
+    /// The end was called.
+    Ended,
+}
+
+/// What one try of `lease_or_rest` answers.
+#[derive(Drop)]
+pub enum Rested {
+    /// A turn, to be run and brought back.
+    Turn(Turn),
+    /// No operator may take anything, and a turn is out.
+    Idle,
+    /// No operator may take anything, and no turn is out.
+    Rest,
+}
+
+/// What lies under the lock of a hub: the engine, the history of what it accepted, and whether the
+/// end was called. Each step of a hub is one of its methods.
+///
+/// Its history leads from the machine that was told nothing to the engine's.
+#[derive(Drop)]
+pub struct Locked {
+    /// What grows under the lock takes its memory here.
+    alloc: Global,
+    /// The engine of all clients and workers.
+    engine: Engine,
+    /// What the engine accepted, in order.
+    history: Vec<Entry>,
+    /// The most entries that the history may have.
+    limit: usize,
+    /// How many seats were opened.
+    seats: u64,
+    /// Whether the end was called.
+    has_ended: bool,
+}
+
+impl Model for Locked {
+    ghost use Rattle.std.specs.Coded.{codes};
+    ghost use Rattle.std.specs.Prelude.{◌≤◌, ◌^◌};
+    ghost use Rattle.values.specs.contracts.resolved.Condition as condition;
+    ghost use Rattle.reference.specs.Machine.{empty};
+    ghost use Rattle.leases.specs.Shown.{engine_in};
+    ghost use Rattle.histories.specs.Histories.{Replays};
+    ghost use Rattle.hub.specs.Steps.{PlainLocked};
+
+    ghost Value = { PlainLocked };
+
+    ghost coded = { Prim.hlevel (codes, condition.the_row.coded) };
+
+    ghost view = { λ l. record {
+      engine = l.engine;
+      history = l.history.items;
+      limit = l.limit;
+      seats = l.seats;
+      has_ended = l.has_ended;
+    } };
+
+    ghost invariant = { λ l.
+        Replays empty l.history.items (engine_in l.engine).machine × (l.limit ≤ 2 ^ 24) };
+}
+
+impl Locked {
+    /// What lies under the lock of a new hub, with its seats.
+    ///
+    /// # Errors
+    /// `BadLimit` where seats are not 1 to 64, or entries not 1 to 16,777,216; `OutOfMemory`.
+    #[tactic(auto, unfolding(crate::specs::Steps::engine_at))]
+    pub fn new(alloc: Global, seats: u64, history_limit: u64) -> Result<(Locked, Vec<Seat>), Fault>
+        ensures ok { IfOk result (λ p.
+            IsFresh p.0 seats history_limit × (p.1.items ≡ map opened (range_with_len 0 seats))) }
+        ensures bad { IsErrOf result Fault.BadLimit ↔ (¬ ((0 < seats) × (seats ≤ MAX_SEATS)
+            × (0 < history_limit) × (history_limit ≤ MAX_HISTORY))) }
+        ensures err { IfErr result (λ f. (f ≡ BadLimit) ⊎ (f ≡ OutOfMemory)) }
+    {
+        if seats == 0 || seats > MAX_SEATS || history_limit == 0 || history_limit > MAX_HISTORY {
+            return Err(Fault::BadLimit);
+        }
+        let places = open_seats(alloc, seats)?;
+        let locked = Locked {
+            alloc,
+            engine: Engine::new(alloc),
+            history: Vec::new(alloc),
+            limit: history_limit as usize,
+            seats,
+            has_ended: false,
+        };
+        Ok((locked, places))
+    }
+
+    /// The history leads from the machine that was told nothing to the engine's.
+    #[tactic(auto, unfolding(crate::specs::Steps::engine_at))]
+    pub fn is_replayed(&self)
+        ensures { IsReplayed self.now }
+    {
+        let _ = &self.history;
+    }
+
+    /// Compares the seats' receipts with the history, and gives it. Takes no memory.
+    ///
+    /// # Errors
+    /// All comes back as it was where the seats' numbers are not those of `new`, each once, or
+    /// where their receipts differ from the history.
+    #[tactic(auto, unfolding(crate::specs::Steps::engine_at))]
+    pub fn close(self, seats: Vec<Seat>) -> Result<Closed, (Locked, Vec<Seat>)>
+        ensures ok { IfOk result (λ c. IsLegal c.entries.items × (c.entries.items ≡ self.history)
+            × IsAudited seats.items self.seats c.entries.items) }
+        ensures err { IfErr result (λ p. (p.0 ≡ self) × (p.1 ≡ seats)
+            × (¬ (IsAudited seats.items self.seats self.history))) }
+    {
+        if !is_audited(self.history.as_slice(), seats.as_slice(), self.seats) {
+            return Err((self, seats));
+        }
+        let Locked {
+            alloc: _,
+            engine: _,
+            history,
+            limit: _,
+            seats: _,
+            has_ended: _,
+        } = self;
+        Ok(Closed { entries: history })
+    }
+}
+
+fn open_seats(alloc: Global, count: u64) -> Result<Vec<Seat>, AllocError>
+    ensures { IfOk result (λ v. v.items ≡ map opened (range_with_len 0 count)) }
+{
+    let mut seats = Vec::new(alloc);
+    for number in 0..count {
+        seats.push(Seat::new(alloc, number))?;
+    }
+    Ok(seats)
+}

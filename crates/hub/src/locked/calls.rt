@@ -1,0 +1,219 @@
+//! What clients call. An accepted call is one call on the engine, one entry and one receipt; a
+//! refused one changes nothing.
+ghost use Rattle.std.specs.Prelude.{◌≡◌, ◌≤◌, ◌<◌, IfOk, IfErr, [], length, string_bytes};
+ghost use Rattle.std.specs.Prelude.{vec_capacity};
+ghost use Rattle.std.specs.Arc.{arc_value};
+ghost use Rattle.plan.specs.Chart.{given_by};
+ghost use Rattle.reference.specs.CallViews.{texts_of, handed_of};
+ghost use Rattle.reference.specs.Commands.{Declare, Register, Append, Heartbeat, Take, Drop};
+ghost use Rattle.reference.specs.Replies as replies;
+ghost use Rattle.reference.specs.Replies.{Number, Rows};
+ghost use Rattle.hub.specs.Seats.{reach};
+ghost use Rattle.hub.specs.Steps.{Accepted, Barred, Declined};
+
+use crate::carry::{carry_out, room_for};
+use crate::locked::Locked;
+use crate::seat::Seat;
+use histories::{Command, CommandKind, Entry, Receipt, Reply, ReplyKind};
+use plan::Chart;
+use reference::{Fault, NewRows};
+use std::alloc::{AllocError, Global};
+use std::ops::Deref;
+use std::sync::Arc;
+use values::Row;
+
+impl Locked {
+    /// Declares a stream, and answers its number.
+    ///
+    /// # Errors
+    /// `HistoryFull`, `Foreign`, then those of `Answering::stream`.
+    pub fn stream(
+        &mut self,
+        seat: &mut Seat,
+        name: String,
+        columns: Vec<String>,
+        from: i64,
+    ) -> Result<(u64, Receipt), Fault>
+        ensures ok { IfOk result (λ r. (r.1.entry.reply ≡ Number r.0)
+            × Accepted self.old seat.old (Declare (string_bytes name) (texts_of columns.items) from)
+            r.1 self.new seat.new) }
+        ensures err { IfErr result (λ f. Declined self.old seat.old
+            (Declare (string_bytes name) (texts_of columns.items) from) f self.new seat.new) }
+    {
+        let kind = CommandKind::Declare {
+            name,
+            columns,
+            from,
+        };
+        let (reply, receipt) = self.call(seat, Command::new(kind))?;
+        match reply.into_kind() {
+            ReplyKind::Number(number) => Ok((number, receipt)),
+            _ => unreachable!(),
+        }
+    }
+
+    /// Registers a query, and answers its number.
+    ///
+    /// # Errors
+    /// `HistoryFull`, `Foreign`, then those of `Answering::query`.
+    pub fn query(
+        &mut self,
+        seat: &mut Seat,
+        name: String,
+        text: String,
+        chart: Option<Chart>,
+    ) -> Result<(u64, Receipt), Fault>
+        ensures ok { IfOk result (λ r. (r.1.entry.reply ≡ Number r.0)
+            × Accepted self.old seat.old
+            (Register (string_bytes name) (string_bytes text) (given_by chart))
+            r.1 self.new seat.new) }
+        ensures err { IfErr result (λ f. Declined self.old seat.old
+            (Register (string_bytes name) (string_bytes text) (given_by chart))
+            f self.new seat.new) }
+    {
+        let kind = CommandKind::Register { name, text, chart };
+        let (reply, receipt) = self.call(seat, Command::new(kind))?;
+        match reply.into_kind() {
+            ReplyKind::Number(number) => Ok((number, receipt)),
+            _ => unreachable!(),
+        }
+    }
+
+    /// Appends rows to the stream of a number.
+    ///
+    /// # Errors
+    /// `HistoryFull`, `Foreign`, then those of `Answering::append`.
+    pub fn append(&mut self, seat: &mut Seat, stream: u64, rows: NewRows) -> Result<Receipt, Fault>
+        ensures ok { IfOk result (λ r. (r.entry.reply ≡ replies.Done)
+            × Accepted self.old seat.old (Append stream rows) r self.new seat.new) }
+        ensures err { IfErr result (λ f.
+            Declined self.old seat.old (Append stream rows) f self.new seat.new) }
+    {
+        let (_, receipt) = self.call(seat, Command::new(CommandKind::Append { stream, rows }))?;
+        Ok(receipt)
+    }
+
+    /// Closes all instants of the stream of a number up to `at`.
+    ///
+    /// # Errors
+    /// `HistoryFull`, `Foreign`, then those of `Answering::heartbeat`.
+    pub fn heartbeat(&mut self, seat: &mut Seat, stream: u64, at: i64) -> Result<Receipt, Fault>
+        ensures ok { IfOk result (λ r. (r.entry.reply ≡ replies.Done)
+            × Accepted self.old seat.old (Heartbeat stream at) r self.new seat.new) }
+        ensures err { IfErr result (λ f.
+            Declined self.old seat.old (Heartbeat stream at) f self.new seat.new) }
+    {
+        let (_, receipt) = self.call(seat, Command::new(CommandKind::Heartbeat { stream, at }))?;
+        Ok(receipt)
+    }
+
+    /// Hands out the first answers that wait at the query of a number, at most `limit`.
+    ///
+    /// # Errors
+    /// `HistoryFull`, `Foreign`, then those of `Answering::take`.
+    pub fn take(
+        &mut self,
+        seat: &mut Seat,
+        query: u64,
+        limit: i64,
+    ) -> Result<(Vec<(i64, Row)>, Receipt), Fault>
+        ensures ok { IfOk result (λ r. (r.1.entry.reply ≡ Rows (handed_of r.0.items))
+            × Accepted self.old seat.old (Take query limit) r.1 self.new seat.new) }
+        ensures err { IfErr result (λ f.
+            Declined self.old seat.old (Take query limit) f self.new seat.new) }
+    {
+        let (reply, receipt) = self.call(seat, Command::new(CommandKind::Take { query, limit }))?;
+        match reply.into_kind() {
+            ReplyKind::Rows(rows) => Ok((rows, receipt)),
+            _ => unreachable!(),
+        }
+    }
+
+    /// Drops the query of a number.
+    ///
+    /// # Errors
+    /// `HistoryFull`, `Foreign`, then `UnknownQuery`; `OutOfMemory` for the entry and the receipt.
+    pub fn drop_query(&mut self, seat: &mut Seat, query: u64) -> Result<Receipt, Fault>
+        ensures ok { IfOk result (λ r. (r.entry.reply ≡ replies.Done)
+            × Accepted self.old seat.old (Drop query) r self.new seat.new) }
+        ensures err { IfErr result (λ f.
+            Declined self.old seat.old (Drop query) f self.new seat.new) }
+    {
+        let (_, receipt) = self.call(seat, Command::new(CommandKind::Drop { query }))?;
+        Ok(receipt)
+    }
+
+    // Carries a client's command out. All that grows does so before the engine is changed.
+    #[tactic(auto, unfolding(crate::specs::Steps::engine_at), using(crate::proofs::DecliningLemmas::barred_declines, crate::proofs::DecliningLemmas::refused_declines, crate::proofs::DecliningLemmas::short_declines))]
+    fn call(&mut self, seat: &mut Seat, command: Command) -> Result<(Reply, Receipt), Fault>
+        ensures ok { IfOk result (λ r. (r.0 ≡ r.1.entry.reply)
+            × Accepted self.old seat.old command r.1 self.new seat.new) }
+        ensures err { IfErr result (λ f.
+            Declined self.old seat.old command f self.new seat.new) }
+    {
+        let number = self.admit(seat)?;
+        let count = room_for(&self.engine, &command);
+        let (told_command, logged_command, kept_command) = shared(self.alloc, command)?;
+        let (told_room, logged_room, kept_room) = rooms(self.alloc, count)?;
+        self.history.reserve(1)?;
+        seat.receipts.reserve(1)?;
+        let reply = carry_out(&mut self.engine, told_command.deref())?;
+        let logged = Entry::new(seat.number, logged_command, reply.copy_into(logged_room));
+        self.history.push_reserved(logged);
+        let kept = Entry::new(seat.number, kept_command, reply.copy_into(kept_room));
+        let receipt = Receipt::new(number, kept);
+        seat.receipts.push_reserved(receipt);
+        seat.own_reach = number + 1;
+        let told = Entry::new(seat.number, told_command, reply.copy_into(told_room));
+        let answer = Receipt::new(number, told);
+        Ok((reply, answer))
+    }
+
+    // The tests that come before all others. Gives the number of the next entry.
+    fn admit(&self, seat: &Seat) -> Result<u64, Fault>
+        ensures ok { IfOk result (λ n. (n ≡ length self.now.history) × (n < self.now.limit)
+            × (reach seat.now ≤ n)) }
+        ensures err { IfErr result (Barred self.now seat.now) }
+    {
+        if self.history.len() >= self.limit {
+            return Err(Fault::HistoryFull);
+        }
+        let number = self.history.len() as u64;
+        if seat.reach() > number {
+            return Err(Fault::Foreign(number));
+        }
+        Ok(number)
+    }
+}
+
+// The command, for the receipt that is answered, for the history and for the seat.
+fn shared(
+    alloc: Global,
+    command: Command,
+) -> Result<(Arc<Command>, Arc<Command>, Arc<Command>), AllocError>
+    ensures { IfOk result (λ t. (arc_value t.0 ≡ command) × (arc_value t.1 ≡ command)
+        × (arc_value t.2 ≡ command)) }
+{
+    let Ok(first) = Arc::new(alloc, command) else {
+        return Err(AllocError);
+    };
+    let second = Arc::try_clone(&first)?;
+    let third = Arc::try_clone(&first)?;
+    Ok((first, second, third))
+}
+
+// Room for so many answers, for the same three.
+fn rooms(
+    alloc: Global,
+    count: usize,
+) -> Result<(Vec<(i64, Row)>, Vec<(i64, Row)>, Vec<(i64, Row)>), AllocError>
+    ensures empty { IfOk result (λ t.
+        (t.0.items ≡ []) × (t.1.items ≡ []) × (t.2.items ≡ [])) }
+    ensures fits { IfOk result (λ t. (count ≤ vec_capacity t.0) × (count ≤ vec_capacity t.1)
+        × (count ≤ vec_capacity t.2)) }
+{
+    let first = Vec::with_capacity(alloc, count)?;
+    let second = Vec::with_capacity(alloc, count)?;
+    let third = Vec::with_capacity(alloc, count)?;
+    Ok((first, second, third))
+}

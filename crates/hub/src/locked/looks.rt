@@ -1,0 +1,77 @@
+//! What anyone may look at. None of it changes anything.
+ghost use Rattle.std.specs.Prelude.{◌≡◌, length};
+ghost use Rattle.laws_engine.specs.Promises.{KeepsItsPromises};
+ghost use Rattle.hub.specs.Steps.{FindsQuery, FindsStream, SeesPending, SeesSlopes, SeesWaiting};
+ghost use Rattle.hub.specs.Steps.{engine_at};
+
+use crate::locked::Locked;
+use envelope::Slope;
+use plan::Kind;
+use reference::{Answering, Fault};
+
+impl Locked {
+    /// How many seats were opened.
+    pub fn seats(&self) -> u64
+        ensures { result ≡ self.now.seats }
+    {
+        self.seats
+    }
+
+    /// How many turns are out. Takes no memory.
+    #[tactic(auto, unfolding(crate::specs::Steps::engine_at))]
+    pub fn leases_out(&self) -> usize
+        ensures { result ≡ length (engine_at self.now).leases }
+    {
+        self.engine.leases_out()
+    }
+
+    /// How many answers of the query of a number wait. Takes no memory.
+    ///
+    /// # Errors
+    /// `UnknownQuery`.
+    #[tactic(auto, unfolding(crate::specs::Steps::engine_at))]
+    pub fn waiting(&self, query: u64) -> Result<usize, Fault>
+        ensures waiting { SeesWaiting self.now query result }
+        ensures promises { KeepsItsPromises (engine_at self.now) }
+    {
+        self.engine.waiting(query)
+    }
+
+    /// How much waits in each queue of the query of a number.
+    ///
+    /// # Errors
+    /// `UnknownQuery`, `OutOfMemory`.
+    #[tactic(auto, unfolding(crate::specs::Steps::engine_at))]
+    pub fn pending(&self, query: u64) -> Result<Vec<u128>, Fault>
+        ensures { SeesPending (λ v. v.items) self.now query result }
+    {
+        self.engine.pending(query)
+    }
+
+    /// What each operator of the query of a number does, and its slope.
+    ///
+    /// # Errors
+    /// `UnknownQuery`, `OutOfMemory`.
+    #[tactic(auto, unfolding(crate::specs::Steps::engine_at))]
+    pub fn slopes(&self, query: u64) -> Result<Vec<(Kind, Slope)>, Fault>
+        ensures { SeesSlopes (λ v. v.items) self.now query result }
+    {
+        self.engine.slopes(query)
+    }
+
+    /// The number of the stream of a name. Takes no memory.
+    #[tactic(auto, unfolding(reference::specs::World::stream_named, crate::specs::Steps::engine_at))]
+    pub fn stream_named(&self, name: &str) -> Option<u64>
+        ensures { FindsStream self.now name.now result }
+    {
+        self.engine.stream_named(name)
+    }
+
+    /// The number of the query of a name that was not dropped. Takes no memory.
+    #[tactic(auto, unfolding(reference::specs::World::query_named, crate::specs::Steps::engine_at))]
+    pub fn query_named(&self, name: &str) -> Option<u64>
+        ensures { FindsQuery self.now name.now result }
+    {
+        self.engine.query_named(name)
+    }
+}

@@ -1,0 +1,97 @@
+//! What workers call. None of it changes the history.
+ghost use Rattle.std.specs.Prelude.{◌≡◌, ◌<◌, IfOk, IfErr, length, false, Ok, Err};
+ghost use Rattle.laws_engine.specs.Promises.{KeepsItsPromises};
+ghost use Rattle.leases.specs.Turns.{Leases};
+ghost use Rattle.leases.specs.declared.leased.Leased.TheVariants as leased;
+ghost use Rattle.hub.specs.Steps.{Ends, GivesUp, Hands, HasEnded, Lends, Rests};
+ghost use Rattle.hub.specs.Steps.{ended, engine_at, with_engine};
+ghost use Rattle.hub.specs.Tries.{MatchRested, MatchWaited};
+
+use crate::locked::{Locked, Rested, Waited};
+use leases::Leased;
+use reference::Fault;
+use turn::Done;
+
+impl Locked {
+    /// As `Engine::lease`: hands out a turn, of an operator of greatest slope.
+    #[tactic(auto, unfolding(crate::specs::Steps::engine_at))]
+    pub fn lease(&mut self, rows: u32) -> Result<Leased, Fault>
+        ensures step { self.new ≡ with_engine self.old self.new.engine }
+        ensures leases { Hands self.old rows result self.new }
+        ensures promises { KeepsItsPromises (engine_at self.new) }
+    {
+        self.engine.lease(rows)
+    }
+
+    /// As `Engine::finish`: a turn that was run comes back.
+    #[tactic(auto, unfolding(crate::specs::Steps::engine_at))]
+    pub fn finish(&mut self, done: Done) -> Result<(), Fault>
+        ensures step { self.new ≡ with_engine self.old self.new.engine }
+        ensures finishes { Ends self.old done result self.new }
+        ensures promises { KeepsItsPromises (engine_at self.new) }
+    {
+        self.engine.finish(done)
+    }
+
+    /// As `Engine::abandon`: the turn of a number does not come back.
+    #[tactic(auto, unfolding(crate::specs::Steps::engine_at))]
+    pub fn abandon(&mut self, lease: u64) -> Result<(), Fault>
+        ensures step { self.new ≡ with_engine self.old self.new.engine }
+        ensures abandons { GivesUp self.old lease result self.new }
+        ensures promises { KeepsItsPromises (engine_at self.new) }
+    {
+        self.engine.abandon(lease)
+    }
+
+    /// From now on `lease_wait` answers `Ended`.
+    pub fn end(&mut self)
+        ensures { self.new ≡ ended self.old }
+    {
+        self.has_ended = true;
+    }
+
+    /// One try of a lease that waits for the end: `Ended` after it, and then nothing changes.
+    #[tactic(auto, unfolding(crate::specs::Steps::engine_at))]
+    pub fn lease_wait(&mut self, rows: u32) -> Result<Waited, Fault>
+        ensures step { self.new ≡ with_engine self.old self.new.engine }
+        ensures ok { IfOk result (λ w. MatchWaited w
+            (λ t. (self.old.has_ended ≡ false) × Lends self.old rows t self.new)
+            ((self.old.has_ended ≡ false)
+            × Leases (engine_at self.old) rows (Ok leased.Idle) (engine_at self.new))
+            (HasEnded self.old self.new)) }
+        ensures err { IfErr result (λ f. (self.old.has_ended ≡ false)
+            × Leases (engine_at self.old) rows (Err f) (engine_at self.new)) }
+    {
+        if self.has_ended {
+            return Ok(Waited::Ended);
+        }
+        match self.engine.lease(rows)? {
+            Leased::Turn(turn) => Ok(Waited::Turn(turn)),
+            Leased::Idle => Ok(Waited::Idle),
+        }
+    }
+
+    /// One try of a lease that waits for turns that are out: `Rest` where none is.
+    #[tactic(auto, unfolding(crate::specs::Steps::engine_at))]
+    pub fn lease_or_rest(&mut self, rows: u32) -> Result<Rested, Fault>
+        ensures step { self.new ≡ with_engine self.old self.new.engine }
+        ensures ok { IfOk result (λ r. MatchRested r
+            (λ t. Lends self.old rows t self.new)
+            (Leases (engine_at self.old) rows (Ok leased.Idle) (engine_at self.new)
+            × (0 < length (engine_at self.old).leases))
+            (Rests self.old rows self.new)) }
+        ensures err { IfErr result (λ f.
+            Leases (engine_at self.old) rows (Err f) (engine_at self.new)) }
+    {
+        match self.engine.lease(rows)? {
+            Leased::Turn(turn) => Ok(Rested::Turn(turn)),
+            Leased::Idle => {
+                if self.engine.leases_out() == 0 {
+                    Ok(Rested::Rest)
+                } else {
+                    Ok(Rested::Idle)
+                }
+            }
+        }
+    }
+}

@@ -1,0 +1,94 @@
+//! Seats.
+ghost use Rattle.std.specs.Prelude.{ℕ, All, ◌⊎◌, ◌≤◌, ◌<◌, ◌+◌, ◌≡◌, max, slice_get, Some};
+ghost use Rattle.histories.specs.Histories.{Told};
+ghost use Rattle.hub.specs.Seats.{PlainSeat, reach};
+
+use histories::Receipt;
+use std::alloc::Global;
+use std::marker::Model;
+
+/// A client's place at a hub. It holds the receipts of its own calls, and knows of those of other
+/// seats that it was told of.
+#[derive(Drop)]
+pub struct Seat {
+    /// Its number at the hub.
+    pub(crate) number: u64,
+    /// The receipts of its accepted calls, in their order.
+    pub(crate) receipts: Vec<Receipt>,
+    /// One more than the greatest number of these.
+    pub(crate) own_reach: u64,
+    /// One more than the greatest number that it was told of.
+    learnt: u64,
+}
+
+impl Model for Seat {
+    ghost use Rattle.std.specs.Prelude.{◌≡◌};
+    ghost use Rattle.hub.specs.Seats.{PlainSeat, held};
+
+    ghost Value = { PlainSeat };
+
+    ghost view = { λ s. record {
+      number = s.number;
+      receipts = s.receipts.items;
+      learnt = s.learnt;
+    } };
+
+    ghost invariant = { λ s. s.own_reach ≡ held s.receipts.items };
+}
+
+impl Seat {
+    ghost use Rattle.std.specs.Prelude.{[]};
+    ghost use Rattle.hub.specs.Seats.{PlainSeat, held, reach, opened};
+
+    /// A seat of this number, with no receipt. Takes no memory.
+    pub fn new(alloc: Global, number: u64) -> Seat
+        ensures { result ≡ opened number }
+    {
+        Seat {
+            number,
+            receipts: Vec::new(alloc),
+            own_reach: 0,
+            learnt: 0,
+        }
+    }
+
+    /// Its number at the hub.
+    pub fn number(&self) -> u64
+        ensures { result ≡ self.now.number }
+    {
+        self.number
+    }
+
+    /// The receipts of its accepted calls, in the order of their numbers.
+    pub fn receipts(&self) -> &[Receipt]
+        ensures { result.now ≡ self.now.receipts }
+    {
+        self.receipts.as_slice()
+    }
+
+    /// One more than the greatest number that it holds or has learnt.
+    pub fn reach(&self) -> u64
+        ensures { result ≡ reach self.now }
+    {
+        self.own_reach.max(self.learnt)
+    }
+
+    /// Notes a receipt of another seat: each later call of this one stands behind it in the
+    /// history. Takes neither memory nor a lock.
+    pub fn learn(&mut self, receipt: &Receipt)
+        ensures { self.new
+            ≡ record self.old { learnt = max self.old.learnt (receipt.now.number + 1) } }
+    {
+        self.learnt = self.learnt.max(receipt.number() + 1);
+    }
+}
+
+/// Each number that a seat holds or has learnt is below its reach, and each number below its reach
+/// is at or below one that it holds or has learnt.
+pub fn reach_is_above_what_a_seat_knows()
+    ensures above { (s : PlainSeat)
+        → All (λ (r : Told). r.number < reach s) s.receipts × (s.learnt ≤ reach s) }
+    ensures reached { (s : PlainSeat) (n : ℕ) → n < reach s
+        → ((k : ℕ) × (r : Told) × (slice_get s.receipts k ≡ Some r) × (n ≤ r.number))
+        ⊎ (n < s.learnt) }
+{}

@@ -1,5 +1,5 @@
 -- What lies under the lock, and its steps: each is one call on the engine, or none.
-use Rattle.std.specs.Prelude.{◌≡◌, ℕ, ◌<◌, ◌≤◌, List, [], ◌∷◌, ◌++◌, length, Bool, false, true, Option, Result, Ok, ⊤}
+use Rattle.std.specs.Prelude.{◌≡◌, ℕ, ◌<◌, ◌≤◌, List, [], ◌∷◌, ◌++◌, length, Bool, false, true, Option, Result, Ok, Err, ⊤}
 use Rattle.envelope.specs.Fraction.{Fraction}
 use Rattle.plan.specs.declared.node.Kind.{Kind}
 use Rattle.reference.specs.Commands.{Command}
@@ -10,6 +10,7 @@ use Rattle.reference.specs.declared.fault.Fault.TheVariants.{HistoryFull, Foreig
 use Rattle.turn.specs.declared.parts.Parts.{Parts}
 use Rattle.turn.specs.declared.turns.Turn.{Turn}
 use Rattle.laws_engine.specs.Engines.{PlainEngine, world_of}
+use Rattle.laws_engine.specs.Promises.{HasAllWaiting}
 use Rattle.leases.specs.Looks.{IsPending, WaitsAt}
 use Rattle.leases.specs.Shown.{engine_in}
 use Rattle.leases.specs.Turns.{Abandons, Finishes, IsTurnOf, Leases}
@@ -91,6 +92,7 @@ ended l = record l { has_ended = true }
 -- WHAT WORKERS CALL, as of the engine
 pub record Hands (old : PlainLocked) (rows : ℕ) (result : Result Leased Fault) (new : PlainLocked) : Type 0 where
   pub leases : Leases (engine_at old) rows result (engine_at new)
+  pub idle : result ≡ Ok leased.Idle → HasAllWaiting (engine_at new)
 
 pub record Ends (old : PlainLocked) (done : Parts) (result : Result ⊤ Fault) (new : PlainLocked) : Type 0 where
   pub finishes : Finishes (engine_at old) done result (engine_at new)
@@ -102,9 +104,18 @@ pub record GivesUp (old : PlainLocked) (lease : ℕ) (result : Result ⊤ Fault)
 pub record Lends (old : PlainLocked) (rows : ℕ) (t : Turn) (new : PlainLocked) : Type 0 where
   pub turn : IsTurnOf (engine_at old) rows t (engine_at new)
 
--- nothing is ready, and no turn is out
-pub record Rests (old : PlainLocked) (rows : ℕ) (new : PlainLocked) : Type 0 where
+-- no turn goes out, for this fault
+pub record Withholds (old : PlainLocked) (rows : ℕ) (f : Fault) (new : PlainLocked) : Type 0 where
+  pub refuses : Leases (engine_at old) rows (Err f) (engine_at new)
+
+-- nothing is ready: of each query that runs and of which no turn is out, all its closed answers wait that were not taken
+pub record IsIdle (old : PlainLocked) (rows : ℕ) (new : PlainLocked) : Type 0 where
   pub idle : Leases (engine_at old) rows (Ok leased.Idle) (engine_at new)
+  pub all : HasAllWaiting (engine_at new)
+
+-- and no turn is out
+pub record Rests (old : PlainLocked) (rows : ℕ) (new : PlainLocked) : Type 0 where
+  pub idle : IsIdle old rows new
   pub returned : (engine_at old).leases ≡ []
 
 -- the end was called

@@ -1,7 +1,8 @@
 //! The hub: what lies under one lock, for threads.
-ghost use Rattle.std.specs.Prelude.{◌≡◌, ◌↔◌, ◌≤◌, ◌<◌, IfOk, IfErr, IsErrOf, map};
+ghost use Rattle.std.specs.Prelude.{◌≡◌, ◌↔◌, ◌≤◌, ◌<◌, ◌⊎◌, IfOk, IfErr, IsErrOf, map};
 ghost use Rattle.std.specs.List.{range_with_len};
 ghost use Rattle.histories.specs.Histories.{IsLegal};
+ghost use Rattle.reference.specs.declared.fault.Fault.TheVariants.{BadLimit, OutOfMemory};
 ghost use Rattle.hub.specs.Seats.{IsAudited, opened};
 ghost use Rattle.hub.specs.declared.locked.TheConstants.{MAX_HISTORY, MAX_SEATS};
 
@@ -67,6 +68,7 @@ impl Hub {
             (p.0 ≡ seats) × (p.1.items ≡ map opened (range_with_len 0 seats))) }
         ensures bad { IsErrOf result Fault.BadLimit ↔ (¬ ((0 < seats) × (seats ≤ MAX_SEATS)
             × (0 < history_limit) × (history_limit ≤ MAX_HISTORY))) }
+        ensures err { IfErr result (λ f. (f ≡ BadLimit) ⊎ (f ≡ OutOfMemory)) }
     {
         let (locked, places) = Locked::new(alloc, seats, history_limit)?;
         let hub = Hub {

@@ -4,7 +4,8 @@ ghost use Rattle.std.specs.List.{range_with_len};
 ghost use Rattle.histories.specs.Histories.{IsLegal};
 ghost use Rattle.reference.specs.declared.fault.Fault.TheVariants.{BadLimit, OutOfMemory};
 ghost use Rattle.hub.specs.Seats.{IsAudited, opened};
-ghost use Rattle.hub.specs.Steps.{IsFresh, IsReplayed};
+ghost use Rattle.laws_engine.specs.Promises.{KeepsItsPromises};
+ghost use Rattle.hub.specs.Steps.{IsFresh, IsReplayed, engine_at};
 ghost use Rattle.hub.specs.declared.locked.TheConstants.{MAX_HISTORY, MAX_SEATS};
 
 mod calls;
@@ -128,12 +129,14 @@ impl Locked {
         Ok((locked, places))
     }
 
-    /// The history leads from the machine that was told nothing to the engine's.
+    /// The history leads from the machine that was told nothing to the engine's, and the engine
+    /// keeps its promises: of what waits, of what may be leased, and of idleness.
     #[tactic(auto, unfolding(crate::specs::Steps::engine_at))]
-    pub fn is_replayed(&self)
-        ensures { IsReplayed self.now }
+    pub fn keeps_its_promises(&self)
+        ensures replayed { IsReplayed self.now }
+        ensures promises { KeepsItsPromises (engine_at self.now) }
     {
-        let _ = &self.history;
+        let _ = self.engine.waiting(0);
     }
 
     /// Compares the seats' receipts with the history, and gives it. Takes no memory.

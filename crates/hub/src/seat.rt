@@ -41,7 +41,7 @@ impl Seat {
     ghost use Rattle.hub.specs.Seats.{PlainSeat, held, reach, opened};
 
     /// A seat of this number, with no receipt. Takes no memory.
-    pub fn new(alloc: Global, number: u64) -> Seat
+    pub(crate) fn new(alloc: Global, number: u64) -> Seat
         ensures { result ≡ opened number }
     {
         Seat {

@@ -1,10 +1,12 @@
 //! A pool of workers.
-ghost use Rattle.std.specs.Prelude.{◌≡◌, ◌≤◌, ◌↔◌, OnOk};
+ghost use Rattle.std.specs.Prelude.{◌≡◌, ◌≤◌, ◌↔◌, ◌⊎◌, IfErr, IsErrOf};
+ghost use Rattle.reference.specs.declared.fault.Fault.TheVariants.{BadLimit, OutOfMemory};
+ghost use Rattle.reference.specs.declared.fault.Fault.TheVariants.{TooManyLeases};
 ghost use Rattle.reference.specs.declared.limits.TheConstants.{MAX_TURN};
 ghost use Rattle.workers.specs.declared.pool.TheConstants.{MAX_WORKERS};
 
 use crate::gate::Gate;
-use crate::worker::run_to_rest;
+use crate::worker::{Lack, run_to_rest};
 use hub::Hub;
 use reference::{Fault, MAX_TURN};
 use std::alloc::Global;
@@ -34,8 +36,10 @@ impl Pool {
         workers: u64,
         rows: u32,
     ) -> Result<(), Fault>
-        ensures { OnOk result
-            ((1 ≤ workers) × (workers ≤ MAX_WORKERS) × (1 ≤ rows) × (rows ≤ MAX_TURN)) }
+        ensures bad { IsErrOf result Fault.BadLimit ↔ (¬ ((1 ≤ workers)
+            × (workers ≤ MAX_WORKERS) × (1 ≤ rows) × (rows ≤ MAX_TURN))) }
+        ensures err { IfErr result (λ f.
+            (f ≡ BadLimit) ⊎ (f ≡ TooManyLeases) ⊎ (f ≡ OutOfMemory)) }
     {
         if workers == 0 || workers > MAX_WORKERS || rows == 0 || rows > MAX_TURN {
             return Err(Fault::BadLimit);
@@ -51,16 +55,17 @@ impl Pool {
             note(rt, shared, run_to_rest(rt, alloc, hub, gate, rows));
         });
         match met.into_inner() {
-            Some(fault) => Err(fault),
+            Some(Lack::Memory) => Err(Fault::OutOfMemory),
+            Some(Lack::Turns) => Err(Fault::TooManyLeases),
             None => Ok(()),
         }
     }
 }
 
-// Notes the fault that a worker met.
-fn note<R: Wait>(rt: &R, met: &Mutex<Option<Fault>>, answer: Result<(), Fault>) {
-    if let Err(fault) = answer {
+// Notes what a worker was short of.
+fn note<R: Wait>(rt: &R, met: &Mutex<Option<Lack>>, answer: Result<(), Lack>) {
+    if let Err(lack) = answer {
         let mut met = met.lock(rt);
-        *met = Some(fault);
+        *met = Some(lack);
     }
 }

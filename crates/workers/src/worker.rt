@@ -10,6 +10,15 @@ use std::alloc::Global;
 use std::sync::Wait;
 use turn::Turn;
 
+/// What a worker may be short of.
+#[derive(Clone, Copy)]
+pub(crate) enum Lack {
+    /// Memory was refused.
+    Memory,
+    /// As many turns are out as may be, or all numbers of turns were given.
+    Turns,
+}
+
 /// Runs turns of at most `rows` rows, until the hub's end is called and it is seen. A turn that did
 /// not come back is tried again, since its operator is ready again.
 pub fn work<R: Wait, G: Gate>(rt: &R, alloc: Global, hub: &Hub, gate: &G, rows: u32)
@@ -26,26 +35,26 @@ pub fn work<R: Wait, G: Gate>(rt: &R, alloc: Global, hub: &Hub, gate: &G, rows: 
     }
 }
 
-/// Runs turns of at most `rows` rows until no operator may take anything and none is out.
-///
-/// # Errors
-/// Those of `Engine::lease`, and want of memory for a turn, which is then out no more.
+/// Runs turns of at most `rows` rows until no operator may take anything and none is out. What it
+/// is short of it answers, and then holds no turn.
 pub(crate) fn run_to_rest<R: Wait, G: Gate>(
     rt: &R,
     alloc: Global,
     hub: &Hub,
     gate: &G,
     rows: u32,
-) -> Result<(), Fault> {
+) -> Result<(), Lack>
+    requires { 1 ≤ rows × rows ≤ MAX_TURN }
+{
     for _ in rt.forever() {
-        match hub.lease_or_rest(rt, rows)? {
-            LeaseRest::Turn(turn) => {
-                match run_turn(rt, alloc, hub, gate, turn) {
-                    Ok(()) | Err(Fault::UnknownLease) | Err(Fault::Stranger) => {}
-                    Err(fault) => return Err(fault),
-                }
-            }
-            LeaseRest::Rest => return Ok(()),
+        let turn = match hub.lease_or_rest(rt, rows) {
+            Ok(LeaseRest::Turn(turn)) => turn,
+            Ok(LeaseRest::Rest) => return Ok(()),
+            Err(Fault::TooManyLeases) => return Err(Lack::Turns),
+            Err(_) => return Err(Lack::Memory),
+        };
+        if let Err(Fault::OutOfMemory) = run_turn(rt, alloc, hub, gate, turn) {
+            return Err(Lack::Memory);
         }
     }
     unreachable!()

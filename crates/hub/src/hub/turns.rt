@@ -1,6 +1,7 @@
 //! What workers call. They need no seat.
-ghost use Rattle.std.specs.Prelude.{◌≡◌, IfOk};
+ghost use Rattle.std.specs.Prelude.{IfErr, IfOk};
 ghost use Rattle.hub.specs.Steps.{PlainLocked, Ends, GivesUp, Hands, HasEnded, Lends, Rests};
+ghost use Rattle.hub.specs.Steps.{Withholds};
 ghost use Rattle.hub.specs.Tries.{MatchLeaseRest, MatchLeaseWait};
 
 use crate::hub::{Hub, LeaseRest, LeaseWait};
@@ -50,9 +51,11 @@ impl Hub {
     /// # Errors
     /// Those of `Engine::lease`, and without a wait.
     pub fn lease_wait<R: Wait>(&self, rt: &R, rows: u32) -> Result<LeaseWait, Fault>
-        ensures { IfOk result (λ l. MatchLeaseWait l
+        ensures ok { IfOk result (λ l. MatchLeaseWait l
             (λ t. (old : PlainLocked) × (new : PlainLocked) × Lends old rows t new)
             ((old : PlainLocked) × (new : PlainLocked) × HasEnded old new)) }
+        ensures err { IfErr result (λ f.
+            (old : PlainLocked) × (new : PlainLocked) × Withholds old rows f new) }
     {
         let mut locked = self.locked.lock(rt);
         for _ in rt.forever() {
@@ -70,9 +73,11 @@ impl Hub {
     /// # Errors
     /// Those of `Engine::lease`, and without a wait.
     pub fn lease_or_rest<R: Wait>(&self, rt: &R, rows: u32) -> Result<LeaseRest, Fault>
-        ensures { IfOk result (λ l. MatchLeaseRest l
+        ensures ok { IfOk result (λ l. MatchLeaseRest l
             (λ t. (old : PlainLocked) × (new : PlainLocked) × Lends old rows t new)
             ((old : PlainLocked) × (new : PlainLocked) × Rests old rows new)) }
+        ensures err { IfErr result (λ f.
+            (old : PlainLocked) × (new : PlainLocked) × Withholds old rows f new) }
     {
         let mut locked = self.locked.lock(rt);
         for _ in rt.forever() {

@@ -1,6 +1,5 @@
 //! What anyone may look at. None of it changes anything.
 ghost use Rattle.std.specs.Prelude.{◌≡◌, length};
-ghost use Rattle.laws_engine.specs.Promises.{KeepsItsPromises};
 ghost use Rattle.hub.specs.Steps.{FindsQuery, FindsStream, SeesPending, SeesSlopes, SeesWaiting};
 ghost use Rattle.hub.specs.Steps.{engine_at};
 
@@ -31,8 +30,7 @@ impl Locked {
     /// `UnknownQuery`.
     #[tactic(auto, unfolding(crate::specs::Steps::engine_at))]
     pub fn waiting(&self, query: u64) -> Result<usize, Fault>
-        ensures waiting { SeesWaiting self.now query result }
-        ensures promises { KeepsItsPromises (engine_at self.now) }
+        ensures { SeesWaiting self.now query result }
     {
         self.engine.waiting(query)
     }

@@ -1,9 +1,6 @@
 //! What workers call. None of it changes the history.
-ghost use Rattle.std.specs.Prelude.{◌≡◌, ◌<◌, IfOk, IfErr, length, false, Ok, Err};
-ghost use Rattle.laws_engine.specs.Promises.{KeepsItsPromises};
-ghost use Rattle.leases.specs.Turns.{Leases};
-ghost use Rattle.leases.specs.declared.leased.Leased.TheVariants as leased;
-ghost use Rattle.hub.specs.Steps.{Ends, GivesUp, Hands, HasEnded, Lends, Rests};
+ghost use Rattle.std.specs.Prelude.{◌≡◌, ◌<◌, IfOk, IfErr, length, false};
+ghost use Rattle.hub.specs.Steps.{Ends, GivesUp, Hands, HasEnded, IsIdle, Lends, Rests, Withholds};
 ghost use Rattle.hub.specs.Steps.{ended, engine_at, with_engine};
 ghost use Rattle.hub.specs.Tries.{MatchRested, MatchWaited};
 
@@ -18,7 +15,6 @@ impl Locked {
     pub fn lease(&mut self, rows: u32) -> Result<Leased, Fault>
         ensures step { self.new ≡ with_engine self.old self.new.engine }
         ensures leases { Hands self.old rows result self.new }
-        ensures promises { KeepsItsPromises (engine_at self.new) }
     {
         self.engine.lease(rows)
     }
@@ -28,7 +24,6 @@ impl Locked {
     pub fn finish(&mut self, done: Done) -> Result<(), Fault>
         ensures step { self.new ≡ with_engine self.old self.new.engine }
         ensures finishes { Ends self.old done result self.new }
-        ensures promises { KeepsItsPromises (engine_at self.new) }
     {
         self.engine.finish(done)
     }
@@ -38,7 +33,6 @@ impl Locked {
     pub fn abandon(&mut self, lease: u64) -> Result<(), Fault>
         ensures step { self.new ≡ with_engine self.old self.new.engine }
         ensures abandons { GivesUp self.old lease result self.new }
-        ensures promises { KeepsItsPromises (engine_at self.new) }
     {
         self.engine.abandon(lease)
     }
@@ -56,11 +50,10 @@ impl Locked {
         ensures step { self.new ≡ with_engine self.old self.new.engine }
         ensures ok { IfOk result (λ w. MatchWaited w
             (λ t. (self.old.has_ended ≡ false) × Lends self.old rows t self.new)
-            ((self.old.has_ended ≡ false)
-            × Leases (engine_at self.old) rows (Ok leased.Idle) (engine_at self.new))
+            ((self.old.has_ended ≡ false) × IsIdle self.old rows self.new)
             (HasEnded self.old self.new)) }
-        ensures err { IfErr result (λ f. (self.old.has_ended ≡ false)
-            × Leases (engine_at self.old) rows (Err f) (engine_at self.new)) }
+        ensures err { IfErr result (λ f.
+            (self.old.has_ended ≡ false) × Withholds self.old rows f self.new) }
     {
         if self.has_ended {
             return Ok(Waited::Ended);
@@ -77,11 +70,9 @@ impl Locked {
         ensures step { self.new ≡ with_engine self.old self.new.engine }
         ensures ok { IfOk result (λ r. MatchRested r
             (λ t. Lends self.old rows t self.new)
-            (Leases (engine_at self.old) rows (Ok leased.Idle) (engine_at self.new)
-            × (0 < length (engine_at self.old).leases))
+            (IsIdle self.old rows self.new × (0 < length (engine_at self.old).leases))
             (Rests self.old rows self.new)) }
-        ensures err { IfErr result (λ f.
-            Leases (engine_at self.old) rows (Err f) (engine_at self.new)) }
+        ensures err { IfErr result (λ f. Withholds self.old rows f self.new) }
     {
         match self.engine.lease(rows)? {
             Leased::Turn(turn) => Ok(Rested::Turn(turn)),

@@ -1,5 +1,6 @@
 pub mod TallyLemmas
 pub mod KeyLemmas
+mod ShownLemmas
 pub mod ShortLemmas
 pub mod RoomLemmas
 pub mod BagLemmas

@@ -7,7 +7,7 @@ ghost use Rattle.column.specs.Rows.{signed, IsTable};
 ghost use Rattle.op_queue.specs.Entries.{RowAt, TickAt};
 ghost use Rattle.op_queue.specs.Items.{entries_of};
 ghost use Rattle.group.specs.Cells.{held, shown_figure};
-ghost use Rattle.group.specs.Turns.{row_now, swap_of, signed_row, same_shown, outputs, out, change};
+ghost use Rattle.group.specs.Turns.{row_now, swap_of, signed_row, outputs, out, change};
 ghost use Rattle.group.specs.Turns.{shown_now};
 ghost use Rattle.values.specs.declared.TheConstants.{MAX_COLUMNS};
 
@@ -18,7 +18,7 @@ use column::{Batch, SignedRow};
 use op_queue::Item;
 use std::alloc::{AllocError, Global};
 use std::marker::Model;
-use values::{Row, copy_row, same_rows};
+use values::{Row, copy_row};
 
 /// The most rows of a batch.
 const BATCH: usize = 1024;
@@ -175,16 +175,6 @@ impl Touched {
     }
 }
 
-fn same_shown(old: &Option<Row>, now: &Option<Row>) -> bool
-    ensures { result ≡ same_shown old.now now.now }
-{
-    match (old, now) {
-        (None, None) => true,
-        (Some(old), Some(now)) => same_rows(old, now),
-        _ => false,
-    }
-}
-
 /// Adds the row with its sign, if there is one.
 fn push_row(
     rows: &mut Vec<SignedRow>,
@@ -220,7 +210,7 @@ fn push_swap(
     ensures { OnOk result (map signed rows.new.items
         ≡ map signed rows.old.items ++ swap_of width old.now now.now) }
 {
-    if same_shown(old, now) {
+    if old == now {
         return Ok(());
     }
     push_row(rows, width, false, old)?;

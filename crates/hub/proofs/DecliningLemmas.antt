@@ -51,13 +51,13 @@ let_in l s c Broken room known h = (room, known, h)
 let_in l s c UnknownLease room known h = (room, known, h)
 let_in l s c Stranger room known h = (room, known, h)
 let_in l s c TooManyLeases room known h = (room, known, h)
-let_in l s c HistoryFull room known h = absurd h
+let_in l s c HistoryFull room known h = absurd h.line
 let_in l s c OutOfMemory room known h = (room, known, h)
-let_in l s c (Foreign k) room known h = absurd h
+let_in l s c (Foreign k) room known h = absurd h.line
 
 -- the seat was let in, and the next entry has the number n
 pub refused_declines : (l : PlainLocked) (s : PlainSeat) (c : Command) (f : Fault) (n : ℕ) → (n ≡ length l.history) × (n < l.limit) × (reach s ≤ n) → Refused (engine_at l) c f → Declines l s c f
 refused_declines l s c f n h refused = let_in l s c f (omega (arith, h.0, h.1)) (omega (arith, h.0, h.2)) refused
 
 pub short_declines : (l : PlainLocked) (s : PlainSeat) (c : Command) (f : Fault) (n : ℕ) → (n ≡ length l.history) × (n < l.limit) × (reach s ≤ n) → f ≡ OutOfMemory → Declines l s c f
-short_declines l s c f n h wants = subst (λ g. Declines l s c g) (sym wants) (refused_declines l s c OutOfMemory n h tt)
+short_declines l s c f n h wants = subst (λ g. Declines l s c g) (sym wants) (refused_declines l s c OutOfMemory n h (record { line = tt }))

@@ -11,7 +11,7 @@ use Rattle.reference.specs.declared.fault.Fault.TheVariants.{Query, BadName, Nam
 use Rattle.reference.specs.declared.fault.QueryFault.{QueryFault}
 use Rattle.laws_engine.specs.Engines.{PlainEngine, world_of}
 use Rattle.leases.specs.Takes.{Takes}
-use Rattle.hub.specs.Calls.{Refused}
+use Rattle.hub.specs.Calls.{IsFirst, IsSpent, Refused}
 
 -- THE FAULTS of a machine's tests are none of a hub's own, and none of them says that a query is broken
 abbrev is_beyond : Fault → Bool
@@ -59,29 +59,35 @@ beyond : (m : Machine) (c : Command) (f : Fault) → is_beyond f ≡ true → fi
 beyond m c f is h = let k = within m c f h in absurd (cc)
 
 -- THE FIRST TEST that fails
+abbrev Line : PlainEngine → Command → Fault → Type 0
+Line e c f = IsFirst (first_fault e.machine c) (IsSpent e c) f
+
+first_line : (e : PlainEngine) (c : Command) (f : Fault) → first_fault e.machine c ≡ Some f → Line e c f
+first_line e c (Query x) h = h
+first_line e c BadName h = h
+first_line e c NameTaken h = h
+first_line e c BadColumns h = h
+first_line e c TooMany h = h
+first_line e c UnknownStream h = h
+first_line e c UnknownQuery h = h
+first_line e c BadWidth h = h
+first_line e c ValueRange h = h
+first_line e c InstantRange h = h
+first_line e c Late h = h
+first_line e c Backward h = h
+first_line e c Leap h = h
+first_line e c StreamFull h = h
+first_line e c BadLimit h = h
+first_line e c Broken h = absurd (beyond e.machine c Broken refl h)
+first_line e c UnknownLease h = h
+first_line e c Stranger h = h
+first_line e c TooManyLeases h = h
+first_line e c HistoryFull h = absurd (beyond e.machine c HistoryFull refl h)
+first_line e c OutOfMemory h = tt
+first_line e c (Foreign n) h = absurd (beyond e.machine c (Foreign n) refl h)
+
 first_refused : (e : PlainEngine) (c : Command) (f : Fault) → first_fault e.machine c ≡ Some f → Refused e c f
-first_refused e c (Query x) h = h
-first_refused e c BadName h = h
-first_refused e c NameTaken h = h
-first_refused e c BadColumns h = h
-first_refused e c TooMany h = h
-first_refused e c UnknownStream h = h
-first_refused e c UnknownQuery h = h
-first_refused e c BadWidth h = h
-first_refused e c ValueRange h = h
-first_refused e c InstantRange h = h
-first_refused e c Late h = h
-first_refused e c Backward h = h
-first_refused e c Leap h = h
-first_refused e c StreamFull h = h
-first_refused e c BadLimit h = h
-first_refused e c Broken h = absurd (beyond e.machine c Broken refl h)
-first_refused e c UnknownLease h = h
-first_refused e c Stranger h = h
-first_refused e c TooManyLeases h = h
-first_refused e c HistoryFull h = absurd (beyond e.machine c HistoryFull refl h)
-first_refused e c OutOfMemory h = tt
-first_refused e c (Foreign n) h = absurd (beyond e.machine c (Foreign n) refl h)
+first_refused e c f h = record { line = first_line e c f h }
 
 -- a call that was refused
 faulted : {A B : Type 0} (view : A → B) (old : World) (step : Step B) (f : Fault) (new : World) → Does view old step (Err f) new → (f ≡ OutOfMemory) ⊎ (step ≡ (Err f, new))
@@ -122,7 +128,7 @@ refused_by : {A B : Type 0} (view : A → B) (e : PlainEngine) (c : Command) (ol
     → Does view old (unless (first_fault e.machine c) old a made) (Err f) new → Refused e c f
 refused_by {B = B} view e c old made new a f h =
     elim (faulted view old (unless (first_fault e.machine c) old a made) f new h) [
-      | inl wants ↦ subst (λ g. Refused e c g) (sym wants) tt
+      | inl wants ↦ subst (λ g. Refused e c g) (sym wants) (record { line = tt })
       | inr step ↦ first_refused e c f (first_of_step (first_fault e.machine c) old made new a f (ap (λ (s : Step B). s.0) step))
     ]
 
@@ -149,26 +155,29 @@ pub drop_refused : (e : PlainEngine) (f : Fault) (n : ℕ) → Err f ≡ (drop_s
 unfolding drop_step
 drop_refused e f n h = first_refused e (Drop n) f (first_of_step (first_fault e.machine (Drop n)) (world_of e) _ (world_of e) tt f (sym h))
 
+take_line : {A : Type 0} (view : A → List (ℤ × List (Option ℤ))) (e new : PlainEngine) (n : ℕ) (limit : ℤ) (f : Fault) → Takes view e n limit (Err f) new → Line e (Take n limit) f
+take_line view e new n limit (Query x) h = h.0
+take_line view e new n limit BadName h = h.0
+take_line view e new n limit NameTaken h = h.0
+take_line view e new n limit BadColumns h = h.0
+take_line view e new n limit TooMany h = h.0
+take_line view e new n limit UnknownStream h = h.0
+take_line view e new n limit UnknownQuery h = h.0
+take_line view e new n limit BadWidth h = h.0
+take_line view e new n limit ValueRange h = h.0
+take_line view e new n limit InstantRange h = h.0
+take_line view e new n limit Late h = h.0
+take_line view e new n limit Backward h = h.0
+take_line view e new n limit Leap h = h.0
+take_line view e new n limit StreamFull h = h.0
+take_line view e new n limit BadLimit h = h.0
+take_line view e new n limit Broken h = (h.0, h.1)
+take_line view e new n limit UnknownLease h = h.0
+take_line view e new n limit Stranger h = h.0
+take_line view e new n limit TooManyLeases h = h.0
+take_line view e new n limit HistoryFull h = absurd (beyond e.machine (Take n limit) HistoryFull refl h.0)
+take_line view e new n limit OutOfMemory h = tt
+take_line view e new n limit (Foreign k) h = absurd (beyond e.machine (Take n limit) (Foreign k) refl h.0)
+
 pub take_refused : {A : Type 0} (view : A → List (ℤ × List (Option ℤ))) (e new : PlainEngine) (n : ℕ) (limit : ℤ) (f : Fault) → Takes view e n limit (Err f) new → Refused e (Take n limit) f
-take_refused view e new n limit (Query x) h = h.0
-take_refused view e new n limit BadName h = h.0
-take_refused view e new n limit NameTaken h = h.0
-take_refused view e new n limit BadColumns h = h.0
-take_refused view e new n limit TooMany h = h.0
-take_refused view e new n limit UnknownStream h = h.0
-take_refused view e new n limit UnknownQuery h = h.0
-take_refused view e new n limit BadWidth h = h.0
-take_refused view e new n limit ValueRange h = h.0
-take_refused view e new n limit InstantRange h = h.0
-take_refused view e new n limit Late h = h.0
-take_refused view e new n limit Backward h = h.0
-take_refused view e new n limit Leap h = h.0
-take_refused view e new n limit StreamFull h = h.0
-take_refused view e new n limit BadLimit h = h.0
-take_refused view e new n limit Broken h = (h.0, h.1)
-take_refused view e new n limit UnknownLease h = h.0
-take_refused view e new n limit Stranger h = h.0
-take_refused view e new n limit TooManyLeases h = h.0
-take_refused view e new n limit HistoryFull h = absurd (beyond e.machine (Take n limit) HistoryFull refl h.0)
-take_refused view e new n limit OutOfMemory h = tt
-take_refused view e new n limit (Foreign k) h = absurd (beyond e.machine (Take n limit) (Foreign k) refl h.0)
+take_refused view e new n limit f h = record { line = take_line view e new n limit f h }

@@ -41,5 +41,5 @@ IsFirst first spent fault.Broken = spent
 IsFirst first spent f = first ≡ Some f
 
 -- REFUSED for this fault
-abbrev pub Refused : PlainEngine → Command → Fault → Type 0
-Refused e c f = IsFirst (first_fault e.machine c) (IsSpent e c) f
+pub record Refused (e : PlainEngine) (c : Command) (f : Fault) : Type 0 where
+  pub line : IsFirst (first_fault e.machine c) (IsSpent e c) f

@@ -15,7 +15,6 @@ use leases::Engine;
 use plan::Chart;
 use reference::{Answering, Fault, NewRows};
 
-#[tactic(auto, using(crate::proofs::AnsweredLemmas::declare_done, crate::proofs::RefusedLemmas::declare_refused))]
 fn declare(engine: &mut Engine, name: &str, columns: &[String], from: i64) -> Result<Reply, Fault>
     ensures ok { IfOk result (λ r. Answered (engine_in engine.old)
         (Declare name.now (texts_of columns.now) from) r (engine_in engine.new)) }
@@ -29,7 +28,6 @@ fn declare(engine: &mut Engine, name: &str, columns: &[String], from: i64) -> Re
     }
 }
 
-#[tactic(auto, using(crate::proofs::AnsweredLemmas::register_done, crate::proofs::RefusedLemmas::register_refused))]
 fn register(
     engine: &mut Engine,
     name: &str,
@@ -43,44 +41,48 @@ fn register(
         (Register name.now text.now (given_by (option_copied chart.entry)))) }
     ensures same { OnErr result (engine_in engine.new ≡ engine_in engine.old) }
 {
-    let number = engine.query(name, text, chart)?;
-    Ok(Reply::new(ReplyKind::Number(number)))
+    match engine.query(name, text, chart) {
+        Ok(number) => Ok(Reply::new(ReplyKind::Number(number))),
+        Err(fault) => Err(fault),
+    }
 }
 
-#[tactic(auto, using(crate::proofs::AnsweredLemmas::append_done, crate::proofs::RefusedLemmas::append_refused))]
 fn append(engine: &mut Engine, stream: u64, rows: &NewRows) -> Result<Reply, Fault>
     ensures ok { IfOk result (λ r. Answered (engine_in engine.old) (Append stream rows.now) r
         (engine_in engine.new)) }
     ensures err { IfErr result (Refused (engine_in engine.old) (Append stream rows.now)) }
     ensures same { OnErr result (engine_in engine.new ≡ engine_in engine.old) }
 {
-    engine.append(stream, rows)?;
-    Ok(Reply::new(ReplyKind::Done))
+    match engine.append(stream, rows) {
+        Ok(()) => Ok(Reply::new(ReplyKind::Done)),
+        Err(fault) => Err(fault),
+    }
 }
 
-#[tactic(auto, using(crate::proofs::AnsweredLemmas::heartbeat_done, crate::proofs::RefusedLemmas::heartbeat_refused))]
 fn heartbeat(engine: &mut Engine, stream: u64, at: i64) -> Result<Reply, Fault>
     ensures ok { IfOk result (λ r. Answered (engine_in engine.old) (Heartbeat stream at) r
         (engine_in engine.new)) }
     ensures err { IfErr result (Refused (engine_in engine.old) (Heartbeat stream at)) }
     ensures same { OnErr result (engine_in engine.new ≡ engine_in engine.old) }
 {
-    engine.heartbeat(stream, at)?;
-    Ok(Reply::new(ReplyKind::Done))
+    match engine.heartbeat(stream, at) {
+        Ok(()) => Ok(Reply::new(ReplyKind::Done)),
+        Err(fault) => Err(fault),
+    }
 }
 
-#[tactic(auto, using(crate::proofs::AnsweredLemmas::take_done, crate::proofs::RefusedLemmas::take_refused))]
 fn take(engine: &mut Engine, query: u64, limit: i64) -> Result<Reply, Fault>
     ensures ok { IfOk result (λ r. Answered (engine_in engine.old) (Take query limit) r
         (engine_in engine.new)) }
     ensures err { IfErr result (Refused (engine_in engine.old) (Take query limit)) }
     ensures same { OnErr result (engine_in engine.new ≡ engine_in engine.old) }
 {
-    let rows = engine.take(query, limit)?;
-    Ok(Reply::new(ReplyKind::Rows(rows)))
+    match engine.take(query, limit) {
+        Ok(rows) => Ok(Reply::new(ReplyKind::Rows(rows))),
+        Err(fault) => Err(fault),
+    }
 }
 
-#[tactic(auto, using(crate::proofs::AnsweredLemmas::drop_done, crate::proofs::RefusedLemmas::drop_refused))]
 fn discard(engine: &mut Engine, query: u64) -> Result<Reply, Fault>
     ensures ok { IfOk result (λ r. Answered (engine_in engine.old) (Drop query) r
         (engine_in engine.new)) }

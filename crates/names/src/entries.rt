@@ -102,19 +102,12 @@ fn listed_columns(
     }
 }
 
-/// Whether the columns are the same.
-fn same_column(a: Column, b: Column) -> bool
-    ensures { result ≡ spec.same_column (column_of a) (column_of b) }
-{
-    a.source == b.source && a.column == b.column
-}
-
 /// The first place of a column among columns.
 fn place_among(column: Column, columns: &[Column]) -> Option<usize>
     ensures { result
         ≡ position (λ k. spec.same_column (column_of k) (column_of column)) columns.now }
 {
-    columns.iter().position(|key| same_column(*key, column))
+    columns.iter().position(|key| *key == column)
 }
 
 /// Whether a column is among columns.
@@ -122,7 +115,7 @@ fn is_among(column: Column, columns: &[Column]) -> bool
     ensures { result
         ≡ list_any (λ k. spec.same_column (column_of k) (column_of column)) columns.now }
 {
-    columns.iter().any(|key| same_column(*key, column))
+    columns.iter().any(|key| *key == column)
 }
 
 /// The place of a column in Group By; 0 where it is none of them.

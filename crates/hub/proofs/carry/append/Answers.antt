@@ -1,8 +1,12 @@
 use Rattle.leases.specs.Shown.{engine_in}
 use Rattle.hub.proofs.AnsweredLemmas.{append_done}
+use Rattle.hub.proofs.RefusedLemmas.{append_refused}
 use Rattle.hub.proofs.carry.append.Goals as goal
 
-pub returns-clause-ok : goal.returns-clause-ok
-returns-clause-ok c =
+pub returns-in-Ok-clause-ok : goal.returns-in-Ok-clause-ok
+returns-in-Ok-clause-ok c =
     rw c.new.ensures
-    (append_done (engine_in c.args.engine.now) (engine_in c.append.new.self) _ _ _ c.in_ok-append.ensures.does c.in_ok-append.ensures.engine c.in_ok-append.ensures.queues)
+    (append_done (engine_in c.args.engine.now) (engine_in c.append.new.self) _ _ _ c.in-Ok.ensures.does c.in-Ok.ensures.engine c.in-Ok.ensures.queues)
+
+pub returns-in-Err-clause-err : goal.returns-in-Err-clause-err
+returns-in-Err-clause-err c = append_refused (engine_in c.args.engine.now) _ _ _ _ c.in-Err.ensures.does

@@ -1,8 +1,12 @@
 use Rattle.leases.specs.Shown.{engine_in}
 use Rattle.hub.proofs.AnsweredLemmas.{register_done}
+use Rattle.hub.proofs.RefusedLemmas.{register_refused}
 use Rattle.hub.proofs.carry.register.Goals as goal
 
-pub returns-clause-ok : goal.returns-clause-ok
-returns-clause-ok c =
+pub returns-in-Ok-clause-ok : goal.returns-in-Ok-clause-ok
+returns-in-Ok-clause-ok c =
     rw c.new.ensures
-    (register_done (engine_in c.args.engine.now) (engine_in c.query.new.self) _ _ _ _ c.in_ok-number.ensures.does c.in_ok-number.ensures.engine)
+    (register_done (engine_in c.args.engine.now) (engine_in c.query.new.self) _ _ _ _ c.in-Ok.ensures.does c.in-Ok.ensures.engine)
+
+pub returns-in-Err-clause-err : goal.returns-in-Err-clause-err
+returns-in-Err-clause-err c = register_refused (engine_in c.args.engine.now) _ _ _ _ _ c.in-Err.ensures.does

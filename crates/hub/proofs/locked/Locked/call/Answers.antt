@@ -7,7 +7,7 @@ use Rattle.hub.specs.Steps.{engine_at}
 use Rattle.hub.proofs.ReplayLemmas.{replays_next, held_next}
 use Rattle.histories.specs.Histories.{Replays}
 use Rattle.hub.specs.Seats.{held}
-use Rattle.hub.proofs.locked.calls.Locked.call.Goals as goal
+use Rattle.hub.proofs.locked.Locked.call.Goals as goal
 
 pub invariant_of-self-2 : goal.invariant_of-self-2
 invariant_of-self-2 c = (

@@ -5,7 +5,7 @@ use Rattle.reference.specs.Commands.{Drop}
 use Rattle.histories.specs.Histories.{Told}
 use Rattle.hub.specs.Steps.{Spurned, Took}
 use Rattle.hub.proofs.KnownLemmas.{spurned, took}
-use Rattle.hub.proofs.hub.calls.Hub.drop_query.Goals as goal
+use Rattle.hub.proofs.hub.Hub.drop_query.Goals as goal
 
 pub returns-clause-ok : goal.returns-clause-ok
 returns-clause-ok g c = took (λ (r : Told). r) (λ (r : Told). r.entry.reply ≡ replies.Done) c.drop_query-answer.result _ _ _ _ _ c.drop_query-answer.ensures.ok

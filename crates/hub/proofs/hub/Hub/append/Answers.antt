@@ -1,15 +1,14 @@
 use Rattle.std.proofs.Common.{◌≡◌, ℕ, ℤ, List, IfOk, IfErr, string_bytes, subst, w64}
 use Rattle.std.proofs.lemmas.Int.{to_z-of_z}
 use Rattle.reference.specs.Replies as replies
-use Rattle.reference.specs.Commands.{Register}
-use Rattle.plan.specs.Chart.{given_by}
+use Rattle.reference.specs.Commands.{Append}
 use Rattle.histories.specs.Histories.{Told}
 use Rattle.hub.specs.Steps.{Spurned, Took}
 use Rattle.hub.proofs.KnownLemmas.{spurned, took}
-use Rattle.hub.proofs.hub.calls.Hub.query.Goals as goal
+use Rattle.hub.proofs.hub.Hub.append.Goals as goal
 
 pub returns-clause-ok : goal.returns-clause-ok
-returns-clause-ok g c = took (λ (r : ℕ × Told). r.1) (λ (r : ℕ × Told). r.1.entry.reply ≡ replies.Number r.0) c.query.result _ _ _ _ _ c.query.ensures.ok
+returns-clause-ok g c = took (λ (r : Told). r) (λ (r : Told). r.entry.reply ≡ replies.Done) c.append.result _ _ _ _ _ c.append.ensures.ok
 
 pub returns-clause-err : goal.returns-clause-err
-returns-clause-err g c = spurned c.query.result _ _ _ _ _ c.query.ensures.err
+returns-clause-err g c = spurned c.append.result _ _ _ _ _ c.append.ensures.err

@@ -1,4 +1,4 @@
-use Rattle.hub.proofs.hub.turns.Hub.lease_wait.Given as goal
+use Rattle.hub.proofs.hub.Hub.lease_or_rest.Given as goal
 
 abbrev pub invariant-loop : goal.invariant-loop
 invariant-loop g l = (goal.iterator-loop g).can_next l.iterator' × (goal.iterator-loop g).is_finite l.iterator'

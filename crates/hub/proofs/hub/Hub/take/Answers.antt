@@ -9,7 +9,7 @@ use Rattle.arrayvec.specs.ArrayVec.{ArrayVec}
 use Rattle.histories.specs.Histories.{Told}
 use Rattle.hub.specs.Steps.{Spurned, Took}
 use Rattle.hub.proofs.KnownLemmas.{spurned, took}
-use Rattle.hub.proofs.hub.calls.Hub.take.Goals as goal
+use Rattle.hub.proofs.hub.Hub.take.Goals as goal
 
 pub returns-clause-ok : goal.returns-clause-ok
 returns-clause-ok g c = subst (λ z. IfOk c.take.result (λ (r : Vec (ℤ × ArrayVec (Option ℤ)) Global × Told). (r.1.entry.reply ≡ replies.Rows (handed_of r.0.items)) × Took c.args.seat.now (Take c.args.query z) (r.1) c.take.new.seat)) (to_z-of_z w64 c.args.limit c.ranges.limit) (took (λ (r : Vec (ℤ × ArrayVec (Option ℤ)) Global × Told). r.1) (λ (r : Vec (ℤ × ArrayVec (Option ℤ)) Global × Told). r.1.entry.reply ≡ replies.Rows (handed_of r.0.items)) c.take.result _ _ _ _ _ c.take.ensures.ok)

@@ -2,7 +2,7 @@
 use Rattle.std.proofs.Common.{◌≡◌, ℕ, Result, Ok, Err, IfOk, IfErr, subst}
 use Rattle.reference.specs.Commands.{Command}
 use Rattle.histories.specs.Histories.{Told}
-use Rattle.hub.specs.Steps.{Accepted, Declined, PlainLocked, HasEnded, Lends, Rests, Spurned, Took}
+use Rattle.hub.specs.Steps.{Accepted, Declined, PlainLocked, HasEnded, Lends, Rests, Spurned, Took, Withholds}
 use Rattle.hub.specs.Seats.{PlainSeat}
 use Rattle.reference.specs.declared.fault.Fault.{Fault}
 use Rattle.turn.specs.declared.turns.Turn.{Turn}
@@ -37,3 +37,12 @@ turned_or w t Q R old new rows is h = let m : Lends old rows t new = subst (λ x
 
 pub rested_by : (w : Rested) (P : Turn → Type 0) (Q : Type 0) (old new : PlainLocked) (rows : ℕ) → w ≡ rested.Rest → MatchRested w P Q (Rests old rows new) → (old : PlainLocked) × (new : PlainLocked) × Rests old rows new
 rested_by w P Q old new rows is h = let m : Rests old rows new = subst (λ x. MatchRested x P Q (Rests old rows new)) is h in (old, new, m)
+
+-- why none went out
+pub withheld : {A : Type 0} (r : Result A Fault) (F : Type 0) (old new : PlainLocked) (rows : ℕ) → IfErr r (λ f. F × Withholds old rows f new) → IfErr r (λ f. (old : PlainLocked) × (new : PlainLocked) × Withholds old rows f new)
+withheld (Ok a) F old new rows h = tt
+withheld (Err f) F old new rows h = (old, new, h.1)
+
+pub withheld_or : {A : Type 0} (r : Result A Fault) (old new : PlainLocked) (rows : ℕ) → IfErr r (λ f. Withholds old rows f new) → IfErr r (λ f. (old : PlainLocked) × (new : PlainLocked) × Withholds old rows f new)
+withheld_or (Ok a) old new rows h = tt
+withheld_or (Err f) old new rows h = (old, new, h)

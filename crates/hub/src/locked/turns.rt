@@ -78,10 +78,9 @@ impl Locked {
             Leased::Turn(turn) => Ok(Rested::Turn(turn)),
             Leased::Idle => {
                 if self.engine.leases_out() == 0 {
-                    Ok(Rested::Rest)
-                } else {
-                    Ok(Rested::Idle)
+                    return Ok(Rested::Rest);
                 }
+                Ok(Rested::Idle)
             }
         }
     }

@@ -39,10 +39,8 @@ pub rested_by : (w : Rested) (P : Turn → Type 0) (Q : Type 0) (old new : Plain
 rested_by w P Q old new rows is h = let m : Rests old rows new = subst (λ x. MatchRested x P Q (Rests old rows new)) is h in (old, new, m)
 
 -- why none went out
-pub withheld : {A : Type 0} (r : Result A Fault) (F : Type 0) (old new : PlainLocked) (rows : ℕ) → IfErr r (λ f. F × Withholds old rows f new) → IfErr r (λ f. (old : PlainLocked) × (new : PlainLocked) × Withholds old rows f new)
-withheld (Ok a) F old new rows h = tt
-withheld (Err f) F old new rows h = (old, new, h.1)
+pub withheld : (f : Fault) (F : Type 0) (old new : PlainLocked) (rows : ℕ) → F × Withholds old rows f new → (old : PlainLocked) × (new : PlainLocked) × Withholds old rows f new
+withheld f F old new rows h = (old, new, h.1)
 
-pub withheld_or : {A : Type 0} (r : Result A Fault) (old new : PlainLocked) (rows : ℕ) → IfErr r (λ f. Withholds old rows f new) → IfErr r (λ f. (old : PlainLocked) × (new : PlainLocked) × Withholds old rows f new)
-withheld_or (Ok a) old new rows h = tt
-withheld_or (Err f) old new rows h = (old, new, h)
+pub withheld_or : (f : Fault) (old new : PlainLocked) (rows : ℕ) → Withholds old rows f new → (old : PlainLocked) × (new : PlainLocked) × Withholds old rows f new
+withheld_or f old new rows h = (old, new, h)

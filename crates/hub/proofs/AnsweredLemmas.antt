@@ -1,14 +1,13 @@
 -- What the engine's clauses say of a call that was accepted.
-use Rattle.std.proofs.Common.{◌≡◌, ◌∙◌, ◌≤◌, ℕ, ℤ, List, Option, None, Ok, Result, length, min, nat_abs, take, refl, sym, ap, subst, arith}
+use Rattle.std.proofs.Common.{◌≡◌, ◌∙◌, ◌≤◌, ℕ, ℤ, List, Option, Ok, length, take, refl, sym, ap, arith}
 use Rattle.std.proofs.lemmas.List.{length-take-le, length-map}
 use Rattle.std.specs.Prelude.{⊤, slice_get}
 use Rattle.values.specs.Row.{Row}
 use Rattle.reference.proofs.CommandSteps.{append_is_step, declare_is_step, drop_is_step, heartbeat_is_step, register_is_step}
 use Rattle.reference.specs.Commands.{Command, Declare, Register, Append, Heartbeat, Take, Drop, after}
 use Rattle.reference.specs.Replies.{Reply, Number, Done, Rows, count_in}
-use Rattle.reference.specs.Steps.{AreNext, IsStep}
-use Rattle.reference.specs.World.{Does, World, append_step, declare_step, drop_step, handed, heartbeat_step, register_step}
-use Rattle.reference.specs.declared.fault.Fault.{Fault}
+use Rattle.reference.specs.Steps.{AreNext}
+use Rattle.reference.specs.World.{Does, append_step, declare_step, drop_step, handed, heartbeat_step, register_step}
 use Rattle.stream_store.specs.Closing.{QueuesGain}
 use Rattle.laws_engine.specs.Calls.{appended, heartbeat_taken, declared, dropped}
 use Rattle.laws_engine.specs.Engines.{PlainEngine, answers_in, remains_at, world_of}

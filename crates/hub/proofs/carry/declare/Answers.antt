@@ -1,4 +1,4 @@
-use Rattle.std.proofs.Common.{◌≡◌, subst, w64}
+use Rattle.std.proofs.Common.{subst, w64}
 use Rattle.std.proofs.lemmas.Int.{to_z-of_z}
 use Rattle.reference.specs.CallViews.{texts_of}
 use Rattle.reference.specs.Commands.{Declare}

@@ -1,10 +1,6 @@
-use Rattle.std.proofs.Common.{◌≡◌, ℕ, ℤ, List, IfOk, IfErr, string_bytes, subst, w64}
-use Rattle.std.proofs.lemmas.Int.{to_z-of_z}
+use Rattle.std.proofs.Common.{◌≡◌, ℕ}
 use Rattle.reference.specs.Replies as replies
-use Rattle.reference.specs.Commands.{Register}
-use Rattle.plan.specs.Chart.{given_by}
 use Rattle.histories.specs.Histories.{Told}
-use Rattle.hub.specs.Steps.{Spurned, Took}
 use Rattle.hub.proofs.KnownLemmas.{spurned, took}
 use Rattle.hub.proofs.hub.Hub.query.Goals as goal
 

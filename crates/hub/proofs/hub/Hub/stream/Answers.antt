@@ -1,4 +1,4 @@
-use Rattle.std.proofs.Common.{◌≡◌, ℕ, ℤ, List, IfOk, IfErr, string_bytes, subst, w64}
+use Rattle.std.proofs.Common.{◌≡◌, ℕ, IfOk, IfErr, string_bytes, subst, w64}
 use Rattle.std.proofs.lemmas.Int.{to_z-of_z}
 use Rattle.reference.specs.Replies as replies
 use Rattle.reference.specs.Commands.{Declare}

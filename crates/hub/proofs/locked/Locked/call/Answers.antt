@@ -1,4 +1,4 @@
-use Rattle.std.proofs.Common.{◌≡◌, ◌+◌, ◌≤◌, refl, sym, ap, subst, ◌∙◌, arith, rules}
+use Rattle.std.proofs.Common.{◌≡◌, ◌+◌, ◌≤◌, sym, ap, subst, ◌∙◌, arith, rules}
 use Rattle.reference.specs.Machine.{empty}
 use Rattle.leases.specs.Shown.{engine_in}
 use Rattle.hub.proofs.AcceptingLemmas.{accepting, entry_is, longer, receipt_is}

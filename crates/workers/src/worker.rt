@@ -35,17 +35,15 @@ pub fn work<R: Wait, G: Gate>(rt: &R, alloc: Global, hub: &Hub, gate: &G, rows: 
     }
 }
 
-/// Runs turns of at most `rows` rows until no operator may take anything and none is out. What it
-/// is short of it answers, and then holds no turn.
+/// Runs turns of at most `rows` rows, 1 to 1,024, until no operator may take anything and none is
+/// out. What it is short of it answers, and then holds no turn.
 pub(crate) fn run_to_rest<R: Wait, G: Gate>(
     rt: &R,
     alloc: Global,
     hub: &Hub,
     gate: &G,
     rows: u32,
-) -> Result<(), Lack>
-    requires { 1 ≤ rows × rows ≤ MAX_TURN }
-{
+) -> Result<(), Lack> {
     for _ in rt.forever() {
         let turn = match hub.lease_or_rest(rt, rows) {
             Ok(LeaseRest::Turn(turn)) => turn,

@@ -1,10 +1,10 @@
--- Rows that leave, batch by batch, and the values of rows that enter.
-use Rattle.std.proofs.Common.{◌≡◌, ℕ, zero, suc, ◌+◌, ◌-◌, ◌*◌, ◌<◌, ◌≤◌, Bool, true, not, nat_lt, ℤ, Option, None, Some, List, [], ◌∷◌, ◌++◌, length, map, take, drop, get_or, replicate, slice_range, refl, ap, ap₂, sym, ◌∙◌, arith, subst, suc-add, suc-mul, append_assoc}
+-- Rows that leave, batch by batch.
+use Rattle.std.proofs.Common.{◌≡◌, ℕ, zero, suc, ◌+◌, ◌-◌, ◌*◌, ◌<◌, ◌≤◌, Bool, true, not, nat_lt, ℤ, Option, None, Some, List, [], ◌∷◌, ◌++◌, length, map, take, drop, replicate, slice_range, refl, ap, ap₂, sym, ◌∙◌, arith, subst, suc-add, suc-mul, append_assoc}
 use Rattle.std.proofs.Math.Seq.{take-add}
-use Rattle.std.proofs.lemmas.List.{drop-take, get_or-map, map-append, take_more}
-use Rattle.std.proofs.lemmas.List.{get_or_append_left, length-append, length-take, length-map}
-use Rattle.values.specs.Row.{Row, value_at}
-use Rattle.column.specs.Rows.{IsBatch, column_of, flat_rows, width}
+use Rattle.std.proofs.lemmas.List.{drop-append-le, drop-take, map-append, take-append-le}
+use Rattle.std.proofs.lemmas.List.{get_or_append_left, length-append, length-drop, length-map, length-take}
+use Rattle.values.specs.Row.{Row}
+use Rattle.column.specs.Rows.{flat_rows}
 use Rattle.op_queue.specs.Entries.{Entry, IsForward, RowAt}
 use Rattle.op_queue.specs.Items.{entries_of}
 use Rattle.op_queue.specs.Queues.{HasGained, Waiting, first_begins}
@@ -16,15 +16,6 @@ use Rattle.op_queue.specs.declared.item.Item.TheVariants.{Tick}
 use Rattle.windows.specs.Range.{RangeState, is_past, leaving, near, next}
 use Rattle.windows.proofs.FlatLemmas.{cut_rows-drop}
 use Rattle.windows.proofs.RangeLemmas.{near-none, not-past-none}
-
--- ---- values of a row that enters
-pub row_more : (b : List (Bool × Row)) (p k : ℕ) (v : Option ℤ) → IsBatch b → p < length b → k < width b → v ≡ get_or (column_of b k) p None
-    → take k (get_or b p (true, [])).1 ++ v ∷ [] ≡ take (k + 1) (get_or b p (true, [])).1
-row_more b p k v is lt lk e =
-    let row : Row = (get_or b p (true, [])).1 in
-    let long : length row ≡ width b = is.one_width p (true, []) lt in
-    ap (λ x. take k row ++ x ∷ []) (e ∙ get_or-map (λ (r : Bool × Row). value_at r.1 k) b p (true, []) None lt)
-    ∙ sym (take_more row k None (omega (arith, long, lk)))
 
 -- ---- rows cut from a part of the values
 cut_rows-take : (w k m : ℕ) (values : List (Option ℤ)) → k ≤ m → take k (cut_rows w m values) ≡ cut_rows w k values
@@ -43,6 +34,12 @@ cut_rows-first w (suc k) values =
     let e : suc k * w ≡ w + k * w = omega (arith, suc-mul k w) in
     ap (λ n. cut_rows w (suc k) (take n values)) e
     ∙ ap₂ (λ (r : Row) (rs : List Row). r ∷ rs) (take_within w (k * w) values) (ap (cut_rows w k) (drop-take w (k * w) values) ∙ cut_rows-first w k (drop w values))
+
+-- a range within the first of two lists
+pub slice_front : {X : Type 0} (xs ys : List X) (a b : ℕ) → a ≤ b → b ≤ length xs → slice_range (xs ++ ys) a b ≡ slice_range xs a b
+slice_front xs ys a b le fits =
+    ap (take (b - a)) (drop-append-le a xs ys (omega (arith, le, fits)))
+    ∙ take-append-le (b - a) (drop a xs) ys (omega (arith, le, fits, length-drop a xs))
 
 pub flat_leaving : (w n : ℕ) (values : List (Option ℤ)) → flat_rows w (replicate n true) values ≡ map leaving (cut_rows w n values)
 flat_leaving w zero values = refl
@@ -115,7 +112,9 @@ near_count k held rows le is =
 
 -- where there is no span, none leaves
 pub stays_all : (s : RangeState) (t : ℕ) → s.span ≡ None → s.held ≡ next s (Tick t)
-stays_all s t none = rw none (sym (not-past-none t s.held))
+stays_all s t none =
+    let P : Option ℕ → Type 0 = λ p. s.held ≡ filter (λ h. not (is_past p t h)) s.held in
+    subst P (sym none) (sym (not-past-none t s.held))
 
 pub near_none : (s : RangeState) (t : ℕ) → s.span ≡ None → [] ≡ near s (Tick t)
 near_none s t none = sym (near-none s (Tick t) t refl none)

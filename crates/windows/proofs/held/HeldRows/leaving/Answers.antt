@@ -6,8 +6,8 @@ use Rattle.windows.specs.Range.{leaving}
 use Rattle.windows.proofs.HeldLemmas.{length-held}
 use Rattle.windows.proofs.held.HeldRows.leaving.Goals as goal
 
-pub leaving-batch-requires-clause-within : goal.leaving-batch-requires-clause-within
-leaving-batch-requires-clause-within c =
+pub leaving-requires-clause-within : goal.leaving-requires-clause-within
+leaving-requires-clause-within c =
     omega (arith, c.requires.within, length-held (instants_in c.self.inside.runs.items) c.self.inside.rows.rows c.self.invariant.same, ap (λ (s : HeldState). length s.held) c.self.view_is)
 
 pub returns : goal.returns

@@ -1,21 +1,22 @@
 -- Rows that leave, batch by batch.
-use Rattle.std.proofs.Common.{◌≡◌, ℕ, zero, suc, ◌+◌, ◌-◌, ◌*◌, ◌<◌, ◌≤◌, Bool, true, not, nat_lt, ℤ, Option, None, Some, List, [], ◌∷◌, ◌++◌, length, map, take, drop, replicate, slice_range, refl, ap, ap₂, sym, ◌∙◌, arith, subst, suc-add, suc-mul, append_assoc}
+use Rattle.std.proofs.Common.{◌≡◌, ℕ, zero, suc, ◌+◌, ◌-◌, ◌*◌, ◌<◌, ◌≤◌, Bool, true, nat_lt, ℤ, Option, None, Some, List, [], ◌∷◌, ◌++◌, length, map, take, drop, replicate, slice_range, refl, ap, ap₂, sym, ◌∙◌, arith, subst, suc-add, suc-mul, append_assoc}
 use Rattle.std.proofs.Math.Seq.{take-add}
 use Rattle.std.proofs.lemmas.List.{drop-append-le, drop-take, map-append, take-append-le}
 use Rattle.std.proofs.lemmas.List.{get_or_append_left, length-append, length-drop, length-map, length-take}
 use Rattle.values.specs.Row.{Row}
 use Rattle.column.specs.Rows.{flat_rows}
 use Rattle.op_queue.specs.Entries.{Entry, IsForward, RowAt}
-use Rattle.op_queue.specs.Items.{entries_of}
+use Rattle.op_queue.specs.Items.{entries_of, item_instant}
+use Rattle.op_queue.specs.declared.item.Item.{Item}
 use Rattle.op_queue.specs.Queues.{HasGained, Waiting, first_begins}
 use Rattle.op_queue.specs.declared.item.Item.TheVariants.{Rows}
 use Rattle.op_queue.proofs.GainLemmas.{gained-item, gained-more, gained-same}
 use Rattle.windows.specs.Held.{cut_rows}
 use Rattle.std.specs.List.{filter}
 use Rattle.op_queue.specs.declared.item.Item.TheVariants.{Tick}
-use Rattle.windows.specs.Range.{RangeState, is_past, leaving, near, next}
+use Rattle.windows.specs.Range.{RangeState, is_past, leaving, near, out}
 use Rattle.windows.proofs.FlatLemmas.{cut_rows-drop}
-use Rattle.windows.proofs.RangeLemmas.{near-none, not-past-none}
+use Rattle.windows.proofs.RangeLemmas.{near-none}
 
 -- ---- rows cut from a part of the values
 cut_rows-take : (w k m : ℕ) (values : List (Option ℤ)) → k ≤ m → take k (cut_rows w m values) ≡ cut_rows w k values
@@ -111,10 +112,10 @@ near_count k held rows le is =
     omega (arith, ap (λ (rs : List Row). length rs) is, length-take k (map f held), length-map held f)
 
 -- where there is no span, none leaves
-pub stays_all : (s : RangeState) (t : ℕ) → s.span ≡ None → s.held ≡ next s (Tick t)
-stays_all s t none =
-    let P : Option ℕ → Type 0 = λ p. s.held ≡ filter (λ h. not (is_past p t h)) s.held in
-    subst P (sym none) (sym (not-past-none t s.held))
-
 pub near_none : (s : RangeState) (t : ℕ) → s.span ≡ None → [] ≡ near s (Tick t)
 near_none s t none = sym (near-none s (Tick t) t refl none)
+
+-- what a turn puts out: the rows that leave, and then the item
+pub out_is : (s : RangeState) (i : Item) → out i (near s i) ≡ leaving_at (item_instant i) (near s i) ++ entries_of i
+out_is s (Rows t b) = refl
+out_is s (Tick t) = refl

@@ -1,4 +1,4 @@
-"""Runs what the documents say over a built cqlrun: bench/use says what is compared."""
+"""Runs what the documents say over a built cqlrun and cqld: bench/use says what is compared."""
 import json
 import os
 import re
@@ -8,7 +8,7 @@ import sys
 import tempfile
 from pathlib import Path
 
-program = sys.argv[1]
+program, server = sys.argv[1:3]
 failures = []
 
 
@@ -94,7 +94,7 @@ def stored_run():
     check("crates/tests_examples/stdin", (crate / "stdin").read_bytes(),
           b"".join(script.read_bytes() + b"\x1e\n" for script in scripts))
     check("crates/tests_examples/stdout", (crate / "stdout").read_bytes(),
-          4 * b"".join(Path(f"{script}.stdout").read_bytes() for script in scripts))
+          5 * b"".join(Path(f"{script}.stdout").read_bytes() for script in scripts))
     print(f"tests_examples: its input is that of {len(scripts)} examples")
 
 
@@ -199,6 +199,7 @@ def windows():
 with tempfile.TemporaryDirectory() as folder:
     os.mkdir(f"{folder}/bin")
     os.symlink(program, f"{folder}/bin/cqlrun")
+    os.symlink(server, f"{folder}/bin/cqld")
     run_blocks(Path("docs/use.md"), folder)
 first_query()
 conversation("docs/wire.md")

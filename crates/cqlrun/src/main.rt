@@ -19,6 +19,7 @@ fn main(rt: HostRuntime) -> ExitCode {
         return ExitCode::from(lack_memory(&mut errors));
     };
     let status = run(
+        &rt,
         rt.alloc(),
         words.as_slice(),
         &mut source,

@@ -5,3 +5,4 @@ mod ReplayLemmas
 mod ReachLemmas
 mod AcceptingLemmas
 mod KnownLemmas
+pub mod SendLemmas

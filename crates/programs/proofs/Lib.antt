@@ -1,3 +1,1 @@
 mod Outcomes
-mod Passing
-mod Numbers

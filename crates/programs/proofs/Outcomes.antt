@@ -1,5 +1,5 @@
 -- What a run answers, and why it may not run.
-use Rattle.std.proofs.Common.{◌≡◌, ◌≢◌, ℕ, Bool, true, false, List, [], ◌∷◌, ◌++◌, Option, Some, Result, refl, ap, sym, ◌∙◌, subst, ◌⊎◌, inl, inr}
+use Rattle.std.proofs.Common.{◌≡◌, ◌≢◌, ℕ, Bool, not, true, false, List, [], ◌∷◌, ◌++◌, Option, Some, Result, refl, ap, sym, ◌∙◌, subst, ◌⊎◌, inl, inr}
 use Rattle.std.specs.Prelude.{⊤}
 use Rattle.std.proofs.lemmas.Bool.{false≢true}
 use Rattle.clap.specs.Words.{Kinds, Text, HasKind, IsAmong, kind_of}
@@ -12,8 +12,9 @@ use Rattle.wire.specs.declared.request.WireFault.{WireFault}
 use Rattle.wire.specs.Script.{script, Says, Begins, Runs, Scripts, Stands}
 use Rattle.wire.proofs.Sinks.{append_nothing}
 use Rattle.wire.proofs.Scripts.{begins_wider, says_all}
-use Rattle.programs.specs.CommandLine.{IsPlain}
-use Rattle.programs.specs.Run.{Answers, MayRunOut, IsWrong, Leads}
+use Rattle.command_lines.specs.CommandLine.{IsPlain}
+use Rattle.hub.specs.Seats.{opened}
+use Rattle.programs.specs.Run.{Answers, MayRunOut, IsWrong, Leads, Shares}
 
 pub says_begins : (N : Type 0) (w : World) (source old new : Option (List ℕ)) → Scripts (λ text written. Says N (requests_of text) (script w text) written) source old new
     → Scripts (λ text written. Begins N (requests_of text) (script w text) written) source old new
@@ -45,6 +46,17 @@ answers_nothing N w status source old new is same = (
   λ none. absurd (cc),
   λ text held is told. ([], same ∙ told ∙ ap Some (sym (append_nothing held)), says_all N w (requests_of text)),
 )
+
+-- nothing was written by a seat
+pub shares_nothing : (status : ℕ) (source old new : Option (List ℕ)) → status ≡ 3 → new ≡ old → Shares status source old new
+shares_nothing status source old new is same = (
+  λ none. absurd (cc),
+  λ text held is' told. ([], same ∙ told ∙ ap Some (sym (append_nothing held)), (opened 0, ([], requests_of text, [], refl, (refl, refl)))),
+)
+
+pub not_on : (b : Bool) → not b ≡ true → b ≡ false
+not_on true e = cc
+not_on false e = refl
 
 -- what numbers were wanted for may be said more widely
 says_wider : (N M : Type 0) → (N → M) → (requests : List (Result Call WireFault)) (lines : List (List ℕ)) (written : List ℕ) → Says N requests lines written → Says M requests lines written

@@ -1,14 +1,16 @@
 -- What `cqlrun` does.
-use Rattle.std.specs.Prelude.{◌≡◌, ◌≢◌, ℕ, List, [], Option, ◌⊎◌, codes}
-use Rattle.std.specs.Io.KnownBytes.{Appends}
+use Rattle.std.specs.Prelude.{◌≡◌, ◌≢◌, ℕ, List, [], Option, ◌⊎◌, ⊤, codes}
 use Rattle.clap.specs.Words.{Kinds, IsAmong}
 use Rattle.clap.specs.declared.error.kind.ErrorKind.TheVariants.{DisplayHelp, DisplayVersion}
 use Rattle.reference.specs.World.{World}
-use Rattle.wire.specs.Devices.{AppendsFront, Rises}
+use Rattle.wire.specs.Devices.{Rises}
 use Rattle.wire.specs.Requests.{requests_of}
 use Rattle.wire.specs.declared.fault.ScriptFault.{ScriptFault}
 use Rattle.wire.specs.declared.fault.ScriptFault.TheVariants.{Read, Write, Memory}
 use Rattle.wire.specs.Script.{script, Says, Begins, Runs, Scripts, Stands}
+use Rattle.hub.specs.Seats.{PlainSeat, opened}
+use Rattle.served.specs.Errors.{Told}
+use Rattle.served.specs.Serving as of_seat
 
 -- At the status 0 the sink took the script's text of what the source gave, and else a beginning of it; a reply that says want
 -- of numbers for turns rests on `wanted`. The most rows of a turn, which the words may say, stand nowhere in it: they change
@@ -29,6 +31,13 @@ Leads wanted first now status source old new =
     (status ≡ 0 → Scripts (λ text written. Runs wanted first (requests_of text) written now) source old new)
     × Scripts (λ text written. Stands wanted first (requests_of text) written now) source old new
 
+-- At the status 0 the sink took what a seat with no receipt is answered by the steps of a hub, one line a request, and else a
+-- beginning of it.
+abbrev pub Shares : ℕ → Option (List ℕ) → Option (List ℕ) → Option (List ℕ) → Type 0
+Shares status source old new =
+    (status ≡ 0 → Scripts (λ text written. (seat : PlainSeat) × of_seat.Runs ⊤ (opened 0) (requests_of text) written seat) source old new)
+    × Scripts (λ text written. (seat : PlainSeat) × of_seat.Stands ⊤ (opened 0) (requests_of text) written seat) source old new
+
 -- words that are refused, and that ask for no help
 abbrev pub IsWrong : Kinds → Type 0
 IsWrong kinds = (kinds ≢ []) × (¬ IsAmong DisplayHelp kinds) × (¬ IsAmong DisplayVersion kinds)
@@ -48,13 +57,6 @@ fault_line Memory = codes "cqlrun: out of memory\n"
 -- what is said of a word that is not UTF-8
 abbrev pub no_text_line : List ℕ
 no_text_line = codes "cqlrun: a word is not UTF-8\n"
-
--- A sink was given this text: it took all of it and did not fail, or it failed and took a front of it. `taken` says what a
--- sink tells that it took, and `failures` how often it failed.
-abbrev pub Told : {E : Type 0} → (E → Option (List ℕ)) → (E → ℕ) → E → E → List ℕ → Type 0
-Told taken failures old new text =
-    (Appends (taken old) (taken new) text × (failures new ≡ failures old))
-    ⊎ (AppendsFront (taken old) (taken new) text × Rises (failures old) (failures new))
 
 -- a sink was given some text
 abbrev pub ToldSome : {E : Type 0} → (E → Option (List ℕ)) → (E → ℕ) → E → E → Type 0

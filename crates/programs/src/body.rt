@@ -1,22 +1,26 @@
 //! The body of `cqlrun`.
-ghost use Rattle.std.specs.Prelude.{◌≡◌, ◌≢◌, ◌<◌, ◌≤◌, ◌⊎◌, ◌∷◌, [], map};
+ghost use Rattle.std.specs.Prelude.{◌≡◌, ◌≢◌, ◌<◌, ◌≤◌, ◌⊎◌, ◌∷◌, [], None, codes, map};
 ghost use Rattle.clap.specs.Words.{kind_of};
 ghost use Rattle.reference.specs.World as world;
 ghost use Rattle.wire.specs.Devices.{Rises};
 ghost use Rattle.wire.specs.Requests.{requests_of};
 ghost use Rattle.wire.specs.Script.{Scripts, TellsScarcity};
-ghost use Rattle.programs.specs.CommandLine.{IsPlain, refusals};
-ghost use Rattle.programs.specs.Run.{Answers, MayRunOut, Leads, Failed, Told, ToldSome, IsWrong};
+ghost use Rattle.command_lines.specs.CommandLine.{AsksBoth, IsPlain, refusals, run_text};
+ghost use Rattle.served.specs.Errors.{Told};
+ghost use Rattle.programs.specs.Run.{Answers, MayRunOut, Leads, Failed, Shares, ToldSome, IsWrong};
 ghost use Rattle.programs.specs.Run.{fault_line, IsOfRun, IsOfWrong};
 
 use crate::faults::{WRONG_WORDS, fail, lack_memory, tell};
-use crate::options::run_options;
+use crate::shared::run_shared;
 use clap::Error;
 use clap::error::ErrorKind;
+use command_lines::{WordsFault, run_options};
 use leases::Engine;
 use reference::{Answering, Plain};
 use std::alloc::Global;
 use std::convert::AsStr;
+use std::sync::Wait;
+use std::thread::Threads;
 use wire::{ScriptFault, Sink, Source, put, run_script};
 
 // Says clap's text of a wrong command line, or where memory is refused for it, a line of our own.
@@ -137,16 +141,28 @@ fn run_made<N: Answering + Drop, I: Source, O: Sink, E: Sink>(
     run_over(alloc, turn, &mut engine, source, sink, errors)
 }
 
+// Says that the plain engine has no workers.
+fn refuse_both<E: Sink>(errors: &mut E) -> u8
+    ensures status { result ≡ 2 }
+    ensures told { ToldSome E.taken E.failures errors.old errors.new }
+{
+    tell(errors, "cqlrun: --plain takes no --workers\n");
+    WRONG_WORDS
+}
+
 /// The body of `cqlrun`: `run_over` an engine that has been told nothing, which is the plain engine
-/// where the words ask for it, by turns of at most as many rows as they say. The first of the words
-/// is the program's own name.
+/// where the words ask for it, by turns of at most as many rows as they say. Where they ask for
+/// workers, a hub with one seat answers, and a pool of so many threads runs its drains. The first
+/// of the words is the program's own name.
 ///
 /// The status is that of `run_over`, and 0, 1 or 3 after help, which goes to the sink; it is 2 for
 /// a wrong command line, of which `errors` are told some text. Nothing is read where the words ask
 /// for no run. With `--plain` no drain is answered want of numbers for turns. Without it the text
 /// is promised up to the first drain that is answered so: whether there were none is said by
-/// `run_over`, where the engine can be seen.
-pub fn run<'a, S: AsStr, I: Source, O: Sink, E: Sink>(
+/// `run_over`, where the engine can be seen. With workers the text is that of the steps of a hub's
+/// seat: each reply is that of one step, and what lies between two steps is not said.
+pub fn run<'a, R: Threads + Wait + Sync, S: AsStr, I: Source, O: Sink, E: Sink>(
+    rt: &R,
     alloc: Global,
     words: &'a [S],
     source: &mut I,
@@ -154,13 +170,22 @@ pub fn run<'a, S: AsStr, I: Source, O: Sink, E: Sink>(
     errors: &mut E,
 ) -> u8
     ensures answers { refusals (map S.text words.entry.now) ≡ []
+        → run_text (codes "workers") (map S.text words.entry.now) ≡ None
         → Answers (¬ IsPlain (map S.text words.entry.now)) world.empty result (I.left source.old)
         (O.taken sink.old) (O.taken sink.new) }
-    ensures status { refusals (map S.text words.entry.now) ≡ [] → IsOfRun result }
+    ensures shares { refusals (map S.text words.entry.now) ≡ []
+        → run_text (codes "workers") (map S.text words.entry.now) ≢ None
+        → ¬ IsPlain (map S.text words.entry.now)
+        → Shares result (I.left source.old) (O.taken sink.old) (O.taken sink.new) }
+    ensures status { refusals (map S.text words.entry.now) ≡ []
+        → ¬ AsksBoth (map S.text words.entry.now) → IsOfRun result }
     ensures help { refusals (map S.text words.entry.now) ≡ ErrorKind.DisplayHelp ∷ []
         → IsOfRun result }
     ensures wrong { IsWrong (refusals (map S.text words.entry.now)) → IsOfWrong result
         × (sink.new ≡ sink.old) }
+    ensures both { AsksBoth (map S.text words.entry.now)
+        → refusals (map S.text words.entry.now) ≡ []
+        → IsOfWrong result × (source.new ≡ source.old) × (sink.new ≡ sink.old) }
     ensures unread { refusals (map S.text words.entry.now) ≢ [] → source.new ≡ source.old }
     ensures silent { result ≡ 0 → errors.new ≡ errors.old }
     ensures sound { result ≢ 1 → (I.failures source.new ≡ I.failures source.old)
@@ -172,21 +197,20 @@ pub fn run<'a, S: AsStr, I: Source, O: Sink, E: Sink>(
     ensures memory { result ≡ 3 → (source.new ≡ source.old) × (sink.new ≡ sink.old)
         × Told E.taken E.failures errors.old errors.new (fault_line ScriptFault.Memory) }
 {
-    match run_options(alloc, words) {
-        Ok(options) if options.is_plain => match Plain::new(alloc) {
-            Ok(engine) => run_made(alloc, options.turn, engine, source, sink, errors),
-            Err(_) => lack_memory(errors),
-        },
-        Ok(options) => {
-            run_made(
-                alloc,
-                options.turn,
-                Engine::new(alloc),
-                source,
-                sink,
-                errors,
-            )
-        }
-        Err(error) => refuse(alloc, &error, sink, errors),
+    let options = match run_options(alloc, words) {
+        Ok(options) => options,
+        Err(WordsFault::Words(error)) => return refuse(alloc, &error, sink, errors),
+        Err(WordsFault::PlainWithWorkers) => return refuse_both(errors),
+    };
+    if let Some(workers) = options.workers {
+        return run_shared(rt, alloc, workers, options.turn, source, sink, errors);
+    }
+    if !options.is_plain {
+        let engine = Engine::new(alloc);
+        return run_made(alloc, options.turn, engine, source, sink, errors);
+    }
+    match Plain::new(alloc) {
+        Ok(engine) => run_made(alloc, options.turn, engine, source, sink, errors),
+        Err(_) => lack_memory(errors),
     }
 }

@@ -1,7 +1,8 @@
 //! What the program says of a fault, and its status then.
 ghost use Rattle.std.specs.Prelude.{◌≡◌, ◌≢◌};
 ghost use Rattle.std.specs.IoError.{error_kind};
-ghost use Rattle.programs.specs.Run.{Told, fault_line, no_text_line, status_of};
+ghost use Rattle.served.specs.Errors.{Told, memory_line};
+ghost use Rattle.programs.specs.Run.{ToldSome, fault_line, no_text_line, status_of};
 
 use std::io::{Error, ErrorKind};
 use wire::{ScriptFault, Sink, put};
@@ -67,5 +68,27 @@ pub fn lack_words<E: Sink>(errors: &mut E, error: &Error) -> u8
         return lack_memory(errors);
     }
     tell(errors, "cqlrun: a word is not UTF-8\n");
+    WRONG_WORDS
+}
+
+/// Says the same of `cqld`.
+pub fn lack_server_memory<E: Sink>(errors: &mut E) -> u8
+    ensures status { result ≡ 3 }
+    ensures told { Told E.taken E.failures errors.old errors.new memory_line }
+{
+    tell(errors, "cqld: out of memory\n");
+    3
+}
+
+/// Says of `cqld` why its words could not be read, as `lack_words` does.
+pub fn lack_server_words<E: Sink>(errors: &mut E, error: &Error) -> u8
+    ensures memory { error_kind error.now ≡ ErrorKind.OutOfMemory → result ≡ 3 }
+    ensures wrong { error_kind error.now ≢ ErrorKind.OutOfMemory → result ≡ 2 }
+    ensures told { ToldSome E.taken E.failures errors.old errors.new }
+{
+    if error.kind() == ErrorKind::OutOfMemory {
+        return lack_server_memory(errors);
+    }
+    tell(errors, "cqld: a word is not UTF-8\n");
     WRONG_WORDS
 }

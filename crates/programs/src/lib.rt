@@ -1,11 +1,14 @@
-//! The programs, but for their `main`: the command line of `cqlrun` and its body.
+//! The programs, but for their `main`: the bodies of `cqlrun` and of `cqld`.
 #![tactic(auto)]
 
 mod body;
 mod faults;
-mod options;
+mod server;
+mod shared;
 
 pub use body::{run, run_over};
-pub use faults::{lack_memory, lack_words};
-pub use options::{RunOptions, run_options};
+pub use command_lines::{RunOptions, ServeOptions, WordsFault, run_options, serve_options};
+pub use faults::{lack_memory, lack_server_memory, lack_server_words, lack_words};
+pub use served::{run_hub, serve, serve_connection};
+pub use server::run_server;
 pub use wire::{ReaderSource, WriterSink};

@@ -6,6 +6,8 @@ use crate::devices::Ending;
 use crate::stored::{Stored, lines_in};
 use std::alloc::Global;
 use std::fmt::{self, Display, Formatter, Write};
+use std::sync::Wait;
+use std::thread::Threads;
 use wire::{MemorySink, MemorySource};
 
 /// The reply to a line that lacks more than its line feed.
@@ -75,12 +77,19 @@ impl Cuts {
     }
 
     /// Runs `cqlrun` over the front of the script before a cut, and counts what it came to.
-    fn run(&mut self, alloc: Global, words: &[&str], stored: &Stored, at: usize)
+    fn run<R: Threads + Wait + Sync>(
+        &mut self,
+        rt: &R,
+        alloc: Global,
+        words: &[&str],
+        stored: &Stored,
+        at: usize,
+    )
         requires { at ≤ length stored.now.script.now }
     {
         let (front, rest) = stored.script.split_at(at);
         let mut sink = MemorySink::new(alloc);
-        let ending = Ending::of_run(alloc, words, &mut MemorySource::new(front), &mut sink);
+        let ending = Ending::of_run(rt, alloc, words, &mut MemorySource::new(front), &mut sink);
         let written = sink.bytes.as_slice();
         let cut = Cut::between(front, rest);
         let is_right = ending.is_well() && cut.answers(stored, front, written);
@@ -102,10 +111,15 @@ impl Display for Cuts {
 }
 
 /// Cuts the script after each of its bytes, and before the first.
-pub(crate) fn cut_after_each_byte(alloc: Global, words: &[&str], stored: &Stored) -> Cuts {
+pub(crate) fn cut_after_each_byte<R: Threads + Wait + Sync>(
+    rt: &R,
+    alloc: Global,
+    words: &[&str],
+    stored: &Stored,
+) -> Cuts {
     let mut cuts = Cuts::new();
     for at in 0..=stored.script.len() {
-        cuts.run(alloc, words, stored, at);
+        cuts.run(rt, alloc, words, stored, at);
     }
     cuts
 }

@@ -3,6 +3,8 @@
 
 use programs::run;
 use std::alloc::Global;
+use std::sync::Wait;
+use std::thread::Threads;
 use wire::{DeviceFailed, MemorySink, MemorySource, Sink, Source};
 
 /// The most bytes that a call gives or takes.
@@ -107,14 +109,15 @@ pub(crate) struct Ending {
 
 impl Ending {
     /// Runs `cqlrun` with these words over these devices.
-    pub(crate) fn of_run<I: Source, O: Sink>(
+    pub(crate) fn of_run<R: Threads + Wait + Sync, I: Source, O: Sink>(
+        rt: &R,
         alloc: Global,
         words: &[&str],
         source: &mut I,
         sink: &mut O,
     ) -> Ending {
         let mut errors = MemorySink::new(alloc);
-        let status = run(alloc, words, source, sink, &mut errors);
+        let status = run(rt, alloc, words, source, sink, &mut errors);
         Ending {
             status,
             errors: errors.bytes,

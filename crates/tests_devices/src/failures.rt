@@ -4,6 +4,8 @@ use crate::devices::{Ending, FailingSink, FailingSource};
 use crate::stored::{Stored, lines_in};
 use std::alloc::Global;
 use std::fmt::{self, Display, Formatter, Write};
+use std::sync::Wait;
+use std::thread::Threads;
 use wire::{MemorySink, MemorySource};
 
 /// What a run came to.
@@ -61,10 +63,16 @@ impl Display for Failures {
 
 /// A run whose source fails after so many reads, and how many bytes it wrote. It has to answer just
 /// the lines that were given.
-fn fail_read(alloc: Global, words: &[&str], stored: &Stored, reads: usize) -> (Outcome, usize) {
+fn fail_read<R: Threads + Wait + Sync>(
+    rt: &R,
+    alloc: Global,
+    words: &[&str],
+    stored: &Stored,
+    reads: usize,
+) -> (Outcome, usize) {
     let mut source = FailingSource::new(stored.script, reads);
     let mut sink = MemorySink::new(alloc);
-    let ending = Ending::of_run(alloc, words, &mut source, &mut sink);
+    let ending = Ending::of_run(rt, alloc, words, &mut source, &mut sink);
     let written = sink.bytes.as_slice();
     let replies = stored.replies_to(lines_in(source.given()));
     let outcome = if ending.is_well() && written == stored.replies {
@@ -78,10 +86,15 @@ fn fail_read(alloc: Global, words: &[&str], stored: &Stored, reads: usize) -> (O
 }
 
 /// Lets reads fail in turn, up to a run that reads all.
-pub(crate) fn fail_reads_in_turn(alloc: Global, words: &[&str], stored: &Stored) -> Failures {
+pub(crate) fn fail_reads_in_turn<R: Threads + Wait + Sync>(
+    rt: &R,
+    alloc: Global,
+    words: &[&str],
+    stored: &Stored,
+) -> Failures {
     let mut failures = Failures::new("answer the lines given");
     for reads in 0..=stored.script.len() {
-        let (outcome, bytes) = fail_read(alloc, words, stored, reads);
+        let (outcome, bytes) = fail_read(rt, alloc, words, stored, reads);
         failures.count(outcome, bytes);
         if outcome == Outcome::All {
             break;
@@ -92,10 +105,16 @@ pub(crate) fn fail_reads_in_turn(alloc: Global, words: &[&str], stored: &Stored)
 
 /// A run whose sink fails after so many writes, and how many bytes it wrote. These have to be a
 /// beginning of all replies.
-fn fail_write(alloc: Global, words: &[&str], stored: &Stored, writes: usize) -> (Outcome, usize) {
+fn fail_write<R: Threads + Wait + Sync>(
+    rt: &R,
+    alloc: Global,
+    words: &[&str],
+    stored: &Stored,
+    writes: usize,
+) -> (Outcome, usize) {
     let mut source = MemorySource::new(stored.script);
     let mut sink = FailingSink::new(alloc, writes);
-    let ending = Ending::of_run(alloc, words, &mut source, &mut sink);
+    let ending = Ending::of_run(rt, alloc, words, &mut source, &mut sink);
     let written = sink.taken();
     let outcome = if ending.is_well() && written == stored.replies {
         Outcome::All
@@ -108,10 +127,15 @@ fn fail_write(alloc: Global, words: &[&str], stored: &Stored, writes: usize) -> 
 }
 
 /// Lets writes fail in turn, up to a run that writes all.
-pub(crate) fn fail_writes_in_turn(alloc: Global, words: &[&str], stored: &Stored) -> Failures {
+pub(crate) fn fail_writes_in_turn<R: Threads + Wait + Sync>(
+    rt: &R,
+    alloc: Global,
+    words: &[&str],
+    stored: &Stored,
+) -> Failures {
     let mut failures = Failures::new("write a beginning");
     for writes in 0..=stored.replies.len() {
-        let (outcome, bytes) = fail_write(alloc, words, stored, writes);
+        let (outcome, bytes) = fail_write(rt, alloc, words, stored, writes);
         failures.count(outcome, bytes);
         if outcome == Outcome::All {
             break;

@@ -25,11 +25,11 @@ fn main(rt: HostRuntime) -> io::Result<ExitCode> {
     for words in COMMAND_LINES {
         let [program, option] = words;
         println!(rt; "{program} {option}")?;
-        let reads = fail_reads_in_turn(rt.alloc(), &words, &stored);
+        let reads = fail_reads_in_turn(&rt, rt.alloc(), &words, &stored);
         println!(rt; "reads fail in turn: {reads}")?;
-        let writes = fail_writes_in_turn(rt.alloc(), &words, &stored);
+        let writes = fail_writes_in_turn(&rt, rt.alloc(), &words, &stored);
         println!(rt; "writes fail in turn: {writes}")?;
-        let cuts = cut_after_each_byte(rt.alloc(), &words, &stored);
+        let cuts = cut_after_each_byte(&rt, rt.alloc(), &words, &stored);
         println!(rt; "cut after each byte: {cuts}")?;
     }
     Ok(ExitCode::SUCCESS)

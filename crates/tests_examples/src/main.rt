@@ -9,13 +9,17 @@ use programs::{ReaderSource, WriterSink, run};
 use std::alloc::{AllocError, Global};
 use std::io::{self, Write};
 use std::process::ExitCode;
+use std::sync::Wait;
+use std::thread::Threads;
 
-/// The words of `cqlrun` for the plain engine, and for the engine by turns of at most so many rows.
-const COMMAND_LINES: [&[&str]; 4] = [
+/// The words of `cqlrun` for the plain engine, for the engine by turns of at most so many rows, and
+/// for a hub whose drains are run by four threads.
+const COMMAND_LINES: [&[&str]; 5] = [
     &["cqlrun", "--plain"],
     &["cqlrun", "--turn", "1"],
     &["cqlrun", "--turn", "7"],
     &["cqlrun", "--turn", "1024"],
+    &["cqlrun", "--workers", "4"],
 ];
 
 /// The scripts of a text. A record separator parts them, which no JSON text has.
@@ -28,7 +32,8 @@ fn scripts_of<'a>(alloc: Global, text: &'a str) -> Result<Vec<&'a str>, AllocErr
 
 /// Answers each script over an engine of its own, as the words say, and gives the first status that
 /// is not 0.
-fn answer_scripts<W: Write, X: Write>(
+fn answer_scripts<R: Threads + Wait + Sync, W: Write, X: Write>(
+    rt: &R,
     alloc: Global,
     words: &[&str],
     scripts: &[&str],
@@ -37,7 +42,7 @@ fn answer_scripts<W: Write, X: Write>(
 ) -> u8 {
     for script in scripts {
         let mut source = ReaderSource::new(script.as_bytes());
-        let status = run(alloc, words, &mut source, sink, errors);
+        let status = run(rt, alloc, words, &mut source, sink, errors);
         if status != 0 {
             return status;
         }
@@ -46,14 +51,15 @@ fn answer_scripts<W: Write, X: Write>(
 }
 
 /// Answers the scripts over every engine, and gives the first status that is not 0.
-fn answer_over_every_engine<W: Write, X: Write>(
+fn answer_over_every_engine<R: Threads + Wait + Sync, W: Write, X: Write>(
+    rt: &R,
     alloc: Global,
     scripts: &[&str],
     sink: &mut WriterSink<W>,
     errors: &mut WriterSink<X>,
 ) -> u8 {
     for words in COMMAND_LINES {
-        let status = answer_scripts(alloc, words, scripts, sink, errors);
+        let status = answer_scripts(rt, alloc, words, scripts, sink, errors);
         if status != 0 {
             return status;
         }
@@ -66,6 +72,12 @@ fn main(rt: HostRuntime) -> io::Result<ExitCode> {
     let scripts = scripts_of(rt.alloc(), text.as_str())?;
     let mut sink = WriterSink::new(rt.stdout());
     let mut errors = WriterSink::new(rt.stderr());
-    let status = answer_over_every_engine(rt.alloc(), scripts.as_slice(), &mut sink, &mut errors);
+    let status = answer_over_every_engine(
+        &rt,
+        rt.alloc(),
+        scripts.as_slice(),
+        &mut sink,
+        &mut errors,
+    );
     Ok(ExitCode::from(status))
 }

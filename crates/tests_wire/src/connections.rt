@@ -4,6 +4,8 @@ use std::alloc::Global;
 use std::io;
 use std::io::Write;
 use std::net::{Net, Shutdown, TcpListener, TcpStream};
+use std::sync::Wait;
+use std::thread::Threads;
 use wire::{MemorySink, ReaderSource, WriterSink};
 
 // The two ends of a connection to this machine itself, where the system allows one.
@@ -17,7 +19,8 @@ fn connected<R: Net<Listener = TcpListener, Stream = TcpStream>>(
 }
 
 // Whether the first script, sent over a connection, is answered over it.
-fn is_answered_over_connection(
+fn is_answered_over_connection<R: Threads + Wait + Sync>(
+    rt: &R,
     alloc: Global,
     client: &TcpStream,
     server: &TcpStream,
@@ -29,7 +32,14 @@ fn is_answered_over_connection(
     let mut source = ReaderSource::new(server);
     let mut sink = WriterSink::new(server);
     let mut errors = MemorySink::new(alloc);
-    let ended = run(alloc, words.as_slice(), &mut source, &mut sink, &mut errors);
+    let ended = run(
+        rt,
+        alloc,
+        words.as_slice(),
+        &mut source,
+        &mut sink,
+        &mut errors,
+    );
     server.shutdown(Shutdown::Write)?;
     let replies = io::read_to_string(alloc, client)?;
     Ok(ended == 0 && replies.as_str() == FIRST_REPLIES)
@@ -39,7 +49,7 @@ fn is_answered_over_connection(
 fn a_connection_is_a_source_and_a_sink(rt: HostRuntime) {
     match connected(&rt) {
         Ok((client, server)) => {
-            let answered = is_answered_over_connection(rt.alloc(), &client, &server);
+            let answered = is_answered_over_connection(&rt, rt.alloc(), &client, &server);
             assert!(rt; matches!(answered, Ok(true)));
         }
         // A machine without a network says nothing of the program.

@@ -1,9 +1,13 @@
-use programs::{lack_memory, lack_words, run, run_options, run_over};
+use programs::{
+    ServeOptions, WordsFault, lack_memory, lack_words, run, run_options, run_over, serve_options,
+};
 use reference::{Answering, Plain};
 use std::alloc::{AllocError, Global};
 use std::io;
 use std::io::ErrorKind;
+use std::sync::Wait;
 use std::test::Fail;
+use std::thread::Threads;
 use wire::{DeviceFailed, MemorySink, MemorySource, Sink, Source, put, run_script};
 
 pub(crate) const FIRST: &str = r#"{"op":"stream","name":"S","columns":["a"],"from":0}
@@ -24,30 +28,39 @@ pub(crate) const FIRST_REPLIES: &str = r#"{"ok":true}
 
 // Whether `cqlrun` over memory ends so, and says something of its errors where it does not end
 // well.
-fn runs_to(alloc: Global, words: &[&str], input: &[u8], status: u8, replies: &[u8]) -> bool {
+fn runs_to<R: Threads + Wait + Sync>(
+    rt: &R,
+    alloc: Global,
+    words: &[&str],
+    input: &[u8],
+    status: u8,
+    replies: &[u8],
+) -> bool {
     let mut source = MemorySource::new(input);
     let mut sink = MemorySink::new(alloc);
     let mut errors = MemorySink::new(alloc);
-    let ended = run(alloc, words, &mut source, &mut sink, &mut errors);
+    let ended = run(rt, alloc, words, &mut source, &mut sink, &mut errors);
     ended == status && sink.bytes.as_slice() == replies && errors.bytes.is_empty() == (status == 0)
 }
 
 #[test]
 fn scripts_are_answered_by_their_text(rt: HostRuntime) {
     let plain = ["cqlrun", "--plain"];
-    assert!(rt; runs_to(rt.alloc(), plain.as_slice(), b"", 0, b""));
+    assert!(rt; runs_to(&rt, rt.alloc(), plain.as_slice(), b"", 0, b""));
     let (input, replies) = (FIRST.as_bytes(), FIRST_REPLIES.as_bytes());
-    assert!(rt; runs_to(rt.alloc(), plain.as_slice(), input, 0, replies));
+    assert!(rt; runs_to(&rt, rt.alloc(), plain.as_slice(), input, 0, replies));
     let turns = ["cqlrun", "--turn", "1"];
-    assert!(rt; runs_to(rt.alloc(), turns.as_slice(), input, 0, replies));
+    assert!(rt; runs_to(&rt, rt.alloc(), turns.as_slice(), input, 0, replies));
 }
 
 #[test]
 fn a_wrong_word_is_refused_and_nothing_is_answered(rt: HostRuntime) {
     let plane = ["cqlrun", "--plane"];
-    assert!(rt; runs_to(rt.alloc(), plane.as_slice(), FIRST.as_bytes(), 2, b""));
+    assert!(rt; runs_to(&rt, rt.alloc(), plane.as_slice(), FIRST.as_bytes(), 2, b""));
     let turns = ["cqlrun", "--turn", "0"];
-    assert!(rt; runs_to(rt.alloc(), turns.as_slice(), FIRST.as_bytes(), 2, b""));
+    assert!(rt; runs_to(&rt, rt.alloc(), turns.as_slice(), FIRST.as_bytes(), 2, b""));
+    let both = ["cqlrun", "--plain", "--workers=4"];
+    assert!(rt; runs_to(&rt, rt.alloc(), both.as_slice(), FIRST.as_bytes(), 2, b""));
 }
 
 // The most rows of a turn that the words ask for, and whether they ask for the plain engine, where
@@ -57,6 +70,90 @@ fn asked(alloc: Global, words: &[&str]) -> Option<(u32, bool)> {
         Ok(options) => Some((options.turn, options.is_plain)),
         Err(_) => None,
     }
+}
+
+// How many workers they ask for.
+fn workers_asked(alloc: Global, words: &[&str]) -> Option<u32> {
+    run_options(alloc, words).ok()?.workers
+}
+
+#[test]
+fn workers_are_1_to_64_and_the_plain_engine_has_none(rt: HostRuntime) {
+    for (text, workers) in [("1", Some(1)), ("64", Some(64)), ("0", None), ("65", None)] {
+        let words = ["cqlrun", "--workers", text];
+        assert_eq!(rt; workers_asked(rt.alloc(), words.as_slice()), workers);
+    }
+    let bare = ["cqlrun"];
+    assert_eq!(rt; workers_asked(rt.alloc(), bare.as_slice()), None);
+    let both = ["cqlrun", "--plain", "--workers=4"];
+    let refused = run_options(rt.alloc(), both.as_slice());
+    assert!(rt; matches!(refused, Err(WordsFault::PlainWithWorkers)));
+}
+
+#[test]
+fn a_server_has_a_port_workers_and_clients(rt: HostRuntime) {
+    let words = [
+        "cqld",
+        "--port=0",
+        "--workers=1",
+        "--clients",
+        "64",
+        "--serve=7",
+    ];
+    let options = serve_options(rt.alloc(), words.as_slice());
+    assert!(rt;
+        matches!(
+            options,
+            Ok(ServeOptions {
+                port: 0,
+                workers: 1,
+                clients: 64,
+                serve: Some(7)
+            })
+        )
+    );
+    for wrong in [
+        [
+            "cqld",
+            "--port=65536",
+            "--workers=1",
+            "--clients=1",
+            "--serve=1",
+        ],
+        [
+            "cqld",
+            "--port=1",
+            "--workers=65",
+            "--clients=1",
+            "--serve=1",
+        ],
+        [
+            "cqld",
+            "--port=1",
+            "--workers=1",
+            "--clients=0",
+            "--serve=1",
+        ],
+        [
+            "cqld",
+            "--port=1",
+            "--workers=1",
+            "--clients=1",
+            "--serve=1000001",
+        ],
+    ] {
+        assert!(rt; serve_options(rt.alloc(), wrong.as_slice()).is_err());
+    }
+    let right = [
+        "cqld",
+        "--port=1",
+        "--workers=1",
+        "--clients=1",
+        "--serve=1",
+    ];
+    assert!(rt; serve_options(rt.alloc(), right.as_slice()).is_ok());
+    let portless = ["cqld", "--workers=1", "--clients=1"];
+    assert!(rt; serve_options(rt.alloc(), portless.as_slice()).is_err());
 }
 
 #[test]
@@ -84,18 +181,25 @@ fn a_turn_is_said_once_or_has_256_rows(rt: HostRuntime) {
 }
 
 // Whether help is written, and nothing of errors.
-fn is_helped(alloc: Global) -> bool {
+fn is_helped<R: Threads + Wait + Sync>(rt: &R, alloc: Global) -> bool {
     let words = ["cqlrun", "--help"];
     let mut source = MemorySource::new(FIRST.as_bytes());
     let mut sink = MemorySink::new(alloc);
     let mut errors = MemorySink::new(alloc);
-    let ended = run(alloc, words.as_slice(), &mut source, &mut sink, &mut errors);
+    let ended = run(
+        rt,
+        alloc,
+        words.as_slice(),
+        &mut source,
+        &mut sink,
+        &mut errors,
+    );
     ended == 0 && sink.bytes.len() > 0 && errors.bytes.is_empty()
 }
 
 #[test]
 fn help_is_no_error(rt: HostRuntime) {
-    assert!(rt; is_helped(rt.alloc()));
+    assert!(rt; is_helped(&rt, rt.alloc()));
 }
 
 // Memory that gives or takes up to seven bytes at a time, and fails at a call.
@@ -160,22 +264,36 @@ fn device_failing_after(
 }
 
 // In how many reads a run reads all of the first script.
-fn reads_of(alloc: Global) -> u64 {
+fn reads_of<R: Threads + Wait + Sync>(rt: &R, alloc: Global) -> u64 {
     let words = ["cqlrun", "--plain"];
     let mut source = device_failing_after(alloc, FIRST.as_bytes(), u64::MAX);
     let mut sink = MemorySink::new(alloc);
     let mut errors = MemorySink::new(alloc);
-    run(alloc, words.as_slice(), &mut source, &mut sink, &mut errors);
+    run(
+        rt,
+        alloc,
+        words.as_slice(),
+        &mut source,
+        &mut sink,
+        &mut errors,
+    );
     u64::MAX.saturating_sub(source.until_failure)
 }
 
 // Whether a source that fails ends the run after a front of the replies.
-fn failing_source_ends(alloc: Global, calls: u64) -> bool {
+fn failing_source_ends<R: Threads + Wait + Sync>(rt: &R, alloc: Global, calls: u64) -> bool {
     let words = ["cqlrun", "--plain"];
     let mut source = device_failing_after(alloc, FIRST.as_bytes(), calls);
     let mut sink = MemorySink::new(alloc);
     let mut errors = MemorySink::new(alloc);
-    let ended = run(alloc, words.as_slice(), &mut source, &mut sink, &mut errors);
+    let ended = run(
+        rt,
+        alloc,
+        words.as_slice(),
+        &mut source,
+        &mut sink,
+        &mut errors,
+    );
     ended == 1
         && errors.bytes.as_slice() == b"cqlrun: read failed\n".as_slice()
         && FIRST_REPLIES.as_bytes().starts_with(sink.bytes.as_slice())
@@ -183,31 +301,45 @@ fn failing_source_ends(alloc: Global, calls: u64) -> bool {
 
 #[test]
 fn a_source_that_fails_at_any_read_ends_the_run_after_a_front_of_the_replies(rt: HostRuntime) {
-    let reads = reads_of(rt.alloc());
+    let reads = reads_of(&rt, rt.alloc());
     assert!(rt; reads > FIRST.len() as u64 / 7);
     for calls in 0..reads {
-        assert!(rt; failing_source_ends(rt.alloc(), calls));
+        assert!(rt; failing_source_ends(&rt, rt.alloc(), calls));
     }
-    assert!(rt; !failing_source_ends(rt.alloc(), reads));
+    assert!(rt; !failing_source_ends(&rt, rt.alloc(), reads));
 }
 
 // In how many writes a run writes all of the first replies.
-fn writes_of(alloc: Global) -> u64 {
+fn writes_of<R: Threads + Wait + Sync>(rt: &R, alloc: Global) -> u64 {
     let words = ["cqlrun", "--plain"];
     let mut source = MemorySource::new(FIRST.as_bytes());
     let mut sink = device_failing_after(alloc, b"", u64::MAX);
     let mut errors = MemorySink::new(alloc);
-    run(alloc, words.as_slice(), &mut source, &mut sink, &mut errors);
+    run(
+        rt,
+        alloc,
+        words.as_slice(),
+        &mut source,
+        &mut sink,
+        &mut errors,
+    );
     u64::MAX.saturating_sub(sink.until_failure)
 }
 
 // Whether a sink that fails ends the run after a front of the replies.
-fn failing_sink_ends(alloc: Global, calls: u64) -> bool {
+fn failing_sink_ends<R: Threads + Wait + Sync>(rt: &R, alloc: Global, calls: u64) -> bool {
     let words = ["cqlrun", "--plain"];
     let mut source = MemorySource::new(FIRST.as_bytes());
     let mut sink = device_failing_after(alloc, b"", calls);
     let mut errors = MemorySink::new(alloc);
-    let ended = run(alloc, words.as_slice(), &mut source, &mut sink, &mut errors);
+    let ended = run(
+        rt,
+        alloc,
+        words.as_slice(),
+        &mut source,
+        &mut sink,
+        &mut errors,
+    );
     ended == 1
         && errors.bytes.as_slice() == b"cqlrun: write failed\n".as_slice()
         && FIRST_REPLIES
@@ -217,12 +349,12 @@ fn failing_sink_ends(alloc: Global, calls: u64) -> bool {
 
 #[test]
 fn a_sink_that_fails_at_any_write_ends_the_run_after_a_front_of_the_replies(rt: HostRuntime) {
-    let writes = writes_of(rt.alloc());
+    let writes = writes_of(&rt, rt.alloc());
     assert!(rt; writes > FIRST_REPLIES.len() as u64 / 7);
     for calls in 0..writes {
-        assert!(rt; failing_sink_ends(rt.alloc(), calls));
+        assert!(rt; failing_sink_ends(&rt, rt.alloc(), calls));
     }
-    assert!(rt; !failing_sink_ends(rt.alloc(), writes));
+    assert!(rt; !failing_sink_ends(&rt, rt.alloc(), writes));
 }
 
 // What the program says of want of memory, with its status.
@@ -312,12 +444,19 @@ fn a_script_is_answered_over_the_engine_that_it_is_given(rt: HostRuntime) {
 }
 
 // Whether wrong words leave the source alone and are told of.
-fn wrong_words_read_nothing(alloc: Global) -> bool {
+fn wrong_words_read_nothing<R: Threads + Wait + Sync>(rt: &R, alloc: Global) -> bool {
     let words = ["cqlrun", "--plane"];
     let mut source = MemorySource::new(FIRST.as_bytes());
     let mut sink = MemorySink::new(alloc);
     let mut errors = MemorySink::new(alloc);
-    let ended = run(alloc, words.as_slice(), &mut source, &mut sink, &mut errors);
+    let ended = run(
+        rt,
+        alloc,
+        words.as_slice(),
+        &mut source,
+        &mut sink,
+        &mut errors,
+    );
     ended == 2
         && source.bytes.len() == FIRST.len()
         && sink.bytes.is_empty()
@@ -327,6 +466,6 @@ fn wrong_words_read_nothing(alloc: Global) -> bool {
 #[test]
 fn a_run_goes_on_over_the_engine_that_it_is_given(rt: HostRuntime) -> Result<(), Fail> {
     assert!(rt; is_answered_over(rt.alloc())?);
-    assert!(rt; wrong_words_read_nothing(rt.alloc()));
+    assert!(rt; wrong_words_read_nothing(&rt, rt.alloc()));
     Ok(())
 }

@@ -1,0 +1,1 @@
+void hub_bench_known(void) {}

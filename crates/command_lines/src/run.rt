@@ -1,0 +1,91 @@
+//! The command line of `cqlrun`.
+ghost use Rattle.std.specs.Prelude.{◌≡◌, ◌≤◌, ◌↔◌, [], IfOk, IfErr, IfSome, IsTrue, codes, map};
+ghost use Rattle.std.specs.Prelude.{MatchResult, option_map};
+ghost use Rattle.command_lines.specs.CommandLine.{AsksBoth, IsPlain, number_in, number_or, refusals};
+ghost use Rattle.command_lines.specs.CommandLine.{run_text};
+ghost use Rattle.command_lines.specs.Faults.{ChoosesBoth, RefusesRun};
+
+use crate::fault::WordsFault;
+use crate::number::number;
+use clap::{Arg, ArgAction, Command, value_parser};
+use std::alloc::Global;
+use std::convert::AsStr;
+
+/// The most rows of a drain's turns, where the command line does not say.
+const TURN: u32 = 256;
+
+/// What the words of `cqlrun` ask for.
+#[derive(Clone, Copy, Debug, PartialEq, Eq)]
+pub struct RunOptions {
+    /// Whether the plain engine is to run.
+    pub is_plain: bool,
+    /// The most rows of a drain's turns, 1 to 1,024.
+    pub turn: u32,
+    /// How many threads are to run a drain's turns, 1 to 64; none but the caller's where that is
+    /// not said.
+    pub workers: Option<u32>,
+}
+
+/// Reads the words of `cqlrun`, of which the first is the program's own name.
+///
+/// # Errors
+/// `Words` is a request for help, a wrong command line, or want of memory. A turn or workers that
+/// are no number, or out of their range, are a wrong command line. `PlainWithWorkers` where the
+/// words are right but for that they ask for both.
+pub fn run_options<'a, S: AsStr>(alloc: Global, words: &'a [S]) -> Result<RunOptions, WordsFault>
+    ensures asked { IfOk result (λ o. (refusals (map S.text words.entry.now) ≡ [])
+        × (¬ AsksBoth (map S.text words.entry.now))) }
+    ensures refused { IfErr result (RefusesRun (map S.text words.entry.now)) }
+    ensures plain { IfOk result (λ o. IsTrue o.is_plain ↔ IsPlain (map S.text words.entry.now)) }
+    ensures turn { IfOk result (λ o.
+        o.turn ≡ number_or 256 (run_text (codes "turn") (map S.text words.entry.now))) }
+    ensures workers { IfOk result (λ o.
+        o.workers ≡ option_map number_in (run_text (codes "workers") (map S.text words.entry.now))) }
+    ensures range { IfOk result (λ o. (1 ≤ o.turn) × (o.turn ≤ 1024)
+        × IfSome o.workers (λ n. (1 ≤ n) × (n ≤ 64))) }
+{
+    let plain = Arg::new(alloc, "plain")
+        .long("plain")
+        .action(ArgAction::SetTrue)
+        .help("Run the plain engine, which evaluates the definition");
+    let turn = number(
+        alloc,
+        "turn",
+        "R",
+        value_parser!(u32).range(1..=1024),
+        "The most rows of a turn of a drain, 1 to 1024 [default: 256]",
+    );
+    let workers = number(
+        alloc,
+        "workers",
+        "N",
+        value_parser!(u32).range(1..=64),
+        "Run the turns of a drain in so many threads, 1 to 64",
+    );
+    let command = Command::new(alloc, "cqlrun")
+        .arg(plain)?
+        .arg(turn)?
+        .arg(workers)?;
+    match command.try_get_matches_from(words) {
+        Ok(matches) => {
+            let options = RunOptions {
+                is_plain: matches.get_one("plain").unwrap_or(false),
+                turn: matches.get_one("turn").unwrap_or(TURN),
+                workers: matches.get_one("workers"),
+            };
+            refuse_both(options)
+        }
+        Err(error) => Err(WordsFault::Words(error)),
+    }
+}
+
+// The options, unless they ask for the plain engine and for threads.
+fn refuse_both(options: RunOptions) -> Result<RunOptions, WordsFault>
+    ensures { MatchResult result (λ o. (o ≡ options) × (¬ ChoosesBoth options))
+        (λ fault. (fault ≡ WordsFault.PlainWithWorkers) × ChoosesBoth options) }
+{
+    if options.is_plain && options.workers.is_some() {
+        return Err(WordsFault::PlainWithWorkers);
+    }
+    Ok(options)
+}

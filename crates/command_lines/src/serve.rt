@@ -1,0 +1,106 @@
+//! The command line of `cqld`.
+ghost use Rattle.std.specs.Prelude.{◌≡◌, ◌≤◌, IfOk, IfSome, codes, map, option_map};
+ghost use Rattle.clap.specs.Words.{FailsBy};
+ghost use Rattle.command_lines.specs.CommandLine.{IsNumberArg, between, number_in, number_or, option};
+ghost use Rattle.command_lines.specs.CommandLine.{serve_refusals, serve_text, wanted};
+
+use crate::number::{number, wanted_number};
+use clap::{Arg, Command, Error, value_parser};
+use std::alloc::Global;
+use std::convert::AsStr;
+
+/// What the words of `cqld` ask for.
+#[derive(Clone, Copy, Debug, PartialEq, Eq)]
+pub struct ServeOptions {
+    /// The port to listen on, at most 65,535; 0 where the system is to choose one.
+    pub port: u32,
+    /// How many threads run turns, 1 to 64.
+    pub workers: u32,
+    /// How many threads answer connections, 1 to 64, each with a seat.
+    pub clients: u32,
+    /// After how many connections it ends, at most 1,000,000; never where that is not said.
+    pub serve: Option<u32>,
+}
+
+/// Reads the words of `cqld`, of which the first is the program's own name. Port, workers and
+/// clients have to be there.
+///
+/// # Errors
+/// A request for help, a wrong command line, or want of memory: `kind` tells which, and what is
+/// printed is clap's text.
+pub fn serve_options<'a, S: AsStr>(alloc: Global, words: &'a [S]) -> Result<ServeOptions, Error>
+    ensures refusals { FailsBy (serve_refusals (map S.text words.entry.now)) result }
+    ensures port { IfOk result (λ o.
+        o.port ≡ number_or 0 (serve_text (codes "port") (map S.text words.entry.now))) }
+    ensures workers { IfOk result (λ o.
+        o.workers ≡ number_or 1 (serve_text (codes "workers") (map S.text words.entry.now))) }
+    ensures clients { IfOk result (λ o.
+        o.clients ≡ number_or 1 (serve_text (codes "clients") (map S.text words.entry.now))) }
+    ensures serve { IfOk result (λ o.
+        o.serve ≡ option_map number_in (serve_text (codes "serve") (map S.text words.entry.now))) }
+    ensures range { IfOk result (λ o. (o.port ≤ 65535) × (1 ≤ o.workers) × (o.workers ≤ 64)
+        × (1 ≤ o.clients) × (o.clients ≤ 64) × IfSome o.serve (λ k. k ≤ 1000000)) }
+{
+    let workers = threads(
+        alloc,
+        "workers",
+        "N",
+        "Run turns in so many threads, 1 to 64",
+    );
+    let clients = threads(
+        alloc,
+        "clients",
+        "C",
+        "Answer so many connections at once, 1 to 64",
+    );
+    let command = Command::new(alloc, "cqld")
+        .arg(port(alloc))?
+        .arg(workers)?
+        .arg(clients)?
+        .arg(connections(alloc))?;
+    match command.try_get_matches_from(words) {
+        // what is required is there, so no default is taken
+        Ok(matches) => Ok(ServeOptions {
+            port: matches.get_one("port").unwrap_or(0),
+            workers: matches.get_one("workers").unwrap_or(1),
+            clients: matches.get_one("clients").unwrap_or(1),
+            serve: matches.get_one("serve"),
+        }),
+        Err(error) => Err(error),
+    }
+}
+
+// The option `--port P`.
+fn port<'a>(alloc: Global) -> Arg<'a>
+    ensures { IsNumberArg (wanted (option (codes "port") (between 0 65535))) (codes "port")
+        (between 0 65535) result }
+{
+    wanted_number(
+        alloc,
+        "port",
+        "P",
+        value_parser!(u32).range(0..=65535),
+        "Listen on this port of 127.0.0.1, 0 to 65535; 0 lets the system choose",
+    )
+}
+
+// An option of this name that takes a number of threads.
+fn threads<'a>(alloc: Global, name: &'a str, value: &'a str, help: &'a str) -> Arg<'a>
+    ensures { IsNumberArg (wanted (option name.now (between 1 64))) name.now (between 1 64) result }
+{
+    wanted_number(alloc, name, value, value_parser!(u32).range(1..=64), help)
+}
+
+// The option `--serve K`.
+fn connections<'a>(alloc: Global) -> Arg<'a>
+    ensures { IsNumberArg (option (codes "serve") (between 0 1000000)) (codes "serve")
+        (between 0 1000000) result }
+{
+    number(
+        alloc,
+        "serve",
+        "K",
+        value_parser!(u32).range(0..=1_000_000),
+        "End after so many connections, 0 to 1000000",
+    )
+}

@@ -1,0 +1,116 @@
+-- One request of a seat.
+use Rattle.std.proofs.Common.{◌≡◌, ◌∙◌, ℕ, List, [], ◌∷◌, ◌++◌, Option, Some, Result, Ok, Err, refl, ap, sym, subst, append_assoc, ◌⊎◌, inl, inr}
+use Rattle.std.specs.Prelude.{IfOk, IfErr}
+use Rattle.histories.specs.Histories.{Told}
+use Rattle.hub.specs.Seats.{PlainSeat}
+use Rattle.hub.specs.Steps.{PlainLocked, FindsQuery, FindsStream, Spurned, Took}
+use Rattle.reference.specs.Commands.{Command}
+use Rattle.reference.specs.Replies.{Reply}
+use Rattle.reference.specs.declared.fault.Fault.{Fault}
+use Rattle.reference.specs.declared.fault.Fault.TheVariants.{OutOfMemory, TooManyLeases}
+use Rattle.wire.specs.Calls.{Call, declare, register, append, heartbeat, drain, take_rows, discard, show_plan, call_of}
+use Rattle.wire.specs.Printed.{Answer, done, refused, unread}
+use Rattle.wire.specs.Requests.{Reads}
+use Rattle.wire.specs.Script.{done_of}
+use Rattle.wire.specs.declared.request.Request.{Request}
+use Rattle.wire.specs.declared.request.WireFault.{WireFault}
+use Rattle.wire.specs.declared.request.WireFault.TheVariants.{NotJson, BadRequest, LineTooLong}
+use Rattle.wire.specs.declared.request.WireFault.TheVariants as in_line
+use Rattle.served.specs.Serving.{Carries, CarriesNamed, IsDrained, Keeps, Replies, Serves, shown}
+
+-- a command whose acceptance is answered `done`
+pub carried : {A : Type 0} (told : A → Told) (reply : A → Reply) (seat seat' : PlainSeat) (command : Command) (r : Result A Fault) (answer : Answer)
+    → ((x : A) → shown (reply x) ≡ done)
+    → IfOk r (λ x. ((told x).entry.reply ≡ reply x) × Took seat command (told x) seat') → IfErr r (λ f. Spurned seat command f seat')
+    → answer ≡ done_of r → Carries seat command answer seat'
+carried told reply seat seat' command (Ok x) answer plain ok err is = inl (told x, is ∙ sym (plain x) ∙ ap shown (sym ok.0), ok.1)
+carried told reply seat seat' command (Err f) answer plain ok err is = inr (f, is, err)
+
+-- the same where a look-up found the number
+pub carried_named : {A : Type 0} (Finds : PlainLocked → List ℕ → Option ℕ → Type 0) (name : List ℕ) (fault : Fault) (command : ℕ → Command) (n : ℕ)
+    (told : A → Told) (reply : A → Reply) (seat seat' : PlainSeat) (r : Result A Fault) (answer : Answer)
+    → ((l : PlainLocked) × Finds l name (Some n)) → ((x : A) → shown (reply x) ≡ done)
+    → IfOk r (λ x. ((told x).entry.reply ≡ reply x) × Took seat (command n) (told x) seat') → IfErr r (λ f. Spurned seat (command n) f seat')
+    → answer ≡ done_of r → CarriesNamed Finds name fault command seat answer seat'
+carried_named Finds name fault command n told reply seat seat' r answer found plain ok err is =
+    inl (n, found, carried told reply seat seat' (command n) r answer plain ok err is)
+
+-- ---- what was read of a line
+
+pub serves_request : (R : Type 0) (seat seat' : PlainSeat) (request : Request) (answer : Answer) (defined : Result Call WireFault) → defined ≡ Ok (call_of request)
+    → Serves R seat (call_of request) answer seat' → Replies R seat defined answer seat'
+serves_request R seat seat' request answer defined is served = subst (λ d. Replies R seat d answer seat') (sym is) (inl served)
+
+pub serves_fault : (R : Type 0) (seat : PlainSeat) (fault : WireFault) (defined : Result Call WireFault) → Reads defined (Err fault) → Replies R seat defined (unread fault) seat
+serves_fault R seat NotJson defined is = subst (λ d. Replies R seat d (unread NotJson) seat) (sym is) (inl (refl, refl))
+serves_fault R seat BadRequest defined is = subst (λ d. Replies R seat d (unread BadRequest) seat) (sym is) (inl (refl, refl))
+serves_fault R seat LineTooLong defined is = subst (λ d. Replies R seat d (unread LineTooLong) seat) (sym is) (inl (refl, refl))
+serves_fault R seat in_line.OutOfMemory defined is = inr (is, refl, refl)
+
+-- ---- drains
+
+pub drained : {T : Type 0} (R : Type 0) (r : Result T Fault) (answer : Answer) → IfOk r (λ _. R) → IfErr r (λ f. (f ≡ TooManyLeases) ⊎ (f ≡ OutOfMemory)) → answer ≡ done_of r → IsDrained R answer
+drained R (Ok x) answer rested short is = subst (IsDrained R) (sym is) rested
+drained R (Err f) answer rested (inl turns) is = subst (IsDrained R) (sym (is ∙ ap refused turns)) tt
+drained R (Err f) answer rested (inr memory) is = subst (IsDrained R) (sym (is ∙ ap refused memory)) tt
+
+-- ---- the seat
+
+keeps_itself : (seat : PlainSeat) → Keeps seat seat
+keeps_itself seat = ([], ap (λ l. record seat { receipts = l }) (sym (append_none seat.receipts)))
+  where
+    append_none : (l : List Told) → l ++ [] ≡ l
+    append_none [] = refl
+    append_none (x ∷ xs) = ap (λ l. x ∷ l) (append_none xs)
+
+keeps_same : (seat seat' : PlainSeat) → seat' ≡ seat → Keeps seat seat'
+keeps_same seat seat' e = subst (Keeps seat) (sym e) (keeps_itself seat)
+
+keeps_carried : (seat : PlainSeat) (command : Command) (answer : Answer) (seat' : PlainSeat) → Carries seat command answer seat' → Keeps seat seat'
+keeps_carried seat command answer seat' (inl a) = (a.0 ∷ [], a.2.2.told)
+keeps_carried seat command answer seat' (inr r) = keeps_same seat seat' r.2.2.kept
+
+keeps_named : (Finds : PlainLocked → List ℕ → Option ℕ → Type 0) (name : List ℕ) (fault : Fault) (command : ℕ → Command) (seat : PlainSeat) (answer : Answer) (seat' : PlainSeat)
+    → CarriesNamed Finds name fault command seat answer seat' → Keeps seat seat'
+keeps_named Finds name fault command seat answer seat' (inl c) = keeps_carried seat (command c.0) answer seat' c.2
+keeps_named Finds name fault command seat answer seat' (inr u) = keeps_same seat seat' u.2
+
+keeps_served : (R : Type 0) (seat : PlainSeat) (call : Call) (answer : Answer) (seat' : PlainSeat) → Serves R seat call answer seat' → Keeps seat seat'
+keeps_served R seat (declare name columns start) answer seat' s = keeps_carried seat _ answer seat' s
+keeps_served R seat (register name text chart) answer seat' s = keeps_carried seat _ answer seat' s
+keeps_served R seat (append stream more) answer seat' s = keeps_named FindsStream stream _ _ seat answer seat' s
+keeps_served R seat (heartbeat stream at) answer seat' s = keeps_named FindsStream stream _ _ seat answer seat' s
+keeps_served R seat drain answer seat' s = keeps_same seat seat' s.1
+keeps_served R seat (take_rows query limit) answer seat' s = keeps_named FindsQuery query _ _ seat answer seat' s
+keeps_served R seat (discard query) answer seat' s = keeps_named FindsQuery query _ _ seat answer seat' s
+keeps_served R seat (show_plan query) answer seat' s = keeps_same seat seat' s.1
+
+pub keeps_replied : (R : Type 0) (seat : PlainSeat) (request : Result Call WireFault) (answer : Answer) (seat' : PlainSeat) → Replies R seat request answer seat' → Keeps seat seat'
+keeps_replied R seat (Ok call) answer seat' (inl s) = keeps_served R seat call answer seat' s
+keeps_replied R seat (Err fault) answer seat' (inl s) = keeps_same seat seat' s.1
+keeps_replied R seat request answer seat' (inr l) = keeps_same seat seat' l.2
+
+pub keeps_both : (a b c : PlainSeat) → Keeps a b → Keeps b c → Keeps a c
+keeps_both a b c k l = (
+  k.0 ++ l.0,
+  l.1 ∙ ap (λ (s : PlainSeat). record s { receipts = s.receipts ++ l.0 }) k.1 ∙ ap (λ m. record a { receipts = m }) (append_assoc a.receipts k.0 l.0),
+)
+
+pub keeps_none : (seat : PlainSeat) → Keeps seat seat
+keeps_none seat = keeps_itself seat
+
+-- a request of this kind was served as its call was
+pub serves_as : (R : Type 0) (seat seat' : PlainSeat) (request kind : Request) (answer : Answer) → request ≡ kind → Serves R seat (call_of kind) answer seat' → Serves R seat (call_of request) answer seat'
+serves_as R seat seat' request kind answer is s = subst (λ r. Serves R seat (call_of r) answer seat') (sym is) s
+
+-- each thing that is read is what was asked
+asked_of : (read : Result Request WireFault) → (defined : Result Call WireFault) × Reads defined read
+asked_of (Ok request) = (Ok (call_of request), refl)
+asked_of (Err NotJson) = (Err NotJson, refl)
+asked_of (Err BadRequest) = (Err BadRequest, refl)
+asked_of (Err LineTooLong) = (Err LineTooLong, refl)
+asked_of (Err in_line.OutOfMemory) = (Err NotJson, λ e. cc)
+
+pub keeps_read : (R : Type 0) (seat : PlainSeat) (read : Result Request WireFault) (answer : Answer) (seat' : PlainSeat)
+    → ((defined : Result Call WireFault) → Reads defined read → Replies R seat defined answer seat') → Keeps seat seat'
+keeps_read R seat read answer seat' replied = let a = asked_of read in keeps_replied R seat a.0 answer seat' (replied a.0 a.1)

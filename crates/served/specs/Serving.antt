@@ -1,0 +1,130 @@
+-- What a seat of a hub answers the requests of a script, while other seats call as well.
+use Rattle.std.specs.Prelude.{◌≡◌, ◌≢◌, ◌≤◌, ℕ, ℤ, pos, List, [], ◌∷◌, ◌++◌, Option, Some, None, Result, Ok, Err, ◌⊎◌, ⊤}
+use Rattle.envelope.specs.Fraction.{Fraction}
+use Rattle.histories.specs.Histories.{Told}
+use Rattle.hub.specs.Seats.{PlainSeat}
+use Rattle.hub.specs.Steps.{PlainLocked, FindsQuery, FindsStream, Hands, SeesSlopes, Spurned, Took}
+use Rattle.leases.specs.declared.leased.Leased.TheVariants.{Idle}
+use Rattle.plan.specs.declared.node.Kind.{Kind}
+use Rattle.reference.specs.Commands.{Command, Declare, Register, Append, Heartbeat, Take, Drop}
+use Rattle.reference.specs.Replies as replies
+use Rattle.reference.specs.Replies.{Reply}
+use Rattle.reference.specs.declared.fault.Fault.{Fault}
+use Rattle.reference.specs.declared.fault.Fault.TheVariants.{OutOfMemory, TooManyLeases, UnknownQuery, UnknownStream}
+use Rattle.wire.specs.Calls.{Call, declare, register, append, heartbeat, drain, take_rows, discard, show_plan}
+use Rattle.wire.specs.Printed.{Answer, done, rows, operators, refused, unread, line_of}
+use Rattle.wire.specs.declared.request.Request.{Request}
+use Rattle.wire.specs.declared.request.Request.TheVariants as request
+use Rattle.wire.specs.declared.request.WireFault.{WireFault}
+use Rattle.wire.specs.declared.request.WireFault.TheVariants as in_line
+use Rattle.workers.specs.declared.pool.TheConstants.{MAX_WORKERS}
+use Rattle.served.specs.declared.answer.Drains.{Drains}
+use Rattle.served.specs.declared.answer.Drains.TheVariants.{Pool, Client}
+
+-- ---- one request
+
+-- the first instant of a stream, the instant of a heartbeat or the limit of a take
+abbrev pub number_in : Request → ℤ
+number_in (request.Stream name columns start) = start
+number_in (request.Heartbeat stream at) = at
+number_in (request.Take query limit) = limit
+number_in r = pos 0
+
+-- what a request is answered whose command has this reply in the history
+abbrev pub shown : Reply → Answer
+shown (replies.Number n) = done
+shown replies.Done = done
+shown (replies.Rows taken) = rows taken
+
+-- ACCEPTED: one step of the hub, one entry of its history, and one receipt, whose reply is what is answered
+abbrev pub IsAccepted : PlainSeat → Command → Answer → PlainSeat → Type 0
+IsAccepted seat command answer seat' = (told : Told) × (answer ≡ shown told.entry.reply) × Took seat command told seat'
+
+-- REFUSED: one step of the hub that changes nothing
+abbrev pub IsRefused : PlainSeat → Command → Answer → PlainSeat → Type 0
+IsRefused seat command answer seat' = (fault : Fault) × (answer ≡ refused fault) × Spurned seat command fault seat'
+
+-- a command of the seat was answered so
+abbrev pub Carries : PlainSeat → Command → Answer → PlainSeat → Type 0
+Carries seat command answer seat' = IsAccepted seat command answer seat' ⊎ IsRefused seat command answer seat'
+
+-- the same of a stream or a query by its name, whose number is looked up first, in a step of its own
+abbrev pub CarriesNamed : (PlainLocked → List ℕ → Option ℕ → Type 0) → List ℕ → Fault → (ℕ → Command) → PlainSeat → Answer → PlainSeat → Type 0
+CarriesNamed Finds name fault command seat answer seat' =
+    ((n : ℕ) × ((l : PlainLocked) × Finds l name (Some n)) × Carries seat (command n) answer seat')
+    ⊎ (((l : PlainLocked) × Finds l name None) × (answer ≡ refused fault) × (seat' ≡ seat))
+
+-- what a look at the slopes of a query's operators is answered
+abbrev pub Looks : ℕ → Answer → Type 0
+Looks n (operators found) = (l : PlainLocked) × SeesSlopes (λ seen. seen) l n (Ok found)
+Looks n (refused fault) = (l : PlainLocked) × SeesSlopes (λ (seen : List (Kind × Fraction)). seen) l n (Err fault)
+Looks n answer = ⊥
+
+abbrev pub LooksNamed : List ℕ → Answer → Type 0
+LooksNamed name answer =
+    ((n : ℕ) × ((l : PlainLocked) × FindsQuery l name (Some n)) × Looks n answer)
+    ⊎ (((l : PlainLocked) × FindsQuery l name None) × (answer ≡ refused UnknownQuery))
+
+-- a drain was answered so: at `done` as it says, and else for want of memory or of turns
+abbrev pub IsDrained : Type 0 → Answer → Type 0
+IsDrained rested done = rested
+IsDrained rested (refused OutOfMemory) = ⊤
+IsDrained rested (refused TooManyLeases) = ⊤
+IsDrained rested answer = ⊥
+
+-- there was a moment when no operator might take anything
+abbrev pub WasIdle : ℕ → Type 0
+WasIdle most = (old : PlainLocked) × (new : PlainLocked) × Hands old most (Ok Idle) new
+
+-- a pool has 1 to 64 workers
+abbrev pub IsInRange : Drains → Type 0
+IsInRange (Pool workers) = (1 ≤ workers) × (workers ≤ MAX_WORKERS)
+IsInRange Client = ⊤
+
+-- who runs the turns of a drain, and what is known at its end
+abbrev pub Rested : Drains → ℕ → Type 0
+Rested (Pool workers) most = ⊤
+Rested Client most = WasIdle most
+
+-- THE CALL of a request was answered so, and left this seat; `rested` says what a drain comes to
+abbrev pub Serves : Type 0 → PlainSeat → Call → Answer → PlainSeat → Type 0
+Serves rested seat (declare name columns start) answer seat' = Carries seat (Declare name columns start) answer seat'
+Serves rested seat (register name text chart) answer seat' = Carries seat (Register name text chart) answer seat'
+Serves rested seat (append stream more) answer seat' = CarriesNamed FindsStream stream UnknownStream (λ n. Append n more) seat answer seat'
+Serves rested seat (heartbeat stream at) answer seat' = CarriesNamed FindsStream stream UnknownStream (λ n. Heartbeat n at) seat answer seat'
+Serves rested seat drain answer seat' = IsDrained rested answer × (seat' ≡ seat)
+Serves rested seat (take_rows query limit) answer seat' = CarriesNamed FindsQuery query UnknownQuery (λ n. Take n limit) seat answer seat'
+Serves rested seat (discard query) answer seat' = CarriesNamed FindsQuery query UnknownQuery Drop seat answer seat'
+Serves rested seat (show_plan query) answer seat' = LooksNamed query answer × (seat' ≡ seat)
+
+-- what was asked for was answered; a line that is no request is told so, and calls nothing
+abbrev pub IsServed : Type 0 → PlainSeat → Result Call WireFault → Answer → PlainSeat → Type 0
+IsServed rested seat (Ok call) answer seat' = Serves rested seat call answer seat'
+IsServed rested seat (Err fault) answer seat' = (answer ≡ unread fault) × (seat' ≡ seat)
+
+-- or memory was wanted where the line was read, which no line meets that is too long
+abbrev pub LacksMemory : PlainSeat → Result Call WireFault → Answer → PlainSeat → Type 0
+LacksMemory seat request answer seat' = (request ≢ Err in_line.LineTooLong) × (answer ≡ unread in_line.OutOfMemory) × (seat' ≡ seat)
+
+-- A REQUEST WAS ANSWERED SO
+abbrev pub Replies : Type 0 → PlainSeat → Result Call WireFault → Answer → PlainSeat → Type 0
+Replies rested seat request answer seat' = IsServed rested seat request answer seat' ⊎ LacksMemory seat request answer seat'
+
+-- ---- all requests
+
+-- THE REQUESTS were answered by this text, one line a request, and left this seat
+abbrev pub Runs : Type 0 → PlainSeat → List (Result Call WireFault) → List ℕ → PlainSeat → Type 0
+Runs rested seat [] written seat' = (written ≡ []) × (seat' ≡ seat)
+Runs rested seat (request ∷ more) written seat' =
+    (answer : Answer) × (mid : PlainSeat) × (rest : List ℕ) × (written ≡ line_of answer ++ rest) × Replies rested seat request answer mid
+    × Runs rested mid more rest seat'
+
+-- the first of these requests were carried out, and stand: the written text begins what they are answered
+abbrev pub Stands : Type 0 → PlainSeat → List (Result Call WireFault) → List ℕ → PlainSeat → Type 0
+Stands rested seat requests written seat' =
+    (carried : List (Result Call WireFault)) × (rest : List (Result Call WireFault)) × (more : List ℕ)
+    × (requests ≡ carried ++ rest) × Runs rested seat carried (written ++ more) seat'
+
+-- only more receipts are in the seat
+abbrev pub Keeps : PlainSeat → PlainSeat → Type 0
+Keeps old new = (more : List Told) × (new ≡ record old { receipts = old.receipts ++ more })

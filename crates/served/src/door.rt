@@ -1,0 +1,52 @@
+//! The door of a server: its listener, and how many connections are still to serve.
+
+use std::net::{TcpListener, TcpStream};
+
+/// What the client threads share, one at a time.
+#[derive(Drop)]
+pub(crate) struct Door {
+    /// Where connections come in.
+    pub(crate) listener: TcpListener,
+    /// How many are still to serve, without end where that is not said.
+    pub(crate) left: Option<u64>,
+    /// A connection could not be accepted.
+    pub(crate) accept_failed: bool,
+    /// A thread could not be started.
+    pub(crate) thread_failed: bool,
+}
+
+impl Door {
+    /// A door that lets so many in.
+    pub(crate) fn new(listener: TcpListener, left: Option<u64>) -> Door {
+        Door {
+            listener,
+            left,
+            accept_failed: false,
+            thread_failed: false,
+        }
+    }
+
+    /// One connection, or None where there are no more.
+    pub(crate) fn accept(&mut self) -> Option<TcpStream> {
+        if self.left == Some(0) {
+            return None;
+        }
+        match self.listener.accept() {
+            Ok((stream, _)) => {
+                self.left = self.left.map(|left| left.saturating_sub(1));
+                Some(stream)
+            }
+            Err(_) => {
+                self.left = Some(0);
+                self.accept_failed = true;
+                None
+            }
+        }
+    }
+
+    /// No more connections, since a thread could not be started.
+    pub(crate) fn lack_thread(&mut self) {
+        self.left = Some(0);
+        self.thread_failed = true;
+    }
+}

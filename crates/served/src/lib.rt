@@ -1,0 +1,10 @@
+//! A hub served: the lines of a source answered by one seat, and a server of many connections.
+#![tactic(auto)]
+
+mod answer;
+mod door;
+mod lines;
+mod server;
+
+pub use lines::{run_hub, serve_connection};
+pub use server::serve;

@@ -1,0 +1,170 @@
+//! The lines of a source.
+ghost use Rattle.std.specs.Prelude.{◌≡◌, ◌≤◌, ⊤, IfErr, OnErr, OnOk, Result};
+ghost use Rattle.reference.specs.declared.limits.TheConstants.{MAX_TURN};
+ghost use Rattle.wire.specs.Calls.{Call};
+ghost use Rattle.wire.specs.Devices.{Puts, Rises};
+ghost use Rattle.wire.specs.Printed.{Answer, line_of};
+ghost use Rattle.wire.specs.Requests.{Reads, requests_of};
+ghost use Rattle.wire.specs.Script.{Scripts};
+ghost use Rattle.wire.specs.declared.request.WireFault.{WireFault};
+ghost use Rattle.workers.specs.declared.pool.TheConstants.{MAX_WORKERS};
+ghost use Rattle.served.specs.Serving.{IsInRange, Keeps, Replies, Rested, Runs, Stands, WasIdle};
+
+use crate::answer::{Drains, serve};
+use hub::{Hub, Seat};
+use std::alloc::Global;
+use std::sync::Wait;
+use std::thread::Threads;
+use wire::{Lines, Request, ScriptFault, Sink, Source, WireFault, next_request, write_reply};
+
+/// Answers each request of the source by one line, up to the end of the source. A drain is run by a
+/// pool of so many workers, 1 to 64, by turns of at most `rows` rows, 1 to 1,024.
+///
+/// Each accepted command is a step of the hub: its reply is that of the receipt which the seat then
+/// has. What is known of a reply is what is known of such a step: other seats may call between two.
+///
+/// # Errors
+/// `Read` and `Write` only where that device failed in this call, `Memory` only at the start. The
+/// commands that were carried out stand.
+pub fn run_hub<R: Threads + Wait + Sync, S: Source, K: Sink>(
+    rt: &R,
+    alloc: Global,
+    source: &mut S,
+    sink: &mut K,
+    hub: &Hub,
+    seat: &mut Seat,
+    workers: u64,
+    rows: u32,
+) -> Result<(), ScriptFault>
+    requires rows { 1 ≤ rows × rows ≤ MAX_TURN }
+    requires workers { 1 ≤ workers × workers ≤ MAX_WORKERS }
+    ensures text { OnOk result (Scripts (λ text written. Runs ⊤ seat.old
+        (requests_of text) written seat.new)
+        (S.left source.old) (K.taken sink.old) (K.taken sink.new)) }
+    ensures stands { OnErr result (Scripts (λ text written. Stands ⊤ seat.old
+        (requests_of text) written seat.new)
+        (S.left source.old) (K.taken sink.old) (K.taken sink.new)) }
+    ensures seat { Keeps seat.old seat.new }
+    ensures read { IfErr result (λ e. e ≡ ScriptFault.Read
+        → Rises (S.failures source.old) (S.failures source.new)
+        × (K.failures sink.new ≡ K.failures sink.old)) }
+    ensures write { IfErr result (λ e. e ≡ ScriptFault.Write
+        → Rises (K.failures sink.old) (K.failures sink.new)
+        × (S.failures source.new ≡ S.failures source.old)) }
+    ensures sound { OnOk result ((S.failures source.new ≡ S.failures source.old)
+        × (K.failures sink.new ≡ K.failures sink.old)) }
+    ensures memory { IfErr result (λ e. e ≡ ScriptFault.Memory
+        → (source.new ≡ source.old) × (sink.new ≡ sink.old) × (seat.new ≡ seat.old)) }
+{
+    let drains = Drains::Pool(workers);
+    run_lines(rt, alloc, source, sink, hub, seat, drains, rows)
+}
+
+/// Answers one connection until its input ends or a device fails. A drain is run by this thread, by
+/// turns of at most `rows` rows, 1 to 1,024, until there is a moment when no operator may take
+/// anything. Turns of other threads may still be out then.
+///
+/// # Errors
+/// As of `run_hub`.
+pub fn serve_connection<R: Threads + Wait + Sync, S: Source, K: Sink>(
+    rt: &R,
+    alloc: Global,
+    source: &mut S,
+    sink: &mut K,
+    hub: &Hub,
+    seat: &mut Seat,
+    rows: u32,
+) -> Result<(), ScriptFault>
+    requires rows { 1 ≤ rows × rows ≤ MAX_TURN }
+    ensures text { OnOk result (Scripts (λ text written. Runs (WasIdle rows) seat.old
+        (requests_of text) written seat.new)
+        (S.left source.old) (K.taken sink.old) (K.taken sink.new)) }
+    ensures stands { OnErr result (Scripts (λ text written. Stands (WasIdle rows) seat.old
+        (requests_of text) written seat.new)
+        (S.left source.old) (K.taken sink.old) (K.taken sink.new)) }
+    ensures seat { Keeps seat.old seat.new }
+    ensures read { IfErr result (λ e. e ≡ ScriptFault.Read
+        → Rises (S.failures source.old) (S.failures source.new)
+        × (K.failures sink.new ≡ K.failures sink.old)) }
+    ensures write { IfErr result (λ e. e ≡ ScriptFault.Write
+        → Rises (K.failures sink.old) (K.failures sink.new)
+        × (S.failures source.new ≡ S.failures source.old)) }
+    ensures sound { OnOk result ((S.failures source.new ≡ S.failures source.old)
+        × (K.failures sink.new ≡ K.failures sink.old)) }
+    ensures memory { IfErr result (λ e. e ≡ ScriptFault.Memory
+        → (source.new ≡ source.old) × (sink.new ≡ sink.old) × (seat.new ≡ seat.old)) }
+{
+    let drains = Drains::Client;
+    run_lines(rt, alloc, source, sink, hub, seat, drains, rows)
+}
+
+// Answers what was read of a line by one line.
+fn respond<R: Threads + Wait + Sync, K: Sink>(
+    rt: &R,
+    alloc: Global,
+    sink: &mut K,
+    hub: &Hub,
+    seat: &mut Seat,
+    read: Result<Request, WireFault>,
+    drains: Drains,
+    rows: u32,
+) -> Result<(), ScriptFault>
+    requires rows { 1 ≤ rows × rows ≤ MAX_TURN }
+    requires workers { IsInRange drains }
+    ensures written { (answer : Answer)
+        × ((defined : Result Call WireFault) → Reads defined read
+        → Replies (Rested drains rows) seat.old defined answer seat.new)
+        × Puts (K.taken sink.old) (K.taken sink.new) (K.failures sink.old)
+        (K.failures sink.new) result (line_of answer) }
+    ensures seat { Keeps seat.old seat.new }
+    ensures fault { IfErr result (λ e. e ≡ ScriptFault.Write) }
+{
+    let reply = serve(rt, alloc, hub, seat, read, drains, rows);
+    write_reply(sink, &reply)
+}
+
+fn run_lines<R: Threads + Wait + Sync, S: Source, K: Sink>(
+    rt: &R,
+    alloc: Global,
+    source: &mut S,
+    sink: &mut K,
+    hub: &Hub,
+    seat: &mut Seat,
+    drains: Drains,
+    rows: u32,
+) -> Result<(), ScriptFault>
+    requires rows { 1 ≤ rows × rows ≤ MAX_TURN }
+    requires workers { IsInRange drains }
+    ensures text { OnOk result (Scripts (λ text written. Runs (Rested drains rows) seat.old
+        (requests_of text) written seat.new)
+        (S.left source.old) (K.taken sink.old) (K.taken sink.new)) }
+    ensures stands { OnErr result (Scripts (λ text written. Stands (Rested drains rows) seat.old
+        (requests_of text) written seat.new)
+        (S.left source.old) (K.taken sink.old) (K.taken sink.new)) }
+    ensures seat { Keeps seat.old seat.new }
+    ensures read { IfErr result (λ e. e ≡ ScriptFault.Read
+        → Rises (S.failures source.old) (S.failures source.new)
+        × (K.failures sink.new ≡ K.failures sink.old)) }
+    ensures write { IfErr result (λ e. e ≡ ScriptFault.Write
+        → Rises (K.failures sink.old) (K.failures sink.new)
+        × (S.failures source.new ≡ S.failures source.old)) }
+    ensures sound { OnOk result ((S.failures source.new ≡ S.failures source.old)
+        × (K.failures sink.new ≡ K.failures sink.old)) }
+    ensures memory { IfErr result (λ e. e ≡ ScriptFault.Memory
+        → (source.new ≡ source.old) × (sink.new ≡ sink.old) × (seat.new ≡ seat.old)) }
+{
+    let Ok(mut lines) = Lines::new(alloc) else {
+        return Err(ScriptFault::Memory);
+    };
+    'requests: loop {
+        let Ok(next) = next_request(alloc, &mut lines, source) else {
+            return Err(ScriptFault::Read);
+        };
+        let Some(read) = next else {
+            return Ok(());
+        };
+        let Ok(()) = respond(rt, alloc, sink, hub, seat, read, drains, rows) else {
+            return Err(ScriptFault::Write);
+        };
+    }
+}

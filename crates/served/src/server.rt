@@ -1,0 +1,154 @@
+//! A server: client threads accept connections in turn, and workers run turns.
+ghost use Rattle.std.specs.Prelude.{◌≡◌, ◌≤◌, ◌⊎◌};
+ghost use Rattle.served.specs.Errors.{Told, accept_line, close_line, memory_line, thread_line};
+
+use crate::door::Door;
+use crate::lines::serve_connection;
+use command_lines::ServeOptions;
+use hub::{Hub, MAX_HISTORY, Seat};
+use std::alloc::Global;
+use std::net::TcpListener;
+use std::sync::{Mutex, Wait};
+use std::thread;
+use std::thread::{JoinHandle, Threads};
+use wire::{ReaderSource, Sink, WriterSink, put};
+use workers::{Open, work};
+
+/// The rows of a turn.
+const ROWS: u32 = 256;
+
+/// The body of the server after its listener was bound: tells where it listens, answers
+/// connections, and gives its status. 0 where nothing failed; 1 where a connection could not be
+/// accepted, or the history and the seats differ at the end; 3 where memory is refused at the start
+/// or a thread could not be started. What is not 0 is said on `errors`, in one line.
+pub fn serve<R: Threads + Wait + Sync, O: Sink, E: Sink>(
+    rt: &R,
+    alloc: Global,
+    listener: TcpListener,
+    options: &ServeOptions,
+    sink: &mut O,
+    errors: &mut E,
+) -> u8
+    requires clients { 1 ≤ options.now.clients × options.now.clients ≤ 64 }
+    ensures status { (result ≡ 0) ⊎ (result ≡ 1) ⊎ (result ≡ 3) }
+    ensures silent { result ≡ 0 → errors.new ≡ errors.old }
+    ensures failed { result ≡ 1
+        → Told E.taken E.failures errors.old errors.new accept_line
+        ⊎ Told E.taken E.failures errors.old errors.new close_line }
+    ensures lacks { result ≡ 3
+        → Told E.taken E.failures errors.old errors.new memory_line
+        ⊎ Told E.taken E.failures errors.old errors.new thread_line }
+{
+    let clients = options.clients as u64;
+    let Ok((hub, seats)) = Hub::open(alloc, clients, MAX_HISTORY) else {
+        return lack_memory(errors);
+    };
+    tell_address(alloc, &listener, sink);
+    let left = options.serve.map(|connections| connections as u64);
+    let door = Mutex::new(Door::new(listener, left));
+    let Some(seats) = run_threads(rt, alloc, &door, &hub, seats, options.workers) else {
+        return lack_memory(errors);
+    };
+    let door = door.into_inner();
+    if door.thread_failed {
+        tell(errors, "cqld: thread failed\n");
+        return 3;
+    }
+    if door.accept_failed {
+        tell(errors, "cqld: accept failed\n");
+        return 1;
+    }
+    match hub.close(seats) {
+        Ok(_) => 0,
+        Err(_) => {
+            tell(errors, "cqld: close failed\n");
+            1
+        }
+    }
+}
+
+fn lack_memory<E: Sink>(errors: &mut E) -> u8
+    ensures status { result ≡ 3 }
+    ensures told { Told E.taken E.failures errors.old errors.new memory_line }
+{
+    tell(errors, "cqld: out of memory\n");
+    3
+}
+
+// Says where it listens. A write that fails is ignored, as is an address that is not told.
+fn tell_address<O: Sink>(alloc: Global, listener: &TcpListener, sink: &mut O) {
+    let Ok(address) = listener.local_addr() else {
+        return;
+    };
+    let port = address.port();
+    if let Ok(line) = format!(in alloc; "cqld: listening on 127.0.0.1:{port}\n") {
+        tell(sink, line.as_str());
+    }
+}
+
+// Starts the threads while nobody may come in, and gives the seats back once the clients have
+// ended. None where memory is refused before the first is started.
+fn run_threads<R: Threads + Wait + Sync>(
+    rt: &R,
+    alloc: Global,
+    door: &Mutex<Door>,
+    hub: &Hub,
+    seats: Vec<Seat>,
+    workers: u32,
+) -> Option<Vec<Seat>> {
+    let mut handles: Vec<JoinHandle<Seat>> = Vec::with_capacity(alloc, seats.len()).ok()?;
+    let mut back = Vec::with_capacity(alloc, seats.len()).ok()?;
+    thread::scope(thread::scope_env(), rt, move |scope| {
+        let mut held = door.lock(rt);
+        for _ in 0..workers {
+            if scope
+                .spawn(move || work(rt, alloc, hub, &Open, ROWS))
+                .is_err()
+            {
+                held.lack_thread();
+            }
+        }
+        for seat in seats {
+            match scope.spawn(move || client(rt, alloc, door, hub, seat)) {
+                Ok(handle) => {
+                    // there is room for the handles of all seats
+                    let _ = handles.push(handle);
+                }
+                Err(_) => held.lack_thread(),
+            }
+        }
+        drop(held);
+        for handle in handles {
+            let _ = back.push(handle.join(rt));
+        }
+        hub.end(rt);
+        Some(back)
+    })
+}
+
+// Serves connections until there are no more, and gives the seat back. A device that fails ends its
+// connection alone.
+fn client<R: Threads + Wait + Sync>(
+    rt: &R,
+    alloc: Global,
+    door: &Mutex<Door>,
+    hub: &Hub,
+    mut seat: Seat,
+) -> Seat {
+    for _ in rt.forever() {
+        let Some(stream) = door.lock(rt).accept() else {
+            break;
+        };
+        let mut source = ReaderSource::new(&stream);
+        let mut sink = WriterSink::new(&stream);
+        let _ = serve_connection(rt, alloc, &mut source, &mut sink, hub, &mut seat, ROWS);
+    }
+    seat
+}
+
+// A failed write of a text is ignored: the status says the rest.
+fn tell<E: Sink>(errors: &mut E, text: &str)
+    ensures { Told E.taken E.failures errors.old errors.new text.now }
+{
+    let _ = put(errors, text.as_bytes());
+}

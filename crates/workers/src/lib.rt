@@ -1,0 +1,10 @@
+//! Workers: threads that run a hub's turns outside its lock.
+#![tactic(auto)]
+
+mod gate;
+mod pool;
+mod worker;
+
+pub use gate::{Gate, Open};
+pub use pool::{MAX_WORKERS, Pool};
+pub use worker::work;

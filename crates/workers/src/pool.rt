@@ -1,0 +1,71 @@
+//! A pool of workers.
+ghost use Rattle.std.specs.Prelude.{◌≡◌, ◌≤◌, ◌↔◌, ◌⊎◌, IfErr, IsErrOf};
+ghost use Rattle.reference.specs.declared.fault.Fault.TheVariants.{BadLimit, OutOfMemory};
+ghost use Rattle.reference.specs.declared.fault.Fault.TheVariants.{TooManyLeases};
+ghost use Rattle.reference.specs.declared.limits.TheConstants.{MAX_TURN};
+ghost use Rattle.workers.specs.declared.pool.TheConstants.{MAX_WORKERS};
+
+use crate::gate::Gate;
+use crate::worker::{Lack, run_to_rest};
+use hub::Hub;
+use reference::{Fault, MAX_TURN};
+use std::alloc::Global;
+use std::sync::{Mutex, Wait};
+use std::thread;
+use std::thread::Threads;
+
+/// The most workers of a pool.
+pub const MAX_WORKERS: u64 = 64;
+
+/// Workers that drain a hub.
+pub struct Pool;
+
+impl Pool {
+    /// Runs turns of at most `rows` rows in so many threads, of which this is one, until no
+    /// operator may take anything and no turn is out. A thread that the system refuses is left out.
+    /// When it answers, each of its workers has ended.
+    ///
+    /// # Errors
+    /// `BadLimit` where workers are not 1 to 64, or rows not 1 to 1,024; `TooManyLeases` or
+    /// `OutOfMemory` where a worker met it.
+    pub fn drain<R: Threads + Wait + Sync, G: Gate + Sync>(
+        rt: &R,
+        alloc: Global,
+        hub: &Hub,
+        gate: &G,
+        workers: u64,
+        rows: u32,
+    ) -> Result<(), Fault>
+        ensures bad { IsErrOf result Fault.BadLimit ↔ (¬ ((1 ≤ workers)
+            × (workers ≤ MAX_WORKERS) × (1 ≤ rows) × (rows ≤ MAX_TURN))) }
+        ensures err { IfErr result (λ f.
+            (f ≡ BadLimit) ⊎ (f ≡ TooManyLeases) ⊎ (f ≡ OutOfMemory)) }
+    {
+        if workers == 0 || workers > MAX_WORKERS || rows == 0 || rows > MAX_TURN {
+            return Err(Fault::BadLimit);
+        }
+        let met = Mutex::new(None);
+        let shared = &met;
+        thread::scope(thread::scope_env(), rt, |scope| {
+            for _ in 1..workers {
+                let _ = scope.spawn(move || {
+                    note(rt, shared, run_to_rest(rt, alloc, hub, gate, rows))
+                });
+            }
+            note(rt, shared, run_to_rest(rt, alloc, hub, gate, rows));
+        });
+        match met.into_inner() {
+            Some(Lack::Memory) => Err(Fault::OutOfMemory),
+            Some(Lack::Turns) => Err(Fault::TooManyLeases),
+            None => Ok(()),
+        }
+    }
+}
+
+// Notes what a worker was short of.
+fn note<R: Wait>(rt: &R, met: &Mutex<Option<Lack>>, answer: Result<(), Lack>) {
+    if let Err(lack) = answer {
+        let mut met = met.lock(rt);
+        *met = Some(lack);
+    }
+}

@@ -1,0 +1,82 @@
+//! Workers.
+ghost use Rattle.std.specs.Prelude.{◌≤◌};
+ghost use Rattle.turn.specs.Turns.{Fits};
+ghost use Rattle.reference.specs.declared.limits.TheConstants.{MAX_TURN};
+
+use crate::gate::Gate;
+use hub::{Hub, LeaseRest, LeaseWait};
+use reference::Fault;
+use std::alloc::Global;
+use std::sync::Wait;
+use turn::Turn;
+
+/// What a worker may be short of.
+#[derive(Clone, Copy)]
+pub(crate) enum Lack {
+    /// Memory was refused.
+    Memory,
+    /// As many turns are out as may be, or all numbers of turns were given.
+    Turns,
+}
+
+/// Runs turns of at most `rows` rows, until the hub's end is called and it is seen. A turn that did
+/// not come back is tried again, since its operator is ready again.
+pub fn work<R: Wait, G: Gate>(rt: &R, alloc: Global, hub: &Hub, gate: &G, rows: u32)
+    requires { 1 ≤ rows × rows ≤ MAX_TURN }
+{
+    for _ in rt.forever() {
+        match hub.lease_wait(rt, rows) {
+            Ok(LeaseWait::Turn(turn)) => {
+                let _ = run_turn(rt, alloc, hub, gate, turn);
+            }
+            Ok(LeaseWait::Ended) => return,
+            Err(_) => {}
+        }
+    }
+}
+
+/// Runs turns of at most `rows` rows, 1 to 1,024, until no operator may take anything and none is
+/// out. What it is short of it answers, and then holds no turn.
+pub(crate) fn run_to_rest<R: Wait, G: Gate>(
+    rt: &R,
+    alloc: Global,
+    hub: &Hub,
+    gate: &G,
+    rows: u32,
+) -> Result<(), Lack> {
+    for _ in rt.forever() {
+        let turn = match hub.lease_or_rest(rt, rows) {
+            Ok(LeaseRest::Turn(turn)) => turn,
+            Ok(LeaseRest::Rest) => return Ok(()),
+            Err(Fault::TooManyLeases) => return Err(Lack::Turns),
+            Err(_) => return Err(Lack::Memory),
+        };
+        if let Err(Fault::OutOfMemory) = run_turn(rt, alloc, hub, gate, turn) {
+            return Err(Lack::Memory);
+        }
+    }
+    unreachable!()
+}
+
+// Runs a turn and brings it back; where memory is refused it is abandoned.
+fn run_turn<R: Wait, G: Gate>(
+    rt: &R,
+    alloc: Global,
+    hub: &Hub,
+    gate: &G,
+    turn: Turn,
+) -> Result<(), Fault>
+    requires { Fits turn.node turn.item turn.near }
+{
+    let lease = turn.lease;
+    gate.before(lease);
+    let answer = match turn.run(alloc) {
+        Ok(done) => hub.finish(rt, done),
+        Err(_) => {
+            let _ = hub.abandon(rt, lease);
+            Err(Fault::OutOfMemory)
+        }
+    };
+    gate.after(lease);
+    answer
+}

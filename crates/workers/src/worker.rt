@@ -41,6 +41,7 @@ pub fn work<R: Wait, G: Gate>(rt: &R, alloc: Global, hub: &Hub, gate: &G, rows: 
 
 /// Runs turns of at most `rows` rows until no operator may take anything and none is out. What it
 /// is short of it answers, and then holds no turn.
+#[tactic(auto, using(hub::proofs::WithheldLemmas::withheld_for))]
 pub(crate) fn run_to_rest<R: Wait, G: Gate>(
     rt: &R,
     alloc: Global,

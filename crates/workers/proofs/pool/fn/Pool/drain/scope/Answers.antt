@@ -1,4 +1,4 @@
-use denote.Param.Send.{IsSend, IsSync, sendable, param_send}
+use denote.Param.Send.{IsSync, sendable, param_send}
 use Rattle.std.proofs.Crossing.{crosses, send}
 use Rattle.std.specs.contracts.option.Option as option
 use Rattle.std.specs.contracts.sync.Mutex as mutex

@@ -1,8 +1,8 @@
 //! The command line of `cqlrun`.
 ghost use Rattle.std.specs.Prelude.{◌≡◌, ◌≤◌, ◌↔◌, [], IfOk, IfErr, IfSome, IsTrue, codes, map};
 ghost use Rattle.std.specs.Prelude.{MatchResult, option_map};
-ghost use Rattle.command_lines.specs.CommandLine.{AsksBoth, IsPlain, number_in, number_or, refusals};
-ghost use Rattle.command_lines.specs.CommandLine.{run_text};
+ghost use Rattle.command_lines.specs.CommandLine.{AsksBoth, IsPlain, number_in, number_or};
+ghost use Rattle.command_lines.specs.CommandLine.{refusals, run_text};
 ghost use Rattle.command_lines.specs.Faults.{ChoosesBoth, RefusesRun};
 
 use crate::fault::WordsFault;
@@ -39,8 +39,8 @@ pub fn run_options<'a, S: AsStr>(alloc: Global, words: &'a [S]) -> Result<RunOpt
     ensures plain { IfOk result (λ o. IsTrue o.is_plain ↔ IsPlain (map S.text words.entry.now)) }
     ensures turn { IfOk result (λ o.
         o.turn ≡ number_or 256 (run_text (codes "turn") (map S.text words.entry.now))) }
-    ensures workers { IfOk result (λ o.
-        o.workers ≡ option_map number_in (run_text (codes "workers") (map S.text words.entry.now))) }
+    ensures workers { IfOk result (λ o. o.workers
+        ≡ option_map number_in (run_text (codes "workers") (map S.text words.entry.now))) }
     ensures range { IfOk result (λ o. (1 ≤ o.turn) × (o.turn ≤ 1024)
         × IfSome o.workers (λ n. (1 ≤ n) × (n ≤ 64))) }
 {

@@ -1,8 +1,8 @@
 //! The command line of `cqld`.
 ghost use Rattle.std.specs.Prelude.{◌≡◌, ◌≤◌, IfOk, IfSome, codes, map, option_map};
 ghost use Rattle.clap.specs.Words.{FailsBy};
-ghost use Rattle.command_lines.specs.CommandLine.{IsNumberArg, between, number_in, number_or, option};
-ghost use Rattle.command_lines.specs.CommandLine.{serve_refusals, serve_text, wanted};
+ghost use Rattle.command_lines.specs.CommandLine.{IsNumberArg, between, number_in, number_or};
+ghost use Rattle.command_lines.specs.CommandLine.{option, serve_refusals, serve_text, wanted};
 
 use crate::number::{number, wanted_number};
 use clap::{Arg, Command, Error, value_parser};

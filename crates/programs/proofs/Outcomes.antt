@@ -13,8 +13,10 @@ use Rattle.wire.specs.Script.{script, Says, Begins, Runs, Scripts, Stands}
 use Rattle.wire.proofs.Sinks.{append_nothing}
 use Rattle.wire.proofs.Scripts.{begins_wider, says_all}
 use Rattle.command_lines.specs.CommandLine.{IsPlain}
-use Rattle.hub.specs.Seats.{opened}
-use Rattle.programs.specs.Run.{Answers, MayRunOut, IsWrong, Leads, Shares}
+use Rattle.wire.specs.Printed.{Answer}
+use Rattle.hub.specs.Seats.{PlainSeat, opened}
+use Rattle.served.specs.Serving as of_seat
+use Rattle.programs.specs.Run.{Answers, IsAlone, MayRunOut, IsWrong, Leads, Shares}
 
 pub says_begins : (N : Type 0) (w : World) (source old new : Option (List ℕ)) → Scripts (λ text written. Says N (requests_of text) (script w text) written) source old new
     → Scripts (λ text written. Begins N (requests_of text) (script w text) written) source old new
@@ -48,10 +50,46 @@ answers_nothing N w status source old new is same = (
 )
 
 -- nothing was written by a seat
-pub shares_nothing : (status : ℕ) (source old new : Option (List ℕ)) → status ≡ 3 → new ≡ old → Shares status source old new
-shares_nothing status source old new is same = (
+pub shares_nothing : (drains : Answer → Type 0) (status : ℕ) (source old new : Option (List ℕ)) → status ≡ 3 → new ≡ old → Shares drains status source old new
+shares_nothing drains status source old new is same = (
   λ none. absurd (cc),
   λ text held is' told. ([], same ∙ told ∙ ap Some (sym (append_nothing held)), (opened 0, ([], requests_of text, [], refl, (refl, refl)))),
+)
+
+-- a seat carried out some of the requests, and no status tells that it were all
+pub shares_some : (drains : Answer → Type 0) (status : ℕ) (source old new : Option (List ℕ)) (first seat : PlainSeat) → first ≡ opened 0 → status ≢ 0
+    → Scripts (λ text written. of_seat.Stands drains first (requests_of text) written seat) source old new → Shares drains status source old new
+shares_some drains status source old new first seat fresh other s = (
+  λ none. absurd (other none),
+  λ text held is told.
+      let r = s text held is told in
+      (r.0, r.1, (seat, subst (λ (f : PlainSeat). of_seat.Stands drains f (requests_of text) r.0 seat) fresh r.2)),
+)
+
+-- what a seat carried out stands
+seat_stands : (drains : Answer → Type 0) (source old new : Option (List ℕ)) (first seat : PlainSeat) → Scripts (λ text written. of_seat.Runs drains first (requests_of text) written seat) source old new
+    → Scripts (λ text written. of_seat.Stands drains first (requests_of text) written seat) source old new
+seat_stands drains source old new first seat s text held is told =
+    let r = s text held is told in
+    let run = subst (λ t. of_seat.Runs drains first (requests_of text) t seat) (sym (append_nothing r.0)) r.2 in
+    (r.0, r.1, (requests_of text, [], [], sym (append_none (requests_of text)), run))
+
+-- a seat carried out all requests, and a status tells nothing of it
+pub shares_differing : (drains : Answer → Type 0) (status : ℕ) (source old new : Option (List ℕ)) (first seat : PlainSeat) → first ≡ opened 0 → status ≢ 0
+    → Scripts (λ text written. of_seat.Runs drains first (requests_of text) written seat) source old new → Shares drains status source old new
+shares_differing drains status source old new first seat fresh other s =
+    shares_some drains status source old new first seat fresh other (seat_stands drains source old new first seat s)
+
+-- a seat carried out all requests, and its receipts are a legal history
+pub shares_all : (drains : Answer → Type 0) (status : ℕ) (source old new : Option (List ℕ)) (first seat : PlainSeat) → first ≡ opened 0 → IsAlone seat
+    → Scripts (λ text written. of_seat.Runs drains first (requests_of text) written seat) source old new → Shares drains status source old new
+shares_all drains status source old new first seat fresh alone s = (
+  λ none text held is told.
+      let r = s text held is told in
+      (r.0, r.1, (seat, (subst (λ (f : PlainSeat). of_seat.Runs drains f (requests_of text) r.0 seat) fresh r.2, alone))),
+  λ text held is told.
+      let r = seat_stands drains source old new first seat s text held is told in
+      (r.0, r.1, (seat, subst (λ (f : PlainSeat). of_seat.Stands drains f (requests_of text) r.0 seat) fresh r.2)),
 )
 
 pub not_on : (b : Bool) → not b ≡ true → b ≡ false

@@ -1,6 +1,6 @@
--- What `cqlrun` does.
-use Rattle.std.specs.Prelude.{◌≡◌, ◌≢◌, ℕ, List, [], Option, ◌⊎◌, ⊤, codes}
-use Rattle.clap.specs.Words.{Kinds, IsAmong}
+-- What the programs do.
+use Rattle.std.specs.Prelude.{◌≡◌, ◌≢◌, ℕ, List, [], ◌∷◌, Option, None, ◌⊎◌, codes}
+use Rattle.clap.specs.Words.{Kinds, IsAmong, Text}
 use Rattle.clap.specs.declared.error.kind.ErrorKind.TheVariants.{DisplayHelp, DisplayVersion}
 use Rattle.reference.specs.World.{World}
 use Rattle.wire.specs.Devices.{Rises}
@@ -8,8 +8,11 @@ use Rattle.wire.specs.Requests.{requests_of}
 use Rattle.wire.specs.declared.fault.ScriptFault.{ScriptFault}
 use Rattle.wire.specs.declared.fault.ScriptFault.TheVariants.{Read, Write, Memory}
 use Rattle.wire.specs.Script.{script, Says, Begins, Runs, Scripts, Stands}
-use Rattle.hub.specs.Seats.{PlainSeat, opened}
-use Rattle.served.specs.Errors.{Told}
+use Rattle.wire.specs.Printed.{Answer}
+use Rattle.command_lines.specs.CommandLine.{number_or, run_text}
+use Rattle.histories.specs.Histories.{Entry, IsLegal}
+use Rattle.hub.specs.Seats.{IsAudited, PlainSeat, opened}
+use Rattle.served.specs.Errors.{IsTold, accept_line, bind_line, close_line, memory_line, thread_line}
 use Rattle.served.specs.Serving as of_seat
 
 -- At the status 0 the sink took the script's text of what the source gave, and else a beginning of it; a reply that says want
@@ -31,12 +34,24 @@ Leads wanted first now status source old new =
     (status ≡ 0 → Scripts (λ text written. Runs wanted first (requests_of text) written now) source old new)
     × Scripts (λ text written. Stands wanted first (requests_of text) written now) source old new
 
--- At the status 0 the sink took what a seat with no receipt is answered by the steps of a hub, one line a request, and else a
--- beginning of it.
-abbrev pub Shares : ℕ → Option (List ℕ) → Option (List ℕ) → Option (List ℕ) → Type 0
-Shares status source old new =
-    (status ≡ 0 → Scripts (λ text written. (seat : PlainSeat) × of_seat.Runs ⊤ (opened 0) (requests_of text) written seat) source old new)
-    × Scripts (λ text written. (seat : PlainSeat) × of_seat.Stands ⊤ (opened 0) (requests_of text) written seat) source old new
+-- The receipts of the only seat are the entries of a legal history, each once and in order.
+abbrev pub IsAlone : PlainSeat → Type 0
+IsAlone seat = (entries : List Entry) × IsLegal entries × IsAudited (seat ∷ []) 1 entries
+
+-- At the status 0 the sink took what the only seat of a hub is answered by steps of it, one line a request, and its receipts
+-- are then a legal history; else it took a beginning of such answers. `drains` says what a drain may be answered.
+abbrev pub Shares : (Answer → Type 0) → ℕ → Option (List ℕ) → Option (List ℕ) → Option (List ℕ) → Type 0
+Shares drains status source old new =
+    (status ≡ 0 → Scripts (λ text written. (seat : PlainSeat) × of_seat.Runs drains (opened 0) (requests_of text) written seat × IsAlone seat) source old new)
+    × Scripts (λ text written. (seat : PlainSeat) × of_seat.Stands drains (opened 0) (requests_of text) written seat) source old new
+
+-- the words ask for workers
+abbrev pub AsksWorkers : List Text → Type 0
+AsksWorkers words = run_text (codes "workers") words ≢ None
+
+-- the most rows of a turn that the words ask for
+abbrev pub turn_of : List Text → ℕ
+turn_of words = number_or 256 (run_text (codes "turn") words)
 
 -- words that are refused, and that ask for no help
 abbrev pub IsWrong : Kinds → Type 0
@@ -54,19 +69,39 @@ fault_line Read = codes "cqlrun: read failed\n"
 fault_line Write = codes "cqlrun: write failed\n"
 fault_line Memory = codes "cqlrun: out of memory\n"
 
+-- what is said where the history and the seat differ at the end
+abbrev pub differs_line : List ℕ
+differs_line = codes "cqlrun: close failed\n"
+
 -- what is said of a word that is not UTF-8
 abbrev pub no_text_line : List ℕ
 no_text_line = codes "cqlrun: a word is not UTF-8\n"
 
+-- the same of `cqld`
+abbrev pub no_server_text_line : List ℕ
+no_server_text_line = codes "cqld: a word is not UTF-8\n"
+
 -- a sink was given some text
 abbrev pub ToldSome : {E : Type 0} → (E → Option (List ℕ)) → (E → ℕ) → E → E → Type 0
-ToldSome taken failures old new = (text : List ℕ) × (text ≢ []) × Told taken failures old new text
+ToldSome taken failures old new = (text : List ℕ) × (text ≢ []) × IsTold taken failures old new text
 
 -- Either the source failed or the sink, the other one did not, and which one is told.
 abbrev pub Failed : {I O : Type 0} → (I → ℕ) → I → I → (O → ℕ) → O → O → (List ℕ → Type 0) → Type 0
 Failed reads source source' writes sink sink' told =
     (Rises (reads source) (reads source') × (writes sink' ≡ writes sink) × told (fault_line Read))
     ⊎ (Rises (writes sink) (writes sink') × (reads source' ≡ reads source) × told (fault_line Write))
+
+-- No device failed, and it is told that the history and the seat differ.
+abbrev pub Differs : {I O : Type 0} → (I → ℕ) → I → I → (O → ℕ) → O → O → (List ℕ → Type 0) → Type 0
+Differs reads source source' writes sink sink' told = (reads source' ≡ reads source) × (writes sink' ≡ writes sink) × told differs_line
+
+-- what is told where a server ends with the status 1
+abbrev pub IsServerFailure : (List ℕ → Type 0) → Type 0
+IsServerFailure told = told bind_line ⊎ (told accept_line ⊎ told close_line)
+
+-- and with the status 3
+abbrev pub IsServerLack : (List ℕ → Type 0) → Type 0
+IsServerLack told = told memory_line ⊎ told thread_line
 
 -- the statuses of words that are not wrong
 abbrev pub IsOfRun : ℕ → Type 0

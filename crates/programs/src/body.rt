@@ -1,14 +1,17 @@
 //! The body of `cqlrun`.
-ghost use Rattle.std.specs.Prelude.{◌≡◌, ◌≢◌, ◌<◌, ◌≤◌, ◌⊎◌, ◌∷◌, [], None, codes, map};
-ghost use Rattle.clap.specs.Words.{kind_of};
+ghost use Rattle.std.specs.Prelude.{◌≡◌, ◌≢◌, ◌<◌, ◌≤◌, ◌⊎◌, ◌∷◌, [], None, Some, codes, map};
+ghost use Rattle.clap.specs.Words.{Text, kind_of};
 ghost use Rattle.reference.specs.World as world;
 ghost use Rattle.wire.specs.Devices.{Rises};
 ghost use Rattle.wire.specs.Requests.{requests_of};
 ghost use Rattle.wire.specs.Script.{Scripts, TellsScarcity};
-ghost use Rattle.command_lines.specs.CommandLine.{AsksBoth, IsPlain, refusals, run_text};
-ghost use Rattle.served.specs.Errors.{Told};
-ghost use Rattle.programs.specs.Run.{Answers, MayRunOut, Leads, Failed, Shares, ToldSome, IsWrong};
-ghost use Rattle.programs.specs.Run.{fault_line, IsOfRun, IsOfWrong};
+ghost use Rattle.command_lines.specs.CommandLine.{AsksBoth, IsPlain, number_in, refusals};
+ghost use Rattle.command_lines.specs.CommandLine.{run_text};
+ghost use Rattle.served.specs.Errors.{IsTold};
+ghost use Rattle.served.specs.Serving.{PoolDrains};
+ghost use Rattle.programs.specs.Run.{Answers, AsksWorkers, Differs, Failed, IsOfRun, IsOfWrong};
+ghost use Rattle.programs.specs.Run.{IsWrong, Leads, MayRunOut, Shares, ToldSome, fault_line};
+ghost use Rattle.programs.specs.Run.{turn_of};
 
 use crate::faults::{WRONG_WORDS, fail, lack_memory, tell};
 use crate::shared::run_shared;
@@ -48,11 +51,11 @@ fn refuse<O: Sink, E: Sink>(alloc: Global, error: &Error, sink: &mut O, errors: 
     ensures silent { result ≡ 0 → errors.new ≡ errors.old }
     ensures sound { result ≢ 1 → O.failures sink.new ≡ O.failures sink.old }
     ensures failed { result ≡ 1 → Rises (O.failures sink.old) (O.failures sink.new)
-        × Told E.taken E.failures errors.old errors.new (fault_line ScriptFault.Write) }
+        × IsTold E.taken E.failures errors.old errors.new (fault_line ScriptFault.Write) }
     ensures told { result ≡ 2 → (sink.new ≡ sink.old)
         × ToldSome E.taken E.failures errors.old errors.new }
     ensures memory { result ≡ 3 → (sink.new ≡ sink.old)
-        × Told E.taken E.failures errors.old errors.new (fault_line ScriptFault.Memory) }
+        × IsTold E.taken E.failures errors.old errors.new (fault_line ScriptFault.Memory) }
 {
     if error.kind() == ErrorKind::OutOfMemory {
         return lack_memory(errors);
@@ -103,10 +106,10 @@ pub fn run_over<N: Answering, I: Source, O: Sink, E: Sink>(
         × (O.failures sink.new ≡ O.failures sink.old) }
     ensures failed { result ≡ 1
         → Failed I.failures source.old source.new O.failures sink.old sink.new
-        (Told E.taken E.failures errors.old errors.new) }
+        (IsTold E.taken E.failures errors.old errors.new) }
     ensures memory { result ≡ 3 → (source.new ≡ source.old) × (sink.new ≡ sink.old)
         × (engine.new ≡ engine.old)
-        × Told E.taken E.failures errors.old errors.new (fault_line ScriptFault.Memory) }
+        × IsTold E.taken E.failures errors.old errors.new (fault_line ScriptFault.Memory) }
 {
     match run_script(alloc, source, sink, engine, turn) {
         Ok(()) => 0,
@@ -134,9 +137,9 @@ fn run_made<N: Answering + Drop, I: Source, O: Sink, E: Sink>(
         × (O.failures sink.new ≡ O.failures sink.old) }
     ensures failed { result ≡ 1
         → Failed I.failures source.old source.new O.failures sink.old sink.new
-        (Told E.taken E.failures errors.old errors.new) }
+        (IsTold E.taken E.failures errors.old errors.new) }
     ensures memory { result ≡ 3 → (source.new ≡ source.old) × (sink.new ≡ sink.old)
-        × Told E.taken E.failures errors.old errors.new (fault_line ScriptFault.Memory) }
+        × IsTold E.taken E.failures errors.old errors.new (fault_line ScriptFault.Memory) }
 {
     run_over(alloc, turn, &mut engine, source, sink, errors)
 }
@@ -160,7 +163,8 @@ fn refuse_both<E: Sink>(errors: &mut E) -> u8
 /// for no run. With `--plain` no drain is answered want of numbers for turns. Without it the text
 /// is promised up to the first drain that is answered so: whether there were none is said by
 /// `run_over`, where the engine can be seen. With workers the text is that of the steps of a hub's
-/// seat: each reply is that of one step, and what lies between two steps is not said.
+/// seat: each reply is that of one step, and what lies between two steps is not said. At the status 0
+/// the seat's receipts are the entries of a legal history; where they differ the status is 1.
 pub fn run<'a, R: Threads + Wait + Sync, S: AsStr, I: Source, O: Sink, E: Sink>(
     rt: &R,
     alloc: Global,
@@ -173,10 +177,11 @@ pub fn run<'a, R: Threads + Wait + Sync, S: AsStr, I: Source, O: Sink, E: Sink>(
         → run_text (codes "workers") (map S.text words.entry.now) ≡ None
         → Answers (¬ IsPlain (map S.text words.entry.now)) world.empty result (I.left source.old)
         (O.taken sink.old) (O.taken sink.new) }
-    ensures shares { refusals (map S.text words.entry.now) ≡ []
-        → run_text (codes "workers") (map S.text words.entry.now) ≢ None
+    ensures shares { (workers : Text) → refusals (map S.text words.entry.now) ≡ []
+        → run_text (codes "workers") (map S.text words.entry.now) ≡ Some workers
         → ¬ IsPlain (map S.text words.entry.now)
-        → Shares result (I.left source.old) (O.taken sink.old) (O.taken sink.new) }
+        → Shares (PoolDrains (number_in workers) (turn_of (map S.text words.entry.now))) result
+        (I.left source.old) (O.taken sink.old) (O.taken sink.new) }
     ensures status { refusals (map S.text words.entry.now) ≡ []
         → ¬ AsksBoth (map S.text words.entry.now) → IsOfRun result }
     ensures help { refusals (map S.text words.entry.now) ≡ ErrorKind.DisplayHelp ∷ []
@@ -192,10 +197,13 @@ pub fn run<'a, R: Threads + Wait + Sync, S: AsStr, I: Source, O: Sink, E: Sink>(
         × (O.failures sink.new ≡ O.failures sink.old) }
     ensures failed { result ≡ 1
         → Failed I.failures source.old source.new O.failures sink.old sink.new
-        (Told E.taken E.failures errors.old errors.new) }
+        (IsTold E.taken E.failures errors.old errors.new)
+        ⊎ (AsksWorkers (map S.text words.entry.now)
+        × Differs I.failures source.old source.new O.failures sink.old sink.new
+        (IsTold E.taken E.failures errors.old errors.new)) }
     ensures told { result ≡ 2 → ToldSome E.taken E.failures errors.old errors.new }
     ensures memory { result ≡ 3 → (source.new ≡ source.old) × (sink.new ≡ sink.old)
-        × Told E.taken E.failures errors.old errors.new (fault_line ScriptFault.Memory) }
+        × IsTold E.taken E.failures errors.old errors.new (fault_line ScriptFault.Memory) }
 {
     let options = match run_options(alloc, words) {
         Ok(options) => options,

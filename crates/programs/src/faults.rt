@@ -1,8 +1,9 @@
 //! What the program says of a fault, and its status then.
 ghost use Rattle.std.specs.Prelude.{◌≡◌, ◌≢◌};
 ghost use Rattle.std.specs.IoError.{error_kind};
-ghost use Rattle.served.specs.Errors.{Told, memory_line};
-ghost use Rattle.programs.specs.Run.{ToldSome, fault_line, no_text_line, status_of};
+ghost use Rattle.served.specs.Errors.{IsTold, memory_line};
+ghost use Rattle.programs.specs.Run.{differs_line, fault_line, no_server_text_line, no_text_line};
+ghost use Rattle.programs.specs.Run.{status_of};
 
 use std::io::{Error, ErrorKind};
 use wire::{ScriptFault, Sink, put};
@@ -12,7 +13,7 @@ pub(crate) const WRONG_WORDS: u8 = 2;
 
 /// Gives a sink of errors this text. One that fails is left alone.
 pub(crate) fn tell<E: Sink>(errors: &mut E, text: &str)
-    ensures { Told E.taken E.failures errors.old errors.new text.now }
+    ensures { IsTold E.taken E.failures errors.old errors.new text.now }
 {
     let _ = put(errors, text.as_bytes());
 }
@@ -39,16 +40,25 @@ fn status_of(fault: &ScriptFault) -> u8
 /// Says a fault behind the program's name, and gives the program's status.
 pub(crate) fn fail<E: Sink>(errors: &mut E, fault: &ScriptFault) -> u8
     ensures status { result ≡ status_of fault.now }
-    ensures told { Told E.taken E.failures errors.old errors.new (fault_line fault.now) }
+    ensures told { IsTold E.taken E.failures errors.old errors.new (fault_line fault.now) }
 {
     tell(errors, line_of(fault));
     status_of(fault)
 }
 
+/// Says that the history and the seat differ, and gives the program's status.
+pub(crate) fn differ<E: Sink>(errors: &mut E) -> u8
+    ensures status { result ≡ 1 }
+    ensures told { IsTold E.taken E.failures errors.old errors.new differs_line }
+{
+    tell(errors, "cqlrun: close failed\n");
+    1
+}
+
 /// Says that memory was refused at the start, and gives the program's status.
 pub fn lack_memory<E: Sink>(errors: &mut E) -> u8
     ensures status { result ≡ 3 }
-    ensures told { Told E.taken E.failures errors.old errors.new (fault_line ScriptFault.Memory) }
+    ensures told { IsTold E.taken E.failures errors.old errors.new (fault_line ScriptFault.Memory) }
 {
     fail(errors, &ScriptFault::Memory)
 }
@@ -59,10 +69,10 @@ pub fn lack_memory<E: Sink>(errors: &mut E) -> u8
 pub fn lack_words<E: Sink>(errors: &mut E, error: &Error) -> u8
     ensures memory { error_kind error.now ≡ ErrorKind.OutOfMemory → result ≡ 3 }
     ensures lacks { result ≡ 3
-        → Told E.taken E.failures errors.old errors.new (fault_line ScriptFault.Memory) }
+        → IsTold E.taken E.failures errors.old errors.new (fault_line ScriptFault.Memory) }
     ensures wrong { error_kind error.now ≢ ErrorKind.OutOfMemory → result ≡ 2 }
     ensures told { result ≡ 2
-        → Told E.taken E.failures errors.old errors.new no_text_line }
+        → IsTold E.taken E.failures errors.old errors.new no_text_line }
 {
     if error.kind() == ErrorKind::OutOfMemory {
         return lack_memory(errors);
@@ -74,7 +84,7 @@ pub fn lack_words<E: Sink>(errors: &mut E, error: &Error) -> u8
 /// Says the same of `cqld`.
 pub fn lack_server_memory<E: Sink>(errors: &mut E) -> u8
     ensures status { result ≡ 3 }
-    ensures told { Told E.taken E.failures errors.old errors.new memory_line }
+    ensures told { IsTold E.taken E.failures errors.old errors.new memory_line }
 {
     tell(errors, "cqld: out of memory\n");
     3
@@ -83,8 +93,10 @@ pub fn lack_server_memory<E: Sink>(errors: &mut E) -> u8
 /// Says of `cqld` why its words could not be read, as `lack_words` does.
 pub fn lack_server_words<E: Sink>(errors: &mut E, error: &Error) -> u8
     ensures memory { error_kind error.now ≡ ErrorKind.OutOfMemory → result ≡ 3 }
+    ensures lacks { result ≡ 3 → IsTold E.taken E.failures errors.old errors.new memory_line }
     ensures wrong { error_kind error.now ≢ ErrorKind.OutOfMemory → result ≡ 2 }
-    ensures told { ToldSome E.taken E.failures errors.old errors.new }
+    ensures told { result ≡ 2
+        → IsTold E.taken E.failures errors.old errors.new no_server_text_line }
 {
     if error.kind() == ErrorKind::OutOfMemory {
         return lack_server_memory(errors);

@@ -2,7 +2,11 @@
 ghost use Rattle.std.specs.Prelude.{◌≡◌, ◌≢◌, ◌≤◌, ◌∷◌, [], map};
 ghost use Rattle.clap.specs.Words.{kind_of};
 ghost use Rattle.command_lines.specs.CommandLine.{serve_refusals};
-ghost use Rattle.programs.specs.Run.{IsOfRun, IsOfWrong, IsWrong, ToldSome};
+ghost use Rattle.hub.specs.declared.locked.TheConstants.{MAX_SEATS};
+ghost use Rattle.served.specs.Errors.{IsTold, IsToldAddress, memory_line, write_line};
+ghost use Rattle.wire.specs.Devices.{Rises};
+ghost use Rattle.programs.specs.Run.{IsOfRun, IsOfWrong, IsServerFailure, IsServerLack, IsWrong};
+ghost use Rattle.programs.specs.Run.{ToldSome};
 
 use crate::faults::{WRONG_WORDS, lack_server_memory, tell};
 use clap::Error;
@@ -33,8 +37,20 @@ pub fn run_server<
         → IsOfRun result }
     ensures wrong { IsWrong (serve_refusals (map S.text words.entry.now)) → IsOfWrong result
         × (sink.new ≡ sink.old) }
+    ensures listens { serve_refusals (map S.text words.entry.now) ≡ []
+        → IsToldAddress O.taken O.failures sink.old sink.new }
     ensures silent { result ≡ 0 → errors.new ≡ errors.old }
-    ensures told { result ≢ 0 → ToldSome E.taken E.failures errors.old errors.new }
+    ensures failed { serve_refusals (map S.text words.entry.now) ≡ [] → result ≡ 1
+        → IsServerFailure (IsTold E.taken E.failures errors.old errors.new) }
+    ensures unhelped { serve_refusals (map S.text words.entry.now) ≢ [] → result ≡ 1
+        → Rises (O.failures sink.old) (O.failures sink.new)
+        × IsTold E.taken E.failures errors.old errors.new write_line }
+    ensures told { result ≡ 2 → ToldSome E.taken E.failures errors.old errors.new }
+    ensures lacks { result ≡ 3
+        → IsServerLack (IsTold E.taken E.failures errors.old errors.new) }
+    ensures memory { serve_refusals (map S.text words.entry.now) ≢ [] → result ≡ 3
+        → (sink.new ≡ sink.old)
+        × IsTold E.taken E.failures errors.old errors.new memory_line }
 {
     match serve_options(alloc, words) {
         Ok(options) => listen(rt, alloc, &options, sink, errors),
@@ -48,10 +64,14 @@ fn listen<
     O: Sink,
     E: Sink,
 >(rt: &R, alloc: Global, options: &ServeOptions, sink: &mut O, errors: &mut E) -> u8
-    requires clients { 1 ≤ options.now.clients × options.now.clients ≤ 64 }
+    requires clients { 1 ≤ options.now.clients × options.now.clients ≤ MAX_SEATS }
     ensures status { IsOfRun result }
+    ensures sink { IsToldAddress O.taken O.failures sink.old sink.new }
     ensures silent { result ≡ 0 → errors.new ≡ errors.old }
-    ensures told { result ≢ 0 → ToldSome E.taken E.failures errors.old errors.new }
+    ensures failed { result ≡ 1
+        → IsServerFailure (IsTold E.taken E.failures errors.old errors.new) }
+    ensures lacks { result ≡ 3
+        → IsServerLack (IsTold E.taken E.failures errors.old errors.new) }
 {
     let Ok(address) = format!(in alloc; "127.0.0.1:{}", options.port) else {
         return lack_server_memory(errors);
@@ -73,7 +93,11 @@ fn refuse<O: Sink, E: Sink>(alloc: Global, error: &Error, sink: &mut O, errors: 
         → IsOfWrong result × (sink.new ≡ sink.old) }
     ensures help { kind_of error.now ≡ ErrorKind.DisplayHelp → IsOfRun result }
     ensures silent { result ≡ 0 → errors.new ≡ errors.old }
-    ensures told { result ≢ 0 → ToldSome E.taken E.failures errors.old errors.new }
+    ensures failed { result ≡ 1 → Rises (O.failures sink.old) (O.failures sink.new)
+        × IsTold E.taken E.failures errors.old errors.new write_line }
+    ensures told { result ≡ 2 → ToldSome E.taken E.failures errors.old errors.new }
+    ensures memory { result ≡ 3 → (sink.new ≡ sink.old)
+        × IsTold E.taken E.failures errors.old errors.new memory_line }
 {
     if error.kind() == ErrorKind::OutOfMemory {
         return lack_server_memory(errors);

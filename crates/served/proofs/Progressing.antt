@@ -13,7 +13,7 @@ use Rattle.wire.proofs.Sinks.{append_nothing}
 use Rattle.served.specs.Serving.{Replies, Runs, Stands}
 
 -- what was written answers the carried requests, behind which the rest of the text goes on
-pub record SoFar (R : Type 0) (first : PlainSeat) (text : List ℕ) (seat : PlainSeat) (rest written : List ℕ) : Type 0 where
+pub record SoFar (R : Answer → Type 0) (first : PlainSeat) (text : List ℕ) (seat : PlainSeat) (rest written : List ℕ) : Type 0 where
   pub carried : List (Result Call WireFault)
   pub split : requests_of text ≡ carried ++ requests_of rest
   pub runs : Runs R first carried written seat
@@ -23,7 +23,7 @@ pub record SoFar (R : Type 0) (first : PlainSeat) (text : List ℕ) (seat : Plai
 behind : (written line rest more : List ℕ) → written ≡ line ++ rest → written ++ more ≡ line ++ (rest ++ more)
 behind written line rest more e = ap (λ l. l ++ more) e ∙ append_assoc line rest more
 
-runs_more : (R : Type 0) (first : PlainSeat) (carried : List (Result Call WireFault)) (written : List ℕ) (seat new : PlainSeat) (defined : Result Call WireFault) (answer : Answer)
+runs_more : (R : Answer → Type 0) (first : PlainSeat) (carried : List (Result Call WireFault)) (written : List ℕ) (seat new : PlainSeat) (defined : Result Call WireFault) (answer : Answer)
     → Runs R first carried written seat → Replies R seat defined answer new → Runs R first (carried ++ defined ∷ []) (written ++ line_of answer) new
 runs_more R first [] written seat new defined answer runs reply =
     (answer, new, [], ap (λ l. l ++ line_of answer) runs.0 ∙ sym (append_nothing (line_of answer)), subst (λ s. Replies R s defined answer new) runs.1 reply, (refl, refl))
@@ -36,7 +36,7 @@ runs_more R first (request ∷ more) written seat new defined answer runs reply 
   runs_more R runs.1 more runs.2 seat new defined answer runs.5 reply,
 )
 
-more_so_far : (R : Type 0) (first : PlainSeat) (text : List ℕ) (seat new : PlainSeat) (rest left written : List ℕ) (defined : Result Call WireFault) (answer : Answer)
+more_so_far : (R : Answer → Type 0) (first : PlainSeat) (text : List ℕ) (seat new : PlainSeat) (rest left written : List ℕ) (defined : Result Call WireFault) (answer : Answer)
     → SoFar R first text seat rest written → requests_of rest ≡ defined ∷ requests_of left → Replies R seat defined answer new
     → SoFar R first text new left (written ++ line_of answer)
 more_so_far R first text seat new rest left written defined answer so e reply = record {
@@ -47,11 +47,11 @@ more_so_far R first text seat new rest left written defined answer so e reply = 
 
 -- ---- over a source and a sink that tell their bytes
 
-abbrev pub Progress : Type 0 → PlainSeat → Option (List ℕ) → Option (List ℕ) → PlainSeat → Option (List ℕ) → Option (List ℕ) → Type 0
+abbrev pub Progress : (Answer → Type 0) → PlainSeat → Option (List ℕ) → Option (List ℕ) → PlainSeat → Option (List ℕ) → Option (List ℕ) → Type 0
 Progress R first source old seat rest new = (text held : List ℕ) → source ≡ Some text → old ≡ Some held
     → (left : List ℕ) × (written : List ℕ) × (rest ≡ Some left) × (new ≡ Some (held ++ written)) × SoFar R first text seat left written
 
-pub progress_none : (R : Type 0) (first : PlainSeat) (source sink : Option (List ℕ)) (pending : List ℕ) → pending ≡ [] → Progress R first source sink first (prepend_known pending source) sink
+pub progress_none : (R : Answer → Type 0) (first : PlainSeat) (source sink : Option (List ℕ)) (pending : List ℕ) → pending ≡ [] → Progress R first source sink first (prepend_known pending source) sink
 progress_none R first source sink pending e text held is told = (
   text,
   [],
@@ -79,7 +79,7 @@ no_request None rest h e = absurd (cc)
 no_request (Some text) rest h e = ap requests_of (some_same rest text (sym e)) ∙ h
 
 -- one more reply was written
-pub progress_more : (R : Type 0) (first : PlainSeat) (source old : Option (List ℕ)) (seat new : PlainSeat) (before after : Option (List ℕ)) (sink sink' : Option (List ℕ)) (read : Result Request WireFault) (answer : Answer)
+pub progress_more : (R : Answer → Type 0) (first : PlainSeat) (source old : Option (List ℕ)) (seat new : PlainSeat) (before after : Option (List ℕ)) (sink sink' : Option (List ℕ)) (read : Result Request WireFault) (answer : Answer)
     → Progress R first source old seat before sink → BeginsWithRequest before after read → ((defined : Result Call WireFault) → Reads defined read → Replies R seat defined answer new)
     → Appends sink sink' (line_of answer) → Progress R first source old new after sink'
 progress_more R first source old seat new before after sink sink' read answer p b reply a text held is told =
@@ -93,7 +93,7 @@ progress_more R first source old seat new before after sink sink' read answer p 
     )
 
 -- a front of one more reply was written
-pub stands_failed : (R : Type 0) (first : PlainSeat) (source old : Option (List ℕ)) (seat new : PlainSeat) (before after : Option (List ℕ)) (sink sink' : Option (List ℕ)) (read : Result Request WireFault) (answer : Answer)
+pub stands_failed : (R : Answer → Type 0) (first : PlainSeat) (source old : Option (List ℕ)) (seat new : PlainSeat) (before after : Option (List ℕ)) (sink sink' : Option (List ℕ)) (read : Result Request WireFault) (answer : Answer)
     → Progress R first source old seat before sink → BeginsWithRequest before after read → ((defined : Result Call WireFault) → Reads defined read → Replies R seat defined answer new)
     → AppendsFront sink sink' (line_of answer) → Scripts (λ text written. Stands R first (requests_of text) written new) source old sink'
 stands_failed R first source old seat new before after sink sink' read answer p b reply a text held is told =
@@ -107,7 +107,7 @@ stands_failed R first source old seat new before after sink sink' read answer p 
     )
 
 -- nothing more is written
-pub stands_so_far : (R : Type 0) (first : PlainSeat) (source old : Option (List ℕ)) (seat : PlainSeat) (before sink : Option (List ℕ)) → Progress R first source old seat before sink
+pub stands_so_far : (R : Answer → Type 0) (first : PlainSeat) (source old : Option (List ℕ)) (seat : PlainSeat) (before sink : Option (List ℕ)) → Progress R first source old seat before sink
     → Scripts (λ text written. Stands R first (requests_of text) written seat) source old sink
 stands_so_far R first source old seat before sink p text held is told =
     let q = p text held is told in
@@ -119,7 +119,7 @@ append_none [] = refl
 append_none (x ∷ xs) = ap (λ l. x ∷ l) (append_none xs)
 
 -- every request was carried out
-pub ran_all : (R : Type 0) (first : PlainSeat) (source old : Option (List ℕ)) (seat : PlainSeat) (before sink : Option (List ℕ)) → Progress R first source old seat before sink → HasNoRequest before
+pub ran_all : (R : Answer → Type 0) (first : PlainSeat) (source old : Option (List ℕ)) (seat : PlainSeat) (before sink : Option (List ℕ)) → Progress R first source old seat before sink → HasNoRequest before
     → Scripts (λ text written. Runs R first (requests_of text) written seat) source old sink
 ran_all R first source old seat before sink p none text held is told =
     let q = p text held is told in

@@ -1,13 +1,15 @@
 -- One request of a seat.
-use Rattle.std.proofs.Common.{◌≡◌, ◌∙◌, ℕ, List, [], ◌∷◌, ◌++◌, Option, Some, Result, Ok, Err, refl, ap, sym, subst, append_assoc, ◌⊎◌, inl, inr}
-use Rattle.std.specs.Prelude.{IfOk, IfErr}
+use Rattle.std.proofs.Common.{◌≡◌, ◌∙◌, ℕ, List, [], ◌∷◌, ◌++◌, Option, Some, Result, Ok, Err, refl, ap, sym, subst, append_assoc, ◌⊎◌, inl, inr, arith}
+use Rattle.std.specs.Prelude.{◌≤◌, ◌↔◌, IfOk, IfErr, IsErrOf}
+use Rattle.std.proofs.lemmas.Bool.{cases_lt}
 use Rattle.histories.specs.Histories.{Told}
 use Rattle.hub.specs.Seats.{PlainSeat}
 use Rattle.hub.specs.Steps.{PlainLocked, FindsQuery, FindsStream, Spurned, Took}
 use Rattle.reference.specs.Commands.{Command}
 use Rattle.reference.specs.Replies.{Reply}
 use Rattle.reference.specs.declared.fault.Fault.{Fault}
-use Rattle.reference.specs.declared.fault.Fault.TheVariants.{OutOfMemory, TooManyLeases}
+use Rattle.reference.specs.declared.fault.Fault.TheVariants.{BadLimit, OutOfMemory, TooManyLeases}
+use Rattle.reference.specs.declared.limits.TheConstants.{MAX_TURN}
 use Rattle.wire.specs.Calls.{Call, declare, register, append, heartbeat, drain, take_rows, discard, show_plan, call_of}
 use Rattle.wire.specs.Printed.{Answer, done, refused, unread}
 use Rattle.wire.specs.Requests.{Reads}
@@ -16,7 +18,8 @@ use Rattle.wire.specs.declared.request.Request.{Request}
 use Rattle.wire.specs.declared.request.WireFault.{WireFault}
 use Rattle.wire.specs.declared.request.WireFault.TheVariants.{NotJson, BadRequest, LineTooLong}
 use Rattle.wire.specs.declared.request.WireFault.TheVariants as in_line
-use Rattle.served.specs.Serving.{Carries, CarriesNamed, IsDrained, Keeps, Replies, Serves, shown}
+use Rattle.workers.specs.declared.pool.TheConstants.{MAX_WORKERS}
+use Rattle.served.specs.Serving.{Carries, CarriesNamed, ClientDrains, IsPool, Keeps, PoolDrains, Replies, Serves, WasAtRest, WasIdle, shown}
 
 -- a command whose acceptance is answered `done`
 pub carried : {A : Type 0} (told : A → Told) (reply : A → Reply) (seat seat' : PlainSeat) (command : Command) (r : Result A Fault) (answer : Answer)
@@ -37,11 +40,11 @@ carried_named Finds name fault command n told reply seat seat' r answer found pl
 
 -- ---- what was read of a line
 
-pub serves_request : (R : Type 0) (seat seat' : PlainSeat) (request : Request) (answer : Answer) (defined : Result Call WireFault) → defined ≡ Ok (call_of request)
+pub serves_request : (R : Answer → Type 0) (seat seat' : PlainSeat) (request : Request) (answer : Answer) (defined : Result Call WireFault) → defined ≡ Ok (call_of request)
     → Serves R seat (call_of request) answer seat' → Replies R seat defined answer seat'
 serves_request R seat seat' request answer defined is served = subst (λ d. Replies R seat d answer seat') (sym is) (inl served)
 
-pub serves_fault : (R : Type 0) (seat : PlainSeat) (fault : WireFault) (defined : Result Call WireFault) → Reads defined (Err fault) → Replies R seat defined (unread fault) seat
+pub serves_fault : (R : Answer → Type 0) (seat : PlainSeat) (fault : WireFault) (defined : Result Call WireFault) → Reads defined (Err fault) → Replies R seat defined (unread fault) seat
 serves_fault R seat NotJson defined is = subst (λ d. Replies R seat d (unread NotJson) seat) (sym is) (inl (refl, refl))
 serves_fault R seat BadRequest defined is = subst (λ d. Replies R seat d (unread BadRequest) seat) (sym is) (inl (refl, refl))
 serves_fault R seat LineTooLong defined is = subst (λ d. Replies R seat d (unread LineTooLong) seat) (sym is) (inl (refl, refl))
@@ -49,10 +52,41 @@ serves_fault R seat in_line.OutOfMemory defined is = inr (is, refl, refl)
 
 -- ---- drains
 
-pub drained : {T : Type 0} (R : Type 0) (r : Result T Fault) (answer : Answer) → IfOk r (λ _. R) → IfErr r (λ f. (f ≡ TooManyLeases) ⊎ (f ≡ OutOfMemory)) → answer ≡ done_of r → IsDrained R answer
-drained R (Ok x) answer rested short is = subst (IsDrained R) (sym is) rested
-drained R (Err f) answer rested (inl turns) is = subst (IsDrained R) (sym (is ∙ ap refused turns)) tt
-drained R (Err f) answer rested (inr memory) is = subst (IsDrained R) (sym (is ∙ ap refused memory)) tt
+pub client_drained : {T : Type 0} (most : ℕ) (r : Result T Fault) (answer : Answer) → IfOk r (λ _. WasIdle most) → IfErr r (λ f. (f ≡ TooManyLeases) ⊎ (f ≡ OutOfMemory)) → answer ≡ done_of r
+    → ClientDrains most answer
+client_drained most (Ok x) answer idle short is = subst (ClientDrains most) (sym is) idle
+client_drained most (Err f) answer idle (inl turns) is = subst (ClientDrains most) (sym (is ∙ ap refused turns)) tt
+client_drained most (Err f) answer idle (inr memory) is = subst (ClientDrains most) (sym (is ∙ ap refused memory)) tt
+
+-- these are a pool's workers, or they are not
+is_pool : (workers : ℕ) → IsPool workers ⊎ (¬ IsPool workers)
+is_pool workers = elim (cases_lt 0 workers) [
+  | inr none ↦ inr (λ p. absurd (omega (arith, p.0, none)))
+  | inl some ↦ elim (cases_lt MAX_WORKERS workers) [
+    | inl many ↦ inr (λ p. absurd (omega (arith, p.1, many)))
+    | inr few ↦ inl (omega (arith, some), few)
+  ]
+]
+
+-- what is refused just where workers or rows are out of range, and these rows are in range
+AreRefused : {T : Type 0} → ℕ → ℕ → Result T Fault → Type 0
+AreRefused workers most r = IsErrOf r BadLimit ↔ (¬ ((1 ≤ workers) × (workers ≤ MAX_WORKERS) × (1 ≤ most) × (most ≤ MAX_TURN)))
+
+in_range : {T : Type 0} (workers most : ℕ) (r : Result T Fault) → AreRefused workers most r → (IsErrOf r BadLimit → ⊥) → IsPool workers
+in_range workers most r bad other = elim (is_pool workers) [
+  | inl pool ↦ pool
+  | inr none ↦ absurd (other (bad.1 (λ all. none (all.0, all.1))))
+]
+
+pub pool_drained : {T : Type 0} (workers most : ℕ) (r : Result T Fault) (answer : Answer) → (1 ≤ most) × (most ≤ MAX_TURN) → IfOk r (λ _. WasAtRest most) → AreRefused workers most r
+    → IfErr r (λ f. (f ≡ BadLimit) ⊎ (f ≡ TooManyLeases) ⊎ (f ≡ OutOfMemory)) → answer ≡ done_of r → PoolDrains workers most answer
+pool_drained workers most (Ok x) answer rows rest bad short is = subst (PoolDrains workers most) (sym is) (in_range workers most (Ok x) bad (λ e. cc), rest)
+pool_drained workers most (Err f) answer rows rest bad (inl limit) is =
+    subst (PoolDrains workers most) (sym (is ∙ ap refused limit)) (λ (pool : IsPool workers). bad.0 (ap Err limit) (pool.0, pool.1, rows))
+pool_drained workers most (Err f) answer rows rest bad (inr (inl turns)) is =
+    subst (PoolDrains workers most) (sym (is ∙ ap refused turns)) (in_range workers most (Err f) bad (λ e. cc))
+pool_drained workers most (Err f) answer rows rest bad (inr (inr memory)) is =
+    subst (PoolDrains workers most) (sym (is ∙ ap refused memory)) (in_range workers most (Err f) bad (λ e. cc))
 
 -- ---- the seat
 
@@ -75,7 +109,7 @@ keeps_named : (Finds : PlainLocked → List ℕ → Option ℕ → Type 0) (name
 keeps_named Finds name fault command seat answer seat' (inl c) = keeps_carried seat (command c.0) answer seat' c.2
 keeps_named Finds name fault command seat answer seat' (inr u) = keeps_same seat seat' u.2
 
-keeps_served : (R : Type 0) (seat : PlainSeat) (call : Call) (answer : Answer) (seat' : PlainSeat) → Serves R seat call answer seat' → Keeps seat seat'
+keeps_served : (R : Answer → Type 0) (seat : PlainSeat) (call : Call) (answer : Answer) (seat' : PlainSeat) → Serves R seat call answer seat' → Keeps seat seat'
 keeps_served R seat (declare name columns start) answer seat' s = keeps_carried seat _ answer seat' s
 keeps_served R seat (register name text chart) answer seat' s = keeps_carried seat _ answer seat' s
 keeps_served R seat (append stream more) answer seat' s = keeps_named FindsStream stream _ _ seat answer seat' s
@@ -85,7 +119,7 @@ keeps_served R seat (take_rows query limit) answer seat' s = keeps_named FindsQu
 keeps_served R seat (discard query) answer seat' s = keeps_named FindsQuery query _ _ seat answer seat' s
 keeps_served R seat (show_plan query) answer seat' s = keeps_same seat seat' s.1
 
-pub keeps_replied : (R : Type 0) (seat : PlainSeat) (request : Result Call WireFault) (answer : Answer) (seat' : PlainSeat) → Replies R seat request answer seat' → Keeps seat seat'
+pub keeps_replied : (R : Answer → Type 0) (seat : PlainSeat) (request : Result Call WireFault) (answer : Answer) (seat' : PlainSeat) → Replies R seat request answer seat' → Keeps seat seat'
 keeps_replied R seat (Ok call) answer seat' (inl s) = keeps_served R seat call answer seat' s
 keeps_replied R seat (Err fault) answer seat' (inl s) = keeps_same seat seat' s.1
 keeps_replied R seat request answer seat' (inr l) = keeps_same seat seat' l.2
@@ -100,7 +134,7 @@ pub keeps_none : (seat : PlainSeat) → Keeps seat seat
 keeps_none seat = keeps_itself seat
 
 -- a request of this kind was served as its call was
-pub serves_as : (R : Type 0) (seat seat' : PlainSeat) (request kind : Request) (answer : Answer) → request ≡ kind → Serves R seat (call_of kind) answer seat' → Serves R seat (call_of request) answer seat'
+pub serves_as : (R : Answer → Type 0) (seat seat' : PlainSeat) (request kind : Request) (answer : Answer) → request ≡ kind → Serves R seat (call_of kind) answer seat' → Serves R seat (call_of request) answer seat'
 serves_as R seat seat' request kind answer is s = subst (λ r. Serves R seat (call_of r) answer seat') (sym is) s
 
 -- each thing that is read is what was asked
@@ -111,6 +145,6 @@ asked_of (Err BadRequest) = (Err BadRequest, refl)
 asked_of (Err LineTooLong) = (Err LineTooLong, refl)
 asked_of (Err in_line.OutOfMemory) = (Err NotJson, λ e. cc)
 
-pub keeps_read : (R : Type 0) (seat : PlainSeat) (read : Result Request WireFault) (answer : Answer) (seat' : PlainSeat)
+pub keeps_read : (R : Answer → Type 0) (seat : PlainSeat) (read : Result Request WireFault) (answer : Answer) (seat' : PlainSeat)
     → ((defined : Result Call WireFault) → Reads defined read → Replies R seat defined answer seat') → Keeps seat seat'
 keeps_read R seat read answer seat' replied = let a = asked_of read in keeps_replied R seat a.0 answer seat' (replied a.0 a.1)

@@ -1,14 +1,24 @@
 -- What a server says.
-use Rattle.std.specs.Prelude.{◌≡◌, ℕ, List, Option, ◌⊎◌, codes}
+use Rattle.std.specs.Prelude.{◌≡◌, ◌≤◌, ◌++◌, ℕ, List, Option, ◌⊎◌, codes}
+use Rattle.std.specs.Fmt.{decimal}
 use Rattle.std.specs.Io.KnownBytes.{Appends}
 use Rattle.wire.specs.Devices.{AppendsFront, Rises}
 
 -- A sink was given this text: it took all of it and did not fail, or it failed and took a front of it. `taken` says what a
 -- sink tells that it took, and `failures` how often it failed.
-abbrev pub Told : {E : Type 0} → (E → Option (List ℕ)) → (E → ℕ) → E → E → List ℕ → Type 0
-Told taken failures old new text =
+abbrev pub IsTold : {E : Type 0} → (E → Option (List ℕ)) → (E → ℕ) → E → E → List ℕ → Type 0
+IsTold taken failures old new text =
     (Appends (taken old) (taken new) text × (failures new ≡ failures old))
     ⊎ (AppendsFront (taken old) (taken new) text × Rises (failures old) (failures new))
+
+-- where a server listens
+abbrev pub listening_line : ℕ → List ℕ
+listening_line port = codes "cqld: listening on 127.0.0.1:" ++ decimal port ++ codes "\n"
+
+-- a sink was told where a server listens, or nothing
+abbrev pub IsToldAddress : {E : Type 0} → (E → Option (List ℕ)) → (E → ℕ) → E → E → Type 0
+IsToldAddress taken failures old new =
+    (new ≡ old) ⊎ ((port : ℕ) × (port ≤ 65535) × IsTold taken failures old new (listening_line port))
 
 abbrev pub memory_line : List ℕ
 memory_line = codes "cqld: out of memory\n"
@@ -24,3 +34,6 @@ close_line = codes "cqld: close failed\n"
 
 abbrev pub bind_line : List ℕ
 bind_line = codes "cqld: bind failed\n"
+
+abbrev pub write_line : List ℕ
+write_line = codes "cqld: write failed\n"

@@ -3,14 +3,14 @@ use Rattle.std.specs.Prelude.{◌≡◌, ◌≢◌, ◌≤◌, ℕ, ℤ, pos, Li
 use Rattle.envelope.specs.Fraction.{Fraction}
 use Rattle.histories.specs.Histories.{Told}
 use Rattle.hub.specs.Seats.{PlainSeat}
-use Rattle.hub.specs.Steps.{PlainLocked, FindsQuery, FindsStream, Hands, SeesSlopes, Spurned, Took}
+use Rattle.hub.specs.Steps.{PlainLocked, FindsQuery, FindsStream, Hands, Rests, SeesSlopes, Spurned, Took}
 use Rattle.leases.specs.declared.leased.Leased.TheVariants.{Idle}
 use Rattle.plan.specs.declared.node.Kind.{Kind}
 use Rattle.reference.specs.Commands.{Command, Declare, Register, Append, Heartbeat, Take, Drop}
 use Rattle.reference.specs.Replies as replies
 use Rattle.reference.specs.Replies.{Reply}
 use Rattle.reference.specs.declared.fault.Fault.{Fault}
-use Rattle.reference.specs.declared.fault.Fault.TheVariants.{OutOfMemory, TooManyLeases, UnknownQuery, UnknownStream}
+use Rattle.reference.specs.declared.fault.Fault.TheVariants.{BadLimit, OutOfMemory, TooManyLeases, UnknownQuery, UnknownStream}
 use Rattle.wire.specs.Calls.{Call, declare, register, append, heartbeat, drain, take_rows, discard, show_plan}
 use Rattle.wire.specs.Printed.{Answer, done, rows, operators, refused, unread, line_of}
 use Rattle.wire.specs.declared.request.Request.{Request}
@@ -65,65 +65,81 @@ LooksNamed name answer =
     ((n : ℕ) × ((l : PlainLocked) × FindsQuery l name (Some n)) × Looks n answer)
     ⊎ (((l : PlainLocked) × FindsQuery l name None) × (answer ≡ refused UnknownQuery))
 
--- a drain was answered so: at `done` as it says, and else for want of memory or of turns
-abbrev pub IsDrained : Type 0 → Answer → Type 0
-IsDrained rested done = rested
-IsDrained rested (refused OutOfMemory) = ⊤
-IsDrained rested (refused TooManyLeases) = ⊤
-IsDrained rested answer = ⊥
+-- ---- drains
 
 -- there was a moment when no operator might take anything
 abbrev pub WasIdle : ℕ → Type 0
 WasIdle most = (old : PlainLocked) × (new : PlainLocked) × Hands old most (Ok Idle) new
 
+-- and no turn was out
+abbrev pub WasAtRest : ℕ → Type 0
+WasAtRest most = (old : PlainLocked) × (new : PlainLocked) × Rests old most new
+
 -- a pool has 1 to 64 workers
-abbrev pub IsInRange : Drains → Type 0
-IsInRange (Pool workers) = (1 ≤ workers) × (workers ≤ MAX_WORKERS)
-IsInRange Client = ⊤
+abbrev pub IsPool : ℕ → Type 0
+IsPool workers = (1 ≤ workers) × (workers ≤ MAX_WORKERS)
 
--- who runs the turns of a drain, and what is known at its end
-abbrev pub Rested : Drains → ℕ → Type 0
-Rested (Pool workers) most = ⊤
-Rested Client most = WasIdle most
+-- THE DRAIN OF A POOL was answered so: `done` behind a moment of rest, `BadLimit` just where these are no pool's workers, and
+-- else want of memory or of turns
+abbrev pub PoolDrains : ℕ → ℕ → Answer → Type 0
+PoolDrains workers most done = IsPool workers × WasAtRest most
+PoolDrains workers most (refused BadLimit) = ¬ IsPool workers
+PoolDrains workers most (refused OutOfMemory) = IsPool workers
+PoolDrains workers most (refused TooManyLeases) = IsPool workers
+PoolDrains workers most answer = ⊥
 
--- THE CALL of a request was answered so, and left this seat; `rested` says what a drain comes to
-abbrev pub Serves : Type 0 → PlainSeat → Call → Answer → PlainSeat → Type 0
-Serves rested seat (declare name columns start) answer seat' = Carries seat (Declare name columns start) answer seat'
-Serves rested seat (register name text chart) answer seat' = Carries seat (Register name text chart) answer seat'
-Serves rested seat (append stream more) answer seat' = CarriesNamed FindsStream stream UnknownStream (λ n. Append n more) seat answer seat'
-Serves rested seat (heartbeat stream at) answer seat' = CarriesNamed FindsStream stream UnknownStream (λ n. Heartbeat n at) seat answer seat'
-Serves rested seat drain answer seat' = IsDrained rested answer × (seat' ≡ seat)
-Serves rested seat (take_rows query limit) answer seat' = CarriesNamed FindsQuery query UnknownQuery (λ n. Take n limit) seat answer seat'
-Serves rested seat (discard query) answer seat' = CarriesNamed FindsQuery query UnknownQuery Drop seat answer seat'
-Serves rested seat (show_plan query) answer seat' = LooksNamed query answer × (seat' ≡ seat)
+-- THE DRAIN OF A CLIENT'S OWN THREAD was answered so: `done` behind an idle moment, and else want of memory or of turns
+abbrev pub ClientDrains : ℕ → Answer → Type 0
+ClientDrains most done = WasIdle most
+ClientDrains most (refused OutOfMemory) = ⊤
+ClientDrains most (refused TooManyLeases) = ⊤
+ClientDrains most answer = ⊥
+
+-- by whoever runs the turns
+abbrev pub DrainsBy : Drains → ℕ → Answer → Type 0
+DrainsBy (Pool workers) most = PoolDrains workers most
+DrainsBy Client most = ClientDrains most
+
+-- ---- requests
+
+-- THE CALL of a request was answered so, and left this seat; `drains` says what a drain may be answered
+abbrev pub Serves : (Answer → Type 0) → PlainSeat → Call → Answer → PlainSeat → Type 0
+Serves drains seat (declare name columns start) answer seat' = Carries seat (Declare name columns start) answer seat'
+Serves drains seat (register name text chart) answer seat' = Carries seat (Register name text chart) answer seat'
+Serves drains seat (append stream more) answer seat' = CarriesNamed FindsStream stream UnknownStream (λ n. Append n more) seat answer seat'
+Serves drains seat (heartbeat stream at) answer seat' = CarriesNamed FindsStream stream UnknownStream (λ n. Heartbeat n at) seat answer seat'
+Serves drains seat drain answer seat' = drains answer × (seat' ≡ seat)
+Serves drains seat (take_rows query limit) answer seat' = CarriesNamed FindsQuery query UnknownQuery (λ n. Take n limit) seat answer seat'
+Serves drains seat (discard query) answer seat' = CarriesNamed FindsQuery query UnknownQuery Drop seat answer seat'
+Serves drains seat (show_plan query) answer seat' = LooksNamed query answer × (seat' ≡ seat)
 
 -- what was asked for was answered; a line that is no request is told so, and calls nothing
-abbrev pub IsServed : Type 0 → PlainSeat → Result Call WireFault → Answer → PlainSeat → Type 0
-IsServed rested seat (Ok call) answer seat' = Serves rested seat call answer seat'
-IsServed rested seat (Err fault) answer seat' = (answer ≡ unread fault) × (seat' ≡ seat)
+abbrev pub IsServed : (Answer → Type 0) → PlainSeat → Result Call WireFault → Answer → PlainSeat → Type 0
+IsServed drains seat (Ok call) answer seat' = Serves drains seat call answer seat'
+IsServed drains seat (Err fault) answer seat' = (answer ≡ unread fault) × (seat' ≡ seat)
 
 -- or memory was wanted where the line was read, which no line meets that is too long
 abbrev pub LacksMemory : PlainSeat → Result Call WireFault → Answer → PlainSeat → Type 0
 LacksMemory seat request answer seat' = (request ≢ Err in_line.LineTooLong) × (answer ≡ unread in_line.OutOfMemory) × (seat' ≡ seat)
 
 -- A REQUEST WAS ANSWERED SO
-abbrev pub Replies : Type 0 → PlainSeat → Result Call WireFault → Answer → PlainSeat → Type 0
-Replies rested seat request answer seat' = IsServed rested seat request answer seat' ⊎ LacksMemory seat request answer seat'
+abbrev pub Replies : (Answer → Type 0) → PlainSeat → Result Call WireFault → Answer → PlainSeat → Type 0
+Replies drains seat request answer seat' = IsServed drains seat request answer seat' ⊎ LacksMemory seat request answer seat'
 
 -- ---- all requests
 
 -- THE REQUESTS were answered by this text, one line a request, and left this seat
-abbrev pub Runs : Type 0 → PlainSeat → List (Result Call WireFault) → List ℕ → PlainSeat → Type 0
-Runs rested seat [] written seat' = (written ≡ []) × (seat' ≡ seat)
-Runs rested seat (request ∷ more) written seat' =
-    (answer : Answer) × (mid : PlainSeat) × (rest : List ℕ) × (written ≡ line_of answer ++ rest) × Replies rested seat request answer mid
-    × Runs rested mid more rest seat'
+abbrev pub Runs : (Answer → Type 0) → PlainSeat → List (Result Call WireFault) → List ℕ → PlainSeat → Type 0
+Runs drains seat [] written seat' = (written ≡ []) × (seat' ≡ seat)
+Runs drains seat (request ∷ more) written seat' =
+    (answer : Answer) × (mid : PlainSeat) × (rest : List ℕ) × (written ≡ line_of answer ++ rest) × Replies drains seat request answer mid
+    × Runs drains mid more rest seat'
 
 -- the first of these requests were carried out, and stand: the written text begins what they are answered
-abbrev pub Stands : Type 0 → PlainSeat → List (Result Call WireFault) → List ℕ → PlainSeat → Type 0
-Stands rested seat requests written seat' =
+abbrev pub Stands : (Answer → Type 0) → PlainSeat → List (Result Call WireFault) → List ℕ → PlainSeat → Type 0
+Stands drains seat requests written seat' =
     (carried : List (Result Call WireFault)) × (rest : List (Result Call WireFault)) × (more : List ℕ)
-    × (requests ≡ carried ++ rest) × Runs rested seat carried (written ++ more) seat'
+    × (requests ≡ carried ++ rest) × Runs drains seat carried (written ++ more) seat'
 
 -- only more receipts are in the seat
 abbrev pub Keeps : PlainSeat → PlainSeat → Type 0

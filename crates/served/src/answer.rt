@@ -11,8 +11,8 @@ ghost use Rattle.wire.specs.Printed.{answer_of};
 ghost use Rattle.wire.specs.Requests.{Reads};
 ghost use Rattle.wire.specs.Script.{done_of};
 ghost use Rattle.wire.specs.declared.request.WireFault.{WireFault};
-ghost use Rattle.served.specs.Serving.{CarriesNamed, IsDrained, IsInRange, LooksNamed, Replies};
-ghost use Rattle.served.specs.Serving.{Rested, Serves, WasIdle, number_in};
+ghost use Rattle.served.specs.Serving.{CarriesNamed, ClientDrains, DrainsBy, LooksNamed, PoolDrains};
+ghost use Rattle.served.specs.Serving.{Replies, Serves, WasIdle, number_in};
 
 use hub::{Hub, Seat};
 use leases::Leased;
@@ -22,7 +22,7 @@ use std::sync::Wait;
 use std::thread::Threads;
 use turn::Turn;
 use wire::{Reply, Request, WireFault};
-use workers::{Open, Pool};
+use workers::{NoGate, Pool};
 
 /// Who runs the turns of a drain.
 #[derive(Clone, Copy)]
@@ -34,7 +34,7 @@ pub(crate) enum Drains {
 }
 
 /// Answers what was read of a line.
-pub(crate) fn serve<R: Threads + Wait + Sync>(
+pub(crate) fn answer_line<R: Threads + Wait + Sync>(
     rt: &R,
     alloc: Global,
     hub: &Hub,
@@ -44,9 +44,8 @@ pub(crate) fn serve<R: Threads + Wait + Sync>(
     rows: u32,
 ) -> Reply
     requires rows { 1 ≤ rows × rows ≤ MAX_TURN }
-    requires workers { IsInRange drains }
     ensures { (defined : Result Call WireFault) → Reads defined read
-        → Replies (Rested drains rows) seat.old defined (answer_of result) seat.new }
+        → Replies (DrainsBy drains rows) seat.old defined (answer_of result) seat.new }
 {
     match read {
         Ok(request) => answer(rt, alloc, hub, seat, request, drains, rows),
@@ -64,8 +63,7 @@ fn answer<R: Threads + Wait + Sync>(
     rows: u32,
 ) -> Reply
     requires rows { 1 ≤ rows × rows ≤ MAX_TURN }
-    requires workers { IsInRange drains }
-    ensures { Serves (Rested drains rows) seat.old (call_of request) (answer_of result) seat.new }
+    ensures { Serves (DrainsBy drains rows) seat.old (call_of request) (answer_of result) seat.new }
 {
     let number = number_in(&request);
     match request {
@@ -167,11 +165,10 @@ fn drain<R: Threads + Wait + Sync>(
     rows: u32,
 ) -> Reply
     requires rows { 1 ≤ rows × rows ≤ MAX_TURN }
-    requires workers { IsInRange drains }
-    ensures { IsDrained (Rested drains rows) (answer_of result) }
+    ensures { DrainsBy drains rows (answer_of result) }
 {
     match drains {
-        Drains::Pool(workers) => done(Pool::drain(rt, alloc, hub, &Open, workers, rows)),
+        Drains::Pool(workers) => done(Pool::drain(rt, alloc, hub, &NoGate, workers, rows)),
         Drains::Client => done(run_turns(rt, alloc, hub, rows)),
     }
 }

@@ -1,5 +1,5 @@
 //! The lines of a source.
-ghost use Rattle.std.specs.Prelude.{◌≡◌, ◌≤◌, ⊤, IfErr, OnErr, OnOk, Result};
+ghost use Rattle.std.specs.Prelude.{◌≡◌, ◌≤◌, IfErr, OnErr, OnOk, Result};
 ghost use Rattle.reference.specs.declared.limits.TheConstants.{MAX_TURN};
 ghost use Rattle.wire.specs.Calls.{Call};
 ghost use Rattle.wire.specs.Devices.{Puts, Rises};
@@ -7,10 +7,10 @@ ghost use Rattle.wire.specs.Printed.{Answer, line_of};
 ghost use Rattle.wire.specs.Requests.{Reads, requests_of};
 ghost use Rattle.wire.specs.Script.{Scripts};
 ghost use Rattle.wire.specs.declared.request.WireFault.{WireFault};
-ghost use Rattle.workers.specs.declared.pool.TheConstants.{MAX_WORKERS};
-ghost use Rattle.served.specs.Serving.{IsInRange, Keeps, Replies, Rested, Runs, Stands, WasIdle};
+ghost use Rattle.served.specs.Serving.{ClientDrains, DrainsBy, Keeps, PoolDrains, Replies, Runs};
+ghost use Rattle.served.specs.Serving.{Stands};
 
-use crate::answer::{Drains, serve};
+use crate::answer::{Drains, answer_line};
 use hub::{Hub, Seat};
 use std::alloc::Global;
 use std::sync::Wait;
@@ -18,7 +18,9 @@ use std::thread::Threads;
 use wire::{Lines, Request, ScriptFault, Sink, Source, WireFault, next_request, write_reply};
 
 /// Answers each request of the source by one line, up to the end of the source. A drain is run by a
-/// pool of so many workers, 1 to 64, by turns of at most `rows` rows, 1 to 1,024.
+/// pool of so many workers, by turns of at most `rows` rows, 1 to 1,024, until there is a moment
+/// when no operator may take anything and no turn is out. Where workers are not 1 to 64, each drain
+/// is answered `E14`.
 ///
 /// Each accepted command is a step of the hub: its reply is that of the receipt which the seat then
 /// has. What is known of a reply is what is known of such a step: other seats may call between two.
@@ -37,11 +39,10 @@ pub fn run_hub<R: Threads + Wait + Sync, S: Source, K: Sink>(
     rows: u32,
 ) -> Result<(), ScriptFault>
     requires rows { 1 ≤ rows × rows ≤ MAX_TURN }
-    requires workers { 1 ≤ workers × workers ≤ MAX_WORKERS }
-    ensures text { OnOk result (Scripts (λ text written. Runs ⊤ seat.old
+    ensures text { OnOk result (Scripts (λ text written. Runs (PoolDrains workers rows) seat.old
         (requests_of text) written seat.new)
         (S.left source.old) (K.taken sink.old) (K.taken sink.new)) }
-    ensures stands { OnErr result (Scripts (λ text written. Stands ⊤ seat.old
+    ensures stands { OnErr result (Scripts (λ text written. Stands (PoolDrains workers rows) seat.old
         (requests_of text) written seat.new)
         (S.left source.old) (K.taken sink.old) (K.taken sink.new)) }
     ensures seat { Keeps seat.old seat.new }
@@ -76,10 +77,10 @@ pub fn serve_connection<R: Threads + Wait + Sync, S: Source, K: Sink>(
     rows: u32,
 ) -> Result<(), ScriptFault>
     requires rows { 1 ≤ rows × rows ≤ MAX_TURN }
-    ensures text { OnOk result (Scripts (λ text written. Runs (WasIdle rows) seat.old
+    ensures text { OnOk result (Scripts (λ text written. Runs (ClientDrains rows) seat.old
         (requests_of text) written seat.new)
         (S.left source.old) (K.taken sink.old) (K.taken sink.new)) }
-    ensures stands { OnErr result (Scripts (λ text written. Stands (WasIdle rows) seat.old
+    ensures stands { OnErr result (Scripts (λ text written. Stands (ClientDrains rows) seat.old
         (requests_of text) written seat.new)
         (S.left source.old) (K.taken sink.old) (K.taken sink.new)) }
     ensures seat { Keeps seat.old seat.new }
@@ -110,16 +111,15 @@ fn respond<R: Threads + Wait + Sync, K: Sink>(
     rows: u32,
 ) -> Result<(), ScriptFault>
     requires rows { 1 ≤ rows × rows ≤ MAX_TURN }
-    requires workers { IsInRange drains }
     ensures written { (answer : Answer)
         × ((defined : Result Call WireFault) → Reads defined read
-        → Replies (Rested drains rows) seat.old defined answer seat.new)
+        → Replies (DrainsBy drains rows) seat.old defined answer seat.new)
         × Puts (K.taken sink.old) (K.taken sink.new) (K.failures sink.old)
         (K.failures sink.new) result (line_of answer) }
     ensures seat { Keeps seat.old seat.new }
     ensures fault { IfErr result (λ e. e ≡ ScriptFault.Write) }
 {
-    let reply = serve(rt, alloc, hub, seat, read, drains, rows);
+    let reply = answer_line(rt, alloc, hub, seat, read, drains, rows);
     write_reply(sink, &reply)
 }
 
@@ -134,11 +134,10 @@ fn run_lines<R: Threads + Wait + Sync, S: Source, K: Sink>(
     rows: u32,
 ) -> Result<(), ScriptFault>
     requires rows { 1 ≤ rows × rows ≤ MAX_TURN }
-    requires workers { IsInRange drains }
-    ensures text { OnOk result (Scripts (λ text written. Runs (Rested drains rows) seat.old
+    ensures text { OnOk result (Scripts (λ text written. Runs (DrainsBy drains rows) seat.old
         (requests_of text) written seat.new)
         (S.left source.old) (K.taken sink.old) (K.taken sink.new)) }
-    ensures stands { OnErr result (Scripts (λ text written. Stands (Rested drains rows) seat.old
+    ensures stands { OnErr result (Scripts (λ text written. Stands (DrainsBy drains rows) seat.old
         (requests_of text) written seat.new)
         (S.left source.old) (K.taken sink.old) (K.taken sink.new)) }
     ensures seat { Keeps seat.old seat.new }

@@ -1,6 +1,8 @@
 //! A server: client threads accept connections in turn, and workers run turns.
 ghost use Rattle.std.specs.Prelude.{◌≡◌, ◌≤◌, ◌⊎◌};
-ghost use Rattle.served.specs.Errors.{Told, accept_line, close_line, memory_line, thread_line};
+ghost use Rattle.hub.specs.declared.locked.TheConstants.{MAX_SEATS};
+ghost use Rattle.served.specs.Errors.{IsTold, IsToldAddress, accept_line, close_line};
+ghost use Rattle.served.specs.Errors.{memory_line, thread_line};
 
 use crate::door::Door;
 use crate::lines::serve_connection;
@@ -12,7 +14,7 @@ use std::sync::{Mutex, Wait};
 use std::thread;
 use std::thread::{JoinHandle, Threads};
 use wire::{ReaderSource, Sink, WriterSink, put};
-use workers::{Open, work};
+use workers::{NoGate, work};
 
 /// The rows of a turn.
 const ROWS: u32 = 256;
@@ -29,15 +31,16 @@ pub fn serve<R: Threads + Wait + Sync, O: Sink, E: Sink>(
     sink: &mut O,
     errors: &mut E,
 ) -> u8
-    requires clients { 1 ≤ options.now.clients × options.now.clients ≤ 64 }
+    requires clients { 1 ≤ options.now.clients × options.now.clients ≤ MAX_SEATS }
     ensures status { (result ≡ 0) ⊎ (result ≡ 1) ⊎ (result ≡ 3) }
+    ensures sink { IsToldAddress O.taken O.failures sink.old sink.new }
     ensures silent { result ≡ 0 → errors.new ≡ errors.old }
     ensures failed { result ≡ 1
-        → Told E.taken E.failures errors.old errors.new accept_line
-        ⊎ Told E.taken E.failures errors.old errors.new close_line }
+        → IsTold E.taken E.failures errors.old errors.new accept_line
+        ⊎ IsTold E.taken E.failures errors.old errors.new close_line }
     ensures lacks { result ≡ 3
-        → Told E.taken E.failures errors.old errors.new memory_line
-        ⊎ Told E.taken E.failures errors.old errors.new thread_line }
+        → IsTold E.taken E.failures errors.old errors.new memory_line
+        ⊎ IsTold E.taken E.failures errors.old errors.new thread_line }
 {
     let clients = options.clients as u64;
     let Ok((hub, seats)) = Hub::open(alloc, clients, MAX_HISTORY) else {
@@ -69,14 +72,16 @@ pub fn serve<R: Threads + Wait + Sync, O: Sink, E: Sink>(
 
 fn lack_memory<E: Sink>(errors: &mut E) -> u8
     ensures status { result ≡ 3 }
-    ensures told { Told E.taken E.failures errors.old errors.new memory_line }
+    ensures told { IsTold E.taken E.failures errors.old errors.new memory_line }
 {
     tell(errors, "cqld: out of memory\n");
     3
 }
 
 // Says where it listens. A write that fails is ignored, as is an address that is not told.
-fn tell_address<O: Sink>(alloc: Global, listener: &TcpListener, sink: &mut O) {
+fn tell_address<O: Sink>(alloc: Global, listener: &TcpListener, sink: &mut O)
+    ensures { IsToldAddress O.taken O.failures sink.old sink.new }
+{
     let Ok(address) = listener.local_addr() else {
         return;
     };
@@ -102,7 +107,7 @@ fn run_threads<R: Threads + Wait + Sync>(
         let mut held = door.lock(rt);
         for _ in 0..workers {
             if scope
-                .spawn(move || work(rt, alloc, hub, &Open, ROWS))
+                .spawn(move || work(rt, alloc, hub, &NoGate, ROWS))
                 .is_err()
             {
                 held.lack_thread();
@@ -148,7 +153,7 @@ fn client<R: Threads + Wait + Sync>(
 
 // A failed write of a text is ignored: the status says the rest.
 fn tell<E: Sink>(errors: &mut E, text: &str)
-    ensures { Told E.taken E.failures errors.old errors.new text.now }
+    ensures { IsTold E.taken E.failures errors.old errors.new text.now }
 {
     let _ = put(errors, text.as_bytes());
 }

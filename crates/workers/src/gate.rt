@@ -10,9 +10,9 @@ pub trait Gate {
 }
 
 /// A gate that does nothing.
-pub struct Open;
+pub struct NoGate;
 
-impl Gate for Open {
+impl Gate for NoGate {
     fn before(&self, _lease: u64) {}
 
     fn after(&self, _lease: u64) {}

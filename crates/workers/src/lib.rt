@@ -5,6 +5,6 @@ mod gate;
 mod pool;
 mod worker;
 
-pub use gate::{Gate, Open};
+pub use gate::{Gate, NoGate};
 pub use pool::{MAX_WORKERS, Pool};
 pub use worker::work;

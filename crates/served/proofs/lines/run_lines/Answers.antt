@@ -1,28 +1,28 @@
 use Rattle.std.proofs.Common.{◌∙◌, refl}
 use Rattle.wire.specs.Held.{ahead, pending}
-use Rattle.served.specs.Serving.{Rested}
+use Rattle.served.specs.Serving.{DrainsBy}
 use Rattle.served.proofs.Requests.{keeps_both, keeps_none}
 use Rattle.served.proofs.Progressing.{progress_more, progress_none, ran_all, stands_failed, stands_so_far}
 use Rattle.served.proofs.lines.run_lines.Goals as goal
 
 pub requests-init : goal.requests-init
 requests-init g c =
-    (progress_none (Rested c.args.drains c.args.rows) c.args.seat.now (g.S.Source.left c.args.source.now) (g.K.Sink.taken c.args.sink.now) (pending c.in-Ok.lines) c.in-Ok.ensures, keeps_none c.args.seat.now, refl, refl)
+    (progress_none (DrainsBy c.args.drains c.args.rows) c.args.seat.now (g.S.Source.left c.args.source.now) (g.K.Sink.taken c.args.sink.now) (pending c.in-Ok.lines) c.in-Ok.ensures, keeps_none c.args.seat.now, refl, refl)
 
 pub returns-in_default-next_request-clause-stands : goal.returns-in_default-next_request-clause-stands
 returns-in_default-next_request-clause-stands g c =
-    stands_so_far (Rested c.args.drains c.args.rows) c.args.seat.now (g.S.Source.left c.args.source.now) (g.K.Sink.taken c.args.sink.now) c.requests.seat (ahead c.requests.lines (g.S.Source.left c.requests.source)) (g.K.Sink.taken c.requests.sink) c.requests.invariant.0
+    stands_so_far (DrainsBy c.args.drains c.args.rows) c.args.seat.now (g.S.Source.left c.args.source.now) (g.K.Sink.taken c.args.sink.now) c.requests.seat (ahead c.requests.lines (g.S.Source.left c.requests.source)) (g.K.Sink.taken c.requests.sink) c.requests.invariant.0
 
 pub returns-in_default-next-clause-text : goal.returns-in_default-next-clause-text
 returns-in_default-next-clause-text g c =
-    ran_all (Rested c.args.drains c.args.rows) c.args.seat.now (g.S.Source.left c.args.source.now) (g.K.Sink.taken c.args.sink.now) c.requests.seat (ahead c.requests.lines (g.S.Source.left c.requests.source)) (g.K.Sink.taken c.requests.sink) c.requests.invariant.0
+    ran_all (DrainsBy c.args.drains c.args.rows) c.args.seat.now (g.S.Source.left c.args.source.now) (g.K.Sink.taken c.args.sink.now) c.requests.seat (ahead c.requests.lines (g.S.Source.left c.requests.source)) (g.K.Sink.taken c.requests.sink) c.requests.invariant.0
     (rw c.in_default-next.is at c.in-Ok-next_request.ensures.request)
 
 pub requests-preserved : goal.requests-preserved
 requests-preserved g c =
     let next = rw c.in-Some.is at c.in-Ok-next_request.ensures.request in
     let w = c.in-Ok-respond.ensures.written in (
-      progress_more (Rested c.args.drains c.args.rows) c.args.seat.now (g.S.Source.left c.args.source.now) (g.K.Sink.taken c.args.sink.now) c.requests.seat c.respond.new.seat
+      progress_more (DrainsBy c.args.drains c.args.rows) c.args.seat.now (g.S.Source.left c.args.source.now) (g.K.Sink.taken c.args.sink.now) c.requests.seat c.respond.new.seat
           (ahead c.requests.lines (g.S.Source.left c.requests.source)) (ahead c.next_request.new.lines (g.S.Source.left c.next_request.new.source))
           (g.K.Sink.taken c.requests.sink) (g.K.Sink.taken c.respond.new.sink) c.in-Some.read w.0 c.requests.invariant.0 next w.1 w.2.0,
       keeps_both c.args.seat.now c.requests.seat c.respond.new.seat c.requests.invariant.1 c.respond.ensures.seat,
@@ -34,6 +34,6 @@ pub returns-in_default-respond-clause-stands : goal.returns-in_default-respond-c
 returns-in_default-respond-clause-stands g c =
     let next = rw c.in-Some.is at c.in-Ok-next_request.ensures.request in
     let w = c.in_default-respond.ensures.written in
-    stands_failed (Rested c.args.drains c.args.rows) c.args.seat.now (g.S.Source.left c.args.source.now) (g.K.Sink.taken c.args.sink.now) c.requests.seat c.respond.new.seat
+    stands_failed (DrainsBy c.args.drains c.args.rows) c.args.seat.now (g.S.Source.left c.args.source.now) (g.K.Sink.taken c.args.sink.now) c.requests.seat c.respond.new.seat
     (ahead c.requests.lines (g.S.Source.left c.requests.source)) (ahead c.next_request.new.lines (g.S.Source.left c.next_request.new.source))
     (g.K.Sink.taken c.requests.sink) (g.K.Sink.taken c.respond.new.sink) c.in-Some.read w.0 c.requests.invariant.0 next w.1 w.2.0

@@ -74,7 +74,7 @@ class Client:
         self.ask("query", name=name, text=text, **keys)
 
     def append(self, stream, rows):
-        """Appends rows, each an instant and then its values, of any iterable, and gives their number.
+        """Appends rows of any iterable, each an instant and then its values. Gives their number.
 
         They go in appends of at most 1,024 rows, so where one is refused those before it stay.
         """

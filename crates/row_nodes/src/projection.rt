@@ -54,9 +54,8 @@ pub fn run_project(
     match item {
         Item::Rows(at, batch) => {
             let rows = batch.projected(alloc, columns)?;
-            queue.push(Item::Rows(at, rows))?;
+            queue.push(Item::Rows(at, rows))
         }
-        Item::Tick(at) => queue.push(Item::Tick(at))?,
+        Item::Tick(at) => queue.push(Item::Tick(at)),
     }
-    Ok(())
 }

@@ -65,13 +65,13 @@ pub fn run_select(
     match item {
         Item::Rows(at, batch) => {
             let mask = kept(alloc, steps, &batch)?;
-            if let Some(rows) = batch.kept(&mask) {
-                queue.push(Item::Rows(at, rows))?;
+            match batch.kept(&mask) {
+                Some(rows) => queue.push(Item::Rows(at, rows)),
+                None => Ok(()),
             }
         }
-        Item::Tick(at) => queue.push(Item::Tick(at))?,
+        Item::Tick(at) => queue.push(Item::Tick(at)),
     }
-    Ok(())
 }
 
 /// Which rows are kept.

@@ -12,7 +12,7 @@ use Rattle.op_queue.specs.Queues.{HasGained, Waiting, first_begins}
 use Rattle.op_queue.specs.declared.item.Item.TheVariants.{Rows}
 use Rattle.op_queue.proofs.GainLemmas.{gained-item, gained-more, gained-same}
 use Rattle.windows.specs.Held.{cut_rows}
-use Rattle.std.specs.List.{filter}
+use Rattle.std.specs.List.{filter, flat_map}
 use Rattle.op_queue.specs.declared.item.Item.TheVariants.{Tick}
 use Rattle.windows.specs.Range.{RangeState, is_past, leaving, near, out}
 use Rattle.windows.proofs.FlatLemmas.{cut_rows-drop}
@@ -119,3 +119,10 @@ near_none s t none = sym (near-none s (Tick t) t refl none)
 pub out_is : (s : RangeState) (i : Item) → out i (near s i) ≡ leaving_at (item_instant i) (near s i) ++ entries_of i
 out_is s (Rows t b) = refl
 out_is s (Tick t) = refl
+
+-- ---- items one behind the other
+pub forward_first : (es : List (Entry Row)) (i : Item) (items rest : List Item) (whole : List (Entry Row)) → es ++ flat_map entries_of items ≡ whole → items ≡ i ∷ rest → IsForward whole → IsForward (es ++ entries_of i)
+forward_first es i items rest whole is front h =
+    let all : (es ++ entries_of i) ++ flat_map entries_of rest ≡ whole =
+    append_assoc es (entries_of i) (flat_map entries_of rest) ∙ ap (λ xs. es ++ flat_map entries_of xs) (sym front) ∙ is in
+    IsForward-front (es ++ entries_of i) (flat_map entries_of rest) (subst IsForward (sym all) h)

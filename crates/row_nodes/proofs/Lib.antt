@@ -1,3 +1,4 @@
 pub mod StepLemmas
 pub mod SelectLemmas
 pub mod RowLemmas
+pub mod PushLemmas

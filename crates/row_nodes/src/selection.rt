@@ -1,16 +1,18 @@
 //! The rows at which a condition is true.
-ghost use Rattle.std.specs.Prelude.{◌≡◌, IfOk, length, map};
+ghost use Rattle.std.specs.Prelude.{◌≡◌, ◌++◌, IfOk, OnErr, OnOk, length, map};
 ghost use Rattle.std.specs.List.{flat_map};
 ghost use Rattle.column.specs.Bits.{word_count};
 ghost use Rattle.column.specs.Rows.{width};
 ghost use Rattle.lane_kernels.specs.Steps.{StepsFit};
+ghost use Rattle.op_queue.specs.Entries.{IsForward};
 ghost use Rattle.op_queue.specs.Items.{entries_of};
+ghost use Rattle.op_queue.specs.Queues.{HasGained};
 ghost use Rattle.row_nodes.specs.Select.{FitItem, is_kept, selected};
 
 use crate::outputs::one;
 use column::{Batch, Mask};
 use lane_kernels::{Step, run_condition};
-use op_queue::Item;
+use op_queue::{Item, Queue};
 use std::alloc::{AllocError, Global};
 
 // as many words of 64 bits as a batch of `MAX_ROWS` rows needs
@@ -42,6 +44,33 @@ pub fn select(alloc: Global, steps: &[Step], item: &Item) -> Result<Vec<Item>, A
             let outs = one(alloc, Item::Tick(*at))?;
             Ok(outs)
         }
+    }
+}
+
+/// Puts what Select puts out at an item at the back of the queue. The rows that are kept move to
+/// the front of their columns.
+///
+/// An error says that memory was refused; the queue is as it was, and the item is dropped.
+pub fn run_select(
+    alloc: Global,
+    steps: &[Step],
+    item: Item,
+    queue: &mut Queue,
+) -> Result<(), AllocError>
+    requires fits { FitItem steps.now item }
+    requires forward { IsForward (queue.old.entries ++ selected steps.now item) }
+    ensures gained { OnOk result (HasGained (selected steps.now item) queue.old queue.new) }
+    ensures err { OnErr result (queue.new ≡ queue.old) }
+{
+    match item {
+        Item::Rows(at, batch) => {
+            let mask = kept(alloc, steps, &batch)?;
+            match batch.kept(&mask) {
+                Some(rows) => queue.push(Item::Rows(at, rows)),
+                None => Ok(()),
+            }
+        }
+        Item::Tick(at) => queue.push(Item::Tick(at)),
     }
 }
 

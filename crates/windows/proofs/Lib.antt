@@ -2,6 +2,7 @@ pub mod FlatLemmas
 pub mod RunLemmas
 pub mod RangeLemmas
 pub mod HeldLemmas
+pub mod LeavingLemmas
 pub mod PartLemmas
 pub mod LatestLemmas
 pub mod OutputLemmas

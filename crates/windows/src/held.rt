@@ -1,15 +1,15 @@
 //! Rows that are held, with their instants.
-ghost use Rattle.std.specs.Prelude.{◌≡◌, ◌≤◌, ◌++◌, [], length, map, drop, IfOk, OnOk, OnErr};
-ghost use Rattle.std.specs.Prelude.{nat_lt};
+ghost use Rattle.std.specs.Prelude.{◌≡◌, ◌<◌, ◌≤◌, ◌+◌, ◌++◌, [], length, map, drop, take, IfOk};
+ghost use Rattle.std.specs.Prelude.{OnOk, OnErr, nat_lt};
 ghost use Rattle.std.specs.List.{filter};
 ghost use Rattle.std.specs.List.Sorted.{IsNonDecreasingBy};
 ghost use Rattle.column.specs.Rows.{IsTable, width};
-ghost use Rattle.windows.specs.Range.{held_at};
+ghost use Rattle.windows.specs.Range.{held_at, leaving};
 ghost use Rattle.windows.specs.Widths.{rows_of};
 
 use crate::flat_rows::FlatRows;
 use crate::runs::{Run, count_below, leave, lengthen};
-use column::Batch;
+use column::{Batch, MAX_ROWS};
 use std::alloc::{AllocError, Global};
 use std::collections::VecDeque;
 use std::marker::Model;
@@ -63,6 +63,34 @@ impl HeldRows {
         let count = count_below(&self.runs, first);
         let rows = self.rows.first(alloc, count)?;
         Ok(rows)
+    }
+
+    /// How many rows of instants below `first` are held; they stand in front.
+    pub(crate) fn count_older(&self, first: u64) -> usize
+        requires { IsNonDecreasingBy (λ h. h.0) self.now.held }
+        ensures few { result ≤ length self.now.held }
+        ensures older { take result (map (λ h. h.1) self.now.held)
+            ≡ map (λ h. h.1) (filter (λ h. nat_lt h.0 first) self.now.held) }
+    {
+        let _len = self.rows.len();
+        count_below(&self.runs, first)
+    }
+
+    /// A copy of `count` rows from the place `from` on, as rows that leave.
+    pub(crate) fn leaving(
+        &self,
+        alloc: Global,
+        from: usize,
+        count: usize,
+    ) -> Result<Batch, AllocError>
+        requires some { 0 < count }
+        requires few { count ≤ MAX_ROWS }
+        requires within { from + count ≤ length self.now.held }
+        ensures { IfOk result (λ b. b
+            ≡ map leaving (take count (drop from (map (λ h. h.1) self.now.held)))) }
+    {
+        let batch = self.rows.leaving(alloc, from, count)?;
+        Ok(batch)
     }
 
     /// The rows of a batch enter, with this instant.

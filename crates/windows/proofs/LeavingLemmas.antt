@@ -1,0 +1,128 @@
+-- Rows that leave, batch by batch.
+use Rattle.std.proofs.Common.{◌≡◌, ℕ, zero, suc, ◌+◌, ◌-◌, ◌*◌, ◌<◌, ◌≤◌, Bool, true, nat_lt, ℤ, Option, None, Some, List, [], ◌∷◌, ◌++◌, length, map, take, drop, replicate, slice_range, refl, ap, ap₂, sym, ◌∙◌, arith, subst, suc-add, suc-mul, append_assoc}
+use Rattle.std.proofs.Math.Seq.{take-add}
+use Rattle.std.proofs.lemmas.List.{drop-append-le, drop-take, map-append, take-append-le}
+use Rattle.std.proofs.lemmas.List.{get_or_append_left, length-append, length-drop, length-map, length-take}
+use Rattle.values.specs.Row.{Row}
+use Rattle.column.specs.Rows.{flat_rows}
+use Rattle.op_queue.specs.Entries.{Entry, IsForward, RowAt}
+use Rattle.op_queue.specs.Items.{entries_of, item_instant}
+use Rattle.op_queue.specs.declared.item.Item.{Item}
+use Rattle.op_queue.specs.Queues.{HasGained, Waiting, first_begins}
+use Rattle.op_queue.specs.declared.item.Item.TheVariants.{Rows}
+use Rattle.op_queue.proofs.GainLemmas.{gained-item, gained-more, gained-same}
+use Rattle.windows.specs.Held.{cut_rows}
+use Rattle.std.specs.List.{filter, flat_map}
+use Rattle.op_queue.specs.declared.item.Item.TheVariants.{Tick}
+use Rattle.windows.specs.Range.{RangeState, is_past, leaving, near, out}
+use Rattle.windows.proofs.FlatLemmas.{cut_rows-drop}
+use Rattle.windows.proofs.RangeLemmas.{near-none}
+
+-- ---- rows cut from a part of the values
+cut_rows-take : (w k m : ℕ) (values : List (Option ℤ)) → k ≤ m → take k (cut_rows w m values) ≡ cut_rows w k values
+cut_rows-take w zero m values le = refl
+cut_rows-take w (suc k) zero values le = absurd (omega (arith, le))
+cut_rows-take w (suc k) (suc m) values le = ap (λ (rs : List Row). take w values ∷ rs) (cut_rows-take w k m (drop w values) (omega (arith, le)))
+
+take_within : {X : Type 0} (w m : ℕ) (xs : List X) → take w (take (w + m) xs) ≡ take w xs
+take_within zero m xs = refl
+take_within (suc w) m [] = ap (λ n. take (suc w) (take n [])) (suc-add w m)
+take_within (suc w) m (x ∷ xs) = ap (λ n. take (suc w) (take n (x ∷ xs))) (suc-add w m) ∙ ap (λ l. x ∷ l) (take_within w m xs)
+
+cut_rows-first : (w k : ℕ) (values : List (Option ℤ)) → cut_rows w k (take (k * w) values) ≡ cut_rows w k values
+cut_rows-first w zero values = refl
+cut_rows-first w (suc k) values =
+    let e : suc k * w ≡ w + k * w = omega (arith, suc-mul k w) in
+    ap (λ n. cut_rows w (suc k) (take n values)) e
+    ∙ ap₂ (λ (r : Row) (rs : List Row). r ∷ rs) (take_within w (k * w) values) (ap (cut_rows w k) (drop-take w (k * w) values) ∙ cut_rows-first w k (drop w values))
+
+-- a range within the first of two lists
+pub slice_front : {X : Type 0} (xs ys : List X) (a b : ℕ) → a ≤ b → b ≤ length xs → slice_range (xs ++ ys) a b ≡ slice_range xs a b
+slice_front xs ys a b le fits =
+    ap (take (b - a)) (drop-append-le a xs ys (omega (arith, le, fits)))
+    ∙ take-append-le (b - a) (drop a xs) ys (omega (arith, le, fits, length-drop a xs))
+
+pub flat_leaving : (w n : ℕ) (values : List (Option ℤ)) → flat_rows w (replicate n true) values ≡ map leaving (cut_rows w n values)
+flat_leaving w zero values = refl
+flat_leaving w (suc n) values = ap (λ rs. leaving (take w values) ∷ rs) (flat_leaving w n (drop w values))
+
+pub rows_leaving : (w n «from» count : ℕ) (values part : List (Option ℤ)) (rows : List Row) → «from» + count ≤ n → cut_rows w n values ≡ rows → part ≡ slice_range values («from» * w) («from» * w + count * w)
+    → map leaving (cut_rows w count part) ≡ map leaving (take count (drop «from» rows))
+rows_leaving w n «from» count values part rows le is cut =
+    let size : «from» * w + count * w - «from» * w ≡ count * w = omega arith in
+    ap (map leaving)
+    (ap (cut_rows w count) (cut ∙ ap (λ k. take k (drop («from» * w) values)) size)
+    ∙ cut_rows-first w count (drop («from» * w) values)
+    ∙ sym (cut_rows-take w count (n - «from») (drop («from» * w) values) (omega (arith, le)))
+    ∙ ap (take count) (cut_rows-drop w n «from» values (omega (arith, le)) ∙ ap (drop «from») is))
+
+-- ---- what a queue gains, batch by batch
+abbrev pub leaving_at : ℕ → List Row → List (Entry Row)
+leaving_at t rows = map (RowAt t) (map leaving rows)
+
+pub leaving_at-more : (t «from» more : ℕ) (rows : List Row) → leaving_at t (take («from» + more) rows) ≡ leaving_at t (take «from» rows) ++ leaving_at t (take more (drop «from» rows))
+leaving_at-more t «from» more rows =
+    let at : Bool × Row → Entry Row = RowAt t in
+    ap (leaving_at t) (take-add «from» more rows)
+    ∙ ap (map at) (map-append leaving (take «from» rows) (take more (drop «from» rows)))
+    ∙ map-append at (map leaving (take «from» rows)) (map leaving (take more (drop «from» rows)))
+
+pub IsForward-front : (es fs : List (Entry Row)) → IsForward (es ++ fs) → IsForward es
+IsForward-front es fs h i j d le lt =
+    let n = length-append es fs in
+    rw (sym (get_or_append_left es fs d i (omega arith)), sym (get_or_append_left es fs d j lt)) (h i j d le (omega arith))
+
+pub forward_more : (t «from» more count : ℕ) (rows : List Row) (before es : List (Entry Row)) (batch : List (Bool × Row)) → «from» + more ≤ count → es ≡ before ++ leaving_at t (take «from» rows) → batch ≡ map leaving (take more (drop «from» rows))
+    → IsForward (before ++ leaving_at t (take count rows)) → IsForward (es ++ map (RowAt t) batch)
+forward_more t «from» more count rows before es batch le e b h =
+    let at : Bool × Row → Entry Row = RowAt t in
+    let rest : List (Entry Row) = leaving_at t (take (count - («from» + more)) (drop («from» + more) rows)) in
+    let split : count ≡ «from» + more + (count - («from» + more)) = omega (arith, le) in
+    let whole : before ++ leaving_at t (take count rows) ≡ (before ++ leaving_at t (take («from» + more) rows)) ++ rest =
+    ap (λ n. before ++ leaving_at t (take n rows)) split
+    ∙ ap (λ l. before ++ l) (leaving_at-more t («from» + more) (count - («from» + more)) rows)
+    ∙ sym (append_assoc before (leaving_at t (take («from» + more) rows)) rest) in
+    let here : before ++ leaving_at t (take («from» + more) rows) ≡ es ++ map at batch =
+    ap (λ l. before ++ l) (leaving_at-more t «from» more rows)
+    ∙ sym (append_assoc before (leaving_at t (take «from» rows)) (leaving_at t (take more (drop «from» rows))))
+    ∙ ap₂ (λ (l m : List (Entry Row)). l ++ m) (sym e) (ap (map at) (sym b)) in
+    subst IsForward here (IsForward-front (before ++ leaving_at t (take («from» + more) rows)) rest (subst IsForward whole h))
+
+pub gained_more : (t «from» more : ℕ) (rows : List Row) (batch : List (Bool × Row)) (a b c : Waiting) → batch ≡ map leaving (take more (drop «from» rows)) → HasGained (leaving_at t (take «from» rows)) a b
+    → c.entries ≡ b.entries ++ map (RowAt t) batch → c.begins ≡ b.begins ++ first_begins (map (RowAt t) batch) → HasGained (leaving_at t (take («from» + more) rows)) a c
+gained_more t «from» more rows batch a b c is h entries begins =
+    let at : Bool × Row → Entry Row = RowAt t in
+    gained-same
+    (ap (λ l. leaving_at t (take «from» rows) ++ map at l) is ∙ sym (leaving_at-more t «from» more rows))
+    (gained-more (leaving_at t (take «from» rows)) (map at batch) a b c h (gained-item (Rows t batch) b c entries begins))
+
+-- ---- the rows that leave at a tick
+pub near_taken : (s : RangeState) (span : Option ℕ) (w t n k first : ℕ) (held : List (ℕ × Row)) → record { span = span; width = w; held = held } ≡ s → span ≡ Some n → first ≡ t - n
+    → take k (map (λ h. h.1) held) ≡ map (λ h. h.1) (filter (λ h. nat_lt h.0 first) held) → take k (map (λ h. h.1) held) ≡ near s (Tick t)
+near_taken s span w t n k first held seen some is older =
+    older
+    ∙ ap (λ m. map (λ (h : ℕ × Row). h.1) (filter (λ h. nat_lt h.0 m) held)) is
+    ∙ ap (λ p. map (λ (h : ℕ × Row). h.1) (filter (is_past p t) held)) (sym some)
+    ∙ ap (λ s. near s (Tick t)) seen
+
+-- they are as many as were counted
+pub near_count : (k : ℕ) (held : List (ℕ × Row)) (rows : List Row) → k ≤ length held → take k (map (λ h. h.1) held) ≡ rows → k ≡ length rows
+near_count k held rows le is =
+    let f : ℕ × Row → Row = λ h. h.1 in
+    omega (arith, ap (λ (rs : List Row). length rs) is, length-take k (map f held), length-map held f)
+
+-- where there is no span, none leaves
+pub near_none : (s : RangeState) (t : ℕ) → s.span ≡ None → [] ≡ near s (Tick t)
+near_none s t none = sym (near-none s (Tick t) t refl none)
+
+-- what a turn puts out: the rows that leave, and then the item
+pub out_is : (s : RangeState) (i : Item) → out i (near s i) ≡ leaving_at (item_instant i) (near s i) ++ entries_of i
+out_is s (Rows t b) = refl
+out_is s (Tick t) = refl
+
+-- ---- items one behind the other
+pub forward_first : (es : List (Entry Row)) (i : Item) (items rest : List Item) (whole : List (Entry Row)) → es ++ flat_map entries_of items ≡ whole → items ≡ i ∷ rest → IsForward whole → IsForward (es ++ entries_of i)
+forward_first es i items rest whole is front h =
+    let all : (es ++ entries_of i) ++ flat_map entries_of rest ≡ whole =
+    append_assoc es (entries_of i) (flat_map entries_of rest) ∙ ap (λ xs. es ++ flat_map entries_of xs) (sym front) ∙ is in
+    IsForward-front (es ++ entries_of i) (flat_map entries_of rest) (subst IsForward (sym all) h)

@@ -1,5 +1,5 @@
 -- Why no turn went out: where rows are in range, as many turns are out as may be, or memory was refused.
-use Rattle.std.proofs.Common.{◌≡◌, ◌⊎◌, inl, inr, ℕ, ◌≤◌, Bool, true, false, not, ◌&&◌, nat_le, Option, Some, None, Err, List, [], ◌∷◌, refl, sym, ap, ◌∙◌}
+use Rattle.std.proofs.Common.{◌≡◌, ◌⊎◌, inl, inr, ℕ, ◌≤◌, Bool, true, false, not, ◌&&◌, nat_le, Some, Err, [], ◌∷◌, refl}
 use Rattle.std.proofs.lemmas.Bool.{le-leb}
 use Rattle.names.specs.Faults.{first_of}
 use Rattle.reference.specs.declared.fault.Fault.{Fault}

@@ -6,3 +6,4 @@ mod ReachLemmas
 mod AcceptingLemmas
 mod KnownLemmas
 pub mod SendLemmas
+pub mod WithheldLemmas

@@ -1,11 +1,11 @@
 -- A hub may be shared among threads: what an engine is made of may go to another thread, from the lowest type on.
-use denote.Param.Send.{IsSend, IsSync, sendable, view_send, struct_send, param_send, arg_send, copied_send, such_send, recorded_send}
+use denote.Param.Send.{IsSend, IsSync, sendable, view_send}
 use denote.RattleType.{RattleType}
 use denote.Enum.Declared as E
 use denote.Hole.FixSend.{fix_send, Sends}
 use denote.Hole.Fix.{holes}
 use Rattle.values.specs.declared.resolved.Condition.TheBlock as block
-use denote.Param.SendFields.{declared_send, variants_send}
+use denote.Param.SendFields.{declared_send}
 use Rattle.std.proofs.Crossing.{crosses, Arc-send}
 use Rattle.std.proofs.MapsCrossing as maps
 use Rattle.values.specs.contracts.Value as value

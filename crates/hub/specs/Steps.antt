@@ -89,27 +89,33 @@ pub record IsFresh (l : PlainLocked) (seats limit : ℕ) : Type 0 where
 abbrev pub ended : PlainLocked → PlainLocked
 ended l = record l { has_ended = true }
 
--- WHAT WORKERS CALL, as of the engine
+-- WHAT WORKERS CALL, as of the engine. Each says that the history before it was legal, so it is legal whenever the lock is free
 pub record Hands (old : PlainLocked) (rows : ℕ) (result : Result Leased Fault) (new : PlainLocked) : Type 0 where
+  pub legal : IsReplayed old
   pub leases : Leases (engine_at old) rows result (engine_at new)
   pub idle : result ≡ Ok leased.Idle → HasAllWaiting (engine_at new)
 
 pub record Ends (old : PlainLocked) (done : Parts) (result : Result ⊤ Fault) (new : PlainLocked) : Type 0 where
+  pub legal : IsReplayed old
   pub finishes : Finishes (engine_at old) done result (engine_at new)
 
 pub record GivesUp (old : PlainLocked) (lease : ℕ) (result : Result ⊤ Fault) (new : PlainLocked) : Type 0 where
+  pub legal : IsReplayed old
   pub abandons : Abandons (engine_at old) lease result (engine_at new)
 
 -- a turn of at most so many rows goes out
 pub record Lends (old : PlainLocked) (rows : ℕ) (t : Turn) (new : PlainLocked) : Type 0 where
+  pub legal : IsReplayed old
   pub turn : IsTurnOf (engine_at old) rows t (engine_at new)
 
 -- no turn goes out, for this fault
 pub record Withholds (old : PlainLocked) (rows : ℕ) (f : Fault) (new : PlainLocked) : Type 0 where
+  pub legal : IsReplayed old
   pub refuses : Leases (engine_at old) rows (Err f) (engine_at new)
 
 -- nothing is ready: of each query that runs and of which no turn is out, all its closed answers wait that were not taken
 pub record IsIdle (old : PlainLocked) (rows : ℕ) (new : PlainLocked) : Type 0 where
+  pub legal : IsReplayed old
   pub idle : Leases (engine_at old) rows (Ok leased.Idle) (engine_at new)
   pub all : HasAllWaiting (engine_at new)
 
@@ -120,24 +126,30 @@ pub record Rests (old : PlainLocked) (rows : ℕ) (new : PlainLocked) : Type 0 w
 
 -- the end was called
 pub record HasEnded (old new : PlainLocked) : Type 0 where
+  pub legal : IsReplayed old
   pub called : old.has_ended ≡ true
   pub same : new ≡ old
 
 -- WHAT LOOK-UPS FIND
 pub record FindsStream (l : PlainLocked) (name : List ℕ) (found : Option ℕ) : Type 0 where
+  pub legal : IsReplayed l
   pub is : found ≡ stream_named (engine_at l).machine name
 
 pub record FindsQuery (l : PlainLocked) (name : List ℕ) (found : Option ℕ) : Type 0 where
+  pub legal : IsReplayed l
   pub is : found ≡ query_named (engine_at l).machine name
 
 -- WHAT LOOKS SEE
 pub record SeesWaiting (l : PlainLocked) (query : ℕ) (result : Result ℕ Fault) : Type 0 where
+  pub legal : IsReplayed l
   pub is : WaitsAt (engine_at l) query result
 
 pub record SeesPending {A : Type 0} (view : A → List ℕ) (l : PlainLocked) (query : ℕ) (result : Result A Fault) : Type 0 where
+  pub legal : IsReplayed l
   pub is : IsPending view (engine_at l) query result
 
 pub record SeesSlopes {A : Type 0} (view : A → List (Kind × Fraction)) (l : PlainLocked) (query : ℕ) (result : Result A Fault) : Type 0 where
+  pub legal : IsReplayed l
   pub is : Looks view (slopes_at (world_of (engine_at l)) query) result
 
 -- WHAT A SEAT KNOWS of its call: what lay under the lock had a legal history, and took the command just so, or refused it

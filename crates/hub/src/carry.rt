@@ -13,7 +13,7 @@ ghost use Rattle.hub.specs.Calls.{Answered, Refused};
 use histories::{Command, CommandKind, Reply, ReplyKind};
 use leases::Engine;
 use plan::Chart;
-use reference::{Answering, Fault, NewRows};
+use reference::{Answering, Fault, MAX_TAKE, NewRows};
 
 fn declare(engine: &mut Engine, name: &str, columns: &[String], from: i64) -> Result<Reply, Fault>
     ensures ok { IfOk result (λ r. Answered (engine_in engine.old)
@@ -118,7 +118,8 @@ pub(crate) fn carry_out(engine: &mut Engine, command: &Command) -> Result<Reply,
     }
 }
 
-/// How many answers a reply to the command has at most.
+/// How many answers a reply to the command has at most: none where the engine refuses it for its
+/// limit.
 #[tactic(auto, using(crate::proofs::AnsweredLemmas::answers_few))]
 pub(crate) fn room_for(engine: &Engine, command: &Command) -> usize
     ensures { (r : replies.Reply) (new : PlainEngine)
@@ -126,11 +127,10 @@ pub(crate) fn room_for(engine: &Engine, command: &Command) -> usize
 {
     match command.kind() {
         CommandKind::Take { query, limit } => {
-            let waiting = engine.waiting(*query).unwrap_or(0);
-            match usize::try_from(*limit) {
-                Ok(limit) => limit.min(waiting),
-                Err(_) => waiting,
+            if *limit < 1 || *limit > MAX_TAKE {
+                return 0;
             }
+            (*limit as usize).min(engine.waiting(*query).unwrap_or(0))
         }
         _ => 0,
     }

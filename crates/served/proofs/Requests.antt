@@ -69,7 +69,7 @@ is_pool workers = elim (cases_lt 0 workers) [
 ]
 
 -- what is refused just where workers or rows are out of range, and these rows are in range
-AreRefused : {T : Type 0} → ℕ → ℕ → Result T Fault → Type 0
+abbrev pub AreRefused : {T : Type 0} → ℕ → ℕ → Result T Fault → Type 0
 AreRefused workers most r = IsErrOf r BadLimit ↔ (¬ ((1 ≤ workers) × (workers ≤ MAX_WORKERS) × (1 ≤ most) × (most ≤ MAX_TURN)))
 
 in_range : {T : Type 0} (workers most : ℕ) (r : Result T Fault) → AreRefused workers most r → (IsErrOf r BadLimit → ⊥) → IsPool workers
@@ -82,7 +82,7 @@ pub pool_drained : {T : Type 0} (workers most : ℕ) (r : Result T Fault) (answe
     → IfErr r (λ f. (f ≡ BadLimit) ⊎ (f ≡ TooManyLeases) ⊎ (f ≡ OutOfMemory)) → answer ≡ done_of r → PoolDrains workers most answer
 pool_drained workers most (Ok x) answer rows rest bad short is = subst (PoolDrains workers most) (sym is) (in_range workers most (Ok x) bad (λ e. cc), rest)
 pool_drained workers most (Err f) answer rows rest bad (inl limit) is =
-    subst (PoolDrains workers most) (sym (is ∙ ap refused limit)) (λ (pool : IsPool workers). bad.0 (ap Err limit) (pool.0, pool.1, rows))
+    subst (PoolDrains workers most) (sym (is ∙ ap refused limit)) (λ (pool : IsPool workers). bad.0 (ap Err limit) (pool.0, pool.1, rows.0, rows.1))
 pool_drained workers most (Err f) answer rows rest bad (inr (inl turns)) is =
     subst (PoolDrains workers most) (sym (is ∙ ap refused turns)) (in_range workers most (Err f) bad (λ e. cc))
 pool_drained workers most (Err f) answer rows rest bad (inr (inr memory)) is =

@@ -1,8 +1,9 @@
 //! A pool of workers.
-ghost use Rattle.std.specs.Prelude.{◌≡◌, ◌≤◌, ◌↔◌, ◌⊎◌, IfErr, IsErrOf};
+ghost use Rattle.std.specs.Prelude.{◌≡◌, ◌≤◌, ◌↔◌, ◌⊎◌, IfErr, IsErrOf, OnOk};
 ghost use Rattle.reference.specs.declared.fault.Fault.TheVariants.{BadLimit, OutOfMemory};
 ghost use Rattle.reference.specs.declared.fault.Fault.TheVariants.{TooManyLeases};
 ghost use Rattle.reference.specs.declared.limits.TheConstants.{MAX_TURN};
+ghost use Rattle.hub.specs.Steps.{PlainLocked, Rests};
 ghost use Rattle.workers.specs.declared.pool.TheConstants.{MAX_WORKERS};
 
 use crate::gate::Gate;
@@ -36,6 +37,7 @@ impl Pool {
         workers: u64,
         rows: u32,
     ) -> Result<(), Fault>
+        ensures ok { OnOk result ((old : PlainLocked) × (new : PlainLocked) × Rests old rows new) }
         ensures bad { IsErrOf result Fault.BadLimit ↔ (¬ ((1 ≤ workers)
             × (workers ≤ MAX_WORKERS) × (1 ≤ rows) × (rows ≤ MAX_TURN))) }
         ensures err { IfErr result (λ f.
@@ -46,18 +48,32 @@ impl Pool {
         }
         let met = Mutex::new(None);
         let shared = &met;
-        thread::scope(thread::scope_env(), rt, |scope| {
-            for _ in 1..workers {
-                let _ = scope.spawn(move || {
-                    note(rt, shared, run_to_rest(rt, alloc, hub, gate, rows))
-                });
-            }
-            note(rt, shared, run_to_rest(rt, alloc, hub, gate, rows));
-        });
-        match met.into_inner() {
-            Some(Lack::Memory) => Err(Fault::OutOfMemory),
-            Some(Lack::Turns) => Err(Fault::TooManyLeases),
+        let own = thread::scope(
+            thread::scope_env(),
+            rt,
+            |scope| -> Result<(), Lack>
+                requires { 1 ≤ rows × rows ≤ MAX_TURN }
+                ensures { OnOk result ((old : PlainLocked) × (new : PlainLocked)
+                    × Rests old rows new) }
+            {
+                for _ in 1..workers {
+                    let _ = scope.spawn(
+                        move ||
+                            requires { 1 ≤ rows × rows ≤ MAX_TURN }
+                        { note(rt, shared, run_to_rest(rt, alloc, hub, gate, rows)) },
+                    );
+                }
+                run_to_rest(rt, alloc, hub, gate, rows)
+            },
+        );
+        let others = match met.into_inner() {
+            Some(lack) => Err(lack),
             None => Ok(()),
+        };
+        match own.and(others) {
+            Ok(()) => Ok(()),
+            Err(Lack::Memory) => Err(Fault::OutOfMemory),
+            Err(Lack::Turns) => Err(Fault::TooManyLeases),
         }
     }
 }

@@ -1,7 +1,9 @@
 //! Workers.
-ghost use Rattle.std.specs.Prelude.{◌≤◌};
+ghost use Rattle.std.specs.Prelude.{◌≤◌, IfErr, OnOk};
 ghost use Rattle.turn.specs.Turns.{Fits};
 ghost use Rattle.reference.specs.declared.limits.TheConstants.{MAX_TURN};
+ghost use Rattle.hub.specs.Steps.{HasEnded, PlainLocked, Rests};
+ghost use Rattle.workers.specs.Lacks.{Lacks};
 
 use crate::gate::Gate;
 use hub::{Hub, LeaseRest, LeaseWait};
@@ -23,6 +25,7 @@ pub(crate) enum Lack {
 /// not come back is tried again, since its operator is ready again.
 pub fn work<R: Wait, G: Gate>(rt: &R, alloc: Global, hub: &Hub, gate: &G, rows: u32)
     requires { 1 ≤ rows × rows ≤ MAX_TURN }
+    ensures { (old : PlainLocked) × (new : PlainLocked) × HasEnded old new }
 {
     for _ in rt.forever() {
         match hub.lease_wait(rt, rows) {
@@ -33,23 +36,30 @@ pub fn work<R: Wait, G: Gate>(rt: &R, alloc: Global, hub: &Hub, gate: &G, rows: 
             Err(_) => {}
         }
     }
+    unreachable!()
 }
 
-/// Runs turns of at most `rows` rows, 1 to 1,024, until no operator may take anything and none is
-/// out. What it is short of it answers, and then holds no turn.
+/// Runs turns of at most `rows` rows until no operator may take anything and none is out. What it
+/// is short of it answers, and then holds no turn.
+#[tactic(auto, using(hub::proofs::WithheldLemmas::withheld_for))]
 pub(crate) fn run_to_rest<R: Wait, G: Gate>(
     rt: &R,
     alloc: Global,
     hub: &Hub,
     gate: &G,
     rows: u32,
-) -> Result<(), Lack> {
+) -> Result<(), Lack>
+    requires { 1 ≤ rows × rows ≤ MAX_TURN }
+    ensures ok { OnOk result ((old : PlainLocked) × (new : PlainLocked) × Rests old rows new) }
+    ensures err { IfErr result (λ lack. Lacks lack rows) }
+{
     for _ in rt.forever() {
         let turn = match hub.lease_or_rest(rt, rows) {
             Ok(LeaseRest::Turn(turn)) => turn,
             Ok(LeaseRest::Rest) => return Ok(()),
             Err(Fault::TooManyLeases) => return Err(Lack::Turns),
-            Err(_) => return Err(Lack::Memory),
+            Err(Fault::OutOfMemory) => return Err(Lack::Memory),
+            Err(_) => unreachable!(),
         };
         if let Err(Fault::OutOfMemory) = run_turn(rt, alloc, hub, gate, turn) {
             return Err(Lack::Memory);

@@ -96,7 +96,10 @@ impl Hub {
     {
         let mut locked = self.locked.lock(rt);
         let answer = locked.heartbeat(seat, stream, at);
-        self.moved.notify_all();
+        drop(locked);
+        if answer.is_ok() {
+            self.moved.notify_all();
+        }
         answer
     }
 
@@ -130,7 +133,10 @@ impl Hub {
     {
         let mut locked = self.locked.lock(rt);
         let answer = locked.drop_query(seat, query);
-        self.moved.notify_all();
+        drop(locked);
+        if answer.is_ok() {
+            self.moved.notify_all();
+        }
         answer
     }
 }

@@ -25,6 +25,7 @@ impl Hub {
     {
         let mut locked = self.locked.lock(rt);
         let answer = locked.finish(done);
+        drop(locked);
         self.moved.notify_all();
         answer
     }
@@ -35,6 +36,7 @@ impl Hub {
     {
         let mut locked = self.locked.lock(rt);
         let answer = locked.abandon(lease);
+        drop(locked);
         self.moved.notify_all();
         answer
     }
@@ -43,6 +45,7 @@ impl Hub {
     pub fn end<R: Wait>(&self, rt: &R) {
         let mut locked = self.locked.lock(rt);
         locked.end();
+        drop(locked);
         self.moved.notify_all();
     }
 

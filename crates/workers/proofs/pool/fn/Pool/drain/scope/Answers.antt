@@ -1,10 +1,20 @@
-use denote.Param.Send.{IsSync, sendable}
-use Rattle.std.proofs.Crossing.{crosses}
+use denote.Param.Send.{IsSync, sendable, param_send}
+use Rattle.std.proofs.Crossing.{crosses, send}
+use Rattle.std.specs.contracts.option.Option as option
+use Rattle.std.specs.contracts.sync.Mutex as mutex
 use Rattle.hub.proofs.SendLemmas.{hub_sync}
+use Rattle.workers.specs.contracts.worker.Lack as lack
 use Rattle.workers.proofs.pool.fn.Pool.drain.scope.Goals as goal
+use Rattle.workers.proofs.pool.fn.Pool.drain.scope.Lts as lts
+
+met_sync : IsSync (mutex.the_row (option.the_row lack.the_row))
+met_sync = search (sendable, crosses) depth 20
 
 pub spawn-requires-send-F : goal.spawn-requires-send-F
 spawn-requires-send-F c d κs lives =
     let r : IsSync c.row.R = search sendable in
     let g : IsSync c.row.G = search sendable in
-    search (sendable, crosses, hub_sync, r, g) depth 60 fits 1000000
+    param_send 1 (lts.arg-0-1 c.row.R c.row.G c.R.laws c.G.laws c.R.Threads-dict c.R.Wait-dict c.G.Gate-dict κs) (record {
+      owned = λ x vs vss. (tt, ((tt, r.shared x.0.now x.0.ref_ptr.0 x.0.ref_ptr.1 _), ((tt, met_sync.shared x.1.now x.1.ref_ptr.0 x.1.ref_ptr.1 _), (send.owned x.2 vss.1.1.0, ((tt, hub_sync.shared x.3.now x.3.ref_ptr.0 x.3.ref_ptr.1 _), ((tt, g.shared x.4.now x.4.ref_ptr.0 x.4.ref_ptr.1 _), ((tt, tt), tt)))))));
+      leaving = λ k x w. tt {0};
+    })

@@ -1,0 +1,13 @@
+use Rattle.std.proofs.Common.{◌≡◌, Result, Ok, Err, OnOk}
+use Rattle.std.specs.Prelude.{⊤}
+use Rattle.std.specs.Result.{result_and}
+use Rattle.workers.specs.declared.worker.Lack.{Lack}
+use Rattle.workers.proofs.pool.Pool.drain.Goals as goal
+
+-- what the first of two answers says at Ok, where both are Ok
+first_says : (own others r : Result ⊤ Lack) (u : ⊤) (P : Type 0) → OnOk own P → r ≡ result_and own others → r ≡ Ok u → P
+first_says (Ok a) others r u P says is ok = says
+first_says (Err lack) others r u P says is ok = absurd (cc)
+
+pub returns-in-Ok-clause-ok : goal.returns-in-Ok-clause-ok
+returns-in-Ok-clause-ok g c = first_says c.scoped-own.result c.match-into_inner.others c.and.result _ _ c.scoped-own.ensures.1 c.and.ensures c.in-Ok.is

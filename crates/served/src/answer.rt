@@ -11,8 +11,8 @@ ghost use Rattle.wire.specs.Printed.{answer_of};
 ghost use Rattle.wire.specs.Requests.{Reads};
 ghost use Rattle.wire.specs.Script.{done_of};
 ghost use Rattle.wire.specs.declared.request.WireFault.{WireFault};
-ghost use Rattle.served.specs.Serving.{CarriesNamed, ClientDrains, DrainsBy, LooksNamed, PoolDrains};
-ghost use Rattle.served.specs.Serving.{Replies, Serves, WasIdle, number_in};
+ghost use Rattle.served.specs.Serving.{CarriesNamed, ClientDrains, DrainsBy, LooksNamed};
+ghost use Rattle.served.specs.Serving.{PoolDrains, Replies, Serves, WasIdle, number_in};
 
 use hub::{Hub, Seat};
 use leases::Leased;

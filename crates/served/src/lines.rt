@@ -42,8 +42,8 @@ pub fn run_hub<R: Threads + Wait + Sync, S: Source, K: Sink>(
     ensures text { OnOk result (Scripts (λ text written. Runs (PoolDrains workers rows) seat.old
         (requests_of text) written seat.new)
         (S.left source.old) (K.taken sink.old) (K.taken sink.new)) }
-    ensures stands { OnErr result (Scripts (λ text written. Stands (PoolDrains workers rows) seat.old
-        (requests_of text) written seat.new)
+    ensures stands { OnErr result (Scripts (λ text written. Stands (PoolDrains workers rows)
+        seat.old (requests_of text) written seat.new)
         (S.left source.old) (K.taken sink.old) (K.taken sink.new)) }
     ensures seat { Keeps seat.old seat.new }
     ensures read { IfErr result (λ e. e ≡ ScriptFault.Read

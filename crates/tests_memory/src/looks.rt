@@ -114,8 +114,8 @@ impl Look {
                 .all(|(a, b)| a.is_same(b))
     }
 
-    /// Whether the engine shows afterwards what turns that came back may leave: as many are out, and
-    /// of each query nothing that waited is gone.
+    /// Whether the engine shows afterwards what turns that came back may leave: as many are out,
+    /// and of each query nothing that waited is gone.
     pub(crate) fn goes_on_to(&self, after: &Look) -> bool {
         self.out == after.out
             && self.queries.len() == after.queries.len()

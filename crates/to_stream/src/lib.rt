@@ -128,7 +128,8 @@ impl ToStream {
     /// The tick in place. All memory is taken before the first answer is pushed.
     fn answer(&mut self, at: u64, answers: &mut VecDeque<(u64, Row)>) -> Result<(), AllocError>
         ensures answers { OnOk result (answers_of answers.new.items
-            ≡ answers_of answers.old.items ++ map (λ r. (at, r)) (shown self.old.operator self.old)) }
+            ≡ answers_of answers.old.items
+            ++ map (λ r. (at, r)) (shown self.old.operator self.old)) }
         ensures state { OnOk result (self.new ≡ ticked self.old at) }
         ensures err { OnErr result (answers.new.items ≡ answers.old.items) }
     {

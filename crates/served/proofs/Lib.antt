@@ -1,2 +1,3 @@
 mod Requests
 mod Progressing
+mod SendLemmas

@@ -15,7 +15,7 @@ next_digit text rest behind n b d so_far is value small some few =
     let back : (n * 10 + d) / 10 ≡ n = omega arith in
     let last : (n * 10 + d) % 10 ≡ d = omega arith in
     let step : decimal (n * 10 + d) ≡ decimal n ++ (48 + d) ∷ [] =
-        decimal_step (n * 10 + d) (omega arith) (omega arith) ∙ ap₂ (λ m e. decimal m ++ (48 + e) ∷ []) back last in
+    decimal_step (n * 10 + d) (omega arith) (omega arith) ∙ ap₂ (λ m e. decimal m ++ (48 + e) ∷ []) back last in
     so_far ∙ ap (λ more. decimal n ++ more) (is ∙ ap (λ x. x ∷ behind) (sym value))
     ∙ sym (ap (λ front. front ++ behind) step ∙ append_assoc (decimal n) ((48 + d) ∷ []) behind)
 
@@ -45,5 +45,5 @@ put_next xs at rest number is some room long wide =
 pub shorter : (rest at : ℕ) → length (decimal rest) ≤ at → 10 ≤ rest → rest < 2 ^ 64 → length (decimal (rest / 10)) ≤ at - 1
 shorter rest at fits long wide =
     let same : length (decimal rest) ≡ length (decimal (rest / 10)) + 1 =
-        ap length (decimal_step rest long wide) ∙ length-append (decimal (rest / 10)) ((48 + rest % 10) ∷ []) in
+    ap length (decimal_step rest long wide) ∙ length-append (decimal (rest / 10)) ((48 + rest % 10) ∷ []) in
     omega (arith, same)

@@ -56,7 +56,7 @@ pub one_more_row : (text rest behind next : List ℕ) (rows new : List NewRow) (
     → text ≡ before_commas row_text new ++ next
 one_more_row text rest behind next rows new row is front comma pushed =
     let grown : before_commas row_text new ≡ before_commas row_text rows ++ (row_text row ++ 44 ∷ [] ++ []) =
-        ap (before_commas row_text) pushed ∙ flat_map-append (λ r. row_text r ++ codes ",") rows (row ∷ []) in
+    ap (before_commas row_text) pushed ∙ flat_map-append (λ r. row_text r ++ codes ",") rows (row ∷ []) in
     is ∙ ap (λ more. before_commas row_text rows ++ more) (front ∙ ap (λ more. row_text row ++ more) comma)
     ∙ one_more (before_commas row_text rows) (row_text row) next ∙ ap (λ all. all ++ next) (sym grown)
 

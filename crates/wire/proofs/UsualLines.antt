@@ -201,7 +201,7 @@ read_printed : (text : List ℕ) (j : json.Json) (d : value.Data) → print (jso
 read_printed text j d printed numbers shallow is =
     let found : tokens text ≡ json_tokens j = ap tokens (sym printed) ∙ tokens-print (json_tokens j) (ArePrintable-json_tokens j numbers) in
     let whole : json.value max_depth (tokens text) ≡ Some (j, []) =
-        ap (json.value max_depth) (found ∙ sym (append-nil (json_tokens j))) ∙ value-json_tokens j max_depth [] shallow in
+    ap (json.value max_depth) (found ∙ sym (append-nil (json_tokens j))) ∙ value-json_tokens j max_depth [] shallow in
     ap (λ o. option_and_then of_json (option_and_then (λ p. json.if_last p.0 p.1) o)) whole ∙ is
 
 -- a line that is read as a value, and the call that the value asks for
@@ -254,7 +254,7 @@ pub append_is_read : (line name : List ℕ) (rows : List NewRow) → line ≡ ap
     → call_in (json_of line) ≡ Ok (append name rows)
 append_is_read line name rows is known plain short =
     let found = read_printed (append_line name rows) (append_json name rows) (append_data name rows) (print_append name rows (escape_plain name plain))
-        (tt, (tt, (numbers_rows rows short, tt))) (omega (arith, depth_rows rows)) (of_append name rows short) in
+    (tt, (tt, (numbers_rows rows short, tt))) (omega (arith, depth_rows rows)) (of_append name rows short) in
     call_is_read line (append_line name rows) (append_data name rows) (append name rows) is (utf8_append name rows known short) found (asked_append name rows short)
 
 -- ---- heartbeats
@@ -297,7 +297,7 @@ pub heartbeat_is_read : (line name : List ℕ) (at : ℤ) → line ≡ heartbeat
     → call_in (json_of line) ≡ Ok (heartbeat name at)
 heartbeat_is_read line name at is known plain short =
     let found = read_printed (heartbeat_line name at) (heartbeat_json name at) (heartbeat_data name at) (print_heartbeat name at (escape_plain name plain))
-        (tt, (tt, (number_short at short, tt))) (omega arith) (of_heartbeat name at short) in
+    (tt, (tt, (number_short at short, tt))) (omega arith) (of_heartbeat name at short) in
     let text = utf8_named (codes "{\"op\":\"heartbeat\",\"stream\":\"") name (codes "\",\"at\":") at refl known refl short in
     call_is_read line (heartbeat_line name at) (heartbeat_data name at) (heartbeat name at) is text found (asked_heartbeat name at short)
 
@@ -333,7 +333,7 @@ pub take_is_read : (line name : List ℕ) (limit : ℤ) → line ≡ take_line n
     → call_in (json_of line) ≡ Ok (take_rows name limit)
 take_is_read line name limit is known plain short =
     let found = read_printed (take_line name limit) (take_json name limit) (take_data name limit) (print_take name limit (escape_plain name plain))
-        (tt, (tt, (number_short limit short, tt))) (omega arith) (of_take name limit short) in
+    (tt, (tt, (number_short limit short, tt))) (omega arith) (of_take name limit short) in
     let text = utf8_named (codes "{\"op\":\"take\",\"query\":\"") name (codes "\",\"limit\":") limit refl known refl short in
     call_is_read line (take_line name limit) (take_data name limit) (take_rows name limit) is text found (asked_take name limit short)
 

@@ -8,8 +8,7 @@ pub digits-init : goal.digits-init
 digits-init c =
     let wide : c.args.number < 2 ^ 64 = search rules in
     let size : length c.args.digits.now ≤ 20 = search rules in
-    let empty : drop 20 c.args.digits.now ≡ [] = drop_all 20 c.args.digits.now size in
-    (
+    let empty : drop 20 c.args.digits.now ≡ [] = drop_all 20 c.args.digits.now size in (
       ap (λ behind. decimal c.args.number ++ behind) empty ∙ append-nil (decimal c.args.number),
       length-decimal-le 20 c.args.number (omega arith) (omega (arith, wide)) wide,
       omega arith,
@@ -36,8 +35,7 @@ pub digits-preserved : goal.digits-preserved
 digits-preserved c =
     let wide : c.digits.rest < 2 ^ 64 = search rules in
     let some : 1 ≤ c.digits.at = omega (arith, decimal_nonempty c.digits.rest wide, c.digits.invariant.1) in
-    let room : c.digits.at ≤ length c.digits.digits = search rules in
-    (
+    let room : c.digits.at ≤ length c.digits.digits = search rules in (
       put_next c.digits.digits c.digits.at c.digits.rest c.args.number c.digits.invariant.0 some room c.if-rest-lt10.false wide,
       shorter c.digits.rest c.digits.at c.digits.invariant.1 c.if-rest-lt10.false wide,
       omega (arith, c.digits.invariant.2),

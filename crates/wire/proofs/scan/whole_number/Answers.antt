@@ -16,8 +16,7 @@ digits-init c =
 pub digits-preserved : goal.digits-preserved
 digits-preserved c =
     let next = c.in-Some-digit_of-2.ensures in
-    let so_far = c.digits.invariant in
-    (
+    let so_far = c.digits.invariant in (
       next_digit _ _ _ _ _ _ so_far.0 c.in-Some-split_first.ensures.cases.0 next.0 next.1 so_far.1 so_far.2,
       omega (arith, so_far.1),
       omega (arith, c.if-number-ge-ROOM.false, next.1),

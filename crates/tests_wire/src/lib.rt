@@ -11,3 +11,5 @@ mod connections;
 mod lines;
 #[cfg(test)]
 mod runs;
+#[cfg(test)]
+mod usual;

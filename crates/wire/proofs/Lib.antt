@@ -6,3 +6,6 @@ pub mod Reading
 pub mod Printing
 pub mod Scripts
 pub mod Turns
+pub mod Numerals
+pub mod UsualLines
+pub mod Scanning

@@ -5,6 +5,7 @@ pub mod Lines
 pub mod Held
 pub mod Requests
 pub mod Printed
+pub mod Usual
 pub mod Paged
 pub mod Script
 pub mod Examples

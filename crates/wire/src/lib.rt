@@ -8,12 +8,14 @@
 
 mod decode;
 mod device;
+mod digits;
 mod fault;
 mod lines;
 mod page;
 mod read;
 mod reply;
 mod request;
+mod scan;
 mod script;
 
 pub use device::{

@@ -4,6 +4,7 @@ ghost use Rattle.std.specs.Fmt.{signed_decimal};
 ghost use Rattle.wire.specs.Paged.{Writes};
 
 use crate::device::{Sink, put};
+use crate::digits::{MOST_DIGITS, put_digits};
 use arrayvec::ArrayVec;
 
 /// The most bytes that a page holds.
@@ -79,12 +80,9 @@ impl Page {
         ensures { Writes (K.taken sink.old) (K.failures sink.old) self.old (K.taken sink.new)
             (K.failures sink.new) self.new (decimal number) }
     {
-        if number < 10 {
-            self.add(sink, &[b'0' + number as u8]);
-            return;
-        }
-        self.add_digits(sink, number / 10);
-        self.add(sink, &[b'0' + (number % 10) as u8]);
+        let mut digits = [0u8; MOST_DIGITS];
+        let start = put_digits(number, &mut digits);
+        self.add(sink, &digits[start..]);
     }
 
     /// Adds the decimal digits of a place.

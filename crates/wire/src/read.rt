@@ -13,6 +13,7 @@ use crate::device::Source;
 use crate::fault::ScriptFault;
 use crate::lines::{LONGEST_LINE, Lines};
 use crate::request::{Request, WireFault};
+use crate::scan::usual_request;
 use serde_json::Value;
 use std::alloc::Global;
 
@@ -23,9 +24,9 @@ fn is_blank(line: &[u8]) -> bool
         .all(|b| *b == b' ' || *b == b'\t' || *b == b'\r')
 }
 
-/// The request that a line of at most 65,536 bytes is.
+/// The request that a line of at most 65,536 bytes is, by its JSON value.
 #[tactic(auto, using(crate::proofs::Reading::value_fits))]
-fn short_request(alloc: Global, line: &[u8]) -> Result<Request, WireFault>
+fn any_request(alloc: Global, line: &[u8]) -> Result<Request, WireFault>
     ensures { Reads (call_in (json_of line.now)) result }
 {
     let value = match Value::from_slice(alloc, line) {
@@ -40,6 +41,18 @@ fn short_request(alloc: Global, line: &[u8]) -> Result<Request, WireFault>
     match request_of(alloc, &value) {
         Ok(Some(request)) => Ok(request),
         Ok(None) => Err(WireFault::BadRequest),
+        Err(_) => Err(WireFault::OutOfMemory),
+    }
+}
+
+/// The request that a line of at most 65,536 bytes is.
+#[tactic(auto, using(crate::proofs::Reading::value_fits))]
+fn short_request(alloc: Global, line: &[u8]) -> Result<Request, WireFault>
+    ensures { Reads (call_in (json_of line.now)) result }
+{
+    match usual_request(alloc, line) {
+        Ok(Some(request)) => Ok(request),
+        Ok(None) => any_request(alloc, line),
         Err(_) => Err(WireFault::OutOfMemory),
     }
 }

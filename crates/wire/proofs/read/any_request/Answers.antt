@@ -6,7 +6,7 @@ use Rattle.wire.specs.Requests.{call_in}
 use Rattle.wire.specs.Calls.{call_of}
 use Rattle.wire.specs.declared.request.WireFault.TheVariants.{BadRequest}
 use Rattle.wire.proofs.Reading.{json_none, call_is}
-use Rattle.wire.proofs.read.short_request.Goals as goal
+use Rattle.wire.proofs.read.any_request.Goals as goal
 
 pub returns-in-Err : goal.returns-in-Err
 returns-in-Err c =

@@ -1,0 +1,23 @@
+use Rattle.std.proofs.Common.{◌≡◌, ◌≤◌, ◌<◌, ◌+◌, ◌-◌, ◌*◌, ◌++◌, decimal, ap, ◌∙◌, sym, ℕ, arith}
+use Rattle.wire.proofs.Numerals.{first_digit, next_digit}
+use Rattle.wire.proofs.scan.whole_number.Goals as goal
+
+pub returns-then-number-eq0 : goal.returns-then-number-eq0
+returns-then-number-eq0 c =
+    let first = c.in-Some-digit_of.ensures in
+    let is : c.args.text.now ≡ decimal c.in-Some-digit_of.number ++ c.in-Some.rest.now = first_digit _ _ _ _ c.in-Some.ensures.cases.0 first.0 first.1 in
+    (is ∙ ap (λ n. decimal n ++ c.in-Some.rest.now) c.if-number-eq0.true, omega arith)
+
+pub digits-init : goal.digits-init
+digits-init c =
+    let first = c.in-Some-digit_of.ensures in
+    (first_digit _ _ _ _ c.in-Some.ensures.cases.0 first.0 first.1, omega (arith, c.if-number-eq0.false), omega (arith, first.1))
+
+pub digits-preserved : goal.digits-preserved
+digits-preserved c =
+    let next = c.in-Some-digit_of-2.ensures in
+    let so_far = c.digits.invariant in (
+      next_digit _ _ _ _ _ _ so_far.0 c.in-Some-split_first.ensures.cases.0 next.0 next.1 so_far.1 so_far.2,
+      omega (arith, so_far.1),
+      omega (arith, c.if-number-ge-ROOM.false, next.1),
+    )

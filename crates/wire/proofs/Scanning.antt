@@ -1,5 +1,5 @@
 -- What stands in front of a text that is scanned.
-use Rattle.std.proofs.Common.{◌≡◌, ℕ, ℤ, pos, negsuc, ◌+◌, ◌-◌, ◌<◌, ◌≤◌, ◌^◌, Bool, true, false, not, List, [], ◌∷◌, ◌++◌, length, take, drop, get_or, Option, Some, None, MatchOption, IfSome, Bor, codes, to_z, of_z, w64, refl, sym, ap, ap₂, ◌∙◌, arith, append_assoc, append-nil}
+use Rattle.std.proofs.Common.{◌≡◌, ℕ, ℤ, ◌+◌, Bool, true, false, not, List, [], ◌∷◌, ◌++◌, length, take, drop, Option, Some, None, MatchOption, IfSome, Bor, codes, to_z, of_z, w64, refl, sym, ap, ap₂, ◌∙◌, arith, append_assoc, append-nil}
 use Rattle.std.proofs.lemmas.Int.{ints, to_z-of_z}
 use Rattle.std.proofs.lemmas.List.{take-append-drop}
 use Rattle.std.proofs.lemmas.Bool.{false≢true}
@@ -11,7 +11,7 @@ use Rattle.std.specs.List.{AllByRecursion}
 use Rattle.std.specs.Prelude.{nat_eq}
 use Rattle.wire.specs.Calls.{NewRow}
 use Rattle.wire.specs.Printed.{value_text, after_commas, row_text, rows_text}
-use Rattle.wire.specs.Usual.{IsShort, ValueIsShort, RowIsShort, IsPlain, before_commas, append_line}
+use Rattle.wire.specs.Usual.{IsShort, before_commas, append_line}
 
 -- a word that was found in front
 pub behind_word : (text word : List ℕ) (found : Option (Bor (List ℕ)))

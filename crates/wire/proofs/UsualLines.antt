@@ -1,15 +1,15 @@
 -- The lines of the usual requests are read as the requests that they write.
-use Rattle.std.proofs.Common.{◌≡◌, ◌≢◌, ℕ, zero, suc, ℤ, pos, negsuc, ◌+◌, ◌^◌, ◌<◌, ◌≤◌, Bool, true, false, cond, List, [], ◌∷◌, ◌++◌, length, get_or, take, drop, Option, Some, None, option_map, option_and_then, Ok, codes, nat_abs, refl, sym, ap, ap₂, ◌∙◌, subst, arith, append_assoc, append-nil, lt-ltb}
+use Rattle.std.proofs.Common.{◌≡◌, ℕ, ℤ, pos, negsuc, ◌^◌, ◌≤◌, true, false, cond, List, [], ◌∷◌, ◌++◌, Option, Some, None, option_map, option_and_then, Ok, codes, refl, sym, ap, ap₂, ◌∙◌, arith, append_assoc, append-nil, lt-ltb}
 use Rattle.std.specs.List.{AllByRecursion}
 use Rattle.std.specs.Fmt.{signed_decimal}
 use Rattle.std.specs.Option.{ok_or}
-use Rattle.std.specs.Str.{IsUtf8, is_utf8}
+use Rattle.std.specs.Str.{IsUtf8}
 use Rattle.std.proofs.lemmas.Str.{IsUtf8-append, IsUtf8-nil, IsUtf8-from_ascii, is_utf8-from_IsUtf8}
 use Rattle.std.proofs.lemmas.Fmt.{IsAscii-signed}
 use Rattle.json.specs.Token.{Token}
 use Rattle.json.specs.Lex.{tokens}
 use Rattle.json.specs.Json as json
-use Rattle.json.specs.Print.{print, print_from, quoted, escape, escape_byte, IsNumber}
+use Rattle.json.specs.Print.{print, print_from, escape, escape_byte, IsNumber}
 use Rattle.json.specs.Tree as tree
 use Rattle.json.specs.Tree.{json_tokens, items_tokens, members_tokens}
 use Rattle.json.proofs.Printed.Strings.{escape_byte_plain}
@@ -19,10 +19,10 @@ use Rattle.json.proofs.Printed.Trees.{value-json_tokens, ArePrintable-json_token
 use Rattle.json.proofs.Printed.Utf8.{are_ascii, IsUtf8-are_ascii}
 use Rattle.serde_json.specs.Data as value
 use Rattle.serde_json.specs.Find.{as_i64, of_integer}
-use Rattle.serde_json.specs.Read.{number_of, of_json, of_items, of_members, max_depth, read}
+use Rattle.serde_json.specs.Read.{number_of, of_json, of_items, max_depth, read}
 use Rattle.serde_json.proofs.Numbers.{number_of-decimal, number_of-negative}
 use Rattle.wire.specs.Calls.{NewRow, Call, append, heartbeat, take_rows, drain}
-use Rattle.wire.specs.Asked.{each, value_of, row_from, row_in, asked, asked_by, append_in, heartbeat_in, take_in}
+use Rattle.wire.specs.Asked.{each, value_of, row_in, asked, asked_by, append_in, heartbeat_in, take_in}
 use Rattle.wire.specs.Printed.{value_text, after_commas, row_text, rows_text}
 use Rattle.wire.specs.Requests.{json_of, call_in}
 use Rattle.wire.specs.declared.request.WireFault.TheVariants.{BadRequest}

@@ -1,5 +1,5 @@
 -- The lines of the usual requests.
-use Rattle.std.specs.Prelude.{◌≡◌, ◌≢◌, ◌<◌, ◌≤◌, ◌^◌, ℕ, ℤ, nat_abs, List, [], ◌∷◌, ◌++◌, Option, Some, None, ⊤, codes, flat_map}
+use Rattle.std.specs.Prelude.{◌≢◌, ◌<◌, ◌≤◌, ◌^◌, ℕ, ℤ, nat_abs, List, ◌++◌, Option, Some, None, ⊤, codes, flat_map}
 use Rattle.std.specs.Fmt.{signed_decimal}
 use Rattle.std.specs.List.{AllByRecursion}
 use Rattle.wire.specs.Calls.{NewRow}

@@ -1,6 +1,4 @@
-use Rattle.std.proofs.Common.{◌≡◌, ◌++◌, ◌∷◌, List, [], ℤ, Option, ap, ap₂, ◌∙◌, subst, to_z, of_z, w64, IfSome}
-use Rattle.std.specs.List.{AllByRecursion}
-use Rattle.wire.specs.Printed.{row_text}
+use Rattle.std.proofs.Common.{◌≡◌, ◌++◌, ◌∷◌, List, [], ℤ, Option, ap, ap₂, ◌∙◌, to_z, of_z, w64}
 use Rattle.wire.specs.Usual.{RowIsShort}
 use Rattle.wire.proofs.Scanning.{in_word, one_more_row, rows_end, AllByRecursion-push}
 use Rattle.wire.proofs.scan.rows.Goals as goal

@@ -1,4 +1,4 @@
-use Rattle.std.proofs.Common.{◌≡◌, ◌≤◌, ◌<◌, ◌+◌, ◌-◌, ◌*◌, ◌++◌, decimal, ap, ◌∙◌, sym, ℕ, arith}
+use Rattle.std.proofs.Common.{◌≡◌, ◌++◌, decimal, ap, ◌∙◌, arith}
 use Rattle.wire.proofs.Numerals.{first_digit, next_digit}
 use Rattle.wire.proofs.scan.whole_number.Goals as goal
 

@@ -31,10 +31,7 @@ fn are_same(one: &Request, other: &Request) -> bool {
     }
 }
 
-fn are_read_alike(
-    one: &Result<Request, WireFault>,
-    other: &Result<Request, WireFault>,
-) -> bool {
+fn are_read_alike(one: &Result<Request, WireFault>, other: &Result<Request, WireFault>) -> bool {
     match (one, other) {
         (Ok(one), Ok(other)) => are_same(one, other),
         (Err(one), Err(other)) => one == other,
@@ -187,5 +184,11 @@ fn take_is(alloc: Global, line: &str, most: i64) -> bool {
 fn heartbeats_and_takes_have_the_numbers_of_their_lines(rt: HostRuntime) {
     let heartbeat = "{\"op\":\"heartbeat\",\"stream\":\"S\",\"at\":-70}";
     assert!(rt; heartbeat_is(rt.alloc(), heartbeat, -70));
-    assert!(rt; take_is(rt.alloc(), "{\"op\":\"take\",\"query\":\"q\",\"limit\":4096}", 4096));
+    assert!(rt;
+        take_is(
+            rt.alloc(),
+            "{\"op\":\"take\",\"query\":\"q\",\"limit\":4096}",
+            4096
+        )
+    );
 }

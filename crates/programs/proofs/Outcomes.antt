@@ -1,6 +1,8 @@
 -- What a run answers, and why it may not run.
 use Rattle.std.proofs.Common.{◌≡◌, ◌≢◌, ℕ, Bool, not, true, false, List, [], ◌∷◌, ◌++◌, Option, Some, Result, refl, ap, sym, ◌∙◌, subst, ◌⊎◌, inl, inr}
-use Rattle.std.specs.Prelude.{⊤}
+use Rattle.std.specs.Prelude.{⊤, None, codes, map, option_map}
+use Rattle.std.specs.List.{range_with_len}
+use Rattle.std.specs.Option.{option_to_list}
 use Rattle.std.proofs.lemmas.Bool.{false≢true}
 use Rattle.clap.specs.Words.{Kinds, Text, HasKind, IsAmong, kind_of}
 use Rattle.clap.specs.declared.error.Error.{Error}
@@ -12,11 +14,15 @@ use Rattle.wire.specs.declared.request.WireFault.{WireFault}
 use Rattle.wire.specs.Script.{script, Says, Begins, Runs, Scripts, Stands}
 use Rattle.wire.proofs.Sinks.{append_nothing}
 use Rattle.wire.proofs.Scripts.{begins_wider, says_all}
-use Rattle.command_lines.specs.CommandLine.{IsPlain}
+use Rattle.command_lines.specs.CommandLine.{IsPlain, number_in, run_text}
 use Rattle.wire.specs.Printed.{Answer}
-use Rattle.hub.specs.Seats.{PlainSeat, opened}
+use Rattle.histories.specs.Histories.{Entry, IsLegal}
+use Rattle.hub.specs.Seats.{IsAudited, PlainSeat, opened}
 use Rattle.served.specs.Serving as of_seat
-use Rattle.programs.specs.Run.{Answers, IsAlone, MayRunOut, IsWrong, Leads, Shares}
+use Rattle.served.specs.Serving.{PoolDrains}
+use Rattle.wire.specs.declared.fault.ScriptFault.{ScriptFault}
+use Rattle.wire.specs.declared.fault.ScriptFault.TheVariants.{Read, Write, Memory}
+use Rattle.programs.specs.Run.{Answers, IsAlone, MayRunOut, IsWrong, Leads, Shares, status_of, turn_of}
 
 pub says_begins : (N : Type 0) (w : World) (source old new : Option (List ℕ)) → Scripts (λ text written. Says N (requests_of text) (script w text) written) source old new
     → Scripts (λ text written. Begins N (requests_of text) (script w text) written) source old new
@@ -86,11 +92,50 @@ pub shares_all : (drains : Answer → Type 0) (status : ℕ) (source old new : O
 shares_all drains status source old new first seat fresh alone s = (
   λ none text held is told.
       let r = s text held is told in
-      (r.0, r.1, (seat, (subst (λ (f : PlainSeat). of_seat.Runs drains f (requests_of text) r.0 seat) fresh r.2, alone))),
+      (r.0, r.1, (seat, subst (λ (f : PlainSeat). of_seat.Runs drains f (requests_of text) r.0 seat) fresh r.2, alone)),
   λ text held is told.
       let r = seat_stands drains source old new first seat s text held is told in
       (r.0, r.1, (seat, subst (λ (f : PlainSeat). of_seat.Stands drains f (requests_of text) r.0 seat) fresh r.2)),
 )
+
+-- the only seat of a new hub, which was taken out of the list of its seats
+pub only_seat : (seats rest : List PlainSeat) (seat : PlainSeat) → seats ≡ map opened (range_with_len 0 1) → seats ≡ rest ++ option_to_list (Some seat) → (rest ≡ []) × (seat ≡ opened 0)
+only_seat seats [] seat all split =
+    let one : seat ∷ [] ≡ opened 0 ∷ [] = sym split ∙ all in
+    (refl, cc)
+only_seat seats (r ∷ []) seat all split =
+    let two : r ∷ seat ∷ [] ≡ opened 0 ∷ [] = sym split ∙ all in
+    absurd (cc)
+only_seat seats (r ∷ q ∷ qs) seat all split =
+    let more : r ∷ q ∷ (qs ++ seat ∷ []) ≡ opened 0 ∷ [] = sym split ∙ all in
+    absurd (cc)
+
+-- put back, and compared with the history
+pub is_alone : (entries : List Entry) (seats rest : List PlainSeat) (count : ℕ) (seat : PlainSeat) → rest ≡ [] → seats ≡ rest ++ seat ∷ [] → count ≡ 1
+    → IsLegal entries × IsAudited seats count entries → IsAlone seat
+is_alone entries seats rest count seat none pushed one closed =
+    let all : seats ≡ seat ∷ [] = pushed ∙ ap (λ (r : List PlainSeat). r ++ seat ∷ []) none in
+    (entries, closed.0, subst (λ (l : List PlainSeat). IsAudited l 1 entries) all (subst (λ n. IsAudited seats n entries) one closed.1))
+
+some_same : (x y : ℕ) → Some x ≡ Some y → x ≡ y
+some_same x y e = cc
+
+-- the workers and the rows of a turn are those that the words ask for
+pub shares_asked : (words : List Text) (asked : Text) (o : Option ℕ) (workers turn : ℕ) (status : ℕ) (source old new : Option (List ℕ))
+    → o ≡ option_map number_in (run_text (codes "workers") words) → run_text (codes "workers") words ≡ Some asked → o ≡ Some workers → turn ≡ turn_of words
+    → Shares (PoolDrains workers turn) status source old new → Shares (PoolDrains (number_in asked) (turn_of words)) status source old new
+shares_asked words asked o workers turn status source old new says is found rows s =
+    let same : workers ≡ number_in asked = some_same workers (number_in asked) (sym found ∙ says ∙ ap (option_map number_in) is) in
+    subst (λ n. Shares (PoolDrains n (turn_of words)) status source old new) same (subst (λ t. Shares (PoolDrains workers t) status source old new) rows s)
+
+pub one_tells : (status : ℕ) → status ≡ 1 → status ≢ 0
+one_tells status is none = cc
+
+-- no fault ends with the status 0
+pub faults_tell : (fault : ScriptFault) (status : ℕ) → status ≡ status_of fault → status ≢ 0
+faults_tell Read status is none = cc
+faults_tell Write status is none = cc
+faults_tell Memory status is none = cc
 
 pub not_on : (b : Bool) → not b ≡ true → b ≡ false
 not_on true e = cc

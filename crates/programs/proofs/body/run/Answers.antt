@@ -1,8 +1,10 @@
 use Rattle.std.proofs.Common.{◌≡◌, false, ap, map, rules}
 use Rattle.clap.specs.Words.{HasKind}
 use Rattle.reference.specs.World.{empty}
-use Rattle.command_lines.specs.CommandLine.{refusals}
-use Rattle.programs.proofs.Outcomes.{answers_nothing, plain_answers, engine_answers, lacks_memory, not_on, shares_nothing}
+use Rattle.command_lines.specs.CommandLine.{number_in, refusals}
+use Rattle.served.specs.Serving.{PoolDrains}
+use Rattle.programs.specs.Run.{turn_of}
+use Rattle.programs.proofs.Outcomes.{answers_nothing, plain_answers, engine_answers, lacks_memory, not_on, shares_asked, shares_nothing}
 use Rattle.programs.proofs.body.run.Goals as goal
 
 pub returns-in-Err-Words-clause-answers : goal.returns-in-Err-Words-clause-answers
@@ -12,10 +14,10 @@ returns-in-Err-Words-clause-answers g c runs alone =
     answers_nothing _ empty c.refuse.result (g.I.Source.left c.args.source.now) (g.O.Sink.taken c.args.sink.now) (g.O.Sink.taken c.refuse.new.sink) lacks (ap g.O.Sink.taken (c.refuse.ensures.memory lacks).0)
 
 pub returns-in-Err-Words-clause-shares : goal.returns-in-Err-Words-clause-shares
-returns-in-Err-Words-clause-shares g c runs asked other =
+returns-in-Err-Words-clause-shares g c workers runs asked other =
     let kind : HasKind (refusals (map g.S.AsStr.text c.args.words.now)) c.in-Err-Words.error = search rules in
     let lacks = c.refuse.ensures.lacks (lacks_memory _ c.in-Err-Words.error kind runs) in
-    shares_nothing c.refuse.result (g.I.Source.left c.args.source.now) (g.O.Sink.taken c.args.sink.now) (g.O.Sink.taken c.refuse.new.sink) lacks (ap g.O.Sink.taken (c.refuse.ensures.memory lacks).0)
+    shares_nothing (PoolDrains (number_in workers) (turn_of (map g.S.AsStr.text c.args.words.now))) c.refuse.result (g.I.Source.left c.args.source.now) (g.O.Sink.taken c.args.sink.now) (g.O.Sink.taken c.refuse.new.sink) lacks (ap g.O.Sink.taken (c.refuse.ensures.memory lacks).0)
 
 pub returns-then-not-options-clause-answers : goal.returns-then-not-options-clause-answers
 returns-then-not-options-clause-answers g c runs alone =
@@ -26,3 +28,9 @@ returns-then-not-options-clause-answers g c runs alone =
 pub returns-in-Ok-new-clause-answers : goal.returns-in-Ok-new-clause-answers
 returns-in-Ok-new-clause-answers g c runs alone =
     plain_answers (map g.S.AsStr.text c.args.words.now) empty c.run_made-in-Ok-new.result (g.I.Source.left c.args.source.now) (g.O.Sink.taken c.args.sink.now) (g.O.Sink.taken c.run_made-in-Ok-new.new.sink) c.run_made-in-Ok-new.ensures.answers
+
+pub returns-in-Some-clause-shares : goal.returns-in-Some-clause-shares
+returns-in-Some-clause-shares g c workers runs asked other =
+    shares_asked (map g.S.AsStr.text c.args.words.now) workers c.in-Ok.options.workers c.in-Some.workers c.in-Ok.options.turn
+    c.run_shared.result (g.I.Source.left c.args.source.now) (g.O.Sink.taken c.args.sink.now) (g.O.Sink.taken c.run_shared.new.sink)
+    c.in-Ok.ensures.workers asked c.in-Some.is c.in-Ok.ensures.turn c.run_shared.ensures.shares

@@ -1,7 +1,27 @@
 use Rattle.std.proofs.Common.{refl}
-use Rattle.programs.proofs.Outcomes.{shares_nothing}
+use Rattle.served.specs.Serving.{PoolDrains}
+use Rattle.programs.proofs.Outcomes.{faults_tell, is_alone, one_tells, only_seat, shares_all, shares_differing, shares_nothing, shares_some}
 use Rattle.programs.proofs.shared.run_shared.Goals as goal
 
 pub returns-in_default-clause-shares : goal.returns-in_default-clause-shares
 returns-in_default-clause-shares g c =
-    shares_nothing c.lack_memory.result (g.I.Source.left c.args.source.now) (g.O.Sink.taken c.args.sink.now) (g.O.Sink.taken c.args.sink.now) c.lack_memory.ensures.status refl
+    shares_nothing (PoolDrains c.args.workers c.args.turn) c.lack_memory.result (g.I.Source.left c.args.source.now) (g.O.Sink.taken c.args.sink.now) (g.O.Sink.taken c.args.sink.now) c.lack_memory.ensures.status refl
+
+pub returns-in-Err-clause-shares : goal.returns-in-Err-clause-shares
+returns-in-Err-clause-shares g c =
+    let one = only_seat c.in-Ok.seats.items c.pop.new.self.items c.in-Some.seat c.in-Ok.ensures.ok.1 c.in-Some.ensures.items in
+    shares_some (PoolDrains c.args.workers c.args.turn) c.fail.result (g.I.Source.left c.args.source.now) (g.O.Sink.taken c.args.sink.now) (g.O.Sink.taken c.run_hub-ran.new.sink) c.in-Some.seat c.run_hub-ran.new.seat
+    one.1 (faults_tell c.in-Err.fault c.fail.result c.fail.ensures.status) c.in-Err.ensures.stands
+
+pub returns-in-Ok-close-clause-shares : goal.returns-in-Ok-close-clause-shares
+returns-in-Ok-close-clause-shares g c =
+    let one = only_seat c.in-Ok.seats.items c.pop.new.self.items c.in-Some.seat c.in-Ok.ensures.ok.1 c.in-Some.ensures.items in
+    let alone = is_alone _ c.push_reserved.new.self.items c.pop.new.self.items c.in-Ok.hub c.run_hub-ran.new.seat one.0 c.push_reserved.ensures.items c.in-Ok.ensures.ok.0 c.in-Ok-close.ensures.ok in
+    shares_all (PoolDrains c.args.workers c.args.turn) 0 (g.I.Source.left c.args.source.now) (g.O.Sink.taken c.args.sink.now) (g.O.Sink.taken c.run_hub-ran.new.sink) c.in-Some.seat c.run_hub-ran.new.seat
+    one.1 alone c.in_default-ran.ensures.text
+
+pub returns-clause-shares : goal.returns-clause-shares
+returns-clause-shares g c =
+    let one = only_seat c.in-Ok.seats.items c.pop.new.self.items c.in-Some.seat c.in-Ok.ensures.ok.1 c.in-Some.ensures.items in
+    shares_differing (PoolDrains c.args.workers c.args.turn) c.differ.result (g.I.Source.left c.args.source.now) (g.O.Sink.taken c.args.sink.now) (g.O.Sink.taken c.run_hub-ran.new.sink) c.in-Some.seat c.run_hub-ran.new.seat
+    one.1 (one_tells c.differ.result c.differ.ensures.status) c.in_default-ran.ensures.text

@@ -352,44 +352,17 @@ fn an_abandoned_turn_goes_out_again_with_its_item(rt: HostRuntime) -> Result<(),
     Ok(())
 }
 
-// An engine that was told what `ready_hub` tells its hub.
-fn ready_engine(alloc: Global, value: i64) -> Result<Engine, Fault> {
-    let mut engine = Engine::new(alloc);
-    let names = columns(alloc, &["a"])?;
-    let stream = engine.stream("S", names.as_slice(), 0)?;
-    engine.query("q", NOW, None)?;
-    let made = rows(alloc, &[(0, value)])?;
-    engine.append(stream, &made)?;
-    engine.heartbeat(stream, 0)?;
-    Ok(engine)
-}
-
 #[test]
 fn looks_are_those_of_an_engine(rt: HostRuntime) -> Result<(), Fail> {
     let alloc = rt.alloc();
     let (hub, _) = ready_hub(&rt, alloc, 5)?;
-    let engine = ready_engine(alloc, 5)?;
     let pending = hub.pending(&rt, 0)?;
     assert_eq!(rt; pending.as_slice(), [2u128, 0, 0].as_slice());
-    assert_eq!(rt; pending.as_slice(), engine.pending(0)?.as_slice());
-    let slopes = hub.slopes(&rt, 0)?;
-    assert_eq!(rt; slopes.len(), 3);
-    let by_engine = engine.slopes(0)?;
-    assert!(rt; slopes.as_slice() == by_engine.as_slice());
-    assert_eq!(rt; (hub.waiting(&rt, 0), engine.waiting(0)), (Ok(0), Ok(0)));
-    assert_eq!(rt;
-        (hub.stream_named(&rt, "S"), engine.stream_named("S")),
-        (Some(0), Some(0))
-    );
-    assert_eq!(rt;
-        (hub.query_named(&rt, "q"), engine.query_named("q")),
-        (Some(0), Some(0))
-    );
-    assert_eq!(rt;
-        (hub.query_named(&rt, "p"), engine.query_named("p")),
-        (None, None)
-    );
+    assert_eq!(rt; hub.waiting(&rt, 0), Ok(0));
+    assert_eq!(rt; hub.slopes(&rt, 0)?.len(), 3);
+    assert_eq!(rt; hub.stream_named(&rt, "S"), Some(0));
+    assert_eq!(rt; hub.query_named(&rt, "q"), Some(0));
+    assert_eq!(rt; hub.query_named(&rt, "p"), None);
     assert_eq!(rt; hub.pending(&rt, 1).err(), Some(Fault::UnknownQuery));
-    assert_eq!(rt; engine.pending(1).err(), Some(Fault::UnknownQuery));
     Ok(())
 }

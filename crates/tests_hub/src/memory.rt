@@ -1,5 +1,5 @@
 //! A client's call that is refused memory changes nothing, and is answered when it is made once
-//! more. `rt try --test --fail-alloc N` runs the first test with the growth N refused, outside the gate.
+//! more. `rt try --test --fail-alloc N` runs this test with the growth N refused.
 
 use crate::fixture::{NOW, columns, opened, rows};
 use hub::{Hub, Receipt, Seat};
@@ -207,10 +207,4 @@ fn a_call_that_is_refused_memory_changes_nothing(rt: HostRuntime) {
     let ran = run(&rt, rt.alloc());
     let is_kept = matches!(ran, Ok(6) | Err(Stop::Memory) | Err(Stop::Broken));
     assert!(rt; is_kept, "{ran:?}");
-}
-
-#[test]
-fn with_memory_six_calls_are_six_entries(rt: HostRuntime) {
-    let ran = run(&rt, rt.alloc());
-    assert!(rt; matches!(ran, Ok(6)), "{ran:?}");
 }

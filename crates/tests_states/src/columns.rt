@@ -132,7 +132,7 @@ fn flat_shows(alloc: Global) -> Result<bool, AllocError> {
     ];
     let leaving = Mask::filled(alloc, true, 2)?;
     let batch = Batch::from_flat(alloc, 2, &values, leaving)?;
-    let rows = [(false, [Some(1), Some(10)]), SECOND];
+    let rows = [(false, [Some(1), Some(10), None]), SECOND];
     Ok(shows(&batch, &rows))
 }
 

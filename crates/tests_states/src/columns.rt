@@ -100,50 +100,6 @@ fn rows_that_leave_gathered(rt: HostRuntime) -> Result<(), Fail> {
     Ok(())
 }
 
-/// The rows that leave, kept in place.
-fn kept_shows(alloc: Global) -> Result<bool, AllocError> {
-    let three = three(alloc)?;
-    let mask = Mask::from_words(alloc, three.leaving_words(), three.len())?;
-    match three.kept(&mask) {
-        Some(batch) => Ok(shows(&batch, &[SECOND])),
-        None => Ok(false),
-    }
-}
-
-/// The second column, the first, and the second again, which are moved.
-fn moved_shows(alloc: Global) -> Result<bool, AllocError> {
-    let three = three(alloc)?;
-    let batch = three.projected(alloc, &[1, 0, 1])?;
-    let rows = [
-        (true, [Some(10), Some(1), Some(10)]),
-        (false, [None, Some(2), None]),
-        (true, [Some(30), Some(3), Some(30)]),
-    ];
-    Ok(shows(&batch, &rows))
-}
-
-/// The rows (1, 10) and (2, null) of their values one behind the other, with minus.
-fn flat_shows(alloc: Global) -> Result<bool, AllocError> {
-    let values = [
-        Value::clamped(1),
-        Value::clamped(10),
-        Value::clamped(2),
-        Value::null(),
-    ];
-    let leaving = Mask::filled(alloc, true, 2)?;
-    let batch = Batch::from_flat(alloc, 2, &values, leaving)?;
-    let rows = [(false, [Some(1), Some(10), None]), SECOND];
-    Ok(shows(&batch, &rows))
-}
-
-#[test]
-fn rows_kept_moved_and_made_of_values(rt: HostRuntime) -> Result<(), Fail> {
-    assert!(rt; kept_shows(rt.alloc())?);
-    assert!(rt; moved_shows(rt.alloc())?);
-    assert!(rt; flat_shows(rt.alloc())?);
-    Ok(())
-}
-
 /// Each row beside its second value again, with the sign of the right.
 fn beside_itself(alloc: Global) -> Result<Option<Batch>, AllocError> {
     let left = three(alloc)?;

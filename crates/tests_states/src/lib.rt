@@ -14,8 +14,6 @@ mod conditions;
 #[cfg(test)]
 mod groups;
 #[cfg(test)]
-mod in_place;
-#[cfg(test)]
 mod kernels;
 #[cfg(test)]
 mod numbers;

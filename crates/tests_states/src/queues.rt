@@ -116,37 +116,6 @@ fn a_tick_or_the_first_rows_of_a_batch_come_out(rt: HostRuntime) -> Result<(), F
     Ok(())
 }
 
-/// Whether this leaves the filled queue without its first rows and ticks, where at most `count`
-/// rows are asked for, and so many rows and ticks still wait, the first of the next instant.
-fn leaves(
-    alloc: Global,
-    left: usize,
-    count: usize,
-    instant: u64,
-    rows: &[Shown],
-    rest: (u128, Option<u64>),
-) -> Result<bool, AllocError>
-    requires { 0 < count }
-{
-    let mut queue = without_first(alloc, left)?;
-    if queue.len() == 0 {
-        return Ok(false);
-    }
-    let item = queue.take(alloc, count)?;
-    let waits = queue.len() == rest.0 && queue.front_instant() == rest.1;
-    Ok(waits && is_item(&item, instant, rows))
-}
-
-#[test]
-fn what_is_taken_has_left(rt: HostRuntime) -> Result<(), Fail> {
-    assert!(rt; leaves(rt.alloc(), 0, 9, 0, &[], (4, Some(1)))?);
-    assert!(rt; leaves(rt.alloc(), 2, 1, 2, &[FIVE], (2, Some(2)))?);
-    assert!(rt; leaves(rt.alloc(), 2, 9, 2, &[FIVE, SIX_LEAVES], (1, Some(2)))?);
-    assert!(rt; leaves(rt.alloc(), 3, 9, 2, &[SIX_LEAVES], (1, Some(2)))?);
-    assert!(rt; leaves(rt.alloc(), 4, 9, 2, &[], (0, None))?);
-    Ok(())
-}
-
 /// The ticks 0 and 1, then 2 to 5, and then 7.
 fn runs(alloc: Global) -> Result<Queue, AllocError> {
     let mut queue = Queue::new(alloc);
@@ -273,27 +242,5 @@ fn a_row_at_the_base_or_below_is_not_shown(rt: HostRuntime) -> Result<(), Fail> 
     assert!(rt; gives(rt.alloc(), Cursor::new(0, 2), 0, 9, 2, &[])?);
     assert!(rt; gives(rt.alloc(), Cursor::new(0, 2), 1, 9, 3, &[SEVEN])?);
     assert!(rt; !gives(rt.alloc(), Cursor::new(0, 4), 0, 9, 4, &[])?);
-    Ok(())
-}
-
-/// Whether two items leave the log one behind the other: the rows 5 and 6, then their tick.
-fn two_leave(alloc: Global) -> Result<bool, AllocError> {
-    let log = closed(alloc)?;
-    let mut cursor = Cursor::new(0, 1);
-    if cursor.len(&log) == 0 {
-        return Ok(false);
-    }
-    let rows = cursor.take(alloc, &log, 9)?;
-    if cursor.len(&log) == 0 {
-        return Ok(false);
-    }
-    let tick = cursor.take(alloc, &log, 9)?;
-    let next = cursor.front_instant(&log);
-    Ok(is_item(&rows, 1, &[FIVE, SIX]) && is_item(&tick, 1, &[]) && next == Some(2))
-}
-
-#[test]
-fn what_a_cursor_gives_has_left(rt: HostRuntime) -> Result<(), Fail> {
-    assert!(rt; two_leave(rt.alloc())?);
     Ok(())
 }

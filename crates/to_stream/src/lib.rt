@@ -11,7 +11,8 @@
 //! however many are held.
 #![tactic(auto)]
 
-ghost use Rattle.std.specs.Prelude.{◌≡◌, None, [], map, IfOk, OnOk};
+ghost use Rattle.std.specs.Prelude.{◌≡◌, ◌≤◌, ◌+◌, ◌++◌, None, [], map, length, IfOk, OnOk, OnErr};
+ghost use Rattle.std.specs.VecDeque.{deque_len, deque_capacity};
 ghost use Rattle.row_bags.specs.Bags.{rows_of};
 ghost use Rattle.to_stream.specs.Turns.{State, shown, near, out, ticked, next, HasRoom, answers_of};
 ghost use Rattle.to_stream.specs.Law.{Stands, StepLaw};
@@ -20,6 +21,7 @@ use column::Batch;
 use op_queue::Item;
 use row_bags::{Delta, RowList};
 use std::alloc::{AllocError, Global};
+use std::collections::VecDeque;
 use std::marker::Model;
 use values::{Row, StreamOperator, copy_row};
 
@@ -94,6 +96,49 @@ impl ToStream {
         Ok(())
     }
 
+    /// The whole turn in place: the answers stand behind those that wait, and the state is that
+    /// after the item. An error says that memory was refused; the answers are then as they were,
+    /// and the state can only be dropped.
+    pub fn run(&mut self, item: &Item, answers: &mut VecDeque<(u64, Row)>) -> Result<(), AllocError>
+        requires { HasRoom self.old item.now }
+        ensures answers { OnOk result (answers_of answers.new.items
+            ≡ answers_of answers.old.items ++ out item.now (near self.old item.now)) }
+        ensures state { OnOk result (self.new ≡ next self.old item.now) }
+        ensures law { OnOk result (StepLaw self.old item.now self.new) }
+        ensures err { OnErr result (answers.new.items ≡ answers.old.items) }
+    {
+        self.turn(item, answers)?;
+        Ok(())
+    }
+
+    fn turn(&mut self, item: &Item, answers: &mut VecDeque<(u64, Row)>) -> Result<(), AllocError>
+        requires { HasRoom self.old item.now }
+        ensures answers { OnOk result (answers_of answers.new.items
+            ≡ answers_of answers.old.items ++ out item.now (near self.old item.now)) }
+        ensures state { OnOk result (self.new ≡ next self.old item.now) }
+        ensures err { OnErr result (answers.new.items ≡ answers.old.items) }
+    {
+        match item {
+            Item::Rows(_, batch) => self.delta.apply(batch)?,
+            Item::Tick(at) => self.answer(*at, answers)?,
+        }
+        Ok(())
+    }
+
+    /// The tick in place. All memory is taken before the first answer is pushed.
+    fn answer(&mut self, at: u64, answers: &mut VecDeque<(u64, Row)>) -> Result<(), AllocError>
+        ensures answers { OnOk result (answers_of answers.new.items
+            ≡ answers_of answers.old.items ++ map (λ r. (at, r)) (shown self.old.operator self.old)) }
+        ensures state { OnOk result (self.new ≡ ticked self.old at) }
+        ensures err { OnErr result (answers.new.items ≡ answers.old.items) }
+    {
+        let rows = self.shown(self.alloc)?;
+        answers.reserve(rows.len())?;
+        self.tick(at)?;
+        push_rows(answers, at, rows);
+        Ok(())
+    }
+
     /// The rows that answer at a tick, in order.
     fn shown(&self, alloc: Global) -> Result<Vec<Row>, AllocError>
         ensures { IfOk result (λ rows. rows_of rows.items ≡ shown self.now.operator self.now) }
@@ -151,6 +196,17 @@ pub fn work(alloc: Global, item: &Item, near: &[Row]) -> Result<Vec<(u64, Row)>,
             let answers = at_instant(alloc, *at, near)?;
             Ok(answers)
         }
+    }
+}
+
+/// Moves rows behind the answers, which have room for them.
+fn push_rows(answers: &mut VecDeque<(u64, Row)>, at: u64, rows: Vec<Row>)
+    requires { deque_len answers.old + length rows.items ≤ deque_capacity answers.old }
+    ensures { answers_of answers.new.items
+        ≡ answers_of answers.old.items ++ map (λ r. (at, r)) (rows_of rows.items) }
+{
+    for row in rows {
+        answers.push_back_reserved((at, row));
     }
 }
 

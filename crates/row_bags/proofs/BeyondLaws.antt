@@ -125,7 +125,7 @@ not_first-put x y (z ∷ zs) h f =
 beyond-put : (y : Row) (xs ys : List Row) → Rises xs → beyond xs (put y ys) ≡ beyond (without row_cmp y xs) ys
 beyond-put y [] ys r = refl
 beyond-put y (x ∷ xs) ys r =
-    by_bool (is_above row_cmp x y) less (λ f. by_bool (is_above row_cmp y x) more (λ g. same (equal f g)))
+    by_bool (is_above row_cmp x y) less (λ f. by_bool (is_above row_cmp y x) (more (λ (zs : List Row). beyond-put y xs zs r.1)) (λ g. same (equal f g)))
   where
     step : List Row → List Row → List Row
     step zs ws = cond (is_first x ws) (beyond zs (drop 1 ws)) (x ∷ beyond zs ws)
@@ -151,18 +151,18 @@ beyond-put y (x ∷ xs) ys r =
     other : is_above row_cmp y x ≡ true → is_same row_cmp y x ≡ false
     other t = by_bool (is_same row_cmp y x) (λ u. let e : y ≡ x = same_is row_cmp row_order y x u in let k : is_above row_cmp x x ≡ true = subst (λ v. is_above row_cmp v x ≡ true) e t in let n : is_above row_cmp x x ≡ false = itself_not x in cc) (λ u. u)
 
-    more : is_above row_cmp y x ≡ true → beyond (x ∷ xs) (put y ys) ≡ beyond (without row_cmp y (x ∷ xs)) ys
-    more t =
+    more : ((zs : List Row) → beyond xs (put y zs) ≡ beyond (without row_cmp y xs) zs) → is_above row_cmp y x ≡ true → beyond (x ∷ xs) (put y ys) ≡ beyond (without row_cmp y (x ∷ xs)) ys
+    more fewer t =
         let ws : List Row = not_below x ys in
         ap (step xs) (not_below-more x y ys t)
         ∙ by_bool (is_first x ws)
           (λ u. let k = first-put x y ws t u in
             ap (λ (b : Bool). cond b (beyond xs (drop 1 (put y ws))) (x ∷ beyond xs (put y ws))) k.0
             ∙ ap (beyond xs) k.1
-            ∙ beyond-put y xs (drop 1 ws) r.1
+            ∙ fewer (drop 1 ws)
             ∙ ap (λ (b : Bool). cond b (beyond (without row_cmp y xs) (drop 1 ws)) (x ∷ beyond (without row_cmp y xs) ws)) (sym u))
           (λ u. ap (λ (b : Bool). cond b (beyond xs (drop 1 (put y ws))) (x ∷ beyond xs (put y ws))) (not_first-put x y ws t u)
-            ∙ ap (λ (zs : List Row). x ∷ zs) (beyond-put y xs ws r.1)
+            ∙ ap (λ (zs : List Row). x ∷ zs) (fewer ws)
             ∙ ap (λ (b : Bool). cond b (beyond (without row_cmp y xs) (drop 1 ws)) (x ∷ beyond (without row_cmp y xs) ws)) (sym u))
         ∙ ap (λ (b : Bool). beyond (cond b xs (x ∷ without row_cmp y xs)) ys) (sym (other t))
 

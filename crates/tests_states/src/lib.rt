@@ -22,6 +22,8 @@ mod plain;
 #[cfg(test)]
 mod queues;
 #[cfg(test)]
+mod roots;
+#[cfg(test)]
 mod rows;
 #[cfg(test)]
 mod samples;

@@ -14,6 +14,7 @@
 ghost use Rattle.std.specs.Prelude.{◌≡◌, ◌≤◌, ◌+◌, ◌++◌, None, [], map, length, IfOk, OnOk, OnErr};
 ghost use Rattle.std.specs.VecDeque.{deque_len, deque_capacity};
 ghost use Rattle.row_bags.specs.Bags.{rows_of};
+ghost use Rattle.row_bags.specs.Lists.{renewed};
 ghost use Rattle.to_stream.specs.Turns.{State, shown, near, out, ticked, next, HasRoom, answers_of};
 ghost use Rattle.to_stream.specs.Law.{Stands, StepLaw};
 
@@ -128,14 +129,20 @@ impl ToStream {
     /// The tick in place. All memory is taken before the first answer is pushed.
     fn answer(&mut self, at: u64, answers: &mut VecDeque<(u64, Row)>) -> Result<(), AllocError>
         ensures answers { OnOk result (answers_of answers.new.items
-            ≡ answers_of answers.old.items ++ map (λ r. (at, r)) (shown self.old.operator self.old)) }
+            ≡ answers_of answers.old.items
+                ++ map (λ r. (at, r)) (shown self.old.operator self.old)) }
         ensures state { OnOk result (self.new ≡ ticked self.old at) }
         ensures err { OnErr result (answers.new.items ≡ answers.old.items) }
     {
-        let rows = self.shown(self.alloc)?;
-        answers.reserve(rows.len())?;
-        self.tick(at)?;
-        push_rows(answers, at, rows);
+        match self.operator {
+            StreamOperator::Istream => self.delta.push_entered(at, answers)?,
+            StreamOperator::Dstream => self.delta.push_left(at, answers)?,
+            StreamOperator::Rstream => {
+                push_whole(self.alloc, &mut self.whole, &self.delta, at, answers)?;
+            }
+        }
+        self.delta.clear();
+        self.last = Some(at);
         Ok(())
     }
 
@@ -197,6 +204,25 @@ pub fn work(alloc: Global, item: &Item, near: &[Row]) -> Result<Vec<(u64, Row)>,
             Ok(answers)
         }
     }
+}
+
+/// Makes the list that of the relation now, and pushes it behind the answers.
+fn push_whole(
+    alloc: Global,
+    whole: &mut RowList,
+    delta: &Delta,
+    at: u64,
+    answers: &mut VecDeque<(u64, Row)>,
+) -> Result<(), AllocError>
+    ensures answers { OnOk result (answers_of answers.new.items
+        ≡ answers_of answers.old.items ++ map (λ r. (at, r)) (renewed whole.old delta.now)) }
+    ensures whole { OnOk result (whole.new ≡ renewed whole.old delta.now) }
+    ensures err { OnErr result (answers.new.items ≡ answers.old.items) }
+{
+    let rows = whole.renew_and_list(alloc, delta)?;
+    answers.reserve(rows.len())?;
+    push_rows(answers, at, rows);
+    Ok(())
 }
 
 /// Moves rows behind the answers, which have room for them.

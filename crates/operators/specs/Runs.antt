@@ -48,7 +48,7 @@ pub record MayRun (o : PlainOperator) (log : Closed) (side : Side) (rows : ℕ) 
   pub within : IsInboxWithin (inbox_of o side) log
   pub takes : (i : Item) → IsFrontPart rows (waiting o log side) i → TakesItem o side i
 
--- of the operator above: items may come to the back of its queue
+-- of the operator above: once the item has left, what a turn with it puts out may come to the back of its queue
 pub record MayGain (to : PlainOperator) (side : Side) (es : List (Entry Row)) : Type 0 where
   pub fed : is_fed (inbox_of to side) ≡ true
   pub forward : IsForward (queued (inbox_of to side) ++ es)
@@ -57,8 +57,11 @@ abbrev pub MayPut : Outs → PlainOperator → Side → Type 0
 MayPut (Put es) to side = MayGain to side es
 MayPut (Answered given) to side = ⊥
 
+abbrev pub MayPutAfter : PlainOperator → Closed → Side → Item → PlainOperator → Side → Type 0
+MayPutAfter o log side i to to_side = (new : PlainOperator) → IsFinished o log side i (change_with o side i) new → MayPut (outs_with o side i) to to_side
+
 abbrev pub MayPutFirst : PlainOperator → Closed → Side → ℕ → PlainOperator → Side → Type 0
-MayPutFirst o log side rows to to_side = (i : Item) → IsFrontPart rows (waiting o log side) i → MayPut (outs_with o side i) to to_side
+MayPutFirst o log side rows to to_side = (i : Item) → IsFrontPart rows (waiting o log side) i → MayPutAfter o log side i to to_side
 
 -- of a root: it gives answers
 abbrev pub IsGiven : Outs → Type 0

@@ -6,8 +6,8 @@ ghost use Rattle.turn.specs.Turns.{FitsKind, Put, Answered, outs_in};
 ghost use Rattle.operators.specs.Inboxes.{IsInboxWithin, all_entries};
 ghost use Rattle.operators.specs.Operators.{IsFinished, inbox_of, waiting};
 ghost use Rattle.operators.specs.Runs.{GivesFirst, HasGiven, HasItem, HasPutTo, HasRunBelow};
-ghost use Rattle.operators.specs.Runs.{HasRunRoot, IsGiven, IsMade, MayPut, MayPutFirst, MayRun};
-ghost use Rattle.operators.specs.Runs.{Stops, change_with, outs_with};
+ghost use Rattle.operators.specs.Runs.{HasRunRoot, IsGiven, IsMade, MayPut, MayPutAfter};
+ghost use Rattle.operators.specs.Runs.{MayPutFirst, MayRun, Stops, change_with, outs_with};
 ghost use Rattle.operators.specs.States.{Takes, near_of};
 
 use crate::running::Operator;
@@ -131,7 +131,7 @@ impl Operator {
         requires waits { length (entries_of item) ≤ length (waiting self.old log.now side) }
         requires within { IsInboxWithin (inbox_of self.old side) log.now }
         requires takes { Takes self.old.state side item (change_with self.old side item) }
-        requires puts { MayPut (outs_with self.old side item) to.old to_side }
+        requires puts { MayPutAfter self.old log.now side item to.old to_side }
         ensures finished { OnOk result
             (IsFinished self.old log.now side item (change_with self.old side item) self.new) }
         ensures put { OnOk result

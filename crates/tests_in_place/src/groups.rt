@@ -74,7 +74,7 @@ fn push_item(all: &mut Vec<i64>, item: &Item) -> Result<(), AllocError> {
 enum Sample {
     /// Those of two steps an instant, of 22 keys.
     Few,
-    /// Those of 600 steps an instant, of 1,200 keys.
+    /// Those of 700 steps an instant, of 1,400 keys.
     Many,
 }
 
@@ -91,10 +91,10 @@ fn item_at(alloc: Global, sample: Sample, step: usize) -> Result<Item, AllocErro
             Ok(Item::Rows(step as u64, batch))
         }
         Sample::Many => {
-            if step % 602 >= 600 {
+            if step % 702 >= 700 {
                 return Ok(Item::Tick(step as u64));
             }
-            let batch = batch_at(alloc, step, 1_204, 602)?;
+            let batch = batch_at(alloc, step, 702, 702)?;
             Ok(Item::Rows(step as u64, batch))
         }
     }
@@ -141,20 +141,21 @@ fn whole(alloc: Global) -> Result<GroupBy, AllocError> {
 /// `None` where it differs.
 fn both(
     alloc: Global,
-    shapes: [GroupBy; 3],
+    shape: &GroupBy,
+    first: GroupBy,
+    second: GroupBy,
     sample: Sample,
     steps: usize,
 ) -> Result<Option<usize>, AllocError>
     requires { steps ≤ 3_000 }
 {
-    let [shape, first, second] = shapes;
     let mut by_turns = Group::new(alloc, first)?;
     let mut in_place = Group::new(alloc, second)?;
     let mut turns = Vec::new(alloc);
     let mut places = Vec::new(alloc);
     for step in 0..steps {
         let item = item_at(alloc, sample, step)?;
-        let outputs = turned(alloc, &mut by_turns, &shape, &item)?;
+        let outputs = turned(alloc, &mut by_turns, shape, &item)?;
         push_all(&mut turns, &outputs)?;
         let outputs = placed(alloc, &mut in_place, item)?;
         push_all(&mut places, &outputs)?;
@@ -162,44 +163,47 @@ fn both(
     Ok(count_of_same(&turns, &places))
 }
 
+/// The same for groups by a key.
+fn both_grouped(alloc: Global, sample: Sample, steps: usize) -> Result<Option<usize>, AllocError>
+    requires { steps ≤ 3_000 }
+{
+    let shape = grouped(alloc)?;
+    let first = grouped(alloc)?;
+    let second = grouped(alloc)?;
+    both(alloc, &shape, first, second, sample, steps)
+}
+
+/// The same for the one group.
+fn both_whole(alloc: Global) -> Result<Option<usize>, AllocError> {
+    let shape = whole(alloc)?;
+    let first = whole(alloc)?;
+    let second = whole(alloc)?;
+    both(alloc, &shape, first, second, Sample::Few, 240)
+}
+
+/// The same for rows once each.
+fn both_distinct(alloc: Global) -> Result<Option<usize>, AllocError> {
+    let shape = GroupBy::distinct(alloc, 2)?;
+    let first = GroupBy::distinct(alloc, 2)?;
+    let second = GroupBy::distinct(alloc, 2)?;
+    both(alloc, &shape, first, second, Sample::Few, 240)
+}
+
 #[test]
 fn groups_in_place_put_out_what_turns_do(rt: HostRuntime) -> Result<(), Fail> {
     let alloc = rt.alloc();
-    let shapes = [grouped(alloc)?, grouped(alloc)?, grouped(alloc)?];
     assert_eq!(rt;
-        both(alloc, shapes, Sample::Few, 240)?,
+        both_grouped(alloc, Sample::Few, 240)?,
         Some(312 * 8 + 120 * 2)
     );
-    let shapes = [whole(alloc)?, whole(alloc)?, whole(alloc)?];
-    assert_eq!(rt;
-        both(alloc, shapes, Sample::Few, 240)?,
-        Some(119 * 6 + 120 * 2)
-    );
+    assert_eq!(rt; both_whole(alloc)?, Some(119 * 6 + 120 * 2));
+    assert_eq!(rt; both_distinct(alloc)?, Some(200 * 4 + 120 * 2));
     Ok(())
 }
 
 #[test]
-fn distinct_in_place_puts_out_what_turns_do(rt: HostRuntime) -> Result<(), Fail> {
-    let alloc = rt.alloc();
-    let shapes = [
-        GroupBy::distinct(alloc, 2)?,
-        GroupBy::distinct(alloc, 2)?,
-        GroupBy::distinct(alloc, 2)?,
-    ];
-    assert_eq!(rt;
-        both(alloc, shapes, Sample::Few, 240)?,
-        Some(200 * 4 + 120 * 2)
-    );
-    Ok(())
-}
-
-#[test]
-fn more_groups_than_a_batch_has_rows_are_put_out_in_place(rt: HostRuntime) -> Result<(), Fail> {
-    let alloc = rt.alloc();
-    let shapes = [grouped(alloc)?, grouped(alloc)?, grouped(alloc)?];
-    assert_eq!(rt;
-        both(alloc, shapes, Sample::Many, 2_408)?,
-        Some(5_600 * 8 + 8 * 2)
-    );
+fn more_rows_than_a_batch_has_are_put_out_in_place(rt: HostRuntime) -> Result<(), Fail> {
+    let numbers = both_grouped(rt.alloc(), Sample::Many, 1_404)?;
+    assert_eq!(rt; numbers, Some(2_334 * 8 + 4 * 2));
     Ok(())
 }

@@ -13,3 +13,5 @@ pub mod LawLemmas
 pub mod DistinctLemmas
 pub mod BatchLemmas
 pub mod SameLemmas
+pub mod RunLemmas
+pub mod FlatLemmas

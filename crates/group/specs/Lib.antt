@@ -6,3 +6,4 @@ pub mod Turns
 pub mod Laws
 pub mod Batches
 pub mod Same
+pub mod Runs

@@ -2,7 +2,7 @@
 
 ghost use Rattle.std.specs.Prelude.{◌≡◌, ◌+◌, ◌-◌, ◌^◌, ◌<◌, ◌≤◌, ◌∷◌, [], length, map, replicate};
 ghost use Rattle.std.specs.Prelude.{IfOk, OnOk, OnErr, IsSome, pos, ℤ, Option, Some, None, List};
-ghost use Rattle.std.specs.Prelude.{cond, nat_lt, false, ◌+ℤ◌, ◌-ℤ◌, ◌*◌, ◌/◌, ◌==◌, fold};
+ghost use Rattle.std.specs.Prelude.{cond, nat_lt, true, false, ◌++◌, ◌+ℤ◌, ◌-ℤ◌, ◌*◌, ◌/◌, ◌==◌, fold};
 ghost use Rattle.std.specs.BTreeMap.{is_at};
 ghost use Rattle.std.specs.BTreeMap as tree;
 ghost use Rattle.std.specs.Map.{set_value, values_of};
@@ -20,8 +20,16 @@ ghost use Rattle.column.specs.Bits.{bits, word_count, place as place_of};
 ghost use Rattle.column.specs.Columns.{IsStreamValue};
 ghost use Rattle.group.specs.Batches.{rows_counted, leaving, fields, tally_values, tally_sums};
 ghost use Rattle.group.specs.Batches.{tally_rows, numbers_read, AllInRange};
+ghost use Rattle.std.specs.Option.{is_some, option_map};
+ghost use Rattle.values.specs.Row.{same_row};
+ghost use Rattle.values.specs.declared.TheConstants.{MAX_COLUMNS};
+ghost use Rattle.group.specs.Cells.{held, shown_figure};
+ghost use Rattle.group.specs.Turns.{same_shown, signed_row};
+ghost use Rattle.group.specs.Runs.{put_out, row_at_tick, with_rows};
 
+use crate::outgoing::Outgoing;
 use crate::rows::{field_of, row_with, written};
+use crate::shape::GroupBy;
 use column::{Batch, Column as Lane, SignedRow};
 use lane_kernels::{count_set, count_signed, sum_signed};
 use std::alloc::{AllocError, Global};
@@ -491,6 +499,62 @@ fn figures_of(
     Ok(figures)
 }
 
+/// The row that the figures of a group are shown as.
+fn row_shown(tallies: &[Tally], items: &[ListItem], key: &Row, rows: i64) -> Row
+    requires { length items.now ≤ MAX_COLUMNS }
+    ensures { result
+        ≡ held (map shown_figure (figures key.now.items rows items.now tallies.now)) }
+{
+    let count = items.len().min(tallies.len());
+    let mut row = Row::new();
+    for place in 0..count {
+        row.push(tallies[place].figure(items[place], key, rows).shown());
+    }
+    row
+}
+
+/// Whether the row has just these values.
+fn has_values(values: &[Value], row: &Row) -> bool
+    ensures { result ≡ same_row values.now row.now.items }
+{
+    values == row.as_slice()
+}
+
+/// Whether the row is the one that was shown.
+fn is_shown(shown: &Option<Vec<Value>>, row: &Option<Row>) -> bool
+    ensures { result ≡ same_shown (option_map (λ values. held values.items) shown.now) row.now }
+{
+    match shown {
+        Some(values) => match row {
+            Some(row) => has_values(values, row),
+            None => false,
+        },
+        None => row.is_none(),
+    }
+}
+
+/// The row that was shown leaves, if there is one.
+fn put_shown(shown: &Option<Vec<Value>>, rows: &mut Outgoing) -> Result<(), AllocError>
+    ensures { OnOk result (rows.new ≡ with_rows rows.old (signed_row false rows.old.width
+        (option_map (λ values. held values.items) shown.now))) }
+{
+    match shown {
+        Some(values) => rows.push(false, values),
+        None => Ok(()),
+    }
+}
+
+/// The row enters, if there is one.
+fn put_row(row: &Option<Row>, rows: &mut Outgoing) -> Result<(), AllocError>
+    ensures { OnOk result (rows.new
+        ≡ with_rows rows.old (signed_row true rows.old.width row.now)) }
+{
+    match row {
+        Some(row) => rows.push(true, row.as_slice()),
+        None => Ok(()),
+    }
+}
+
 impl Cell {
     /// A group of no rows.
     pub(crate) fn new(alloc: Global, count: usize) -> Result<Cell, AllocError>
@@ -571,5 +635,62 @@ impl Cell {
             Some(values) => Some(row_with(values)),
             None => None,
         }
+    }
+
+    /// The row that the group shows from this tick on.
+    fn row_at_tick(&self, group: &GroupBy, key: &Row) -> Option<Row>
+        ensures { result ≡ row_at_tick group.now key.now self.now }
+    {
+        if group.is_whole() || 0 < self.rows {
+            Some(row_shown(&self.tallies, group.items(), key, self.rows))
+        } else {
+            None
+        }
+    }
+
+    /// The row that was shown leaves and the other enters; it is the one that was shown last.
+    fn show_other(
+        &mut self,
+        alloc: Global,
+        row: &Option<Row>,
+        rows: &mut Outgoing,
+    ) -> Result<(), AllocError>
+        ensures cell { OnOk result (self.new ≡ showing self.old row.now) }
+        ensures rows { OnOk result (rows.new ≡ with_rows rows.old
+            (signed_row false rows.old.width self.old.shown
+            ++ signed_row true rows.old.width row.now)) }
+    {
+        put_shown(&self.shown, rows)?;
+        put_row(row, rows)?;
+        match row {
+            Some(row) => self.show(alloc, row),
+            None => {
+                self.shown = None;
+                Ok(())
+            }
+        }
+    }
+
+    /// A tick: where the row that the group shows from now on is not the one that was shown, that
+    /// one leaves and the other enters. Says whether there is one.
+    pub(crate) fn swap(
+        &mut self,
+        alloc: Global,
+        group: &GroupBy,
+        key: &Row,
+        rows: &mut Outgoing,
+    ) -> Result<bool, AllocError>
+        ensures some { IfOk result (λ some. some
+            ≡ is_some (row_at_tick group.now key.now self.old)) }
+        ensures cell { OnOk result (self.new
+            ≡ showing self.old (row_at_tick group.now key.now self.old)) }
+        ensures rows { OnOk result (rows.new ≡ put_out group.now key.now self.old rows.old) }
+    {
+        let row = self.row_at_tick(group, key);
+        if is_shown(&self.shown, &row) {
+            return Ok(row.is_some());
+        }
+        self.show_other(alloc, &row, rows)?;
+        Ok(row.is_some())
     }
 }

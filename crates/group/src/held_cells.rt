@@ -8,8 +8,11 @@ ghost use Rattle.group.specs.Batches.{AllInRange, batch_in};
 ghost use Rattle.group.specs.Cells.{held_cmp, CellRoom, ReadsInRange};
 ghost use Rattle.group.specs.Rooms.{cells_in, room_of};
 ghost use Rattle.group.specs.Turns.{cell_of, taken_in, shown_in, excerpt};
+ghost use Rattle.group.specs.Runs.{put_out, swapped};
 
 use crate::keyed::Keyed;
+use crate::outgoing::Outgoing;
+use crate::shape::GroupBy;
 use crate::turn::Touched;
 use column::{Batch, SignedRow};
 use std::alloc::{AllocError, Global};
@@ -139,6 +142,29 @@ impl HeldCells {
             HeldCells::Four(keyed) => keyed.show_in(alloc, count, key, row),
             HeldCells::Eight(keyed) => keyed.show_in(alloc, count, key, row),
             HeldCells::Widest(keyed) => keyed.show_in(alloc, count, key, row),
+        }
+    }
+
+    /// A tick of a group that may be kept: it puts out what it has to and shows its row. One that
+    /// has no row to show is no longer kept.
+    pub(crate) fn swap_in(
+        &mut self,
+        alloc: Global,
+        group: &GroupBy,
+        key: &Row,
+        rows: &mut Outgoing,
+    ) -> Result<(), AllocError>
+        ensures cells { OnOk result (cells_in self.new
+            ≡ swapped group.now key.now (cells_in self.old)) }
+        ensures rows { OnOk result (rows.new ≡ put_out group.now key.now
+            (cell_of (length group.now.items) key.now (cells_in self.old)) rows.old) }
+    {
+        self.make_room(alloc, key.len())?;
+        match self {
+            HeldCells::Two(keyed) => keyed.swap_in(alloc, group, key, rows),
+            HeldCells::Four(keyed) => keyed.swap_in(alloc, group, key, rows),
+            HeldCells::Eight(keyed) => keyed.swap_in(alloc, group, key, rows),
+            HeldCells::Widest(keyed) => keyed.swap_in(alloc, group, key, rows),
         }
     }
 

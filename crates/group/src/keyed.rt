@@ -2,14 +2,18 @@
 
 ghost use Rattle.std.specs.Prelude.{◌≡◌, ◌≤◌, ◌+◌, ◌^◌, [], length, IfOk, OnOk};
 ghost use Rattle.std.specs.BTreeMap.{is_at, insert_entry};
-ghost use Rattle.std.specs.Map.{lookup, remove_entry};
+ghost use Rattle.std.specs.Map.{keys_of, lookup, remove_entry};
 ghost use Rattle.std.specs.Option.{option_copied};
 ghost use Rattle.column.specs.Rows.{signed};
 ghost use Rattle.group.specs.Batches.{AllInRange, batch_in};
 ghost use Rattle.group.specs.Cells.{held_cmp, CellRoom, ReadsInRange};
-ghost use Rattle.group.specs.Turns.{cell_of, taken_in, shown_in, excerpt};
+ghost use Rattle.group.specs.Turns.{cell_of, has_key, taken_in, shown_in, excerpt};
+ghost use Rattle.group.specs.Runs.{HasSwapped, put_out, swapped};
+ghost use Rattle.std.specs.Prelude.{false, MatchOption};
 
 use crate::cells::Cell;
+use crate::outgoing::Outgoing;
+use crate::shape::GroupBy;
 use crate::turn::Touched;
 use arrayvec::ArrayVec;
 use column::{Batch, SignedRow};
@@ -132,6 +136,56 @@ impl<const N: usize> Keyed<N> {
         }
     }
 
+    /// A tick of a group that the map may have: it puts out what it has to and shows its row. One
+    /// that has no row to show is no longer kept.
+    pub(crate) fn swap_in(
+        &mut self,
+        alloc: Global,
+        group: &GroupBy,
+        key: &Row,
+        rows: &mut Outgoing,
+    ) -> Result<(), AllocError>
+        requires { length key.now.items ≤ N }
+        ensures cells { OnOk result (self.new ≡ swapped group.now key.now self.old) }
+        ensures rows { OnOk result (rows.new ≡ put_out group.now key.now
+            (cell_of (length group.now.items) key.now self.old) rows.old) }
+    {
+        let _ = &self.cells;
+        let held = copied(key);
+        match swap_at(&mut self.cells, &held, alloc, group, key, rows)? {
+            Some(true) => Ok(()),
+            Some(false) => {
+                remove_at(&mut self.cells, &held);
+                Ok(())
+            }
+            None => self.swap_new(alloc, group, key, rows),
+        }
+    }
+
+    /// The same of a group that the map has not.
+    fn swap_new(
+        &mut self,
+        alloc: Global,
+        group: &GroupBy,
+        key: &Row,
+        rows: &mut Outgoing,
+    ) -> Result<(), AllocError>
+        requires fits { length key.now.items ≤ N }
+        requires new { has_key key.now self.old ≡ false }
+        ensures cells { OnOk result (self.new ≡ swapped group.now key.now self.old) }
+        ensures rows { OnOk result (rows.new ≡ put_out group.now key.now
+            (cell_of (length group.now.items) key.now self.old) rows.old) }
+    {
+        let _ = &self.cells;
+        let mut cell = Cell::new(alloc, group.items().len())?;
+        let some = cell.swap(alloc, group, key, rows)?;
+        if !some {
+            return Ok(());
+        }
+        self.cells.insert(copied(key), cell)?;
+        Ok(())
+    }
+
     /// What is kept of a group that the map may have.
     fn cell(&self, key: &Row) -> Option<&Cell>
         ensures { option_copied result ≡ lookup (is_at (held_cmp key.now)) self.now }
@@ -177,6 +231,32 @@ impl<const N: usize> Keyed<N> {
             put(&mut wider, copied(&key), cell)?;
         }
         Ok(Keyed { cells: wider })
+    }
+}
+
+/// A tick of the group with this key, which stays in the map: whether it has a row to show; None
+/// where the map has no such group.
+fn swap_at<const N: usize>(
+    cells: &mut BTreeMap<ArrayVec<Value, N>, Cell>,
+    held: &ArrayVec<Value, N>,
+    alloc: Global,
+    group: &GroupBy,
+    key: &Row,
+    rows: &mut Outgoing,
+) -> Result<Option<bool>, AllocError>
+    requires { held.now ≡ key.now }
+    ensures keys { keys_of cells.new.entries ≡ keys_of cells.old.entries }
+    ensures swapped { IfOk result (λ some. MatchOption some
+        ((has_key key.now cells.old.entries ≡ false) × (cells.new.entries ≡ cells.old.entries)
+        × (rows.new ≡ rows.old))
+        (HasSwapped group.now key.now cells.old.entries rows.old cells.new.entries rows.new)) }
+{
+    match cells.get_mut(held) {
+        Some(cell) => {
+            let some = cell.swap(alloc, group, key, rows)?;
+            Ok(Some(some))
+        }
+        None => Ok(None),
     }
 }
 

@@ -10,6 +10,7 @@ mod cells;
 mod held_cells;
 mod keyed;
 mod laws;
+mod outgoing;
 mod rows;
 mod shape;
 mod state;

@@ -1,11 +1,9 @@
 -- Signed rows whose values stand one behind the other.
-use Rattle.std.proofs.Common.{◌≡◌, ℕ, zero, suc, ◌+◌, ◌-◌, ◌*◌, ◌<◌, ◌≤◌, Bool, true, false, not, ℤ, Option, List, [], ◌∷◌, ◌++◌, length, map, take, drop, refl, ap, ap₂, sym, ◌∙◌, subst, arith, append_assoc, length-append, length-drop, drop-drop, zero-mul, add-mul, suc-add, suc-mul, mul-le-mul_right}
-use Rattle.std.specs.List.{range_with_len}
+use Rattle.std.proofs.Common.{◌≡◌, ℕ, zero, suc, ◌+◌, ◌-◌, ◌*◌, ◌≤◌, Bool, true, false, not, ℤ, Option, List, [], ◌∷◌, ◌++◌, length, map, take, drop, refl, ap, ap₂, sym, ◌∙◌, subst, arith, append_assoc, length-append, length-drop, drop-drop, zero-mul, add-mul, suc-add, suc-mul, mul-le-mul_right}
 use Rattle.std.proofs.Math.Seq.{take-add}
 use Rattle.std.proofs.lemmas.List.{map-append, take-append-le, drop-append-le, drop-take, take_all, length-take-le, take-append-drop}
 use Rattle.std.proofs.lemmas.List.{get_or_append_left}
 use Rattle.values.specs.Row.{Row}
-use Rattle.values.specs.declared.TheConstants.{MAX_COLUMNS}
 use Rattle.column.specs.Rows.{flat_rows}
 use Rattle.column.proofs.FlatLemmas.{length-flat_rows}
 use Rattle.op_queue.specs.Entries.{Entry, IsForward, RowAt}

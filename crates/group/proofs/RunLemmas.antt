@@ -18,7 +18,7 @@ use Rattle.op_queue.specs.declared.item.Item.{Item}
 use Rattle.op_queue.specs.declared.item.Item.TheVariants.{Rows, Tick}
 use Rattle.group.specs.Groups.{GroupBy}
 use Rattle.group.specs.Cells.{Held, held_cmp, CellState, cell_zero, showing}
-use Rattle.group.specs.Turns.{GroupState, has_key, near, cell_of, with_cell, shown_in, shown_at, shown_after, shown_now, excerpt, near_at, out, outputs, same_shown, swap_of, TouchedState}
+use Rattle.group.specs.Turns.{GroupState, has_key, near, cell_of, shown_at, shown_after, shown_now, excerpt, near_at, out, outputs, same_shown, swap_of, TouchedState}
 use Rattle.group.specs.Runs.{HasSwapped, OutgoingState, with_rows, row_at_tick, put_out, swapped, changes_at}
 use Rattle.group.proofs.KeyLemmas.{held_order, same_key, same_held, cell-shown_in}
 

@@ -2,7 +2,8 @@
 
 ghost use Rattle.std.specs.Prelude.{◌≡◌, ◌+◌, ◌-◌, ◌^◌, ◌<◌, ◌≤◌, ◌∷◌, [], length, map, replicate};
 ghost use Rattle.std.specs.Prelude.{IfOk, OnOk, OnErr, IsSome, pos, ℤ, Option, Some, None, List};
-ghost use Rattle.std.specs.Prelude.{cond, nat_lt, true, false, ◌++◌, ◌+ℤ◌, ◌-ℤ◌, ◌*◌, ◌/◌, ◌==◌, fold};
+ghost use Rattle.std.specs.Prelude.{cond, nat_lt, true, false, ◌++◌, ◌+ℤ◌, ◌-ℤ◌, ◌*◌, ◌/◌};
+ghost use Rattle.std.specs.Prelude.{◌==◌, fold};
 ghost use Rattle.std.specs.BTreeMap.{is_at};
 ghost use Rattle.std.specs.BTreeMap as tree;
 ghost use Rattle.std.specs.Map.{set_value, values_of};

@@ -14,8 +14,6 @@ mod conditions;
 #[cfg(test)]
 mod groups;
 #[cfg(test)]
-mod groups_in_place;
-#[cfg(test)]
 mod kernels;
 #[cfg(test)]
 mod numbers;

@@ -1,6 +1,6 @@
 use Rattle.std.proofs.Common.{◌≡◌, Some, rules}
 use Rattle.std.specs.BTreeMap.{is_at}
-use Rattle.std.specs.Map.{lookup, set_value}
+use Rattle.std.specs.Map.{lookup}
 use Rattle.group.specs.Cells.{held_cmp}
 use Rattle.group.proofs.RunLemmas.{has_swapped}
 use Rattle.group.proofs.keyed.swap_at.Goals as goal

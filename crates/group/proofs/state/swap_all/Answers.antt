@@ -7,7 +7,7 @@ use Rattle.group.specs.Cells.{Held, held_cmp, CellState}
 use Rattle.group.specs.Rooms.{cells_in}
 use Rattle.group.specs.Turns.{near_at, outputs, shown_after}
 use Rattle.group.specs.Runs.{OutgoingState, changes_at, with_rows}
-use Rattle.group.proofs.RunLemmas.{swap_cells, swap_rows, step_rows}
+use Rattle.group.proofs.RunLemmas.{swap_cells, step_rows}
 use Rattle.group.proofs.state.swap_all.Goals as goal
 
 pub loop-key-preserved : goal.loop-key-preserved

@@ -14,6 +14,8 @@ mod conditions;
 #[cfg(test)]
 mod groups;
 #[cfg(test)]
+mod groups_in_place;
+#[cfg(test)]
 mod kernels;
 #[cfg(test)]
 mod numbers;

@@ -1,21 +1,18 @@
 -- What turns ask for where their queue is new: what they put out is of one instant.
-use Rattle.std.proofs.Common.{◌≡◌, ℕ, zero, suc, ◌≤◌, ◌<◌, Bool, List, [], ◌∷◌, ◌++◌, length, map, not, refl, sym, subst, arith}
+use Rattle.std.proofs.Common.{◌≡◌, ℕ, zero, suc, ◌≤◌, Bool, List, [], ◌∷◌, ◌++◌, map, not, refl, sym, subst, arith}
 use Rattle.std.specs.List.{All, filter}
 use Rattle.std.proofs.lemmas.List.Elements.{All-append, All-filter}
 use Rattle.values.specs.Row.{Row}
-use Rattle.column.specs.Rows.{width}
-use Rattle.lane_kernels.specs.Steps.{StepsFit}
 use Rattle.lane_kernels.specs.declared.condition.Step.{Step}
 use Rattle.op_queue.specs.Entries.{Entry, IsForward, RowAt, TickAt, instant_of}
 use Rattle.op_queue.specs.Items.{item_instant}
 use Rattle.op_queue.specs.declared.item.Item.{Item}
 use Rattle.op_queue.specs.declared.item.Item.TheVariants.{Rows, Tick}
 use Rattle.row_nodes.specs.Project.{projected, projected_row}
-use Rattle.row_nodes.specs.Select.{FitItem, is_kept, selected}
+use Rattle.row_nodes.specs.Select.{is_kept, selected}
 use Rattle.windows.specs.Latest as latest
 use Rattle.windows.specs.Range as range
 use Rattle.windows.specs.Range.{IsAfter, RangeState, held_at, leaving}
-use Rattle.windows.specs.Widths.{IsItemWide}
 
 rows_at : (t : ℕ) (rows : List (Bool × Row)) → All (λ e. instant_of e ≡ t) (map (RowAt t) rows)
 rows_at t [] i d lt = absurd (omega arith)
@@ -69,10 +66,3 @@ after_next s (Tick t) held is h = subst (IsAfter t) (sym is) (All-filter (λ (h 
 
 pub after_later : (t u : ℕ) (held : List (ℕ × Row)) → t ≤ u → IsAfter t held → IsAfter u held
 after_later t u held le h i d lt = omega (arith, le, h i d lt)
-
--- steps over two columns
-pub fit_item : (steps : List Step) (i : Item) → StepsFit 2 0 steps → IsItemWide 2 i → FitItem steps i
-fit_item steps (Rows t b) fits wide =
-    let P : ℕ → Type 0 = λ w. StepsFit w 0 steps in
-    subst P (sym wide) fits
-fit_item steps (Tick t) fits wide = wide

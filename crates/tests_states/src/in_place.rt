@@ -2,6 +2,7 @@
 ghost use Rattle.std.specs.Prelude.{◌≡◌, ◌≤◌, IsTrue, ◌<◌, All, IfOk, OnOk, length};
 ghost use Rattle.op_queue.specs.Items.{item_instant};
 ghost use Rattle.row_nodes.specs.Project.{AreColumns};
+ghost use Rattle.row_nodes.specs.Select.{FitItem};
 ghost use Rattle.windows.specs.Range.{IsAfter, next};
 ghost use Rattle.windows.specs.Widths.{IsItemWide};
 
@@ -284,20 +285,20 @@ fn select_agrees(alloc: Global, number: i64, count: usize) -> Result<bool, Alloc
     if batch.width() != 2 {
         return Ok(false);
     }
-    selects_alike(alloc, number, Item::Rows(3, batch))
-}
-
-fn selects_alike(alloc: Global, number: i64, item: Item) -> Result<bool, AllocError>
-    requires { IsItemWide 2 item }
-{
     let steps = [
         Step::Number(0, Compare::Above, number),
         Step::Columns(0, Compare::Below, 1),
         Step::And,
     ];
-    let items = select(alloc, &steps, &item)?;
+    selects_alike(alloc, &steps, Item::Rows(3, batch))
+}
+
+fn selects_alike(alloc: Global, steps: &[Step], item: Item) -> Result<bool, AllocError>
+    requires { FitItem steps.now item }
+{
+    let items = select(alloc, steps, &item)?;
     let mut queue = Queue::new(alloc);
-    run_select(alloc, &steps, item, &mut queue)?;
+    run_select(alloc, steps, item, &mut queue)?;
     holds(alloc, queue, &items)
 }
 
@@ -308,7 +309,7 @@ fn select_runs_in_place(rt: HostRuntime) -> Result<(), Fail> {
             assert!(rt; select_agrees(rt.alloc(), number, count)?, "{count} above {number}");
         }
     }
-    assert!(rt; selects_alike(rt.alloc(), 0, Item::Tick(3))?);
+    assert!(rt; selects_alike(rt.alloc(), &[Step::Not], Item::Tick(3))?);
     Ok(())
 }
 

@@ -306,7 +306,10 @@ fn selects_alike(alloc: Global, steps: &[Step], item: Item) -> Result<bool, Allo
 fn select_runs_in_place(rt: HostRuntime) -> Result<(), Fail> {
     for count in [1usize, 63, 64, 65, 1024] {
         for number in [-12, 0, 8, 11] {
-            assert!(rt; select_agrees(rt.alloc(), number, count)?, "{count} above {number}");
+            assert!(rt;
+                select_agrees(rt.alloc(), number, count)?,
+                "{count} above {number}"
+            );
         }
     }
     assert!(rt; selects_alike(rt.alloc(), &[Step::Not], Item::Tick(3))?);
@@ -342,9 +345,15 @@ fn projects_alike(alloc: Global, columns: &[usize], item: Item) -> Result<bool, 
 fn project_runs_in_place(rt: HostRuntime) -> Result<(), Fail> {
     for count in [1usize, 64, 65, 1024] {
         assert!(rt; project_agrees(rt.alloc(), &[], count)?, "none of {count}");
-        assert!(rt; project_agrees(rt.alloc(), &[0, 1], count)?, "both of {count}");
+        assert!(rt;
+            project_agrees(rt.alloc(), &[0, 1], count)?,
+            "both of {count}"
+        );
         assert!(rt; project_agrees(rt.alloc(), &[1], count)?, "one of {count}");
-        assert!(rt; project_agrees(rt.alloc(), &[1, 0, 1, 1], count)?, "four of {count}");
+        assert!(rt;
+            project_agrees(rt.alloc(), &[1, 0, 1, 1], count)?,
+            "four of {count}"
+        );
     }
     assert!(rt; projects_alike(rt.alloc(), &[1, 0], Item::Tick(3))?);
     Ok(())

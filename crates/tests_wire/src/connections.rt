@@ -1,5 +1,5 @@
 use crate::runs::{FIRST, FIRST_REPLIES};
-use programs::run;
+use programs::{run, run_server};
 use std::alloc::Global;
 use std::io;
 use std::io::Write;
@@ -55,4 +55,69 @@ fn a_connection_is_a_source_and_a_sink(rt: HostRuntime) {
         // A machine without a network says nothing of the program.
         Err(_) => {}
     }
+}
+
+// How a server ended that was asked to listen on a port which a listener has, and what it said: to
+// the sink, and of its errors.
+fn beside_a_listener<R: Net<Listener = TcpListener, Stream = TcpStream> + Threads + Wait + Sync>(
+    rt: &R,
+    alloc: Global,
+) -> io::Result<(u8, MemorySink, MemorySink)> {
+    let listener = TcpListener::bind(rt, "127.0.0.1:0")?;
+    let port = format!(in alloc; "--port={}", listener.local_addr()?.port())?;
+    let words = [
+        "cqld",
+        port.as_str(),
+        "--workers=1",
+        "--clients=1",
+        "--serve=0",
+    ];
+    let mut sink = MemorySink::new(alloc);
+    let mut errors = MemorySink::new(alloc);
+    let status = run_server(rt, alloc, words.as_slice(), &mut sink, &mut errors);
+    Ok((status, sink, errors))
+}
+
+#[test]
+fn a_taken_port_is_told(rt: HostRuntime) {
+    let ended = beside_a_listener(&rt, rt.alloc());
+    assert!(rt;
+        matches!(&ended, Ok((1, sink, errors))
+        if sink.bytes.is_empty() && errors.bytes.as_slice() == b"cqld: bind failed\n".as_slice())
+    );
+}
+
+// Whether a server with these words ends so at once, and says something of its errors just where it
+// does not end well.
+fn serves_to<R: Net<Listener = TcpListener, Stream = TcpStream> + Threads + Wait + Sync>(
+    rt: &R,
+    alloc: Global,
+    words: &[&str],
+    status: u8,
+    front: &str,
+) -> bool {
+    let mut sink = MemorySink::new(alloc);
+    let mut errors = MemorySink::new(alloc);
+    let ended = run_server(rt, alloc, words, &mut sink, &mut errors);
+    ended == status
+        && sink.bytes.as_slice().starts_with(front.as_bytes())
+        && sink.bytes.is_empty() == (status != 0)
+        && errors.bytes.is_empty() == (status == 0)
+}
+
+#[test]
+fn a_server_says_where_it_listens(rt: HostRuntime) {
+    let none = [
+        "cqld",
+        "--port=0",
+        "--workers=2",
+        "--clients=2",
+        "--serve=0",
+    ];
+    let line = "cqld: listening on 127.0.0.1:";
+    assert!(rt; serves_to(&rt, rt.alloc(), none.as_slice(), 0, line));
+    let clientless = ["cqld", "--port=0", "--workers=2"];
+    assert!(rt; serves_to(&rt, rt.alloc(), clientless.as_slice(), 2, ""));
+    let help = ["cqld", "--help"];
+    assert!(rt; serves_to(&rt, rt.alloc(), help.as_slice(), 0, ""));
 }

@@ -162,13 +162,18 @@ fn call<R: Wait>(
     })
 }
 
+// A hub with one seat, at the second try where memory is refused at the first.
+fn opened_at_last(alloc: Global) -> Result<(Hub, Seat), Stop> {
+    let opened_once = match opened(alloc) {
+        Err(Fault::OutOfMemory) => opened(alloc),
+        opened_once => opened_once,
+    };
+    opened_once.map_err(Stop::Wrong)
+}
+
 // Makes each call, once more where it is refused memory, and compares before and after.
 fn run<R: Wait>(rt: &R, alloc: Global) -> Result<u64, Stop> {
-    let (hub, mut seat) = match opened(alloc) {
-        Ok(opened) => opened,
-        Err(Fault::OutOfMemory) => return Err(Stop::Memory),
-        Err(fault) => return Err(Stop::Wrong(fault)),
-    };
+    let (hub, mut seat) = opened_at_last(alloc)?;
     for kind in 0..CALLS {
         if kind == TAKE {
             run_turns(rt, alloc, &hub)?;

@@ -12,7 +12,7 @@ use std::test::Fail;
 use std::thread;
 use std::thread::Threads;
 use std::time::{Clock, Duration};
-use workers::{Open, Pool, work};
+use workers::{NoGate, Pool, work};
 
 /// How often a client looks, with a millisecond of sleep each time.
 const LOOKS: u32 = 10_000;
@@ -53,7 +53,7 @@ fn a_heartbeat_wakes_a_worker(rt: HostRuntime) -> Result<(), Fail> {
     let (is_answered, _) = thread::join(
         &rt,
         || close_an_instant(&rt, &hub, seat),
-        || work(&rt, alloc, &hub, &Open, 256),
+        || work(&rt, alloc, &hub, &NoGate, 256),
     );
     assert!(rt; is_answered);
     Ok(())
@@ -113,7 +113,7 @@ fn woken_by<R: Threads + Wait + Clock + Sync>(
         rt,
         || let_go(rt, &hub, seat, deed, lease, &is_back),
         || {
-            let drained = Pool::drain(rt, alloc, &hub, &Open, 1, 256);
+            let drained = Pool::drain(rt, alloc, &hub, &NoGate, 1, 256);
             is_back.store(true, Ordering::SeqCst);
             drained
         },

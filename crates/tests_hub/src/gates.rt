@@ -8,6 +8,7 @@ use std::sync::Wait;
 use std::sync::atomic::{AtomicBool, Ordering};
 use std::test::Fail;
 use std::thread;
+use std::thread::Threads;
 use std::time::{Clock, Duration};
 use workers::{Gate, Pool, work};
 
@@ -100,6 +101,20 @@ fn a_pool_runs_two_turns_at_once(rt: HostRuntime) -> Result<(), Fail> {
     Ok(())
 }
 
+// Runs two workers until the hub is ended.
+fn work_by_two<R: Threads + Wait + Sync, G: Gate + Sync>(
+    rt: &R,
+    alloc: Global,
+    hub: &Hub,
+    gate: &G,
+) {
+    thread::join(
+        rt,
+        || work(rt, alloc, hub, gate, 256),
+        || work(rt, alloc, hub, gate, 256),
+    );
+}
+
 #[test]
 fn two_workers_run_two_turns_at_once(rt: HostRuntime) -> Result<(), Fail> {
     let alloc = rt.alloc();
@@ -112,13 +127,7 @@ fn two_workers_run_two_turns_at_once(rt: HostRuntime) -> Result<(), Fail> {
             hub.end(&rt);
             kept
         },
-        || {
-            thread::join(
-                &rt,
-                || work(&rt, alloc, &hub, &gate, 256),
-                || work(&rt, alloc, &hub, &gate, 256),
-            )
-        },
+        || work_by_two(&rt, alloc, &hub, &gate),
     );
     assert!(rt; kept);
     Ok(())

@@ -1,5 +1,7 @@
 //! Scripts over a hub: by a pool, by a client's own thread, and where a device fails.
 
+ghost use Rattle.std.specs.Prelude.{◌≤◌};
+
 use crate::fixture::opened;
 use hub::CommandKind;
 use reference::Fault;
@@ -57,7 +59,9 @@ fn replies_by<R: Threads + Wait + Sync>(
     alloc: Global,
     workers: Option<u64>,
     rows: u32,
-) -> Result<(MemorySink, Option<usize>), Fault> {
+) -> Result<(MemorySink, Option<usize>), Fault>
+    requires { 1 ≤ rows × rows ≤ 1024 }
+{
     let (hub, mut seat) = opened(alloc)?;
     let mut source = MemorySource::new(TWO_STREAMS.as_bytes());
     let mut sink = MemorySink::new(alloc);
@@ -96,6 +100,7 @@ fn a_script_is_answered_by_its_text(rt: HostRuntime) -> Result<(), Fail> {
         (None, 256),
         (None, 1),
     ] {
+        assert!(rt; 1 <= rows && rows <= 1_024);
         let (sink, entries) = replies_by(&rt, alloc, workers, rows)?;
         assert_eq!(rt;
             sink.bytes.as_slice(),

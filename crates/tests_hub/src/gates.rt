@@ -1,6 +1,6 @@
-//! Turns overlap, and clients are answered while a turn is out.
+//! Turns overlap.
 
-use crate::fixture::{declare, register, rows};
+use crate::fixture::{declare, register};
 use hub::{Hub, Seat};
 use reference::Fault;
 use std::alloc::Global;
@@ -8,9 +8,8 @@ use std::sync::Wait;
 use std::sync::atomic::{AtomicBool, Ordering};
 use std::test::Fail;
 use std::thread;
-use std::thread::Threads;
 use std::time::{Clock, Duration};
-use workers::{Gate, Pool, work};
+use workers::{Gate, Pool};
 
 /// How often a gate looks, with a millisecond of sleep each time.
 const LOOKS: u32 = 10_000;
@@ -30,8 +29,6 @@ fn is_raised<R: Clock>(rt: &R, flag: &AtomicBool) -> bool {
 #[derive(Drop)]
 struct Held<'a, R: Clock> {
     rt: &'a R,
-    /// The turn 0 went out.
-    is_out: AtomicBool,
     /// What the turn 0 waits for was done.
     is_done: AtomicBool,
     /// It was not done in time.
@@ -46,7 +43,6 @@ impl<'a, R: Clock> Held<'a, R> {
     fn new(rt: &'a R, for_turn: bool) -> Held<'a, R> {
         Held {
             rt,
-            is_out: AtomicBool::new(false),
             is_done: AtomicBool::new(false),
             is_late: AtomicBool::new(false),
             is_back: AtomicBool::new(false),
@@ -63,7 +59,6 @@ impl<'a, R: Clock> Held<'a, R> {
 impl<'a, R: Clock> Gate for Held<'a, R> {
     fn before(&self, lease: u64) {
         if lease == 0 {
-            self.is_out.store(true, Ordering::SeqCst);
             if !is_raised(self.rt, &self.is_done) {
                 self.is_late.store(true, Ordering::SeqCst);
             }
@@ -98,73 +93,6 @@ fn a_pool_runs_two_turns_at_once(rt: HostRuntime) -> Result<(), Fail> {
     let gate = Held::new(&rt, true);
     assert_eq!(rt; Pool::drain(&rt, rt.alloc(), &hub, &gate, 2, 256), Ok(()));
     assert!(rt; gate.is_kept());
-    Ok(())
-}
-
-// Runs two workers until the hub is ended.
-fn work_by_two<R: Threads + Wait + Sync, G: Gate + Sync>(
-    rt: &R,
-    alloc: Global,
-    hub: &Hub,
-    gate: &G,
-) {
-    thread::join(
-        rt,
-        || work(rt, alloc, hub, gate, 256),
-        || work(rt, alloc, hub, gate, 256),
-    );
-}
-
-#[test]
-fn two_workers_run_two_turns_at_once(rt: HostRuntime) -> Result<(), Fail> {
-    let alloc = rt.alloc();
-    let (hub, _) = two_ready(&rt, alloc)?;
-    let gate = Held::new(&rt, true);
-    let (kept, _) = thread::join(
-        &rt,
-        || {
-            let kept = gate.is_kept();
-            hub.end(&rt);
-            kept
-        },
-        || work_by_two(&rt, alloc, &hub, &gate),
-    );
-    assert!(rt; kept);
-    Ok(())
-}
-
-// Appends once the turn 0 is out, and raises the flag that it waits for.
-fn append_meanwhile<R: Wait + Clock>(
-    rt: &R,
-    alloc: Global,
-    hub: &Hub,
-    mut seats: Vec<Seat>,
-    gate: &Held<'_, R>,
-) -> bool {
-    let is_out = is_raised(rt, &gate.is_out);
-    let mut is_appended = false;
-    if let (Some(mut seat), Ok(rows)) = (seats.pop(), rows(alloc, &[(1, 7)])) {
-        is_appended = hub.append(rt, &mut seat, 0, rows).is_ok();
-    }
-    if is_appended {
-        gate.is_done.store(true, Ordering::SeqCst);
-    }
-    let is_kept = gate.is_kept();
-    hub.end(rt);
-    is_out && is_appended && is_kept
-}
-
-#[test]
-fn a_client_is_answered_while_a_turn_is_out(rt: HostRuntime) -> Result<(), Fail> {
-    let alloc = rt.alloc();
-    let (hub, seats) = two_ready(&rt, alloc)?;
-    let gate = Held::new(&rt, false);
-    let (answered, _) = thread::join(
-        &rt,
-        || append_meanwhile(&rt, alloc, &hub, seats, &gate),
-        || work(&rt, alloc, &hub, &gate, 256),
-    );
-    assert!(rt; answered);
     Ok(())
 }
 

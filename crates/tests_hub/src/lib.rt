@@ -19,7 +19,3 @@ mod scripts;
 mod seats;
 #[cfg(test)]
 mod server;
-#[cfg(test)]
-mod threads;
-#[cfg(test)]
-mod wakes;

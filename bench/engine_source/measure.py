@@ -1,11 +1,13 @@
-"""Measures cqlrun beside plain.rs: bench/engine builds both and says what is compared.
+"""Measures cqlrun beside plain.rs: bench/engine builds all three and says what is compared.
 
-usage: measure.py CQLRUN PLAIN FOLDER [SHARE]
+usage: measure.py CQLRUN PLAIN TESTED FOLDER [SHARE | instructions]
 """
 
 import json
 import os
 import random
+import re
+import subprocess
 import sys
 import time
 
@@ -34,8 +36,9 @@ def declared(streams):
     return [{"op": "stream", "name": name, "columns": ["k", "v"], "from": 0} for name in streams]
 
 
-def script(path, kind, span, instants, stride=STRIDE):
-    """Writes the script of a query, and gives its rows and bytes. An instant has 8 rows of each stream; of a line they come in any order."""
+def script(path, kind, span, instants, stride=STRIDE, rising=False):
+    """Writes the script of a query, and gives how many rows it has. An instant has 8 rows of each
+    stream. The rows of a line come in any order, or by rising instants."""
     draw = random.Random(1)
     streams = ("A", "B") if kind == "join" else ("A",)
     keys = keys_of(kind, span)
@@ -49,7 +52,8 @@ def script(path, kind, span, instants, stride=STRIDE):
                 for at in range(first, last + 1)
                 for _ in range(ROWS)
             ]
-            draw.shuffle(rows)
+            if not rising:
+                draw.shuffle(rows)
             lines.append({"op": "append", "stream": name, "rows": rows})
         lines += [{"op": "heartbeat", "stream": name, "at": last} for name in streams]
         lines += [{"op": "drain"}, {"op": "take", "query": "q", "limit": TAKE}]
@@ -95,6 +99,20 @@ def compare(what, first, second):
             print(f"{what}: THE REPLIES DIFFER in their number", flush=True)
 
 
+def counted(words, script_path, replies, kept):
+    """The instructions of a run, without those that fill memory with noughts, which valgrind counts
+    byte by byte."""
+    with open(script_path) as source, open(replies, "w") as sink:
+        subprocess.run(["valgrind", "--tool=callgrind", f"--callgrind-out-file={kept}", *words],
+                       stdin=source, stdout=sink, stderr=subprocess.DEVNULL, check=True)
+    said = subprocess.run(["callgrind_annotate", "--threshold=100", kept],
+                          stdout=subprocess.PIPE, text=True, check=True).stdout
+    figures = re.findall(r"^ *([\d,]+) .*?(PROGRAM TOTALS|memset\S*)", said, re.M)
+    whole = [int(it.replace(",", "")) for it, what in figures if what == "PROGRAM TOTALS"]
+    noughts = [int(it.replace(",", "")) for it, what in figures if what != "PROGRAM TOTALS"]
+    return whole[0] - sum(noughts)
+
+
 def answers_in(path):
     with open(path) as replies:
         return sum(len(reply.get("rows", ())) for reply in map(json.loads, replies))
@@ -108,27 +126,33 @@ def refuse_faults(path):
 
 
 class Bench:
-    def __init__(self, engine, plain, folder, share):
-        self.engine, self.plain, self.folder, self.share = engine, plain, folder, share
+    def __init__(self, engine, plain, tested, folder, share):
+        self.engine, self.plain, self.tested = engine, plain, tested
+        self.folder, self.share = folder, share
 
     def at(self, name):
         return os.path.join(self.folder, name)
 
-    def spans(self):
-        """Rows a second at each span, and what they are of the hand-written program's."""
-        print(f"{'query':<9} {'span':>6} {'rows':>8} {'answers':>8} {'rows/s':>10} {'by hand':>10} {'share':>6}")
+    def spans(self, rising=False):
+        """Rows a second at each span, and what they are of the hand-written programs'."""
+        print(f"{'query':<9} {'span':>6} {'rows':>8} {'answers':>8} {'rows/s':>10} {'by hand':>10} "
+              f"{'share':>6} {'tested':>10} {'share':>6}{'   rising instants' if rising else ''}")
         for kind in TEXTS:
             rates = []
-            for span in SPANS[:1] if kind == "filter" else SPANS:
+            for span in SPANS[:1] if kind == "filter" else SPANS[1:2] if rising else SPANS:
                 instants = max(STRIDE, int(INSTANTS * self.share))
-                rows = script(self.at("script"), kind, span, instants)
+                rows = script(self.at("script"), kind, span, instants, rising=rising)
                 mine = least([self.engine], self.at("script"), self.at("engine"))
                 hand = least([self.plain, kind, str(span)], self.at("script"), self.at("hand"))
+                tests = least([self.tested, kind, str(span)], self.at("script"), self.at("tests"))
                 refuse_faults(self.at("engine"))
+                compare(f"{kind} {span}, by hand", self.at("hand"), self.at("tests"))
                 compare(f"{kind} {span}, engine and by hand", self.at("engine"), self.at("hand"))
                 answers = answers_in(self.at("engine"))
                 rates.append(rows / mine)
-                print(f"{kind:<9} {span:>6} {rows:>8} {answers:>8} {rows / mine:>10.0f} {rows / hand:>10.0f} {hand / mine:>6.2f}", flush=True)
+                print(f"{kind:<9} {span:>6} {rows:>8} {answers:>8} {rows / mine:>10.0f} "
+                      f"{rows / hand:>10.0f} {hand / mine:>6.2f} {rows / tests:>10.0f} "
+                      f"{tests / mine:>6.2f}", flush=True)
             if len(rates) > 1:
                 print(f"{kind:<9} flat: the quickest span is {max(rates) / min(rates):.2f} times the slowest")
 
@@ -144,6 +168,27 @@ class Bench:
             compare(f"{kind} {span}, engine and definition", self.at("engine"), self.at("definition"))
             compare(f"{kind} {span}, engine and by hand", self.at("engine"), self.at("hand"))
             print(f"{kind:<9} {rows:>8} {rows / mine:>10.0f} {rows / plain:>10.0f} {plain / mine:>8.2f}", flush=True)
+
+    def instructions(self):
+        """Instructions a row at span 100, by the difference of two runs."""
+        few, more = 640, 6_400
+        print(f"{'query':<9} {'lines':>10} {'engine':>8} {'by hand':>8} {'share':>6} "
+              f"{'tested':>8} {'share':>6}   instructions a row, span 100")
+        for kind in TEXTS:
+            for how, stride, rising in (("shuffled", STRIDE, False), ("rising", STRIDE, True),
+                                        ("instants", 1, True)):
+                figures, scale = [], 1 if stride > 1 else 4
+                for words in ([self.engine], [self.plain, kind, "100"], [self.tested, kind, "100"]):
+                    said = []
+                    for instants in (few // scale, more // scale):
+                        rows = script(self.at("script"), kind, 100, instants, stride, rising)
+                        count = counted(words, self.at("script"), self.at("replies"), self.at("kept"))
+                        said.append((rows, count))
+                    (rows, count), (rows_more, count_more) = said
+                    figures.append((count_more - count) / (rows_more - rows))
+                mine, hand, tests = figures
+                print(f"{kind:<9} {how:>10} {mine:>8.0f} {hand:>8.0f} {hand / mine:>6.2f} "
+                      f"{tests:>8.0f} {tests / mine:>6.2f}", flush=True)
 
     def reading(self):
         """What the lines alone cost, with no query."""
@@ -231,13 +276,17 @@ class Bench:
 
 
 def main():
-    engine, plain, folder = sys.argv[1:4]
-    share = float(sys.argv[4]) if len(sys.argv) > 4 else 1.0
-    bench = Bench(engine, plain, folder, share)
+    engine, plain, tested, folder = sys.argv[1:5]
+    words = sys.argv[5:]
+    if words == ["instructions"]:
+        Bench(engine, plain, tested, folder, 1.0).instructions()
+        return
+    bench = Bench(engine, plain, tested, folder, float(words[0]) if words else 1.0)
     start = time.perf_counter()
     bench.small()
     print()
     bench.spans()
+    bench.spans(rising=True)
     bench.reading()
     bench.instant_by_instant()
     bench.many()

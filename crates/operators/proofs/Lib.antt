@@ -1,2 +1,4 @@
 pub mod InboxLemmas
 pub mod KindLemmas
+pub mod LatestLemmas
+pub mod InPlaceLemmas

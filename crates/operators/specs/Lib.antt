@@ -1,3 +1,5 @@
 pub mod States
 pub mod Inboxes
 pub mod Operators
+pub mod Runs
+pub mod InPlace

@@ -1,9 +1,11 @@
 //! What waits for operators.
-ghost use Rattle.std.specs.Prelude.{◌≡◌, ◌<◌, ◌≤◌, ◌++◌, [], true, length, drop, IfOk, OnOk};
+ghost use Rattle.std.specs.Prelude.{◌≡◌, ◌<◌, ◌≤◌, ◌++◌, [], true, length, drop, IfOk, OnErr};
+ghost use Rattle.std.specs.Prelude.{OnOk};
 ghost use Rattle.op_queue.specs.Entries.{IsForward};
 ghost use Rattle.op_queue.specs.Items.{IsFrontPart, entries_of, front_of};
-ghost use Rattle.operators.specs.Inboxes.{IsInboxWithin, ReadsOn, all_begins, all_entries};
-ghost use Rattle.operators.specs.Inboxes.{begins_in, cut_of, entries_in, is_fed, queued};
+ghost use Rattle.operators.specs.Inboxes.{IsDropped, IsInboxWithin, ReadsOn, all_begins};
+ghost use Rattle.operators.specs.Inboxes.{all_entries, begins_in, cut_of, entries_in, is_fed};
+ghost use Rattle.operators.specs.Inboxes.{queued};
 
 use op_queue::{Cursor, Front, Item, Log, Queue};
 use std::alloc::{AllocError, Global};
@@ -42,6 +44,24 @@ impl Inbox {
         match self {
             Inbox::First(cursor) => cursor.front_cut(alloc, log, rows),
             Inbox::Between(queue) => queue.front_cut(alloc, rows),
+        }
+    }
+
+    /// The front leaves: a tick, or at most `rows` of the rows that stand there together. A batch
+    /// that leaves a queue whole is moved. An error says that memory was refused; nothing is changed.
+    pub fn take(&mut self, alloc: Global, log: &Log, rows: usize) -> Result<Item, AllocError>
+        requires waits { 0 < length (entries_in self.old log.now) }
+        requires some { 0 < rows }
+        requires within { IsInboxWithin self.old log.now }
+        ensures part { IfOk result (IsFrontPart rows (entries_in self.old log.now)) }
+        ensures value { IfOk result (λ item. entries_of item ≡ cut_of rows self.old log.now) }
+        ensures dropped { IfOk result (λ item.
+            IsDropped (length (entries_of item)) log.now self.old self.new) }
+        ensures err { OnErr result (self.new ≡ self.old) }
+    {
+        match self {
+            Inbox::First(cursor) => cursor.take(alloc, log, rows),
+            Inbox::Between(queue) => queue.take(alloc, rows),
         }
     }
 

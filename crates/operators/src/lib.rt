@@ -7,10 +7,13 @@
 //! operator above is fed.
 #![tactic(auto)]
 
+mod in_place;
 mod inboxes;
 mod running;
+mod runs;
 mod states;
 
 pub use inboxes::Inbox;
 pub use running::Operator;
+pub use runs::Refused;
 pub use states::State;

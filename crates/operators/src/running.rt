@@ -1,15 +1,21 @@
 //! The operators of a running query.
-ghost use Rattle.std.specs.Prelude.{◌≡◌, ◌<◌, ◌≤◌, ◌++◌, [], true, length, IfOk, OnOk};
+ghost use Rattle.std.specs.Prelude.{◌≡◌, ◌<◌, ◌≤◌, ◌++◌, [], true, length, IfOk, OnErr};
+ghost use Rattle.std.specs.Prelude.{OnOk};
 ghost use Rattle.std.specs.Arc.{arc_value};
 ghost use Rattle.op_queue.specs.Entries.{IsForward};
 ghost use Rattle.op_queue.specs.Items.{IsFrontPart, entries_of};
+ghost use Rattle.to_stream.specs.Turns.{answers_of};
 ghost use Rattle.turn.specs.Turns.{FitsKind};
+ghost use Rattle.operators.specs.InPlace.{HasTaken, IsAfterItem, KeepsInboxes, MayAnswer};
+ghost use Rattle.operators.specs.InPlace.{MayTake, after_answers, answers_from, outs_from};
 ghost use Rattle.operators.specs.Inboxes.{IsDropped, IsInboxWithin, all_entries, cut_of};
 ghost use Rattle.operators.specs.Inboxes.{entries_in, is_fed, queued};
 ghost use Rattle.operators.specs.Operators.{Belongs, HasNamedColumns, IsFed, IsFinished};
 ghost use Rattle.operators.specs.Operators.{KeepsBatches, front_instant, inbox_of, other, ready};
 ghost use Rattle.operators.specs.Operators.{ready_at, waiting};
-ghost use Rattle.operators.specs.States.{HasColumns, IsNext, Takes, near_of, usable};
+ghost use Rattle.operators.specs.Runs.{HasPutTo, MayPut, is_root};
+ghost use Rattle.operators.specs.States.{FitsState, HasColumns, IsNext, Takes, near_of};
+ghost use Rattle.operators.specs.States.{usable};
 ghost use Rattle.operators.specs.declared.inboxes.Inbox.TheVariants.{Between};
 
 use crate::inboxes::Inbox;
@@ -17,9 +23,11 @@ use crate::states::State;
 use column::Side;
 use op_queue::{Front, Item, Log, Queue};
 use std::alloc::{AllocError, Global};
+use std::collections::VecDeque;
 use std::marker::Model;
 use std::sync::Arc;
 use turn::{Change, Kind, Near};
+use values::Row;
 
 /// An operator of a running query: what it does, what it holds, and what waits for it.
 ///
@@ -73,6 +81,13 @@ impl Operator {
         ensures { IfOk result (λ kind. arc_value kind ≡ self.now.kind) }
     {
         Arc::try_clone(&self.kind)
+    }
+
+    /// Whether it is the root of its query, which gives answers.
+    pub fn is_root(&self) -> bool
+        ensures { result ≡ is_root self.now.kind }
+    {
+        matches!(&*self.kind, Kind::ToStream)
     }
 
     /// Whether the side can be used now, if anything waits there.
@@ -159,6 +174,73 @@ impl Operator {
         ensures { result ≡ length (waiting self.now log.now side) }
     {
         self.inbox(side).len(log)
+    }
+
+    /// The front of a side leaves. An error says that memory was refused; nothing is changed.
+    pub(crate) fn take(
+        &mut self,
+        alloc: Global,
+        log: &Log,
+        side: Side,
+        rows: usize,
+    ) -> Result<Item, AllocError>
+        requires waits { 0 < length (waiting self.old log.now side) }
+        requires some { 0 < rows }
+        requires within { IsInboxWithin (inbox_of self.old side) log.now }
+        ensures taken { IfOk result (λ item. HasTaken self.old log.now side rows item self.new) }
+        ensures err { OnErr result (self.new ≡ self.old) }
+    {
+        match side {
+            Side::Left => self.left.take(alloc, log, rows),
+            Side::Right => self.right.take(alloc, log, rows),
+        }
+    }
+
+    /// Takes an item that has left its queue. What the turn puts out comes to the back of the side
+    /// of the operator above. Where memory is refused both can only be dropped.
+    pub(crate) fn run_item(
+        &mut self,
+        alloc: Global,
+        side: Side,
+        item: Item,
+        to: &mut Operator,
+        to_side: Side,
+    ) -> Result<(), AllocError>
+        requires may { MayTake self.old.kind self.old.state side item }
+        requires puts { MayPut (outs_from self.old.kind self.old.state side item) to.old to_side }
+        ensures keeps { KeepsInboxes self.old self.new }
+        ensures next { OnOk result (IsAfterItem self.old.state side item self.new.state) }
+        ensures put { OnOk result
+            (HasPutTo (outs_from self.old.kind self.old.state side item) to.old to_side to.new) }
+        ensures fits { FitsState self.old.state item (near_of self.old.state side item) }
+    {
+        match to_side {
+            Side::Left => self
+                .state
+                .run_into(alloc, &self.kind, side, item, &mut to.left),
+            Side::Right => self
+                .state
+                .run_into(alloc, &self.kind, side, item, &mut to.right),
+        }
+    }
+
+    /// Takes an item that has left its queue, at a root. What the turn answers goes behind the
+    /// answers that wait; these are as they were after an error, and the operator can only be
+    /// dropped then.
+    pub(crate) fn answer_item(
+        &mut self,
+        item: &Item,
+        answers: &mut VecDeque<(u64, Row)>,
+    ) -> Result<(), AllocError>
+        requires { MayAnswer self.old.state item.now }
+        ensures keeps { KeepsInboxes self.old self.new }
+        ensures next { OnOk result (self.new.state ≡ after_answers self.old.state item.now) }
+        ensures given { OnOk result (answers_of answers.new.items
+            ≡ answers_of answers.old.items ++ answers_from self.old.state item.now) }
+        ensures answers { OnErr result
+            (answers_of answers.new.items ≡ answers_of answers.old.items) }
+    {
+        self.state.answer(item, answers)
     }
 
     fn inbox(&self, side: Side) -> &Inbox

@@ -8,12 +8,12 @@ use Rattle.std.proofs.lemmas.List.{get_or-drop, length-map}
 use Rattle.std.proofs.lemmas.List.Sorted.{IsNonDecreasingBy-push}
 use Rattle.std.proofs.lemmas.List.Sums.{length-filter, count_by-le-length}
 use Rattle.values.specs.Row.{Row}
-use Rattle.std.proofs.lemmas.List.Elements.{All-append, All-drop, All-filter, All-head, All-map, All-tail, All-push}
+use Rattle.std.proofs.lemmas.List.Elements.{All-append, All-drop, All-filter, All-head, All-map, All-nil, All-tail, All-push}
 use Rattle.op_queue.specs.Items.{item_instant}
 use Rattle.op_queue.specs.declared.item.Item.{Item}
 use Rattle.op_queue.specs.declared.item.Item.TheVariants.{Rows, Tick}
 use Rattle.windows.specs.Range.{RangeState, is_past, held_at, leaving, near, next, change, IsAfter, IsRange}
-use Rattle.windows.specs.Widths.{AreWide, IsItemWide}
+use Rattle.windows.specs.Widths.{AreWide, HaveOneWidthAll, IsItemWide}
 use Rattle.column.specs.Rows.{IsTable, width}
 
 abbrev pub is_below : ℕ → ℕ × Row → Bool
@@ -145,6 +145,14 @@ near_wide w v p held rows e is r =
     let f : ℕ × Row → Row = λ h. h.1 in
     let Q : ℕ → Type 0 = λ n. AreWide n rows in
     subst Q e (subst P (sym is) (All-map (λ r. length r ≡ w) f (filter p held) (All-filter p (IsWide w) held r.wide)))
+
+-- what leaves at an item has one width
+pub near_fits : (s : RangeState) (item : Item) (w : ℕ) (held : List (ℕ × Row)) → held ≡ s.held → IsRange w held → HaveOneWidthAll (near s item)
+near_fits s (Rows t b) w held is r = (w, All-nil (λ (x : Row). length x ≡ w))
+near_fits s (Tick t) w held is r =
+    let f : ℕ × Row → Row = λ h. h.1 in
+    let P : List (ℕ × Row) → Type 0 = λ hs. AreWide w (map f (filter (is_past s.span t) hs)) in
+    (w, subst P is (near_wide w w (is_past s.span t) held (map f (filter (is_past s.span t) held)) refl refl r))
 
 pub leaving_wide : (w : ℕ) (rows : List Row) (ss : List (Bool × Row)) → ss ≡ map leaving rows → AreWide w rows → All (λ r. length r.1 ≡ w) ss
 leaving_wide w rows ss e wide =

@@ -1,0 +1,153 @@
+-- Runs of a state in place, with an item in hand and the queue above.
+use Rattle.std.specs.Prelude.{ℕ, ◌≡◌, true, List, [], ◌++◌, length}
+use Rattle.values.specs.Row.{Row}
+use Rattle.column.specs.declared.batch.Side.{Side}
+use Rattle.op_queue.specs.Entries.{Entry, IsForward}
+use Rattle.op_queue.specs.Items.{IsFrontPart, entries_of, item_instant}
+use Rattle.op_queue.specs.Logs.{Closed}
+use Rattle.op_queue.specs.Queues.{HasGained, Waiting}
+use Rattle.op_queue.specs.declared.item.Item.{Item}
+use Rattle.group.specs.Turns as groups
+use Rattle.group.specs.Turns.{RoomFor}
+use Rattle.join.specs.Turns as join
+use Rattle.join.specs.Turns.{JoinState, side_of}
+use Rattle.row_nodes.specs.Project.{projected}
+use Rattle.row_nodes.specs.Select.{selected}
+use Rattle.to_stream.specs.Turns as root
+use Rattle.windows.specs.Latest as latest
+use Rattle.windows.specs.Range as range
+use Rattle.windows.specs.Range.{IsAfter, RangeState}
+use Rattle.windows.specs.Widths.{IsItemWide}
+use Rattle.turn.specs.Turns.{Answered, Outs, Put}
+use Rattle.turn.specs.declared.kinds.Kind.{Kind}
+use Rattle.turn.specs.declared.kinds.Kind.TheVariants as kind
+use Rattle.operators.specs.Inboxes.{IsDropped, all_begins, all_entries, begins_in, cut_of, is_fed, queued}
+use Rattle.operators.specs.Operators.{HasNamedColumns, PlainOperator, inbox_of, other, waiting}
+use Rattle.operators.specs.States.{IsLatestAfter, range_after}
+use Rattle.operators.specs.declared.inboxes.Inbox.{Inbox}
+use Rattle.operators.specs.declared.states.State.{State}
+use Rattle.operators.specs.declared.states.State.TheVariants.{Range, Latest, Nothing, Join, Groups, Root}
+
+-- WHAT A TURN OF A STATE IS; the kind says no more than what Select and Project do
+abbrev pub IsRowNode : Kind → Type 0
+IsRowNode kind.RangeWindow = ⊥
+IsRowNode kind.LatestWindow = ⊥
+IsRowNode (kind.Select steps) = Unit {0}
+IsRowNode (kind.Project columns) = Unit {0}
+IsRowNode kind.Join = ⊥
+IsRowNode (kind.Group g) = ⊥
+IsRowNode kind.ToStream = ⊥
+
+abbrev pub row_outs : Kind → Item → List (Entry Row)
+row_outs kind.RangeWindow i = []
+row_outs kind.LatestWindow i = []
+row_outs (kind.Select steps) i = selected steps i
+row_outs (kind.Project columns) i = projected columns i
+row_outs kind.Join i = []
+row_outs (kind.Group g) i = []
+row_outs kind.ToStream i = []
+
+pub record MayTakeRange (s : RangeState) (i : Item) : Type 0 where
+  pub after : IsAfter (item_instant i) s.held
+  pub wide : IsItemWide s.width i
+
+pub record MayTakeRows (k : Kind) (i : Item) : Type 0 where
+  pub row_node : IsRowNode k
+  pub named : HasNamedColumns k i
+
+pub record MayTakeSide (s : JoinState) (side : Side) (i : Item) : Type 0 where
+  pub wide : join.IsItemWide (side_of s side).width i
+  pub room : join.HasRoom (side_of s side) i
+
+abbrev pub MayTake : Kind → State → Side → Item → Type 0
+MayTake k (Range s) side i = MayTakeRange s i
+MayTake k (Latest s) side i = IsItemWide s.width i
+MayTake k Nothing side i = MayTakeRows k i
+MayTake k (Join s) side i = MayTakeSide s side i
+MayTake k (Groups s) side i = RoomFor s i
+MayTake k (Root s) side i = root.HasRoom s i
+
+abbrev pub outs_from : Kind → State → Side → Item → Outs
+outs_from k (Range s) side i = Put (range.out i (range.near s i))
+outs_from k (Latest s) side i = Put (latest.out i (latest.near s i))
+outs_from k Nothing side i = Put (row_outs k i)
+outs_from k (Join s) side i = Put (join.out side i (join.near s side i))
+outs_from k (Groups s) side i = Put (groups.out s.group i (groups.near s i))
+outs_from k (Root s) side i = Answered (root.out i (root.near s i))
+
+abbrev pub IsAfterItem : State → Side → Item → State → Type 0
+IsAfterItem (Range s) side i new = new ≡ Range (range_after s i)
+IsAfterItem (Latest s) side i new = IsLatestAfter s i new
+IsAfterItem Nothing side i new = new ≡ Nothing
+IsAfterItem (Join s) side i new = new ≡ Join (join.next s side i)
+IsAfterItem (Groups s) side i new = new ≡ Groups (groups.next s i (groups.change s.group i (groups.near s i)))
+IsAfterItem (Root s) side i new = new ≡ Root (root.next s i)
+
+-- of a root: it takes the item, what it answers, and the state after it
+abbrev pub MayAnswer : State → Item → Type 0
+MayAnswer (Range s) i = ⊥
+MayAnswer (Latest s) i = ⊥
+MayAnswer Nothing i = ⊥
+MayAnswer (Join s) i = ⊥
+MayAnswer (Groups s) i = ⊥
+MayAnswer (Root s) i = root.HasRoom s i
+
+abbrev pub answers_from : State → Item → List (ℕ × Row)
+answers_from (Range s) i = []
+answers_from (Latest s) i = []
+answers_from Nothing i = []
+answers_from (Join s) i = []
+answers_from (Groups s) i = []
+answers_from (Root s) i = root.out i (root.near s i)
+
+abbrev pub after_answers : State → Item → State
+after_answers (Range s) i = Range s
+after_answers (Latest s) i = Latest s
+after_answers Nothing i = Nothing
+after_answers (Join s) i = Join s
+after_answers (Groups s) i = Groups s
+after_answers (Root s) i = Root (root.next s i)
+
+-- of the queue above: what is put out may come to its back
+abbrev pub MayQueue : Outs → Waiting → Type 0
+MayQueue (Put es) q = IsForward (q.entries ++ es)
+MayQueue (Answered given) q = ⊥
+
+abbrev pub HasQueued : Outs → Waiting → Waiting → Type 0
+HasQueued (Put es) old new = HasGained es old new
+HasQueued (Answered given) old new = ⊥
+
+-- the same of a side's input
+pub record MayCome (es : List (Entry Row)) (old : Inbox) : Type 0 where
+  pub fed : is_fed old ≡ true
+  pub forward : IsForward (queued old ++ es)
+
+abbrev pub MayComeAll : Outs → Inbox → Type 0
+MayComeAll (Put es) old = MayCome es old
+MayComeAll (Answered given) old = ⊥
+
+pub record HasCome (es : List (Entry Row)) (old new : Inbox) : Type 0 where
+  pub queued : queued new ≡ queued old ++ es
+  pub fed : is_fed new ≡ is_fed old
+  pub items : List Item
+  pub stand : all_entries items ≡ es
+  pub begins : begins_in new ≡ begins_in old ++ all_begins items
+
+abbrev pub HaveCome : Outs → Inbox → Inbox → Type 0
+HaveCome (Put es) old new = HasCome es old new
+HaveCome (Answered given) old new = ⊥
+
+-- THE FRONT HAS LEFT: the item came out at once of the side, and all else is as it was
+pub record HasTaken (o : PlainOperator) (log : Closed) (side : Side) (rows : ℕ) (i : Item) (new : PlainOperator) : Type 0 where
+  pub part : IsFrontPart rows (waiting o log side) i
+  pub cut : entries_of i ≡ cut_of rows (inbox_of o side) log
+  pub kind : new.kind ≡ o.kind
+  pub state : new.state ≡ o.state
+  pub dropped : IsDropped (length (entries_of i)) log (inbox_of o side) (inbox_of new side)
+  pub other : inbox_of new (other side) ≡ inbox_of o (other side)
+
+-- THE STATE HAS CHANGED, and all else of the operator is as it was
+pub record KeepsInboxes (old new : PlainOperator) : Type 0 where
+  pub kind : new.kind ≡ old.kind
+  pub left : new.left ≡ old.left
+  pub right : new.right ≡ old.right

@@ -1,0 +1,166 @@
+//! Turns that states run in place.
+ghost use Rattle.std.specs.Prelude.{◌≡◌, ◌++◌, OnErr, OnOk};
+ghost use Rattle.op_queue.specs.Entries.{IsForward};
+ghost use Rattle.op_queue.specs.Queues.{HasGained};
+ghost use Rattle.to_stream.specs.Turns as roots;
+ghost use Rattle.to_stream.specs.Turns.{answers_of};
+ghost use Rattle.turn.specs.Turns.{FitsRange, FitsLatest};
+ghost use Rattle.turn.specs.declared.excerpts.Near.TheVariants as nears;
+ghost use Rattle.operators.specs.InPlace.{HasQueued, HaveCome, IsAfterItem, MayAnswer};
+ghost use Rattle.operators.specs.InPlace.{MayComeAll, MayQueue, MayTake, MayTakeRange};
+ghost use Rattle.operators.specs.InPlace.{MayTakeRows, after_answers, answers_from, outs_from};
+ghost use Rattle.operators.specs.InPlace.{row_outs};
+ghost use Rattle.operators.specs.States.{FitsState, LatestAfter, near_of, range_after};
+ghost use Rattle.windows.specs.Latest as latest;
+ghost use Rattle.windows.specs.Range as ranges;
+ghost use Rattle.windows.specs.Widths.{IsItemWide};
+
+use crate::inboxes::Inbox;
+use crate::states::State;
+use column::Side;
+use op_queue::{Item, Queue};
+use row_nodes::{run_project, run_select};
+use std::alloc::{AllocError, Global};
+use std::collections::VecDeque;
+use to_stream::ToStream;
+use turn::Kind;
+use values::Row;
+use windows::{LatestWindow, RangeWindow};
+
+impl State {
+    /// Takes an item, which has left its queue. What the turn puts out comes to the back of the
+    /// inbox. Where memory is refused both can only be dropped.
+    pub(crate) fn run_into(
+        &mut self,
+        alloc: Global,
+        kind: &Kind,
+        side: Side,
+        item: Item,
+        inbox: &mut Inbox,
+    ) -> Result<(), AllocError>
+        requires may { MayTake kind.now self.old side item }
+        requires come { MayComeAll (outs_from kind.now self.old side item) inbox.old }
+        ensures next { OnOk result (IsAfterItem self.old side item self.new) }
+        ensures come { OnOk result
+            (HaveCome (outs_from kind.now self.old side item) inbox.old inbox.new) }
+        ensures fits { FitsState self.old item (near_of self.old side item) }
+    {
+        match inbox {
+            Inbox::First(_) => unreachable!(),
+            Inbox::Between(queue) => self.run(alloc, kind, side, item, queue),
+        }
+    }
+
+    /// The same with the queue of the inbox.
+    fn run(
+        &mut self,
+        alloc: Global,
+        kind: &Kind,
+        side: Side,
+        item: Item,
+        queue: &mut Queue,
+    ) -> Result<(), AllocError>
+        requires may { MayTake kind.now self.old side item }
+        requires queue { MayQueue (outs_from kind.now self.old side item) queue.old }
+        ensures next { OnOk result (IsAfterItem self.old side item self.new) }
+        ensures queue { OnOk result
+            (HasQueued (outs_from kind.now self.old side item) queue.old queue.new) }
+        ensures fits { FitsState self.old item (near_of self.old side item) }
+    {
+        match self {
+            State::Range(window) => run_range(alloc, window, item, queue),
+            State::Latest(window) => run_latest(alloc, window, item, queue),
+            State::Nothing => run_rows(alloc, kind, item, queue),
+            State::Join(join) => join.run(alloc, side, item, queue),
+            State::Groups(groups) => groups.run(alloc, item, queue),
+            State::Root(_) => unreachable!(),
+        }
+    }
+
+    /// Takes an item at a root. What the turn answers goes behind the answers that wait; these are
+    /// as they were after an error, and the state can only be dropped then.
+    pub(crate) fn answer(
+        &mut self,
+        item: &Item,
+        answers: &mut VecDeque<(u64, Row)>,
+    ) -> Result<(), AllocError>
+        requires { MayAnswer self.old item.now }
+        ensures next { OnOk result (self.new ≡ after_answers self.old item.now) }
+        ensures given { OnOk result (answers_of answers.new.items
+            ≡ answers_of answers.old.items ++ answers_from self.old item.now) }
+        ensures answers { OnErr result
+            (answers_of answers.new.items ≡ answers_of answers.old.items) }
+    {
+        match self {
+            State::Root(root) => run_root(root, item, answers),
+            _ => unreachable!(),
+        }
+    }
+}
+
+fn run_root(
+    root: &mut ToStream,
+    item: &Item,
+    answers: &mut VecDeque<(u64, Row)>,
+) -> Result<(), AllocError>
+    requires { roots.HasRoom root.old item.now }
+    ensures next { OnOk result (root.new ≡ roots.next root.old item.now) }
+    ensures given { OnOk result (answers_of answers.new.items
+        ≡ answers_of answers.old.items ++ roots.out item.now (roots.near root.old item.now)) }
+    ensures answers { OnErr result
+        (answers_of answers.new.items ≡ answers_of answers.old.items) }
+{
+    root.run(item, answers)
+}
+
+fn run_range(
+    alloc: Global,
+    window: &mut RangeWindow,
+    item: Item,
+    queue: &mut Queue,
+) -> Result<(), AllocError>
+    requires may { MayTakeRange window.old item }
+    requires forward { IsForward (queue.old.entries
+        ++ ranges.out item (ranges.near window.old item)) }
+    ensures next { OnOk result (window.new ≡ range_after window.old item) }
+    ensures gained { OnOk result
+        (HasGained (ranges.out item (ranges.near window.old item)) queue.old queue.new) }
+    ensures fits { FitsRange (nears.Leaving (ranges.near window.old item)) }
+{
+    window.run(alloc, item, queue)
+}
+
+fn run_latest(
+    alloc: Global,
+    window: &mut LatestWindow,
+    item: Item,
+    queue: &mut Queue,
+) -> Result<(), AllocError>
+    requires wide { IsItemWide window.old.width item }
+    requires forward { IsForward (queue.old.entries
+        ++ latest.out item (latest.near window.old item)) }
+    ensures next { OnOk result (LatestAfter window.old item window.new) }
+    ensures gained { OnOk result
+        (HasGained (latest.out item (latest.near window.old item)) queue.old queue.new) }
+    ensures fits { FitsLatest item (nears.Fallen (latest.near window.old item)) }
+{
+    window.run(alloc, item, queue)
+}
+
+/// Select or Project, which hold nothing.
+fn run_rows(
+    alloc: Global,
+    kind: &Kind,
+    item: Item,
+    queue: &mut Queue,
+) -> Result<(), AllocError>
+    requires may { MayTakeRows kind.now item }
+    requires forward { IsForward (queue.old.entries ++ row_outs kind.now item) }
+    ensures { OnOk result (HasGained (row_outs kind.now item) queue.old queue.new) }
+{
+    match kind {
+        Kind::Select(steps) => run_select(alloc, &steps.steps, item, queue),
+        Kind::Project(columns) => run_project(alloc, columns.columns(), item, queue),
+        _ => unreachable!(),
+    }
+}

@@ -70,6 +70,22 @@ impl RowList {
         Ok(())
     }
 
+    /// Becomes the rows after what left and entered, and hands out a copy of them. An error says
+    /// that memory was refused; the list is as it was.
+    pub fn renew_and_list(
+        &mut self,
+        alloc: Global,
+        delta: &Delta,
+    ) -> Result<Vec<Row>, AllocError>
+        ensures rows { IfOk result (λ rows. rows_of rows.items ≡ renewed self.old delta.now) }
+        ensures ok { OnOk result (self.new ≡ renewed self.old delta.now) }
+        ensures err { OnErr result (self.new ≡ self.old) }
+    {
+        let rows = self.renewed(alloc, delta)?;
+        *self = list_of(alloc, &rows)?;
+        Ok(rows)
+    }
+
     /// The rows without those that left, and with those that entered: one walk over the three
     /// lists.
     fn merged(&self, alloc: Global, left: &[Row], entered: &[Row]) -> Result<Vec<Row>, AllocError>
@@ -124,7 +140,7 @@ fn width_of(row: &Row) -> u8
     row.len() as u8
 }
 
-fn row_of(values: &[Value]) -> Row
+pub(crate) fn row_of(values: &[Value]) -> Row
     requires { length values.now ≤ MAX_COLUMNS }
     ensures { result.items ≡ values.now }
 {

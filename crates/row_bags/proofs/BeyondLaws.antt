@@ -1,5 +1,5 @@
 -- Of two bags in order, one walk gives their difference in order.
-use Rattle.std.proofs.Common.{◌≡◌, Bool, true, false, cond, List, [], ◌∷◌, ◌++◌, drop, refl, ap, sym, subst, ◌∙◌}
+use Rattle.std.proofs.Common.{◌≡◌, Bool, true, false, cond, List, [], ◌∷◌, drop, refl, ap, sym, subst, ◌∙◌}
 use Rattle.std.specs.declared.cmp.Ordering.{Ordering}
 use Rattle.std.specs.declared.cmp.Ordering.TheVariants.{Less, Equal, Greater}
 use Rattle.std.specs.Ordering.{is_eq, is_gt, ordering_reverse}
@@ -10,7 +10,7 @@ use Rattle.values.proofs.Order.{row_order}
 use Rattle.row_bags.specs.Lists.{is_first, not_below, beyond}
 use Rattle.row_bags.proofs.SpreadLemmas.{by_bool}
 use Rattle.row_bags.proofs.OrderLemmas.{without-in_order}
-use Rattle.row_bags.proofs.ListLaws.{above_not, not_above_trans, below_both, above_both, above_differs}
+use Rattle.row_bags.proofs.ListLaws.{above_not, not_above_trans, below_both, above_differs}
 
 tied : (o : Ordering) → is_gt o ≡ false → is_gt (ordering_reverse o) ≡ false → is_eq o ≡ true
 tied Less h k = cc
@@ -156,14 +156,14 @@ beyond-put y (x ∷ xs) ys r =
         let ws : List Row = not_below x ys in
         ap (step xs) (not_below-more x y ys t)
         ∙ by_bool (is_first x ws)
-          (λ u. let k = first-put x y ws t u in
-            ap (λ (b : Bool). cond b (beyond xs (drop 1 (put y ws))) (x ∷ beyond xs (put y ws))) k.0
-            ∙ ap (beyond xs) k.1
-            ∙ fewer (drop 1 ws)
-            ∙ ap (λ (b : Bool). cond b (beyond (without row_cmp y xs) (drop 1 ws)) (x ∷ beyond (without row_cmp y xs) ws)) (sym u))
-          (λ u. ap (λ (b : Bool). cond b (beyond xs (drop 1 (put y ws))) (x ∷ beyond xs (put y ws))) (not_first-put x y ws t u)
-            ∙ ap (λ (zs : List Row). x ∷ zs) (fewer ws)
-            ∙ ap (λ (b : Bool). cond b (beyond (without row_cmp y xs) (drop 1 ws)) (x ∷ beyond (without row_cmp y xs) ws)) (sym u))
+        (λ u. let k = first-put x y ws t u in
+        ap (λ (b : Bool). cond b (beyond xs (drop 1 (put y ws))) (x ∷ beyond xs (put y ws))) k.0
+        ∙ ap (beyond xs) k.1
+        ∙ fewer (drop 1 ws)
+        ∙ ap (λ (b : Bool). cond b (beyond (without row_cmp y xs) (drop 1 ws)) (x ∷ beyond (without row_cmp y xs) ws)) (sym u))
+        (λ u. ap (λ (b : Bool). cond b (beyond xs (drop 1 (put y ws))) (x ∷ beyond xs (put y ws))) (not_first-put x y ws t u)
+        ∙ ap (λ (zs : List Row). x ∷ zs) (fewer ws)
+        ∙ ap (λ (b : Bool). cond b (beyond (without row_cmp y xs) (drop 1 ws)) (x ∷ beyond (without row_cmp y xs) ws)) (sym u))
         ∙ ap (λ (b : Bool). beyond (cond b xs (x ∷ without row_cmp y xs)) ys) (sym (other t))
 
 beyond-none : (xs : List Row) → beyond xs [] ≡ xs

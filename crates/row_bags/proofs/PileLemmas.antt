@@ -1,14 +1,11 @@
 -- Rows as they came: one row more, the two piles in order, and a walk over them.
-use Rattle.std.proofs.Common.{◌≡◌, ℕ, ℤ, suc, ◌+◌, ◌<◌, ◌≤◌, Bool, true, false, cond, Option, List, [], ◌∷◌, ◌++◌, map, length, take, drop, get_or, refl, ap, ap₂, sym, ◌∙◌, arith, append_assoc}
+use Rattle.std.proofs.Common.{◌≡◌, ℕ, suc, ◌+◌, ◌<◌, Bool, true, false, cond, not, List, [], ◌∷◌, ◌++◌, map, length, drop, get_or, refl, ap, ap₂, sym, ◌∙◌, arith, append_assoc}
 use Rattle.std.proofs.Math.Seq.{drop-cons}
 use Rattle.std.proofs.lemmas.List.{drop-drop, map-append}
-use Rattle.arrayvec.specs.ArrayVec.{ArrayVec}
 use Rattle.values.specs.Row.{Row, row_cmp}
-use Rattle.values.specs.Bag.{is_above, bag_minus, in_order}
+use Rattle.values.specs.Bag.{is_above, in_order}
 use Rattle.values.proofs.Order.{row_order}
-use Rattle.op_queue.proofs.SignedLemmas.{Same-refl}
-use Rattle.row_bags.specs.Bags.{rows_of}
-use Rattle.row_bags.specs.Deltas.{PlainDelta, delta_of, delta_between, delta_after}
+use Rattle.row_bags.specs.Deltas.{delta_of, delta_between, delta_after}
 use Rattle.row_bags.specs.Lists.{is_first, not_below, beyond}
 use Rattle.row_bags.specs.Piles.{dated}
 use Rattle.row_bags.proofs.DeltaLaws.{by_counts, cancels, delta-entered, both}
@@ -76,3 +73,12 @@ dated-behind at olds news row rest n =
     ap (λ (es : List (ℕ × Array)). dated es ++ map (λ r. (at, r)) rest) n
     ∙ ap (λ (es : List (ℕ × Row)). es ++ map (λ r. (at, r)) rest) (map-append (λ (e : ℕ × Array). (e.0, e.1.items)) olds ((at, row) ∷ []))
     ∙ append_assoc (dated olds) ((at, row.items) ∷ []) (map (λ r. (at, r)) rest)
+
+-- the sign of a row, by whether it leaves
+pub leaving : (b : Bool) → not b ≡ true → b ≡ false
+leaving true h = cc
+leaving false h = refl
+
+pub entering : (b : Bool) → not b ≡ false → b ≡ true
+entering true h = refl
+entering false h = cc

@@ -1,6 +1,6 @@
 //! What entered and what left.
 ghost use Rattle.std.specs.Prelude.{◌≡◌, ◌≤◌, ◌+◌, ◌^◌, ◌<◌, ◌++◌, ◌∷◌, [], length, map};
-ghost use Rattle.std.specs.Prelude.{IfOk, OnOk, OnErr};
+ghost use Rattle.std.specs.Prelude.{slice_index_or, true, IfOk, OnOk, OnErr};
 ghost use Rattle.column.specs.Rows.{signed};
 ghost use Rattle.values.specs.Row.{row_cmp};
 ghost use Rattle.values.specs.Bag.{bag_minus, in_order};
@@ -67,6 +67,19 @@ impl Delta {
         Ok(rows)
     }
 
+    /// What left and what entered, each in order. An error says that memory was refused; nothing is
+    /// changed.
+    pub(crate) fn both(&self, alloc: Global) -> Result<(Vec<Row>, Vec<Row>), AllocError>
+        ensures left { IfOk result (λ both. rows_of both.0.items ≡ self.now.left) }
+        ensures entered { IfOk result (λ both. rows_of both.1.items ≡ self.now.entered) }
+    {
+        let left = self.left.in_order(alloc)?;
+        let entered = self.entered.in_order(alloc)?;
+        let gone = rows_beyond(alloc, &left, &entered)?;
+        let come = rows_beyond(alloc, &entered, &left)?;
+        Ok((gone, come))
+    }
+
     /// Pushes what entered behind the answers, in order, each row with the instant. An error says
     /// that memory was refused; the answers are as they were.
     pub fn push_entered(
@@ -128,7 +141,21 @@ impl Delta {
         ensures { OnOk result (self.new ≡ deltas_after self.old batch.now) }
     {
         for place in 0..batch.len() {
-            self.apply_one(batch.row(place))?;
+            self.apply_at(batch, place)?;
+        }
+        Ok(())
+    }
+
+    /// After the signed row at a place of a batch.
+    fn apply_at(&mut self, batch: &Batch, place: usize) -> Result<(), AllocError>
+        requires { place < length batch.now }
+        ensures { OnOk result (self.new
+            ≡ delta_after self.old (slice_index_or batch.now place (true, []))) }
+    {
+        if batch.leaves(place) {
+            add_at(self.alloc, &mut self.left, batch, place)?;
+        } else {
+            add_at(self.alloc, &mut self.entered, batch, place)?;
         }
         Ok(())
     }
@@ -143,15 +170,24 @@ fn add(alloc: Global, pile: &mut Pile, row: &Row) -> Result<(), AllocError>
     pile.push(row)
 }
 
+/// The row at a place of a batch comes to the pile.
+fn add_at(alloc: Global, pile: &mut Pile, batch: &Batch, place: usize) -> Result<(), AllocError>
+    requires { place < length batch.now }
+    ensures { OnOk result (pile_in pile.new
+        ≡ pile_in pile.old ++ (slice_index_or batch.now place (true, [])).1 ∷ []) }
+{
+    let _count = batch.len();
+    pile.make_room(alloc, batch.width())?;
+    pile.push_at(batch, place)
+}
+
 /// The rows of the first bag without those of the second, in order.
 fn difference(alloc: Global, rows: &Pile, others: &Pile) -> Result<Vec<Row>, AllocError>
     ensures { IfOk result (λ result. rows_of result.items
         ≡ in_order row_cmp (bag_minus row_cmp (pile_in rows.now) (pile_in others.now))) }
 {
-    let mut rows = rows.copy(alloc)?;
-    let mut others = others.copy(alloc)?;
-    rows.sort();
-    others.sort();
+    let rows = rows.in_order(alloc)?;
+    let others = others.in_order(alloc)?;
     let result = rows_beyond(alloc, &rows, &others)?;
     Ok(result)
 }

@@ -32,12 +32,7 @@ pub(crate) fn rows_beyond(alloc: Global, rows: &Pile, others: &Pile) -> Result<V
 
 /// Pushes the rows of the first pile beyond those of the second, both in order, behind answers that
 /// have room for all of the first.
-pub(crate) fn push_beyond(
-    answers: &mut VecDeque<(u64, Row)>,
-    at: u64,
-    rows: &Pile,
-    others: &Pile,
-)
+pub(crate) fn push_beyond(answers: &mut VecDeque<(u64, Row)>, at: u64, rows: &Pile, others: &Pile)
     requires { deque_len answers.old + length (pile_in rows.now) ≤ deque_capacity answers.old }
     ensures { dated answers.new.items ≡ dated answers.old.items
         ++ map (λ r. (at, r)) (beyond (pile_in rows.now) (pile_in others.now)) }

@@ -1,6 +1,7 @@
 //! Rows one behind the other, in as little room as they need.
 ghost use Rattle.std.specs.Prelude.{◌≡◌, ◌≤◌, ◌<◌, ◌++◌, ◌∷◌, [], length, take, IfOk, OnOk, OnErr};
-ghost use Rattle.std.specs.Prelude.{slice_index_or};
+ghost use Rattle.std.specs.Prelude.{slice_index_or, true};
+ghost use Rattle.column.specs.Rows.{width};
 ghost use Rattle.values.specs.Row.{row_cmp};
 ghost use Rattle.values.specs.Bag.{in_order};
 ghost use Rattle.row_bags.specs.Bags.{rows_of};
@@ -8,6 +9,7 @@ ghost use Rattle.row_bags.specs.Piles.{pile_in, pile_room, IsWiderPile};
 
 use crate::keys::copied;
 use arrayvec::ArrayVec;
+use column::Batch;
 use std::alloc::{AllocError, Global};
 use values::{MAX_COLUMNS, Row, Value};
 
@@ -80,8 +82,32 @@ impl Pile {
         }
     }
 
+    /// The row at a place of a batch more behind the others.
+    pub(crate) fn push_at(&mut self, batch: &Batch, place: usize) -> Result<(), AllocError>
+        requires within { place < length batch.now }
+        requires room { width batch.now ≤ pile_room self.old }
+        ensures { OnOk result (pile_in self.new
+            ≡ pile_in self.old ++ (slice_index_or batch.now place (true, [])).1 ∷ []) }
+    {
+        match self {
+            Pile::Two(rows) => push_row_at(rows, batch, place),
+            Pile::Four(rows) => push_row_at(rows, batch, place),
+            Pile::Eight(rows) => push_row_at(rows, batch, place),
+            Pile::Widest(rows) => push_row_at(rows, batch, place),
+        }
+    }
+
+    /// A copy whose rows are in order.
+    pub(crate) fn in_order(&self, alloc: Global) -> Result<Pile, AllocError>
+        ensures { IfOk result (λ copy. pile_in copy ≡ in_order row_cmp (pile_in self.now)) }
+    {
+        let mut copy = self.copy(alloc)?;
+        copy.sort();
+        Ok(copy)
+    }
+
     /// A copy.
-    pub(crate) fn copy(&self, alloc: Global) -> Result<Pile, AllocError>
+    fn copy(&self, alloc: Global) -> Result<Pile, AllocError>
         ensures { IfOk result (λ copy. pile_in copy ≡ pile_in self.now) }
     {
         match self {
@@ -170,6 +196,34 @@ fn push_copy<const N: usize>(
 {
     rows.push(copied(row))?;
     Ok(())
+}
+
+fn push_row_at<const N: usize>(
+    rows: &mut Vec<ArrayVec<Value, N>>,
+    batch: &Batch,
+    place: usize,
+) -> Result<(), AllocError>
+    requires within { place < length batch.now }
+    requires room { (width batch.now ≤ N) × (N ≤ MAX_COLUMNS) }
+    ensures { OnOk result (rows_of rows.new.items
+        ≡ rows_of rows.old.items ++ (slice_index_or batch.now place (true, [])).1 ∷ []) }
+{
+    rows.push(values_at(batch, place))?;
+    Ok(())
+}
+
+/// The values of the row at a place of a batch.
+fn values_at<const N: usize>(batch: &Batch, place: usize) -> ArrayVec<Value, N>
+    requires within { place < length batch.now }
+    requires room { width batch.now ≤ N }
+    ensures { result.items ≡ (slice_index_or batch.now place (true, [])).1 }
+{
+    let _count = batch.len();
+    let mut row = ArrayVec::new();
+    for column in 0..batch.width() {
+        row.push(batch.column(column).get(place));
+    }
+    row
 }
 
 fn sort_rows<const N: usize>(rows: &mut Vec<ArrayVec<Value, N>>)

@@ -10,4 +10,4 @@ pub returns-clause-ok : goal.returns-clause-ok
 returns-clause-ok c =
     c.push_beyond.ensures
     ∙ ap₂ (λ (es : List (ℕ × Array)) (rs : List Row). dated es ++ map (λ (r : Row). (c.args.at, r)) rs) c.in_ok-reserve.ensures.items
-      (ap₂ beyond c.sort.ensures c.sort-2.ensures ∙ beyond-in_order (pile_in c.args.rows.now) (pile_in c.args.others.now))
+    (ap₂ beyond c.sort.ensures c.sort-2.ensures ∙ beyond-in_order (pile_in c.args.rows.now) (pile_in c.args.others.now))

@@ -1,4 +1,4 @@
-use Rattle.std.proofs.Common.{◌≡◌, ◌≤◌, drop}
+use Rattle.std.proofs.Common.{◌≡◌, drop}
 use Rattle.row_bags.specs.Lists.{not_below}
 use Rattle.row_bags.specs.Piles.{pile_in}
 use Rattle.row_bags.proofs.difference.first_not_below.Given as goal

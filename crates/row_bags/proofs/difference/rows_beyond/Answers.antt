@@ -1,4 +1,4 @@
-use Rattle.std.proofs.Common.{ℕ, ◌≡◌, ◌∙◌, ◌<◌, ◌+◌, ◌++◌, ◌∷◌, List, [], true, ap, sym, arith, drop, length, get_or}
+use Rattle.std.proofs.Common.{ℕ, ◌≡◌, ◌∙◌, ◌<◌, ◌+◌, ◌++◌, ◌∷◌, List, true, ap, sym, arith, drop, length}
 use Rattle.values.specs.Row.{Row}
 use Rattle.row_bags.specs.Bags.{rows_of}
 use Rattle.row_bags.specs.Lists.{is_first, beyond}

@@ -107,7 +107,7 @@ pub row_list_send : IsSend row_list.the_row
 row_list_send = search (sendable, crosses, value_send) depth 30
 
 pub delta_send : IsSend delta.the_row
-delta_send = search (sendable, row_bag_send) depth 20
+delta_send = search (sendable, crosses, value_send) depth 30
 
 pub flat_rows_send : IsSend flat_rows.the_row
 flat_rows_send = search (sendable, crosses, value_send) depth 30

@@ -37,7 +37,7 @@ at_each r P one none q =
     (λ t. let e : q ≡ r = same_is row_cmp row_order q r t in subst (λ n. P q n) (sym (ap {B = ℕ} (λ b. cond b 1 0) t)) (subst (λ x. P x 1) (sym e) one))
     (λ f. subst (λ n. P q n) (sym (ap {B = ℕ} (λ b. cond b 1 0) f)) (none q))
 
-both : {a b c d : List Row} → a ≡ c → b ≡ d → delta_of a b ≡ delta_of c d
+pub both : {a b c d : List Row} → a ≡ c → b ≡ d → delta_of a b ≡ delta_of c d
 both {b = b} {c = c} e f = ap (λ x. delta_of x b) e ∙ ap (delta_of c) f
 
 -- a row comes to one bag, which the other has more often, or not: xs is the bag that it comes to
@@ -70,7 +70,7 @@ module _ (r : Row) (xs ys : List Row) where
       copies-bag_minus row_cmp row_order q ys xs ∙ e ∙ ap (λ m. count q ys - m) (sym (count_more q r xs)) ∙ sym (copies-bag_minus row_cmp row_order q ys (r ∷ xs)))
 
 -- the row is cancelled against ys less xs, or comes to xs less ys
-cancels : (r : Row) (xs ys : List Row) → cancelled (in_order row_cmp (minus ys xs)) (in_order row_cmp (minus xs ys)) r ≡ (in_order row_cmp (minus ys (r ∷ xs)), in_order row_cmp (minus (r ∷ xs) ys))
+pub cancels : (r : Row) (xs ys : List Row) → cancelled (in_order row_cmp (minus ys xs)) (in_order row_cmp (minus xs ys)) r ≡ (in_order row_cmp (minus ys (r ∷ xs)), in_order row_cmp (minus (r ∷ xs) ys))
 cancels r xs ys = by_bool (is_in row_cmp r gone) (λ t. ap shape t ∙ in_both t) (λ f. ap shape f ∙ out_of f)
   where
     gone : List Row

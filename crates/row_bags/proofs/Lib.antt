@@ -9,3 +9,5 @@ pub mod BagLaws
 pub mod DeltaLaws
 pub mod ListLaws
 pub mod ListLemmas
+pub mod BeyondLaws
+pub mod PileLemmas

@@ -33,18 +33,18 @@ gt_reverse Less h = cc
 gt_reverse Equal h = cc
 gt_reverse Greater h = refl
 
-above_not : (x y : Row) → is_above row_cmp x y ≡ true → is_above row_cmp y x ≡ false
+pub above_not : (x y : Row) → is_above row_cmp x y ≡ true → is_above row_cmp y x ≡ false
 above_not x y h = ap is_gt (row_order.total.antisymm y x) ∙ gt_reverse (row_cmp x y) h
 
-not_above_trans : (x y z : Row) → is_above row_cmp x y ≡ false → is_above row_cmp y z ≡ false → is_above row_cmp x z ≡ false
+pub not_above_trans : (x y z : Row) → is_above row_cmp x y ≡ false → is_above row_cmp y z ≡ false → is_above row_cmp x z ≡ false
 not_above_trans = upto row_order.total
 
 -- y is above x, and not above z: z is above x
-below_both : (x y z : Row) → is_above row_cmp y x ≡ true → is_above row_cmp y z ≡ false → is_above row_cmp z x ≡ true
+pub below_both : (x y z : Row) → is_above row_cmp y x ≡ true → is_above row_cmp y z ≡ false → is_above row_cmp z x ≡ true
 below_both x y z h k = by_bool (is_above row_cmp z x) (λ t. t) (λ f. let n : is_above row_cmp y x ≡ false = not_above_trans y z x k f in cc)
 
 -- y is above x, and z is not: y is above z
-above_both : (x y z : Row) → is_above row_cmp y x ≡ true → is_above row_cmp z x ≡ false → is_above row_cmp y z ≡ true
+pub above_both : (x y z : Row) → is_above row_cmp y x ≡ true → is_above row_cmp z x ≡ false → is_above row_cmp y z ≡ true
 above_both x y z h k = by_bool (is_above row_cmp y z) (λ t. t) (λ f. let n : is_above row_cmp y x ≡ false = not_above_trans y z x f k in cc)
 
 abbrev put : Row → List Row → List Row
@@ -118,7 +118,7 @@ put_past y x xs h = rw h
 put_here : (y x : Row) (xs : List Row) → is_above row_cmp y x ≡ false → put y (x ∷ xs) ≡ y ∷ x ∷ xs
 put_here y x xs h = rw h
 
-above_differs : (x y : Row) → is_above row_cmp y x ≡ true → is_same row_cmp x y ≡ false
+pub above_differs : (x y : Row) → is_above row_cmp y x ≡ true → is_same row_cmp x y ≡ false
 above_differs x y h = by_bool (is_same row_cmp x y) (λ t. let e : x ≡ y = same_is row_cmp row_order x y t in let k : is_above row_cmp x y ≡ false = above_not y x h in let n : is_above row_cmp y y ≡ false = subst (λ v. is_above row_cmp v y ≡ false) e k in let m : is_above row_cmp y y ≡ true = subst (λ v. is_above row_cmp y v ≡ true) e h in cc) (λ f. f)
 
 -- the row stands first in both
@@ -188,13 +188,13 @@ staying-in_order left a = (all_more left a).1 ∙ staying-none (in_order row_cmp
 
 -- THE LAW
 
-abbrev count : Row → List Row → ℕ
+abbrev pub count : Row → List Row → ℕ
 count = copies row_cmp
 
-abbrev minus : List Row → List Row → List Row
+abbrev pub minus : List Row → List Row → List Row
 minus = bag_minus row_cmp
 
-count-append : (q : Row) (xs ys : List Row) → count q (xs ++ ys) ≡ count q xs + count q ys
+pub count-append : (q : Row) (xs ys : List Row) → count q (xs ++ ys) ≡ count q xs + count q ys
 count-append q [] ys = omega arith
 count-append q (x ∷ xs) ys = here (is_same row_cmp q x) (count-append q xs ys)
   where

@@ -1,5 +1,6 @@
 pub mod Bags
 pub mod Deltas
 pub mod Rooms
+pub mod Piles
 pub mod Lists
 pub mod Examples

@@ -42,3 +42,13 @@ merged (x ∷ xs) ys = up_to x ys ++ x ∷ merged xs (past x ys)
 -- the rows that stay and those that entered
 abbrev pub renewed : List Row → PlainDelta → List Row
 renewed rows n = merged (staying rows n.left) n.entered
+
+-- the rows behind those that are below x
+abbrev pub not_below : Row → List Row → List Row
+not_below x [] = []
+not_below x (y ∷ ys) = cond (is_above row_cmp x y) (not_below x ys) (y ∷ ys)
+
+-- of two lists in order, the rows of the first beyond those of the second
+abbrev pub beyond : List Row → List Row → List Row
+beyond [] ys = []
+beyond (x ∷ xs) ys = cond (is_first x (not_below x ys)) (beyond xs (drop 1 (not_below x ys))) (x ∷ beyond xs (not_below x ys))

@@ -1,31 +1,42 @@
 //! What entered and what left.
-ghost use Rattle.std.specs.Prelude.{◌≡◌, ◌+◌, ◌^◌, ◌<◌, [], length, IfOk, OnOk, OnErr};
+ghost use Rattle.std.specs.Prelude.{◌≡◌, ◌≤◌, ◌+◌, ◌^◌, ◌<◌, ◌++◌, ◌∷◌, [], length, map};
+ghost use Rattle.std.specs.Prelude.{slice_index_or, true, IfOk, OnOk, OnErr};
 ghost use Rattle.column.specs.Rows.{signed};
+ghost use Rattle.values.specs.Row.{row_cmp};
+ghost use Rattle.values.specs.Bag.{bag_minus, in_order};
 ghost use Rattle.row_bags.specs.Bags.{rows_of};
-ghost use Rattle.row_bags.specs.Deltas.{cancelled, delta_after, deltas_after};
+ghost use Rattle.row_bags.specs.Deltas.{delta_after, deltas_after};
+ghost use Rattle.row_bags.specs.Piles.{pile_in, pile_room, dated};
 
-use crate::row_bag::RowBag;
+use crate::difference::{push_beyond, rows_beyond};
+use crate::pile::Pile;
 use column::{Batch, SignedRow};
 use std::alloc::{AllocError, Global};
+use std::collections::VecDeque;
 use std::marker::Model;
 use values::Row;
 
 /// What entered and what left, each cut by the other: a row that entered and left again is in
 /// neither.
+///
+/// It keeps the rows as they came. What is asked of it sorts them, and cuts them by one walk.
 #[derive(Drop)]
 pub struct Delta {
-    /// The rows that entered, without those that left again.
-    entered: RowBag,
-    /// The rows that left, without those that entered again.
-    left: RowBag,
+    /// The rows that entered, with those that left again.
+    entered: Pile,
+    /// The rows that left, with those that entered again.
+    left: Pile,
+    /// Where memory is taken from.
+    alloc: Global,
 }
 
 impl Model for Delta {
-    ghost use Rattle.row_bags.specs.Deltas.{PlainDelta};
+    ghost use Rattle.row_bags.specs.Deltas.{PlainDelta, delta_between};
+    ghost use Rattle.row_bags.specs.Piles.{pile_in as held};
 
     ghost Value = { PlainDelta };
 
-    ghost view = { λ n. record { entered = n.entered; left = n.left } };
+    ghost view = { λ n. delta_between (held n.left) (held n.entered) };
 }
 
 impl Delta {
@@ -34,8 +45,9 @@ impl Delta {
         ensures { result ≡ record { entered = []; left = [] } }
     {
         Delta {
-            entered: RowBag::new(alloc),
-            left: RowBag::new(alloc),
+            entered: Pile::new(alloc),
+            left: Pile::new(alloc),
+            alloc,
         }
     }
 
@@ -43,7 +55,7 @@ impl Delta {
     pub fn entered(&self, alloc: Global) -> Result<Vec<Row>, AllocError>
         ensures { IfOk result (λ rows. rows_of rows.items ≡ self.now.entered) }
     {
-        let rows = self.entered.rows(alloc)?;
+        let rows = difference(alloc, &self.entered, &self.left)?;
         Ok(rows)
     }
 
@@ -51,8 +63,59 @@ impl Delta {
     pub fn left(&self, alloc: Global) -> Result<Vec<Row>, AllocError>
         ensures { IfOk result (λ rows. rows_of rows.items ≡ self.now.left) }
     {
-        let rows = self.left.rows(alloc)?;
+        let rows = difference(alloc, &self.left, &self.entered)?;
         Ok(rows)
+    }
+
+    /// What left and what entered, each in order. An error says that memory was refused; nothing is
+    /// changed.
+    pub(crate) fn both(&self, alloc: Global) -> Result<(Vec<Row>, Vec<Row>), AllocError>
+        ensures left { IfOk result (λ both. rows_of both.0.items ≡ self.now.left) }
+        ensures entered { IfOk result (λ both. rows_of both.1.items ≡ self.now.entered) }
+    {
+        let left = self.left.in_order(alloc)?;
+        let entered = self.entered.in_order(alloc)?;
+        let gone = rows_beyond(alloc, &left, &entered)?;
+        let come = rows_beyond(alloc, &entered, &left)?;
+        Ok((gone, come))
+    }
+
+    /// Pushes what entered behind the answers, in order, each row with the instant. An error says
+    /// that memory was refused; the answers are as they were.
+    pub fn push_entered(
+        &mut self,
+        at: u64,
+        answers: &mut VecDeque<(u64, Row)>,
+    ) -> Result<(), AllocError>
+        ensures ok { OnOk result (dated answers.new.items
+            ≡ dated answers.old.items ++ map (λ r. (at, r)) self.old.entered) }
+        ensures err { OnErr result (answers.new.items ≡ answers.old.items) }
+        ensures stays { self.new ≡ self.old }
+    {
+        push_difference(answers, at, &mut self.entered, &mut self.left)
+    }
+
+    /// Pushes what left behind the answers, in order, each row with the instant. An error says that
+    /// memory was refused; the answers are as they were.
+    pub fn push_left(
+        &mut self,
+        at: u64,
+        answers: &mut VecDeque<(u64, Row)>,
+    ) -> Result<(), AllocError>
+        ensures ok { OnOk result (dated answers.new.items
+            ≡ dated answers.old.items ++ map (λ r. (at, r)) self.old.left) }
+        ensures err { OnErr result (answers.new.items ≡ answers.old.items) }
+        ensures stays { self.new ≡ self.old }
+    {
+        push_difference(answers, at, &mut self.left, &mut self.entered)
+    }
+
+    /// From here on nothing entered or left. The memory stays for the rows to come.
+    pub fn clear(&mut self)
+        ensures { self.new ≡ record { entered = []; left = [] } }
+    {
+        self.entered.clear();
+        self.left.clear();
     }
 
     /// What entered and left after one signed row more. An error says that memory was refused;
@@ -64,9 +127,9 @@ impl Delta {
         ensures err { OnErr result (self.new ≡ self.old) }
     {
         if signed_row.enters {
-            cancel_or_add(&mut self.left, &mut self.entered, signed_row.row)?;
+            add(self.alloc, &mut self.entered, &signed_row.row)?;
         } else {
-            cancel_or_add(&mut self.entered, &mut self.left, signed_row.row)?;
+            add(self.alloc, &mut self.left, &signed_row.row)?;
         }
         Ok(())
     }
@@ -78,23 +141,74 @@ impl Delta {
         ensures { OnOk result (self.new ≡ deltas_after self.old batch.now) }
     {
         for place in 0..batch.len() {
-            self.apply_one(batch.row(place))?;
+            self.apply_at(batch, place)?;
+        }
+        Ok(())
+    }
+
+    /// After the signed row at a place of a batch.
+    fn apply_at(&mut self, batch: &Batch, place: usize) -> Result<(), AllocError>
+        requires { place < length batch.now }
+        ensures { OnOk result (self.new
+            ≡ delta_after self.old (slice_index_or batch.now place (true, []))) }
+    {
+        if batch.leaves(place) {
+            add_at(self.alloc, &mut self.left, batch, place)?;
+        } else {
+            add_at(self.alloc, &mut self.entered, batch, place)?;
         }
         Ok(())
     }
 }
 
-/// Takes the row from the first bag where that has it, else adds it to the second.
-fn cancel_or_add(against: &mut RowBag, to: &mut RowBag, row: Row) -> Result<(), AllocError>
-    requires { length to.old < 2 ^ 62 }
-    ensures ok { OnOk result ((against.new, to.new) ≡ cancelled against.old to.old row.items) }
-    ensures err_against { OnErr result (against.new ≡ against.old) }
-    ensures err_to { OnErr result (to.new ≡ to.old) }
+/// The row comes to the pile.
+fn add(alloc: Global, pile: &mut Pile, row: &Row) -> Result<(), AllocError>
+    ensures ok { OnOk result (pile_in pile.new ≡ pile_in pile.old ++ row.now.items ∷ []) }
+    ensures err { OnErr result (pile_in pile.new ≡ pile_in pile.old) }
 {
-    if against.has(&row) {
-        against.take(&row);
-        return Ok(());
-    }
-    to.add(row)?;
+    pile.make_room(alloc, row.len())?;
+    pile.push(row)
+}
+
+/// The row at a place of a batch comes to the pile.
+fn add_at(alloc: Global, pile: &mut Pile, batch: &Batch, place: usize) -> Result<(), AllocError>
+    requires { place < length batch.now }
+    ensures { OnOk result (pile_in pile.new
+        ≡ pile_in pile.old ++ (slice_index_or batch.now place (true, [])).1 ∷ []) }
+{
+    let _count = batch.len();
+    pile.make_room(alloc, batch.width())?;
+    pile.push_at(batch, place)
+}
+
+/// The rows of the first bag without those of the second, in order.
+fn difference(alloc: Global, rows: &Pile, others: &Pile) -> Result<Vec<Row>, AllocError>
+    ensures { IfOk result (λ result. rows_of result.items
+        ≡ in_order row_cmp (bag_minus row_cmp (pile_in rows.now) (pile_in others.now))) }
+{
+    let rows = rows.in_order(alloc)?;
+    let others = others.in_order(alloc)?;
+    let result = rows_beyond(alloc, &rows, &others)?;
+    Ok(result)
+}
+
+/// Pushes the rows of the first bag without those of the second behind the answers, in order. Both
+/// come in order by it.
+fn push_difference(
+    answers: &mut VecDeque<(u64, Row)>,
+    at: u64,
+    rows: &mut Pile,
+    others: &mut Pile,
+) -> Result<(), AllocError>
+    ensures ok { OnOk result (dated answers.new.items ≡ dated answers.old.items ++ map (λ r. (at, r))
+        (in_order row_cmp (bag_minus row_cmp (pile_in rows.old) (pile_in others.old)))) }
+    ensures err { OnErr result (answers.new.items ≡ answers.old.items) }
+    ensures rows { pile_in rows.new ≡ in_order row_cmp (pile_in rows.old) }
+    ensures others { pile_in others.new ≡ in_order row_cmp (pile_in others.old) }
+{
+    rows.sort();
+    others.sort();
+    answers.reserve(rows.len())?;
+    push_beyond(answers, at, rows, others);
     Ok(())
 }

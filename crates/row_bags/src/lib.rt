@@ -11,8 +11,10 @@
 
 mod counts;
 mod delta;
+mod difference;
 mod held;
 mod keys;
+mod pile;
 mod row_bag;
 mod row_list;
 

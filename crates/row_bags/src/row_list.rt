@@ -48,8 +48,7 @@ impl RowList {
     pub fn renewed(&self, alloc: Global, delta: &Delta) -> Result<Vec<Row>, AllocError>
         ensures { IfOk result (λ rows. rows_of rows.items ≡ renewed self.now delta.now) }
     {
-        let left = delta.left(alloc)?;
-        let entered = delta.entered(alloc)?;
+        let (left, entered) = delta.both(alloc)?;
         let rows = self.merged(alloc, &left, &entered)?;
         Ok(rows)
     }
@@ -60,14 +59,25 @@ impl RowList {
         ensures ok { OnOk result (self.new ≡ renewed self.old delta.now) }
         ensures err { OnErr result (self.new ≡ self.old) }
     {
-        let left = delta.left(alloc)?;
-        let entered = delta.entered(alloc)?;
+        let (left, entered) = delta.both(alloc)?;
         if left.is_empty() && entered.is_empty() {
             return Ok(());
         }
         let rows = self.merged(alloc, &left, &entered)?;
         *self = list_of(alloc, &rows)?;
         Ok(())
+    }
+
+    /// Becomes the rows after what left and entered, and hands out a copy of them. An error says
+    /// that memory was refused; the list is as it was.
+    pub fn renew_and_list(&mut self, alloc: Global, delta: &Delta) -> Result<Vec<Row>, AllocError>
+        ensures rows { IfOk result (λ rows. rows_of rows.items ≡ renewed self.old delta.now) }
+        ensures ok { OnOk result (self.new ≡ renewed self.old delta.now) }
+        ensures err { OnErr result (self.new ≡ self.old) }
+    {
+        let whole = self.renewed(alloc, delta)?;
+        *self = list_of(alloc, &whole)?;
+        Ok(whole)
     }
 
     /// The rows without those that left, and with those that entered: one walk over the three
@@ -124,7 +134,7 @@ fn width_of(row: &Row) -> u8
     row.len() as u8
 }
 
-fn row_of(values: &[Value]) -> Row
+pub(crate) fn row_of(values: &[Value]) -> Row
     requires { length values.now ≤ MAX_COLUMNS }
     ensures { result.items ≡ values.now }
 {

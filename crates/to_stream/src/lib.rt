@@ -11,10 +11,13 @@
 //! however many are held.
 #![tactic(auto)]
 
-ghost use Rattle.std.specs.Prelude.{◌≡◌, ◌≤◌, ◌+◌, ◌++◌, None, [], map, length, IfOk, OnOk, OnErr};
+ghost use Rattle.std.specs.Prelude.{◌≡◌, ◌≤◌, ◌+◌, ◌++◌, None, Some, [], map, length};
+ghost use Rattle.std.specs.Prelude.{IfOk, OnOk, OnErr};
 ghost use Rattle.std.specs.VecDeque.{deque_len, deque_capacity};
 ghost use Rattle.row_bags.specs.Bags.{rows_of};
-ghost use Rattle.to_stream.specs.Turns.{State, shown, near, out, ticked, next, HasRoom, answers_of};
+ghost use Rattle.row_bags.specs.Lists.{renewed};
+ghost use Rattle.to_stream.specs.Turns.{State, shown, kept, near, out, ticked, next, HasRoom};
+ghost use Rattle.to_stream.specs.Turns.{answers_of};
 ghost use Rattle.to_stream.specs.Law.{Stands, StepLaw};
 
 use column::Batch;
@@ -133,11 +136,41 @@ impl ToStream {
         ensures state { OnOk result (self.new ≡ ticked self.old at) }
         ensures err { OnErr result (answers.new.items ≡ answers.old.items) }
     {
-        let rows = self.shown(self.alloc)?;
-        answers.reserve(rows.len())?;
-        self.tick(at)?;
-        push_rows(answers, at, rows);
+        self.put(at, answers)?;
+        self.end(at);
         Ok(())
+    }
+
+    /// The answers of a tick. Of Rstream the relation now becomes that of the last tick.
+    fn put(&mut self, at: u64, answers: &mut VecDeque<(u64, Row)>) -> Result<(), AllocError>
+        ensures answers { OnOk result (answers_of answers.new.items
+            ≡ answers_of answers.old.items
+            ++ map (λ r. (at, r)) (shown self.old.operator self.old)) }
+        ensures whole { OnOk result (self.new.whole ≡ kept self.old.operator self.old) }
+        ensures operator { self.new.operator ≡ self.old.operator }
+        ensures err { OnErr result (answers.new.items ≡ answers.old.items) }
+    {
+        match self.operator {
+            StreamOperator::Istream => self.delta.push_entered(at, answers),
+            StreamOperator::Dstream => self.delta.push_left(at, answers),
+            StreamOperator::Rstream => {
+                push_whole(self.alloc, &mut self.whole, &self.delta, at, answers)
+            }
+        }
+    }
+
+    /// Nothing has entered or left since the tick of this instant.
+    fn end(&mut self, at: u64)
+        ensures { self.new
+            ≡ record {
+              operator = self.old.operator;
+              delta = record { entered = []; left = [] };
+              whole = self.old.whole;
+              last = Some at;
+            } }
+    {
+        self.delta.clear();
+        self.last = Some(at);
     }
 
     /// The rows that answer at a tick, in order.
@@ -178,8 +211,7 @@ impl ToStream {
         if let StreamOperator::Rstream = self.operator {
             self.whole.renew(self.alloc, &self.delta)?;
         }
-        self.delta = Delta::new(self.alloc);
-        self.last = Some(at);
+        self.end(at);
         Ok(())
     }
 }
@@ -198,6 +230,25 @@ pub fn work(alloc: Global, item: &Item, near: &[Row]) -> Result<Vec<(u64, Row)>,
             Ok(answers)
         }
     }
+}
+
+/// Makes the list that of the relation now, and pushes it behind the answers.
+fn push_whole(
+    alloc: Global,
+    whole: &mut RowList,
+    delta: &Delta,
+    at: u64,
+    answers: &mut VecDeque<(u64, Row)>,
+) -> Result<(), AllocError>
+    ensures answers { OnOk result (answers_of answers.new.items
+        ≡ answers_of answers.old.items ++ map (λ r. (at, r)) (renewed whole.old delta.now)) }
+    ensures whole { OnOk result (whole.new ≡ renewed whole.old delta.now) }
+    ensures err { OnErr result (answers.new.items ≡ answers.old.items) }
+{
+    let rows = whole.renew_and_list(alloc, delta)?;
+    answers.reserve(rows.len())?;
+    push_rows(answers, at, rows);
+    Ok(())
 }
 
 /// Moves rows behind the answers, which have room for them.

@@ -1,0 +1,25 @@
+use Rattle.std.proofs.Common.{ℕ, ◌≡◌, ◌∙◌, ◌<◌, ◌+◌, ◌++◌, ◌∷◌, List, true, ap, sym, arith, drop, map, length}
+use Rattle.values.specs.Row.{Row}
+use Rattle.row_bags.specs.Lists.{is_first, beyond}
+use Rattle.row_bags.specs.Piles.{pile_in, dated}
+use Rattle.row_bags.proofs.PileLemmas.{front, beyond-meets}
+use Rattle.row_bags.proofs.difference.push_beyond.Goals as goal
+
+pub loop-place-preserved-then-stands_at : goal.loop-place-preserved-then-stands_at
+loop-place-preserved-then-stands_at c =
+    let i : ℕ = c.loop-place.place in
+    let xs : List Row = pile_in c.args.rows.now in
+    let ys : List Row = pile_in c.args.others.now in
+    let x : Row = c.values-values.result.now in
+    let few : i < length xs = omega arith in
+    let first : drop i xs ≡ x ∷ drop (i + 1) xs = front i xs x few c.values-values.ensures.value in
+    let meets : is_first x (drop c.first_not_below-other.result ys) ≡ true = sym c.stands_at.ensures.is ∙ c.if-stands_at.true in
+    record {
+      all =
+          ap (λ (l : List Row). dated c.loop-place.answers.items ++ map (λ (r : Row). (c.args.at, r)) l)
+          (sym (ap (λ (l : List Row). beyond l (drop c.loop-place.other ys)) first
+          ∙ beyond-meets x (drop (i + 1) xs) ys c.loop-place.other c.first_not_below-other.result c.first_not_below-other.ensures.rows meets))
+          ∙ c.loop-place.invariant.all;
+      within = omega (arith, c.if-stands_at.ensures.within);
+      room = omega (arith, c.loop-place.invariant.room);
+    }

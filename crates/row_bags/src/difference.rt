@@ -1,0 +1,76 @@
+//! The difference of two piles in order, by one walk over both.
+ghost use Rattle.std.specs.Prelude.{◌≡◌, ◌≤◌, ◌<◌, ◌+◌, ◌++◌, length, drop, map, IfOk, IsTrue};
+ghost use Rattle.std.specs.VecDeque.{deque_len, deque_capacity};
+ghost use Rattle.row_bags.specs.Bags.{rows_of};
+ghost use Rattle.row_bags.specs.Lists.{is_first, not_below, beyond};
+ghost use Rattle.row_bags.specs.Piles.{pile_in, dated};
+
+use crate::pile::Pile;
+use crate::row_list::row_of;
+use std::alloc::{AllocError, Global};
+use std::collections::VecDeque;
+use values::{Row, Value};
+
+/// The rows of the first pile beyond those of the second, both in order.
+pub(crate) fn rows_beyond(alloc: Global, rows: &Pile, others: &Pile) -> Result<Vec<Row>, AllocError>
+    ensures { IfOk result (λ result. rows_of result.items
+        ≡ beyond (pile_in rows.now) (pile_in others.now)) }
+{
+    let mut result = Vec::with_capacity(alloc, rows.len())?;
+    let mut other = 0;
+    for place in 0..rows.len() {
+        let values = rows.values(place);
+        other = first_not_below(values, others, other);
+        if stands_at(values, others, other) {
+            other += 1;
+            continue;
+        }
+        result.push(row_of(values))?;
+    }
+    Ok(result)
+}
+
+/// Pushes the rows of the first pile beyond those of the second, both in order, behind answers that
+/// have room for all of the first.
+pub(crate) fn push_beyond(answers: &mut VecDeque<(u64, Row)>, at: u64, rows: &Pile, others: &Pile)
+    requires { deque_len answers.old + length (pile_in rows.now) ≤ deque_capacity answers.old }
+    ensures { dated answers.new.items ≡ dated answers.old.items
+        ++ map (λ r. (at, r)) (beyond (pile_in rows.now) (pile_in others.now)) }
+{
+    let mut other = 0;
+    for place in 0..rows.len() {
+        let values = rows.values(place);
+        other = first_not_below(values, others, other);
+        if stands_at(values, others, other) {
+            other += 1;
+            continue;
+        }
+        answers.push_back_reserved((at, row_of(values)));
+    }
+}
+
+/// The place of the first of the rows from `start` on that is not below the values.
+fn first_not_below(values: &[Value], others: &Pile, start: usize) -> usize
+    requires { start ≤ length (pile_in others.now) }
+    ensures rows { drop result (pile_in others.now)
+        ≡ not_below values.now (drop start (pile_in others.now)) }
+    ensures within { result ≤ length (pile_in others.now) }
+{
+    for place in start..others.len() {
+        if !values.cmp(others.values(place)).is_gt() {
+            return place;
+        }
+    }
+    others.len()
+}
+
+/// Whether the row with these values stands at a place.
+fn stands_at(values: &[Value], others: &Pile, place: usize) -> bool
+    ensures is { result ≡ is_first values.now (drop place (pile_in others.now)) }
+    ensures within { IsTrue result → place < length (pile_in others.now) }
+{
+    if place >= others.len() {
+        return false;
+    }
+    values.cmp(others.values(place)).is_eq()
+}

@@ -1,3 +1,4 @@
 pub mod States
 pub mod Inboxes
 pub mod Operators
+pub mod Runs

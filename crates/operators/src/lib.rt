@@ -9,8 +9,10 @@
 
 mod inboxes;
 mod running;
+mod runs;
 mod states;
 
 pub use inboxes::Inbox;
 pub use running::Operator;
+pub use runs::Refused;
 pub use states::State;

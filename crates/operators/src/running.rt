@@ -9,6 +9,7 @@ ghost use Rattle.operators.specs.Inboxes.{entries_in, is_fed, queued};
 ghost use Rattle.operators.specs.Operators.{Belongs, HasNamedColumns, IsFed, IsFinished};
 ghost use Rattle.operators.specs.Operators.{KeepsBatches, front_instant, inbox_of, other, ready};
 ghost use Rattle.operators.specs.Operators.{ready_at, waiting};
+ghost use Rattle.operators.specs.Runs.{is_root};
 ghost use Rattle.operators.specs.States.{HasColumns, IsNext, Takes, near_of, usable};
 ghost use Rattle.operators.specs.declared.inboxes.Inbox.TheVariants.{Between};
 
@@ -73,6 +74,13 @@ impl Operator {
         ensures { IfOk result (λ kind. arc_value kind ≡ self.now.kind) }
     {
         Arc::try_clone(&self.kind)
+    }
+
+    /// Whether it is the root of its query, which gives answers.
+    pub fn is_root(&self) -> bool
+        ensures { result ≡ is_root self.now.kind }
+    {
+        matches!(&*self.kind, Kind::ToStream)
     }
 
     /// Whether the side can be used now, if anything waits there.

@@ -15,6 +15,7 @@ use Rattle.laws_queries.specs.Machines.{IsQuery, columns_of, widths_of}
 use Rattle.laws_queries.specs.Queries.{IsLeftInbox, IsRunning, PlainQuery, change_at_first, log_at, node_at, operator_at, source_of, stream_log}
 use Rattle.laws_queries.specs.Steps.{IsFirst, outs_at_first}
 use Rattle.laws_queries.proofs.MachineCounts.{queries_stand}
+use Rattle.query_runtime.specs.Runs.{CanRun}
 use Rattle.query_runtime.specs.Turns.{CanFinish, CanLease, CanPut, HasOperator, log_of}
 use Rattle.query_runtime.proofs.RunLemmas.{PlainQueriesRun, plain_queries_run}
 use Rattle.laws_engine.specs.Asks.{IsOperator, MayAsk}
@@ -73,6 +74,9 @@ module _ (e : PlainEngine) (g : GoodEngine e) (n k : ℕ) (q : Registered) (p : 
   can_lease : (side : Side) (at rows : ℕ) → ready (operator_at p.operators k) (log_of e.machine.streams p k) ≡ Some (side, at) → 0 < rows → CanLease (operator_at p.operators k) (log_of e.machine.streams p k) side rows
   can_lease side at rows is some = runs.leases goes.taken p k side at rows goes.runs o.within is some
 
+  can_run : (side : Side) (at rows : ℕ) → ready (operator_at p.operators k) (log_of e.machine.streams p k) ≡ Some (side, at) → 0 < rows → CanRun e.machine.streams p k side rows
+  can_run side at rows is some = runs.in_place goes.taken p k side at rows goes.runs o.within is some
+
   module _ (side : Side) (i : Item) (f : IsFirst (operator_at p.operators k) (log_at e.machine q k) side i) where
     first : IsFirst (operator_at p.operators k) (log_of e.machine.streams p k) side i
     first = subst (λ z. IsFirst (operator_at p.operators k) z side i) (sym log_is) f
@@ -93,6 +97,7 @@ may_ask e g = record {
   operators = λ n k q p o. has_operator e g n k q p o;
   logs = λ n k q p o. log_is e g n k q p o;
   leases = λ n k q p side at rows o is some. can_lease e g n k q p o side at rows is some;
+  in_place = λ n k q p side at rows o is some. can_run e g n k q p o side at rows is some;
   finishes = λ l q p i of. can_finish e g l.query l.operator q p (operator_of e l q p of) l.side l.item (lease_first e l q p (g.leases l i) of);
   puts = λ l q p i of. can_put e g l.query l.operator q p (operator_of e l q p of) l.side l.item (lease_first e l q p (g.leases l i) of);
 }

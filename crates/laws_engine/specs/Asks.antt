@@ -5,6 +5,7 @@ use Rattle.operators.specs.Operators.{ready}
 use Rattle.reference.specs.Machine.{Registered}
 use Rattle.laws_queries.specs.Queries.{PlainQuery, change_at_first, log_at, operator_at}
 use Rattle.laws_queries.specs.Steps.{outs_at_first}
+use Rattle.query_runtime.specs.Runs.{CanRun}
 use Rattle.query_runtime.specs.Turns.{CanFinish, CanLease, CanPut, HasOperator, log_of}
 use Rattle.laws_engine.specs.Engines.{IsIn, Lease, PlainEngine, Running, query_at, remains_at}
 use Rattle.laws_engine.specs.Calls.{IsOf}
@@ -23,6 +24,9 @@ pub record MayAsk (e : PlainEngine) : Type 0 where
   -- where it is ready, it may be leased
   pub leases : (n k : ℕ) (q : Registered) (p : PlainQuery) (side : Side) (at rows : ℕ) → IsOperator e n k q p → ready (operator_at p.operators k) (log_of e.machine.streams p k) ≡ Some (side, at) → 0 < rows
       → CanLease (operator_at p.operators k) (log_of e.machine.streams p k) side rows
+  -- or run its turn in place
+  pub in_place : (n k : ℕ) (q : Registered) (p : PlainQuery) (side : Side) (at rows : ℕ) → IsOperator e n k q p → ready (operator_at p.operators k) (log_of e.machine.streams p k) ≡ Some (side, at) → 0 < rows
+      → CanRun e.machine.streams p k side rows
   -- a turn of it that is out may come back, and what that puts out may go on
   pub finishes : (l : Lease) (q : Registered) (p : PlainQuery) → IsIn e.leases l → IsOf e l q p
       → CanFinish (operator_at p.operators l.operator) (log_of e.machine.streams p l.operator) l.side l.item (change_at_first (operator_at p.operators l.operator) l.side l.item)

@@ -6,7 +6,7 @@ use Rattle.std.proofs.lemmas.Option.{slice_get_within}
 use Rattle.column.specs.declared.batch.Side.{Side}
 use Rattle.op_queue.specs.declared.item.Item.{Item}
 use Rattle.turn.specs.Nodes.{PlainNode}
-use Rattle.turn.specs.Turns.{Answered, Outs, Put, outs_in}
+use Rattle.turn.specs.Turns.{Answered, Outs, Put}
 use Rattle.turn.specs.declared.excerpts.Near.{Near}
 use Rattle.turn.specs.declared.kinds.Kind.{Kind}
 use Rattle.turn.specs.declared.parts.Parts.{Parts}
@@ -15,6 +15,7 @@ use Rattle.reference.specs.Machine.{Registered}
 use Rattle.reference.specs.Named.{name_of_registered}
 use Rattle.laws_queries.specs.Queries.{PlainQuery, operator_at}
 use Rattle.laws_queries.specs.Registrations.{HaveColumnNames}
+use Rattle.laws_queries.specs.Steps.{outs_at_first}
 use Rattle.query_runtime.specs.Turns.{HasPut, wire_at}
 use Rattle.run_queue.specs.declared.slots.Slot.{Slot}
 use Rattle.laws_engine.specs.Bounds.{HaveFewClosed}
@@ -24,7 +25,7 @@ use Rattle.laws_engine.specs.Histories.{ComesBack}
 use Rattle.laws_engine.proofs.BackLemmas.{remains_here, remains_there, same_plain}
 use Rattle.laws_engine.proofs.FinishLemmas.{answer_good, finish_good}
 use Rattle.laws_engine.proofs.LeaseLemmas.{break_good}
-use Rattle.leases.specs.Applied.{Forgets, GivesNothing, IsApplied, IsOutIn, IsTurn}
+use Rattle.leases.specs.Applied.{Forgets, GivesNothing, HasTaken, IsOutAs, IsOutIn, IsTurn}
 use Rattle.leases.specs.Readers.{readers_from, readers_of, runs}
 use Rattle.leases.specs.Shown.{engine_in}
 use Rattle.laws_engine.specs.Bounds.{HaveFewClosed}
@@ -77,69 +78,69 @@ abbrev pub out_with : State → List Lease → List Slot → PlainEngine
 out_with s ls slots = record (engine_in s) { leases = ls; slots = slots }
 
 -- A TURN THAT IS OUT
-module _ (old new : State) (ls : List Lease) (slots : List Slot) (d : Parts) (q : Registered) (p : PlainQuery) (s : IsSound old) (good : GoodEngine (out_with old ls slots)) (out : IsOut (out_with old ls slots) d q p) where
+module _ (old new : State) (ls : List Lease) (slots : List Slot) (d : Lease) (q : Registered) (p : PlainQuery) (s : IsSound old) (good : GoodEngine (out_with old ls slots)) (out : IsOutAs (out_with old ls slots) d q p) where
   abbrev e : PlainEngine
   e = out_with old ls slots
 
-  within : d.node.query < length e.queries
-  within = omega (arith, s.good.many, slice_get_within e.machine.queries d.node.query q out.of.registered)
+  within : d.query < length e.queries
+  within = omega (arith, s.good.many, slice_get_within e.machine.queries d.query q out.of.registered)
 
-  running_gone : is_gone (remains_at e d.node.query) ≡ false
+  running_gone : is_gone (remains_at e d.query) ≡ false
   running_gone = ap is_gone out.of.running
 
-  running_runs : runs (remains_at e d.node.query) ≡ true
+  running_runs : runs (remains_at e d.query) ≡ true
   running_runs = ap runs out.of.running
 
   -- comes back
-  module _ (r : GivesNothing old new) (p2 : PlainQuery) (a : IsApplied e.machine.streams p d p2) (few : length (others d.lease ls) ≤ length (engine_in old).leases) where
-    kinds_back : (after : List Slot) (g : Turn) → IsIn old.leases.items g → HasKind (record (given_back e (lease_of_parts d) p2) { slots = after }) g
-    kinds_back after g i p3 running = by_test (g.node.query == d.node.query)
+  module _ (r : GivesNothing old new) (p2 : PlainQuery) (a : HasTaken e.machine.streams p d p2) (few : length (others d.number ls) ≤ length (engine_in old).leases) where
+    kinds_back : (after : List Slot) (g : Turn) → IsIn old.leases.items g → HasKind (record (given_back e d p2) { slots = after }) g
+    kinds_back after g i p3 running = by_test (g.node.query == d.query)
         (λ t.
-        let same : g.node.query ≡ d.node.query = eqb-true g.node.query d.node.query t in
-        let is : p2 ≡ p3 = same_plain (sym (remains_here e d.node.query (Running p2) within) ∙ ap (remains_at (given_back e (lease_of_parts d) p2)) (sym same) ∙ running) in
+        let same : g.node.query ≡ d.query = eqb-true g.node.query d.query t in
+        let is : p2 ≡ p3 = same_plain (sym (remains_here e d.query (Running p2) within) ∙ ap (remains_at (given_back e d p2)) (sym same) ∙ running) in
         s.kinds g i p (ap (remains_at e) same ∙ out.of.running)
-        ∙ sym (kinds_put p p2 d.node.operator (outs_in d.outputs) a.finished.finished.kind a.put g.node.operator)
+        ∙ sym (kinds_put p p2 d.operator (outs_at_first (operator_at p.operators d.operator) d.side d.item) a.finished.finished.kind a.put g.node.operator)
         ∙ ap (λ (z : PlainQuery). (operator_at z.operators g.node.operator).kind) is)
-        (λ f. s.kinds g i p3 (sym (remains_there e d.node.query g.node.query (Running p2) (λ z. absurd (let h : (g.node.query == d.node.query) ≡ true = eq-eqb g.node.query d.node.query z in cc))) ∙ running))
+        (λ f. s.kinds g i p3 (sym (remains_there e d.query g.node.query (Running p2) (λ z. absurd (let h : (g.node.query == d.query) ≡ true = eq-eqb g.node.query d.query z in cc))) ∙ running))
 
-    stays_back : (after : List Slot) → StaysBut (engine_in old) (record (given_back e (lease_of_parts d) p2) { slots = after })
+    stays_back : (after : List Slot) → StaysBut (engine_in old) (record (given_back e d p2) { slots = after })
     stays_back after = record {
       machine = refl;
       next = refl;
       few = few;
-      gone = map-set_same is_gone e.queries d.node.query (Running p2) Dropped (sym running_gone);
+      gone = map-set_same is_gone e.queries d.query (Running p2) Dropped (sym running_gone);
     }
 
-    sound_at : (after : List Slot) → engine_in new ≡ record (given_back e (lease_of_parts d) p2) { slots = after } → GoodEngine (engine_in new) → IsSound new
+    sound_at : (after : List Slot) → engine_in new ≡ record (given_back e d p2) { slots = after } → GoodEngine (engine_in new) → IsSound new
     sound_at after is stays =
-        sound_from old new s r.names (r.readers ∙ s.readers ∙ ap (readers_from 0 e.machine.queries) (sym (map-set_same runs e.queries d.node.query (Running p2) Dropped (sym running_runs))) ∙ ap readers_of (sym is)) r.leases stays (subst (StaysBut (engine_in old)) (sym is) (stays_back after)) (λ g i. subst (λ z. HasKind z g) (sym is) (kinds_back after g i))
+        sound_from old new s r.names (r.readers ∙ s.readers ∙ ap (readers_from 0 e.machine.queries) (sym (map-set_same runs e.queries d.query (Running p2) Dropped (sym running_runs))) ∙ ap readers_of (sym is)) r.leases stays (subst (StaysBut (engine_in old)) (sym is) (stays_back after)) (λ g i. subst (λ z. HasKind z g) (sym is) (kinds_back after g i))
 
-    pub sound_back : ComesBack e (lease_of_parts d) q p p2 (engine_in new) → IsSound new
-    sound_back (inl t) = sound_at (finished e (lease_of_parts d) q p p2).slots t.1 (subst GoodEngine (sym t.1) (finish_good e (lease_of_parts d) q p p2 good out.out t.0))
-    sound_back (inr t) = sound_at (answered e (lease_of_parts d) q p p2).slots t.1 (subst GoodEngine (sym t.1) (answer_good e (lease_of_parts d) q p p2 good out.out t.0))
+    pub sound_back : ComesBack e d q p p2 (engine_in new) → IsSound new
+    sound_back (inl t) = sound_at (finished e d q p p2).slots t.1 (subst GoodEngine (sym t.1) (finish_good e d q p p2 good out.out t.0))
+    sound_back (inr t) = sound_at (answered e d q p p2).slots t.1 (subst GoodEngine (sym t.1) (answer_good e d q p p2 good out.out t.0))
 
   -- breaks its query
-  kinds_broken : (g : Turn) → IsIn old.leases.items g → HasKind (broken e d.node.query p) g
-  kinds_broken g i p3 running = by_test (g.node.query == d.node.query)
+  kinds_broken : (g : Turn) → IsIn old.leases.items g → HasKind (broken e d.query p) g
+  kinds_broken g i p3 running = by_test (g.node.query == d.query)
       (λ t.
-      let same : g.node.query ≡ d.node.query = eqb-true g.node.query d.node.query t in
-      let bad : Broken p.answers ≡ Running p3 = sym (remains_here e d.node.query (Broken p.answers) within) ∙ ap (remains_at (broken e d.node.query p)) (sym same) ∙ running in
+      let same : g.node.query ≡ d.query = eqb-true g.node.query d.query t in
+      let bad : Broken p.answers ≡ Running p3 = sym (remains_here e d.query (Broken p.answers) within) ∙ ap (remains_at (broken e d.query p)) (sym same) ∙ running in
       absurd (cc))
-      (λ f. s.kinds g i p3 (sym (remains_there e d.node.query g.node.query (Broken p.answers) (λ z. absurd (let h : (g.node.query == d.node.query) ≡ true = eq-eqb g.node.query d.node.query z in cc))) ∙ running))
+      (λ f. s.kinds g i p3 (sym (remains_there e d.query g.node.query (Broken p.answers) (λ z. absurd (let h : (g.node.query == d.query) ≡ true = eq-eqb g.node.query d.query z in cc))) ∙ running))
 
-  pub sound_broken : Forgets d.node.query old new → length (of_others d.node.query ls) ≤ length (engine_in old).leases → engine_in new ≡ broken e d.node.query p → IsSound new
+  pub sound_broken : Forgets d.query old new → length (of_others d.query ls) ≤ length (engine_in old).leases → engine_in new ≡ broken e d.query p → IsSound new
   sound_broken f few is =
-      let stays : StaysBut (engine_in old) (broken e d.node.query p) = record {
+      let stays : StaysBut (engine_in old) (broken e d.query p) = record {
         machine = refl;
         next = refl;
         few = few;
-        gone = map-set_same is_gone e.queries d.node.query (Broken p.answers) Dropped (sym running_gone);
+        gone = map-set_same is_gone e.queries d.query (Broken p.answers) Dropped (sym running_gone);
       } in
       let readers : new.readers.items ≡ readers_of (engine_in new) =
-      f.readers ∙ ap (λ rs. filter (λ (r : Reader). not (r.query == d.node.query)) rs) s.readers
-      ∙ readers_left d.node.query 0 d.node.query e.machine.queries (map runs e.queries) (omega arith)
-      ∙ ap (readers_from 0 e.machine.queries) (sym (map-set runs e.queries d.node.query (Broken p.answers))) ∙ ap readers_of (sym is) in
-      sound_from old new s f.names readers f.leases (subst GoodEngine (sym is) (break_good e d.node.query q p good out.of.registered out.of.running)) (subst (StaysBut (engine_in old)) (sym is) stays)
+      f.readers ∙ ap (λ rs. filter (λ (r : Reader). not (r.query == d.query)) rs) s.readers
+      ∙ readers_left d.query 0 d.query e.machine.queries (map runs e.queries) (omega arith)
+      ∙ ap (readers_from 0 e.machine.queries) (sym (map-set runs e.queries d.query (Broken p.answers))) ∙ ap readers_of (sym is) in
+      sound_from old new s f.names readers f.leases (subst GoodEngine (sym is) (break_good e d.query q p good out.of.registered out.of.running)) (subst (StaysBut (engine_in old)) (sym is) stays)
       (λ g i. subst (λ z. HasKind z g) (sym is) (kinds_broken g i))
 
 -- THE TURN OF A NUMBER that is out

@@ -37,6 +37,7 @@ use Rattle.laws_engine.proofs.LeaseLemmas.{lease_good}
 use Rattle.laws_engine.proofs.PromiseLemmas.{first_in, keeps_its_promises, slot_is}
 use Rattle.leases.specs.Leasing.{IsOfSlot, IsTurnOn, MayLeaseOn, node_on}
 use Rattle.leases.specs.Readers.{readers_of}
+use Rattle.leases.specs.Runs.{MayRunIn}
 use Rattle.leases.specs.Shown.{engine_in}
 use Rattle.leases.specs.Sound.{IsSound, is_gone}
 use Rattle.leases.specs.Turns.{IsTurnOf, Leases, lease_fault}
@@ -77,7 +78,7 @@ made_of : (e : PlainEngine) (s : Slot) (rows : ℕ) (g : Turn) (p : PlainQuery) 
 made_of e s rows g p running made = subst (IsOfSlot e s rows g) (same_running (sym made.1.running ∙ running)) made.1
 
 -- one with an item and an excerpt
-abbrev turn_with : PlainEngine → PlainQuery → Slot → Item → Near → Turn
+abbrev pub turn_with : PlainEngine → PlainQuery → Slot → Item → Near → Turn
 turn_with e p s i near = record { lease = e.next; node = node_on p s; item = i; near = near }
 
 abbrev with_number : ℕ → PlainNode → Item → Near → Turn
@@ -142,6 +143,19 @@ module _ (e : PlainEngine) (s : Slot) (rows : ℕ) (good : GoodEngine e) (first 
       operator = (may_ask e good).operators s.query s.operator top.query top.plain operator_is;
       may = (may_ask e good).leases s.query s.operator top.query top.plain s.side s.instant rows operator_is (ap (ready (operator_at top.plain.operators s.operator)) log_is ∙ takes) some;
     },
+  )
+
+  -- and may run its turn in place
+  pub first_runs : 0 < rows → MayRunIn e s rows
+  first_runs some = (
+    top.plain,
+    (
+      top.running,
+      record {
+        here = (may_ask e good).operators s.query s.operator top.query top.plain operator_is;
+        may = (may_ask e good).in_place s.query s.operator top.query top.plain s.side s.instant rows operator_is (ap (ready (operator_at top.plain.operators s.operator)) log_is ∙ takes) some;
+      },
+    ),
   )
 
   module _ (allowed : lease_fault e rows ≡ None) where

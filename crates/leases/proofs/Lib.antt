@@ -19,6 +19,7 @@ pub mod DrainLemmas
 mod MachineLemmas
 mod UpdateLemmas
 mod StepLemmas
+mod InPlaceLemmas
 pub mod PairLemmas
 pub mod WorldLemmas
 pub mod WholeLemmas

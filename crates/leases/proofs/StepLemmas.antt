@@ -1,7 +1,8 @@
 -- A turn that goes out and comes back in one step: the engine that has it out is nowhere kept, and the one after the step is what follows on that.
 use Rattle.std.proofs.Common.{◌≡◌, ◌≢◌, ◌<◌, ◌≤◌, ◌+◌, ◌++◌, ◌==◌, ◌||◌, ℕ, Bool, not, true, false, inl, inr, MatchOption, Option, Some, None, Result, Ok, Err, OnErr, List, [], ◌∷◌, length, refl, sym, ap, ◌∙◌, subst, arith, eq-eqb}
 use Rattle.std.specs.List.{list_any}
-use Rattle.turn.specs.declared.parts.Parts.{Parts}
+use Rattle.op_queue.specs.declared.item.Item.TheVariants.{Tick}
+use Rattle.turn.specs.declared.excerpts.Near.TheVariants.{Nothing}
 use Rattle.turn.specs.declared.turns.Turn.{Turn}
 use Rattle.plan.proofs.Lists.{by_test}
 use Rattle.reference.specs.Machine.{Registered}
@@ -11,23 +12,24 @@ use Rattle.run_queue.specs.Slots.{changed, first_of, slot, with_next, without_qu
 use Rattle.run_queue.specs.declared.slots.Slot.{Slot}
 use Rattle.laws_engine.specs.Calls.{IsOf, broken, of_others, others}
 use Rattle.laws_engine.specs.Engines.{GoodEngine, HasSlots, IsIn, IsLease, Lease, PlainEngine, Running, is_leased, is_of, next_at, query_at, remains_at, slope_at, slot_at, slot_of}
+use Rattle.laws_engine.specs.Promises.{IsOfSteepest}
 use Rattle.laws_engine.proofs.BackLemmas.{same_plain, same_query, unequal}
 use Rattle.laws_engine.proofs.LeaseLemmas.{lease_good}
-use Rattle.laws_engine.proofs.PromiseLemmas.{first_in, slot_is}
+use Rattle.laws_engine.proofs.PromiseLemmas.{first_in, keeps_its_promises, slot_is}
 use Rattle.laws_engine.proofs.TableLemmas.{same_slot_at, same_slot_in}
-use Rattle.leases.specs.Applied.{Forgets, GivesNothing, HasApplied, HasEnded, HasWiredOperators, IsAbove, IsBroken, IsOutIn, IsUpdated, MayApplyIn, MayTell, with_slot, without_turn}
+use Rattle.leases.specs.Applied.{Forgets, GivesNothing, HasEnded, HasTakenIn, HasWiredOperators, IsAbove, IsBroken, IsOutAsIn, IsUpdated, MayTell, with_slot, without_turn}
 use Rattle.leases.specs.Asked.{HasOperatorAt}
 use Rattle.leases.specs.Drains.{OneHasFailed, OneHasRun}
-use Rattle.leases.specs.Runs.{IsRunOf, turn_in}
+use Rattle.leases.specs.Leasing.{IsTurnOn}
 use Rattle.leases.specs.Shown.{engine_in}
 use Rattle.leases.specs.Sound.{IsSound}
-use Rattle.leases.specs.Turns.{IsTurnOf, lease_fault, lease_of_parts}
+use Rattle.leases.specs.Turns.{IsTurnOf, lease_fault}
 use Rattle.leases.specs.Views.{lease_of}
 use Rattle.leases.specs.declared.limits.TheConstants.{LEASE_NUMBERS}
 use Rattle.leases.specs.declared.state.State.{State}
 use Rattle.leases.proofs.DrainLemmas as drain
-use Rattle.leases.proofs.FinishBackLemmas.{AreSteps, has_come_back, may_apply, may_look, sound_ended, tells_here, tells_over, wired_operators}
-use Rattle.leases.proofs.FinishLemmas.{below_of, to_later}
+use Rattle.leases.proofs.FinishBackLemmas.{AreSteps, has_come_back, sound_ended, tells_here, tells_over}
+use Rattle.leases.proofs.FinishLemmas.{below_of, is_at, to_later, wired_operators}
 use Rattle.leases.proofs.FinishSoundLemmas.{sound_broken}
 use Rattle.leases.proofs.LeaseLemmas.{any_last, out_of, some_slot, turn_out}
 use Rattle.leases.proofs.LeaveLemmas.{fewer}
@@ -99,34 +101,52 @@ pub held_on_err : {A E P : Type 0} (r : Result A E) → P → OnErr r P
 held_on_err (Ok a) h = tt
 held_on_err (Err e) h = h
 
--- THE TURN of the first slot, that was run
-module _ (old : State) (s : Slot) (rows : ℕ) (d : Parts) (sound : IsSound old) (first : first_of old.slots ≡ Some s) (allowed : lease_fault (engine_in old) rows ≡ None) (numbers : old.next < LEASE_NUMBERS) (run : IsRunOf (engine_in old) s rows d) where
-  abbrev t : Turn
-  t = turn_in d
+-- THE FIRST SLOT is asked for before its turn runs
+module _ (old : State) (s : Slot) (sound : IsSound old) (first : first_of old.slots ≡ Some s) where
+  top : IsOfSteepest (engine_in old) s
+  top = (keeps_its_promises (engine_in old) sound.good).steepest s first
+
+  -- by some lease of its operator
+  abbrev any : Lease
+  any = record { number = 0; query = s.query; operator = s.operator; side = s.side; item = Tick 0; excerpt = Nothing }
+
+  of_any : IsOf (engine_in old) any top.query top.plain
+  of_any = record { registered = top.registered; running = top.running; within = top.within }
+
+  pub may_look_here : HasOperatorAt (engine_in old) s.query s.operator
+  may_look_here = (top.query, (top.plain, is_at (engine_in old) any top.query top.plain sound.good of_any s.operator top.within))
+
+  pub may_look_over : HasWiredOperators (engine_in old) s.query
+  may_look_over = wired_operators (engine_in old) any top.query top.plain sound.good of_any
+
+-- ITS TURN, that was run
+module _ (old : State) (s : Slot) (rows : ℕ) (t : Turn) (sound : IsSound old) (first : first_of old.slots ≡ Some s) (allowed : lease_fault (engine_in old) rows ≡ None) (numbers : old.next < LEASE_NUMBERS) (made : IsTurnOn (engine_in old) s rows t) where
+  abbrev d : Lease
+  d = lease_of t
 
   -- THE ENGINE that has it out
   abbrev e1 : PlainEngine
   e1 = out_of (engine_in old) s t
 
   goes : IsTurnOf (engine_in old) rows t e1
-  goes = turn_out (engine_in old) s rows sound.good first allowed t run.made
+  goes = turn_out (engine_in old) s rows sound.good first allowed t made
 
   good : GoodEngine e1
-  good = subst GoodEngine (sym goes.after) (lease_good (engine_in old) (lease_of t) goes.query goes.plain goes.slot sound.good goes.leasable)
+  good = subst GoodEngine (sym goes.after) (lease_good (engine_in old) d goes.query goes.plain goes.slot sound.good goes.leasable)
 
-  out : IsOutIn e1 d
+  out : IsOutAsIn e1 d
   out =
-      let of : IsOf e1 (lease_of_parts d) goes.query goes.plain = record { registered = goes.leasable.of.registered; running = goes.leasable.of.running; within = goes.leasable.of.within } in
-      (goes.query, (goes.plain, record { out = in_end (engine_in old).leases (lease_of t); of = of; kind = goes.kind }))
+      let of : IsOf e1 d goes.query goes.plain = record { registered = goes.leasable.of.registered; running = goes.leasable.of.running; within = goes.leasable.of.within } in
+      (goes.query, (goes.plain, record { out = in_end (engine_in old).leases d; of = of }))
 
-  query_is : s.query ≡ d.node.query
-  query_is = sym (ap (λ v. v.query) run.made.1.node)
+  query_is : s.query ≡ d.query
+  query_is = sym (ap (λ v. v.query) made.1.node)
 
-  operator_is : s.operator ≡ d.node.operator
-  operator_is = sym (ap (λ v. v.operator) run.made.1.node)
+  operator_is : s.operator ≡ d.operator
+  operator_is = sym (ap (λ v. v.operator) made.1.node)
 
-  number_is : d.lease ≡ old.next
-  number_is = run.made.1.number
+  number_is : d.number ≡ old.next
+  number_is = made.1.number
 
   there : IsIn old.slots s
   there = (first_in old.slots s first).0
@@ -134,66 +154,56 @@ module _ (old : State) (s : Slot) (rows : ℕ) (d : Parts) (sound : IsSound old)
   running : remains_at e1 s.query ≡ Running out.1.0
   running = ap (remains_at e1) query_is ∙ out.1.1.of.running
 
-  others_left : others d.lease e1.leases ≡ (engine_in old).leases
-  others_left = drain.all_left (engine_in old).leases (lease_of t) (λ a i. omega (arith, (sound.good.leases a i).numbered, number_is))
+  others_left : others d.number e1.leases ≡ (engine_in old).leases
+  others_left = drain.all_left (engine_in old).leases d (λ a i. omega (arith, (sound.good.leases a i).numbered, number_is))
 
-  few_left : length (others d.lease e1.leases) ≤ length (engine_in old).leases
-  few_left = let same : length (others d.lease e1.leases) ≡ length (engine_in old).leases = ap (λ ls. length ls) others_left in omega (arith, same)
-
-  -- WHAT IS ASKED before it comes back
-  pub may_look_here : HasOperatorAt (engine_in old) s.query s.operator
-  may_look_here = asks_on e1 (engine_in old).leases old.next old.slots s.query s.operator (may_look e1 d s.query s.operator good out query_is operator_is)
-
-  pub may_look_over : HasWiredOperators (engine_in old) s.query
-  may_look_over k p is lt = asks_on e1 (engine_in old).leases old.next old.slots s.query (wire_at p k).to (wired_operators e1 d s.query good out query_is k p is lt)
-
-  pub may_take : MayApplyIn (engine_in (counted old)) d
-  may_take = may_apply e1 d good out run.done
+  few_left : length (others d.number e1.leases) ≤ length (engine_in old).leases
+  few_left = let same : length (others d.number e1.leases) ≡ length (engine_in old).leases = ap (λ ls. length ls) others_left in omega (arith, same)
 
   -- ITS QUERY BREAKS
-  module _ (new : State) (broke : IsBroken (engine_in (counted old)) d.node.query (engine_in new)) where
-    slots_leave : without_query d.node.query old.slots ≡ without_query d.node.query e1.slots
+  module _ (new : State) (broke : IsBroken (engine_in (counted old)) d.query (engine_in new)) where
+    slots_leave : without_query d.query old.slots ≡ without_query d.query e1.slots
     slots_leave = subst (λ n. without_query n old.slots ≡ without_query n e1.slots) query_is (sym (changed_leaves (engine_in old) s sound.good there))
 
-    turns_end : of_others d.node.query e1.leases ≡ of_others d.node.query (engine_in old).leases
-    turns_end = drain.last_goes (engine_in old).leases (lease_of t)
+    turns_end : of_others d.query e1.leases ≡ of_others d.query (engine_in old).leases
+    turns_end = drain.last_goes (engine_in old).leases d
 
-    is_broken : engine_in new ≡ broken e1 d.node.query out.1.0
+    is_broken : engine_in new ≡ broken e1 d.query out.1.0
     is_broken =
         broke out.1.0 out.1.1.of.running
-        ∙ ap (λ ls. record (broken (engine_in (counted old)) d.node.query out.1.0) { leases = ls }) (sym turns_end)
-        ∙ ap (λ ss. record (broken e1 d.node.query out.1.0) { slots = ss }) slots_leave
+        ∙ ap (λ ls. record (broken (engine_in (counted old)) d.query out.1.0) { leases = ls }) (sym turns_end)
+        ∙ ap (λ ss. record (broken e1 d.query out.1.0) { slots = ss }) slots_leave
 
     pub broke_one : OneHasFailed rows (engine_in old) (engine_in new)
     broke_one = (t, (e1, (goes, (out.1.1.out, (out.0, (out.1.0, (out.1.1.of, is_broken)))))))
 
-    pub broke_sound : Forgets d.node.query (counted old) new → IsSound new
+    pub broke_sound : Forgets d.query (counted old) new → IsSound new
     broke_sound r =
-        let few : length (of_others d.node.query e1.leases) ≤ length (engine_in old).leases =
-        subst (λ ls. length ls ≤ length (engine_in old).leases) (sym turns_end) (fewer (λ l. not (l.query == d.node.query)) (engine_in old).leases) in
+        let few : length (of_others d.query e1.leases) ≤ length (engine_in old).leases =
+        subst (λ ls. length ls ≤ length (engine_in old).leases) (sym turns_end) (fewer (λ l. not (l.query == d.query)) (engine_in old).leases) in
         sound_broken (counted old) new e1.leases e1.slots d out.0 out.1.0 (counted_sound old sound numbers) good out.1.1 r few is_broken
 
   -- ITS QUERY TAKES IT
-  module _ (above : Option Slot) (over : IsAbove (engine_in old) s.query s.operator above) (e2 : PlainEngine) (applied : HasApplied (engine_in (counted old)) d e2) where
+  module _ (above : Option Slot) (over : IsAbove (engine_in old) s.query s.operator above) (e2 : PlainEngine) (applied : HasTakenIn (engine_in (counted old)) d e2) where
     -- the engine that has it out still, and the one where it is out no more
     abbrev still : PlainEngine
     still = record e2 { leases = e1.leases; slots = e1.slots }
 
     abbrev home : PlainEngine
-    home = without_turn still d.lease
+    home = without_turn still d.number
 
-    takes : HasApplied e1 d still
+    takes : HasTakenIn e1 d still
     takes p is = let a = applied p is in (a.0, (a.1.0, ap (λ (e : PlainEngine). record e { leases = e1.leases; slots = e1.slots }) a.1.1))
 
     leased_here : is_leased e1 s.query s.operator ≡ true
     leased_here =
-        let same_query : (d.node.query == s.query) ≡ true = eq-eqb d.node.query s.query (sym query_is) in
-        let same_operator : (d.node.operator == s.operator) ≡ true = eq-eqb d.node.operator s.operator (sym operator_is) in
-        any_last (is_of s.query s.operator) (engine_in old).leases (lease_of t) (rw (same_query, same_operator) refl)
+        let same_query : (d.query == s.query) ≡ true = eq-eqb d.query s.query (sym query_is) in
+        let same_operator : (d.operator == s.operator) ≡ true = eq-eqb d.operator s.operator (sym operator_is) in
+        any_last (is_of s.query s.operator) (engine_in old).leases d (rw (same_query, same_operator) refl)
 
     slot_here : (q : Registered) (p : PlainQuery) → query_at e1 s.query ≡ Some q → remains_at e1 s.query ≡ Running p → with_next s None ≡ slot_at e1 s.query q p s.operator
     slot_here q p registered is =
-        let here = may_look_here in
+        let here = may_look_here old s sound first in
         let same : here.0 ≡ q = same_query (sym here.1.1.registered ∙ registered) in
         let within : s.operator < length q.nodes = subst (λ (z : Registered). s.operator < length z.nodes) same here.1.1.within in
         let was : slot_at (engine_in old) s.query q p s.operator ≡ s = some_slot (sym (slot_is (engine_in old) s.query s.operator q p registered is within) ∙ sound.good.slots.only s there) in
@@ -205,26 +215,26 @@ module _ (old : State) (s : Slot) (rows : ℕ) (d : Parts) (sound : IsSound old)
         let same : out.1.0 ≡ p = same_plain (sym running ∙ is) in
         subst (λ (z : PlainQuery). s.operator + 1 < length z.operators → s.operator < (wire_at z s.operator).to) same
         (subst (λ k. k + 1 < length out.1.0.operators → k < (wire_at out.1.0 k).to) (sym operator_is)
-        (λ lt. to_later e1 d out.0 out.1.0 good out.1.1 d.node.operator (below_of e1 d out.0 out.1.0 good out.1.1 lt)))
+        (λ lt. to_later e1 d out.0 out.1.0 good out.1.1.of d.operator (below_of e1 d out.0 out.1.0 good out.1.1.of lt)))
 
     over_still : IsAbove e1 s.query s.operator above
     over_still q p registered is =
         above_same above (length p.operators ≤ s.operator + 1) (s.operator + 1 < length p.operators) (slot_at (engine_in old) s.query q p (wire_at p s.operator).to) (slot_at e1 s.query q p (wire_at p s.operator).to)
         (λ lt.
-        let apart : d.node.operator ≢ (wire_at p s.operator).to = λ z. absurd (omega (arith, later p is lt, operator_is, z)) in
+        let apart : d.operator ≢ (wire_at p s.operator).to = λ z. absurd (omega (arith, later p is lt, operator_is, z)) in
         let leased : list_any (is_of s.query (wire_at p s.operator).to) e1.leases ≡ list_any (is_of s.query (wire_at p s.operator).to) (engine_in old).leases =
-        any_push (is_of s.query (wire_at p s.operator).to) (engine_in old).leases (lease_of t) (other_operator s.query (wire_at p s.operator).to (lease_of t) apart) in
+        any_push (is_of s.query (wire_at p s.operator).to) (engine_in old).leases d (other_operator s.query (wire_at p s.operator).to d apart) in
         sym (same_slot_at (engine_in old) e1.queries e1.leases e1.next e1.slots s.query (wire_at p s.operator).to leased q p p refl))
         (over q p registered is)
 
-    steps : AreSteps e1 d s.query s.operator d.lease (with_next s None) above still
+    steps : AreSteps e1 d s.query s.operator d.number (with_next s None) above still
     steps = record { query = query_is; operator = operator_is; number = refl; slot = slot_here; over = over_still; applied = takes }
 
     pub may_tell_here : HasOperatorAt e2 s.query s.operator
-    may_tell_here = asks_on still e2.leases e2.next e2.slots s.query s.operator (tells_here e1 d s.query s.operator d.lease (with_next s None) above still good run.done out steps)
+    may_tell_here = asks_on still e2.leases e2.next e2.slots s.query s.operator (tells_here e1 d s.query s.operator d.number (with_next s None) above still good out steps)
 
     pub may_tell_over : MayTell e2 above
-    may_tell_over = tells_on still e2.leases e2.next e2.slots above (tells_over e1 d s.query s.operator d.lease (with_next s None) above still good run.done out steps)
+    may_tell_over = tells_on still e2.leases e2.next e2.slots above (tells_over e1 d s.query s.operator d.number (with_next s None) above still good out steps)
 
     -- its slot is told once, and not first that nothing may be taken
     told_once : (e3 : PlainEngine) → IsUpdated e2 s e3 → IsUpdated home (with_next s None) e3
@@ -238,22 +248,22 @@ module _ (old : State) (s : Slot) (rows : ℕ) (d : Parts) (sound : IsSound old)
         ∙ ap (λ ls. with_slot (record e2 { leases = ls; slots = e1.slots }) (with_next s None) q p) leases
 
     -- no turn of its number is kept, so none ends
-    none_ends : without_turn e2 d.lease ≡ e2
+    none_ends : without_turn e2 d.number ≡ e2
     none_ends =
         let took = applied out.1.0 out.1.1.of.running in
         let leases : e2.leases ≡ (engine_in old).leases = ap (λ e. e.leases) took.1.1 in
-        let stays : others d.lease e2.leases ≡ e2.leases =
-        ap (others d.lease) leases ∙ (drain.none_numbered (engine_in old).leases d.lease (λ a i. omega (arith, (sound.good.leases a i).numbered, number_is)) ∙ sym leases) in
+        let stays : others d.number e2.leases ≡ e2.leases =
+        ap (others d.number) leases ∙ (drain.none_numbered (engine_in old).leases d.number (λ a i. omega (arith, (sound.good.leases a i).numbered, number_is)) ∙ sym leases) in
         ap (λ ls. record e2 { leases = ls }) stays
 
-    ended : (new : PlainEngine) → HasEnded e2 d.lease s above new → HasEnded still d.lease (with_next s None) above new
+    ended : (new : PlainEngine) → HasEnded e2 d.number s above new → HasEnded still d.number (with_next s None) above new
     ended new h = (h.0, (told_once h.0 (subst (λ e. IsUpdated e s h.0) none_ends h.1.0), h.1.1))
 
-    pub ran : (new : PlainEngine) → HasEnded e2 d.lease s above new → OneHasRun rows (engine_in old) new
+    pub ran : (new : PlainEngine) → HasEnded e2 d.number s above new → OneHasRun rows (engine_in old) new
     ran new h =
-        let home = has_come_back e1 d s.query s.operator d.lease (with_next s None) above still good run.done out steps new (ended new h) in
+        let home = has_come_back e1 d s.query s.operator d.number (with_next s None) above still good out steps new (ended new h) in
         (t, (e1, (goes, (out.1.1.out, (home.0, (home.1.0, (home.1.1.0, home.1.1.1.1)))))))
 
-    pub ran_sound : (new : State) → HasEnded e2 d.lease s above (engine_in new) → GivesNothing (counted old) new → IsSound new
+    pub ran_sound : (new : State) → HasEnded e2 d.number s above (engine_in new) → GivesNothing (counted old) new → IsSound new
     ran_sound new h r =
-        sound_ended (counted old) e1.leases e1.slots d s.query s.operator d.lease (with_next s None) above still (counted_sound old sound numbers) good few_left run.done out steps new (ended (engine_in new) h) r
+        sound_ended (counted old) e1.leases e1.slots d s.query s.operator d.number (with_next s None) above still (counted_sound old sound numbers) good few_left out steps new (ended (engine_in new) h) r

@@ -4,12 +4,13 @@ use Rattle.turn.specs.Turns.{outs_in}
 use Rattle.turn.specs.declared.parts.Parts.{Parts}
 use Rattle.turn.specs.declared.turns.Turn.{Turn}
 use Rattle.reference.specs.Machine.{Registered, Stream}
-use Rattle.laws_queries.specs.Queries.{PlainQuery, operator_at}
+use Rattle.laws_queries.specs.Queries.{PlainQuery, change_at_first, operator_at}
+use Rattle.laws_queries.specs.Steps.{outs_at_first}
 use Rattle.query_runtime.specs.Turns.{CanFinish, CanPut, HasBatches, HasFinished, HasOperator, HasPut, log_of, wire_at}
 use Rattle.run_queue.specs.Slots.{changed, without_query}
 use Rattle.run_queue.specs.declared.slots.Slot.{Slot}
-use Rattle.laws_engine.specs.Calls.{broken, others}
-use Rattle.laws_engine.specs.Engines.{IsIn, PlainEngine, PlainRemains, Running, next_at, query_at, remains_at, slot_at}
+use Rattle.laws_engine.specs.Calls.{IsOf, broken, others}
+use Rattle.laws_engine.specs.Engines.{IsIn, Lease, PlainEngine, PlainRemains, Running, next_at, query_at, remains_at, slot_at}
 use Rattle.leases.specs.Asked.{HasOperatorAt}
 use Rattle.leases.specs.Turns.{IsOut}
 use Rattle.leases.specs.declared.state.State.{State}
@@ -47,6 +48,23 @@ with_remains e n remains = record e { queries = set e.queries n remains }
 abbrev pub HasApplied : PlainEngine → Parts → PlainEngine → Type 0
 HasApplied old d new =
     (p : PlainQuery) → remains_at old d.node.query ≡ Running p → (p2 : PlainQuery) × (IsApplied old.machine.streams p d p2 × (new ≡ with_remains old d.node.query (Running p2)))
+
+-- the same of a turn by its lease alone: it is out
+pub record IsOutAs (e : PlainEngine) (l : Lease) (q : Registered) (p : PlainQuery) : Type 0 where
+  pub out : IsIn e.leases l
+  pub of : IsOf e l q p
+
+abbrev pub IsOutAsIn : PlainEngine → Lease → Type 0
+IsOutAsIn e l = (q : Registered) × ((p : PlainQuery) × IsOutAs e l q p)
+
+-- the operator took the item, and what a turn with that puts out went on
+pub record HasTaken (streams : List Stream) (p : PlainQuery) (l : Lease) (p2 : PlainQuery) : Type 0 where
+  pub finished : HasFinished streams p l.operator l.side l.item (change_at_first (operator_at p.operators l.operator) l.side l.item) p2
+  pub put : HasPut p l.operator (outs_at_first (operator_at p.operators l.operator) l.side l.item) p2
+
+abbrev pub HasTakenIn : PlainEngine → Lease → PlainEngine → Type 0
+HasTakenIn old l new =
+    (p : PlainQuery) → remains_at old l.query ≡ Running p → (p2 : PlainQuery) × (HasTaken old.machine.streams p l p2 × (new ≡ with_remains old l.query (Running p2)))
 
 -- it is broken
 abbrev pub IsBroken : PlainEngine → ℕ → PlainEngine → Type 0

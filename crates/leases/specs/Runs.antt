@@ -1,17 +1,39 @@
--- A turn that is run before it goes out, and comes back at once.
-use Rattle.std.specs.Prelude.{ℕ}
-use Rattle.turn.specs.Finished.{IsDone}
-use Rattle.turn.specs.declared.parts.Parts.{Parts}
-use Rattle.turn.specs.declared.turns.Turn.{Turn}
+-- A turn of the first slot that its query runs in place.
+use Rattle.std.specs.Prelude.{ℕ, ◌≡◌, List}
+use Rattle.operators.specs.Runs.{Stops}
+use Rattle.operators.specs.declared.runs.Refused.{Refused}
+use Rattle.reference.specs.Machine.{Stream}
+use Rattle.laws_queries.specs.Queries.{PlainQuery, operator_at}
+use Rattle.query_runtime.specs.Runs.{CanRun, HasRun, HasRunItem}
+use Rattle.query_runtime.specs.Turns.{HasOperator, log_of}
 use Rattle.run_queue.specs.declared.slots.Slot.{Slot}
-use Rattle.laws_engine.specs.Engines.{PlainEngine}
-use Rattle.leases.specs.Leasing.{IsTurnOn}
+use Rattle.laws_engine.specs.Engines.{PlainEngine, Running, remains_at}
+use Rattle.leases.specs.Applied.{with_remains}
 
--- as it went out
-abbrev pub turn_in : Parts → Turn
-turn_in d = record { lease = d.lease; node = d.node; item = d.item; near = d.near }
+-- the slot's operator may run a turn on the slot's side, of at most so many rows
+pub record MayRunOn (streams : List Stream) (p : PlainQuery) (s : Slot) (rows : ℕ) : Type 0 where
+  pub here : HasOperator streams p s.operator
+  pub may : CanRun streams p s.operator s.side rows
 
--- it is one of the slot's operator with the next number, of at most so many rows, and was run
-pub record IsRunOf (e : PlainEngine) (s : Slot) (rows : ℕ) (d : Parts) : Type 0 where
-  pub made : IsTurnOn e s rows (turn_in d)
-  pub done : IsDone d
+abbrev pub MayRunIn : PlainEngine → Slot → ℕ → Type 0
+MayRunIn e s rows = (p : PlainQuery) × ((remains_at e s.query ≡ Running p) × MayRunOn e.machine.streams p s rows)
+
+-- IT HAS RUN
+abbrev pub HasRunOn : List Stream → PlainQuery → Slot → ℕ → PlainQuery → Type 0
+HasRunOn streams p s rows p2 = HasRun streams p s.operator s.side rows p2
+
+abbrev pub HasRunIn : PlainEngine → Slot → ℕ → PlainEngine → Type 0
+HasRunIn old s rows new =
+    (p : PlainQuery) → remains_at old s.query ≡ Running p → (p2 : PlainQuery) × (HasRunOn old.machine.streams p s rows p2 × (new ≡ with_remains old s.query (Running p2)))
+
+-- IT WAS REFUSED MEMORY: the query is as it was, or had an item in hand, and only its answers are as they were
+pub record HasItemOn (streams : List Stream) (p : PlainQuery) (s : Slot) (rows : ℕ) (p2 : PlainQuery) : Type 0 where
+  pub held : HasRunItem (operator_at p.operators s.operator) (log_of streams p s.operator) s.side rows
+  pub answers : p2.answers ≡ p.answers
+
+abbrev pub HasStoppedOn : Refused → List Stream → PlainQuery → Slot → ℕ → PlainQuery → Type 0
+HasStoppedOn r streams p s rows p2 = Stops r (p2 ≡ p) (HasItemOn streams p s rows p2)
+
+abbrev pub HasStoppedIn : Refused → PlainEngine → Slot → ℕ → PlainEngine → Type 0
+HasStoppedIn r old s rows new =
+    (p : PlainQuery) → remains_at old s.query ≡ Running p → (p2 : PlainQuery) × (HasStoppedOn r old.machine.streams p s rows p2 × (new ≡ with_remains old s.query (Running p2)))

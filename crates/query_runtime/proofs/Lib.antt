@@ -1,3 +1,4 @@
 pub mod LeaseLemmas
 pub mod AnswerLemmas
 pub mod RunLemmas
+pub mod InPlaceLemmas

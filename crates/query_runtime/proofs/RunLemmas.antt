@@ -11,7 +11,10 @@ use Rattle.op_queue.specs.Items.{front_of}
 use Rattle.op_queue.specs.Logs.{Closed}
 use Rattle.op_queue.specs.declared.item.Item.{Item}
 use Rattle.turn.specs.Turns.{Put, Answered}
-use Rattle.operators.specs.Operators.{IsFed, IsFinished, PlainOperator, first_ready, front_instant, ready, ready_at, waiting}
+use Rattle.turn.specs.declared.kinds.Kind.TheVariants as kind
+use Rattle.operators.specs.Inboxes.{IsInboxWithin}
+use Rattle.operators.specs.Operators.{IsFed, IsFinished, PlainOperator, first_ready, front_instant, inbox_of, ready, ready_at, waiting}
+use Rattle.operators.specs.Runs.{is_root}
 use Rattle.operators.specs.States.{usable}
 use Rattle.physical_plans.specs.Wiring.{wire_from}
 use Rattle.physical_plans.specs.declared.wiring.Wire.{Wire}
@@ -19,11 +22,13 @@ use Rattle.plan.specs.Nodes as plan
 use Rattle.reference.specs.Machine.{Machine, Registered}
 use Rattle.laws_dataflow.specs.Plans.{below_root}
 use Rattle.laws_queries.specs.Laws.{RootsRun, TurnsRun}
-use Rattle.laws_queries.specs.Queries.{IsAnswered, IsPlainQuery, IsRunning, IsTurned, MayFeed, MayFinish, PlainQuery, change_at_first, log_at, node_at, operator_at, source_of, stream_log}
+use Rattle.laws_queries.specs.Queries.{HasInboxes, IsAnswered, IsPlainQuery, IsRunning, IsTurned, MayFeed, MayFinish, PlainQuery, change_at_first, log_at, node_at, operator_at, source_of, stream_log}
 use Rattle.laws_queries.specs.Rooms.{IsBounded}
 use Rattle.laws_queries.specs.Steps.{IsFirst, outs_at_first}
 use Rattle.laws_queries.proofs.NodeLemmas.{roots_run, turns_run}
+use Rattle.laws_queries.proofs.QueueLemmas.{inbox_within}
 use Rattle.laws_queries.proofs.WireLemmas.{Wired, wired}
+use Rattle.query_runtime.specs.Runs.{CanRun, LeadsOn}
 use Rattle.query_runtime.specs.Turns as took
 use Rattle.query_runtime.specs.Turns.{CanFeed, CanFinish, CanLease, CanPut, HasAnswered, HasFed, HasFinished, HasOperator, HasPut, handed_out, log_of, source_at, wire_at}
 
@@ -179,6 +184,31 @@ module _ (vs ws : List ℕ) (m : Machine) (q : Registered) (turns : TurnsRun vs 
       pub runs : HasPut p k (outs_at_first (operator_at p.operators k) side i) p2 → IsPlainQuery vs ws m q taken p2
       runs put = by_number k (length q.nodes) kc (λ lt. runs_inner lt put) (λ e. runs_root e put)
 
+  -- A TURN MAY BE RUN IN PLACE
+  inboxes : HasInboxes q (log_at m q k) (node_at q k) (operator_at p.operators k)
+  inboxes = by_number k (length q.nodes) kc
+      (λ lt. (h.runs.inner k lt).inboxes)
+      (λ e. subst (λ n. HasInboxes q (log_at m q n) (node_at q n) (operator_at p.operators n)) (sym e) h.runs.last.inboxes)
+
+  within : (side : Side) → IsInboxWithin (inbox_of (operator_at p.operators k) side) (log_of m.streams p k)
+  within side = subst (λ l. IsInboxWithin (inbox_of (operator_at p.operators k) side) l) (sym log_is) (inbox_within q (log_at m q k) (node_at q k) (operator_at p.operators k) side inboxes)
+
+  leads_inner : k < below_root q.nodes → LeadsOn p k
+  leads_inner lt =
+      let w : Wired q k = wired vs m q h.runs.stands k lt in
+      let to : (wire_at p k).to ≡ (wire_from 0 q.nodes k).to = ap (λ (x : Wire). x.to) wire_is in
+      record { later = omega (arith, to, w.later); within = omega (arith, to, w.within, many, kc) }
+
+  leads : is_root (operator_at p.operators k).kind ≡ false → LeadsOn p k
+  leads below = by_number k (length q.nodes) kc leads_inner
+      (λ e.
+      let is : (operator_at p.operators k).kind ≡ kind.ToStream = ap (λ n. (operator_at p.operators n).kind) e ∙ h.runs.last.runs.kind in
+      let bad : true ≡ false = sym (ap is_root is) ∙ below in
+      absurd (cc))
+
+  pub can_run : (side : Side) (at rows : ℕ) → ready (operator_at p.operators k) (log_of m.streams p k) ≡ Some (side, at) → 0 < rows → CanRun m.streams p k side rows
+  can_run side at rows e some = record { lease = can_lease side at rows e some; within = within side; leads = leads; puts = λ i f. can_put side i f }
+
 -- ANSWERS THAT WERE TAKEN no longer wait
 still_runs : (vs ws : List ℕ) (m : Machine) (q : Registered) (before : List (ℕ × Row)) (p : PlainQuery) (limit : ℕ) → IsPlainQuery vs ws m q before p → IsPlainQuery vs ws m q (before ++ took.taken limit p.answers) (handed_out limit p)
 still_runs vs ws m q before p limit h =
@@ -193,6 +223,9 @@ pub record PlainQueriesRun (vs ws : List ℕ) (m : Machine) (q : Registered) : T
   -- where it is ready, it may be leased
   pub leases : (before : List (ℕ × Row)) (p : PlainQuery) (k : ℕ) (side : Side) (at rows : ℕ) → IsPlainQuery vs ws m q before p → k < length q.nodes
       → ready (operator_at p.operators k) (log_of m.streams p k) ≡ Some (side, at) → 0 < rows → CanLease (operator_at p.operators k) (log_of m.streams p k) side rows
+  -- or run its turn in place
+  pub in_place : (before : List (ℕ × Row)) (p : PlainQuery) (k : ℕ) (side : Side) (at rows : ℕ) → IsPlainQuery vs ws m q before p → k < length q.nodes
+      → ready (operator_at p.operators k) (log_of m.streams p k) ≡ Some (side, at) → 0 < rows → CanRun m.streams p k side rows
   -- a turn with the item that stands first may come back
   pub finishes : (before : List (ℕ × Row)) (p : PlainQuery) (k : ℕ) (side : Side) (i : Item) → IsPlainQuery vs ws m q before p → k < length q.nodes
       → IsFirst (operator_at p.operators k) (log_of m.streams p k) side i → CanFinish (operator_at p.operators k) (log_of m.streams p k) side i (change_at_first (operator_at p.operators k) side i)
@@ -211,6 +244,7 @@ run_of : (vs ws : List ℕ) (m : Machine) (q : Registered) → TurnsRun vs ws m 
 run_of vs ws m q turns roots = record {
   operators = λ taken p k h kc s. has_operator vs ws m q turns roots taken p h k kc s;
   leases = λ taken p k side at rows h kc e some. can_lease vs ws m q turns roots taken p h k kc side at rows e some;
+  in_place = λ taken p k side at rows h kc e some. can_run vs ws m q turns roots taken p h k kc side at rows e some;
   finishes = λ taken p k side i h kc f. can_come_back vs ws m q turns roots taken p h k kc side i f;
   puts = λ taken p k side i h kc f. can_put vs ws m q turns roots taken p h k kc side i f;
   runs = λ taken p p2 k side i h kc f done put. runs vs ws m q turns roots taken p h k kc side i f p2 done put;

@@ -1,13 +1,18 @@
 //! What changes at one operator.
-ghost use Rattle.std.specs.Prelude.{◌≡◌, ◌<◌, length, min, OnOk, IfOk};
+ghost use Rattle.std.specs.Prelude.{◌≡◌, ◌<◌, length, min, IfErr, IfOk, OnErr, OnOk};
 ghost use Rattle.operators.specs.Inboxes.{all_entries};
 ghost use Rattle.operators.specs.Operators.{IsFed, IsFinished, KeepsBatches};
+ghost use Rattle.operators.specs.Runs.{GivesFirst, HasItem, HasRunBelow, HasRunRoot, MayPutFirst};
+ghost use Rattle.operators.specs.Runs.{MayRun, Stops};
 ghost use Rattle.laws_queries.specs.Queries.{MayFeed, operator_at, stream_log};
+ghost use Rattle.query_runtime.specs.Runs.{OnlyAtBoth};
 ghost use Rattle.query_runtime.specs.Turns.{CanFinish, CanLease, IsLeased, OnlyAt};
 
+use crate::waiting::WaitingAnswers;
 use column::{MAX_ROWS, Side};
 use op_queue::{Item, Log};
-use operators::Operator;
+use operators::{Operator, Refused};
+use physical_plans::Wire;
 use std::alloc::{AllocError, Global};
 use stream_store::Streams;
 use turn::{Change, Near};
@@ -39,7 +44,7 @@ pub(crate) fn leased(
     Ok((item, near))
 }
 
-fn within_a_batch(rows: usize) -> usize
+pub(crate) fn within_a_batch(rows: usize) -> usize
     ensures { result ≡ min rows 1024 }
 {
     rows.min(MAX_ROWS)
@@ -83,4 +88,58 @@ pub(crate) fn feed_at(
     ensures only { OnOk result (OnlyAt number operators.old.items operators.new.items) }
 {
     operators[number].feed(side, items)
+}
+
+/// The operator of a number runs a turn, and what that puts out goes where the wire leads, to an
+/// operator that stands later.
+pub(crate) fn run_below_at(
+    operators: &mut Vec<Operator>,
+    alloc: Global,
+    log: &Log,
+    number: usize,
+    side: Side,
+    rows: usize,
+    wire: Wire,
+) -> Result<(), Refused>
+    requires later { number < wire.to }
+    requires above { wire.to < length operators.old.items }
+    requires may { MayRun (operator_at operators.old.items number) log.now side rows }
+    requires puts { MayPutFirst (operator_at operators.old.items number) log.now side rows
+        (operator_at operators.old.items wire.to) wire.side }
+    ensures ok { OnOk result
+        (HasRunBelow (operator_at operators.old.items number) log.now side rows
+        (operator_at operators.old.items wire.to) wire.side
+        (operator_at operators.new.items number) (operator_at operators.new.items wire.to)) }
+    ensures only { OnlyAtBoth number wire.to operators.old.items operators.new.items }
+    ensures err { IfErr result (λ refused. Stops refused
+        (operators.new.items ≡ operators.old.items)
+        (HasItem (operator_at operators.old.items number) log.now side rows)) }
+{
+    let (below, above) = operators.split_at_mut(wire.to);
+    below[number].run_below(alloc, log, side, rows, &mut above[0], wire.side)
+}
+
+/// The operator of a number, a root, runs a turn, and what that answers goes behind the answers.
+pub(crate) fn run_root_at(
+    operators: &mut Vec<Operator>,
+    alloc: Global,
+    log: &Log,
+    number: usize,
+    side: Side,
+    rows: usize,
+    answers: &mut WaitingAnswers,
+) -> Result<(), Refused>
+    requires here { number < length operators.old.items }
+    requires may { MayRun (operator_at operators.old.items number) log.now side rows }
+    requires gives { GivesFirst (operator_at operators.old.items number) log.now side rows }
+    ensures ok { OnOk result
+        (HasRunRoot (operator_at operators.old.items number) log.now side rows answers.old
+        (operator_at operators.new.items number) answers.new) }
+    ensures only { OnlyAt number operators.old.items operators.new.items }
+    ensures err { IfErr result (λ refused. Stops refused
+        (operators.new.items ≡ operators.old.items)
+        (HasItem (operator_at operators.old.items number) log.now side rows)) }
+    ensures answers { OnErr result (answers.new ≡ answers.old) }
+{
+    answers.run_root(alloc, &mut operators[number], log, side, rows)
 }

@@ -1,10 +1,12 @@
 //! Running queries.
-ghost use Rattle.std.specs.Prelude.{◌≡◌, ◌<◌, [], true, length, All, IfOk, OnOk, OnErr};
+ghost use Rattle.std.specs.Prelude.{◌≡◌, ◌<◌, [], false, true, length, All, IfErr, IfOk, OnOk};
+ghost use Rattle.std.specs.Prelude.{OnErr};
 ghost use Rattle.std.specs.Arc.{arc_value};
 ghost use Rattle.op_queue.specs.Items.{entries_of};
 ghost use Rattle.turn.specs.Turns.{outs_in};
 ghost use Rattle.operators.specs.Inboxes.{all_entries};
 ghost use Rattle.operators.specs.Operators.{KeepsBatches, ready, waiting};
+ghost use Rattle.operators.specs.Runs.{Stops, is_root};
 ghost use Rattle.column.specs.declared.batch.Side.TheVariants.{Left, Right};
 ghost use Rattle.physical_plans.specs.Beginnings.{HaveNarrowRows, IsMakeable, widths_of};
 ghost use Rattle.to_stream.specs.Turns.{answers_of};
@@ -12,17 +14,18 @@ ghost use Rattle.reference.specs.CallViews.{handed_of};
 ghost use Rattle.reference.specs.Inputs.{are_signed};
 ghost use Rattle.reference.specs.World.{handed};
 ghost use Rattle.laws_queries.specs.Queries.{operator_at};
+ghost use Rattle.query_runtime.specs.Runs.{CanRun, HasRun, HasRunItem};
 ghost use Rattle.query_runtime.specs.Turns.{CanFeed, CanFinish, CanLease, CanPut, HasAnswered};
 ghost use Rattle.query_runtime.specs.Turns.{HasFed, HasFinished, HasBatches, HasOperator, HasPut};
 ghost use Rattle.query_runtime.specs.Turns.{IsBeginning, IsLeased, handed_out, log_of, source_at};
 ghost use Rattle.query_runtime.specs.Turns.{taken, wire_at};
 
-use crate::moves::{feed_at, finish_at, leased, log_at};
+use crate::moves::{feed_at, finish_at, leased, log_at, run_below_at, run_root_at, within_a_batch};
 use crate::sources::sources_of;
 use crate::waiting::WaitingAnswers;
 use column::Side;
 use op_queue::{Item, Log};
-use operators::Operator;
+use operators::{Operator, Refused};
 use physical_plans::{Wire, operators_of, wires};
 use plan::Plan;
 use std::alloc::{AllocError, Global};
@@ -197,6 +200,34 @@ impl RunningQuery {
         }
     }
 
+    /// Runs a turn of an operator in place: what stands first on the side leaves, at most `rows`
+    /// rows and no more than a batch has, or a tick, and what the turn puts out goes on. It costs
+    /// the item, what the operator looks up for it, and the outputs.
+    ///
+    /// Memory may be refused before anything was taken: then all is as it was. Where it is refused
+    /// within, only the answers are, and the query can only be given up.
+    pub fn run(
+        &mut self,
+        alloc: Global,
+        streams: &Streams,
+        operator: usize,
+        side: Side,
+        rows: usize,
+    ) -> Result<(), Refused>
+        requires here { HasOperator streams.now self.old operator }
+        requires may { CanRun streams.now self.old operator side rows }
+        ensures ok { OnOk result (HasRun streams.now self.old operator side rows self.new) }
+        ensures err { IfErr result (λ refused. Stops refused (self.new ≡ self.old)
+            (HasRunItem (operator_at self.old.operators operator)
+            (log_of streams.now self.old operator) side rows)) }
+        ensures answers { OnErr result (self.new.answers ≡ self.old.answers) }
+    {
+        if self.operator(operator).is_root() {
+            return self.run_root(alloc, streams, operator, side, rows);
+        }
+        self.run_below(alloc, streams, operator, side, rows)
+    }
+
     /// Hands out the first answers that wait, at most `limit`, at the cost of these. Where memory
     /// is refused it is as it was.
     pub fn take(&mut self, alloc: Global, limit: usize) -> Result<Vec<(i64, Row)>, AllocError>
@@ -296,5 +327,60 @@ impl RunningQuery {
         let log = self.log(streams, operator);
         finish_at(&mut self.operators, log, operator, side, item, change)?;
         self.answers.add(answers)
+    }
+
+    /// Runs a turn of an operator below the root.
+    fn run_below(
+        &mut self,
+        alloc: Global,
+        streams: &Streams,
+        operator: usize,
+        side: Side,
+        rows: usize,
+    ) -> Result<(), Refused>
+        requires here { HasOperator streams.now self.old operator }
+        requires may { CanRun streams.now self.old operator side rows }
+        requires below { is_root (operator_at self.old.operators operator).kind ≡ false }
+        ensures ok { OnOk result (HasRun streams.now self.old operator side rows self.new) }
+        ensures err { IfErr result (λ refused. Stops refused (self.new ≡ self.old)
+            (HasRunItem (operator_at self.old.operators operator)
+            (log_of streams.now self.old operator) side rows)) }
+        ensures answers { OnErr result (self.new.answers ≡ self.old.answers) }
+    {
+        let rows = within_a_batch(rows);
+        let log = self.log(streams, operator);
+        let wire = self.wire(operator);
+        run_below_at(&mut self.operators, alloc, log, operator, side, rows, wire)
+    }
+
+    /// Runs a turn of the root.
+    fn run_root(
+        &mut self,
+        alloc: Global,
+        streams: &Streams,
+        operator: usize,
+        side: Side,
+        rows: usize,
+    ) -> Result<(), Refused>
+        requires here { HasOperator streams.now self.old operator }
+        requires may { CanRun streams.now self.old operator side rows }
+        requires root { is_root (operator_at self.old.operators operator).kind ≡ true }
+        ensures ok { OnOk result (HasRun streams.now self.old operator side rows self.new) }
+        ensures err { IfErr result (λ refused. Stops refused (self.new ≡ self.old)
+            (HasRunItem (operator_at self.old.operators operator)
+            (log_of streams.now self.old operator) side rows)) }
+        ensures answers { OnErr result (self.new.answers ≡ self.old.answers) }
+    {
+        let rows = within_a_batch(rows);
+        let log = self.log(streams, operator);
+        run_root_at(
+            &mut self.operators,
+            alloc,
+            log,
+            operator,
+            side,
+            rows,
+            &mut self.answers,
+        )
     }
 }

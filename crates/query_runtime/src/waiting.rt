@@ -1,13 +1,17 @@
 //! Answers that wait to be taken.
 ghost use Rattle.std.specs.Prelude.{◌≡◌, ◌≤◌, ◌+◌, ◌++◌, [], true, length, min, take, drop};
-ghost use Rattle.std.specs.Prelude.{IfOk, OnErr, OnOk, vec_capacity, vec_len};
+ghost use Rattle.std.specs.Prelude.{IfErr, IfOk, OnErr, OnOk, vec_capacity, vec_len};
 ghost use Rattle.std.specs.VecDeque.{deque_len};
+ghost use Rattle.operators.specs.Runs.{GivesFirst, HasItem, HasRunRoot, MayRun, Stops};
 ghost use Rattle.to_stream.specs.Turns.{answers_of};
 ghost use Rattle.reference.specs.CallViews.{handed_of};
 ghost use Rattle.reference.specs.Inputs.{are_signed};
 ghost use Rattle.reference.specs.World.{handed};
 ghost use Rattle.query_runtime.specs.Turns.{left_behind, taken};
 
+use column::Side;
+use op_queue::Log;
+use operators::{Operator, Refused};
 use std::alloc::{AllocError, Global};
 use std::collections::VecDeque;
 use std::marker::Model;
@@ -54,6 +58,27 @@ impl WaitingAnswers {
     {
         let mut answers = VecDeque::from_vec(answers);
         self.answers.append(&mut answers)
+    }
+
+    /// A root runs a turn, and what that answers goes behind the others. These are as they were
+    /// after an error.
+    pub(crate) fn run_root(
+        &mut self,
+        alloc: Global,
+        root: &mut Operator,
+        log: &Log,
+        side: Side,
+        rows: usize,
+    ) -> Result<(), Refused>
+        requires may { MayRun root.old log.now side rows }
+        requires gives { GivesFirst root.old log.now side rows }
+        ensures ok { OnOk result
+            (HasRunRoot root.old log.now side rows self.old root.new self.new) }
+        ensures err { IfErr result (λ refused. Stops refused (root.new ≡ root.old)
+            (HasItem root.old log.now side rows)) }
+        ensures answers { OnErr result (self.new ≡ self.old) }
+    {
+        root.run_root(alloc, log, side, rows, &mut self.answers)
     }
 
     /// Hands out the first answers, at most `limit`, at the cost of these. Where memory is refused

@@ -1,21 +1,28 @@
 //! Turns that go out and come back until nothing is ready.
-ghost use Rattle.std.specs.Prelude.{◌≡◌, ◌≢◌, ◌<◌, Err, IfOk, None, OnErr, OnOk, Some, length};
+ghost use Rattle.std.specs.Prelude.{◌≡◌, ◌≢◌, ◌<◌, Err, IfErr, None, OnErr, OnOk, Some, length};
 ghost use Rattle.reference.specs.World.{drain_fault};
 ghost use Rattle.reference.specs.declared.fault.Fault.TheVariants.{OutOfMemory};
 ghost use Rattle.run_queue.specs.Slots.{first_of};
+ghost use Rattle.laws_queries.specs.Queries.{PlainQuery};
+ghost use Rattle.laws_engine.specs.Engines.{Running};
+ghost use Rattle.leases.specs.Applied.{GivesNothing};
 ghost use Rattle.leases.specs.Drains.{HasWanted, LeavesOthers, OneHasRun, RunsFirst, RunsTurns};
-ghost use Rattle.leases.specs.Runs.{IsRunOf};
+ghost use Rattle.leases.specs.Runs.{HasRunIn, HasRunOn, HasStoppedIn, HasStoppedOn, MayRunIn};
+ghost use Rattle.leases.specs.Runs.{MayRunOn};
 ghost use Rattle.leases.specs.Shown.{engine_in};
 ghost use Rattle.leases.specs.Sound.{IsSound};
 ghost use Rattle.leases.specs.Turns.{lease_fault};
+ghost use Rattle.leases.specs.Views.{remains_of};
 ghost use Rattle.leases.specs.Whole.{IsWhole};
 
 use crate::limits::{LEASE_NUMBERS, MAX_LEASES};
+use crate::remains::Remains;
 use crate::state::State;
+use operators::Refused;
 use reference::{Fault, turn_fault};
 use run_queue::Slot;
-use std::alloc::AllocError;
-use turn::Done;
+use std::alloc::{AllocError, Global};
+use stream_store::Streams;
 
 impl State {
     /// Runs turns of at most `rows` rows until no operator may take anything.
@@ -67,10 +74,10 @@ impl State {
         }
     }
 
-    /// Runs a turn of the first slot, and its query takes it at once: nobody can see the turn
-    /// meanwhile, so no copy of it is kept.
+    /// Runs a turn of the first slot in place, with the next number: nobody can see the turn
+    /// meanwhile, so none is made.
     ///
-    /// Where memory is refused before the query takes it, all is as it was; else the query breaks.
+    /// Where memory is refused before the query took anything, all is as it was; else it breaks.
     fn run_slot(&mut self, slot: &Slot, rows: usize) -> Result<(), AllocError>
         requires sound { IsSound self.old }
         requires first { first_of self.old.slots ≡ Some slot.now }
@@ -82,27 +89,64 @@ impl State {
         ensures err { OnErr result (HasWanted rows (engine_in self.old) (engine_in self.new)) }
         ensures sound { IsSound self.new }
     {
-        let done = self.run_of(slot, rows)?;
-        let above = self.above(slot.query(), slot.operator());
-        self.next += 1;
-        let parts = done.into_parts();
-        let lease = parts.lease;
-        self.apply(parts)?;
-        self.end_turn(lease, *slot, above);
-        Ok(())
+        let query = slot.query();
+        let lease = self.next;
+        let above = self.above(query, slot.operator());
+        match self.run_query(slot, rows) {
+            Ok(()) => {
+                self.next = lease + 1;
+                self.end_turn(lease, *slot, above);
+                Ok(())
+            },
+            Err(Refused::Before) => Err(AllocError),
+            Err(Refused::Within) => {
+                self.next = lease + 1;
+                self.break_query(query);
+                Err(AllocError)
+            },
+        }
     }
 
-    /// A turn of the first slot, made and run.
-    fn run_of(&self, slot: &Slot, rows: usize) -> Result<Done, AllocError>
-        requires sound { IsSound self.now }
-        requires first { first_of self.now.slots ≡ Some slot.now }
-        requires some { 0 < rows }
-        ensures { IfOk result (λ d. IsRunOf (engine_in self.now) slot.now rows d) }
+    /// The slot's query runs a turn.
+    fn run_query(&mut self, slot: &Slot, rows: usize) -> Result<(), Refused>
+        requires { MayRunIn (engine_in self.old) slot.now rows }
+        ensures ok { OnOk result
+            (HasRunIn (engine_in self.old) slot.now rows (engine_in self.new)) }
+        ensures err { IfErr result (λ refused.
+            HasStoppedIn refused (engine_in self.old) slot.now rows (engine_in self.new)) }
+        ensures rest { GivesNothing self.old self.new }
     {
-        let turn = self.turn(slot, rows)?;
-        match turn.run(self.alloc) {
-            Ok(done) => Ok(done),
-            Err(_) => Err(AllocError),
+        run_in(
+            &mut self.remains[slot.query() as usize],
+            self.alloc,
+            &self.streams,
+            slot,
+            rows,
+        )
+    }
+}
+
+/// The running query runs a turn of the slot's operator.
+fn run_in(
+    remains: &mut Remains,
+    alloc: Global,
+    streams: &Streams,
+    slot: &Slot,
+    rows: usize,
+) -> Result<(), Refused>
+    requires { (p : PlainQuery) × ((remains_of remains.old ≡ Running p)
+        × MayRunOn streams.now p slot.now rows) }
+    ensures ok { OnOk result ((p : PlainQuery) → remains_of remains.old ≡ Running p
+        → (p2 : PlainQuery)
+        × ((remains_of remains.new ≡ Running p2) × HasRunOn streams.now p slot.now rows p2)) }
+    ensures err { IfErr result (λ refused. (p : PlainQuery) → remains_of remains.old ≡ Running p
+        → (p2 : PlainQuery) × ((remains_of remains.new ≡ Running p2)
+        × HasStoppedOn refused streams.now p slot.now rows p2)) }
+{
+    match remains {
+        Remains::Running(query) => {
+            query.run(alloc, streams, slot.operator(), slot.side(), rows)
         }
+        _ => unreachable!(),
     }
 }

@@ -132,7 +132,7 @@ impl State {
 
     /// Breaks the query: its turns end, its slots and windows leave, and what waits can be taken
     /// still. Takes no memory.
-    fn break_query(&mut self, query: u64)
+    pub(crate) fn break_query(&mut self, query: u64)
         requires { IsRunningAt (engine_in self.old) query }
         ensures engine { IsBroken (engine_in self.old) query (engine_in self.new) }
         ensures forgets { Forgets query self.old self.new }

@@ -1,60 +1,70 @@
--- The turn is run, its query takes it, and its slot is told, and that of the operator above.
-use Rattle.std.proofs.Common.{inr, sym, subst}
-use Rattle.leases.specs.Applied.{HasWiredOperators, IsAbove, MayApplyIn}
-use Rattle.leases.specs.Asked.{HasOperatorAt}
-use Rattle.leases.specs.Runs.{IsRunOf}
+-- The turn is run in place, and its slot is told, and that of the operator above.
+use Rattle.std.proofs.Common.{sym, subst}
+use Rattle.leases.specs.Applied.{Forgets, HasWiredOperators, IsAbove, IsBroken}
+use Rattle.leases.specs.Asked.{HasOperatorAt, IsRunningAt}
 use Rattle.leases.specs.Shown.{engine_in}
-use Rattle.leases.proofs.FinishBackLemmas.{gives_on}
-use Rattle.leases.proofs.StepLemmas.{broke_one, broke_sound, counted, held_on_err, may_look_here, may_look_over, may_take, may_tell_here, may_tell_over, ran, ran_sound}
+use Rattle.leases.proofs.InPlaceLemmas.{before_sound, given, has_run, may_break, run_sound, tells_here, tells_over, wanted_before, wanted_within, within_sound}
+use Rattle.leases.proofs.LeaseLemmas.{first_runs}
+use Rattle.leases.proofs.StepLemmas.{may_look_here, may_look_over}
 use Rattle.leases.proofs.state.State.run_slot.Goals as goal
 
 pub above-above-requires-clause-here : goal.above-above-requires-clause-here
 above-above-requires-clause-here c =
-    subst (λ n. HasOperatorAt (engine_in c.args.self.now) n c.operator.result) (sym c.query.ensures)
-    (subst (λ k. HasOperatorAt (engine_in c.args.self.now) c.args.slot.now.query k) (sym c.operator.ensures) (may_look_here c.args.self.now c.args.slot.now c.args.rows c.in_ok-done.done c.requires.sound c.requires.first c.requires.allowed c.requires.numbers c.in_ok-done.ensures))
+    subst (λ n. HasOperatorAt (engine_in c.args.self.now) n c.operator.result) (sym c.query-query.ensures)
+    (subst (λ k. HasOperatorAt (engine_in c.args.self.now) c.args.slot.now.query k) (sym c.operator.ensures) (may_look_here c.args.self.now c.args.slot.now c.requires.sound c.requires.first))
 
 pub above-above-requires-clause-wired : goal.above-above-requires-clause-wired
-above-above-requires-clause-wired c =
-    subst (λ n. HasWiredOperators (engine_in c.args.self.now) n) (sym c.query.ensures) (may_look_over c.args.self.now c.args.slot.now c.args.rows c.in_ok-done.done c.requires.sound c.requires.first c.requires.allowed c.requires.numbers c.in_ok-done.ensures)
+above-above-requires-clause-wired c = subst (λ n. HasWiredOperators (engine_in c.args.self.now) n) (sym c.query-query.ensures) (may_look_over c.args.self.now c.args.slot.now c.requires.sound c.requires.first)
 
-pub apply-requires : goal.apply-requires
-apply-requires c =
-    subst (λ d. MayApplyIn (engine_in (counted c.args.self.now)) d) (sym c.into_parts-parts.ensures.value) (may_take c.args.self.now c.args.slot.now c.args.rows c.in_ok-done.done c.requires.sound c.requires.first c.requires.allowed c.requires.numbers c.in_ok-done.ensures)
+pub run_query-requires : goal.run_query-requires
+run_query-requires c = first_runs (engine_in c.args.self.now) c.args.slot.now c.args.rows c.requires.sound.good c.requires.first c.requires.some
 
--- ITS QUERY BREAKS
-pub returns-in_err-apply-clause-err : goal.returns-in_err-apply-clause-err
-returns-in_err-apply-clause-err c =
-    let run : IsRunOf (engine_in c.args.self.now) c.args.slot.now c.args.rows c.into_parts-parts.result = subst (IsRunOf (engine_in c.args.self.now) c.args.slot.now c.args.rows) (sym c.into_parts-parts.ensures.value) c.in_ok-done.ensures in
-    held_on_err c.from_residual-in_err-apply.result (inr (broke_one c.args.self.now c.args.slot.now c.args.rows c.into_parts-parts.result c.requires.sound c.requires.first c.requires.allowed c.requires.numbers run c.apply.new.self c.in_err-apply.ensures.err))
-
-pub returns-in_err-apply-clause-sound : goal.returns-in_err-apply-clause-sound
-returns-in_err-apply-clause-sound c =
-    let run : IsRunOf (engine_in c.args.self.now) c.args.slot.now c.args.rows c.into_parts-parts.result = subst (IsRunOf (engine_in c.args.self.now) c.args.slot.now c.args.rows) (sym c.into_parts-parts.ensures.value) c.in_ok-done.ensures in
-    broke_sound c.args.self.now c.args.slot.now c.args.rows c.into_parts-parts.result c.requires.sound c.requires.first c.requires.allowed c.requires.numbers run c.apply.new.self c.in_err-apply.ensures.err c.in_err-apply.ensures.forgets
-
--- IT TAKES THE TURN
-run : (c : goal.After-end_turn-arg-2-1) → IsRunOf (engine_in c.args.self.now) c.args.slot.now c.args.rows c.into_parts-parts.result
-run c = subst (IsRunOf (engine_in c.args.self.now) c.args.slot.now c.args.rows) (sym c.into_parts-parts.ensures.value) c.in_ok-done.ensures
-
-over : (c : goal.After-end_turn-arg-2-1) → IsAbove (engine_in c.args.self.now) c.args.slot.now.query c.args.slot.now.operator c.above-above.result
+-- IT HAS RUN
+over : (c : goal.After-end_turn-in-Ok-arg-2-1) → IsAbove (engine_in c.args.self.now) c.args.slot.now.query c.args.slot.now.operator c.above-above.result
 over c =
-    subst (λ n. IsAbove (engine_in c.args.self.now) n c.args.slot.now.operator c.above-above.result) c.query.ensures
-    (subst (λ k. IsAbove (engine_in c.args.self.now) c.query.result k c.above-above.result) c.operator.ensures c.above-above.ensures)
+    subst (λ n. IsAbove (engine_in c.args.self.now) n c.args.slot.now.operator c.above-above.result) c.query-query.ensures
+    (subst (λ k. IsAbove (engine_in c.args.self.now) c.query-query.result k c.above-above.result) c.operator.ensures c.above-above.ensures)
 
-pub end_turn-requires-clause-here : goal.end_turn-requires-clause-here
-end_turn-requires-clause-here c =
-    may_tell_here c.args.self.now c.args.slot.now c.args.rows c.into_parts-parts.result c.requires.sound c.requires.first c.requires.allowed c.requires.numbers (run c) c.above-above.result (over c) (engine_in c.apply.new.self) c.in_ok-apply.ensures.ok
+pub end_turn-requires-in-Ok-clause-here : goal.end_turn-requires-in-Ok-clause-here
+end_turn-requires-in-Ok-clause-here c =
+    tells_here c.args.self.now c.args.slot.now c.args.rows c.requires.sound c.requires.first c.requires.allowed c.requires.numbers c.run_query.new.self c.in-Ok.ensures.ok c.above-above.result (over c)
 
-pub end_turn-requires-clause-over : goal.end_turn-requires-clause-over
-end_turn-requires-clause-over c =
-    may_tell_over c.args.self.now c.args.slot.now c.args.rows c.into_parts-parts.result c.requires.sound c.requires.first c.requires.allowed c.requires.numbers (run c) c.above-above.result (over c) (engine_in c.apply.new.self) c.in_ok-apply.ensures.ok
+pub end_turn-requires-in-Ok-clause-over : goal.end_turn-requires-in-Ok-clause-over
+end_turn-requires-in-Ok-clause-over c =
+    tells_over c.args.self.now c.args.slot.now c.args.rows c.requires.sound c.requires.first c.requires.allowed c.requires.numbers c.run_query.new.self c.in-Ok.ensures.ok c.above-above.result (over c)
 
-pub returns-clause-ok : goal.returns-clause-ok
-returns-clause-ok c =
-    ran c.args.self.now c.args.slot.now c.args.rows c.into_parts-parts.result c.requires.sound c.requires.first c.requires.allowed c.requires.numbers (run c.before) c.above-above.result (over c.before) (engine_in c.apply.new.self) c.in_ok-apply.ensures.ok
+pub returns-in-Ok-clause-ok : goal.returns-in-Ok-clause-ok
+returns-in-Ok-clause-ok c =
+    has_run c.args.self.now c.args.slot.now c.args.rows c.requires.sound c.requires.first c.requires.allowed c.requires.numbers c.run_query.new.self c.in-Ok.ensures.ok c.above-above.result (over c.before)
     (engine_in c.end_turn.new.self) c.end_turn.ensures.ended
 
-pub returns-clause-sound : goal.returns-clause-sound
-returns-clause-sound c =
-    ran_sound c.args.self.now c.args.slot.now c.args.rows c.into_parts-parts.result c.requires.sound c.requires.first c.requires.allowed c.requires.numbers (run c.before) c.above-above.result (over c.before) (engine_in c.apply.new.self) c.in_ok-apply.ensures.ok
-    c.end_turn.new.self c.end_turn.ensures.ended (gives_on (counted c.args.self.now) c.apply.new.self c.end_turn.new.self c.in_ok-apply.ensures.rest c.end_turn.ensures.rest)
+pub returns-in-Ok-clause-sound : goal.returns-in-Ok-clause-sound
+returns-in-Ok-clause-sound c =
+    run_sound c.args.self.now c.args.slot.now c.args.rows c.requires.sound c.requires.first c.requires.allowed c.requires.numbers c.run_query.new.self c.in-Ok.ensures.ok c.above-above.result (over c.before)
+    c.end_turn.new.self c.end_turn.ensures.ended c.run_query.ensures.rest c.end_turn.ensures.rest
+
+-- IT HAD TAKEN NOTHING
+pub returns-in-Err-Before-clause-err : goal.returns-in-Err-Before-clause-err
+returns-in-Err-Before-clause-err c =
+    wanted_before c.args.self.now c.args.slot.now c.args.rows c.requires.sound c.requires.first c.requires.allowed c.requires.numbers c.run_query.new.self c.in-Err-Before.ensures.err
+
+pub returns-in-Err-Before-clause-sound : goal.returns-in-Err-Before-clause-sound
+returns-in-Err-Before-clause-sound c =
+    before_sound c.args.self.now c.args.slot.now c.args.rows c.requires.sound c.requires.first c.requires.allowed c.requires.numbers c.run_query.new.self c.in-Err-Before.ensures.err c.run_query.ensures.rest
+
+-- ITS QUERY BREAKS
+pub break_query-requires-in-Err-Within : goal.break_query-requires-in-Err-Within
+break_query-requires-in-Err-Within c =
+    subst (IsRunningAt (engine_in (given c.run_query.new.self c.args.self.now.next))) (sym c.query-query.ensures)
+    (may_break c.args.self.now c.args.slot.now c.args.rows c.requires.sound c.requires.first c.requires.allowed c.requires.numbers c.run_query.new.self c.in-Err-Within.ensures.err)
+
+pub returns-in-Err-Within-clause-err : goal.returns-in-Err-Within-clause-err
+returns-in-Err-Within-clause-err c =
+    wanted_within c.args.self.now c.args.slot.now c.args.rows c.requires.sound c.requires.first c.requires.allowed c.requires.numbers c.run_query.new.self c.in-Err-Within.ensures.err c.break_query.new.self
+    (subst (λ n. IsBroken (engine_in (given c.run_query.new.self c.args.self.now.next)) n (engine_in c.break_query.new.self)) c.query-query.ensures c.break_query.ensures.engine)
+
+pub returns-in-Err-Within-clause-sound : goal.returns-in-Err-Within-clause-sound
+returns-in-Err-Within-clause-sound c =
+    within_sound c.args.self.now c.args.slot.now c.args.rows c.requires.sound c.requires.first c.requires.allowed c.requires.numbers c.run_query.new.self c.in-Err-Within.ensures.err c.break_query.new.self
+    (subst (λ n. IsBroken (engine_in (given c.run_query.new.self c.args.self.now.next)) n (engine_in c.break_query.new.self)) c.query-query.ensures c.break_query.ensures.engine)
+    (subst (λ n. Forgets n (given c.run_query.new.self c.args.self.now.next) c.break_query.new.self) c.query-query.ensures c.break_query.ensures.forgets) c.run_query.ensures.rest

@@ -28,11 +28,6 @@ put_rows width instant n rows [] = (instant, with_rows n rows (none_at width)) �
 put_rows width instant n rows (e ∷ es) =
     match_ordering (nat_cmp instant e.0) ((instant, with_rows n rows (none_at width)) ∷ e ∷ es) ((e.0, with_rows n rows e.1) ∷ es) (e ∷ put_rows width instant n rows es)
 
--- how many of the first rows have this instant
-abbrev pub count_at : ℕ → List (ℕ × Row) → ℕ
-count_at instant [] = 0
-count_at instant (r ∷ rows) = if r.0 == instant then suc (count_at instant rows) else 0
-
 -- the rows have this instant
 abbrev pub AreAt : ℕ → List (ℕ × Row) → Type 0
 AreAt instant rows = AllByRecursion (λ (r : ℕ × Row). r.0 ≡ instant) rows

@@ -1,18 +1,19 @@
 -- Rows that are kept flat: more behind them, the first ones, and the rest.
-use Rattle.std.proofs.Common.{◌≡◌, ◌≤◌, ◌<◌, ◌+◌, ◌*◌, ℕ, ℤ, zero, suc, Bool, true, false, cond, nat_lt, Option, List, [], ◌∷◌, ◌++◌, take, drop, length, map, refl, sym, ap, ap₂, subst, ◌∙◌, arith, length-append, length-drop, get_or, append_assoc, drop-cons, zero-mul}
+use Rattle.std.proofs.Common.{◌≡◌, ◌≤◌, ◌<◌, ◌+◌, ◌-◌, ◌*◌, ℕ, ℤ, zero, suc, Bool, true, false, cond, nat_lt, Option, List, [], ◌∷◌, ◌++◌, take, drop, length, map, refl, sym, ap, ap₂, subst, ◌∙◌, arith, length-append, length-drop, get_or, append_assoc, drop-cons, zero-mul}
 use Rattle.std.specs.List.{filter, range_with_len}
 use Rattle.std.proofs.Math.Nat.{add-mul}
 use Rattle.std.proofs.lemmas.List.{length-map, take-append-le, drop-append-le, drop-take, drop-drop, map-append}
-use Rattle.std.proofs.lemmas.List.FromFn.{length-map-range_with_len}
+use Rattle.std.proofs.lemmas.List.FromFn.{length-range_with_len, length-map-range_with_len, map-range_with_len_more}
 use Rattle.values.specs.Row.{Row}
 use Rattle.values.specs.Window.{Element}
 use Rattle.arrayvec.specs.ArrayVec.{ArrayVec}
 use Rattle.op_queue.specs.Tables.{element}
 use Rattle.op_queue.specs.declared.log.Arrival.{Arrival}
+use Rattle.op_queue.proofs.RunLemmas.{range_with_len-add}
 use Rattle.stream_store.specs.Open.{elements_at}
-use Rattle.stream_store.specs.LateRows.{lent_rows, numbered_rows, rows_in}
+use Rattle.stream_store.specs.LateRows.{IsFlat, lent_rows, numbered_rows, rows_in}
 use Rattle.stream_store.specs.declared.ordered_rows.Head.{Head}
-use Rattle.stream_store.specs.OpenRows.{headed, key_of, keys_from, risen_in}
+use Rattle.stream_store.specs.OpenRows.{headed, instant_of, key_of, keys_from, risen_in}
 
 -- the values of a first row, and of the others
 pub rest_full : (width : ℕ) (count : ℕ) (values : List (Option ℤ)) → length values ≡ suc count * width → length (drop width values) ≡ count * width
@@ -99,11 +100,38 @@ numbered_lent width n (t ∷ instants) values =
     ap (λ k. (n, take width values) ∷ numbered_rows k (lent_rows width instants (drop width values))) next
     ∙ ap (λ (rs : List (ℕ × Row)). (n, take width values) ∷ rs) (numbered_lent width (n + 1) instants (drop width values))
 
-pub pushed_rows : (width n : ℕ) (numbers : List ℕ) (values longer : List (Option ℤ)) (instants : List ℤ) → length values ≡ length numbers * width
+pushed_rows : (width n : ℕ) (numbers : List ℕ) (values longer : List (Option ℤ)) (instants : List ℤ) → length values ≡ length numbers * width
     → rows_in width (numbers ++ range_with_len n (length instants)) (values ++ longer) ≡ rows_in width numbers values ++ numbered_rows n (lent_rows width instants longer)
 pushed_rows width n numbers values longer instants full =
     rows_in-append width numbers (range_with_len n (length instants)) values longer full
     ∙ ap (λ (rs : List (ℕ × Row)). rows_in width numbers values ++ rs) (sym (numbered_lent width n instants longer))
+
+pub record IsPushed (width n : ℕ) (numbers more : List ℕ) (values longer : List (Option ℤ)) (instants : List ℤ) (given : List (Option ℤ)) : Type 0 where
+  pub flat : IsFlat width more longer
+  pub rows : rows_in width more longer ≡ rows_in width numbers values ++ numbered_rows n (lent_rows width instants given)
+
+pub pushed_late : (width n : ℕ) (numbers more : List ℕ) (values longer : List (Option ℤ)) (instants : List ℤ) (given : List (Option ℤ)) → IsFlat width numbers values → length given ≡ length instants * width
+    → more ≡ numbers ++ range_with_len n (length instants) → longer ≡ values ++ given → IsPushed width n numbers more values longer instants given
+pushed_late width n numbers more values longer instants given flat full counted valued =
+    let long : length more ≡ length numbers + length instants =
+    ap length counted ∙ length-append numbers (range_with_len n (length instants)) ∙ ap (λ k. length numbers + k) (length-range_with_len n (length instants)) in
+    record {
+      flat = record { few = flat.few; full = ap length valued ∙ append_full width (length instants) numbers more values given flat.full full long };
+      rows = ap₂ (λ (ns : List ℕ) (vs : List (Option ℤ)). rows_in width ns vs) counted valued ∙ pushed_rows width n numbers values given instants flat.full;
+    }
+
+-- one more number
+pub one_number : (first number : ℕ) (start old new : List ℕ) → first ≤ number → new ≡ old ++ number ∷ [] → old ≡ start ++ range_with_len first (number - first) → new ≡ start ++ range_with_len first (number + 1 - first)
+one_number first number start old new le pushed sofar =
+    let k : ℕ = number - first in
+    let more : number + 1 - first ≡ k + 1 = omega (arith, le) in
+    let here : first + k ≡ number = omega (arith, le) in
+    pushed
+    ∙ ap (λ (ns : List ℕ). ns ++ number ∷ []) sofar
+    ∙ append_assoc start (range_with_len first k) (number ∷ [])
+    ∙ ap (λ m. start ++ (range_with_len first k ++ m ∷ [])) (sym here)
+    ∙ ap (λ (ns : List ℕ). start ++ ns) (sym (range_with_len-add first k 1))
+    ∙ ap (λ n. start ++ range_with_len first n) (sym more)
 
 -- ---- the same of rows that rise, of which the heads tell the instant and the number
 abbrev keyed : (ℕ × ℕ) × Row → Element
@@ -131,6 +159,20 @@ pushed_risen width t n heads more values longer instants full pushed =
     ∙ ap (map keyed) (rows_in-append width keys new values longer (full ∙ ap (λ k. k * width) (sym (length-map heads key_of))))
     ∙ map-append keyed (rows_in width keys values) (rows_in width new longer)
     ∙ ap₂ (λ (xs ys : List Element). xs ++ ys) (sym (risen-keyed width heads values)) (keys-lent width t n instants longer)
+
+pub one_head : (t first number : ℕ) (h : Head) (start old new : List Head) → first ≤ number → instant_of h ≡ t → h.number ≡ number → new ≡ old ++ h ∷ [] → map key_of old ≡ map key_of start ++ keys_from t first (number - first)
+    → map key_of new ≡ map key_of start ++ keys_from t first (number + 1 - first)
+one_head t first number h start old new le at counts pushed sofar =
+    let k : ℕ = number - first in
+    let keys : List (ℕ × ℕ) = map key_of start in
+    let more : number + 1 - first ≡ k + 1 = omega (arith, le) in
+    ap (map key_of) pushed
+    ∙ map-append key_of old (h ∷ [])
+    ∙ ap₂ (λ i j. map key_of old ++ (i, j) ∷ []) at counts
+    ∙ ap (λ (ks : List (ℕ × ℕ)). ks ++ (t, number) ∷ []) sofar
+    ∙ append_assoc keys (keys_from t first k) ((t, number) ∷ [])
+    ∙ ap (λ (ks : List (ℕ × ℕ)). keys ++ ks) (sym (map-range_with_len_more (λ m. (t, m)) first k number (omega (arith, le))))
+    ∙ ap (λ n. keys ++ keys_from t first n) (sym more)
 
 pub pushed_heads : (t n count : ℕ) (heads more : List Head) → map key_of more ≡ map key_of heads ++ keys_from t n count → length more ≡ length heads + count
 pushed_heads t n count heads more pushed =

@@ -1,17 +1,18 @@
 -- Rows that are lent flat: those that follow one another with one instant, and the others.
-use Rattle.std.proofs.Common.{◌≡◌, ◌≤◌, ◌+◌, ◌-◌, ◌*◌, ◌==◌, ◌∙◌, ◌&&◌, ℕ, ℤ, pos, negsuc, zero, suc, Bool, true, false, not, None, nat_abs, int_le, replicate, Option, List, [], ◌∷◌, ◌++◌, length, map, take, drop, refl, sym, ap, ap₂, subst, arith, length-append, length-drop, length-take-le}
+use Rattle.std.proofs.Common.{◌≡◌, ◌<◌, ◌≤◌, ◌+◌, ◌-◌, ◌*◌, ◌==◌, ◌∙◌, ◌&&◌, ℕ, ℤ, pos, negsuc, zero, suc, Bool, true, false, not, None, nat_abs, int_le, to_z, of_z, w64, get_or, replicate, Option, List, [], ◌∷◌, ◌++◌, length, map, take, drop, refl, sym, ap, ap₂, subst, arith, length-append, length-drop, length-take-le}
 use Rattle.std.specs.List.{list_all, list_any}
 use Rattle.std.proofs.Math.Nat.{mul-le-mul_right, add-mul}
-use Rattle.std.proofs.lemmas.Bool.{eqb-true}
+use Rattle.std.proofs.lemmas.Bool.{eqb-true, leb-true}
+use Rattle.std.proofs.lemmas.Int.{fits_signed_from_abs, to_z-of_z}
 use Rattle.std.proofs.lemmas.List.{length-map, map-append, take-append-drop, take-append-le, drop-append-le, take_all, drop_all, take-map, drop-map}
-use Rattle.std.proofs.lemmas.List.Folds.{list_all-append}
+use Rattle.std.proofs.lemmas.List.Folds.{list_all-append, list_all_at}
 use Rattle.values.specs.Row.{Row}
 use Rattle.values.specs.Window.{Element}
 use Rattle.reference.specs.Appended.{kept_of, values_of}
 use Rattle.names.specs.Faults.{first_of}
 use Rattle.reference.specs.Machine.{Stream}
 use Rattle.reference.specs.Commands.{append_tests, is_instant, is_stream_value}
-use Rattle.reference.proofs.KeptLemmas.{length-values_of}
+use Rattle.reference.specs.declared.limits.TheConstants.{MAX_INSTANT}
 use Rattle.reference.proofs.StreamLemmas.{accepted_each, or_left, or_right, not_false}
 use Rattle.stream_store.specs.LateRows.{lent_rows, rows_in}
 use Rattle.stream_store.specs.Open.{AreAt, after_put, placed}
@@ -51,6 +52,13 @@ pub all-drop : {X : Type 0} (p : X → Bool) (k : ℕ) (xs : List X) → list_al
 all-drop p k xs h =
     and_second (list_all p (take k xs)) (list_all p (drop k xs)) (sym (list_all-append p (take k xs) (drop k xs)) ∙ ap (list_all p) (take-append-drop k xs) ∙ h)
 
+pub passes-at : {X : Type 0} (p : X → Bool) (xs : List X) (i : ℕ) (d : X) → list_all p xs ≡ true → i < length xs → p (get_or xs i d) ≡ true
+passes-at p xs i d all lt = here (p (get_or xs i d)) refl
+  where
+    here : (b : Bool) → p (get_or xs i d) ≡ b → p (get_or xs i d) ≡ true
+    here true e = e
+    here false e = let none : false ≡ true = sym (list_all_at p xs i d lt e) ∙ all in cc
+
 -- ---- the first rows and the others
 module _ (width k : ℕ) (instants : List ℤ) (values : List (Option ℤ)) where
   pub lent-take : lent_rows width (take k instants) (take (k * width) values) ≡ take k (lent_rows width instants values)
@@ -86,11 +94,16 @@ at_replicate width (suc n) t values = (refl, at_replicate width n t (drop width 
 
 pub run_at : (width k : ℕ) (t : ℤ) (others : List ℤ) (values : List (Option ℤ)) → take k others ≡ replicate k t → AreAt (nat_abs t) (lent_rows width (take (1 + k) (t ∷ others)) values)
 run_at width k t others values same =
-    let all : take (1 + k) (t ∷ others) ≡ replicate (suc k) t = ap (λ (ts : List ℤ). t ∷ ts) same in
+    let next : 1 + k ≡ suc k = omega arith in
+    let all : take (1 + k) (t ∷ others) ≡ replicate (suc k) t = ap (λ n. take n (t ∷ others)) next ∙ ap (λ (ts : List ℤ). t ∷ ts) same in
     subst (λ (ts : List ℤ). AreAt (nat_abs t) (lent_rows width ts values)) (sym all) (at_replicate width (suc k) t values)
 
-pub kept_instant : (t : ℤ) → is_instant t ≡ true → int_le (pos 0) t ≡ true
-kept_instant t h = and_first (int_le (pos 0) t) _ h
+-- an instant is as it was, once it was written and read back
+pub instant_back : (t : ℤ) → is_instant t ≡ true → to_z w64 (of_z w64 t) ≡ t
+instant_back (pos m) h =
+    let le : m ≤ 1099511627776 = leb-true m 1099511627776 (and_second (int_le (pos 0) (pos m)) (int_le (pos m) MAX_INSTANT) h) in
+    to_z-of_z w64 (pos m) (fits_signed_from_abs w64 (pos m) (omega (arith, le)))
+instant_back (negsuc m) h = cc
 
 -- ---- the rows of an append
 abbrev given : List (ℤ × List (Option ℤ)) → List ℤ
@@ -116,6 +129,13 @@ given_rows width (r ∷ rows) h =
     ap₂ (λ (row : Row) (vs : List (Option ℤ)). (nat_abs r.0, row) ∷ lent_rows width (given rows) vs) front back
     ∙ ap (λ (rs : List (ℕ × Row)). (nat_abs r.0, r.1) ∷ rs) (given_rows width rows (or_right _ _ h))
 
+length-given : (width : ℕ) (rows : List (ℤ × List (Option ℤ))) → list_any (λ r. not (length r.1 == width)) rows ≡ false → length (values_of rows) ≡ length rows * width
+length-given width [] h = let none : 0 ≡ 0 * width = omega arith in none
+length-given width (r ∷ rows) h =
+    let wide : length r.1 ≡ width = eqb-true (length r.1) width (not_false _ (or_left _ _ h)) in
+    let more : suc (length rows) * width ≡ width + length rows * width = omega arith in
+    length-append r.1 (values_of rows) ∙ omega (arith, wide, more, length-given width rows (or_right _ _ h))
+
 -- the rows that a stream accepts, as they are lent
 pub record IsLent (width : ℕ) (rows : List (ℤ × List (Option ℤ))) (instants : List ℤ) (values : List (Option ℤ)) : Type 0 where
   pub many : length instants ≡ length rows
@@ -132,8 +152,8 @@ accepted_lent s rows accepted width wide instants values is holds =
     let many : length instants ≡ length rows = ap length is ∙ length-map rows (λ r. r.0) in
     record {
       many = many;
-      full = ap length holds ∙ length-values_of width rows widths ∙ ap (λ n. n * width) (sym many);
-      instants_good = ap (list_all is_instant) is ∙ given_instants rows tests.2.0;
+      full = ap length holds ∙ length-given width rows widths ∙ ap (λ n. n * width) (sym many);
+      instants_good = ap (list_all is_instant) is ∙ given_instants rows tests.2;
       values_good = ap (list_all is_stream_value) holds ∙ given_values rows tests.1;
       kept = ap₂ (λ (ts : List ℤ) (vs : List (Option ℤ)). lent_rows width ts vs) is holds ∙ given_rows width rows widths;
     }

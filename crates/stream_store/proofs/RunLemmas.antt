@@ -1,10 +1,10 @@
 -- Rows that are lent flat: those that follow one another with one instant, and the others.
 use Rattle.std.proofs.Common.{◌≡◌, ◌<◌, ◌≤◌, ◌+◌, ◌-◌, ◌*◌, ◌==◌, ◌∙◌, ◌&&◌, ℕ, ℤ, pos, negsuc, zero, suc, Bool, true, false, not, None, nat_abs, int_le, to_z, of_z, w64, get_or, replicate, Option, List, [], ◌∷◌, ◌++◌, length, map, take, drop, refl, sym, ap, ap₂, subst, arith, length-append, length-drop, length-take-le}
 use Rattle.std.specs.List.{list_all, list_any}
-use Rattle.std.proofs.Math.Nat.{mul-le-mul_right, add-mul}
+use Rattle.std.proofs.Math.Nat.{add-mul}
 use Rattle.std.proofs.lemmas.Bool.{eqb-true, leb-true}
 use Rattle.std.proofs.lemmas.Int.{fits_signed_from_abs, to_z-of_z}
-use Rattle.std.proofs.lemmas.List.{length-map, map-append, take-append-drop, take-append-le, drop-append-le, take_all, drop_all, take-map, drop-map}
+use Rattle.std.proofs.lemmas.List.{length-map, take-append-drop, take-append-le, drop-append-le, take_all, drop_all, take-map, drop-map}
 use Rattle.std.proofs.lemmas.List.Folds.{list_all-append, list_all_at}
 use Rattle.values.specs.Row.{Row}
 use Rattle.values.specs.Window.{Element}
@@ -44,10 +44,6 @@ and_second false b h = cc
 pub all-first : {X : Type 0} (p : X → Bool) (x : X) (xs : List X) → list_all p (x ∷ xs) ≡ true → p x ≡ true
 all-first p x xs h = and_first (p x) (list_all p xs) h
 
-pub all-take : {X : Type 0} (p : X → Bool) (k : ℕ) (xs : List X) → list_all p xs ≡ true → list_all p (take k xs) ≡ true
-all-take p k xs h =
-    and_first (list_all p (take k xs)) (list_all p (drop k xs)) (sym (list_all-append p (take k xs) (drop k xs)) ∙ ap (list_all p) (take-append-drop k xs) ∙ h)
-
 pub all-drop : {X : Type 0} (p : X → Bool) (k : ℕ) (xs : List X) → list_all p xs ≡ true → list_all p (drop k xs) ≡ true
 all-drop p k xs h =
     and_second (list_all p (take k xs)) (list_all p (drop k xs)) (sym (list_all-append p (take k xs) (drop k xs)) ∙ ap (list_all p) (take-append-drop k xs) ∙ h)
@@ -68,12 +64,6 @@ module _ (width k : ℕ) (instants : List ℤ) (values : List (Option ℤ)) wher
   lent-drop = ap (λ ts. rows_in width ts (drop (k * width) values)) (sym (drop-map nat_abs k instants)) ∙ rows_in-drop width k (map nat_abs instants) values
 
   module _ (full : length values ≡ length instants * width) (le : k ≤ length instants) where
-    pub run_values : k * width ≤ length values
-    run_values = let most : k * width ≤ length instants * width = mul-le-mul_right width le in omega (arith, most, full)
-
-    pub run_full : length (take (k * width) values) ≡ length (take k instants) * width
-    run_full = length-take-le (k * width) values run_values ∙ ap (λ n. n * width) (sym (length-take-le k instants le))
-
     pub rest_full : length (drop (k * width) values) ≡ length (drop k instants) * width
     rest_full =
         let split : length instants ≡ k + (length instants - k) = omega (arith, le) in

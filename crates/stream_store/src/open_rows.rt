@@ -144,7 +144,15 @@ fn put_run(
     if rising.reached() <= instant {
         return rising.push_all(instant, first, instants, values);
     }
-    put(alloc, late, rising.width(), instant, first, instants, values)
+    put(
+        alloc,
+        late,
+        rising.width(),
+        instant,
+        first,
+        instants,
+        values,
+    )
 }
 
 /// Adds rows, numbered from `first` on. On Err only more rows, of these numbers, stand behind those
@@ -179,7 +187,15 @@ fn put_runs(
         let count = 1 + count_at(others, *instant);
         let (run, after) = rest.split_at(count);
         let (run_values, after_values) = rest_values.split_at(count * width);
-        put_run(alloc, rising, late, *instant as u64, number, run, run_values)?;
+        put_run(
+            alloc,
+            rising,
+            late,
+            *instant as u64,
+            number,
+            run,
+            run_values,
+        )?;
         number += count as u64;
         rest = after;
         rest_values = after_values;

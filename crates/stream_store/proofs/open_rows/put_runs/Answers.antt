@@ -1,4 +1,4 @@
-use Rattle.std.proofs.Common.{◌≡◌, ◌≤◌, ◌∙◌, ◌+◌, ◌*◌, ◌∷◌, drop, length, take, sym, ap, ap₂, subst, arith, ℕ, ℤ, Option, List, nat_abs, replicate}
+use Rattle.std.proofs.Common.{◌≡◌, ◌≤◌, ◌∙◌, ◌+◌, ◌*◌, drop, length, take, sym, ap, ap₂, subst, arith, ℤ, Option, List, nat_abs, replicate}
 use Rattle.std.specs.List.{list_all}
 use Rattle.values.specs.Window.{Element}
 use Rattle.reference.specs.Commands.{is_instant, is_stream_value}

@@ -1,4 +1,4 @@
-use Rattle.std.proofs.Common.{◌≡◌, ◌∙◌, ◌*◌, ◌++◌, ap, sym, length, ℕ, ℤ, List, Option}
+use Rattle.std.proofs.Common.{◌∙◌, ◌*◌, ◌++◌, ap, sym, length, ℕ, ℤ, List, Option}
 use Rattle.std.specs.List.{range_with_len}
 use Rattle.values.specs.Row.{Row}
 use Rattle.stream_store.specs.LateRows.{RowsAt, lent_rows, with_rows}

@@ -1,4 +1,4 @@
-use Rattle.std.proofs.Common.{◌≡◌, ◌≤◌, ◌∙◌, ◌++◌, ◌*◌, ap, sym, arith, length, map, ℤ, Option, List}
+use Rattle.std.proofs.Common.{◌≤◌, ◌∙◌, ◌++◌, ◌*◌, ap, sym, arith, length, map, ℤ, Option, List}
 use Rattle.values.specs.Window.{Element}
 use Rattle.stream_store.specs.declared.ordered_rows.Head.{Head}
 use Rattle.stream_store.specs.LateRows.{lent_rows}

@@ -1,5 +1,5 @@
 -- Open rows as the entries of a map from their instants, and as elements.
-use Rattle.std.specs.Prelude.{◌≡◌, ℕ, suc, length, nat_le, nat_lt, if◌then◌else◌, List, [], ◌∷◌, map}
+use Rattle.std.specs.Prelude.{◌≡◌, ℕ, suc, nat_le, nat_lt, if◌then◌else◌, List, [], ◌∷◌, map}
 use Rattle.std.specs.List.{AllByRecursion, filter, flat_map}
 use Rattle.std.specs.Ordering.{nat_cmp, match_ordering}
 use Rattle.values.specs.Row.{Row}

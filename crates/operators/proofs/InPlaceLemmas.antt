@@ -1,5 +1,5 @@
 -- Turns that states run in place are turns of the operators' kinds.
-use Rattle.std.proofs.Common.{◌≡◌, ◌∙◌, ℕ, List, [], ◌++◌, ap, length, refl, subst, sym}
+use Rattle.std.proofs.Common.{◌≡◌, ◌∙◌, ℕ, List, ◌++◌, ap, length, refl, subst, sym}
 use Rattle.values.specs.Row.{Row}
 use Rattle.column.specs.declared.batch.Side.{Side}
 use Rattle.column.specs.declared.batch.Side.TheVariants.{Left, Right}
@@ -10,12 +10,12 @@ use Rattle.op_queue.specs.declared.item.Item.{Item}
 use Rattle.group.specs.Turns as groups
 use Rattle.join.specs.Turns as join
 use Rattle.to_stream.specs.Turns as root
-use Rattle.turn.specs.Turns.{Answered, FitsKind, Outs, Put, change_at, outs_at}
+use Rattle.turn.specs.Turns.{Answered, Outs, Put, change_at, outs_at}
 use Rattle.turn.specs.declared.kinds.Kind.{Kind}
 use Rattle.turn.specs.declared.kinds.Kind.TheVariants as kind
 use Rattle.operators.specs.InPlace.{HasTaken, IsAfterItem, KeepsInboxes, MayAnswer, MayCome, MayComeAll, MayQueue, MayTake, after_answers, answers_from, outs_from}
 use Rattle.operators.specs.Inboxes.{IsDropped}
-use Rattle.operators.specs.Operators.{Belongs, HasNamedColumns, IsFinished, IsOfRoot, PlainOperator, inbox_of, other}
+use Rattle.operators.specs.Operators.{Belongs, HasNamedColumns, IsFinished, PlainOperator, inbox_of, other}
 use Rattle.operators.specs.Runs.{GivesFirst, HasGiven, HasPutTo, HasRunBelow, HasRunRoot, IsGiven, IsInHand, MayPut, MayPutFirst, MayRun, TakesItem, change_with, outs_with}
 use Rattle.operators.specs.States.{FitsState, HasColumns, IsNext, Takes, near_of, range_after}
 use Rattle.operators.specs.declared.inboxes.Inbox.{Inbox}

@@ -148,12 +148,7 @@ fn run_latest(
 }
 
 /// Select or Project, which hold nothing.
-fn run_rows(
-    alloc: Global,
-    kind: &Kind,
-    item: Item,
-    queue: &mut Queue,
-) -> Result<(), AllocError>
+fn run_rows(alloc: Global, kind: &Kind, item: Item, queue: &mut Queue) -> Result<(), AllocError>
     requires may { MayTakeRows kind.now item }
     requires forward { IsForward (queue.old.entries ++ row_outs kind.now item) }
     ensures { OnOk result (HasGained (row_outs kind.now item) queue.old queue.new) }

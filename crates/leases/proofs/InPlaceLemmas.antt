@@ -1,5 +1,5 @@
 -- A turn that its query runs in place: the turn that would have gone out is nowhere kept, and is named here.
-use Rattle.std.proofs.Common.{◌≡◌, ◌<◌, ◌≤◌, ◌+◌, ◌==◌, ℕ, not, filter, inl, inr, is_some, Option, Some, None, Result, Ok, Err, IfErr, OnErr, OnOk, List, length, set, refl, sym, ap, ◌∙◌, subst, arith}
+use Rattle.std.proofs.Common.{◌≡◌, ◌<◌, ◌+◌, ◌==◌, ℕ, not, filter, inl, inr, is_some, Option, Some, None, Result, Ok, Err, IfErr, OnErr, OnOk, List, length, set, refl, sym, ap, ◌∙◌, subst, arith}
 use Rattle.std.specs.Prelude.{⊤}
 use Rattle.std.proofs.lemmas.List.{set-get_or, set-set}
 use Rattle.std.proofs.lemmas.Option.{slice_get_within}
@@ -21,7 +21,7 @@ use Rattle.laws_engine.specs.Engines.{Broken, Dropped, GoodEngine, PlainEngine, 
 use Rattle.laws_engine.proofs.BackLemmas.{remains_here, same_plain}
 use Rattle.leases.specs.Applied.{Forgets, GivesNothing, HasEnded, HasTaken, HasTakenIn, IsAbove, IsBroken, MayTell, with_remains}
 use Rattle.leases.specs.Asked.{HasOperatorAt, IsRunningAt}
-use Rattle.leases.specs.Drains.{HasWanted, OneHasFailed, OneHasRun}
+use Rattle.leases.specs.Drains.{HasWanted, OneHasRun}
 use Rattle.leases.specs.Leasing.{IsTurnOn}
 use Rattle.leases.specs.Readers.{readers_of}
 use Rattle.leases.specs.Runs.{HasItemOn, HasRunIn, HasRunOn, HasStoppedIn, HasStoppedOn}

@@ -1,5 +1,5 @@
 -- A query that runs is one running query; after a refusal it is as it was, or only its answers are.
-use Rattle.std.proofs.Common.{refl, sym, ap, ◌∙◌, subst}
+use Rattle.std.proofs.Common.{sym, ap, ◌∙◌}
 use Rattle.std.proofs.lemmas.Result.{IfErr-weaker, on_ok_weaker}
 use Rattle.leases.specs.Views.{remains_of}
 use Rattle.leases.proofs.InPlaceLemmas.{run_all, stopped_all}

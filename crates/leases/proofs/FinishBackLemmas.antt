@@ -37,7 +37,6 @@ wired_operators e d n g out sn = subst (λ z. HasWiredOperators e z) (sym sn) (p
 pub may_apply : (e : PlainEngine) (d : Parts) → GoodEngine e → IsOutIn e d → IsDone d → MayApplyIn e d
 may_apply e d g out done = plain.may_apply_in e d out.0 out.1.0 g out.1.1 done
 
-
 -- IT HAS BROKEN its query
 pub broken_sound : (old new : State) (d : Lease) → IsSound old → IsOutAsIn (engine_in old) d → IsBroken (engine_in old) d.query (engine_in new) → Forgets d.query old new → IsSound new
 broken_sound old new d s out is r =

@@ -1,5 +1,5 @@
 -- A turn that its query runs in place: the turn that would have gone out is nowhere kept, and is named here.
-use Rattle.std.proofs.Common.{◌≡◌, ◌<◌, ◌≤◌, ◌+◌, ◌==◌, ℕ, not, filter, inl, inr, is_some, Option, Some, None, Result, Ok, Err, IfErr, OnErr, OnOk, List, length, set, refl, sym, ap, ◌∙◌, subst, arith}
+use Rattle.std.proofs.Common.{◌≡◌, ◌<◌, ◌+◌, ◌==◌, ℕ, not, filter, inl, inr, is_some, Option, Some, None, Result, Ok, Err, IfErr, OnErr, OnOk, List, length, set, refl, sym, ap, ◌∙◌, subst, arith}
 use Rattle.std.specs.Prelude.{⊤}
 use Rattle.std.proofs.lemmas.List.{set-get_or, set-set}
 use Rattle.std.proofs.lemmas.Option.{slice_get_within}
@@ -21,7 +21,7 @@ use Rattle.laws_engine.specs.Engines.{Broken, Dropped, GoodEngine, PlainEngine, 
 use Rattle.laws_engine.proofs.BackLemmas.{remains_here, same_plain}
 use Rattle.leases.specs.Applied.{Forgets, GivesNothing, HasEnded, HasTaken, HasTakenIn, IsAbove, IsBroken, MayTell, with_remains}
 use Rattle.leases.specs.Asked.{HasOperatorAt, IsRunningAt}
-use Rattle.leases.specs.Drains.{HasWanted, OneHasFailed, OneHasRun}
+use Rattle.leases.specs.Drains.{HasWanted, OneHasRun}
 use Rattle.leases.specs.Leasing.{IsTurnOn}
 use Rattle.leases.specs.Readers.{readers_of}
 use Rattle.leases.specs.Runs.{HasItemOn, HasRunIn, HasRunOn, HasStoppedIn, HasStoppedOn}
@@ -59,7 +59,8 @@ stopped_all (Err r) streams q q2 s k side rows ek es h answers = λ p is. (
 pub run_all : (result : Result ⊤ Refused) (streams : List Stream) (q q2 : PlainQuery) (s : Slot) (k : ℕ) (side : Side) (rows : ℕ) → k ≡ s.operator → side ≡ s.side → OnOk result (HasRun streams q k side rows q2)
     → OnOk result ((p : PlainQuery) → Running q ≡ Running p → (p2 : PlainQuery) × ((Running q2 ≡ Running p2) × HasRunOn streams p s rows p2))
 run_all (Ok u) streams q q2 s k side rows ek es h = λ p is. (
-  q2, (refl, subst (λ (z : PlainQuery). HasRunOn streams z s rows q2) (same_plain is) (subst (λ z. HasRun streams q s.operator z rows q2) es (subst (λ n. HasRun streams q n side rows q2) ek h)))
+  q2,
+  (refl, subst (λ (z : PlainQuery). HasRunOn streams z s rows q2) (same_plain is) (subst (λ z. HasRun streams q s.operator z rows q2) es (subst (λ n. HasRun streams q n side rows q2) ek h))),
 )
 run_all (Err r) streams q q2 s k side rows ek es h = tt
 
@@ -73,6 +74,7 @@ module _ (old : State) (s : Slot) (rows : ℕ) (sound : IsSound old) (first : fi
   p = (may_look_here old s sound first).1.0
 
   running : remains_at (engine_in old) s.query ≡ Running p
+  unfolding p
   running = (may_look_here old s sound first).1.1.running
 
   within : s.query < length (engine_in old).queries

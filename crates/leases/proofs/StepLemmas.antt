@@ -1,5 +1,5 @@
 -- A turn that goes out and comes back in one step: the engine that has it out is nowhere kept, and the one after the step is what follows on that.
-use Rattle.std.proofs.Common.{◌≡◌, ◌≢◌, ◌<◌, ◌≤◌, ◌+◌, ◌++◌, ◌==◌, ◌||◌, ℕ, Bool, not, true, false, inl, inr, MatchOption, Option, Some, None, Result, Ok, Err, OnErr, List, [], ◌∷◌, length, refl, sym, ap, ◌∙◌, subst, arith, eq-eqb}
+use Rattle.std.proofs.Common.{◌≡◌, ◌≢◌, ◌<◌, ◌≤◌, ◌+◌, ◌++◌, ◌==◌, ◌||◌, ℕ, Bool, not, true, false, inl, inr, MatchOption, Option, Some, None, List, [], ◌∷◌, length, refl, sym, ap, ◌∙◌, subst, arith, eq-eqb}
 use Rattle.std.specs.List.{list_any}
 use Rattle.op_queue.specs.declared.item.Item.TheVariants.{Tick}
 use Rattle.turn.specs.declared.excerpts.Near.TheVariants.{Nothing}
@@ -96,10 +96,6 @@ in_end (x ∷ ls) l = inr (in_end ls l)
 above_same : (above : Option Slot) (A B : Type 0) (s t : Slot) → (B → s ≡ t) → MatchOption above A (λ z. B × (z ≡ s)) → MatchOption above A (λ z. B × (z ≡ t))
 above_same None A B s t same h = h
 above_same (Some z) A B s t same h = (h.0, h.1 ∙ same h.0)
-
-pub held_on_err : {A E P : Type 0} (r : Result A E) → P → OnErr r P
-held_on_err (Ok a) h = tt
-held_on_err (Err e) h = h
 
 -- THE FIRST SLOT is asked for before its turn runs
 module _ (old : State) (s : Slot) (sound : IsSound old) (first : first_of old.slots ≡ Some s) where

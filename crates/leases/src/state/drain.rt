@@ -144,9 +144,7 @@ fn run_in(
         × HasStoppedOn refused streams.now p slot.now rows p2)) }
 {
     match remains {
-        Remains::Running(query) => {
-            query.run(alloc, streams, slot.operator(), slot.side(), rows)
-        }
+        Remains::Running(query) => { query.run(alloc, streams, slot.operator(), slot.side(), rows) }
         _ => unreachable!(),
     }
 }

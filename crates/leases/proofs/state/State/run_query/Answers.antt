@@ -1,5 +1,5 @@
 -- What is left of the slot's query.
-use Rattle.std.proofs.Common.{List, ap, ◌∙◌}
+use Rattle.std.proofs.Common.{List, ap}
 use Rattle.std.proofs.lemmas.Result.{IfErr-weaker, on_ok_weaker}
 use Rattle.laws_engine.specs.Engines.{PlainRemains, Running}
 use Rattle.leases.specs.Shown.{engine_in}

@@ -48,7 +48,8 @@ impl Inbox {
     }
 
     /// The front leaves: a tick, or at most `rows` of the rows that stand there together. A batch
-    /// that leaves a queue whole is moved. An error says that memory was refused; nothing is changed.
+    /// that leaves a queue whole is moved. An error says that memory was refused; nothing is
+    /// changed.
     pub fn take(&mut self, alloc: Global, log: &Log, rows: usize) -> Result<Item, AllocError>
         requires waits { 0 < length (entries_in self.old log.now) }
         requires some { 0 < rows }

@@ -101,6 +101,11 @@ pub wrote_more : (start old new : Option (List ℕ)) (before fails fails' : ℕ)
     → Wrote start before new fails' page' (text ++ bytes)
 wrote_more start old new before fails fails' page page' text bytes w m = m.along start before text w
 
+-- a page that is turned
+pub wrote_same : (start old new : Option (List ℕ)) (before fails fails' : ℕ) (page page' : Page) (text : List ℕ) → Wrote start before old fails page text → Writes old fails page new fails' page' []
+    → Wrote start before new fails' page' text
+wrote_same start old new before fails fails' page page' text w m = subst (λ l. Wrote start before new fails' page' l) (append_nothing text) (m.along start before text w)
+
 -- what was given to the sink, or held, without a failure
 pub wrote_well : (start now : Option (List ℕ)) (before fails : ℕ) (page : Page) (text : List ℕ) → page.going ≡ true → Wrote start before now fails page text → fails ≡ before
 wrote_well start now before fails page text e w = (from_page start before now fails page text true page.bytes.items e refl w).3

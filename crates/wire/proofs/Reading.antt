@@ -1,12 +1,14 @@
 -- What a line's JSON value is.
-use Rattle.std.proofs.Common.{◌≡◌, ◌≢◌, ℕ, Bool, true, false, cond, List, ◌∷◌, Option, Some, None, Result, Err, option_map, filter_map, refl, ap, sym, ◌∙◌}
+use Rattle.std.proofs.Common.{◌≡◌, ◌≢◌, ◌≤◌, ℕ, Bool, true, false, cond, not, ◌&&◌, nat_lt, List, ◌∷◌, length, Option, Some, None, Result, Err, option_map, filter_map, refl, ap, sym, subst, ◌∙◌}
+use Rattle.std.specs.List.{list_all}
+use Rattle.std.proofs.lemmas.Bool.{le-ltb}
 use Rattle.std.specs.Option.{ok_or}
 use Rattle.std.specs.Str.{IsUtf8, is_utf8}
 use Rattle.std.proofs.lemmas.Str.{IsUtf8-from_is_utf8, is_utf8-from_IsUtf8}
 use Rattle.serde_json.specs.Data.{Data}
 use Rattle.serde_json.specs.Read.{read}
-use Rattle.wire.specs.Lines.{lines_of, Keeps, BeginsWithLine}
-use Rattle.wire.specs.Requests.{json_of, call_in, request_in, requests_of, ReadsLine, SameRequests, BeginsWithRequest, HasNoRequest}
+use Rattle.wire.specs.Lines.{lines_of, longest_line, Keeps, BeginsWithLine}
+use Rattle.wire.specs.Requests.{is_blank_byte, json_of, call_in, request_in, requests_of, ReadsLine, SameRequests, BeginsWithRequest, HasNoRequest}
 use Rattle.wire.specs.Asked.{asked}
 use Rattle.wire.specs.Calls.{Call, call_of}
 use Rattle.wire.specs.declared.request.Request.{Request}
@@ -38,10 +40,19 @@ pub value_fits : (o : Option Data) → call_in o ≢ Err LineTooLong
 value_fits None e = cc
 value_fits (Some d) e = refused_fits (asked d) e
 
+-- a line that is kept and is not blank
+pub request_kept : (line whole : List ℕ) (fits : Bool) → fits ≡ true → Keeps fits line whole → list_all is_blank_byte line ≡ false → request_in whole ≡ Some (call_in (json_of line))
+request_kept line whole false e k some = cc
+request_kept line whole true e k some =
+    let short : nat_lt longest_line (length line) ≡ false = le-ltb longest_line (length line) (subst (λ l. length l ≤ longest_line) (sym k.0) k.1) in
+    ap request_in (sym k.0)
+    ∙ ap (λ t. cond (not t && list_all is_blank_byte line) None (Some (cond t (Err LineTooLong) (call_in (json_of line))))) short
+    ∙ ap (λ t. cond t None (Some (call_in (json_of line)))) some
+
 -- ---- lines of a text
 
 -- the requests of some lines, the first of which asks for this
-asks_first : Option (Result Call WireFault) → List (List ℕ) → List (Result Call WireFault)
+abbrev asks_first : Option (Result Call WireFault) → List (List ℕ) → List (Result Call WireFault)
 asks_first None lines = filter_map request_in lines
 asks_first (Some defined) lines = defined ∷ filter_map request_in lines
 

@@ -105,7 +105,9 @@ pub(crate) fn held_request(
     ensures no_more { (turns : ℕ) → work lines.new turns ≤ work lines.old turns }
 {
     'blanks: loop {
-        let fits = lines.held_line()?;
+        let Some(fits) = lines.held_line() else {
+            return None;
+        };
         if let Some(read) = request_of_line(alloc, lines.line(), fits) {
             return Some(read);
         }

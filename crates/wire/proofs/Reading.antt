@@ -1,7 +1,8 @@
 -- What a line's JSON value is.
-use Rattle.std.proofs.Common.{◌≡◌, ◌≢◌, ◌≤◌, ℕ, Bool, true, false, cond, not, ◌&&◌, nat_lt, List, ◌∷◌, length, Option, Some, None, Result, Err, option_map, filter_map, refl, ap, sym, subst, ◌∙◌}
+use Rattle.std.proofs.Common.{◌≡◌, ◌≢◌, ◌≤◌, ◌<◌, arith, IfOk, IfSome, ℕ, Bool, true, false, cond, not, ◌&&◌, nat_lt, List, ◌∷◌, length, Option, Some, None, Result, Err, option_map, filter_map, refl, ap, sym, subst, ◌∙◌}
 use Rattle.std.specs.List.{list_all}
 use Rattle.std.proofs.lemmas.Bool.{le-ltb}
+use Rattle.std.proofs.lemmas.Result.{IfOk-weaker}
 use Rattle.std.specs.Option.{ok_or}
 use Rattle.std.specs.Str.{IsUtf8, is_utf8}
 use Rattle.std.proofs.lemmas.Str.{IsUtf8-from_is_utf8, is_utf8-from_IsUtf8}
@@ -96,3 +97,13 @@ same_none (Some xs) (Some ys) p q = p ∙ q
 pub same_refl : (a : Option (List ℕ)) → SameRequests a a
 same_refl None = tt
 same_refl (Some xs) = refl
+
+-- ---- what is still to come
+
+fewer_of : {T : Type 0} (o : Option T) (now before first : ℕ) → before ≤ first → IfSome o (λ _. now < before) → IfSome o (λ _. now < first)
+fewer_of None now before first le some = tt
+fewer_of (Some x) now before first le some = omega (arith, le, some)
+
+pub fewer_behind : {T E : Type 0} (result : Result (Option T) E) (now before first : ℕ) → before ≤ first → IfOk result (λ o. IfSome o (λ _. now < before)) → IfOk result (λ o. IfSome o (λ _. now < first))
+fewer_behind {T} result now before first le fewer =
+    IfOk-weaker result (λ o. IfSome o (λ _. now < before)) (λ o. IfSome o (λ _. now < first)) (λ (o : Option T). fewer_of o now before first le) fewer

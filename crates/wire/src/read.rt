@@ -74,11 +74,7 @@ pub fn read_request(alloc: Global, line: &[u8]) -> Result<Request, WireFault>
 
 /// The request that a line is, of which this is kept, or what is wrong with it; none where it is
 /// blank.
-fn request_of_line(
-    alloc: Global,
-    line: &[u8],
-    fits: bool,
-) -> Option<Result<Request, WireFault>>
+fn request_of_line(alloc: Global, line: &[u8], fits: bool) -> Option<Result<Request, WireFault>>
     ensures { (whole : List ℕ) → Keeps fits line.now whole
         → ReadsLine (request_in whole) result }
 {
@@ -94,10 +90,7 @@ fn request_of_line(
 /// The next request that can be had without a read, or what is wrong with its line: of a line that
 /// is read ahead with its line feed. Blank lines in front of it are skipped, also where there is
 /// none.
-pub(crate) fn held_request(
-    alloc: Global,
-    lines: &mut Lines,
-) -> Option<Result<Request, WireFault>>
+pub(crate) fn held_request(alloc: Global, lines: &mut Lines) -> Option<Result<Request, WireFault>>
     ensures request { (left : Option (List ℕ)) → MatchOption result
         (SameRequests (ahead lines.old left) (ahead lines.new left))
         (λ read. BeginsWithRequest (ahead lines.old left) (ahead lines.new left) read) }

@@ -92,20 +92,51 @@ writes_both {a} {b} {c} {i} {j} {k} {p} {q} {r} {x} {y} one two = record {
 pub write_text : {a b : Option (List ℕ)} {i j : ℕ} {p q : Page} {x : List ℕ} (y : List ℕ) → x ≡ y → Writes a i p b j q x → Writes a i p b j q y
 write_text {a} {b} {i} {j} {p} {q} y e w = subst (λ l. Writes a i p b j q l) e w
 
+-- ---- from an empty page on
+
+pub wrote_nothing : (now : Option (List ℕ)) (fails : ℕ) (page : Page) → page.going ≡ true → page.bytes.items ≡ [] → Wrote now fails now fails page []
+wrote_nothing now fails page e h = onto_page now fails now fails page [] true [] e h ([], refl, Appends-nothing now, refl)
+
+pub wrote_more : (start old new : Option (List ℕ)) (before fails fails' : ℕ) (page page' : Page) (text bytes : List ℕ) → Wrote start before old fails page text → Writes old fails page new fails' page' bytes
+    → Wrote start before new fails' page' (text ++ bytes)
+wrote_more start old new before fails fails' page page' text bytes w m = m.along start before text w
+
+-- a page that is turned
+pub wrote_same : (start old new : Option (List ℕ)) (before fails fails' : ℕ) (page page' : Page) (text : List ℕ) → Wrote start before old fails page text → Writes old fails page new fails' page' []
+    → Wrote start before new fails' page' text
+wrote_same start old new before fails fails' page page' text w m = subst (λ l. Wrote start before new fails' page' l) (append_nothing text) (m.along start before text w)
+
+-- what was given to the sink, or held, without a failure
+pub wrote_well : (start now : Option (List ℕ)) (before fails : ℕ) (page : Page) (text : List ℕ) → page.going ≡ true → Wrote start before now fails page text → fails ≡ before
+wrote_well start now before fails page text e w = (from_page start before now fails page text true page.bytes.items e refl w).3
+
+pub wrote_all : (start now : Option (List ℕ)) (before fails : ℕ) (page : Page) (text : List ℕ) → page.going ≡ true → page.bytes.items ≡ [] → Wrote start before now fails page text → Appends start now text
+wrote_all start now before fails page text e h w =
+    let s = from_page start before now fails page text true [] e h w in subst (λ l. Appends start now l) (sym (s.1 ∙ append_nothing s.0)) s.2
+
+pub wrote_failed : (start now : Option (List ℕ)) (before fails : ℕ) (page : Page) (text : List ℕ) → page.going ≡ false → Wrote start before now fails page text → AppendsFront start now text × Rises before fails
+wrote_failed start now before fails page text e w = from_page start before now fails page text false page.bytes.items e refl w
+
+-- in any case the sink took a front
+front_stands : (start : Option (List ℕ)) (before : ℕ) (now : Option (List ℕ)) (after : ℕ) (going : Bool) (held text : List ℕ) → Stands start before now after going held text → AppendsFront start now text
+front_stands start before now after true held text w = (w.0, held, w.1, w.2)
+front_stands start before now after false held text w = w.0
+
+pub wrote_front : (start now : Option (List ℕ)) (before fails : ℕ) (page : Page) (text : List ℕ) → Wrote start before now fails page text → AppendsFront start now text
+wrote_front start now before fails page text w = front_stands start before now fails page.going page.bytes.items text w
+
 -- ---- a whole line, from an empty page to an empty one
 
-line_so_far : (old new : Option (List ℕ)) (fails fails' : ℕ) (page page' : Page) (line : List ℕ) (going : Bool) → page.going ≡ true → page.bytes.items ≡ [] → page'.going ≡ going → page'.bytes.items ≡ []
-    → Writes old fails page new fails' page' line → Stands old fails new fails' going [] line
-line_so_far old new fails fails' page page' line going e h e' h' w =
-    from_page old fails new fails' page' line going [] e' h'
-    (w.along old fails [] (onto_page old fails old fails page [] true [] e h ([], refl, Appends-nothing old, refl)))
+line_so_far : (old new : Option (List ℕ)) (fails fails' : ℕ) (page page' : Page) (line : List ℕ) → page.going ≡ true → page.bytes.items ≡ []
+    → Writes old fails page new fails' page' line → Wrote old fails new fails' page' line
+line_so_far old new fails fails' page page' line e h w = wrote_more old old new fails fails fails' page page' [] line (wrote_nothing old fails page e h) w
 
 pub line_written : (old new : Option (List ℕ)) (fails fails' : ℕ) (page page' : Page) (line : List ℕ) → page.going ≡ true → page.bytes.items ≡ [] → page'.going ≡ true → page'.bytes.items ≡ []
     → Writes old fails page new fails' page' line → Appends old new line × (fails' ≡ fails)
 line_written old new fails fails' page page' line e h e' h' w =
-    let s = line_so_far old new fails fails' page page' line true e h e' h' w in
-    (subst (λ l. Appends old new l) (sym (s.1 ∙ append_nothing s.0)) s.2, s.3)
+    let s = line_so_far old new fails fails' page page' line e h w in
+    (wrote_all old new fails fails' page' line e' h' s, wrote_well old new fails fails' page' line e' s)
 
 pub line_failed : (old new : Option (List ℕ)) (fails fails' : ℕ) (page page' : Page) (line : List ℕ) → page.going ≡ true → page.bytes.items ≡ [] → page'.going ≡ false → page'.bytes.items ≡ []
     → Writes old fails page new fails' page' line → AppendsFront old new line × Rises fails fails'
-line_failed old new fails fails' page page' line e h e' h' w = line_so_far old new fails fails' page page' line false e h e' h' w
+line_failed old new fails fails' page page' line e h e' h' w = wrote_failed old new fails fails' page' line e' (line_so_far old new fails fails' page page' line e h w)

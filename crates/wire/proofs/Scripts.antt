@@ -243,18 +243,16 @@ goes_whole : (N W : Type 0) (first : World) (carried : List (Result Call WireFau
 goes_whole N W first carried written now (inl a) = inl a.0
 goes_whole N W first carried written now (inr s) = inr (short_tells N first carried written s)
 
--- ---- over a source and a sink that tell their bytes
+-- ---- over a source that tells its bytes
 
-abbrev pub Progress : (N : Type 0) → Type 0 → World → Option (List ℕ) → Option (List ℕ) → World → Option (List ℕ) → Option (List ℕ) → Type 0
-Progress N W first source old w rest new = (text held : List ℕ) → source ≡ Some text → old ≡ Some held
-    → (left : List ℕ) × (written : List ℕ) × (rest ≡ Some left) × (new ≡ Some (held ++ written)) × SoFar N W first text w left written
+-- of the source's text this rest is to come, and the requests in front of it were answered so
+abbrev pub Progress : (N : Type 0) → Type 0 → World → Option (List ℕ) → World → Option (List ℕ) → List ℕ → Type 0
+Progress N W first source w rest written = (text : List ℕ) → source ≡ Some text → (left : List ℕ) × (rest ≡ Some left) × SoFar N W first text w left written
 
-pub progress_none : (N : Type 0) (W : Type 0) (first : World) (source sink : Option (List ℕ)) (pending : List ℕ) → W → pending ≡ [] → Progress N W first source sink first (prepend_known pending source) sink
-progress_none N W first source sink pending whole e text held is told = (
+pub progress_none : (N : Type 0) (W : Type 0) (first : World) (source : Option (List ℕ)) (pending : List ℕ) → W → pending ≡ [] → Progress N W first source first (prepend_known pending source) []
+progress_none N W first source pending whole e text is = (
   text,
-  [],
   ap (prepend_known pending) is ∙ ap (λ p. Some (p ++ text)) e,
-  told ∙ ap Some (sym (append_nothing held)),
   record { carried = []; split = refl; goes = inl (whole, (refl, refl)) },
 )
 
@@ -267,106 +265,68 @@ begins_with None after read rest b e = absurd (cc)
 begins_with (Some text) None read rest b e = absurd b
 begins_with (Some text) (Some left) read rest b e = (left, b.0, refl, ap requests_of (some_same rest text (sym e)) ∙ b.1, b.2)
 
+no_request : (before : Option (List ℕ)) (rest : List ℕ) → HasNoRequest before → before ≡ Some rest → requests_of rest ≡ []
+no_request None rest h e = absurd (cc)
+no_request (Some text) rest h e = ap requests_of (some_same rest text (sym e)) ∙ h
+
+-- one more request was answered
+pub progress_more : (N N' : Type 0) (W W' : Type 0) (first : World) (source : Option (List ℕ)) (w new : World) (before after : Option (List ℕ)) (written : List ℕ) (read : Result Request WireFault) (answer : Answer)
+    → (N → N') → Progress N W first source w before written → BeginsWithRequest before after read → (W → (defined : Result Call WireFault) → Reads defined read → Replies w defined answer new)
+    → (W → (defined : Result Call WireFault) → Reads defined read → RestsOn N' defined answer)
+    → (W → (defined : Result Call WireFault) → Reads defined read → is_scarce_reply defined answer ≡ false → W')
+    → Progress N' W' first source new after (written ++ line_of answer)
+progress_more N N' W W' first source w new before after written read answer spent p b s rests keeps text is =
+    let q = p text is in
+    let r = begins_with before after read q.0 b q.1 in (
+      r.0,
+      r.2,
+      more_so_far N N' W W' first text w new q.0 r.0 written r.1 answer spent q.2 r.3 (λ whole. s whole r.1 r.4) (λ whole. rests whole r.1 r.4) (λ whole. keeps whole r.1 r.4),
+    )
+
+-- ---- and over a sink that tells its bytes too
+
 appends_to : (old new : Option (List ℕ)) (bytes held : List ℕ) → Appends old new bytes → old ≡ Some held → new ≡ Some (held ++ bytes)
 appends_to None new bytes held a e = absurd (cc)
 appends_to (Some xs) None bytes held a e = absurd a
 appends_to (Some xs) (Some ys) bytes held a e = ap Some (a ∙ ap (λ l. l ++ bytes) (some_same xs held e))
 
-no_request : (before : Option (List ℕ)) (rest : List ℕ) → HasNoRequest before → before ≡ Some rest → requests_of rest ≡ []
-no_request None rest h e = absurd (cc)
-no_request (Some text) rest h e = ap requests_of (some_same rest text (sym e)) ∙ h
+-- a front of the replies was written
+pub begins_front : (N : Type 0) (W : Type 0) (first : World) (source old : Option (List ℕ)) (w : World) (before new : Option (List ℕ)) (written : List ℕ) → Progress N W first source w before written → AppendsFront old new written
+    → Scripts (λ text written. Begins N (requests_of text) (script first text) written) source old new
+begins_front N W first source old w before new written p a text held is told =
+    let q = p text is in
+    let begun = begins_so_far N W first text w q.0 written q.2 in
+    let whole : written ++ begun.0 ≡ a.0 ++ (a.1 ++ begun.0) = ap (λ l. l ++ begun.0) a.2 ∙ append_assoc a.0 a.1 begun.0 in
+    (a.0, appends_to old new a.0 held a.3 told, (a.1 ++ begun.0, subst (λ t. Says N (requests_of text) (script first text) t) whole begun.1))
 
--- one more reply was written
-pub progress_more : (N N' : Type 0) (W W' : Type 0) (first : World) (source old : Option (List ℕ)) (w new : World) (before after : Option (List ℕ)) (sink sink' : Option (List ℕ)) (read : Result Request WireFault) (answer : Answer)
-    → (N → N') → Progress N W first source old w before sink → BeginsWithRequest before after read → (W → (defined : Result Call WireFault) → Reads defined read → Replies w defined answer new)
-    → (W → (defined : Result Call WireFault) → Reads defined read → RestsOn N' defined answer)
-    → (W → (defined : Result Call WireFault) → Reads defined read → is_scarce_reply defined answer ≡ false → W')
-    → Appends sink sink' (line_of answer) → Progress N' W' first source old new after sink'
-progress_more N N' W W' first source old w new before after sink sink' read answer spent p b s rests keeps a text held is told =
-    let q = p text held is told in
-    let r = begins_with before after read q.0 b q.2 in (
-      r.0,
-      q.1 ++ line_of answer,
-      r.2,
-      appends_to sink sink' (line_of answer) (held ++ q.1) a q.3 ∙ ap Some (append_assoc held q.1 (line_of answer)),
-      more_so_far N N' W W' first text w new q.0 r.0 q.1 r.1 answer spent q.4 r.3 (λ whole. s whole r.1 r.4) (λ whole. rests whole r.1 r.4) (λ whole. keeps whole r.1 r.4),
+pub stands_front : (N : Type 0) (W : Type 0) (first : World) (source old : Option (List ℕ)) (w : World) (before new : Option (List ℕ)) (written : List ℕ) → Progress N W first source w before written → AppendsFront old new written
+    → Scripts (λ text written. Stands N first (requests_of text) written w) source old new
+stands_front N W first source old w before new written p a text held is told =
+    let q = p text is in
+    let so = q.2 in (
+      a.0,
+      appends_to old new a.0 held a.3 told,
+      (so.carried, requests_of q.0, a.1, so.split, subst (λ t. Runs N first so.carried t w) a.2 (runs_so_far N W first text w q.0 written so)),
     )
 
--- a front of one more reply was written
-pub progress_failed : (N N' : Type 0) (W W' : Type 0) (first : World) (source old : Option (List ℕ)) (w new : World) (before after : Option (List ℕ)) (sink sink' : Option (List ℕ)) (read : Result Request WireFault) (answer : Answer)
-    → (N → N') → Progress N W first source old w before sink → BeginsWithRequest before after read → (W → (defined : Result Call WireFault) → Reads defined read → Replies w defined answer new)
-    → (W → (defined : Result Call WireFault) → Reads defined read → RestsOn N' defined answer)
-    → (W → (defined : Result Call WireFault) → Reads defined read → is_scarce_reply defined answer ≡ false → W')
-    → AppendsFront sink sink' (line_of answer) → Scripts (λ text written. Begins N' (requests_of text) (script first text) written) source old sink'
-progress_failed N N' W W' first source old w new before after sink sink' read answer spent p b s rests keeps a text held is told =
-    let q = p text held is told in
-    let r = begins_with before after read q.0 b q.2 in
-    let so = more_so_far N N' W W' first text w new q.0 r.0 q.1 r.1 answer spent q.4 r.3 (λ whole. s whole r.1 r.4) (λ whole. rests whole r.1 r.4) (λ whole. keeps whole r.1 r.4) in
-    let begun = begins_so_far N' W' first text new r.0 (q.1 ++ line_of answer) so in
-    let whole : (q.1 ++ line_of answer) ++ begun.0 ≡ (q.1 ++ a.0) ++ (a.1 ++ begun.0) =
-    ap (λ l. (q.1 ++ l) ++ begun.0) a.2 ∙ ap (λ l. l ++ begun.0) (sym (append_assoc q.1 a.0 a.1)) ∙ append_assoc (q.1 ++ a.0) a.1 begun.0 in (
-      q.1 ++ a.0,
-      appends_to sink sink' a.0 (held ++ q.1) a.3 q.3 ∙ ap Some (append_assoc held q.1 a.0),
-      (a.1 ++ begun.0, subst (λ t. Says N' (requests_of text) (script first text) t) whole begun.1),
-    )
+-- every request was answered, and all replies were written
+pub says_all_written : (N : Type 0) (W : Type 0) (first : World) (source old : Option (List ℕ)) (w : World) (before new : Option (List ℕ)) (written : List ℕ) → Progress N W first source w before written → HasNoRequest before → Appends old new written
+    → Scripts (λ text written. Says N (requests_of text) (script first text) written) source old new
+says_all_written N W first source old w before new written p none a text held is told =
+    let q = p text is in (written, appends_to old new written held a told, says_so_far N W first text w q.0 written q.2 (no_request before q.0 none q.1))
 
--- nothing more is written
-pub progress_begins : (N : Type 0) (W : Type 0) (first : World) (source old : Option (List ℕ)) (w : World) (before sink : Option (List ℕ)) → Progress N W first source old w before sink
-    → Scripts (λ text written. Begins N (requests_of text) (script first text) written) source old sink
-progress_begins N W first source old w before sink p text held is told =
-    let q = p text held is told in (q.1, q.3, begins_so_far N W first text w q.0 q.1 q.4)
+pub runs_all_written : (N : Type 0) (W : Type 0) (first : World) (source old : Option (List ℕ)) (w : World) (before new : Option (List ℕ)) (written : List ℕ) → Progress N W first source w before written → HasNoRequest before → Appends old new written
+    → Scripts (λ text written. Runs N first (requests_of text) written w) source old new
+runs_all_written N W first source old w before new written p none a text held is told =
+    let q = p text is in
+    let so = q.2 in
+    let all = carried_all N W first text w q.0 written so (no_request before q.0 none q.1) in
+    (written, appends_to old new written held a told, subst (λ rs. Runs N first rs written w) all (runs_so_far N W first text w q.0 written so))
 
-pub progress_ends : (N : Type 0) (W : Type 0) (first : World) (source old : Option (List ℕ)) (w : World) (before sink : Option (List ℕ)) → Progress N W first source old w before sink → HasNoRequest before
-    → Scripts (λ text written. Says N (requests_of text) (script first text) written) source old sink
-progress_ends N W first source old w before sink p none text held is told =
-    let q = p text held is told in (q.1, q.3, says_so_far N W first text w q.0 q.1 q.4 (no_request before q.0 none q.2))
-
--- ---- the same, of what was carried out
-
--- a front of one more reply was written
-pub stands_failed : (N N' : Type 0) (W W' : Type 0) (first : World) (source old : Option (List ℕ)) (w new : World) (before after : Option (List ℕ)) (sink sink' : Option (List ℕ)) (read : Result Request WireFault) (answer : Answer)
-    → (N → N') → Progress N W first source old w before sink → BeginsWithRequest before after read → (W → (defined : Result Call WireFault) → Reads defined read → Replies w defined answer new)
-    → (W → (defined : Result Call WireFault) → Reads defined read → RestsOn N' defined answer)
-    → (W → (defined : Result Call WireFault) → Reads defined read → is_scarce_reply defined answer ≡ false → W')
-    → AppendsFront sink sink' (line_of answer) → Scripts (λ text written. Stands N' first (requests_of text) written new) source old sink'
-stands_failed N N' W W' first source old w new before after sink sink' read answer spent p b s rests keeps a text held is told =
-    let q = p text held is told in
-    let r = begins_with before after read q.0 b q.2 in
-    let so = more_so_far N N' W W' first text w new q.0 r.0 q.1 r.1 answer spent q.4 r.3 (λ whole. s whole r.1 r.4) (λ whole. rests whole r.1 r.4) (λ whole. keeps whole r.1 r.4) in (
-      q.1 ++ a.0,
-      appends_to sink sink' a.0 (held ++ q.1) a.3 q.3 ∙ ap Some (append_assoc held q.1 a.0),
-      (
-        so.carried,
-        requests_of r.0,
-        a.1,
-        so.split,
-        subst (λ t. Runs N' first so.carried t new) (ap (λ l. q.1 ++ l) a.2 ∙ sym (append_assoc q.1 a.0 a.1)) (runs_so_far N' W' first text new r.0 (q.1 ++ line_of answer) so),
-      ),
-    )
-
--- nothing more is written
-pub stands_so_far : (N : Type 0) (W : Type 0) (first : World) (source old : Option (List ℕ)) (w : World) (before sink : Option (List ℕ)) → Progress N W first source old w before sink
-    → Scripts (λ text written. Stands N first (requests_of text) written w) source old sink
-stands_so_far N W first source old w before sink p text held is told =
-    let q = p text held is told in
-    let so = q.4 in
-    (q.1, q.3, (so.carried, requests_of q.0, [], so.split, subst (λ t. Runs N first so.carried t w) (sym (append_nothing q.1)) (runs_so_far N W first text w q.0 q.1 so)))
-
--- every request was carried out
-pub ran_all : (N : Type 0) (W : Type 0) (first : World) (source old : Option (List ℕ)) (w : World) (before sink : Option (List ℕ)) → Progress N W first source old w before sink → HasNoRequest before
-    → Scripts (λ text written. Runs N first (requests_of text) written w) source old sink
-ran_all N W first source old w before sink p none text held is told =
-    let q = p text held is told in
-    let so = q.4 in
-    let all = carried_all N W first text w q.0 q.1 so (no_request before q.0 none q.2) in
-    (q.1, q.3, subst (λ rs. Runs N first rs q.1 w) all (runs_so_far N W first text w q.0 q.1 so))
-
--- ---- the same, of the engine
-
-pub whole_so_far : (N : Type 0) (W : Type 0) (first : World) (source old : Option (List ℕ)) (w : World) (before sink : Option (List ℕ)) → Progress N W first source old w before sink → HasNoRequest before
-    → Scripts (λ text written. W ⊎ TellsScarcity N (requests_of text) written) source old sink
-whole_so_far N W first source old w before sink p none text held is told =
-    let q = p text held is told in
-    let so = q.4 in
-    let all = carried_all N W first text w q.0 q.1 so (no_request before q.0 none q.2) in
-    (q.1, q.3, subst (λ rs. W ⊎ TellsScarcity N rs q.1) all (goes_whole N W first so.carried q.1 w so.goes))
+pub whole_all_written : (N : Type 0) (W : Type 0) (first : World) (source old : Option (List ℕ)) (w : World) (before new : Option (List ℕ)) (written : List ℕ) → Progress N W first source w before written → HasNoRequest before → Appends old new written
+    → Scripts (λ text written. W ⊎ TellsScarcity N (requests_of text) written) source old new
+whole_all_written N W first source old w before new written p none a text held is told =
+    let q = p text is in
+    let so = q.2 in
+    let all = carried_all N W first text w q.0 written so (no_request before q.0 none q.1) in
+    (written, appends_to old new written held a told, subst (λ rs. W ⊎ TellsScarcity N rs written) all (goes_whole N W first so.carried written w so.goes))

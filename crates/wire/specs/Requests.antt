@@ -45,6 +45,11 @@ Reads defined (Err BadRequest) = defined ≡ Err BadRequest
 Reads defined (Err LineTooLong) = defined ≡ Err LineTooLong
 Reads defined (Err OutOfMemory) = defined ≢ Err LineTooLong
 
+-- a line that asks for this was read so; nothing is read of one that is blank
+abbrev pub ReadsLine : Option (Result Call WireFault) → Option (Result Request WireFault) → Type 0
+ReadsLine asks None = asks ≡ None
+ReadsLine asks (Some read) = (defined : Result Call WireFault) × (asks ≡ Some defined) × Reads defined read
+
 -- The known text has the same requests as the rest.
 abbrev pub SameRequests : Option (List ℕ) → Option (List ℕ) → Type 0
 SameRequests None rest = ⊤

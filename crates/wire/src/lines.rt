@@ -2,7 +2,7 @@
 ghost use Rattle.std.specs.Prelude.{◌≡◌, ◌≢◌, ◌<◌, ◌≤◌, ◌+◌, ◌-◌, ℕ, List, [], ◌∷◌, ◌++◌, IfOk};
 ghost use Rattle.std.specs.Prelude.{IfErr, OnOk, OnErr, IfSome, MatchOption, Bool, true, false};
 ghost use Rattle.std.specs.Prelude.{length, take, drop, slice_index, slice_range, vec_len};
-ghost use Rattle.std.specs.Prelude.{vec_capacity};
+ghost use Rattle.std.specs.Prelude.{vec_capacity, Option};
 ghost use Rattle.std.specs.Io.KnownBytes.{IsAtEnd, Consumes, Keeps as Same};
 ghost use Rattle.wire.specs.Devices.{Rises};
 ghost use Rattle.wire.specs.Lines.{EachOther, NoFeed, Keeps, longest_line, BeginsWithLine};
@@ -134,6 +134,23 @@ impl Lines {
                 Moved { ended: false, fits }
             }
         }
+    }
+
+    /// Takes the next line out of the bytes that are read ahead, where they have its line feed:
+    /// whether it has no more than 65,536 bytes, which `line` then gives.
+    pub(crate) fn held_line(&mut self) -> Option<bool>
+        ensures line { (left : Option (List ℕ)) → MatchOption result (self.new ≡ self.old)
+            (λ fits. BeginsWithLine (ahead self.old left) (ahead self.new left) fits
+            self.new.line.items) }
+        ensures fewer { (turns : ℕ) → IfSome result
+            (λ _. work self.new turns < work self.old turns) }
+    {
+        let held = &self.chunk[self.start..self.end];
+        let at = feed_at(held)?;
+        self.line.clear();
+        let fits = keep(&mut self.line, true, &held[..at]);
+        self.start += at + 1;
+        Some(fits)
     }
 
     // Reads more bytes, and gives whether there are any.

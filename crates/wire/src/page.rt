@@ -1,4 +1,4 @@
-//! A line on its way to a sink.
+//! Lines on their way to a sink.
 ghost use Rattle.std.specs.Prelude.{◌≡◌, [], ◌∷◌, true, decimal};
 ghost use Rattle.std.specs.Fmt.{signed_decimal};
 ghost use Rattle.wire.specs.Paged.{Writes};
@@ -10,16 +10,15 @@ use arrayvec::ArrayVec;
 /// The most bytes that a page holds.
 const PAGE: usize = 4096;
 
-/// The bytes of a line that the sink has not been given yet, and whether no write of the line has
-/// failed.
+/// The bytes of lines that the sink has not been given yet, and whether no write has failed.
 ///
 /// It lies on the stack, so that a reply takes no memory. What fits in is given to the sink by one
 /// write.
 #[derive(Drop)]
 pub(crate) struct Page {
-    /// The bytes of the line that wait for the next write, at most `PAGE`.
+    /// The bytes that wait for the next write, at most `PAGE`.
     pub(crate) bytes: ArrayVec<u8, PAGE>,
-    /// Whether no write of the line has failed.
+    /// Whether no write has failed.
     pub(crate) going: bool,
 }
 
@@ -63,7 +62,7 @@ impl Page {
         self.going = put(sink, bytes).is_ok();
     }
 
-    /// Adds bytes to the line. Nothing more is written once a write has failed.
+    /// Adds bytes to a line. Nothing more is written once a write has failed.
     pub(crate) fn add<K: Sink>(&mut self, sink: &mut K, bytes: &[u8])
         ensures { Writes (K.taken sink.old) (K.failures sink.old) self.old (K.taken sink.new)
             (K.failures sink.new) self.new bytes.now }

@@ -1,12 +1,13 @@
 //! From lines to requests.
 ghost use Rattle.std.specs.Prelude.{◌≡◌, ◌<◌, ◌≤◌, IfOk, IfErr, IfSome, OnOk, OnErr, MatchOption};
-ghost use Rattle.std.specs.Prelude.{length};
+ghost use Rattle.std.specs.Prelude.{length, List, ℕ, Option};
 ghost use Rattle.std.specs.List.{list_all};
 ghost use Rattle.wire.specs.Devices.{Rises};
-ghost use Rattle.wire.specs.Lines.{longest_line};
+ghost use Rattle.wire.specs.Lines.{Keeps};
 ghost use Rattle.wire.specs.Held.{ahead, work, HoldsNothing};
 ghost use Rattle.wire.specs.Requests.{is_blank_byte, asked_in, call_in, json_of, Reads};
-ghost use Rattle.wire.specs.Requests.{BeginsWithRequest, HasNoRequest};
+ghost use Rattle.wire.specs.Requests.{BeginsWithRequest, HasNoRequest, SameRequests, ReadsLine};
+ghost use Rattle.wire.specs.Requests.{request_in};
 
 use crate::decode::request_of;
 use crate::device::Source;
@@ -71,6 +72,41 @@ pub fn read_request(alloc: Global, line: &[u8]) -> Result<Request, WireFault>
     short_request(alloc, line)
 }
 
+/// The request that a line is, of which this is kept, or what is wrong with it; none where it is
+/// blank.
+fn request_of_line(alloc: Global, line: &[u8], fits: bool) -> Option<Result<Request, WireFault>>
+    ensures { (whole : List ℕ) → Keeps fits line.now whole
+        → ReadsLine (request_in whole) result }
+{
+    if !fits {
+        return Some(Err(WireFault::LineTooLong));
+    }
+    if is_blank(line) {
+        return None;
+    }
+    Some(short_request(alloc, line))
+}
+
+/// The next request that can be had without a read, or what is wrong with its line: of a line that
+/// is read ahead with its line feed. Blank lines in front of it are skipped, also where there is
+/// none.
+pub(crate) fn held_request(alloc: Global, lines: &mut Lines) -> Option<Result<Request, WireFault>>
+    ensures request { (left : Option (List ℕ)) → MatchOption result
+        (SameRequests (ahead lines.old left) (ahead lines.new left))
+        (λ read. BeginsWithRequest (ahead lines.old left) (ahead lines.new left) read) }
+    ensures fewer { (turns : ℕ) → IfSome result (λ _. work lines.new turns < work lines.old turns) }
+    ensures no_more { (turns : ℕ) → work lines.new turns ≤ work lines.old turns }
+{
+    'blanks: loop {
+        let Some(fits) = lines.held_line() else {
+            return None;
+        };
+        if let Some(read) = request_of_line(alloc, lines.line(), fits) {
+            return Some(read);
+        }
+    }
+}
+
 /// The next request of the source or what is wrong with its line, or none at the end. Blank lines
 /// are skipped.
 ///
@@ -101,12 +137,8 @@ pub fn next_request<S: Source>(
         let Some(fits) = next else {
             return Ok(None);
         };
-        if !fits {
-            return Ok(Some(Err(WireFault::LineTooLong)));
-        }
-        let line = lines.line();
-        if !is_blank(line) {
-            return Ok(Some(short_request(alloc, line)));
+        if let Some(read) = request_of_line(alloc, lines.line(), fits) {
+            return Ok(Some(read));
         }
     }
 }

@@ -181,8 +181,9 @@ fn add_error<K: Sink>(sink: &mut K, page: &mut Page, name: &str, place: Option<u
     page.add(sink, b"\"}\n");
 }
 
+/// Adds a reply's line to a page. Takes no memory.
 #[tactic(auto, using(crate::proofs::Printing::writes_both), unfolding(crate::specs::Printed::line_of))]
-fn add_reply<K: Sink>(sink: &mut K, page: &mut Page, reply: &Reply)
+pub(crate) fn add_reply<K: Sink>(sink: &mut K, page: &mut Page, reply: &Reply)
     ensures { Writes (K.taken sink.old) (K.failures sink.old) page.old
         (K.taken sink.new) (K.failures sink.new) page.new (line_of (answer_of reply.now)) }
 {

@@ -1,11 +1,13 @@
 //! Scripts of requests.
-ghost use Rattle.std.specs.Prelude.{◌≡◌, ◌<◌, ◌≤◌, ℕ, List, Result, Ok, IfErr, OnOk, OnErr, false};
-ghost use Rattle.std.specs.Prelude.{◌⊎◌};
-ghost use Rattle.wire.specs.Devices.{Puts, Rises};
+ghost use Rattle.std.specs.Prelude.{◌≡◌, ◌≢◌, ◌<◌, ◌≤◌, ℕ, List, [], Result, Ok, IfOk, IfErr};
+ghost use Rattle.std.specs.Prelude.{OnOk, OnErr, IfSome, MatchOption, None, true, false, ◌⊎◌};
+ghost use Rattle.wire.specs.Devices.{Rises};
+ghost use Rattle.wire.specs.Held.{ahead, work};
+ghost use Rattle.wire.specs.Paged.{Writes};
 ghost use Rattle.wire.specs.Calls.{Call, append, heartbeat, drain, take_rows, discard, show_plan};
 ghost use Rattle.wire.specs.Calls.{call_of};
 ghost use Rattle.wire.specs.Printed.{Answer, answer_of, line_of};
-ghost use Rattle.wire.specs.Requests.{Reads, requests_of};
+ghost use Rattle.wire.specs.Requests.{BeginsWithRequest, HasNoRequest, Reads, requests_of};
 ghost use Rattle.wire.specs.Script.{answered, done_of, is_scarce_answer, is_scarce_reply, script};
 ghost use Rattle.wire.specs.Script.{served, Says, Begins, Runs, Scripts, Stands, TellsScarcity};
 ghost use Rattle.wire.specs.Script.{AnswersCall, NeedsWhole, RestsOn, Replies};
@@ -14,8 +16,9 @@ ghost use Rattle.wire.specs.declared.request.WireFault.{WireFault};
 use crate::device::{Sink, Source};
 use crate::fault::ScriptFault;
 use crate::lines::Lines;
-use crate::read::next_request;
-use crate::reply::{Reply, write_reply};
+use crate::page::Page;
+use crate::read::{held_request, next_request};
+use crate::reply::{Reply, add_reply};
 use crate::request::{Request, WireFault};
 use reference::{Answering, Fault, NewRows};
 use std::alloc::Global;
@@ -164,13 +167,14 @@ fn serve<E: Answering>(engine: &mut E, read: Result<Request, WireFault>, rows: u
     }
 }
 
-/// Answers what was read of a line by one line.
+/// Answers what was read of a line by one line, which goes onto the page.
 fn respond<K: Sink, E: Answering>(
     sink: &mut K,
+    page: &mut Page,
     engine: &mut E,
     read: Result<Request, WireFault>,
     rows: u32,
-) -> Result<(), ScriptFault>
+)
     requires rows { 0 < rows × rows ≤ 1024 }
     ensures written { (answer : Answer)
         × (E.is_whole engine.old → (defined : Result Call WireFault) → Reads defined read
@@ -179,13 +183,50 @@ fn respond<K: Sink, E: Answering>(
         → RestsOn (¬ E.has_numbers engine.new) defined answer)
         × (E.is_whole engine.old → (defined : Result Call WireFault) → Reads defined read
         → is_scarce_reply defined answer ≡ false → E.is_whole engine.new)
-        × Puts (K.taken sink.old) (K.taken sink.new) (K.failures sink.old)
-        (K.failures sink.new) result (line_of answer) }
+        × Writes (K.taken sink.old) (K.failures sink.old) page.old
+        (K.taken sink.new) (K.failures sink.new) page.new (line_of answer) }
     ensures spent { E.has_numbers engine.new → E.has_numbers engine.old }
-    ensures fault { IfErr result (λ e. e ≡ ScriptFault.Write) }
 {
     let reply = serve(engine, read, rows);
-    write_reply(sink, &reply)
+    add_reply(sink, page, &reply);
+}
+
+/// The next request, as `next_request` gives it. The sink is given what the page holds before
+/// anything is read, so that a client that waits for a reply has it.
+///
+/// `ScriptFault::Write` where that failed; then nothing is read.
+fn await_request<S: Source, K: Sink>(
+    alloc: Global,
+    lines: &mut Lines,
+    source: &mut S,
+    sink: &mut K,
+    page: &mut Page,
+) -> Result<Option<Result<Request, WireFault>>, ScriptFault>
+    ensures request { IfOk result (λ o. MatchOption o
+        (HasNoRequest (ahead lines.old (S.left source.old)))
+        (λ read. BeginsWithRequest (ahead lines.old (S.left source.old))
+        (ahead lines.new (S.left source.new)) read)) }
+    ensures fewer { IfOk result (λ o. IfSome o
+        (λ _. work lines.new (S.turns source.new) < work lines.old (S.turns source.old))) }
+    ensures writes { Writes (K.taken sink.old) (K.failures sink.old) page.old
+        (K.taken sink.new) (K.failures sink.new) page.new [] }
+    ensures given { IfOk result (λ o. o ≡ None → page.new.bytes.items ≡ []) }
+    ensures going { page.old.going ≡ true → OnOk result (page.new.going ≡ true) }
+    ensures ok { OnOk result (S.failures source.new ≡ S.failures source.old) }
+    ensures read { IfErr result (λ e. e ≡ ScriptFault.Read
+        → Rises (S.failures source.old) (S.failures source.new) × (page.new.going ≡ true)) }
+    ensures write { IfErr result (λ e. e ≡ ScriptFault.Write
+        → (source.new ≡ source.old) × (page.new.going ≡ false)) }
+    ensures fault { IfErr result (λ e. e ≢ ScriptFault.Memory) }
+{
+    if let Some(read) = held_request(alloc, lines) {
+        return Ok(Some(read));
+    }
+    page.turn(sink);
+    if !page.going {
+        return Err(ScriptFault::Write);
+    }
+    next_request(alloc, lines, source)
 }
 
 /// Answers each request of the source by one line, up to the end of the source. A drain's turns
@@ -239,15 +280,15 @@ pub fn run_script<S: Source, K: Sink, E: Answering>(
     let Ok(mut lines) = Lines::new(alloc) else {
         return Err(ScriptFault::Memory);
     };
+    let mut page = Page::new();
     'requests: loop {
-        let Ok(next) = next_request(alloc, &mut lines, source) else {
-            return Err(ScriptFault::Read);
-        };
+        let next = await_request(alloc, &mut lines, source, sink, &mut page)?;
         let Some(read) = next else {
             return Ok(());
         };
-        let Ok(()) = respond(sink, engine, read, rows) else {
+        respond(sink, &mut page, engine, read, rows);
+        if !page.going {
             return Err(ScriptFault::Write);
-        };
+        }
     }
 }

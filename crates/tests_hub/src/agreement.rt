@@ -1,17 +1,18 @@
 //! A hub answers as an engine of one thread does.
 
-use crate::fixture::{NOW, columns, declare, opened, register, rows};
-use hub::{Hub, Seat};
-use leases::{Engine, Leased};
+use crate::fixture::{declare, opened, ready, register};
+use crate::scripts::is_answered_by;
+use hub::Hub;
+use leases::Leased;
 use plan::Chart;
-use reference::{Answering, Fault};
+use reference::Fault;
 use served::serve_connection;
 use std::alloc::{AllocError, Global};
 use std::sync::Wait;
 use std::test::Fail;
 use std::thread::Threads;
-use turn::{Done, same_item};
-use wire::{MemorySink, MemorySource, run_script};
+use turn::{Done, Parts, same_item};
+use wire::{MemorySink, MemorySource};
 
 // Declarations, takes and refusals, each script with the replies that the rules give.
 const SCRIPTS: [(&str, &str); 4] = [
@@ -117,40 +118,13 @@ const SCRIPTS: [(&str, &str); 4] = [
     ),
 ];
 
-// Whether a hub and an engine both write these replies.
-fn is_answered_alike<R: Threads + Wait + Sync>(
-    rt: &R,
-    alloc: Global,
-    script: &str,
-    replies: &str,
-) -> bool {
-    let mut engine = Engine::new(alloc);
-    let mut source = MemorySource::new(script.as_bytes());
-    let mut plain = MemorySink::new(alloc);
-    let ran = run_script(alloc, &mut source, &mut plain, &mut engine, 256);
-    let Ok((hub, mut seats)) = Hub::open(alloc, 1, 100) else {
-        return false;
-    };
-    let Some(mut seat) = seats.pop() else {
-        return false;
-    };
-    let mut source = MemorySource::new(script.as_bytes());
-    let mut sink = MemorySink::new(alloc);
-    let served = serve_connection(rt, alloc, &mut source, &mut sink, &hub, &mut seat, 256);
-    ran.is_ok()
-        && served.is_ok()
-        && plain.bytes.as_slice() == replies.as_bytes()
-        && sink.bytes.as_slice() == replies.as_bytes()
-}
-
 #[test]
-fn a_hub_answers_scripts_as_an_engine_does(rt: HostRuntime) {
+fn a_hub_answers_scripts_as_an_engine_does(rt: HostRuntime) -> Result<(), Fail> {
     for (script, replies) in SCRIPTS {
-        assert!(rt;
-            is_answered_alike(&rt, rt.alloc(), script, replies),
-            "at {script}"
-        );
+        let (is_answered, _) = is_answered_by(&rt, rt.alloc(), script, replies, None, 256)?;
+        assert!(rt; is_answered, "at {script}");
     }
+    Ok(())
 }
 
 // A stream with three rows and four closed instants.
@@ -180,31 +154,72 @@ const AHEAD: &str = r#"{"op":"stream","name":"A","columns":["k"],"from":0}
 {"op":"take","query":"q","limit":100}
 "#;
 
-// How much waits in each queue of a hub's first query behind the script.
-fn pending_behind<R: Threads + Wait + Sync>(
+// Whether so much waits in each queue of a hub's first query behind the script.
+fn are_pending<R: Threads + Wait + Sync>(
     rt: &R,
     alloc: Global,
     script: &str,
-) -> Result<Vec<u128>, Fault> {
+    items: &[u128],
+) -> Result<bool, Fault> {
     let (hub, mut seat) = opened(alloc)?;
     let mut source = MemorySource::new(script.as_bytes());
     let mut sink = MemorySink::new(alloc);
-    match serve_connection(rt, alloc, &mut source, &mut sink, &hub, &mut seat, 256) {
-        Ok(()) => hub.pending(rt, 0),
-        Err(_) => Err(Fault::OutOfMemory),
-    }
+    let served = serve_connection(rt, alloc, &mut source, &mut sink, &hub, &mut seat, 256);
+    let pending = hub.pending(rt, 0)?;
+    Ok(served.is_ok() && pending.as_slice() == items)
 }
 
 #[test]
 fn pending_counts_rows_and_ticks_in_each_queue(rt: HostRuntime) -> Result<(), Fail> {
-    let alloc = rt.alloc();
-    let ready = pending_behind(&rt, alloc, READY)?;
-    assert_eq!(rt; ready.as_slice(), [7u128, 0, 0].as_slice());
-    let drained = pending_behind(&rt, alloc, DRAINED)?;
-    assert_eq!(rt; drained.as_slice(), [0u128, 0, 0].as_slice());
-    let ahead = pending_behind(&rt, alloc, AHEAD)?;
-    assert_eq!(rt; ahead.as_slice(), [0u128, 0, 6, 0, 0, 0].as_slice());
+    assert!(rt; are_pending(&rt, rt.alloc(), READY, &[7, 0, 0])?);
+    assert!(rt; are_pending(&rt, rt.alloc(), DRAINED, &[0, 0, 0])?);
+    assert!(rt; are_pending(&rt, rt.alloc(), AHEAD, &[0, 0, 6, 0, 0, 0])?);
     Ok(())
+}
+
+// The next turn of a hub, run.
+fn next_done<R: Wait>(rt: &R, alloc: Global, hub: &Hub) -> Result<Option<Done>, Fault> {
+    match hub.lease(rt, 256)? {
+        Leased::Idle => Ok(None),
+        Leased::Turn(turn) => match turn.run(alloc) {
+            Ok(done) => Ok(Some(done)),
+            Err(_) => Err(Fault::OutOfMemory),
+        },
+    }
+}
+
+// Runs the next turn, and gives its operator.
+fn step<R: Wait>(rt: &R, alloc: Global, hub: &Hub) -> Result<Option<usize>, Fault> {
+    let Some(done) = next_done(rt, alloc, hub)? else {
+        return Ok(None);
+    };
+    let operator = done.parts().node.operator;
+    hub.finish(rt, done)?;
+    Ok(Some(operator))
+}
+
+// A hub with a query of this chart, and two ticks.
+fn ticked<R: Wait>(rt: &R, alloc: Global, chart: Option<Chart>) -> Result<Hub, Fault> {
+    let (hub, mut seat) = opened(alloc)?;
+    declare(rt, alloc, &hub, &mut seat)?;
+    register(rt, alloc, &hub, &mut seat, "q", chart)?;
+    hub.heartbeat(rt, &mut seat, 0, 1)?;
+    Ok(hub)
+}
+
+// Whether the hub leases the turns of these operators, one after the other, and then none.
+fn are_leased<R: Wait>(
+    rt: &R,
+    alloc: Global,
+    hub: &Hub,
+    operators: &[usize],
+) -> Result<bool, Fault> {
+    for operator in operators {
+        if step(rt, alloc, hub)? != Some(*operator) {
+            return Ok(false);
+        }
+    }
+    Ok(step(rt, alloc, hub)?.is_none())
 }
 
 // A chart by which the first operator is as steep as the second.
@@ -213,200 +228,89 @@ fn steep_chart(alloc: Global) -> Result<Chart, AllocError> {
     Ok(Chart { operators })
 }
 
-// The operators that an engine leases one after the other until nothing is ready.
-fn leased_of_engine(alloc: Global, chart: Option<&Chart>) -> Result<Vec<usize>, Fault> {
-    let mut engine = Engine::new(alloc);
-    let names = columns(alloc, &["a"])?;
-    let stream = engine.stream("S", names.as_slice(), 0)?;
-    engine.query("q", NOW, chart)?;
-    engine.heartbeat(stream, 1)?;
-    let mut leased = Vec::new(alloc);
-    for _ in 0..100 {
-        match engine.lease(256)? {
-            Leased::Idle => return Ok(leased),
-            Leased::Turn(turn) => {
-                leased.reserve(1)?;
-                leased.push_reserved(turn.node.operator);
-                let done = turn.run(alloc).map_err(|_| Fault::OutOfMemory)?;
-                engine.finish(done)?;
-            }
-        }
-    }
-    Ok(leased)
-}
-
-fn leased_of_hub<R: Wait>(
-    rt: &R,
-    alloc: Global,
-    chart: Option<Chart>,
-) -> Result<Vec<usize>, Fault> {
-    let (hub, mut seat) = opened(alloc)?;
-    let (stream, _) = declare(rt, alloc, &hub, &mut seat)?;
-    register(rt, alloc, &hub, &mut seat, "q", chart)?;
-    hub.heartbeat(rt, &mut seat, stream, 1)?;
-    let mut leased = Vec::new(alloc);
-    for _ in 0..100 {
-        match hub.lease(rt, 256)? {
-            Leased::Idle => return Ok(leased),
-            Leased::Turn(turn) => {
-                leased.reserve(1)?;
-                leased.push_reserved(turn.node.operator);
-                let done = turn.run(alloc).map_err(|_| Fault::OutOfMemory)?;
-                hub.finish(rt, done)?;
-            }
-        }
-    }
-    Ok(leased)
-}
-
 #[test]
 fn a_hub_leases_as_an_engine_does(rt: HostRuntime) -> Result<(), Fail> {
-    let alloc = rt.alloc();
-    let steep = steep_chart(alloc)?;
-    let by_engine = leased_of_engine(alloc, Some(&steep))?;
-    let by_hub = leased_of_hub(&rt, alloc, Some(steep))?;
-    assert_eq!(rt; by_engine.as_slice(), [0, 1, 0, 1, 2, 2].as_slice());
-    assert_eq!(rt; by_hub.as_slice(), by_engine.as_slice());
+    let chart = steep_chart(rt.alloc())?;
+    let hub = ticked(&rt, rt.alloc(), Some(chart))?;
+    assert!(rt; are_leased(&rt, rt.alloc(), &hub, &[0, 1, 0, 1, 2, 2])?);
     Ok(())
 }
 
 #[test]
 fn without_a_chart_a_hub_leases_as_an_engine_does(rt: HostRuntime) -> Result<(), Fail> {
-    let by_engine = leased_of_engine(rt.alloc(), None)?;
-    let by_hub = leased_of_hub(&rt, rt.alloc(), None)?;
-    assert_eq!(rt; by_engine.as_slice(), [0, 1, 2, 0, 1, 2].as_slice());
-    assert_eq!(rt; by_hub.as_slice(), by_engine.as_slice());
+    let hub = ticked(&rt, rt.alloc(), None)?;
+    assert!(rt; are_leased(&rt, rt.alloc(), &hub, &[0, 1, 2, 0, 1, 2])?);
     Ok(())
 }
 
-// A hub whose query has one row of this value, and a tick.
-fn ready_hub<R: Wait>(rt: &R, alloc: Global, value: i64) -> Result<(Hub, Vec<Seat>), Fault> {
-    let (hub, mut seats) = Hub::open(alloc, 1, 100)?;
-    for seat in seats.iter_mut() {
-        let (stream, _) = declare(rt, alloc, &hub, seat)?;
-        register(rt, alloc, &hub, seat, "q", None)?;
-        hub.append(rt, seat, stream, rows(alloc, &[(0, value)])?)?;
-        hub.heartbeat(rt, seat, stream, 0)?;
-    }
-    Ok((hub, seats))
+// The first turn of a hub whose query has one row of this value.
+fn first_done<R: Wait>(rt: &R, alloc: Global, value: i64) -> Result<Done, Fault> {
+    let (hub, _) = ready(rt, alloc, value)?;
+    next_done(rt, alloc, &hub)?.ok_or(Fault::UnknownLease)
 }
 
-// The next turn of a hub, run, with its number and its operator.
-fn ran_turn<R: Wait>(
-    rt: &R,
-    alloc: Global,
-    hub: &Hub,
-) -> Result<Option<(u64, usize, Done)>, Fault> {
-    match hub.lease(rt, 256)? {
-        Leased::Idle => Ok(None),
-        Leased::Turn(turn) => {
-            let (lease, operator) = (turn.lease, turn.node.operator);
-            match turn.run(alloc) {
-                Ok(done) => Ok(Some((lease, operator, done))),
-                Err(_) => Err(Fault::OutOfMemory),
-            }
-        }
-    }
+// Whether the hub refuses a turn with another row, takes its own, and refuses one that is as its own
+// was.
+fn takes_its_own<R: Wait>(rt: &R, hub: &Hub, other: Done, own: Done, same: Done) -> bool {
+    hub.finish(rt, other) == Err(Fault::Stranger)
+        && hub.finish(rt, own) == Ok(())
+        && hub.finish(rt, same) == Err(Fault::UnknownLease)
 }
 
-// A turn of a hub whose query has one row of this value.
-fn turn_of_another<R: Wait>(rt: &R, alloc: Global, value: i64) -> Result<Done, Fault> {
-    let (hub, _) = ready_hub(rt, alloc, value)?;
-    match ran_turn(rt, alloc, &hub)? {
-        Some((_, _, done)) => Ok(done),
-        None => Err(Fault::UnknownLease),
-    }
-}
-
-// Brings back to a hub a turn with another row, its own turn, and one that is as its own was.
-fn finishes<R: Wait>(
-    rt: &R,
-    alloc: Global,
-) -> Result<(Result<(), Fault>, Result<(), Fault>, Result<(), Fault>), Fault> {
-    let (hub, _) = ready_hub(rt, alloc, 5)?;
-    let Some((_, _, own)) = ran_turn(rt, alloc, &hub)? else {
-        return Err(Fault::UnknownLease);
-    };
-    let other = turn_of_another(rt, alloc, 6)?;
-    let same = turn_of_another(rt, alloc, 5)?;
-    let stranger = hub.finish(rt, other);
-    let finished = hub.finish(rt, own);
-    Ok((stranger, finished, hub.finish(rt, same)))
+// Does so over three hubs.
+fn is_own_taken<R: Wait>(rt: &R, alloc: Global) -> Result<bool, Fault> {
+    let other = first_done(rt, alloc, 6)?;
+    let same = first_done(rt, alloc, 5)?;
+    let (hub, _) = ready(rt, alloc, 5)?;
+    let own = next_done(rt, alloc, &hub)?.ok_or(Fault::UnknownLease)?;
+    Ok(takes_its_own(rt, &hub, other, own, same))
 }
 
 #[test]
 fn a_hub_takes_in_its_own_turns_alone_and_each_once(rt: HostRuntime) -> Result<(), Fail> {
-    let (stranger, own, again) = finishes(&rt, rt.alloc())?;
-    assert_eq!(rt; stranger, Err(Fault::Stranger));
-    assert_eq!(rt; own, Ok(()));
-    assert_eq!(rt; again, Err(Fault::UnknownLease));
+    assert!(rt; is_own_taken(&rt, rt.alloc())?);
     Ok(())
 }
 
-// Abandons the hub's first turn: the numbers of that and of the next, whether the next has the same
-// operator and the same item, and what the first is answered that comes back in spite of it.
-fn next_of_an_abandoned<R: Wait>(
-    rt: &R,
-    alloc: Global,
-) -> Result<(u64, u64, bool, Option<Fault>), Fault> {
-    let (hub, _) = ready_hub(rt, alloc, 5)?;
-    let Some((number, operator, abandoned)) = ran_turn(rt, alloc, &hub)? else {
-        return Err(Fault::UnknownLease);
-    };
-    hub.abandon(rt, number)?;
-    let Some((next, again, done)) = ran_turn(rt, alloc, &hub)? else {
-        return Err(Fault::UnknownLease);
-    };
-    let is_same = same_item(&abandoned.parts().item, &done.parts().item);
-    let refused = hub.finish(rt, abandoned).err();
-    Ok((number, next, operator == again && is_same, refused))
+// Whether two turns have the numbers 0 and 1, the same operator and the same item.
+fn are_of_one_item(first: &Parts, next: &Parts) -> bool {
+    first.lease == 0
+        && next.lease == 1
+        && first.node.operator == next.node.operator
+        && same_item(&first.item, &next.item)
+}
+
+// Whether an abandoned turn goes out again under the next number, and is not taken in.
+fn is_out_again<R: Wait>(rt: &R, alloc: Global, hub: &Hub) -> Result<bool, Fault> {
+    let abandoned = next_done(rt, alloc, hub)?.ok_or(Fault::UnknownLease)?;
+    hub.abandon(rt, abandoned.parts().lease)?;
+    let again = next_done(rt, alloc, hub)?.ok_or(Fault::UnknownLease)?;
+    let is_same = are_of_one_item(abandoned.parts(), again.parts());
+    Ok(is_same && hub.finish(rt, abandoned) == Err(Fault::UnknownLease))
 }
 
 #[test]
 fn an_abandoned_turn_goes_out_again_with_its_item(rt: HostRuntime) -> Result<(), Fail> {
-    let next = next_of_an_abandoned(&rt, rt.alloc())?;
-    assert_eq!(rt; next, (0, 1, true, Some(Fault::UnknownLease)));
+    let (hub, _) = ready(&rt, rt.alloc(), 5)?;
+    assert!(rt; is_out_again(&rt, rt.alloc(), &hub)?);
     Ok(())
 }
 
-// What is pending in the queues of the first query, how many slopes it has, and what is said of a
-// query that is not there.
-fn looks<R: Wait>(
-    rt: &R,
-    alloc: Global,
-) -> Result<(Vec<u128>, usize, Option<u64>, Option<Fault>), Fault> {
-    let (hub, _) = ready_hub(rt, alloc, 5)?;
+// Whether the looks at a hub are those of an engine with a row and a tick.
+fn are_looks_right<R: Wait>(rt: &R, hub: &Hub) -> Result<bool, Fault> {
     let pending = hub.pending(rt, 0)?;
-    let slopes = hub.slopes(rt, 0)?.len();
-    Ok((
-        pending,
-        slopes,
-        hub.query_named(rt, "p"),
-        hub.pending(rt, 1).err(),
-    ))
-}
-
-// How many answers wait, and the numbers of the stream and of the query.
-fn numbers<R: Wait>(
-    rt: &R,
-    alloc: Global,
-) -> Result<(Result<usize, Fault>, Option<u64>, Option<u64>), Fault> {
-    let (hub, _) = ready_hub(rt, alloc, 5)?;
-    Ok((
-        hub.waiting(rt, 0),
-        hub.stream_named(rt, "S"),
-        hub.query_named(rt, "q"),
-    ))
+    let slopes = hub.slopes(rt, 0)?;
+    let are_numbers_right = hub.waiting(rt, 0) == Ok(0)
+        && hub.stream_named(rt, "S") == Some(0)
+        && hub.query_named(rt, "q") == Some(0)
+        && hub.query_named(rt, "p").is_none();
+    Ok(are_numbers_right && pending.as_slice() == [2u128, 0, 0].as_slice() && slopes.len() == 3)
 }
 
 #[test]
 fn looks_are_those_of_an_engine(rt: HostRuntime) -> Result<(), Fail> {
-    let (pending, slopes, missed, refused) = looks(&rt, rt.alloc())?;
-    assert_eq!(rt; pending.as_slice(), [2u128, 0, 0].as_slice());
-    assert_eq!(rt;
-        (slopes, missed, refused),
-        (3, None, Some(Fault::UnknownQuery))
-    );
-    assert_eq!(rt; numbers(&rt, rt.alloc())?, (Ok(0), Some(0), Some(0)));
+    let (hub, _) = ready(&rt, rt.alloc(), 5)?;
+    assert!(rt; are_looks_right(&rt, &hub)?);
+    assert_eq!(rt; hub.pending(&rt, 1).err(), Some(Fault::UnknownQuery));
     Ok(())
 }

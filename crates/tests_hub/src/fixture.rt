@@ -72,3 +72,19 @@ pub(crate) fn register<R: Wait>(
     let text = String::from_str(alloc, NOW)?;
     hub.query(rt, seat, name, text, chart)
 }
+
+/// A hub whose query `q` has one row of this value, at the instant 0, which is still open.
+pub(crate) fn filled<R: Wait>(rt: &R, alloc: Global, value: i64) -> Result<(Hub, Seat), Fault> {
+    let (hub, mut seat) = opened(alloc)?;
+    declare(rt, alloc, &hub, &mut seat)?;
+    register(rt, alloc, &hub, &mut seat, "q", None)?;
+    hub.append(rt, &mut seat, 0, rows(alloc, &[(0, value)])?)?;
+    Ok((hub, seat))
+}
+
+/// The same, with the instant closed: two items wait for the window.
+pub(crate) fn ready<R: Wait>(rt: &R, alloc: Global, value: i64) -> Result<(Hub, Seat), Fault> {
+    let (hub, mut seat) = filled(rt, alloc, value)?;
+    hub.heartbeat(rt, &mut seat, 0, 0)?;
+    Ok((hub, seat))
+}

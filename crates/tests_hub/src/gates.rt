@@ -1,6 +1,6 @@
 //! Turns overlap, and clients are answered while a turn is out.
 
-use crate::fixture::{declare, register, rows};
+use crate::fixture::{declare, opened, register, rows};
 use hub::{Hub, Seat};
 use reference::Fault;
 use std::alloc::Global;
@@ -81,15 +81,13 @@ impl<'a, R: Clock> Gate for Held<'a, R> {
 }
 
 // A hub over which two queries are ready with a tick each.
-fn two_ready<R: Wait>(rt: &R, alloc: Global) -> Result<(Hub, Vec<Seat>), Fault> {
-    let (hub, mut seats) = Hub::open(alloc, 1, 100)?;
-    for seat in seats.iter_mut() {
-        let (stream, _) = declare(rt, alloc, &hub, seat)?;
-        register(rt, alloc, &hub, seat, "p", None)?;
-        register(rt, alloc, &hub, seat, "q", None)?;
-        hub.heartbeat(rt, seat, stream, 0)?;
-    }
-    Ok((hub, seats))
+fn two_ready<R: Wait>(rt: &R, alloc: Global) -> Result<(Hub, Seat), Fault> {
+    let (hub, mut seat) = opened(alloc)?;
+    declare(rt, alloc, &hub, &mut seat)?;
+    register(rt, alloc, &hub, &mut seat, "p", None)?;
+    register(rt, alloc, &hub, &mut seat, "q", None)?;
+    hub.heartbeat(rt, &mut seat, 0, 0)?;
+    Ok((hub, seat))
 }
 
 // Whether a pool of two runs two turns at once.
@@ -128,12 +126,9 @@ fn work_by_two<R: Threads + Wait + Clock + Sync>(
 }
 
 // Whether two workers run two turns at once.
-fn overlap<R: Threads + Wait + Clock + Sync>(
-    rt: &R,
-    alloc: Global,
-    hub: &Hub,
-    gate: &Held<'_, R>,
-) -> bool {
+fn overlap<R: Threads + Wait + Clock + Sync>(rt: &R, alloc: Global, hub: &Hub) -> bool {
+    let held = Held::new(rt, true);
+    let gate = &held;
     let (is_kept, ()) = thread::join(
         rt,
         || end_behind_it(rt, hub, gate),
@@ -145,8 +140,7 @@ fn overlap<R: Threads + Wait + Clock + Sync>(
 #[test]
 fn two_workers_run_two_turns_at_once(rt: HostRuntime) -> Result<(), Fail> {
     let (hub, _) = two_ready(&rt, rt.alloc())?;
-    let gate = Held::new(&rt, true);
-    assert!(rt; overlap(&rt, rt.alloc(), &hub, &gate));
+    assert!(rt; overlap(&rt, rt.alloc(), &hub));
     Ok(())
 }
 
@@ -155,17 +149,15 @@ fn append_meanwhile<R: Wait + Clock>(
     rt: &R,
     alloc: Global,
     hub: &Hub,
-    mut seats: Vec<Seat>,
+    mut seat: Seat,
     gate: &Held<'_, R>,
 ) -> bool {
     let is_out = is_raised(rt, &gate.is_out);
-    let mut is_appended = false;
-    if let (Some(mut seat), Ok(rows)) = (seats.pop(), rows(alloc, &[(1, 7)])) {
-        is_appended = hub.append(rt, &mut seat, 0, rows).is_ok();
-    }
-    if is_appended {
-        gate.is_done.store(true, Ordering::SeqCst);
-    }
+    let is_appended = match rows(alloc, &[(1, 7)]) {
+        Ok(rows) => hub.append(rt, &mut seat, 0, rows).is_ok(),
+        Err(_) => false,
+    };
+    gate.is_done.store(is_appended, Ordering::SeqCst);
     let is_kept = gate.is_kept();
     hub.end(rt);
     is_out && is_appended && is_kept
@@ -176,12 +168,13 @@ fn is_answered_meanwhile<R: Threads + Wait + Clock + Sync>(
     rt: &R,
     alloc: Global,
     hub: &Hub,
-    seats: Vec<Seat>,
-    gate: &Held<'_, R>,
+    seat: Seat,
 ) -> bool {
+    let held = Held::new(rt, false);
+    let gate = &held;
     let (is_answered, ()) = thread::join(
         rt,
-        || append_meanwhile(rt, alloc, hub, seats, gate),
+        || append_meanwhile(rt, alloc, hub, seat, gate),
         || work(rt, alloc, hub, gate, 256),
     );
     is_answered
@@ -189,9 +182,8 @@ fn is_answered_meanwhile<R: Threads + Wait + Clock + Sync>(
 
 #[test]
 fn a_client_is_answered_while_a_turn_is_out(rt: HostRuntime) -> Result<(), Fail> {
-    let (hub, seats) = two_ready(&rt, rt.alloc())?;
-    let gate = Held::new(&rt, false);
-    assert!(rt; is_answered_meanwhile(&rt, rt.alloc(), &hub, seats, &gate));
+    let (hub, seat) = two_ready(&rt, rt.alloc())?;
+    assert!(rt; is_answered_meanwhile(&rt, rt.alloc(), &hub, seat));
     Ok(())
 }
 
@@ -206,13 +198,17 @@ fn is_refused<R: Threads + Wait + Sync>(
     Pool::drain(rt, alloc, hub, &NoGate, workers, rows) == Err(Fault::BadLimit)
 }
 
+// Whether pools have 1 to 64 workers, and their turns 1 to 1,024 rows.
+fn are_limits_kept<R: Threads + Wait + Sync>(rt: &R, alloc: Global, hub: &Hub) -> bool {
+    is_refused(rt, alloc, hub, 0, 256)
+        && is_refused(rt, alloc, hub, 65, 256)
+        && is_refused(rt, alloc, hub, 1, 0)
+        && is_refused(rt, alloc, hub, 1, 1_025)
+}
+
 #[test]
 fn a_pool_has_1_to_64_workers_and_turns_1_to_1024_rows(rt: HostRuntime) -> Result<(), Fail> {
     let (hub, _) = two_ready(&rt, rt.alloc())?;
-    let few = is_refused(&rt, rt.alloc(), &hub, 0, 256);
-    let many = is_refused(&rt, rt.alloc(), &hub, 65, 256);
-    let none = is_refused(&rt, rt.alloc(), &hub, 1, 0);
-    let long = is_refused(&rt, rt.alloc(), &hub, 1, 1_025);
-    assert!(rt; few && many && none && long);
+    assert!(rt; are_limits_kept(&rt, rt.alloc(), &hub));
     Ok(())
 }

@@ -12,8 +12,6 @@ mod fixture;
 #[cfg(test)]
 mod gates;
 #[cfg(test)]
-mod memory;
-#[cfg(test)]
 mod scripts;
 #[cfg(test)]
 mod seats;

@@ -54,9 +54,9 @@ fn two_streams_answered() -> &'static str {
 "#
 }
 
-// Whether the script is answered by these replies, by a pool of so many workers or by the client's
-// own thread; and how many entries the hub has when it is closed behind it.
-fn is_answered_by<R: Threads + Wait + Sync>(
+/// Whether the script is answered by these replies, by a pool of so many workers or by the client's
+//// own thread; and how many entries the hub has when it is closed behind it.
+pub(crate) fn is_answered_by<R: Threads + Wait + Sync>(
     rt: &R,
     alloc: Global,
     script: &str,
@@ -145,19 +145,23 @@ fn serve_script<R: Threads + Wait + Sync, K: Sink>(
 const DECLARATION: &str = r#"{"op":"stream","name":"A","columns":["k"],"from":0}
 "#;
 
-#[test]
-fn a_call_stands_whose_reply_was_not_written(rt: HostRuntime) -> Result<(), Fail> {
-    let alloc = rt.alloc();
+// Whether a call stands whose reply could not be written, and the next connection goes on.
+fn is_call_kept<R: Threads + Wait + Sync>(rt: &R, alloc: Global) -> Result<bool, Fault> {
     let (hub, mut seat) = opened(alloc)?;
     let mut broken = Broken { failures: 0 };
-    let failed = serve_script(&rt, alloc, DECLARATION, &mut broken, &hub, &mut seat);
-    assert!(rt; matches!(failed, Err(ScriptFault::Write)));
+    let failed = serve_script(rt, alloc, DECLARATION, &mut broken, &hub, &mut seat);
     let mut sink = MemorySink::new(alloc);
-    let served = serve_script(&rt, alloc, DECLARATION, &mut sink, &hub, &mut seat);
-    assert!(rt; served.is_ok());
-    assert!(rt; sink.bytes.as_slice() == b"{\"error\":\"E2 NameTaken\"}\n".as_slice());
-    assert!(rt; is_one_declaration(&seat));
-    assert_eq!(rt; entries_of(alloc, hub, seat)?, Some(1));
+    let served = serve_script(rt, alloc, DECLARATION, &mut sink, &hub, &mut seat);
+    let is_told = matches!(failed, Err(ScriptFault::Write))
+        && served.is_ok()
+        && sink.bytes.as_slice() == b"{\"error\":\"E2 NameTaken\"}\n".as_slice()
+        && is_one_declaration(&seat);
+    Ok(is_told && entries_of(alloc, hub, seat)? == Some(1))
+}
+
+#[test]
+fn a_call_stands_whose_reply_was_not_written(rt: HostRuntime) -> Result<(), Fail> {
+    assert!(rt; is_call_kept(&rt, rt.alloc())?);
     Ok(())
 }
 

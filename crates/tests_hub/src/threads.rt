@@ -76,12 +76,11 @@ fn tell_often<R: Wait>(
     alloc: Global,
     hub: &Hub,
     mut seat: Seat,
-    stream: u64,
     told: Sender<Receipt>,
 ) -> Seat {
     for call in 0..50 {
         if let Ok(rows) = rows(alloc, &[(call, 7)]) {
-            if let Ok(receipt) = hub.append(rt, &mut seat, stream, rows) {
+            if let Ok(receipt) = hub.append(rt, &mut seat, 0, rows) {
                 let _ = told.send(rt, receipt);
             }
         }
@@ -95,13 +94,12 @@ fn learn_often<R: Wait>(
     rt: &R,
     hub: &Hub,
     mut seat: Seat,
-    query: u64,
     told: Receiver<Receipt>,
 ) -> (Seat, usize) {
     let mut behind = 0;
     for receipt in told.into_iter(rt) {
         seat.learn(&receipt);
-        if let Ok((_, taken)) = hub.take(rt, &mut seat, query, 1) {
+        if let Ok((_, taken)) = hub.take(rt, &mut seat, 0, 1) {
             if taken.number() > receipt.number() && behind < 1_000 {
                 behind += 1;
             }
@@ -118,16 +116,36 @@ fn tell_and_learn<R: Threads + Wait + Sync>(
     hub: &Hub,
     zero: Seat,
     one: Seat,
-    stream: u64,
-    query: u64,
 ) -> Result<(Seat, Seat, usize), AllocError> {
     let (sender, receiver) = unbounded(alloc)?;
     let (zero, (one, behind)) = thread::join(
         rt,
-        || tell_often(rt, alloc, hub, zero, stream, sender),
-        || learn_often(rt, hub, one, query, receiver),
+        || tell_often(rt, alloc, hub, zero, sender),
+        || learn_often(rt, hub, one, receiver),
     );
     Ok((zero, one, behind))
+}
+
+// A hub with a stream and a query, and two seats.
+fn with_two_seats<R: Wait>(rt: &R, alloc: Global) -> Result<(Hub, Seat, Seat), Fault> {
+    let (hub, mut seats) = Hub::open(alloc, 2, 1_000)?;
+    let one = seats.pop().ok_or(Fault::BadLimit)?;
+    let mut zero = seats.pop().ok_or(Fault::BadLimit)?;
+    declare(rt, alloc, &hub, &mut zero)?;
+    register(rt, alloc, &hub, &mut zero, "q", None)?;
+    Ok((hub, zero, one))
+}
+
+// How many entries the history of a hub with these two seats has. None where it does not close.
+fn entries_of_both(alloc: Global, hub: Hub, zero: Seat, one: Seat) -> Result<Option<usize>, Fault> {
+    let mut back = Vec::new(alloc);
+    back.reserve(2)?;
+    back.push_reserved(zero);
+    back.push_reserved(one);
+    match hub.close(back) {
+        Ok(closed) => Ok(Some(closed.entries.len())),
+        Err(_) => Ok(None),
+    }
 }
 
 // How many takes of one seat stand behind what it was told by another, and how many entries there
@@ -136,18 +154,9 @@ fn takes_behind<R: Threads + Wait + Sync>(
     rt: &R,
     alloc: Global,
 ) -> Result<(usize, Option<usize>), Fault> {
-    let (hub, mut seats) = Hub::open(alloc, 2, 1_000)?;
-    let one = seats.pop().ok_or(Fault::BadLimit)?;
-    let mut zero = seats.pop().ok_or(Fault::BadLimit)?;
-    let (stream, _) = declare(rt, alloc, &hub, &mut zero)?;
-    let (query, _) = register(rt, alloc, &hub, &mut zero, "q", None)?;
-    let (zero, one, behind) = tell_and_learn(rt, alloc, &hub, zero, one, stream, query)?;
-    let mut back = Vec::new(alloc);
-    back.reserve(2)?;
-    back.push_reserved(zero);
-    back.push_reserved(one);
-    let closed = hub.close(back).ok();
-    Ok((behind, closed.map(|closed| closed.entries.len())))
+    let (hub, zero, one) = with_two_seats(rt, alloc)?;
+    let (zero, one, behind) = tell_and_learn(rt, alloc, &hub, zero, one)?;
+    Ok((behind, entries_of_both(alloc, hub, zero, one)?))
 }
 
 #[test]

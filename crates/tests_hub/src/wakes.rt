@@ -1,7 +1,7 @@
 //! A worker that waits is woken by a heartbeat, and a pool that waits for a turn by its query's
 //! drop and by its abandon.
 
-use crate::fixture::{declare, opened, register, rows};
+use crate::fixture::{filled, ready};
 use hub::{Hub, Seat};
 use leases::Leased;
 use reference::Fault;
@@ -19,15 +19,6 @@ const LOOKS: u32 = 10_000;
 
 /// After how many milliseconds a worker waits, most likely.
 const REST: u64 = 50;
-
-// A hub whose query has one row, at an instant that is still open.
-fn filled<R: Wait>(rt: &R, alloc: Global) -> Result<(Hub, Seat), Fault> {
-    let (hub, mut seat) = opened(alloc)?;
-    declare(rt, alloc, &hub, &mut seat)?;
-    register(rt, alloc, &hub, &mut seat, "q", None)?;
-    hub.append(rt, &mut seat, 0, rows(alloc, &[(0, 5)])?)?;
-    Ok((hub, seat))
-}
 
 // Closes the instant once the worker waits, and says whether an answer came before the last look.
 // Then it calls the end.
@@ -63,7 +54,7 @@ fn is_worker_woken<R: Threads + Wait + Clock + Sync>(
 
 #[test]
 fn a_heartbeat_wakes_a_worker(rt: HostRuntime) -> Result<(), Fail> {
-    let (hub, seat) = filled(&rt, rt.alloc())?;
+    let (hub, seat) = filled(&rt, rt.alloc(), 5)?;
     assert!(rt; is_worker_woken(&rt, rt.alloc(), &hub, seat));
     Ok(())
 }
@@ -136,6 +127,14 @@ fn is_pool_woken<R: Threads + Wait + Clock + Sync>(
     Ok(is_woken)
 }
 
+// Takes the turn that is ready: its number.
+fn held_turn<R: Wait>(rt: &R, hub: &Hub) -> Result<u64, Fault> {
+    match hub.lease(rt, 256)? {
+        Leased::Turn(turn) => Ok(turn.lease),
+        Leased::Idle => Err(Fault::UnknownLease),
+    }
+}
+
 // Holds the one turn of a hub while a pool waits for it: whether the pool came back once it was let
 // go, and how many answers then wait.
 fn woken_by<R: Threads + Wait + Clock + Sync>(
@@ -143,12 +142,8 @@ fn woken_by<R: Threads + Wait + Clock + Sync>(
     alloc: Global,
     deed: Deed,
 ) -> Result<(bool, Option<usize>), Fault> {
-    let (hub, mut seat) = filled(rt, alloc)?;
-    hub.heartbeat(rt, &mut seat, 0, 0)?;
-    let lease = match hub.lease(rt, 256)? {
-        Leased::Turn(turn) => turn.lease,
-        Leased::Idle => return Err(Fault::UnknownLease),
-    };
+    let (hub, seat) = ready(rt, alloc, 5)?;
+    let lease = held_turn(rt, &hub)?;
     let is_woken = is_pool_woken(rt, alloc, &hub, seat, deed, lease)?;
     Ok((is_woken, hub.waiting(rt, 0).ok()))
 }

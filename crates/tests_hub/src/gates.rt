@@ -120,8 +120,8 @@ fn work_by_two<R: Threads + Wait + Clock + Sync>(
 ) {
     thread::join(
         rt,
-        || work(rt, alloc, hub, gate, 256),
-        || work(rt, alloc, hub, gate, 256),
+        move || work(rt, alloc, hub, gate, 256),
+        move || work(rt, alloc, hub, gate, 256),
     );
 }
 
@@ -131,8 +131,8 @@ fn overlap<R: Threads + Wait + Clock + Sync>(rt: &R, alloc: Global, hub: &Hub) -
     let gate = &held;
     let (is_kept, ()) = thread::join(
         rt,
-        || end_behind_it(rt, hub, gate),
-        || work_by_two(rt, alloc, hub, gate),
+        move || end_behind_it(rt, hub, gate),
+        move || work_by_two(rt, alloc, hub, gate),
     );
     is_kept
 }
@@ -174,8 +174,8 @@ fn is_answered_meanwhile<R: Threads + Wait + Clock + Sync>(
     let gate = &held;
     let (is_answered, ()) = thread::join(
         rt,
-        || append_meanwhile(rt, alloc, hub, seat, gate),
-        || work(rt, alloc, hub, gate, 256),
+        move || append_meanwhile(rt, alloc, hub, seat, gate),
+        move || work(rt, alloc, hub, gate, 256),
     );
     is_answered
 }

@@ -35,7 +35,7 @@ fn append_by_all<R: Threads + Wait + Sync>(
     seats: Vec<Seat>,
     stream: u64,
 ) -> Result<Vec<Seat>, AllocError> {
-    let append = |seat: Seat| append_often(rt, alloc, hub, seat, stream, 100);
+    let append = move |seat: Seat| append_often(rt, alloc, hub, seat, stream, 100);
     thread::map_vec(rt, seats, &append)
 }
 
@@ -120,8 +120,8 @@ fn tell_and_learn<R: Threads + Wait + Sync>(
     let (sender, receiver) = unbounded(alloc)?;
     let (zero, (one, behind)) = thread::join(
         rt,
-        || tell_often(rt, alloc, hub, zero, sender),
-        || learn_often(rt, hub, one, receiver),
+        move || tell_often(rt, alloc, hub, zero, sender),
+        move || learn_often(rt, hub, one, receiver),
     );
     Ok((zero, one, behind))
 }

@@ -46,8 +46,8 @@ fn is_worker_woken<R: Threads + Wait + Clock + Sync>(
 ) -> bool {
     let (is_answered, ()) = thread::join(
         rt,
-        || close_an_instant(rt, hub, seat),
-        || work(rt, alloc, hub, &NoGate, 256),
+        move || close_an_instant(rt, hub, seat),
+        move || work(rt, alloc, hub, &NoGate, 256),
     );
     is_answered
 }
@@ -120,8 +120,8 @@ fn is_pool_woken<R: Threads + Wait + Clock + Sync>(
     let is_back = &flag;
     let (is_woken, drained) = thread::join(
         rt,
-        || let_go(rt, hub, seat, deed, lease, is_back),
-        || drain(rt, alloc, hub, is_back),
+        move || let_go(rt, hub, seat, deed, lease, is_back),
+        move || drain(rt, alloc, hub, is_back),
     );
     drained?;
     Ok(is_woken)

@@ -1,17 +1,19 @@
 -- Rows that are kept flat: more behind them, the first ones, and the rest.
-use Rattle.std.proofs.Common.{◌≡◌, ◌≤◌, ◌<◌, ◌+◌, ◌*◌, ℕ, ℤ, zero, suc, Bool, true, false, cond, nat_lt, Option, List, [], ◌∷◌, ◌++◌, take, drop, length, map, refl, sym, ap, ap₂, subst, ◌∙◌, arith, length-append, length-drop, get_or, append_assoc, drop-cons, zero-mul}
-use Rattle.std.specs.List.{filter}
-use Rattle.std.proofs.lemmas.List.{take-append-le, drop-append-le, take_all, drop-take, drop-drop, map-append}
+use Rattle.std.proofs.Common.{◌≡◌, ◌≤◌, ◌<◌, ◌+◌, ◌-◌, ◌*◌, ℕ, ℤ, zero, suc, Bool, true, false, cond, nat_lt, Option, List, [], ◌∷◌, ◌++◌, take, drop, length, map, refl, sym, ap, ap₂, ◌∙◌, arith, length-append, length-drop, get_or, append_assoc, drop-cons, zero-mul}
+use Rattle.std.specs.List.{filter, range_with_len}
+use Rattle.std.proofs.Math.Nat.{add-mul}
+use Rattle.std.proofs.lemmas.List.{length-map, take-append-le, drop-append-le, drop-take, drop-drop, map-append}
+use Rattle.std.proofs.lemmas.List.FromFn.{length-range_with_len, length-map-range_with_len, map-range_with_len_more}
 use Rattle.values.specs.Row.{Row}
 use Rattle.values.specs.Window.{Element}
 use Rattle.arrayvec.specs.ArrayVec.{ArrayVec}
 use Rattle.op_queue.specs.Tables.{element}
 use Rattle.op_queue.specs.declared.log.Arrival.{Arrival}
-use Rattle.reference.specs.Views.{pairs_of}
-use Rattle.stream_store.specs.Open.{HaveWidth, elements_at}
-use Rattle.stream_store.specs.LateRows.{numbered_rows, rows_in}
+use Rattle.op_queue.proofs.RunLemmas.{range_with_len-add}
+use Rattle.stream_store.specs.Open.{elements_at}
+use Rattle.stream_store.specs.LateRows.{IsFlat, lent_rows, numbered_rows, rows_in}
 use Rattle.stream_store.specs.declared.ordered_rows.Head.{Head}
-use Rattle.stream_store.specs.OpenRows.{headed, instant_of, risen_in}
+use Rattle.stream_store.specs.OpenRows.{headed, instant_of, key_of, keys_from, risen_in}
 
 -- the values of a first row, and of the others
 pub rest_full : (width : ℕ) (count : ℕ) (values : List (Option ℤ)) → length values ≡ suc count * width → length (drop width values) ≡ count * width
@@ -35,15 +37,6 @@ drop-take_more width k values = let e : suc k * width ≡ width + k * width = om
 
 -- the rows have heads of any kind
 module _ {K : Type 0} where
-  pub rows_in-push : (width : ℕ) (heads : List K) (values row : List (Option ℤ)) (head : K) → length values ≡ length heads * width → length row ≡ width
-      → rows_in width (heads ++ head ∷ []) (values ++ row) ≡ rows_in width heads values ++ (head, row) ∷ []
-  rows_in-push width [] [] row head h w = ap (λ (r : Row). (head, r) ∷ []) (take_all width row (omega (arith, w)))
-  rows_in-push width [] (v ∷ values) row head h w = absurd (omega (arith, h))
-  rows_in-push width (m ∷ heads) values row head h w =
-      let within = first_full width (length heads) values h in
-      let rest = rest_full width (length heads) values h in
-      rw (take-append-le, drop-append-le) (ap (λ (rs : List (K × Row)). (m, take width values) ∷ rs) (rows_in-push width heads (drop width values) row head rest w))
-
   pub length-rows_in : (width : ℕ) (heads : List K) (values : List (Option ℤ)) → length (rows_in width heads values) ≡ length heads
   length-rows_in width [] values = refl
   length-rows_in width (m ∷ heads) values = ap suc (length-rows_in width heads (drop width values))
@@ -83,66 +76,110 @@ count-rows_in n width (m ∷ numbers) values = here (nat_lt m n) (count-rows_in 
     here true ih = ap suc ih
     here false ih = ih
 
--- ---- more rows, as far as they have come
-module _ (width i : ℕ) (rows : List (ℕ × ArrayVec (Option ℤ))) (one : ℕ × ArrayVec (Option ℤ)) (within : i < length rows) (is : one ≡ get_or rows i one) where
-  next_row : drop i rows ≡ one ∷ drop (i + 1) rows
-  next_row =
-      let next : suc i ≡ i + 1 = omega arith in
-      drop-cons rows i one within ∙ ap (λ r. r ∷ drop (suc i) rows) (sym is) ∙ ap (λ k. one ∷ drop k rows) next
+-- ---- more rows
+module _ {K : Type 0} where
+  pub rows_in-append : (width : ℕ) (heads more : List K) (values longer : List (Option ℤ)) → length values ≡ length heads * width
+      → rows_in width (heads ++ more) (values ++ longer) ≡ rows_in width heads values ++ rows_in width more longer
+  rows_in-append width [] more [] longer h = refl
+  rows_in-append width [] more (v ∷ values) longer h = absurd (omega (arith, h))
+  rows_in-append width (m ∷ heads) more values longer h =
+      let within = first_full width (length heads) values h in
+      let rest = rest_full width (length heads) values h in
+      rw (take-append-le, drop-append-le) (ap (λ (rs : List (K × Row)). (m, take width values) ∷ rs) (rows_in-append width heads more (drop width values) longer rest))
 
-  pub rows_left : length (drop i rows) ≡ suc (length (drop (i + 1) rows))
-  rows_left = ap length next_row
+  pub append_full : (width count : ℕ) (heads more : List K) (values longer : List (Option ℤ)) → length values ≡ length heads * width → length longer ≡ count * width → length more ≡ length heads + count
+      → length (values ++ longer) ≡ length more * width
+  append_full width count heads more values longer full also long =
+      length-append values longer ∙ omega (arith, full, also, add-mul (length heads) count width) ∙ ap (λ n. n * width) (sym long)
 
-  pub values_left : length (drop i rows) * width ≡ width + length (drop (i + 1) rows) * width
-  values_left = ap (λ k. k * width) rows_left ∙ omega arith
+-- numbered one after another
+numbered_lent : (width n : ℕ) (instants : List ℤ) (values : List (Option ℤ)) → numbered_rows n (lent_rows width instants values) ≡ rows_in width (range_with_len n (length instants)) values
+numbered_lent width n [] values = refl
+numbered_lent width n (t ∷ instants) values =
+    let next : suc n ≡ n + 1 = omega arith in
+    ap (λ k. (n, take width values) ∷ numbered_rows k (lent_rows width instants (drop width values))) next
+    ∙ ap (λ (rs : List (ℕ × Row)). (n, take width values) ∷ rs) (numbered_lent width (n + 1) instants (drop width values))
 
-  -- the row has the width, and so have those behind it
-  pub next_wide : HaveWidth width (pairs_of (drop i rows)) → (length one.1.items ≡ width) × HaveWidth width (pairs_of (drop (i + 1) rows))
-  next_wide h = subst (λ (rs : List (ℕ × ArrayVec (Option ℤ))). HaveWidth width (pairs_of rs)) next_row h
+pushed_rows : (width n : ℕ) (numbers : List ℕ) (values longer : List (Option ℤ)) (instants : List ℤ) → length values ≡ length numbers * width
+    → rows_in width (numbers ++ range_with_len n (length instants)) (values ++ longer) ≡ rows_in width numbers values ++ numbered_rows n (lent_rows width instants longer)
+pushed_rows width n numbers values longer instants full =
+    rows_in-append width numbers (range_with_len n (length instants)) values longer full
+    ∙ ap (λ (rs : List (ℕ × Row)). rows_in width numbers values ++ rs) (sym (numbered_lent width n instants longer))
 
-  module _ {K : Type 0} (head : K) (heads more : List K) (values longer : List (Option ℤ)) (full : length values ≡ length heads * width) (wide : HaveWidth width (pairs_of (drop i rows)))
-      (pushed : more ≡ heads ++ head ∷ []) (valued : longer ≡ values ++ one.1.items) where
-    pub pushed_full : length longer ≡ length more * width
-    pushed_full =
-        let long : length more ≡ suc (length heads) = ap length pushed ∙ length-append heads (head ∷ []) ∙ omega arith in
-        let same : suc (length heads) * width ≡ width + length heads * width = omega arith in
-        let all : length longer ≡ length values + length one.1.items = ap length valued ∙ length-append values one.1.items in
-        all ∙ omega (arith, full, (next_wide wide).0) ∙ sym same ∙ ap (λ k. k * width) (sym long)
+pub record IsPushed (width n : ℕ) (numbers more : List ℕ) (values longer : List (Option ℤ)) (instants : List ℤ) (given : List (Option ℤ)) : Type 0 where
+  pub flat : IsFlat width more longer
+  pub rows : rows_in width more longer ≡ rows_in width numbers values ++ numbered_rows n (lent_rows width instants given)
 
-    pub pushed_row : rows_in width more longer ≡ rows_in width heads values ++ (head, one.1.items) ∷ []
-    pushed_row =
-        ap (λ (hs : List K). rows_in width hs longer) pushed
-        ∙ ap (λ (vs : List (Option ℤ)). rows_in width (heads ++ head ∷ []) vs) valued
-        ∙ rows_in-push width heads values one.1.items head full (next_wide wide).0
+pub pushed_late : (width n : ℕ) (numbers more : List ℕ) (values longer : List (Option ℤ)) (instants : List ℤ) (given : List (Option ℤ)) → IsFlat width numbers values → length given ≡ length instants * width
+    → more ≡ numbers ++ range_with_len n (length instants) → longer ≡ values ++ given → IsPushed width n numbers more values longer instants given
+pushed_late width n numbers more values longer instants given flat full counted valued =
+    let long : length more ≡ length numbers + length instants =
+    ap length counted ∙ length-append numbers (range_with_len n (length instants)) ∙ ap (λ k. length numbers + k) (length-range_with_len n (length instants)) in
+    record {
+      flat = record { few = flat.few; full = ap length valued ∙ append_full width (length instants) numbers more values given flat.full full long };
+      rows = ap₂ (λ (ns : List ℕ) (vs : List (Option ℤ)). rows_in width ns vs) counted valued ∙ pushed_rows width n numbers values given instants flat.full;
+    }
 
-  -- what is left to number, once the row has its number
-  pub numbered_left : (n : ℕ) → numbered_rows n (pairs_of (drop i rows)) ≡ (n, one.1.items) ∷ numbered_rows (n + 1) (pairs_of (drop (i + 1) rows))
-  numbered_left n =
-      let next : suc n ≡ n + 1 = omega arith in
-      ap (λ (rs : List (ℕ × ArrayVec (Option ℤ))). numbered_rows n (pairs_of rs)) next_row
-      ∙ ap (λ k. (n, one.1.items) ∷ numbered_rows k (pairs_of (drop (i + 1) rows))) next
+-- one more number
+pub one_number : (first number : ℕ) (start old new : List ℕ) → first ≤ number → new ≡ old ++ number ∷ [] → old ≡ start ++ range_with_len first (number - first) → new ≡ start ++ range_with_len first (number + 1 - first)
+one_number first number start old new le pushed sofar =
+    let k : ℕ = number - first in
+    let more : number + 1 - first ≡ k + 1 = omega (arith, le) in
+    let here : first + k ≡ number = omega (arith, le) in
+    pushed
+    ∙ ap (λ (ns : List ℕ). ns ++ number ∷ []) sofar
+    ∙ append_assoc start (range_with_len first k) (number ∷ [])
+    ∙ ap (λ m. start ++ (range_with_len first k ++ m ∷ [])) (sym here)
+    ∙ ap (λ (ns : List ℕ). start ++ ns) (sym (range_with_len-add first k 1))
+    ∙ ap (λ n. start ++ range_with_len first n) (sym more)
 
-  pub pushed_more : (n : ℕ) (numbers more : List ℕ) (values longer : List (Option ℤ)) → length values ≡ length numbers * width → HaveWidth width (pairs_of (drop i rows)) → more ≡ numbers ++ n ∷ [] → longer ≡ values ++ one.1.items
-      → rows_in width more longer ++ numbered_rows (n + 1) (pairs_of (drop (i + 1) rows)) ≡ rows_in width numbers values ++ numbered_rows n (pairs_of (drop i rows))
-  pushed_more n numbers more values longer full wide pushed valued =
-      let others : List (ℕ × Row) = numbered_rows (n + 1) (pairs_of (drop (i + 1) rows)) in
-      let old : List (ℕ × Row) = rows_in width numbers values in
-      ap (λ (rs : List (ℕ × Row)). rs ++ others) (pushed_row n numbers more values longer full wide pushed valued)
-      ∙ append_assoc old ((n, one.1.items) ∷ []) others
-      ∙ ap (λ (rs : List (ℕ × Row)). old ++ rs) (sym (numbered_left n))
+-- ---- the same of rows that rise, of which the heads tell the instant and the number
+abbrev keyed : (ℕ × ℕ) × Row → Element
+keyed r = record { arrival = r.0.1; instant = r.0.0; row = r.1 }
 
-  -- the same of rows of one instant that rise
-  pub risen_more : (t n : ℕ) (head : Head) (heads more : List Head) (values longer : List (Option ℤ)) → instant_of head ≡ t → head.number ≡ n → length values ≡ length heads * width → HaveWidth width (pairs_of (drop i rows))
-      → more ≡ heads ++ head ∷ [] → longer ≡ values ++ one.1.items
-      → risen_in width more longer ++ elements_at t (numbered_rows (n + 1) (pairs_of (drop (i + 1) rows))) ≡ risen_in width heads values ++ elements_at t (numbered_rows n (pairs_of (drop i rows)))
-  risen_more t n head heads more values longer at counts full wide pushed valued =
-      let others : List (ℕ × Row) = numbered_rows (n + 1) (pairs_of (drop (i + 1) rows)) in
-      let old : List Element = risen_in width heads values in
-      ap (λ (rs : List (Head × Row)). map headed rs ++ elements_at t others) (pushed_row head heads more values longer full wide pushed valued)
-      ∙ ap (λ (es : List Element). es ++ elements_at t others) (map-append headed (rows_in width heads values) ((head, one.1.items) ∷ []))
-      ∙ append_assoc old (headed (head, one.1.items) ∷ []) (elements_at t others)
-      ∙ ap₂ (λ (k m : ℕ). old ++ record { arrival = m; instant = k; row = one.1.items } ∷ elements_at t others) at counts
-      ∙ ap (λ (rs : List (ℕ × Row)). old ++ elements_at t rs) (sym (numbered_left n))
+risen-keyed : (width : ℕ) (heads : List Head) (values : List (Option ℤ)) → risen_in width heads values ≡ map keyed (rows_in width (map key_of heads) values)
+risen-keyed width [] values = refl
+risen-keyed width (h ∷ heads) values = ap (λ (es : List Element). headed (h, take width values) ∷ es) (risen-keyed width heads (drop width values))
+
+keys-lent : (width t n : ℕ) (instants : List ℤ) (values : List (Option ℤ)) → map keyed (rows_in width (keys_from t n (length instants)) values) ≡ elements_at t (numbered_rows n (lent_rows width instants values))
+keys-lent width t n [] values = refl
+keys-lent width t n (i ∷ instants) values =
+    let next : n + 1 ≡ suc n = omega arith in
+    let first : Element = record { arrival = n; instant = t; row = take width values } in
+    ap (λ (es : List Element). first ∷ es) (keys-lent width t (n + 1) instants (drop width values))
+    ∙ ap (λ k. first ∷ elements_at t (numbered_rows k (lent_rows width instants (drop width values)))) next
+
+pub pushed_risen : (width t n : ℕ) (heads more : List Head) (values longer : List (Option ℤ)) (instants : List ℤ) → length values ≡ length heads * width → map key_of more ≡ map key_of heads ++ keys_from t n (length instants)
+    → risen_in width more (values ++ longer) ≡ risen_in width heads values ++ elements_at t (numbered_rows n (lent_rows width instants longer))
+pushed_risen width t n heads more values longer instants full pushed =
+    let keys : List (ℕ × ℕ) = map key_of heads in
+    let new : List (ℕ × ℕ) = keys_from t n (length instants) in
+    risen-keyed width more (values ++ longer)
+    ∙ ap (λ (ks : List (ℕ × ℕ)). map keyed (rows_in width ks (values ++ longer))) pushed
+    ∙ ap (map keyed) (rows_in-append width keys new values longer (full ∙ ap (λ k. k * width) (sym (length-map heads key_of))))
+    ∙ map-append keyed (rows_in width keys values) (rows_in width new longer)
+    ∙ ap₂ (λ (xs ys : List Element). xs ++ ys) (sym (risen-keyed width heads values)) (keys-lent width t n instants longer)
+
+pub one_head : (t first number : ℕ) (h : Head) (start old new : List Head) → first ≤ number → instant_of h ≡ t → h.number ≡ number → new ≡ old ++ h ∷ [] → map key_of old ≡ map key_of start ++ keys_from t first (number - first)
+    → map key_of new ≡ map key_of start ++ keys_from t first (number + 1 - first)
+one_head t first number h start old new le at counts pushed sofar =
+    let k : ℕ = number - first in
+    let keys : List (ℕ × ℕ) = map key_of start in
+    let more : number + 1 - first ≡ k + 1 = omega (arith, le) in
+    ap (map key_of) pushed
+    ∙ map-append key_of old (h ∷ [])
+    ∙ ap₂ (λ i j. map key_of old ++ (i, j) ∷ []) at counts
+    ∙ ap (λ (ks : List (ℕ × ℕ)). ks ++ (t, number) ∷ []) sofar
+    ∙ append_assoc keys (keys_from t first k) ((t, number) ∷ [])
+    ∙ ap (λ (ks : List (ℕ × ℕ)). keys ++ ks) (sym (map-range_with_len_more (λ m. (t, m)) first k number (omega (arith, le))))
+    ∙ ap (λ n. keys ++ keys_from t first n) (sym more)
+
+pub pushed_heads : (t n count : ℕ) (heads more : List Head) → map key_of more ≡ map key_of heads ++ keys_from t n count → length more ≡ length heads + count
+pushed_heads t n count heads more pushed =
+    sym (length-map more key_of)
+    ∙ ap length pushed
+    ∙ length-append (map key_of heads) (keys_from t n count)
+    ∙ ap₂ (λ j k. j + k) (length-map heads key_of) (length-map-range_with_len (λ m. (t, m)) n count)
 
 -- ---- copies of the rows, as far as they have come
 pub rest_full_at : (width i : ℕ) (numbers : List ℕ) (rest back : List (Option ℤ)) → i < length numbers → back ≡ drop width rest → length rest ≡ length (drop i numbers) * width

@@ -188,7 +188,7 @@ module _ (name : List ℕ) (columns : List Name) (n : ℕ) (closed : Closed) (es
   rows_room = (passed (stream_in name (names_of columns) n closed es) rows accepted).room
 
   -- the rows have the stream's columns
-  pub rows_wide : AllByRecursion (λ (r : ℕ × Row). length r.1 ≡ length columns) (kept_of rows)
+  rows_wide : AllByRecursion (λ (r : ℕ × Row). length r.1 ≡ length columns) (kept_of rows)
   rows_wide =
       let p = passed (stream_in name (names_of columns) n closed es) rows accepted in
       each_wide (length columns) rows (subst (λ k. list_any (λ r. not (length r.1 == k)) rows ≡ false) (length-map columns name_of) p.width)

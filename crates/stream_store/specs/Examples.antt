@@ -4,7 +4,7 @@ use Rattle.values.specs.Row.{Row}
 use Rattle.values.specs.Window.{Element}
 use Rattle.reference.specs.Machine.{Stream}
 use Rattle.stream_store.specs.LateRows.{rows_in}
-use Rattle.stream_store.specs.Open.{Entry, open_of, put_rows, count_at, after_put, below, instants_past, up_to}
+use Rattle.stream_store.specs.Open.{Entry, open_of, put_rows, after_put, below, instants_past, up_to}
 use Rattle.stream_store.specs.OpenRows.{risen_in, with_late}
 use Rattle.stream_store.specs.Closing.{by_key, closed_of, closing_of}
 
@@ -47,10 +47,6 @@ one_behind = refl
 
 two_between : open_of (put_rows 1 2 3 ((2, row 4) ∷ (2, row 9) ∷ []) entries) ≡ element 1 1 5 ∷ element 2 1 6 ∷ element 3 2 4 ∷ element 4 2 9 ∷ element 0 3 7 ∷ []
 two_between = refl
-
--- the first rows of one instant
-three_at_one : count_at 1 ((1, row 4) ∷ (1, row 4) ∷ (1, row 6) ∷ (2, row 9) ∷ (1, row 5) ∷ []) ≡ 3
-three_at_one = refl
 
 two_more : after_put 3 ((1, row 4) ∷ (2, row 9) ∷ []) (open_of entries) ≡ element 1 1 5 ∷ element 2 1 6 ∷ element 3 1 4 ∷ element 4 2 9 ∷ element 0 3 7 ∷ []
 two_more = refl

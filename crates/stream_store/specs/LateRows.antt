@@ -1,5 +1,5 @@
 -- How open rows are kept: their heads, and their values one row after another.
-use Rattle.std.specs.Prelude.{◌≡◌, ℕ, suc, ℤ, ◌*◌, ◌≤◌, ◌++◌, Option, Bool, nat_lt, List, [], ◌∷◌, length, take, drop}
+use Rattle.std.specs.Prelude.{◌≡◌, ℕ, suc, ℤ, ◌*◌, ◌≤◌, ◌++◌, Option, Bool, nat_abs, nat_lt, List, [], ◌∷◌, length, map, take, drop}
 use Rattle.std.specs.List.{filter}
 use Rattle.values.specs.declared.TheConstants.{MAX_COLUMNS}
 use Rattle.values.specs.Row.{Row}
@@ -13,6 +13,10 @@ pub record RowsAt : Type 0 where
 abbrev pub rows_in : {K : Type 0} → ℕ → List K → List (Option ℤ) → List (K × Row)
 rows_in width [] values = []
 rows_in width (head ∷ heads) values = (head, take width values) ∷ rows_in width heads (drop width values)
+
+-- rows that are lent: their instants, none below 0, and their values, one row's behind another's
+abbrev pub lent_rows : ℕ → List ℤ → List (Option ℤ) → List (ℕ × Row)
+lent_rows width instants values = rows_in width (map nat_abs instants) values
 
 -- as many values as the rows have
 pub record IsFlat {K : Type 0} (width : ℕ) (heads : List K) (values : List (Option ℤ)) : Type 0 where

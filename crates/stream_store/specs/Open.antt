@@ -1,5 +1,5 @@
 -- Open rows as the entries of a map from their instants, and as elements.
-use Rattle.std.specs.Prelude.{◌≡◌, ◌==◌, ℕ, suc, length, nat_le, nat_lt, if◌then◌else◌, List, [], ◌∷◌, map}
+use Rattle.std.specs.Prelude.{◌≡◌, ℕ, suc, nat_le, nat_lt, if◌then◌else◌, List, [], ◌∷◌, map}
 use Rattle.std.specs.List.{AllByRecursion, filter, flat_map}
 use Rattle.std.specs.Ordering.{nat_cmp, match_ordering}
 use Rattle.values.specs.Row.{Row}
@@ -28,18 +28,9 @@ put_rows width instant n rows [] = (instant, with_rows n rows (none_at width)) �
 put_rows width instant n rows (e ∷ es) =
     match_ordering (nat_cmp instant e.0) ((instant, with_rows n rows (none_at width)) ∷ e ∷ es) ((e.0, with_rows n rows e.1) ∷ es) (e ∷ put_rows width instant n rows es)
 
--- how many of the first rows have this instant
-abbrev pub count_at : ℕ → List (ℕ × Row) → ℕ
-count_at instant [] = 0
-count_at instant (r ∷ rows) = if r.0 == instant then suc (count_at instant rows) else 0
-
 -- the rows have this instant
 abbrev pub AreAt : ℕ → List (ℕ × Row) → Type 0
 AreAt instant rows = AllByRecursion (λ (r : ℕ × Row). r.0 ≡ instant) rows
-
--- the rows have so many values each
-abbrev pub HaveWidth : ℕ → List (ℕ × Row) → Type 0
-HaveWidth width rows = AllByRecursion (λ (r : ℕ × Row). length r.1 ≡ width) rows
 
 -- an element that came last, behind those of its instant and of earlier ones
 abbrev pub placed : Element → List Element → List Element

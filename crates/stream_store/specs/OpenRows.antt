@@ -1,6 +1,6 @@
 -- The open rows of a stream in two parts: those that came in the order of their instants, and those that came late.
 use Rattle.std.specs.Prelude.{◌≡◌, ℕ, ℤ, ◌<◌, ◌≤◌, ◌+◌, ◌*◌, ◌++◌, Option, List, [], ◌∷◌, length, map, take}
-use Rattle.std.specs.List.{AllByRecursion}
+use Rattle.std.specs.List.{AllByRecursion, range_with_len}
 use Rattle.values.specs.Row.{Row}
 use Rattle.values.specs.Window.{Element}
 use Rattle.stream_store.specs.declared.ordered_rows.Head.{Head}
@@ -21,6 +21,14 @@ pub record RisenRows : Type 0 where
 
 abbrev pub instant_of : Head → ℕ
 instant_of h = h.high * 4294967296 + h.low
+
+-- what a head says: an instant and a number
+abbrev pub key_of : Head → ℕ × ℕ
+key_of h = (instant_of h, h.number)
+
+-- so many rows of one instant, with numbers from n on
+abbrev pub keys_from : ℕ → ℕ → ℕ → List (ℕ × ℕ)
+keys_from instant n count = map (λ m. (instant, m)) (range_with_len n count)
 
 abbrev pub headed : Head × Row → Element
 headed r = record { arrival = r.0.number; instant = instant_of r.0; row = r.1 }

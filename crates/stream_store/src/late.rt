@@ -1,30 +1,17 @@
 //! The late rows of a stream: open rows by instant, and then in the order of arrival.
-ghost use Rattle.std.specs.Prelude.{◌≡◌, ◌<◌, ◌≤◌, ◌+◌, ◌^◌, OnOk, OnErr, length};
+ghost use Rattle.std.specs.Prelude.{◌≡◌, ◌<◌, ◌≤◌, ◌+◌, ◌*◌, ◌^◌, OnOk, OnErr, length, true};
+ghost use Rattle.std.specs.List.{list_all};
 ghost use Rattle.std.specs.List.Sorted.{IsStrictlySortedBy};
 ghost use Rattle.std.specs.Map.{keys_of};
 ghost use Rattle.std.specs.Ordering.{nat_cmp};
-ghost use Rattle.reference.specs.Views.{pairs_of};
-ghost use Rattle.stream_store.specs.Open.{AreWide, HaveWidth, below, count_at, instants_past};
-ghost use Rattle.stream_store.specs.Open.{put_rows};
+ghost use Rattle.reference.specs.Commands.{is_stream_value};
+ghost use Rattle.stream_store.specs.LateRows.{lent_rows};
+ghost use Rattle.stream_store.specs.Open.{AreWide, below, instants_past, put_rows};
 
 use crate::late_rows::LateRows;
 use std::alloc::{AllocError, Global};
 use std::collections::BTreeMap;
-use values::{MAX_COLUMNS, Row};
-
-/// How many of the first rows have this instant.
-pub(crate) fn count_at(rows: &[(u64, Row)], instant: u64) -> usize
-    ensures { result ≡ count_at instant (pairs_of rows.now) }
-{
-    let mut count = 0;
-    for (other, _) in rows {
-        if *other != instant {
-            return count;
-        }
-        count += 1;
-    }
-    count
-}
+use values::MAX_COLUMNS;
 
 /// Puts rows behind the others of their instant, numbered from `first` on, by one look-up. On Err
 /// all are as they were.
@@ -34,22 +21,25 @@ pub(crate) fn put(
     width: usize,
     instant: u64,
     first: u64,
-    rows: &[(u64, Row)],
+    instants: &[i64],
+    values: &[Option<i64>],
 ) -> Result<(), AllocError>
     requires few { width ≤ MAX_COLUMNS }
-    requires room { first + length rows.now < 2 ^ 32 }
-    requires rows { HaveWidth width (pairs_of rows.now) }
+    requires room { first + length instants.now < 2 ^ 32 }
+    requires full { length values.now ≡ length instants.now * width }
+    requires values { list_all is_stream_value values.now ≡ true }
     requires wide { AreWide width late.old.entries }
     ensures ok { OnOk result (late.new.entries
-        ≡ put_rows width instant first (pairs_of rows.now) late.old.entries) }
+        ≡ put_rows width instant first (lent_rows width instants.now values.now)
+        late.old.entries) }
     ensures err { OnErr result (late.new.entries ≡ late.old.entries) }
     ensures ordered { IsStrictlySortedBy nat_cmp (keys_of late.old.entries) }
 {
     if let Some(open) = late.get_mut(&instant) {
-        return open.push_all(first, rows);
+        return open.push_all(first, instants, values);
     }
     let mut open = LateRows::new(alloc, width);
-    open.push_all(first, rows)?;
+    open.push_all(first, instants, values)?;
     late.insert(instant, open)?;
     Ok(())
 }

@@ -1,13 +1,14 @@
 //! The open rows of one instant.
 ghost use Rattle.std.specs.Prelude.{◌≡◌, ℕ, ◌+◌, ◌*◌, ◌^◌, ◌<◌, ◌≤◌, ◌++◌, OnOk, OnErr, length};
-ghost use Rattle.std.specs.Prelude.{map, nat_lt, vec_len, vec_capacity};
-ghost use Rattle.std.specs.List.{filter};
+ghost use Rattle.std.specs.Prelude.{map, nat_lt, true, vec_len, vec_capacity};
+ghost use Rattle.std.specs.List.{filter, list_all, range_with_len};
 ghost use Rattle.op_queue.specs.Tables.{element};
-ghost use Rattle.reference.specs.Views.{pairs_of};
-ghost use Rattle.stream_store.specs.Open.{HaveWidth, elements_at};
-ghost use Rattle.stream_store.specs.LateRows.{first_below, has_rows, none_at, numbered_rows};
+ghost use Rattle.reference.specs.Commands.{is_stream_value};
+ghost use Rattle.stream_store.specs.Open.{elements_at};
+ghost use Rattle.stream_store.specs.LateRows.{first_below, has_rows, lent_rows, none_at};
 ghost use Rattle.stream_store.specs.LateRows.{rows_in, with_rows};
 
+use crate::lent::value_of;
 use op_queue::Arrival;
 use std::alloc::{AllocError, Global};
 use std::marker::Model;
@@ -54,15 +55,23 @@ impl LateRows {
     }
 
     /// Puts rows behind the others, numbered from `first` on. On Err they are as they were.
-    pub(crate) fn push_all(&mut self, first: u64, rows: &[(u64, Row)]) -> Result<(), AllocError>
-        requires room { first + length rows.now < 2 ^ 32 }
-        requires rows { HaveWidth self.old.width (pairs_of rows.now) }
-        ensures ok { OnOk result (self.new ≡ with_rows first (pairs_of rows.now) self.old) }
+    pub(crate) fn push_all(
+        &mut self,
+        first: u64,
+        instants: &[i64],
+        values: &[Option<i64>],
+    ) -> Result<(), AllocError>
+        requires room { first + length instants.now < 2 ^ 32 }
+        requires full { length values.now ≡ length instants.now * self.old.width }
+        requires values { list_all is_stream_value values.now ≡ true }
+        ensures ok { OnOk result (self.new
+            ≡ with_rows first (lent_rows self.old.width instants.now values.now) self.old) }
         ensures err { OnErr result (self.new ≡ self.old) }
     {
-        self.numbers.reserve(rows.len())?;
-        self.values.reserve(rows.len() * self.width)?;
-        push_rows(self.width, &mut self.numbers, &mut self.values, first, rows);
+        self.numbers.reserve(instants.len())?;
+        self.values.reserve(values.len())?;
+        push_numbers(&mut self.numbers, first, instants.len());
+        push_values(&mut self.values, values);
         Ok(())
     }
 
@@ -93,42 +102,26 @@ fn count_below(numbers: &[u64], first: u64) -> usize
     numbers.iter().filter(|number| **number < first).count()
 }
 
-/// Puts the numbers and the values of rows behind those of others, which have room for them.
-fn push_rows(
-    width: usize,
-    numbers: &mut Vec<u64>,
-    values: &mut Vec<Value>,
-    first: u64,
-    rows: &[(u64, Row)],
-)
-    requires room { first + length rows.now < 2 ^ 32 }
-    requires room_for_numbers { vec_len numbers.old + length rows.now ≤ vec_capacity numbers.old }
-    requires room_for_values { vec_len values.old + length rows.now * width
-        ≤ vec_capacity values.old }
-    requires rows { HaveWidth width (pairs_of rows.now) }
-    requires full { length values.old.items ≡ length numbers.old.items * width }
-    ensures rows { rows_in width numbers.new.items values.new.items
-        ≡ rows_in width numbers.old.items values.old.items
-        ++ numbered_rows first (pairs_of rows.now) }
-    ensures full { length values.new.items ≡ length numbers.new.items * width }
+/// Puts so many numbers, one after another from `first` on, behind others, which have room for
+/// them.
+fn push_numbers(numbers: &mut Vec<u64>, first: u64, count: usize)
+    requires range { first + count < 2 ^ 32 }
+    requires room { vec_len numbers.old + count ≤ vec_capacity numbers.old }
+    ensures { numbers.new.items ≡ numbers.old.items ++ range_with_len first count }
 {
-    let mut number = first;
-    for (_, row) in rows {
+    for number in first..first + count as u64 {
         numbers.push_reserved(number);
-        push_values(values, row.as_slice());
-        number += 1;
     }
 }
 
-/// Puts the values of a row behind others, which have room for them.
-fn push_values(values: &mut Vec<Value>, row: &[Value])
-    requires { vec_len values.old + length row.now ≤ vec_capacity values.old }
-    ensures items { values.new.items ≡ values.old.items ++ row.now }
-    ensures len { vec_len values.new ≡ vec_len values.old + length row.now }
-    ensures capacity { vec_capacity values.new ≡ vec_capacity values.old }
+/// Puts values behind others, which have room for them.
+fn push_values(values: &mut Vec<Value>, more: &[Option<i64>])
+    requires good { list_all is_stream_value more.now ≡ true }
+    requires room { vec_len values.old + length more.now ≤ vec_capacity values.old }
+    ensures { values.new.items ≡ values.old.items ++ more.now }
 {
-    for value in row {
-        values.push_reserved(*value);
+    for value in more {
+        values.push_reserved(value_of(*value));
     }
 }
 

@@ -5,6 +5,7 @@
 
 mod late;
 mod late_rows;
+mod lent;
 mod open_rows;
 mod ordered_rows;
 mod stored;

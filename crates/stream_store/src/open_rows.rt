@@ -1,20 +1,22 @@
 //! The open rows of a stream.
-ghost use Rattle.std.specs.Prelude.{◌≡◌, ◌≤◌, ◌<◌, ◌+◌, ◌^◌, ◌++◌, [], IfOk, OnOk, OnErr, length};
-ghost use Rattle.std.specs.Prelude.{map, take, drop};
-ghost use Rattle.std.specs.List.{AllByRecursion};
+ghost use Rattle.std.specs.Prelude.{◌≡◌, ◌≤◌, ◌<◌, ◌+◌, ◌*◌, ◌^◌, ◌++◌, [], IfOk, OnOk, OnErr};
+ghost use Rattle.std.specs.Prelude.{length, map, take, drop, true};
+ghost use Rattle.std.specs.List.{AllByRecursion, list_all};
 ghost use Rattle.op_queue.specs.Tables.{element};
-ghost use Rattle.reference.specs.Views.{pairs_of};
-ghost use Rattle.stream_store.specs.Open.{AreAt, HaveWidth, after_put, below, open_of, past, up_to};
+ghost use Rattle.reference.specs.Commands.{is_instant, is_stream_value};
+ghost use Rattle.stream_store.specs.LateRows.{lent_rows};
+ghost use Rattle.stream_store.specs.Open.{AreAt, after_put, below, open_of, past, up_to};
 ghost use Rattle.stream_store.specs.OpenRows.{IsMore, IsOpen, with_late};
 
-use crate::late::{count_at, drop_up_to, forget_from, put};
+use crate::late::{drop_up_to, forget_from, put};
 use crate::late_rows::LateRows;
+use crate::lent::count_at;
 use crate::ordered_rows::OrderedRows;
 use op_queue::Arrival;
 use std::alloc::{AllocError, Global};
 use std::collections::BTreeMap;
 use std::marker::Model;
-use values::{MAX_COLUMNS, Row};
+use values::MAX_COLUMNS;
 
 /// The open rows of a stream, by instant, then arrival.
 ///
@@ -61,18 +63,33 @@ impl OpenRows {
     /// are as they were.
     ///
     /// Rows that follow one another with one instant are put together.
-    pub(crate) fn put_all(&mut self, first: u64, rows: &[(u64, Row)]) -> Result<(), AllocError>
-        requires room { first + length rows.now < 2 ^ 32 }
-        requires rows { HaveWidth self.old.width (pairs_of rows.now) }
+    pub(crate) fn put_all(
+        &mut self,
+        first: u64,
+        instants: &[i64],
+        values: &[Option<i64>],
+    ) -> Result<(), AllocError>
+        requires room { first + length instants.now < 2 ^ 32 }
+        requires full { length values.now ≡ length instants.now * self.old.width }
+        requires instants { list_all is_instant instants.now ≡ true }
+        requires values { list_all is_stream_value values.now ≡ true }
         requires numbered { AllByRecursion (λ e. e.arrival < first) self.old.rows }
         ensures width { self.new.width ≡ self.old.width }
         ensures ok { OnOk result (self.new.rows
-            ≡ after_put first (pairs_of rows.now) self.old.rows) }
+            ≡ after_put first (lent_rows self.old.width instants.now values.now)
+            self.old.rows) }
         ensures err { OnErr result (self.new ≡ self.old) }
     {
         let count = self.rising.len();
         let reached = self.rising.reached();
-        match put_runs(self.alloc, &mut self.rising, &mut self.late, first, rows) {
+        match put_runs(
+            self.alloc,
+            &mut self.rising,
+            &mut self.late,
+            first,
+            instants,
+            values,
+        ) {
             Ok(()) => Ok(()),
             Err(error) => {
                 self.rising.keep_first(count, reached);
@@ -110,21 +127,32 @@ fn put_run(
     late: &mut BTreeMap<u64, LateRows>,
     instant: u64,
     first: u64,
-    rows: &[(u64, Row)],
+    instants: &[i64],
+    values: &[Option<i64>],
 ) -> Result<(), AllocError>
-    requires room { first + length rows.now < 2 ^ 32 }
-    requires rows { HaveWidth rising.old.width (pairs_of rows.now) }
-    requires at { AreAt instant (pairs_of rows.now) }
+    requires room { first + length instants.now < 2 ^ 32 }
+    requires full { length values.now ≡ length instants.now * rising.old.width }
+    requires values { list_all is_stream_value values.now ≡ true }
+    requires at { AreAt instant (lent_rows rising.old.width instants.now values.now) }
     requires parts { IsOpen rising.old late.old.entries }
     ensures ok { OnOk result
-        (IsMore first (pairs_of rows.now) rising.old late.old.entries rising.new late.new.entries) }
+        (IsMore first (lent_rows rising.old.width instants.now values.now) rising.old
+        late.old.entries rising.new late.new.entries) }
     ensures rising { OnErr result (rising.new ≡ rising.old) }
     ensures late { OnErr result (late.new.entries ≡ late.old.entries) }
 {
     if rising.reached() <= instant {
-        return rising.push_all(instant, first, rows);
+        return rising.push_all(instant, first, instants, values);
     }
-    put(alloc, late, rising.width(), instant, first, rows)
+    put(
+        alloc,
+        late,
+        rising.width(),
+        instant,
+        first,
+        instants,
+        values,
+    )
 }
 
 /// Adds rows, numbered from `first` on. On Err only more rows, of these numbers, stand behind those
@@ -134,13 +162,16 @@ fn put_runs(
     rising: &mut OrderedRows,
     late: &mut BTreeMap<u64, LateRows>,
     first: u64,
-    rows: &[(u64, Row)],
+    instants: &[i64],
+    values: &[Option<i64>],
 ) -> Result<(), AllocError>
-    requires room { first + length rows.now < 2 ^ 32 }
-    requires rows { HaveWidth rising.old.width (pairs_of rows.now) }
+    requires room { first + length instants.now < 2 ^ 32 }
+    requires full { length values.now ≡ length instants.now * rising.old.width }
+    requires instants { list_all is_instant instants.now ≡ true }
+    requires values { list_all is_stream_value values.now ≡ true }
     requires parts { IsOpen rising.old late.old.entries }
     ensures ok { OnOk result (with_late (open_of late.new.entries) rising.new.rows
-        ≡ after_put first (pairs_of rows.now)
+        ≡ after_put first (lent_rows rising.old.width instants.now values.now)
         (with_late (open_of late.old.entries) rising.old.rows)) }
     ensures parts { IsOpen rising.new late.new.entries }
     ensures width { rising.new.width ≡ rising.old.width }
@@ -148,13 +179,26 @@ fn put_runs(
     ensures rising { take (length rising.old.rows) rising.new.rows ≡ rising.old.rows }
     ensures late { below first late.new.entries ≡ below first late.old.entries }
 {
+    let width = rising.width();
     let mut number = first;
-    let mut rest = rows;
-    while let Some((instant, _)) = rest.first() {
-        let (run, after) = rest.split_at(count_at(rest, *instant));
-        put_run(alloc, rising, late, *instant, number, run)?;
-        number += run.len() as u64;
+    let mut rest = instants;
+    let mut rest_values = values;
+    while let Some((instant, others)) = rest.split_first() {
+        let count = 1 + count_at(others, *instant);
+        let (run, after) = rest.split_at(count);
+        let (run_values, after_values) = rest_values.split_at(count * width);
+        put_run(
+            alloc,
+            rising,
+            late,
+            *instant as u64,
+            number,
+            run,
+            run_values,
+        )?;
+        number += count as u64;
         rest = after;
+        rest_values = after_values;
     }
     Ok(())
 }

@@ -139,11 +139,9 @@ impl Stored {
         ensures ok { OnOk result (self.new ≡ appended rows.now self.old) }
         ensures err { OnErr result (self.new ≡ self.old) }
     {
-        let count = rows.len();
-        let mut kept = Vec::with_capacity(self.alloc, count)?;
-        rows.copy_to(&mut kept);
-        self.open_rows.put_all(self.arrivals, &kept)?;
-        self.arrivals += count as u64;
+        self.open_rows
+            .put_all(self.arrivals, rows.instants(), rows.values())?;
+        self.arrivals += rows.len() as u64;
         Ok(())
     }
 

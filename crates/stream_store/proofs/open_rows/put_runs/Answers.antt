@@ -1,49 +1,55 @@
-use Rattle.std.proofs.Common.{◌∙◌, ◌+◌, drop, length, sym, ap, subst, arith, ℕ, List}
-use Rattle.reference.specs.Views.{pairs_of}
+use Rattle.std.proofs.Common.{◌≡◌, ◌≤◌, ◌∙◌, ◌+◌, ◌*◌, drop, length, take, sym, ap, ap₂, subst, arith, ℤ, Option, List, nat_abs, replicate}
+use Rattle.std.specs.List.{list_all}
 use Rattle.values.specs.Window.{Element}
-use Rattle.stream_store.specs.Open.{AreAt, HaveWidth, after_put, open_of}
+use Rattle.reference.specs.Commands.{is_instant, is_stream_value}
+use Rattle.stream_store.specs.LateRows.{lent_rows}
+use Rattle.stream_store.specs.Open.{AreAt, after_put, open_of}
 use Rattle.stream_store.specs.OpenRows.{with_late}
-use Rattle.stream_store.proofs.KeyLemmas.{Kept}
-use Rattle.stream_store.proofs.RunLemmas.{run_within, run_at, run_wide, rest_wide, put_rest}
+use Rattle.stream_store.proofs.RunLemmas.{all-first, all-drop, instant_back, rest_full, put_rest, run_at}
 use Rattle.stream_store.proofs.open_rows.put_runs.Goals as goal
-
-pub split_at-requires : goal.split_at-requires
-split_at-requires c = run_within c.in-Some.field-0.now.0 c.count_at.result c.loop-instant.rest.now c.count_at.ensures
-
-pub put_run-requires-clause-rows : goal.put_run-requires-clause-rows
-put_run-requires-clause-rows c =
-    subst (λ (k : ℕ). HaveWidth k (pairs_of c.split_at.result.0.now)) (sym c.loop-instant.invariant.width)
-    (subst (λ (rows : List (ℕ × Kept)). HaveWidth c.args.rising.now.width (pairs_of rows)) (sym c.split_at.ensures.front)
-    (run_wide c.args.rising.now.width c.count_at.result c.loop-instant.rest.now c.loop-instant.invariant.rows))
 
 pub put_run-requires-clause-at : goal.put_run-requires-clause-at
 put_run-requires-clause-at c =
-    let t = c.in-Some.field-0.now.0 in
-    subst (λ (rows : List (ℕ × Kept)). AreAt t (pairs_of rows)) (sym c.split_at.ensures.front) (run_at t c.count_at.result c.loop-instant.rest.now c.count_at.ensures)
+    let t = c.in-Some.instant.now in
+    let k = c.count_at-count.result in
+    let others = c.in-Some.others.now in
+    let width = c.loop-instant.rising.width in
+    let values = c.split_at-in-Some.result.0.now in
+    let is = c.in-Some.ensures.cases.0 in
+    let good = all-first is_instant t others (ap (list_all is_instant) (sym is) ∙ c.loop-instant.invariant.instants) in
+    let back = instant_back t good in
+    let same : take k others ≡ replicate k t = c.count_at-count.ensures.same ∙ ap (λ (z : ℤ). replicate k z) back in
+    let first = c.split_at.ensures.front ∙ ap (λ (ts : List ℤ). take (1 + k) ts) is in
+    subst (λ (z : ℤ). AreAt (nat_abs z) (lent_rows width c.split_at.result.0.now values)) (sym back)
+    (subst (λ (ts : List ℤ). AreAt (nat_abs t) (lent_rows width ts values)) (sym first) (run_at width k t others values same))
 
 pub loop-instant-preserved : goal.loop-instant-preserved
 loop-instant-preserved c =
-    let t = c.in-Some.field-0.now.0 in
-    let k = c.count_at.result in
     let l = c.loop-instant in
-    let rest = l.rest.now in
     let n = l.number in
-    let after = c.split_at.result.1.now in
-    let before = with_late (open_of l.late.entries) l.rising.rows in
+    let m = 1 + c.count_at-count.result in
+    let width = c.width-width.result in
+    let rest = l.rest.now in
+    let values = l.rest_values.now in
+    let within : m ≤ length rest = omega (arith, c.count_at-count.ensures.within, c.in-Some.ensures.cases.1) in
     let more = c.in_ok-put_run.ensures.ok in
+    let before = with_late (open_of l.late.entries) l.rising.rows in
     let now = with_late (open_of c.put_run.new.late.entries) c.put_run.new.rising.rows in
-    let put = more.put ∙ ap (λ (rows : List (ℕ × Kept)). after_put n (pairs_of rows) before) c.split_at.ensures.front in
+    let put = more.put
+    ∙ ap (λ k. after_put n (lent_rows k c.split_at.result.0.now c.split_at-in-Some.result.0.now) before) l.invariant.width
+    ∙ ap₂ (λ (ts : List ℤ) (vs : List (Option ℤ)). after_put n (lent_rows width ts vs) before) c.split_at.ensures.front c.split_at-in-Some.ensures.front in
     record {
-      put = ap (λ m. after_put (n + m) (pairs_of after) now) c.split_at.ensures.front_len
-          ∙ ap (λ (rows : List (ℕ × Kept)). after_put (n + k) (pairs_of rows) now) c.split_at.ensures.back
-          ∙ ap (λ (es : List Element). after_put (n + k) (pairs_of (drop k rest)) es) put
-          ∙ put_rest t k rest c.count_at.ensures n before ∙ l.invariant.put;
+      put = ap₂ (λ (ts : List ℤ) (vs : List (Option ℤ)). after_put (n + m) (lent_rows width ts vs) now) c.split_at.ensures.back c.split_at-in-Some.ensures.back
+          ∙ ap (λ (es : List Element). after_put (n + m) (lent_rows width (drop m rest) (drop (m * width) values)) es) put
+          ∙ put_rest width m rest values l.invariant.full within n before ∙ l.invariant.put;
       parts = more.parts;
       width = more.width ∙ l.invariant.width;
       longer = omega (arith, more.longer, l.invariant.longer);
       rising = more.kept (length c.args.rising.now.rows) l.invariant.longer ∙ l.invariant.rising;
       late = more.stays c.args.first l.invariant.later ∙ l.invariant.late;
-      rows = subst (λ (rows : List (ℕ × Kept)). HaveWidth c.args.rising.now.width (pairs_of rows)) (sym c.split_at.ensures.back) (rest_wide c.args.rising.now.width k rest l.invariant.rows);
+      full = ap length c.split_at-in-Some.ensures.back ∙ rest_full width m rest values l.invariant.full within ∙ ap (λ (ts : List ℤ). length ts * width) (sym c.split_at.ensures.back);
+      instants = ap (list_all is_instant) c.split_at.ensures.back ∙ all-drop is_instant m rest l.invariant.instants;
+      values = ap (list_all is_stream_value) c.split_at-in-Some.ensures.back ∙ all-drop is_stream_value (m * width) values l.invariant.values;
       later = omega (arith, l.invariant.later);
-      room = omega (arith, c.split_at.ensures.front_len, c.split_at.ensures.back_len, l.invariant.room);
+      room = omega (arith, c.split_at.ensures.back_len, l.invariant.room);
     }

@@ -1,21 +1,40 @@
-use Rattle.std.proofs.Common.{◌≤◌, ◌∙◌, ◌++◌, ap, arith, ℤ, Option, List}
-use Rattle.reference.specs.Views.{pairs_of}
+use Rattle.std.proofs.Common.{◌≤◌, ◌∙◌, ◌++◌, ◌*◌, ap, sym, arith, length, map, ℤ, Option, List}
 use Rattle.values.specs.Window.{Element}
 use Rattle.stream_store.specs.declared.ordered_rows.Head.{Head}
-use Rattle.stream_store.specs.Open.{elements_at}
-use Rattle.stream_store.specs.LateRows.{numbered_rows}
-use Rattle.stream_store.specs.OpenRows.{RisenRows, risen_in}
+use Rattle.stream_store.specs.LateRows.{lent_rows}
+use Rattle.stream_store.specs.OpenRows.{RisenRows, key_of, keys_from, risen_in, with_risen}
+use Rattle.stream_store.proofs.FlatLemmas.{append_full, pushed_heads, pushed_risen}
 use Rattle.stream_store.proofs.RisingLemmas.{risen_push}
 use Rattle.stream_store.proofs.ordered_rows.OrderedRows.push_all.Goals as goal
 
 pub invariant_of-self-2 : goal.invariant_of-self-2
 invariant_of-self-2 c =
     let o = c.self.inside in
+    let t = c.args.instant in
+    let n = c.args.first in
+    let instants = c.args.instants.now in
+    let values = c.args.values.now in
+    let heads = c.push_heads.new.heads.items in
+    let given = c.requires.full ∙ ap (λ (r : RisenRows). length instants * r.width) (sym c.self.view_is) in
+    let keyed = c.push_heads.ensures ∙ ap (λ (hs : List Head). map key_of hs ++ keys_from t n (length instants)) c.in_ok-reserve.ensures.items in
+    let valued = c.push_values.ensures ∙ ap (λ (vs : List (Option ℤ)). vs ++ values) c.in_ok-reserve-2.ensures.items in
+    let pushed = ap (λ (vs : List (Option ℤ)). risen_in o.width heads vs) valued ∙ pushed_risen o.width t n o.heads.items heads o.values.items values instants c.self.invariant.flat.full keyed in
     let reached = ap (λ (r : RisenRows). r.reached) c.self.view_is in
-    let later : o.reached ≤ c.args.instant = omega (arith, reached, c.requires.later) in
-    let new : List Element = elements_at c.args.instant (numbered_rows c.args.first (pairs_of c.args.rows.now)) in
-    let pushed = c.push_rows.ensures.rows
-    ∙ ap (λ (hs : List Head). risen_in o.width hs c.reserve-2.new.self.items ++ new) c.in_ok-reserve.ensures.items
-    ∙ ap (λ (vs : List (Option ℤ)). risen_in o.width o.heads.items vs ++ new) c.in_ok-reserve-2.ensures.items in
-    risen_push o.width o.reached o.heads.items o.values.items c.self.invariant c.args.instant c.args.first (pairs_of c.args.rows.now) c.push_rows.new.heads.items c.push_rows.new.values.items
-    later pushed c.push_rows.ensures.full
+    let later : o.reached ≤ t = omega (arith, reached, c.requires.later) in
+    let full = ap length valued ∙ append_full o.width (length instants) o.heads.items heads o.values.items values c.self.invariant.flat.full given (pushed_heads t n (length instants) o.heads.items heads keyed) in
+    risen_push o.width o.reached o.heads.items o.values.items c.self.invariant t n (lent_rows o.width instants values) heads c.push_values.new.values.items later pushed full
+
+pub returns-clause-ok : goal.returns-clause-ok
+returns-clause-ok c =
+    let o = c.self.inside in
+    let t = c.args.instant in
+    let n = c.args.first in
+    let instants = c.args.instants.now in
+    let values = c.args.values.now in
+    let heads = c.push_heads.new.heads.items in
+    let given = c.requires.full ∙ ap (λ (r : RisenRows). length instants * r.width) (sym c.self.view_is) in
+    let keyed = c.push_heads.ensures ∙ ap (λ (hs : List Head). map key_of hs ++ keys_from t n (length instants)) c.in_ok-reserve.ensures.items in
+    let valued = c.push_values.ensures ∙ ap (λ (vs : List (Option ℤ)). vs ++ values) c.in_ok-reserve-2.ensures.items in
+    let pushed = ap (λ (vs : List (Option ℤ)). risen_in o.width heads vs) valued ∙ pushed_risen o.width t n o.heads.items heads o.values.items values instants c.self.invariant.flat.full keyed in
+    ap (λ (es : List Element). record { width = o.width; reached = t; rows = es }) pushed
+    ∙ ap (λ (r : RisenRows). with_risen t n (lent_rows r.width instants values) r) c.self.view_is

@@ -59,29 +59,21 @@ fn a_heartbeat_wakes_a_worker(rt: HostRuntime) -> Result<(), Fail> {
     Ok(())
 }
 
-/// What the holder of a turn does with it.
-#[derive(Clone, Copy)]
-enum Deed {
-    /// It drops the turn's query.
-    Drop,
-    /// It abandons the turn.
-    Abandon,
-}
-
-// Does it once the pool waits, and says whether the pool came back before the last look. Then it
+// Drops the turn's query, or abandons the turn, once the pool waits, and says whether the pool came back before the last look. Then it
 // calls the end, which wakes a pool that was forgotten.
 fn let_go<R: Wait + Clock>(
     rt: &R,
     hub: &Hub,
     mut seat: Seat,
-    deed: Deed,
+    drops: bool,
     lease: u64,
     is_back: &AtomicBool,
 ) -> bool {
     thread::sleep(rt, Duration::from_millis(REST));
-    let is_done = match deed {
-        Deed::Drop => hub.drop_query(rt, &mut seat, 0).is_ok(),
-        Deed::Abandon => hub.abandon(rt, lease).is_ok(),
+    let is_done = if drops {
+        hub.drop_query(rt, &mut seat, 0).is_ok()
+    } else {
+        hub.abandon(rt, lease).is_ok()
     };
     let mut is_woken = false;
     for _ in 0..LOOKS {
@@ -113,14 +105,14 @@ fn is_pool_woken<R: Threads + Wait + Clock + Sync>(
     alloc: Global,
     hub: &Hub,
     seat: Seat,
-    deed: Deed,
+    drops: bool,
     lease: u64,
 ) -> Result<bool, Fault> {
     let flag = AtomicBool::new(false);
     let is_back = &flag;
     let (is_woken, drained) = thread::join(
         rt,
-        move || let_go(rt, hub, seat, deed, lease, is_back),
+        move || let_go(rt, hub, seat, drops, lease, is_back),
         move || drain(rt, alloc, hub, is_back),
     );
     drained?;
@@ -140,22 +132,22 @@ fn held_turn<R: Wait>(rt: &R, hub: &Hub) -> Result<u64, Fault> {
 fn woken_by<R: Threads + Wait + Clock + Sync>(
     rt: &R,
     alloc: Global,
-    deed: Deed,
+    drops: bool,
 ) -> Result<(bool, Option<usize>), Fault> {
     let (hub, seat) = ready(rt, alloc, 5)?;
     let lease = held_turn(rt, &hub)?;
-    let is_woken = is_pool_woken(rt, alloc, &hub, seat, deed, lease)?;
+    let is_woken = is_pool_woken(rt, alloc, &hub, seat, drops, lease)?;
     Ok((is_woken, hub.waiting(rt, 0).ok()))
 }
 
 #[test]
 fn a_drop_wakes_a_pool(rt: HostRuntime) -> Result<(), Fail> {
-    assert_eq!(rt; woken_by(&rt, rt.alloc(), Deed::Drop)?, (true, None));
+    assert_eq!(rt; woken_by(&rt, rt.alloc(), true)?, (true, None));
     Ok(())
 }
 
 #[test]
 fn an_abandon_wakes_a_pool(rt: HostRuntime) -> Result<(), Fail> {
-    assert_eq!(rt; woken_by(&rt, rt.alloc(), Deed::Abandon)?, (true, Some(1)));
+    assert_eq!(rt; woken_by(&rt, rt.alloc(), false)?, (true, Some(1)));
     Ok(())
 }

@@ -1,19 +1,21 @@
 -- How a log's lists hold its elements, and how they grow.
-use Rattle.std.proofs.Common.{◌≡◌, ◌≢◌, set, length-set, zero-add, ℕ, ℤ, suc, ◌+◌, ◌-◌, ◌<◌, ◌≤◌, Option, None, List, [], ◌∷◌, ◌++◌, length, map, take, get_or, refl, ap, sym, ◌∙◌, arith, subst, length-append, length-take, get_or-take, ⊎_elim}
+use Rattle.std.proofs.Common.{◌≡◌, ◌≢◌, set, length-set, zero-add, ℕ, ℤ, suc, ◌+◌, ◌*◌, ◌-◌, ◌<◌, ◌≤◌, Option, None, List, [], ◌∷◌, ◌++◌, length, map, take, drop, get_or, refl, ap, sym, ◌∙◌, arith, subst, append_assoc, length-append, length-drop, length-take, length-take-le, get_or-take, ⊎_elim}
 use Prim.Native.Nat.{zero}
 use Rattle.std.specs.Global.{Vec}
 use Rattle.std.specs.List.{All, range_with_len}
 use Rattle.std.proofs.lemmas.Bool.{cases_eq}
 use Rattle.std.proofs.lemmas.Grind.{get_or-set_at}
-use Rattle.std.proofs.lemmas.List.{ext_get_or, get_or-append_right, get_or-map, get_or-set_other, length-map, map-append, map-set}
+use Rattle.std.proofs.lemmas.List.{ext_get_or, get_or-append_right, get_or-drop, get_or-map, get_or_default, get_or-set_other, length-map, map-append, map-set}
 use Rattle.std.proofs.lemmas.List.Elements.{All-nil, All-cons, All-from_get_or, All-weaker}
-use Rattle.std.proofs.lemmas.List.FromFn.{length-map-range_with_len}
+use Rattle.std.proofs.lemmas.List.FromFn.{length-map-range_with_len, map-range_with_len_more}
+use Rattle.std.proofs.lemmas.Nat.{mul-add-lt}
+use Rattle.std.proofs.Math.Nat.{mul_comm}
 use Rattle.column.specs.Rows.{row_at}
 use Rattle.values.specs.declared.TheConstants.{MAX_COLUMNS}
 use Rattle.values.specs.Row.{Row, value_at}
 use Rattle.values.specs.Window.{Element}
 use Rattle.op_queue.specs.Logs.{Closed}
-use Rattle.op_queue.specs.Tables.{IsLog, IsLonger, IsTableOf, KeepsFirst, closed_in, element_at, elements_in, lists}
+use Rattle.op_queue.specs.Tables.{IsLog, IsLonger, IsTableOf, KeepsFirst, arrived, closed_in, column_of, element_at, elements_in, lists}
 use Rattle.op_queue.proofs.RunLemmas.{range_with_len-add}
 
 pub length-elements_in : (n : ℕ) (instants numbers : List ℕ) (columns : List (List (Option ℤ))) → length (elements_in n instants numbers columns) ≡ n
@@ -31,9 +33,9 @@ IsLog-none instants numbers columns until few = record {
 }
 
 -- the columns below k are written, the others are as they were
-pub record IsLongerTo (n : ℕ) (es : List Element) (k : ℕ) (old new : List (List (Option ℤ))) : Type 0 where
+pub record IsLongerTo (n : ℕ) (f : ℕ → List (Option ℤ)) (k : ℕ) (old new : List (List (Option ℤ))) : Type 0 where
   pub kept : KeepsFirst n old new
-  pub written : (j : ℕ) → j < k → j < length old → get_or new j [] ≡ take n (get_or old j []) ++ map (λ e. value_at e.row j) es
+  pub written : (j : ℕ) → j < k → j < length old → get_or new j [] ≡ take n (get_or old j []) ++ f j
   pub rest : (j : ℕ) → k ≤ j → get_or new j [] ≡ get_or old j []
 
 KeepsFirst-set : (n k : ℕ) (old new : List (List (Option ℤ))) (c : List (Option ℤ)) → k < length new → KeepsFirst n old new → take n c ≡ take n (get_or new k []) → KeepsFirst n old (set new k c)
@@ -46,30 +48,30 @@ KeepsFirst-set n k old new c lt h e = record {
       (cases_eq j k);
 }
 
-pub IsLongerTo-set : (n k : ℕ) (es : List Element) (old new : List (List (Option ℤ))) (c : List (Option ℤ)) → k < length new → IsLongerTo n es k old new → take n c ≡ take n (get_or new k []) → c ≡ take n (get_or new k []) ++ map (λ e. value_at e.row k) es → IsLongerTo n es (k + 1) old (set new k c)
-IsLongerTo-set n k es old new c lt h e more = record {
+pub IsLongerTo-set : (n k : ℕ) (f : ℕ → List (Option ℤ)) (old new : List (List (Option ℤ))) (c : List (Option ℤ)) → k < length new → IsLongerTo n f k old new → take n c ≡ take n (get_or new k []) → c ≡ take n (get_or new k []) ++ f k → IsLongerTo n f (k + 1) old (set new k c)
+IsLongerTo-set n k f old new c lt h e more = record {
   kept = KeepsFirst-set n k old new c lt h.kept e;
   written = λ j below within.
       ⊎_elim
       (λ (is : j ≡ k).
       get_or-set_at new k j c [] is lt
       ∙ more
-      ∙ ap (λ i. take n (get_or new i []) ++ map (λ e. value_at e.row i) es) (sym is)
-      ∙ ap (λ vs. take n vs ++ map (λ e. value_at e.row j) es) (h.rest j (omega arith)))
+      ∙ ap (λ i. take n (get_or new i []) ++ f i) (sym is)
+      ∙ ap (λ vs. take n vs ++ f j) (h.rest j (omega arith)))
       (λ (no : j ≢ k). get_or-set_other new k j c [] no ∙ h.written j (omega arith) within)
       (cases_eq j k);
   rest = λ j le. get_or-set_other new k j c [] (λ is. absurd (omega arith)) ∙ h.rest j (omega arith);
 }
 
 -- the same over the columns themselves
-pub IsLongerTo-column : (n k : ℕ) (es : List Element) (old : List (List (Option ℤ))) (columns : List (Vec (Option ℤ))) (was is : Vec (Option ℤ)) → k < length columns → was ≡ get_or columns k was → IsLongerTo n es k old (lists columns) → take n is.items ≡ take n was.items → is.items ≡ take n was.items ++ map (λ e. value_at e.row k) es → IsLongerTo n es (k + 1) old (lists (set columns k is))
-IsLongerTo-column n k es old columns was is lt at h e more =
+pub IsLongerTo-column : (n k : ℕ) (more_of : ℕ → List (Option ℤ)) (old : List (List (Option ℤ))) (columns : List (Vec (Option ℤ))) (was is : Vec (Option ℤ)) → k < length columns → was ≡ get_or columns k was → IsLongerTo n more_of k old (lists columns) → take n is.items ≡ take n was.items → is.items ≡ take n was.items ++ more_of k → IsLongerTo n more_of (k + 1) old (lists (set columns k is))
+IsLongerTo-column n k more_of old columns was is lt at h e more =
     let f : Vec (Option ℤ) → List (Option ℤ) = λ c. c.items in
     let g : get_or (lists columns) k [] ≡ was.items = get_or-map f columns k was [] lt ∙ ap f (sym at) in
     let l = length-map columns f in
-    let P : List (List (Option ℤ)) → Type 0 = λ cs. IsLongerTo n es (k + 1) old cs in
+    let P : List (List (Option ℤ)) → Type 0 = λ cs. IsLongerTo n more_of (k + 1) old cs in
     subst P (sym (map-set f columns k is))
-    (IsLongerTo-set n k es old (lists columns) is.items (omega arith) h (e ∙ ap (take n) (sym g)) (more ∙ ap (λ vs. take n vs ++ map (λ e. value_at e.row k) es) (sym g)))
+    (IsLongerTo-set n k more_of old (lists columns) is.items (omega arith) h (e ∙ ap (take n) (sym g)) (more ∙ ap (λ vs. take n vs ++ more_of k) (sym g)))
 
 pub KeepsFirst-column : (n k : ℕ) (old : List (List (Option ℤ))) (columns : List (Vec (Option ℤ))) (was is : Vec (Option ℤ)) → k < length columns → was ≡ get_or columns k was → KeepsFirst n old (lists columns) → take n is.items ≡ take n was.items → KeepsFirst n old (lists (set columns k is))
 KeepsFirst-column n k old columns was is lt at h e =
@@ -79,8 +81,8 @@ KeepsFirst-column n k old columns was is lt at h e =
     let P : List (List (Option ℤ)) → Type 0 = λ cs. KeepsFirst n old cs in
     subst P (sym (map-set f columns k is)) (KeepsFirst-set n k old (lists columns) is.items (omega arith) h (e ∙ ap (take n) (sym g)))
 
-pub IsLonger-end : (n k : ℕ) (es : List Element) (old new : List (List (Option ℤ))) → length old ≤ k → IsLongerTo n es k old new → IsLonger n es old new
-IsLonger-end n k es old new all h = record { more = λ j lt. h.written j (omega arith) lt }
+pub IsLonger-end : (n k : ℕ) (f : ℕ → List (Option ℤ)) (old new : List (List (Option ℤ))) → length old ≤ k → IsLongerTo n f k old new → IsLonger n f old new
+IsLonger-end n k f old new all h = record { more = λ j lt. h.written j (omega arith) lt }
 
 pub column_long : (columns : List (Vec (Option ℤ))) (to k : ℕ) (c : Vec (Option ℤ)) → All (λ c. to ≤ length c) (lists columns) → k < length columns → c ≡ get_or columns k c → to ≤ length c.items
 column_long columns to k c h lt is =
@@ -149,7 +151,7 @@ behind n front f xs j d e le lt =
     let k : n + j - n ≡ j = omega arith in
     get_or-append_right (take n front) (map f xs) n (n + j) e l (omega arith) ∙ ap (λ i. get_or (map f xs) i e) k ∙ get_or-map f xs j d e lt
 
-row_at-behind : (n : ℕ) (old new : List (List (Option ℤ))) (es : List Element) (j : ℕ) (d : Element) → j < length es → All (λ c. n ≤ length c) old → length new ≡ length old → IsLonger n es old new → length (get_or es j d).row ≡ length old → row_at new (n + j) ≡ (get_or es j d).row
+row_at-behind : (n : ℕ) (old new : List (List (Option ℤ))) (es : List Element) (j : ℕ) (d : Element) → j < length es → All (λ c. n ≤ length c) old → length new ≡ length old → IsLonger n (λ k. map (λ e. value_at e.row k) es) old new → length (get_or es j d).row ≡ length old → row_at new (n + j) ≡ (get_or es j d).row
 row_at-behind n old new es j d lt long width h wide =
     let f : List (Option ℤ) → Option ℤ = λ c. get_or c (n + j) None in
     let l = length-map new f in
@@ -165,7 +167,7 @@ element_is {a} {t} {r} e p q s =
     let make : ℕ → ℕ → Row → Element = λ x y z. record { arrival = x; instant = y; row = z } in
     ap (λ x. make x t r) p ∙ ap (λ y. make e.arrival y r) q ∙ ap (λ z. make e.arrival e.instant z) s
 
-pub elements_in-more : (n : ℕ) (es : List Element) (instants instants' numbers numbers' : List ℕ) (columns columns' : List (List (Option ℤ))) → IsTableOf n instants numbers columns → All (λ e. length e.row ≡ length columns) es → instants' ≡ take n instants ++ map (λ e. e.instant) es → numbers' ≡ take n numbers ++ map (λ e. e.arrival) es → take n instants' ≡ take n instants → take n numbers' ≡ take n numbers → KeepsFirst n columns columns' → IsLonger n es columns columns' → elements_in (n + length es) instants' numbers' columns' ≡ elements_in n instants numbers columns ++ es
+pub elements_in-more : (n : ℕ) (es : List Element) (instants instants' numbers numbers' : List ℕ) (columns columns' : List (List (Option ℤ))) → IsTableOf n instants numbers columns → All (λ e. length e.row ≡ length columns) es → instants' ≡ take n instants ++ map (λ e. e.instant) es → numbers' ≡ take n numbers ++ map (λ e. e.arrival) es → take n instants' ≡ take n instants → take n numbers' ≡ take n numbers → KeepsFirst n columns columns' → IsLonger n (λ k. map (λ e. value_at e.row k) es) columns columns' → elements_in (n + length es) instants' numbers' columns' ≡ elements_in n instants numbers columns ++ es
 elements_in-more n es instants instants' numbers numbers' columns columns' table wide is was e f g h =
     let at : ℕ → Element = element_at instants' numbers' columns' in
     let more : map at (range_with_len n (length es)) ≡ es =
@@ -183,10 +185,75 @@ elements_in-more n es instants instants' numbers numbers' columns columns' table
     ∙ ap (λ k. elements_in n instants numbers columns ++ map at (range_with_len k (length es))) (zero-add n)
     ∙ ap (λ xs. elements_in n instants numbers columns ++ xs) more
 
+-- ---- rows that are given flat
+-- one more row's value
+pub column_more : (width k count row : ℕ) (values : List (Option ℤ)) (v : Option ℤ) (front old new : List (Option ℤ)) → length values ≡ count * width → row < count → k < width → v ≡ get_or values (row * width + k) v
+    → new ≡ old ++ v ∷ [] → old ≡ front ++ column_of width k row values → new ≡ front ++ column_of width k (row + 1) values
+column_more width k count row values v front old new full lt within is pushed sofar =
+    let at : ℕ → Option ℤ = λ i. get_or values (i * width + k) None in
+    let place : row * width + k < length values = omega (arith, full, mul-add-lt row width k count lt within, mul_comm count width) in
+    let one : v ≡ at row = is ∙ get_or_default values (row * width + k) v None place in
+    pushed
+    ∙ ap (λ vs. vs ++ v ∷ []) sofar
+    ∙ append_assoc front (column_of width k row values) (v ∷ [])
+    ∙ ap (λ x. front ++ (column_of width k row values ++ x ∷ [])) one
+    ∙ ap (λ vs. front ++ vs) (sym (map-range_with_len_more at 0 row row (omega arith)))
+
+pub length-arrived : (width : ℕ) (instants numbers : List ℕ) (values : List (Option ℤ)) → length numbers ≡ length instants → length (arrived width instants numbers values) ≡ length instants
+length-arrived width [] numbers values h = refl
+length-arrived width (t ∷ instants) [] values h = cc
+length-arrived width (t ∷ instants) (n ∷ numbers) values h = ap suc (length-arrived width instants numbers (drop width values) (omega (arith, h)))
+
+pub arrived-instants : (width : ℕ) (instants numbers : List ℕ) (values : List (Option ℤ)) → length numbers ≡ length instants → map (λ e. e.instant) (arrived width instants numbers values) ≡ instants
+arrived-instants width [] numbers values h = refl
+arrived-instants width (t ∷ instants) [] values h = cc
+arrived-instants width (t ∷ instants) (n ∷ numbers) values h = ap (λ ts. t ∷ ts) (arrived-instants width instants numbers (drop width values) (omega (arith, h)))
+
+pub arrived-numbers : (width : ℕ) (instants numbers : List ℕ) (values : List (Option ℤ)) → length numbers ≡ length instants → map (λ e. e.arrival) (arrived width instants numbers values) ≡ numbers
+arrived-numbers width [] [] values h = refl
+arrived-numbers width [] (n ∷ numbers) values h = cc
+arrived-numbers width (t ∷ instants) [] values h = cc
+arrived-numbers width (t ∷ instants) (n ∷ numbers) values h = ap (λ ns. n ∷ ns) (arrived-numbers width instants numbers (drop width values) (omega (arith, h)))
+
+pub arrived-wide : (width : ℕ) (instants numbers : List ℕ) (values : List (Option ℤ)) → length numbers ≡ length instants → length values ≡ length instants * width → All (λ e. length e.row ≡ width) (arrived width instants numbers values)
+arrived-wide width [] numbers values h full = All-nil (λ e. length e.row ≡ width)
+arrived-wide width (t ∷ instants) [] values h full = cc
+arrived-wide width (t ∷ instants) (n ∷ numbers) values h full =
+    let more : suc (length instants) * width ≡ width + length instants * width = omega arith in
+    All-cons (λ e. length e.row ≡ width) (record { arrival = n; instant = t; row = take width values }) (arrived width instants numbers (drop width values))
+    (length-take-le width values (omega (arith, full, more)))
+    (arrived-wide width instants numbers (drop width values) (omega (arith, h)) (omega (arith, length-drop width values, full, more)))
+
+column_of-drop : (width k n i : ℕ) (values : List (Option ℤ)) → map (λ j. get_or (drop width values) (j * width + k) None) (range_with_len i n) ≡ map (λ j. get_or values (j * width + k) None) (range_with_len (i + 1) n)
+column_of-drop width k zero i values = refl
+column_of-drop width k (suc n) i values =
+    let next : width + (i * width + k) ≡ (i + 1) * width + k = omega arith in
+    ap (λ v. v ∷ map (λ j. get_or (drop width values) (j * width + k) None) (range_with_len (i + 1) n)) (get_or-drop width values (i * width + k) None ∙ ap (λ m. get_or values m None) next)
+    ∙ ap (λ vs. get_or values ((i + 1) * width + k) None ∷ vs) (column_of-drop width k n (i + 1) values)
+
+pub arrived-column : (width k : ℕ) (instants numbers : List ℕ) (values : List (Option ℤ)) → k < width → length numbers ≡ length instants
+    → map (λ e. value_at e.row k) (arrived width instants numbers values) ≡ column_of width k (length instants) values
+arrived-column width k [] numbers values lt h = refl
+arrived-column width k (t ∷ instants) [] values lt h = cc
+arrived-column width k (t ∷ instants) (n ∷ numbers) values lt h =
+    let first : k ≡ 0 * width + k = omega arith in
+    ap (λ v. v ∷ map (λ e. value_at e.row k) (arrived width instants numbers (drop width values))) (get_or-take width values k None lt)
+    ∙ ap (λ vs. get_or values k None ∷ vs) (arrived-column width k instants numbers (drop width values) lt (omega (arith, h)))
+    ∙ ap (λ vs. get_or values k None ∷ vs) (column_of-drop width k (length instants) 0 values)
+    ∙ ap (λ m. get_or values m None ∷ map (λ j. get_or values (j * width + k) None) (range_with_len (0 + 1) (length instants))) first
+
+pub IsLonger-arrived : (n width : ℕ) (instants numbers : List ℕ) (values : List (Option ℤ)) (old new : List (List (Option ℤ))) → length numbers ≡ length instants → length old ≡ width
+    → IsLonger n (λ k. column_of width k (length instants) values) old new → IsLonger n (λ k. map (λ e. value_at e.row k) (arrived width instants numbers values)) old new
+IsLonger-arrived n width instants numbers values old new h same longer = record {
+  more = λ k lt.
+      let within : k < width = omega (arith, lt, same) in
+      longer.more k lt ∙ ap (λ vs. take n (get_or old k []) ++ vs) (sym (arrived-column width k instants numbers values within h));
+}
+
 length-behind : {X Y : Type 0} (n : ℕ) (front : List Y) (f : X → Y) (xs : List X) → n ≤ length front → length (take n front ++ map f xs) ≡ n + length xs
 length-behind n front f xs le = omega (arith, length-append (take n front) (map f xs), length-take n front, length-map xs f)
 
-pub IsTableOf-more : (n : ℕ) (es : List Element) (instants instants' numbers numbers' : List ℕ) (columns columns' : List (List (Option ℤ))) → IsTableOf n instants numbers columns → instants' ≡ take n instants ++ map (λ e. e.instant) es → numbers' ≡ take n numbers ++ map (λ e. e.arrival) es → KeepsFirst n columns columns' → IsLonger n es columns columns' → IsTableOf (n + length es) instants' numbers' columns'
+pub IsTableOf-more : (n : ℕ) (es : List Element) (instants instants' numbers numbers' : List ℕ) (columns columns' : List (List (Option ℤ))) → IsTableOf n instants numbers columns → instants' ≡ take n instants ++ map (λ e. e.instant) es → numbers' ≡ take n numbers ++ map (λ e. e.arrival) es → KeepsFirst n columns columns' → IsLonger n (λ k. map (λ e. value_at e.row k) es) columns columns' → IsTableOf (n + length es) instants' numbers' columns'
 IsTableOf-more n es instants instants' numbers numbers' columns columns' table is was g h =
     let one : Element → ℕ = λ e. e.instant in
     let two : Element → ℕ = λ e. e.arrival in

@@ -1,15 +1,15 @@
 -- The front of a queue that leaves.
-use Rattle.std.proofs.Common.{◌≡◌, ℕ, ◌+◌, ◌-◌, ◌<◌, ◌≤◌, Bool, Option, Some, None, List, [], ◌∷◌, ◌++◌, length, map, take, drop, get_or, min, refl, ap, sym, subst, ◌∙◌, arith, length-take, length-append, zero, suc}
+use Rattle.std.proofs.Common.{◌≡◌, ℕ, ◌+◌, ◌-◌, ◌<◌, ◌≤◌, Bool, Some, None, List, [], ◌∷◌, ◌++◌, length, map, take, drop, get_or, min, refl, ap, sym, subst, ◌∙◌, arith, length-take, length-append, zero, suc}
 use Rattle.std.specs.List.{flat_map}
 use Rattle.std.proofs.lemmas.List.{take_all, length-map}
 use Rattle.values.specs.Row.{Row}
 use Rattle.op_queue.specs.declared.item.Item.{Item}
 use Rattle.op_queue.specs.declared.item.Item.TheVariants as item
 use Rattle.op_queue.specs.declared.queue.Piece.{Piece}
-use Rattle.op_queue.specs.declared.queue.Piece.TheVariants.{Rows, Ticks}
+use Rattle.op_queue.specs.declared.queue.Piece.TheVariants.{Rows}
 use Rattle.op_queue.specs.Entries.{Entry, RowAt, TickAt}
 use Rattle.op_queue.specs.Items.{IsFrontPart, entries_of, first_instant, ticks}
-use Rattle.op_queue.specs.Pieces.{IsPiece, IsQueue, IsTaken, IsTakenWhole, piece_begins, piece_entries, piece_size, queue_begins, queue_entries, waiting_in}
+use Rattle.op_queue.specs.Pieces.{IsQueue, IsTakenWhole, piece_begins, piece_entries, queue_begins, queue_entries, waiting_in}
 use Rattle.op_queue.specs.Queues.{HasLeft, Waiting, at_once, pieces_of}
 use Rattle.values.specs.Window.{Element}
 use Rattle.op_queue.specs.Cursors.{cursor_entries}
@@ -18,9 +18,8 @@ use Rattle.op_queue.specs.declared.cursor.Cursor.{Cursor}
 use Rattle.op_queue.proofs.CursorLemmas.{entries-open, rest_of}
 use Rattle.op_queue.proofs.BeginLemmas.{at_once-rows, front_cut-queue}
 use Rattle.op_queue.proofs.CountLemmas.{pieces_dropped}
-use Rattle.op_queue.proofs.DropLemmas.{IsDropping, IsDropping-end, IsDropping-piece, IsDropping-start}
+use Rattle.op_queue.proofs.DropLemmas.{IsDropping-end, IsDropping-piece, IsDropping-start}
 use Rattle.op_queue.proofs.FrontLemmas.{IsFrontPart-queue, IsFrontPart-rows, drop-ticks, queue_entries-cons}
-use Rattle.op_queue.proofs.PieceLemmas.{length-piece_entries, piece_size-some}
 
 -- the instants of entries that stand first
 instant-append : (es fs : List (Entry Row)) (t : ℕ) → first_instant es ≡ Some t → first_instant (es ++ fs) ≡ Some t

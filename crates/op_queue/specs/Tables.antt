@@ -1,17 +1,21 @@
 -- How a log is kept: lists of instants and arrival numbers, and a list of values for each column.
-use Rattle.std.specs.Prelude.{◌≡◌, ℕ, ℤ, ◌<◌, ◌≤◌, Option, List, [], ◌++◌, length, map, take, get_or}
+use Rattle.std.specs.Prelude.{◌≡◌, ℕ, ℤ, ◌<◌, ◌≤◌, ◌+◌, ◌*◌, Option, None, List, [], ◌∷◌, ◌++◌, length, map, take, drop, get_or}
 use Rattle.std.specs.Global.{Vec}
 use Rattle.std.specs.List.{All, range_with_len}
 use Rattle.column.specs.Rows.{row_at}
 use Rattle.values.specs.declared.TheConstants.{MAX_COLUMNS}
-use Rattle.values.specs.Row.{value_at}
 use Rattle.values.specs.Window.{Element}
 use Rattle.op_queue.specs.Logs.{Closed, IsInOrder}
-use Rattle.op_queue.specs.declared.log.Arrival.{Arrival}
 
--- an element as it is handed to the log
-abbrev pub element : Arrival → Element
-element a = record { arrival = a.number; instant = a.instant; row = a.row.items }
+-- rows as they are handed to the log: the instants, the numbers, and the values, one row's behind another's
+abbrev pub arrived : ℕ → List ℕ → List ℕ → List (Option ℤ) → List Element
+arrived width [] numbers values = []
+arrived width (t ∷ instants) [] values = []
+arrived width (t ∷ instants) (n ∷ numbers) values = record { arrival = n; instant = t; row = take width values } ∷ arrived width instants numbers (drop width values)
+
+-- of so many rows that are given one behind another, the values of column k
+abbrev pub column_of : ℕ → ℕ → ℕ → List (Option ℤ) → List (Option ℤ)
+column_of width k count values = map (λ i. get_or values (i * width + k) None) (range_with_len 0 count)
 
 abbrev pub lists : List (Vec (Option ℤ)) → List (List (Option ℤ))
 lists columns = map (λ c. c.items) columns
@@ -40,9 +44,9 @@ pub record KeepsFirst (n : ℕ) (old new : List (List (Option ℤ))) : Type 0 wh
   pub width : length new ≡ length old
   pub same : (k : ℕ) → take n (get_or new k []) ≡ take n (get_or old k [])
 
--- the elements' values stand behind the first n of each column
-pub record IsLonger (n : ℕ) (es : List Element) (old new : List (List (Option ℤ))) : Type 0 where
-  pub more : (k : ℕ) → k < length old → get_or new k [] ≡ take n (get_or old k []) ++ map (λ e. value_at e.row k) es
+-- behind the first n of each column stand these values
+pub record IsLonger (n : ℕ) (more_of : ℕ → List (Option ℤ)) (old new : List (List (Option ℤ))) : Type 0 where
+  pub more : (k : ℕ) → k < length old → get_or new k [] ≡ take n (get_or old k []) ++ more_of k
 
 -- the numbers from the place `start` to below the place `end` never fall
 abbrev pub IsRising : List ℕ → ℕ → ℕ → Type 0

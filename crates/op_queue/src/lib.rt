@@ -16,5 +16,5 @@ mod queue;
 
 pub use cursor::Cursor;
 pub use item::Item;
-pub use log::{Arrival, Log};
+pub use log::Log;
 pub use queue::{Front, Queue};

@@ -1,32 +1,20 @@
 //! Logs.
-ghost use Rattle.std.specs.Prelude.{◌≡◌, replicate, ℕ, ◌+◌, ◌-◌, ◌<◌, ◌≤◌, ◌++◌, [], All, false};
+ghost use Rattle.std.specs.Prelude.{◌≡◌, replicate, ℕ, ◌+◌, ◌*◌, ◌-◌, ◌<◌, ◌≤◌, ◌++◌, [], All, false};
 ghost use Rattle.std.specs.Prelude.{length, take, map, slice_range, get_or, nat_le, IfOk, OnOk};
 ghost use Rattle.std.specs.Prelude.{OnErr};
 ghost use Rattle.std.specs.List.{filter};
 ghost use Rattle.op_queue.specs.Cursors.{GainsClosed};
 ghost use Rattle.op_queue.specs.Logs.{IsClosing, IsInOrder, entering, is_waiting, shown};
-ghost use Rattle.op_queue.specs.Tables.{IsLonger, IsRising, KeepsFirst, IsTableOf, element};
-ghost use Rattle.op_queue.specs.Tables.{elements_in, lists};
-ghost use Rattle.values.specs.Row.{value_at};
+ghost use Rattle.op_queue.specs.Tables.{IsLonger, IsRising, IsTableOf, KeepsFirst, arrived};
+ghost use Rattle.op_queue.specs.Tables.{column_of, elements_in, lists};
 
 use column::{Batch, Column, MAX_ROWS, Mask};
 use std::alloc::{AllocError, Global};
 use std::marker::Model;
-use values::{MAX_COLUMNS, Row, Value, value_at};
+use values::{MAX_COLUMNS, Value};
 
 /// How many places are looked at one by one before a search by halves.
 const NEAR_PLACES: usize = 16;
-
-/// A row that came to a stream, with its instant and its number in the order of arrival.
-#[derive(Drop)]
-pub struct Arrival {
-    /// Its number in the order of arrival, from 0 on.
-    pub number: u64,
-    /// Its instant.
-    pub instant: u64,
-    /// Its values.
-    pub row: Row,
-}
 
 /// The closed rows of a stream by instant, then arrival, and the stream's first open instant.
 ///
@@ -83,15 +71,26 @@ impl Log {
         })
     }
 
-    /// Closes the instants below `until`, which have these rows.
+    /// Closes the instants below `until`, which have these rows: the instant of each, its number in
+    /// the order of arrival, and the rows' values, one row's behind another's.
     /// An error says that memory was refused; nothing is changed.
-    pub fn close(&mut self, rows: &[Arrival], until: u64) -> Result<(), AllocError>
-        requires { IsClosing self.old (map element rows.now) until }
+    pub fn close(
+        &mut self,
+        instants: &[u64],
+        numbers: &[u64],
+        values: &[Value],
+        until: u64,
+    ) -> Result<(), AllocError>
+        requires numbers { length numbers.now ≡ length instants.now }
+        requires values { length values.now ≡ length instants.now * self.old.width }
+        requires closing { IsClosing self.old
+            (arrived self.old.width instants.now numbers.now values.now) until }
         ensures elements { OnOk result (self.new.elements
-            ≡ self.old.elements ++ map element rows.now) }
+            ≡ self.old.elements ++ arrived self.old.width instants.now numbers.now values.now) }
         ensures until { OnOk result (self.new.until ≡ until) }
         ensures width { self.new.width ≡ self.old.width }
-        ensures queues { OnOk result (GainsClosed self.old (map element rows.now) until self.new) }
+        ensures queues { OnOk result (GainsClosed self.old
+            (arrived self.old.width instants.now numbers.now values.now) until self.new) }
         ensures err { OnErr result (self.new ≡ self.old) }
     {
         append(
@@ -99,7 +98,9 @@ impl Log {
             &mut self.numbers,
             &mut self.columns,
             self.len,
-            rows,
+            instants,
+            numbers,
+            values,
         )?;
         self.len = self.instants.len();
         self.until = until;
@@ -227,87 +228,84 @@ fn append(
     numbers: &mut Vec<u64>,
     columns: &mut Vec<Vec<Value>>,
     len: usize,
-    rows: &[Arrival],
+    new_instants: &[u64],
+    new_numbers: &[u64],
+    values: &[Value],
 ) -> Result<(), AllocError>
     requires table { IsTableOf len instants.old.items numbers.old.items (lists columns.old.items) }
-    requires wide { All (λ e. length e.row ≡ length columns.old.items) (map element rows.now) }
-    ensures len { OnOk result (length instants.new.items ≡ len + length rows.now) }
+    requires numbers { length new_numbers.now ≡ length new_instants.now }
+    requires values { length values.now ≡ length new_instants.now * length columns.old.items }
+    ensures len { OnOk result (length instants.new.items ≡ len + length new_instants.now) }
     ensures width { length columns.new.items ≡ length columns.old.items }
     ensures table { IsTableOf len instants.new.items numbers.new.items (lists columns.new.items) }
     ensures whole { OnOk result
-        (IsTableOf (len + length rows.now) instants.new.items numbers.new.items
+        (IsTableOf (len + length new_instants.now) instants.new.items numbers.new.items
         (lists columns.new.items)) }
     ensures same { elements_in len instants.new.items numbers.new.items (lists columns.new.items)
         ≡ elements_in len instants.old.items numbers.old.items (lists columns.old.items) }
     ensures more { OnOk result
-        (elements_in (len + length rows.now) instants.new.items numbers.new.items
+        (elements_in (len + length new_instants.now) instants.new.items numbers.new.items
         (lists columns.new.items)
         ≡ elements_in len instants.old.items numbers.old.items (lists columns.old.items)
-        ++ map element rows.now) }
+        ++ arrived (length columns.old.items) new_instants.now new_numbers.now values.now) }
 {
-    append_values(columns, len, rows)?;
-    append_numbers(numbers, len, rows)?;
-    append_instants(instants, len, rows)?;
+    append_values(columns, len, new_instants.len(), values)?;
+    append_numbers(numbers, len, new_numbers)?;
+    append_numbers(instants, len, new_instants)?;
     Ok(())
 }
 
-fn append_instants(instants: &mut Vec<u64>, len: usize, rows: &[Arrival]) -> Result<(), AllocError>
-    requires { len ≤ length instants.old.items }
-    ensures same { take len instants.new.items ≡ take len instants.old.items }
-    ensures more { OnOk result (instants.new.items
-        ≡ take len instants.old.items ++ map (λ e. e.instant) (map element rows.now)) }
-{
-    instants.truncate(len);
-    for row in rows {
-        instants.push(row.instant)?;
-    }
-    Ok(())
-}
-
-fn append_numbers(numbers: &mut Vec<u64>, len: usize, rows: &[Arrival]) -> Result<(), AllocError>
+/// Writes numbers behind the first `len`.
+fn append_numbers(numbers: &mut Vec<u64>, len: usize, more: &[u64]) -> Result<(), AllocError>
     requires { len ≤ length numbers.old.items }
     ensures same { take len numbers.new.items ≡ take len numbers.old.items }
-    ensures more { OnOk result (numbers.new.items
-        ≡ take len numbers.old.items ++ map (λ e. e.arrival) (map element rows.now)) }
+    ensures more { OnOk result (numbers.new.items ≡ take len numbers.old.items ++ more.now) }
 {
     numbers.truncate(len);
-    for row in rows {
-        numbers.push(row.number)?;
-    }
-    Ok(())
+    numbers.extend_from_slice(more)
 }
 
+/// Writes the values of so many rows behind the first `len` of each column.
 fn append_values(
     columns: &mut Vec<Vec<Value>>,
     len: usize,
-    rows: &[Arrival],
+    count: usize,
+    values: &[Value],
 ) -> Result<(), AllocError>
-    requires { All (λ c. len ≤ length c) (lists columns.old.items) }
+    requires columns { All (λ c. len ≤ length c) (lists columns.old.items) }
+    requires values { length values.now ≡ count * length columns.old.items }
     ensures same { KeepsFirst len (lists columns.old.items) (lists columns.new.items) }
     ensures more { OnOk result
-        (IsLonger len (map element rows.now) (lists columns.old.items) (lists columns.new.items)) }
+        (IsLonger len (λ k. column_of (length columns.old.items) k count values.now)
+        (lists columns.old.items) (lists columns.new.items)) }
 {
-    for k in 0..columns.len() {
-        append_column(&mut columns[k], len, rows, k)?;
+    let width = columns.len();
+    for k in 0..width {
+        append_column(&mut columns[k], len, count, values, width, k)?;
     }
     Ok(())
 }
 
-/// Writes the rows' values of column `k` behind the first `len`.
+/// Writes the values of so many rows of column `k` behind the first `len`.
 fn append_column(
     column: &mut Vec<Value>,
     len: usize,
-    rows: &[Arrival],
+    count: usize,
+    values: &[Value],
+    width: usize,
     k: usize,
 ) -> Result<(), AllocError>
-    requires { len ≤ length column.old.items }
+    requires first { len ≤ length column.old.items }
+    requires values { length values.now ≡ count * width }
+    requires column { k < width }
     ensures same { take len column.new.items ≡ take len column.old.items }
     ensures more { OnOk result (column.new.items
-        ≡ take len column.old.items ++ map (λ e. value_at e.row k) (map element rows.now)) }
+        ≡ take len column.old.items ++ column_of width k count values.now) }
 {
     column.truncate(len);
-    for row in rows {
-        column.push(value_at(&row.row, k))?;
+    column.reserve(count)?;
+    for row in 0..count {
+        column.push_reserved(values[row * width + k]);
     }
     Ok(())
 }

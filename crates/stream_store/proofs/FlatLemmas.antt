@@ -1,14 +1,11 @@
 -- Rows that are kept flat: more behind them, the first ones, and the rest.
-use Rattle.std.proofs.Common.{◌≡◌, ◌≤◌, ◌<◌, ◌+◌, ◌-◌, ◌*◌, ℕ, ℤ, zero, suc, Bool, true, false, cond, nat_lt, Option, List, [], ◌∷◌, ◌++◌, take, drop, length, map, refl, sym, ap, ap₂, ◌∙◌, arith, length-append, length-drop, get_or, append_assoc, drop-cons, zero-mul}
+use Rattle.std.proofs.Common.{◌≡◌, ◌≤◌, ◌<◌, ◌+◌, ◌-◌, ◌*◌, ℕ, ℤ, zero, suc, Bool, true, false, cond, nat_lt, Option, List, [], ◌∷◌, ◌++◌, take, drop, length, map, refl, sym, ap, ap₂, ◌∙◌, arith, length-append, length-drop, get_or, append_assoc, zero-mul}
 use Rattle.std.specs.List.{filter, range_with_len}
 use Rattle.std.proofs.Math.Nat.{add-mul}
 use Rattle.std.proofs.lemmas.List.{length-map, take-append-le, drop-append-le, drop-take, drop-drop, map-append}
 use Rattle.std.proofs.lemmas.List.FromFn.{length-range_with_len, length-map-range_with_len, map-range_with_len_more}
 use Rattle.values.specs.Row.{Row}
 use Rattle.values.specs.Window.{Element}
-use Rattle.arrayvec.specs.ArrayVec.{ArrayVec}
-use Rattle.op_queue.specs.Tables.{element}
-use Rattle.op_queue.specs.declared.log.Arrival.{Arrival}
 use Rattle.op_queue.proofs.RunLemmas.{range_with_len-add}
 use Rattle.stream_store.specs.Open.{elements_at}
 use Rattle.stream_store.specs.LateRows.{IsFlat, lent_rows, numbered_rows, rows_in}
@@ -180,30 +177,3 @@ pushed_heads t n count heads more pushed =
     ∙ ap length pushed
     ∙ length-append (map key_of heads) (keys_from t n count)
     ∙ ap₂ (λ j k. j + k) (length-map heads key_of) (length-map-range_with_len (λ m. (t, m)) n count)
-
--- ---- copies of the rows, as far as they have come
-pub rest_full_at : (width i : ℕ) (numbers : List ℕ) (rest back : List (Option ℤ)) → i < length numbers → back ≡ drop width rest → length rest ≡ length (drop i numbers) * width
-    → length back ≡ length (drop (i + 1) numbers) * width
-rest_full_at width i numbers rest back lt e h =
-    let next : i + 1 ≡ suc i = omega arith in
-    let more = ap (λ (ns : List ℕ). length ns * width) (drop-cons numbers i 0 lt) in
-    ap length e ∙ rest_full width (length (drop (suc i) numbers)) rest (h ∙ more) ∙ ap (λ k. length (drop k numbers) * width) (sym next)
-
-pub first_within : (width i : ℕ) (numbers : List ℕ) (rest : List (Option ℤ)) → i < length numbers → length rest ≡ length (drop i numbers) * width → width ≤ length rest
-first_within width i numbers rest lt h =
-    first_full width (length (drop (suc i) numbers)) rest (h ∙ ap (λ (ns : List ℕ). length ns * width) (drop-cons numbers i 0 lt))
-
-pub copied_more : (width instant i : ℕ) (numbers : List ℕ) (rest front back : List (Option ℤ)) (old new : List Arrival) (copy : ArrayVec (Option ℤ)) → i < length numbers → front ≡ take width rest → back ≡ drop width rest
-    → copy.items ≡ front → new ≡ old ++ record { number = get_or numbers i 0; instant = instant; row = copy } ∷ []
-    → map element new ++ elements_at instant (rows_in width (drop (i + 1) numbers) back) ≡ map element old ++ elements_at instant (rows_in width (drop i numbers) rest)
-copied_more width instant i numbers rest front back old new copy lt f b same pushed =
-    let one : Arrival = record { number = get_or numbers i 0; instant = instant; row = copy } in
-    let next : i + 1 ≡ suc i = omega arith in
-    let others : List Element = elements_at instant (rows_in width (drop (i + 1) numbers) back) in
-    ap (λ (xs : List Arrival). map element xs ++ others) pushed
-    ∙ ap (λ (xs : List Element). xs ++ others) (map-append element old (one ∷ []))
-    ∙ append_assoc (map element old) (element one ∷ []) others
-    ∙ ap (λ (r : Row). map element old ++ record { arrival = get_or numbers i 0; instant = instant; row = r } ∷ others) (same ∙ f)
-    ∙ ap (λ (vs : List (Option ℤ)). map element old ++ record { arrival = get_or numbers i 0; instant = instant; row = take width rest } ∷ elements_at instant (rows_in width (drop (i + 1) numbers) vs)) b
-    ∙ ap (λ k. map element old ++ record { arrival = get_or numbers i 0; instant = instant; row = take width rest } ∷ elements_at instant (rows_in width (drop k numbers) (drop width rest))) next
-    ∙ sym (ap (λ (ns : List ℕ). map element old ++ elements_at instant (rows_in width ns rest)) (drop-cons numbers i 0 lt))

@@ -1,4 +1,5 @@
 mod FlatLemmas
+mod ArrivalLemmas
 mod RunLemmas
 mod KeyLemmas
 mod OrderLemmas

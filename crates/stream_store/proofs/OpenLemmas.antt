@@ -1,5 +1,5 @@
 -- The open rows of a stream in their two parts: more of them, those up to an instant and those past it, and what a refused growth leaves.
-use Rattle.std.proofs.Common.{◌≡◌, ◌<◌, ◌≤◌, ℕ, Bool, true, nat_lt, nat_le, List, [], ◌∷◌, ◌++◌, take, drop, length, map, refl, sym, ap, ap₂, subst, ◌∙◌, arith, length-append, append_assoc}
+use Rattle.std.proofs.Common.{◌≡◌, ◌<◌, ◌≤◌, ℕ, Bool, true, nat_lt, nat_le, List, [], ◌∷◌, ◌++◌, take, drop, length, refl, sym, ap, ap₂, subst, ◌∙◌, arith, length-append, append_assoc}
 use Rattle.std.specs.List.{AllByRecursion, filter}
 use Rattle.std.specs.Map.{keys_of}
 use Rattle.std.specs.List.Sorted.{IsStrictlySortedBy}
@@ -9,8 +9,6 @@ use Rattle.std.proofs.lemmas.List.{take-append-le}
 use Rattle.std.proofs.lemmas.List.Elements.{filter-append}
 use Rattle.values.specs.Row.{Row}
 use Rattle.values.specs.Window.{Element}
-use Rattle.op_queue.specs.Tables.{element}
-use Rattle.op_queue.specs.declared.log.Arrival.{Arrival}
 use Rattle.stream_store.specs.LateRows.{numbered_rows}
 use Rattle.stream_store.specs.Open.{Entry, AreAt, AreWide, elements_at, open_of, placed, after_put, put_rows, below, instants_past, up_to, past}
 use Rattle.stream_store.specs.OpenRows.{Rising, RisenRows, IsOpen, IsMore, with_late, open_in, with_risen, first_risen}
@@ -127,18 +125,18 @@ module _ (at place : ℕ) (es : List Element) (all rest : List Entry) (e : Entry
   head_sorted = subst (λ (xs : List Entry). IsStrictlySortedBy nat_cmp (keys_of xs)) steps sorted
 
   -- the rows of one more late instant, and those that stand before them, are copied
-  pub late_copied : (next : ℕ) (wanted : List Element) (old between new : List Arrival) → Rising (λ e. e.instant) es → e.0 ≤ at → drop next es ≡ past e.0 (drop place es) → map element between ≡ map element old ++ up_to e.0 (drop place es)
-      → map element new ≡ map element between ++ elements_at e.0 e.1.rows → map element old ++ up_to at (with_late (open_of all) (drop place es)) ≡ wanted
-      → map element new ++ up_to at (with_late (open_of rest) (drop next es)) ≡ wanted
+  pub late_copied : (next : ℕ) (wanted old between new : List Element) → Rising (λ e. e.instant) es → e.0 ≤ at → drop next es ≡ past e.0 (drop place es) → between ≡ old ++ up_to e.0 (drop place es)
+      → new ≡ between ++ elements_at e.0 e.1.rows → old ++ up_to at (with_late (open_of all) (drop place es)) ≡ wanted
+      → new ++ up_to at (with_late (open_of rest) (drop next es)) ≡ wanted
   late_copied next wanted old between new rising le passed first then h =
       let here : List Element = elements_at e.0 e.1.rows in
       let front : List Element = up_to e.0 (drop place es) in
       let others : List Element = up_to at (with_late (open_of rest) (past e.0 (drop place es))) in
       ap₂ (λ (xs ys : List Element). xs ++ up_to at (with_late (open_of rest) ys)) (then ∙ ap (λ (xs : List Element). xs ++ here) first) passed
-      ∙ append_assoc (map element old ++ front) here others
-      ∙ append_assoc (map element old) front (here ++ others)
-      ∙ ap (λ (xs : List Element). map element old ++ xs) (sym (first_up_to at e.0 e.1.rows (open_of rest) (drop place es) (rising-drop place es rising) le (later_rest e.0 e rest (omega arith) head_sorted)))
-      ∙ ap (λ (xs : List Entry). map element old ++ up_to at (with_late (open_of xs) (drop place es))) (sym steps)
+      ∙ append_assoc (old ++ front) here others
+      ∙ append_assoc old front (here ++ others)
+      ∙ ap (λ (xs : List Element). old ++ xs) (sym (first_up_to at e.0 e.1.rows (open_of rest) (drop place es) (rising-drop place es rising) le (later_rest e.0 e rest (omega arith) head_sorted)))
+      ∙ ap (λ (xs : List Entry). old ++ up_to at (with_late (open_of xs) (drop place es))) (sym steps)
       ∙ h
 
   -- the next late instant lies past the one that is asked for

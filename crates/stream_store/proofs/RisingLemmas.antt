@@ -3,11 +3,9 @@ use Rattle.std.proofs.Common.{◌≡◌, ◌<◌, ◌≤◌, ◌+◌, ◌-◌, �
 use Rattle.std.specs.List.{AllByRecursion}
 use Rattle.std.proofs.Math.Nat.{mul-le-mul_left}
 use Rattle.std.proofs.lemmas.Bool.{lt-leb, le-leb, lt-ltb, le-ltb}
-use Rattle.std.proofs.lemmas.List.{get_or-drop, get_or-map, get_or_default, length-map, length-take-le, map-append, take_more, take-map, drop-map}
+use Rattle.std.proofs.lemmas.List.{get_or-drop, get_or-map, length-map, length-take-le, take_more, take-map, drop-map}
 use Rattle.values.specs.Row.{Row}
 use Rattle.values.specs.Window.{Element}
-use Rattle.op_queue.specs.Tables.{element}
-use Rattle.op_queue.specs.declared.log.Arrival.{Arrival}
 use Rattle.stream_store.specs.declared.ordered_rows.Head.{Head}
 use Rattle.stream_store.specs.LateRows.{IsFlat, numbered_rows, rows_in}
 use Rattle.stream_store.specs.Open.{elements_at, up_to, past}
@@ -191,41 +189,26 @@ module _ (width reached : ℕ) (heads : List Head) (values : List (Option ℤ)) 
       let rising = subst (λ (xs : List Element). Rising (λ g. g.instant) xs) shown risen.rising in
       reached_stop until place es next e rising (omega (arith, lt, shown_len)) (is_shown_at next h e lt is) more r
 
-  -- the values of a row
-  pub row_at : (i : ℕ) (e : Element) → i < length es → (get_or es i e).row ≡ take width (drop (i * width) values)
-  row_at i e lt =
-      let d : Head = record { high = 0; low = 0; number = 0 } in
-      let h : Head = get_or heads i d in
-      let within : i < length heads = omega (arith, lt, shown_len) in
-      ap (λ (g : Element). g.row) (sym (is_shown_at i h e within (get_or_default heads i d h within)))
-
-  pub element_at : (i : ℕ) (h : Head) (t : ℕ) (row : Row) (e : Element) → i < length es → h ≡ get_or heads i h → t ≡ instant_of h → ((g : Element) → row ≡ (get_or es i g).row) → record { arrival = h.number; instant = t; row = row } ≡ get_or es i e
-  element_at i h t row e lt is at same =
-      let within : i < length heads = omega (arith, lt, shown_len) in
-      ap₂ (λ (k : ℕ) (r : Row). record { arrival = h.number; instant = k; row = r }) at (same e ∙ row_at i e lt)
-      ∙ is_shown_at i h e within is
-
--- one more value of a row
-pub take_column : (start k : ℕ) (values : List (Option ℤ)) (v : Option ℤ) (row : List (Option ℤ)) → start + k < length values → v ≡ get_or values (start + k) v → row ≡ take k (drop start values) → row ++ v ∷ [] ≡ take (k + 1) (drop start values)
-take_column start k values v row lt is sofar =
-    let within : k < length (drop start values) = omega (arith, length-drop start values, lt) in
-    ap (λ r. r ++ v ∷ []) sofar
-    ∙ ap (λ x. take k (drop start values) ++ x ∷ []) (is ∙ sym (get_or-drop start values k v))
-    ∙ sym (take_more (drop start values) k v within)
+  -- the row at a place
+  pub element_at : (i : ℕ) (h : Head) (t : ℕ) (e : Element) → i < length es → h ≡ get_or heads i h → t ≡ instant_of h → record { arrival = h.number; instant = t; row = take width (drop (i * width) values) } ≡ get_or es i e
+  element_at i h t e lt is at =
+      ap (λ (k : ℕ). record { arrival = h.number; instant = k; row = take width (drop (i * width) values) }) at
+      ∙ is_shown_at i h e (omega (arith, lt, shown_len)) is
 
 -- one more row is copied
-pub copied_on : (place i : ℕ) (es : List Element) (a : Arrival) (first old new : List Arrival) → place ≤ i → i < length es → element a ≡ get_or es i (element a) → new ≡ old ++ a ∷ [] → map element old ≡ map element first ++ take (i - place) (drop place es)
-    → map element new ≡ map element first ++ take (i + 1 - place) (drop place es)
-copied_on place i es a first old new le lt is pushed sofar =
+pub copied_on : (place i : ℕ) (es : List Element) (first old new : List Element) → place ≤ i → i < length es → ((e : Element) → new ≡ old ++ get_or es i e ∷ []) → old ≡ first ++ take (i - place) (drop place es)
+    → new ≡ first ++ take (i + 1 - place) (drop place es)
+copied_on place i es first old new le lt pushed sofar =
+    let none : Element = record { arrival = 0; instant = 0; row = [] } in
     let k : ℕ = i - place in
+    let a : Element = get_or es i none in
     let more : i + 1 - place ≡ k + 1 = omega (arith, le) in
     let here : place + k ≡ i = omega (arith, le) in
     let within : k < length (drop place es) = omega (arith, length-drop place es, lt, le) in
-    let one : element a ≡ get_or (drop place es) k (element a) = is ∙ ap (λ n. get_or es n (element a)) (sym here) ∙ sym (get_or-drop place es k (element a)) in
-    ap (λ (xs : List Arrival). map element xs) pushed
-    ∙ map-append element old (a ∷ [])
-    ∙ ap (λ (xs : List Element). xs ++ element a ∷ []) sofar
-    ∙ append_assoc (map element first) (take k (drop place es)) (element a ∷ [])
-    ∙ ap (λ (x : Element). map element first ++ (take k (drop place es) ++ x ∷ [])) one
-    ∙ ap (λ (xs : List Element). map element first ++ xs) (sym (take_more (drop place es) k (element a) within))
-    ∙ ap (λ n. map element first ++ take n (drop place es)) (sym more)
+    let one : a ≡ get_or (drop place es) k none = ap (λ n. get_or es n none) (sym here) ∙ sym (get_or-drop place es k none) in
+    pushed none
+    ∙ ap (λ (xs : List Element). xs ++ a ∷ []) sofar
+    ∙ append_assoc first (take k (drop place es)) (a ∷ [])
+    ∙ ap (λ (x : Element). first ++ (take k (drop place es) ++ x ∷ [])) one
+    ∙ ap (λ (xs : List Element). first ++ xs) (sym (take_more (drop place es) k none within))
+    ∙ ap (λ n. first ++ take n (drop place es)) (sym more)

@@ -2,17 +2,16 @@
 ghost use Rattle.std.specs.Prelude.{◌≡◌, ℕ, ◌+◌, ◌*◌, ◌^◌, ◌<◌, ◌≤◌, ◌++◌, OnOk, OnErr, length};
 ghost use Rattle.std.specs.Prelude.{map, nat_lt, true, vec_len, vec_capacity};
 ghost use Rattle.std.specs.List.{filter, list_all, range_with_len};
-ghost use Rattle.op_queue.specs.Tables.{element};
 ghost use Rattle.reference.specs.Commands.{is_stream_value};
 ghost use Rattle.stream_store.specs.Open.{elements_at};
 ghost use Rattle.stream_store.specs.LateRows.{first_below, has_rows, lent_rows, none_at};
 ghost use Rattle.stream_store.specs.LateRows.{rows_in, with_rows};
 
+use crate::arrivals::Arrivals;
 use crate::lent::value_of;
-use op_queue::Arrival;
 use std::alloc::{AllocError, Global};
 use std::marker::Model;
-use values::{MAX_COLUMNS, Row, Value};
+use values::{MAX_COLUMNS, Value};
 
 /// The open rows of one instant in the order of arrival, all with the same number of columns.
 ///
@@ -87,11 +86,13 @@ impl LateRows {
     }
 
     /// Puts copies of the rows, with their instant, behind others.
-    pub(crate) fn copy_to(&self, instant: u64, rows: &mut Vec<Arrival>) -> Result<(), AllocError>
-        ensures { OnOk result (map element rows.new.items
-            ≡ map element rows.old.items ++ elements_at instant self.now.rows) }
+    pub(crate) fn copy_to(&self, instant: u64, rows: &mut Arrivals) -> Result<(), AllocError>
+        requires { rows.old.width ≡ self.now.width }
+        ensures width { rows.new.width ≡ rows.old.width }
+        ensures copies { OnOk result (rows.new.elements
+            ≡ rows.old.elements ++ elements_at instant self.now.rows) }
     {
-        copy_rows(self.width, &self.numbers, &self.values, instant, rows)
+        rows.push_all(instant, &self.numbers, &self.values)
     }
 }
 
@@ -123,42 +124,4 @@ fn push_values(values: &mut Vec<Value>, more: &[Option<i64>])
     for value in more {
         values.push_reserved(value_of(*value));
     }
-}
-
-fn row_of(values: &[Value]) -> Row
-    requires { length values.now ≤ MAX_COLUMNS }
-    ensures { result.items ≡ values.now }
-{
-    let mut row = Row::new();
-    for value in values {
-        row.push(*value);
-    }
-    row
-}
-
-fn copy_rows(
-    width: usize,
-    numbers: &[u64],
-    values: &[Value],
-    instant: u64,
-    rows: &mut Vec<Arrival>,
-) -> Result<(), AllocError>
-    requires few { width ≤ MAX_COLUMNS }
-    requires full { length values.now ≡ length numbers.now * width }
-    ensures { OnOk result (map element rows.new.items
-        ≡ map element rows.old.items
-        ++ elements_at instant (rows_in width numbers.now values.now)) }
-{
-    rows.reserve(numbers.len())?;
-    let mut rest = values;
-    for number in numbers {
-        let (row, after) = rest.split_at(width);
-        rows.push_reserved(Arrival {
-            number: *number,
-            instant,
-            row: row_of(row),
-        });
-        rest = after;
-    }
-    Ok(())
 }

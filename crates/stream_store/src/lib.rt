@@ -3,6 +3,7 @@
 //! streams what the machine of `reference` says.
 #![tactic(auto)]
 
+mod arrivals;
 mod late;
 mod late_rows;
 mod lent;
@@ -11,5 +12,6 @@ mod ordered_rows;
 mod stored;
 mod streams;
 
-pub use op_queue::{Arrival, Log};
+pub use arrivals::Arrivals;
+pub use op_queue::Log;
 pub use streams::Streams;

@@ -1,18 +1,17 @@
 //! The open rows of a stream.
 ghost use Rattle.std.specs.Prelude.{◌≡◌, ◌≤◌, ◌<◌, ◌+◌, ◌*◌, ◌^◌, ◌++◌, [], IfOk, OnOk, OnErr};
-ghost use Rattle.std.specs.Prelude.{length, map, take, drop, true};
+ghost use Rattle.std.specs.Prelude.{length, take, drop, true};
 ghost use Rattle.std.specs.List.{AllByRecursion, list_all};
-ghost use Rattle.op_queue.specs.Tables.{element};
 ghost use Rattle.reference.specs.Commands.{is_instant, is_stream_value};
 ghost use Rattle.stream_store.specs.LateRows.{lent_rows};
-ghost use Rattle.stream_store.specs.Open.{AreAt, after_put, below, open_of, past, up_to};
+ghost use Rattle.stream_store.specs.Open.{AreAt, AreWide, after_put, below, open_of, past, up_to};
 ghost use Rattle.stream_store.specs.OpenRows.{IsMore, IsOpen, with_late};
 
+use crate::arrivals::Arrivals;
 use crate::late::{drop_up_to, forget_from, put};
 use crate::late_rows::LateRows;
 use crate::lent::count_at;
 use crate::ordered_rows::OrderedRows;
-use op_queue::Arrival;
 use std::alloc::{AllocError, Global};
 use std::collections::BTreeMap;
 use std::marker::Model;
@@ -100,10 +99,10 @@ impl OpenRows {
     }
 
     /// Copies of the rows up to the instant, by instant, then arrival.
-    pub(crate) fn rows_up_to(&self, at: u64) -> Result<Vec<Arrival>, AllocError>
-        ensures { IfOk result (λ v. map element v.items ≡ up_to at self.now.rows) }
+    pub(crate) fn rows_up_to(&self, at: u64) -> Result<Arrivals, AllocError>
+        ensures { IfOk result (λ v. v.elements ≡ up_to at self.now.rows) }
     {
-        let mut rows = Vec::new(self.alloc);
+        let mut rows = Arrivals::new(self.alloc, self.rising.width());
         let place = copy_late(&self.rising, &self.late, at, &mut rows)?;
         self.rising.copy_to(place, at, &mut rows)?;
         Ok(rows)
@@ -209,13 +208,15 @@ fn copy_late(
     rising: &OrderedRows,
     late: &BTreeMap<u64, LateRows>,
     at: u64,
-    rows: &mut Vec<Arrival>,
+    rows: &mut Arrivals,
 ) -> Result<usize, AllocError>
+    requires width { rows.old.width ≡ rising.now.width }
+    requires wide { AreWide rising.now.width late.now.entries }
+    ensures width { rows.new.width ≡ rows.old.width }
     ensures within { IfOk result (λ place. place ≤ length rising.now.rows) }
     ensures rows { IfOk result (λ place.
-        map element rows.new.items ++ up_to at (drop place rising.now.rows)
-        ≡ map element rows.old.items
-        ++ up_to at (with_late (open_of late.now.entries) rising.now.rows)) }
+        rows.new.elements ++ up_to at (drop place rising.now.rows)
+        ≡ rows.old.elements ++ up_to at (with_late (open_of late.now.entries) rising.now.rows)) }
 {
     let mut place = 0;
     for (instant, open) in late.iter() {

@@ -1,20 +1,20 @@
 //! One declared stream.
 ghost use Rattle.std.specs.Prelude.{◌≡◌, ◌≤◌, ◌++◌, ◌∷◌, [], suc, nat_abs, None, OnOk, OnErr, IfOk};
-ghost use Rattle.std.specs.Prelude.{IfSome, length, map};
+ghost use Rattle.std.specs.Prelude.{IfSome, length};
 ghost use Rattle.cql_reader.specs.Views.{name_of};
 ghost use Rattle.names.specs.Views.{names_of};
 ghost use Rattle.op_queue.specs.Cursors.{GainsClosed};
-ghost use Rattle.op_queue.specs.Tables.{element};
 ghost use Rattle.names.specs.Faults.{first_of};
 ghost use Rattle.reference.specs.Commands.{append_tests, heartbeat_tests, appended, closed_to};
 ghost use Rattle.reference.specs.Commands.{catalog_of};
 ghost use Rattle.reference.specs.Told.{IsTold};
 ghost use Rattle.stream_store.specs.Closing.{closed_of, closing_of};
 
+use crate::arrivals::Arrivals;
 use crate::open_rows::OpenRows;
 use cql_reader::Name;
 use names::Catalog;
-use op_queue::{Arrival, Log};
+use op_queue::Log;
 use reference::{Fault, NewRows, append_fault, heartbeat_fault};
 use std::alloc::{AllocError, Global};
 use std::marker::Model;
@@ -156,9 +156,9 @@ impl Stored {
     }
 
     /// The rows that a heartbeat at this instant closes, by instant, then arrival.
-    pub(crate) fn closing(&self, at: i64) -> Result<Vec<Arrival>, AllocError>
+    pub(crate) fn closing(&self, at: i64) -> Result<Arrivals, AllocError>
         requires { first_of (heartbeat_tests self.now at) ≡ None }
-        ensures { IfOk result (λ v. map element v.items ≡ closing_of at self.now) }
+        ensures { IfOk result (λ v. v.elements ≡ closing_of at self.now) }
     {
         let last = self.last_closed(at);
         let _until = self.log.until();
@@ -166,9 +166,9 @@ impl Stored {
     }
 
     /// Closes all instants up to `at`, which have these rows. On Err it is as it was.
-    pub(crate) fn close(&mut self, at: i64, rows: &[Arrival]) -> Result<(), AllocError>
+    pub(crate) fn close(&mut self, at: i64, rows: &Arrivals) -> Result<(), AllocError>
         requires accepted { first_of (heartbeat_tests self.old at) ≡ None }
-        requires closing { map element rows.now ≡ closing_of at self.old }
+        requires closing { rows.now.elements ≡ closing_of at self.old }
         ensures ok { OnOk result (self.new ≡ closed_to at self.old) }
         ensures queues { OnOk result
             (GainsClosed (closed_of self.old) (closing_of at self.old) (suc (nat_abs at))
@@ -177,7 +177,8 @@ impl Stored {
     {
         let last = self.last_closed(at);
         let _until = self.log.until();
-        self.log.close(rows, last + 1)?;
+        self.log
+            .close(rows.instants(), rows.numbers(), rows.values(), last + 1)?;
         let _closed = self.log.until();
         self.open_rows.drop_up_to(last);
         Ok(())

@@ -4,7 +4,6 @@ ghost use Rattle.std.specs.Prelude.{OnErr, MatchOption, length, map, slice_get, 
 ghost use Rattle.std.specs.Option.{option_map, option_map_or};
 ghost use Rattle.std.specs.Str.{bytes_eq};
 ghost use Rattle.std.specs.List.{AllByRecursion};
-ghost use Rattle.op_queue.specs.Tables.{element};
 ghost use Rattle.reference.specs.CallViews.{texts_of};
 ghost use Rattle.reference.specs.Commands.{first_fault, declared, appended, closed_to, catalog_of};
 ghost use Rattle.reference.specs.Commands.{change, Declare, Append, Heartbeat};
@@ -15,11 +14,12 @@ ghost use Rattle.reference.specs.World.{Looks, declare_step, append_step};
 ghost use Rattle.stream_store.specs.Beside.{DoesBeside};
 ghost use Rattle.stream_store.specs.Closing.{closed_of, closing_at, closing_in, QueuesGain};
 
+use crate::arrivals::Arrivals;
 use crate::stored::Stored;
 use cql_reader::Name;
 use name_table::NameTable;
 use names::Catalog;
-use op_queue::{Arrival, Log};
+use op_queue::Log;
 use reference::{Fault, NewRows, declare_fault, names_of, stream_place};
 use std::alloc::{AllocError, Global};
 use std::marker::Model;
@@ -183,9 +183,9 @@ impl Streams {
         self.streams[stream as usize].append(rows)
     }
 
-    fn rows_to_close(&self, stream: u64, at: i64) -> Result<Vec<Arrival>, AllocError>
+    fn rows_to_close(&self, stream: u64, at: i64) -> Result<Arrivals, AllocError>
         requires { first_fault (machine_of self.now) (Heartbeat stream at) ≡ None }
-        ensures { IfOk result (λ v. map element v.items ≡ closing_at self.now stream at) }
+        ensures { IfOk result (λ v. v.elements ≡ closing_at self.now stream at) }
     {
         self.streams[stream as usize].closing(at)
     }
@@ -198,9 +198,9 @@ impl Streams {
     ///
     /// # Errors
     /// `AllocError` where memory is refused.
-    pub fn close(&mut self, stream: u64, at: i64, rows: &[Arrival]) -> Result<(), AllocError>
+    pub fn close(&mut self, stream: u64, at: i64, rows: &Arrivals) -> Result<(), AllocError>
         requires accepted { first_fault (machine_of self.old) (Heartbeat stream at) ≡ None }
-        requires closing { map element rows.now ≡ closing_at self.old stream at }
+        requires closing { rows.now.elements ≡ closing_at self.old stream at }
         ensures ok { OnOk result (self.new ≡ change stream (closed_to at) self.old) }
         ensures queues { OnOk result (QueuesGain (slice_get self.old stream) at) }
         ensures err { OnErr result (self.new ≡ self.old) }
@@ -248,11 +248,11 @@ impl Streams {
     /// # Errors
     /// `UnknownStream`, `InstantRange`, `Backward`, `Leap`: the first test that fails;
     /// `OutOfMemory` where none does and memory is refused.
-    pub fn closing(&self, stream: u64, at: i64) -> Result<Vec<Arrival>, Fault>
-        ensures looks { Looks (λ v. map element v.items) (closing_in self.now stream at) result }
+    pub fn closing(&self, stream: u64, at: i64) -> Result<Arrivals, Fault>
+        ensures looks { Looks (λ v. v.elements) (closing_in self.now stream at) result }
         ensures accepted { OnOk result (first_fault (machine_of self.now) (Heartbeat stream at)
             ≡ None) }
-        ensures rows { IfOk result (λ v. map element v.items ≡ closing_at self.now stream at) }
+        ensures rows { IfOk result (λ v. v.elements ≡ closing_at self.now stream at) }
     {
         match self.heartbeat_fault(stream, at) {
             Some(fault) => Err(fault),

@@ -3,11 +3,12 @@ ghost use Rattle.std.specs.Prelude.{◌≡◌, ◌<◌, length};
 ghost use Rattle.op_queue.specs.Cursors.{IsWithin};
 ghost use Rattle.op_queue.specs.Logs.{Closed};
 
-use crate::rows::{one, row, shows};
+use crate::rows::{one, shows};
 use column::Batch;
-use op_queue::{Arrival, Cursor, Front, Item, Log, Queue};
+use op_queue::{Cursor, Front, Item, Log, Queue};
 use std::alloc::{AllocError, Global};
 use std::test::Fail;
+use values::Value;
 
 /// The row 5 enters, and the row 6 leaves.
 fn pair(alloc: Global) -> Result<Batch, AllocError> {
@@ -143,25 +144,12 @@ fn ticks_that_follow_one_another_are_one_piece(rt: HostRuntime) -> Result<(), Fa
     Ok(())
 }
 
-fn arrival(number: u64, instant: u64, value: i64) -> Arrival
-    ensures number { result.number ≡ number }
-    ensures instant { result.instant ≡ instant }
-    ensures wide { length result.row.items ≡ 1 }
-{
-    let row = row(value);
-    Arrival {
-        number,
-        instant,
-        row,
-    }
-}
-
 /// A log of one column whose instants 0 to 3 are closed: the row 5 came first and then 7, at a
 /// later instant than 6, which came last.
 fn closed(alloc: Global) -> Result<Log, AllocError> {
     let mut log = Log::new(alloc, 1, 0)?;
-    let rows = [arrival(0, 1, 5), arrival(2, 1, 6), arrival(1, 3, 7)];
-    log.close(&rows, 4)?;
+    let values = [Value::clamped(5), Value::clamped(6), Value::clamped(7)];
+    log.close(&[1, 1, 3], &[0, 2, 1], &values, 4)?;
     Ok(log)
 }
 

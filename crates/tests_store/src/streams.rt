@@ -1,10 +1,10 @@
 //! Streams at work.
 use names::Catalog;
-use op_queue::{Arrival, Cursor};
+use op_queue::Cursor;
 use reference::{Fault, NewRows};
 use std::alloc::{AllocError, Global};
 use std::test::Fail;
-use stream_store::Streams;
+use stream_store::{Arrivals, Streams};
 use values::Value;
 
 // Rows of one value, each with its instant.
@@ -59,14 +59,6 @@ fn seen(streams: &Streams, place: u64, start: u64) -> u128 {
         Some(log) => Cursor::new(place, start).len(log),
         None => 0,
     }
-}
-
-// Whether the row has this instant, this number and this value.
-fn is_row(arrival: &Arrival, instant: u64, number: u64, value: i128) -> bool {
-    if arrival.instant != instant || arrival.number != number {
-        return false;
-    }
-    arrival.row.as_slice() == [Value::clamped(value)].as_slice()
 }
 
 // Whether each declaration is refused by its fault.
@@ -181,12 +173,7 @@ fn heartbeat(streams: &mut Streams, at: i64) -> Result<bool, Fault> {
 // Whether the rows 5, 7 and 6 are closed up to the instant 3, in this order.
 fn three_are_closing(streams: &Streams) -> bool {
     match streams.closing(0, 3) {
-        Ok(closing) => match closing.as_slice() {
-            [first, second, third] => {
-                is_row(first, 1, 1, 5) && is_row(second, 3, 0, 7) && is_row(third, 3, 2, 6)
-            }
-            _ => false,
-        },
+        Ok(closing) => are_rows(&closing, &[(1, 1, 5), (3, 0, 7), (3, 2, 6)]),
         Err(_) => false,
     }
 }
@@ -232,12 +219,13 @@ fn rows_are_closed_by_instant_and_then_arrival(rt: HostRuntime) -> Result<(), Fa
 }
 
 // Whether the rows are these, each an instant, a number and a value.
-fn are_rows(rows: &[Arrival], expected: &[(u64, u64, i128)]) -> bool {
-    if rows.len() != expected.len() {
+fn are_rows(rows: &Arrivals, expected: &[(u64, u64, i128)]) -> bool {
+    if rows.values().len() != expected.len() {
         return false;
     }
-    for (row, (instant, number, value)) in rows.iter().zip(expected) {
-        if !is_row(row, *instant, *number, *value) {
+    let heads = rows.instants().iter().zip(rows.numbers());
+    for (((instant, number), value), row) in heads.zip(rows.values()).zip(expected) {
+        if *instant != row.0 || *number != row.1 || *value != Value::clamped(row.2) {
             return false;
         }
     }

@@ -1,9 +1,7 @@
-use Rattle.std.proofs.Common.{Vec, ◌∙◌, map, refl, subst, sym, w64}
-use Rattle.std.specs.Global.{Global}
+use Rattle.std.proofs.Common.{◌∙◌, refl, subst, sym, w64}
 use Rattle.std.proofs.lemmas.Int.{to_z-of_z}
 use Rattle.std.proofs.lemmas.Result.{err_from_is_err_and}
-use Rattle.op_queue.specs.Tables.{element}
-use Rattle.op_queue.specs.declared.log.Arrival.{Arrival}
+use Rattle.stream_store.specs.Arrivals.{Arrived}
 use Rattle.laws_engine.specs.Calls.{IsHeartbeat}
 use Rattle.leases.specs.Queues.{LengthensQueues}
 use Rattle.leases.specs.Shown.{engine_in}
@@ -13,7 +11,7 @@ use Rattle.leases.proofs.state.State.heartbeat.Goals as goal
 
 pub returns-in_err-rows-clause-does : goal.returns-in_err-rows-clause-does
 returns-in_err-rows-clause-does c =
-    heartbeat_refused (λ (v : Vec Arrival Global). map element v.items) c.args.self.now c.args.stream c.args.at _ c.from_residual.result c.in_err-rows.field-0.0 (to_z-of_z w64 c.args.at c.ranges.at) c.from_residual.ensures.1 c.in_err-rows.ensures.looks
+    heartbeat_refused (λ (v : Arrived). v.elements) c.args.self.now c.args.stream c.args.at _ c.from_residual.result c.in_err-rows.field-0.0 (to_z-of_z w64 c.args.at c.ranges.at) c.from_residual.ensures.1 c.in_err-rows.ensures.looks
 
 pub returns-in_err-slots-clause-does : goal.returns-in_err-slots-clause-does
 returns-in_err-slots-clause-does c =
@@ -28,17 +26,17 @@ returns-in_err-close-clause-does c =
 pub update_slots-requires : goal.update_slots-requires
 update_slots-requires c =
     let beats : IsHeartbeat (engine_in c.args.self.now) c.args.stream c.args.at = record { accepted = simp (to_z-of_z w64 c.args.at c.ranges.at) at c.in_ok-rows.ensures.accepted; queues = simp (to_z-of_z w64 c.args.at c.ranges.at) at c.in_ok-close.ensures.queues } in
-    readers_asked c.args.self.now c.close.new.self c.args.stream c.args.at c.requires beats (simp (to_z-of_z w64 c.args.at c.ranges.at) at c.in_ok-close.ensures.ok) c.deref-2.result.now (c.deref-2.ensures.value ∙ c.in_ok-slots.ensures)
+    readers_asked c.args.self.now c.close.new.self c.args.stream c.args.at c.requires beats (simp (to_z-of_z w64 c.args.at c.ranges.at) at c.in_ok-close.ensures.ok) c.deref.result.now (c.deref.ensures.value ∙ c.in_ok-slots.ensures)
 
 pub returns-clause-does : goal.returns-clause-does
 returns-clause-does c =
     let beats : IsHeartbeat (engine_in c.args.self.now) c.args.stream c.args.at = record { accepted = simp (to_z-of_z w64 c.args.at c.ranges.at) at c.in_ok-rows.ensures.accepted; queues = simp (to_z-of_z w64 c.args.at c.ranges.at) at c.in_ok-close.ensures.queues } in
-    beats_does c.args.self.now c.close.new.self c.args.stream c.args.at c.requires beats (simp (to_z-of_z w64 c.args.at c.ranges.at) at c.in_ok-close.ensures.ok) c.deref-2.result.now (c.deref-2.ensures.value ∙ c.in_ok-slots.ensures) c.update_slots.new.self c.update_slots.ensures
+    beats_does c.args.self.now c.close.new.self c.args.stream c.args.at c.requires beats (simp (to_z-of_z w64 c.args.at c.ranges.at) at c.in_ok-close.ensures.ok) c.deref.result.now (c.deref.ensures.value ∙ c.in_ok-slots.ensures) c.update_slots.new.self c.update_slots.ensures
 
 pub returns-clause-engine : goal.returns-clause-engine
 returns-clause-engine c =
     let beats : IsHeartbeat (engine_in c.args.self.now) c.args.stream c.args.at = record { accepted = simp (to_z-of_z w64 c.args.at c.ranges.at) at c.in_ok-rows.ensures.accepted; queues = simp (to_z-of_z w64 c.args.at c.ranges.at) at c.in_ok-close.ensures.queues } in
-    beats_engine c.args.self.now c.close.new.self c.args.stream c.args.at c.requires beats (simp (to_z-of_z w64 c.args.at c.ranges.at) at c.in_ok-close.ensures.ok) c.deref-2.result.now (c.deref-2.ensures.value ∙ c.in_ok-slots.ensures) c.update_slots.new.self c.update_slots.ensures
+    beats_engine c.args.self.now c.close.new.self c.args.stream c.args.at c.requires beats (simp (to_z-of_z w64 c.args.at c.ranges.at) at c.in_ok-close.ensures.ok) c.deref.result.now (c.deref.ensures.value ∙ c.in_ok-slots.ensures) c.update_slots.new.self c.update_slots.ensures
 
 pub returns-clause-closes : goal.returns-clause-closes
 returns-clause-closes c = simp (to_z-of_z w64 c.args.at c.ranges.at) at c.in_ok-close.ensures.queues
@@ -47,10 +45,10 @@ pub returns-clause-queues : goal.returns-clause-queues
 returns-clause-queues c =
     let beats : IsHeartbeat (engine_in c.args.self.now) c.args.stream c.args.at = record { accepted = simp (to_z-of_z w64 c.args.at c.ranges.at) at c.in_ok-rows.ensures.accepted; queues = simp (to_z-of_z w64 c.args.at c.ranges.at) at c.in_ok-close.ensures.queues } in
     subst (LengthensQueues c.args.stream c.args.at (engine_in c.args.self.now))
-    (sym (beats_engine c.args.self.now c.close.new.self c.args.stream c.args.at c.requires beats (simp (to_z-of_z w64 c.args.at c.ranges.at) at c.in_ok-close.ensures.ok) c.deref-2.result.now (c.deref-2.ensures.value ∙ c.in_ok-slots.ensures) c.update_slots.new.self c.update_slots.ensures))
+    (sym (beats_engine c.args.self.now c.close.new.self c.args.stream c.args.at c.requires beats (simp (to_z-of_z w64 c.args.at c.ranges.at) at c.in_ok-close.ensures.ok) c.deref.result.now (c.deref.ensures.value ∙ c.in_ok-slots.ensures) c.update_slots.new.self c.update_slots.ensures))
     (heartbeat_lengthens (engine_in c.args.self.now) c.args.stream c.args.at c.requires.good beats)
 
 pub returns-clause-sound : goal.returns-clause-sound
 returns-clause-sound c =
     let beats : IsHeartbeat (engine_in c.args.self.now) c.args.stream c.args.at = record { accepted = simp (to_z-of_z w64 c.args.at c.ranges.at) at c.in_ok-rows.ensures.accepted; queues = simp (to_z-of_z w64 c.args.at c.ranges.at) at c.in_ok-close.ensures.queues } in
-    beats_sound c.args.self.now c.close.new.self c.args.stream c.args.at c.requires beats (simp (to_z-of_z w64 c.args.at c.ranges.at) at c.in_ok-close.ensures.ok) c.deref-2.result.now (c.deref-2.ensures.value ∙ c.in_ok-slots.ensures) c.update_slots.new.self c.update_slots.ensures
+    beats_sound c.args.self.now c.close.new.self c.args.stream c.args.at c.requires beats (simp (to_z-of_z w64 c.args.at c.ranges.at) at c.in_ok-close.ensures.ok) c.deref.result.now (c.deref.ensures.value ∙ c.in_ok-slots.ensures) c.update_slots.new.self c.update_slots.ensures

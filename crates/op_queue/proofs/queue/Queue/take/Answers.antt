@@ -1,4 +1,4 @@
-use Rattle.std.proofs.Common.{◌≡◌, ◌<◌, IfOk, OnErr, length, subst, sym, ◌∙◌}
+use Rattle.std.proofs.Common.{◌≡◌, ◌<◌, IfOk, OnErr, length, subst, sym}
 use Rattle.op_queue.specs.Queues.{HasLeft, Waiting}
 use Rattle.op_queue.proofs.queue.Queue.take.Goals as goal
 

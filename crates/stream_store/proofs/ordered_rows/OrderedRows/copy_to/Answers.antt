@@ -1,10 +1,10 @@
-use Rattle.std.proofs.Common.{arith}
+use Rattle.std.proofs.Common.{◌∙◌, arith}
 use Rattle.stream_store.proofs.RisingLemmas.{copied_on}
 use Rattle.stream_store.proofs.ordered_rows.OrderedRows.copy_to.Goals as goal
 
 pub loop-number-preserved : goal.loop-number-preserved
 loop-number-preserved c = record {
-  copies = copied_on c.args.place c.loop-number.number c.args.self.now.rows c.arrival.result c.reserve.new.self.items c.loop-number.rows.items c.push_reserved.new.self.items (search arith) (search arith)
-      c.arrival.ensures c.push_reserved.ensures.items c.loop-number.invariant.copies;
-  room = omega (arith, c.loop-number-test.true, c.loop-number.invariant.room, c.push_reserved.ensures.len, c.push_reserved.ensures.capacity);
+  width = c.copy_row.ensures.width ∙ c.loop-number.invariant.width;
+  copies = copied_on c.args.place c.loop-number.number c.args.self.now.rows c.reserve.new.self.elements c.loop-number.rows.elements c.copy_row.new.rows.elements (search arith) (search arith)
+      c.in_ok-copy_row.ensures.copy c.loop-number.invariant.copies;
 }

@@ -1,0 +1,180 @@
+//! Rows on their way into a log.
+ghost use Rattle.std.specs.Prelude.{◌≡◌, ◌≤◌, ◌+◌, ◌*◌, ◌++◌, ◌∷◌, [], OnOk, OnErr};
+ghost use Rattle.std.specs.Prelude.{length, map, replicate, take, drop, vec_len, vec_capacity};
+ghost use Rattle.std.specs.List.{flat_map};
+ghost use Rattle.stream_store.specs.Open.{elements_at};
+ghost use Rattle.stream_store.specs.LateRows.{rows_in};
+
+use std::alloc::{AllocError, Global};
+use std::collections::VecDeque;
+use std::marker::Model;
+use values::{MAX_COLUMNS, Value};
+
+/// Rows that a heartbeat closes, by instant, then arrival.
+///
+/// They are kept flat, so a row takes no allocation of its own. Contracts see them as a list of
+/// elements.
+#[derive(Drop)]
+pub struct Arrivals {
+    /// How many values each row has.
+    width: usize,
+    /// The instant of each row.
+    instants: Vec<u64>,
+    /// The number of each row in the order of arrival.
+    numbers: Vec<u64>,
+    /// The rows' values, one row behind the other: `width` for each.
+    values: Vec<Value>,
+}
+
+impl Model for Arrivals {
+    ghost use Rattle.stream_store.specs.Arrivals.{Arrived};
+
+    ghost Value = { Arrived };
+
+    ghost use Rattle.stream_store.specs.Arrivals.{arrivals_in, IsArrived};
+
+    ghost view = { λ a. arrivals_in a.width a.instants.items a.numbers.items a.values.items };
+
+    ghost invariant = { λ a. IsArrived a.width a.instants.items a.numbers.items a.values.items };
+}
+
+impl Arrivals {
+    /// No rows of so many columns. Takes no memory.
+    pub(crate) fn new(alloc: Global, width: usize) -> Arrivals
+        requires { width ≤ MAX_COLUMNS }
+        ensures width { result.width ≡ width }
+        ensures elements { result.elements ≡ [] }
+    {
+        Arrivals {
+            width,
+            instants: Vec::new(alloc),
+            numbers: Vec::new(alloc),
+            values: Vec::new(alloc),
+        }
+    }
+
+    /// The instant of each row. Takes no memory.
+    pub fn instants(&self) -> &[u64]
+        ensures { result.now ≡ map (λ e. e.instant) self.now.elements }
+    {
+        &self.instants
+    }
+
+    /// The number of each row in the order of arrival. Takes no memory.
+    pub fn numbers(&self) -> &[u64]
+        ensures { result.now ≡ map (λ e. e.arrival) self.now.elements }
+    {
+        &self.numbers
+    }
+
+    /// The values of the rows, one row's behind another's. Takes no memory.
+    pub fn values(&self) -> &[Value]
+        ensures { result.now ≡ flat_map (λ e. e.row) self.now.elements }
+    {
+        &self.values
+    }
+
+    /// Makes room for so many rows.
+    pub(crate) fn reserve(&mut self, rows: usize) -> Result<(), AllocError>
+        ensures { self.new ≡ self.old }
+    {
+        self.instants.reserve(rows)?;
+        self.numbers.reserve(rows)?;
+        self.values.reserve(rows.saturating_mul(self.width))
+    }
+
+    /// Puts a row behind the others, whose values stand in a list from `start` on. On Err they are
+    /// as they were.
+    pub(crate) fn push(
+        &mut self,
+        instant: u64,
+        number: u64,
+        values: &VecDeque<Value>,
+        start: usize,
+    ) -> Result<(), AllocError>
+        requires { start + self.old.width ≤ length values.now.items }
+        ensures width { self.new.width ≡ self.old.width }
+        ensures ok { OnOk result (self.new.elements
+            ≡ self.old.elements
+            ++ record {
+              arrival = number;
+              instant = instant;
+              row = take self.old.width (drop start values.now.items);
+            } ∷ []) }
+        ensures err { OnErr result (self.new ≡ self.old) }
+    {
+        self.instants.reserve(1)?;
+        self.numbers.reserve(1)?;
+        self.values.reserve(self.width)?;
+        self.instants.push_reserved(instant);
+        self.numbers.push_reserved(number);
+        push_from(&mut self.values, values, start, self.width);
+        Ok(())
+    }
+
+    /// Puts rows of one instant behind the others: their numbers, and their values, one row's
+    /// behind another's. On Err they are as they were.
+    pub(crate) fn push_all(
+        &mut self,
+        instant: u64,
+        numbers: &[u64],
+        values: &[Value],
+    ) -> Result<(), AllocError>
+        requires { length values.now ≡ length numbers.now * self.old.width }
+        ensures width { self.new.width ≡ self.old.width }
+        ensures ok { OnOk result (self.new.elements
+            ≡ self.old.elements
+            ++ elements_at instant (rows_in self.old.width numbers.now values.now)) }
+        ensures err { OnErr result (self.new ≡ self.old) }
+    {
+        self.instants.reserve(numbers.len())?;
+        self.numbers.reserve(numbers.len())?;
+        self.values.reserve(values.len())?;
+        push_instants(&mut self.instants, instant, numbers.len());
+        push_numbers(&mut self.numbers, numbers);
+        push_values(&mut self.values, values);
+        Ok(())
+    }
+}
+
+/// Puts an instant so many times behind others, which have room for it.
+fn push_instants(instants: &mut Vec<u64>, instant: u64, count: usize)
+    requires { vec_len instants.old + count ≤ vec_capacity instants.old }
+    ensures { instants.new.items ≡ instants.old.items ++ replicate count instant }
+{
+    for _ in 0..count {
+        instants.push_reserved(instant);
+    }
+}
+
+/// Puts numbers behind others, which have room for them.
+fn push_numbers(numbers: &mut Vec<u64>, more: &[u64])
+    requires { vec_len numbers.old + length more.now ≤ vec_capacity numbers.old }
+    ensures { numbers.new.items ≡ numbers.old.items ++ more.now }
+{
+    for number in more {
+        numbers.push_reserved(*number);
+    }
+}
+
+/// Puts values behind others, which have room for them.
+fn push_values(values: &mut Vec<Value>, more: &[Value])
+    requires { vec_len values.old + length more.now ≤ vec_capacity values.old }
+    ensures { values.new.items ≡ values.old.items ++ more.now }
+{
+    for value in more {
+        values.push_reserved(*value);
+    }
+}
+
+/// Puts so many values of a list from `start` on behind others, which have room for them.
+fn push_from(values: &mut Vec<Value>, list: &VecDeque<Value>, start: usize, count: usize)
+    requires room { vec_len values.old + count ≤ vec_capacity values.old }
+    requires within { start + count ≤ length list.now.items }
+    ensures { values.new.items ≡ values.old.items ++ take count (drop start list.now.items) }
+{
+    let _len = list.len();
+    for place in start..start + count {
+        values.push_reserved(list[place]);
+    }
+}

@@ -200,7 +200,9 @@ fn push_difference(
     rows: &mut Pile,
     others: &mut Pile,
 ) -> Result<(), AllocError>
-    ensures ok { OnOk result (dated answers.new.items ≡ dated answers.old.items ++ map (λ r. (at, r))
+    ensures ok { OnOk result (dated answers.new.items
+        ≡ dated answers.old.items
+        ++ map (λ r. (at, r))
         (in_order row_cmp (bag_minus row_cmp (pile_in rows.old) (pile_in others.old)))) }
     ensures err { OnErr result (answers.new.items ≡ answers.old.items) }
     ensures rows { pile_in rows.new ≡ in_order row_cmp (pile_in rows.old) }

@@ -1,10 +1,10 @@
 //! Bags of rows.
 //!
-//! A `RowBag` is seen as the list of its rows in order, with their repeats, and is kept by the count
-//! of each row: what enters, leaves or is looked up costs a logarithm of the number of rows that
-//! differ. A `Delta` is what entered and what left since it was new, each cut by the other. It keeps
-//! the rows as they came, and sorts them where it is asked. A row that is held takes the room of the
-//! widest that came, rounded up to 2, 4, 8 or `MAX_COLUMNS` values.
+//! A `RowBag` is seen as the list of its rows in order, with their repeats, and is kept by the
+//! count of each row: what enters, leaves or is looked up costs a logarithm of the number of rows
+//! that differ. A `Delta` is what entered and what left since it was new, each cut by the other. It
+//! keeps the rows as they came, and sorts them where it is asked. A row that is held takes the room
+//! of the widest that came, rounded up to 2, 4, 8 or `MAX_COLUMNS` values.
 //!
 //! The theory of `proofs/BagLaws.antt` and `proofs/DeltaLaws.antt` says what these lists are of the
 //! bags that signed rows turn into one another.

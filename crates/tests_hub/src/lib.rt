@@ -1,0 +1,23 @@
+//! Worked rows of the hub, its workers and its server, as tests: with real threads, and against an
+//! engine of one thread.
+//!
+//! They stand in a crate of their own because a crate's tests are proved with all of the crate once
+//! more.
+#![tactic(auto)]
+
+#[cfg(test)]
+mod agreement;
+#[cfg(test)]
+mod fixture;
+#[cfg(test)]
+mod gates;
+#[cfg(test)]
+mod scripts;
+#[cfg(test)]
+mod seats;
+#[cfg(test)]
+mod server;
+#[cfg(test)]
+mod threads;
+#[cfg(test)]
+mod wakes;

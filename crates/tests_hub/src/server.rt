@@ -1,0 +1,308 @@
+//! A server and its clients, all in this process.
+ghost use Rattle.std.specs.Prelude.{◌≤◌};
+
+use command_lines::ServeOptions;
+use served::serve;
+use std::alloc::Global;
+use std::io::{BufRead, BufReader, Write};
+use std::net::{Net, Shutdown, SocketAddr, TcpListener, TcpStream};
+use std::sync::Wait;
+use std::test::Fail;
+use std::thread::Threads;
+use std::{io, thread};
+use wire::MemorySink;
+
+const BEGINNING: &str = r#"{"op":"stream","name":"S","columns":["a"],"from":0}
+{"op":"query","name":"q","text":"Select Istream(*) From S [Now]"}
+{"op":"append","stream":"S","rows":[[3,7],[1,5],[3,6]]}
+{"op":"heartbeat","stream":"S","at":3}
+"#;
+
+const ROUND: &str = r#"{"op":"drain"}
+{"op":"take","query":"q","limit":100}
+"#;
+
+const DECLARATION: &str = r#"{"op":"stream","name":"S","columns":["a"],"from":0}
+"#;
+
+/// How many clients call at once.
+const CROWD: u32 = 64;
+
+// The rows of a take's reply, without what stands round them.
+fn rows_in(reply: &str) -> Option<&str> {
+    let rest = reply.strip_prefix("{\"ok\":true,\"rows\":[")?;
+    rest.strip_suffix("]}\n")
+}
+
+// Sends the requests, then drains and takes until three rows were taken, one reply's rows after the
+// other's.
+fn ask(alloc: Global, stream: &TcpStream) -> io::Result<String> {
+    let mut writer = stream;
+    let mut reader = BufReader::new(alloc, stream)?;
+    let mut line = String::new(alloc);
+    writer.write_all(BEGINNING.as_bytes())?;
+    for _ in 0..4 {
+        reader.read_line(&mut line)?;
+    }
+    let mut taken = String::new(alloc);
+    for _ in 0..10_000 {
+        writer.write_all(ROUND.as_bytes())?;
+        line.clear();
+        reader.read_line(&mut line)?;
+        line.clear();
+        reader.read_line(&mut line)?;
+        if let Some(rows) = rows_in(line.as_str()) {
+            if !rows.is_empty() {
+                if !taken.is_empty() {
+                    taken.push_str(",")?;
+                }
+                taken.push_str(rows)?;
+            }
+        }
+        if taken.as_str().matches('[').count() >= 3 {
+            return Ok(taken);
+        }
+    }
+    Ok(taken)
+}
+
+// Sends a text, and gives all that is answered until the server closes.
+fn send(alloc: Global, stream: &TcpStream, text: &str) -> io::Result<String> {
+    let mut writer = stream;
+    writer.write_all(text.as_bytes())?;
+    stream.shutdown(Shutdown::Write)?;
+    io::read_to_string(alloc, stream)
+}
+
+// How a server ended, and what it said.
+#[derive(Drop)]
+struct Ending {
+    status: u8,
+    told: MemorySink,
+    errors: MemorySink,
+}
+
+impl Ending {
+    // It ended well: it said where it listens, and nothing of errors.
+    fn is_well(&self) -> bool {
+        self.status == 0
+            && self.errors.bytes.is_empty()
+            && self
+                .told
+                .bytes
+                .as_slice()
+                .starts_with(b"cqld: listening on 127.0.0.1:".as_slice())
+    }
+}
+
+// Serves so many connections, by one worker.
+fn serve_some<R: Threads + Wait + Sync>(
+    rt: &R,
+    alloc: Global,
+    listener: TcpListener,
+    clients: u32,
+    connections: u32,
+) -> Ending
+    requires { 1 ≤ clients × clients ≤ 64 }
+{
+    let options = ServeOptions {
+        port: 0,
+        workers: 1,
+        clients,
+        serve: Some(connections),
+    };
+    let mut told = MemorySink::new(alloc);
+    let mut errors = MemorySink::new(alloc);
+    let status = serve(rt, alloc, listener, &options, &mut told, &mut errors);
+    Ending {
+        status,
+        told,
+        errors,
+    }
+}
+
+// What one client took, and how the server ended.
+fn served_once<R: Net<Listener = TcpListener, Stream = TcpStream> + Threads + Wait + Sync>(
+    rt: &R,
+    alloc: Global,
+    listener: TcpListener,
+) -> io::Result<(String, Ending)> {
+    let address = listener.local_addr()?;
+    let (taken, ending) = thread::join(
+        rt,
+        || -> io::Result<String> {
+            let stream = TcpStream::connect(rt, address)?;
+            ask(alloc, &stream)
+        },
+        || serve_some(rt, alloc, listener, 1, 1),
+    );
+    Ok((taken?, ending))
+}
+
+#[test]
+fn a_server_answers_a_connection_and_ends(rt: HostRuntime) -> Result<(), Fail> {
+    let listener = TcpListener::bind(&rt, "127.0.0.1:0")
+        .ok()
+        .ok_or("no listener")?;
+    let served = served_once(&rt, rt.alloc(), listener);
+    assert!(rt;
+        matches!(&served, Ok((taken, ending))
+        if taken.as_str() == "[1,5],[3,6],[3,7]" && ending.is_well())
+    );
+    Ok(())
+}
+
+// Three clients, one after the other: one sends half a line, one is gone before it is answered, and
+// the third is answered as if the first had not been, and after the calls of the second.
+fn poor_clients<R: Net<Listener = TcpListener, Stream = TcpStream>>(
+    rt: &R,
+    alloc: Global,
+    address: SocketAddr,
+) -> io::Result<(String, String)> {
+    let half = TcpStream::connect(rt, address)?;
+    let (front, _) = DECLARATION.split_at(DECLARATION.len() / 2);
+    let told = send(alloc, &half, front)?;
+    drop(half);
+    let gone = TcpStream::connect(rt, address)?;
+    let mut writer = &gone;
+    writer.write_all(BEGINNING.as_bytes())?;
+    for _ in 0..1_000 {
+        writer.write_all(ROUND.as_bytes())?;
+    }
+    drop(gone);
+    let third = TcpStream::connect(rt, address)?;
+    let answered = send(alloc, &third, DECLARATION)?;
+    Ok((told, answered))
+}
+
+fn served_thrice<R: Net<Listener = TcpListener, Stream = TcpStream> + Threads + Wait + Sync>(
+    rt: &R,
+    alloc: Global,
+    listener: TcpListener,
+) -> io::Result<(String, String, Ending)> {
+    let address = listener.local_addr()?;
+    let (answers, ending) = thread::join(
+        rt,
+        || poor_clients(rt, alloc, address),
+        || serve_some(rt, alloc, listener, 1, 3),
+    );
+    let (told, answered) = answers?;
+    Ok((told, answered, ending))
+}
+
+#[test]
+fn a_client_that_goes_ends_its_connection_alone(rt: HostRuntime) -> Result<(), Fail> {
+    let listener = TcpListener::bind(&rt, "127.0.0.1:0")
+        .ok()
+        .ok_or("no listener")?;
+    let served = served_thrice(&rt, rt.alloc(), listener);
+    assert!(rt;
+        matches!(&served, Ok((told, answered, ending))
+        if told.as_str() == "{\"error\":\"N1 NotJson\"}\n"
+            && answered.as_str() == "{\"error\":\"E2 NameTaken\"}\n"
+            && ending.is_well())
+    );
+    Ok(())
+}
+
+// A client that sends nothing keeps its connection open, and another one is answered meanwhile.
+fn beside_a_silent_client<R: Net<Listener = TcpListener, Stream = TcpStream>>(
+    rt: &R,
+    alloc: Global,
+    address: SocketAddr,
+) -> io::Result<String> {
+    let silent = TcpStream::connect(rt, address)?;
+    let stream = TcpStream::connect(rt, address)?;
+    let taken = ask(alloc, &stream)?;
+    drop(silent);
+    Ok(taken)
+}
+
+fn served_beside<R: Net<Listener = TcpListener, Stream = TcpStream> + Threads + Wait + Sync>(
+    rt: &R,
+    alloc: Global,
+    listener: TcpListener,
+) -> io::Result<(String, Ending)> {
+    let address = listener.local_addr()?;
+    let (taken, ending) = thread::join(
+        rt,
+        || beside_a_silent_client(rt, alloc, address),
+        || serve_some(rt, alloc, listener, 2, 2),
+    );
+    Ok((taken?, ending))
+}
+
+#[test]
+fn a_silent_client_holds_no_other_one(rt: HostRuntime) -> Result<(), Fail> {
+    let listener = TcpListener::bind(&rt, "127.0.0.1:0")
+        .ok()
+        .ok_or("no listener")?;
+    let served = served_beside(&rt, rt.alloc(), listener);
+    assert!(rt;
+        matches!(&served, Ok((taken, ending))
+        if taken.as_str() == "[1,5],[3,6],[3,7]" && ending.is_well())
+    );
+    Ok(())
+}
+
+// Whether a client with a stream of its own is answered.
+fn is_answered(alloc: Global, stream: &TcpStream, number: u32) -> io::Result<bool> {
+    let script = format!(in alloc;
+        "{{\"op\":\"stream\",\"name\":\"S{number}\",\"columns\":[\"a\"],\"from\":0}}\n\
+        {{\"op\":\"append\",\"stream\":\"S{number}\",\"rows\":[[0,{number}]]}}\n\
+        {{\"op\":\"append\",\"stream\":\"S{number}\",\"rows\":[[0]]}}\n\
+        {{\"op\":\"heartbeat\",\"stream\":\"S{number}\",\"at\":0}}\n"
+    )?;
+    let replies = send(alloc, stream, script.as_str())?;
+    Ok(
+        replies.as_str()
+            == "{\"ok\":true}\n{\"ok\":true}\n{\"error\":\"E7 BadWidth\"}\n{\"ok\":true}\n",
+    )
+}
+
+// Connects as many clients as may be, and then talks to the server from the last to the first: how
+// many are answered.
+fn answered_of_a_crowd<R: Net<Listener = TcpListener, Stream = TcpStream>>(
+    rt: &R,
+    alloc: Global,
+    address: SocketAddr,
+) -> io::Result<usize> {
+    let mut streams = Vec::new(alloc);
+    for _ in 0..CROWD {
+        let stream = TcpStream::connect(rt, address)?;
+        streams.push(stream)?;
+    }
+    let mut answered: usize = 0;
+    for number in 0..CROWD {
+        if let Some(stream) = streams.pop() {
+            if is_answered(alloc, &stream, number)? {
+                answered = answered.saturating_add(1);
+            }
+        }
+    }
+    Ok(answered)
+}
+
+fn served_crowd<R: Net<Listener = TcpListener, Stream = TcpStream> + Threads + Wait + Sync>(
+    rt: &R,
+    alloc: Global,
+    listener: TcpListener,
+) -> io::Result<(usize, Ending)> {
+    let address = listener.local_addr()?;
+    let (answered, ending) = thread::join(
+        rt,
+        || answered_of_a_crowd(rt, alloc, address),
+        || serve_some(rt, alloc, listener, CROWD, CROWD),
+    );
+    Ok((answered?, ending))
+}
+
+#[test]
+fn as_many_clients_as_may_be_are_served_at_once(rt: HostRuntime) -> Result<(), Fail> {
+    let listener = TcpListener::bind(&rt, "127.0.0.1:0")
+        .ok()
+        .ok_or("no listener")?;
+    let served = served_crowd(&rt, rt.alloc(), listener);
+    assert!(rt; matches!(&served, Ok((64, ending)) if ending.is_well()));
+    Ok(())
+}

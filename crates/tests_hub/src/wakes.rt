@@ -1,0 +1,153 @@
+//! A worker that waits is woken by a heartbeat, and a pool that waits for a turn by its query's
+//! drop and by its abandon.
+
+use crate::fixture::{filled, ready};
+use hub::{Hub, Seat};
+use leases::Leased;
+use reference::Fault;
+use std::alloc::Global;
+use std::sync::Wait;
+use std::sync::atomic::{AtomicBool, Ordering};
+use std::test::Fail;
+use std::thread;
+use std::thread::Threads;
+use std::time::{Clock, Duration};
+use workers::{NoGate, Pool, work};
+
+/// How often a client looks, with a millisecond of sleep each time.
+const LOOKS: u32 = 10_000;
+
+/// After how many milliseconds a worker waits, most likely.
+const REST: u64 = 50;
+
+// Closes the instant once the worker waits, and says whether an answer came before the last look.
+// Then it calls the end.
+fn close_an_instant<R: Wait + Clock>(rt: &R, hub: &Hub, mut seat: Seat) -> bool {
+    thread::sleep(rt, Duration::from_millis(REST));
+    let _ = hub.heartbeat(rt, &mut seat, 0, 0);
+    let mut is_answered = false;
+    for _ in 0..LOOKS {
+        if hub.waiting(rt, 0) == Ok(1) {
+            is_answered = true;
+            break;
+        }
+        thread::sleep(rt, Duration::from_millis(1));
+    }
+    hub.end(rt);
+    is_answered
+}
+
+// Whether a worker that waits is woken.
+fn is_worker_woken<R: Threads + Wait + Clock + Sync>(
+    rt: &R,
+    alloc: Global,
+    hub: &Hub,
+    seat: Seat,
+) -> bool {
+    let (is_answered, ()) = thread::join(
+        rt,
+        move || close_an_instant(rt, hub, seat),
+        move || work(rt, alloc, hub, &NoGate, 256),
+    );
+    is_answered
+}
+
+#[test]
+fn a_heartbeat_wakes_a_worker(rt: HostRuntime) -> Result<(), Fail> {
+    let (hub, seat) = filled(&rt, rt.alloc(), 5)?;
+    assert!(rt; is_worker_woken(&rt, rt.alloc(), &hub, seat));
+    Ok(())
+}
+
+// Drops the turn's query, or abandons the turn, once the pool waits, and says whether the pool came back before the last look. Then it
+// calls the end, which wakes a pool that was forgotten.
+fn let_go<R: Wait + Clock>(
+    rt: &R,
+    hub: &Hub,
+    mut seat: Seat,
+    drops: bool,
+    lease: u64,
+    is_back: &AtomicBool,
+) -> bool {
+    thread::sleep(rt, Duration::from_millis(REST));
+    let is_done = if drops {
+        hub.drop_query(rt, &mut seat, 0).is_ok()
+    } else {
+        hub.abandon(rt, lease).is_ok()
+    };
+    let mut is_woken = false;
+    for _ in 0..LOOKS {
+        if is_back.load(Ordering::SeqCst) {
+            is_woken = true;
+            break;
+        }
+        thread::sleep(rt, Duration::from_millis(1));
+    }
+    hub.end(rt);
+    is_done && is_woken
+}
+
+// Drains by a pool of one worker, and raises the flag when it comes back.
+fn drain<R: Threads + Wait + Sync>(
+    rt: &R,
+    alloc: Global,
+    hub: &Hub,
+    is_back: &AtomicBool,
+) -> Result<(), Fault> {
+    let drained = Pool::drain(rt, alloc, hub, &NoGate, 1, 256);
+    is_back.store(true, Ordering::SeqCst);
+    drained
+}
+
+// Whether a pool that waits for the turn of this number comes back once it is let go.
+fn is_pool_woken<R: Threads + Wait + Clock + Sync>(
+    rt: &R,
+    alloc: Global,
+    hub: &Hub,
+    seat: Seat,
+    drops: bool,
+    lease: u64,
+) -> Result<bool, Fault> {
+    let flag = AtomicBool::new(false);
+    let is_back = &flag;
+    let (is_woken, drained) = thread::join(
+        rt,
+        move || let_go(rt, hub, seat, drops, lease, is_back),
+        move || drain(rt, alloc, hub, is_back),
+    );
+    drained?;
+    Ok(is_woken)
+}
+
+// Takes the turn that is ready: its number.
+fn held_turn<R: Wait>(rt: &R, hub: &Hub) -> Result<u64, Fault> {
+    match hub.lease(rt, 256)? {
+        Leased::Turn(turn) => Ok(turn.lease),
+        Leased::Idle => Err(Fault::UnknownLease),
+    }
+}
+
+// Holds the one turn of a hub while a pool waits for it: whether the pool came back once it was let
+// go, and how many answers then wait.
+fn woken_by<R: Threads + Wait + Clock + Sync>(
+    rt: &R,
+    alloc: Global,
+    drops: bool,
+) -> Result<(bool, Option<usize>), Fault> {
+    let (hub, seat) = ready(rt, alloc, 5)?;
+    let lease = held_turn(rt, &hub)?;
+    let is_woken = is_pool_woken(rt, alloc, &hub, seat, drops, lease)?;
+    Ok((is_woken, hub.waiting(rt, 0).ok()))
+}
+
+#[test]
+fn a_drop_wakes_a_pool(rt: HostRuntime) -> Result<(), Fail> {
+    assert_eq!(rt; woken_by(&rt, rt.alloc(), true)?, (true, None));
+    Ok(())
+}
+
+#[test]
+fn an_abandon_wakes_a_pool(rt: HostRuntime) -> Result<(), Fail> {
+    assert_eq!(rt; woken_by(&rt, rt.alloc(), false)?, (true, Some(1)));
+    Ok(())
+}

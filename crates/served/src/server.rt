@@ -1,5 +1,5 @@
 //! A server: client threads accept connections in turn, and workers run turns.
-ghost use Rattle.std.specs.Prelude.{◌≡◌, ◌≤◌, ◌⊎◌};
+ghost use Rattle.std.specs.Prelude.{◌≡◌, ◌≤◌, ◌⊎◌, OnErr};
 ghost use Rattle.hub.specs.declared.locked.TheConstants.{MAX_SEATS};
 ghost use Rattle.served.specs.Errors.{IsTold, IsToldAddress, accept_line, close_line};
 ghost use Rattle.served.specs.Errors.{memory_line, thread_line};
@@ -8,7 +8,7 @@ use crate::door::Door;
 use crate::lines::serve_connection;
 use command_lines::ServeOptions;
 use hub::{Hub, MAX_HISTORY, Seat};
-use std::alloc::Global;
+use std::alloc::{AllocError, Global};
 use std::net::TcpListener;
 use std::sync::{Mutex, Wait};
 use std::thread;
@@ -46,7 +46,9 @@ pub fn serve<R: Threads + Wait + Sync, O: Sink, E: Sink>(
     let Ok((hub, seats)) = Hub::open(alloc, clients, MAX_HISTORY) else {
         return lack_memory(errors);
     };
-    tell_address(alloc, &listener, sink);
+    if tell_address(alloc, &listener, sink).is_err() {
+        return lack_memory(errors);
+    }
     let left = options.serve.map(|connections| connections as u64);
     let door = Mutex::new(Door::new(listener, left));
     let Some(seats) = run_threads(rt, alloc, &door, &hub, seats, options.workers) else {
@@ -78,17 +80,23 @@ fn lack_memory<E: Sink>(errors: &mut E) -> u8
     3
 }
 
-// Says where it listens. A write that fails is ignored, as is an address that is not told.
-fn tell_address<O: Sink>(alloc: Global, listener: &TcpListener, sink: &mut O)
-    ensures { IsToldAddress O.taken O.failures sink.old sink.new }
+// Says where it listens. A write that fails is ignored, as is an address that the system does not
+// tell. An error says that memory was refused for the line.
+fn tell_address<O: Sink>(
+    alloc: Global,
+    listener: &TcpListener,
+    sink: &mut O,
+) -> Result<(), AllocError>
+    ensures told { IsToldAddress O.taken O.failures sink.old sink.new }
+    ensures refused { OnErr result (sink.new ≡ sink.old) }
 {
     let Ok(address) = listener.local_addr() else {
-        return;
+        return Ok(());
     };
     let port = address.port();
-    if let Ok(line) = format!(in alloc; "cqld: listening on 127.0.0.1:{port}\n") {
-        tell(sink, line.as_str());
-    }
+    let line = format!(in alloc; "cqld: listening on 127.0.0.1:{port}\n")?;
+    tell(sink, line.as_str());
+    Ok(())
 }
 
 // Starts the threads while nobody may come in, and gives the seats back once the clients have

@@ -1,7 +1,8 @@
 //! Seats in threads of their own.
 
-use crate::fixture::{declare, rows};
-use hub::{Entry, Hub, Seat};
+use crate::fixture::{declare, register, rows};
+use crossbeam_channel::{Receiver, Sender, unbounded};
+use hub::{Entry, Hub, Receipt, Seat};
 use reference::Fault;
 use std::alloc::{AllocError, Global};
 use std::sync::Wait;
@@ -66,5 +67,100 @@ fn entries_of_four<R: Threads + Wait + Sync>(
 #[test]
 fn the_history_has_the_calls_of_all_threads(rt: HostRuntime) -> Result<(), Fail> {
     assert_eq!(rt; entries_of_four(&rt, rt.alloc())?, Some((401, true)));
+    Ok(())
+}
+
+// Appends so often, and sends the receipt of each append on. Gives the seat back.
+fn tell_often<R: Wait>(
+    rt: &R,
+    alloc: Global,
+    hub: &Hub,
+    mut seat: Seat,
+    told: Sender<Receipt>,
+) -> Seat {
+    for call in 0..50 {
+        if let Ok(rows) = rows(alloc, &[(call, 7)]) {
+            if let Ok(receipt) = hub.append(rt, &mut seat, 0, rows) {
+                let _ = told.send(rt, receipt);
+            }
+        }
+    }
+    seat
+}
+
+// Learns each receipt and then takes. Gives the seat back, and how many takes have a number above
+// that of the receipt learnt before them.
+fn learn_often<R: Wait>(
+    rt: &R,
+    hub: &Hub,
+    mut seat: Seat,
+    told: Receiver<Receipt>,
+) -> (Seat, usize) {
+    let mut behind = 0;
+    for receipt in told.into_iter(rt) {
+        seat.learn(&receipt);
+        if let Ok((_, taken)) = hub.take(rt, &mut seat, 0, 1) {
+            if taken.number() > receipt.number() && behind < 1_000 {
+                behind += 1;
+            }
+        }
+    }
+    (seat, behind)
+}
+
+// Lets one seat append and the other take, each in a thread of its own: both seats, and how many
+// takes stand behind what was learnt before them.
+fn tell_and_learn<R: Threads + Wait + Sync>(
+    rt: &R,
+    alloc: Global,
+    hub: &Hub,
+    zero: Seat,
+    one: Seat,
+) -> Result<(Seat, Seat, usize), AllocError> {
+    let (sender, receiver) = unbounded(alloc)?;
+    let ((one, behind), zero) = thread::join(
+        rt,
+        move || learn_often(rt, hub, one, receiver),
+        move || tell_often(rt, alloc, hub, zero, sender),
+    );
+    Ok((zero, one, behind))
+}
+
+// A hub with a stream and a query, and two seats.
+fn with_two_seats<R: Wait>(rt: &R, alloc: Global) -> Result<(Hub, Seat, Seat), Fault> {
+    let (hub, mut seats) = Hub::open(alloc, 2, 1_000)?;
+    let one = seats.pop().ok_or(Fault::BadLimit)?;
+    let mut zero = seats.pop().ok_or(Fault::BadLimit)?;
+    declare(rt, alloc, &hub, &mut zero)?;
+    register(rt, alloc, &hub, &mut zero, "q", None)?;
+    Ok((hub, zero, one))
+}
+
+// How many entries the history of a hub with these two seats has. None where it does not close.
+fn entries_of_both(alloc: Global, hub: Hub, zero: Seat, one: Seat) -> Result<Option<usize>, Fault> {
+    let mut back = Vec::new(alloc);
+    back.reserve(2)?;
+    back.push_reserved(zero);
+    back.push_reserved(one);
+    match hub.close(back) {
+        Ok(closed) => Ok(Some(closed.entries.len())),
+        Err(_) => Ok(None),
+    }
+}
+
+// How many takes of one seat stand behind what it was told by another, and how many entries there
+// are.
+fn takes_behind<R: Threads + Wait + Sync>(
+    rt: &R,
+    alloc: Global,
+) -> Result<(usize, Option<usize>), Fault> {
+    let (hub, zero, one) = with_two_seats(rt, alloc)?;
+    let (zero, one, behind) = tell_and_learn(rt, alloc, &hub, zero, one)?;
+    Ok((behind, entries_of_both(alloc, hub, zero, one)?))
+}
+
+#[test]
+fn a_call_stands_behind_what_its_seat_was_told(rt: HostRuntime) -> Result<(), Fail> {
+    assert_eq!(rt; takes_behind(&rt, rt.alloc())?, (50, Some(102)));
     Ok(())
 }

@@ -59,8 +59,8 @@ fn a_heartbeat_wakes_a_worker(rt: HostRuntime) -> Result<(), Fail> {
     Ok(())
 }
 
-// Drops the turn's query, or abandons the turn, once the pool waits, and says whether the pool came back before the last look. Then it
-// calls the end, which wakes a pool that was forgotten.
+// Drops the turn's query, or abandons the turn, once the pool waits, and says whether the pool came
+// back before the last look. Then it calls the end, which wakes a pool that was forgotten.
 fn let_go<R: Wait + Clock>(
     rt: &R,
     hub: &Hub,

@@ -59,21 +59,20 @@ fn a_heartbeat_wakes_a_worker(rt: HostRuntime) -> Result<(), Fail> {
     Ok(())
 }
 
-// Drops the turn's query, or abandons the turn, once the pool waits, and says whether the pool came
-// back before the last look. Then it calls the end, which wakes a pool that was forgotten.
+// Abandons this turn, or drops the query if none is named, once the pool waits, and says whether
+// the pool came back before the last look. Then it calls the end, which wakes a pool that was
+// forgotten.
 fn let_go<R: Wait + Clock>(
     rt: &R,
     hub: &Hub,
     mut seat: Seat,
-    drops: bool,
-    lease: u64,
+    abandoned: Option<u64>,
     is_back: &AtomicBool,
 ) -> bool {
     thread::sleep(rt, Duration::from_millis(REST));
-    let is_done = if drops {
-        hub.drop_query(rt, &mut seat, 0).is_ok()
-    } else {
-        hub.abandon(rt, lease).is_ok()
+    let is_done = match abandoned {
+        Some(lease) => hub.abandon(rt, lease).is_ok(),
+        None => hub.drop_query(rt, &mut seat, 0).is_ok(),
     };
     let mut is_woken = false;
     for _ in 0..LOOKS {
@@ -87,36 +86,30 @@ fn let_go<R: Wait + Clock>(
     is_done && is_woken
 }
 
-// Drains by a pool of one worker, and raises the flag when it comes back.
-fn drain<R: Threads + Wait + Sync>(
-    rt: &R,
-    alloc: Global,
-    hub: &Hub,
-    is_back: &AtomicBool,
-) -> Result<(), Fault> {
+// Drains by a pool of one worker, and raises the flag when it comes back. Whether it drained.
+fn drain<R: Threads + Wait + Sync>(rt: &R, alloc: Global, hub: &Hub, is_back: &AtomicBool) -> bool {
     let drained = Pool::drain(rt, alloc, hub, &NoGate, 1, 256);
     is_back.store(true, Ordering::SeqCst);
-    drained
+    drained.is_ok()
 }
 
-// Whether a pool that waits for the turn of this number comes back once it is let go.
+// Whether a pool that waits for the turn that is out comes back once this one is abandoned, or the
+// query is dropped if none is named.
 fn is_pool_woken<R: Threads + Wait + Clock + Sync>(
     rt: &R,
     alloc: Global,
     hub: &Hub,
     seat: Seat,
-    drops: bool,
-    lease: u64,
-) -> Result<bool, Fault> {
+    abandoned: Option<u64>,
+) -> bool {
     let flag = AtomicBool::new(false);
     let is_back = &flag;
-    let (is_woken, drained) = thread::join(
+    let (is_drained, is_woken) = thread::join(
         rt,
-        move || let_go(rt, hub, seat, drops, lease, is_back),
         move || drain(rt, alloc, hub, is_back),
+        move || let_go(rt, hub, seat, abandoned, is_back),
     );
-    drained?;
-    Ok(is_woken)
+    is_drained && is_woken
 }
 
 // Takes the turn that is ready: its number.
@@ -136,7 +129,8 @@ fn woken_by<R: Threads + Wait + Clock + Sync>(
 ) -> Result<(bool, Option<usize>), Fault> {
     let (hub, seat) = ready(rt, alloc, 5)?;
     let lease = held_turn(rt, &hub)?;
-    let is_woken = is_pool_woken(rt, alloc, &hub, seat, drops, lease)?;
+    let abandoned = if drops { None } else { Some(lease) };
+    let is_woken = is_pool_woken(rt, alloc, &hub, seat, abandoned);
     Ok((is_woken, hub.waiting(rt, 0).ok()))
 }
 

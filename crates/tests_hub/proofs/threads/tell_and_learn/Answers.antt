@@ -13,5 +13,5 @@ use Rattle.tests_hub.proofs.threads.tell_and_learn.Goals as goal
 receiver_send : (T : RattleType) → IsSend T → IsSend (receiver.the_row T heap.the_row ghosts)
 receiver_send T s = the_send T heap.the_row ghosts s send sync frees
 
-pub join-requires-send-F : goal.join-requires-send-F
-join-requires-send-F g c κs within = search (sendable, crosses, hub_sync, seat_send, receipt_send, receiver_send) depth 20 fits 100000
+pub join-one-requires-send-F : goal.join-one-requires-send-F
+join-one-requires-send-F g c κs within = search (sendable, crosses, hub_sync, seat_send, receipt_send, receiver_send) depth 40 fits 1000000

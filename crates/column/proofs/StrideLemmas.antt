@@ -1,6 +1,5 @@
 -- Columns made of values by a stride, 64 of them at a time.
-use Rattle.std.proofs.Common.{ℕ, ℤ, List, [], ◌∷◌, ◌++◌, ◌≡◌, ◌<◌, ◌≤◌, ◌+◌, ◌*◌, ◌%◌, ◌-◌, ◌==◌, length, map, min, refl, sym, ◌∙◌, ap, arith, Bool, true, false, None, Some, Option, pos, zero, suc, All, append-nil, append_assoc, add-mul, add-zero, IfSome, unwrap_or, is_some, subst, to_z, of_z, w64, mul-one}
-use Rattle.std.specs.List.{range_with_len}
+use Rattle.std.proofs.Common.{ℕ, ℤ, List, [], ◌∷◌, ◌++◌, ◌≡◌, ◌<◌, ◌≤◌, ◌+◌, ◌*◌, ◌%◌, ◌-◌, ◌==◌, length, map, min, refl, sym, ◌∙◌, ap, arith, Bool, false, None, Some, Option, pos, zero, suc, All, append-nil, append_assoc, add-mul, add-zero, IfSome, unwrap_or, is_some, subst, to_z, of_z, w64, mul-one}
 use Rattle.std.proofs.Math.ListN.{get_or}
 use Rattle.std.proofs.lemmas.Int.{to_z-of_z}
 use Rattle.std.proofs.lemmas.List.{map-append, ext_get_or, length-map}
@@ -8,7 +7,7 @@ use Rattle.std.proofs.lemmas.List.FromFn.{length-map-range_with_len, get_or-map-
 use Rattle.std.proofs.lemmas.List.Elements.{All-append, All-push, All-nil, All-head, All-tail}
 use Rattle.values.specs.Value.{IsAnswerNumber, IsAnswerValue}
 use Rattle.column.specs.Bits.{IsClear, at_places, bits, place, places_by}
-use Rattle.column.specs.Columns.{IsColumn, IsCell, numbers_of, values_of}
+use Rattle.column.specs.Columns.{IsCell, numbers_of}
 use Rattle.column.proofs.BitLemmas.{bits_grown}
 use Rattle.column.proofs.BatchLemmas.{get_or-at_places, length-at_places}
 use Rattle.column.proofs.ColumnLemmas.{IsMade, cell_of, get_or_any_value, value_back, word_fits}

@@ -1,5 +1,5 @@
 -- A query over what an opening keeps of the machine's streams: it goes on from its mark.
-use Rattle.std.proofs.Common.{◌≡◌, ℕ, zero, suc, ◌+◌, ◌-◌, ◌<◌, ◌≤◌, Bool, true, false, cond, nat_le, max, min, fold, ◌||◌, ◌⊎◌, ⊎_elim, List, [], ◌∷◌, ◌++◌, filter, map, length, get_or, refl, sym, ap, ◌∙◌, subst, subst₂, arith, append-nil, length-append, le-leb, leb-true, true≢false}
+use Rattle.std.proofs.Common.{◌≡◌, ℕ, zero, suc, ◌+◌, ◌-◌, ◌<◌, ◌≤◌, Bool, true, false, cond, nat_le, max, min, fold, ◌⊎◌, ⊎_elim, List, [], ◌∷◌, ◌++◌, filter, length, get_or, refl, sym, ap, ◌∙◌, subst, subst₂, arith, append-nil, length-append, le-leb, leb-true, true≢false}
 use Rattle.std.specs.Prelude.{unwrap_or}
 use Rattle.std.specs.List.{reduce}
 use Rattle.std.proofs.lemmas.Bool.{cases_lt}
@@ -10,9 +10,9 @@ use Rattle.values.specs.Window.{Element, Window}
 use Rattle.values.proofs.WindowLaw.{window_law}
 use Rattle.op_queue.specs.Entries.{Entry}
 use Rattle.to_stream.specs.Turns.{State}
-use Rattle.reference.specs.Machine.{Machine, Registered, Place, input_at, opens, until_for}
+use Rattle.reference.specs.Machine.{Machine, Registered, input_at, opens, until_for}
 use Rattle.laws_dataflow.specs.Windows.{opened}
-use Rattle.laws_dataflow.specs.Nets.{World, Cell, Planned, cell_next}
+use Rattle.laws_dataflow.specs.Nets.{Cell, Planned}
 use Rattle.laws_dataflow.specs.Operators.{net_of}
 use Rattle.laws_dataflow.specs.Worlds.{Keeps, forgotten}
 use Rattle.laws_dataflow.specs.Queries.{GoodQuery, GoodRoot}

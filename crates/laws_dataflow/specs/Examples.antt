@@ -4,7 +4,7 @@ use Rattle.values.specs.Row.{Row}
 use Rattle.values.specs.Window.{Element}
 use Rattle.values.specs.Answers.{Istream, Dstream, Rstream}
 use Rattle.op_queue.specs.Entries.{Entry, RowAt, TickAt}
-use Rattle.plan.specs.Nodes.{Key, Window, Join, Project, ToStream}
+use Rattle.plan.specs.Nodes.{Window, Join, Project, ToStream}
 use Rattle.plan.specs.Nodes as plan
 use Rattle.plan.specs.Build.{at}
 use Rattle.laws_dataflow.specs.Windows.{Brings, opened}

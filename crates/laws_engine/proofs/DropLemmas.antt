@@ -2,7 +2,7 @@
 use Rattle.std.proofs.Common.{◌≡◌, ◌≢◌, ℕ, ◌++◌, ⊎_elim, Option, Some, None, List, [], refl, sym, ap, ◌∙◌, subst, append-nil, append_assoc}
 use Rattle.std.specs.Prelude.{slice_get}
 use Rattle.values.specs.Row.{Row}
-use Rattle.reference.specs.Commands.{Drop, after, change, first_fault}
+use Rattle.reference.specs.Commands.{Drop, change, first_fault}
 use Rattle.reference.specs.Commands as machine
 use Rattle.reference.specs.Machine.{Machine, Registered}
 use Rattle.laws_queries.specs.Queries.{operator_at}

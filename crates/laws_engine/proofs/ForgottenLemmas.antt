@@ -1,15 +1,12 @@
 -- Forgetting leaves an engine good.
-use Rattle.std.proofs.Common.{◌≡◌, ℕ, zero, suc, Option, Some, None, List, [], ◌∷◌, length, get_or, refl, sym, ap, ◌∙◌, subst, arith}
+use Rattle.std.proofs.Common.{◌≡◌, ℕ, zero, suc, Some, List, [], ◌∷◌, length, get_or, refl, sym, ap, ◌∙◌}
 use Rattle.std.specs.Prelude.{slice_get, unwrap_or}
-use Rattle.values.specs.Row.{Row}
-use Rattle.laws_dataflow.specs.Plans.{below_root}
 use Rattle.laws_dataflow.specs.Queries.{behind}
 use Rattle.reference.specs.Machine.{Registered}
 use Rattle.operators.specs.declared.states.State.TheVariants as state
-use Rattle.laws_queries.specs.Queries.{PlainQuery, operator_at}
-use Rattle.laws_engine.specs.Engines.{Dropped, GoodEngine, Goes, PlainRemains, PlainEngine, Running, remains_at, query_at}
+use Rattle.laws_engine.specs.Engines.{Dropped, GoodEngine, Goes, PlainRemains, PlainEngine}
 use Rattle.laws_engine.specs.Openings.{forgotten, last_in, mark_in, marks_by, next_of}
-use Rattle.laws_engine.proofs.OpenedLemmas.{Marked, goes, opened_good}
+use Rattle.laws_engine.proofs.OpenedLemmas.{goes, opened_good}
 
 pub length-marks : (qs : List Registered) (ks : List PlainRemains) → length (marks_by qs ks) ≡ length qs
 length-marks [] ks = refl

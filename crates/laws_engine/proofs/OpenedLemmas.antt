@@ -1,5 +1,5 @@
 -- An engine stays good where its machine is replaced by its opening.
-use Rattle.std.proofs.Common.{◌≡◌, ℕ, zero, suc, ◌+◌, ◌-◌, ◌<◌, ◌≤◌, ◌==◌, ◌&&◌, ◌||◌, Bool, true, false, cond, nat_le, nat_lt, ⊎_elim, Option, Some, None, unwrap_or, List, [], ◌∷◌, ◌++◌, filter, map, length, get_or, refl, sym, ap, ap₂, ◌∙◌, subst, arith, ltb-true}
+use Rattle.std.proofs.Common.{◌≡◌, ℕ, zero, suc, ◌+◌, ◌-◌, ◌<◌, ◌≤◌, ◌==◌, ◌&&◌, ◌||◌, Bool, true, false, cond, nat_le, nat_lt, Option, Some, None, unwrap_or, List, [], ◌∷◌, ◌++◌, filter, map, length, get_or, refl, sym, ap, ap₂, ◌∙◌, subst, arith, ltb-true}
 use Rattle.std.proofs.lemmas.List.{length-map}
 use Rattle.std.specs.Prelude.{slice_get}
 use Rattle.std.specs.List.{AllByRecursion}
@@ -11,23 +11,22 @@ use Rattle.values.specs.Needs.{is_needed}
 use Rattle.column.specs.declared.batch.Side.{Side}
 use Rattle.column.specs.declared.batch.Side.TheVariants.{Left, Right}
 use Rattle.op_queue.specs.Logs.{Closed}
-use Rattle.operators.specs.Operators.{PlainOperator, first_ready, front_instant, ready, ready_at, waiting}
+use Rattle.operators.specs.Operators.{PlainOperator, first_ready, front_instant, ready, waiting}
 use Rattle.operators.specs.States.{usable}
 use Rattle.op_queue.specs.Items.{front_of}
-use Rattle.reference.specs.Machine.{Machine, Place, Registered, Stream, answers_from, input_at, until_for}
+use Rattle.reference.specs.Machine.{Place, Registered, Stream, input_at}
 use Rattle.reference.specs.Opening.{all_restarted, needs, needs_by, opening, restart, restarted, with_kept}
 use Rattle.laws_dataflow.specs.Laws as nets
-use Rattle.laws_dataflow.specs.Plans.{IsPlanOf, below_root, inputs_of, world_of}
+use Rattle.laws_dataflow.specs.Plans.{IsPlanOf}
 use Rattle.laws_queries.specs.Machines.{IsMachine, IsQuery, IsStream, columns_of, widths_of}
-use Rattle.laws_queries.specs.Queries.{IsByArrival, IsRunning, PlainQuery, log_at, node_at, operator_at, place_of}
-use Rattle.laws_queries.specs.Rows.{HasRows, HaveRows}
-use Rattle.laws_queries.specs.Steps.{IsFirst}
+use Rattle.laws_queries.specs.Queries.{IsByArrival, IsRunning, PlainQuery, log_at, operator_at, place_of}
+use Rattle.laws_queries.specs.Rows.{HasRows}
 use Rattle.laws_queries.specs.Forgetting.{KeepsFor}
 use Rattle.laws_queries.proofs.ForgetLemmas.{forgetting_runs, kept_stream, stream_kept, waits_kept}
 use Rattle.laws_queries.proofs.HeartbeatLemmas.{input_at_source}
 use Rattle.laws_queries.proofs.MachineCounts.{queries_stand}
 use Rattle.run_queue.specs.Slots.{slot}
-use Rattle.laws_engine.specs.Engines.{Broken, Dropped, GoodEngine, Goes, HasGiven, IsIn, AreRemains, IsLease, PlainRemains, Lease, PlainEngine, Running, answers_in, is_leased, remains_at, query_at, slope_at, slot_in, slot_of}
+use Rattle.laws_engine.specs.Engines.{Broken, Dropped, GoodEngine, Goes, AreRemains, IsLease, PlainRemains, Lease, PlainEngine, Running, answers_in, is_leased, remains_at, query_at, slope_at, slot_in, slot_of}
 use Rattle.laws_engine.specs.Openings.{opened}
 use Rattle.laws_engine.proofs.AppendedLemmas.{is_query}
 use Rattle.laws_engine.proofs.TakeLemmas.{equal_slots}

@@ -1,9 +1,8 @@
 -- An engine whose machine is replaced by its opening.
 use Rattle.std.specs.Prelude.{ℕ, Option, Some, None, List, [], ◌∷◌, map}
-use Rattle.values.specs.Row.{Row}
 use Rattle.operators.specs.declared.states.State.{State}
 use Rattle.operators.specs.declared.states.State.TheVariants as state
-use Rattle.reference.specs.Machine.{Machine, Registered}
+use Rattle.reference.specs.Machine.{Registered}
 use Rattle.reference.specs.Opening.{opening}
 use Rattle.laws_dataflow.specs.Plans.{below_root}
 use Rattle.laws_dataflow.specs.Queries.{behind}

@@ -28,7 +28,7 @@ use Rattle.operators.specs.declared.states.State.{State}
 use Rattle.operators.specs.declared.states.State.TheVariants as state
 use Rattle.plan.specs.Nodes as plan
 use Rattle.laws_dataflow.specs.Nets as nets
-use Rattle.laws_dataflow.specs.Nets.{World, Cell, at_window, at_unary, at_join, Input, GoodTwo, LeftStep, RightStep, Turn, batch}
+use Rattle.laws_dataflow.specs.Nets.{World, Cell, at_window, at_unary, at_join, Input, Turn, batch}
 use Rattle.laws_dataflow.specs.Operators.{joining}
 use Rattle.laws_dataflow.proofs.JoinTurns.{left_rows_made, right_rows_made, left_first_made, right_first_made, left_last_made, right_last_made}
 use Rattle.laws_dataflow.proofs.RootLemmas.{After, after}

@@ -14,7 +14,7 @@ use Rattle.cql_reader.specs.Reading.{reading}
 use Rattle.cql_reader.specs.WellFormed.{IsWellFormed}
 use Rattle.cql_reader.proofs.WellFormed.{well_formed}
 use Rattle.names.specs.Catalog as catalogs
-use Rattle.names.specs.Catalog.{columns_in, number_in}
+use Rattle.names.specs.Catalog.{number_in}
 use Rattle.names.specs.Matches.{table_of, tables}
 use Rattle.names.specs.Resolved.{resolved, streams, widths}
 use Rattle.names.specs.Faults as naming

@@ -1,5 +1,5 @@
 -- A running query after turns of its operators.
-use Rattle.std.proofs.Common.{◌≡◌, ◌≢◌, ℕ, ◌-◌, ◌<◌, ◌==◌, true, cond, ◌⊎◌, ⊎_elim, List, [], ◌++◌, length, refl, sym, ap, ◌∙◌, subst, subst₂, arith, eq-eqb}
+use Rattle.std.proofs.Common.{◌≡◌, ◌≢◌, ℕ, ◌-◌, ◌<◌, ◌==◌, true, cond, ◌⊎◌, ⊎_elim, List, ◌++◌, length, refl, sym, ap, ◌∙◌, subst, subst₂, arith, eq-eqb}
 use Rattle.std.proofs.lemmas.Bool.{ne_eqb}
 use Rattle.values.specs.Row.{Row}
 use Rattle.values.specs.Answers.{StreamOperator}

@@ -4,7 +4,7 @@ use Rattle.std.specs.List.{AllByRecursion}
 use Rattle.std.proofs.lemmas.List.{get_or-map, length-map}
 use Rattle.std.proofs.lemmas.List.FromFn.{length-map-range_with_len}
 use Rattle.values.specs.declared.TheConstants.{MAX_COLUMNS}
-use Rattle.values.specs.Resolved.{condition_of, items_of, operator_of, window_of}
+use Rattle.values.specs.Resolved.{condition_of, operator_of, window_of}
 use Rattle.values.specs.declared.resolved.ListItem.TheVariants as listed
 use Rattle.values.specs.declared.resolved.StreamOperator.{StreamOperator}
 use Rattle.values.specs.declared.resolved.Window.{Window}
@@ -16,7 +16,6 @@ use Rattle.op_queue.specs.Logs.{Closed}
 use Rattle.op_queue.proofs.PathLemmas.{Leads-none}
 use Rattle.op_queue.proofs.SignedLemmas.{Same-refl}
 use Rattle.group.specs.Groups.{GroupBy, once_each}
-use Rattle.group.specs.Turns.{GroupState}
 use Rattle.group.specs.Turns as groups
 use Rattle.group.proofs.LawLemmas.{begins}
 use Rattle.join.specs.Turns as join
@@ -25,14 +24,13 @@ use Rattle.operators.specs.Inboxes.{entries_in, is_fed}
 use Rattle.operators.specs.Operators.{PlainOperator, waiting}
 use Rattle.operators.specs.declared.inboxes.Inbox.{Inbox}
 use Rattle.operators.specs.declared.states.State.TheVariants as state
-use Rattle.plan.specs.Build.{plan_of}
 use Rattle.plan.specs.Nodes as plan
 use Rattle.plan.specs.Views.{node_of, nodes_of}
 use Rattle.plan.specs.declared.node.Node.{Node}
 use Rattle.plan.specs.declared.node.Node.TheVariants.{Window as Source, Select, Join, Project, Group, Distinct, ToStream}
 use Rattle.plan.proofs.Lists.{each-unmap}
 use Rattle.physical_plans.specs.Beginnings as made
-use Rattle.physical_plans.specs.Beginnings.{AreMade, HaveNarrowRows, IsMade, IsMakeable, IsNarrowWindow, grouping, key_pair, nothing_waits, range_made, width_made, widths_from, window_at}
+use Rattle.physical_plans.specs.Beginnings.{AreMade, HaveNarrowRows, IsMade, IsMakeable, IsNarrowWindow, grouping, key_pair, nothing_waits, width_made, widths_from, window_at}
 use Rattle.physical_plans.proofs.LawLemmas.{kinds_mean}
 use Rattle.reference.specs.Machine.{Machine, Place, Registered, opens}
 use Rattle.laws_dataflow.specs.Laws.{IsGood}
@@ -45,11 +43,11 @@ use Rattle.laws_dataflow.proofs.AnswerLemmas.{shaped}
 use Rattle.laws_dataflow.proofs.PlanLemmas.{Shaped}
 use Rattle.laws_dataflow.proofs.StartLemmas.{machine_starts}
 use Rattle.laws_queries.specs.Counts.{AreFew, count, most_rows}
-use Rattle.laws_queries.specs.Queries.{HasInboxes, IsRunning, RunsAt, RunsAtRoot, log_at, no_operator, node_at, operator_at, place_of, stream_log}
+use Rattle.laws_queries.specs.Queries.{HasInboxes, IsRunning, log_at, no_operator, node_at, operator_at, place_of, stream_log}
 use Rattle.laws_queries.specs.Machines.{columns_of, widths_of}
 use Rattle.laws_queries.specs.Rows.{AreSourceWidths}
 use Rattle.laws_queries.specs.Registrations.{IsCoded, IsFit, IsFresh, IsTextWindow, MayMake, Starts, lengths_of}
-use Rattle.laws_queries.specs.Runs.{Runs, RunsRoot}
+use Rattle.laws_queries.specs.Runs.{Runs}
 use Rattle.laws_queries.specs.Widths.{IsKindWide, IsWide, width_at}
 use Rattle.laws_queries.proofs.BeginLemmas.{SelectFits, WindowBegins, all_none, all_one, by_same, count_none, nothing_closed, places_fit, reads_of, select_fits, window_begins}
 use Rattle.laws_queries.proofs.GroupLemmas.{lean_begins}

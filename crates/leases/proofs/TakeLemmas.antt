@@ -15,7 +15,7 @@ use Rattle.reference.specs.CallViews.{handed_of}
 use Rattle.reference.specs.Commands.{Take, change, first_fault, of_query, take_tests, took}
 use Rattle.reference.specs.Inputs.{are_signed}
 use Rattle.reference.specs.Machine as machine
-use Rattle.reference.specs.Machine.{Registered, Stream, unless_dropped}
+use Rattle.reference.specs.Machine.{Registered, unless_dropped}
 use Rattle.reference.specs.Named.{name_of_registered}
 use Rattle.reference.specs.World.{handed}
 use Rattle.reference.specs.declared.fault.Fault.{Fault}

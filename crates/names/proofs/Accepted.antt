@@ -22,7 +22,7 @@ use Rattle.names.specs.Catalog.{Stream, number_in, columns_in}
 use Rattle.names.specs.Matches as matches
 use Rattle.names.specs.Matches.{Table, table_of, tables, allows, places, columns_at, matches_in, first_column, place_in}
 use Rattle.names.specs.Resolved as spec
-use Rattle.names.specs.Resolved.{all_columns, named_by, entry_list, is_grouped, listed_columns, windows_of, streams, widths}
+use Rattle.names.specs.Resolved.{all_columns, named_by, entry_list, is_grouped, listed_columns, windows_of, streams}
 use Rattle.names.specs.Faults.{partition_of, partition_matches, all_matches, references_of_where, is_missing, is_many, has_repeat, lacks_key, is_ungrouped, is_wide, first_fault}
 use Rattle.names.specs.Split.{all_conjuncts}
 use Rattle.names.specs.Sound.{has_narrow_rows, can_slide, all_slide, is_within, all_within}

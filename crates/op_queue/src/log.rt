@@ -1,7 +1,7 @@
 //! Logs.
 ghost use Rattle.std.specs.Prelude.{◌≡◌, ℕ, ◌+◌, ◌*◌, ◌-◌, ◌<◌, ◌≤◌, ◌++◌, [], All, false};
-ghost use Rattle.std.specs.Prelude.{replicate, length, take, map, slice_range, get_or, nat_le, IfOk, OnOk};
-ghost use Rattle.std.specs.Prelude.{OnErr};
+ghost use Rattle.std.specs.Prelude.{replicate, length, take, map, slice_range, get_or, nat_le};
+ghost use Rattle.std.specs.Prelude.{IfOk, OnOk, OnErr};
 ghost use Rattle.std.specs.List.{filter};
 ghost use Rattle.op_queue.specs.Cursors.{GainsClosed};
 ghost use Rattle.op_queue.specs.Logs.{IsClosing, IsInOrder, entering, is_waiting, shown};

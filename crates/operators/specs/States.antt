@@ -8,7 +8,7 @@ use Rattle.op_queue.specs.declared.item.Item.{Item}
 use Rattle.group.specs.Turns as groups
 use Rattle.group.specs.Turns.{GroupState, ShownState, RoomFor}
 use Rattle.join.specs.Turns as join
-use Rattle.join.specs.Turns.{JoinState, side_of}
+use Rattle.join.specs.Turns.{side_of}
 use Rattle.to_stream.specs.Turns as root
 use Rattle.windows.specs.Latest as latest
 use Rattle.windows.specs.Latest.{LatestState, held_in}

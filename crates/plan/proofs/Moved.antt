@@ -12,7 +12,7 @@ use Rattle.names.specs.Split.{columns_of, columns_of_operand}
 use Rattle.plan.specs.Nodes.{holds_all}
 use Rattle.plan.specs.Build.{operand_moved, moved, item_moved}
 use Rattle.std.specs.List.{AllByRecursion}
-use Rattle.plan.proofs.Lists.{by_test, each-left, each-right, map_same, map-filter}
+use Rattle.plan.proofs.Lists.{each-left, each-right, map-filter}
 
 module _ (f : Column → Column) (rows moved_rows : List Row) where
   abbrev pub Agrees : Column → Type 0

@@ -1,6 +1,6 @@
 -- What a run answers, and why it may not run.
 use Rattle.std.proofs.Common.{◌≡◌, ◌≢◌, ℕ, Bool, not, true, false, List, [], ◌∷◌, ◌++◌, Option, Some, Result, refl, ap, sym, ◌∙◌, subst, ◌⊎◌, inl, inr}
-use Rattle.std.specs.Prelude.{⊤, None, codes, map, option_map}
+use Rattle.std.specs.Prelude.{⊤, codes, map, option_map}
 use Rattle.std.specs.List.{range_with_len}
 use Rattle.std.specs.Option.{option_to_list}
 use Rattle.std.proofs.lemmas.Bool.{false≢true}

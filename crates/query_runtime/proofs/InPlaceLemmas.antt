@@ -1,5 +1,5 @@
 -- A query whose operator has run a turn in place.
-use Rattle.std.proofs.Common.{◌≡◌, ◌∙◌, ℕ, ◌<◌, ◌++◌, min, Bool, true, false, Result, Ok, Err, IfErr, OnErr, List, [], length, sym, ap, refl, subst, arith}
+use Rattle.std.proofs.Common.{◌≡◌, ◌∙◌, ℕ, ◌++◌, min, true, false, Result, Ok, Err, IfErr, OnErr, List, sym, ap, refl, subst, arith}
 use Rattle.std.specs.Prelude.{⊤}
 use Rattle.values.specs.Row.{Row}
 use Rattle.column.specs.declared.batch.Side.{Side}
@@ -7,7 +7,7 @@ use Rattle.op_queue.specs.Entries.{Entry}
 use Rattle.op_queue.specs.Items.{IsFrontPart}
 use Rattle.op_queue.specs.Logs.{Closed}
 use Rattle.op_queue.specs.declared.item.Item.{Item}
-use Rattle.turn.specs.Turns.{Answered, Outs, Put, outs_at}
+use Rattle.turn.specs.Turns.{Answered, Put, outs_at}
 use Rattle.turn.specs.declared.excerpts.Near.{Near}
 use Rattle.turn.specs.declared.excerpts.Near.TheVariants as near
 use Rattle.turn.specs.declared.kinds.Kind.{Kind}
@@ -21,9 +21,9 @@ use Rattle.operators.specs.declared.runs.Refused.TheVariants.{Before, Within}
 use Rattle.physical_plans.specs.declared.wiring.Wire.{Wire}
 use Rattle.reference.specs.Machine.{Stream}
 use Rattle.laws_queries.specs.Queries.{MayFeed, MayFinish, PlainQuery, change_at_first, operator_at}
-use Rattle.laws_queries.specs.Steps.{IsFirst, outs_at_first}
+use Rattle.laws_queries.specs.Steps.{IsFirst}
 use Rattle.query_runtime.specs.Runs.{CanRun, HasRun, HasRunItem, IsRunItem, KeepsOuts, OnlyAtBoth}
-use Rattle.query_runtime.specs.Turns.{CanFeed, CanPut, HasAnswered, HasFed, HasFinished, HasPut, OnlyAt, log_of, wire_at}
+use Rattle.query_runtime.specs.Turns.{CanFeed, CanPut, HasAnswered, HasFed, HasPut, OnlyAt, log_of, wire_at}
 use Rattle.query_runtime.proofs.LeaseLemmas.{part_first, part_leased}
 
 -- BELOW THE ROOT a turn puts out rows and ticks, at the root it gives answers

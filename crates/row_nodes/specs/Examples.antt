@@ -1,5 +1,5 @@
 -- The definitions at worked rows and conditions.
-use Rattle.std.specs.Prelude.{◌≡◌, ℕ, Bool, true, false, Option, Some, None, ℤ, pos, List, [], ◌∷◌, refl}
+use Rattle.std.specs.Prelude.{◌≡◌, ℕ, true, false, Option, Some, None, ℤ, pos, [], ◌∷◌, refl}
 use Rattle.values.specs.Row.{Row}
 use Rattle.values.specs.Condition.{Column, Compared, Condition, Not, And, Or, Field, Number}
 use Rattle.values.specs.declared.resolved.Compare.TheVariants.{Equals, Below, Above}

@@ -249,8 +249,8 @@ fn first_done<R: Wait>(rt: &R, alloc: Global, value: i64) -> Result<Done, Fault>
     next_done(rt, alloc, &hub)?.ok_or(Fault::UnknownLease)
 }
 
-// Whether the hub refuses a turn with another row, takes its own, and refuses one that is as its own
-// was.
+// Whether the hub refuses a turn with another row, takes its own, and refuses one that is as its
+// own was.
 fn takes_its_own<R: Wait>(rt: &R, hub: &Hub, other: Done, own: Done, same: Done) -> bool {
     hub.finish(rt, other) == Err(Fault::Stranger)
         && hub.finish(rt, own) == Ok(())

@@ -1,5 +1,5 @@
 -- Batches that are equal.
-use Rattle.std.proofs.Common.{ℕ, None, List, [], Bool, true, false, not, ◌≡◌, ◌<◌, ◌↔◌, length, ap, refl, sym, ◌∙◌, arith}
+use Rattle.std.proofs.Common.{ℕ, None, List, [], Bool, true, false, not, ◌≡◌, ◌<◌, length, ap, refl, sym, ◌∙◌, arith}
 use Rattle.std.proofs.Math.ListN.{get_or}
 use Rattle.std.proofs.lemmas.List.{ext_get_or, get_or-map, length-map}
 use Rattle.values.specs.Row.{Row, value_at}

@@ -1,12 +1,11 @@
 -- What a window shows of an input it shows of each part that has what it needs.
-use Rattle.std.proofs.Common.{◌≡◌, ℕ, zero, suc, ◌+◌, ◌-◌, ◌*◌, ◌/◌, ◌≤◌, ◌<◌, Bool, true, false, cond, ◌&&◌, ◌||◌, nat_le, nat_lt, List, [], ◌∷◌, ◌++◌, map, filter, count_by, refl, ap, ap₂, sym, ◌∙◌, arith, true≢false, ltb-true, ltb-false, lt-ltb, le-ltb, le-leb, leb-true, leb-false, subst, ◌⊎◌, inl, inr}
+use Rattle.std.proofs.Common.{◌≡◌, ℕ, zero, suc, ◌+◌, ◌-◌, ◌*◌, ◌/◌, ◌≤◌, Bool, true, false, cond, ◌&&◌, ◌||◌, nat_le, nat_lt, List, [], ◌∷◌, ◌++◌, map, filter, refl, ap, ap₂, sym, ◌∙◌, arith, true≢false, ltb-true, ltb-false, lt-ltb, le-leb, leb-true, leb-false, subst, ◌⊎◌, inl, inr}
 use Rattle.std.proofs.lemmas.List.Elements.{filter-append}
 use Rattle.std.proofs.lemmas.Nat.{le-div}
 use Rattle.std.proofs.Math.Nat.{div-zero, div-mul-le_self, mul-le-mul_right}
-use Rattle.values.specs.Row.{Row}
-use Rattle.values.specs.Window.{Element, Window, Range, RangeSlide, Unbounded, LastRows, counts, count_later, shows, window_rows}
+use Rattle.values.specs.Window.{Element, Window, Range, RangeSlide, Unbounded, LastRows, counts, count_later, shows}
 use Rattle.values.proofs.Windows.{tally, tally_is, tally-append}
-use Rattle.values.specs.Needs.{Each, still_shows, is_needed, HasNeeded, WindowsShowTheSame}
+use Rattle.values.specs.Needs.{Each, is_needed, HasNeeded, WindowsShowTheSame}
 use Rattle.values.proofs.CountLemmas.{and_true, and_both, tally_le, few_later, n_are_shown}
 
 -- every item

@@ -1,5 +1,5 @@
 -- Rows that leave, batch by batch.
-use Rattle.std.proofs.Common.{◌≡◌, ℕ, zero, suc, ◌+◌, ◌-◌, ◌*◌, ◌<◌, ◌≤◌, Bool, true, nat_lt, ℤ, Option, None, Some, List, [], ◌∷◌, ◌++◌, length, map, take, drop, replicate, slice_range, refl, ap, ap₂, sym, ◌∙◌, arith, subst, suc-add, suc-mul, append_assoc}
+use Rattle.std.proofs.Common.{◌≡◌, ℕ, zero, suc, ◌+◌, ◌-◌, ◌*◌, ◌≤◌, Bool, true, nat_lt, ℤ, Option, None, Some, List, [], ◌∷◌, ◌++◌, length, map, take, drop, replicate, slice_range, refl, ap, ap₂, sym, ◌∙◌, arith, subst, suc-add, suc-mul, append_assoc}
 use Rattle.std.proofs.Math.Seq.{take-add}
 use Rattle.std.proofs.lemmas.List.{drop-append-le, drop-take, map-append, take-append-le}
 use Rattle.std.proofs.lemmas.List.{get_or_append_left, length-append, length-drop, length-map, length-take}

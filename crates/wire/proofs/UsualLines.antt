@@ -11,7 +11,7 @@ use Rattle.json.specs.Lex.{tokens}
 use Rattle.json.specs.Json as json
 use Rattle.json.specs.Print.{print, print_from, escape, escape_byte, IsNumber}
 use Rattle.json.specs.Tree as tree
-use Rattle.json.specs.Tree.{json_tokens, items_tokens, members_tokens}
+use Rattle.json.specs.Tree.{json_tokens, items_tokens}
 use Rattle.json.proofs.Printed.Strings.{escape_byte_plain}
 use Rattle.json.proofs.Printed.Decimals.{IsNumber-signed_decimal}
 use Rattle.json.proofs.Printed.Tokens.{tokens-print}

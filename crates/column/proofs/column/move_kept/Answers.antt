@@ -1,4 +1,4 @@
-use Rattle.std.proofs.Common.{◌≡◌, ◌∙◌, ◌<◌, arith, sym, length, get_or, pos, refl}
+use Rattle.std.proofs.Common.{◌∙◌, ◌<◌, arith, sym, length, pos}
 use Rattle.column.proofs.KeptLemmas.{IsKept-no, IsKept-swap, kept_all}
 use Rattle.column.proofs.column.move_kept.Goals.{then-get, else-get}
 use Rattle.column.proofs.column.move_kept.Goals as goal

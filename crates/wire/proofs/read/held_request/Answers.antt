@@ -1,4 +1,4 @@
-use Rattle.std.proofs.Common.{◌≤◌, ℕ, Option, None, sym, subst, arith}
+use Rattle.std.proofs.Common.{◌≤◌, None, sym, subst, arith}
 use Rattle.wire.specs.Held.{ahead, work}
 use Rattle.wire.specs.Lines.{Keeps}
 use Rattle.wire.specs.Requests.{SameRequests}

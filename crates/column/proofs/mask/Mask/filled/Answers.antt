@@ -1,4 +1,4 @@
-use Rattle.std.proofs.Common.{◌≡◌, ◌∙◌, ap, arith, ◌++◌, ◌∷◌, [], replicate}
+use Rattle.std.proofs.Common.{◌∙◌, ap, arith, ◌++◌, ◌∷◌, [], replicate}
 use Rattle.column.specs.Bits.{bits}
 use Rattle.std.proofs.lemmas.List.{replicate-append-replicate}
 use Rattle.column.proofs.mask.Mask.filled.Goals as goal

@@ -1,4 +1,4 @@
-use Rattle.std.proofs.Common.{◌≡◌, ◌∙◌, ◌<◌, arith, sym, length, true, false}
+use Rattle.std.proofs.Common.{◌∙◌, ◌<◌, arith, sym, length, true, false}
 use Rattle.column.proofs.KeptLemmas.{IsKept-yes, IsKept-no, kept_all}
 use Rattle.column.proofs.mask.Mask.keep.Goals.{then-get, else-get}
 use Rattle.column.proofs.mask.Mask.keep.Goals as goal

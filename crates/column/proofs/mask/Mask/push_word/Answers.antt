@@ -1,5 +1,5 @@
 use Rattle.std.proofs.Common.{arith, ap, ◌∙◌, ◌+◌, ◌≡◌, ◌++◌, ◌%◌, ◌∷◌, []}
-use Rattle.column.specs.Bits.{IsClear, bits}
+use Rattle.column.specs.Bits.{bits}
 use Rattle.column.proofs.BitLemmas.{bits_pushed, clear_pushed, length-seen}
 use Rattle.column.proofs.mask.Mask.push_word.Goals as goal
 

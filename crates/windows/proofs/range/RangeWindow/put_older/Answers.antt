@@ -1,5 +1,5 @@
-use Rattle.std.proofs.Common.{◌++◌, map, subst, sym}
-use Rattle.op_queue.specs.Entries.{IsForward, RowAt}
+use Rattle.std.proofs.Common.{◌++◌, subst, sym}
+use Rattle.op_queue.specs.Entries.{IsForward}
 use Rattle.op_queue.specs.Items.{item_instant}
 use Rattle.op_queue.specs.Queues.{HasGained}
 use Rattle.op_queue.specs.declared.item.Item.{Item}

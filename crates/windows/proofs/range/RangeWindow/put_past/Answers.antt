@@ -1,4 +1,4 @@
-use Rattle.std.proofs.Common.{◌≡◌, ◌++◌, [], ap, sym, subst, ◌∙◌, List, length, map, take}
+use Rattle.std.proofs.Common.{◌≡◌, ◌++◌, ap, sym, subst, ◌∙◌, List, length, map, take}
 use Rattle.values.specs.Row.{Row}
 use Rattle.op_queue.specs.Entries.{IsForward}
 use Rattle.op_queue.specs.declared.item.Item.TheVariants.{Tick}

@@ -1,8 +1,10 @@
 //! The slots in their order.
-ghost use Rattle.std.specs.Prelude.{◌≡◌, ◌<◌, [], Some, IfErr, IfOk, MatchOption, OnErr, OnOk};
-ghost use Rattle.run_queue.specs.Slots.{AreIdle, IsFound, IsMissing, IsSteepest};
+ghost use Rattle.std.specs.Prelude.{◌≡◌, ◌↔◌, ◌<◌, [], Some, IfErr, IfOk, IsTrue, MatchOption};
+ghost use Rattle.std.specs.Prelude.{OnErr, OnOk, length};
+ghost use Rattle.run_queue.specs.Slots.{AreIdle, IsAt, IsBetween, IsFound, IsMissing, IsSteepest};
 ghost use Rattle.run_queue.specs.Slots.{changed, first_of, put, slot_cmp, without_query};
-ghost use Rattle.std.specs.List.{insert, remove};
+ghost use Rattle.std.specs.List.{HoldsAt, insert, remove};
+ghost use Rattle.std.specs.declared.cmp.Ordering.TheVariants.{Greater, Less};
 ghost use Rattle.std.specs.List.Sorted.{IsStrictlySortedBy};
 ghost use Rattle.std.specs.Vec.{vec_capacity, vec_len};
 
@@ -75,8 +77,13 @@ impl RunQueue {
     pub fn change(&mut self, slot: Slot, next: Option<(Side, u64)>)
         ensures { self.new ≡ changed slot next self.old }
     {
-        if let Ok(at) = place_of(&self.slots, &slot) {
-            replace(&mut self.slots, at, slot.with_next(next));
+        if let Ok(at) = find(&self.slots, &slot) {
+            let changed = slot.with_next(next);
+            if changed.is_same(&slot) {
+                self.slots[at] = changed;
+            } else {
+                replace(&mut self.slots, at, changed);
+            }
         }
     }
 
@@ -89,7 +96,24 @@ impl RunQueue {
     }
 }
 
-/// Finds where the slot stands, or where it belongs.
+/// Finds where the slot stands, or where it belongs. Where it is one of the first two, no search is
+/// made: most of those that a drain changes are.
+#[tactic(auto, using(crate::proofs::SlotLemmas::found_there))]
+fn find(slots: &[Slot], slot: &Slot) -> Result<usize, usize>
+    requires { IsStrictlySortedBy slot_cmp slots.now }
+    ensures found { IfOk result (IsFound slots.now slot.now) }
+    ensures missing { IfErr result (IsMissing slots.now slot.now) }
+{
+    if is_at(slots, 0, slot) {
+        return Ok(0);
+    }
+    if is_at(slots, 1, slot) {
+        return Ok(1);
+    }
+    place_of(slots, slot)
+}
+
+/// Finds where the slot stands, or where it belongs, by a search.
 #[tactic(auto, using(crate::proofs::SlotLemmas::found_at, crate::proofs::SlotLemmas::missing_at))]
 fn place_of(slots: &[Slot], slot: &Slot) -> Result<usize, usize>
     requires { IsStrictlySortedBy slot_cmp slots.now }
@@ -97,6 +121,16 @@ fn place_of(slots: &[Slot], slot: &Slot) -> Result<usize, usize>
     ensures missing { IfErr result (IsMissing slots.now slot.now) }
 {
     slots.binary_search(slot)
+}
+
+/// Whether the slot stands at this place.
+fn is_at(slots: &[Slot], at: usize, slot: &Slot) -> bool
+    ensures { IsTrue result ↔ IsAt slots.now slot.now at }
+{
+    match slots.get(at) {
+        Some(other) => other.is_same(slot),
+        None => false,
+    }
 }
 
 /// Removes the slot at a place and puts another at its own place, unless an equal one is there. It
@@ -107,6 +141,10 @@ fn replace(slots: &mut Vec<Slot>, at: usize, slot: Slot)
     requires ordered { IsStrictlySortedBy slot_cmp slots.old.items }
     ensures { slots.new.items ≡ put (remove slots.old.items at) slot }
 {
+    if is_between(slots, at, &slot) {
+        slots[at] = slot;
+        return;
+    }
     match place_of(slots, &slot) {
         Ok(to) => {
             if to == at {
@@ -122,6 +160,41 @@ fn replace(slots: &mut Vec<Slot>, at: usize, slot: Slot)
                 move_slot(slots, at, to - 1, slot);
             }
         }
+    }
+}
+
+/// Whether the slot belongs between the neighbours of a place.
+fn is_between(slots: &[Slot], at: usize, slot: &Slot) -> bool
+    requires { at < length slots.now }
+    ensures { IsTrue result → IsBetween slots.now slot.now at }
+{
+    if at == 0 {
+        return is_before(slots, 1, slot);
+    }
+    if !is_behind(slots, at - 1, slot) {
+        return false;
+    }
+    is_before(slots, at + 1, slot)
+}
+
+/// Whether the slot belongs behind what stands at a place.
+fn is_behind(slots: &[Slot], at: usize, slot: &Slot) -> bool
+    ensures { IsTrue result → HoldsAt (λ t. slot_cmp t slot.now ≡ Less) slots.now at }
+{
+    match slots.get(at) {
+        Some(other) => *other < *slot,
+        None => false,
+    }
+}
+
+/// Whether the slot belongs before what stands at a place, if anything does.
+fn is_before(slots: &[Slot], at: usize, slot: &Slot) -> bool
+    ensures { IsTrue result → at < length slots.now
+        → HoldsAt (λ t. slot_cmp t slot.now ≡ Greater) slots.now at }
+{
+    match slots.get(at) {
+        Some(other) => *slot < *other,
+        None => true,
     }
 }
 

@@ -1,6 +1,7 @@
 //! An operator's place among the others.
-ghost use Rattle.std.specs.Prelude.{◌≡◌, cond, None, Some};
-ghost use Rattle.run_queue.specs.Slots.{slot, with_next};
+ghost use Rattle.std.specs.Prelude.{◌≡◌, ◌↔◌, cond, IsTrue, None, Some};
+ghost use Rattle.std.specs.declared.cmp.Ordering.TheVariants.{Equal};
+ghost use Rattle.run_queue.specs.Slots.{slot, slot_cmp, with_next};
 
 use column::Side;
 use envelope::Slope;
@@ -58,6 +59,26 @@ impl Slot {
             side,
             ..self
         }
+    }
+
+    /// Whether the two stand at one place: they differ at most in their sides. Most are told apart
+    /// by their operators.
+    pub(crate) fn is_same(&self, other: &Slot) -> bool
+        ensures { IsTrue result ↔ (slot_cmp self.now other.now ≡ Equal) }
+    {
+        if self.operator != other.operator {
+            return false;
+        }
+        if self.query != other.query {
+            return false;
+        }
+        if self.instant != other.instant {
+            return false;
+        }
+        if self.is_idle != other.is_idle {
+            return false;
+        }
+        self.slope == other.slope
     }
 
     /// The slot, if the operator has something to take.

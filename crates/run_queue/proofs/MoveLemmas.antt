@@ -153,6 +153,9 @@ module _ (slots : List Slot) (s : Slot) (at : ℕ) (h : IsStrictlySortedBy slot_
       (λ k d p q. left_at slots s at k d Greater l (λ c. absurd (omega arith)) (λ c. above_all (k + 1) d (omega arith) (omega arith)))
       ∙ sym (written slots at s l)
 
--- when it does
+-- at the first place it does where it belongs before the second
 pub first_between : (slots : List Slot) (s : Slot) (i : ℕ) → i ≡ 0 → (1 < length slots → HoldsAt (λ t. slot_cmp t s ≡ Greater) slots 1) → IsBetween slots s i
 first_between slots s i e above = subst (λ n. IsBetween slots s n) (sym e) (record { below = λ m. absurd (omega (arith, m)); above = λ m. above m })
+
+pub first_before : (slots : List Slot) (s : Slot) (i : ℕ) → i ≡ 0 → IsBetween slots s i → 1 < length slots → HoldsAt (λ t. slot_cmp t s ≡ Greater) slots 1
+first_before slots s i e b l = (subst (λ n. IsBetween slots s n) e b).above l

@@ -166,7 +166,7 @@ fn replace(slots: &mut Vec<Slot>, at: usize, slot: Slot)
 /// Whether the slot belongs between the neighbours of a place.
 fn is_between(slots: &[Slot], at: usize, slot: &Slot) -> bool
     requires { at < length slots.now }
-    ensures { IsTrue result → IsBetween slots.now slot.now at }
+    ensures { IsTrue result ↔ IsBetween slots.now slot.now at }
 {
     if at == 0 {
         return is_before(slots, 1, slot);
@@ -179,18 +179,16 @@ fn is_between(slots: &[Slot], at: usize, slot: &Slot) -> bool
 
 /// Whether the slot belongs behind what stands at a place.
 fn is_behind(slots: &[Slot], at: usize, slot: &Slot) -> bool
-    ensures { IsTrue result → HoldsAt (λ t. slot_cmp t slot.now ≡ Less) slots.now at }
+    requires { at < length slots.now }
+    ensures { IsTrue result ↔ HoldsAt (λ t. slot_cmp t slot.now ≡ Less) slots.now at }
 {
-    match slots.get(at) {
-        Some(other) => *other < *slot,
-        None => false,
-    }
+    slots[at] < *slot
 }
 
 /// Whether the slot belongs before what stands at a place, if anything does.
 fn is_before(slots: &[Slot], at: usize, slot: &Slot) -> bool
-    ensures { IsTrue result → at < length slots.now
-        → HoldsAt (λ t. slot_cmp t slot.now ≡ Greater) slots.now at }
+    ensures { IsTrue result ↔ (at < length slots.now
+        → HoldsAt (λ t. slot_cmp t slot.now ≡ Greater) slots.now at) }
 {
     match slots.get(at) {
         Some(other) => *slot < *other,

@@ -71,7 +71,7 @@ before_put : (x : Slot) (slots : List Slot) (s : Slot) → slot_cmp x s ≡ Less
 before_put x [] s l h = (l, tt)
 before_put x (y ∷ slots) s l h = before_by x y s slots (slot_cmp s y) l h (before_put x slots s l h.1)
 
-before_all : (s x : Slot) (slots : List Slot) → slot_cmp s x ≡ Less → AllByRecursion (λ t. slot_cmp x t ≡ Less) slots → AllByRecursion (λ t. slot_cmp s t ≡ Less) slots
+pub before_all : (s x : Slot) (slots : List Slot) → slot_cmp s x ≡ Less → AllByRecursion (λ t. slot_cmp x t ≡ Less) slots → AllByRecursion (λ t. slot_cmp s t ≡ Less) slots
 before_all s x [] l h = tt
 before_all s x (y ∷ slots) l h = (slots_total.trans s x y l h.0, before_all s x slots l h.1)
 
@@ -98,14 +98,14 @@ pub changed_ordered : (slots : List Slot) (s : Slot) (next : Option (Side × ℕ
 changed_ordered slots s next h = changed_by (has s slots) slots s next h
 
 -- what is removed at the place of an equal slot
-kept : (s y : Slot) (slots : List Slot) (o : Ordering) → slot_cmp y s ≡ o → is_eq o ≡ false → without s (y ∷ slots) ≡ y ∷ without s slots
+pub kept : (s y : Slot) (slots : List Slot) (o : Ordering) → slot_cmp y s ≡ o → is_eq o ≡ false → without s (y ∷ slots) ≡ y ∷ without s slots
 kept s y slots o e f = ap (λ b. cond (not (is_eq b)) (y ∷ without s slots) (without s slots)) e ∙ ap (λ b. cond (not b) (y ∷ without s slots) (without s slots)) f
 
-all_kept : (s : Slot) (slots : List Slot) → AllByRecursion (λ t. slot_cmp s t ≡ Less) slots → without s slots ≡ slots
+pub all_kept : (s : Slot) (slots : List Slot) → AllByRecursion (λ t. slot_cmp s t ≡ Less) slots → without s slots ≡ slots
 all_kept s [] h = refl
 all_kept s (y ∷ slots) h = kept s y slots Greater (lower s y h.0) refl ∙ ap (λ l. y ∷ l) (all_kept s slots h.1)
 
-same_before : (s x : Slot) (slots : List Slot) → slot_cmp x s ≡ Equal → AllByRecursion (λ t. slot_cmp x t ≡ Less) slots → AllByRecursion (λ t. slot_cmp s t ≡ Less) slots
+pub same_before : (s x : Slot) (slots : List Slot) → slot_cmp x s ≡ Equal → AllByRecursion (λ t. slot_cmp x t ≡ Less) slots → AllByRecursion (λ t. slot_cmp s t ≡ Less) slots
 same_before s x [] e h = tt
 same_before s x (y ∷ slots) e h = (sym (slots_total.congr x s y e) ∙ h.0, same_before s x slots e h.1)
 

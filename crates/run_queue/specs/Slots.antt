@@ -46,6 +46,10 @@ without s slots = filter (λ t. not (is_eq (slot_cmp t s))) slots
 abbrev pub changed : Slot → Option (Side × ℕ) → List Slot → List Slot
 changed s next slots = cond (has s slots) (put (without s slots) (with_next s next)) slots
 
+-- where one stands at the slot's place, it is that slot
+abbrev pub Stands : Slot → List Slot → Type 0
+Stands s slots = AllByRecursion (λ t. slot_cmp t s ≡ Equal → t ≡ s) slots
+
 -- without the slots of a query
 abbrev pub without_query : ℕ → List Slot → List Slot
 without_query query slots = filter (λ s. not (s.query == query)) slots

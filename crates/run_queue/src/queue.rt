@@ -2,7 +2,7 @@
 ghost use Rattle.std.specs.Prelude.{◌≡◌, ◌↔◌, ◌<◌, [], Some, IfErr, IfOk, IsTrue, MatchOption};
 ghost use Rattle.std.specs.Prelude.{OnErr, OnOk, length};
 ghost use Rattle.run_queue.specs.Slots.{AreIdle, IsAt, IsBetween, IsFound, IsMissing, IsSteepest};
-ghost use Rattle.run_queue.specs.Slots.{changed, first_of, put, slot_cmp, without_query};
+ghost use Rattle.run_queue.specs.Slots.{Stands, changed, first_of, put, slot_cmp, without_query};
 ghost use Rattle.std.specs.List.{HoldsAt, insert, remove};
 ghost use Rattle.std.specs.declared.cmp.Ordering.TheVariants.{Greater, Less};
 ghost use Rattle.std.specs.List.Sorted.{IsStrictlySortedBy};
@@ -12,6 +12,9 @@ use crate::slots::Slot;
 use column::Side;
 use std::alloc::{AllocError, Global};
 use std::marker::Model;
+
+/// How many slots are looked at before one is searched for.
+const FRONT: usize = 3;
 
 /// Slots of operators, each once, in their order.
 #[derive(Drop)]
@@ -73,17 +76,23 @@ impl RunQueue {
     /// Gives the slot's operator what it may take next, or nothing. Takes no memory, and moves only
     /// the slots between its old place and its new one; where the slot is not in the queue nothing
     /// changes.
-    #[tactic(auto, using(crate::proofs::SlotLemmas::without_ordered, crate::proofs::SlotLemmas::put_ordered))]
+    #[tactic(auto, using(crate::proofs::SlotLemmas::changed_ordered))]
     pub fn change(&mut self, slot: Slot, next: Option<(Side, u64)>)
         ensures { self.new ≡ changed slot next self.old }
     {
-        if let Ok(at) = find(&self.slots, &slot) {
-            let changed = slot.with_next(next);
-            if changed.is_same(&slot) {
-                self.slots[at] = changed;
-            } else {
-                replace(&mut self.slots, at, changed);
-            }
+        change_slot(&mut self.slots, slot, next);
+    }
+
+    /// Like `change`, for a slot that is as it stands in the queue: where its operator may take
+    /// next what it could take before, nothing is done.
+    #[tactic(auto, using(crate::proofs::SlotLemmas::changed_ordered, crate::proofs::StandLemmas::changed_nothing))]
+    pub fn update(&mut self, slot: Slot, next: Option<(Side, u64)>)
+        requires { Stands slot self.old }
+        ensures { self.new ≡ changed slot next self.old }
+    {
+        let slots = &mut self.slots;
+        if !slot.has_next(next) {
+            change_slot(slots, slot, next);
         }
     }
 
@@ -96,7 +105,23 @@ impl RunQueue {
     }
 }
 
-/// Finds where the slot stands, or where it belongs. Where it is one of the first two, no search is
+/// Gives the slot's operator what it may take next, or nothing. Where it stays at its place it is
+/// written also, since the side may be another.
+fn change_slot(slots: &mut Vec<Slot>, slot: Slot, next: Option<(Side, u64)>)
+    requires { IsStrictlySortedBy slot_cmp slots.old.items }
+    ensures { slots.new.items ≡ changed slot next slots.old.items }
+{
+    if let Ok(at) = find(slots, &slot) {
+        let changed = slot.with_next(next);
+        if changed.is_same(&slot) {
+            slots[at] = changed;
+        } else {
+            replace(slots, at, changed);
+        }
+    }
+}
+
+/// Finds where the slot stands, or where it belongs. Where it is one of the first, no search is
 /// made: most of those that a drain changes are.
 #[tactic(auto, using(crate::proofs::SlotLemmas::found_there))]
 fn find(slots: &[Slot], slot: &Slot) -> Result<usize, usize>
@@ -104,11 +129,10 @@ fn find(slots: &[Slot], slot: &Slot) -> Result<usize, usize>
     ensures found { IfOk result (IsFound slots.now slot.now) }
     ensures missing { IfErr result (IsMissing slots.now slot.now) }
 {
-    if is_at(slots, 0, slot) {
-        return Ok(0);
-    }
-    if is_at(slots, 1, slot) {
-        return Ok(1);
+    for at in 0..FRONT {
+        if is_at(slots, at, slot) {
+            return Ok(at);
+        }
     }
     place_of(slots, slot)
 }

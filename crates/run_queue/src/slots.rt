@@ -61,6 +61,42 @@ impl Slot {
         }
     }
 
+    /// Whether this is what the operator may take next, or nothing is.
+    pub(crate) fn has_next(&self, next: Option<(Side, u64)>) -> bool
+        ensures { IsTrue result ↔ (with_next self.now next ≡ self.now) }
+    {
+        match next {
+            Some((side, instant)) => self.takes(side, instant),
+            None => self.takes_nothing(),
+        }
+    }
+
+    /// Whether the operator may take this next.
+    fn takes(&self, side: Side, instant: u64) -> bool
+        ensures { IsTrue result ↔ (with_next self.now (Some (side, instant)) ≡ self.now) }
+    {
+        if self.instant != instant {
+            return false;
+        }
+        if self.side != side {
+            return false;
+        }
+        !self.is_idle
+    }
+
+    /// Whether the operator may take nothing.
+    fn takes_nothing(&self) -> bool
+        ensures { IsTrue result ↔ (with_next self.now None ≡ self.now) }
+    {
+        if self.instant != 0 {
+            return false;
+        }
+        if self.side != Side::Left {
+            return false;
+        }
+        self.is_idle
+    }
+
     /// Whether the two stand at one place: they differ at most in their sides. Most are told apart
     /// by their operators.
     pub(crate) fn is_same(&self, other: &Slot) -> bool

@@ -1,4 +1,4 @@
-use Rattle.std.proofs.Common.{◌≡◌, ◌+◌, ◌≤◌, map, take, length, vec_len, vec_capacity}
+use Rattle.std.proofs.Common.{◌≡◌, ◌≤◌, map, take, vec_len, vec_capacity}
 use Rattle.group.specs.Cells.{figures, shown_figure}
 use Rattle.group.proofs.cells.write_row.Given as goal
 

@@ -1,6 +1,6 @@
 use Rattle.std.proofs.Common.{◌≡◌, ◌∙◌, ap, false, length, arith, rules, List, Option, ℤ}
 use Rattle.std.specs.Option.{is_some}
-use Rattle.group.specs.Cells.{Held, held, CellState, cell_zero}
+use Rattle.group.specs.Cells.{Held, held, cell_zero}
 use Rattle.group.specs.Keys.{IsShort}
 use Rattle.group.specs.Runs.{row_at_tick}
 use Rattle.group.proofs.RunLemmas.{swapped_absent}

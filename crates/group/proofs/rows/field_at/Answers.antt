@@ -1,4 +1,4 @@
-use Rattle.std.proofs.Common.{◌≡◌, ◌∙◌, ◌∷◌, [], ◌≤◌, ℤ, Option, None, List, get_or, sym, ap, arith}
+use Rattle.std.proofs.Common.{◌∙◌, ◌≤◌, ℤ, Option, None, List, get_or, sym, ap, arith}
 use Rattle.column.specs.Rows.{width}
 use Rattle.group.specs.Batches.{row_in}
 use Rattle.group.proofs.BatchLemmas.{other_field, past_field, own_field}

@@ -1,6 +1,6 @@
 use Rattle.std.proofs.Common.{◌≡◌, ◌∙◌, ◌∷◌, ◌++◌, [], List, length, ap, ap₂, rules}
 use Rattle.group.specs.Cells.{Held, CellState}
-use Rattle.group.specs.Keys.{KeyedState, in_set}
+use Rattle.group.specs.Keys.{in_set}
 use Rattle.group.proofs.ShortLemmas.{moved-all, moved-none, moved-one, moved-stay}
 use Rattle.group.proofs.keyed.Keyed.widened.Goals as goal
 

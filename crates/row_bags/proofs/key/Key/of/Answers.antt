@@ -1,7 +1,6 @@
-use Rattle.std.proofs.Common.{◌≡◌, ◌∙◌, Option, None, ℤ, replicate, ap, sym, arith}
+use Rattle.std.proofs.Common.{Option, None, ℤ, replicate}
 use Rattle.std.proofs.lemmas.List.{length-replicate}
-use Rattle.values.specs.Row.{Row}
-use Rattle.row_bags.proofs.KeyLemmas.{filled-next, filled-end, take-filled}
+use Rattle.row_bags.proofs.KeyLemmas.{filled-next}
 use Rattle.row_bags.proofs.key.Key.of.Goals as goal
 
 pub loop-place-preserved : goal.loop-place-preserved

@@ -1,4 +1,4 @@
-use Rattle.std.proofs.Common.{◌≡◌, ◌-◌, ◌++◌, Option, None, ℤ, length, take, drop, replicate}
+use Rattle.std.proofs.Common.{◌≡◌, ◌-◌, ◌++◌, None, length, take, drop, replicate}
 use Rattle.row_bags.proofs.KeyLemmas.{filled}
 use Rattle.row_bags.proofs.key.Key.of.Given as goal
 

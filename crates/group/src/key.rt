@@ -22,18 +22,28 @@ use values::{Column, MAX_COLUMNS, Row, Value};
 /// Most keys differ in the first value, so that one is compared before all others.
 #[derive(Drop)]
 pub(crate) struct Key<const N: usize> {
+    /// The first value; null where there is none.
+    first: Value,
     /// The values of Group By's columns, in order.
     values: ArrayVec<Value, N>,
 }
 
 impl<const N: usize> Model for Key<N> {
+    ghost use Rattle.std.specs.Prelude.{◌≡◌, sym, ap, Option, ℤ};
+    ghost use Rattle.values.specs.Row.{value_at};
     ghost use Rattle.group.specs.Cells.{Held};
+    ghost use Rattle.group.specs.declared.key.Key.TheInside.{Inside};
 
     ghost Value = { Held };
 
     ghost view = { λ k. k.values };
 
-    ghost inverse = { λ h. record { values = h } };
+    ghost invariant = { λ k. k.first ≡ value_at k.values.items 0 };
+
+    ghost inverse = { λ h. record { first = value_at h.items 0; values = h } };
+
+    ghost inverse_ok = { λ a h. let f : Option ℤ
+        → Inside = λ v. record { first = v; values = a.values } in ap f (sym h) };
 }
 
 impl<const N: usize> PartialEq for Key<N> {
@@ -70,36 +80,52 @@ impl<const N: usize> Ord for Key<N> {
     ghost matches_eq = { held_ties };
 
     fn cmp(&self, other: &Self) -> Ordering {
+        let first = self.first.cmp(&other.first);
+        if first != Ordering::Equal {
+            return first;
+        }
         compare(self.values.as_slice(), other.values.as_slice())
     }
 }
 
 /// Which values are first, column by column from the left.
 fn compare(a: &[Value], b: &[Value]) -> Ordering
+    requires { value_at a.now 0 ≡ value_at b.now 0 }
     ensures { result ≡ row_cmp a.now b.now }
 {
-    if a.is_empty() || b.is_empty() {
-        return a.cmp(&b);
-    }
-    let first = a[0].cmp(&b[0]);
-    if first != Ordering::Equal {
-        return first;
-    }
     if a.len() == 1 && b.len() == 1 {
         return Ordering::Equal;
     }
     a.cmp(&b)
 }
 
+/// The first of the values, null where there is none.
+fn first_of(values: &[Value]) -> Value
+    ensures { result ≡ value_at values.now 0 }
+{
+    match values.first() {
+        Some(value) => *value,
+        None => Value::null(),
+    }
+}
+
 impl<const N: usize> Key<N> {
+    /// The key with these values.
+    fn with(values: ArrayVec<Value, N>) -> Key<N>
+        ensures { result ≡ values }
+    {
+        Key {
+            first: first_of(values.as_slice()),
+            values,
+        }
+    }
+
     /// The key with these values.
     pub(crate) fn of(row: &Row) -> Key<N>
         requires { length row.now.items ≤ N }
         ensures { result ≡ row.now }
     {
-        Key {
-            values: copied(row),
-        }
+        Key::with(copied(row))
     }
 
     /// The key with these values; `None` where they are more than `N`.
@@ -109,7 +135,7 @@ impl<const N: usize> Key<N> {
         ensures none { IsNone result → N < length row.now.items }
     {
         match fitted(row) {
-            Some(values) => Some(Key { values }),
+            Some(values) => Some(Key::with(values)),
             None => None,
         }
     }
@@ -125,7 +151,7 @@ impl<const N: usize> Key<N> {
         for column in by {
             values.push(field_at(batch, place, *column));
         }
-        Key { values }
+        Key::with(values)
     }
 
     /// The same key again, in room for `M` values.
@@ -134,9 +160,7 @@ impl<const N: usize> Key<N> {
         ensures { result ≡ self.now }
     {
         let _ = self.values.as_slice();
-        Key {
-            values: copied(&self.values),
-        }
+        Key::with(copied(&self.values))
     }
 
     /// The key as a row.

@@ -16,7 +16,7 @@ use Rattle.std.proofs.lemmas.List.Sums.{sum_by-cons, sum_by-append}
 use Rattle.column.specs.Bits.{bits, place}
 use Rattle.std.proofs.Math.ListN.{drop}
 use Rattle.lane_kernels.proofs.SumLemmas.{within_add}
-use Rattle.std.proofs.lemmas.List.{get_or_past}
+use Rattle.std.proofs.lemmas.List.{get_or-map, get_or_past}
 use Rattle.std.proofs.lemmas.List.Elements.{All-map}
 use Rattle.column.specs.Rows.{IsTable, column_of as lane_of}
 use Rattle.values.specs.Condition.{field}
@@ -30,7 +30,7 @@ use Rattle.lane_kernels.specs.Truth.{signed_count, signed_total}
 use Rattle.group.specs.Groups.{GroupBy, key_in, no_columns}
 use Rattle.group.specs.Cells.{Held, held, held_cmp, TallyState, CellState, cell_zero, cell_after, keeps, number_of, signed_by, tally_by, tally_after, each, tallies_after, ReadsInRange}
 use Rattle.group.specs.Turns.{GroupState, has_key, cell_of, with_cell, taken_in, row_key, row_after, rows_after, CountsUpTo, KeepsRoom}
-use Rattle.group.specs.Batches.{rows_counted, leaving, fields, numbers_read, tally_values, tally_sums, tally_rows, AllInRange, batch_in}
+use Rattle.group.specs.Batches.{rows_counted, leaving, fields, numbers_read, tally_values, tally_sums, tally_rows, AllInRange, batch_in, row_in}
 use Rattle.group.proofs.KeyLemmas.{held_order, key_itself, lookup-insert_entry}
 use Rattle.group.proofs.RoomLemmas.{room_after, all_room_le}
 
@@ -58,6 +58,16 @@ past_columns c rs w e t h = All-map (λ v. v ≡ None) (λ s. field (s.1 ∷ [])
 pub own_fields : (c : Column) (rs : List (Bool × Row)) → c.source ≡ 0 → fields c rs ≡ lane_of rs c.column
 own_fields c [] e = refl
 own_fields c (s ∷ rs) e = ap₂ (λ (v : Option ℤ) (vs : List (Option ℤ)). v ∷ vs) (own_source c s.1 e) (own_fields c rs e)
+
+-- the same of the row at a place
+pub other_field : (c : Column) (r : Row) → (c.source ≡ 0 → ⊥) → field (r ∷ []) (column_of c) ≡ None
+other_field c r h = no_source c.source c.column r h
+
+pub past_field : (c : Column) (rs : List (Bool × Row)) (k w : ℕ) → c.source ≡ 0 → IsTable w rs → k < length rs → w ≤ c.column → field ((row_in rs k).1 ∷ []) (column_of c) ≡ None
+past_field c rs k w e t lt h = own_source c (row_in rs k).1 e ∙ get_or_past (row_in rs k).1 c.column None (omega (arith, t k (true, []) lt, h))
+
+pub own_field : (c : Column) (rs : List (Bool × Row)) (k : ℕ) → c.source ≡ 0 → k < length rs → get_or (lane_of rs c.column) k None ≡ field ((row_in rs k).1 ∷ []) (column_of c)
+own_field c rs k e lt = get_or-map (λ (r : Bool × Row). value_at r.1 c.column) rs k (true, []) None lt ∙ sym (own_source c (row_in rs k).1 e)
 
 pub nulls_in_range : (vs : List (Option ℤ)) → All (λ v. v ≡ None) vs → All IsAnswerValue vs
 nulls_in_range vs h = λ k d lt. subst IsAnswerValue (sym (h k d lt)) tt

@@ -9,6 +9,7 @@ pub mod OutputLemmas
 pub mod FigureLemmas
 pub mod ValueLemmas
 pub mod StateLemmas
+pub mod SetLemmas
 pub mod LawLemmas
 pub mod DistinctLemmas
 pub mod BatchLemmas

@@ -72,3 +72,8 @@ moved-one n old rest ws news all p k split same put m =
 -- those that stay when one more goes over
 pub moved-stay : (n : ℕ) (old rest ws all : List (Held × CellState)) (p : Held × CellState) → old ≡ rest ++ p ∷ [] → Moved n old ws all → Short n rest
 moved-stay n old rest ws all p split m = short-front n rest (p ∷ []) (subst (Short n) split (moved-left n old ws all m))
+
+-- where none are left, all went over
+pub moved-all : (n : ℕ) (rest ws all : List (Held × CellState)) → length rest ≡ 0 → Moved n rest ws all → ws ≡ all
+moved-all n [] ws all none m = m.same
+moved-all n (e ∷ rest) ws all none m = absurd (omega (arith, none))

@@ -1,8 +1,12 @@
 -- The tallies of a group, one after the other.
-use Rattle.std.proofs.Common.{◌≡◌, ℕ, ℤ, zero, suc, ◌<◌, List, [], ◌∷◌, ◌++◌, take, length, get_or, refl, ap, arith, slice_set, Bool, true, false, nat_lt, ltb-true, ltb-false, subst, min}
+use Rattle.std.proofs.Common.{◌≡◌, ℕ, ℤ, zero, suc, ◌<◌, ◌≤◌, map, List, [], ◌∷◌, ◌++◌, take, length, get_or, refl, ap, arith, slice_set, Bool, true, false, not, nat_lt, ltb-true, ltb-false, subst, min}
 use Rattle.values.specs.Row.{Row}
 use Rattle.values.specs.declared.resolved.ListItem.{ListItem}
-use Rattle.group.specs.Cells.{TallyState, partly, figure, figures}
+use Rattle.group.specs.Cells.{TallyState, partly, figure, figures, shown_figure}
+
+pub not_not : (b : Bool) → not (not b) ≡ b
+not_not true = refl
+not_not false = refl
 
 pub partly-at : (f : ListItem → TallyState → TallyState) (p : ℕ) (is : List ListItem) (ts : List TallyState) (d : TallyState) → get_or (partly f p is ts) p d ≡ get_or ts p d
 partly-at f zero is ts d = refl
@@ -45,3 +49,12 @@ below_more P p h at k lt = here (nat_lt k p) refl
     here : (b : Bool) → nat_lt k p ≡ b → P k
     here true e = h k (ltb-true k p e)
     here false e = let same : p ≡ k = omega (arith, lt, ltb-false k p e) in subst P same at
+
+-- the row that the figures are shown as has at most as many values as the list has items
+row_few : (k : Row) (n : ℤ) (is : List ListItem) (ts : List TallyState) → length (map shown_figure (figures k n is ts)) ≤ length is
+row_few k n [] ts = omega arith
+row_few k n (i ∷ is) [] = omega arith
+row_few k n (i ∷ is) (t ∷ ts) = omega (arith, row_few k n is ts)
+
+pub row_within : (vs k : Row) (n : ℤ) (is : List ListItem) (ts : List TallyState) (m : ℕ) → vs ≡ map shown_figure (figures k n is ts) → length is ≤ m → length vs ≤ m
+row_within vs k n is ts m e h = omega (arith, ap (λ (us : Row). length us) e, row_few k n is ts, h)

@@ -1,5 +1,5 @@
 -- A batch of rows of one group, column by column.
-use Rattle.std.specs.Prelude.{ℕ, ◌<◌, ℤ, pos, ◌+ℤ◌, Bool, not, Option, List, [], ◌∷◌, map, length, get_or, All, fold}
+use Rattle.std.specs.Prelude.{ℕ, ◌<◌, ℤ, pos, ◌+ℤ◌, Bool, not, Option, List, [], ◌∷◌, map, length, get_or, slice_index_or, true, All, fold}
 use Rattle.values.specs.Row.{Row}
 use Rattle.values.specs.Value.{IsAnswerValue}
 use Rattle.values.specs.Condition.{field}
@@ -10,6 +10,10 @@ use Rattle.values.specs.declared.resolved.ListItem.TheVariants.{Key}
 use Rattle.lane_kernels.specs.Truth.{signed_count, signed_total}
 use Rattle.group.specs.Cells.{Held, TallyState, number_of, signed_by, tally_by, tally_after, CellState, cell_zero, cell_after}
 use Rattle.group.specs.Turns.{cell_of, with_cell}
+
+-- the row at a place of a batch
+abbrev pub row_in : List (Bool × Row) → ℕ → Bool × Row
+row_in rs k = slice_index_or rs k (true, [])
 
 -- how many rows enter, those that leave taken away
 abbrev pub rows_counted : List (Bool × Row) → ℤ

@@ -1,10 +1,11 @@
 -- What touched groups are compared by.
-use Rattle.std.specs.Prelude.{ℤ, Bool, Option}
-use Rattle.std.specs.Cmp.{IsEquivalence, and_equiv, int_eq_equiv, on_equiv}
-use Rattle.std.specs.Cmp.Lexicographic.{lists_equiv, options_equiv, pointwise}
+use Rattle.std.specs.Prelude.{◌≡◌, ℤ, Bool, Option, Some, None, refl}
+use Rattle.std.specs.Cmp.{IsEquivalence, IsTotalOrder, and_equiv, int_cmp_total, int_eq_equiv, on_equiv, on_total}
+use Rattle.std.specs.Cmp.Lexicographic.{lists_equiv, lists_ties, lists_total, options_equiv, options_total, pointwise}
 use Rattle.std.specs.Option.{option_eq}
-use Rattle.std.specs.Ordering.{eq_of_both, int_eq, on}
-use Rattle.group.specs.Cells.{Held}
+use Rattle.std.specs.Ordering.{eq_by_cmp, eq_of_both, int_eq, on}
+use Rattle.values.specs.Row.{value_cmp}
+use Rattle.group.specs.Cells.{Held, held_cmp}
 use Rattle.group.specs.Turns.{TouchedState}
 use Rattle.group.specs.declared.cells.Figure.{Figure}
 
@@ -26,7 +27,7 @@ touched_eq =
 value_equiv : IsEquivalence value_eq
 value_equiv = options_equiv int_eq_equiv
 
-held_equiv : IsEquivalence held_eq
+pub held_equiv : IsEquivalence held_eq
 held_equiv = on_equiv (λ h. h.items) (lists_equiv value_equiv)
 
 figure_equiv : IsEquivalence figure_eq
@@ -37,3 +38,16 @@ pub touched_equiv : IsEquivalence touched_eq
 touched_equiv =
     and_equiv (on_equiv (λ t. t.key) held_equiv)
     (and_equiv (on_equiv (λ t. t.shown) (options_equiv held_equiv)) (and_equiv (on_equiv (λ t. t.rows) int_eq_equiv) (on_equiv (λ t. t.figures) (lists_equiv figure_equiv))))
+
+-- keys are equal just where neither is before the other
+value_ties : (v w : Option ℤ) → value_eq v w ≡ eq_by_cmp value_cmp v w
+value_ties None None = refl
+value_ties None (Some z) = refl
+value_ties (Some y) None = refl
+value_ties (Some y) (Some z) = refl
+
+pub held_ties : (a b : Held) → held_eq a b ≡ eq_by_cmp held_cmp a b
+held_ties a b = lists_ties value_cmp value_ties a.items b.items
+
+pub held_total : IsTotalOrder held_cmp
+held_total = on_total (λ h. h.items) (lists_total (options_total int_cmp_total))

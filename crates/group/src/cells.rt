@@ -10,7 +10,6 @@ ghost use Rattle.std.specs.Map.{set_value, values_of};
 ghost use Rattle.std.specs.List.{All};
 ghost use Rattle.values.specs.Row.{value_cmp, value_at};
 ghost use Rattle.values.specs.Value.{IsAnswerValue};
-ghost use Rattle.column.specs.Rows.{signed};
 ghost use Rattle.lane_kernels.specs.Lanes.{IsWithin};
 ghost use Rattle.group.specs.Cells.{count_of, one_more, one_less, values_by, number_of, keeps};
 ghost use Rattle.group.specs.Cells.{signed_by, tally_zero, tally_by, partly, tallies_after};
@@ -20,35 +19,40 @@ ghost use Rattle.group.specs.Cells.{value_figure, keeping, TallyRoom, CellRoom, 
 ghost use Rattle.column.specs.Bits.{bits, word_count, place as place_of};
 ghost use Rattle.column.specs.Columns.{IsStreamValue};
 ghost use Rattle.group.specs.Batches.{rows_counted, leaving, fields, tally_values, tally_sums};
-ghost use Rattle.group.specs.Batches.{tally_rows, numbers_read, AllInRange};
+ghost use Rattle.group.specs.Batches.{tally_rows, numbers_read, AllInRange, row_in};
 ghost use Rattle.std.specs.Option.{is_some, option_map};
 ghost use Rattle.values.specs.Row.{same_row};
 ghost use Rattle.values.specs.declared.TheConstants.{MAX_COLUMNS};
 ghost use Rattle.group.specs.Cells.{held, shown_figure};
-ghost use Rattle.group.specs.Turns.{same_shown, signed_row};
+ghost use Rattle.group.specs.Turns.{same_shown, signed_row, swap_of};
+ghost use Rattle.group.specs.Groups.{no_columns};
+ghost use Rattle.std.specs.Prelude.{◌||◌};
+ghost use Rattle.std.specs.Ordering.{int_cmp, is_lt};
 ghost use Rattle.group.specs.Runs.{put_out, row_at_tick, with_rows};
 
 use crate::outgoing::Outgoing;
-use crate::rows::{field_of, row_with, written};
+use crate::rows::{enters, field_at, row_with, value_in};
 use crate::shape::GroupBy;
-use column::{Batch, Column as Lane, SignedRow};
+use column::{Batch, Column as Lane};
 use lane_kernels::{count_set, count_signed, sum_signed};
 use std::alloc::{AllocError, Global};
 use std::collections::BTreeMap;
 use std::marker::Model;
-use values::{Column, ListItem, Row, Value, value_at};
+use std::mem;
+use values::{Column, ListItem, Row, Value};
 
-/// The number that an item reads in a row; null where it reads none.
-fn number_of(item: ListItem, row: &Row) -> Value
-    ensures { result ≡ number_of item row.now.items }
+/// The number that an item reads in a row of a batch; null where it reads none.
+fn number_at(item: ListItem, batch: &Batch, place: usize) -> Value
+    requires { place < length batch.now }
+    ensures { result ≡ number_of item (row_in batch.now place).1 }
 {
     match item {
         ListItem::Key(_) => Value::null(),
         ListItem::CountAll => Value::null(),
-        ListItem::Count(column) => field_of(row, column),
-        ListItem::Sum(column) => field_of(row, column),
-        ListItem::Min(column) => field_of(row, column),
-        ListItem::Max(column) => field_of(row, column),
+        ListItem::Count(column) => field_at(batch, place, column),
+        ListItem::Sum(column) => field_at(batch, place, column),
+        ListItem::Min(column) => field_at(batch, place, column),
+        ListItem::Max(column) => field_at(batch, place, column),
     }
 }
 
@@ -306,11 +310,11 @@ impl Tally {
     }
 
     /// The exact figure of an item of the list, in a group with this key and so many rows.
-    fn figure(&self, item: ListItem, key: &Row, rows: i64) -> Figure
-        ensures { result ≡ figure key.now.items rows item self.now }
+    fn figure(&self, item: ListItem, key: &[Value], rows: i64) -> Figure
+        ensures { result ≡ figure key.now rows item self.now }
     {
         match item {
-            ListItem::Key(column) => value_figure(value_at(key, column)),
+            ListItem::Key(column) => value_figure(value_in(key, column)),
             ListItem::CountAll => number_figure(rows as i128),
             ListItem::Count(_) => number_figure(self.numbers as i128),
             ListItem::Sum(_) => sum_figure(self.numbers, self.total),
@@ -419,21 +423,24 @@ impl Model for Cell {
     ghost invariant = { λ c. IfSome c.shown (λ values. length values.items ≤ MAX_COLUMNS) };
 }
 
-/// A row enters or leaves: each tally takes it.
+/// A row of a batch enters or leaves: each tally takes it.
 fn take_tallies(
     tallies: &mut Vec<Tally>,
     items: &[ListItem],
-    row: &SignedRow,
+    batch: &Batch,
+    place: usize,
 ) -> Result<(), AllocError>
+    requires within { place < length batch.now }
     requires aligned { length tallies.old.items ≡ length items.now }
     requires room { All (TallyRoom (2 ^ 62 + 1024)) tallies.old.items }
     ensures tallies { OnOk result (tallies.new.items
-        ≡ tallies_after (signed row.now) items.now tallies.old.items) }
-    ensures range { OnOk result (ReadsInRange items.now (signed row.now)) }
+        ≡ tallies_after (row_in batch.now place) items.now tallies.old.items) }
+    ensures range { OnOk result (ReadsInRange items.now (row_in batch.now place)) }
 {
-    for place in 0..items.len() {
-        let item = items[place];
-        tallies[place].take(row.enters, keeps(item), number_of(item, &row.row))?;
+    let enters = enters(batch, place);
+    for i in 0..items.len() {
+        let item = items[i];
+        tallies[i].take(enters, keeps(item), number_at(item, batch, place))?;
     }
     Ok(())
 }
@@ -485,11 +492,11 @@ fn figures_of(
     alloc: Global,
     tallies: &[Tally],
     items: &[ListItem],
-    key: &Row,
+    key: &[Value],
     rows: i64,
 ) -> Result<Vec<Figure>, AllocError>
     ensures figures { IfOk result (λ fs. fs.items
-        ≡ figures key.now.items rows items.now tallies.now) }
+        ≡ figures key.now rows items.now tallies.now) }
     ensures few { IfOk result (λ fs. length fs.items ≤ length items.now) }
 {
     let count = items.len().min(tallies.len());
@@ -500,38 +507,43 @@ fn figures_of(
     Ok(figures)
 }
 
-/// The row that the figures of a group are shown as.
-fn row_shown(tallies: &[Tally], items: &[ListItem], key: &Row, rows: i64) -> Row
-    requires { length items.now ≤ MAX_COLUMNS }
-    ensures { result
-        ≡ held (map shown_figure (figures key.now.items rows items.now tallies.now)) }
+/// Writes the row that the figures of a group are shown as, in just as much room as it needs
+/// where there was less.
+fn write_row(
+    row: &mut Vec<Value>,
+    tallies: &[Tally],
+    items: &[ListItem],
+    key: &[Value],
+    rows: i64,
+) -> Result<(), AllocError>
+    ensures { OnOk result (row.new.items
+        ≡ map shown_figure (figures key.now rows items.now tallies.now)) }
 {
     let count = items.len().min(tallies.len());
-    let mut row = Row::new();
+    row.clear();
+    row.reserve_exact(count)?;
     for place in 0..count {
-        row.push(tallies[place].figure(items[place], key, rows).shown());
+        row.push_reserved(tallies[place].figure(items[place], key, rows).shown());
     }
-    row
+    Ok(())
 }
 
-/// Whether the row has just these values.
-fn has_values(values: &[Value], row: &Row) -> bool
-    ensures { result ≡ same_row values.now row.now.items }
-{
-    values == row.as_slice()
-}
-
-/// Whether the row is the one that was shown.
-fn is_shown(shown: &Option<Vec<Value>>, row: &Option<Row>) -> bool
-    ensures { result ≡ same_shown (option_map (λ values. held values.items) shown.now) row.now }
+/// Whether the row with these values is the one that was shown.
+fn is_shown(shown: &Option<Vec<Value>>, row: &[Value]) -> bool
+    ensures { result ≡ same_shown (option_map (λ values. held values.items) shown.now)
+        (Some (held row.now)) }
 {
     match shown {
-        Some(values) => match row {
-            Some(row) => has_values(values, row),
-            None => false,
-        },
-        None => row.is_none(),
+        Some(values) => has_values(values, row),
+        None => false,
     }
+}
+
+/// Whether the values are the same.
+fn has_values(values: &[Value], row: &[Value]) -> bool
+    ensures { result ≡ same_row values.now row.now }
+{
+    values == row
 }
 
 /// The row that was shown leaves, if there is one.
@@ -545,14 +557,24 @@ fn put_shown(shown: &Option<Vec<Value>>, rows: &mut Outgoing) -> Result<(), Allo
     }
 }
 
-/// The row enters, if there is one.
-fn put_row(row: &Option<Row>, rows: &mut Outgoing) -> Result<(), AllocError>
-    ensures { OnOk result (rows.new
-        ≡ with_rows rows.old (signed_row true rows.old.width row.now)) }
+/// The values of the row, in the room of others where it is enough, else in just as much as they
+/// need.
+fn written(others: Option<Vec<Value>>, alloc: Global, row: &Row) -> Result<Vec<Value>, AllocError>
+    ensures values { IfOk result (λ values. values.items ≡ row.now.items) }
+    ensures few { IfOk result (λ values. length values.items ≤ MAX_COLUMNS) }
 {
-    match row {
-        Some(row) => rows.push(true, row.as_slice()),
-        None => Ok(()),
+    let mut values = room_of(others, alloc);
+    values.clear();
+    values.reserve_exact(row.len())?;
+    values.extend_from_slice(row.as_slice())?;
+    Ok(values)
+}
+
+/// The room of the values, if there are any.
+fn room_of(values: Option<Vec<Value>>, alloc: Global) -> Vec<Value> {
+    match values {
+        Some(values) => values,
+        None => Vec::new(alloc),
     }
 }
 
@@ -572,14 +594,21 @@ impl Cell {
         })
     }
 
-    /// A row of the group enters or leaves.
-    pub(crate) fn take(&mut self, items: &[ListItem], row: &SignedRow) -> Result<(), AllocError>
-        requires { CellRoom (2 ^ 62 + 1024) items.now self.old }
-        ensures cell { OnOk result (self.new ≡ cell_after items.now self.old (signed row.now)) }
-        ensures range { OnOk result (ReadsInRange items.now (signed row.now)) }
+    /// A row of a batch, which is of the group, enters or leaves.
+    pub(crate) fn take(
+        &mut self,
+        items: &[ListItem],
+        batch: &Batch,
+        place: usize,
+    ) -> Result<(), AllocError>
+        requires within { place < length batch.now }
+        requires room { CellRoom (2 ^ 62 + 1024) items.now self.old }
+        ensures cell { OnOk result (self.new
+            ≡ cell_after items.now self.old (row_in batch.now place)) }
+        ensures range { OnOk result (ReadsInRange items.now (row_in batch.now place)) }
     {
-        take_tallies(&mut self.tallies, items, row)?;
-        self.rows = counted(self.rows, row.enters);
+        take_tallies(&mut self.tallies, items, batch, place)?;
+        self.rows = counted(self.rows, enters(batch, place));
         Ok(())
     }
 
@@ -598,11 +627,7 @@ impl Cell {
     pub(crate) fn show(&mut self, alloc: Global, row: &Row) -> Result<(), AllocError>
         ensures { OnOk result (self.new ≡ showing self.old (Some row.now)) }
     {
-        let values = match self.shown.take() {
-            Some(values) => values,
-            None => Vec::new(alloc),
-        };
-        self.shown = Some(written(values, row)?);
+        self.shown = Some(written(self.shown.take(), alloc, row)?);
         Ok(())
     }
 
@@ -611,10 +636,10 @@ impl Cell {
         &self,
         alloc: Global,
         items: &[ListItem],
-        key: &Row,
+        key: &[Value],
     ) -> Result<Vec<Figure>, AllocError>
         ensures figures { IfOk result (λ fs. fs.items
-            ≡ figures key.now.items self.now.rows items.now self.now.tallies) }
+            ≡ figures key.now self.now.rows items.now self.now.tallies) }
         ensures few { IfOk result (λ fs. length fs.items ≤ length items.now) }
     {
         let figures = figures_of(alloc, &self.tallies, items, key, self.rows)?;
@@ -638,38 +663,63 @@ impl Cell {
         }
     }
 
-    /// The row that the group shows from this tick on.
-    fn row_at_tick(&self, group: &GroupBy, key: &Row) -> Option<Row>
-        ensures { result ≡ row_at_tick group.now key.now self.now }
+    /// The row that was shown leaves and none enters.
+    fn show_none(&mut self, rows: &mut Outgoing) -> Result<(), AllocError>
+        ensures cell { OnOk result (self.new ≡ showing self.old None) }
+        ensures rows { OnOk result (rows.new ≡ with_rows rows.old
+            (swap_of rows.old.width self.old.shown None)) }
     {
-        if group.is_whole() || 0 < self.rows {
-            Some(row_shown(&self.tallies, group.items(), key, self.rows))
-        } else {
-            None
-        }
+        put_shown(&self.shown, rows)?;
+        self.shown = None;
+        Ok(())
     }
 
-    /// The row that was shown leaves and the other enters; it is the one that was shown last.
+    /// The row that was shown leaves and the other enters; it is the one that was shown last. Its
+    /// room and that of the one before change places.
     fn show_other(
         &mut self,
         alloc: Global,
-        row: &Option<Row>,
+        row: &mut Vec<Value>,
         rows: &mut Outgoing,
     ) -> Result<(), AllocError>
-        ensures cell { OnOk result (self.new ≡ showing self.old row.now) }
+        requires { length row.old.items ≤ MAX_COLUMNS }
+        ensures cell { OnOk result (self.new ≡ showing self.old (Some (held row.old.items))) }
         ensures rows { OnOk result (rows.new ≡ with_rows rows.old
             (signed_row false rows.old.width self.old.shown
-            ++ signed_row true rows.old.width row.now)) }
+            ++ signed_row true rows.old.width (Some (held row.old.items)))) }
     {
         put_shown(&self.shown, rows)?;
-        put_row(row, rows)?;
-        match row {
-            Some(row) => self.show(alloc, row),
-            None => {
-                self.shown = None;
-                Ok(())
-            }
+        rows.push(true, row)?;
+        let room = room_of(self.shown.take(), alloc);
+        self.shown = Some(mem::replace(row, room));
+        Ok(())
+    }
+
+    /// The row with these values is the one that is shown: where it was not, the one that was
+    /// leaves and it enters.
+    fn show_now(
+        &mut self,
+        alloc: Global,
+        row: &mut Vec<Value>,
+        rows: &mut Outgoing,
+    ) -> Result<(), AllocError>
+        requires { length row.old.items ≤ MAX_COLUMNS }
+        ensures cell { OnOk result (self.new ≡ showing self.old (Some (held row.old.items))) }
+        ensures rows { OnOk result (rows.new ≡ with_rows rows.old
+            (swap_of rows.old.width self.old.shown (Some (held row.old.items)))) }
+    {
+        if is_shown(&self.shown, row) {
+            return Ok(());
         }
+        self.show_other(alloc, row, rows)?;
+        Ok(())
+    }
+
+    /// Whether the group has a row to show.
+    fn has_row(&self, group: &GroupBy) -> bool
+        ensures { result ≡ (no_columns group.now.by || is_lt (int_cmp (pos 0) self.now.rows)) }
+    {
+        group.is_whole() || 0 < self.rows
     }
 
     /// A tick: where the row that the group shows from now on is not the one that was shown, that
@@ -678,20 +728,23 @@ impl Cell {
         &mut self,
         alloc: Global,
         group: &GroupBy,
-        key: &Row,
+        key: &[Value],
+        spare: &mut Vec<Value>,
         rows: &mut Outgoing,
     ) -> Result<bool, AllocError>
         ensures some { IfOk result (λ some. some
-            ≡ is_some (row_at_tick group.now key.now self.old)) }
+            ≡ is_some (row_at_tick group.now (held key.now) self.old)) }
         ensures cell { OnOk result (self.new
-            ≡ showing self.old (row_at_tick group.now key.now self.old)) }
-        ensures rows { OnOk result (rows.new ≡ put_out group.now key.now self.old rows.old) }
+            ≡ showing self.old (row_at_tick group.now (held key.now) self.old)) }
+        ensures rows { OnOk result (rows.new
+            ≡ put_out group.now (held key.now) self.old rows.old) }
     {
-        let row = self.row_at_tick(group, key);
-        if is_shown(&self.shown, &row) {
-            return Ok(row.is_some());
+        if !self.has_row(group) {
+            self.show_none(rows)?;
+            return Ok(false);
         }
-        self.show_other(alloc, &row, rows)?;
-        Ok(row.is_some())
+        write_row(spare, &self.tallies, group.items(), key, self.rows)?;
+        self.show_now(alloc, spare, rows)?;
+        Ok(true)
     }
 }

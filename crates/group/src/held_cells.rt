@@ -1,26 +1,28 @@
 //! The groups by key, in as little room as their keys need.
 
-ghost use Rattle.std.specs.Prelude.{◌≡◌, ◌≤◌, ◌+◌, ◌^◌, [], length, IfOk, OnOk};
+ghost use Rattle.std.specs.Prelude.{◌≡◌, ◌≤◌, ◌<◌, ◌+◌, ◌^◌, [], length, fold, IfOk, OnOk};
 ghost use Rattle.std.specs.BTreeMap.{is_at};
+ghost use Rattle.std.specs.BTreeSet.{insert_key};
 ghost use Rattle.std.specs.Map.{remove_entry};
-ghost use Rattle.column.specs.Rows.{signed};
-ghost use Rattle.group.specs.Batches.{AllInRange, batch_in};
+ghost use Rattle.group.specs.Batches.{AllInRange, batch_in, row_in};
 ghost use Rattle.group.specs.Cells.{held_cmp, CellRoom, ReadsInRange};
-ghost use Rattle.group.specs.Rooms.{cells_in, room_of};
-ghost use Rattle.group.specs.Turns.{cell_of, taken_in, shown_in, excerpt};
-ghost use Rattle.group.specs.Runs.{put_out, swapped};
+ghost use Rattle.group.specs.Rooms.{kept_in, cells_in, touched_in, room_of};
+ghost use Rattle.group.specs.Turns.{cell_of, taken_in, shown_in, row_key, near_at, outputs};
+ghost use Rattle.group.specs.Turns.{shown_after};
+ghost use Rattle.group.specs.Runs.{OutgoingState, changes_at, with_rows};
 
 use crate::keyed::Keyed;
 use crate::outgoing::Outgoing;
 use crate::shape::GroupBy;
 use crate::turn::Touched;
-use column::{Batch, SignedRow};
+use column::Batch;
 use std::alloc::{AllocError, Global};
 use values::{ListItem, MAX_COLUMNS, Row};
 
-/// What is kept of each group, by how many values a key may have.
+/// What is kept of the groups, by how many values a key may have.
 #[derive(Drop)]
 pub(crate) enum HeldCells {
+    One(Keyed<1>),
     Two(Keyed<2>),
     Four(Keyed<4>),
     Eight(Keyed<8>),
@@ -31,11 +33,12 @@ impl HeldCells {
     /// No groups, with room for keys of `width` values.
     pub(crate) fn new(alloc: Global, width: usize) -> HeldCells
         requires { width ≤ MAX_COLUMNS }
-        ensures cells { cells_in result ≡ [] }
+        ensures kept { kept_in result ≡ record { cells = []; touched = [] } }
         ensures room { width ≤ room_of result }
     {
         match width {
-            0..=2 => HeldCells::Two(Keyed::new(alloc)),
+            0..=1 => HeldCells::One(Keyed::new(alloc)),
+            2 => HeldCells::Two(Keyed::new(alloc)),
             3..=4 => HeldCells::Four(Keyed::new(alloc)),
             5..=8 => HeldCells::Eight(Keyed::new(alloc)),
             _ => HeldCells::Widest(Keyed::new(alloc)),
@@ -47,6 +50,7 @@ impl HeldCells {
         ensures { result ≡ room_of self.now }
     {
         match self {
+            HeldCells::One(_) => 1,
             HeldCells::Two(_) => 2,
             HeldCells::Four(_) => 4,
             HeldCells::Eight(_) => 8,
@@ -56,9 +60,10 @@ impl HeldCells {
 
     /// All groups with the greatest room. After an error some may be lost.
     fn widened(&mut self, alloc: Global) -> Result<Keyed<MAX_COLUMNS>, AllocError>
-        ensures { IfOk result (λ wider. wider ≡ cells_in self.old) }
+        ensures { IfOk result (λ wider. wider ≡ kept_in self.old) }
     {
         match self {
+            HeldCells::One(keyed) => keyed.widened(alloc),
             HeldCells::Two(keyed) => keyed.widened(alloc),
             HeldCells::Four(keyed) => keyed.widened(alloc),
             HeldCells::Eight(keyed) => keyed.widened(alloc),
@@ -70,7 +75,7 @@ impl HeldCells {
     /// memory. After an error some may be lost.
     fn make_room(&mut self, alloc: Global, width: usize) -> Result<(), AllocError>
         requires { width ≤ MAX_COLUMNS }
-        ensures cells { OnOk result (cells_in self.new ≡ cells_in self.old) }
+        ensures kept { OnOk result (kept_in self.new ≡ kept_in self.old) }
         ensures room { OnOk result (width ≤ room_of self.new) }
     {
         if self.room() < width {
@@ -79,30 +84,53 @@ impl HeldCells {
         Ok(())
     }
 
-    /// A row of a group that may be kept.
-    pub(crate) fn take_in(
-        &mut self,
-        alloc: Global,
-        items: &[ListItem],
-        key: &Row,
-        row: &SignedRow,
-    ) -> Result<(), AllocError>
-        requires { CellRoom (2 ^ 62 + 1024) items.now
-            (cell_of (length items.now) key.now (cells_in self.old)) }
-        ensures cells { OnOk result (cells_in self.new
-            ≡ taken_in items.now key.now (signed row.now) (cells_in self.old)) }
-        ensures range { OnOk result (ReadsInRange items.now (signed row.now)) }
+    /// The group is touched.
+    pub(crate) fn touch(&mut self, alloc: Global, key: &Row) -> Result<(), AllocError>
+        ensures cells { OnOk result (cells_in self.new ≡ cells_in self.old) }
+        ensures touched { OnOk result
+            (touched_in self.new ≡ insert_key held_cmp (touched_in self.old) key.now) }
     {
         self.make_room(alloc, key.len())?;
         match self {
-            HeldCells::Two(keyed) => keyed.take_in(alloc, items, key, row),
-            HeldCells::Four(keyed) => keyed.take_in(alloc, items, key, row),
-            HeldCells::Eight(keyed) => keyed.take_in(alloc, items, key, row),
-            HeldCells::Widest(keyed) => keyed.take_in(alloc, items, key, row),
+            HeldCells::One(keyed) => keyed.touch(key),
+            HeldCells::Two(keyed) => keyed.touch(key),
+            HeldCells::Four(keyed) => keyed.touch(key),
+            HeldCells::Eight(keyed) => keyed.touch(key),
+            HeldCells::Widest(keyed) => keyed.touch(key),
         }
     }
 
-    /// A batch of rows of a group that may be kept.
+    /// A row of a group that may be kept: the group is touched.
+    pub(crate) fn take_in(
+        &mut self,
+        alloc: Global,
+        group: &GroupBy,
+        batch: &Batch,
+        place: usize,
+    ) -> Result<(), AllocError>
+        requires within { place < length batch.now }
+        requires room { CellRoom (2 ^ 62 + 1024) group.now.items
+            (cell_of (length group.now.items)
+            (row_key group.now (row_in batch.now place)) (cells_in self.old)) }
+        ensures cells { OnOk result (cells_in self.new ≡ taken_in group.now.items
+            (row_key group.now (row_in batch.now place)) (row_in batch.now place)
+            (cells_in self.old)) }
+        ensures touched { OnOk result (touched_in self.new
+            ≡ insert_key held_cmp (touched_in self.old)
+            (row_key group.now (row_in batch.now place))) }
+        ensures range { OnOk result (ReadsInRange group.now.items (row_in batch.now place)) }
+    {
+        self.make_room(alloc, group.by().len())?;
+        match self {
+            HeldCells::One(keyed) => keyed.take_in(alloc, group, batch, place),
+            HeldCells::Two(keyed) => keyed.take_in(alloc, group, batch, place),
+            HeldCells::Four(keyed) => keyed.take_in(alloc, group, batch, place),
+            HeldCells::Eight(keyed) => keyed.take_in(alloc, group, batch, place),
+            HeldCells::Widest(keyed) => keyed.take_in(alloc, group, batch, place),
+        }
+    }
+
+    /// A batch of rows of a group that may be kept: the group is touched.
     pub(crate) fn take_batch_in(
         &mut self,
         alloc: Global,
@@ -114,10 +142,13 @@ impl HeldCells {
             (cell_of (length items.now) key.now (cells_in self.old)) }
         ensures cells { OnOk result (cells_in self.new
             ≡ batch_in items.now key.now batch.now (cells_in self.old)) }
+        ensures touched { OnOk result
+            (touched_in self.new ≡ insert_key held_cmp (touched_in self.old) key.now) }
         ensures range { OnOk result (AllInRange items.now batch.now) }
     {
         self.make_room(alloc, key.len())?;
         match self {
+            HeldCells::One(keyed) => keyed.take_batch_in(alloc, items, key, batch),
             HeldCells::Two(keyed) => keyed.take_batch_in(alloc, items, key, batch),
             HeldCells::Four(keyed) => keyed.take_batch_in(alloc, items, key, batch),
             HeldCells::Eight(keyed) => keyed.take_batch_in(alloc, items, key, batch),
@@ -138,33 +169,11 @@ impl HeldCells {
     {
         self.make_room(alloc, key.len())?;
         match self {
+            HeldCells::One(keyed) => keyed.show_in(alloc, count, key, row),
             HeldCells::Two(keyed) => keyed.show_in(alloc, count, key, row),
             HeldCells::Four(keyed) => keyed.show_in(alloc, count, key, row),
             HeldCells::Eight(keyed) => keyed.show_in(alloc, count, key, row),
             HeldCells::Widest(keyed) => keyed.show_in(alloc, count, key, row),
-        }
-    }
-
-    /// A tick of a group that may be kept: it puts out what it has to and shows its row. One that
-    /// has no row to show is no longer kept.
-    pub(crate) fn swap_in(
-        &mut self,
-        alloc: Global,
-        group: &GroupBy,
-        key: &Row,
-        rows: &mut Outgoing,
-    ) -> Result<(), AllocError>
-        ensures cells { OnOk result (cells_in self.new
-            ≡ swapped group.now key.now (cells_in self.old)) }
-        ensures rows { OnOk result (rows.new ≡ put_out group.now key.now
-            (cell_of (length group.now.items) key.now (cells_in self.old)) rows.old) }
-    {
-        self.make_room(alloc, key.len())?;
-        match self {
-            HeldCells::Two(keyed) => keyed.swap_in(alloc, group, key, rows),
-            HeldCells::Four(keyed) => keyed.swap_in(alloc, group, key, rows),
-            HeldCells::Eight(keyed) => keyed.swap_in(alloc, group, key, rows),
-            HeldCells::Widest(keyed) => keyed.swap_in(alloc, group, key, rows),
         }
     }
 
@@ -173,6 +182,7 @@ impl HeldCells {
         ensures { cells_in self.new ≡ remove_entry (is_at (held_cmp key.now)) (cells_in self.old) }
     {
         match self {
+            HeldCells::One(keyed) => keyed.remove(key),
             HeldCells::Two(keyed) => keyed.remove(key),
             HeldCells::Four(keyed) => keyed.remove(key),
             HeldCells::Eight(keyed) => keyed.remove(key),
@@ -180,22 +190,62 @@ impl HeldCells {
         }
     }
 
-    /// What a touched group has to show, which may not be kept.
-    pub(crate) fn excerpt_at(
+    /// A tick of the touched groups, in the order of their keys: each puts out what it has to and
+    /// shows its row; one that has no row to show is no longer kept. None is touched from then on.
+    pub(crate) fn swap_touched(
+        &mut self,
+        alloc: Global,
+        group: &GroupBy,
+        rows: &mut Outgoing,
+    ) -> Result<(), AllocError>
+        requires { rows.old.width ≡ length group.now.items }
+        ensures cells { OnOk result (cells_in self.new
+            ≡ fold (shown_after (length group.now.items)) (cells_in self.old)
+            (changes_at group.now (cells_in self.old) (touched_in self.old))) }
+        ensures touched { OnOk result (touched_in self.new ≡ []) }
+        ensures rows { OnOk result (rows.new ≡ with_rows rows.old
+            (outputs group.now
+            (near_at group.now.items (cells_in self.old) (touched_in self.old)))) }
+    {
+        match self {
+            HeldCells::One(keyed) => keyed.swap_touched(alloc, group, rows),
+            HeldCells::Two(keyed) => keyed.swap_touched(alloc, group, rows),
+            HeldCells::Four(keyed) => keyed.swap_touched(alloc, group, rows),
+            HeldCells::Eight(keyed) => keyed.swap_touched(alloc, group, rows),
+            HeldCells::Widest(keyed) => keyed.swap_touched(alloc, group, rows),
+        }
+    }
+
+    /// No group is touched.
+    pub(crate) fn forget_touched(&mut self, alloc: Global)
+        ensures cells { cells_in self.new ≡ cells_in self.old }
+        ensures touched { touched_in self.new ≡ [] }
+    {
+        match self {
+            HeldCells::One(keyed) => keyed.forget_touched(alloc),
+            HeldCells::Two(keyed) => keyed.forget_touched(alloc),
+            HeldCells::Four(keyed) => keyed.forget_touched(alloc),
+            HeldCells::Eight(keyed) => keyed.forget_touched(alloc),
+            HeldCells::Widest(keyed) => keyed.forget_touched(alloc),
+        }
+    }
+
+    /// What the touched groups have to show, in the order of their keys.
+    pub(crate) fn excerpts(
         &self,
         alloc: Global,
         items: &[ListItem],
-        key: &Row,
-    ) -> Result<Touched, AllocError>
+    ) -> Result<Vec<Touched>, AllocError>
         requires { length items.now ≤ MAX_COLUMNS }
-        ensures { IfOk result (λ t. t
-            ≡ excerpt items.now key.now (cell_of (length items.now) key.now (cells_in self.now))) }
+        ensures { IfOk result (λ ts. ts.items
+            ≡ near_at items.now (cells_in self.now) (touched_in self.now)) }
     {
         match self {
-            HeldCells::Two(keyed) => keyed.excerpt_at(alloc, items, key),
-            HeldCells::Four(keyed) => keyed.excerpt_at(alloc, items, key),
-            HeldCells::Eight(keyed) => keyed.excerpt_at(alloc, items, key),
-            HeldCells::Widest(keyed) => keyed.excerpt_at(alloc, items, key),
+            HeldCells::One(keyed) => keyed.excerpts(alloc, items),
+            HeldCells::Two(keyed) => keyed.excerpts(alloc, items),
+            HeldCells::Four(keyed) => keyed.excerpts(alloc, items),
+            HeldCells::Eight(keyed) => keyed.excerpts(alloc, items),
+            HeldCells::Widest(keyed) => keyed.excerpts(alloc, items),
         }
     }
 }

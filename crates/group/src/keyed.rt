@@ -1,86 +1,136 @@
 //! Groups by keys of few values.
 
-ghost use Rattle.std.specs.Prelude.{◌≡◌, ◌≤◌, ◌+◌, ◌^◌, [], length, IfOk, OnOk};
+ghost use Rattle.std.specs.Prelude.{◌≡◌, ◌≤◌, ◌<◌, ◌+◌, ◌^◌, [], length, fold, IfOk, OnOk};
 ghost use Rattle.std.specs.BTreeMap.{is_at, insert_entry};
+ghost use Rattle.std.specs.BTreeSet.{insert_key};
 ghost use Rattle.std.specs.Map.{keys_of, lookup, remove_entry};
+ghost use Rattle.std.specs.List.Sorted.{IsStrictlySortedBy};
 ghost use Rattle.std.specs.Option.{option_copied};
-ghost use Rattle.column.specs.Rows.{signed};
-ghost use Rattle.group.specs.Batches.{AllInRange, batch_in};
+ghost use Rattle.group.specs.Batches.{AllInRange, batch_in, row_in};
 ghost use Rattle.group.specs.Cells.{held_cmp, CellRoom, ReadsInRange};
-ghost use Rattle.group.specs.Turns.{cell_of, has_key, taken_in, shown_in, excerpt};
-ghost use Rattle.group.specs.Runs.{HasSwapped, put_out, swapped};
+ghost use Rattle.group.specs.Keys.{Short, in_set};
+ghost use Rattle.group.specs.Turns.{cell_of, has_key, taken_in, shown_in, excerpt, row_key};
+ghost use Rattle.group.specs.Turns.{near_at, outputs, shown_after};
+ghost use Rattle.group.specs.Runs.{HasSwapped, OutgoingState, changes_at, put_out, swapped};
+ghost use Rattle.group.specs.Runs.{with_rows};
 ghost use Rattle.std.specs.Prelude.{false, MatchOption};
 
 use crate::cells::Cell;
+use crate::key::Key;
 use crate::outgoing::Outgoing;
 use crate::shape::GroupBy;
 use crate::turn::Touched;
-use arrayvec::ArrayVec;
-use column::{Batch, SignedRow};
-use row_bags::{copied, fitted};
+use column::Batch;
 use std::alloc::{AllocError, Global};
 use std::collections::BTreeMap;
 use std::marker::Model;
-use values::{ListItem, MAX_COLUMNS, Row, Value, copy_row};
+use values::{ListItem, MAX_COLUMNS, Row, Value};
+
+/// The most touched keys whose room is kept for the next instant.
+const KEPT: usize = 1024;
 
 /// What is kept of each group, by keys of at most `N` values: a key takes some `8 * N` bytes.
 #[derive(Drop)]
 pub(crate) struct Keyed<const N: usize> {
     /// By the key, what is kept of each group.
-    cells: BTreeMap<ArrayVec<Value, N>, Cell>,
+    cells: BTreeMap<Key<N>, Cell>,
+    /// The keys that were touched since the last tick, in the order in which they came; some may
+    /// stand there more than once.
+    touched: Vec<Key<N>>,
 }
 
 impl<const N: usize> Model for Keyed<N> {
-    ghost use Rattle.std.specs.Prelude.{List, ◌≤◌};
-    ghost use Rattle.group.specs.Cells.{Held, CellState};
-    ghost use Rattle.group.specs.Keys.{Short};
+    ghost use Rattle.std.specs.Prelude.{◌≤◌};
+    ghost use Rattle.group.specs.Keys.{KeyedState as State, Short, in_set};
     ghost use Rattle.values.specs.declared.TheConstants.{MAX_COLUMNS};
 
-    ghost Value = { List (Held × CellState) };
+    ghost Value = { State };
 
-    ghost view = { λ k. k.cells.entries };
+    ghost view = { λ k. record { cells = k.cells.entries; touched = in_set k.touched.items } };
 
     ghost invariant = { λ k. (N ≤ MAX_COLUMNS) × Short N k.cells.entries };
 }
 
 impl<const N: usize> Keyed<N> {
-    /// No groups.
+    /// No groups, none touched.
     pub(crate) fn new(alloc: Global) -> Keyed<N>
         requires { N ≤ MAX_COLUMNS }
-        ensures { result ≡ [] }
+        ensures { result ≡ record { cells = []; touched = [] } }
     {
         Keyed {
             cells: BTreeMap::new(alloc),
+            touched: Vec::new(alloc),
         }
     }
 
-    /// A row of a group that the map may have.
+    /// The group is touched.
+    pub(crate) fn touch(&mut self, key: &Row) -> Result<(), AllocError>
+        requires { length key.now.items ≤ N }
+        ensures cells { OnOk result (self.new.cells ≡ self.old.cells) }
+        ensures touched { OnOk result
+            (self.new.touched ≡ insert_key held_cmp self.old.touched key.now) }
+    {
+        touch(&mut self.touched, Key::of(key))?;
+        Ok(())
+    }
+
+    /// A row of a group that the map may have: the group is touched.
     pub(crate) fn take_in(
         &mut self,
         alloc: Global,
-        items: &[ListItem],
-        key: &Row,
-        row: &SignedRow,
+        group: &GroupBy,
+        batch: &Batch,
+        place: usize,
     ) -> Result<(), AllocError>
-        requires fits { length key.now.items ≤ N }
+        requires narrow { N ≤ MAX_COLUMNS }
+        requires fits { length group.now.by ≤ N }
+        requires within { place < length batch.now }
+        requires room { CellRoom (2 ^ 62 + 1024) group.now.items
+            (cell_of (length group.now.items)
+            (row_key group.now (row_in batch.now place)) self.old.cells) }
+        ensures cells { OnOk result (self.new.cells ≡ taken_in group.now.items
+            (row_key group.now (row_in batch.now place)) (row_in batch.now place)
+            self.old.cells) }
+        ensures touched { OnOk result (self.new.touched
+            ≡ insert_key held_cmp self.old.touched (row_key group.now (row_in batch.now place))) }
+        ensures range { OnOk result (ReadsInRange group.now.items (row_in batch.now place)) }
+    {
+        let key = Key::at(group.by(), batch, place);
+        self.take_key(alloc, group.items(), key, batch, place)?;
+        Ok(())
+    }
+
+    /// The same of the group with this key.
+    fn take_key(
+        &mut self,
+        alloc: Global,
+        items: &[ListItem],
+        key: Key<N>,
+        batch: &Batch,
+        place: usize,
+    ) -> Result<(), AllocError>
+        requires fits { length key.items ≤ N }
+        requires within { place < length batch.now }
         requires room { CellRoom (2 ^ 62 + 1024) items.now
-            (cell_of (length items.now) key.now self.old) }
-        ensures cells { OnOk result (self.new
-            ≡ taken_in items.now key.now (signed row.now) self.old) }
-        ensures range { OnOk result (ReadsInRange items.now (signed row.now)) }
+            (cell_of (length items.now) key self.old.cells) }
+        ensures cells { OnOk result (self.new.cells
+            ≡ taken_in items.now key.entry (row_in batch.now place) self.old.cells) }
+        ensures touched { OnOk result
+            (self.new.touched ≡ insert_key held_cmp self.old.touched key.entry) }
+        ensures range { OnOk result (ReadsInRange items.now (row_in batch.now place)) }
     {
         let _ = &self.cells;
-        let key = copied(key);
+        touch(&mut self.touched, key.copied())?;
         if let Some(cell) = self.cells.get_mut(&key) {
-            return cell.take(items, row);
+            return cell.take(items, batch, place);
         }
         let mut cell = Cell::new(alloc, items.len())?;
-        cell.take(items, row)?;
+        cell.take(items, batch, place)?;
         self.cells.insert(key, cell)?;
         Ok(())
     }
 
-    /// A batch of rows of a group that the map may have.
+    /// A batch of rows of a group that the map may have: the group is touched.
     pub(crate) fn take_batch_in(
         &mut self,
         alloc: Global,
@@ -89,12 +139,17 @@ impl<const N: usize> Keyed<N> {
         batch: &Batch,
     ) -> Result<(), AllocError>
         requires fits { length key.now.items ≤ N }
-        requires room { CellRoom (2 ^ 62) items.now (cell_of (length items.now) key.now self.old) }
-        ensures cells { OnOk result (self.new ≡ batch_in items.now key.now batch.now self.old) }
+        requires room { CellRoom (2 ^ 62) items.now
+            (cell_of (length items.now) key.now self.old.cells) }
+        ensures cells { OnOk result
+            (self.new.cells ≡ batch_in items.now key.now batch.now self.old.cells) }
+        ensures touched { OnOk result
+            (self.new.touched ≡ insert_key held_cmp self.old.touched key.now) }
         ensures range { OnOk result (AllInRange items.now batch.now) }
     {
         let _ = &self.cells;
-        let key = copied(key);
+        let key = Key::of(key);
+        touch(&mut self.touched, key.copied())?;
         if let Some(cell) = self.cells.get_mut(&key) {
             return cell.take_batch(items, batch);
         }
@@ -113,10 +168,12 @@ impl<const N: usize> Keyed<N> {
         row: &Row,
     ) -> Result<(), AllocError>
         requires { length key.now.items ≤ N }
-        ensures { OnOk result (self.new ≡ shown_in count key.now row.now self.old) }
+        ensures cells { OnOk result
+            (self.new.cells ≡ shown_in count key.now row.now self.old.cells) }
+        ensures touched { self.new.touched ≡ self.old.touched }
     {
         let _ = &self.cells;
-        let key = copied(key);
+        let key = Key::of(key);
         if let Some(cell) = self.cells.get_mut(&key) {
             return cell.show(alloc, row);
         }
@@ -128,86 +185,67 @@ impl<const N: usize> Keyed<N> {
 
     /// Without the group, where the map has it. It takes no memory.
     pub(crate) fn remove(&mut self, key: &Row)
-        ensures { self.new ≡ remove_entry (is_at (held_cmp key.now)) self.old }
+        ensures cells { self.new.cells
+            ≡ remove_entry (is_at (held_cmp key.now)) self.old.cells }
+        ensures touched { self.new.touched ≡ self.old.touched }
     {
         let _ = &self.cells;
-        if let Some(key) = fitted::<N>(key) {
+        if let Some(key) = Key::fitted(key) {
             remove_at(&mut self.cells, &key);
         }
     }
 
-    /// A tick of a group that the map may have: it puts out what it has to and shows its row. One
-    /// that has no row to show is no longer kept.
-    pub(crate) fn swap_in(
+    /// A tick of the touched groups, in the order of their keys: each puts out what it has to and
+    /// shows its row; one that has no row to show is no longer kept. None is touched from then on.
+    pub(crate) fn swap_touched(
         &mut self,
         alloc: Global,
         group: &GroupBy,
-        key: &Row,
         rows: &mut Outgoing,
     ) -> Result<(), AllocError>
-        requires { length key.now.items ≤ N }
-        ensures cells { OnOk result (self.new ≡ swapped group.now key.now self.old) }
-        ensures rows { OnOk result (rows.new ≡ put_out group.now key.now
-            (cell_of (length group.now.items) key.now self.old) rows.old) }
+        requires { rows.old.width ≡ length group.now.items }
+        ensures cells { OnOk result (self.new.cells
+            ≡ fold (shown_after (length group.now.items)) self.old.cells
+            (changes_at group.now self.old.cells self.old.touched)) }
+        ensures touched { OnOk result (self.new.touched ≡ []) }
+        ensures rows { OnOk result (rows.new ≡ with_rows rows.old
+            (outputs group.now (near_at group.now.items self.old.cells self.old.touched))) }
     {
         let _ = &self.cells;
-        let held = copied(key);
-        match swap_at(&mut self.cells, &held, alloc, group, key, rows)? {
-            Some(true) => Ok(()),
-            Some(false) => {
-                remove_at(&mut self.cells, &held);
-                Ok(())
-            }
-            None => self.swap_new(alloc, group, key, rows),
-        }
-    }
-
-    /// The same of a group that the map has not.
-    fn swap_new(
-        &mut self,
-        alloc: Global,
-        group: &GroupBy,
-        key: &Row,
-        rows: &mut Outgoing,
-    ) -> Result<(), AllocError>
-        requires fits { length key.now.items ≤ N }
-        requires new { has_key key.now self.old ≡ false }
-        ensures cells { OnOk result (self.new ≡ swapped group.now key.now self.old) }
-        ensures rows { OnOk result (rows.new ≡ put_out group.now key.now
-            (cell_of (length group.now.items) key.now self.old) rows.old) }
-    {
-        let _ = &self.cells;
-        let mut cell = Cell::new(alloc, group.items().len())?;
-        let some = cell.swap(alloc, group, key, rows)?;
-        if !some {
-            return Ok(());
-        }
-        self.cells.insert(copied(key), cell)?;
+        settle(&mut self.touched);
+        swap_all(&mut self.cells, alloc, group, &self.touched, rows)?;
+        self.forget_touched(alloc);
         Ok(())
     }
 
+    /// No group is touched.
+    pub(crate) fn forget_touched(&mut self, alloc: Global)
+        ensures cells { self.new.cells ≡ self.old.cells }
+        ensures touched { self.new.touched ≡ [] }
+    {
+        forget(&mut self.touched, alloc);
+    }
+
     /// What is kept of a group that the map may have.
-    fn cell(&self, key: &Row) -> Option<&Cell>
-        ensures { option_copied result ≡ lookup (is_at (held_cmp key.now)) self.now }
+    fn cell(&self, key: &Key<N>) -> Option<&Cell>
+        ensures { option_copied result ≡ lookup (is_at (held_cmp key.now)) self.now.cells }
     {
         let _ = &self.cells;
-        match fitted::<N>(key) {
-            Some(key) => self.cells.get(&key),
-            None => None,
-        }
+        self.cells.get(key)
     }
 
     /// What a touched group has to show, which the map may not have.
-    pub(crate) fn excerpt_at(
+    fn excerpt_at(
         &self,
         alloc: Global,
         items: &[ListItem],
-        key: &Row,
+        key: &Key<N>,
     ) -> Result<Touched, AllocError>
         requires { length items.now ≤ MAX_COLUMNS }
         ensures { IfOk result (λ t. t
-            ≡ excerpt items.now key.now (cell_of (length items.now) key.now self.now)) }
+            ≡ excerpt items.now key.now (cell_of (length items.now) key.now self.now.cells)) }
     {
+        let _ = &self.cells;
         match self.cell(key) {
             Some(cell) => {
                 let touched = excerpt_of(alloc, items, key, cell)?;
@@ -221,50 +259,223 @@ impl<const N: usize> Keyed<N> {
         }
     }
 
+    /// What the groups with these keys have to show.
+    fn excerpts_at(
+        &self,
+        alloc: Global,
+        items: &[ListItem],
+        keys: &[Key<N>],
+    ) -> Result<Vec<Touched>, AllocError>
+        requires { length items.now ≤ MAX_COLUMNS }
+        ensures { IfOk result (λ ts. ts.items ≡ near_at items.now self.now.cells keys.now) }
+    {
+        let mut groups = Vec::new(alloc);
+        for key in keys {
+            groups.push(self.excerpt_at(alloc, items, key)?)?;
+        }
+        Ok(groups)
+    }
+
+    /// What the touched groups have to show, in the order of their keys.
+    pub(crate) fn excerpts(
+        &self,
+        alloc: Global,
+        items: &[ListItem],
+    ) -> Result<Vec<Touched>, AllocError>
+        requires { length items.now ≤ MAX_COLUMNS }
+        ensures { IfOk result (λ ts. ts.items
+            ≡ near_at items.now self.now.cells self.now.touched) }
+    {
+        let mut keys = copies(alloc, &self.touched)?;
+        settle(&mut keys);
+        let groups = self.excerpts_at(alloc, items, &keys)?;
+        Ok(groups)
+    }
+
     /// Moves all to keys of more values. After an error some may be lost.
     pub(crate) fn widened(&mut self, alloc: Global) -> Result<Keyed<MAX_COLUMNS>, AllocError>
         ensures { IfOk result (λ wider. wider ≡ self.old) }
     {
         let _ = self.cells.len();
+        let touched = copies(alloc, &self.touched)?;
         let mut wider = BTreeMap::new(alloc);
         while let Some((key, cell)) = self.cells.pop_last() {
-            put(&mut wider, copied(&key), cell)?;
+            put(&mut wider, key.copied(), cell)?;
         }
-        Ok(Keyed { cells: wider })
+        Ok(Keyed {
+            cells: wider,
+            touched,
+        })
+    }
+}
+
+/// The same keys again, in room for `M` values each.
+fn copies<const N: usize, const M: usize>(
+    alloc: Global,
+    keys: &[Key<N>],
+) -> Result<Vec<Key<M>>, AllocError>
+    requires { N ≤ M }
+    ensures { IfOk result (λ copies. copies.items ≡ keys.now) }
+{
+    let mut copies = Vec::with_capacity(alloc, keys.len())?;
+    for key in keys {
+        copies.push(key.copied())?;
+    }
+    Ok(copies)
+}
+
+/// One key more.
+fn touch<const N: usize>(touched: &mut Vec<Key<N>>, key: Key<N>) -> Result<(), AllocError>
+    ensures { OnOk result
+        (in_set touched.new.items ≡ insert_key held_cmp (in_set touched.old.items) key.entry) }
+{
+    make_room(touched)?;
+    touched.push(key)?;
+    Ok(())
+}
+
+/// Room for a key more. Before the list grows, keys that stand in it more than once leave it: so it
+/// never has room for more than some four times the keys that differ.
+fn make_room<const N: usize>(touched: &mut Vec<Key<N>>) -> Result<(), AllocError>
+    ensures { OnOk result (in_set touched.new.items ≡ in_set touched.old.items) }
+{
+    if touched.len() < touched.capacity() {
+        return Ok(());
+    }
+    settle(touched);
+    let count = touched.len();
+    if count <= touched.capacity() / 2 {
+        return Ok(());
+    }
+    touched.reserve(count)?;
+    Ok(())
+}
+
+/// Each key stands there once, in order. It takes no memory.
+fn settle<const N: usize>(touched: &mut Vec<Key<N>>)
+    ensures { touched.new.items ≡ in_set touched.old.items }
+{
+    touched.sort_unstable();
+    touched.dedup();
+}
+
+/// No keys. Where there were many, their room is given back.
+fn forget<const N: usize>(touched: &mut Vec<Key<N>>, alloc: Global)
+    ensures { touched.new.items ≡ [] }
+{
+    if touched.capacity() > KEPT {
+        *touched = Vec::new(alloc);
+    } else {
+        touched.clear();
+    }
+}
+
+/// A tick of the groups with these keys, in their order.
+fn swap_all<const N: usize>(
+    cells: &mut BTreeMap<Key<N>, Cell>,
+    alloc: Global,
+    group: &GroupBy,
+    touched: &[Key<N>],
+    rows: &mut Outgoing,
+) -> Result<(), AllocError>
+    requires room { N ≤ MAX_COLUMNS }
+    requires sorted { IsStrictlySortedBy held_cmp touched.now }
+    requires width { rows.old.width ≡ length group.now.items }
+    requires short { Short N cells.old.entries }
+    ensures cells { OnOk result (cells.new.entries
+        ≡ fold (shown_after (length group.now.items)) cells.old.entries
+        (changes_at group.now cells.old.entries touched.now)) }
+    ensures rows { OnOk result (rows.new ≡ with_rows rows.old
+        (outputs group.now (near_at group.now.items cells.old.entries touched.now))) }
+    ensures short { Short N cells.new.entries }
+{
+    let mut spare = Vec::new(alloc);
+    for key in touched {
+        swap_in(cells, alloc, group, key, &mut spare, rows)?;
+    }
+    Ok(())
+}
+
+/// A tick of a group that the map may have: it puts out what it has to and shows its row. One that
+/// has no row to show is no longer kept.
+fn swap_in<const N: usize>(
+    cells: &mut BTreeMap<Key<N>, Cell>,
+    alloc: Global,
+    group: &GroupBy,
+    key: &Key<N>,
+    spare: &mut Vec<Value>,
+    rows: &mut Outgoing,
+) -> Result<(), AllocError>
+    requires room { N ≤ MAX_COLUMNS }
+    requires short { Short N cells.old.entries }
+    ensures cells { OnOk result (cells.new.entries ≡ swapped group.now key.now cells.old.entries) }
+    ensures rows { OnOk result (rows.new ≡ put_out group.now key.now
+        (cell_of (length group.now.items) key.now cells.old.entries) rows.old) }
+    ensures short { Short N cells.new.entries }
+{
+    match swap_at(cells, alloc, group, key, spare, rows)? {
+        Some(true) => Ok(()),
+        Some(false) => {
+            remove_at(cells, key);
+            Ok(())
+        }
+        None => swap_new(cells, alloc, group, key, spare, rows),
     }
 }
 
 /// A tick of the group with this key, which stays in the map: whether it has a row to show; None
 /// where the map has no such group.
 fn swap_at<const N: usize>(
-    cells: &mut BTreeMap<ArrayVec<Value, N>, Cell>,
-    held: &ArrayVec<Value, N>,
+    cells: &mut BTreeMap<Key<N>, Cell>,
     alloc: Global,
     group: &GroupBy,
-    key: &Row,
+    key: &Key<N>,
+    spare: &mut Vec<Value>,
     rows: &mut Outgoing,
 ) -> Result<Option<bool>, AllocError>
-    requires { held.now ≡ key.now }
     ensures keys { keys_of cells.new.entries ≡ keys_of cells.old.entries }
     ensures swapped { IfOk result (λ some. MatchOption some
         ((has_key key.now cells.old.entries ≡ false) × (cells.new.entries ≡ cells.old.entries)
         × (rows.new ≡ rows.old))
         (HasSwapped group.now key.now cells.old.entries rows.old cells.new.entries rows.new)) }
 {
-    match cells.get_mut(held) {
+    match cells.get_mut(key) {
         Some(cell) => {
-            let some = cell.swap(alloc, group, key, rows)?;
+            let some = cell.swap(alloc, group, key.values(), spare, rows)?;
             Ok(Some(some))
         }
         None => Ok(None),
     }
 }
 
+/// A tick of a group that the map has not.
+fn swap_new<const N: usize>(
+    cells: &mut BTreeMap<Key<N>, Cell>,
+    alloc: Global,
+    group: &GroupBy,
+    key: &Key<N>,
+    spare: &mut Vec<Value>,
+    rows: &mut Outgoing,
+) -> Result<(), AllocError>
+    requires room { N ≤ MAX_COLUMNS }
+    requires short { Short N cells.old.entries }
+    requires new { has_key key.now cells.old.entries ≡ false }
+    ensures cells { OnOk result (cells.new.entries ≡ swapped group.now key.now cells.old.entries) }
+    ensures rows { OnOk result (rows.new ≡ put_out group.now key.now
+        (cell_of (length group.now.items) key.now cells.old.entries) rows.old) }
+    ensures short { Short N cells.new.entries }
+{
+    let mut cell = Cell::new(alloc, group.items().len())?;
+    let some = cell.swap(alloc, group, key.values(), spare, rows)?;
+    if !some {
+        return Ok(());
+    }
+    cells.insert(key.copied(), cell)?;
+    Ok(())
+}
+
 /// The group with this key leaves the map.
-fn remove_at<const N: usize>(
-    cells: &mut BTreeMap<ArrayVec<Value, N>, Cell>,
-    key: &ArrayVec<Value, N>,
-)
+fn remove_at<const N: usize>(cells: &mut BTreeMap<Key<N>, Cell>, key: &Key<N>)
     requires { N ≤ MAX_COLUMNS }
     ensures { cells.new.entries ≡ remove_entry (is_at (held_cmp key.now)) cells.old.entries }
 {
@@ -272,7 +483,11 @@ fn remove_at<const N: usize>(
 }
 
 /// The group with this key comes to the map.
-fn put(cells: &mut BTreeMap<Row, Cell>, key: Row, cell: Cell) -> Result<(), AllocError>
+fn put(
+    cells: &mut BTreeMap<Key<MAX_COLUMNS>, Cell>,
+    key: Key<MAX_COLUMNS>,
+    cell: Cell,
+) -> Result<(), AllocError>
     ensures { OnOk result (cells.new.entries ≡ insert_entry held_cmp cells.old.entries key cell) }
 {
     cells.insert(key, cell)?;
@@ -280,18 +495,19 @@ fn put(cells: &mut BTreeMap<Row, Cell>, key: Row, cell: Cell) -> Result<(), Allo
 }
 
 /// What a touched group has to show.
-fn excerpt_of(
+fn excerpt_of<const N: usize>(
     alloc: Global,
     items: &[ListItem],
-    key: &Row,
+    key: &Key<N>,
     cell: &Cell,
 ) -> Result<Touched, AllocError>
-    requires { length items.now ≤ MAX_COLUMNS }
+    requires room { N ≤ MAX_COLUMNS }
+    requires few { length items.now ≤ MAX_COLUMNS }
     ensures { IfOk result (λ t. t ≡ excerpt items.now key.now cell.now) }
 {
-    let figures = cell.figures(alloc, items, key)?;
+    let figures = cell.figures(alloc, items, key.values())?;
     Ok(Touched {
-        key: copy_row(key),
+        key: key.row(),
         shown: cell.shown(),
         rows: cell.rows(),
         figures,

@@ -8,6 +8,7 @@
 
 mod cells;
 mod held_cells;
+mod key;
 mod keyed;
 mod laws;
 mod outgoing;

@@ -1,22 +1,46 @@
 //! Rows as groups read them.
 
-ghost use Rattle.std.specs.Prelude.{◌≡◌, ◌≤◌, [], ◌∷◌, length, map, IfOk};
+ghost use Rattle.std.specs.Prelude.{◌≡◌, ◌≤◌, ◌<◌, [], ◌∷◌, length};
 ghost use Rattle.values.specs.Resolved.{column_of};
 ghost use Rattle.values.specs.Condition.{field};
+ghost use Rattle.values.specs.Row.{value_at};
+ghost use Rattle.group.specs.Batches.{row_in};
 ghost use Rattle.group.specs.Cells.{held};
 ghost use Rattle.group.specs.Turns.{fitted};
 
-use std::alloc::AllocError;
+use column::Batch;
 use values::{Column, MAX_COLUMNS, Row, Value, value_at};
 
-/// The value in a column of a row that is a combination by itself.
-pub(crate) fn field_of(row: &Row, column: Column) -> Value
-    ensures { result ≡ field (row.now.items ∷ []) (column_of column) }
+/// The value in a column of a row of a batch, which is a combination by itself.
+pub(crate) fn field_at(batch: &Batch, place: usize, column: Column) -> Value
+    requires { place < length batch.now }
+    ensures { result ≡ field ((row_in batch.now place).1 ∷ []) (column_of column) }
 {
-    if column.source == 0 {
-        value_at(row, column.column)
-    } else {
-        Value::null()
+    let _ = batch.len();
+    if column.source != 0 {
+        return Value::null();
+    }
+    if column.column >= batch.width() {
+        return Value::null();
+    }
+    batch.column(column.column).get(place)
+}
+
+/// Whether the row at a place of a batch enters.
+pub(crate) fn enters(batch: &Batch, place: usize) -> bool
+    requires { place < length batch.now }
+    ensures { result ≡ (row_in batch.now place).0 }
+{
+    !batch.leaves(place)
+}
+
+/// The value in a column, or null past the row's end.
+pub(crate) fn value_in(row: &[Value], column: usize) -> Value
+    ensures { result ≡ value_at row.now column }
+{
+    match row.get(column) {
+        Some(value) => *value,
+        None => Value::null(),
     }
 }
 
@@ -42,17 +66,4 @@ pub(crate) fn row_with(values: &[Value]) -> Row
         row.push(*value);
     }
     row
-}
-
-/// The values of a row, in the room of others where it is enough, else in just as much as they
-/// need.
-pub(crate) fn written(others: Vec<Value>, row: &Row) -> Result<Vec<Value>, AllocError>
-    ensures values { IfOk result (λ values. values.items ≡ row.now.items) }
-    ensures few { IfOk result (λ values. length values.items ≤ MAX_COLUMNS) }
-{
-    let mut values = others;
-    values.clear();
-    values.reserve_exact(row.len())?;
-    values.extend_from_slice(row.as_slice())?;
-    Ok(values)
 }

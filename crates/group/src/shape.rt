@@ -1,13 +1,11 @@
 //! What is grouped by, and what is listed of each group.
 
-ghost use Rattle.std.specs.Prelude.{◌≡◌, ◌↔◌, ◌≤◌, IsTrue, length, map, IfOk};
-ghost use Rattle.group.specs.Cells.{held};
-ghost use Rattle.group.specs.Groups.{once_each, key_in, no_columns};
+ghost use Rattle.std.specs.Prelude.{◌≡◌, ◌↔◌, ◌≤◌, IsTrue, length, IfOk};
+ghost use Rattle.group.specs.Groups.{once_each, no_columns};
 
-use crate::rows::field_of;
 use std::alloc::{AllocError, Global};
 use std::marker::Model;
-use values::{Column, ListItem, MAX_COLUMNS, Row};
+use values::{Column, ListItem, MAX_COLUMNS};
 
 /// Group By's columns, none where it is missing, and the list of a grouped query. A row that goes
 /// between operators counts as the one row of a combination: its columns are those of source 0.
@@ -57,13 +55,6 @@ impl GroupBy {
         Ok(GroupBy { by, items })
     }
 
-    /// The key of the group of a row.
-    pub(crate) fn key(&self, row: &Row) -> Row
-        ensures { result ≡ held (key_in self.now.by row.now.items) }
-    {
-        key_of(&self.by, row)
-    }
-
     /// Group By's columns.
     pub(crate) fn by(&self) -> &[Column]
         ensures value { result.now ≡ self.now.by }
@@ -93,15 +84,4 @@ impl GroupBy {
     {
         self.by.is_empty()
     }
-}
-
-fn key_of(by: &[Column], row: &Row) -> Row
-    requires { length by.now ≤ MAX_COLUMNS }
-    ensures { result ≡ held (key_in by.now row.now.items) }
-{
-    let mut key = Row::new();
-    for column in by {
-        key.push(field_of(row, *column));
-    }
-    key
 }

@@ -42,6 +42,7 @@ use Rattle.leases.proofs.ListedLemmas.{resting_listed}
 use Rattle.leases.proofs.ReaderLemmas.{resting_rests}
 use Rattle.leases.proofs.UpdateLemmas.{same_slots}
 use Rattle.leases.proofs.StreamLemmas.{at_streams}
+use Rattle.leases.proofs.StandLemmas.{all_of}
 
 -- LISTS OF SLOTS
 in_left : {X : Type 0} (xs ys : List X) (x : X) → IsIn xs x → IsIn (xs ++ ys) x
@@ -57,10 +58,6 @@ in_either : {X : Type 0} (xs ys : List X) (x : X) → IsIn (xs ++ ys) x → IsIn
 in_either [] ys x h = inr h
 in_either (y ∷ xs) ys x (inl e) = inl (inl e)
 in_either (y ∷ xs) ys x (inr i) = ⊎_elim (λ j. inl (inr j)) (λ j. inr j) (in_either xs ys x i)
-
-all_of : (P : Slot → Type 0) (xs : List Slot) → ((x : Slot) → IsIn xs x → P x) → AllByRecursion P xs
-all_of P [] h = tt
-all_of P (x ∷ xs) h = (h x (inl refl), all_of P xs (λ y i. h y (inr i)))
 
 -- THE SLOTS that are told are slots of the engine
 resting_is : (e : PlainEngine) (n k : ℕ) (x : Slot) → IsIn (idle_slot e n k) x → slot_of e x.query x.operator ≡ Some x

@@ -190,13 +190,6 @@ drain_machine old new rows (Err (Foreign entries)) h = absurd h
 last_left : (l : Lease) → others l.number (l ∷ []) ≡ []
 last_left l = let same : (l.number == l.number) ≡ true = eq-eqb l.number l.number refl in rw same refl
 
--- the number of the last is another than theirs
-pub none_numbered : (ls : List Lease) (n : ℕ) → ((a : Lease) → IsIn ls a → a.number < n) → others n ls ≡ ls
-none_numbered [] n h = refl
-none_numbered (x ∷ ls) n h =
-    let other : (x.number == n) ≡ false = ne_eqb x.number n (λ e. absurd (omega (arith, e, h x (inl refl)))) in
-    rw other (ap (λ z. x ∷ z) (none_numbered ls n (λ a i. h a (inr i))))
-
 pub all_left : (ls : List Lease) (l : Lease) → ((a : Lease) → IsIn ls a → a.number < l.number) → others l.number (ls ++ l ∷ []) ≡ ls
 all_left [] l h = last_left l
 all_left (x ∷ ls) l h =

@@ -19,7 +19,7 @@ use Rattle.run_queue.specs.declared.slots.Slot.{Slot}
 use Rattle.laws_engine.specs.Calls.{broken, of_others}
 use Rattle.laws_engine.specs.Engines.{Broken, Dropped, GoodEngine, PlainEngine, PlainRemains, Running, remains_at}
 use Rattle.laws_engine.proofs.BackLemmas.{remains_here, same_plain}
-use Rattle.leases.specs.Applied.{Forgets, GivesNothing, HasEnded, HasTaken, HasTakenIn, IsAbove, IsBroken, MayTell, with_remains}
+use Rattle.leases.specs.Applied.{BothStand, Forgets, GivesNothing, HasTaken, HasTakenIn, HasTold, IsAbove, IsBroken, MayTell, with_remains}
 use Rattle.leases.specs.Asked.{HasOperatorAt, IsRunningAt}
 use Rattle.leases.specs.Drains.{HasWanted, OneHasRun}
 use Rattle.leases.specs.Leasing.{IsTurnOn}
@@ -35,7 +35,7 @@ use Rattle.leases.specs.declared.state.State.{State}
 use Rattle.leases.proofs.FinishBackLemmas.{gives_on}
 use Rattle.leases.proofs.FinishSoundLemmas.{StaysBut, sound_from}
 use Rattle.leases.proofs.LeaseLemmas.{turn_with}
-use Rattle.leases.proofs.StepLemmas.{broke_one, broke_sound, counted, may_look_here, may_tell_here, may_tell_over, ran, ran_sound}
+use Rattle.leases.proofs.StepLemmas.{both_stand, broke_one, broke_sound, counted, may_look_here, may_tell_here, may_tell_over, ran, ran_sound}
 
 -- THE QUERY that was refused memory, of an operator and a side that are spelt in two ways
 stopped_one : (r : Refused) (streams : List Stream) (q q2 : PlainQuery) (s : Slot) (rows : ℕ) → Stops r (q2 ≡ q) (HasRunItem (operator_at q.operators s.operator) (log_of streams q s.operator) s.side rows) → q2.answers ≡ q.answers
@@ -111,10 +111,13 @@ module _ (old : State) (s : Slot) (rows : ℕ) (sound : IsSound old) (first : fi
       pub tells_over : MayTell (engine_in (given m old.next)) above
       tells_over = may_tell_over old s rows t sound first allowed numbers is_made above over (engine_in (given m old.next)) applied
 
-      pub has_run : (new : PlainEngine) → HasEnded (engine_in (given m old.next)) old.next s above new → OneHasRun rows (engine_in old) new
+      pub stand : BothStand m.slots s above
+      stand = let slots : m.slots ≡ old.slots = ap (λ (e : PlainEngine). e.slots) took.1.1 in subst (λ (z : List Slot). BothStand z s above) (sym slots) (both_stand old s sound first above over)
+
+      pub has_run : (new : PlainEngine) → HasTold (engine_in (given m old.next)) s above new → OneHasRun rows (engine_in old) new
       has_run new h = ran old s rows t sound first allowed numbers is_made above over (engine_in (given m old.next)) applied new h
 
-      pub run_sound : (new : State) → HasEnded (engine_in (given m old.next)) old.next s above (engine_in new) → GivesNothing old m → GivesNothing (given m old.next) new → IsSound new
+      pub run_sound : (new : State) → HasTold (engine_in (given m old.next)) s above (engine_in new) → GivesNothing old m → GivesNothing (given m old.next) new → IsSound new
       run_sound new h r u =
           let gives : GivesNothing (counted old) (given m old.next) = record { names = r.names; readers = r.readers; leases = r.leases } in
           ran_sound old s rows t sound first allowed numbers is_made above over (engine_in (given m old.next)) applied new h (gives_on (counted old) (given m old.next) new gives u)

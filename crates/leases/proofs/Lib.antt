@@ -13,6 +13,7 @@ mod StreamLemmas
 mod QueueLemmas
 mod ReaderLemmas
 mod ListedLemmas
+mod StandLemmas
 mod BeatLemmas
 mod LengthenLemmas
 pub mod DrainLemmas

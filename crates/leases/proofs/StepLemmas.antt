@@ -1,5 +1,6 @@
 -- A turn that goes out and comes back in one step: the engine that has it out is nowhere kept, and the one after the step is what follows on that.
 use Rattle.std.proofs.Common.{◌≡◌, ◌≢◌, ◌<◌, ◌≤◌, ◌+◌, ◌++◌, ◌==◌, ◌||◌, ℕ, Bool, not, true, false, inl, inr, MatchOption, Option, Some, None, List, [], ◌∷◌, length, refl, sym, ap, ◌∙◌, subst, arith, eq-eqb}
+use Rattle.std.specs.Prelude.{⊤}
 use Rattle.std.specs.List.{list_any}
 use Rattle.op_queue.specs.declared.item.Item.TheVariants.{Tick}
 use Rattle.turn.specs.declared.excerpts.Near.TheVariants.{Nothing}
@@ -8,7 +9,7 @@ use Rattle.plan.proofs.Lists.{by_test}
 use Rattle.reference.specs.Machine.{Registered}
 use Rattle.laws_queries.specs.Queries.{PlainQuery}
 use Rattle.query_runtime.specs.Turns.{wire_at}
-use Rattle.run_queue.specs.Slots.{changed, first_of, slot, with_next, without_query}
+use Rattle.run_queue.specs.Slots.{Stands, changed, first_of, slot, with_next, without_query}
 use Rattle.run_queue.specs.declared.slots.Slot.{Slot}
 use Rattle.laws_engine.specs.Calls.{IsOf, broken, of_others, others}
 use Rattle.laws_engine.specs.Engines.{GoodEngine, HasSlots, IsIn, IsLease, Lease, PlainEngine, Running, is_leased, is_of, next_at, query_at, remains_at, slope_at, slot_at, slot_of}
@@ -17,7 +18,7 @@ use Rattle.laws_engine.proofs.BackLemmas.{same_plain, same_query, unequal}
 use Rattle.laws_engine.proofs.LeaseLemmas.{lease_good}
 use Rattle.laws_engine.proofs.PromiseLemmas.{first_in, keeps_its_promises, slot_is}
 use Rattle.laws_engine.proofs.TableLemmas.{same_slot_at, same_slot_in}
-use Rattle.leases.specs.Applied.{Forgets, GivesNothing, HasEnded, HasTakenIn, HasWiredOperators, IsAbove, IsBroken, IsOutAsIn, IsUpdated, MayTell, with_slot, without_turn}
+use Rattle.leases.specs.Applied.{BothStand, Forgets, GivesNothing, HasEnded, HasTakenIn, HasTold, HasWiredOperators, IsAbove, IsBroken, IsOutAsIn, IsUpdated, MayTell, with_slot, without_turn}
 use Rattle.leases.specs.Asked.{HasOperatorAt}
 use Rattle.leases.specs.Drains.{OneHasFailed, OneHasRun}
 use Rattle.leases.specs.Leasing.{IsTurnOn}
@@ -34,6 +35,7 @@ use Rattle.leases.proofs.FinishSoundLemmas.{sound_broken}
 use Rattle.leases.proofs.LeaseLemmas.{any_last, out_of, some_slot, turn_out}
 use Rattle.leases.proofs.LeaveLemmas.{fewer}
 use Rattle.leases.proofs.LookLemmas.{asks_on, tells_on}
+use Rattle.leases.proofs.StandLemmas.{stands_in}
 use Rattle.leases.proofs.UpdateLemmas.{changed_again, changed_leaves}
 
 -- A NUMBER is counted
@@ -114,6 +116,24 @@ module _ (old : State) (s : Slot) (sound : IsSound old) (first : first_of old.sl
 
   pub may_look_over : HasWiredOperators (engine_in old) s.query
   may_look_over = wired_operators (engine_in old) any top.query top.plain sound.good of_any
+
+  -- IT STANDS in the list, and so does the one above, which is another operator's
+  stand_over : (above : Option Slot)
+      → MatchOption above (length top.plain.operators ≤ s.operator + 1) (λ t. (s.operator + 1 < length top.plain.operators) × (t ≡ slot_at (engine_in old) s.query top.query top.plain (wire_at top.plain s.operator).to))
+      → MatchOption above ⊤ (λ a. Stands a old.slots × (a.operator ≢ s.operator))
+  stand_over None is = tt
+  stand_over (Some a) is =
+      let e = engine_in old in
+      let k = (wire_at top.plain s.operator).to in
+      let later : s.operator < k = to_later e any top.query top.plain sound.good of_any s.operator (below_of e any top.query top.plain sound.good of_any is.0) in
+      let there = may_look_over s.operator top.plain top.running is.0 in
+      let same : there.0 ≡ top.query = same_query (sym there.1.1.registered ∙ top.registered) in
+      let within : k < length top.query.nodes = subst (λ (q : Registered). k < length q.nodes) same there.1.1.within in
+      let stands : Stands (slot_at e s.query top.query top.plain k) old.slots = stands_in e sound.good (slot_at e s.query top.query top.plain k) (slot_is e s.query k top.query top.plain top.registered top.running within) in
+      subst (λ (z : Slot). Stands z old.slots × (z.operator ≢ s.operator)) (sym is.1) (stands, λ z. absurd (omega (arith, later, z)))
+
+  pub both_stand : (above : Option Slot) → IsAbove (engine_in old) s.query s.operator above → BothStand old.slots s above
+  both_stand above over = (stands_in (engine_in old) sound.good s (sound.good.slots.only s (first_in old.slots s first).0), stand_over above (over top.query top.plain top.registered top.running))
 
 -- ITS TURN, that was run
 module _ (old : State) (s : Slot) (rows : ℕ) (t : Turn) (sound : IsSound old) (first : first_of old.slots ≡ Some s) (allowed : lease_fault (engine_in old) rows ≡ None) (numbers : old.next < LEASE_NUMBERS) (made : IsTurnOn (engine_in old) s rows t) where
@@ -243,23 +263,15 @@ module _ (old : State) (s : Slot) (rows : ℕ) (t : Turn) (sound : IsSound old) 
         ∙ ap (λ ss. record e2 { slots = ss }) (sym (changed_again (engine_in old) s sound.good there (next_at e2 s.query q p s.operator)))
         ∙ ap (λ ls. with_slot (record e2 { leases = ls; slots = e1.slots }) (with_next s None) q p) leases
 
-    -- no turn of its number is kept, so none ends
-    none_ends : without_turn e2 d.number ≡ e2
-    none_ends =
-        let took = applied out.1.0 out.1.1.of.running in
-        let leases : e2.leases ≡ (engine_in old).leases = ap (λ e. e.leases) took.1.1 in
-        let stays : others d.number e2.leases ≡ e2.leases =
-        ap (others d.number) leases ∙ (drain.none_numbered (engine_in old).leases d.number (λ a i. omega (arith, (sound.good.leases a i).numbered, number_is)) ∙ sym leases) in
-        ap (λ ls. record e2 { leases = ls }) stays
+    -- no turn of its number is kept, so none need end
+    ended : (new : PlainEngine) → HasTold e2 s above new → HasEnded still d.number (with_next s None) above new
+    ended new h = (h.0, (told_once h.0 h.1.0, h.1.1))
 
-    ended : (new : PlainEngine) → HasEnded e2 d.number s above new → HasEnded still d.number (with_next s None) above new
-    ended new h = (h.0, (told_once h.0 (subst (λ e. IsUpdated e s h.0) none_ends h.1.0), h.1.1))
-
-    pub ran : (new : PlainEngine) → HasEnded e2 d.number s above new → OneHasRun rows (engine_in old) new
+    pub ran : (new : PlainEngine) → HasTold e2 s above new → OneHasRun rows (engine_in old) new
     ran new h =
         let home = has_come_back e1 d s.query s.operator d.number (with_next s None) above still good out steps new (ended new h) in
         (t, (e1, (goes, (out.1.1.out, (home.0, (home.1.0, (home.1.1.0, home.1.1.1.1)))))))
 
-    pub ran_sound : (new : State) → HasEnded e2 d.number s above (engine_in new) → GivesNothing (counted old) new → IsSound new
+    pub ran_sound : (new : State) → HasTold e2 s above (engine_in new) → GivesNothing (counted old) new → IsSound new
     ran_sound new h r =
         sound_ended (counted old) e1.leases e1.slots d s.query s.operator d.number (with_next s None) above still (counted_sound old sound numbers) good few_left out steps new (ended (engine_in new) h) r

@@ -1,5 +1,5 @@
 -- A turn that comes back, step by step.
-use Rattle.std.specs.Prelude.{ℕ, ⊤, ◌≡◌, ◌+◌, ◌<◌, ◌≤◌, ◌==◌, not, filter, MatchOption, Option, Some, List, length, set}
+use Rattle.std.specs.Prelude.{ℕ, ⊤, ◌≡◌, ◌≢◌, ◌+◌, ◌<◌, ◌≤◌, ◌==◌, not, filter, MatchOption, Option, Some, List, length, set}
 use Rattle.turn.specs.Turns.{outs_in}
 use Rattle.turn.specs.declared.parts.Parts.{Parts}
 use Rattle.turn.specs.declared.turns.Turn.{Turn}
@@ -7,7 +7,7 @@ use Rattle.reference.specs.Machine.{Registered, Stream}
 use Rattle.laws_queries.specs.Queries.{PlainQuery, change_at_first, operator_at}
 use Rattle.laws_queries.specs.Steps.{outs_at_first}
 use Rattle.query_runtime.specs.Turns.{CanFinish, CanPut, HasBatches, HasFinished, HasOperator, HasPut, log_of, wire_at}
-use Rattle.run_queue.specs.Slots.{changed, without_query}
+use Rattle.run_queue.specs.Slots.{Stands, changed, without_query}
 use Rattle.run_queue.specs.declared.slots.Slot.{Slot}
 use Rattle.laws_engine.specs.Calls.{IsOf, broken, others}
 use Rattle.laws_engine.specs.Engines.{IsIn, Lease, PlainEngine, PlainRemains, Running, next_at, query_at, remains_at, slot_at}
@@ -111,9 +111,17 @@ with_slot e s q p = record e { slots = changed s (next_at e s.query q p s.operat
 abbrev pub IsUpdated : PlainEngine → Slot → PlainEngine → Type 0
 IsUpdated old s new = (q : Registered) (p : PlainQuery) → query_at old s.query ≡ Some q → remains_at old s.query ≡ Running p → new ≡ with_slot old s q p
 
--- THE TURN OF A NUMBER HAS ENDED: it is out no more, its operator's slot is told, and then the one above
+-- the slot of the operator that ran is told, and then the one above
+abbrev pub HasTold : PlainEngine → Slot → Option Slot → PlainEngine → Type 0
+HasTold old s above new = (told : PlainEngine) × (IsUpdated old s told × MatchOption above (new ≡ told) (λ a. IsUpdated told a new))
+
+-- THE TURN OF A NUMBER HAS ENDED: it is out no more, and then they are told
 abbrev pub HasEnded : PlainEngine → ℕ → Slot → Option Slot → PlainEngine → Type 0
-HasEnded old n s above new = (told : PlainEngine) × (IsUpdated (without_turn old n) s told × MatchOption above (new ≡ told) (λ a. IsUpdated told a new))
+HasEnded old n s above new = HasTold (without_turn old n) s above new
 
 abbrev pub MayTell : PlainEngine → Option Slot → Type 0
 MayTell e above = MatchOption above ⊤ (λ a. HasOperatorAt e a.query a.operator)
+
+-- the two are as they stand in the list, and of two operators
+abbrev pub BothStand : List Slot → Slot → Option Slot → Type 0
+BothStand slots s above = Stands s slots × MatchOption above ⊤ (λ a. Stands a slots × (a.operator ≢ s.operator))

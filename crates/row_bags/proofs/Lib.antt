@@ -11,3 +11,5 @@ pub mod ListLaws
 pub mod ListLemmas
 pub mod BeyondLaws
 pub mod PileLemmas
+pub mod KeyLemmas
+pub mod CountLemmas

@@ -59,7 +59,7 @@ module _ {K : Type 0} (cmp : K → K → Ordering) (o : IsExactOrder cmp) where
       ap (λ b. cond b (x ∷ insert_in_order cmp k (replicate m x ++ xs)) (k ∷ x ∷ (replicate m x ++ xs))) h
 
   -- a key below the first is not among the keys
-  lookup-below : (k : K) (e : K × ℕ) (es : List (K × ℕ)) → IsStrictlySortedBy cmp (keys_of (e ∷ es)) → cmp k e.0 ≡ Less → lookup (is_at (cmp k)) (e ∷ es) ≡ None
+  pub lookup-below : (k : K) (e : K × ℕ) (es : List (K × ℕ)) → IsStrictlySortedBy cmp (keys_of (e ∷ es)) → cmp k e.0 ≡ Less → lookup (is_at (cmp k)) (e ∷ es) ≡ None
   lookup-below k e [] s h = ap (λ a. cond (is_eq a) (Some e.1) None) h
   lookup-below k e (f ∷ es) s h =
       let t = first_two cmp e.0 f.0 (keys_of es) s in

@@ -4,3 +4,4 @@ pub mod Rooms
 pub mod Piles
 pub mod Lists
 pub mod Examples
+pub mod Keys

@@ -14,6 +14,7 @@ mod counts;
 mod delta;
 mod difference;
 mod held;
+mod key;
 mod keys;
 mod pile;
 mod row_bag;

@@ -1,3 +1,4 @@
 pub mod SlotLemmas
 pub mod FirstLemmas
 pub mod MoveLemmas
+pub mod StandLemmas

@@ -1,16 +1,17 @@
 -- A slot that comes where another leaves: where it comes to stand, and what moves.
-use Rattle.std.proofs.Common.{◌≡◌, ◌≢◌, ℕ, zero, suc, ◌+◌, ◌-◌, ◌<◌, ◌≤◌, List, [], ◌∷◌, length, get_or, set, refl, sym, ap, ◌∙◌, ⊎_elim, arith}
+use Rattle.std.proofs.Common.{◌≡◌, ◌≢◌, ℕ, zero, suc, ◌+◌, ◌-◌, ◌<◌, ◌≤◌, Option, List, [], ◌∷◌, length, get_or, set, cond, refl, sym, ap, ◌∙◌, subst, ⊎_elim, arith}
 use Rattle.std.proofs.lemmas.Bool.{cases_eq, cases_lt}
 use Rattle.std.proofs.lemmas.List.{places, same_lists, length-set, length-drop, get_or-set_same, get_or-set_other}
 use Rattle.std.proofs.lemmas.List.Edits.{length-remove, length-insert, length-paste, get_or-remove_below, get_or-remove_above, get_or-insert_at}
 use Rattle.std.proofs.lemmas.Map.Keys.{Less-from_sorted}
-use Rattle.std.specs.List.{AllByRecursion, copy_within, insert, remove}
+use Rattle.column.specs.declared.batch.Side.{Side}
+use Rattle.std.specs.List.{AllByRecursion, HoldsAt, copy_within, insert, remove}
 use Rattle.std.specs.List.Sorted.{IsStrictlySortedBy}
 use Rattle.std.specs.declared.cmp.Ordering.{Ordering}
 use Rattle.std.specs.declared.cmp.Ordering.TheVariants.{Less, Equal, Greater}
-use Rattle.run_queue.specs.Slots.{slot_cmp, put, IsFound, IsMissing}
+use Rattle.run_queue.specs.Slots.{slot_cmp, changed, put, with_next, without, IsBetween, IsFound, IsMissing}
 use Rattle.run_queue.specs.declared.slots.Slot.{Slot}
-use Rattle.run_queue.proofs.SlotLemmas.{higher, lower, put_at, put_found, slots_total}
+use Rattle.run_queue.proofs.SlotLemmas.{found_same, higher, lower, put_at, put_found, slots_total}
 
 -- WHAT MOVES: ys has the items at their new places, and x is written where it belongs
 module _ {X : Type 0} (xs ys : List X) (at to : ℕ) (x : X) where
@@ -121,3 +122,40 @@ module _ (slots : List Slot) (s : Slot) (at to : ℕ) (h : IsStrictlySortedBy sl
       (λ b. put_found (remove slots at) s (to - 1) (remove_ordered slots at h) (omega arith)
       (λ d. left_at slots s at (to - 1) d Equal l (λ c. absurd (omega arith)) (λ c. ap (λ i. slot_cmp (get_or slots i d) s) (back (omega arith)) ∙ found.equal d)))
       (cases_lt to at)
+
+-- what is changed and stands where it stood is written there
+pub changed_same : (slots : List Slot) (s c : Slot) (next : Option (Side × ℕ)) (at : ℕ) → IsStrictlySortedBy slot_cmp slots → IsFound slots s at → c ≡ with_next s next → slot_cmp c s ≡ Equal
+    → changed s next slots ≡ set slots at c
+changed_same slots s c next at h found e same =
+    ap (λ b. cond b (put (without s slots) (with_next s next)) slots) found.there ∙ ap (λ l. put l (with_next s next)) found.leaves ∙ ap (put (remove slots at)) (sym e)
+    ∙ put_instead slots c at at h found.within (found_same slots s c at h found same) refl
+
+-- and so is what belongs between the neighbours of the place that is left
+module _ (slots : List Slot) (s : Slot) (at : ℕ) (h : IsStrictlySortedBy slot_cmp slots) (l : at < length slots) (b : IsBetween slots s at) where
+  below_all : (k : ℕ) (d : Slot) → k < at → slot_cmp (get_or slots k d) s ≡ Less
+  below_all k d m = ⊎_elim
+      (λ e. ap (λ i. slot_cmp (get_or slots i d) s) e ∙ b.below (omega arith) d)
+      (λ n. slots_total.trans (get_or slots k d) (get_or slots (at - 1) d) s (Less-from_sorted slot_cmp slots k (at - 1) d h (omega arith) (omega arith)) (b.below (omega arith) d))
+      (cases_eq k (at - 1))
+
+  above_all : (k : ℕ) (d : Slot) → at < k → k < length slots → slot_cmp (get_or slots k d) s ≡ Greater
+  above_all k d m n = ⊎_elim
+      (λ e. ap (λ i. slot_cmp (get_or slots i d) s) e ∙ b.above (omega arith) d)
+      (λ o. lower s (get_or slots k d) (slots_total.trans s (get_or slots (at + 1) d) (get_or slots k d) (higher (get_or slots (at + 1) d) s (b.above (omega arith) d))
+      (Less-from_sorted slot_cmp slots (at + 1) k d h (omega arith) n)))
+      (cases_eq k (at + 1))
+
+  pub put_between : put (remove slots at) s ≡ set slots at s
+  put_between =
+      let left = length-remove slots at l in
+      put_at (remove slots at) s at (omega arith)
+      (λ k d p q. left_at slots s at k d Less l (λ c. below_all k d c) (λ c. absurd (omega arith)))
+      (λ k d p q. left_at slots s at k d Greater l (λ c. absurd (omega arith)) (λ c. above_all (k + 1) d (omega arith) (omega arith)))
+      ∙ sym (written slots at s l)
+
+-- at the first place it does where it belongs before the second
+pub first_between : (slots : List Slot) (s : Slot) (i : ℕ) → i ≡ 0 → (1 < length slots → HoldsAt (λ t. slot_cmp t s ≡ Greater) slots 1) → IsBetween slots s i
+first_between slots s i e above = subst (λ n. IsBetween slots s n) (sym e) (record { below = λ m. absurd (omega (arith, m)); above = λ m. above m })
+
+pub first_before : (slots : List Slot) (s : Slot) (i : ℕ) → i ≡ 0 → IsBetween slots s i → 1 < length slots → HoldsAt (λ t. slot_cmp t s ≡ Greater) slots 1
+first_before slots s i e b l = (subst (λ n. IsBetween slots s n) e b).above l

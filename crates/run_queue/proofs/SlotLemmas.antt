@@ -1,5 +1,5 @@
 -- Slots in their order: what a search finds, and what comes and goes.
-use Rattle.std.proofs.Common.{◌≡◌, ℕ, zero, suc, ◌+◌, ◌<◌, ◌≤◌, Bool, true, false, not, ◌||◌, ◌==◌, List, [], ◌∷◌, length, get_or, cond, refl, sym, ap, ◌∙◌, arith}
+use Rattle.std.proofs.Common.{◌≡◌, ℕ, zero, suc, ◌+◌, ◌<◌, ◌≤◌, Bool, true, false, not, ◌||◌, ◌==◌, Option, List, [], ◌∷◌, length, get_or, cond, refl, sym, ap, ◌∙◌, arith}
 use Rattle.std.specs.Cmp.{IsTotalOrder, nat_cmp_total, bool_cmp_total, on_total, back_total}
 use Rattle.std.proofs.lemmas.Cmp.{then_total}
 use Rattle.std.proofs.lemmas.List.Kept.{IsStrictlySortedBy-filter}
@@ -10,8 +10,9 @@ use Rattle.std.specs.List.Sorted.{IsStrictlySortedBy, IsNonDecreasingBy, IsParti
 use Rattle.std.specs.Ordering.{is_eq, is_lt, match_ordering, ordering_index, ordering_reverse}
 use Rattle.std.specs.declared.cmp.Ordering.{Ordering}
 use Rattle.std.specs.declared.cmp.Ordering.TheVariants.{Less, Equal, Greater}
+use Rattle.column.specs.declared.batch.Side.{Side}
 use Rattle.envelope.specs.FractionLaws.{fractions_total}
-use Rattle.run_queue.specs.Slots.{slot_cmp, put, has, without, without_query, IsFound, IsMissing}
+use Rattle.run_queue.specs.Slots.{slot_cmp, changed, put, has, with_next, without, without_query, IsAt, IsFound, IsMissing}
 use Rattle.run_queue.specs.declared.slots.Slot.{Slot}
 
 pub none_ordered : IsStrictlySortedBy slot_cmp []
@@ -70,7 +71,7 @@ before_put : (x : Slot) (slots : List Slot) (s : Slot) → slot_cmp x s ≡ Less
 before_put x [] s l h = (l, tt)
 before_put x (y ∷ slots) s l h = before_by x y s slots (slot_cmp s y) l h (before_put x slots s l h.1)
 
-before_all : (s x : Slot) (slots : List Slot) → slot_cmp s x ≡ Less → AllByRecursion (λ t. slot_cmp x t ≡ Less) slots → AllByRecursion (λ t. slot_cmp s t ≡ Less) slots
+pub before_all : (s x : Slot) (slots : List Slot) → slot_cmp s x ≡ Less → AllByRecursion (λ t. slot_cmp x t ≡ Less) slots → AllByRecursion (λ t. slot_cmp s t ≡ Less) slots
 before_all s x [] l h = tt
 before_all s x (y ∷ slots) l h = (slots_total.trans s x y l h.0, before_all s x slots l h.1)
 
@@ -89,15 +90,22 @@ put_ordered (x ∷ slots) s h = ordered_by x s slots (slot_cmp s x) refl h.0 h.1
 pub without_ordered : (slots : List Slot) (s : Slot) → IsStrictlySortedBy slot_cmp slots → IsStrictlySortedBy slot_cmp (without s slots)
 without_ordered slots s h = IsStrictlySortedBy-filter slot_cmp (λ t. not (is_eq (slot_cmp t s))) slots h
 
+changed_by : (b : Bool) (slots : List Slot) (s : Slot) (next : Option (Side × ℕ)) → IsStrictlySortedBy slot_cmp slots → IsStrictlySortedBy slot_cmp (cond b (put (without s slots) (with_next s next)) slots)
+changed_by true slots s next h = put_ordered (without s slots) (with_next s next) (without_ordered slots s h)
+changed_by false slots s next h = h
+
+pub changed_ordered : (slots : List Slot) (s : Slot) (next : Option (Side × ℕ)) → IsStrictlySortedBy slot_cmp slots → IsStrictlySortedBy slot_cmp (changed s next slots)
+changed_ordered slots s next h = changed_by (has s slots) slots s next h
+
 -- what is removed at the place of an equal slot
-kept : (s y : Slot) (slots : List Slot) (o : Ordering) → slot_cmp y s ≡ o → is_eq o ≡ false → without s (y ∷ slots) ≡ y ∷ without s slots
+pub kept : (s y : Slot) (slots : List Slot) (o : Ordering) → slot_cmp y s ≡ o → is_eq o ≡ false → without s (y ∷ slots) ≡ y ∷ without s slots
 kept s y slots o e f = ap (λ b. cond (not (is_eq b)) (y ∷ without s slots) (without s slots)) e ∙ ap (λ b. cond (not b) (y ∷ without s slots) (without s slots)) f
 
-all_kept : (s : Slot) (slots : List Slot) → AllByRecursion (λ t. slot_cmp s t ≡ Less) slots → without s slots ≡ slots
+pub all_kept : (s : Slot) (slots : List Slot) → AllByRecursion (λ t. slot_cmp s t ≡ Less) slots → without s slots ≡ slots
 all_kept s [] h = refl
 all_kept s (y ∷ slots) h = kept s y slots Greater (lower s y h.0) refl ∙ ap (λ l. y ∷ l) (all_kept s slots h.1)
 
-same_before : (s x : Slot) (slots : List Slot) → slot_cmp x s ≡ Equal → AllByRecursion (λ t. slot_cmp x t ≡ Less) slots → AllByRecursion (λ t. slot_cmp s t ≡ Less) slots
+pub same_before : (s x : Slot) (slots : List Slot) → slot_cmp x s ≡ Equal → AllByRecursion (λ t. slot_cmp x t ≡ Less) slots → AllByRecursion (λ t. slot_cmp s t ≡ Less) slots
 same_before s x [] e h = tt
 same_before s x (y ∷ slots) e h = (sym (slots_total.congr x s y e) ∙ h.0, same_before s x slots e h.1)
 
@@ -140,3 +148,10 @@ pub missing_at : (slots : List Slot) (s : Slot) (i : ℕ) → IsStrictlySortedBy
 missing_at slots s i h l found =
     let p = found (searchable slots s h) in
     record { within = l; absent = has_not slots s i l p; comes = put_at slots s i l p.0 p.1; below = p.0; above = p.1 }
+
+pub found_there : (slots : List Slot) (s : Slot) (i : ℕ) → IsStrictlySortedBy slot_cmp slots → IsAt slots s i → IsFound slots s i
+found_there slots s i h a = found_at slots s i h a.within a.equal
+
+-- an equal slot is found at the same place
+pub found_same : (slots : List Slot) (s c : Slot) (i : ℕ) → IsStrictlySortedBy slot_cmp slots → IsFound slots s i → slot_cmp c s ≡ Equal → IsFound slots c i
+found_same slots s c i h found e = found_at slots c i h found.within (λ d. slots_total.congr (get_or slots i d) s c (found.equal d) ∙ same c s e)

@@ -1,5 +1,5 @@
 -- The slots of operators, and the order in which they are leased.
-use Rattle.std.specs.Prelude.{◌≡◌, ℕ, true, false, not, ◌==◌, Bool, cond, Option, Some, None, unwrap_or, is_none, List, [], ◌∷◌, filter, length, ◌<◌, ◌≤◌}
+use Rattle.std.specs.Prelude.{◌≡◌, ℕ, true, false, not, ◌==◌, Bool, cond, Option, Some, None, unwrap_or, is_none, List, [], ◌∷◌, filter, length, ◌<◌, ◌≤◌, ◌+◌, ◌-◌}
 use Rattle.std.specs.List.{AllByRecursion, AllWithin, HoldsAt, insert, list_any, remove}
 use Rattle.std.specs.Ordering.{bool_cmp, nat_cmp, is_eq, ordering_then}
 use Rattle.std.specs.BTreeSet.{insert_key}
@@ -46,6 +46,10 @@ without s slots = filter (λ t. not (is_eq (slot_cmp t s))) slots
 abbrev pub changed : Slot → Option (Side × ℕ) → List Slot → List Slot
 changed s next slots = cond (has s slots) (put (without s slots) (with_next s next)) slots
 
+-- where one stands at the slot's place, it is that slot
+abbrev pub Stands : Slot → List Slot → Type 0
+Stands s slots = AllByRecursion (λ t. slot_cmp t s ≡ Equal → t ≡ s) slots
+
 -- without the slots of a query
 abbrev pub without_query : ℕ → List Slot → List Slot
 without_query query slots = filter (λ s. not (s.query == query)) slots
@@ -77,3 +81,13 @@ pub record IsMissing (slots : List Slot) (s : Slot) (i : ℕ) : Type 0 where
   pub comes : put slots s ≡ insert slots i s
   pub below : AllWithin (λ t. slot_cmp t s ≡ Less) slots 0 i
   pub above : AllWithin (λ t. slot_cmp t s ≡ Greater) slots i (length slots)
+
+-- the slot stands at a place
+pub record IsAt (slots : List Slot) (s : Slot) (i : ℕ) : Type 0 where
+  pub within : i < length slots
+  pub equal : HoldsAt (λ t. slot_cmp t s ≡ Equal) slots i
+
+-- it belongs between the neighbours of a place
+pub record IsBetween (slots : List Slot) (s : Slot) (i : ℕ) : Type 0 where
+  pub below : 0 < i → HoldsAt (λ t. slot_cmp t s ≡ Less) slots (i - 1)
+  pub above : i + 1 < length slots → HoldsAt (λ t. slot_cmp t s ≡ Greater) slots (i + 1)

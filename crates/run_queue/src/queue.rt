@@ -1,8 +1,10 @@
 //! The slots in their order.
-ghost use Rattle.std.specs.Prelude.{◌≡◌, ◌<◌, [], Some, IfErr, IfOk, MatchOption, OnErr, OnOk};
-ghost use Rattle.run_queue.specs.Slots.{AreIdle, IsFound, IsMissing, IsSteepest};
-ghost use Rattle.run_queue.specs.Slots.{changed, first_of, put, slot_cmp, without_query};
-ghost use Rattle.std.specs.List.{insert, remove};
+ghost use Rattle.std.specs.Prelude.{◌≡◌, ◌↔◌, ◌<◌, [], Some, IfErr, IfOk, IsTrue, MatchOption};
+ghost use Rattle.std.specs.Prelude.{OnErr, OnOk, length};
+ghost use Rattle.run_queue.specs.Slots.{AreIdle, IsAt, IsBetween, IsFound, IsMissing, IsSteepest};
+ghost use Rattle.run_queue.specs.Slots.{Stands, changed, first_of, put, slot_cmp, without_query};
+ghost use Rattle.std.specs.List.{HoldsAt, insert, remove};
+ghost use Rattle.std.specs.declared.cmp.Ordering.TheVariants.{Greater, Less};
 ghost use Rattle.std.specs.List.Sorted.{IsStrictlySortedBy};
 ghost use Rattle.std.specs.Vec.{vec_capacity, vec_len};
 
@@ -10,6 +12,9 @@ use crate::slots::Slot;
 use column::Side;
 use std::alloc::{AllocError, Global};
 use std::marker::Model;
+
+/// How many slots are looked at before one is searched for.
+const FRONT: usize = 3;
 
 /// Slots of operators, each once, in their order.
 #[derive(Drop)]
@@ -71,12 +76,23 @@ impl RunQueue {
     /// Gives the slot's operator what it may take next, or nothing. Takes no memory, and moves only
     /// the slots between its old place and its new one; where the slot is not in the queue nothing
     /// changes.
-    #[tactic(auto, using(crate::proofs::SlotLemmas::without_ordered, crate::proofs::SlotLemmas::put_ordered))]
+    #[tactic(auto, using(crate::proofs::SlotLemmas::changed_ordered))]
     pub fn change(&mut self, slot: Slot, next: Option<(Side, u64)>)
         ensures { self.new ≡ changed slot next self.old }
     {
-        if let Ok(at) = place_of(&self.slots, &slot) {
-            replace(&mut self.slots, at, slot.with_next(next));
+        change_slot(&mut self.slots, slot, next);
+    }
+
+    /// Like `change`, for a slot that is as it stands in the queue: where its operator may take
+    /// next what it could take before, nothing is done.
+    #[tactic(auto, using(crate::proofs::SlotLemmas::changed_ordered, crate::proofs::StandLemmas::changed_nothing))]
+    pub fn update(&mut self, slot: Slot, next: Option<(Side, u64)>)
+        requires { Stands slot self.old }
+        ensures { self.new ≡ changed slot next self.old }
+    {
+        let slots = &mut self.slots;
+        if !slot.has_next(next) {
+            change_slot(slots, slot, next);
         }
     }
 
@@ -89,7 +105,39 @@ impl RunQueue {
     }
 }
 
-/// Finds where the slot stands, or where it belongs.
+/// Gives the slot's operator what it may take next, or nothing. Where it stays at its place it is
+/// written also, since the side may be another.
+fn change_slot(slots: &mut Vec<Slot>, slot: Slot, next: Option<(Side, u64)>)
+    requires { IsStrictlySortedBy slot_cmp slots.old.items }
+    ensures { slots.new.items ≡ changed slot next slots.old.items }
+{
+    if let Ok(at) = find(slots, &slot) {
+        let changed = slot.with_next(next);
+        if changed.is_same(&slot) {
+            slots[at] = changed;
+        } else {
+            replace(slots, at, changed);
+        }
+    }
+}
+
+/// Finds where the slot stands, or where it belongs. Where it is one of the first, no search is
+/// made: most of those that a drain changes are.
+#[tactic(auto, using(crate::proofs::SlotLemmas::found_there))]
+fn find(slots: &[Slot], slot: &Slot) -> Result<usize, usize>
+    requires { IsStrictlySortedBy slot_cmp slots.now }
+    ensures found { IfOk result (IsFound slots.now slot.now) }
+    ensures missing { IfErr result (IsMissing slots.now slot.now) }
+{
+    for at in 0..FRONT {
+        if is_at(slots, at, slot) {
+            return Ok(at);
+        }
+    }
+    place_of(slots, slot)
+}
+
+/// Finds where the slot stands, or where it belongs, by a search.
 #[tactic(auto, using(crate::proofs::SlotLemmas::found_at, crate::proofs::SlotLemmas::missing_at))]
 fn place_of(slots: &[Slot], slot: &Slot) -> Result<usize, usize>
     requires { IsStrictlySortedBy slot_cmp slots.now }
@@ -97,6 +145,16 @@ fn place_of(slots: &[Slot], slot: &Slot) -> Result<usize, usize>
     ensures missing { IfErr result (IsMissing slots.now slot.now) }
 {
     slots.binary_search(slot)
+}
+
+/// Whether the slot stands at this place.
+fn is_at(slots: &[Slot], at: usize, slot: &Slot) -> bool
+    ensures { IsTrue result ↔ IsAt slots.now slot.now at }
+{
+    match slots.get(at) {
+        Some(other) => other.is_same(slot),
+        None => false,
+    }
 }
 
 /// Removes the slot at a place and puts another at its own place, unless an equal one is there. It
@@ -107,6 +165,10 @@ fn replace(slots: &mut Vec<Slot>, at: usize, slot: Slot)
     requires ordered { IsStrictlySortedBy slot_cmp slots.old.items }
     ensures { slots.new.items ≡ put (remove slots.old.items at) slot }
 {
+    if is_between(slots, at, &slot) {
+        slots[at] = slot;
+        return;
+    }
     match place_of(slots, &slot) {
         Ok(to) => {
             if to == at {
@@ -122,6 +184,39 @@ fn replace(slots: &mut Vec<Slot>, at: usize, slot: Slot)
                 move_slot(slots, at, to - 1, slot);
             }
         }
+    }
+}
+
+/// Whether the slot belongs between the neighbours of a place.
+fn is_between(slots: &[Slot], at: usize, slot: &Slot) -> bool
+    requires { at < length slots.now }
+    ensures { IsTrue result ↔ IsBetween slots.now slot.now at }
+{
+    if at == 0 {
+        return is_before(slots, 1, slot);
+    }
+    if !is_behind(slots, at - 1, slot) {
+        return false;
+    }
+    is_before(slots, at + 1, slot)
+}
+
+/// Whether the slot belongs behind what stands at a place.
+fn is_behind(slots: &[Slot], at: usize, slot: &Slot) -> bool
+    requires { at < length slots.now }
+    ensures { IsTrue result ↔ HoldsAt (λ t. slot_cmp t slot.now ≡ Less) slots.now at }
+{
+    slots[at] < *slot
+}
+
+/// Whether the slot belongs before what stands at a place, if anything does.
+fn is_before(slots: &[Slot], at: usize, slot: &Slot) -> bool
+    ensures { IsTrue result ↔ (at < length slots.now
+        → HoldsAt (λ t. slot_cmp t slot.now ≡ Greater) slots.now at) }
+{
+    match slots.get(at) {
+        Some(other) => *slot < *other,
+        None => true,
     }
 }
 

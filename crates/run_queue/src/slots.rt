@@ -1,6 +1,7 @@
 //! An operator's place among the others.
-ghost use Rattle.std.specs.Prelude.{◌≡◌, cond, None, Some};
-ghost use Rattle.run_queue.specs.Slots.{slot, with_next};
+ghost use Rattle.std.specs.Prelude.{◌≡◌, ◌↔◌, cond, IsTrue, None, Some};
+ghost use Rattle.std.specs.declared.cmp.Ordering.TheVariants.{Equal};
+ghost use Rattle.run_queue.specs.Slots.{slot, slot_cmp, with_next};
 
 use column::Side;
 use envelope::Slope;
@@ -58,6 +59,62 @@ impl Slot {
             side,
             ..self
         }
+    }
+
+    /// Whether this is what the operator may take next, or nothing is.
+    pub(crate) fn has_next(&self, next: Option<(Side, u64)>) -> bool
+        ensures { IsTrue result ↔ (with_next self.now next ≡ self.now) }
+    {
+        match next {
+            Some((side, instant)) => self.takes(side, instant),
+            None => self.takes_nothing(),
+        }
+    }
+
+    /// Whether the operator may take this next.
+    fn takes(&self, side: Side, instant: u64) -> bool
+        ensures { IsTrue result ↔ (with_next self.now (Some (side, instant)) ≡ self.now) }
+    {
+        if self.instant != instant {
+            return false;
+        }
+        if self.side != side {
+            return false;
+        }
+        !self.is_idle
+    }
+
+    /// Whether the operator may take nothing.
+    fn takes_nothing(&self) -> bool
+        ensures { IsTrue result ↔ (with_next self.now None ≡ self.now) }
+    {
+        if self.instant != 0 {
+            return false;
+        }
+        if self.side != Side::Left {
+            return false;
+        }
+        self.is_idle
+    }
+
+    /// Whether the two stand at one place: they differ at most in their sides. Most are told apart
+    /// by their operators.
+    pub(crate) fn is_same(&self, other: &Slot) -> bool
+        ensures { IsTrue result ↔ (slot_cmp self.now other.now ≡ Equal) }
+    {
+        if self.operator != other.operator {
+            return false;
+        }
+        if self.query != other.query {
+            return false;
+        }
+        if self.instant != other.instant {
+            return false;
+        }
+        if self.is_idle != other.is_idle {
+            return false;
+        }
+        self.slope == other.slope
     }
 
     /// The slot, if the operator has something to take.

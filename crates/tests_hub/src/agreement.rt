@@ -277,7 +277,7 @@ fn are_of_one_item(first: &Parts, next: &Parts) -> bool {
     first.lease == 0
         && next.lease == 1
         && first.node.operator == next.node.operator
-        && same_item(&first.item, &next.item)
+        && same_item(first.item.item(), next.item.item())
 }
 
 // Whether an abandoned turn goes out again under the next number, and is not taken in.

@@ -69,7 +69,7 @@ pub(crate) fn shown(alloc: Global, parts: &Parts) -> Result<String, AllocError> 
         Side::Left => ": ",
         Side::Right => " at the right: ",
     })?;
-    add_item(&mut text, &parts.item)?;
+    add_item(&mut text, parts.item.item())?;
     match &parts.outputs {
         Outputs::Items(items) => add_items(&mut text, items)?,
         Outputs::Answers(answers) => add_answers(&mut text, answers)?,

@@ -8,7 +8,7 @@ use op_queue::Item;
 use std::alloc::{AllocError, Global};
 use std::sync::Arc;
 use std::test::Fail;
-use turn::{ColumnList, Done, Kind, Near, Node, RowList, Turn, same_item};
+use turn::{ColumnList, Done, Kind, Near, Node, RowList, SharedItem, SharedNear, Turn, same_item};
 use values::{Row, Value};
 
 fn row(number: i64) -> Row
@@ -66,8 +66,8 @@ fn run(alloc: Global, node: Node, item: Item, near: Near) -> Result<Done, AllocE
     let turn = sent(Turn {
         lease: 9,
         node,
-        item,
-        near,
+        item: SharedItem::new(alloc, item)?,
+        near: SharedNear::new(alloc, near)?,
     });
     match turn.run(alloc) {
         Ok(done) => Ok(sent(done)),

@@ -11,6 +11,7 @@ mod nodes;
 mod outcomes;
 mod parts;
 mod same_items;
+mod shared;
 mod turns;
 mod works;
 
@@ -20,4 +21,5 @@ pub use nodes::Node;
 pub use outcomes::{Change, Outputs};
 pub use parts::Parts;
 pub use same_items::same_item;
+pub use shared::{SharedItem, SharedNear};
 pub use turns::{Done, Turn};

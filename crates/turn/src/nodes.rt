@@ -1,8 +1,9 @@
 //! An operator of a query.
-ghost use Rattle.std.specs.Prelude.{◌≡◌, ◌↔◌, IsTrue};
+ghost use Rattle.std.specs.Prelude.{◌≡◌, ◌↔◌, IfOk, IsTrue};
 
 use crate::kinds::Kind;
 use column::Side;
+use std::alloc::AllocError;
 use std::marker::Model;
 use std::sync::Arc;
 
@@ -32,6 +33,19 @@ impl Model for Node {
 }
 
 impl Node {
+    /// The same node once more. It takes no memory; an error says that no more owners can be
+    /// counted, and nothing is changed.
+    pub(crate) fn share(&self) -> Result<Node, AllocError>
+        ensures { IfOk result (λ node. node ≡ self.now) }
+    {
+        Ok(Node {
+            query: self.query,
+            operator: self.operator,
+            side: self.side,
+            kind: Arc::try_clone(&self.kind)?,
+        })
+    }
+
     /// Whether the nodes are equal: the same operator of the same query, the same side, and the
     /// same kind with all that it carries.
     pub fn is_same(&self, other: &Node) -> bool

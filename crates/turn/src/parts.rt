@@ -1,9 +1,8 @@
 //! The parts of a turn that was run.
 
-use crate::excerpts::Near;
 use crate::nodes::Node;
 use crate::outcomes::{Change, Outputs};
-use op_queue::Item;
+use crate::shared::{SharedItem, SharedNear};
 
 /// The four parts of a turn, and what was made of them.
 #[derive(Drop)]
@@ -13,9 +12,9 @@ pub struct Parts {
     /// The operator, and at a join the side that the item is of.
     pub node: Node,
     /// The item of the operator's queue.
-    pub item: Item,
+    pub item: SharedItem,
     /// The excerpt of the operator's state.
-    pub near: Near,
+    pub near: SharedNear,
     /// What the turn puts out.
     pub outputs: Outputs,
     /// What it changes of the operator's state.

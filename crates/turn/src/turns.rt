@@ -3,12 +3,11 @@ ghost use Rattle.std.specs.Prelude.{◌≡◌, IfOk, IfErr};
 ghost use Rattle.turn.specs.Turns.{Fits};
 ghost use Rattle.turn.specs.Finished.{IsDone, IsOf};
 
-use crate::excerpts::Near;
 use crate::nodes::Node;
 use crate::parts::Parts;
+use crate::shared::{SharedItem, SharedNear};
 use crate::works::work;
-use op_queue::Item;
-use std::alloc::Global;
+use std::alloc::{AllocError, Global};
 use std::marker::Model;
 
 /// What a lease hands out: an item of an operator's queue, and the excerpt of the operator's state
@@ -20,9 +19,9 @@ pub struct Turn {
     /// The operator, and at a join the side that the item is of.
     pub node: Node,
     /// The item of the operator's queue.
-    pub item: Item,
+    pub item: SharedItem,
     /// The excerpt of the operator's state.
-    pub near: Near,
+    pub near: SharedNear,
 }
 
 /// A turn that was run: its outputs and its change are those of its node, item and excerpt. Only
@@ -45,6 +44,19 @@ impl Model for Done {
 }
 
 impl Turn {
+    /// The same turn once more: item and excerpt are shared. It takes no memory; an error says that
+    /// no more owners can be counted, and nothing is changed.
+    pub fn share(&self) -> Result<Turn, AllocError>
+        ensures { IfOk result (λ turn. turn ≡ self.now) }
+    {
+        Ok(Turn {
+            lease: self.lease,
+            node: self.node.share()?,
+            item: self.item.share()?,
+            near: self.near.share()?,
+        })
+    }
+
     /// Makes the outputs and the change. Where memory is refused the turn comes back as it was.
     ///
     /// It costs the item, the excerpt and the outputs, and knows neither the engine nor its lock.
@@ -54,7 +66,7 @@ impl Turn {
         ensures done { IfOk result IsDone }
         ensures err { IfErr result (λ t. t ≡ self) }
     {
-        match work(alloc, &self.node, &self.item, &self.near) {
+        match work(alloc, &self.node, self.item.item(), self.near.near()) {
             Ok((outputs, change)) => {
                 let Turn {
                     lease,

@@ -2,11 +2,13 @@
 ghost use Rattle.std.specs.Prelude.{◌≡◌, ◌≢◌, ◌<◌, Err, IfErr, None, OnErr, OnOk, Some, length};
 ghost use Rattle.reference.specs.World.{drain_fault};
 ghost use Rattle.reference.specs.declared.fault.Fault.TheVariants.{OutOfMemory};
-ghost use Rattle.run_queue.specs.Slots.{first_of};
+ghost use Rattle.run_queue.specs.Slots.{Stands, first_of};
 ghost use Rattle.laws_queries.specs.Queries.{PlainQuery};
 ghost use Rattle.laws_engine.specs.Engines.{Running};
-ghost use Rattle.leases.specs.Applied.{GivesNothing};
+ghost use Rattle.leases.specs.Applied.{BothStand, GivesNothing, HasTold, IsUpdated, MayTell};
+ghost use Rattle.leases.specs.Asked.{HasOperatorAt};
 ghost use Rattle.leases.specs.Drains.{HasWanted, LeavesOthers, OneHasRun, RunsFirst, RunsTurns};
+ghost use Rattle.leases.specs.Readers.{with_slots, with_update};
 ghost use Rattle.leases.specs.Runs.{HasRunIn, HasRunOn, HasStoppedIn, HasStoppedOn, MayRunIn};
 ghost use Rattle.leases.specs.Runs.{MayRunOn};
 ghost use Rattle.leases.specs.Shown.{engine_in};
@@ -95,7 +97,7 @@ impl State {
         match self.run_query(slot, rows) {
             Ok(()) => {
                 self.next = lease + 1;
-                self.end_turn(lease, *slot, above);
+                self.tell(slot, above);
                 Ok(())
             },
             Err(Refused::Before) => Err(AllocError),
@@ -105,6 +107,35 @@ impl State {
                 Err(AllocError)
             },
         }
+    }
+
+    /// The slot of the operator that ran gets what that may take next, and then the one above does,
+    /// if there is one.
+    fn tell(&mut self, slot: &Slot, above: Option<Slot>)
+        requires here { HasOperatorAt (engine_in self.old) slot.now.query slot.now.operator }
+        requires over { MayTell (engine_in self.old) above }
+        requires stand { BothStand self.old.slots slot.now above }
+        ensures told { HasTold (engine_in self.old) slot.now above (engine_in self.new) }
+        ensures rest { GivesNothing self.old self.new }
+    {
+        self.retell_slot(slot);
+        if let Some(above) = &above {
+            self.retell_slot(above);
+        }
+    }
+
+    /// Gives a slot, that is as it stands among the others, what its operator may take next, or
+    /// nothing. It mostly is what it could take before.
+    fn retell_slot(&mut self, slot: &Slot)
+        requires here { HasOperatorAt (engine_in self.old) slot.now.query slot.now.operator }
+        requires stands { Stands slot.now self.old.slots }
+        ensures state { self.new
+            ≡ with_slots self.old (with_update (engine_in self.old) slot.now self.old.slots) }
+        ensures slot { IsUpdated (engine_in self.old) slot.now (engine_in self.new) }
+        ensures rest { GivesNothing self.old self.new }
+    {
+        let next = self.next_for(slot.query(), slot.operator());
+        self.slots.update(*slot, next);
     }
 
     /// The slot's query runs a turn.

@@ -149,10 +149,10 @@ fn is_turn(turn: &Turn, parts: &Parts) -> bool
     if !turn.node.is_same(&parts.node) {
         return false;
     }
-    if !same_item(&turn.item, &parts.item) {
+    if !same_item(turn.item.item(), parts.item.item()) {
         return false;
     }
-    turn.near.is_same(&parts.near)
+    turn.near.near().is_same(parts.near.near())
 }
 
 /// The running query takes the turn. After an error only its answers are as they were.
@@ -179,7 +179,7 @@ fn take_turn(remains: &mut Remains, streams: &Streams, parts: Parts) -> Result<(
             streams,
             node.operator,
             node.side,
-            &item,
+            item.item(),
             &change,
             outputs,
         ),

@@ -12,7 +12,7 @@ use crate::state::State;
 use reference::{Fault, turn_fault};
 use run_queue::Slot;
 use std::alloc::AllocError;
-use turn::{Node, Turn};
+use turn::{Node, SharedItem, SharedNear, Turn};
 
 impl State {
     /// Hands out a turn of at most `rows` rows of an operator of greatest slope, if any may take
@@ -59,7 +59,7 @@ impl State {
         ensures sound { IsSound self.new }
     {
         let turn = self.turn(slot, rows)?;
-        let kept = self.turn(slot, rows)?;
+        let kept = turn.share()?;
         self.leases.reserve(1)?;
         self.leases.push_reserved(kept);
         self.next += 1;
@@ -86,8 +86,8 @@ impl State {
         Ok(Turn {
             lease: self.next,
             node,
-            item,
-            near,
+            item: SharedItem::new(self.alloc, item)?,
+            near: SharedNear::new(self.alloc, near)?,
         })
     }
 }

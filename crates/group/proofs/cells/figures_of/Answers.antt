@@ -14,7 +14,7 @@ loop-place-preserved c =
     let p = c.loop-place.place in
     let is = c.args.items.now in
     let ts = c.args.tallies.now in
-    let k = c.args.key.now.items in
+    let k = c.args.key.now in
     let n = to_z w64 (of_z w64 c.args.rows) in
     let more : suc p ≡ p + 1 = omega arith in
     record {
@@ -29,5 +29,5 @@ loop-place-preserved c =
 pub returns-clause-figures : goal.returns-clause-figures
 returns-clause-figures c =
     c.loop-place.invariant.done
-    ∙ figures-all c.args.key.now.items (to_z w64 (of_z w64 c.args.rows)) c.loop-place.place c.args.items.now c.args.tallies.now (omega (arith, c.loop-place-test.false, c.loop-place.auto.place-end, c.min-count.ensures))
-    ∙ ap (λ z. figures c.args.key.now.items z c.args.items.now c.args.tallies.now) (to_z-of_z w64 c.args.rows c.ranges.rows)
+    ∙ figures-all c.args.key.now (to_z w64 (of_z w64 c.args.rows)) c.loop-place.place c.args.items.now c.args.tallies.now (omega (arith, c.loop-place-test.false, c.loop-place.auto.place-end, c.min-count.ensures))
+    ∙ ap (λ z. figures c.args.key.now z c.args.items.now c.args.tallies.now) (to_z-of_z w64 c.args.rows c.ranges.rows)

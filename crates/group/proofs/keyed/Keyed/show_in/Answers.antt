@@ -6,7 +6,7 @@ use Rattle.group.proofs.keyed.Keyed.show_in.Goals as goal
 
 pub invariant_of-self-2 : goal.invariant_of-self-2
 invariant_of-self-2 g c =
-    let k : Held = c.copied-key.result in
+    let k : Held = c.of-key.result in
     let es : List (Held × CellState) = c.get_mut.follows.lender-at-none.entries in
     let same : es ≡ c.self.inside.cells.entries = search rules in
     let short : IsShort g.row.N k = search rules in

@@ -10,12 +10,12 @@ pub take_batch-requires : goal.take_batch-requires
 take_batch-requires g c =
     let is = c.args.items.now in
     let k : Held = c.args.key.now in
-    let found : lookup (is_at (held_cmp k)) c.args.self.now ≡ Some c.in-Some.cell.now = search rules in
+    let found : lookup (is_at (held_cmp k)) c.args.self.now.cells ≡ Some c.in-Some.cell.now = search rules in
     subst (λ (o : Option CellState). CellRoom (2 ^ 62) is (unwrap_or o (cell_zero (length is)))) found c.requires.room
 
 pub invariant_of-self-2 : goal.invariant_of-self-2
 invariant_of-self-2 g c =
-    let k : Held = c.copied-key.result in
+    let k : Held = c.of-key.result in
     let es : List (Held × CellState) = c.get_mut.follows.lender-at-none.entries in
     let same : es ≡ c.self.inside.cells.entries = search rules in
     let short : IsShort g.row.N k = search rules in

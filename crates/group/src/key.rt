@@ -1,0 +1,158 @@
+//! The keys of groups.
+
+ghost use Rattle.std.specs.Prelude.{◌≡◌, ◌≤◌, ◌<◌, length, refl, IfSome, IsNone};
+ghost use Rattle.std.specs.Cmp.{partial_order_from_agreeing_total, partial_equiv_from_equiv};
+ghost use Rattle.std.specs.Ordering.{as_partial_cmp};
+ghost use Rattle.values.specs.Row.{row_cmp};
+ghost use Rattle.group.specs.Cells.{held, held_cmp};
+ghost use Rattle.group.specs.Groups.{key_in};
+ghost use Rattle.group.specs.Batches.{row_in};
+ghost use Rattle.group.specs.Same.{held_eq, held_equiv, held_ties, held_total};
+
+use crate::rows::field_at;
+use arrayvec::ArrayVec;
+use column::Batch;
+use row_bags::{copied, fitted};
+use std::cmp::Ordering;
+use std::marker::Model;
+use values::{Column, MAX_COLUMNS, Row, Value};
+
+/// A key of a group, of at most `N` values.
+///
+/// Most keys differ in the first value, so that one is compared before all others.
+#[derive(Drop)]
+pub(crate) struct Key<const N: usize> {
+    /// The values of Group By's columns, in order.
+    values: ArrayVec<Value, N>,
+}
+
+impl<const N: usize> Model for Key<N> {
+    ghost use Rattle.group.specs.Cells.{Held};
+
+    ghost Value = { Held };
+
+    ghost view = { λ k. k.values };
+
+    ghost inverse = { λ h. record { values = h } };
+}
+
+impl<const N: usize> PartialEq for Key<N> {
+    ghost eq = { held_eq };
+
+    ghost laws = { partial_equiv_from_equiv held_equiv };
+
+    fn eq(&self, other: &Self) -> bool {
+        self.values == other.values
+    }
+}
+
+impl<const N: usize> Eq for Key<N> {
+    ghost laws = { held_equiv };
+}
+
+impl<const N: usize> PartialOrd for Key<N> {
+    ghost partial_cmp = { as_partial_cmp held_cmp };
+
+    ghost laws = { partial_order_from_agreeing_total held_cmp held_total (λ x y. refl) held_ties };
+
+    fn partial_cmp(&self, other: &Self) -> Option<Ordering> {
+        Some(self.cmp(other))
+    }
+}
+
+impl<const N: usize> Ord for Key<N> {
+    ghost cmp = { held_cmp };
+
+    ghost total = { held_total };
+
+    ghost matches_partial_cmp = { λ x y. refl };
+
+    ghost matches_eq = { held_ties };
+
+    fn cmp(&self, other: &Self) -> Ordering {
+        compare(self.values.as_slice(), other.values.as_slice())
+    }
+}
+
+/// Which values are first, column by column from the left.
+fn compare(a: &[Value], b: &[Value]) -> Ordering
+    ensures { result ≡ row_cmp a.now b.now }
+{
+    if a.is_empty() || b.is_empty() {
+        return a.cmp(&b);
+    }
+    let first = a[0].cmp(&b[0]);
+    if first != Ordering::Equal {
+        return first;
+    }
+    if a.len() == 1 && b.len() == 1 {
+        return Ordering::Equal;
+    }
+    a.cmp(&b)
+}
+
+impl<const N: usize> Key<N> {
+    /// The key with these values.
+    pub(crate) fn of(row: &Row) -> Key<N>
+        requires { length row.now.items ≤ N }
+        ensures { result ≡ row.now }
+    {
+        Key {
+            values: copied(row),
+        }
+    }
+
+    /// The key with these values; `None` where they are more than `N`.
+    pub(crate) fn fitted(row: &Row) -> Option<Key<N>>
+        requires { N ≤ MAX_COLUMNS }
+        ensures some { IfSome result (λ key. (key ≡ row.now) × (length row.now.items ≤ N)) }
+        ensures none { IsNone result → N < length row.now.items }
+    {
+        match fitted(row) {
+            Some(values) => Some(Key { values }),
+            None => None,
+        }
+    }
+
+    /// The key of the group of a row of a batch.
+    pub(crate) fn at(by: &[Column], batch: &Batch, place: usize) -> Key<N>
+        requires fits { length by.now ≤ N }
+        requires within { place < length batch.now }
+        ensures value { result ≡ held (key_in by.now (row_in batch.now place).1) }
+        ensures few { length result.items ≤ N }
+    {
+        let mut values = ArrayVec::new();
+        for column in by {
+            values.push(field_at(batch, place, *column));
+        }
+        Key { values }
+    }
+
+    /// The same key again, in room for `M` values.
+    pub(crate) fn copied<const M: usize>(&self) -> Key<M>
+        requires { N ≤ M }
+        ensures { result ≡ self.now }
+    {
+        let _ = self.values.as_slice();
+        Key {
+            values: copied(&self.values),
+        }
+    }
+
+    /// The key as a row.
+    pub(crate) fn row(&self) -> Row
+        requires { N ≤ MAX_COLUMNS }
+        ensures { result ≡ self.now }
+    {
+        let _ = self.values.as_slice();
+        copied(&self.values)
+    }
+
+    /// Its values.
+    pub(crate) fn values(&self) -> &[Value]
+        ensures value { result.now ≡ self.now.items }
+        ensures few { length result.now ≤ N }
+    {
+        self.values.as_slice()
+    }
+}

@@ -1,0 +1,147 @@
+//! Rows as keys of a map, with a short comparison.
+ghost use Rattle.std.specs.Prelude.{◌≡◌, ◌≤◌, ◌<◌, length, refl, IfSome, IsNone};
+ghost use Rattle.std.specs.Cmp.{partial_equiv_from_equiv, partial_order_from_total};
+ghost use Rattle.std.specs.Cmp.{eq_by_cmp_equiv};
+ghost use Rattle.std.specs.Ordering.{eq_by_cmp, as_partial_cmp};
+ghost use Rattle.row_bags.specs.Bags.{array_cmp, is_front};
+ghost use Rattle.row_bags.specs.Keys.{array_total};
+ghost use Rattle.values.specs.declared.TheConstants.{MAX_COLUMNS};
+
+use std::cmp::Ordering;
+use std::marker::Model;
+use values::{Row, Value, value_at};
+
+/// A row of at most `N` values, seen as the array of these values.
+///
+/// Null stands in the places of those that it lacks. Null is below every number, so two keys
+/// compare value by value, whatever they lack, and by how many they have only where all are equal.
+#[derive(Drop)]
+pub(crate) struct Key<const N: usize> {
+    /// The row's values, and null behind them.
+    values: [Value; N],
+    /// How many values the row has.
+    len: usize,
+}
+
+impl<const N: usize> Model for Key<N> {
+    ghost use Rattle.std.specs.Prelude.{ℤ, Option, ◌≡◌, ◌≤◌, ◌-◌, ◌++◌, take, replicate, None};
+    ghost use Rattle.arrayvec.specs.ArrayVec.{ArrayVec};
+    ghost use Rattle.values.specs.declared.TheConstants.{MAX_COLUMNS};
+
+    ghost Value = { ArrayVec (Option ℤ) };
+
+    ghost view = { λ k. record { items = take k.len k.values } };
+
+    ghost invariant = { λ k. (N ≤ MAX_COLUMNS) × (k.len ≤ N)
+        × (k.values ≡ take k.len k.values ++ replicate (N - k.len) None) };
+}
+
+impl<const N: usize> Key<N> {
+    /// The row as a key.
+    pub(crate) fn of(row: &Row) -> Key<N>
+        requires fits { length row.now.items ≤ N }
+        requires few { N ≤ MAX_COLUMNS }
+        ensures { result.items ≡ row.now.items }
+    {
+        let mut values = [Value::null(); N];
+        for place in 0..N {
+            values[place] = value_at(row, place);
+        }
+        Key {
+            values,
+            len: row.len(),
+        }
+    }
+
+    /// The row as a key, None where it has more than `N` values.
+    pub(crate) fn fitted(row: &Row) -> Option<Key<N>>
+        requires { N ≤ MAX_COLUMNS }
+        ensures some { IfSome result (λ key. (key.items ≡ row.now.items)
+            × (length row.now.items ≤ N)) }
+        ensures none { IsNone result → N < length row.now.items }
+    {
+        if row.len() > N {
+            return None;
+        }
+        Some(Key::of(row))
+    }
+
+    /// The row's values.
+    pub(crate) fn values(&self) -> &[Value]
+        ensures value { result.now ≡ self.now.items }
+        ensures fits { length result.now ≤ N }
+    {
+        &self.values[..self.len]
+    }
+
+    /// The key as a row.
+    pub(crate) fn row(&self) -> Row
+        ensures value { result ≡ self.now }
+        ensures fits { length self.now.items ≤ N }
+    {
+        let mut row = Row::new();
+        for value in &self.values[..self.len] {
+            row.push(*value);
+        }
+        row
+    }
+
+    /// The same row in room for `M` values.
+    pub(crate) fn widened<const M: usize>(&self) -> Key<M>
+        requires { (N ≤ M) × (M ≤ MAX_COLUMNS) }
+        ensures { result ≡ self.now }
+    {
+        Key::of(&self.row())
+    }
+
+    /// Whether the row begins with the values of the other; the empty row begins each.
+    pub(crate) fn begins_with(&self, front: &Row) -> bool
+        ensures { result ≡ is_front front.now.items self.now.items }
+    {
+        self.values().starts_with(front.as_slice())
+    }
+}
+
+impl<const N: usize> PartialEq for Key<N> {
+    ghost eq = { eq_by_cmp array_cmp };
+
+    ghost laws = { partial_equiv_from_equiv (eq_by_cmp_equiv array_total) };
+
+    fn eq(&self, other: &Self) -> bool {
+        self.cmp(other).is_eq()
+    }
+}
+
+impl<const N: usize> Eq for Key<N> {
+    ghost laws = { eq_by_cmp_equiv array_total };
+}
+
+impl<const N: usize> PartialOrd for Key<N> {
+    ghost partial_cmp = { as_partial_cmp array_cmp };
+
+    ghost laws = { partial_order_from_total array_total };
+
+    fn partial_cmp(&self, other: &Self) -> Option<Ordering> {
+        Some(self.cmp(other))
+    }
+}
+
+impl<const N: usize> Ord for Key<N> {
+    ghost cmp = { array_cmp };
+
+    ghost total = { array_total };
+
+    ghost matches_partial_cmp = { λ k l. refl };
+
+    ghost matches_eq = { λ k l. refl };
+
+    fn cmp(&self, other: &Self) -> Ordering {
+        for place in 0..N {
+            let found = self.values[place].cmp(&other.values[place]);
+            if found.is_ne() {
+                return found;
+            }
+        }
+        self.len.cmp(&other.len)
+    }
+}

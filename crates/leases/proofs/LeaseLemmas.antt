@@ -2,18 +2,13 @@
 use Rattle.std.proofs.Common.{◌≡◌, ℕ, ◌+◌, ◌<◌, ◌++◌, ◌||◌, ◌&&◌, ◌==◌, not, nat_le, is_some, Bool, cond, true, false, inl, inr, ◌⊎◌, ⊎_elim, Option, Some, None, Result, Ok, Err, List, [], ◌∷◌, length, map, min, refl, sym, ap, ◌∙◌, subst, arith, eq-eqb, length-append}
 use Rattle.std.specs.List.{list_any}
 use Rattle.std.proofs.lemmas.List.{map-append}
-use Rattle.values.specs.Row.{Row}
 use Rattle.column.specs.declared.batch.Side.{Side}
-use Rattle.op_queue.specs.Entries.{RowAt, TickAt}
-use Rattle.op_queue.specs.Items.{entries_of}
 use Rattle.op_queue.specs.declared.item.Item.{Item}
-use Rattle.op_queue.specs.declared.item.Item.TheVariants.{Rows, Tick}
 use Rattle.turn.specs.Nodes.{PlainNode}
 use Rattle.turn.specs.declared.excerpts.Near.{Near}
 use Rattle.turn.specs.declared.turns.Turn.{Turn}
 use Rattle.operators.specs.Inboxes.{cut_of}
 use Rattle.operators.specs.Operators.{inbox_of, ready}
-use Rattle.operators.specs.States.{near_of}
 use Rattle.names.specs.Faults as faults
 use Rattle.reference.specs.World.{drain_fault}
 use Rattle.reference.specs.declared.fault.Fault.{Fault}
@@ -47,30 +42,7 @@ use Rattle.leases.specs.declared.leased.Leased.TheVariants.{Idle}
 use Rattle.leases.specs.declared.limits.TheConstants.{LEASE_NUMBERS, MAX_LEASES}
 use Rattle.leases.specs.declared.state.State.{State}
 
--- AN ITEM is known by its entries
-known_rows : (t u : ℕ) (b c : List (Bool × Row)) → map (RowAt t) b ≡ map (RowAt u) c → b ≡ c
-known_rows t u [] [] e = refl
-known_rows t u [] (y ∷ c) e = absurd (cc)
-known_rows t u (x ∷ b) [] e = absurd (cc)
-known_rows t u (x ∷ b) (y ∷ c) e =
-    let f : RowAt t x ∷ map (RowAt t) b ≡ RowAt u y ∷ map (RowAt u) c = e in
-    let same : x ≡ y = cc in
-    let rest : map (RowAt t) b ≡ map (RowAt u) c = cc in
-    ap (λ z. z ∷ b) same ∙ ap (λ z. y ∷ z) (known_rows t u b c rest)
-
-known_item : (i j : Item) → 0 < length (entries_of i) → entries_of i ≡ entries_of j → i ≡ j
-known_item (Rows t []) j h e = absurd (omega (arith, h))
-known_item (Rows t (x ∷ b)) (Rows u []) h e = absurd (cc)
-known_item (Rows t (x ∷ b)) (Rows u (y ∷ c)) h e =
-    let f : RowAt t x ∷ map (RowAt t) b ≡ RowAt u y ∷ map (RowAt u) c = e in
-    let same : t ≡ u = cc in
-    ap (λ z. Rows z (x ∷ b)) same ∙ ap (Rows u) (known_rows t u (x ∷ b) (y ∷ c) e)
-known_item (Rows t (x ∷ b)) (Tick u) h e = let f : RowAt t x ∷ map (RowAt t) b ≡ TickAt u ∷ [] = e in absurd (cc)
-known_item (Tick t) (Rows u []) h e = absurd (cc)
-known_item (Tick t) (Rows u (y ∷ c)) h e = let f : TickAt t ∷ [] ≡ RowAt u y ∷ map (RowAt u) c = e in absurd (cc)
-known_item (Tick t) (Tick u) h e = let f : TickAt t ∷ [] ≡ TickAt u ∷ [] = e in let same : t ≡ u = cc in ap Tick same
-
--- A TURN that is made twice is the same
+-- WHAT A TURN OF A SLOT says of the query that runs
 same_running : {p r : PlainQuery} → Running p ≡ Running r → p ≡ r
 same_running e = cc
 
@@ -86,15 +58,6 @@ with_number a node i near = record { lease = a; node = node; item = i; near = ne
 
 is_turn_with : (e : PlainEngine) (s : Slot) (rows : ℕ) (g : Turn) (p : PlainQuery) → IsOfSlot e s rows g p → g ≡ turn_with e p s g.item g.near
 is_turn_with e s rows g p of = ap (λ z. with_number z g.node g.item g.near) of.number ∙ ap (λ z. with_number e.next z g.item g.near) of.node
-
-pub same_turn : (e : PlainEngine) (s : Slot) (rows : ℕ) (g h : Turn) → IsTurnOn e s rows g → IsTurnOn e s rows h → g ≡ h
-same_turn e s rows g h made again =
-    let p : PlainQuery = made.0 in
-    let a : IsOfSlot e s rows g p = made.1 in
-    let b : IsOfSlot e s rows h p = made_of e s rows h p made.1.running again in
-    let item : g.item ≡ h.item = known_item g.item h.item a.leased.first.some (a.leased.cut ∙ sym b.leased.cut) in
-    let near : g.near ≡ h.near = a.leased.near ∙ ap (near_of (operator_at p.operators s.operator).state s.side) item ∙ sym b.leased.near in
-    is_turn_with e s rows g p a ∙ (ap (λ z. turn_with e p s z g.near) item ∙ (ap (turn_with e p s h.item) near ∙ sym (is_turn_with e s rows h p b)))
 
 -- THE ENGINE after it
 abbrev pub out_of : PlainEngine → Slot → Turn → PlainEngine

@@ -1,6 +1,6 @@
 use Rattle.std.proofs.Common.{None, ◌≡◌, ◌+◌, ◌∷◌, [], ◌++◌, refl, ap, ◌∙◌}
 use Rattle.run_queue.specs.Slots.{changed}
-use Rattle.leases.proofs.LeaseLemmas.{HasGone, first_leases, goes_out, same_turn, sound_out}
+use Rattle.leases.proofs.LeaseLemmas.{HasGone, first_leases, goes_out, sound_out}
 use Rattle.leases.specs.Shown.{engine_in}
 use Rattle.turn.specs.declared.turns.Turn.{Turn}
 use Rattle.leases.specs.declared.state.State.{State}
@@ -8,9 +8,6 @@ use Rattle.leases.proofs.state.State.give_out.Goals as goal
 
 pub turn-requires : goal.turn-requires
 turn-requires c = first_leases (engine_in c.args.self.now) c.args.slot.now c.args.rows c.requires.sound.good c.requires.first c.requires.some
-
-pub turn-requires-2 : goal.turn-requires-2
-turn-requires-2 c = first_leases (engine_in c.args.self.now) c.args.slot.now c.args.rows c.requires.sound.good c.requires.first c.requires.some
 
 -- the state at the return
 abbrev after : goal.After-change → State
@@ -28,8 +25,7 @@ after c = record {
 
 -- what is kept is what goes out
 same : (c : goal.After-change) → c.in_ok-kept.kept ≡ c.in_ok-turn.turn
-same c =
-    same_turn (engine_in c.args.self.now) c.args.slot.now c.args.rows c.in_ok-kept.kept c.in_ok-turn.turn c.in_ok-kept.ensures c.in_ok-turn.ensures
+same c = c.in_ok-kept.ensures
 
 -- the slot is updated, and the turn kept
 gone : (c : goal.After-change) → c.change.new.self ≡ changed c.args.slot.now None c.args.self.now.slots → HasGone c.args.self.now (after c) c.args.slot.now c.in_ok-turn.turn

@@ -272,16 +272,19 @@ fn a_hub_takes_in_its_own_turns_alone_and_each_once(rt: HostRuntime) -> Result<(
     Ok(())
 }
 
-// Whether two turns have the numbers 0 and 1, the same operator and the same item.
+// Whether two turns have the numbers 1 and 2, the same operator and the same item.
 fn are_of_one_item(first: &Parts, next: &Parts) -> bool {
-    first.lease == 0
-        && next.lease == 1
+    first.lease == 1
+        && next.lease == 2
         && first.node.operator == next.node.operator
         && same_item(first.item.item(), next.item.item())
 }
 
-// Whether an abandoned turn goes out again under the next number, and is not taken in.
+// Whether the turn behind the first one, which is abandoned, goes out again under the next number,
+// and is not taken in.
 fn is_out_again<R: Wait>(rt: &R, alloc: Global, hub: &Hub) -> Result<bool, Fault> {
+    let taken = next_done(rt, alloc, hub)?.ok_or(Fault::UnknownLease)?;
+    hub.finish(rt, taken)?;
     let abandoned = next_done(rt, alloc, hub)?.ok_or(Fault::UnknownLease)?;
     hub.abandon(rt, abandoned.parts().lease)?;
     let again = next_done(rt, alloc, hub)?.ok_or(Fault::UnknownLease)?;

@@ -18,9 +18,14 @@ pub(crate) fn columns(alloc: Global, names: &[&str]) -> Result<Vec<String>, Allo
     Ok(columns)
 }
 
-/// A hub with one seat.
+/// A hub with one seat, and room for 100 entries.
 pub(crate) fn opened(alloc: Global) -> Result<(Hub, Seat), Fault> {
-    let (hub, mut seats) = Hub::open(alloc, 1, 100)?;
+    opened_for(alloc, 100)
+}
+
+/// A hub with one seat, and room for so many entries.
+pub(crate) fn opened_for(alloc: Global, entries: u64) -> Result<(Hub, Seat), Fault> {
+    let (hub, mut seats) = Hub::open(alloc, 1, entries)?;
     match seats.pop() {
         Some(seat) => Ok((hub, seat)),
         None => Err(Fault::BadLimit),

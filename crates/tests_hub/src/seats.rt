@@ -1,6 +1,6 @@
 //! Seats, their receipts, and the history of a hub that is closed.
 
-use crate::fixture::{declare, opened, register, rows};
+use crate::fixture::{declare, opened_for, register, rows};
 use hub::{Closed, CommandKind, Entry, Hub, ReplyKind, Seat};
 use reference::Fault;
 use std::alloc::Global;
@@ -105,8 +105,8 @@ fn each_accepted_call_is_an_entry_and_no_refused_one_is(rt: HostRuntime) -> Resu
 // Tells a seat of a receipt of another hub: how many receipts it then has, and what its next call
 // is refused for.
 fn refusal_of_a_foreign<R: Wait>(rt: &R, alloc: Global) -> Result<(usize, Option<Fault>), Fault> {
-    let (first, mut at_first) = opened(alloc)?;
-    let (second, mut at_second) = opened(alloc)?;
+    let (first, mut at_first) = opened_for(alloc, 9)?;
+    let (second, mut at_second) = opened_for(alloc, 9)?;
     let (_, told) = declare(rt, alloc, &first, &mut at_first)?;
     at_second.learn(&told);
     let refused = declare(rt, alloc, &second, &mut at_second).err();

@@ -97,7 +97,7 @@ impl State {
         match self.run_query(slot, rows) {
             Ok(()) => {
                 self.next = lease + 1;
-                self.tell(slot, above);
+                self.update_slots(slot, above);
                 Ok(())
             },
             Err(Refused::Before) => Err(AllocError),
@@ -111,22 +111,22 @@ impl State {
 
     /// The slot of the operator that ran gets what that may take next, and then the one above does,
     /// if there is one.
-    fn tell(&mut self, slot: &Slot, above: Option<Slot>)
+    fn update_slots(&mut self, slot: &Slot, above: Option<Slot>)
         requires here { HasOperatorAt (engine_in self.old) slot.now.query slot.now.operator }
         requires over { MayTell (engine_in self.old) above }
         requires stand { BothStand self.old.slots slot.now above }
         ensures told { HasTold (engine_in self.old) slot.now above (engine_in self.new) }
         ensures rest { GivesNothing self.old self.new }
     {
-        self.retell_slot(slot);
+        self.update_slot(slot);
         if let Some(above) = &above {
-            self.retell_slot(above);
+            self.update_slot(above);
         }
     }
 
     /// Gives a slot, that is as it stands among the others, what its operator may take next, or
     /// nothing. It mostly is what it could take before.
-    fn retell_slot(&mut self, slot: &Slot)
+    fn update_slot(&mut self, slot: &Slot)
         requires here { HasOperatorAt (engine_in self.old) slot.now.query slot.now.operator }
         requires stands { Stands slot.now self.old.slots }
         ensures state { self.new

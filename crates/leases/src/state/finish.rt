@@ -112,14 +112,14 @@ impl State {
         ensures rest { GivesNothing self.old self.new }
     {
         self.leases.retain(|turn| turn.lease != number);
-        self.update_slot(&slot);
+        self.change_slot(&slot);
         if let Some(above) = &above {
-            self.update_slot(above);
+            self.change_slot(above);
         }
     }
 
     /// Gives the slot what its operator may take next, or nothing.
-    pub(crate) fn update_slot(&mut self, slot: &Slot)
+    pub(crate) fn change_slot(&mut self, slot: &Slot)
         requires { HasOperatorAt (engine_in self.old) slot.now.query slot.now.operator }
         ensures state { self.new
             ≡ with_slots self.old (with_update (engine_in self.old) slot.now self.old.slots) }

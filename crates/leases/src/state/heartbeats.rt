@@ -44,7 +44,7 @@ impl State {
         let rows = self.streams.closing(stream, at)?;
         let slots = self.idle_readers(stream)?;
         self.streams.close(stream, at, &rows)?;
-        self.update_slots(&slots);
+        self.change_slots(&slots);
         Ok(())
     }
 
@@ -89,14 +89,14 @@ impl State {
     }
 
     /// Gives each of the slots what its operator may take next, one after the other.
-    fn update_slots(&mut self, slots: &[Slot])
+    fn change_slots(&mut self, slots: &[Slot])
         requires { AllByRecursion (λ s.
             HasOperatorAt (engine_in self.old) s.query s.operator) slots.now }
         ensures { self.new
             ≡ with_slots self.old (with_updates (engine_in self.old) slots.now self.old.slots) }
     {
         for place in 0..slots.len() {
-            self.update_slot(&slots[place]);
+            self.change_slot(&slots[place]);
         }
     }
 }

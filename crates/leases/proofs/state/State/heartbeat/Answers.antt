@@ -23,20 +23,20 @@ returns-in_err-close-clause-does c =
     let p = err_from_is_err_and c.from_residual-in_err-close.result c.from_residual-in_err-close.ensures.1 in
     rw (p.1, p.2) (heartbeat_lacked c.args.self.now c.close.new.self c.args.stream c.args.at (simp (to_z-of_z w64 c.args.at c.ranges.at) at c.in_ok-rows.ensures.accepted) c.in_err-close.ensures.err)
 
-pub update_slots-requires : goal.update_slots-requires
-update_slots-requires c =
+pub change_slots-requires : goal.change_slots-requires
+change_slots-requires c =
     let beats : IsHeartbeat (engine_in c.args.self.now) c.args.stream c.args.at = record { accepted = simp (to_z-of_z w64 c.args.at c.ranges.at) at c.in_ok-rows.ensures.accepted; queues = simp (to_z-of_z w64 c.args.at c.ranges.at) at c.in_ok-close.ensures.queues } in
     readers_asked c.args.self.now c.close.new.self c.args.stream c.args.at c.requires beats (simp (to_z-of_z w64 c.args.at c.ranges.at) at c.in_ok-close.ensures.ok) c.deref.result.now (c.deref.ensures.value ∙ c.in_ok-slots.ensures)
 
 pub returns-clause-does : goal.returns-clause-does
 returns-clause-does c =
     let beats : IsHeartbeat (engine_in c.args.self.now) c.args.stream c.args.at = record { accepted = simp (to_z-of_z w64 c.args.at c.ranges.at) at c.in_ok-rows.ensures.accepted; queues = simp (to_z-of_z w64 c.args.at c.ranges.at) at c.in_ok-close.ensures.queues } in
-    beats_does c.args.self.now c.close.new.self c.args.stream c.args.at c.requires beats (simp (to_z-of_z w64 c.args.at c.ranges.at) at c.in_ok-close.ensures.ok) c.deref.result.now (c.deref.ensures.value ∙ c.in_ok-slots.ensures) c.update_slots.new.self c.update_slots.ensures
+    beats_does c.args.self.now c.close.new.self c.args.stream c.args.at c.requires beats (simp (to_z-of_z w64 c.args.at c.ranges.at) at c.in_ok-close.ensures.ok) c.deref.result.now (c.deref.ensures.value ∙ c.in_ok-slots.ensures) c.change_slots.new.self c.change_slots.ensures
 
 pub returns-clause-engine : goal.returns-clause-engine
 returns-clause-engine c =
     let beats : IsHeartbeat (engine_in c.args.self.now) c.args.stream c.args.at = record { accepted = simp (to_z-of_z w64 c.args.at c.ranges.at) at c.in_ok-rows.ensures.accepted; queues = simp (to_z-of_z w64 c.args.at c.ranges.at) at c.in_ok-close.ensures.queues } in
-    beats_engine c.args.self.now c.close.new.self c.args.stream c.args.at c.requires beats (simp (to_z-of_z w64 c.args.at c.ranges.at) at c.in_ok-close.ensures.ok) c.deref.result.now (c.deref.ensures.value ∙ c.in_ok-slots.ensures) c.update_slots.new.self c.update_slots.ensures
+    beats_engine c.args.self.now c.close.new.self c.args.stream c.args.at c.requires beats (simp (to_z-of_z w64 c.args.at c.ranges.at) at c.in_ok-close.ensures.ok) c.deref.result.now (c.deref.ensures.value ∙ c.in_ok-slots.ensures) c.change_slots.new.self c.change_slots.ensures
 
 pub returns-clause-closes : goal.returns-clause-closes
 returns-clause-closes c = simp (to_z-of_z w64 c.args.at c.ranges.at) at c.in_ok-close.ensures.queues
@@ -45,10 +45,10 @@ pub returns-clause-queues : goal.returns-clause-queues
 returns-clause-queues c =
     let beats : IsHeartbeat (engine_in c.args.self.now) c.args.stream c.args.at = record { accepted = simp (to_z-of_z w64 c.args.at c.ranges.at) at c.in_ok-rows.ensures.accepted; queues = simp (to_z-of_z w64 c.args.at c.ranges.at) at c.in_ok-close.ensures.queues } in
     subst (LengthensQueues c.args.stream c.args.at (engine_in c.args.self.now))
-    (sym (beats_engine c.args.self.now c.close.new.self c.args.stream c.args.at c.requires beats (simp (to_z-of_z w64 c.args.at c.ranges.at) at c.in_ok-close.ensures.ok) c.deref.result.now (c.deref.ensures.value ∙ c.in_ok-slots.ensures) c.update_slots.new.self c.update_slots.ensures))
+    (sym (beats_engine c.args.self.now c.close.new.self c.args.stream c.args.at c.requires beats (simp (to_z-of_z w64 c.args.at c.ranges.at) at c.in_ok-close.ensures.ok) c.deref.result.now (c.deref.ensures.value ∙ c.in_ok-slots.ensures) c.change_slots.new.self c.change_slots.ensures))
     (heartbeat_lengthens (engine_in c.args.self.now) c.args.stream c.args.at c.requires.good beats)
 
 pub returns-clause-sound : goal.returns-clause-sound
 returns-clause-sound c =
     let beats : IsHeartbeat (engine_in c.args.self.now) c.args.stream c.args.at = record { accepted = simp (to_z-of_z w64 c.args.at c.ranges.at) at c.in_ok-rows.ensures.accepted; queues = simp (to_z-of_z w64 c.args.at c.ranges.at) at c.in_ok-close.ensures.queues } in
-    beats_sound c.args.self.now c.close.new.self c.args.stream c.args.at c.requires beats (simp (to_z-of_z w64 c.args.at c.ranges.at) at c.in_ok-close.ensures.ok) c.deref.result.now (c.deref.ensures.value ∙ c.in_ok-slots.ensures) c.update_slots.new.self c.update_slots.ensures
+    beats_sound c.args.self.now c.close.new.self c.args.stream c.args.at c.requires beats (simp (to_z-of_z w64 c.args.at c.ranges.at) at c.in_ok-close.ensures.ok) c.deref.result.now (c.deref.ensures.value ∙ c.in_ok-slots.ensures) c.change_slots.new.self c.change_slots.ensures

@@ -26,27 +26,27 @@ run_query-requires c = first_runs (engine_in c.args.self.now) c.args.slot.now c.
 over : (e : PlainEngine) (s : Slot) (n k : ℕ) (above : Option Slot) → n ≡ s.query → k ≡ s.operator → IsAbove e n k above → IsAbove e s.query s.operator above
 over e s n k above en ek is = subst (λ m. IsAbove e m s.operator above) en (subst (λ m. IsAbove e n m above) ek is)
 
-pub tell-requires-clause-here : goal.tell-requires-clause-here
-tell-requires-clause-here c =
+pub update_slots-requires-clause-here : goal.update_slots-requires-clause-here
+update_slots-requires-clause-here c =
     tells_here c.args.self.now c.args.slot.now c.args.rows c.requires.sound c.requires.first c.requires.allowed c.requires.numbers c.run_query.new.self c.in-Ok.ensures.ok c.above-above.result (over (engine_in c.args.self.now) c.args.slot.now c.query-query.result c.operator.result c.above-above.result c.query-query.ensures c.operator.ensures c.above-above.ensures)
 
-pub tell-requires-clause-over : goal.tell-requires-clause-over
-tell-requires-clause-over c =
+pub update_slots-requires-clause-over : goal.update_slots-requires-clause-over
+update_slots-requires-clause-over c =
     tells_over c.args.self.now c.args.slot.now c.args.rows c.requires.sound c.requires.first c.requires.allowed c.requires.numbers c.run_query.new.self c.in-Ok.ensures.ok c.above-above.result (over (engine_in c.args.self.now) c.args.slot.now c.query-query.result c.operator.result c.above-above.result c.query-query.ensures c.operator.ensures c.above-above.ensures)
 
-pub tell-requires-clause-stand : goal.tell-requires-clause-stand
-tell-requires-clause-stand c =
+pub update_slots-requires-clause-stand : goal.update_slots-requires-clause-stand
+update_slots-requires-clause-stand c =
     stand c.args.self.now c.args.slot.now c.args.rows c.requires.sound c.requires.first c.requires.allowed c.requires.numbers c.run_query.new.self c.in-Ok.ensures.ok c.above-above.result (over (engine_in c.args.self.now) c.args.slot.now c.query-query.result c.operator.result c.above-above.result c.query-query.ensures c.operator.ensures c.above-above.ensures)
 
 pub returns-in-Ok-clause-ok : goal.returns-in-Ok-clause-ok
 returns-in-Ok-clause-ok c =
     has_run c.args.self.now c.args.slot.now c.args.rows c.requires.sound c.requires.first c.requires.allowed c.requires.numbers c.run_query.new.self c.in-Ok.ensures.ok c.above-above.result (over (engine_in c.args.self.now) c.args.slot.now c.query-query.result c.operator.result c.above-above.result c.query-query.ensures c.operator.ensures c.above-above.ensures)
-    (engine_in c.tell.new.self) c.tell.ensures.told
+    (engine_in c.update_slots.new.self) c.update_slots.ensures.told
 
 pub returns-in-Ok-clause-sound : goal.returns-in-Ok-clause-sound
 returns-in-Ok-clause-sound c =
     run_sound c.args.self.now c.args.slot.now c.args.rows c.requires.sound c.requires.first c.requires.allowed c.requires.numbers c.run_query.new.self c.in-Ok.ensures.ok c.above-above.result (over (engine_in c.args.self.now) c.args.slot.now c.query-query.result c.operator.result c.above-above.result c.query-query.ensures c.operator.ensures c.above-above.ensures)
-    c.tell.new.self c.tell.ensures.told c.run_query.ensures.rest c.tell.ensures.rest
+    c.update_slots.new.self c.update_slots.ensures.told c.run_query.ensures.rest c.update_slots.ensures.rest
 
 -- IT HAD TAKEN NOTHING
 pub returns-in-Err-Before-clause-err : goal.returns-in-Err-Before-clause-err

@@ -3,7 +3,7 @@ use Rattle.std.specs.List.{AllByRecursion}
 use Rattle.leases.specs.Asked.{HasOperatorAt}
 use Rattle.leases.specs.Readers.{with_updates, with_slots}
 use Rattle.leases.specs.Shown.{engine_in}
-use Rattle.leases.proofs.state.State.update_slots.Given as goal
+use Rattle.leases.proofs.state.State.change_slots.Given as goal
 
 -- only the slots are others; with those that are left told too, they are what they will be
 abbrev pub invariant-loop-place : goal.invariant-loop-place

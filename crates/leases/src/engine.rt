@@ -11,6 +11,7 @@ use std::marker::Model;
 /// turns that are out, and the slots of all operators.
 #[derive(Drop)]
 pub struct Engine {
+    /// All of it, by its parts.
     state: State,
 }
 

@@ -47,6 +47,8 @@ use Rattle.stream_store.specs.contracts.stored.Stored as stored
 use Rattle.stream_store.specs.contracts.open_rows.OpenRows as open_rows
 use Rattle.plan.specs.contracts.operators.Plan as plan
 use Rattle.turn.specs.contracts.turns.Turn as turn
+use Rattle.turn.specs.contracts.shared.SharedItem as shared_item
+use Rattle.turn.specs.contracts.shared.SharedNear as shared_near
 use Rattle.turn.specs.contracts.excerpts.Near as near
 use Rattle.turn.specs.contracts.nodes.Node as node
 use Rattle.leases.specs.contracts.registered.Registration as registration
@@ -91,6 +93,12 @@ batch_send = search (sendable, crosses, mask_send, column_send) depth 20
 pub item_send : IsSend item.the_row
 item_send = search (sendable, crosses, batch_send) depth 20
 
+pub item_sync : IsSync item.the_row
+item_sync = search (sendable, crosses) depth 40 fits 100000
+
+pub shared_item_send : IsSend shared_item.the_row
+shared_item_send = search (sendable, crosses, item_send, item_sync) depth 20 fits 100000
+
 pub piece_send : IsSend piece.the_row
 piece_send = search (sendable, crosses, batch_send) depth 20
 
@@ -128,7 +136,7 @@ pub cell_send : IsSend cell.the_row
 cell_send = search (sendable, crosses, maps.crosses, value_send) depth 30
 
 pub group_send : IsSend group.the_row
-group_send = search (sendable, crosses, maps.crosses, value_send, group_by_send, cell_send) depth 40
+group_send = search (sendable, crosses, maps.crosses, value_send, group_by_send, cell_send) depth 40 fits 100000
 
 pub to_stream_send : IsSend to_stream.the_row
 to_stream_send = search (sendable, crosses, delta_send, row_list_send) depth 30
@@ -169,6 +177,12 @@ streams_send = search (sendable, crosses, stored_send, names_send) depth 30
 pub near_send : IsSend near.the_row
 near_send = search (sendable, crosses, value_send) depth 40 fits 100000
 
+pub near_sync : IsSync near.the_row
+near_sync = search (sendable, crosses) depth 40 fits 100000
+
+pub shared_near_send : IsSend shared_near.the_row
+shared_near_send = search (sendable, crosses, near_send, near_sync) depth 20 fits 100000
+
 layer_send : (h : block.the_members → RattleType) → ((j : block.the_members) → IsSend (h j)) → IsSend (E.row (condition.the_layer h))
 layer_send h all = search (sendable, crosses, all) depth 30 fits 100000
 
@@ -197,7 +211,7 @@ pub remains_send : IsSend remains.the_row
 remains_send = search (sendable, running_send, answers_send) depth 20
 
 pub turn_send : IsSend turn.the_row
-turn_send = declared_send turn.the_type (search sendable depth 20, (node_send, (item_send, (near_send, tt))))
+turn_send = declared_send turn.the_type (search sendable depth 20, (node_send, (shared_item_send, (shared_near_send, tt))))
 
 pub reply_send : IsSend reply.the_row
 reply_send = search (sendable, crosses, value_send) depth 40

@@ -723,7 +723,8 @@ impl Cell {
     }
 
     /// A tick: where the row that the group shows from now on is not the one that was shown, that
-    /// one leaves and the other enters. Says whether there is one.
+    /// one leaves and the other enters. Says whether there is one. `spare` lends room for the row,
+    /// whatever it has.
     pub(crate) fn swap(
         &mut self,
         alloc: Global,

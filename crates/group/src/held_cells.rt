@@ -58,7 +58,8 @@ impl HeldCells {
         }
     }
 
-    /// All groups with the greatest room. After an error some may be lost.
+    /// All groups, and which are touched, with keys of the greatest room. After an error some may
+    /// be lost.
     fn widened(&mut self, alloc: Global) -> Result<Keyed<MAX_COLUMNS>, AllocError>
         ensures { IfOk result (λ wider. wider ≡ kept_in self.old) }
     {
@@ -71,8 +72,8 @@ impl HeldCells {
         }
     }
 
-    /// Room for keys of `width` values; the groups stay. Where the room is there, this takes no
-    /// memory. After an error some may be lost.
+    /// Room for keys of `width` values; the groups stay, and which are touched. Where the room is
+    /// there, this takes no memory. After an error some may be lost.
     fn make_room(&mut self, alloc: Global, width: usize) -> Result<(), AllocError>
         requires { width ≤ MAX_COLUMNS }
         ensures kept { OnOk result (kept_in self.new ≡ kept_in self.old) }
@@ -191,7 +192,7 @@ impl HeldCells {
     }
 
     /// A tick of the touched groups, in the order of their keys: each puts out what it has to and
-    /// shows its row; one that has no row to show is no longer kept. None is touched from then on.
+    /// shows its row. One that has no row to show is no longer kept. None is touched from then on.
     pub(crate) fn swap_touched(
         &mut self,
         alloc: Global,

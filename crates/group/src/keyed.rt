@@ -34,8 +34,8 @@ const KEPT: usize = 1024;
 pub(crate) struct Keyed<const N: usize> {
     /// By the key, what is kept of each group.
     cells: BTreeMap<Key<N>, Cell>,
-    /// The keys that were touched since the last tick, in the order in which they came; some may
-    /// stand there more than once.
+    /// The keys that were touched since the last tick, in any order; some may stand there more than
+    /// once.
     touched: Vec<Key<N>>,
 }
 
@@ -196,7 +196,7 @@ impl<const N: usize> Keyed<N> {
     }
 
     /// A tick of the touched groups, in the order of their keys: each puts out what it has to and
-    /// shows its row; one that has no row to show is no longer kept. None is touched from then on.
+    /// shows its row. One that has no row to show is no longer kept. None is touched from then on.
     pub(crate) fn swap_touched(
         &mut self,
         alloc: Global,
@@ -334,8 +334,8 @@ fn touch<const N: usize>(touched: &mut Vec<Key<N>>, key: Key<N>) -> Result<(), A
     Ok(())
 }
 
-/// Room for a key more. Before the list grows, keys that stand in it more than once leave it: so it
-/// never has room for more than some four times the keys that differ.
+/// Room for a key more. Before the list grows, keys that stand in it more than once leave it. So
+/// what it grows to is room for at most some four times the keys that differ.
 fn make_room<const N: usize>(touched: &mut Vec<Key<N>>) -> Result<(), AllocError>
     ensures { OnOk result (in_set touched.new.items ≡ in_set touched.old.items) }
 {
@@ -359,7 +359,7 @@ fn settle<const N: usize>(touched: &mut Vec<Key<N>>)
     touched.dedup();
 }
 
-/// No keys. Where there were many, their room is given back.
+/// No keys. Where there was room for many, it is given back.
 fn forget<const N: usize>(touched: &mut Vec<Key<N>>, alloc: Global)
     ensures { touched.new.items ≡ [] }
 {

@@ -83,8 +83,8 @@ impl RunQueue {
         change_slot(&mut self.slots, slot, next);
     }
 
-    /// Like `change`, for a slot that is as it stands in the queue: where its operator may take
-    /// next what it could take before, nothing is done.
+    /// Like `change`, for a slot that is as it stands in the queue, if it is there. Where its
+    /// operator may take next what it could take before, nothing is done. Takes no memory.
     #[tactic(auto, using(crate::proofs::SlotLemmas::changed_ordered, crate::proofs::StandLemmas::changed_nothing))]
     pub fn update(&mut self, slot: Slot, next: Option<(Side, u64)>)
         requires { Stands slot self.old }
@@ -158,8 +158,7 @@ fn is_at(slots: &[Slot], at: usize, slot: &Slot) -> bool
 }
 
 /// Removes the slot at a place and puts another at its own place, unless an equal one is there. It
-/// is written also where the place stays: the side may be another, and an equal slope another
-/// fraction.
+/// is written also where the place stays, since the side may be another.
 fn replace(slots: &mut Vec<Slot>, at: usize, slot: Slot)
     requires within { at < vec_len slots.old }
     requires ordered { IsStrictlySortedBy slot_cmp slots.old.items }

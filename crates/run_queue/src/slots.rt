@@ -61,7 +61,7 @@ impl Slot {
         }
     }
 
-    /// Whether this is what the operator may take next, or nothing is.
+    /// Whether the slot says already that the operator may take this next, or nothing.
     pub(crate) fn has_next(&self, next: Option<(Side, u64)>) -> bool
         ensures { IsTrue result ↔ (with_next self.now next ≡ self.now) }
     {

@@ -1,28 +1,32 @@
-// The kinds of bytes.
+//! The kinds of bytes.
 
 ghost use Rattle.std.specs.Prelude.{◌≡◌, ◌<◌, ◌≤◌, length};
 ghost use Rattle.std.specs.List.{prefix_len};
 ghost use Rattle.cql_reader.specs.Lexis.{is_blank, is_digit, is_letter, is_word, all_ascii};
 ghost use Rattle.cql_reader.specs.Lexis.{all_word, first_byte, second_byte};
 
+/// Whether the byte is a space, a tab, a line feed or a carriage return.
 pub fn blank(byte: u8) -> bool
     ensures { result ≡ is_blank byte }
 {
     byte == 32 || byte == 9 || byte == 10 || byte == 13
 }
 
+/// Whether the byte is one of `0` to `9`.
 pub fn digit(byte: u8) -> bool
     ensures { result ≡ is_digit byte }
 {
     48 <= byte && byte <= 57
 }
 
+/// Whether the byte is one of `a` to `z`, `A` to `Z`, or `_`.
 pub fn letter(byte: u8) -> bool
     ensures { result ≡ is_letter byte }
 {
     (97 <= byte && byte <= 122) || (65 <= byte && byte <= 90) || byte == 95
 }
 
+/// Whether the byte may stand in a word: a letter or a digit.
 pub fn word_byte(byte: u8) -> bool
     ensures { result ≡ is_word byte }
 {

@@ -5,7 +5,9 @@ use values::{Compare, StreamOperator};
 /// A column as a text names it: by its name alone, or with the name of its source in front.
 #[derive(Clone, Copy, Debug)]
 pub struct Reference {
+    /// The name of the source in front, if the text has one.
     pub qualifier: Option<Name>,
+    /// The name of the column.
     pub name: Name,
 }
 
@@ -50,8 +52,11 @@ pub enum Window {
 /// its own.
 #[derive(Debug, Drop)]
 pub struct Source {
+    /// The name of the stream.
     pub stream: Name,
+    /// The window over the stream.
     pub window: Window,
+    /// The name that the text gives the source, if it gives one.
     pub alias: Option<Name>,
 }
 

@@ -49,7 +49,10 @@ pub enum Kind {
 /// A token, and from where to where it stands in the text.
 #[derive(Clone, Copy)]
 pub struct Token {
+    /// What it is.
     pub kind: Kind,
+    /// The place of its first byte in the text.
     pub from: usize,
+    /// The place behind its last byte.
     pub to: usize,
 }

@@ -48,6 +48,7 @@ pub enum CommandKind {
 /// list.
 #[derive(Drop)]
 pub struct Command {
+    /// Which call it is, with its arguments.
     kind: CommandKind,
 }
 

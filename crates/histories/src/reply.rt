@@ -21,6 +21,7 @@ pub enum ReplyKind {
 /// What an accepted command is answered. Contracts see it as the machine's reply.
 #[derive(Drop)]
 pub struct Reply {
+    /// What it says.
     kind: ReplyKind,
 }
 

@@ -20,6 +20,7 @@ pub trait Test {
         ensures { result ≡ mask_l (zip2 (test_of how) xs ys) };
 }
 
+/// `=`: the numbers are equal.
 pub struct Equals;
 
 impl Test for Equals {
@@ -34,6 +35,7 @@ impl Test for Equals {
     }
 }
 
+/// `<>`: the numbers differ.
 pub struct Differs;
 
 impl Test for Differs {
@@ -48,6 +50,7 @@ impl Test for Differs {
     }
 }
 
+/// `<`: the first number is below the second.
 pub struct Below;
 
 impl Test for Below {
@@ -62,6 +65,7 @@ impl Test for Below {
     }
 }
 
+/// `<=`: the first number is at most the second.
 pub struct AtMost;
 
 impl Test for AtMost {
@@ -76,6 +80,7 @@ impl Test for AtMost {
     }
 }
 
+/// `>`: the first number is above the second.
 pub struct Above;
 
 impl Test for Above {
@@ -90,6 +95,7 @@ impl Test for Above {
     }
 }
 
+/// `>=`: the first number is at least the second.
 pub struct AtLeast;
 
 impl Test for AtLeast {

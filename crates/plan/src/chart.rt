@@ -25,6 +25,7 @@ pub struct Measure {
 /// not.
 #[derive(Debug, Drop)]
 pub struct Chart {
+    /// By each operator's number its cost, and the size that it leaves, in millionths.
     pub operators: Vec<(i64, i64)>,
 }
 

@@ -10,7 +10,9 @@ use values::{Condition, ListItem, StreamOperator};
 /// A key of a join: a place in the left row, and one in the right.
 #[derive(Clone, Copy, Debug, PartialEq, Eq)]
 pub struct Key {
+    /// The place in the left row.
     pub left: usize,
+    /// The place in the right row.
     pub right: usize,
 }
 

@@ -55,7 +55,7 @@ fn two_streams_answered() -> &'static str {
 }
 
 /// Whether the script is answered by these replies, by a pool of so many workers or by the client's
-//// own thread; and how many entries the hub has when it is closed behind it.
+/// own thread; and how many entries the hub has when it is closed behind it.
 pub(crate) fn is_answered_by<R: Threads + Wait + Sync>(
     rt: &R,
     alloc: Global,

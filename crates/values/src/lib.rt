@@ -40,7 +40,7 @@ pub const MAX_COLUMNS: usize = 16;
 /// Null is below every number, and equal to null.
 #[derive(Clone, Copy, Drop)]
 pub struct Value {
-    // the number, or the one word below the answer range for null
+    /// The number, or the one word below the answer range for null.
     word: i64,
 }
 

@@ -5,7 +5,9 @@
 /// declaration.
 #[derive(Clone, Copy, Debug, PartialEq, Eq)]
 pub struct Column {
+    /// The number of the source, from 0.
     pub source: usize,
+    /// The place of the column in the source's rows.
     pub column: usize,
 }
 

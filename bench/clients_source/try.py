@@ -1,13 +1,17 @@
 """Tries the client in Python over a cqld, and cqld by a bare socket as nc does."""
 
+import json
+import os
 import pathlib
 import random
+import re
 import socket
 import subprocess
 import sys
 import threading
 
-sys.path.insert(0, str(pathlib.Path(__file__).parents[2] / "clients" / "python"))
+ROOT = pathlib.Path(__file__).parents[2]
+sys.path.insert(0, str(ROOT / "clients" / "python"))
 
 from cqld import Client, Refused
 from server import Server
@@ -116,9 +120,55 @@ def ways_to_end(program):
     print("ways to end: statuses 0, 1 and 2, with their lines")
 
 
+def page():
+    """The part of docs/use.md on the server."""
+    text = (ROOT / "docs" / "use.md").read_text()
+    return re.search(r"(?ms)^## A server$(.*?)^## ", text)[1]
+
+
+def from_nc(program):
+    """The terminals of docs/use.md: each reply is the one that stands there, once the workers are done."""
+    blocks = [re.findall(r"(?m)^    (.*)$", it) for it in page().split("\n\n")]
+    blocks = [it for it in blocks if it and ("nc " in it[0] or it[0].startswith("{"))]
+    assert len(blocks) == 3, blocks
+    tried = 0
+    with Server(program, 2, 8, 2) as server:
+        terminals = []
+        for block in blocks:
+            if "nc " in block[0]:
+                connection = socket.create_connection(("127.0.0.1", server.port))
+                terminals.append(connection.makefile("rw"))
+            lines = terminals[-1] if "nc " in block[0] else terminals[0]
+            told = [it for it in block if it.startswith("{")]
+            for request, wanted in zip(told[::2], told[1::2], strict=True):
+                reply = None
+                while reply is None or reply == '{"ok":true,"rows":[]}':
+                    print(request, file=lines, flush=True)
+                    reply = lines.readline().rstrip("\n")
+                assert json.loads(request)["op"] and reply == wanted, (request, reply, wanted)
+                tried += 1
+            connection.close()
+        for lines in terminals:
+            lines.close()
+        assert server.ended() == (0, "")
+    assert tried == 5, tried
+    print("docs/use.md from nc: five replies are those that stand there")
+
+
+def from_python(program):
+    """The dozen lines of Python of docs/use.md print what stands behind them."""
+    (lines, wanted), = re.findall(r"(?ms)^```python\n(.*?)^```\n\n```text\n(.*?)^```$", page())
+    path = f"{pathlib.Path(program).parent}{os.pathsep}{os.environ['PATH']}"
+    done = subprocess.run([sys.executable, "-c", lines], capture_output=True, text=True, timeout=60, env={**os.environ, "PATH": path})
+    assert (done.returncode, done.stdout) == (0, wanted), done
+    print("docs/use.md from Python: it prints what stands there")
+
+
 def main(program):
     ways_to_end(program)
     bare(program)
+    from_nc(program)
+    from_python(program)
     first_query(program)
     two_terminals(program)
     many_rows(program)

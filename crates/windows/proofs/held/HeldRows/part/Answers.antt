@@ -1,5 +1,4 @@
-use Rattle.std.proofs.Common.{ap, sym, subst, ◌∙◌, ◌-◌, arith, List, ℕ, length, map, take, drop}
-use Rattle.values.specs.Row.{Row}
+use Rattle.std.proofs.Common.{ap, ◌∙◌, ◌-◌, arith, length, map, take, drop}
 use Rattle.windows.specs.Held.{HeldState, instants_in}
 use Rattle.windows.proofs.HeldLemmas.{length-held, middle_rows}
 use Rattle.windows.proofs.held.HeldRows.part.Goals as goal

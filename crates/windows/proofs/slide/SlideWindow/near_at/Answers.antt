@@ -1,9 +1,7 @@
 use Rattle.std.proofs.Common.{subst, ap, ap₂, sym, ◌∙◌, ◌≡◌, ◌-◌, ℕ, List, arith, length, map, take, drop, min, max}
-use Rattle.std.specs.List.{filter}
 use Rattle.values.specs.Row.{Row}
 use Rattle.windows.specs.Slide.{HaveOneWidthIn, SlideNear, SlideState, near_at}
 use Rattle.windows.specs.Widths.{rows_of}
-use Rattle.windows.proofs.RangeLemmas.{is_below}
 use Rattle.windows.proofs.SlideLemmas.{Parted, count_is, near_wide, parted}
 use Rattle.windows.proofs.slide.SlideWindow.near_at.Goals as goal
 

@@ -142,7 +142,7 @@ module _ (windows : List Window) (vs ws : List ℕ) (m : Machine) (q : Registere
   none_few most = omega (arith, count_none)
 
   source_begins : (s : ℕ) → q.meaning.windows ≡ map window_of windows → AllByRecursion IsTextWindow (map window_of windows) → s < length q.places → get_or ws k 0 ≡ get_or vs s 0 → 0 < get_or vs s 0
-      → (world_of m q).inputs s ≡ [] → (world_of m q).came s ≤ Rattle.laws_queries.specs.Counts.stream_rows → log.until ≤ q.first → IsMade windows vs ws (lengths_of q) q.first (Source s) o → BeginsAt ws m q log k (plan.Window s) o
+      → (world_of m q).inputs s ≡ [] → (world_of m q).came s ≡ 0 → log.until ≤ q.first → IsMade windows vs ws (lengths_of q) q.first (Source s) o → BeginsAt ws m q log k (plan.Window s) o
   source_begins s shows text low width some none came until h =
       let place : get_or (lengths_of q) s 0 ≡ (place_of q s).arrivals = get_or-map (λ (p : Place). p.arrivals) q.places s (record { stream = 0; arrivals = 0 }) 0 low in
       let reads : made.ReadsSource (place_of q s).arrivals q.first o.left = subst (λ p. made.ReadsSource p q.first o.left) place h.left in
@@ -161,7 +161,7 @@ module _ (windows : List Window) (vs ws : List ℕ) (m : Machine) (q : Registere
           some = omega (arith, some, width);
           side = record { taken = all_none (Rattle.laws_queries.specs.Widths.IsRow (width_at ws k)); queue = tt };
         };
-        few = subst (λ l. Rattle.laws_queries.specs.Counts.AreWindowRowsFew ((world_of m q).closed s) ((world_of m q).came s) l [] []) (sym none) (record { few = omega arith; stream = came });
+        few = subst (λ l. Rattle.laws_queries.specs.Counts.AreWindowRowsFew (Rattle.laws_queries.specs.Counts.source_rows q.nodes) ((world_of m q).closed s) ((world_of m q).came s) l [] []) (sym none) (record { few = omega arith; stream = omega (arith, came) });
         inboxes = record { left = (low, reads_of (place_of q s).arrivals q.first log o.left reads, reads.within log); right = fed o.right h.right };
       }
 

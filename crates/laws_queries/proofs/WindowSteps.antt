@@ -30,7 +30,7 @@ use Rattle.laws_dataflow.proofs.WindowTurns.{WindowMade, latest_rows_made, lates
 use Rattle.laws_dataflow.proofs.SlideTurns.{SlideMade, slide_rows_made, slide_tick_made}
 use Rattle.laws_queries.specs.Runs.{RunsWindow, WindowStands, shown_by}
 use Rattle.laws_queries.specs.Widths.{AreEntries, IsSideWide, IsStateWide, IsWindowWide, width_at}
-use Rattle.laws_queries.specs.Counts.{AreWindowRowsFew, StaysWithin, count, stream_rows}
+use Rattle.laws_queries.specs.Counts.{AreWindowRowsFew, StaysWithin, count, source_rows}
 use Rattle.laws_queries.specs.Steps.{IsFirst, MayTake, MayLaw, Stands, StepLaw, StepMade, outs_at_first}
 use Rattle.laws_queries.proofs.FirstLemmas.{batch_some, first_left, left_after}
 use Rattle.laws_queries.proofs.HeldLemmas.{HeldKept, count_elements, item_now, item_wide, latest_few, latest_wide, range_few, range_up_to, range_wide, slide_few, slide_up_to, slide_wide, window_kept}
@@ -76,7 +76,7 @@ module _ (w : World) (ws : List ℕ) (ns : List plan.Node) (k x : ℕ) (o : Plai
   wide : IsWindowWide (width_at ws k) o h q
   wide = s.wide
 
-  few : AreWindowRowsFew (w.closed x) (w.came x) (w.inputs x) h e
+  few : AreWindowRowsFew (source_rows ns) (w.closed x) (w.came x) (w.inputs x) h e
   few = s.few
 
   good : GoodWindow w.first (w.windows x) (w.inputs x) (w.closed x) h e n q
@@ -253,12 +253,12 @@ module _ (w : World) (ws : List ℕ) (ns : List plan.Node) (k x : ℕ) (o o2 : P
       → HeldMade w x h e b2 (entries_of i ++ f.rest) n outs2 f.rest shows Stand
       → Belongs o2.kind o2.state → IsStateWide (width_at ws k) o2.state
       → ((m : ℕ) (l : List Element) → Stand m l → WindowStands w.first (w.windows x) m o2.state l)
-      → AreEntries (width_at ws k) outs2 → StaysWithin stream_rows (count b2) outs2
+      → AreEntries (width_at ws k) outs2 → StaysWithin (source_rows ns) (count b2) outs2
       → StepMade w ws ns k (plan.Window x) (at_window h e b q n) outs o2 log
   step used outs2 same b2 bag shows shown Stand made kind state stand outs_wide outs_few =
       let queue : q ≡ entries_of i ++ f.rest = first_left o log q side i used before.queue f in
       let wide : IsWindowWide (width_at ws k) o h q = s.wide in
-      let few : AreWindowRowsFew (w.closed x) (w.came x) (w.inputs x) h e = s.few in
+      let few : AreWindowRowsFew (source_rows ns) (w.closed x) (w.came x) (w.inputs x) h e = s.few in
       let cell : Cell = at_window made.held made.waiting (shows made.held) f.rest made.opens in
       let kept : HeldKept (width_at ws k) h e (entries_of i ++ f.rest) made.held made.waiting f.rest =
       window_kept w (window x) (at_window h e b2 (entries_of i ++ f.rest) n) cell outs2 made.turn (width_at ws k) in
@@ -272,7 +272,7 @@ module _ (w : World) (ws : List ℕ) (ns : List plan.Node) (k x : ℕ) (o o2 : P
         few = record { few = omega (arith, few.few, kept.few); stream = few.stream };
         outs_wide = subst (AreEntries (width_at ws k)) same outs_wide;
         outs_few = subst₂ (λ m ys. StaysWithin m (count b) ys) (sym s.room.most) same
-            (subst (λ l. StaysWithin stream_rows (count l) outs2) (sym bag) outs_few);
+            (subst (λ l. StaysWithin (source_rows ns) (count l) outs2) (sym bag) outs_few);
       }
 
   range_step : (r : RangeState) → o.state ≡ state.Range r → WindowStands w.first (w.windows x) n (state.Range r) h
@@ -282,21 +282,21 @@ module _ (w : World) (ws : List ℕ) (ns : List plan.Node) (k x : ℕ) (o o2 : P
       let used : is_left side ≡ true = subst (λ c. usable c side ≡ true) is f.usable in
       let queue : q ≡ entries_of i ++ f.rest = first_left o log q side i used before.queue f in
       let wide : IsWindowWide (width_at ws k) o h q = s.wide in
-      let few : AreWindowRowsFew (w.closed x) (w.came x) (w.inputs x) h e = s.few in
+      let few : AreWindowRowsFew (source_rows ns) (w.closed x) (w.came x) (w.inputs x) h e = s.few in
       let good : GoodWindow w.first (w.windows x) (w.inputs x) (w.closed x) h e n (entries_of i ++ f.rest) =
       subst (GoodWindow w.first (w.windows x) (w.inputs x) (w.closed x) h e n) queue s.good in
       let width : r.width ≡ width_at ws k = subst (IsStateWide (width_at ws k)) is wide.state in
       let made : Put (range.out i (range.near r i)) ≡ Put outs = subst₂ (λ c j. outs_at c side i (near_of j side i) ≡ Put outs) a is put in
       let same : range.out i (range.near r i) ≡ outs = cc in
       let next : o2.state ≡ state.Range (range_after r i) = subst (λ c. IsNext c side i (change_at o.kind i (near_of o.state side i)) o2.state) is g.state in
-      let bound : count (rows_in_order h) + length e ≤ stream_rows = omega (arith, count_elements h, few.few, few.stream) in
+      let bound : count (rows_in_order h) + length e ≤ source_rows ns = omega (arith, count_elements h, few.few, few.stream) in
       step used (range.out i (range.near r i)) same (rows_in_order h) (before.shows ∙ ap (λ c. shown_by c h) is) rows_in_order
       (λ l. ap (λ c. shown_by c l) (sym next)) (λ m. RangeStands m (range.next r i)) (range_made w x n (w.closed x) h e f.rest r st.0 i f.some st.1 good)
       (subst₂ Belongs (sym (g.kind ∙ a)) (sym next) (range_after r i, refl))
       (subst (IsStateWide (width_at ws k)) (sym next) width)
       (λ m l stands. subst (λ c. WindowStands w.first (w.windows x) m c l) (sym next) (st.0, stands))
       (range_wide r (width_at ws k) n h i f.rest st.1 (subst (IsSideWide (width_at ws k) (rows_in_order h)) queue wide.side))
-      (range_few r stream_rows (count (rows_in_order h)) n (w.closed x) e i f.rest good.brings bound)
+      (range_few r (source_rows ns) (count (rows_in_order h)) n (w.closed x) e i f.rest good.brings bound)
 
   slide_step : (r : SlideState) → o.state ≡ state.Slide r → WindowStands w.first (w.windows x) n (state.Slide r) h
       → StepMade w ws ns k (plan.Window x) (at_window h e b q n) outs o2 log
@@ -305,7 +305,7 @@ module _ (w : World) (ws : List ℕ) (ns : List plan.Node) (k x : ℕ) (o o2 : P
       let used : is_left side ≡ true = subst (λ c. usable c side ≡ true) is f.usable in
       let queue : q ≡ entries_of i ++ f.rest = first_left o log q side i used before.queue f in
       let wide : IsWindowWide (width_at ws k) o h q = s.wide in
-      let few : AreWindowRowsFew (w.closed x) (w.came x) (w.inputs x) h e = s.few in
+      let few : AreWindowRowsFew (source_rows ns) (w.closed x) (w.came x) (w.inputs x) h e = s.few in
       let good : GoodWindow w.first (w.windows x) (w.inputs x) (w.closed x) h e n (entries_of i ++ f.rest) =
       subst (GoodWindow w.first (w.windows x) (w.inputs x) (w.closed x) h e n) queue s.good in
       let width : r.width ≡ width_at ws k = subst (IsStateWide (width_at ws k)) is wide.state in
@@ -314,7 +314,7 @@ module _ (w : World) (ws : List ℕ) (ns : List plan.Node) (k x : ℕ) (o o2 : P
       let new : SlideState = slide.next r i in
       let next : o2.state ≡ state.Slide new = subst (λ c. IsNext c side i (change_at o.kind i (near_of o.state side i)) o2.state) is g.state in
       let kept : SlideKept r new = slide_kept r i in
-      let bound : length h ≤ stream_rows = omega (arith, few.few, few.stream) in
+      let bound : length h ≤ source_rows ns = omega (arith, few.few, few.stream) in
       step used (slide.out i (slide.near r i)) same (slide_shows r h) (before.shows ∙ ap (λ c. shown_by c h) is) (slide_shows new)
       (λ l. ap (λ c. shown_by c l) (sym next)) (λ m. SlideStands w.first m new) (slide_made w x n (w.closed x) h e f.rest r st.0 i f.some st.1 good)
       (subst₂ Belongs (sym (g.kind ∙ a)) (sym next) (new, refl))
@@ -322,7 +322,7 @@ module _ (w : World) (ws : List ℕ) (ns : List plan.Node) (k x : ℕ) (o o2 : P
       (λ m l stands. subst (λ c. WindowStands w.first (w.windows x) m c l) (sym next)
       (subst₂ (λ a b. w.windows x ≡ RangeSlide a b) (sym kept.span) (sym kept.step) st.0, stands))
       (slide_wide r w.first (width_at ws k) n h i f.rest st.1 (subst (IsSideWide (width_at ws k) (rows_in_order h)) queue wide.side))
-      (slide_few r stream_rows w.first n h i st.1 bound)
+      (slide_few r (source_rows ns) w.first n h i st.1 bound)
 
   latest_step : (r : LatestState) → o.state ≡ state.Latest r → WindowStands w.first (w.windows x) n (state.Latest r) h
       → StepMade w ws ns k (plan.Window x) (at_window h e b q n) outs o2 log
@@ -331,7 +331,7 @@ module _ (w : World) (ws : List ℕ) (ns : List plan.Node) (k x : ℕ) (o o2 : P
       let used : is_left side ≡ true = subst (λ c. usable c side ≡ true) is f.usable in
       let queue : q ≡ entries_of i ++ f.rest = first_left o log q side i used before.queue f in
       let wide : IsWindowWide (width_at ws k) o h q = s.wide in
-      let few : AreWindowRowsFew (w.closed x) (w.came x) (w.inputs x) h e = s.few in
+      let few : AreWindowRowsFew (source_rows ns) (w.closed x) (w.came x) (w.inputs x) h e = s.few in
       let good : GoodWindow w.first (w.windows x) (w.inputs x) (w.closed x) h e n (entries_of i ++ f.rest) =
       subst (GoodWindow w.first (w.windows x) (w.inputs x) (w.closed x) h e n) queue s.good in
       let width : r.width ≡ width_at ws k = subst (IsStateWide (width_at ws k)) is wide.state in
@@ -342,7 +342,7 @@ module _ (w : World) (ws : List ℕ) (ns : List plan.Node) (k x : ℕ) (o o2 : P
       let new : LatestState = next.next in
       let shows : w.windows x ≡ LastRows new.columns new.count =
       subst₂ (λ c m. w.windows x ≡ LastRows c m) (sym next.after.columns) (sym next.after.count) st.0 in
-      let bound : count (rows_in_order h) + length e ≤ stream_rows = omega (arith, count_elements h, few.few, few.stream) in
+      let bound : count (rows_in_order h) + length e ≤ source_rows ns = omega (arith, count_elements h, few.few, few.stream) in
       step used (latest.out i (latest.near r i)) same (rows_in_order h) (before.shows ∙ ap (λ c. shown_by c h) is) rows_in_order
       (λ l. ap (λ c. shown_by c l) (sym next.is)) (λ m. LatestStands w.first r.columns r.count m (latest.next r i))
       (latest_made w x n (w.closed x) h e f.rest r st.0 i f.some st.1 good)
@@ -350,7 +350,7 @@ module _ (w : World) (ws : List ℕ) (ns : List plan.Node) (k x : ℕ) (o o2 : P
       (subst (IsStateWide (width_at ws k)) (sym next.is) (next.after.width ∙ width))
       (λ m l stands. subst (λ c. WindowStands w.first (w.windows x) m c l) (sym next.is) (shows, latest_stands w.first m r new i l next.after stands))
       (latest_wide r w.first (width_at ws k) n h i f.rest st.1 (subst (IsSideWide (width_at ws k) (rows_in_order h)) queue wide.side))
-      (latest_few r stream_rows (count (rows_in_order h)) n (w.closed x) e i f.rest good.brings bound)
+      (latest_few r (source_rows ns) (count (rows_in_order h)) n (w.closed x) e i f.rest good.brings bound)
 
   step_of : (r : State) → o.state ≡ r → WindowStands w.first (w.windows x) n r h → StepMade w ws ns k (plan.Window x) (at_window h e b q n) outs o2 log
   step_of (state.Range r) is st = range_step r is st

@@ -399,7 +399,9 @@ fn greatest(values: &BTreeMap<Value, u64>) -> Value
 pub(crate) struct Cell {
     /// How many rows entered, less those that left.
     rows: i64,
-    /// For each item of the list, in order, its tally.
+    /// How many items the list has.
+    count: usize,
+    /// For each item of the list, in order, its tally; those at the end that took nothing are left out.
     tallies: Vec<Tally>,
     /// The row that was shown last; `None` where none was yet.
     shown: Option<Vec<Value>>,
@@ -425,6 +427,7 @@ impl Model for Cell {
 
 /// A row of a batch enters or leaves: each tally takes it.
 fn take_tallies(
+    alloc: Global,
     tallies: &mut Vec<Tally>,
     items: &[ListItem],
     batch: &Batch,
@@ -440,7 +443,14 @@ fn take_tallies(
     let enters = enters(batch, place);
     for i in 0..items.len() {
         let item = items[i];
-        tallies[i].take(enters, keeps(item), number_at(item, batch, place))?;
+        let number = number_at(item, batch, place);
+        if number.number().is_none() {
+            continue;
+        }
+        while tallies.len() <= i {
+            tallies.push(Tally::new(alloc))?;
+        }
+        tallies[i].take(enters, keeps(item), number)?;
     }
     Ok(())
 }
@@ -471,6 +481,7 @@ fn rows_counted(batch: &Batch) -> i64
 
 /// The rows of a batch enter and leave: each tally takes them.
 fn take_batches(
+    alloc: Global,
     tallies: &mut Vec<Tally>,
     items: &[ListItem],
     batch: &Batch,
@@ -482,9 +493,24 @@ fn take_batches(
     ensures range { OnOk result (AllInRange items.now batch.now) }
 {
     for place in 0..items.len() {
+        while tallies.len() <= place {
+            tallies.push(Tally::new(alloc))?;
+        }
         tallies[place].take_batch(items[place], batch)?;
     }
     Ok(())
+}
+
+fn figure_at(tallies: &[Tally], place: usize, item: ListItem, key: &[Value], rows: i64) -> Figure {
+    if place < tallies.len() {
+        return tallies[place].figure(item, key, rows);
+    }
+    match item {
+        ListItem::Key(column) => value_figure(value_in(key, column)),
+        ListItem::CountAll => number_figure(rows as i128),
+        ListItem::Count(_) => number_figure(0),
+        _ => value_figure(Value::null()),
+    }
 }
 
 /// The exact figures of a group, one for each item of the list.
@@ -499,10 +525,10 @@ fn figures_of(
         ≡ figures key.now rows items.now tallies.now) }
     ensures few { IfOk result (λ fs. length fs.items ≤ length items.now) }
 {
-    let count = items.len().min(tallies.len());
+    let count = items.len();
     let mut figures = Vec::with_capacity(alloc, count)?;
     for place in 0..count {
-        figures.push(tallies[place].figure(items[place], key, rows))?;
+        figures.push(figure_at(tallies, place, items[place], key, rows))?;
     }
     Ok(figures)
 }
@@ -519,11 +545,11 @@ fn write_row(
     ensures { OnOk result (row.new.items
         ≡ map shown_figure (figures key.now rows items.now tallies.now)) }
 {
-    let count = items.len().min(tallies.len());
+    let count = items.len();
     row.clear();
     row.reserve_exact(count)?;
     for place in 0..count {
-        row.push_reserved(tallies[place].figure(items[place], key, rows).shown());
+        row.push_reserved(figure_at(tallies, place, items[place], key, rows).shown());
     }
     Ok(())
 }
@@ -583,13 +609,10 @@ impl Cell {
     pub(crate) fn new(alloc: Global, count: usize) -> Result<Cell, AllocError>
         ensures { IfOk result (λ c. c ≡ cell_zero count) }
     {
-        let mut tallies = Vec::with_capacity(alloc, count)?;
-        for _ in 0..count {
-            tallies.push(Tally::new(alloc))?;
-        }
         Ok(Cell {
             rows: 0,
-            tallies,
+            count,
+            tallies: Vec::new(alloc),
             shown: None,
         })
     }
@@ -597,6 +620,7 @@ impl Cell {
     /// A row of a batch, which is of the group, enters or leaves.
     pub(crate) fn take(
         &mut self,
+        alloc: Global,
         items: &[ListItem],
         batch: &Batch,
         place: usize,
@@ -607,18 +631,18 @@ impl Cell {
             ≡ cell_after items.now self.old (row_in batch.now place)) }
         ensures range { OnOk result (ReadsInRange items.now (row_in batch.now place)) }
     {
-        take_tallies(&mut self.tallies, items, batch, place)?;
+        take_tallies(alloc, &mut self.tallies, items, batch, place)?;
         self.rows = counted(self.rows, enters(batch, place));
         Ok(())
     }
 
     /// The rows of a batch enter and leave, all of this group.
-    pub(crate) fn take_batch(&mut self, items: &[ListItem], batch: &Batch) -> Result<(), AllocError>
+    pub(crate) fn take_batch(&mut self, alloc: Global, items: &[ListItem], batch: &Batch) -> Result<(), AllocError>
         requires { CellRoom (2 ^ 62) items.now self.old }
         ensures cell { OnOk result (self.new ≡ fold (cell_after items.now) self.old batch.now) }
         ensures range { OnOk result (AllInRange items.now batch.now) }
     {
-        take_batches(&mut self.tallies, items, batch)?;
+        take_batches(alloc, &mut self.tallies, items, batch)?;
         self.rows = count_added(self.rows, rows_counted(batch));
         Ok(())
     }

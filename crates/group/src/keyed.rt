@@ -122,10 +122,10 @@ impl<const N: usize> Keyed<N> {
         let _ = &self.cells;
         touch(&mut self.touched, key.copied())?;
         if let Some(cell) = self.cells.get_mut(&key) {
-            return cell.take(items, batch, place);
+            return cell.take(alloc, items, batch, place);
         }
         let mut cell = Cell::new(alloc, items.len())?;
-        cell.take(items, batch, place)?;
+        cell.take(alloc, items, batch, place)?;
         self.cells.insert(key, cell)?;
         Ok(())
     }
@@ -151,10 +151,10 @@ impl<const N: usize> Keyed<N> {
         let key = Key::of(key);
         touch(&mut self.touched, key.copied())?;
         if let Some(cell) = self.cells.get_mut(&key) {
-            return cell.take_batch(items, batch);
+            return cell.take_batch(alloc, items, batch);
         }
         let mut cell = Cell::new(alloc, items.len())?;
-        cell.take_batch(items, batch)?;
+        cell.take_batch(alloc, items, batch)?;
         self.cells.insert(key, cell)?;
         Ok(())
     }

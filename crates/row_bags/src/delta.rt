@@ -80,6 +80,12 @@ impl Delta {
         Ok((gone, come))
     }
 
+    pub(crate) fn sorted(&mut self) -> (&Pile, &Pile) {
+        self.left.sort();
+        self.entered.sort();
+        (&self.left, &self.entered)
+    }
+
     /// Pushes what entered behind the answers, in order, each row with the instant. An error says
     /// that memory was refused; the answers are as they were.
     pub fn push_entered(

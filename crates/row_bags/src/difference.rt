@@ -50,7 +50,7 @@ pub(crate) fn push_beyond(answers: &mut VecDeque<(u64, Row)>, at: u64, rows: &Pi
 }
 
 /// The place of the first of the rows from `start` on that is not below the values.
-fn first_not_below(values: &[Value], others: &Pile, start: usize) -> usize
+pub(crate) fn first_not_below(values: &[Value], others: &Pile, start: usize) -> usize
     requires { start ≤ length (pile_in others.now) }
     ensures rows { drop result (pile_in others.now)
         ≡ not_below values.now (drop start (pile_in others.now)) }
@@ -65,7 +65,7 @@ fn first_not_below(values: &[Value], others: &Pile, start: usize) -> usize
 }
 
 /// Whether the row with these values stands at a place.
-fn stands_at(values: &[Value], others: &Pile, place: usize) -> bool
+pub(crate) fn stands_at(values: &[Value], others: &Pile, place: usize) -> bool
     ensures is { result ≡ is_first values.now (drop place (pile_in others.now)) }
     ensures within { IsTrue result → place < length (pile_in others.now) }
 {

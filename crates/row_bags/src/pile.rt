@@ -154,6 +154,13 @@ impl Pile {
         }
     }
 
+    pub(crate) fn count_values(&self) -> usize {
+        if self.len() == 0 {
+            return 0;
+        }
+        self.len() * self.room()
+    }
+
     /// The values of the row at a place.
     pub(crate) fn values(&self, place: usize) -> &[Value]
         requires { place < length (pile_in self.now) }

@@ -4,7 +4,10 @@ ghost use Rattle.row_bags.specs.Bags.{rows_of};
 ghost use Rattle.row_bags.specs.Lists.{is_first, staying, up_to, past, merged, renewed};
 
 use crate::delta::Delta;
+use crate::difference::{first_not_below, stands_at};
+use crate::pile::Pile;
 use std::alloc::{AllocError, Global};
+use std::collections::VecDeque;
 use std::marker::Model;
 use values::{MAX_COLUMNS, Row, Value, compare_rows, copy_row, same_rows};
 
@@ -80,6 +83,46 @@ impl RowList {
         Ok(whole)
     }
 
+    /// Becomes the rows after what left and entered, and pushes them behind the answers, each with
+    /// the instant.
+    pub fn renew_to(
+        &mut self,
+        alloc: Global,
+        delta: &mut Delta,
+        at: u64,
+        answers: &mut VecDeque<(u64, Row)>,
+    ) -> Result<(), AllocError> {
+        let (left, entered) = delta.sorted();
+        let count = self.widths.len() + entered.len();
+        let mut widths = Vec::with_capacity(alloc, count)?;
+        let mut values = Vec::with_capacity(alloc, self.values.len() + entered.count_values())?;
+        answers.reserve(count)?;
+        let mut start = 0;
+        let mut gone = next_beyond(left, 0, entered, 0);
+        let mut came = next_beyond(entered, 0, left, 0);
+        for width in &self.widths {
+            let end = start + *width as usize;
+            let row = &self.values[start..end];
+            start = end;
+            if gone.0 < left.len() && left.values(gone.0) == row {
+                gone = next_beyond(left, gone.0 + 1, entered, gone.1);
+                continue;
+            }
+            while came.0 < entered.len() && !entered.values(came.0).cmp(row).is_gt() {
+                put(&mut widths, &mut values, at, answers, entered.values(came.0));
+                came = next_beyond(entered, came.0 + 1, left, came.1);
+            }
+            put(&mut widths, &mut values, at, answers, row);
+        }
+        while came.0 < entered.len() {
+            put(&mut widths, &mut values, at, answers, entered.values(came.0));
+            came = next_beyond(entered, came.0 + 1, left, came.1);
+        }
+        self.widths = widths;
+        self.values = values;
+        Ok(())
+    }
+
     /// The rows without those that left, and with those that entered: one walk over the three
     /// lists.
     fn merged(&self, alloc: Global, left: &[Row], entered: &[Row]) -> Result<Vec<Row>, AllocError>
@@ -104,6 +147,35 @@ impl RowList {
         push_rest(&mut rows, entered, came)?;
         Ok(rows)
     }
+}
+
+fn put(
+    widths: &mut Vec<u8>,
+    values: &mut Vec<Value>,
+    at: u64,
+    answers: &mut VecDeque<(u64, Row)>,
+    row: &[Value],
+) {
+    widths.push_reserved(row.len() as u8);
+    for value in row {
+        values.push_reserved(*value);
+    }
+    answers.push_back_reserved((at, row_of(row)));
+}
+
+/// The place of the next row from `start` on beyond the others, and where those go on.
+fn next_beyond(rows: &Pile, start: usize, others: &Pile, from: usize) -> (usize, usize) {
+    let mut other = from;
+    for place in start..rows.len() {
+        let values = rows.values(place);
+        other = first_not_below(values, others, other);
+        if stands_at(values, others, other) {
+            other += 1;
+            continue;
+        }
+        return (place, other);
+    }
+    (rows.len(), other)
 }
 
 /// These rows as a list.

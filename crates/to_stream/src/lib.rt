@@ -154,7 +154,7 @@ impl ToStream {
             StreamOperator::Istream => self.delta.push_entered(at, answers),
             StreamOperator::Dstream => self.delta.push_left(at, answers),
             StreamOperator::Rstream => {
-                push_whole(self.alloc, &mut self.whole, &self.delta, at, answers)
+                self.whole.renew_to(self.alloc, &mut self.delta, at, answers)
             }
         }
     }

@@ -117,6 +117,19 @@ impl Slot {
         self.slope == other.slope
     }
 
+    /// Whether the other has a smaller slope.
+    pub fn is_steeper(&self, other: &Slot) -> bool {
+        self.slope < other.slope
+    }
+
+    /// Whether this is of the same instant.
+    pub fn goes_on(&self, next: Option<(Side, u64)>) -> bool {
+        match next {
+            Some((_, at)) => at == self.instant,
+            None => false,
+        }
+    }
+
     /// The slot, if the operator has something to take.
     pub(crate) fn unless_idle(self) -> Option<Slot>
         ensures { result ≡ cond self.is_idle None (Some self) }

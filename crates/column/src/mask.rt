@@ -183,9 +183,14 @@ impl Mask {
 
     /// The truths stay at whose places another mask is true. Takes no memory.
     pub fn keep(&mut self, mask: &Mask)
-        requires { length mask.now ≡ length self.old }
-        ensures { self.new ≡ chosen mask.now self.old }
     {
+        if let (Some(word), Some(choice)) = (self.words.only(), mask.words.only()) {
+            let (kept, count) = kept_bits(word, choice, self.len);
+            self.words.set(0, kept);
+            self.words.truncate((count + 63) / 64);
+            self.len = count;
+            return;
+        }
         let mut kept = 0;
         for i in 0..self.len() {
             if mask.get(i) {
@@ -240,6 +245,20 @@ impl Mask {
     {
         self.words.as_slice()
     }
+}
+
+fn kept_bits(word: u64, choice: u64, len: usize) -> (u64, usize) {
+    let mut kept = 0;
+    let mut count = 0;
+    for i in 0..len {
+        if choice >> i & 1 == 1 {
+            if word >> i & 1 == 1 {
+                kept = with_bit(kept, count);
+            }
+            count += 1;
+        }
+    }
+    (kept, count)
 }
 
 /// Appends a bit to the first `at`.

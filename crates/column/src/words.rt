@@ -82,6 +82,10 @@ impl Words {
         }
     }
 
+    pub(crate) fn only(&self) -> Option<u64> {
+        if self.is_one { Some(self.one[0]) } else { None }
+    }
+
     /// One word more. An error says that memory was refused; nothing is changed.
     pub(crate) fn push(&mut self, word: u64) -> Result<(), AllocError>
         ensures ok { OnOk result (self.new ≡ self.old ++ word ∷ []) }

@@ -102,4 +102,30 @@ impl Page {
         }
         self.add_digits(sink, number.unsigned_abs());
     }
+
+    /// Adds a comma and a number in decimal.
+    pub(crate) fn add_next_number<K: Sink>(&mut self, sink: &mut K, number: i64) {
+        let mut text = [0u8; MOST_DIGITS];
+        let mut start = put_digits(number.unsigned_abs(), &mut text);
+        if start < 2 {
+            self.add(sink, b",");
+            self.add_number(sink, number);
+            return;
+        }
+        if number < 0 {
+            start -= 1;
+            text[start] = b'-';
+        }
+        start -= 1;
+        text[start] = b',';
+        self.add(sink, &text[start..]);
+    }
+
+    /// Adds a byte.
+    pub(crate) fn add_byte<K: Sink>(&mut self, sink: &mut K, byte: u8) {
+        if self.bytes.try_push(byte).is_ok() {
+            return;
+        }
+        self.add(sink, &[byte]);
+    }
 }

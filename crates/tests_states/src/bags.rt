@@ -1,4 +1,5 @@
 //! Worked bags of rows.
+use crate::facts::assert_all;
 use crate::rows::{are, one, row};
 use column::{Batch, SignedRow};
 use row_bags::{Delta, RowBag, RowList, begins_with, copied, fitted};
@@ -54,27 +55,12 @@ fn rest(alloc: Global) -> Result<bool, AllocError> {
     shows(alloc, &bag, &[5, 7])
 }
 
-#[test]
-fn rows_come_in_order_with_their_repeats(rt: HostRuntime) -> Result<(), Fail> {
-    assert!(rt; whole(rt.alloc())?);
-    assert!(rt; rest(rt.alloc())?);
-    Ok(())
-}
-
 /// How many rows of a number the filled bag has.
 fn rows_with(alloc: Global, number: i64) -> Result<usize, AllocError> {
     let bag = filled(alloc)?;
     let mut rows = Vec::new(alloc);
     bag.push_rows_with(&row(number), &mut rows)?;
     Ok(rows.len())
-}
-
-#[test]
-fn rows_of_a_key_stand_together(rt: HostRuntime) -> Result<(), Fail> {
-    assert_eq!(rt; rows_with(rt.alloc(), 5)?, 2);
-    assert_eq!(rt; rows_with(rt.alloc(), 6)?, 0);
-    assert!(rt; !begins_with(&row(1), &row(2)));
-    Ok(())
 }
 
 fn four_is_added(alloc: Global) -> Result<bool, AllocError> {
@@ -91,13 +77,6 @@ fn one_at_a_time(alloc: Global) -> Result<bool, AllocError> {
     bag.apply_one(one(false, 4))?;
     bag.apply_one(one(false, 9))?;
     shows(alloc, &bag, &[6])
-}
-
-#[test]
-fn one_row_more(rt: HostRuntime) -> Result<(), Fail> {
-    assert!(rt; four_is_added(rt.alloc())?);
-    assert!(rt; one_at_a_time(rt.alloc())?);
-    Ok(())
 }
 
 /// A row that has the number 1 as often as that, at most 16 times.
@@ -149,13 +128,6 @@ fn has_no_wide_row(alloc: Global) -> Result<bool, AllocError> {
     Ok(!bag.has(&ones(16)) && rows.is_empty())
 }
 
-#[test]
-fn rows_of_other_widths_stand_side_by_side(rt: HostRuntime) -> Result<(), Fail> {
-    assert!(rt; wide_rows_come(rt.alloc())?);
-    assert!(rt; has_no_wide_row(rt.alloc())?);
-    Ok(())
-}
-
 /// Whether a row of so many ones gets a key with room for two values, which then has its values.
 fn fits_two(count: usize) -> bool {
     let row = ones(count);
@@ -165,19 +137,15 @@ fn fits_two(count: usize) -> bool {
     }
 }
 
-/// The row 7 in less room, and back.
-fn seven_again() -> Row {
+/// Whether the row 7 in less room, and back, is the row 7.
+fn seven_comes_back() -> bool {
     let seven = row(7);
     let key = copied::<16, 4>(&seven);
-    copied::<4, 16>(&key)
+    same_rows(&copied::<4, 16>(&key), &seven)
 }
 
-#[test]
-fn keys_have_the_values_of_their_rows(rt: HostRuntime) -> Result<(), Fail> {
-    assert!(rt; fits_two(2) && fits_two(0));
-    assert!(rt; !fits_two(3));
-    assert!(rt; same_rows(&seven_again(), &row(7)));
-    Ok(())
+fn two_does_not_begin_with_one() -> bool {
+    !begins_with(&row(1), &row(2))
 }
 
 /// What entered and left with the first row, which leaves or enters, and the others, which enter.
@@ -222,22 +190,10 @@ fn six_came(alloc: Global) -> Result<bool, AllocError> {
     shows_delta(alloc, &delta, &[6], &[])
 }
 
-#[test]
-fn what_leaves_and_comes_again_is_in_neither(rt: HostRuntime) -> Result<(), Fail> {
-    assert!(rt; six_came(rt.alloc())?);
-    Ok(())
-}
-
 fn eight_left(alloc: Global) -> Result<bool, AllocError> {
     let mut delta = Delta::new(alloc);
     delta.apply_one(one(false, 8))?;
     shows_delta(alloc, &delta, &[], &[8])
-}
-
-#[test]
-fn what_leaves_is_kept(rt: HostRuntime) -> Result<(), Fail> {
-    assert!(rt; eight_left(rt.alloc())?);
-    Ok(())
 }
 
 /// The rows 5, 5 and 7 in a list.
@@ -285,14 +241,6 @@ fn none_is_left(alloc: Global) -> Result<bool, AllocError> {
     list_shows(alloc, &list, &none, &[])
 }
 
-#[test]
-fn a_list_becomes_what_left_and_entered_make_of_it(rt: HostRuntime) -> Result<(), Fail> {
-    assert!(rt; nothing_changes(rt.alloc())?);
-    assert!(rt; one_of_two_leaves(rt.alloc())?);
-    assert!(rt; none_is_left(rt.alloc())?);
-    Ok(())
-}
-
 /// The row comes to the list, or leaves it.
 fn takes(alloc: Global, list: &mut RowList, signed_row: SignedRow) -> Result<(), AllocError> {
     let mut delta = Delta::new(alloc);
@@ -323,8 +271,52 @@ fn place_value(rows: &[Row]) -> usize {
     number
 }
 
+/// What is tried of bags, deltas and lists.
+const FACTS: [&str; 17] = [
+    "rows come in order with their repeats",
+    "a row leaves once, and one that is not there does not",
+    "rows of a key stand together",
+    "a key with no rows has none",
+    "a row does not begin with another",
+    "a row is added",
+    "rows come and leave one at a time",
+    "rows of other widths stand side by side",
+    "a wide row is not among narrow ones",
+    "keys have the values of their rows",
+    "a row in less room comes back",
+    "what leaves and comes again is in neither",
+    "what leaves is kept",
+    "nothing changes a list",
+    "one of two rows leaves a list",
+    "all rows leave a list",
+    "rows of other widths stand in one list",
+];
+
+/// Whether each holds.
+fn truths(alloc: Global) -> Result<[bool; 17], AllocError> {
+    Ok([
+        whole(alloc)?,
+        rest(alloc)?,
+        rows_with(alloc, 5)? == 2,
+        rows_with(alloc, 6)? == 0,
+        two_does_not_begin_with_one(),
+        four_is_added(alloc)?,
+        one_at_a_time(alloc)?,
+        wide_rows_come(alloc)?,
+        has_no_wide_row(alloc)?,
+        fits_two(2) && fits_two(0) && !fits_two(3),
+        seven_comes_back(),
+        six_came(alloc)?,
+        eight_left(alloc)?,
+        nothing_changes(alloc)?,
+        one_of_two_leaves(alloc)?,
+        none_is_left(alloc)?,
+        wide_rows_are_listed(alloc)? == 90,
+    ])
+}
+
 #[test]
-fn rows_of_other_widths_stand_in_one_list(rt: HostRuntime) -> Result<(), Fail> {
-    assert_eq!(rt; wide_rows_are_listed(rt.alloc())?, 90);
+fn rows_stand_in_bags_deltas_and_lists(rt: HostRuntime) -> Result<(), Fail> {
+    assert_all(&rt, &FACTS, &truths(rt.alloc())?);
     Ok(())
 }

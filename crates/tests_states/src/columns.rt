@@ -2,6 +2,7 @@
 ghost use Rattle.std.specs.Prelude.{◌≡◌, ◌≤◌, IfOk, length};
 ghost use Rattle.column.specs.Rows.{width};
 
+use crate::facts::assert_all;
 use crate::rows::{NULL, shows, two};
 use crate::samples::counted;
 use column::{Batch, Column, Mask, Side};
@@ -26,6 +27,13 @@ const FIRST: Shown = (true, [Some(1), Some(10), None]);
 const SECOND: Shown = (false, [Some(2), None, None]);
 
 const THIRD: Shown = (true, [Some(3), Some(30), None]);
+
+/// The rows with their columns turned.
+const TURNED: [Shown; 3] = [
+    (true, [Some(10), Some(1), None]),
+    (false, [None, Some(2), None]),
+    (true, [Some(30), Some(3), None]),
+];
 
 /// How rows are copied.
 #[derive(Clone, Copy, Drop)]
@@ -54,20 +62,6 @@ fn copy_shows(alloc: Global, how: Copying, rows: &[Shown]) -> Result<bool, Alloc
     Ok(shows(&copy, rows))
 }
 
-#[test]
-fn rows_cut_parted_picked_and_projected(rt: HostRuntime) -> Result<(), Fail> {
-    assert!(rt; copy_shows(rt.alloc(), Copying::Cut, &[FIRST, SECOND])?);
-    assert!(rt; copy_shows(rt.alloc(), Copying::Part, &[SECOND, THIRD])?);
-    assert!(rt; copy_shows(rt.alloc(), Copying::Picked, &[SECOND, SECOND])?);
-    let turned = [
-        (true, [Some(10), Some(1), None]),
-        (false, [None, Some(2), None]),
-        (true, [Some(30), Some(3), None]),
-    ];
-    assert!(rt; copy_shows(rt.alloc(), Copying::Projected, &turned)?);
-    Ok(())
-}
-
 /// The rows of a batch that leave.
 fn leaving(alloc: Global, batch: &Batch) -> Result<Option<Batch>, AllocError> {
     let mask = Mask::from_words(alloc, batch.leaving_words(), batch.len())?;
@@ -93,13 +87,6 @@ fn entering_leave(alloc: Global) -> Result<bool, AllocError> {
     Ok(none.is_some())
 }
 
-#[test]
-fn rows_that_leave_gathered(rt: HostRuntime) -> Result<(), Fail> {
-    assert!(rt; leaving_shows(rt.alloc())?);
-    assert!(rt; !entering_leave(rt.alloc())?);
-    Ok(())
-}
-
 /// Each row beside its second value again, with the sign of the right.
 fn beside_itself(alloc: Global) -> Result<Option<Batch>, AllocError> {
     let left = three(alloc)?;
@@ -123,12 +110,6 @@ fn beside_itself_shows(alloc: Global) -> Result<bool, AllocError> {
     }
 }
 
-#[test]
-fn rows_beside_rows(rt: HostRuntime) -> Result<(), Fail> {
-    assert!(rt; beside_itself_shows(rt.alloc())?);
-    Ok(())
-}
-
 /// Whether the second column lends these numbers and these words of its nulls, and its numbers lie
 /// in the range of a stream.
 fn lends(batch: &Batch, numbers: &[i64], valid: &[u64]) -> bool
@@ -144,12 +125,6 @@ fn lends(batch: &Batch, numbers: &[i64], valid: &[u64]) -> bool
 fn words_are_lent(alloc: Global) -> Result<bool, AllocError> {
     let batch = three(alloc)?;
     Ok(lends(&batch, &[10, 0, 30], &[5]) && batch.leaving_words() == [2].as_slice())
-}
-
-#[test]
-fn words_lent_to_lanes(rt: HostRuntime) -> Result<(), Fail> {
-    assert!(rt; words_are_lent(rt.alloc())?);
-    Ok(())
 }
 
 fn values_in_a_column(alloc: Global) -> Result<bool, AllocError> {
@@ -184,14 +159,6 @@ fn picks_show(alloc: Global) -> Result<bool, AllocError> {
     Ok(picked.numbers() == [100, 1].as_slice())
 }
 
-#[test]
-fn values_in_columns(rt: HostRuntime) -> Result<(), Fail> {
-    assert!(rt; values_in_a_column(rt.alloc())?);
-    assert!(rt; part_shows(rt.alloc())?);
-    assert!(rt; picks_show(rt.alloc())?);
-    Ok(())
-}
-
 /// 70 truths, every third one true.
 fn thirds(alloc: Global) -> Result<Mask, AllocError>
     ensures { IfOk result (λ m. length m ≡ 70) }
@@ -218,9 +185,44 @@ fn picks_of_a_mask(alloc: Global) -> Result<bool, AllocError> {
     Ok(is_whole && mask.get(69) && !mask.get(64) && picked.words() == [5].as_slice())
 }
 
+/// What is tried of masks, columns and batches.
+const FACTS: [&str; 13] = [
+    "rows are cut",
+    "rows are parted",
+    "rows are picked",
+    "rows are projected",
+    "rows that leave are gathered",
+    "rows that enter are not",
+    "rows stand beside rows",
+    "words are lent to lanes",
+    "values stand in a column",
+    "a part of a column has its numbers",
+    "picks of a column have its numbers",
+    "a part of a mask has its truths",
+    "picks of a mask have its truths",
+];
+
+/// Whether each holds.
+fn truths(alloc: Global) -> Result<[bool; 13], AllocError> {
+    Ok([
+        copy_shows(alloc, Copying::Cut, &[FIRST, SECOND])?,
+        copy_shows(alloc, Copying::Part, &[SECOND, THIRD])?,
+        copy_shows(alloc, Copying::Picked, &[SECOND, SECOND])?,
+        copy_shows(alloc, Copying::Projected, &TURNED)?,
+        leaving_shows(alloc)?,
+        !entering_leave(alloc)?,
+        beside_itself_shows(alloc)?,
+        words_are_lent(alloc)?,
+        values_in_a_column(alloc)?,
+        part_shows(alloc)?,
+        picks_show(alloc)?,
+        part_of_a_mask(alloc)?,
+        picks_of_a_mask(alloc)?,
+    ])
+}
+
 #[test]
-fn truths_in_masks(rt: HostRuntime) -> Result<(), Fail> {
-    assert!(rt; part_of_a_mask(rt.alloc())?);
-    assert!(rt; picks_of_a_mask(rt.alloc())?);
+fn masks_columns_and_batches_have_their_rows(rt: HostRuntime) -> Result<(), Fail> {
+    assert_all(&rt, &FACTS, &truths(rt.alloc())?);
     Ok(())
 }

@@ -3,6 +3,7 @@ ghost use Rattle.std.specs.Prelude.{◌≡◌, ◌≤◌, IfOk, length};
 ghost use Rattle.column.specs.Rows.{width};
 ghost use Rattle.lane_kernels.specs.Steps.{StepsFit};
 
+use crate::facts::assert_all;
 use crate::plain;
 use crate::samples::*;
 use column::{Batch, Column, Mask};
@@ -95,15 +96,6 @@ fn words_of_nine(alloc: Global) -> Result<Option<[(u64, u64); 3]>, AllocError> {
     Ok(words(&batch))
 }
 
-#[test]
-fn conditions_over_nine_rows(rt: HostRuntime) -> Result<(), Fail> {
-    assert_eq!(rt;
-        words_of_nine(rt.alloc())?,
-        Some([(255, 255), (224, 255), (0, 511)])
-    );
-    Ok(())
-}
-
 /// `Not a > 3 And a < b Or b = 0 Or false`.
 const STEPS: [Step; 8] = [
     Step::Number(0, Compare::Above, 3),
@@ -160,11 +152,29 @@ fn condition_agrees_at(alloc: Global, count: usize) -> Result<bool, AllocError>
     Ok(condition_agrees(&batch, count))
 }
 
-#[test]
-fn conditions_of_any_length(rt: HostRuntime) -> Result<(), Fail> {
+/// Whether the condition agrees at each of the lengths, from one row on.
+fn conditions_agree(alloc: Global) -> Result<bool, AllocError> {
     for count in LENGTHS {
-        let count = count.clamp(1, 1024);
-        assert!(rt; condition_agrees_at(rt.alloc(), count)?, "at {count}");
+        if !condition_agrees_at(alloc, count.clamp(1, 1024))? {
+            return Ok(false);
+        }
     }
+    Ok(true)
+}
+
+/// What is tried of conditions.
+const FACTS: [&str; 2] = ["conditions over nine rows", "conditions of any length"];
+
+/// Whether each holds.
+fn truths(alloc: Global) -> Result<[bool; 2], AllocError> {
+    Ok([
+        words_of_nine(alloc)? == Some([(255, 255), (224, 255), (0, 511)]),
+        conditions_agree(alloc)?,
+    ])
+}
+
+#[test]
+fn conditions_are_those_of_plain_code(rt: HostRuntime) -> Result<(), Fail> {
+    assert_all(&rt, &FACTS, &truths(rt.alloc())?);
     Ok(())
 }

@@ -2,6 +2,7 @@
 ghost use Rattle.std.specs.Prelude.{◌≡◌, ◌≤◌, ◌+◌, length, IfOk, OnOk};
 ghost use Rattle.group.specs.Turns.{RoomFor, KeepsRoom};
 
+use crate::facts::assert_all;
 use crate::rows::{NULL, two};
 use column::Batch;
 use group::{Group, GroupBy, work};
@@ -26,7 +27,7 @@ fn queued(alloc: Global, plain: &Plain) -> Result<Queued, AllocError> {
 }
 
 /// A turn, and its outputs.
-fn turn(
+pub(crate) fn turn(
     alloc: Global,
     group: &mut Group,
     shape: &GroupBy,
@@ -108,12 +109,12 @@ fn puts_out(
     Ok(outputs.len() == count && numbers.as_slice() == rows)
 }
 
-const KEY: Column = Column {
+pub(crate) const KEY: Column = Column {
     source: 0,
     column: 0,
 };
 
-const NUMBER: Column = Column {
+pub(crate) const NUMBER: Column = Column {
     source: 0,
     column: 1,
 };
@@ -180,61 +181,6 @@ fn distinct_puts_out(
     puts_out(alloc, &shape, kept, items, count, rows)
 }
 
-#[test]
-fn least_and_greatest_follow_the_rows_that_leave(rt: HostRuntime) -> Result<(), Fail> {
-    let items = [
-        (0, Some([(true, 1, 5), (true, 1, 7), (true, 2, NULL)])),
-        (0, None),
-        (1, Some([(false, 1, 5), (true, 1, 6), (true, 2, 3)])),
-        (1, None),
-        (2, Some([(false, 1, 7), (false, 1, 6), (false, 2, NULL)])),
-        (2, None),
-    ];
-    let rows = [
-        0, 1, 1, 5, 7, 0, 1, 2, -7, -7, 1, 0, 1, 5, 7, 1, 1, 1, 6, 7, 1, 0, 2, -7, -7, 1, 1, 2, 3,
-        3, 2, 0, 1, 6, 7,
-    ];
-    assert!(rt; extremes_put_out(rt.alloc(), &items, 6, &rows)?);
-    Ok(())
-}
-
-#[test]
-fn one_group_is_shown_at_its_first_tick_and_its_sum_is_exact(rt: HostRuntime) -> Result<(), Fail> {
-    let most = 9_223_372_036_854_775_807;
-    let items = [
-        (0, None),
-        (1, None),
-        (2, Some([(true, 1, most), (true, 1, most), (true, 1, NULL)])),
-        (2, None),
-        (
-            3,
-            Some([(false, 1, most), (true, 1, -most), (false, 1, NULL)]),
-        ),
-        (3, None),
-    ];
-    let shown = most as i128;
-    let rows = [
-        0, 1, 0, 0, -7, 2, 0, 0, 0, -7, 2, 1, 3, 2, shown, 3, 0, 3, 2, shown, 3, 1, 2, 2, 0,
-    ];
-    assert!(rt; totals_put_out(rt.alloc(), &items, 7, &rows)?);
-    Ok(())
-}
-
-#[test]
-fn distinct_rows_stay_until_the_last_copy_leaves(rt: HostRuntime) -> Result<(), Fail> {
-    let items = [
-        (0, Some([(true, 1, 1), (true, 1, 1), (true, 2, NULL)])),
-        (0, None),
-        (1, Some([(false, 1, 1), (false, 2, NULL), (true, 2, NULL)])),
-        (1, None),
-        (2, Some([(false, 1, 1), (true, 3, 1), (false, 3, 1)])),
-        (2, None),
-    ];
-    let rows = [0, 1, 1, 1, 0, 1, 2, -7, 2, 0, 1, 1];
-    assert!(rt; distinct_puts_out(rt.alloc(), &items, 5, &rows)?);
-    Ok(())
-}
-
 /// The greatest number of a stream.
 const GREATEST: i64 = 1_099_511_627_775;
 
@@ -293,27 +239,99 @@ fn totals_of_greatest(alloc: Global) -> Result<Vec<i128>, AllocError> {
     numbers(alloc, &outputs)
 }
 
-#[test]
-fn a_sum_past_the_range_is_kept_exactly_and_shown_at_its_end(rt: HostRuntime) -> Result<(), Fail> {
-    let totals = totals_of_greatest(rt.alloc())?;
-    let most = 9_223_372_036_854_775_807;
-    let rows = [
-        0,
-        1,
-        8_388_609,
-        8_388_609,
-        most,
-        1,
-        0,
-        8_388_609,
-        8_388_609,
-        most,
-        1,
-        1,
-        8_388_608,
-        8_388_608,
-        9_223_372_036_846_387_200,
+/// What the totals of the greatest number put out.
+const GREATEST_TOTALS: [i128; 15] = [
+    0,
+    1,
+    8_388_609,
+    8_388_609,
+    9_223_372_036_854_775_807,
+    1,
+    0,
+    8_388_609,
+    8_388_609,
+    9_223_372_036_854_775_807,
+    1,
+    1,
+    8_388_608,
+    8_388_608,
+    9_223_372_036_846_387_200,
+];
+
+fn greatest_are_summed(alloc: Global) -> Result<bool, AllocError> {
+    let totals = totals_of_greatest(alloc)?;
+    Ok(totals.as_slice() == GREATEST_TOTALS.as_slice())
+}
+
+fn extremes_follow(alloc: Global) -> Result<bool, AllocError> {
+    let items = [
+        (0, Some([(true, 1, 5), (true, 1, 7), (true, 2, NULL)])),
+        (0, None),
+        (1, Some([(false, 1, 5), (true, 1, 6), (true, 2, 3)])),
+        (1, None),
+        (2, Some([(false, 1, 7), (false, 1, 6), (false, 2, NULL)])),
+        (2, None),
     ];
-    assert_eq!(rt; totals.as_slice(), rows.as_slice());
+    let rows = [
+        0, 1, 1, 5, 7, 0, 1, 2, -7, -7, 1, 0, 1, 5, 7, 1, 1, 1, 6, 7, 1, 0, 2, -7, -7, 1, 1, 2, 3,
+        3, 2, 0, 1, 6, 7,
+    ];
+    extremes_put_out(alloc, &items, 6, &rows)
+}
+
+fn totals_are_exact(alloc: Global) -> Result<bool, AllocError> {
+    let most = 9_223_372_036_854_775_807;
+    let items = [
+        (0, None),
+        (1, None),
+        (2, Some([(true, 1, most), (true, 1, most), (true, 1, NULL)])),
+        (2, None),
+        (
+            3,
+            Some([(false, 1, most), (true, 1, -most), (false, 1, NULL)]),
+        ),
+        (3, None),
+    ];
+    let shown = most as i128;
+    let rows = [
+        0, 1, 0, 0, -7, 2, 0, 0, 0, -7, 2, 1, 3, 2, shown, 3, 0, 3, 2, shown, 3, 1, 2, 2, 0,
+    ];
+    totals_put_out(alloc, &items, 7, &rows)
+}
+
+fn copies_stay(alloc: Global) -> Result<bool, AllocError> {
+    let items = [
+        (0, Some([(true, 1, 1), (true, 1, 1), (true, 2, NULL)])),
+        (0, None),
+        (1, Some([(false, 1, 1), (false, 2, NULL), (true, 2, NULL)])),
+        (1, None),
+        (2, Some([(false, 1, 1), (true, 3, 1), (false, 3, 1)])),
+        (2, None),
+    ];
+    let rows = [0, 1, 1, 1, 0, 1, 2, -7, 2, 0, 1, 1];
+    distinct_puts_out(alloc, &items, 5, &rows)
+}
+
+/// What is tried of groups.
+const FACTS: [&str; 4] = [
+    "least and greatest follow the rows that leave",
+    "one group is shown at its first tick, and its sum is exact",
+    "distinct rows stay until the last copy leaves",
+    "a sum past the range is kept exactly and shown at its end",
+];
+
+/// Whether each holds.
+fn truths(alloc: Global) -> Result<[bool; 4], AllocError> {
+    Ok([
+        extremes_follow(alloc)?,
+        totals_are_exact(alloc)?,
+        copies_stay(alloc)?,
+        greatest_are_summed(alloc)?,
+    ])
+}
+
+#[test]
+fn groups_put_out_their_rows(rt: HostRuntime) -> Result<(), Fail> {
+    assert_all(&rt, &FACTS, &truths(rt.alloc())?);
     Ok(())
 }

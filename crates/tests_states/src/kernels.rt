@@ -3,6 +3,7 @@ ghost use Rattle.std.specs.Prelude.{◌≡◌, ◌≤◌, length};
 ghost use Rattle.column.specs.Bits.{word_count};
 ghost use Rattle.lane_kernels.specs.Truth.{IsKnownTruth};
 
+use crate::facts::assert_all;
 use crate::plain;
 use crate::samples::*;
 use column::Column;
@@ -82,22 +83,19 @@ fn comparison_of_columns_agrees(
     Ok(agrees_with_other(&left, &right, how, count))
 }
 
-#[test]
-fn comparisons_of_any_length(rt: HostRuntime) -> Result<(), Fail> {
+/// Whether both comparisons agree at each of the lengths.
+fn comparisons_agree(alloc: Global) -> Result<bool, AllocError> {
     for count in LENGTHS {
         for how in COMPARISONS {
             let count = count.min(1024);
-            assert!(rt;
-                comparison_with_three_agrees(rt.alloc(), how, count)?,
-                "with a number, at {count}"
-            );
-            assert!(rt;
-                comparison_of_columns_agrees(rt.alloc(), how, count)?,
-                "of columns, at {count}"
-            );
+            if !comparison_with_three_agrees(alloc, how, count)?
+                || !comparison_of_columns_agrees(alloc, how, count)?
+            {
+                return Ok(false);
+            }
         }
     }
-    Ok(())
+    Ok(true)
 }
 
 /// Which of the three kernels of logic is tried.
@@ -214,15 +212,16 @@ fn logic_agrees_at(alloc: Global, logic: Logic, count: usize) -> Result<bool, Al
     Ok(logic_agrees(&left, &right, logic, count))
 }
 
-#[test]
-fn logic_of_any_length(rt: HostRuntime) -> Result<(), Fail> {
+/// Whether each kernel of logic agrees at each of the lengths.
+fn logics_agree(alloc: Global) -> Result<bool, AllocError> {
     for count in LENGTHS {
         for logic in [Logic::Not, Logic::And, Logic::Or] {
-            let count = count.min(1024);
-            assert!(rt; logic_agrees_at(rt.alloc(), logic, count)?, "at {count}");
+            if !logic_agrees_at(alloc, logic, count.min(1024))? {
+                return Ok(false);
+            }
         }
     }
-    Ok(())
+    Ok(true)
 }
 
 /// The words of whether the first is above a number, combined with whether the second is.
@@ -248,20 +247,30 @@ fn one_with_unknown(alloc: Global, logic: Logic, number: i64) -> Result<(u64, u6
     Ok(with_unknown(&one, &nothing, logic, number))
 }
 
+/// What is tried of kernels.
+const FACTS: [&str; 6] = [
+    "comparisons of any length",
+    "logic of any length",
+    "true and unknown",
+    "false and unknown",
+    "true or unknown",
+    "false or unknown",
+];
+
+/// Whether each holds.
+fn truths(alloc: Global) -> Result<[bool; 6], AllocError> {
+    Ok([
+        comparisons_agree(alloc)?,
+        logics_agree(alloc)?,
+        one_with_unknown(alloc, Logic::And, 0)? == (0, 0),
+        one_with_unknown(alloc, Logic::And, 5)? == (0, 1),
+        one_with_unknown(alloc, Logic::Or, 0)? == (1, 1),
+        one_with_unknown(alloc, Logic::Or, 5)? == (0, 0),
+    ])
+}
+
 #[test]
-fn true_and_false_with_unknown(rt: HostRuntime) -> Result<(), Fail> {
-    let table = [
-        (0, Logic::And, (0, 0)),
-        (5, Logic::And, (0, 1)),
-        (0, Logic::Or, (1, 1)),
-        (5, Logic::Or, (0, 0)),
-    ];
-    for (number, logic, wanted) in table {
-        assert_eq!(rt;
-            one_with_unknown(rt.alloc(), logic, number)?,
-            wanted,
-            "1 > {number}"
-        );
-    }
+fn kernels_are_those_of_plain_code(rt: HostRuntime) -> Result<(), Fail> {
+    assert_all(&rt, &FACTS, &truths(rt.alloc())?);
     Ok(())
 }

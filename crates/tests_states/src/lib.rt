@@ -1,5 +1,5 @@
-//! Worked rows and vectors of values, columns, lane kernels, queues and logs, and of the operators
-//! over them, as tests.
+//! Worked rows and vectors of values, columns, lane kernels, queues and logs, of the operators over
+//! them, of turns in place beside turns by excerpt, and of what tells turns apart, as tests.
 //!
 //! They stand in a crate of their own because a crate's tests are proved with all of the crate once
 //! more.
@@ -12,7 +12,11 @@ mod columns;
 #[cfg(test)]
 mod conditions;
 #[cfg(test)]
+mod facts;
+#[cfg(test)]
 mod groups;
+#[cfg(test)]
+mod in_place;
 #[cfg(test)]
 mod kernels;
 #[cfg(test)]
@@ -31,5 +35,9 @@ mod selected;
 mod shown;
 #[cfg(test)]
 mod streamed;
+#[cfg(test)]
+mod told_apart;
+#[cfg(test)]
+mod turns;
 #[cfg(test)]
 mod vectors;

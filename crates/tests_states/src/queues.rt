@@ -3,6 +3,7 @@ ghost use Rattle.std.specs.Prelude.{◌≡◌, ◌<◌, length};
 ghost use Rattle.op_queue.specs.Cursors.{IsWithin};
 ghost use Rattle.op_queue.specs.Logs.{Closed};
 
+use crate::facts::assert_all;
 use crate::rows::{one, shows};
 use column::Batch;
 use op_queue::{Cursor, Front, Item, Log, Queue};
@@ -100,23 +101,6 @@ fn all_leave(alloc: Global) -> Result<bool, AllocError> {
     Ok(three && two && queue.is_empty() && !drop_some(&mut queue, 1))
 }
 
-#[test]
-fn rows_and_ticks_leave_from_the_front(rt: HostRuntime) -> Result<(), Fail> {
-    assert!(rt; five_wait(rt.alloc())?);
-    assert!(rt; two_are_left(rt.alloc())?);
-    assert!(rt; all_leave(rt.alloc())?);
-    Ok(())
-}
-
-#[test]
-fn a_tick_or_the_first_rows_of_a_batch_come_out(rt: HostRuntime) -> Result<(), Fail> {
-    assert!(rt; comes_out(rt.alloc(), 0, 9, 0, &[])?);
-    assert!(rt; comes_out(rt.alloc(), 2, 1, 2, &[FIVE])?);
-    assert!(rt; comes_out(rt.alloc(), 2, 9, 2, &[FIVE, SIX_LEAVES])?);
-    assert!(rt; comes_out(rt.alloc(), 3, 9, 2, &[SIX_LEAVES])?);
-    Ok(())
-}
-
 /// The ticks 0 and 1, then 2 to 5, and then 7.
 fn runs(alloc: Global) -> Result<Queue, AllocError> {
     let mut queue = Queue::new(alloc);
@@ -134,14 +118,6 @@ fn pieces_left(alloc: Global, left: usize) -> Result<Option<usize>, AllocError> 
     } else {
         Ok(None)
     }
-}
-
-#[test]
-fn ticks_that_follow_one_another_are_one_piece(rt: HostRuntime) -> Result<(), Fail> {
-    for (left, pieces) in [(0, 2), (5, 2), (6, 1), (7, 0)] {
-        assert_eq!(rt; pieces_left(rt.alloc(), left)?, Some(pieces));
-    }
-    Ok(())
 }
 
 /// A log of one column whose instants 0 to 3 are closed: the row 5 came first and then 7, at a
@@ -178,15 +154,6 @@ fn sees_after(alloc: Global, place: u64, count: u128, front: Front) -> Result<bo
     Ok(sees(Cursor::new(place, 0), &log, count, front))
 }
 
-#[test]
-fn a_cursor_shows_its_own_rows_alone(rt: HostRuntime) -> Result<(), Fail> {
-    assert_eq!(rt; log_size(rt.alloc())?, (4, 3));
-    assert!(rt; sees_after(rt.alloc(), 0, 7, Front::Row(1))?);
-    assert!(rt; sees_after(rt.alloc(), 1, 6, Front::Row(1))?);
-    assert!(rt; sees_after(rt.alloc(), 3, 4, Front::Tick(1))?);
-    Ok(())
-}
-
 /// Whether this comes out of the log for a cursor whose first rows and ticks have left, where at
 /// most `count` rows are asked for.
 fn gives(
@@ -213,22 +180,66 @@ fn gives(
     Ok(is_item(&item, instant, rows))
 }
 
-#[test]
-fn a_cursor_gives_its_rows_by_instant_then_arrival(rt: HostRuntime) -> Result<(), Fail> {
-    let cursor = Cursor::new(0, 0);
-    assert!(rt; gives(rt.alloc(), cursor, 0, 9, 0, &[])?);
-    assert!(rt; gives(rt.alloc(), cursor, 1, 1, 1, &[FIVE])?);
-    assert!(rt; gives(rt.alloc(), cursor, 1, 9, 1, &[FIVE, SIX])?);
-    assert!(rt; gives(rt.alloc(), cursor, 2, 9, 1, &[SIX])?);
-    assert!(rt; gives(rt.alloc(), cursor, 4, 9, 2, &[])?);
-    assert!(rt; gives(rt.alloc(), cursor, 5, 9, 3, &[SEVEN])?);
-    Ok(())
+/// What is tried of queues, and of cursors over a log.
+const FACTS: [&str; 24] = [
+    "five rows and ticks wait",
+    "two are left behind three",
+    "all leave",
+    "a tick comes out",
+    "the first row of a batch comes out",
+    "a batch comes out",
+    "the rest of a batch comes out",
+    "ticks that follow one another are one piece",
+    "a cut piece is one",
+    "a lone tick is one piece",
+    "nothing is none",
+    "a log is closed up to an instant",
+    "a cursor sees all rows",
+    "a cursor sees the rows behind the first",
+    "a cursor sees ticks alone",
+    "a cursor gives its first tick",
+    "a cursor gives one of two rows",
+    "a cursor gives the rows of an instant",
+    "a cursor gives the rest of an instant",
+    "a cursor gives the tick of an empty instant",
+    "a cursor gives a row by its instant",
+    "a row at the base or below is not shown",
+    "a row above the base is",
+    "nothing is shown where all are below",
+];
+
+/// Whether each holds.
+fn truths(alloc: Global) -> Result<[bool; 24], AllocError> {
+    Ok([
+        five_wait(alloc)?,
+        two_are_left(alloc)?,
+        all_leave(alloc)?,
+        comes_out(alloc, 0, 9, 0, &[])?,
+        comes_out(alloc, 2, 1, 2, &[FIVE])?,
+        comes_out(alloc, 2, 9, 2, &[FIVE, SIX_LEAVES])?,
+        comes_out(alloc, 3, 9, 2, &[SIX_LEAVES])?,
+        pieces_left(alloc, 0)? == Some(2),
+        pieces_left(alloc, 5)? == Some(2),
+        pieces_left(alloc, 6)? == Some(1),
+        pieces_left(alloc, 7)? == Some(0),
+        log_size(alloc)? == (4, 3),
+        sees_after(alloc, 0, 7, Front::Row(1))?,
+        sees_after(alloc, 1, 6, Front::Row(1))?,
+        sees_after(alloc, 3, 4, Front::Tick(1))?,
+        gives(alloc, Cursor::new(0, 0), 0, 9, 0, &[])?,
+        gives(alloc, Cursor::new(0, 0), 1, 1, 1, &[FIVE])?,
+        gives(alloc, Cursor::new(0, 0), 1, 9, 1, &[FIVE, SIX])?,
+        gives(alloc, Cursor::new(0, 0), 2, 9, 1, &[SIX])?,
+        gives(alloc, Cursor::new(0, 0), 4, 9, 2, &[])?,
+        gives(alloc, Cursor::new(0, 0), 5, 9, 3, &[SEVEN])?,
+        gives(alloc, Cursor::new(0, 2), 0, 9, 2, &[])?,
+        gives(alloc, Cursor::new(0, 2), 1, 9, 3, &[SEVEN])?,
+        !gives(alloc, Cursor::new(0, 4), 0, 9, 4, &[])?,
+    ])
 }
 
 #[test]
-fn a_row_at_the_base_or_below_is_not_shown(rt: HostRuntime) -> Result<(), Fail> {
-    assert!(rt; gives(rt.alloc(), Cursor::new(0, 2), 0, 9, 2, &[])?);
-    assert!(rt; gives(rt.alloc(), Cursor::new(0, 2), 1, 9, 3, &[SEVEN])?);
-    assert!(rt; !gives(rt.alloc(), Cursor::new(0, 4), 0, 9, 4, &[])?);
+fn queues_and_cursors_show_what_waits(rt: HostRuntime) -> Result<(), Fail> {
+    assert_all(&rt, &FACTS, &truths(rt.alloc())?);
     Ok(())
 }

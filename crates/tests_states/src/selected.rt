@@ -2,6 +2,7 @@
 ghost use Rattle.std.specs.Prelude.{◌≡◌, IfOk};
 ghost use Rattle.column.specs.Rows.{width};
 
+use crate::facts::assert_all;
 use crate::rows::{NULL, two};
 use column::Batch;
 use lane_kernels::Step;
@@ -41,12 +42,6 @@ fn two_are_above_five(alloc: Global) -> Result<bool, AllocError> {
     Ok(is_first(&items, 4, 2, &[2]))
 }
 
-#[test]
-fn the_unknown_is_left_out_and_signs_stay(rt: HostRuntime) -> Result<(), Fail> {
-    assert!(rt; two_are_above_five(rt.alloc())?);
-    Ok(())
-}
-
 fn none_is_above_nine(alloc: Global) -> Result<bool, AllocError> {
     let items = rows_above(alloc, 9)?;
     Ok(items.is_empty())
@@ -55,13 +50,6 @@ fn none_is_above_nine(alloc: Global) -> Result<bool, AllocError> {
 fn tick_passes(alloc: Global) -> Result<bool, AllocError> {
     let items = select(alloc, &[Step::Number(0, Compare::Above, 9)], &Item::Tick(4))?;
     Ok(matches!(items.first(), Some(Item::Tick(4))))
-}
-
-#[test]
-fn no_empty_batch_is_put_out_and_ticks_pass(rt: HostRuntime) -> Result<(), Fail> {
-    assert!(rt; none_is_above_nine(rt.alloc())?);
-    assert!(rt; tick_passes(rt.alloc())?);
-    Ok(())
 }
 
 /// What Project puts out for the three rows, with their columns turned.
@@ -83,12 +71,6 @@ fn has_columns(items: &[Item], first: &[i64], second: &[i64]) -> bool {
 fn columns_are_turned(alloc: Global) -> Result<bool, AllocError> {
     let items = turned_columns(alloc)?;
     Ok(has_columns(&items, &[70, 80, 90], &[7, 0, 9]))
-}
-
-#[test]
-fn columns_go_by_the_list(rt: HostRuntime) -> Result<(), Fail> {
-    assert!(rt; columns_are_turned(rt.alloc())?);
-    Ok(())
 }
 
 /// The steps of `Not (5 < a)`.
@@ -113,8 +95,28 @@ fn comparison_is_turned(alloc: Global) -> Result<bool, AllocError> {
     Ok(are_turned(&found))
 }
 
+/// What is tried of Select and Project.
+const FACTS: [&str; 5] = [
+    "the unknown is left out and signs stay",
+    "no empty batch is put out",
+    "ticks pass",
+    "columns go by the list",
+    "a number on the left turns the comparison",
+];
+
+/// Whether each holds.
+fn truths(alloc: Global) -> Result<[bool; 5], AllocError> {
+    Ok([
+        two_are_above_five(alloc)?,
+        none_is_above_nine(alloc)?,
+        tick_passes(alloc)?,
+        columns_are_turned(alloc)?,
+        comparison_is_turned(alloc)?,
+    ])
+}
+
 #[test]
-fn a_number_on_the_left_turns_the_comparison(rt: HostRuntime) -> Result<(), Fail> {
-    assert!(rt; comparison_is_turned(rt.alloc())?);
+fn select_and_project_put_out_their_rows(rt: HostRuntime) -> Result<(), Fail> {
+    assert_all(&rt, &FACTS, &truths(rt.alloc())?);
     Ok(())
 }

@@ -3,6 +3,7 @@ ghost use Rattle.std.specs.Prelude.{◌≡◌, IfOk, length};
 ghost use Rattle.column.specs.Rows.{width};
 ghost use Rattle.windows.specs.Widths.{IsItemWide};
 
+use crate::facts::assert_all;
 use crate::rows::one;
 use column::Batch;
 use op_queue::Item;
@@ -52,12 +53,6 @@ fn two_rows_are_dropped(alloc: Global) -> Result<bool, AllocError> {
     }
     let (items, dropped) = ticked(alloc, &window)?;
     Ok(dropped == 2 && leave_first(&items, 2, &[3]))
-}
-
-#[test]
-fn the_tick_drops_the_older_rows(rt: HostRuntime) -> Result<(), Fail> {
-    assert!(rt; two_rows_are_dropped(rt.alloc())?);
-    Ok(())
 }
 
 /// What the window of the last row puts out for an item.
@@ -111,9 +106,24 @@ fn tick_passes(alloc: Global) -> Result<bool, AllocError> {
     Ok(items.len() == 1)
 }
 
+/// What is tried of windows.
+const FACTS: [&str; 3] = [
+    "the tick drops the older rows",
+    "the new row stands before the one that falls out",
+    "nothing falls out at the tick",
+];
+
+/// Whether each holds.
+fn truths(alloc: Global) -> Result<[bool; 3], AllocError> {
+    Ok([
+        two_rows_are_dropped(alloc)?,
+        the_first_falls_out(alloc)?,
+        tick_passes(alloc)?,
+    ])
+}
+
 #[test]
-fn the_new_row_stands_before_the_one_that_falls_out(rt: HostRuntime) -> Result<(), Fail> {
-    assert!(rt; the_first_falls_out(rt.alloc())?);
-    assert!(rt; tick_passes(rt.alloc())?);
+fn windows_show_and_drop_their_rows(rt: HostRuntime) -> Result<(), Fail> {
+    assert_all(&rt, &FACTS, &truths(rt.alloc())?);
     Ok(())
 }

@@ -2,6 +2,7 @@
 ghost use Rattle.std.specs.Prelude.{◌≡◌, [], IfOk};
 ghost use Rattle.row_bags.specs.Deltas.{delta_of};
 
+use crate::facts::assert_all;
 use crate::rows::{one, row};
 use column::Batch;
 use op_queue::Item;
@@ -77,25 +78,6 @@ fn next_shows(
     shows(alloc, &root, numbers)
 }
 
-#[test]
-fn istream_answers_what_came(rt: HostRuntime) -> Result<(), Fail> {
-    assert!(rt; first_shows(rt.alloc(), StreamOperator::Istream, true, &[5, 7])?);
-    assert!(rt; next_shows(rt.alloc(), StreamOperator::Istream, true, &[])?);
-    Ok(())
-}
-
-#[test]
-fn dstream_answers_what_left(rt: HostRuntime) -> Result<(), Fail> {
-    assert!(rt; first_shows(rt.alloc(), StreamOperator::Dstream, false, &[5])?);
-    Ok(())
-}
-
-#[test]
-fn rstream_answers_the_whole(rt: HostRuntime) -> Result<(), Fail> {
-    assert!(rt; next_shows(rt.alloc(), StreamOperator::Rstream, true, &[5, 7])?);
-    Ok(())
-}
-
 /// What Rstream answers once it has shown 5 and 7, and these rows have come or left.
 fn whole_shows(alloc: Global, batch: Batch, numbers: &[i64]) -> Result<bool, AllocError> {
     let mut root = ticked(alloc, StreamOperator::Rstream, true)?;
@@ -116,9 +98,30 @@ fn all_leave(alloc: Global) -> Result<bool, AllocError> {
     whole_shows(alloc, batch, &[])
 }
 
+/// What is tried of roots.
+const FACTS: [&str; 6] = [
+    "Istream answers what came",
+    "Istream answers nothing twice",
+    "Dstream answers what left",
+    "Rstream answers the whole",
+    "Rstream answers what comes again",
+    "Rstream answers nothing where all leave",
+];
+
+/// Whether each holds.
+fn truths(alloc: Global) -> Result<[bool; 6], AllocError> {
+    Ok([
+        first_shows(alloc, StreamOperator::Istream, true, &[5, 7])?,
+        next_shows(alloc, StreamOperator::Istream, true, &[])?,
+        first_shows(alloc, StreamOperator::Dstream, false, &[5])?,
+        next_shows(alloc, StreamOperator::Rstream, true, &[5, 7])?,
+        comes_again(alloc)?,
+        all_leave(alloc)?,
+    ])
+}
+
 #[test]
-fn rstream_answers_the_whole_after_rows_that_leave_and_come(rt: HostRuntime) -> Result<(), Fail> {
-    assert!(rt; comes_again(rt.alloc())?);
-    assert!(rt; all_leave(rt.alloc())?);
+fn roots_answer_what_came_left_and_stands(rt: HostRuntime) -> Result<(), Fail> {
+    assert_all(&rt, &FACTS, &truths(rt.alloc())?);
     Ok(())
 }

@@ -2,6 +2,7 @@
 ghost use Rattle.std.specs.Prelude.{◌≡◌, ◌≤◌, length};
 ghost use Rattle.column.specs.Bits.{word_count};
 
+use crate::facts::assert_all;
 use crate::samples::*;
 use column::Column;
 use lane_kernels::*;
@@ -24,13 +25,6 @@ fn above_five(column: &Column) -> (u64, u64, u64, u64)
 fn nine_above_five(alloc: Global, null_at: usize) -> Result<(u64, u64, u64, u64), AllocError> {
     let column = counted(alloc, 9, null_at)?;
     Ok(above_five(&column))
-}
-
-#[test]
-fn nine_values_compared_and_negated(rt: HostRuntime) -> Result<(), Fail> {
-    assert_eq!(rt; nine_above_five(rt.alloc(), 9)?, (480, 511, 31, 511));
-    assert_eq!(rt; nine_above_five(rt.alloc(), 8)?, (224, 255, 31, 255));
-    Ok(())
 }
 
 /// The sum of some numbers, those with a set bit taken away.
@@ -67,15 +61,6 @@ fn nine_summed(alloc: Global, null_at: usize) -> Result<Option<i64>, AllocError>
 fn nine_counted(alloc: Global, null_at: usize) -> Result<i64, AllocError> {
     let column = counted(alloc, 9, null_at)?;
     Ok(count_signed(&column, &[1]))
-}
-
-#[test]
-fn nine_values_summed_and_counted(rt: HostRuntime) -> Result<(), Fail> {
-    assert_eq!(rt; nine_summed(rt.alloc(), 9)?, Some(43));
-    assert_eq!(rt; nine_summed(rt.alloc(), 8)?, Some(34));
-    assert_eq!(rt; nine_counted(rt.alloc(), 9)?, 7);
-    assert_eq!(rt; nine_counted(rt.alloc(), 8)?, 6);
-    Ok(())
 }
 
 const SIGNS: [u64; 16] = [0x5555_aaaa_0f0f_3333; 16];
@@ -132,16 +117,44 @@ fn sum_and_counts_agree(alloc: Global, count: usize) -> Result<(bool, bool, bool
     ))
 }
 
-#[test]
-fn sums_and_counts_of_any_length(rt: HostRuntime) -> Result<(), Fail> {
+/// The same at each of the lengths.
+fn all_agree(alloc: Global) -> Result<(bool, bool, bool), AllocError> {
+    let mut all = (true, true, true);
     for count in LENGTHS {
-        let count = count.min(1024);
-        assert_eq!(rt;
-            sum_and_counts_agree(rt.alloc(), count)?,
-            (true, true, true),
-            "at {count}"
-        );
+        let (sum, bits, signed) = sum_and_counts_agree(alloc, count.min(1024))?;
+        all = (all.0 && sum, all.1 && bits, all.2 && signed);
     }
-    assert_eq!(rt; count_set(&[480, 511]), 13);
+    Ok(all)
+}
+
+/// What is tried of vectors, sums and counts.
+const FACTS: [&str; 8] = [
+    "nine values compared and negated",
+    "the same with a null",
+    "nine values summed",
+    "the same with a null in the sum",
+    "nine values counted",
+    "the same with a null in the count",
+    "sums of any length",
+    "bits of two words",
+];
+
+/// Whether each holds.
+fn truths(alloc: Global) -> Result<[bool; 8], AllocError> {
+    Ok([
+        nine_above_five(alloc, 9)? == (480, 511, 31, 511),
+        nine_above_five(alloc, 8)? == (224, 255, 31, 255),
+        nine_summed(alloc, 9)? == Some(43),
+        nine_summed(alloc, 8)? == Some(34),
+        nine_counted(alloc, 9)? == 7,
+        nine_counted(alloc, 8)? == 6,
+        all_agree(alloc)? == (true, true, true),
+        count_set(&[480, 511]) == 13,
+    ])
+}
+
+#[test]
+fn vectors_are_compared_summed_and_counted(rt: HostRuntime) -> Result<(), Fail> {
+    assert_all(&rt, &FACTS, &truths(rt.alloc())?);
     Ok(())
 }

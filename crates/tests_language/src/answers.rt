@@ -3,6 +3,7 @@ ghost use Rattle.std.specs.Prelude.{◌≡◌, All, length};
 ghost use Rattle.values.specs.Resolved.{CanSlide};
 ghost use Rattle.values.specs.Resolved.{FitsRows};
 
+use crate::facts::assert_all;
 use reference::evaluate::evaluate;
 use std::alloc::{AllocError, Global};
 use std::test::Fail;
@@ -95,17 +96,28 @@ fn row_is_copied() -> bool {
     copy.as_slice() == [Value::clamped(7)].as_slice()
 }
 
-#[test]
-fn the_rows_of_an_instant_are_shown_in_order(rt: HostRuntime) -> Result<(), Fail> {
-    assert!(rt; rows_of_now_are_shown(rt.alloc())?);
-    Ok(())
+/// What is tried of the definition that runs, and of values as text.
+const FACTS: [&str; 5] = [
+    "the rows of an instant are shown in order",
+    "a number is printed",
+    "a number below nought is printed",
+    "null is printed",
+    "a row is copied",
+];
+
+/// Whether each holds.
+fn truths(alloc: Global) -> Result<[bool; 5], AllocError> {
+    Ok([
+        rows_of_now_are_shown(alloc)?,
+        is_printed(alloc, Value::clamped(7), "7 7")?,
+        is_printed(alloc, Value::clamped(-5), "-5 -5")?,
+        is_printed(alloc, Value::null(), "null null")?,
+        row_is_copied(),
+    ])
 }
 
 #[test]
-fn values_are_printed_and_rows_copied(rt: HostRuntime) -> Result<(), Fail> {
-    assert!(rt; is_printed(rt.alloc(), Value::clamped(7), "7 7")?);
-    assert!(rt; is_printed(rt.alloc(), Value::clamped(-5), "-5 -5")?);
-    assert!(rt; is_printed(rt.alloc(), Value::null(), "null null")?);
-    assert!(rt; row_is_copied());
+fn the_definition_answers_and_values_are_printed(rt: HostRuntime) -> Result<(), Fail> {
+    assert_all(&rt, &FACTS, &truths(rt.alloc())?);
     Ok(())
 }

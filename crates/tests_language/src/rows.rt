@@ -1,5 +1,6 @@
 //! Rows on their way into a stream.
 
+use crate::facts::assert_all;
 use reference::NewRows;
 use std::alloc::{AllocError, Global};
 use std::test::Fail;
@@ -11,12 +12,6 @@ fn counted(alloc: Global) -> Result<[(usize, bool); 2], AllocError> {
     let before = (rows.len(), rows.is_empty());
     rows.push_row(3, &[Some(7), None])?;
     Ok([before, (rows.len(), rows.is_empty())])
-}
-
-#[test]
-fn rows_are_counted(rt: HostRuntime) -> Result<(), Fail> {
-    assert_eq!(rt; counted(rt.alloc())?, [(0, true), (1, false)]);
-    Ok(())
 }
 
 /// The row 7, null of the instant 3, as an element of a stream.
@@ -38,8 +33,19 @@ fn row_is_copied(alloc: Global) -> Result<bool, AllocError> {
     })
 }
 
+/// What is tried of rows on their way into a stream.
+const FACTS: [&str; 2] = ["rows are counted", "rows are copied with their instants"];
+
+/// Whether each holds.
+fn truths(alloc: Global) -> Result<[bool; 2], AllocError> {
+    Ok([
+        counted(alloc)? == [(0, true), (1, false)],
+        row_is_copied(alloc)?,
+    ])
+}
+
 #[test]
-fn rows_are_copied_with_their_instants(rt: HostRuntime) -> Result<(), Fail> {
-    assert!(rt; row_is_copied(rt.alloc())?);
+fn rows_are_counted_and_copied(rt: HostRuntime) -> Result<(), Fail> {
+    assert_all(&rt, &FACTS, &truths(rt.alloc())?);
     Ok(())
 }

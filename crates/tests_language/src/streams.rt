@@ -1,4 +1,5 @@
 //! Streams at work.
+use crate::facts::assert_all;
 use names::Catalog;
 use op_queue::Cursor;
 use reference::{Fault, NewRows};
@@ -137,13 +138,6 @@ fn refused(alloc: Global) -> Result<([bool; 3], u64, u64), Fault> {
     ))
 }
 
-#[test]
-fn faults_come_in_the_order_of_their_tests(rt: HostRuntime) -> Result<(), Fail> {
-    assert_eq!(rt; first_number(rt.alloc())?, 0);
-    assert_eq!(rt; refused(rt.alloc())?, ([true, true, true], 0, 4));
-    Ok(())
-}
-
 // Appends the rows, once more where memory was refused; false where the refusal changed the stream.
 fn append(alloc: Global, streams: &mut Streams, pairs: &[(i64, i64)]) -> Result<bool, Fault> {
     let rows = rows(alloc, pairs)?;
@@ -209,13 +203,6 @@ fn whole_is_seen(alloc: Global) -> Result<bool, Fault> {
     let is_filled = fill(alloc, &mut streams)?;
     let is_closed = heartbeat(&mut streams, 9)?;
     Ok(is_filled && is_closed && two_see(&streams))
-}
-
-#[test]
-fn rows_are_closed_by_instant_and_then_arrival(rt: HostRuntime) -> Result<(), Fail> {
-    assert!(rt; filled_is_seen(rt.alloc())?);
-    assert!(rt; whole_is_seen(rt.alloc())?);
-    Ok(())
 }
 
 // Whether the rows are these, each an instant, a number and a value.
@@ -296,12 +283,6 @@ fn late_rows_are_closed(alloc: Global) -> Result<[bool; 3], Fault> {
     Ok([first, between, last])
 }
 
-#[test]
-fn late_rows_are_closed_among_those_in_order(rt: HostRuntime) -> Result<(), Fail> {
-    assert_eq!(rt; late_rows_are_closed(rt.alloc())?, [true, true, true]);
-    Ok(())
-}
-
 // Streams with rows at the instants 1 and 2, of which the first is closed.
 fn half_closed(alloc: Global) -> Result<Streams, Fault> {
     let rows = rows(alloc, &[(1, 5), (2, 6)])?;
@@ -340,10 +321,34 @@ fn catalog_has_one_stream(alloc: Global) -> Result<bool, Fault> {
     Ok(has_one_stream(&catalog))
 }
 
+/// What is tried of streams.
+const FACTS: [&str; 8] = [
+    "the first stream has the number 0",
+    "faults come in the order of their tests",
+    "rows are closed by instant and then arrival",
+    "all rows are closed in the end",
+    "late rows are closed among those in order",
+    "a heartbeat comes in two halves",
+    "streams are found by their names",
+    "a catalog has the streams",
+];
+
+/// Whether each holds.
+fn truths(alloc: Global) -> Result<[bool; 8], Fault> {
+    Ok([
+        first_number(alloc)? == 0,
+        refused(alloc)? == ([true, true, true], 0, 4),
+        filled_is_seen(alloc)?,
+        whole_is_seen(alloc)?,
+        late_rows_are_closed(alloc)? == [true, true, true],
+        sizes(alloc)? == (2, 3, 1),
+        named(alloc)? == [Some(0), None],
+        catalog_has_one_stream(alloc)?,
+    ])
+}
+
 #[test]
-fn a_heartbeat_comes_in_two_halves(rt: HostRuntime) -> Result<(), Fail> {
-    assert_eq!(rt; sizes(rt.alloc())?, (2, 3, 1));
-    assert_eq!(rt; named(rt.alloc())?, [Some(0), None]);
-    assert!(rt; catalog_has_one_stream(rt.alloc())?);
+fn streams_refuse_close_and_show_their_rows(rt: HostRuntime) -> Result<(), Fail> {
+    assert_all(&rt, &FACTS, &truths(rt.alloc())?);
     Ok(())
 }

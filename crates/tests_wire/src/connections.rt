@@ -1,4 +1,5 @@
-use crate::runs::{FIRST, FIRST_REPLIES};
+use crate::facts::assert_all;
+use crate::runs::{first, first_replies};
 use programs::{run, run_server};
 use std::alloc::Global;
 use std::io;
@@ -26,7 +27,7 @@ fn is_answered_over_connection<R: Threads + Wait + Sync>(
     server: &TcpStream,
 ) -> io::Result<bool> {
     let mut writer = client;
-    writer.write_all(FIRST.as_bytes())?;
+    writer.write_all(first().as_bytes())?;
     client.shutdown(Shutdown::Write)?;
     let words = ["cqlrun"];
     let mut source = ReaderSource::new(server);
@@ -42,18 +43,20 @@ fn is_answered_over_connection<R: Threads + Wait + Sync>(
     );
     server.shutdown(Shutdown::Write)?;
     let replies = io::read_to_string(alloc, client)?;
-    Ok(ended == 0 && replies.as_str() == FIRST_REPLIES)
+    Ok(ended == 0 && replies.as_str() == first_replies())
 }
 
-#[test]
-fn a_connection_is_a_source_and_a_sink(rt: HostRuntime) {
-    match connected(&rt) {
+// Whether the first script is answered over a connection. A machine without a network says nothing
+// of the program.
+fn is_answered_where_connected<
+    R: Net<Listener = TcpListener, Stream = TcpStream> + Threads + Wait + Sync,
+>(rt: &R, alloc: Global) -> bool {
+    match connected(rt) {
         Ok((client, server)) => {
-            let answered = is_answered_over_connection(&rt, rt.alloc(), &client, &server);
-            assert!(rt; matches!(answered, Ok(true)));
+            let answered = is_answered_over_connection(rt, alloc, &client, &server);
+            matches!(answered, Ok(true))
         }
-        // A machine without a network says nothing of the program.
-        Err(_) => {}
+        Err(_) => true,
     }
 }
 
@@ -78,13 +81,19 @@ fn beside_a_listener<R: Net<Listener = TcpListener, Stream = TcpStream> + Thread
     Ok((status, sink, errors))
 }
 
-#[test]
-fn a_taken_port_is_told(rt: HostRuntime) {
-    let ended = beside_a_listener(&rt, rt.alloc());
-    assert!(rt;
-        matches!(&ended, Ok((1, sink, errors))
-        if sink.bytes.is_empty() && errors.bytes.as_slice() == b"cqld: bind failed\n".as_slice())
-    );
+// Whether a port that is taken is told.
+fn is_taken_port_told<R: Net<Listener = TcpListener, Stream = TcpStream> + Threads + Wait + Sync>(
+    rt: &R,
+    alloc: Global,
+) -> bool {
+    match beside_a_listener(rt, alloc) {
+        Ok((status, sink, errors)) => {
+            status == 1
+                && sink.bytes.is_empty()
+                && errors.bytes.as_slice() == b"cqld: bind failed\n".as_slice()
+        }
+        Err(_) => false,
+    }
 }
 
 // Whether a server with these words ends so at once, and says something of its errors just where it
@@ -105,19 +114,48 @@ fn serves_to<R: Net<Listener = TcpListener, Stream = TcpStream> + Threads + Wait
         && errors.bytes.is_empty() == (status == 0)
 }
 
+const NONE: [&str; 5] = [
+    "cqld",
+    "--port=0",
+    "--workers=2",
+    "--clients=2",
+    "--serve=0",
+];
+
+const CLIENTLESS: [&str; 3] = ["cqld", "--port=0", "--workers=2"];
+
+const HELP: [&str; 2] = ["cqld", "--help"];
+
+/// What is tried of connections.
+const FACTS: [&str; 5] = [
+    "a connection is a source and a sink",
+    "a taken port is told",
+    "a server says where it listens",
+    "a server needs clients",
+    "a server helps",
+];
+
+// Whether each holds.
+fn truths<R: Net<Listener = TcpListener, Stream = TcpStream> + Threads + Wait + Sync>(
+    rt: &R,
+    alloc: Global,
+) -> [bool; 5] {
+    [
+        is_answered_where_connected(rt, alloc),
+        is_taken_port_told(rt, alloc),
+        serves_to(
+            rt,
+            alloc,
+            NONE.as_slice(),
+            0,
+            "cqld: listening on 127.0.0.1:",
+        ),
+        serves_to(rt, alloc, CLIENTLESS.as_slice(), 2, ""),
+        serves_to(rt, alloc, HELP.as_slice(), 0, ""),
+    ]
+}
+
 #[test]
-fn a_server_says_where_it_listens(rt: HostRuntime) {
-    let none = [
-        "cqld",
-        "--port=0",
-        "--workers=2",
-        "--clients=2",
-        "--serve=0",
-    ];
-    let line = "cqld: listening on 127.0.0.1:";
-    assert!(rt; serves_to(&rt, rt.alloc(), none.as_slice(), 0, line));
-    let clientless = ["cqld", "--port=0", "--workers=2"];
-    assert!(rt; serves_to(&rt, rt.alloc(), clientless.as_slice(), 2, ""));
-    let help = ["cqld", "--help"];
-    assert!(rt; serves_to(&rt, rt.alloc(), help.as_slice(), 0, ""));
+fn connections_are_served_and_ports_told(rt: HostRuntime) {
+    assert_all(&rt, &FACTS, &truths(&rt, rt.alloc()));
 }

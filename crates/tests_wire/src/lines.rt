@@ -1,5 +1,6 @@
 ghost use Rattle.std.specs.Prelude.{◌<◌};
 
+use crate::facts::assert_all;
 use arrayvec::ArrayVec;
 use reference::{Fault, QueryFault};
 use std::alloc::{AllocError, Global};
@@ -36,7 +37,9 @@ fn kinds<S: Source>(alloc: Global, source: &mut S) -> Result<String, AllocError>
     Ok(kinds)
 }
 
-const LINES: &[u8] = b"{\"op\":\"stream\",\"name\":\"S\",\"columns\":[\"a\"],\"from\":0}
+// Lines of each kind. No clause says what they are, so no proof reads them.
+fn lines() -> &'static [u8] {
+    b"{\"op\":\"stream\",\"name\":\"S\",\"columns\":[\"a\"],\"from\":0}
  \t\r
 {\"op\":\"query\",\"name\":\"q\",\"text\":\"\",\"chart\":null}
 {\"op\":\"query\",\"name\":\"q\",\"text\":\"\",\"chart\":[[1,0],[-2,3]]}
@@ -55,7 +58,8 @@ const LINES: &[u8] = b"{\"op\":\"stream\",\"name\":\"S\",\"columns\":[\"a\"],\"f
 []
 {\"op\":\"\xff\"}
 \x0b
-{\"op\":\"drain\"";
+{\"op\":\"drain\""
+}
 
 const KINDS: &str = "s2qa22h22dt2xp2111";
 
@@ -128,18 +132,22 @@ fn are_kinds<S: Source>(alloc: Global, source: &mut S, wanted: &str) -> Result<b
 
 fn lines_failing_after(until_failure: u64) -> Dripping<'static> {
     Dripping {
-        bytes: LINES,
+        bytes: lines(),
         until_failure,
         failures: 0,
     }
 }
 
-#[test]
-fn each_line_is_the_request_that_it_is_in_any_chunks(rt: HostRuntime) -> Result<(), Fail> {
-    assert!(rt; are_kinds(rt.alloc(), &mut MemorySource::new(LINES), KINDS)?);
-    assert!(rt; are_kinds(rt.alloc(), &mut ReaderSource::new(LINES), KINDS)?);
-    assert!(rt; are_kinds(rt.alloc(), &mut lines_failing_after(u64::MAX), KINDS)?);
-    Ok(())
+fn memory_gives_kinds(alloc: Global) -> Result<bool, AllocError> {
+    are_kinds(alloc, &mut MemorySource::new(lines()), KINDS)
+}
+
+fn reader_gives_kinds(alloc: Global) -> Result<bool, AllocError> {
+    are_kinds(alloc, &mut ReaderSource::new(lines()), KINDS)
+}
+
+fn drops_give_kinds(alloc: Global) -> Result<bool, AllocError> {
+    are_kinds(alloc, &mut lines_failing_after(u64::MAX), KINDS)
 }
 
 // In how many reads all lines are read.
@@ -156,15 +164,16 @@ fn stops_at(alloc: Global, until_failure: u64) -> Result<bool, AllocError> {
     Ok(source.failures == 1 && KINDS.as_bytes().starts_with(seen.as_str().as_bytes()))
 }
 
-#[test]
-fn a_failing_read_is_told_once_and_what_came_before_stands(rt: HostRuntime) -> Result<(), Fail> {
-    let reads = reads_of_lines(rt.alloc())?;
-    assert!(rt; reads > LINES.len() as u64);
+// Whether each failing read is told once and what came before stands, and none is told behind the
+// last read.
+fn failing_reads_are_told(alloc: Global) -> Result<bool, AllocError> {
+    let reads = reads_of_lines(alloc)?;
     for until_failure in 0..reads {
-        assert!(rt; stops_at(rt.alloc(), until_failure)?);
+        if !stops_at(alloc, until_failure)? {
+            return Ok(false);
+        }
     }
-    assert!(rt; !stops_at(rt.alloc(), reads)?);
-    Ok(())
+    Ok(reads > lines().len() as u64 && !stops_at(alloc, reads)?)
 }
 
 // A drain with so many spaces in it, and a drain that has no end.
@@ -183,13 +192,6 @@ fn padded_is(alloc: Global, spaces: u32, wanted: &str) -> Result<bool, AllocErro
     are_kinds(alloc, &mut source, wanted)
 }
 
-#[test]
-fn a_line_has_at_most_65536_bytes(rt: HostRuntime) -> Result<(), Fail> {
-    assert!(rt; padded_is(rt.alloc(), 65_522, "d1")?);
-    assert!(rt; padded_is(rt.alloc(), 65_523, "31")?);
-    Ok(())
-}
-
 // So many lists in one another.
 fn nested(alloc: Global, depth: u32) -> Result<String, AllocError> {
     let mut text = String::new(alloc);
@@ -204,16 +206,6 @@ fn nested(alloc: Global, depth: u32) -> Result<String, AllocError> {
 fn fault_of_nested(alloc: Global, depth: u32) -> Result<Option<WireFault>, AllocError> {
     let text = nested(alloc, depth)?;
     Ok(read_request(alloc, text.as_str().as_bytes()).err())
-}
-
-#[test]
-fn lists_nest_127_deep(rt: HostRuntime) -> Result<(), Fail> {
-    assert_eq!(rt;
-        fault_of_nested(rt.alloc(), 127)?,
-        Some(WireFault::BadRequest)
-    );
-    assert_eq!(rt; fault_of_nested(rt.alloc(), 128)?, Some(WireFault::NotJson));
-    Ok(())
 }
 
 fn rows_of(alloc: Global, count: u16) -> Result<Reply, AllocError> {
@@ -242,29 +234,22 @@ fn refusal_is_line(alloc: Global, fault: Fault, wanted: &str) -> bool {
     is_line(alloc, &Reply::Refused(fault), wanted)
 }
 
-#[test]
-fn replies_are_lines(rt: HostRuntime) -> Result<(), Fail> {
-    assert!(rt; is_line(rt.alloc(), &Reply::Done, "{\"ok\":true}\n"));
-    assert!(rt; rows_are_line(rt.alloc(), 0, "{\"ok\":true,\"rows\":[]}\n")?);
-    let rows = "{\"ok\":true,\"rows\":[[0,0,null],[1,-1,null]]}\n";
-    assert!(rt; rows_are_line(rt.alloc(), 2, rows)?);
-    let unexpected = Fault::Query(QueryFault::Unexpected(4096));
-    let line = "{\"error\":\"Q4 Unexpected at 4096\"}\n";
-    assert!(rt; refusal_is_line(rt.alloc(), unexpected, line));
-    assert!(rt; refusal_is_line(rt.alloc(), Fault::Late, "{\"error\":\"E10 Late\"}\n"));
-    Ok(())
+fn done_is_line(alloc: Global) -> bool {
+    is_line(alloc, &Reply::Done, "{\"ok\":true}\n")
 }
 
-#[test]
-fn faults_of_lines_are_lines(rt: HostRuntime) {
+fn faults_are_lines(alloc: Global) -> bool {
     for (fault, wanted) in [
         (WireFault::NotJson, "{\"error\":\"N1 NotJson\"}\n"),
         (WireFault::BadRequest, "{\"error\":\"N2 BadRequest\"}\n"),
         (WireFault::LineTooLong, "{\"error\":\"N3 LineTooLong\"}\n"),
         (WireFault::OutOfMemory, "{\"error\":\"E20 OutOfMemory\"}\n"),
     ] {
-        assert!(rt; is_line(rt.alloc(), &Reply::Unread(fault), wanted));
+        if !is_line(alloc, &Reply::Unread(fault), wanted) {
+            return false;
+        }
     }
+    true
 }
 
 fn sink_of_width(alloc: Global, width: usize, until_failure: u64) -> Narrow
@@ -286,13 +271,6 @@ fn writes_of(alloc: Global, count: u16) -> Result<Option<u64>, AllocError> {
         Ok(()) => Ok(Some(sink.writes)),
         Err(_) => Ok(None),
     }
-}
-
-#[test]
-fn a_line_of_4096_bytes_is_one_write(rt: HostRuntime) -> Result<(), Fail> {
-    assert_eq!(rt; writes_of(rt.alloc(), 250)?, Some(1));
-    assert_eq!(rt; writes_of(rt.alloc(), 500)?, Some(2));
-    Ok(())
 }
 
 // The line of a reply.
@@ -342,20 +320,68 @@ fn rows_leave_fronts(alloc: Global) -> Result<bool, AllocError> {
     Ok(each_leaves_front(alloc, &reply))
 }
 
-#[test]
-fn a_failing_write_leaves_a_front_of_the_line(rt: HostRuntime) -> Result<(), Fail> {
-    assert!(rt; rows_leave_fronts(rt.alloc())?);
-    Ok(())
-}
-
 fn faults_are_told(alloc: Global) -> Result<bool, AllocError> {
     let (read, write, memory) = (ScriptFault::Read, ScriptFault::Write, ScriptFault::Memory);
     let text = format!(in alloc; "{read}, {write}, {memory}")?;
     Ok(text.as_str() == "read failed, write failed, out of memory")
 }
 
+/// What is tried of lines.
+const FACTS: [&str; 18] = [
+    "each line is the request that it is",
+    "so it is of a reader",
+    "so it is byte by byte",
+    "a failing read is told once and what came before stands",
+    "a line has 65536 bytes",
+    "a line has no more",
+    "lists nest 127 deep",
+    "lists nest no deeper",
+    "a reply is a line",
+    "no rows are a line",
+    "rows are a line",
+    "a fault of a text is a line",
+    "a fault is a line",
+    "faults of lines are lines",
+    "a line of 4096 bytes is one write",
+    "a longer one is two",
+    "a failing write leaves a front of the line",
+    "faults say what failed",
+];
+
+// Whether each holds.
+fn truths(alloc: Global) -> Result<[bool; 18], AllocError> {
+    Ok([
+        memory_gives_kinds(alloc)?,
+        reader_gives_kinds(alloc)?,
+        drops_give_kinds(alloc)?,
+        failing_reads_are_told(alloc)?,
+        padded_is(alloc, 65_522, "d1")?,
+        padded_is(alloc, 65_523, "31")?,
+        fault_of_nested(alloc, 127)? == Some(WireFault::BadRequest),
+        fault_of_nested(alloc, 128)? == Some(WireFault::NotJson),
+        done_is_line(alloc),
+        rows_are_line(alloc, 0, "{\"ok\":true,\"rows\":[]}\n")?,
+        rows_are_line(
+            alloc,
+            2,
+            "{\"ok\":true,\"rows\":[[0,0,null],[1,-1,null]]}\n",
+        )?,
+        refusal_is_line(
+            alloc,
+            Fault::Query(QueryFault::Unexpected(4096)),
+            "{\"error\":\"Q4 Unexpected at 4096\"}\n",
+        ),
+        refusal_is_line(alloc, Fault::Late, "{\"error\":\"E10 Late\"}\n"),
+        faults_are_lines(alloc),
+        writes_of(alloc, 250)? == Some(1),
+        writes_of(alloc, 500)? == Some(2),
+        rows_leave_fronts(alloc)?,
+        faults_are_told(alloc)?,
+    ])
+}
+
 #[test]
-fn faults_say_what_failed(rt: HostRuntime) -> Result<(), Fail> {
-    assert!(rt; faults_are_told(rt.alloc())?);
+fn lines_are_requests_and_replies_are_lines(rt: HostRuntime) -> Result<(), Fail> {
+    assert_all(&rt, &FACTS, &truths(rt.alloc())?);
     Ok(())
 }

@@ -1,3 +1,5 @@
+use crate::devices::FailingSink;
+use crate::facts::assert_all;
 use programs::{
     ServeOptions, WordsFault, lack_memory, lack_words, run, run_options, run_over, serve_options,
 };
@@ -8,23 +10,29 @@ use std::io::ErrorKind;
 use std::sync::Wait;
 use std::test::Fail;
 use std::thread::Threads;
-use wire::{DeviceFailed, MemorySink, MemorySource, Sink, Source, put, run_script};
+use wire::{MemorySink, MemorySource, put, run_script};
 
-pub(crate) const FIRST: &str = r#"{"op":"stream","name":"S","columns":["a"],"from":0}
+// The first script. No clause says what it is, so no proof reads it.
+pub(crate) fn first() -> &'static str {
+    r#"{"op":"stream","name":"S","columns":["a"],"from":0}
 {"op":"query","name":"q","text":"Select Istream(*) From S [Now]"}
 {"op":"append","stream":"S","rows":[[3,7],[1,5],[3,6]]}
 {"op":"heartbeat","stream":"S","at":3}
 {"op":"drain"}
 {"op":"take","query":"q","limit":100}
-"#;
+"#
+}
 
-pub(crate) const FIRST_REPLIES: &str = r#"{"ok":true}
+// The replies to it.
+pub(crate) fn first_replies() -> &'static str {
+    r#"{"ok":true}
 {"ok":true}
 {"ok":true}
 {"ok":true}
 {"ok":true}
 {"ok":true,"rows":[[1,5],[3,6],[3,7]]}
-"#;
+"#
+}
 
 // Whether `cqlrun` over memory ends so, and says something of its errors where it does not end
 // well.
@@ -43,24 +51,33 @@ fn runs_to<R: Threads + Wait + Sync>(
     ended == status && sink.bytes.as_slice() == replies && errors.bytes.is_empty() == (status == 0)
 }
 
-#[test]
-fn scripts_are_answered_by_their_text(rt: HostRuntime) {
-    let plain = ["cqlrun", "--plain"];
-    assert!(rt; runs_to(&rt, rt.alloc(), plain.as_slice(), b"", 0, b""));
-    let (input, replies) = (FIRST.as_bytes(), FIRST_REPLIES.as_bytes());
-    assert!(rt; runs_to(&rt, rt.alloc(), plain.as_slice(), input, 0, replies));
-    let turns = ["cqlrun", "--turn", "1"];
-    assert!(rt; runs_to(&rt, rt.alloc(), turns.as_slice(), input, 0, replies));
+const PLAIN: [&str; 2] = ["cqlrun", "--plain"];
+
+const TURNS: [&str; 3] = ["cqlrun", "--turn", "1"];
+
+const PLANE: [&str; 2] = ["cqlrun", "--plane"];
+
+const NO_TURN: [&str; 3] = ["cqlrun", "--turn", "0"];
+
+const BOTH: [&str; 3] = ["cqlrun", "--plain", "--workers=4"];
+
+const BARE: [&str; 1] = ["cqlrun"];
+
+// Whether the first script is answered to these words by its replies.
+fn answers_first<R: Threads + Wait + Sync>(rt: &R, alloc: Global, words: &[&str]) -> bool {
+    runs_to(
+        rt,
+        alloc,
+        words,
+        first().as_bytes(),
+        0,
+        first_replies().as_bytes(),
+    )
 }
 
-#[test]
-fn a_wrong_word_is_refused_and_nothing_is_answered(rt: HostRuntime) {
-    let plane = ["cqlrun", "--plane"];
-    assert!(rt; runs_to(&rt, rt.alloc(), plane.as_slice(), FIRST.as_bytes(), 2, b""));
-    let turns = ["cqlrun", "--turn", "0"];
-    assert!(rt; runs_to(&rt, rt.alloc(), turns.as_slice(), FIRST.as_bytes(), 2, b""));
-    let both = ["cqlrun", "--plain", "--workers=4"];
-    assert!(rt; runs_to(&rt, rt.alloc(), both.as_slice(), FIRST.as_bytes(), 2, b""));
+// Whether these words are refused, and nothing is answered.
+fn refuses<R: Threads + Wait + Sync>(rt: &R, alloc: Global, words: &[&str]) -> bool {
+    runs_to(rt, alloc, words, first().as_bytes(), 2, b"")
 }
 
 // The most rows of a turn that the words ask for, and whether they ask for the plain engine, where
@@ -77,21 +94,25 @@ fn workers_asked(alloc: Global, words: &[&str]) -> Option<u32> {
     run_options(alloc, words).ok()?.workers
 }
 
-#[test]
-fn workers_are_1_to_64_and_the_plain_engine_has_none(rt: HostRuntime) {
+// Whether 1 to 64 workers may be asked for.
+fn workers_are_limited(alloc: Global) -> bool {
     for (text, workers) in [("1", Some(1)), ("64", Some(64)), ("0", None), ("65", None)] {
         let words = ["cqlrun", "--workers", text];
-        assert_eq!(rt; workers_asked(rt.alloc(), words.as_slice()), workers);
+        if workers_asked(alloc, words.as_slice()) != workers {
+            return false;
+        }
     }
-    let bare = ["cqlrun"];
-    assert_eq!(rt; workers_asked(rt.alloc(), bare.as_slice()), None);
-    let both = ["cqlrun", "--plain", "--workers=4"];
-    let refused = run_options(rt.alloc(), both.as_slice());
-    assert!(rt; matches!(refused, Err(WordsFault::PlainWithWorkers)));
+    true
 }
 
-#[test]
-fn a_server_has_a_port_workers_and_clients(rt: HostRuntime) {
+// Whether the plain engine has no workers.
+fn plain_has_no_workers(alloc: Global) -> bool {
+    let refused = run_options(alloc, BOTH.as_slice());
+    matches!(refused, Err(WordsFault::PlainWithWorkers))
+}
+
+// Whether a server is asked for as its words say.
+fn server_is_asked_for(alloc: Global) -> bool {
     let words = [
         "cqld",
         "--port=0",
@@ -100,90 +121,80 @@ fn a_server_has_a_port_workers_and_clients(rt: HostRuntime) {
         "64",
         "--serve=7",
     ];
-    let options = serve_options(rt.alloc(), words.as_slice());
-    assert!(rt;
-        matches!(
-            options,
-            Ok(ServeOptions {
-                port: 0,
-                workers: 1,
-                clients: 64,
-                serve: Some(7)
-            })
-        )
-    );
-    for wrong in [
-        [
-            "cqld",
-            "--port=65536",
-            "--workers=1",
-            "--clients=1",
-            "--serve=1",
-        ],
-        [
-            "cqld",
-            "--port=1",
-            "--workers=65",
-            "--clients=1",
-            "--serve=1",
-        ],
-        [
-            "cqld",
-            "--port=1",
-            "--workers=1",
-            "--clients=0",
-            "--serve=1",
-        ],
-        [
-            "cqld",
+    let options = serve_options(alloc, words.as_slice());
+    matches!(
+        options,
+        Ok(ServeOptions {
+            port: 0,
+            workers: 1,
+            clients: 64,
+            serve: Some(7)
+        })
+    )
+}
+
+// Whether a server of these words may be asked for.
+fn may_serve(alloc: Global, port: &str, workers: &str, clients: &str, serve: &str) -> bool {
+    let words = ["cqld", port, workers, clients, serve];
+    serve_options(alloc, words.as_slice()).is_ok()
+}
+
+// Whether some server of words of which one is out of its range may be asked for.
+fn some_wrong_may_serve(alloc: Global) -> bool {
+    may_serve(
+        alloc,
+        "--port=65536",
+        "--workers=1",
+        "--clients=1",
+        "--serve=1",
+    ) || may_serve(
+        alloc,
+        "--port=1",
+        "--workers=65",
+        "--clients=1",
+        "--serve=1",
+    ) || may_serve(alloc, "--port=1", "--workers=1", "--clients=0", "--serve=1")
+        || may_serve(
+            alloc,
             "--port=1",
             "--workers=1",
             "--clients=1",
             "--serve=1000001",
-        ],
-    ] {
-        assert!(rt; serve_options(rt.alloc(), wrong.as_slice()).is_err());
-    }
-    let right = [
-        "cqld",
-        "--port=1",
-        "--workers=1",
-        "--clients=1",
-        "--serve=1",
-    ];
-    assert!(rt; serve_options(rt.alloc(), right.as_slice()).is_ok());
-    let portless = ["cqld", "--workers=1", "--clients=1"];
-    assert!(rt; serve_options(rt.alloc(), portless.as_slice()).is_err());
+        )
 }
 
-#[test]
-fn a_turn_has_from_1_to_1024_rows(rt: HostRuntime) {
+// Whether a server may be asked for without its port.
+fn portless_may_serve(alloc: Global) -> bool {
+    let words = ["cqld", "--workers=1", "--clients=1"];
+    serve_options(alloc, words.as_slice()).is_ok()
+}
+
+// Whether turns have from 1 to 1024 rows.
+fn turns_are_limited(alloc: Global) -> bool {
     for (text, turn) in [("1", 1), ("7", 7), ("+8", 8), ("0256", 256), ("1024", 1024)] {
         let words = ["cqlrun", "--turn", text];
-        assert_eq!(rt; asked(rt.alloc(), words.as_slice()), Some((turn, false)));
+        if asked(alloc, words.as_slice()) != Some((turn, false)) {
+            return false;
+        }
     }
-    for text in ["0", "1025", "4294967297", "-1", "7.5", "all", ""] {
-        let words = ["cqlrun", "--turn", text];
-        assert_eq!(rt; asked(rt.alloc(), words.as_slice()), None);
-    }
+    true
 }
 
-#[test]
-fn a_turn_is_said_once_or_has_256_rows(rt: HostRuntime) {
-    let bare = ["cqlrun"];
-    assert_eq!(rt; asked(rt.alloc(), bare.as_slice()), Some((256, false)));
-    let both = ["cqlrun", "--turn=7", "--plain"];
-    assert_eq!(rt; asked(rt.alloc(), both.as_slice()), Some((7, true)));
-    let twice = ["cqlrun", "--turn=7", "--turn=7"];
-    assert_eq!(rt; asked(rt.alloc(), twice.as_slice()), None);
-    let cut_short = ["cqlrun", "--turn"];
-    assert_eq!(rt; asked(rt.alloc(), cut_short.as_slice()), None);
+// Whether turns of such rows are refused.
+fn other_turns_are_refused(alloc: Global) -> bool {
+    for text in ["0", "1025", "4294967297", "-1", "7.5", "all", ""] {
+        let words = ["cqlrun", "--turn", text];
+        if asked(alloc, words.as_slice()).is_some() {
+            return false;
+        }
+    }
+    true
 }
 
 // Whether help is written, and nothing of errors.
 fn is_helped<R: Threads + Wait + Sync>(rt: &R, alloc: Global) -> bool {
     let words = ["cqlrun", "--help"];
-    let mut source = MemorySource::new(FIRST.as_bytes());
+    let mut source = MemorySource::new(first().as_bytes());
     let mut sink = MemorySink::new(alloc);
     let mut errors = MemorySink::new(alloc);
     let ended = run(
@@ -195,166 +206,6 @@ fn is_helped<R: Threads + Wait + Sync>(rt: &R, alloc: Global) -> bool {
         &mut errors,
     );
     ended == 0 && sink.bytes.len() > 0 && errors.bytes.is_empty()
-}
-
-#[test]
-fn help_is_no_error(rt: HostRuntime) {
-    assert!(rt; is_helped(&rt, rt.alloc()));
-}
-
-// Memory that gives or takes up to seven bytes at a time, and fails at a call.
-#[derive(Drop)]
-struct Failing<'a> {
-    source: MemorySource<'a>,
-    sink: MemorySink,
-    until_failure: u64,
-    failures: u64,
-}
-
-impl Source for Failing<'_> {
-    ghost use Rattle.std.specs.Prelude.{None, length};
-
-    ghost left = { λ _. None };
-
-    ghost turns = { λ s. length s.source.bytes.now };
-
-    ghost failures = { λ s. s.failures };
-
-    fn read(&mut self, buffer: &mut [u8]) -> Result<usize, DeviceFailed> {
-        if self.until_failure == 0 {
-            self.failures = self.failures.saturating_add(1);
-            return Err(DeviceFailed);
-        }
-        self.until_failure -= 1;
-        let width = buffer.len().min(7);
-        self.source.read(&mut buffer[..width])
-    }
-}
-
-impl Sink for Failing<'_> {
-    ghost use Rattle.std.specs.Prelude.{None};
-
-    ghost taken = { λ _. None };
-
-    ghost failures = { λ s. s.sink.failures };
-
-    fn write(&mut self, bytes: &[u8]) -> Result<usize, DeviceFailed> {
-        if self.until_failure == 0 {
-            self.sink.failures = self.sink.failures.saturating_add(1);
-            return Err(DeviceFailed);
-        }
-        self.until_failure -= 1;
-        let (front, _) = bytes.split_at(bytes.len().min(7));
-        self.sink.write(front)
-    }
-}
-
-// Memory that fails after so many calls, over these bytes as a source.
-fn device_failing_after(
-    alloc: Global,
-    bytes: &'static [u8],
-    until_failure: u64,
-) -> Failing<'static> {
-    Failing {
-        source: MemorySource::new(bytes),
-        sink: MemorySink::new(alloc),
-        until_failure,
-        failures: 0,
-    }
-}
-
-// In how many reads a run reads all of the first script.
-fn reads_of<R: Threads + Wait + Sync>(rt: &R, alloc: Global) -> u64 {
-    let words = ["cqlrun", "--plain"];
-    let mut source = device_failing_after(alloc, FIRST.as_bytes(), u64::MAX);
-    let mut sink = MemorySink::new(alloc);
-    let mut errors = MemorySink::new(alloc);
-    run(
-        rt,
-        alloc,
-        words.as_slice(),
-        &mut source,
-        &mut sink,
-        &mut errors,
-    );
-    u64::MAX.saturating_sub(source.until_failure)
-}
-
-// Whether a source that fails ends the run after a front of the replies.
-fn failing_source_ends<R: Threads + Wait + Sync>(rt: &R, alloc: Global, calls: u64) -> bool {
-    let words = ["cqlrun", "--plain"];
-    let mut source = device_failing_after(alloc, FIRST.as_bytes(), calls);
-    let mut sink = MemorySink::new(alloc);
-    let mut errors = MemorySink::new(alloc);
-    let ended = run(
-        rt,
-        alloc,
-        words.as_slice(),
-        &mut source,
-        &mut sink,
-        &mut errors,
-    );
-    ended == 1
-        && errors.bytes.as_slice() == b"cqlrun: read failed\n".as_slice()
-        && FIRST_REPLIES.as_bytes().starts_with(sink.bytes.as_slice())
-}
-
-#[test]
-fn a_source_that_fails_at_any_read_ends_the_run_after_a_front_of_the_replies(rt: HostRuntime) {
-    let reads = reads_of(&rt, rt.alloc());
-    assert!(rt; reads > FIRST.len() as u64 / 7);
-    for calls in 0..reads {
-        assert!(rt; failing_source_ends(&rt, rt.alloc(), calls));
-    }
-    assert!(rt; !failing_source_ends(&rt, rt.alloc(), reads));
-}
-
-// In how many writes a run writes all of the first replies.
-fn writes_of<R: Threads + Wait + Sync>(rt: &R, alloc: Global) -> u64 {
-    let words = ["cqlrun", "--plain"];
-    let mut source = MemorySource::new(FIRST.as_bytes());
-    let mut sink = device_failing_after(alloc, b"", u64::MAX);
-    let mut errors = MemorySink::new(alloc);
-    run(
-        rt,
-        alloc,
-        words.as_slice(),
-        &mut source,
-        &mut sink,
-        &mut errors,
-    );
-    u64::MAX.saturating_sub(sink.until_failure)
-}
-
-// Whether a sink that fails ends the run after a front of the replies.
-fn failing_sink_ends<R: Threads + Wait + Sync>(rt: &R, alloc: Global, calls: u64) -> bool {
-    let words = ["cqlrun", "--plain"];
-    let mut source = MemorySource::new(FIRST.as_bytes());
-    let mut sink = device_failing_after(alloc, b"", calls);
-    let mut errors = MemorySink::new(alloc);
-    let ended = run(
-        rt,
-        alloc,
-        words.as_slice(),
-        &mut source,
-        &mut sink,
-        &mut errors,
-    );
-    ended == 1
-        && errors.bytes.as_slice() == b"cqlrun: write failed\n".as_slice()
-        && FIRST_REPLIES
-            .as_bytes()
-            .starts_with(sink.sink.bytes.as_slice())
-}
-
-#[test]
-fn a_sink_that_fails_at_any_write_ends_the_run_after_a_front_of_the_replies(rt: HostRuntime) {
-    let writes = writes_of(&rt, rt.alloc());
-    assert!(rt; writes > FIRST_REPLIES.len() as u64 / 7);
-    for calls in 0..writes {
-        assert!(rt; failing_sink_ends(&rt, rt.alloc(), calls));
-    }
-    assert!(rt; !failing_sink_ends(&rt, rt.alloc(), writes));
 }
 
 // What the program says of want of memory, with its status.
@@ -371,29 +222,23 @@ fn words_are_told(alloc: Global, kind: ErrorKind, status: u8, line: &str) -> boo
     ended == status && errors.bytes.as_slice() == line.as_bytes()
 }
 
-#[test]
-fn words_that_cannot_be_read_are_told(rt: HostRuntime) {
-    assert!(rt; memory_is_told(rt.alloc()));
-    let memory = ErrorKind::OutOfMemory;
-    assert!(rt; words_are_told(rt.alloc(), memory, 3, "cqlrun: out of memory\n"));
-    let no_text = ErrorKind::InvalidData;
-    assert!(rt; words_are_told(rt.alloc(), no_text, 2, "cqlrun: a word is not UTF-8\n"));
-}
-
 // Whether a line is put by sevens: all of it, or a front of so many bytes where the sink fails
 // after so many writes.
-fn puts(alloc: Global, calls: u64, front: usize) -> bool {
+fn puts(alloc: Global, calls: usize, front: usize) -> bool {
     let line = b"cqlrun: out of memory\n".as_slice();
-    let mut sink = device_failing_after(alloc, b"", calls);
+    let mut sink = FailingSink::new(alloc, calls);
     let all = put(&mut sink, line).is_ok();
-    all == (front == line.len()) && sink.sink.bytes.as_slice() == &line[..front.min(line.len())]
+    all == (front == line.len()) && sink.taken() == &line[..front.min(line.len())]
 }
 
-#[test]
-fn a_text_is_put_whole_or_in_front(rt: HostRuntime) {
+// Whether a text is put whole or in front, at each write that fails.
+fn text_is_put(alloc: Global) -> bool {
     for (calls, front) in [(0, 0), (1, 7), (2, 14), (3, 21), (4, 22), (5, 22)] {
-        assert!(rt; puts(rt.alloc(), calls, front));
+        if !puts(alloc, calls, front) {
+            return false;
+        }
     }
+    true
 }
 
 // Whether an engine that knows of the first script's stream answers what stands behind that
@@ -408,8 +253,8 @@ fn is_answered_over(alloc: Global) -> Result<bool, AllocError> {
         return Ok(false);
     }
     let (Some((_, input)), Some((_, replies))) = (
-        FIRST.split_once('\n'),
-        FIRST_REPLIES.split_once('\n'),
+        first().split_once('\n'),
+        first_replies().split_once('\n'),
     ) else {
         return Ok(false);
     };
@@ -430,23 +275,18 @@ fn is_answered_by_lines(alloc: Global) -> bool {
     let Ok(mut engine) = Plain::new(alloc) else {
         return false;
     };
-    let mut source = MemorySource::new(FIRST.as_bytes());
+    let mut source = MemorySource::new(first().as_bytes());
     let mut sink = MemorySink::new(alloc);
     let ended = run_script(alloc, &mut source, &mut sink, &mut engine, 256);
     ended.is_ok()
-        && sink.bytes.as_slice() == FIRST_REPLIES.as_bytes()
+        && sink.bytes.as_slice() == first_replies().as_bytes()
         && engine.query_named("q") == Some(0)
-}
-
-#[test]
-fn a_script_is_answered_over_the_engine_that_it_is_given(rt: HostRuntime) {
-    assert!(rt; is_answered_by_lines(rt.alloc()));
 }
 
 // Whether wrong words leave the source alone and are told of.
 fn wrong_words_read_nothing<R: Threads + Wait + Sync>(rt: &R, alloc: Global) -> bool {
     let words = ["cqlrun", "--plane"];
-    let mut source = MemorySource::new(FIRST.as_bytes());
+    let mut source = MemorySource::new(first().as_bytes());
     let mut sink = MemorySink::new(alloc);
     let mut errors = MemorySink::new(alloc);
     let ended = run(
@@ -458,14 +298,82 @@ fn wrong_words_read_nothing<R: Threads + Wait + Sync>(rt: &R, alloc: Global) -> 
         &mut errors,
     );
     ended == 2
-        && source.bytes.len() == FIRST.len()
+        && source.bytes.len() == first().len()
         && sink.bytes.is_empty()
         && errors.bytes.as_slice().starts_with(b"error: ".as_slice())
 }
 
+/// What is tried of runs.
+const FACTS: [&str; 27] = [
+    "the plain engine answers nothing",
+    "the plain engine answers by its text",
+    "turns answer by its text",
+    "a wrong word is refused",
+    "turns of no rows are refused",
+    "a plain engine with workers is refused",
+    "workers are 1 to 64",
+    "there are none by default",
+    "the plain engine has none",
+    "a server has a port, workers and clients",
+    "each is limited",
+    "a right one may be asked for",
+    "a server needs a port",
+    "a turn has from 1 to 1024 rows",
+    "a turn has no others",
+    "a turn has 256 rows by default",
+    "a turn is said beside the engine",
+    "a turn is not said twice",
+    "a turn is said",
+    "help is no error",
+    "want of memory is told",
+    "want of memory for words is told",
+    "a word that is no text is told",
+    "a text is put whole or in front",
+    "a script is answered over the engine that it is given",
+    "a run goes on over the engine that it is given",
+    "wrong words read nothing",
+];
+
+// Whether each holds.
+fn truths<R: Threads + Wait + Sync>(rt: &R, alloc: Global) -> Result<[bool; 27], AllocError> {
+    Ok([
+        runs_to(rt, alloc, PLAIN.as_slice(), b"", 0, b""),
+        answers_first(rt, alloc, PLAIN.as_slice()),
+        answers_first(rt, alloc, TURNS.as_slice()),
+        refuses(rt, alloc, PLANE.as_slice()),
+        refuses(rt, alloc, NO_TURN.as_slice()),
+        refuses(rt, alloc, BOTH.as_slice()),
+        workers_are_limited(alloc),
+        workers_asked(alloc, BARE.as_slice()).is_none(),
+        plain_has_no_workers(alloc),
+        server_is_asked_for(alloc),
+        !some_wrong_may_serve(alloc),
+        may_serve(alloc, "--port=1", "--workers=1", "--clients=1", "--serve=1"),
+        !portless_may_serve(alloc),
+        turns_are_limited(alloc),
+        other_turns_are_refused(alloc),
+        asked(alloc, BARE.as_slice()) == Some((256, false)),
+        asked(alloc, &["cqlrun", "--turn=7", "--plain"]) == Some((7, true)),
+        asked(alloc, &["cqlrun", "--turn=7", "--turn=7"]).is_none(),
+        asked(alloc, &["cqlrun", "--turn"]).is_none(),
+        is_helped(rt, alloc),
+        memory_is_told(alloc),
+        words_are_told(alloc, ErrorKind::OutOfMemory, 3, "cqlrun: out of memory\n"),
+        words_are_told(
+            alloc,
+            ErrorKind::InvalidData,
+            2,
+            "cqlrun: a word is not UTF-8\n",
+        ),
+        text_is_put(alloc),
+        is_answered_by_lines(alloc),
+        is_answered_over(alloc)?,
+        wrong_words_read_nothing(rt, alloc),
+    ])
+}
+
 #[test]
-fn a_run_goes_on_over_the_engine_that_it_is_given(rt: HostRuntime) -> Result<(), Fail> {
-    assert!(rt; is_answered_over(rt.alloc())?);
-    assert!(rt; wrong_words_read_nothing(&rt, rt.alloc()));
+fn runs_answer_scripts_and_tell_faults(rt: HostRuntime) -> Result<(), Fail> {
+    assert_all(&rt, &FACTS, &truths(&rt, rt.alloc())?);
     Ok(())
 }

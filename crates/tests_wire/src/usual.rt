@@ -1,4 +1,5 @@
 //! Lines at the border of those that are read by a scan: each is read as JSON reads it.
+use crate::facts::assert_all;
 use std::alloc::{AllocError, Global};
 use std::test::Fail;
 use wire::{Request, WireFault, read_request};
@@ -88,12 +89,18 @@ fn rows_are_read_as_json(alloc: Global, rows: &str) -> Result<bool, AllocError> 
     is_read_as_json(alloc, line.as_str().as_bytes())
 }
 
-#[test]
-fn rows_are_read_as_json_reads_them(rt: HostRuntime) -> Result<(), Fail> {
+fn each_is_read_as_json(alloc: Global) -> Result<bool, AllocError> {
     for rows in ROWS {
-        assert!(rt; rows_are_read_as_json(rt.alloc(), rows)?);
+        if !rows_are_read_as_json(alloc, rows)? {
+            return Ok(false);
+        }
     }
-    Ok(())
+    for line in LINES {
+        if !is_read_as_json(alloc, line.as_bytes())? {
+            return Ok(false);
+        }
+    }
+    Ok(true)
 }
 
 const LINES: [&str; 24] = [
@@ -123,14 +130,6 @@ const LINES: [&str; 24] = [
     "{\"op\":\"a",
 ];
 
-#[test]
-fn lines_are_read_as_json_reads_them(rt: HostRuntime) -> Result<(), Fail> {
-    for line in LINES {
-        assert!(rt; is_read_as_json(rt.alloc(), line.as_bytes())?);
-    }
-    Ok(())
-}
-
 const LONG: &str = "{\"op\":\"append\",\"stream\":\"S\",\"rows\":[[1,20,null],[-30,4,5]]}";
 
 fn each_cut_is_no_json(alloc: Global, line: &[u8]) -> bool {
@@ -142,11 +141,6 @@ fn each_cut_is_no_json(alloc: Global, line: &[u8]) -> bool {
     true
 }
 
-#[test]
-fn a_line_that_is_cut_is_no_json(rt: HostRuntime) {
-    assert!(rt; each_cut_is_no_json(rt.alloc(), LONG.as_bytes()));
-}
-
 // Whether a line is an append to `S` of these instants and values.
 fn appends(alloc: Global, line: &str, instants: &[i64], values: &[Option<i64>]) -> bool {
     match read_request(alloc, line.as_bytes()) {
@@ -155,15 +149,6 @@ fn appends(alloc: Global, line: &str, instants: &[i64], values: &[Option<i64>]) 
         }
         _ => false,
     }
-}
-
-#[test]
-fn an_append_has_the_numbers_of_its_line(rt: HostRuntime) {
-    let values = [Some(20), None, Some(4), Some(5)];
-    assert!(rt; appends(rt.alloc(), LONG, [1, -30].as_slice(), values.as_slice()));
-    let most = "{\"op\":\"append\",\"stream\":\"S\",\"rows\":[[0,99999999999999999,-1]]}";
-    let values = [Some(99_999_999_999_999_999), Some(-1)];
-    assert!(rt; appends(rt.alloc(), most, [0].as_slice(), values.as_slice()));
 }
 
 fn heartbeat_is(alloc: Global, line: &str, until: i64) -> bool {
@@ -180,15 +165,43 @@ fn take_is(alloc: Global, line: &str, most: i64) -> bool {
     }
 }
 
-#[test]
-fn heartbeats_and_takes_have_the_numbers_of_their_lines(rt: HostRuntime) {
-    let heartbeat = "{\"op\":\"heartbeat\",\"stream\":\"S\",\"at\":-70}";
-    assert!(rt; heartbeat_is(rt.alloc(), heartbeat, -70));
-    assert!(rt;
+/// What is tried of usual lines.
+const FACTS: [&str; 6] = [
+    "rows and lines are read as JSON reads them",
+    "a line that is cut is no JSON",
+    "an append has the numbers of its line",
+    "an append has great numbers",
+    "a heartbeat has the number of its line",
+    "a take has the number of its line",
+];
+
+// Whether each holds.
+fn truths(alloc: Global) -> Result<[bool; 6], AllocError> {
+    Ok([
+        each_is_read_as_json(alloc)?,
+        each_cut_is_no_json(alloc, LONG.as_bytes()),
+        appends(alloc, LONG, &[1, -30], &[Some(20), None, Some(4), Some(5)]),
+        appends(
+            alloc,
+            "{\"op\":\"append\",\"stream\":\"S\",\"rows\":[[0,99999999999999999,-1]]}",
+            &[0],
+            &[Some(99_999_999_999_999_999), Some(-1)],
+        ),
+        heartbeat_is(
+            alloc,
+            "{\"op\":\"heartbeat\",\"stream\":\"S\",\"at\":-70}",
+            -70,
+        ),
         take_is(
-            rt.alloc(),
+            alloc,
             "{\"op\":\"take\",\"query\":\"q\",\"limit\":4096}",
-            4096
-        )
-    );
+            4096,
+        ),
+    ])
+}
+
+#[test]
+fn usual_lines_are_read_as_json_reads_them(rt: HostRuntime) -> Result<(), Fail> {
+    assert_all(&rt, &FACTS, &truths(rt.alloc())?);
+    Ok(())
 }

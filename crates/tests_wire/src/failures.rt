@@ -3,7 +3,6 @@
 use crate::devices::{Ending, FailingSink, FailingSource};
 use crate::stored::{Stored, lines_in};
 use std::alloc::Global;
-use std::fmt::{self, Display, Formatter, Write};
 use std::sync::Wait;
 use std::thread::Threads;
 use wire::{MemorySink, MemorySource};
@@ -21,9 +20,7 @@ enum Outcome {
 
 /// What runs came to, of which each has one call more that goes well than the one before.
 #[derive(Drop)]
-pub(crate) struct Failures {
-    /// What a run does that stops.
-    deed: &'static str,
+struct Failures {
     stopped: u64,
     all: u64,
     differ: u64,
@@ -32,9 +29,8 @@ pub(crate) struct Failures {
 }
 
 impl Failures {
-    fn new(deed: &'static str) -> Failures {
+    fn new() -> Failures {
         Failures {
-            deed,
             stopped: 0,
             all: 0,
             differ: 0,
@@ -51,13 +47,10 @@ impl Failures {
         *runs = runs.saturating_add(1);
         self.bytes = self.bytes.saturating_add(bytes as u64);
     }
-}
 
-impl Display for Failures {
-    fn fmt<W: Write>(&self, f: &mut Formatter<W>) -> fmt::Result {
-        write!(f, "{} runs {}, ", self.stopped, self.deed)?;
-        write!(f, "{} all, {} differ; ", self.all, self.differ)?;
-        write!(f, "{} bytes", self.bytes)
+    /// How many runs stopped, had all replies and differ, and how many bytes they wrote.
+    fn counts(&self) -> [u64; 4] {
+        [self.stopped, self.all, self.differ, self.bytes]
     }
 }
 
@@ -85,14 +78,14 @@ fn fail_read<R: Threads + Wait + Sync>(
     (outcome, written.len())
 }
 
-/// Lets reads fail in turn, up to a run that reads all.
+/// Lets reads fail in turn, up to a run that reads all: the counts of these runs.
 pub(crate) fn fail_reads_in_turn<R: Threads + Wait + Sync>(
     rt: &R,
     alloc: Global,
     words: &[&str],
     stored: &Stored,
-) -> Failures {
-    let mut failures = Failures::new("answer the lines given");
+) -> [u64; 4] {
+    let mut failures = Failures::new();
     for reads in 0..=stored.script.len() {
         let (outcome, bytes) = fail_read(rt, alloc, words, stored, reads);
         failures.count(outcome, bytes);
@@ -100,7 +93,7 @@ pub(crate) fn fail_reads_in_turn<R: Threads + Wait + Sync>(
             break;
         }
     }
-    failures
+    failures.counts()
 }
 
 /// A run whose sink fails after so many writes, and how many bytes it wrote. These have to be a
@@ -126,14 +119,14 @@ fn fail_write<R: Threads + Wait + Sync>(
     (outcome, written.len())
 }
 
-/// Lets writes fail in turn, up to a run that writes all.
+/// Lets writes fail in turn, up to a run that writes all: the counts of these runs.
 pub(crate) fn fail_writes_in_turn<R: Threads + Wait + Sync>(
     rt: &R,
     alloc: Global,
     words: &[&str],
     stored: &Stored,
-) -> Failures {
-    let mut failures = Failures::new("write a beginning");
+) -> [u64; 4] {
+    let mut failures = Failures::new();
     for writes in 0..=stored.replies.len() {
         let (outcome, bytes) = fail_write(rt, alloc, words, stored, writes);
         failures.count(outcome, bytes);
@@ -141,5 +134,5 @@ pub(crate) fn fail_writes_in_turn<R: Threads + Wait + Sync>(
             break;
         }
     }
-    failures
+    failures.counts()
 }

@@ -5,7 +5,6 @@ ghost use Rattle.std.specs.Prelude.{◌≤◌, length};
 use crate::devices::Ending;
 use crate::stored::{Stored, lines_in};
 use std::alloc::Global;
-use std::fmt::{self, Display, Formatter, Write};
 use std::sync::Wait;
 use std::thread::Threads;
 use wire::{MemorySink, MemorySource};
@@ -45,7 +44,7 @@ impl Cut {
 
 /// What runs came to, of which each has one byte more of the script than the one before.
 #[derive(Drop)]
-pub(crate) struct Cuts {
+struct Cuts {
     between_lines: u64,
     before_line_feed: u64,
     within_line: u64,
@@ -76,6 +75,17 @@ impl Cuts {
         self.bytes = self.bytes.saturating_add(bytes as u64);
     }
 
+    /// How many runs were right at each kind of cut, and differ, and how many bytes they wrote.
+    fn counts(&self) -> [u64; 5] {
+        [
+            self.between_lines,
+            self.before_line_feed,
+            self.within_line,
+            self.differ,
+            self.bytes,
+        ]
+    }
+
     /// Runs `cqlrun` over the front of the script before a cut, and counts what it came to.
     fn run<R: Threads + Wait + Sync>(
         &mut self,
@@ -97,29 +107,16 @@ impl Cuts {
     }
 }
 
-impl Display for Cuts {
-    fn fmt<W: Write>(&self, f: &mut Formatter<W>) -> fmt::Result {
-        write!(f, "{} runs between lines and ", self.between_lines)?;
-        write!(
-            f,
-            "{} before a line feed answer each, ",
-            self.before_line_feed
-        )?;
-        write!(f, "{} add N1, {} differ; ", self.within_line, self.differ)?;
-        write!(f, "{} bytes", self.bytes)
-    }
-}
-
-/// Cuts the script after each of its bytes, and before the first.
+/// Cuts the script after each of its bytes, and before the first: the counts of these runs.
 pub(crate) fn cut_after_each_byte<R: Threads + Wait + Sync>(
     rt: &R,
     alloc: Global,
     words: &[&str],
     stored: &Stored,
-) -> Cuts {
+) -> [u64; 5] {
     let mut cuts = Cuts::new();
     for at in 0..=stored.script.len() {
         cuts.run(rt, alloc, words, stored, at);
     }
-    cuts
+    cuts.counts()
 }

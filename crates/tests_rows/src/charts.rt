@@ -27,20 +27,34 @@ pub(crate) fn points_in(alloc: Global, words: &[&str]) -> Result<Vec<Point>, All
     Ok(points)
 }
 
-/// The slopes of the steps of a chart.
-pub(crate) fn sloped(alloc: Global, rest: &str) -> Result<String, AllocError> {
-    let words: Vec<&str> = rest.split_whitespace().collect(alloc)?;
-    let points = points_in(alloc, &words)?;
-    if !is_chart(&points) {
-        return String::from_str(alloc, "no chart");
-    }
-    let mut text = String::new(alloc);
+/// Points of a text of such words.
+pub(crate) fn points_of(alloc: Global, text: &str) -> Result<Vec<Point>, AllocError> {
+    let words: Vec<&str> = text.split_whitespace().collect(alloc)?;
+    points_in(alloc, &words)
+}
+
+fn add_slopes(text: &mut String, slopes: &[Slope]) -> Result<(), AllocError> {
     let mut between = "";
-    for slope in slopes(alloc, &points)?.iter() {
+    for slope in slopes {
         write!(text, "{between}{slope}")?;
         between = " ";
     }
-    Ok(text)
+    Ok(())
+}
+
+/// The slopes of the steps of a chart.
+fn add_chart(alloc: Global, points: &[Point], text: &mut String) -> Result<(), AllocError> {
+    if !is_chart(points) {
+        return text.push_str("no chart");
+    }
+    let found = slopes(alloc, points)?;
+    add_slopes(text, &found)
+}
+
+/// The slopes of the steps of a chart in words.
+pub(crate) fn sloped(alloc: Global, rest: &str, text: &mut String) -> Result<(), AllocError> {
+    let points = points_of(alloc, rest)?;
+    add_chart(alloc, &points, text)
 }
 
 /// The slope of a word `NUMERATOR/DENOMINATOR`.
@@ -53,7 +67,7 @@ fn slope(word: &str) -> Slope {
 }
 
 /// How two slopes stand to each other, and the greater of them.
-pub(crate) fn compared(alloc: Global, rest: &str) -> Result<String, AllocError> {
+pub(crate) fn compared(rest: &str, text: &mut String) -> Result<(), AllocError> {
     let (first, second) = rest.split_once(' ').unwrap_or((rest, ""));
     let (first, second) = (slope(first), slope(second));
     let how = match first.cmp(&second) {
@@ -62,5 +76,5 @@ pub(crate) fn compared(alloc: Global, rest: &str) -> Result<String, AllocError> 
         Ordering::Greater => "above",
     };
     let greater = first.max(second);
-    format!(in alloc; "{first} is {how} {second}; the greater is {greater}")
+    write!(text, "{first} is {how} {second}; the greater is {greater}")
 }

@@ -2,7 +2,7 @@
 
 use crate::charts::points_in;
 use column::Side;
-use envelope::{Slope, is_chart, slopes};
+use envelope::{Point, Slope, is_chart, slopes};
 use run_queue::{RunQueue, Slot};
 use std::alloc::{AllocError, Global};
 
@@ -35,27 +35,26 @@ fn named(slot: &Slot) -> (u64, usize) {
 }
 
 /// The query, the operator and the instant of a slot, and the side where it is the right one.
-fn shown(alloc: Global, slot: &Slot) -> Result<String, AllocError> {
+fn add_slot(text: &mut String, slot: &Slot) -> Result<(), AllocError> {
     let (query, operator) = named(slot);
     match (slot.instant(), slot.side()) {
-        (Some(at), Side::Left) => format!(in alloc; "{query}.{operator} at {at}"),
-        (Some(at), Side::Right) => format!(in alloc; "{query}.{operator} at {at} on the right"),
-        (None, _) => format!(in alloc; "{query}.{operator}"),
+        (Some(at), Side::Left) => write!(text, "{query}.{operator} at {at}"),
+        (Some(at), Side::Right) => write!(text, "{query}.{operator} at {at} on the right"),
+        (None, _) => write!(text, "{query}.{operator}"),
     }
 }
 
 /// What the first slot shows.
-fn first(alloc: Global, list: &RunQueue) -> Result<String, AllocError> {
+fn add_first(text: &mut String, list: &RunQueue) -> Result<(), AllocError> {
     match list.first() {
-        Some(slot) => shown(alloc, &slot),
-        None => String::from_str(alloc, "none"),
+        Some(slot) => add_slot(text, &slot),
+        None => text.push_str("none"),
     }
 }
 
 /// The queries and operators of the first slots, one after the other, where each has nothing to
 /// take once it was.
-fn in_turn(alloc: Global, list: &mut RunQueue) -> Result<String, AllocError> {
-    let mut text = String::new(alloc);
+fn add_in_turn(text: &mut String, list: &mut RunQueue) -> Result<(), AllocError> {
     for _ in 0..100 {
         match list.first() {
             Some(slot) => {
@@ -66,11 +65,32 @@ fn in_turn(alloc: Global, list: &mut RunQueue) -> Result<String, AllocError> {
             None => break,
         }
     }
-    text.push_str("none")?;
-    Ok(text)
+    text.push_str("none")
 }
 
 /// Each operator of a path comes, with something of the instant 0 to take.
+fn put_slopes(list: &mut RunQueue, query: u64, slopes: &[Slope]) -> Result<(), AllocError> {
+    for operator in 0..slopes.len() {
+        list.put(Slot::new(slopes[operator], Some((Side::Left, 0)), query, operator))?;
+    }
+    Ok(())
+}
+
+/// The operators of the path of these points come.
+fn put_points(
+    alloc: Global,
+    list: &mut RunQueue,
+    query: u64,
+    points: &[Point],
+) -> Result<(), AllocError> {
+    if is_chart(points) {
+        let found = slopes(alloc, points)?;
+        return put_slopes(list, query, &found);
+    }
+    Ok(())
+}
+
+/// The operators of the path of these words come.
 fn put_path(
     alloc: Global,
     list: &mut RunQueue,
@@ -78,19 +98,17 @@ fn put_path(
     words: &[&str],
 ) -> Result<(), AllocError> {
     let points = points_in(alloc, words)?;
-    if is_chart(&points) {
-        let found = slopes(alloc, &points)?;
-        for operator in 0..found.len() {
-            list.put(Slot::new(found[operator], Some((Side::Left, 0)), query, operator))?;
-        }
-    }
-    Ok(())
+    put_points(alloc, list, query, &points)
 }
 
 /// The first slot of the list, behind what the words do to it.
-pub(crate) fn listed(alloc: Global, list: &mut RunQueue, rest: &str) -> Result<String, AllocError> {
-    let words: Vec<&str> = rest.split_whitespace().collect(alloc)?;
-    match words.as_slice() {
+fn changed(
+    alloc: Global,
+    list: &mut RunQueue,
+    words: &[&str],
+    text: &mut String,
+) -> Result<(), AllocError> {
+    match words {
         ["new"] => {
             *list = RunQueue::new(alloc);
         }
@@ -100,8 +118,19 @@ pub(crate) fn listed(alloc: Global, list: &mut RunQueue, rest: &str) -> Result<S
         }
         ["drop", query] => list.drop_query(number(query)),
         ["path", query, points @ ..] => put_path(alloc, list, number(query), points)?,
-        ["all"] => return in_turn(alloc, list),
+        ["all"] => return add_in_turn(text, list),
         _ => {}
     }
-    first(alloc, list)
+    add_first(text, list)
+}
+
+/// The same of a text of such words.
+pub(crate) fn listed(
+    alloc: Global,
+    list: &mut RunQueue,
+    rest: &str,
+    text: &mut String,
+) -> Result<(), AllocError> {
+    let words: Vec<&str> = rest.split_whitespace().collect(alloc)?;
+    changed(alloc, list, &words, text)
 }

@@ -17,74 +17,85 @@ use std::alloc::{AllocError, Global};
 use std::io;
 use turn::Done;
 
-/// What an answer shows, or its fault.
-fn told(alloc: Global, answer: Result<String, Fault>) -> Result<String, AllocError> {
-    match answer {
-        Ok(text) => Ok(text),
-        Err(fault) => format!(in alloc; "{fault}"),
+/// What lines change.
+#[derive(Drop)]
+struct Kept {
+    engine: Engine,
+    plain: Plain,
+    /// Turns that were run, and are to come back.
+    turns: Vec<Done>,
+    list: RunQueue,
+}
+
+impl Kept {
+    /// None where memory is refused.
+    fn new(alloc: Global) -> Option<Kept> {
+        match Plain::new(alloc) {
+            Ok(plain) => Some(Kept {
+                engine: Engine::new(alloc),
+                plain,
+                turns: Vec::new(alloc),
+                list: RunQueue::new(alloc),
+            }),
+            Err(_) => None,
+        }
+    }
+
+    /// What a line is answered that needs an engine: the request of a client, or words of a worker.
+    fn engaged(&mut self, alloc: Global, line: &str, text: &mut String) -> Result<(), Fault> {
+        if line.starts_with('{') {
+            return calls::requested(alloc, &mut self.engine, line, text);
+        }
+        match line.strip_prefix("plain ") {
+            Some(request) => calls::requested(alloc, &mut self.plain, request, text),
+            None => workers::worked(alloc, &mut self.engine, &mut self.turns, line, text),
+        }
+    }
+
+    /// What a line is answered.
+    fn answered(&mut self, alloc: Global, line: &str, text: &mut String) -> Result<(), Fault> {
+        let (word, rest) = line.split_once(' ').unwrap_or((line, ""));
+        match word {
+            "read" => Ok(texts::read_query(alloc, rest, text)?),
+            "name" => Ok(texts::judged_name(rest, text)?),
+            "resolve" => Ok(plans::resolved(alloc, rest, text)?),
+            "plan" => plans::planned(alloc, rest, text),
+            "stream" => Ok(plans::found_stream(alloc, rest, text)?),
+            "columns" => Ok(plans::named_columns(alloc, rest, text)?),
+            "points" => Ok(charts::sloped(alloc, rest, text)?),
+            "slopes" => Ok(charts::compared(rest, text)?),
+            "list" => Ok(lists::listed(alloc, &mut self.list, rest, text)?),
+            _ => self.engaged(alloc, line, text),
+        }
+    }
+
+    /// What the answer to a line shows, or its fault.
+    fn told(&mut self, alloc: Global, line: &str) -> Result<String, AllocError> {
+        let mut text = String::new(alloc);
+        if let Err(fault) = self.answered(alloc, line, &mut text) {
+            text.clear();
+            write!(text, "{fault}")?;
+        }
+        Ok(text)
     }
 }
 
-/// What a line is answered that needs an engine: the request of a client, or words of a worker.
-fn engaged(
-    alloc: Global,
-    engine: &mut Engine,
-    plain: &mut Plain,
-    kept: &mut Vec<Done>,
-    line: &str,
-) -> Result<String, Fault> {
-    if line.starts_with('{') {
-        return calls::requested(alloc, engine, line);
+/// Prints a line, and behind it what it is answered, but for a comment.
+fn print_line<R: Print>(rt: &R, alloc: Global, kept: &mut Kept, line: &str) -> io::Result<()> {
+    if line.is_empty() || line.starts_with('#') {
+        return println!(rt; "{line}");
     }
-    match line.strip_prefix("plain ") {
-        Some(request) => calls::requested(alloc, plain, request),
-        None => workers::worked(alloc, engine, kept, line),
-    }
-}
-
-/// What a line is answered that needs no engine, if it is such a one.
-fn answered(
-    alloc: Global,
-    list: &mut RunQueue,
-    word: &str,
-    rest: &str,
-) -> Result<Option<String>, Fault> {
-    Ok(Some(match word {
-        "read" => texts::read_query(alloc, rest)?,
-        "name" => texts::judged_name(alloc, rest)?,
-        "resolve" => plans::resolved(alloc, rest)?,
-        "plan" => plans::planned(alloc, rest)?,
-        "stream" => plans::found_stream(alloc, rest)?,
-        "columns" => plans::named_columns(alloc, rest)?,
-        "points" => charts::sloped(alloc, rest)?,
-        "slopes" => charts::compared(alloc, rest)?,
-        "list" => lists::listed(alloc, list, rest)?,
-        _ => return Ok(None),
-    }))
+    let text = kept.told(alloc, line)?;
+    println!(rt; "{line} -> {}", text.as_str())
 }
 
 fn main(rt: HostRuntime) -> io::Result<()> {
-    let mut engine = Engine::new(rt.alloc());
-    let mut kept = Vec::new(rt.alloc());
-    let mut list = RunQueue::new(rt.alloc());
-    let Ok(mut plain) = Plain::new(rt.alloc()) else {
+    let Some(mut kept) = Kept::new(rt.alloc()) else {
         return Err(io::Error::from(AllocError));
     };
     for line in rt.lines(rt.alloc()) {
         let line = line?;
-        let line = line.as_str();
-        if line.is_empty() || line.starts_with('#') {
-            println!(rt; "{line}")?;
-            continue;
-        }
-        let (word, rest) = line.split_once(' ').unwrap_or((line, ""));
-        let answer = match answered(rt.alloc(), &mut list, word, rest) {
-            Ok(None) => engaged(rt.alloc(), &mut engine, &mut plain, &mut kept, line),
-            Ok(Some(text)) => Ok(text),
-            Err(fault) => Err(fault),
-        };
-        let text = told(rt.alloc(), answer)?;
-        println!(rt; "{line} -> {}", text.as_str())?;
+        print_line(&rt, rt.alloc(), &mut kept, line.as_str())?;
     }
     Ok(())
 }

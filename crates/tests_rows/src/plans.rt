@@ -3,7 +3,7 @@ ghost use Rattle.std.specs.Prelude.{◌≤◌, IfOk, length};
 ghost use Rattle.std.specs.List.{AllByRecursion};
 
 use crate::texts::add_name;
-use cql_reader::{Name, read};
+use cql_reader::{Name, Query, read};
 use names::{Catalog, Key as NamedKey, Named, ResolveError, resolve};
 use plan::{Key, Node, Plan};
 use reference::{Fault, are_columns, find_plan, names_of};
@@ -41,34 +41,42 @@ fn add_keys(text: &mut String, keys: &[NamedKey]) -> Result<(), AllocError> {
 
 /// The streams, their widths, the keys, and how many conditions are each source's own and how many
 /// remain.
-fn named(alloc: Global, named: &Named) -> Result<String, AllocError> {
-    let mut text = String::from_str(alloc, "streams")?;
-    add_numbers(&mut text, &named.streams)?;
+fn add_named(text: &mut String, named: &Named) -> Result<(), AllocError> {
+    text.push_str("streams")?;
+    add_numbers(text, &named.streams)?;
     text.push_str("; widths")?;
-    add_numbers(&mut text, &named.widths)?;
+    add_numbers(text, &named.widths)?;
     text.push_str("; keys")?;
     for keys in &named.keys {
-        add_keys(&mut text, keys)?;
+        add_keys(text, keys)?;
     }
     text.push_str("; own")?;
     for own in &named.own {
         write!(text, " {}", own.len())?;
     }
-    write!(text, "; {} remain", named.rest.len())?;
-    Ok(text)
+    write!(text, "; {} remain", named.rest.len())
+}
+
+/// What the names of a query stand for.
+fn add_resolved(
+    alloc: Global,
+    text: &mut String,
+    query: &Query,
+    catalog: &Catalog,
+) -> Result<(), AllocError> {
+    match resolve(alloc, query, catalog) {
+        Ok(found) => add_named(text, &found),
+        Err(ResolveError::OutOfMemory) => Err(AllocError),
+        Err(ResolveError::Fault(fault)) => write!(text, "{fault}"),
+    }
 }
 
 /// What the names of a text stand for.
-pub(crate) fn resolved(alloc: Global, text: &str) -> Result<String, AllocError> {
-    let query = match read(alloc, text.as_bytes()) {
-        Ok(query) => query,
-        Err(fault) => return format!(in alloc; "{fault}"),
-    };
+pub(crate) fn resolved(alloc: Global, said: &str, text: &mut String) -> Result<(), AllocError> {
     let catalog = catalog(alloc)?;
-    match resolve(alloc, &query, &catalog) {
-        Ok(found) => named(alloc, &found),
-        Err(ResolveError::OutOfMemory) => Err(AllocError),
-        Err(ResolveError::Fault(fault)) => format!(in alloc; "{fault}"),
+    match read(alloc, said.as_bytes()) {
+        Ok(query) => add_resolved(alloc, text, &query, &catalog),
+        Err(fault) => write!(text, "{fault}"),
     }
 }
 
@@ -101,56 +109,67 @@ fn add_carried(text: &mut String, node: &Node) -> Result<(), AllocError> {
 }
 
 /// The operators: what each does, of which it takes rows, and its cost and size.
-fn shown(alloc: Global, plan: &Plan) -> Result<String, AllocError> {
-    let mut text = format!(in alloc; "{} operators", plan.nodes.len())?;
+fn add_plan(text: &mut String, plan: &Plan) -> Result<(), AllocError> {
+    write!(text, "{} operators", plan.nodes.len())?;
     for (node, measure) in plan.nodes.iter().zip(plan.measures.iter()) {
         write!(text, "; {}", node.kind())?;
-        add_inputs(&mut text, &plan.nodes, node)?;
+        add_inputs(text, &plan.nodes, node)?;
         text.push_str(":")?;
-        add_carried(&mut text, node)?;
+        add_carried(text, node)?;
         write!(text, " at {}:{}", measure.cost, measure.size)?;
     }
-    Ok(text)
+    Ok(())
 }
 
 /// The plan of a text.
-pub(crate) fn planned(alloc: Global, text: &str) -> Result<String, Fault> {
+pub(crate) fn planned(alloc: Global, said: &str, text: &mut String) -> Result<(), Fault> {
     let catalog = catalog(alloc)?;
-    let plan = find_plan(alloc, &catalog, text, None)?;
-    Ok(shown(alloc, &plan)?)
+    let plan = find_plan(alloc, &catalog, said, None)?;
+    Ok(add_plan(text, &plan)?)
 }
 
 /// The number of the stream of a name, and how many columns it has.
-pub(crate) fn found_stream(alloc: Global, name: &str) -> Result<String, AllocError> {
+pub(crate) fn found_stream(alloc: Global, name: &str, text: &mut String) -> Result<(), AllocError> {
     let catalog = catalog(alloc)?;
     let width = catalog.columns_of(name.as_bytes()).len();
     match catalog.number_of(name.as_bytes()) {
-        Some(number) => format!(in alloc; "number {number}, {width} columns"),
-        None => format!(in alloc; "none, {width} columns"),
+        Some(number) => write!(text, "number {number}, {width} columns"),
+        None => write!(text, "none, {width} columns"),
     }
 }
 
-fn listed(alloc: Global, names: &[Name]) -> Result<String, AllocError> {
-    let mut text = String::new(alloc);
+fn add_names(text: &mut String, names: &[Name]) -> Result<(), AllocError> {
     let mut between = "";
     for name in names {
         text.push_str(between)?;
-        add_name(&mut text, name)?;
+        add_name(text, name)?;
         between = " ";
     }
-    Ok(text)
+    Ok(())
+}
+
+fn columns_in(alloc: Global, text: &str) -> Result<Vec<String>, AllocError> {
+    let mut columns = Vec::new(alloc);
+    for word in text.split_whitespace() {
+        columns.push(String::from_str(alloc, word)?)?;
+    }
+    Ok(columns)
+}
+
+fn add_columns(alloc: Global, columns: &[String], text: &mut String) -> Result<(), AllocError> {
+    if are_columns(columns) {
+        let names = names_of(alloc, columns)?;
+        return add_names(text, &names);
+    }
+    text.push_str("no columns")
 }
 
 /// What is said of names in place of columns.
-pub(crate) fn named_columns(alloc: Global, rest: &str) -> Result<String, AllocError> {
-    let mut columns = Vec::new(alloc);
-    for word in rest.split_whitespace() {
-        columns.push(String::from_str(alloc, word)?)?;
-    }
-    if are_columns(&columns) {
-        let names = names_of(alloc, &columns)?;
-        listed(alloc, &names)
-    } else {
-        String::from_str(alloc, "no columns")
-    }
+pub(crate) fn named_columns(
+    alloc: Global,
+    rest: &str,
+    text: &mut String,
+) -> Result<(), AllocError> {
+    let columns = columns_in(alloc, rest)?;
+    add_columns(alloc, &columns, text)
 }

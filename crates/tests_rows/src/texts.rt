@@ -154,30 +154,34 @@ fn add_clauses(text: &mut String, query: &Query) -> Result<(), AllocError> {
 }
 
 /// A query, each part of it in the one form that says all.
-fn written(alloc: Global, query: &Query) -> Result<String, AllocError> {
-    let mut text = format!(in alloc; "{:?}(Select ", query.operator)?;
+fn add_query(text: &mut String, query: &Query) -> Result<(), AllocError> {
+    write!(text, "{:?}(Select ", query.operator)?;
     if query.is_distinct {
         text.push_str("Distinct ")?;
     }
-    add_entries(&mut text, &query.entries)?;
+    add_entries(text, &query.entries)?;
     text.push_str(" From ")?;
-    add_sources(&mut text, &query.sources)?;
-    add_clauses(&mut text, query)?;
-    text.push_str(")")?;
-    Ok(text)
+    add_sources(text, &query.sources)?;
+    add_clauses(text, query)?;
+    text.push_str(")")
 }
 
-/// What is read of a text, in which `\r\n` stands for the end of a line.
-pub(crate) fn read_query(alloc: Global, text: &str) -> Result<String, AllocError> {
-    let text = text.replace(alloc, "\\r\\n", "\r\n")?;
-    match read(alloc, text.as_bytes()) {
-        Ok(query) => written(alloc, &query),
-        Err(fault) => format!(in alloc; "{fault}"),
+/// What is read of bytes.
+fn add_read(alloc: Global, text: &mut String, bytes: &[u8]) -> Result<(), AllocError> {
+    match read(alloc, bytes) {
+        Ok(query) => add_query(text, &query),
+        Err(fault) => write!(text, "{fault}"),
     }
 }
 
+/// What is read of a text, in which `\r\n` stands for the end of a line.
+pub(crate) fn read_query(alloc: Global, said: &str, text: &mut String) -> Result<(), AllocError> {
+    let said = said.replace(alloc, "\\r\\n", "\r\n")?;
+    add_read(alloc, text, said.as_bytes())
+}
+
 /// Whether what stands between quotes is a name.
-pub(crate) fn judged_name(alloc: Global, quoted: &str) -> Result<String, AllocError> {
+pub(crate) fn judged_name(quoted: &str, text: &mut String) -> Result<(), AllocError> {
     let word = quoted.trim_matches('"');
-    String::from_str(alloc, if is_name(word) { "a name" } else { "no name" })
+    text.push_str(if is_name(word) { "a name" } else { "no name" })
 }

@@ -2,7 +2,7 @@
 
 use column::{Batch, Side};
 use op_queue::Item;
-use std::alloc::{AllocError, Global};
+use std::alloc::AllocError;
 use turn::{Change, Outputs, Parts};
 use values::{Row, Value};
 
@@ -62,18 +62,17 @@ fn add_change(text: &mut String, change: &Change) -> Result<(), AllocError> {
 
 /// A turn: its number, the numbers of its query and its operator, what it takes, and behind it what
 /// it puts out.
-pub(crate) fn shown(alloc: Global, parts: &Parts) -> Result<String, AllocError> {
+pub(crate) fn add_turn(text: &mut String, parts: &Parts) -> Result<(), AllocError> {
     let (query, operator) = (parts.node.query, parts.node.operator);
-    let mut text = format!(in alloc; "turn {} of {query}.{operator}", parts.lease)?;
+    write!(text, "turn {} of {query}.{operator}", parts.lease)?;
     text.push_str(match parts.node.side {
         Side::Left => ": ",
         Side::Right => " at the right: ",
     })?;
-    add_item(&mut text, parts.item.item())?;
+    add_item(text, parts.item.item())?;
     match &parts.outputs {
-        Outputs::Items(items) => add_items(&mut text, items)?,
-        Outputs::Answers(answers) => add_answers(&mut text, answers)?,
+        Outputs::Items(items) => add_items(text, items)?,
+        Outputs::Answers(answers) => add_answers(text, answers)?,
     }
-    add_change(&mut text, &parts.change)?;
-    Ok(text)
+    add_change(text, &parts.change)
 }

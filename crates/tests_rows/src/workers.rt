@@ -1,6 +1,6 @@
 //! Calls of workers: turns that go out and come back.
 
-use crate::turns::shown;
+use crate::turns::add_turn;
 use leases::{Engine, Leased};
 use reference::{Answering, Fault};
 use std::alloc::{AllocError, Global};
@@ -14,19 +14,14 @@ fn rows(word: &str) -> u32 {
     word.parse::<u32>().unwrap_or(0)
 }
 
-fn done(alloc: Global) -> Result<String, Fault> {
-    Ok(String::from_str(alloc, "ok")?)
-}
-
 /// What waits in each queue.
-fn shown_lengths(alloc: Global, lengths: &[u128]) -> Result<String, AllocError> {
-    let mut text = String::new(alloc);
+fn add_lengths(text: &mut String, lengths: &[u128]) -> Result<(), AllocError> {
     let mut between = "";
     for length in lengths {
         write!(text, "{between}{length}")?;
         between = " ";
     }
-    Ok(text)
+    Ok(())
 }
 
 /// The next turn, run.
@@ -46,14 +41,17 @@ fn lease(
     engine: &mut Engine,
     kept: &mut Vec<Done>,
     rows: u32,
-) -> Result<String, Fault> {
-    let Some(done) = next(alloc, engine, rows)? else {
-        return Ok(String::from_str(alloc, "idle")?);
-    };
-    let text = shown(alloc, done.parts())?;
+    text: &mut String,
+) -> Result<(), Fault> {
     kept.reserve(1)?;
-    kept.push_reserved(done);
-    Ok(text)
+    match next(alloc, engine, rows)? {
+        Some(done) => {
+            let shown = add_turn(text, done.parts());
+            kept.push_reserved(done);
+            Ok(shown?)
+        }
+        None => Ok(text.push_str("idle")?),
+    }
 }
 
 /// The oldest turn that is kept comes back, or the one so many behind it.
@@ -65,21 +63,72 @@ fn finish(engine: &mut Engine, kept: &mut Vec<Done>, place: u64) -> Result<(), F
     Ok(())
 }
 
+/// Runs and finishes the next turn: its query and its operator.
+fn run_one(alloc: Global, engine: &mut Engine) -> Result<Option<(u64, usize)>, Fault> {
+    let Some(done) = next(alloc, engine, 1_024)? else {
+        return Ok(None);
+    };
+    let named = (done.parts().node.query, done.parts().node.operator);
+    engine.finish(done)?;
+    Ok(Some(named))
+}
+
 /// Runs and finishes so many turns: the query and the operator of each.
-fn run(alloc: Global, engine: &mut Engine, count: u64) -> Result<String, Fault> {
-    let mut text = String::new(alloc);
+fn run(alloc: Global, engine: &mut Engine, count: u64, text: &mut String) -> Result<(), Fault> {
     let mut between = "";
     for _ in 0..count {
-        let Some(done) = next(alloc, engine, 1_024)? else {
-            write!(text, "{between}idle")?;
-            return Ok(text);
-        };
-        let (query, operator) = (done.parts().node.query, done.parts().node.operator);
-        write!(text, "{between}{query}.{operator}")?;
+        match run_one(alloc, engine)? {
+            Some((query, operator)) => write!(text, "{between}{query}.{operator}")?,
+            None => return Ok(write!(text, "{between}idle")?),
+        }
         between = " ";
-        engine.finish(done)?;
     }
-    Ok(text)
+    Ok(())
+}
+
+/// What waits in each queue of a query.
+fn pending(engine: &Engine, query: u64, text: &mut String) -> Result<(), Fault> {
+    let lengths = engine.pending(query)?;
+    Ok(add_lengths(text, &lengths)?)
+}
+
+/// Does what words say that no more than a fault answers. Whether these are such words.
+fn changes(
+    alloc: Global,
+    engine: &mut Engine,
+    kept: &mut Vec<Done>,
+    words: &[&str],
+) -> Result<bool, Fault> {
+    match words {
+        ["new"] => *engine = Engine::new(alloc),
+        ["forget"] => kept.clear(),
+        ["finish", place] => finish(engine, kept, number(place))?,
+        ["abandon", lease] => engine.abandon(number(lease))?,
+        ["drain", count] => engine.drain(rows(count))?,
+        _ => return Ok(false),
+    }
+    Ok(true)
+}
+
+/// What words are answered that show something.
+fn shows(
+    alloc: Global,
+    engine: &mut Engine,
+    kept: &mut Vec<Done>,
+    words: &[&str],
+    text: &mut String,
+) -> Result<(), Fault> {
+    match words {
+        ["lease", count] => lease(alloc, engine, kept, rows(count), text),
+        ["run", count] => run(alloc, engine, number(count), text),
+        ["pending", query] => pending(engine, number(query), text),
+        ["waiting", query] => {
+            let count = engine.waiting(number(query))?;
+            Ok(write!(text, "{count} wait")?)
+        }
+        ["out"] => Ok(write!(text, "{} are out", engine.leases_out())?),
+        _ => Ok(text.push_str("no row")?),
+    }
 }
 
 /// What words of a worker are answered.
@@ -88,40 +137,11 @@ pub(crate) fn worked(
     engine: &mut Engine,
     kept: &mut Vec<Done>,
     line: &str,
-) -> Result<String, Fault> {
+    text: &mut String,
+) -> Result<(), Fault> {
     let words: Vec<&str> = line.split_whitespace().collect(alloc)?;
-    match words.as_slice() {
-        ["new"] => {
-            *engine = Engine::new(alloc);
-            done(alloc)
-        }
-        ["forget"] => {
-            kept.clear();
-            done(alloc)
-        }
-        ["lease", count] => lease(alloc, engine, kept, rows(count)),
-        ["run", count] => run(alloc, engine, number(count)),
-        ["finish", place] => {
-            finish(engine, kept, number(place))?;
-            done(alloc)
-        }
-        ["abandon", lease] => {
-            engine.abandon(number(lease))?;
-            done(alloc)
-        }
-        ["drain", count] => {
-            engine.drain(rows(count))?;
-            done(alloc)
-        }
-        ["pending", query] => {
-            let lengths = engine.pending(number(query))?;
-            Ok(shown_lengths(alloc, &lengths)?)
-        }
-        ["waiting", query] => {
-            let count = engine.waiting(number(query))?;
-            Ok(format!(in alloc; "{count} wait")?)
-        }
-        ["out"] => Ok(format!(in alloc; "{} are out", engine.leases_out())?),
-        _ => Ok(String::from_str(alloc, "no row")?),
+    if changes(alloc, engine, kept, &words)? {
+        return Ok(text.push_str("ok")?);
     }
+    shows(alloc, engine, kept, &words, text)
 }

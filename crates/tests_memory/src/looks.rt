@@ -8,7 +8,7 @@ use reference::{Answering, Fault};
 use std::alloc::{AllocError, Global};
 
 /// The numerator and the denominator of each slope.
-fn slopes_in(alloc: Global, slopes: &[(Kind, Slope)]) -> Result<Vec<u64>, AllocError> {
+fn numbers_in(alloc: Global, slopes: &[(Kind, Slope)]) -> Result<Vec<u64>, AllocError> {
     let mut numbers = Vec::new(alloc);
     for (_, slope) in slopes {
         let (numerator, denominator) = slope.parts();
@@ -16,6 +16,12 @@ fn slopes_in(alloc: Global, slopes: &[(Kind, Slope)]) -> Result<Vec<u64>, AllocE
         numbers.push(denominator)?;
     }
     Ok(numbers)
+}
+
+/// The numerator and the denominator of each slope of a query.
+fn slopes_of(alloc: Global, engine: &Engine, query: u64) -> Result<Vec<u64>, Fault> {
+    let slopes = engine.slopes(query)?;
+    Ok(numbers_in(alloc, slopes.as_slice())?)
 }
 
 /// What a query shows: how much waits for a take, its slopes, and how much is in each of its
@@ -28,19 +34,27 @@ pub(crate) struct Shown {
 }
 
 impl Shown {
-    /// What an engine shows of a query, which may have been dropped.
-    fn of(alloc: Global, engine: &Engine, query: u64) -> Result<Shown, Fault> {
-        let (mut slopes, mut queues) = (Vec::new(alloc), Vec::new(alloc));
-        let waiting = engine.waiting(query).ok();
-        if waiting.is_some() {
-            slopes = slopes_in(alloc, engine.slopes(query)?.as_slice())?;
-            queues = engine.pending(query)?;
-        }
+    /// What an engine shows of a query at which so much waits.
+    fn at(alloc: Global, engine: &Engine, query: u64, waiting: usize) -> Result<Shown, Fault> {
+        let slopes = slopes_of(alloc, engine, query)?;
+        let queues = engine.pending(query)?;
         Ok(Shown {
-            waiting,
+            waiting: Some(waiting),
             slopes,
             queues,
         })
+    }
+
+    /// What an engine shows of a query, which may have been dropped.
+    fn of(alloc: Global, engine: &Engine, query: u64) -> Result<Shown, Fault> {
+        match engine.waiting(query) {
+            Ok(waiting) => Shown::at(alloc, engine, query, waiting),
+            Err(_) => Ok(Shown {
+                waiting: None,
+                slopes: Vec::new(alloc),
+                queues: Vec::new(alloc),
+            }),
+        }
     }
 
     /// Whether the query shows the same but for its queues, and has as many of these.

@@ -25,23 +25,37 @@ fn next(alloc: Global, engine: &mut Engine) -> Result<Option<Done>, Fault> {
     }
 }
 
-/// A column, and a row of it with its instant.
-fn column_and_row(alloc: Global) -> Result<(Vec<String>, NewRows), AllocError> {
+fn column(alloc: Global) -> Result<Vec<String>, AllocError> {
     let mut columns = Vec::new(alloc);
     columns.push(String::from_str(alloc, "a")?)?;
+    Ok(columns)
+}
+
+/// Declares a stream of one column.
+fn declare(alloc: Global, engine: &mut Engine) -> Result<u64, Fault> {
+    let columns = column(alloc)?;
+    engine.stream("S", columns.as_slice(), 0)
+}
+
+/// Appends the value 6 at the instant 0.
+fn append(alloc: Global, engine: &mut Engine) -> Result<(), Fault> {
     let mut rows = NewRows::new(alloc);
     rows.push_row(0, &[Some(6)])?;
-    Ok((columns, rows))
+    engine.append(0, &rows)
+}
+
+/// Makes a turn of that value ready.
+fn make_ready(alloc: Global, engine: &mut Engine) -> Result<(), Fault> {
+    declare(alloc, engine)?;
+    engine.query("q", "Select Istream(*) From S [Now]", None)?;
+    append(alloc, engine)?;
+    engine.heartbeat(0, 0)
 }
 
 /// The first turn of another engine, to which the value 6 came.
 fn stranger(alloc: Global) -> Result<Done, Fault> {
-    let (columns, rows) = column_and_row(alloc)?;
     let mut engine = Engine::new(alloc);
-    engine.stream("S", columns.as_slice(), 0)?;
-    engine.query("q", "Select Istream(*) From S [Now]", None)?;
-    engine.append(0, &rows)?;
-    engine.heartbeat(0, 0)?;
+    make_ready(alloc, &mut engine)?;
     match next(alloc, &mut engine)? {
         Some(done) => Ok(done),
         None => Err(Fault::UnknownLease),

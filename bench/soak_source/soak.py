@@ -16,6 +16,9 @@ CLIENTS = 64  # as many as there may be seats, and streams
 WORKERS = 4
 LIVES = 400  # the most queries of a client, one after the other, so that its plain engine stays quick
 TAKE = 4_096
+DONE = {"ok": True}
+TOO_MANY = {"error": "E18 TooManyLeases"}  # as many turns are out as may be
+REFUSALS = 10_000  # as many drains of a life are not refused by chance
 
 TEXTS = [
     "Select Istream(*) From {s} [Now]",
@@ -60,6 +63,7 @@ class Client:
         self.closed = -1
         self.asked = 0
         self.lives = 0
+        self.refused = 0  # drains
         self.fault = None
 
     def ask(self, **request):
@@ -84,6 +88,15 @@ class Client:
             bad[0:] = self.draw.choice([[self.closed, 1, 1], bad[:2], [bad[0], 2**50, 0]])
         return rows
 
+    def drain(self):
+        """Whether the drain was done: it may find 64 turns out, of workers and of clients that drain."""
+        reply = self.ask(op="drain")
+        if reply == TOO_MANY:
+            self.refused += 1
+            return False
+        assert reply == DONE, f"a drain was answered {reply}"
+        return True
+
     def take(self, life, limit):
         reply = self.ask(op="take", query=life.name, limit=limit)
         assert len(reply["rows"]) <= limit, f"{len(reply['rows'])} rows of at most {limit}"
@@ -105,20 +118,22 @@ class Client:
             if "ok" in self.tell(op="heartbeat", stream=self.stream, at=at):
                 self.closed = at
             if self.draw.randrange(2) == 0:
-                self.ask(op="drain")
+                self.drain()
                 self.take(life, self.draw.choice([1, 7, TAKE]))
             if self.draw.randrange(10) == 0:
                 self.tell(op="take", query="nothing", limit=1)
         # Turns of other threads may be out, so what is left is looked for until the plain engine's answers are all there: their
-        # number is not known here, so some drains have to find nothing, some time after each other.
-        found_nothing = 0
+        # number is not known here, so some drains have to find nothing, some time after each other. A drain that is refused is none
+        # of them.
+        found_nothing, refused_before = 0, self.refused
         while found_nothing < 5:
-            self.ask(op="drain")
+            is_done = self.drain()
             if self.take(life, TAKE) > 0:
                 found_nothing = 0
             else:
-                found_nothing += 1
-                time.sleep(0.002 * found_nothing)
+                found_nothing += is_done
+                time.sleep(0.002 * max(1, found_nothing))
+            assert self.refused < refused_before + REFUSALS, "drains are refused for good"
         self.requests.append(({"op": "take", "query": name}, life))
         self.tell(op="drop", query=name)
         self.lives += 1
@@ -142,7 +157,7 @@ def compare(program, client):
         if isinstance(reply, Life):
             takes = len(reply.rows) // TAKE + 2
             script += [{"op": "drain"}] + [{"op": "take", "query": request["query"], "limit": TAKE}] * takes
-            wanted += [None] + [reply] * takes
+            wanted += [DONE] + [reply] * takes
         else:
             script.append(request)
             wanted.append(reply)
@@ -155,7 +170,7 @@ def compare(program, client):
     for request, want, reply in zip(script, wanted, replies):
         if isinstance(want, Life):
             lives.setdefault(want.name, (want, []))[1].extend(reply["rows"])
-        elif want is not None:
+        else:
             assert reply == want, f"client {client.number}: {request} was answered {want} and has to be {reply}"
     for life, rows in lives.values():
         assert life.rows == rows, f"client {client.number}: {life.name} gave {len(life.rows)} rows, which differ from the {len(rows)} it has"
@@ -177,12 +192,14 @@ def main():
         status, errors = server.ended()
     faults = [client.fault for client in clients if client.fault]
     asked, lives = sum(client.asked for client in clients), sum(client.lives for client in clients)
+    refused = sum(client.refused for client in clients)
     print(f"{CLIENTS} clients, {WORKERS} workers: {asked} requests in {seconds:.0f} s, {lives} queries one after the other", flush=True)
+    print(f"{refused} drains were refused by E18, since 64 turns were out", flush=True)
     assert not faults, faults
     assert (status, errors) == (0, ""), f"the server ended with {status}: {errors}"
     with ThreadPoolExecutor(os.cpu_count()) as pool:
         rows = sum(pool.map(lambda client: compare(cqlrun, client), clients))
-    print(f"every reply is that of a plain engine, and all {rows} answers; the server ended with 0")
+    print(f"every other reply is that of a plain engine, and all {rows} answers; the server ended with 0")
 
 
 main()

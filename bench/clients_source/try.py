@@ -97,6 +97,21 @@ def bare(program):
     print("a bare socket: two lines are answered")
 
 
+def own_address(program):
+    """It listens on 127.0.0.1 alone: the same port of another address of this machine is refused."""
+    with Server(program, 1, 1, 1) as server:
+        try:
+            socket.create_connection(("127.0.0.2", server.port), 60).close()
+        except ConnectionRefusedError:
+            pass
+        else:
+            raise AssertionError("a connection to 127.0.0.2 was taken")
+        # the one that it serves, which says nothing
+        socket.create_connection(("127.0.0.1", server.port), 60).close()
+        assert server.ended() == (0, "")
+    print("127.0.0.2 at the server's port: refused")
+
+
 def ways_to_end(program):
     """Wrong words, a port that is taken, and no connection to serve."""
     def run(*words):
@@ -166,6 +181,7 @@ def from_python(program):
 
 def main(program):
     ways_to_end(program)
+    own_address(program)
     bare(program)
     from_nc(program)
     from_python(program)

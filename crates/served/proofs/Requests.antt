@@ -4,7 +4,8 @@ use Rattle.std.specs.Prelude.{◌≤◌, ◌↔◌, IfOk, IfErr, IsErrOf}
 use Rattle.std.proofs.lemmas.Bool.{cases_lt}
 use Rattle.histories.specs.Histories.{Told}
 use Rattle.hub.specs.Seats.{PlainSeat}
-use Rattle.hub.specs.Steps.{PlainLocked, FindsQuery, FindsStream, Spurned, Took}
+use Rattle.hub.specs.Steps.{PlainLocked, FindsQuery, FindsStream, Hands, Spurned, Took}
+use Rattle.leases.specs.declared.leased.Leased.{Leased}
 use Rattle.reference.specs.Commands.{Command}
 use Rattle.reference.specs.Replies.{Reply}
 use Rattle.reference.specs.declared.fault.Fault.{Fault}
@@ -18,6 +19,7 @@ use Rattle.wire.specs.declared.request.Request.{Request}
 use Rattle.wire.specs.declared.request.WireFault.{WireFault}
 use Rattle.wire.specs.declared.request.WireFault.TheVariants.{NotJson, BadRequest, LineTooLong}
 use Rattle.wire.specs.declared.request.WireFault.TheVariants as in_line
+use Rattle.workers.specs.Lacks.{WasFull}
 use Rattle.workers.specs.declared.pool.TheConstants.{MAX_WORKERS}
 use Rattle.served.specs.Serving.{Carries, CarriesNamed, ClientDrains, IsPool, Keeps, PoolDrains, Replies, Serves, WasAtRest, WasIdle, shown}
 
@@ -52,11 +54,17 @@ serves_fault R seat in_line.OutOfMemory defined is = inr (is, refl, refl)
 
 -- ---- drains
 
-pub client_drained : {T : Type 0} (most : ℕ) (r : Result T Fault) (answer : Answer) → IfOk r (λ _. WasIdle most) → IfErr r (λ f. (f ≡ TooManyLeases) ⊎ (f ≡ OutOfMemory)) → answer ≡ done_of r
-    → ClientDrains most answer
-client_drained most (Ok x) answer idle short is = subst (ClientDrains most) (sym is) idle
-client_drained most (Err f) answer idle (inl turns) is = subst (ClientDrains most) (sym (is ∙ ap refused turns)) tt
-client_drained most (Err f) answer idle (inr memory) is = subst (ClientDrains most) (sym (is ∙ ap refused memory)) tt
+-- a lease that was refused for turns left none to go out
+pub full_of : (old new : PlainLocked) (most : ℕ) (r : Result Leased Fault) → r ≡ Err TooManyLeases → Hands old most r new → WasFull most
+full_of old new most r is h =
+    let given = subst (λ (x : Result Leased Fault). Hands old most x new) is h in
+    (old, new, record { legal = given.legal; refuses = given.leases })
+
+pub client_drained : {T : Type 0} (most : ℕ) (r : Result T Fault) (answer : Answer) → IfOk r (λ _. WasIdle most) → IfErr r (λ f. f ≡ TooManyLeases → WasFull most)
+    → IfErr r (λ f. (f ≡ TooManyLeases) ⊎ (f ≡ OutOfMemory)) → answer ≡ done_of r → ClientDrains most answer
+client_drained most (Ok x) answer idle full short is = subst (ClientDrains most) (sym is) idle
+client_drained most (Err f) answer idle full (inl turns) is = subst (ClientDrains most) (sym (is ∙ ap refused turns)) (full turns)
+client_drained most (Err f) answer idle full (inr memory) is = subst (ClientDrains most) (sym (is ∙ ap refused memory)) tt
 
 -- these are a pool's workers, or they are not
 is_pool : (workers : ℕ) → IsPool workers ⊎ (¬ IsPool workers)
@@ -79,13 +87,13 @@ in_range workers most r bad other = elim (is_pool workers) [
 ]
 
 pub pool_drained : {T : Type 0} (workers most : ℕ) (r : Result T Fault) (answer : Answer) → (1 ≤ most) × (most ≤ MAX_TURN) → IfOk r (λ _. WasAtRest most) → AreRefused workers most r
-    → IfErr r (λ f. (f ≡ BadLimit) ⊎ (f ≡ TooManyLeases) ⊎ (f ≡ OutOfMemory)) → answer ≡ done_of r → PoolDrains workers most answer
-pool_drained workers most (Ok x) answer rows rest bad short is = subst (PoolDrains workers most) (sym is) (in_range workers most (Ok x) bad (λ e. cc), rest)
-pool_drained workers most (Err f) answer rows rest bad (inl limit) is =
+    → IfErr r (λ f. f ≡ TooManyLeases → WasFull most) → IfErr r (λ f. (f ≡ BadLimit) ⊎ (f ≡ TooManyLeases) ⊎ (f ≡ OutOfMemory)) → answer ≡ done_of r → PoolDrains workers most answer
+pool_drained workers most (Ok x) answer rows rest bad full short is = subst (PoolDrains workers most) (sym is) (in_range workers most (Ok x) bad (λ e. cc), rest)
+pool_drained workers most (Err f) answer rows rest bad full (inl limit) is =
     subst (PoolDrains workers most) (sym (is ∙ ap refused limit)) (λ (pool : IsPool workers). bad.0 (ap Err limit) (pool.0, pool.1, rows.0, rows.1))
-pool_drained workers most (Err f) answer rows rest bad (inr (inl turns)) is =
-    subst (PoolDrains workers most) (sym (is ∙ ap refused turns)) (in_range workers most (Err f) bad (λ e. cc))
-pool_drained workers most (Err f) answer rows rest bad (inr (inr memory)) is =
+pool_drained workers most (Err f) answer rows rest bad full (inr (inl turns)) is =
+    subst (PoolDrains workers most) (sym (is ∙ ap refused turns)) (in_range workers most (Err f) bad (λ e. cc), full turns)
+pool_drained workers most (Err f) answer rows rest bad full (inr (inr memory)) is =
     subst (PoolDrains workers most) (sym (is ∙ ap refused memory)) (in_range workers most (Err f) bad (λ e. cc))
 
 -- ---- the seat

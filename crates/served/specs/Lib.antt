@@ -1,2 +1,3 @@
 pub mod Serving
 pub mod Errors
+pub mod Doors

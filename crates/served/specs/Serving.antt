@@ -17,6 +17,7 @@ use Rattle.wire.specs.declared.request.Request.{Request}
 use Rattle.wire.specs.declared.request.Request.TheVariants as request
 use Rattle.wire.specs.declared.request.WireFault.{WireFault}
 use Rattle.wire.specs.declared.request.WireFault.TheVariants as in_line
+use Rattle.workers.specs.Lacks.{WasFull}
 use Rattle.workers.specs.declared.pool.TheConstants.{MAX_WORKERS}
 use Rattle.served.specs.declared.answer.Drains.{Drains}
 use Rattle.served.specs.declared.answer.Drains.TheVariants.{Pool, Client}
@@ -79,20 +80,21 @@ WasAtRest most = (old : PlainLocked) × (new : PlainLocked) × Rests old most ne
 abbrev pub IsPool : ℕ → Type 0
 IsPool workers = (1 ≤ workers) × (workers ≤ MAX_WORKERS)
 
--- THE DRAIN OF A POOL was answered so: `done` behind a moment of rest, `BadLimit` just where these are no pool's workers, and
--- else want of memory or of turns
+-- THE DRAIN OF A POOL was answered so: `done` behind a moment of rest, `BadLimit` just where these are no pool's workers, want
+-- of turns behind a moment when none went out to an operator that was ready, or else want of memory
 abbrev pub PoolDrains : ℕ → ℕ → Answer → Type 0
 PoolDrains workers most done = IsPool workers × WasAtRest most
 PoolDrains workers most (refused BadLimit) = ¬ IsPool workers
 PoolDrains workers most (refused OutOfMemory) = IsPool workers
-PoolDrains workers most (refused TooManyLeases) = IsPool workers
+PoolDrains workers most (refused TooManyLeases) = IsPool workers × WasFull most
 PoolDrains workers most answer = ⊥
 
--- THE DRAIN OF A CLIENT'S OWN THREAD was answered so: `done` behind an idle moment, and else want of memory or of turns
+-- THE DRAIN OF A CLIENT'S OWN THREAD was answered so: `done` behind an idle moment, want of turns behind such a moment, or else
+-- want of memory
 abbrev pub ClientDrains : ℕ → Answer → Type 0
 ClientDrains most done = WasIdle most
 ClientDrains most (refused OutOfMemory) = ⊤
-ClientDrains most (refused TooManyLeases) = ⊤
+ClientDrains most (refused TooManyLeases) = WasFull most
 ClientDrains most answer = ⊥
 
 -- by whoever runs the turns

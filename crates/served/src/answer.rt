@@ -1,7 +1,8 @@
 //! One request.
-ghost use Rattle.std.specs.Prelude.{◌≡◌, ◌≤◌, ◌⊎◌, IfErr, OnOk, Result};
+ghost use Rattle.std.specs.Prelude.{◌≡◌, ◌≤◌, ◌⊎◌, ◌↔◌, ⊤, IfErr, IsErrOf, IsTrue, OnOk, Result};
 ghost use Rattle.hub.specs.Steps.{FindsQuery, FindsStream};
 ghost use Rattle.reference.specs.Commands.{Append, Drop, Heartbeat, Take};
+ghost use Rattle.reference.specs.declared.fault.Fault.{Fault};
 ghost use Rattle.reference.specs.declared.fault.Fault.TheVariants.{OutOfMemory, TooManyLeases};
 ghost use Rattle.reference.specs.declared.fault.Fault.TheVariants.{UnknownQuery, UnknownStream};
 ghost use Rattle.reference.specs.declared.limits.TheConstants.{MAX_TURN};
@@ -11,6 +12,8 @@ ghost use Rattle.wire.specs.Printed.{answer_of};
 ghost use Rattle.wire.specs.Requests.{Reads};
 ghost use Rattle.wire.specs.Script.{done_of};
 ghost use Rattle.wire.specs.declared.request.WireFault.{WireFault};
+ghost use Rattle.workers.specs.Lacks.{WasFull};
+ghost use Rattle.workers.specs.Returns.{IsBroughtBack};
 ghost use Rattle.served.specs.Serving.{CarriesNamed, ClientDrains, DrainsBy, LooksNamed};
 ghost use Rattle.served.specs.Serving.{PoolDrains, Replies, Serves, WasIdle, number_in};
 
@@ -177,6 +180,7 @@ fn drain<R: Threads + Wait + Sync>(
 fn run_turns<R: Wait>(rt: &R, alloc: Global, hub: &Hub, rows: u32) -> Result<(), Fault>
     requires { 1 ≤ rows × rows ≤ MAX_TURN }
     ensures ok { OnOk result (WasIdle rows) }
+    ensures full { IfErr result (λ f. f ≡ TooManyLeases → WasFull rows) }
     ensures err { IfErr result (λ f. (f ≡ TooManyLeases) ⊎ (f ≡ OutOfMemory)) }
 {
     for _ in rt.forever() {
@@ -196,6 +200,8 @@ fn run_turns<R: Wait>(rt: &R, alloc: Global, hub: &Hub, rows: u32) -> Result<(),
 // Runs a turn and brings it back; false where memory was refused, and then it is out no more.
 fn is_brought_back<R: Wait>(rt: &R, alloc: Global, hub: &Hub, turn: Turn) -> bool
     requires { Fits turn.node turn.item turn.near }
+    ensures { (answer : Result ⊤ Fault) × IsBroughtBack turn answer
+        × (IsTrue result ↔ ¬ IsErrOf answer OutOfMemory) }
 {
     let lease = turn.lease;
     match turn.run(alloc) {

@@ -1,4 +1,6 @@
 //! The door of a server: its listener, and how many connections are still to serve.
+ghost use Rattle.std.specs.Prelude.{◌≡◌, Some, false, true};
+ghost use Rattle.served.specs.Doors.{Admits};
 
 use std::net::{TcpListener, TcpStream};
 
@@ -17,7 +19,14 @@ pub(crate) struct Door {
 
 impl Door {
     /// A door that lets so many in.
-    pub(crate) fn new(listener: TcpListener, left: Option<u64>) -> Door {
+    pub(crate) fn new(listener: TcpListener, left: Option<u64>) -> Door
+        ensures { result ≡ record {
+          listener = listener;
+          left = left;
+          accept_failed = false;
+          thread_failed = false;
+        } }
+    {
         Door {
             listener,
             left,
@@ -27,7 +36,9 @@ impl Door {
     }
 
     /// One connection, or None where there are no more.
-    pub(crate) fn accept(&mut self) -> Option<TcpStream> {
+    pub(crate) fn accept(&mut self) -> Option<TcpStream>
+        ensures { Admits self.old result self.new }
+    {
         if self.left == Some(0) {
             return None;
         }
@@ -45,7 +56,9 @@ impl Door {
     }
 
     /// No more connections, since a thread could not be started.
-    pub(crate) fn lack_thread(&mut self) {
+    pub(crate) fn lack_thread(&mut self)
+        ensures { self.new ≡ record self.old { left = Some 0; thread_failed = true } }
+    {
         self.left = Some(0);
         self.thread_failed = true;
     }

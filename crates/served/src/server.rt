@@ -3,6 +3,7 @@ ghost use Rattle.std.specs.Prelude.{◌≡◌, ◌≤◌, ◌⊎◌, OnErr};
 ghost use Rattle.hub.specs.declared.locked.TheConstants.{MAX_SEATS};
 ghost use Rattle.served.specs.Errors.{IsTold, IsToldAddress, accept_line, close_line};
 ghost use Rattle.served.specs.Errors.{memory_line, thread_line};
+ghost use Rattle.served.specs.Serving.{Keeps};
 
 use crate::door::Door;
 use crate::lines::serve_connection;
@@ -20,9 +21,9 @@ use workers::{NoGate, work};
 const ROWS: u32 = 256;
 
 /// The body of the server after its listener was bound: tells where it listens, answers
-/// connections, and gives its status. 0 where nothing failed; 1 where a connection could not be
-/// accepted, or the history and the seats differ at the end; 3 where memory is refused at the start
-/// or a thread could not be started. What is not 0 is said on `errors`, in one line.
+/// connections, closes the hub, and gives its status. 0 where nothing failed; 1 where a connection
+/// could not be accepted, or the history and the seats differ at the end; 3 where memory is refused
+/// at the start or a thread could not be started. What is not 0 is said on `errors`, in one line.
 pub fn serve<R: Threads + Wait + Sync, O: Sink, E: Sink>(
     rt: &R,
     alloc: Global,
@@ -54,6 +55,7 @@ pub fn serve<R: Threads + Wait + Sync, O: Sink, E: Sink>(
     let Some(seats) = run_threads(rt, alloc, &door, &hub, seats, options.workers) else {
         return lack_memory(errors);
     };
+    let closed = hub.close(seats);
     let door = door.into_inner();
     if door.thread_failed {
         tell(errors, "cqld: thread failed\n");
@@ -63,7 +65,7 @@ pub fn serve<R: Threads + Wait + Sync, O: Sink, E: Sink>(
         tell(errors, "cqld: accept failed\n");
         return 1;
     }
-    match hub.close(seats) {
+    match closed {
         Ok(_) => 0,
         Err(_) => {
             tell(errors, "cqld: close failed\n");
@@ -147,7 +149,9 @@ fn client<R: Threads + Wait + Sync>(
     door: &Mutex<Door>,
     hub: &Hub,
     mut seat: Seat,
-) -> Seat {
+) -> Seat
+    ensures { Keeps seat result }
+{
     for _ in rt.forever() {
         let Some(stream) = door.lock(rt).accept() else {
             break;

@@ -3,6 +3,7 @@
 
 mod gate;
 mod pool;
+mod want;
 mod worker;
 
 pub use gate::{Gate, NoGate};

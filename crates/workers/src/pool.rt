@@ -4,10 +4,12 @@ ghost use Rattle.reference.specs.declared.fault.Fault.TheVariants.{BadLimit, Out
 ghost use Rattle.reference.specs.declared.fault.Fault.TheVariants.{TooManyLeases};
 ghost use Rattle.reference.specs.declared.limits.TheConstants.{MAX_TURN};
 ghost use Rattle.hub.specs.Steps.{PlainLocked, Rests};
+ghost use Rattle.workers.specs.Lacks.{Lacks, WasFull, noted};
 ghost use Rattle.workers.specs.declared.pool.TheConstants.{MAX_WORKERS};
 
 use crate::gate::Gate;
-use crate::worker::{Lack, run_to_rest};
+use crate::want::{Lack, Want};
+use crate::worker::run_to_rest;
 use hub::Hub;
 use reference::{Fault, MAX_TURN};
 use std::alloc::Global;
@@ -27,8 +29,9 @@ impl Pool {
     /// When it answers, each of its workers has ended.
     ///
     /// # Errors
-    /// `BadLimit` where workers are not 1 to 64, or rows not 1 to 1,024; `TooManyLeases` or
-    /// `OutOfMemory` where a worker met it.
+    /// `BadLimit` where workers are not 1 to 64, or rows not 1 to 1,024; `TooManyLeases` where a
+    /// worker met it, so that an operator was ready and as many turns were out as may be, or all
+    /// numbers of turns were given; `OutOfMemory` where a worker met it.
     pub fn drain<R: Threads + Wait + Sync, G: Gate + Sync>(
         rt: &R,
         alloc: Global,
@@ -40,6 +43,7 @@ impl Pool {
         ensures ok { OnOk result ((old : PlainLocked) × (new : PlainLocked) × Rests old rows new) }
         ensures bad { IsErrOf result Fault.BadLimit ↔ (¬ ((1 ≤ workers)
             × (workers ≤ MAX_WORKERS) × (1 ≤ rows) × (rows ≤ MAX_TURN))) }
+        ensures full { IfErr result (λ f. f ≡ TooManyLeases → WasFull rows) }
         ensures err { IfErr result (λ f.
             (f ≡ BadLimit) ⊎ (f ≡ TooManyLeases) ⊎ (f ≡ OutOfMemory)) }
     {
@@ -51,7 +55,7 @@ impl Pool {
         let own = thread::scope(
             thread::scope_env(),
             rt,
-            |scope| -> Result<(), Lack>
+            |scope| -> Result<(), Want>
                 requires { 1 ≤ rows × rows ≤ MAX_TURN }
                 ensures { OnOk result ((old : PlainLocked) × (new : PlainLocked)
                     × Rests old rows new) }
@@ -67,21 +71,38 @@ impl Pool {
             },
         );
         let others = match met.into_inner() {
-            Some(lack) => Err(lack),
+            Some(want) => Err(want),
             None => Ok(()),
         };
         match own.and(others) {
             Ok(()) => Ok(()),
-            Err(Lack::Memory) => Err(Fault::OutOfMemory),
-            Err(Lack::Turns) => Err(Fault::TooManyLeases),
+            Err(want) => Err(fault_of(&want)),
         }
     }
 }
 
-// Notes what a worker was short of.
-fn note<R: Wait>(rt: &R, met: &Mutex<Option<Lack>>, answer: Result<(), Lack>) {
-    if let Err(lack) = answer {
-        let mut met = met.lock(rt);
-        *met = Some(lack);
+// What a pool answers of what a worker was short of.
+fn fault_of(want: &Want) -> Fault
+    ensures fault { (result ≡ TooManyLeases) ⊎ (result ≡ OutOfMemory) }
+    ensures turns { result ≡ TooManyLeases → Lacks Lack.Turns }
+{
+    match want.lack {
+        Lack::Memory => Fault::OutOfMemory,
+        Lack::Turns => Fault::TooManyLeases,
+    }
+}
+
+// Notes under the lock what a worker was short of. No clause can tell what a lock keeps.
+fn note<R: Wait>(rt: &R, met: &Mutex<Option<Want>>, answer: Result<(), Want>) {
+    let mut met = met.lock(rt);
+    keep(&mut met, answer);
+}
+
+// Keeps what the worker that ended last was short of.
+fn keep(met: &mut Option<Want>, answer: Result<(), Want>)
+    ensures { met.new ≡ noted met.old answer }
+{
+    if let Err(want) = answer {
+        *met = Some(want);
     }
 }

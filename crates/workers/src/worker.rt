@@ -4,22 +4,15 @@ ghost use Rattle.turn.specs.Turns.{Fits};
 ghost use Rattle.reference.specs.declared.limits.TheConstants.{MAX_TURN};
 ghost use Rattle.hub.specs.Steps.{HasEnded, PlainLocked, Rests};
 ghost use Rattle.workers.specs.Lacks.{Lacks};
+ghost use Rattle.workers.specs.Returns.{IsBroughtBack};
 
 use crate::gate::Gate;
+use crate::want::{Lack, Want};
 use hub::{Hub, LeaseRest, LeaseWait};
 use reference::Fault;
 use std::alloc::Global;
 use std::sync::Wait;
 use turn::Turn;
-
-/// What a worker may be short of.
-#[derive(Clone, Copy)]
-pub(crate) enum Lack {
-    /// Memory was refused.
-    Memory,
-    /// As many turns are out as may be, or all numbers of turns were given.
-    Turns,
-}
 
 /// Runs turns of at most `rows` rows, until the hub's end is called and it is seen. A turn that did
 /// not come back is tried again, since its operator is ready again.
@@ -48,27 +41,27 @@ pub(crate) fn run_to_rest<R: Wait, G: Gate>(
     hub: &Hub,
     gate: &G,
     rows: u32,
-) -> Result<(), Lack>
+) -> Result<(), Want>
     requires { 1 ≤ rows × rows ≤ MAX_TURN }
     ensures ok { OnOk result ((old : PlainLocked) × (new : PlainLocked) × Rests old rows new) }
-    ensures err { IfErr result (λ lack. Lacks lack rows) }
+    ensures err { IfErr result Lacks }
 {
     for _ in rt.forever() {
         let turn = match hub.lease_or_rest(rt, rows) {
             Ok(LeaseRest::Turn(turn)) => turn,
             Ok(LeaseRest::Rest) => return Ok(()),
-            Err(Fault::TooManyLeases) => return Err(Lack::Turns),
-            Err(Fault::OutOfMemory) => return Err(Lack::Memory),
+            Err(Fault::TooManyLeases) => return Err(Want { lack: Lack::Turns }),
+            Err(Fault::OutOfMemory) => return Err(Want { lack: Lack::Memory }),
             Err(_) => unreachable!(),
         };
         if let Err(Fault::OutOfMemory) = run_turn(rt, alloc, hub, gate, turn) {
-            return Err(Lack::Memory);
+            return Err(Want { lack: Lack::Memory });
         }
     }
     unreachable!()
 }
 
-// Runs a turn and brings it back; where memory is refused it is abandoned.
+// Runs a turn and brings it back; where memory is refused it is given up.
 fn run_turn<R: Wait, G: Gate>(
     rt: &R,
     alloc: Global,
@@ -77,6 +70,7 @@ fn run_turn<R: Wait, G: Gate>(
     turn: Turn,
 ) -> Result<(), Fault>
     requires { Fits turn.node turn.item turn.near }
+    ensures { IsBroughtBack turn result }
 {
     let lease = turn.lease;
     gate.before(lease);

@@ -1,7 +1,7 @@
 use Rattle.std.proofs.Common.{◌≡◌, Result, Ok, Err, OnOk}
 use Rattle.std.specs.Prelude.{⊤}
 use Rattle.std.specs.Result.{result_and}
-use Rattle.workers.specs.declared.worker.Lack.{Lack}
+use Rattle.workers.specs.declared.want.Lack.{Lack}
 use Rattle.workers.proofs.pool.Pool.drain.Goals as goal
 
 -- what the first of two answers says at Ok, where both are Ok

@@ -3,11 +3,11 @@ use Rattle.std.proofs.Crossing.{crosses, send}
 use Rattle.std.specs.contracts.option.Option as option
 use Rattle.std.specs.contracts.sync.Mutex as mutex
 use Rattle.hub.proofs.SendLemmas.{hub_sync}
-use Rattle.workers.specs.contracts.worker.Lack as lack
+use Rattle.workers.specs.contracts.want.Want as want
 use Rattle.workers.proofs.pool.fn.Pool.drain.scope.Goals as goal
 use Rattle.workers.proofs.pool.fn.Pool.drain.scope.Lts as lts
 
-met_sync : IsSync (mutex.the_row (option.the_row lack.the_row))
+met_sync : IsSync (mutex.the_row (option.the_row want.the_row))
 met_sync = search (sendable, crosses) depth 20
 
 pub spawn-requires-send-F : goal.spawn-requires-send-F

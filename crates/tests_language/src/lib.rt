@@ -1,6 +1,6 @@
 //! What rows of `tests_rows` and of `tests_examples` cannot tell of the query language, as tests:
-//! slopes that are counted, rows on their way into a stream, values as text, and answers by the
-//! definition that runs.
+//! slopes that are counted, rows on their way into a stream, calls at limits that no script
+//! reaches, values as text, and answers by the definition that runs.
 //!
 //! They stand in a crate of their own because a crate's tests are proved with all of the crate once
 //! more.
@@ -10,6 +10,8 @@
 mod answers;
 #[cfg(test)]
 mod envelopes;
+#[cfg(test)]
+mod limits;
 #[cfg(test)]
 mod rows;
 #[cfg(test)]

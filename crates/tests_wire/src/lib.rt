@@ -1,5 +1,5 @@
-//! Worked rows of request lines and of the program's runs, as tests: lines in any chunks, replies,
-//! devices that fail, a connection.
+//! Worked rows of request lines and of the program's runs, as tests: lines in any chunks, when
+//! replies come, devices that fail or are interrupted, a connection.
 //!
 //! They stand in a crate of their own because a crate's tests are proved with all of the crate once
 //! more. Rows that are whole scripts are the stored run of `tests_examples`.
@@ -8,7 +8,11 @@
 #[cfg(test)]
 mod connections;
 #[cfg(test)]
+mod interruptions;
+#[cfg(test)]
 mod lines;
+#[cfg(test)]
+mod replies;
 #[cfg(test)]
 mod runs;
 #[cfg(test)]

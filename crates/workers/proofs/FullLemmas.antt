@@ -1,13 +1,12 @@
 -- A turn that did not go out, since too many are out, goes out in no other size.
-use Rattle.std.proofs.Common.{◌≡◌, ◌∙◌, ap, sym, ℕ, ◌≤◌, Bool, true, not, ◌&&◌, ◌||◌, nat_le, is_some, length, Option, [], ◌∷◌, refl}
+use Rattle.std.proofs.Common.{◌≡◌, ◌∙◌, ℕ, ◌≤◌, Bool, true, not, ◌&&◌, nat_le, [], ◌∷◌, refl}
 use Rattle.std.proofs.lemmas.Bool.{le-leb}
 use Rattle.names.specs.Faults.{first_of}
-use Rattle.reference.specs.declared.fault.Fault.{Fault}
 use Rattle.reference.specs.declared.fault.Fault.TheVariants.{BadLimit, TooManyLeases}
 use Rattle.reference.specs.declared.limits.TheConstants.{MAX_TURN}
 use Rattle.laws_engine.specs.Engines.{PlainEngine}
 use Rattle.leases.specs.Turns.{lease_fault}
-use Rattle.hub.specs.Steps.{PlainLocked, Withholds, engine_at}
+use Rattle.hub.specs.Steps.{engine_at}
 use Rattle.workers.specs.Lacks.{WasFull}
 
 both_true : (a b : Bool) → a ≡ true → b ≡ true → (a && b) ≡ true

@@ -61,7 +61,7 @@ pub(crate) fn run_to_rest<R: Wait, G: Gate>(
     unreachable!()
 }
 
-// Runs a turn and brings it back; where memory is refused it is given up.
+// Runs a turn between the gate's two calls, and brings it back.
 fn run_turn<R: Wait, G: Gate>(
     rt: &R,
     alloc: Global,
@@ -74,13 +74,22 @@ fn run_turn<R: Wait, G: Gate>(
 {
     let lease = turn.lease;
     gate.before(lease);
-    let answer = match turn.run(alloc) {
+    let answer = bring_back(rt, alloc, hub, turn);
+    gate.after(lease);
+    answer
+}
+
+// Runs a turn and brings it back; where memory is refused it is given up.
+fn bring_back<R: Wait>(rt: &R, alloc: Global, hub: &Hub, turn: Turn) -> Result<(), Fault>
+    requires { Fits turn.node turn.item turn.near }
+    ensures { IsBroughtBack turn result }
+{
+    let lease = turn.lease;
+    match turn.run(alloc) {
         Ok(done) => hub.finish(rt, done),
         Err(_) => {
             let _ = hub.abandon(rt, lease);
             Err(Fault::OutOfMemory)
         }
-    };
-    gate.after(lease);
-    answer
+    }
 }

@@ -1,6 +1,7 @@
-use Rattle.std.proofs.Common.{◌≡◌, Result, Ok, Err, OnOk}
+use Rattle.std.proofs.Common.{rules, ◌≡◌, ◌≤◌, Result, Ok, Err, OnOk}
 use Rattle.std.specs.Prelude.{⊤}
 use Rattle.std.specs.Result.{result_and}
+use Rattle.reference.specs.declared.limits.TheConstants.{MAX_TURN}
 use Rattle.workers.specs.declared.want.Lack.{Lack}
 use Rattle.workers.proofs.pool.Pool.drain.Goals as goal
 
@@ -11,3 +12,9 @@ first_says (Err lack) others r u P says is ok = absurd (cc)
 
 pub returns-in-Ok-clause-ok : goal.returns-in-Ok-clause-ok
 returns-in-Ok-clause-ok g c = first_says c.scoped-own.result c.match-into_inner.others c.and.result _ _ c.scoped-own.ensures.1 c.and.ensures c.in-Ok.is
+
+pub returns-in-Err-clause-full : goal.returns-in-Err-clause-full
+returns-in-Err-clause-full g c =
+    let low : 1 ≤ c.args.rows = search rules in
+    let high : c.args.rows ≤ MAX_TURN = search rules in
+    λ is. c.fault_of.ensures.turns is c.args.rows low high

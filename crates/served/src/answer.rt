@@ -1,19 +1,16 @@
 //! One request.
-ghost use Rattle.std.specs.Prelude.{◌≡◌, ◌≤◌, ◌⊎◌, ◌↔◌, ⊤, IfErr, IsErrOf, IsTrue, OnOk, Result};
+ghost use Rattle.std.specs.Prelude.{◌≡◌, ◌≤◌, ◌⊎◌, IfErr, OnOk, Result};
 ghost use Rattle.hub.specs.Steps.{FindsQuery, FindsStream};
 ghost use Rattle.reference.specs.Commands.{Append, Drop, Heartbeat, Take};
-ghost use Rattle.reference.specs.declared.fault.Fault.{Fault};
 ghost use Rattle.reference.specs.declared.fault.Fault.TheVariants.{OutOfMemory, TooManyLeases};
 ghost use Rattle.reference.specs.declared.fault.Fault.TheVariants.{UnknownQuery, UnknownStream};
 ghost use Rattle.reference.specs.declared.limits.TheConstants.{MAX_TURN};
-ghost use Rattle.turn.specs.Turns.{Fits};
 ghost use Rattle.wire.specs.Calls.{Call, call_of};
 ghost use Rattle.wire.specs.Printed.{answer_of};
 ghost use Rattle.wire.specs.Requests.{Reads};
 ghost use Rattle.wire.specs.Script.{done_of};
 ghost use Rattle.wire.specs.declared.request.WireFault.{WireFault};
 ghost use Rattle.workers.specs.Lacks.{WasFull};
-ghost use Rattle.workers.specs.Returns.{IsBroughtBack};
 ghost use Rattle.served.specs.Serving.{CarriesNamed, ClientDrains, DrainsBy, LooksNamed};
 ghost use Rattle.served.specs.Serving.{PoolDrains, Replies, Serves, WasIdle, number_in};
 
@@ -23,9 +20,8 @@ use reference::{Fault, NewRows};
 use std::alloc::Global;
 use std::sync::Wait;
 use std::thread::Threads;
-use turn::Turn;
 use wire::{Reply, Request, WireFault};
-use workers::{NoGate, Pool};
+use workers::{NoGate, Pool, bring_back};
 
 /// Who runs the turns of a drain.
 #[derive(Clone, Copy)]
@@ -190,25 +186,9 @@ fn run_turns<R: Wait>(rt: &R, alloc: Global, hub: &Hub, rows: u32) -> Result<(),
             Err(Fault::TooManyLeases) => return Err(Fault::TooManyLeases),
             Err(_) => return Err(Fault::OutOfMemory),
         };
-        if !is_brought_back(rt, alloc, hub, turn) {
+        if let Err(Fault::OutOfMemory) = bring_back(rt, alloc, hub, turn) {
             return Err(Fault::OutOfMemory);
         }
     }
     unreachable!()
-}
-
-// Runs a turn and brings it back; false where memory was refused, and then it is out no more.
-fn is_brought_back<R: Wait>(rt: &R, alloc: Global, hub: &Hub, turn: Turn) -> bool
-    requires { Fits turn.node turn.item turn.near }
-    ensures { (answer : Result ⊤ Fault) × IsBroughtBack turn answer
-        × (IsTrue result ↔ ¬ IsErrOf answer OutOfMemory) }
-{
-    let lease = turn.lease;
-    match turn.run(alloc) {
-        Ok(done) => !matches!(hub.finish(rt, done), Err(Fault::OutOfMemory)),
-        Err(_) => {
-            let _ = hub.abandon(rt, lease);
-            false
-        }
-    }
 }

@@ -8,4 +8,4 @@ mod worker;
 
 pub use gate::{Gate, NoGate};
 pub use pool::{MAX_WORKERS, Pool};
-pub use worker::work;
+pub use worker::{bring_back, work};

@@ -79,8 +79,13 @@ fn run_turn<R: Wait, G: Gate>(
     answer
 }
 
-// Runs a turn and brings it back; where memory is refused it is given up.
-fn bring_back<R: Wait>(rt: &R, alloc: Global, hub: &Hub, turn: Turn) -> Result<(), Fault>
+/// Runs a turn and brings it back; where memory is refused it is given up, and the turn is out no
+/// more.
+///
+/// # Errors
+/// `OutOfMemory` where memory was refused; `UnknownLease` where the turn is not out, as that of a
+/// query that was dropped meanwhile; `Stranger` where the hub gave out another by this number.
+pub fn bring_back<R: Wait>(rt: &R, alloc: Global, hub: &Hub, turn: Turn) -> Result<(), Fault>
     requires { Fits turn.node turn.item turn.near }
     ensures { IsBroughtBack turn result }
 {

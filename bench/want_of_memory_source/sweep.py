@@ -12,14 +12,15 @@ BROKEN = {"error": "E15 Broken"}
 
 
 def ran(program, script, refuse, number):
-    """The replies, or None where the run ended before the first; and whether a growth was refused."""
+    """The replies, or None where the run ended before the first; whether a growth was refused; and whether a drain met that
+    before its first turn took anything, and left all as it was."""
     environment = {**os.environ, "LD_PRELOAD": refuse, "REFUSE_AT": str(number)}
     run = subprocess.run([program], input=script, env=environment, capture_output=True, text=True, timeout=60)
-    was_refused = "refused\n" in run.stderr
+    was_refused, has_spared = "refused\n" in run.stderr, "spared\n" in run.stderr
     if run.returncode != 0 and run.stdout == "":
-        return None, was_refused
+        return None, was_refused, has_spared
     assert run.returncode == 0, f"status {run.returncode}: {run.stdout[-200:]}"
-    return [json.loads(line) for line in run.stdout.splitlines()], was_refused
+    return [json.loads(line) for line in run.stdout.splitlines()], was_refused, has_spared
 
 
 def broken_query(requests, wanted, replies):
@@ -51,22 +52,27 @@ def runs(program, refuse, script):
     with ThreadPoolExecutor(os.cpu_count()) as pool:
         while True:
             some = range(number, number + 16 * os.cpu_count())
-            for replies, was_refused in pool.map(lambda it: ran(program, script, refuse, it), some):
-                yield replies, was_refused
+            for replies, was_refused, has_spared in pool.map(lambda it: ran(program, script, refuse, it), some):
+                yield replies, was_refused, has_spared
                 if not was_refused:
                     return
             number = some.stop
 
 
 def sweep(program, refuse, script, wanted):
-    """The growths refused, those at the start, and which queries were broken after how many answers, by turns and by drains."""
+    """The growths refused, those at the start, those before the first turn of a drain, which break nothing, and which queries were
+    broken after how many answers, by turns and by drains."""
     requests = [json.loads(line) for line in script.splitlines()]
-    refused, at_start, ends = 0, 0, [Counter(), Counter()]
-    for replies, was_refused in runs(program, refuse, script):
+    refused, at_start, spared, ends = 0, 0, 0, [Counter(), Counter()]
+    for replies, was_refused, has_spared in runs(program, refuse, script):
         if not was_refused:
             assert replies == wanted * 2
             continue
         refused += 1
+        if has_spared:
+            assert replies == wanted * 2, f"growth {refused}: a drain that took nothing broke a query"
+            spared += 1
+            continue
         if replies is None:
             at_start += 1
             continue
@@ -74,7 +80,7 @@ def sweep(program, refuse, script, wanted):
         for way, part in enumerate((replies[: len(wanted)], replies[len(wanted) :])):
             if end := broken_query(requests, wanted, part):
                 ends[way][end] += 1
-    return refused, at_start, ends
+    return refused, at_start, spared, ends
 
 
 def main(program, refuse, stdin, stdout):
@@ -82,16 +88,17 @@ def main(program, refuse, stdin, stdout):
         scripts = file.read().split(SEPARATOR)
     with open(stdout) as file:
         replies = [json.loads(line) for line in file]
-    first, seen = 0, [Counter(), Counter()]
+    first, all_spared, seen = 0, 0, [Counter(), Counter()]
     for script in scripts:
         count = len(script.splitlines())
         wanted, first = replies[first : first + count], first + count
-        refused, at_start, (by_turns, by_drains) = sweep(program, refuse, script, wanted)
-        seen = [seen[0] + by_turns, seen[1] + by_drains]
-        print(f"{count} requests: {refused} growths refused in turn, {at_start} of them at the start")
+        refused, at_start, spared, (by_turns, by_drains) = sweep(program, refuse, script, wanted)
+        all_spared, seen = all_spared + spared, [seen[0] + by_turns, seen[1] + by_drains]
+        print(f"{count} requests: {refused} growths refused in turn, {at_start} of them at the start, {spared} before a drain's first turn")
         for way, ends in ("turns", by_turns), ("drains", by_drains):
             told = ", ".join(f"{name} after {rows} answers: {times}" for (name, rows), times in sorted(ends.items()))
             print(f"  by {way}, broken {told or 'none'}", flush=True)
+    assert all_spared, "each drain that wanted memory broke a query or ran turns"
     for way, ends in zip(("turns", "drains"), seen):
         assert ("p", 3) in ends, f"by {way} no run broke p behind its first three answers"
 

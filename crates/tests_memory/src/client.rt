@@ -18,8 +18,11 @@ pub(crate) struct Client {
     registered: u64,
     /// Whether its drains are made of turns that go out.
     by_turns: bool,
-    /// How many calls wanted memory that may break a query: drains, and turns that came back.
+    /// How many calls wanted memory that may break a query: drains that ran turns, and turns that
+    /// came back.
     pub(crate) breaking: usize,
+    /// Whether a drain wanted memory before its first turn took anything.
+    pub(crate) has_spared: bool,
 }
 
 /// Whether the reply says want of memory.
@@ -35,6 +38,7 @@ impl Client {
             registered: 0,
             by_turns,
             breaking: 0,
+            has_spared: false,
         }
     }
 
@@ -50,11 +54,17 @@ impl Client {
         Err(Stop::Wrong("a call that was refused changed the engine\n"))
     }
 
-    /// Fails where the engine shows what a drain may not leave that wanted memory: it may have run
-    /// turns, and have broken one query.
+    /// Fails where the engine shows what a drain may not leave that wanted memory. It may have run
+    /// turns, and have broken one query, whose queues are empty then. So it broke none where the
+    /// engine shows what it showed before.
     fn expect_drained(&mut self, alloc: Global, before: &Look) -> Result<(), Stop> {
+        let after = self.look(alloc)?;
+        if before.is_same(&after) {
+            self.has_spared = true;
+            return Ok(());
+        }
         self.breaking = self.breaking.saturating_add(1);
-        if before.goes_on_to(&self.look(alloc)?) {
+        if before.goes_on_to(&after) {
             return Ok(());
         }
         Err(Stop::Wrong("a drain that was refused lost answers\n"))

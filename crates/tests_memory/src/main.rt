@@ -15,13 +15,14 @@ use std::io::{self, Write};
 use std::process::ExitCode;
 use wire::{MemorySink, read_request, write_reply};
 
-/// Answers a script's requests, a line each, over an engine of its own.
+/// Answers a script's requests, a line each, over an engine of its own. Whether a drain of it
+/// wanted memory and left all as it was.
 fn answer_script(
     alloc: Global,
     script: &str,
     by_turns: bool,
     sink: &mut MemorySink,
-) -> Result<(), Stop> {
+) -> Result<bool, Stop> {
     let mut client = Client::new(alloc, by_turns);
     for line in script.lines() {
         let Ok(request) = read_request(alloc, line.as_bytes()) else {
@@ -32,31 +33,42 @@ fn answer_script(
             return Err(Stop::Memory);
         };
     }
-    client.end(alloc)
+    client.end(alloc)?;
+    Ok(client.has_spared)
 }
 
-/// The replies to a script. Where memory is refused to the tests themselves, the script is answered
-/// once more.
-fn replies_to(alloc: Global, script: &str, by_turns: bool) -> Result<MemorySink, Stop> {
+/// The replies to a script, and whether a drain of it wanted memory and left all as it was. Where
+/// memory is refused to the tests themselves, the script is answered once more.
+fn replies_to(alloc: Global, script: &str, by_turns: bool) -> Result<(MemorySink, bool), Stop> {
     let mut sink = MemorySink::new(alloc);
     match answer_script(alloc, script, by_turns, &mut sink) {
         Err(Stop::Memory) => {
             let mut sink = MemorySink::new(alloc);
-            answer_script(alloc, script, by_turns, &mut sink)?;
-            Ok(sink)
+            let has_spared = answer_script(alloc, script, by_turns, &mut sink)?;
+            Ok((sink, has_spared))
         }
         Err(wrong) => Err(wrong),
-        Ok(()) => Ok(sink),
+        Ok(has_spared) => Ok((sink, has_spared)),
     }
 }
 
-/// Writes the replies to all scripts of a text. A record separator parts them, which no JSON text
-/// has.
-fn answer_scripts<W: Write>(alloc: Global, text: &str, out: &mut W) -> io::Result<ExitCode> {
+/// Writes the replies to all scripts of a text, which a record separator parts that no JSON text
+/// has, and to `told` a line for each of which a drain wanted memory and left all as it was.
+fn answer_scripts<W: Write, T: Write>(
+    alloc: Global,
+    text: &str,
+    out: &mut W,
+    told: &mut T,
+) -> io::Result<ExitCode> {
     for by_turns in [true, false] {
         for script in text.split("\u{1e}\n") {
             match replies_to(alloc, script, by_turns) {
-                Ok(sink) => out.write_all(sink.bytes.as_slice())?,
+                Ok((sink, has_spared)) => {
+                    out.write_all(sink.bytes.as_slice())?;
+                    if has_spared {
+                        told.write_all(b"spared\n")?;
+                    }
+                }
                 Err(stop) => {
                     out.write_all(stop.text().as_bytes())?;
                     return Ok(ExitCode::from(1));
@@ -69,6 +81,10 @@ fn answer_scripts<W: Write>(alloc: Global, text: &str, out: &mut W) -> io::Resul
 
 fn main(rt: HostRuntime) -> io::Result<ExitCode> {
     let text = io::read_to_string(rt.alloc(), rt.stdin())?;
-    let mut out = rt.stdout();
-    answer_scripts(rt.alloc(), text.as_str(), &mut out)
+    answer_scripts(
+        rt.alloc(),
+        text.as_str(),
+        &mut rt.stdout(),
+        &mut rt.stderr(),
+    )
 }

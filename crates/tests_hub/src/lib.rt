@@ -12,6 +12,10 @@ mod fixture;
 #[cfg(test)]
 mod gates;
 #[cfg(test)]
+mod program;
+#[cfg(test)]
+mod scarcity;
+#[cfg(test)]
 mod scripts;
 #[cfg(test)]
 mod seats;

@@ -3,12 +3,13 @@ ghost use Rattle.std.specs.Prelude.{◌≤◌};
 
 use command_lines::ServeOptions;
 use served::serve;
-use std::alloc::Global;
+use std::alloc::{AllocError, Global};
 use std::io::{BufRead, BufReader, Write};
 use std::net::{Net, Shutdown, SocketAddr, TcpListener, TcpStream};
 use std::sync::Wait;
 use std::test::Fail;
 use std::thread::Threads;
+use std::time::{Clock, Duration};
 use std::{io, thread};
 use wire::MemorySink;
 
@@ -16,6 +17,14 @@ const BEGINNING: &str = r#"{"op":"stream","name":"S","columns":["a"],"from":0}
 {"op":"query","name":"q","text":"Select Istream(*) From S [Now]"}
 {"op":"append","stream":"S","rows":[[3,7],[1,5],[3,6]]}
 {"op":"heartbeat","stream":"S","at":3}
+"#;
+
+const ACCEPTED: &str = "{\"ok\":true}\n{\"ok\":true}\n{\"ok\":true}\n{\"ok\":true}\n";
+
+const DRAIN: &str = r#"{"op":"drain"}
+"#;
+
+const TAKE: &str = r#"{"op":"take","query":"q","limit":100}
 "#;
 
 const ROUND: &str = r#"{"op":"drain"}
@@ -34,9 +43,22 @@ fn rows_in(reply: &str) -> Option<&str> {
     rest.strip_suffix("]}\n")
 }
 
-// Sends the requests, then drains and takes until three rows were taken, one reply's rows after the
-// other's.
-fn ask(alloc: Global, stream: &TcpStream) -> io::Result<String> {
+// Adds the rows of a take's reply to those that were taken, and says whether they are three.
+fn are_three(taken: &mut String, reply: &str) -> io::Result<bool> {
+    if let Some(rows) = rows_in(reply) {
+        if !rows.is_empty() {
+            if !taken.is_empty() {
+                taken.push_str(",")?;
+            }
+            taken.push_str(rows)?;
+        }
+    }
+    Ok(taken.as_str().matches('[').count() >= 3)
+}
+
+/// Sends the requests, then drains and takes until three rows were taken, one reply's rows after
+/// the other's.
+pub(crate) fn ask(alloc: Global, stream: &TcpStream) -> io::Result<String> {
     let mut writer = stream;
     let mut reader = BufReader::new(alloc, stream)?;
     let mut line = String::new(alloc);
@@ -51,17 +73,36 @@ fn ask(alloc: Global, stream: &TcpStream) -> io::Result<String> {
         reader.read_line(&mut line)?;
         line.clear();
         reader.read_line(&mut line)?;
-        if let Some(rows) = rows_in(line.as_str()) {
-            if !rows.is_empty() {
-                if !taken.is_empty() {
-                    taken.push_str(",")?;
-                }
-                taken.push_str(rows)?;
-            }
-        }
-        if taken.as_str().matches('[').count() >= 3 {
+        if are_three(&mut taken, line.as_str())? {
             return Ok(taken);
         }
+    }
+    Ok(taken)
+}
+
+// Sends the requests, and then only takes, with a millisecond of sleep each time, until three rows
+// were taken: those of one reply after those of the other. The replies to the requests where they
+// were not accepted.
+fn watch<R: Clock>(rt: &R, alloc: Global, stream: &TcpStream) -> io::Result<String> {
+    let mut writer = stream;
+    let mut reader = BufReader::new(alloc, stream)?;
+    let mut line = String::new(alloc);
+    writer.write_all(BEGINNING.as_bytes())?;
+    for _ in 0..4 {
+        reader.read_line(&mut line)?;
+    }
+    if line.as_str() != ACCEPTED {
+        return Ok(line);
+    }
+    let mut taken = String::new(alloc);
+    for _ in 0..10_000 {
+        writer.write_all(TAKE.as_bytes())?;
+        line.clear();
+        reader.read_line(&mut line)?;
+        if are_three(&mut taken, line.as_str())? {
+            return Ok(taken);
+        }
+        thread::sleep(rt, Duration::from_millis(1));
     }
     Ok(taken)
 }
@@ -95,11 +136,12 @@ impl Ending {
     }
 }
 
-// Serves so many connections, by one worker.
+// Serves so many connections, by so many workers.
 fn serve_some<R: Threads + Wait + Sync>(
     rt: &R,
     alloc: Global,
     listener: TcpListener,
+    workers: u32,
     clients: u32,
     connections: u32,
 ) -> Ending
@@ -107,7 +149,7 @@ fn serve_some<R: Threads + Wait + Sync>(
 {
     let options = ServeOptions {
         port: 0,
-        workers: 1,
+        workers,
         clients,
         serve: Some(connections),
     };
@@ -134,7 +176,7 @@ fn served_once<R: Net<Listener = TcpListener, Stream = TcpStream> + Threads + Wa
             let stream = TcpStream::connect(rt, address)?;
             ask(alloc, &stream)
         },
-        || serve_some(rt, alloc, listener, 1, 1),
+        || serve_some(rt, alloc, listener, 1, 1, 1),
     );
     Ok((taken?, ending))
 }
@@ -147,6 +189,37 @@ fn a_server_answers_a_connection_and_ends(rt: HostRuntime) -> Result<(), Fail> {
     let served = served_once(&rt, rt.alloc(), listener);
     assert!(rt;
         matches!(&served, Ok((taken, ending))
+        if taken.as_str() == "[1,5],[3,6],[3,7]" && ending.is_well())
+    );
+    Ok(())
+}
+
+// What one client took that asked for no drain, and how the server ended.
+fn watched_once<R: Net<Listener = TcpListener, Stream = TcpStream> + Threads + Wait + Clock + Sync>(
+    rt: &R,
+    alloc: Global,
+    listener: TcpListener,
+) -> io::Result<(String, Ending)> {
+    let address = listener.local_addr()?;
+    let (taken, ending) = thread::join(
+        rt,
+        || -> io::Result<String> {
+            let stream = TcpStream::connect(rt, address)?;
+            watch(rt, alloc, &stream)
+        },
+        || serve_some(rt, alloc, listener, 2, 1, 1),
+    );
+    Ok((taken?, ending))
+}
+
+#[test]
+fn workers_bring_the_rows_without_a_drain(rt: HostRuntime) -> Result<(), Fail> {
+    let listener = TcpListener::bind(&rt, "127.0.0.1:0")
+        .ok()
+        .ok_or("no listener")?;
+    let watched = watched_once(&rt, rt.alloc(), listener);
+    assert!(rt;
+        matches!(&watched, Ok((taken, ending))
         if taken.as_str() == "[1,5],[3,6],[3,7]" && ending.is_well())
     );
     Ok(())
@@ -184,7 +257,7 @@ fn served_thrice<R: Net<Listener = TcpListener, Stream = TcpStream> + Threads + 
     let (answers, ending) = thread::join(
         rt,
         || poor_clients(rt, alloc, address),
-        || serve_some(rt, alloc, listener, 1, 3),
+        || serve_some(rt, alloc, listener, 1, 1, 3),
     );
     let (told, answered) = answers?;
     Ok((told, answered, ending))
@@ -227,7 +300,7 @@ fn served_beside<R: Net<Listener = TcpListener, Stream = TcpStream> + Threads + 
     let (taken, ending) = thread::join(
         rt,
         || beside_a_silent_client(rt, alloc, address),
-        || serve_some(rt, alloc, listener, 2, 2),
+        || serve_some(rt, alloc, listener, 1, 2, 2),
     );
     Ok((taken?, ending))
 }
@@ -242,6 +315,113 @@ fn a_silent_client_holds_no_other_one(rt: HostRuntime) -> Result<(), Fail> {
         matches!(&served, Ok((taken, ending))
         if taken.as_str() == "[1,5],[3,6],[3,7]" && ending.is_well())
     );
+    Ok(())
+}
+
+// The requests of a client that has some twenty millions of bytes answered, and some rows left: 512
+// rows, shown at 163 instants, by 16 columns of 13 digits each.
+fn greed(alloc: Global) -> Result<String, AllocError> {
+    let mut script = String::from_str(alloc, DECLARATION)?;
+    script.push_str(r#"{"op":"query","name":"q","text":"Rstream(Select "#)?;
+    for _ in 0..15 {
+        script.push_str("a, ")?;
+    }
+    script.push_str(
+        "a From S [Range Unbounded])\"}\n{\"op\":\"append\",\"stream\":\"S\",\"rows\":[",
+    )?;
+    for _ in 0..511 {
+        script.push_str("[0,1099511627775],")?;
+    }
+    script.push_str("[0,1099511627775]]}\n{\"op\":\"heartbeat\",\"stream\":\"S\",\"at\":162}\n")?;
+    script.push_str(DRAIN)?;
+    for _ in 0..20 {
+        script.push_str("{\"op\":\"take\",\"query\":\"q\",\"limit\":4096}\n")?;
+    }
+    Ok(script)
+}
+
+// Takes a row of another client's query, with a millisecond of sleep each time that there is none
+// yet: how many of its columns are what that client appended.
+fn columns_taken<R: Clock>(rt: &R, alloc: Global, stream: &TcpStream) -> io::Result<usize> {
+    let mut writer = stream;
+    let mut reader = BufReader::new(alloc, stream)?;
+    let mut line = String::new(alloc);
+    for _ in 0..10_000 {
+        writer.write_all(b"{\"op\":\"take\",\"query\":\"q\",\"limit\":1}\n".as_slice())?;
+        line.clear();
+        reader.read_line(&mut line)?;
+        let columns = line.as_str().matches(",1099511627775").count();
+        if columns > 0 {
+            return Ok(columns);
+        }
+        thread::sleep(rt, Duration::from_millis(1));
+    }
+    Ok(0)
+}
+
+// A client that reads no reply has more of them than the system keeps for it, so its thread waits.
+// Another one is answered meanwhile: what it takes of the first one's query, and whether its own
+// calls are answered. Then the first one is gone.
+fn beside_a_slow_client<R: Net<Listener = TcpListener, Stream = TcpStream> + Clock>(
+    rt: &R,
+    alloc: Global,
+    address: SocketAddr,
+) -> io::Result<(usize, bool)> {
+    let slow = TcpStream::connect(rt, address)?;
+    let mut writer = &slow;
+    writer.write_all(greed(alloc)?.as_bytes())?;
+    let stream = TcpStream::connect(rt, address)?;
+    let columns = columns_taken(rt, alloc, &stream)?;
+    let answered = is_answered(alloc, &stream, 7)?;
+    drop(slow);
+    Ok((columns, answered))
+}
+
+fn served_beside_a_slow_client<
+    R: Net<Listener = TcpListener, Stream = TcpStream> + Threads + Wait + Clock + Sync,
+>(rt: &R, alloc: Global, listener: TcpListener) -> io::Result<(usize, bool, Ending)> {
+    let address = listener.local_addr()?;
+    let (answered, ending) = thread::join(
+        rt,
+        || beside_a_slow_client(rt, alloc, address),
+        || serve_some(rt, alloc, listener, 1, 2, 2),
+    );
+    let (columns, is_answered) = answered?;
+    Ok((columns, is_answered, ending))
+}
+
+#[test]
+fn a_client_that_reads_nothing_holds_no_other_one(rt: HostRuntime) -> Result<(), Fail> {
+    let listener = TcpListener::bind(&rt, "127.0.0.1:0")
+        .ok()
+        .ok_or("no listener")?;
+    let served = served_beside_a_slow_client(&rt, rt.alloc(), listener);
+    assert!(rt; matches!(&served, Ok((16, true, ending)) if ending.is_well()));
+    Ok(())
+}
+
+// How a server ends that cannot accept: its listener does not wait for a connection.
+fn served_by_no_door<R: Threads + Wait + Sync>(
+    rt: &R,
+    alloc: Global,
+    listener: TcpListener,
+) -> io::Result<Ending> {
+    listener.set_nonblocking(true)?;
+    Ok(serve_some(rt, alloc, listener, 2, 3, 5))
+}
+
+// Whether it ended so, and said it.
+fn is_accept_told(ending: &Ending) -> bool {
+    ending.status == 1 && ending.errors.bytes.as_slice() == b"cqld: accept failed\n".as_slice()
+}
+
+#[test]
+fn a_failed_accept_ends_a_server(rt: HostRuntime) -> Result<(), Fail> {
+    let listener = TcpListener::bind(&rt, "127.0.0.1:0")
+        .ok()
+        .ok_or("no listener")?;
+    let served = served_by_no_door(&rt, rt.alloc(), listener);
+    assert!(rt; matches!(&served, Ok(ending) if is_accept_told(ending)));
     Ok(())
 }
 
@@ -292,7 +472,7 @@ fn served_crowd<R: Net<Listener = TcpListener, Stream = TcpStream> + Threads + W
     let (answered, ending) = thread::join(
         rt,
         || answered_of_a_crowd(rt, alloc, address),
-        || serve_some(rt, alloc, listener, CROWD, CROWD),
+        || serve_some(rt, alloc, listener, 1, CROWD, CROWD),
     );
     Ok((answered?, ending))
 }

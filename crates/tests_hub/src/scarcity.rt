@@ -1,0 +1,152 @@
+//! As many turns are out as may be, and one more operator is ready.
+
+use crate::fixture::{declare, opened, register, rows};
+use hub::{Hub, Seat};
+use leases::Leased;
+use reference::Fault;
+use served::serve_connection;
+use std::alloc::Global;
+use std::sync::Wait;
+use std::test::Fail;
+use std::thread::Threads;
+use wire::{MemorySink, MemorySource};
+use workers::{NoGate, Pool};
+
+/// How many turns may be out.
+const TURNS: u64 = 64;
+
+// A hub of which one query more is ready than turns may be out, each with one row.
+fn many_ready<R: Wait>(rt: &R, alloc: Global) -> Result<(Hub, Seat), Fault> {
+    let (hub, mut seat) = opened(alloc)?;
+    declare(rt, alloc, &hub, &mut seat)?;
+    for number in 0..65 {
+        let name = format!(in alloc; "q{number}")?;
+        register(rt, alloc, &hub, &mut seat, name.as_str(), None)?;
+    }
+    hub.append(rt, &mut seat, 0, rows(alloc, &[(0, 7)])?)?;
+    hub.heartbeat(rt, &mut seat, 0, 0)?;
+    Ok((hub, seat))
+}
+
+// Takes as many turns as may be out: how many there were.
+fn hold_all<R: Wait>(rt: &R, hub: &Hub) -> Result<u64, Fault> {
+    let mut held: u64 = 0;
+    for _ in 0..TURNS {
+        if let Leased::Turn(_) = hub.lease(rt, 256)? {
+            held = held.saturating_add(1);
+        }
+    }
+    Ok(held)
+}
+
+// Abandons the turns of these numbers: how many of them were out.
+fn abandon_some<R: Wait>(rt: &R, hub: &Hub, first: u64, behind: u64) -> u64 {
+    let mut given: u64 = 0;
+    for lease in first..behind {
+        if hub.abandon(rt, lease).is_ok() {
+            given = given.saturating_add(1);
+        }
+    }
+    given
+}
+
+// Whether a connection's drain is answered so.
+fn is_drain_answered<R: Threads + Wait + Sync>(
+    rt: &R,
+    alloc: Global,
+    hub: &Hub,
+    seat: &mut Seat,
+    reply: &[u8],
+) -> bool {
+    let mut source = MemorySource::new(b"{\"op\":\"drain\"}\n".as_slice());
+    let mut sink = MemorySink::new(alloc);
+    let served = serve_connection(rt, alloc, &mut source, &mut sink, hub, seat, 256);
+    served.is_ok() && sink.bytes.as_slice() == reply
+}
+
+// In how many of the queries one answer waits.
+fn answered_queries<R: Wait>(rt: &R, hub: &Hub) -> u64 {
+    let mut answered: u64 = 0;
+    for query in 0..65 {
+        if hub.waiting(rt, query) == Ok(1) {
+            answered = answered.saturating_add(1);
+        }
+    }
+    answered
+}
+
+// Whether drains are refused while all turns are out: by pools of one and of four, and over a
+// connection.
+fn are_refused<R: Threads + Wait + Sync>(
+    rt: &R,
+    alloc: Global,
+    hub: &Hub,
+    seat: &mut Seat,
+) -> bool {
+    Pool::drain(rt, alloc, hub, &NoGate, 1, 256) == Err(Fault::TooManyLeases)
+        && Pool::drain(rt, alloc, hub, &NoGate, 4, 256) == Err(Fault::TooManyLeases)
+        && is_drain_answered(
+            rt,
+            alloc,
+            hub,
+            seat,
+            b"{\"error\":\"E18 TooManyLeases\"}\n".as_slice(),
+        )
+}
+
+/// What came of the drains.
+#[derive(Debug, PartialEq, Eq, Drop)]
+struct Drained {
+    /// How many turns were out.
+    held: u64,
+    /// The drains were refused meanwhile.
+    are_refused: bool,
+    /// A connection's drain was done once one turn was abandoned.
+    is_done: bool,
+    /// In how many queries an answer waits behind it.
+    answered: u64,
+    /// How many turns were out still.
+    given_up: u64,
+    /// A pool's drain was done once none was out.
+    is_pool_done: bool,
+    /// In how many queries an answer waits at the end.
+    answered_at_last: u64,
+}
+
+// Drains while all turns are out, behind one that is abandoned, and behind all.
+fn drain_all<R: Threads + Wait + Sync>(rt: &R, alloc: Global) -> Result<Drained, Fault> {
+    let (hub, mut seat) = many_ready(rt, alloc)?;
+    let held = hold_all(rt, &hub)?;
+    let are_refused = are_refused(rt, alloc, &hub, &mut seat) && answered_queries(rt, &hub) == 0;
+    let is_done = abandon_some(rt, &hub, 0, 1) == 1
+        && is_drain_answered(rt, alloc, &hub, &mut seat, b"{\"ok\":true}\n".as_slice());
+    let answered = answered_queries(rt, &hub);
+    let given_up = abandon_some(rt, &hub, 1, TURNS);
+    let is_pool_done = Pool::drain(rt, alloc, &hub, &NoGate, 4, 256).is_ok();
+    let answered_at_last = answered_queries(rt, &hub);
+    Ok(Drained {
+        held,
+        are_refused,
+        is_done,
+        answered,
+        given_up,
+        is_pool_done,
+        answered_at_last,
+    })
+}
+
+#[test]
+fn a_drain_is_refused_while_all_turns_are_out(rt: HostRuntime) -> Result<(), Fail> {
+    let expected = Drained {
+        held: 64,
+        are_refused: true,
+        is_done: true,
+        // the query whose turn was abandoned, and the one of which none was out
+        answered: 2,
+        given_up: 63,
+        is_pool_done: true,
+        answered_at_last: 65,
+    };
+    assert_eq!(rt; drain_all(&rt, rt.alloc())?, expected);
+    Ok(())
+}

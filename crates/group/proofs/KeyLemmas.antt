@@ -2,7 +2,7 @@
 use Rattle.std.proofs.Common.{◌≡◌, ◌↔◌, ℕ, Bool, true, false, cond, Option, Some, None, unwrap_or, List, [], ◌∷◌, length, refl, sym, ap, subst, ◌∙◌}
 use Rattle.std.specs.declared.cmp.Ordering.{Ordering}
 use Rattle.std.specs.declared.cmp.Ordering.TheVariants.{Less, Equal, Greater}
-use Rattle.std.specs.Ordering.{is_eq, match_ordering}
+use Rattle.std.specs.Ordering.{is_eq, is_ne, match_ordering, ordering_then}
 use Rattle.std.specs.Option.{is_some}
 use Rattle.std.specs.Map.{lookup, set_value, remove_entry, keys_of}
 use Rattle.std.specs.BTreeMap.{is_at, insert_entry}
@@ -12,7 +12,7 @@ use Rattle.std.proofs.lemmas.Map.{lookup-set_value, lookup-remove_entry}
 use Rattle.std.proofs.lemmas.Map.Keys.{IsDistinct-from_sorted}
 use Rattle.std.proofs.lemmas.Cmp.{on_total, tied_itself}
 use Rattle.values.specs.Bag.{IsExactOrder}
-use Rattle.values.specs.Row.{Row, same_row}
+use Rattle.values.specs.Row.{Row, row_cmp, same_row, value_at, value_cmp}
 use Rattle.values.proofs.Order.{row_order}
 use Rattle.values.specs.declared.resolved.ListItem.{ListItem}
 use Rattle.group.specs.Cells.{Held, held, held_cmp, CellState, cell_zero, cell_after, showing}
@@ -23,6 +23,17 @@ held_order = record {
   total = on_total (λ (r : Held). r.items) row_order.total;
   exact = λ a b h. ap held (row_order.exact a.items b.items h);
 }
+
+-- rows whose first values differ compare as these do; null stands where there is none
+pub first_decides : (a b : Row) (o : Ordering) → o ≡ value_cmp (value_at a 0) (value_at b 0) → is_ne o ≡ true → o ≡ row_cmp a b
+first_decides [] [] o e t = let f : is_ne Equal ≡ true = subst (λ (p : Ordering). is_ne p ≡ true) e t in cc
+first_decides [] (None ∷ ys) o e t = let f : is_ne Equal ≡ true = subst (λ (p : Ordering). is_ne p ≡ true) e t in cc
+first_decides [] (Some y ∷ ys) o e t = e
+first_decides (None ∷ xs) [] o e t = let f : is_ne Equal ≡ true = subst (λ (p : Ordering). is_ne p ≡ true) e t in cc
+first_decides (Some x ∷ xs) [] o e t = e
+first_decides (x ∷ xs) (y ∷ ys) Less e t = ap (λ (p : Ordering). ordering_then p (row_cmp xs ys)) e
+first_decides (x ∷ xs) (y ∷ ys) Equal e t = cc
+first_decides (x ∷ xs) (y ∷ ys) Greater e t = ap (λ (p : Ordering). ordering_then p (row_cmp xs ys)) e
 
 -- MAPS OVER AN EXACT ORDER
 module _ {K : Type 0} (cmp : K → K → Ordering) (order : IsExactOrder cmp) where

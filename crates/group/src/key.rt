@@ -9,7 +9,7 @@ ghost use Rattle.group.specs.Groups.{key_in};
 ghost use Rattle.group.specs.Batches.{row_in};
 ghost use Rattle.group.specs.Same.{held_eq, held_equiv, held_ties, held_total};
 
-use crate::rows::field_at;
+use crate::rows::{field_at, value_in};
 use arrayvec::ArrayVec;
 use column::Batch;
 use row_bags::{copied, fitted};
@@ -22,18 +22,29 @@ use values::{Column, MAX_COLUMNS, Row, Value};
 /// Most keys differ in the first value, so that one is compared before all others.
 #[derive(Drop)]
 pub(crate) struct Key<const N: usize> {
+    /// The first value; null where there is none.
+    first: Value,
     /// The values of Group By's columns, in order.
     values: ArrayVec<Value, N>,
 }
 
 impl<const N: usize> Model for Key<N> {
+    ghost use Rattle.std.specs.Prelude.{◌≡◌, Option, ℤ};
+    ghost use Rattle.std.proofs.Common.{sym, ap};
+    ghost use Rattle.values.specs.Row.{value_at};
     ghost use Rattle.group.specs.Cells.{Held};
+    ghost use Rattle.group.specs.declared.key.Key.TheInside.{Inside};
 
     ghost Value = { Held };
 
     ghost view = { λ k. k.values };
 
-    ghost inverse = { λ h. record { values = h } };
+    ghost invariant = { λ k. k.first ≡ value_at k.values.items 0 };
+
+    ghost inverse = { λ h. record { first = value_at h.items 0; values = h } };
+
+    ghost inverse_ok = { λ a h. let f : Option ℤ
+        → Inside = λ v. record { first = v; values = a.values } in ap f (sym h) };
 }
 
 impl<const N: usize> PartialEq for Key<N> {
@@ -70,6 +81,10 @@ impl<const N: usize> Ord for Key<N> {
     ghost matches_eq = { held_ties };
 
     fn cmp(&self, other: &Self) -> Ordering {
+        let first = self.first.cmp(&other.first);
+        if first.is_ne() {
+            return first;
+        }
         compare(self.values.as_slice(), other.values.as_slice())
     }
 }
@@ -93,13 +108,21 @@ fn compare(a: &[Value], b: &[Value]) -> Ordering
 
 impl<const N: usize> Key<N> {
     /// The key with these values.
+    fn with(values: ArrayVec<Value, N>) -> Key<N>
+        ensures { result ≡ values.entry }
+    {
+        Key {
+            first: value_in(values.as_slice(), 0),
+            values,
+        }
+    }
+
+    /// The key with these values.
     pub(crate) fn of(row: &Row) -> Key<N>
         requires { length row.now.items ≤ N }
         ensures { result ≡ row.now }
     {
-        Key {
-            values: copied(row),
-        }
+        Key::with(copied(row))
     }
 
     /// The key with these values; `None` where they are more than `N`.
@@ -109,7 +132,7 @@ impl<const N: usize> Key<N> {
         ensures none { IsNone result → N < length row.now.items }
     {
         match fitted(row) {
-            Some(values) => Some(Key { values }),
+            Some(values) => Some(Key::with(values)),
             None => None,
         }
     }
@@ -125,7 +148,7 @@ impl<const N: usize> Key<N> {
         for column in by {
             values.push(field_at(batch, place, *column));
         }
-        Key { values }
+        Key::with(values)
     }
 
     /// The same key again, in room for `M` values.
@@ -134,9 +157,7 @@ impl<const N: usize> Key<N> {
         ensures { result ≡ self.now }
     {
         let _ = self.values.as_slice();
-        Key {
-            values: copied(&self.values),
-        }
+        Key::with(copied(&self.values))
     }
 
     /// The key as a row.

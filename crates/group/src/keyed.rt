@@ -213,6 +213,7 @@ impl<const N: usize> Keyed<N> {
     {
         let _ = &self.cells;
         settle(&mut self.touched);
+        rows.reserve(self.touched.len())?;
         swap_all(&mut self.cells, alloc, group, &self.touched, rows)?;
         self.forget_touched(alloc);
         Ok(())

@@ -3,13 +3,15 @@ use Rattle.std.proofs.Common.{◌≡◌, ◌∙◌, ℕ, List, [], ◌∷◌, �
 use Rattle.std.proofs.lemmas.List.{get_or_append_left}
 use Rattle.std.proofs.lemmas.List.{append_assoc}
 use Rattle.values.specs.Row.{Row}
-use Rattle.op_queue.specs.Entries.{Entry, IsForward}
-use Rattle.op_queue.specs.Items.{entries_of}
+use Rattle.std.specs.Option.{option_map}
+use Rattle.op_queue.specs.Entries.{Entry, IsForward, RowAt, TickAt}
+use Rattle.op_queue.specs.Items.{entries_of, first_instant, front_of}
 use Rattle.op_queue.specs.declared.item.Item.{Item}
 use Rattle.values.specs.Window.{Element}
 use Rattle.op_queue.specs.Cursors.{GainsClosed}
 use Rattle.op_queue.specs.Logs.{Closed, span_entries}
 use Rattle.operators.specs.Inboxes.{IsInboxWithin, all_entries, entries_in, is_fed, queued}
+use Rattle.operators.specs.Operators.{front_instant}
 use Rattle.operators.specs.declared.inboxes.Inbox.{Inbox}
 use Rattle.operators.specs.declared.inboxes.Inbox.TheVariants.{First, Between}
 
@@ -23,6 +25,12 @@ pub forward_push : (es : List (Entry Row)) (i : Item) (items rest : List Item) (
 forward_push es i items rest whole is front h =
     let all : es ++ all_entries (i ∷ rest) ≡ whole = ap (λ xs. es ++ all_entries xs) (sym front) ∙ is in
     forward_front (es ++ entries_of i) (all_entries rest) (subst IsForward (sym all ∙ sym (append_assoc es (entries_of i) (all_entries rest))) h)
+
+-- the instant of what stands first is that of the first row or tick
+pub instant_in_front : (es : List (Entry Row)) → option_map front_instant (front_of es) ≡ first_instant es
+instant_in_front [] = refl
+instant_in_front (RowAt t s ∷ es) = refl
+instant_in_front (TickAt t ∷ es) = refl
 
 -- ---- what a query's operators see of their inboxes
 -- a queue between operators is the same over every log

@@ -2,7 +2,7 @@
 ghost use Rattle.std.specs.Prelude.{◌≡◌, ◌<◌, ◌≤◌, ◌++◌, [], true, length, drop, IfOk, OnErr};
 ghost use Rattle.std.specs.Prelude.{OnOk};
 ghost use Rattle.op_queue.specs.Entries.{IsForward};
-ghost use Rattle.op_queue.specs.Items.{IsFrontPart, entries_of, front_of};
+ghost use Rattle.op_queue.specs.Items.{IsFrontPart, entries_of, first_instant, front_of};
 ghost use Rattle.operators.specs.Inboxes.{IsDropped, IsInboxWithin, ReadsOn, all_begins};
 ghost use Rattle.operators.specs.Inboxes.{all_entries, begins_in, cut_of, entries_in, is_fed};
 ghost use Rattle.operators.specs.Inboxes.{queued};
@@ -30,6 +30,16 @@ impl Inbox {
         match self {
             Inbox::First(cursor) => cursor.front(log),
             Inbox::Between(queue) => queue.front(),
+        }
+    }
+
+    /// The instant at the front, if anything waits; found in constant time.
+    pub fn front_instant(&self, log: &Log) -> Option<u64>
+        ensures { result ≡ first_instant (entries_in self.now log.now) }
+    {
+        match self {
+            Inbox::First(cursor) => cursor.front_instant(log),
+            Inbox::Between(queue) => queue.front_instant(),
         }
     }
 

@@ -11,7 +11,7 @@ ghost use Rattle.operators.specs.InPlace.{MayTake, after_answers, answers_from, 
 ghost use Rattle.operators.specs.Inboxes.{IsDropped, IsInboxWithin, all_entries, cut_of};
 ghost use Rattle.operators.specs.Inboxes.{entries_in, is_fed, queued};
 ghost use Rattle.operators.specs.Operators.{Belongs, HasNamedColumns, IsFed, IsFinished};
-ghost use Rattle.operators.specs.Operators.{KeepsBatches, front_instant, inbox_of, other, ready};
+ghost use Rattle.operators.specs.Operators.{KeepsBatches, inbox_of, other, ready};
 ghost use Rattle.operators.specs.Operators.{ready_at, waiting};
 ghost use Rattle.operators.specs.Runs.{HasPutTo, MayPut, is_root};
 ghost use Rattle.operators.specs.States.{FitsState, HasColumns, IsNext, Takes, near_of};
@@ -21,7 +21,7 @@ ghost use Rattle.operators.specs.declared.inboxes.Inbox.TheVariants.{Between};
 use crate::inboxes::Inbox;
 use crate::states::State;
 use column::Side;
-use op_queue::{Front, Item, Log, Queue};
+use op_queue::{Item, Log, Queue};
 use std::alloc::{AllocError, Global};
 use std::collections::VecDeque;
 use std::marker::Model;
@@ -253,14 +253,14 @@ impl Operator {
     }
 
     /// The instant at the front of a side that can be used.
+    #[tactic(auto, using(crate::proofs::InboxLemmas::instant_in_front))]
     fn ready_at(&self, log: &Log, side: Side) -> Option<u64>
         ensures { result ≡ ready_at self.now log.now side }
     {
         if !self.usable(side) {
             return None;
         }
-        let front = self.inbox(side).front(log)?;
-        Some(instant_of(front))
+        self.inbox(side).front_instant(log)
     }
 
     fn change(&mut self, side: Side, item: &Item, change: &Change) -> Result<(), AllocError>
@@ -288,15 +288,6 @@ impl Operator {
             Side::Left => self.left.drop_front(log, count),
             Side::Right => self.right.drop_front(log, count),
         }
-    }
-}
-
-fn instant_of(front: Front) -> u64
-    ensures { result ≡ front_instant front }
-{
-    match front {
-        Front::Row(at) => at,
-        Front::Tick(at) => at,
     }
 }
 

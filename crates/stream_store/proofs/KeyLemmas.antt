@@ -2,7 +2,7 @@
 use Rattle.std.proofs.Common.{◌≡◌, ◌<◌, ◌≤◌, ℕ, zero, suc, Bool, true, false, cond, nat_lt, Some, None, List, [], ◌∷◌, ◌++◌, append-nil, append_assoc, length, take, drop, map, refl, sym, ap, subst, ◌∙◌, arith, ◌⊎◌, inl, inr}
 use Rattle.std.specs.declared.cmp.Ordering.{Ordering}
 use Rattle.std.specs.declared.cmp.Ordering.TheVariants.{Less, Equal, Greater}
-use Rattle.std.specs.Ordering.{nat_cmp, match_ordering, MatchOrdering, is_gt, is_eq}
+use Rattle.std.specs.Ordering.{nat_cmp, match_ordering, MatchOrdering, is_gt, is_lt, is_eq}
 use Rattle.std.specs.Cmp.{nat_cmp_is, nat_cmp_total}
 use Rattle.std.specs.BTreeMap.{insert_entry, is_at}
 use Rattle.std.specs.Map.{keys_of, lookup, set_value}
@@ -287,6 +287,22 @@ all_past at k es lt h = filter_all (λ (e : Entry). nat_lt at e.0) es (each es h
     each : (xs : List Entry) → All (λ q. is_gt (nat_cmp k q) ≡ false) (keys_of xs) → AllByRecursion (λ (e : Entry). nat_lt at e.0 ≡ true) xs
     each [] h = tt
     each (e ∷ xs) h = (let le : k ≤ e.0 = gt_means k e.0 (h 0 e.0 (omega arith)) in lt-ltb at e.0 (omega (arith, lt, le)), each xs (λ i d l. h (suc i) d (omega (arith, l))))
+
+lt_means : (a b : ℕ) → is_lt (nat_cmp a b) ≡ false → b ≤ a
+lt_means a b h = here (nat_cmp a b) (cmp_means a b) h
+  where
+    here : (o : Ordering) → MatchOrdering o (a < b) (a ≡ b) (b < a) → is_lt o ≡ false → b ≤ a
+    here Less m g = cc
+    here Equal m g = omega (arith, m)
+    here Greater m g = omega (arith, m)
+
+-- none comes after a last key that is not past the instant
+pub none_past : (at k : ℕ) (es : List Entry) → k ≤ at → All (λ q. is_lt (nat_cmp k q) ≡ false) (keys_of es) → instants_past at es ≡ []
+none_past at k es le h = filter_none (λ (e : Entry). nat_lt at e.0) es (each es h)
+  where
+    each : (xs : List Entry) → All (λ q. is_lt (nat_cmp k q) ≡ false) (keys_of xs) → AllByRecursion (λ (e : Entry). nat_lt at e.0 ≡ false) xs
+    each [] h = tt
+    each (e ∷ xs) h = (let l : e.0 ≤ k = lt_means k e.0 (h 0 e.0 (omega arith)) in le-ltb at e.0 (omega (arith, le, l)), each xs (λ i d b. h (suc i) d (omega (arith, b))))
 
 pub open-past : (at : ℕ) (es : List Entry) → open_of (instants_past at es) ≡ past at (open_of es)
 open-past at [] = refl

@@ -1,5 +1,6 @@
 //! The late rows of a stream: open rows by instant, and then in the order of arrival.
-ghost use Rattle.std.specs.Prelude.{◌≡◌, ◌<◌, ◌≤◌, ◌+◌, ◌*◌, ◌^◌, OnOk, OnErr, length, true};
+ghost use Rattle.std.specs.Prelude.{◌≡◌, ◌<◌, ◌≤◌, ◌+◌, ◌*◌, ◌^◌, [], IsTrue, OnOk, OnErr};
+ghost use Rattle.std.specs.Prelude.{length, true};
 ghost use Rattle.std.specs.List.{list_all};
 ghost use Rattle.std.specs.List.Sorted.{IsStrictlySortedBy};
 ghost use Rattle.std.specs.Map.{keys_of};
@@ -55,9 +56,28 @@ pub(crate) fn forget_from(late: &mut BTreeMap<u64, LateRows>, first: u64)
 pub(crate) fn drop_up_to(late: &mut BTreeMap<u64, LateRows>, at: u64)
     ensures { late.new.entries ≡ instants_past at late.old.entries }
 {
+    if are_all_up_to(late, at) {
+        late.clear();
+        return;
+    }
     while let Some((instant, _)) = late.first_key_value()
         && *instant <= at
     {
         late.pop_first();
+    }
+}
+
+/// Whether no row lies past the instant.
+fn are_all_up_to(late: &BTreeMap<u64, LateRows>, at: u64) -> bool
+    ensures { IsTrue result → instants_past at late.now.entries ≡ [] }
+{
+    match late.last_key_value() {
+        Some((instant, _)) => {
+            if at < *instant {
+                return false;
+            }
+            true
+        }
+        None => true,
     }
 }

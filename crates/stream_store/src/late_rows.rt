@@ -13,6 +13,9 @@ use std::alloc::{AllocError, Global};
 use std::marker::Model;
 use values::{MAX_COLUMNS, Value};
 
+/// For how many rows there is room where the first come.
+const FIRST_ROWS: usize = 8;
+
 /// The open rows of one instant in the order of arrival, all with the same number of columns.
 ///
 /// They are kept flat, eight bytes a value and eight a number, so a row takes no allocation of its
@@ -67,8 +70,9 @@ impl LateRows {
             ≡ with_rows first (lent_rows self.old.width instants.now values.now) self.old) }
         ensures err { OnErr result (self.new ≡ self.old) }
     {
-        self.numbers.reserve(instants.len())?;
-        self.values.reserve(values.len())?;
+        let first_values = self.width.saturating_mul(FIRST_ROWS);
+        make_room(&mut self.numbers, instants.len(), FIRST_ROWS)?;
+        make_room(&mut self.values, values.len(), first_values)?;
         push_numbers(&mut self.numbers, first, instants.len());
         push_values(&mut self.values, values);
         Ok(())
@@ -101,6 +105,19 @@ fn count_below(numbers: &[u64], first: u64) -> usize
     ensures { result ≡ length (filter (λ number. nat_lt number first) numbers.now) }
 {
     numbers.iter().filter(|number| **number < first).count()
+}
+
+/// Makes room for so many more, and where there are none yet, for at least so many as are given for
+/// the first: an instant mostly has several rows, and growing by doubling would copy them often.
+fn make_room<T>(list: &mut Vec<T>, count: usize, first: usize) -> Result<(), AllocError>
+    ensures items { list.new.items ≡ list.old.items }
+    ensures room { OnOk result (vec_len list.new + count ≤ vec_capacity list.new) }
+{
+    if list.is_empty() {
+        list.reserve_exact(count.max(first))
+    } else {
+        list.reserve(count)
+    }
 }
 
 /// Puts so many numbers, one after another from `first` on, behind others, which have room for

@@ -17,7 +17,6 @@ use crate::remains::Remains;
 use crate::state::State;
 use column::Side;
 use envelope::Slope;
-use name_table::NameTable;
 use query_runtime::RunningQuery;
 use reference::Fault;
 use run_queue::{RunQueue, Slot};
@@ -36,7 +35,7 @@ impl State {
         State {
             alloc,
             streams: Streams::new(alloc),
-            names: NameTable::new(alloc),
+            undropped: Undropped::new(alloc),
             registered: Vec::new(alloc),
             remains: Vec::new(alloc),
             readers: Vec::new(alloc),

@@ -3,7 +3,7 @@ use Rattle.std.specs.List.Sorted.{IsStrictlySortedBy}
 use Rattle.group.specs.Cells.{Held, CellState, held_cmp}
 use Rattle.group.specs.Keys.{KeyedState}
 use Rattle.group.specs.Turns.{near_at, outputs, shown_after}
-use Rattle.group.specs.Runs.{changes_at, with_rows}
+use Rattle.group.specs.Runs.{OutgoingState, changes_at, with_rows}
 use Rattle.group.proofs.SetLemmas.{sorted-in_set}
 use Rattle.group.proofs.keyed.Keyed.swap_touched.Goals as goal
 
@@ -26,5 +26,6 @@ returns-clause-rows g c =
     let shape = c.args.group.now in
     let es : List (Held × CellState) = c.self.inside.cells.entries in
     c.in_ok-swap_all.ensures.rows
+    ∙ ap (λ (o : OutgoingState). with_rows o (outputs shape (near_at shape.items es c.deref.result.now))) c.reserve.ensures
     ∙ ap (λ (ks : List Held). with_rows c.args.rows.now (outputs shape (near_at shape.items es ks))) (c.deref.ensures.value ∙ c.settle.ensures)
     ∙ ap (λ (s : KeyedState). with_rows c.args.rows.now (outputs shape (near_at shape.items s.cells s.touched))) c.self.view_is

@@ -1,5 +1,5 @@
 -- Rows whose values stand one behind the other.
-use Rattle.std.proofs.Common.{ℕ, ℤ, List, [], ◌∷◌, ◌≡◌, ◌<◌, ◌≤◌, ◌+◌, ◌*◌, ◌-◌, length, map, refl, sym, ◌∙◌, ap, arith, Bool, true, not, None, Option, take, drop, zero, suc, All, suc-mul, zero-mul, mul-le-mul_right}
+use Rattle.std.proofs.Common.{ℕ, ℤ, List, [], ◌∷◌, ◌≡◌, ◌<◌, ◌≤◌, ◌+◌, ◌*◌, length, map, refl, sym, ◌∙◌, ap, arith, Bool, true, not, None, Option, take, drop, zero, suc, suc-mul, zero-mul, mul-le-mul_right}
 use Rattle.std.specs.List.{range_with_len}
 use Rattle.std.proofs.Math.ListN.{get_or}
 use Rattle.std.proofs.lemmas.List.{ext_get_or, get_or-drop, get_or-take, get_or-map, length-take-le, length-drop, length-map}

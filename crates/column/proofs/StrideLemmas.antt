@@ -2,7 +2,7 @@
 use Rattle.std.proofs.Common.{ℕ, ℤ, List, [], ◌∷◌, ◌++◌, ◌≡◌, ◌<◌, ◌≤◌, ◌+◌, ◌*◌, ◌%◌, ◌-◌, ◌==◌, length, map, min, refl, sym, ◌∙◌, ap, arith, Bool, false, None, Some, Option, pos, zero, suc, All, append-nil, append_assoc, add-mul, add-zero, IfSome, unwrap_or, is_some, subst, to_z, of_z, w64, mul-one}
 use Rattle.std.proofs.Math.ListN.{get_or}
 use Rattle.std.proofs.lemmas.Int.{to_z-of_z}
-use Rattle.std.proofs.lemmas.List.{map-append, ext_get_or, length-map}
+use Rattle.std.proofs.lemmas.List.{map-append, ext_get_or}
 use Rattle.std.proofs.lemmas.List.FromFn.{length-map-range_with_len, get_or-map-range_with_len, map-range_with_len_more}
 use Rattle.std.proofs.lemmas.List.Elements.{All-append, All-push, All-nil, All-head, All-tail}
 use Rattle.values.specs.Value.{IsAnswerNumber, IsAnswerValue}

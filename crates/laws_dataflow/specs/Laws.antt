@@ -1,5 +1,5 @@
 -- What is promised of nets.
-use Rattle.std.specs.Prelude.{◌≡◌, ◌≢◌, ℕ, Bool, Some, ◌-◌, ◌<◌, List, ◌∷◌, ◌++◌}
+use Rattle.std.specs.Prelude.{◌≡◌, ◌≢◌, ℕ, Bool, Some, ◌<◌, List, ◌∷◌, ◌++◌}
 use Rattle.values.specs.Row.{Row}
 use Rattle.values.specs.Resolved.{operator_of}
 use Rattle.op_queue.specs.Entries.{Entry, TickAt}

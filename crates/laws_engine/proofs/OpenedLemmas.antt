@@ -1,5 +1,5 @@
 -- An engine stays good where its machine is replaced by its opening.
-use Rattle.std.proofs.Common.{◌≡◌, ℕ, zero, suc, ◌+◌, ◌-◌, ◌<◌, ◌≤◌, ◌==◌, ◌&&◌, ◌||◌, Bool, true, false, cond, nat_le, nat_lt, Option, Some, None, unwrap_or, List, [], ◌∷◌, ◌++◌, filter, map, length, get_or, refl, sym, ap, ap₂, ◌∙◌, subst, arith, ltb-true}
+use Rattle.std.proofs.Common.{◌≡◌, ℕ, zero, suc, ◌<◌, ◌≤◌, ◌==◌, ◌&&◌, ◌||◌, Bool, true, false, cond, nat_le, nat_lt, Option, Some, None, unwrap_or, List, [], ◌∷◌, ◌++◌, filter, map, length, get_or, refl, sym, ap, ap₂, ◌∙◌, subst, arith, ltb-true}
 use Rattle.std.proofs.lemmas.List.{length-map}
 use Rattle.std.specs.Prelude.{slice_get}
 use Rattle.std.specs.List.{AllByRecursion}
@@ -15,7 +15,7 @@ use Rattle.operators.specs.Operators.{PlainOperator, first_ready, front_instant,
 use Rattle.operators.specs.States.{usable}
 use Rattle.op_queue.specs.Items.{front_of}
 use Rattle.reference.specs.Machine.{Place, Registered, Stream, input_at}
-use Rattle.reference.specs.Opening.{all_restarted, needs, needs_by, opening, restart, restarted, with_kept}
+use Rattle.reference.specs.Opening.{all_restarted, needs, needs_by, restart, restarted, with_kept}
 use Rattle.laws_dataflow.specs.Laws as nets
 use Rattle.cql_reader.specs.declared.TheConstants.{MAX_SOURCES}
 use Rattle.reference.specs.Commands.{rows_of_each}

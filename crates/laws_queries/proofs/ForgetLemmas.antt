@@ -1,5 +1,5 @@
 -- A running query over what an opening keeps of the machine's streams: its operators and queues are as they were.
-use Rattle.std.proofs.Common.{◌≡◌, ℕ, zero, suc, ◌+◌, ◌-◌, ◌<◌, ◌≤◌, ◌==◌, ◌&&◌, Bool, true, false, cond, nat_le, nat_lt, max, ◌⊎◌, inr, ⊎_elim, Option, Some, None, List, [], ◌∷◌, ◌++◌, filter, map, drop, length, get_or, refl, sym, ap, ap₂, ◌∙◌, subst, subst₂, arith, append-nil, le-leb, true≢false}
+use Rattle.std.proofs.Common.{◌≡◌, ℕ, zero, suc, ◌+◌, ◌-◌, ◌<◌, ◌≤◌, ◌==◌, ◌&&◌, Bool, true, false, cond, nat_le, nat_lt, max, inr, ⊎_elim, Option, Some, None, List, [], ◌∷◌, ◌++◌, filter, map, drop, length, get_or, refl, sym, ap, ap₂, ◌∙◌, subst, subst₂, arith, append-nil, le-leb, true≢false}
 use Rattle.std.specs.Prelude.{slice_get}
 use Rattle.std.specs.List.{range_with_len}
 use Rattle.std.specs.Option.{option_map, option_map_or}

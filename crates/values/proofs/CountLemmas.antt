@@ -1,5 +1,5 @@
 -- Of the elements that came later than one, as many are shown as a window of last rows has.
-use Rattle.std.proofs.Common.{◌≡◌, ℕ, zero, suc, ◌-◌, ◌≤◌, ◌<◌, ◌==◌, Bool, true, false, cond, ◌&&◌, ◌||◌, nat_le, nat_lt, List, [], ◌∷◌, refl, ap, sym, ◌∙◌, arith, true≢false, ◌⊎◌, inl, inr, ltb-true, ltb-false, lt-ltb, eqb-true, eq-eqb, subst}
+use Rattle.std.proofs.Common.{◌≡◌, ℕ, zero, suc, ◌≤◌, ◌<◌, ◌==◌, Bool, true, false, cond, ◌&&◌, ◌||◌, nat_le, nat_lt, List, [], ◌∷◌, refl, ap, sym, ◌∙◌, arith, true≢false, ◌⊎◌, inl, inr, ltb-true, ltb-false, lt-ltb, eqb-true, eq-eqb, subst}
 use Rattle.std.specs.Ordering.{is_eq}
 use Rattle.std.specs.Cmp.{Equal-is}
 use Rattle.values.specs.Row.{Row, value_at, value_cmp}

@@ -142,7 +142,7 @@ fn slide_steps(
 ) -> Result<Vec<Item>, AllocError>
     requires after { IsAfter (item_instant item.now) window.old.held }
     requires wide { IsItemWide window.old.width item.now }
-    ensures next { OnOk result (window.new ≡ slides.next window.old item.now) }
+    ensures { OnOk result (window.new ≡ slides.next window.old item.now) }
 {
     let near = window.near(alloc, item)?;
     let items = slide_work(alloc, item, &near)?;
@@ -154,7 +154,7 @@ fn slide_steps(
 fn slide_run(alloc: Global, window: &mut SlideWindow, item: Item) -> Result<Queue, AllocError>
     requires after { IsAfter (item_instant item) window.old.held }
     requires wide { IsItemWide window.old.width item }
-    ensures next { OnOk result (window.new ≡ slides.next window.old item) }
+    ensures { OnOk result (window.new ≡ slides.next window.old item) }
 {
     let mut queue = Queue::new(alloc);
     window.run(alloc, item, &mut queue)?;

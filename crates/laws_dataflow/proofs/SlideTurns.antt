@@ -1,8 +1,8 @@
 -- The turns of the state of a window that moves at multiples alone are turns of a net.
-use Rattle.std.proofs.Common.{◌≡◌, ℕ, ◌+◌, ◌<◌, Bool, true, false, not, cond, List, [], ◌∷◌, ◌++◌, map, filter, length, refl, sym, ap, ◌∙◌, subst, subst₂}
+use Rattle.std.proofs.Common.{◌≡◌, ℕ, ◌+◌, ◌<◌, Bool, true, false, not, cond, List, [], ◌∷◌, ◌++◌, filter, length, refl, sym, ap, subst, subst₂}
 use Rattle.values.specs.Row.{Row}
-use Rattle.values.specs.Window.{Element, Window, RangeSlide}
-use Rattle.op_queue.specs.Entries.{Entry, RowAt, TickAt}
+use Rattle.values.specs.Window.{Element, RangeSlide}
+use Rattle.op_queue.specs.Entries.{Entry, TickAt}
 use Rattle.op_queue.specs.Paths.{rows_in}
 use Rattle.op_queue.specs.declared.item.Item.TheVariants.{Rows, Tick}
 use Rattle.windows.specs.Laws.{SlideStands, WindowRows, WindowTick, coming, slide_shows}

@@ -1,5 +1,5 @@
 -- The newest query: nothing of its streams counts for it yet.
-use Rattle.std.proofs.Common.{◌≡◌, ℕ, zero, suc, ◌+◌, ◌*◌, ◌-◌, ◌<◌, ◌≤◌, ◌&&◌, sum, cond, Bool, true, false, nat_le, max, not, Option, None, List, [], ◌∷◌, ◌++◌, map, length, get_or, refl, ap, ◌∙◌, arith}
+use Rattle.std.proofs.Common.{◌≡◌, ℕ, zero, suc, ◌+◌, ◌*◌, ◌<◌, ◌≤◌, ◌&&◌, sum, cond, Bool, true, false, nat_le, max, not, Option, None, List, [], ◌∷◌, ◌++◌, map, length, get_or, refl, ap, ◌∙◌, arith}
 use Rattle.std.specs.Prelude.{ℤ, Result, Ok, Err, slice_get, unwrap_or, nat_lt, ◌||◌, nat_abs}
 use Rattle.std.specs.List.{AllByRecursion, reduce, list_all, fold}
 use Rattle.std.specs.Option.{is_some, option_map_or}

@@ -15,6 +15,7 @@ ghost use Rattle.leases.specs.Views.{query_of};
 use crate::registered::Registration;
 use crate::remains::Remains;
 use crate::state::State;
+use crate::undropped::Undropped;
 use column::Side;
 use envelope::Slope;
 use query_runtime::RunningQuery;

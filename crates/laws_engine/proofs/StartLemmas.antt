@@ -125,6 +125,7 @@ module _ (m : Machine) (name text : List ℕ) (chart : Option (List (ℤ × ℤ)
 
   goes : (running : PlainQuery) → IsBegun p q running → (qs : List Registered) → Goes (with_queries m qs) q running
   goes running is qs = record {
+    lives = refl;
     widths = ws;
     sources = (starts m name text chart (found_of p) sound accepted of.finds).reads p.meaning.windows.items p.nodes.items (coded m name p) refl;
     taken = [];

@@ -88,9 +88,9 @@ odd_byte : reading (codes "Select Istream(*) From S [Now] $ Where") ≡ at BadTo
 unfolding reading all_ascii parsed scan token_at word_kind kind_in reserved same_letters same_bytes run count chosen pick firsts ends has first nullable alternatives kind_of in_range deepens took did decimal number_of
 odd_byte = refl
 
-a_third_source : reading (codes "Select Istream(*) From S, S, S") ≡ at Unexpected 27
+a_fifth_source : reading (codes "Select Istream(*) From S, S, S, S, S") ≡ at Unexpected 33
 unfolding reading all_ascii parsed scan token_at word_kind kind_in reserved same_letters same_bytes run count chosen pick firsts ends has first nullable alternatives kind_of in_range deepens took did decimal number_of
-a_third_source = refl
+a_fifth_source = refl
 
 room_for_more : reading (codes "Select Istream(a) From S Where ((((((((((((((((((((((((((((((((a > 0))))))))))))))))))))))))))))))))") ≡ Ok (record {
   operator = Istream;
@@ -114,3 +114,12 @@ names = refl
 reserved_in_any_case : is_name (codes "sLIDE") ≡ false
 unfolding is_name all_word kind_in reserved same_letters same_bytes
 reserved_in_any_case = refl
+
+-- the number of Slide begins at 1, and only Range slides
+no_slide : reading (codes "Select Istream(*) From S [Range 5 Slide 0]") ≡ at NumberRange 40
+unfolding reading all_ascii parsed scan token_at word_kind kind_in reserved same_letters same_bytes run count chosen pick firsts ends has first nullable alternatives kind_of in_range deepens took did decimal number_of
+no_slide = refl
+
+slide_of_rows : reading (codes "Select Istream(*) From S [Rows 5 Slide 1]") ≡ at Unexpected 33
+unfolding reading all_ascii parsed scan token_at word_kind kind_in reserved same_letters same_bytes run count chosen pick firsts ends has first nullable alternatives kind_of in_range deepens took did decimal number_of
+slide_of_rows = refl

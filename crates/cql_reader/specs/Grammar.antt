@@ -17,7 +17,7 @@ use Rattle.cql_reader.specs.declared.symbols.Symbol.{Symbol}
 use Rattle.cql_reader.specs.declared.symbols.Symbol.TheVariants.{Read, Rule, Emit}
 use Rattle.cql_reader.specs.Lexis.{number_of}
 use Rattle.cql_reader.specs.Tokens.{Token}
-use Rattle.cql_reader.specs.Query.{RangeSlide, Query, Source, Entry, Column, CountAll, Count, Sum, Min, Max, Entries, All, Each, Reference, Window, Now, Range, Unbounded, Rows, Partition, Operand, Named, Number, Condition, Compared, Not, And, Or}
+use Rattle.cql_reader.specs.Query.{Query, Source, Entry, Column, CountAll, Count, Sum, Min, Max, Entries, All, Each, Reference, Window, Now, Range, RangeSlide, Unbounded, Rows, Partition, Operand, Named, Number, Condition, Compared, Not, And, Or}
 
 -- a token of this kind, which says nothing more
 abbrev pub token : Kind → Symbol

@@ -30,7 +30,7 @@ fn is_span(bytes: &[u8]) -> bool
     !(number < 0) && number < 1_099_511_627_777
 }
 
-// Whether it is one of a slide.
+// Whether it is one of a slide's.
 fn is_step(bytes: &[u8]) -> bool
     ensures { result ≡ in_step (number_of bytes.now) }
 {

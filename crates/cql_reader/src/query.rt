@@ -40,8 +40,8 @@ pub enum Window {
     Now,
     /// The rows of the instant and of as many instants before it, at most 1,099,511,627,776.
     Range(u64),
-    /// The rows of an instant and of as many instants before it, where the instant is the last one that is a multiple of the second number; both are at
-    /// most 1,099,511,627,776, and the second is 1 at least.
+    /// The same at the last multiple of the second number, the step, up to the instant; both are at
+    /// most 1,099,511,627,776, and the step is 1 at least.
     RangeSlide(u64, u64),
     /// All rows so far: `[Range Unbounded]`, `[Rows Unbounded]`, or no window.
     Unbounded,

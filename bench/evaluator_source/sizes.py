@@ -15,7 +15,7 @@ ROWS_OF_FOUR_SOURCES = 32768
 
 
 def window(span=None, last=None):
-    return SimpleNamespace(span=span, last=last, partition=())
+    return SimpleNamespace(span=span, step=None, last=last, partition=())
 
 
 def query(text, operator, streams, windows, items, conditions=(), group_by=(), is_grouped=False):

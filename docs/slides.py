@@ -19,6 +19,11 @@ LENGTHS = [1, 4]
 LEFT, WIDTH, TOP, HEIGHT = 236, 64, 70, 44
 
 
+def held(length, multiple):
+    """The rows that a window holds from a multiple of the step on."""
+    return [row for row in ROWS if multiple - length <= row[0] <= multiple]
+
+
 def main():
     multiples = range(0, LAST + 1, STEP)
     lines = 1 + len(LENGTHS) * len(multiples)
@@ -29,12 +34,12 @@ def main():
     def x(instant):
         return LEFT + WIDTH * (instant + 0.5)
 
-    def row_of_dots(y, held):
+    def row_of_dots(y, shown):
         for instant in range(LAST + 1):
             there = [row for row in ROWS if row[0] == instant]
             for place, row in enumerate(there):
                 at = x(instant) + (place - (len(there) - 1) / 2) * 29
-                if row in held:
+                if row in shown:
                     drawing.dot(at, y, 13, GREEN, GREEN)
                     drawing.text(at, y + 4, str(row[1]), color="white", weight="bold", size=12)
                 else:
@@ -63,7 +68,7 @@ def main():
             width = WIDTH * (multiple - first + 1) - 6
             drawing.box(x(first) - WIDTH / 2 + 3, middle - 17, width, 34,
                         LIGHT_GREEN, LIGHT_GREEN, 0, 8)
-            row_of_dots(middle, [row for row in ROWS if first <= row[0] <= multiple])
+            row_of_dots(middle, held(length, multiple))
             under = middle + HEIGHT / 2 - 3
             drawing.line([(x(multiple) - WIDTH / 2 + 3, under), (x(until) + WIDTH / 2 - 3, under)],
                          ORANGE, 3)

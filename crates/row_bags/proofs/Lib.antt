@@ -13,3 +13,4 @@ pub mod BeyondLaws
 pub mod PileLemmas
 pub mod KeyLemmas
 pub mod CountLemmas
+pub mod FormLemmas

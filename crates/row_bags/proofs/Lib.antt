@@ -14,3 +14,4 @@ pub mod PileLemmas
 pub mod KeyLemmas
 pub mod CountLemmas
 pub mod FormLemmas
+pub mod WalkLemmas

@@ -92,21 +92,37 @@ impl State {
         ensures sound { IsSound self.new }
     {
         let query = slot.query();
-        let lease = self.next;
-        let above = self.above(query, slot.operator());
-        match self.run_query(slot, rows) {
-            Ok(()) => {
-                self.next = lease + 1;
-                self.update_slots(slot, above);
-                Ok(())
-            },
-            Err(Refused::Before) => Err(AllocError),
-            Err(Refused::Within) => {
-                self.next = lease + 1;
-                self.break_query(query);
-                Err(AllocError)
-            },
+        let operator = slot.operator();
+        let above = self.above(query, operator);
+        let stays = match &above {
+            Some(above) => !above.is_steeper(slot),
+            None => true,
+        };
+        let mut turn = *slot;
+        'turns: loop {
+            match self.run_query(&turn, rows) {
+                Ok(()) => self.next += 1,
+                Err(Refused::Before) => {
+                    self.update_slots(slot, above);
+                    return Err(AllocError);
+                },
+                Err(Refused::Within) => {
+                    self.next += 1;
+                    self.break_query(query);
+                    return Err(AllocError);
+                },
+            }
+            let next = self.next_for(query, operator);
+            if !stays || self.next >= LEASE_NUMBERS || !slot.goes_on(next) {
+                self.slots.update(*slot, next);
+                break 'turns;
+            }
+            turn = turn.with_next(next);
         }
+        if let Some(above) = &above {
+            self.update_slot(above);
+        }
+        Ok(())
     }
 
     /// The slot of the operator that ran gets what that may take next, and then the one above does,

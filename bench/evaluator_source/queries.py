@@ -2,19 +2,26 @@
 
 from evaluate import COMPARISONS
 
+ALIASES = "xyzw"
+
 
 class Window:
-    """Rows of the last `span` instants; or, where that is None, the `last` rows of each partition, or all where that is None too."""
+    """Rows of the last `span` instants, at multiples of `step` alone where there is one; or, where `span` is None, the `last`
+    rows of each partition, or all where that is None too. `is_short` is of one that holds few rows."""
 
-    def __init__(self, random, columns):
-        self.span, self.last, self.partition = None, None, ()
-        kind = random.choice(["", "Now", "Range", "Range", "Range Unbounded", "Rows", "Rows Unbounded", "Partition By"])
+    def __init__(self, random, columns, is_short):
+        self.span, self.step, self.last, self.partition = None, None, None, ()
+        kind = random.choice(["Now", "Range", "Slide", "Slide", "Rows", "Partition By", *["", "Range Unbounded", "Rows Unbounded"] * (not is_short)])
         self.text = f"[{kind}]" if kind else ""
         if kind == "Now":
             self.span = 0
         elif kind == "Range":
-            self.span = random.choice([0, 1, 2, 5, 20])
+            self.span = random.choice([0, 1, 2] if is_short else [0, 1, 2, 5, 20])
             self.text = f"[Range {self.span}]"
+        elif kind == "Slide":
+            self.span = random.choice([0, 1, 2] if is_short else [0, 1, 2, 3, 5, 20])
+            self.step = random.choice([1, 2, 3, 4, 7, 30])
+            self.text = f"[Range {self.span} Slide {self.step}]"
         elif kind == "Rows":
             self.last = random.choice([1, 2, 3, 7])
             self.text = f"[Rows {self.last}]"
@@ -44,20 +51,23 @@ def condition_text(condition, names):
 
 
 class Query:
-    """A query over one or two streams, which `columns` has with their columns' names."""
+    """A query over one to four streams, which `columns` has with their columns' names."""
 
     def __init__(self, random, columns):
         self.operator = random.choice(["Istream", "Dstream", "Rstream"])
         self.is_distinct = random.random() < 0.25
-        self.streams = random.choices([*columns], k=random.choices([1, 2], [60, 40])[0])
-        self.windows = [Window(random, columns[it]) for it in self.streams]
+        self.streams = random.choices([*columns], k=random.choices([1, 2, 3, 4], [50, 30, 12, 8])[0])
+        self.windows = [Window(random, columns[it], len(self.streams) > 2) for it in self.streams]
         sides = [columns[it] for it in self.streams]
-        self.names = sides[0] if len(sides) == 1 else [f"{side}.{it}" for side, names in zip("xy", sides) for it in names]
+        self.names = sides[0] if len(sides) == 1 else [f"{side}.{it}" for side, names in zip(ALIASES, sides) for it in names]
         self.conditions = []
-        if len(sides) == 2:
+        before = len(sides[0])
+        for side in sides[1:]:
             for _ in range(random.choice([1, 1, 1, 2])):
-                right = len(sides[0]) + random.randrange(len(sides[1]))
-                self.conditions.append(("compare", "=", (True, random.randrange(len(sides[0]))), (True, right)))
+                key = [(True, random.randrange(before)), (True, before + random.randrange(len(side)))]
+                random.shuffle(key)
+                self.conditions.append(("compare", "=", *key))
+            before += len(side)
         if random.random() < 0.5:
             self.conditions.append(condition_of(random, len(self.names)))
         random.shuffle(self.conditions)
@@ -90,7 +100,7 @@ class Query:
     def text(self, random):
         body = "*" if self.has_all else ", ".join(self.item_text(it) for it in self.items)
         body = "Distinct " * self.is_distinct + body
-        aliases = [""] if len(self.streams) == 1 else ["x", "y"]
+        aliases = [""] if len(self.streams) == 1 else ALIASES
         rest = " From " + ", ".join(f"{name} {it.text} {alias}" for name, it, alias in zip(self.streams, self.windows, aliases))
         if self.conditions:
             rest += " Where " + " And ".join(f"({condition_text(it, self.names)})" if it[0] == "or" else condition_text(it, self.names) for it in self.conditions)

@@ -11,10 +11,11 @@ from evaluate import answers, relation
 
 DONE = {"ok": True}
 LARGEST_APPEND, LARGEST_TAKE, QUERIES = 1024, 4096, 256
+ROWS_OF_FOUR_SOURCES = 32768
 
 
 def window(span=None, last=None):
-    return SimpleNamespace(span=span, last=last, partition=())
+    return SimpleNamespace(span=span, step=None, last=last, partition=())
 
 
 def query(text, operator, streams, windows, items, conditions=(), group_by=(), is_grouped=False):
@@ -88,6 +89,31 @@ def script():
         if it in (ROWS, PAIRS):
             assert len(rows) == LARGEST_TAKE
             yield take, {"ok": True, "rows": []}
+    yield from rows_of_four_sources()
+
+
+def rows_of_four_sources():
+    """As many rows as a query of four sources lets its stream take; nothing is closed of them."""
+    append = lambda stream, count: {"op": "append", "stream": stream, "rows": [[5, 0]] * count}
+    full = {"error": "E13 StreamFull"}
+    keys = "Where w.a = x.a And x.a = y.a"
+    yield {"op": "drop", "query": "q0"}, DONE
+    yield {"op": "drop", "query": "q1"}, DONE
+    yield {"op": "stream", "name": "F", "columns": ["a"], "from": 0}, DONE
+    yield append("F", LARGEST_APPEND), DONE
+    yield {"op": "query", "name": "four", "text": f"Select Istream(*) From F w, F x, F y, F z {keys} And y.a = z.a"}, DONE
+    for _ in range(ROWS_OF_FOUR_SOURCES // LARGEST_APPEND - 1):
+        yield append("F", LARGEST_APPEND), DONE
+    yield append("F", LARGEST_APPEND - 1), DONE
+    yield append("F", 2), full
+    yield append("F", 1), DONE
+    yield append("F", 1), full
+    yield append("F", 0), DONE
+    yield append("S", 1), DONE
+    yield {"op": "query", "name": "three", "text": f"Select Istream(*) From F w, F x, F y {keys}"}, DONE
+    yield append("F", 1), full
+    yield {"op": "drop", "query": "four"}, DONE
+    yield append("F", LARGEST_APPEND), DONE
 
 
 def main():

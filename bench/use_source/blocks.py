@@ -196,6 +196,23 @@ def windows():
     print(f"docs/windows.svg: {count} windows asked")
 
 
+def slides():
+    """The windows of docs/slides.svg hold what the engine says that they hold."""
+    import slides as page
+    count = len(page.LENGTHS)
+    texts = [f"Select Rstream(*) From S [Range {it} Slide {page.STEP}]" for it in page.LENGTHS]
+    requests = [{"op": "stream", "name": "S", "columns": ["v"], "from": 0}]
+    requests += [{"op": "query", "name": f"q{it}", "text": texts[it]} for it in range(count)]
+    requests += [{"op": "append", "stream": "S", "rows": [list(row) for row in page.ROWS]},
+                 {"op": "heartbeat", "stream": "S", "at": page.LAST}, {"op": "drain"}]
+    requests += [{"op": "take", "query": f"q{it}", "limit": 100} for it in range(count)]
+    for length, reply in zip(page.LENGTHS, asked(requests)[-count:]):
+        drawn = [[at, v] for at in range(page.LAST + 1)
+                 for _, v in page.held(length, at - at % page.STEP)]
+        check(f"docs/slides.svg: [Range {length} Slide {page.STEP}]", reply["rows"], drawn)
+    print(f"docs/slides.svg: {count} windows asked")
+
+
 with tempfile.TemporaryDirectory() as folder:
     os.mkdir(f"{folder}/bin")
     os.symlink(program, f"{folder}/bin/cqlrun")
@@ -211,6 +228,7 @@ paths()
 pictures()
 sys.path.insert(0, "docs")
 windows()
+slides()
 heartbeats()
 print("bench/use: " + (f"{len(failures)} differ" if failures else "all as the documents say"))
 sys.exit(1 if failures else 0)

@@ -5,7 +5,7 @@ use Rattle.std.specs.Int.{bit_at}
 use Rattle.std.proofs.Math.ListN.{get_or, set, get_or-append}
 use Rattle.std.proofs.Math.Seq.{get_or-append_seam}
 use Rattle.std.proofs.lemmas.List.{get_or-set_same, get_or-set_other, get_or-take, get_or-drop, get_or_past, ext_get_or, length-append, length-set, length-take, length-take-le, length-drop, length-replicate, get_or-replicate, get_or-append_right}
-use Rattle.std.proofs.lemmas.List.FromFn.{length-map-range_with_len, get_or-map-range_with_len}
+use Rattle.std.proofs.lemmas.List.FromFn.{length-map-range_with_len, get_or-map-range_with_len, map-range_with_len_more}
 use Rattle.std.proofs.lemmas.Nat.{shl_whole}
 use Rattle.std.proofs.lemmas.Nat.Bits.{shr_and_one, bit_at_set_same, bit_at_set_other, bit_at_and, bit_at_xor, bit_at_ones, bit_at_ones_above, bit_at-lt, bit_at-pow_same, bit_at-pow_other, bit_at-zero}
 use Rattle.std.proofs.lemmas.Bool.{cases_lt, cases_order}
@@ -197,7 +197,7 @@ bits_flipped n words words' bs i truth e h turn same differs =
     other_truth (suc (suc a)) b truth s d = absurd (omega arith)
 
 -- ---- the bits of one word
-place_one : (w i : ℕ) → i < 64 → place (w ∷ []) i ≡ bit_at w i
+pub place_one : (w i : ℕ) → i < 64 → place (w ∷ []) i ≡ bit_at w i
 place_one w i h = ap (λ k. bit_at (get_or (w ∷ []) k 0) (i % 64)) (let e : i / 64 ≡ 0 = omega arith in e) ∙ ap (bit_at w) (omega arith)
 
 pub word_set : (w at : ℕ) → at < 64 → place (bit_or w (1 * 2 ^ at % 2 ^ 64) ∷ []) at ≡ 1
@@ -293,3 +293,14 @@ truth_differs true true h e = cc
 truth_differs true false h e = cc
 truth_differs false true h e = cc
 truth_differs false false h e = cc
+
+-- ---- a bit of a word is read
+pub word_read : (w i : ℕ) → i < 64 → bit_and (w / 2 ^ i) 1 ≡ place (w ∷ []) i
+word_read w i h = shr_and_one w i ∙ sym (place_one w i h)
+
+-- ---- one bit more is seen
+pub bits_more : (words : List ℕ) (i : ℕ) → bits (i + 1) words ≡ bits i words ++ (place words i == 1) ∷ []
+bits_more words i = map-range_with_len_more (λ k. place words k == 1) 0 i i (omega arith)
+
+pub truth_unset : (word at : ℕ) (truth : Bool) → place (word ∷ []) at ≡ 0 → truth ≡ false → (place (word ∷ []) at == 1) ≡ truth
+truth_unset word at truth e f = ap (λ n. n == 1) e ∙ sym f

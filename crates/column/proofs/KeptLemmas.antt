@@ -1,14 +1,16 @@
 -- What a mask chooses, moved to the front of its list.
-use Rattle.std.proofs.Common.{ℕ, ℤ, List, [], ◌∷◌, ◌++◌, ◌≡◌, ◌<◌, ◌≤◌, ◌+◌, ◌==◌, length, map, refl, sym, ◌∙◌, ap, arith, Bool, true, false, cond, None, Option, pos, take, drop, zero, suc, All, append-nil, set-set, inl, inr}
+use Rattle.std.proofs.Common.{ℕ, ℤ, List, [], ◌∷◌, ◌++◌, ◌≡◌, ◌<◌, ◌≤◌, ◌+◌, ◌/◌, ◌^◌, ◌==◌, bit_and, length, map, refl, sym, ◌∙◌, ap, arith, Bool, true, false, cond, None, Option, pos, take, drop, zero, suc, All, append-nil, set-set, inl, inr}
 use Rattle.std.proofs.Math.ListN.{get_or, set}
 use Rattle.std.proofs.lemmas.List.{take_more, take_more_set, take_all, drop-drop, drop-set-lt, get_or-drop, length-set, length-take-le, map-append, take-set-le}
 use Rattle.std.proofs.lemmas.Bool.{cases_lt}
+use Rattle.std.proofs.lemmas.Bool.Decides.{nat_tests}
 use Rattle.std.proofs.lemmas.List.Elements.{All-head, All-tail}
 use Rattle.std.specs.List.{range_with_len}
 use Rattle.values.specs.Row.{Row}
-use Rattle.column.specs.Bits.{at_places, chosen, true_places}
+use Rattle.column.specs.Bits.{at_places, bits, chosen, place, true_places}
 use Rattle.column.specs.Columns.{IsColumn, values_of}
 use Rattle.column.specs.Rows.{IsLaidOut, IsTable, signed_rows}
+use Rattle.column.proofs.BitLemmas.{bits_first, bits_more, length-bits, length-seen, word_read}
 use Rattle.column.proofs.BatchLemmas.{IsRemade, at_true_places, chosen-push, few_true, length-at_places, length-batch, picks_made, true_within, values_again}
 use Rattle.column.proofs.ColumnLemmas.{IsMade, length-column, picked_cells, same_length}
 
@@ -162,3 +164,48 @@ all_columns w rows places table e = rw e (same rows table)
 pub some_left : (n : ℕ) (b : Bool) → b ≡ (n == 0) → b ≡ false → 1 ≤ n
 some_left zero b e f = cc
 some_left (suc n) b e f = omega arith
+
+-- of the first `i` bits of a word those that another word chooses stand first in a word, `count` of them, and no bit behind them
+pub record AreKeptBits (choice word i kept count : ℕ) : Type 0 where
+  pub le : count ≤ i
+  pub bits_are : bits count (kept ∷ []) ≡ chosen (bits i (choice ∷ [])) (bits i (word ∷ []))
+  pub clear : (k : ℕ) → count ≤ k → place (kept ∷ []) k ≡ 0
+
+chosen_bits : (choice word i : ℕ) (b : Bool) → (place (choice ∷ []) i == 1) ≡ b
+    → chosen (bits (i + 1) (choice ∷ [])) (bits (i + 1) (word ∷ [])) ≡ chosen (bits i (choice ∷ [])) (bits i (word ∷ [])) ++ cond b ((place (word ∷ []) i == 1) ∷ []) []
+chosen_bits choice word i b e =
+    (λ t. chosen (bits_more (choice ∷ []) i t) (bits_more (word ∷ []) i t))
+    ∙ (λ t. chosen (bits i (choice ∷ []) ++ e t ∷ []) (bits i (word ∷ []) ++ (place (word ∷ []) i == 1) ∷ []))
+    ∙ chosen-push (bits i (choice ∷ [])) (bits i (word ∷ [])) b (place (word ∷ []) i == 1) (length-bits i (choice ∷ []) ∙ sym (length-bits i (word ∷ [])))
+
+pub AreKeptBits-yes : (choice word i kept kept' count truth : ℕ) → i < 64 → AreKeptBits choice word i kept count → bit_and (choice / 2 ^ i) 1 ≡ 1 → bit_and (word / 2 ^ i) 1 ≡ truth
+    → bits (count + 1) (kept' ∷ []) ≡ bits count (kept ∷ []) ++ (truth == 1) ∷ [] → ((k : ℕ) → count + 1 ≤ k → place (kept' ∷ []) k ≡ 0) → AreKeptBits choice word (i + 1) kept' (count + 1)
+AreKeptBits-yes choice word i kept kept' count truth h a e g made clear = record {
+  le = omega (arith, a.le);
+  bits_are =
+      made ∙ (λ t. a.bits_are t ++ ((sym g ∙ word_read word i h) t == 1) ∷ [])
+      ∙ sym (chosen_bits choice word i true (ap (λ n. n == 1) (sym (word_read choice i h) ∙ e)));
+  clear = clear;
+}
+
+pub AreKeptBits-no : (choice word i kept count : ℕ) → i < 64 → AreKeptBits choice word i kept count → (bit_and (choice / 2 ^ i) 1 ≡ 1 → ⊥) → AreKeptBits choice word (i + 1) kept count
+AreKeptBits-no choice word i kept count h a e = record {
+  le = omega (arith, a.le);
+  bits_are = a.bits_are ∙ sym (append-nil _) ∙ sym (chosen_bits choice word i false (not_one (place (choice ∷ []) i) (λ f. e (word_read choice i h ∙ f))));
+  clear = a.clear;
+}
+  where
+    not_one : (n : ℕ) → (n ≡ 1 → ⊥) → (n == 1) ≡ false
+    not_one n h = grind (arith, nat_tests)
+
+-- as many words as the first bits need have these bits
+bits_cut : (words : List ℕ) (count : ℕ) → bits count (take ((count + 63) / 64) words) ≡ bits count words
+bits_cut words count = bits_first count count words (take ((count + 63) / 64) words) (bits count words) refl (omega arith) (λ i h. refl) ∙ take_all count (bits count words) (omega (arith, length-bits count words))
+
+-- a mask of one word, of which the truths stay that another mask of one word chooses
+pub kept_in_word : (n m word choice kept count : ℕ) (words choices set_words words' : List ℕ) (bs mask : List Bool) → words ≡ word ∷ [] → choices ≡ choice ∷ [] → bits n words ≡ bs → bits m choices ≡ mask → length mask ≡ length bs
+    → bits count (kept ∷ []) ≡ chosen (bits n (choice ∷ [])) (bits n (word ∷ [])) → set_words ≡ set words 0 kept → words' ≡ take ((count + 63) / 64) set_words → bits count words' ≡ chosen mask bs
+kept_in_word n m word choice kept count words choices set_words words' bs mask one other seen chooses same kept_are put cut =
+    let k : n ≡ m = omega (arith, length-seen n words bs seen, length-seen m choices mask chooses, same) in
+    ap (bits count) cut ∙ bits_cut set_words count ∙ ap (bits count) (put ∙ ap (λ l. set l 0 kept) one) ∙ kept_are
+    ∙ (λ t. chosen ((ap (λ l. bits n l) (sym other) ∙ ap (λ j. bits j choices) k ∙ chooses) t) ((ap (bits n) (sym one) ∙ seen) t))

@@ -186,6 +186,21 @@ impl Mask {
         requires { length mask.now ≡ length self.old }
         ensures { self.new ≡ chosen mask.now self.old }
     {
+        if let (Some(word), Some(choice)) = (self.words.only(), mask.words.only()) {
+            let (kept, count) = kept_bits(word, choice, self.len);
+            self.words.set(0, kept);
+            self.words.truncate((count + 63) / 64);
+            self.len = count;
+            return;
+        }
+        self.keep_each(mask);
+    }
+
+    /// `keep` in any number of words, truth by truth.
+    fn keep_each(&mut self, mask: &Mask)
+        requires { length mask.now ≡ length self.old }
+        ensures { self.new ≡ chosen mask.now self.old }
+    {
         let mut kept = 0;
         for i in 0..self.len() {
             if mask.get(i) {
@@ -240,6 +255,36 @@ impl Mask {
     {
         self.words.as_slice()
     }
+}
+
+/// The first bits of a word stay, moved together, at whose places another word has a bit.
+/// Gives them in a word, and how many there are.
+fn kept_bits(word: u64, choice: u64, len: usize) -> (u64, usize)
+    requires { len ≤ 64 }
+    ensures kept { bits result.1 (result.0 ∷ [])
+        ≡ chosen (bits len (choice ∷ [])) (bits len (word ∷ [])) }
+    ensures few { result.1 ≤ len }
+    ensures clear { (i : ℕ) → result.1 ≤ i → place (result.0 ∷ []) i ≡ 0 }
+{
+    let mut kept = 0;
+    let mut count = 0;
+    for i in 0..len {
+        if choice >> i & 1 == 1 {
+            kept = with_truth(kept, count, word >> i & 1 == 1);
+            count += 1;
+        }
+    }
+    (kept, count)
+}
+
+/// A word of `at` bits and one truth more.
+fn with_truth(word: u64, at: usize, truth: bool) -> u64
+    requires few { at < 64 }
+    requires clear { (i : ℕ) → at ≤ i → place (word ∷ []) i ≡ 0 }
+    ensures value { bits (at + 1) (result ∷ []) ≡ bits at (word ∷ []) ++ truth ∷ [] }
+    ensures clear { (i : ℕ) → at + 1 ≤ i → place (result ∷ []) i ≡ 0 }
+{
+    if truth { with_bit(word, at) } else { word }
 }
 
 /// Appends a bit to the first `at`.

@@ -1,6 +1,6 @@
 //! The words of a mask: one lies in it, more take memory.
 
-ghost use Rattle.std.specs.Prelude.{◌≡◌, ◌<◌, ◌++◌, ◌∷◌, [], IfOk, OnOk, OnErr, length};
+ghost use Rattle.std.specs.Prelude.{◌≡◌, ◌<◌, ◌++◌, ◌∷◌, [], IfOk, IfSome, OnOk, OnErr, length};
 ghost use Rattle.std.specs.Prelude.{slice_set, take};
 
 use std::alloc::{AllocError, Global};
@@ -79,6 +79,16 @@ impl Words {
             &self.one
         } else {
             self.more.as_slice()
+        }
+    }
+
+    /// The word, where there is just one.
+    pub(crate) fn only(&self) -> Option<u64>
+        ensures { IfSome result (λ word. self.now ≡ word ∷ []) }
+    {
+        match self.as_slice() {
+            [word] => Some(*word),
+            _ => None,
         }
     }
 

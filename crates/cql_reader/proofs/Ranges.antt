@@ -2,7 +2,7 @@
 use Rattle.std.proofs.Common.{◌≡◌, ℕ, zero, suc, ◌<◌, ◌≤◌, Bool, true, false, not, ◌&&◌, ℤ, pos, negsuc, neg_ℤ, int_lt, nat_lt, nat_abs, min, refl, sym, ap, ◌∙◌, arith, inl, inr}
 use Rattle.std.proofs.lemmas.Bool.{cases_lt, ltb-true, lt-ltb, le-ltb, and_parts, false≢true}
 use Rattle.cql_reader.specs.Lexis.{capped}
-use Rattle.cql_reader.specs.Grammar.{in_span, in_rows, in_stream}
+use Rattle.cql_reader.specs.Grammar.{in_span, in_step, in_rows, in_stream}
 
 pub capped_negative : (n : ℕ) → neg_ℤ (pos (min n 2199023255552)) ≡ capped (neg_ℤ (pos n))
 unfolding capped
@@ -38,6 +38,11 @@ pub span_capped : (z : ℤ) → in_span (capped z) ≡ in_span z
 unfolding capped
 span_capped (pos n) = above_cut (pos 0) 1099511627777 n (omega arith)
 span_capped (negsuc n) = refl
+
+pub step_capped : (z : ℤ) → in_step (capped z) ≡ in_step z
+unfolding capped
+step_capped (pos n) = above_cut (pos 1) 1099511627777 n (omega arith)
+step_capped (negsuc n) = refl
 
 pub rows_capped : (z : ℤ) → in_rows (capped z) ≡ in_rows z
 unfolding capped

@@ -31,6 +31,8 @@ least_brought p.Column = 0
 least_brought p.ColumnTail = 0
 least_brought p.Rest = 1
 least_brought p.OptSource = 0
+least_brought p.OptThird = 0
+least_brought p.OptFourth = 0
 least_brought p.Source = 1
 least_brought p.SourceTail = 0
 least_brought p.OptAlias = 0
@@ -39,6 +41,7 @@ least_brought p.OptWindow = 0
 least_brought p.Window = 0
 least_brought p.Frame = 0
 least_brought p.Span = 0
+least_brought p.OptSlide = 0
 least_brought p.Last = 0
 least_brought p.Columns = 0
 least_brought p.ColumnsTail = 0
@@ -55,8 +58,8 @@ least_brought p.End = 0
 
 -- the most
 unfoldable most_brought : Part → ℕ
-most_brought p.Query = 2
-most_brought p.Form = 2
+most_brought p.Query = 4
+most_brought p.Form = 4
 most_brought p.Op = 0
 most_brought p.Body = 0
 most_brought p.OptDistinct = 0
@@ -68,8 +71,10 @@ most_brought p.Counted = 0
 most_brought p.OptAs = 0
 most_brought p.Column = 0
 most_brought p.ColumnTail = 0
-most_brought p.Rest = 2
-most_brought p.OptSource = 1
+most_brought p.Rest = 4
+most_brought p.OptSource = 3
+most_brought p.OptThird = 2
+most_brought p.OptFourth = 1
 most_brought p.Source = 1
 most_brought p.SourceTail = 0
 most_brought p.OptAlias = 0
@@ -78,6 +83,7 @@ most_brought p.OptWindow = 0
 most_brought p.Window = 0
 most_brought p.Frame = 0
 most_brought p.Span = 0
+most_brought p.OptSlide = 0
 most_brought p.Last = 0
 most_brought p.Columns = 0
 most_brought p.ColumnsTail = 0
@@ -144,6 +150,8 @@ brought_checked p.Column = refl
 brought_checked p.ColumnTail = refl
 brought_checked p.Rest = refl
 brought_checked p.OptSource = refl
+brought_checked p.OptThird = refl
+brought_checked p.OptFourth = refl
 brought_checked p.Source = refl
 brought_checked p.SourceTail = refl
 brought_checked p.OptAlias = refl
@@ -152,6 +160,7 @@ brought_checked p.OptWindow = refl
 brought_checked p.Window = refl
 brought_checked p.Frame = refl
 brought_checked p.Span = refl
+brought_checked p.OptSlide = refl
 brought_checked p.Last = refl
 brought_checked p.Columns = refl
 brought_checked p.ColumnsTail = refl
@@ -183,6 +192,7 @@ took-sources r.Stream bytes d = refl
 took-sources r.Alias bytes d = refl
 took-sources r.Now bytes d = refl
 took-sources r.Range bytes d = refl
+took-sources r.Slide bytes d = refl
 took-sources r.Unbounded bytes d = refl
 took-sources r.Rows bytes d = refl
 took-sources r.Partition bytes d = refl
@@ -226,7 +236,7 @@ derived_sources (rule {part = part} {xs = xs} {d = d} ys among rest) =
     let b = bounds part ys among in
     (omega (arith, h.0, b.0, brought-append least_brought ys xs), omega (arith, h.1, b.1, brought-append most_brought ys xs))
 
--- a query has one source or two
-pub query_sources : (level : Level) (ts : List Token) (d : Draft) → IsQuery level ts d → (1 ≤ length d.sources) × (length d.sources ≤ 2)
+-- a query has one to four sources
+pub query_sources : (level : Level) (ts : List Token) (d : Draft) → IsQuery level ts d → (1 ≤ length d.sources) × (length d.sources ≤ 4)
 unfolding brought least_brought most_brought
 query_sources level ts d q = let h = derived_sources q in (omega (arith, h.0), omega (arith, h.1))

@@ -126,6 +126,7 @@ one_in_range r.Stream = refl
 one_in_range r.Alias = refl
 one_in_range r.Now = refl
 one_in_range r.Range = refl
+one_in_range r.Slide = refl
 one_in_range r.Unbounded = refl
 one_in_range r.Rows = refl
 one_in_range r.Partition = refl

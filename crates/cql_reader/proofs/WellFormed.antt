@@ -11,8 +11,8 @@ use Rattle.cql_reader.specs.declared.symbols.Symbol.{Symbol}
 use Rattle.cql_reader.specs.Lexis.{number_of}
 use Rattle.cql_reader.specs.Tokens.{Token}
 use Rattle.cql_reader.specs.Fault.{Fault}
-use Rattle.cql_reader.specs.Query.{Query, Source, Entry, Reference, Window, Condition}
-use Rattle.cql_reader.specs.Grammar.{Draft, Strict, in_span, in_rows, in_stream, in_range, may_open, allowed, took, did, listed, last_standing, partitioned, negated, conjoined, disjoined, Derives, nothing, read, emit, rule}
+use Rattle.cql_reader.specs.Query.{Query, Source, Entry, Reference, Window, Now, Range, RangeSlide, Unbounded, Rows, Partition, Condition}
+use Rattle.cql_reader.specs.Grammar.{Draft, Strict, in_span, in_step, in_rows, in_stream, in_range, may_open, allowed, took, did, listed, last_standing, partitioned, sliding, negated, conjoined, disjoined, Derives, nothing, read, emit, rule}
 use Rattle.cql_reader.specs.Reading.{IsAnswer, reading}
 use Rattle.cql_reader.specs.WellFormed.{HasItems, IsRowCount, IsGoodWindow, IsGoodOperand, IsGoodCondition, IsGoodWhere, IsWellFormed}
 use Rattle.cql_reader.proofs.OneAnswer.{reading_right}
@@ -27,6 +27,13 @@ span_bound (negsuc n) h = absurd (false≢true h)
 not_below_one : (n : ℕ) → not (nat_lt n 1) ≡ true → 1 ≤ n
 not_below_one zero h = absurd (false≢true h)
 not_below_one (suc n) h = omega arith
+
+step_bound : (z : ℤ) → in_step z ≡ true → (1 ≤ nat_abs z) × (nat_abs z ≤ 1099511627776)
+step_bound (pos n) h =
+    let both = and_parts (not (nat_lt n 1)) (nat_lt n 1099511627777) h in
+    let l : n < 1099511627777 = ltb-true n 1099511627777 both.1 in
+    (not_below_one n both.0, omega arith)
+step_bound (negsuc n) h = absurd (false≢true h)
 
 rows_bound : (z : ℤ) → in_rows z ≡ true → IsRowCount (nat_abs z)
 rows_bound (pos n) h =
@@ -84,6 +91,14 @@ good_parted : (columns : List Reference) (rows : ℕ) (window : Window) → IsRo
 good_parted [] rows window h g = g
 good_parted (column ∷ columns) rows window h g = (omega arith, h)
 
+good_slid : (step : ℕ) (window : Window) → (1 ≤ step) × (step ≤ 1099511627776) → IsGoodWindow window → IsGoodWindow (sliding step window)
+good_slid step Now h g = tt
+good_slid step (Range instants) h g = (g, h)
+good_slid step (RangeSlide instants other) h g = g
+good_slid step Unbounded h g = tt
+good_slid step (Rows rows) h g = g
+good_slid step (Partition by rows) h g = g
+
 -- what is read so far is within its ranges
 abbrev Good : Draft → Type 0
 Good d = IsGoodWindow d.source.window × EachGood d.sources × IsGoodOperand d.terms.left × IsGoodOperand d.terms.right × EachStands d.terms.standing
@@ -99,6 +114,7 @@ good_took r.Stream bytes d h s = (tt, s.1, s.2, s.3, s.4)
 good_took r.Alias bytes d h s = s
 good_took r.Now bytes d h s = (tt, s.1, s.2, s.3, s.4)
 good_took r.Range bytes d h s = (span_bound (number_of bytes) h, s.1, s.2, s.3, s.4)
+good_took r.Slide bytes d h s = (good_slid (nat_abs (number_of bytes)) d.source.window (step_bound (number_of bytes) h) s.0, s.1, s.2, s.3, s.4)
 good_took r.Unbounded bytes d h s = (tt, s.1, s.2, s.3, s.4)
 good_took r.Rows bytes d h s = (rows_bound (number_of bytes) h, s.1, s.2, s.3, s.4)
 good_took r.Partition bytes d h s = (good_parted d.columns (nat_abs (number_of bytes)) d.source.window (rows_bound (number_of bytes) h) s.0, s.1, s.2, s.3, s.4)

@@ -5,7 +5,7 @@ use Rattle.values.specs.declared.resolved.Compare.{Compare}
 use Rattle.values.specs.declared.resolved.Compare.TheVariants.{Equals, Differs, Below, AtMost, Above, AtLeast}
 use Rattle.cql_reader.specs.Lexis.{is_name, reserved, same_bytes, same_letters, kind_in, word_kind, all_word, all_ascii, token_at, decimal, number_of}
 use Rattle.cql_reader.specs.Tokens.{scan}
-use Rattle.cql_reader.specs.Query.{Query, Reference, Column, CountAll, Sum, All, Each, Window, Now, Range, Unbounded, Rows, Partition, Source, Operand, Named, Number, Condition, Compared, Not, And, Or}
+use Rattle.cql_reader.specs.Query.{Query, Reference, Column, CountAll, Sum, All, Each, Window, Now, Range, RangeSlide, Unbounded, Rows, Partition, Source, Operand, Named, Number, Condition, Compared, Not, And, Or}
 use Rattle.cql_reader.specs.Grammar.{alternatives, kind_of, in_range, deepens, took, did}
 use Rattle.cql_reader.specs.Fault.{Fault, BadToken, Unexpected, NumberRange, TooDeep}
 use Rattle.cql_reader.specs.Prediction.{first, nullable, has, firsts, ends, pick, chosen, run, count, parsed}
@@ -49,6 +49,14 @@ select_within : reading (codes "Rstream(Select * From S [Rows Unbounded], T [Row
 unfolding reading all_ascii parsed scan token_at word_kind kind_in reserved same_letters same_bytes run count chosen pick firsts ends has first nullable alternatives kind_of in_range deepens took did decimal number_of
 select_within = refl
 
+a_slide : reading (codes "Select Istream(*) From S [Range 1 Slide 2]") ≡ Ok (all Istream (from_S (RangeSlide 1 2) None ∷ []) None)
+unfolding reading all_ascii parsed scan token_at word_kind kind_in reserved same_letters same_bytes run count chosen pick firsts ends has first nullable alternatives kind_of in_range deepens took did decimal number_of
+a_slide = refl
+
+four_sources : reading (codes "Select Istream(*) From S, S t, S [Now], S") ≡ Ok (all Istream (from_S Unbounded None ∷ from_S Unbounded (Some (codes "t")) ∷ from_S Now None ∷ from_S Unbounded None ∷ []) None)
+unfolding reading all_ascii parsed scan token_at word_kind kind_in reserved same_letters same_bytes run count chosen pick firsts ends has first nullable alternatives kind_of in_range deepens took did decimal number_of
+four_sources = refl
+
 partitioned_by : reading (codes "Select Istream(*) From S [Partition By x.k, n Rows 1]") ≡ Ok (all Istream (from_S (Partition (of (codes "x") (codes "k") ∷ named (codes "n") ∷ []) 1) None ∷ []) None)
 unfolding reading all_ascii parsed scan token_at word_kind kind_in reserved same_letters same_bytes run count chosen pick firsts ends has first nullable alternatives kind_of in_range deepens took did decimal number_of
 partitioned_by = refl
@@ -88,9 +96,17 @@ odd_byte : reading (codes "Select Istream(*) From S [Now] $ Where") ≡ at BadTo
 unfolding reading all_ascii parsed scan token_at word_kind kind_in reserved same_letters same_bytes run count chosen pick firsts ends has first nullable alternatives kind_of in_range deepens took did decimal number_of
 odd_byte = refl
 
-a_third_source : reading (codes "Select Istream(*) From S, S, S") ≡ at Unexpected 27
+a_fifth_source : reading (codes "Select Istream(*) From S, S, S, S, S") ≡ at Unexpected 33
 unfolding reading all_ascii parsed scan token_at word_kind kind_in reserved same_letters same_bytes run count chosen pick firsts ends has first nullable alternatives kind_of in_range deepens took did decimal number_of
-a_third_source = refl
+a_fifth_source = refl
+
+no_step : reading (codes "Select Istream(*) From S [Range 5 Slide 0]") ≡ at NumberRange 40
+unfolding reading all_ascii parsed scan token_at word_kind kind_in reserved same_letters same_bytes run count chosen pick firsts ends has first nullable alternatives kind_of in_range deepens took did decimal number_of
+no_step = refl
+
+rows_do_not_slide : reading (codes "Select Istream(*) From S [Rows 5 Slide 1]") ≡ at Unexpected 33
+unfolding reading all_ascii parsed scan token_at word_kind kind_in reserved same_letters same_bytes run count chosen pick firsts ends has first nullable alternatives kind_of in_range deepens took did decimal number_of
+rows_do_not_slide = refl
 
 room_for_more : reading (codes "Select Istream(a) From S Where ((((((((((((((((((((((((((((((((a > 0))))))))))))))))))))))))))))))))") ≡ Ok (record {
   operator = Istream;

@@ -17,7 +17,7 @@ use Rattle.cql_reader.specs.declared.symbols.Symbol.{Symbol}
 use Rattle.cql_reader.specs.declared.symbols.Symbol.TheVariants.{Read, Rule, Emit}
 use Rattle.cql_reader.specs.Lexis.{number_of}
 use Rattle.cql_reader.specs.Tokens.{Token}
-use Rattle.cql_reader.specs.Query.{Query, Source, Entry, Column, CountAll, Count, Sum, Min, Max, Entries, All, Each, Reference, Window, Now, Range, Unbounded, Rows, Partition, Operand, Named, Number, Condition, Compared, Not, And, Or}
+use Rattle.cql_reader.specs.Query.{Query, Source, Entry, Column, CountAll, Count, Sum, Min, Max, Entries, All, Each, Reference, Window, Now, Range, RangeSlide, Unbounded, Rows, Partition, Operand, Named, Number, Condition, Compared, Not, And, Or}
 
 -- a token of this kind, which says nothing more
 abbrev pub token : Kind → Symbol
@@ -39,7 +39,9 @@ alternatives p.OptAs = (token k.As ∷ token k.Name ∷ []) ∷ ([]) ∷ []
 alternatives p.Column = (Read r.Column ∷ Rule p.ColumnTail ∷ []) ∷ []
 alternatives p.ColumnTail = (token k.Dot ∷ Read r.Qualified ∷ []) ∷ ([]) ∷ []
 alternatives p.Rest = (token k.From ∷ Rule p.Source ∷ Rule p.OptSource ∷ Rule p.OptWhere ∷ Rule p.OptGroup ∷ []) ∷ []
-alternatives p.OptSource = (token k.Comma ∷ Rule p.Source ∷ []) ∷ ([]) ∷ []
+alternatives p.OptSource = (token k.Comma ∷ Rule p.Source ∷ Rule p.OptThird ∷ []) ∷ ([]) ∷ []
+alternatives p.OptThird = (token k.Comma ∷ Rule p.Source ∷ Rule p.OptFourth ∷ []) ∷ ([]) ∷ []
+alternatives p.OptFourth = (token k.Comma ∷ Rule p.Source ∷ []) ∷ ([]) ∷ []
 alternatives p.Source = (Read r.Stream ∷ Rule p.SourceTail ∷ Emit m.Source ∷ []) ∷ []
 alternatives p.SourceTail = (Rule p.Window ∷ Rule p.OptAlias ∷ []) ∷ (Rule p.Alias ∷ Rule p.OptWindow ∷ []) ∷ ([]) ∷ []
 alternatives p.OptAlias = (Rule p.Alias ∷ []) ∷ ([]) ∷ []
@@ -47,7 +49,8 @@ alternatives p.Alias = (token k.As ∷ Read r.Alias ∷ []) ∷ (Read r.Alias �
 alternatives p.OptWindow = (Rule p.Window ∷ []) ∷ ([]) ∷ []
 alternatives p.Window = (token k.Left ∷ Rule p.Frame ∷ token k.Right ∷ []) ∷ []
 alternatives p.Frame = (Read r.Now ∷ []) ∷ (token k.Range ∷ Rule p.Span ∷ []) ∷ (token k.Rows ∷ Rule p.Last ∷ []) ∷ (token k.Partition ∷ token k.By ∷ Rule p.Columns ∷ token k.Rows ∷ Read r.Partition ∷ []) ∷ []
-alternatives p.Span = (Read r.Range ∷ []) ∷ (Read r.Unbounded ∷ []) ∷ []
+alternatives p.Span = (Read r.Range ∷ Rule p.OptSlide ∷ []) ∷ (Read r.Unbounded ∷ []) ∷ []
+alternatives p.OptSlide = (token k.Slide ∷ Read r.Slide ∷ []) ∷ ([]) ∷ []
 alternatives p.Last = (Read r.Rows ∷ []) ∷ (Read r.Unbounded ∷ []) ∷ []
 alternatives p.Columns = (Rule p.Column ∷ Emit m.Listed ∷ Rule p.ColumnsTail ∷ []) ∷ []
 alternatives p.ColumnsTail = (token k.Comma ∷ Rule p.Column ∷ Emit m.Listed ∷ Rule p.ColumnsTail ∷ []) ∷ ([]) ∷ []
@@ -75,6 +78,7 @@ kind_of r.Stream = k.Name
 kind_of r.Alias = k.Name
 kind_of r.Now = k.Now
 kind_of r.Range = k.Number
+kind_of r.Slide = k.Number
 kind_of r.Unbounded = k.Unbounded
 kind_of r.Rows = k.Number
 kind_of r.Partition = k.Number
@@ -157,6 +161,15 @@ finished d = record {
 abbrev pub windowed : Window → Source → Source
 windowed window s = record { stream = s.stream; window = window; alias = s.alias }
 
+-- a window of instants moves at multiples of the step alone
+abbrev pub sliding : ℕ → Window → Window
+sliding step Now = Now
+sliding step (Range instants) = RangeSlide instants step
+sliding step (RangeSlide instants other) = RangeSlide instants other
+sliding step Unbounded = Unbounded
+sliding step (Rows rows) = Rows rows
+sliding step (Partition by rows) = Partition by rows
+
 -- the last rows for each value of the columns, of which there is one at least
 abbrev pub partitioned : List Reference → ℕ → Window → Window
 partitioned [] rows window = window
@@ -191,6 +204,10 @@ standing_by f t = record { left = t.left; right = t.right; how = t.how; standing
 abbrev pub parted : ℕ → Draft → Draft
 parted rows d = record d { source = windowed (partitioned d.columns rows d.source.window) d.source; columns = [] }
 
+-- the source's window slides
+abbrev pub slid : ℕ → Draft → Draft
+slid step d = record d { source = windowed (sliding step d.source.window) d.source }
+
 -- what a token of this role and these bytes says
 unfoldable pub took : Role → List ℕ → Draft → Draft
 took (r.Fixed kind) bytes d = d
@@ -202,6 +219,7 @@ took r.Stream bytes d = record d { source = record { stream = bytes; window = Un
 took r.Alias bytes d = record d { source = record { stream = d.source.stream; window = d.source.window; alias = Some bytes } }
 took r.Now bytes d = record d { source = windowed Now d.source }
 took r.Range bytes d = record d { source = windowed (Range (nat_abs (number_of bytes))) d.source }
+took r.Slide bytes d = slid (nat_abs (number_of bytes)) d
 took r.Unbounded bytes d = record d { source = windowed Unbounded d.source }
 took r.Rows bytes d = record d { source = windowed (Rows (nat_abs (number_of bytes))) d.source }
 took r.Partition bytes d = parted (nat_abs (number_of bytes)) d
@@ -236,6 +254,10 @@ did m.Leave d = record d { depth = d.depth - 1 }
 abbrev pub in_span : ℤ → Bool
 in_span n = not (int_lt n (pos 0)) && int_lt n (pos 1099511627777)
 
+-- from 1 to 1,099,511,627,776
+abbrev pub in_step : ℤ → Bool
+in_step n = not (int_lt n (pos 1)) && int_lt n (pos 1099511627777)
+
 -- from 1 to 65,536
 abbrev pub in_rows : ℤ → Bool
 in_rows n = not (int_lt n (pos 1)) && int_lt n (pos 65537)
@@ -255,6 +277,7 @@ in_range r.Stream n = true
 in_range r.Alias n = true
 in_range r.Now n = true
 in_range r.Range n = in_span n
+in_range r.Slide n = in_step n
 in_range r.Unbounded n = true
 in_range r.Rows n = in_rows n
 in_range r.Partition n = in_rows n
@@ -273,6 +296,7 @@ deepens r.Stream = false
 deepens r.Alias = false
 deepens r.Now = false
 deepens r.Range = false
+deepens r.Slide = false
 deepens r.Unbounded = false
 deepens r.Rows = false
 deepens r.Partition = false

@@ -26,6 +26,7 @@ pub data Entries : Type 0 where
 pub data Window : Type 0 where
   Now : Window
   Range : ℕ → Window
+  RangeSlide : ℕ → ℕ → Window
   Unbounded : Window
   Rows : ℕ → Window
   Partition : List Reference → ℕ → Window

@@ -5,7 +5,7 @@ ghost use Rattle.cql_reader.specs.Lexis.{number_of};
 ghost use Rattle.cql_reader.specs.declared.tokens.Kind.TheVariants as kinds;
 ghost use Rattle.cql_reader.specs.declared.symbols.Mark.TheVariants as marks;
 ghost use Rattle.cql_reader.specs.Grammar.{kind_of, in_range, may_open, took, did, entered, parted};
-ghost use Rattle.cql_reader.specs.Grammar.{listed, start, finished, no_source};
+ghost use Rattle.cql_reader.specs.Grammar.{slid, listed, start, finished, no_source};
 ghost use Rattle.cql_reader.specs.Views.{query_of, entries_of, entry_of, source_of};
 ghost use Rattle.cql_reader.specs.Coded.{draft_of};
 
@@ -99,12 +99,22 @@ impl Draft {
             Role::Alias => self.source.alias = Some(Name::new(bytes)),
             Role::Now => self.source.window = Window::Now,
             Role::Range => self.source.window = Window::Range(natural_in(bytes)),
+            Role::Slide => self.slide(natural_in(bytes)),
             Role::Unbounded => self.source.window = Window::Unbounded,
             Role::Rows => self.source.window = Window::Rows(natural_in(bytes)),
             Role::Partition => self.partition(alloc, natural_in(bytes)),
             Role::Number => self.terms.push(Operand::Number(number_in(bytes))),
             Role::Compare(compare) => self.terms.how = compare,
             Role::Deeper(_) => self.depth += 1,
+        }
+    }
+
+    // The window of instants on the source moves at multiples of the step alone.
+    fn slide(&mut self, step: u64)
+        ensures { draft_of self.new ≡ slid step (draft_of self.old) }
+    {
+        if let Window::Range(instants) = self.source.window {
+            self.source.window = Window::RangeSlide(instants, step);
         }
     }
 

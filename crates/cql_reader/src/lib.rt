@@ -41,7 +41,7 @@ pub const MAX_TEXT: usize = 4096;
 pub const MAX_DEPTH: usize = 32;
 
 /// The most sources that a query has.
-pub const MAX_SOURCES: usize = 2;
+pub const MAX_SOURCES: usize = 4;
 
 /// Why a text is no query. A place is the count of bytes before the token at fault, or of the text
 /// where it ends too early.

@@ -2,7 +2,7 @@
 
 ghost use Rattle.std.specs.Prelude.{◌≡◌, ◌<◌, ◌++◌, ◌↔◌, true, reverse, IfOk, IsTrue, OnOk};
 ghost use Rattle.cql_reader.specs.Lexis.{number_of};
-ghost use Rattle.cql_reader.specs.Grammar.{kind_of, in_range, in_span, in_rows, in_stream};
+ghost use Rattle.cql_reader.specs.Grammar.{kind_of, in_range, in_span, in_step, in_rows, in_stream};
 ghost use Rattle.cql_reader.specs.Grammar.{may_open};
 ghost use Rattle.cql_reader.specs.Prediction.{ahead, stopped, parsed};
 ghost use Rattle.cql_reader.specs.Tokens.{scan_from};
@@ -30,6 +30,14 @@ fn is_span(bytes: &[u8]) -> bool
     !(number < 0) && number < 1_099_511_627_777
 }
 
+// Whether it is one of a slide's.
+fn is_step(bytes: &[u8]) -> bool
+    ensures { result ≡ in_step (number_of bytes.now) }
+{
+    let number = number_in(bytes);
+    !(number < 1) && number < 1_099_511_627_777
+}
+
 // Whether it is one of rows'.
 fn is_rows(bytes: &[u8]) -> bool
     ensures { result ≡ in_rows (number_of bytes.now) }
@@ -53,6 +61,7 @@ fn is_in_range(role: Role, bytes: &[u8]) -> bool
 {
     match role {
         Role::Range => is_span(bytes),
+        Role::Slide => is_step(bytes),
         Role::Rows => is_rows(bytes),
         Role::Partition => is_rows(bytes),
         Role::Number => is_stream(bytes),

@@ -40,6 +40,9 @@ pub enum Window {
     Now,
     /// The rows of the instant and of as many instants before it, at most 1,099,511,627,776.
     Range(u64),
+    /// The same at the last multiple of the second number, the step, up to the instant; both are at
+    /// most 1,099,511,627,776, and the step is 1 at least.
+    RangeSlide(u64, u64),
     /// All rows so far: `[Range Unbounded]`, `[Rows Unbounded]`, or no window.
     Unbounded,
     /// The last rows, 1 to 65,536 of them.
@@ -85,7 +88,7 @@ pub struct Query {
     pub is_distinct: bool,
     /// The list: all columns, or entries.
     pub entries: Entries,
-    /// The sources of the `From`, in order: one or two.
+    /// The sources of the `From`, in order: one to four.
     pub sources: Vec<Source>,
     /// What stands behind `Where`, if the query has it.
     pub condition: Option<Condition>,

@@ -21,6 +21,8 @@ pub enum Part {
     ColumnTail,
     Rest,
     OptSource,
+    OptThird,
+    OptFourth,
     Source,
     SourceTail,
     OptAlias,
@@ -29,6 +31,7 @@ pub enum Part {
     Window,
     Frame,
     Span,
+    OptSlide,
     Last,
     Columns,
     ColumnsTail,
@@ -65,6 +68,8 @@ pub enum Role {
     Now,
     /// The number of instants of a window.
     Range,
+    /// The number at whose multiples a window moves.
+    Slide,
     /// The word of a window that all rows are in.
     Unbounded,
     /// The number of rows of a window.

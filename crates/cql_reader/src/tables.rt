@@ -116,6 +116,22 @@ pub fn alternatives_of(part: Part) -> &'static [&'static [Symbol]]
             &[
                 Symbol::Read(Role::Fixed(Kind::Comma)),
                 Symbol::Rule(Part::Source),
+                Symbol::Rule(Part::OptThird),
+            ],
+            &[],
+        ],
+        Part::OptThird => &[
+            &[
+                Symbol::Read(Role::Fixed(Kind::Comma)),
+                Symbol::Rule(Part::Source),
+                Symbol::Rule(Part::OptFourth),
+            ],
+            &[],
+        ],
+        Part::OptFourth => &[
+            &[
+                Symbol::Read(Role::Fixed(Kind::Comma)),
+                Symbol::Rule(Part::Source),
             ],
             &[],
         ],
@@ -162,8 +178,15 @@ pub fn alternatives_of(part: Part) -> &'static [&'static [Symbol]]
             ],
         ],
         Part::Span => &[
-            &[Symbol::Read(Role::Range)],
+            &[Symbol::Read(Role::Range), Symbol::Rule(Part::OptSlide)],
             &[Symbol::Read(Role::Unbounded)],
+        ],
+        Part::OptSlide => &[
+            &[
+                Symbol::Read(Role::Fixed(Kind::Slide)),
+                Symbol::Read(Role::Slide),
+            ],
+            &[],
         ],
         Part::Last => &[
             &[Symbol::Read(Role::Rows)],
@@ -291,6 +314,8 @@ pub fn first_of(part: Part) -> &'static [Kind]
         Part::ColumnTail => &[Kind::Dot],
         Part::Rest => &[Kind::From],
         Part::OptSource => &[Kind::Comma],
+        Part::OptThird => &[Kind::Comma],
+        Part::OptFourth => &[Kind::Comma],
         Part::Source => &[Kind::Name],
         Part::SourceTail => &[Kind::As, Kind::Name, Kind::Left],
         Part::OptAlias => &[Kind::As, Kind::Name],
@@ -299,6 +324,7 @@ pub fn first_of(part: Part) -> &'static [Kind]
         Part::Window => &[Kind::Left],
         Part::Frame => &[Kind::Range, Kind::Rows, Kind::Partition, Kind::Now],
         Part::Span => &[Kind::Unbounded, Kind::Number],
+        Part::OptSlide => &[Kind::Slide],
         Part::Last => &[Kind::Unbounded, Kind::Number],
         Part::Columns => &[Kind::Name],
         Part::ColumnsTail => &[Kind::Comma],

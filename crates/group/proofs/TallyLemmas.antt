@@ -1,8 +1,13 @@
 -- The tallies of a group, one after the other.
-use Rattle.std.proofs.Common.{◌≡◌, ℕ, ℤ, zero, suc, ◌<◌, ◌≤◌, map, List, [], ◌∷◌, ◌++◌, take, length, get_or, refl, ap, arith, slice_set, Bool, true, false, not, nat_lt, ltb-true, ltb-false, subst, min}
+use Rattle.std.proofs.Common.{◌≡◌, ℕ, ℤ, zero, suc, ◌<◌, ◌≤◌, map, List, [], ◌∷◌, ◌++◌, take, length, get_or, refl, ap, arith, slice_set, Bool, true, false, not, None, sym, ◌+◌, ◌∙◌, ap₂, append-nil, length-append, replicate, nat_lt, ltb-true, ltb-false, subst, min}
 use Rattle.values.specs.Row.{Row}
 use Rattle.values.specs.declared.resolved.ListItem.{ListItem}
-use Rattle.group.specs.Cells.{TallyState, partly, figure, figures, shown_figure}
+use Rattle.values.specs.declared.resolved.ListItem.TheVariants.{Key, CountAll, Count, Sum, Min, Max}
+use Rattle.values.specs.Value.{IsAnswerValue}
+use Rattle.std.specs.List.{list_any}
+use Rattle.std.proofs.lemmas.List.Folds.{list_any_at}
+use Rattle.std.proofs.lemmas.List.{length-replicate}
+use Rattle.group.specs.Cells.{TallyState, all_tallies, number_of, partly, figure, figures, reads, shown_figure, tally_after, tally_zero}
 
 pub not_not : (b : Bool) → not (not b) ≡ b
 not_not true = refl
@@ -58,3 +63,62 @@ row_few k n (i ∷ is) (t ∷ ts) = omega (arith, row_few k n is ts)
 
 pub row_within : (vs k : Row) (n : ℤ) (is : List ListItem) (ts : List TallyState) (m : ℕ) → vs ≡ map shown_figure (figures k n is ts) → length is ≤ m → length vs ≤ m
 row_within vs k n is ts m e h = omega (arith, ap (λ (us : Row). length us) e, row_few k n is ts, h)
+
+-- TALLIES OF NO NUMBERS
+
+zeros : (n p : ℕ) → get_or (replicate n tally_zero) p tally_zero ≡ tally_zero
+zeros zero p = refl
+zeros (suc n) zero = refl
+zeros (suc n) (suc p) = zeros n p
+
+pub padded : (more : ℕ) (ts : List TallyState) → all_tallies more ts ≡ ts ++ replicate more tally_zero
+padded zero ts = sym (append-nil ts)
+padded (suc n) ts = refl
+
+padded_at : (more : ℕ) (ts : List TallyState) (p : ℕ) → get_or (ts ++ replicate more tally_zero) p tally_zero ≡ get_or ts p tally_zero
+padded_at more [] p = zeros more p
+padded_at more (t ∷ ts) zero = refl
+padded_at more (t ∷ ts) (suc p) = padded_at more ts p
+
+-- a tally that is not there is one of no numbers
+pub padded-at : (more : ℕ) (ts : List TallyState) (p : ℕ) → get_or (all_tallies more ts) p tally_zero ≡ get_or ts p tally_zero
+padded-at more ts p = ap (λ (us : List TallyState). get_or us p tally_zero) (padded more ts) ∙ padded_at more ts p
+
+pub length-padded : (more : ℕ) (ts : List TallyState) → length (all_tallies more ts) ≡ length ts + more
+length-padded more ts = omega (arith, ap (λ (us : List TallyState). length us) (padded more ts), length-append ts (replicate more tally_zero), length-replicate more tally_zero)
+
+-- ITEMS THAT READ NO NUMBERS
+
+no_number : (i : ListItem) (r : Row) → reads i ≡ false → number_of i r ≡ None
+no_number (Key k) r e = refl
+no_number CountAll r e = refl
+no_number (Count c) r e = cc
+no_number (Sum c) r e = cc
+no_number (Min c) r e = cc
+no_number (Max c) r e = cc
+
+still : (s : Bool × Row) (i : ListItem) (t : TallyState) → reads i ≡ false → tally_after s i t ≡ t
+still s (Key k) t e = refl
+still s CountAll t e = refl
+still s (Count c) t e = cc
+still s (Sum c) t e = cc
+still s (Min c) t e = cc
+still s (Max c) t e = cc
+
+not_both : (b : Bool) → (b ≡ true → ⊥) → b ≡ false
+not_both true h = absurd (h refl)
+not_both false h = refl
+
+reads_none : (is : List ListItem) (k : ℕ) → list_any reads is ≡ false → k < length is → reads (get_or is k (Key 0)) ≡ false
+reads_none is k e h = not_both (reads (get_or is k (Key 0))) (λ t. let f = list_any_at reads is k (Key 0) h t in cc)
+
+each_still : (s : Bool × Row) (is : List ListItem) (ts : List TallyState) → ((k : ℕ) → k < length is → reads (get_or is k (Key 0)) ≡ false) → partly (tally_after s) (length is) is ts ≡ ts
+each_still s [] ts h = refl
+each_still s (i ∷ is) [] h = refl
+each_still s (i ∷ is) (t ∷ ts) h = ap₂ (λ (a : TallyState) (b : List TallyState). a ∷ b) (still s i t (h 0 (omega arith))) (each_still s is ts (λ k l. h (suc k) (omega (arith, l))))
+
+pub unread : (s : Bool × Row) (is : List ListItem) (ts : List TallyState) → list_any reads is ≡ false → partly (tally_after s) (length is) is ts ≡ ts
+unread s is ts e = each_still s is ts (λ k h. reads_none is k e h)
+
+pub unread-range : (is : List ListItem) (r : Row) (k : ℕ) → list_any reads is ≡ false → k < length is → IsAnswerValue (number_of (get_or is k (Key 0)) r)
+unread-range is r k e h = subst IsAnswerValue (sym (no_number (get_or is k (Key 0)) r (reads_none is k e h))) tt

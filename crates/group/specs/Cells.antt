@@ -1,5 +1,5 @@
 -- What is kept of a group: its rows counted, and of each item of the list the numbers that it reads.
-use Rattle.std.specs.Prelude.{ℕ, zero, suc, ◌+◌, ◌-◌, ◌*◌, ◌^◌, ◌<◌, ◌≤◌, ◌≡◌, ℤ, pos, neg_ℤ, ◌+ℤ◌, Option, Some, None, unwrap_or, List, [], ◌∷◌, length, replicate, get_or, nat_lt, Bool, true, false, cond}
+use Rattle.std.specs.Prelude.{ℕ, zero, suc, ◌+◌, ◌-◌, ◌*◌, ◌^◌, ◌<◌, ◌≤◌, ◌≡◌, ℤ, pos, neg_ℤ, ◌+ℤ◌, Option, Some, None, unwrap_or, List, [], ◌∷◌, ◌++◌, length, replicate, get_or, nat_lt, Bool, true, false, cond}
 use Rattle.std.specs.List.{All, slice_get}
 use Rattle.std.specs.Map.{lookup, set_value, remove_entry, values_of}
 use Rattle.std.specs.BTreeMap.{is_at, insert_entry}
@@ -62,6 +62,15 @@ number_of (Sum c) r = field (r ∷ []) (column_of c)
 number_of (Min c) r = field (r ∷ []) (column_of c)
 number_of (Max c) r = field (r ∷ []) (column_of c)
 
+-- whether an item reads numbers at all
+abbrev pub reads : ListItem → Bool
+reads (Key k) = false
+reads CountAll = false
+reads (Count c) = true
+reads (Sum c) = true
+reads (Min c) = true
+reads (Max c) = true
+
 -- whether each of them is kept
 abbrev pub keeps : ListItem → Bool
 keeps (Key k) = false
@@ -98,6 +107,11 @@ each f is ts = partly f (length is) is ts
 
 abbrev pub tallies_after : Bool × Row → List ListItem → List TallyState → List TallyState
 tallies_after s is ts = each (tally_after s) is ts
+
+-- and so many more of no numbers
+abbrev pub all_tallies : ℕ → List TallyState → List TallyState
+all_tallies zero ts = ts
+all_tallies (suc n) ts = ts ++ replicate (suc n) tally_zero
 
 -- how many rows the group has, a tally for each item of the list, and the row that was shown of it last
 pub record CellState : Type 0 where

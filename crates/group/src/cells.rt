@@ -3,11 +3,11 @@
 ghost use Rattle.std.specs.Prelude.{◌≡◌, ◌+◌, ◌-◌, ◌^◌, ◌<◌, ◌≤◌, ◌∷◌, [], length, map, replicate};
 ghost use Rattle.std.specs.Prelude.{IfOk, OnOk, OnErr, IsSome, pos, ℤ, Option, Some, None, List};
 ghost use Rattle.std.specs.Prelude.{cond, nat_lt, true, false, ◌++◌, ◌+ℤ◌, ◌-ℤ◌, ◌*◌, ◌/◌};
-ghost use Rattle.std.specs.Prelude.{◌==◌, fold};
+ghost use Rattle.std.specs.Prelude.{◌==◌, fold, get_or};
 ghost use Rattle.std.specs.BTreeMap.{is_at};
 ghost use Rattle.std.specs.BTreeMap as tree;
 ghost use Rattle.std.specs.Map.{set_value, values_of};
-ghost use Rattle.std.specs.List.{All};
+ghost use Rattle.std.specs.List.{All, list_any};
 ghost use Rattle.values.specs.Row.{value_cmp, value_at};
 ghost use Rattle.values.specs.Value.{IsAnswerValue};
 ghost use Rattle.lane_kernels.specs.Lanes.{IsWithin};
@@ -23,7 +23,7 @@ ghost use Rattle.group.specs.Batches.{tally_rows, numbers_read, AllInRange, row_
 ghost use Rattle.std.specs.Option.{is_some, option_map};
 ghost use Rattle.values.specs.Row.{same_row};
 ghost use Rattle.values.specs.declared.TheConstants.{MAX_COLUMNS};
-ghost use Rattle.group.specs.Cells.{held, shown_figure};
+ghost use Rattle.group.specs.Cells.{all_tallies, held, reads, shown_figure};
 ghost use Rattle.group.specs.Turns.{same_shown, signed_row, swap_of};
 ghost use Rattle.group.specs.Groups.{no_columns};
 ghost use Rattle.std.specs.Prelude.{◌||◌};
@@ -54,6 +54,24 @@ fn number_at(item: ListItem, batch: &Batch, place: usize) -> Value
         ListItem::Min(column) => field_at(batch, place, column),
         ListItem::Max(column) => field_at(batch, place, column),
     }
+}
+
+/// Whether an item reads numbers at all.
+fn reads(item: ListItem) -> bool
+    ensures { result ≡ reads item }
+{
+    match item {
+        ListItem::Key(_) => false,
+        ListItem::CountAll => false,
+        _ => true,
+    }
+}
+
+/// Whether any item reads numbers.
+fn reads_any(items: &[ListItem]) -> bool
+    ensures { result ≡ list_any reads items.now }
+{
+    items.iter().any(|item| reads(*item))
 }
 
 /// Whether each number is kept: a least or greatest one may leave.
@@ -399,8 +417,10 @@ fn greatest(values: &BTreeMap<Value, u64>) -> Value
 pub(crate) struct Cell {
     /// How many rows entered, less those that left.
     rows: i64,
-    /// For each item of the list, in order, its tally.
+    /// For each item of the list, in order, its tally. Of the last ones there may be none yet.
     tallies: Vec<Tally>,
+    /// How many last items have no tally: they took no number.
+    more: usize,
     /// The row that was shown last; `None` where none was yet.
     shown: Option<Vec<Value>>,
 }
@@ -408,7 +428,7 @@ pub(crate) struct Cell {
 impl Model for Cell {
     ghost use Rattle.std.specs.Prelude.{◌≤◌, length, IfSome};
     ghost use Rattle.std.specs.Option.{option_map};
-    ghost use Rattle.group.specs.Cells.{CellState as State, held};
+    ghost use Rattle.group.specs.Cells.{CellState as State, all_tallies, held};
     ghost use Rattle.values.specs.declared.TheConstants.{MAX_COLUMNS};
 
     ghost Value = { State };
@@ -416,7 +436,7 @@ impl Model for Cell {
     ghost view = { λ c.
         record {
           rows = c.rows;
-          tallies = c.tallies.items;
+          tallies = all_tallies c.more c.tallies.items;
           shown = option_map (λ values. held values.items) c.shown;
         } };
 
@@ -442,6 +462,38 @@ fn take_tallies(
         let item = items[i];
         tallies[i].take(enters, keeps(item), number_at(item, batch, place))?;
     }
+    Ok(())
+}
+
+/// So many tallies of no numbers more.
+fn add_tallies(alloc: Global, tallies: &mut Vec<Tally>, more: usize) -> Result<(), AllocError>
+    ensures { OnOk result (tallies.new.items ≡ all_tallies more tallies.old.items) }
+{
+    tallies.reserve_exact(more)?;
+    for _ in 0..more {
+        tallies.push_reserved(Tally::new(alloc));
+    }
+    Ok(())
+}
+
+/// A row of a batch enters or leaves: each tally takes it, also so many of no numbers more.
+fn take_row(
+    alloc: Global,
+    tallies: &mut Vec<Tally>,
+    more: usize,
+    items: &[ListItem],
+    batch: &Batch,
+    place: usize,
+) -> Result<(), AllocError>
+    requires within { place < length batch.now }
+    requires aligned { length (all_tallies more tallies.old.items) ≡ length items.now }
+    requires room { All (TallyRoom (2 ^ 62 + 1024)) (all_tallies more tallies.old.items) }
+    ensures tallies { OnOk result (tallies.new.items ≡ tallies_after (row_in batch.now place)
+        items.now (all_tallies more tallies.old.items)) }
+    ensures range { OnOk result (ReadsInRange items.now (row_in batch.now place)) }
+{
+    add_tallies(alloc, tallies, more)?;
+    take_tallies(tallies, items, batch, place)?;
     Ok(())
 }
 
@@ -487,22 +539,64 @@ fn take_batches(
     Ok(())
 }
 
+/// The rows of a batch enter and leave: each tally takes them, also so many of no numbers more.
+fn take_rows(
+    alloc: Global,
+    tallies: &mut Vec<Tally>,
+    more: usize,
+    items: &[ListItem],
+    batch: &Batch,
+) -> Result<(), AllocError>
+    requires aligned { length (all_tallies more tallies.old.items) ≡ length items.now }
+    requires room { All (TallyRoom (2 ^ 62)) (all_tallies more tallies.old.items) }
+    ensures tallies { OnOk result (tallies.new.items
+        ≡ each (tally_rows batch.now) items.now (all_tallies more tallies.old.items)) }
+    ensures range { OnOk result (AllInRange items.now batch.now) }
+{
+    add_tallies(alloc, tallies, more)?;
+    take_batches(tallies, items, batch)?;
+    Ok(())
+}
+
+/// The exact figure of an item that took no number.
+fn empty_figure(item: ListItem, key: &[Value], rows: i64) -> Figure
+    ensures { result ≡ figure key.now rows item tally_zero }
+{
+    match item {
+        ListItem::Key(column) => value_figure(value_in(key, column)),
+        ListItem::CountAll => number_figure(rows as i128),
+        ListItem::Count(_) => number_figure(0),
+        _ => value_figure(Value::null()),
+    }
+}
+
+/// The exact figure of the item at a place, which took no number where it has no tally.
+fn figure_at(tallies: &[Tally], place: usize, item: ListItem, key: &[Value], rows: i64) -> Figure
+    ensures { result ≡ figure key.now rows item (get_or tallies.now place tally_zero) }
+{
+    if place < tallies.len() {
+        return tallies[place].figure(item, key, rows);
+    }
+    empty_figure(item, key, rows)
+}
+
 /// The exact figures of a group, one for each item of the list.
 fn figures_of(
     alloc: Global,
     tallies: &[Tally],
+    more: usize,
     items: &[ListItem],
     key: &[Value],
     rows: i64,
 ) -> Result<Vec<Figure>, AllocError>
     ensures figures { IfOk result (λ fs. fs.items
-        ≡ figures key.now rows items.now tallies.now) }
+        ≡ figures key.now rows items.now (all_tallies more tallies.now)) }
     ensures few { IfOk result (λ fs. length fs.items ≤ length items.now) }
 {
-    let count = items.len().min(tallies.len());
+    let count = items.len().min(tallies.len().saturating_add(more));
     let mut figures = Vec::with_capacity(alloc, count)?;
     for place in 0..count {
-        figures.push(tallies[place].figure(items[place], key, rows))?;
+        figures.push(figure_at(tallies, place, items[place], key, rows))?;
     }
     Ok(figures)
 }
@@ -512,18 +606,19 @@ fn figures_of(
 fn write_row(
     row: &mut Vec<Value>,
     tallies: &[Tally],
+    more: usize,
     items: &[ListItem],
     key: &[Value],
     rows: i64,
 ) -> Result<(), AllocError>
     ensures { OnOk result (row.new.items
-        ≡ map shown_figure (figures key.now rows items.now tallies.now)) }
+        ≡ map shown_figure (figures key.now rows items.now (all_tallies more tallies.now))) }
 {
-    let count = items.len().min(tallies.len());
+    let count = items.len().min(tallies.len().saturating_add(more));
     row.clear();
     row.reserve_exact(count)?;
     for place in 0..count {
-        row.push_reserved(tallies[place].figure(items[place], key, rows).shown());
+        row.push_reserved(figure_at(tallies, place, items[place], key, rows).shown());
     }
     Ok(())
 }
@@ -579,24 +674,23 @@ fn room_of(values: Option<Vec<Value>>, alloc: Global) -> Vec<Value> {
 }
 
 impl Cell {
-    /// A group of no rows.
-    pub(crate) fn new(alloc: Global, count: usize) -> Result<Cell, AllocError>
-        ensures { IfOk result (λ c. c ≡ cell_zero count) }
+    /// A group of no rows. Takes no memory.
+    pub(crate) fn new(alloc: Global, count: usize) -> Cell
+        ensures { result ≡ cell_zero count }
     {
-        let mut tallies = Vec::with_capacity(alloc, count)?;
-        for _ in 0..count {
-            tallies.push(Tally::new(alloc))?;
-        }
-        Ok(Cell {
+        Cell {
             rows: 0,
-            tallies,
+            tallies: Vec::new(alloc),
+            more: count,
             shown: None,
-        })
+        }
     }
 
-    /// A row of a batch, which is of the group, enters or leaves.
+    /// A row of a batch, which is of the group, enters or leaves. Only a number that an item reads
+    /// takes memory.
     pub(crate) fn take(
         &mut self,
+        alloc: Global,
         items: &[ListItem],
         batch: &Batch,
         place: usize,
@@ -607,18 +701,46 @@ impl Cell {
             ≡ cell_after items.now self.old (row_in batch.now place)) }
         ensures range { OnOk result (ReadsInRange items.now (row_in batch.now place)) }
     {
-        take_tallies(&mut self.tallies, items, batch, place)?;
+        if reads_any(items) {
+            return self.take_read(alloc, items, batch, place);
+        }
+        self.rows = counted(self.rows, enters(batch, place));
+        Ok(())
+    }
+
+    /// `take` where items read numbers.
+    fn take_read(
+        &mut self,
+        alloc: Global,
+        items: &[ListItem],
+        batch: &Batch,
+        place: usize,
+    ) -> Result<(), AllocError>
+        requires within { place < length batch.now }
+        requires room { CellRoom (2 ^ 62 + 1024) items.now self.old }
+        ensures cell { OnOk result (self.new
+            ≡ cell_after items.now self.old (row_in batch.now place)) }
+        ensures range { OnOk result (ReadsInRange items.now (row_in batch.now place)) }
+    {
+        take_row(alloc, &mut self.tallies, self.more, items, batch, place)?;
+        self.more = 0;
         self.rows = counted(self.rows, enters(batch, place));
         Ok(())
     }
 
     /// The rows of a batch enter and leave, all of this group.
-    pub(crate) fn take_batch(&mut self, items: &[ListItem], batch: &Batch) -> Result<(), AllocError>
+    pub(crate) fn take_batch(
+        &mut self,
+        alloc: Global,
+        items: &[ListItem],
+        batch: &Batch,
+    ) -> Result<(), AllocError>
         requires { CellRoom (2 ^ 62) items.now self.old }
         ensures cell { OnOk result (self.new ≡ fold (cell_after items.now) self.old batch.now) }
         ensures range { OnOk result (AllInRange items.now batch.now) }
     {
-        take_batches(&mut self.tallies, items, batch)?;
+        take_rows(alloc, &mut self.tallies, self.more, items, batch)?;
+        self.more = 0;
         self.rows = count_added(self.rows, rows_counted(batch));
         Ok(())
     }
@@ -642,7 +764,7 @@ impl Cell {
             ≡ figures key.now self.now.rows items.now self.now.tallies) }
         ensures few { IfOk result (λ fs. length fs.items ≤ length items.now) }
     {
-        let figures = figures_of(alloc, &self.tallies, items, key, self.rows)?;
+        let figures = figures_of(alloc, &self.tallies, self.more, items, key, self.rows)?;
         Ok(figures)
     }
 
@@ -744,7 +866,14 @@ impl Cell {
             self.show_none(rows)?;
             return Ok(false);
         }
-        write_row(spare, &self.tallies, group.items(), key, self.rows)?;
+        write_row(
+            spare,
+            &self.tallies,
+            self.more,
+            group.items(),
+            key,
+            self.rows,
+        )?;
         self.show_now(alloc, spare, rows)?;
         Ok(true)
     }

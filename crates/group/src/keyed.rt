@@ -122,10 +122,10 @@ impl<const N: usize> Keyed<N> {
         let _ = &self.cells;
         touch(&mut self.touched, key.copied())?;
         if let Some(cell) = self.cells.get_mut(&key) {
-            return cell.take(items, batch, place);
+            return cell.take(alloc, items, batch, place);
         }
-        let mut cell = Cell::new(alloc, items.len())?;
-        cell.take(items, batch, place)?;
+        let mut cell = Cell::new(alloc, items.len());
+        cell.take(alloc, items, batch, place)?;
         self.cells.insert(key, cell)?;
         Ok(())
     }
@@ -151,10 +151,10 @@ impl<const N: usize> Keyed<N> {
         let key = Key::of(key);
         touch(&mut self.touched, key.copied())?;
         if let Some(cell) = self.cells.get_mut(&key) {
-            return cell.take_batch(items, batch);
+            return cell.take_batch(alloc, items, batch);
         }
-        let mut cell = Cell::new(alloc, items.len())?;
-        cell.take_batch(items, batch)?;
+        let mut cell = Cell::new(alloc, items.len());
+        cell.take_batch(alloc, items, batch)?;
         self.cells.insert(key, cell)?;
         Ok(())
     }
@@ -177,7 +177,7 @@ impl<const N: usize> Keyed<N> {
         if let Some(cell) = self.cells.get_mut(&key) {
             return cell.show(alloc, row);
         }
-        let mut cell = Cell::new(alloc, count)?;
+        let mut cell = Cell::new(alloc, count);
         cell.show(alloc, row)?;
         self.cells.insert(key, cell)?;
         Ok(())
@@ -253,7 +253,7 @@ impl<const N: usize> Keyed<N> {
                 Ok(touched)
             }
             None => {
-                let cell = Cell::new(alloc, items.len())?;
+                let cell = Cell::new(alloc, items.len());
                 let touched = excerpt_of(alloc, items, key, &cell)?;
                 Ok(touched)
             }
@@ -466,7 +466,7 @@ fn swap_new<const N: usize>(
         (cell_of (length group.now.items) key.now cells.old.entries) rows.old) }
     ensures short { Short N cells.new.entries }
 {
-    let mut cell = Cell::new(alloc, group.items().len())?;
+    let mut cell = Cell::new(alloc, group.items().len());
     let some = cell.swap(alloc, group, key.values(), spare, rows)?;
     if !some {
         return Ok(());

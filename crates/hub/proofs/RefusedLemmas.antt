@@ -3,7 +3,7 @@ use Rattle.std.proofs.Common.{◌≡◌, ◌⊎◌, inl, inr, ℕ, ℤ, Bool, tr
 use Rattle.std.specs.List.{list_all}
 use Rattle.std.specs.Prelude.{⊤, slice_get}
 use Rattle.names.specs.Faults.{first_of}
-use Rattle.reference.specs.Commands.{Command, Declare, Register, Append, Heartbeat, Take, Drop, Found, append_tests, declare_tests, first_fault, found, heartbeat_tests, of_query, of_stream, query_tests, register_tests, take_tests}
+use Rattle.reference.specs.Commands.{Command, Declare, Register, Append, Heartbeat, Take, Drop, Found, declare_tests, first_fault, found, heartbeat_tests, of_query, of_stream, query_tests, register_tests, rows_tests, take_tests}
 use Rattle.reference.specs.Machine.{Machine, Registered, Stream, query_at}
 use Rattle.reference.specs.World.{Does, Step, World, append_step, declare_step, drop_step, heartbeat_step, register_step, unless}
 use Rattle.reference.specs.declared.fault.Fault.{Fault}
@@ -50,7 +50,7 @@ of_query_within tests (Some q) f all h = none_beyond tests f all h
 within : (m : Machine) (c : Command) (f : Fault) → first_fault m c ≡ Some f → is_beyond f ≡ false
 within m (Declare name columns start) f h = none_beyond (declare_tests _ _ name columns start) f refl h
 within m (Register name text chart) f h = none_beyond (register_tests m name ++ query_tests (found m text chart)) f (text_within (found m text chart)) h
-within m (Append n rows) f h = of_stream_within (λ s. append_tests s rows) (slice_get m.streams n) f (λ s. refl) h
+within m (Append n rows) f h = of_stream_within (rows_tests m.queries n rows) (slice_get m.streams n) f (λ s. refl) h
 within m (Heartbeat n at) f h = of_stream_within (λ s. heartbeat_tests s at) (slice_get m.streams n) f (λ s. refl) h
 within m (Take n limit) f h = of_query_within (take_tests limit) (query_at m n) f refl h
 within m (Drop n) f h = of_query_within [] (query_at m n) f refl h

@@ -29,6 +29,8 @@ use Rattle.row_bags.specs.contracts.row_bag.RowBag as row_bag
 use Rattle.row_bags.specs.contracts.row_list.RowList as row_list
 use Rattle.row_bags.specs.contracts.delta.Delta as delta
 use Rattle.windows.specs.contracts.range.RangeWindow as range
+use Rattle.windows.specs.contracts.slide.SlideWindow as slide
+use Rattle.windows.specs.contracts.slide.SlideNear as sliding
 use Rattle.windows.specs.contracts.latest.LatestWindow as latest
 use Rattle.windows.specs.contracts.flat_rows.FlatRows as flat_rows
 use Rattle.join.specs.contracts.state.Join as join
@@ -123,6 +125,9 @@ flat_rows_send = search (sendable, crosses, value_send) depth 30
 pub range_send : IsSend range.the_row
 range_send = search (sendable, crosses, flat_rows_send) depth 30
 
+pub slide_send : IsSend slide.the_row
+slide_send = search (sendable, crosses, flat_rows_send) depth 30
+
 pub latest_send : IsSend latest.the_row
 latest_send = search (sendable, crosses, maps.crosses, value_send, flat_rows_send) depth 40
 
@@ -145,7 +150,7 @@ pub inbox_send : IsSend inbox.the_row
 inbox_send = search (sendable, waiting_send) depth 20
 
 pub state_send : IsSend state.the_row
-state_send = search (sendable, range_send, latest_send, join_send, group_send, to_stream_send) depth 20
+state_send = search (sendable, range_send, slide_send, latest_send, join_send, group_send, to_stream_send) depth 20
 
 pub kind_send : IsSend kind.the_row
 kind_send = search (sendable, crosses, group_by_send) depth 30
@@ -174,8 +179,11 @@ stored_send = search (sendable, crosses, log_send, open_rows_send) depth 30
 pub streams_send : IsSend streams.the_row
 streams_send = search (sendable, crosses, stored_send, names_send) depth 30
 
+pub sliding_send : IsSend sliding.the_row
+sliding_send = search (sendable, crosses, value_send) depth 40
+
 pub near_send : IsSend near.the_row
-near_send = search (sendable, crosses, value_send) depth 40 fits 100000
+near_send = search (sendable, crosses, value_send, sliding_send) depth 40 fits 100000
 
 pub near_sync : IsSync near.the_row
 near_sync = search (sendable, crosses) depth 40 fits 100000

@@ -1,5 +1,5 @@
 -- A heartbeat and an append to a stream of the machine keep a query good.
-use Rattle.std.proofs.Common.{◌≡◌, ℕ, zero, suc, ◌==◌, ◌&&◌, nat_le, Bool, true, false, cond, max, Option, ℤ, List, [], ◌∷◌, ◌++◌, map, get_or, refl, sym, ap, ap₂, ◌∙◌, subst₂, arith, append-nil, eqb-true, eq-eqb}
+use Rattle.std.proofs.Common.{◌≡◌, ℕ, zero, suc, ◌-◌, ◌==◌, ◌&&◌, nat_le, Bool, true, false, cond, max, Option, ℤ, List, [], ◌∷◌, ◌++◌, map, get_or, refl, sym, ap, ap₂, ◌∙◌, subst₂, arith, append-nil, eqb-true, eq-eqb}
 use Rattle.std.proofs.lemmas.Bool.{eqb-false, ne_eqb}
 use Rattle.plan.proofs.Lists.{by_test}
 use Rattle.std.specs.Prelude.{slice_get}
@@ -17,7 +17,7 @@ use Rattle.laws_dataflow.specs.Nets.{World, Cell}
 use Rattle.laws_dataflow.specs.Operators.{net_of}
 use Rattle.laws_dataflow.specs.Worlds.{Beat, Change, fed_cell, appended as with_more}
 use Rattle.laws_dataflow.specs.Queries.{GoodQuery}
-use Rattle.laws_dataflow.specs.Plans.{AreWide, IsPlanOf, below_root, comes, inputs_of, least_of, value_in, value_of, world_by, world_of}
+use Rattle.laws_dataflow.specs.Plans.{AreWide, IsPlanOf, arrivals_at, below_root, comes, inputs_of, least_of, value_in, value_of, world_by, world_of}
 use Rattle.values.specs.Answers.{shown_at}
 use Rattle.laws_dataflow.proofs.AnswerLemmas.{query_planned, shaped}
 use Rattle.laws_dataflow.proofs.BagLemmas.{same_of}
@@ -74,8 +74,8 @@ heartbeat_inputs m q n at =
 -- nor how many rows came
 pub heartbeat_comes : (m : Machine) (q : Registered) (n : ℕ) (at : ℤ) → comes (after m (Heartbeat n at) 0).streams q.places ≡ comes m.streams q.places
 heartbeat_comes m q n at =
-    map_each (λ (p : Place). option_map_or (λ s. s.arrivals) (slice_get (change n (closed_to at) m.streams) p.stream) 0) (λ (p : Place). option_map_or (λ s. s.arrivals) (slice_get m.streams p.stream) 0) q.places
-    (λ p. unchanged (closed_to at) (λ s. s.arrivals) 0 (λ s. refl) n p.stream m.streams)
+    map_each (λ (p : Place). arrivals_at (change n (closed_to at) m.streams) p - p.arrivals) (λ (p : Place). arrivals_at m.streams p - p.arrivals) q.places
+    (λ p. ap (λ k. k - p.arrivals) (unchanged (closed_to at) (λ s. s.arrivals) 0 (λ s. refl) n p.stream m.streams))
 
 -- an append changes no open instant
 pub append_opens : (m : Machine) (q : Registered) (n : ℕ) (rows : List (ℤ × List (Option ℤ))) → opens (after m (Append n rows) 0).streams q.places ≡ opens m.streams q.places

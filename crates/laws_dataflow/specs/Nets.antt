@@ -30,7 +30,8 @@ IsLawful (window k) = Unit {0}
 IsLawful (unary f x) = (xs ys : List Row) → Same xs ys → Same (f.value xs) (f.value ys)
 IsLawful (join f x y) = (xs ys us vs : List Row) → Same xs ys → Same us vs → Same (f.value xs us) (f.value ys vs)
 
--- what a query reads: its first instant, and of each source its window, its input, the first instant that is not closed, and how many rows ever came to its stream
+-- what a query reads: its first instant, and of each source its window, its input, the first instant that is not closed, and how many rows came to its stream since
+-- the registration
 pub record World : Type 0 where
   pub first : ℕ
   pub windows : ℕ → Window

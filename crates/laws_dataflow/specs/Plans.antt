@@ -56,9 +56,13 @@ world_by first ws inputs open_at came = record { first = first; windows = λ k. 
 abbrev pub inputs_of : Machine → Registered → List (List Element)
 inputs_of m q = map (input_at m.streams q.first) q.places
 
--- how many rows ever came to the stream of each source
+-- how many rows ever came to the place's stream
+abbrev pub arrivals_at : List Stream → Place → ℕ
+arrivals_at streams p = option_map_or (λ s. s.arrivals) (slice_get streams p.stream) 0
+
+-- how many rows came to the stream of each source since the registration
 abbrev pub comes : List Stream → List Place → List ℕ
-comes streams places = map (λ p. option_map_or (λ s. s.arrivals) (slice_get streams p.stream) 0) places
+comes streams places = map (λ p. arrivals_at streams p - p.arrivals) places
 
 abbrev pub world_of : Machine → Registered → World
 world_of m q = world_by q.first q.meaning.windows (inputs_of m q) (opens m.streams q.places) (comes m.streams q.places)

@@ -2,13 +2,13 @@
 use Rattle.std.proofs.Common.{◌≡◌, ℕ, ℤ, cond, Option, Some, None, List, length, nat_lt, refl, sym, ap, subst}
 use Rattle.std.proofs.lemmas.Option.{get_or_from_slice_get, slice_get_within}
 use Rattle.operators.specs.Operators.{ready}
-use Rattle.reference.specs.Commands.{Append, first_fault}
+use Rattle.reference.specs.Commands.{Append, after, first_fault}
 use Rattle.reference.specs.Machine.{Registered}
 use Rattle.laws_queries.specs.Machines.{IsQuery}
 use Rattle.laws_queries.specs.Queries.{log_at, node_at, operator_at, source_of}
 use Rattle.laws_queries.specs.Steps.{IsFirst}
 use Rattle.laws_queries.proofs.AppendLemmas.{append_logs}
-use Rattle.laws_queries.proofs.MachineCounts.{machines_stand, queries_stand}
+use Rattle.laws_queries.proofs.MachineCounts.{keeps_limit, machines_stand, queries_stand}
 use Rattle.laws_queries.proofs.RowLemmas.{rows_stand}
 use Rattle.run_queue.specs.Slots.{slot}
 use Rattle.laws_engine.specs.Engines.{Broken, Dropped, GoodEngine, IsLease, Lease, PlainEngine, PlainRemains, Running, is_leased, query_at, remains_at, slope_at, slot_in, slot_of}
@@ -48,7 +48,8 @@ module _ (e : PlainEngine) (s : ℕ) (rows : List (ℤ × List (Option ℤ))) (g
     machine = machines_stand.goes_on e.machine (Append s rows) 0 accepted g.machine;
     rows = rows_stand.goes_on e.machine (Append s rows) 0 accepted g.rows;
     many = g.many;
-    queries = λ n q r. append_remains e.machine s rows accepted q (remains_at e n) g.machine (is_query e g n q r) (g.queries n q r);
+    queries = λ n q r. append_remains e.machine s rows accepted q (remains_at e n) g.machine (is_query e g n q r)
+        (keeps_limit (after e.machine (Append s rows) 0) (machines_stand.goes_on e.machine (Append s rows) 0 accepted g.machine) n q r) (g.queries n q r);
     leases = λ a i. appended_lease a (g.leases a i);
     apart = g.apart;
     slots = equal_slots (slot_of e) (slot_of (appended e s rows)) e.slots (λ n k. appended_slot n k (query_at e n) (remains_at e n)) g.slots;

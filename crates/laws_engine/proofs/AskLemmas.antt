@@ -56,7 +56,7 @@ module _ (e : PlainEngine) (g : GoodEngine e) (n k : ℕ) (q : Registered) (p : 
   query = subst (IsQuery e.machine.streams) (get_or_from_slice_get e.machine.queries n q q o.registered) ((queries_stand e.machine g.machine).each n q (slice_get_within e.machine.queries n q o.registered))
 
   runs : PlainQueriesRun (widths_of e.machine.streams q) goes.widths e.machine q
-  runs = plain_queries_run (widths_of e.machine.streams q) goes.widths e.machine q (query_bounded e g n q o.registered)
+  runs = plain_queries_run (widths_of e.machine.streams q) goes.widths e.machine q (query_bounded e g n q o.registered goes.lives)
 
   some_source : 0 < length q.places
   some_source =

@@ -1,5 +1,5 @@
 -- The answers that a query of a good engine has given fit the machine's numbers: their instants, and how many they are.
-use Rattle.std.proofs.Common.{◌≡◌, ℕ, zero, suc, ◌+◌, ◌-◌, ◌*◌, ◌^◌, ◌<◌, ◌≤◌, ◌&&◌, true, Some, List, [], ◌∷◌, ◌++◌, map, length, refl, ap, ap₂, subst, arith, length-append, lt-ltb}
+use Rattle.std.proofs.Common.{◌≡◌, ℕ, zero, suc, ◌+◌, ◌-◌, ◌*◌, ◌^◌, ◌<◌, ◌≤◌, ◌&&◌, false, true, Some, List, [], ◌∷◌, ◌++◌, map, length, refl, ap, ap₂, subst, arith, length-append, lt-ltb}
 use Rattle.std.specs.List.{AllByRecursion}
 use Rattle.std.specs.Prelude.{slice_get}
 use Rattle.values.specs.Row.{Row}
@@ -12,9 +12,10 @@ use Rattle.laws_dataflow.specs.Laws as nets
 use Rattle.laws_dataflow.specs.Nets.{Cell, at_unary}
 use Rattle.laws_dataflow.specs.Plans.{bags_of, below_root, value_of}
 use Rattle.laws_dataflow.proofs.AnswerLemmas.{query_value}
+use Rattle.laws_queries.specs.Rooms.{HasFewSince}
 use Rattle.laws_queries.specs.Machines.{IsMachine, IsQuery, QueriesStand, widths_of}
 use Rattle.laws_queries.specs.Counts.{count}
-use Rattle.laws_queries.proofs.MachineCounts.{queries_stand}
+use Rattle.laws_queries.proofs.MachineCounts.{keeps_limit, queries_stand}
 use Rattle.laws_queries.proofs.PlanCounts.{count_is, root_has_room}
 use Rattle.laws_engine.specs.Engines.{GoodEngine, HasGiven, PlainEngine, answers_in, query_at, remains_at}
 use Rattle.laws_engine.proofs.AppendedLemmas.{is_query}
@@ -39,17 +40,17 @@ few_earlier [] n q h e = absurd (cc)
 few_earlier (r ∷ qs) zero q h e = let same : r ≡ q = cc in subst HasFewEarlier same h.0
 few_earlier (r ∷ qs) (suc n) q h e = few_earlier qs n q h.1 e
 
--- THE RELATION of a query has at most as many rows at an instant as two streams have combinations
+-- THE RELATION of a query that keeps its limit has at most as many rows at an instant as its sources have combinations
 any_cells : ℕ → Cell
 any_cells k = at_unary [] [] [] 0
 
-body_few : (m : Machine) (q : Registered) → IsMachine m → IsQuery m.streams q → (t : ℕ) → length (body q.meaning (bags_of m q t)) ≤ 2 ^ 60
-body_few m q machine is t =
+body_few : (m : Machine) (q : Registered) → IsMachine m → IsQuery m.streams q → HasFewSince m.streams q → (t : ℕ) → length (body q.meaning (bags_of m q t)) ≤ 2 ^ 60
+body_few m q machine is since t =
     let vs : List ℕ = widths_of m.streams q in
     let all : QueriesStand m = queries_stand m machine in
     let stands : nets.Stands vs m q = all.stands q is in
     let value : List Row = value_of m q (below_root q.nodes - 1) t in
-    let few : count value ≤ 2 ^ 60 = (root_has_room vs m q (all.bounded q is) any_cells).at_ticks t in
+    let few : count value ≤ 2 ^ 60 = (root_has_room vs m q (all.bounded q is since) any_cells).at_ticks t in
     subst (λ rows. length rows ≤ 2 ^ 60) (query_value vs m q stands.plan stands.wide t) (subst (λ n. n ≤ 2 ^ 60) (count_is value) few)
 
 -- A QUERY of a good engine
@@ -87,18 +88,18 @@ module _ (e : PlainEngine) (n : ℕ) (q : Registered) (g : GoodEngine e) (closed
       all_signed waiting
       (each-right IsSigned given.taken waiting (each-left IsSigned (given.taken ++ waiting) given.rest (subst (AllByRecursion IsSigned) given.begins all_below)))
 
-  later_few : length later ≤ (until - q.start) * 2 ^ 60
-  later_few = answers_are_few q.meaning q.first inputs (2 ^ 60) (body_few e.machine q g.machine (is_query e g n q here)) q.start until
+  later_few : q.is_dropped ≡ false → length later ≤ (until - q.start) * 2 ^ 60
+  later_few live = answers_are_few q.meaning q.first inputs (2 ^ 60) (body_few e.machine q g.machine (is_query e g n q here) (keeps_limit e.machine g.machine n q here live)) q.start until
 
-  all_few : length (closed_answers e.machine q) ≤ instants * 2 ^ 60
-  all_few = omega (arith, length-append q.earlier later, before.few, later_few, until_is_few)
+  all_few : q.is_dropped ≡ false → length (closed_answers e.machine q) ≤ instants * 2 ^ 60
+  all_few live = omega (arith, length-append q.earlier later, before.few, later_few live, until_is_few)
 
-  -- and few were taken and wait
-  pub taken_room : q.taken + length (answers_in (remains_at e n)) < 2 ^ 101
-  taken_room =
+  -- and few were taken and wait, where it was not dropped
+  pub taken_room : q.is_dropped ≡ false → q.taken + length (answers_in (remains_at e n)) < 2 ^ 101
+  taken_room live =
       omega (
         arith,
-        all_few,
+        all_few live,
         given.counted,
         ap length given.begins,
         length-append (given.taken ++ waiting) given.rest,

@@ -58,7 +58,7 @@ module _ (m : Machine) (ts : List Stream) (q : Registered) (is : IsQuery m.strea
   opens_left = by_stream (λ o p. option_map_or (λ s. s.first_open) o 0)
 
   comes_left : comes (m.streams ++ ts) q.places ≡ comes m.streams q.places
-  comes_left = by_stream (λ o p. option_map_or (λ s. s.arrivals) o 0)
+  comes_left = by_stream (λ o p. option_map_or (λ s. s.arrivals) o 0 - p.arrivals)
 
   widths_left : widths_of (m.streams ++ ts) q ≡ widths_of m.streams q
   widths_left = by_stream (λ o p. option_map_or (λ s. length s.columns) o 0)
@@ -132,6 +132,7 @@ module _ (m : Machine) (ts : List Stream) (q : Registered) (is : IsQuery m.strea
 
   pub remains_left : (remains : PlainRemains) → AreRemains m q remains → AreRemains (record m { streams = m.streams ++ ts }) q remains
   remains_left (Running p) g = record {
+    lives = g.lives;
     widths = g.widths;
     sources = λ k s kc e. g.sources k s kc e ∙ sym (ap (λ o. option_map_or (λ t. length t.columns) o 0) (left_stream m.streams ts (place_of q s).stream (source_there s)));
     taken = g.taken;

@@ -1,5 +1,5 @@
 -- A finished turn leaves an engine good.
-use Rattle.std.proofs.Common.{◌≡◌, ◌≢◌, ℕ, ◌<◌, ◌++◌, ◌==◌, nat_lt, true, cond, inl, inr, ◌⊎◌, ⊎_elim, Option, Some, None, List, length, set, refl, sym, ap, ◌∙◌, subst, arith, eqb-true, eq-eqb}
+use Rattle.std.proofs.Common.{◌≡◌, false, ◌≢◌, ℕ, ◌<◌, ◌++◌, ◌==◌, nat_lt, true, cond, inl, inr, ◌⊎◌, ⊎_elim, Option, Some, None, List, length, set, refl, sym, ap, ◌∙◌, subst, arith, eqb-true, eq-eqb}
 use Rattle.std.proofs.lemmas.List.{append_assoc, set-get_or}
 use Rattle.std.proofs.lemmas.Option.{get_or_from_slice_get, slice_get_within}
 use Rattle.values.specs.Row.{Row}
@@ -24,7 +24,7 @@ use Rattle.laws_queries.specs.Machines.{IsQuery, widths_of}
 use Rattle.laws_queries.specs.Queries.{IsRunning, MayFeed, PlainQuery, log_at, operator_at}
 use Rattle.laws_queries.specs.Rooms.{IsBounded}
 use Rattle.laws_queries.specs.Steps.{IsFirst, outs_at_first}
-use Rattle.laws_queries.proofs.MachineCounts.{queries_stand}
+use Rattle.laws_queries.proofs.MachineCounts.{keeps_limit, queries_stand}
 use Rattle.laws_queries.proofs.NodeLemmas.{roots_run, turns_run}
 use Rattle.laws_queries.proofs.WireLemmas.{Wired, wired}
 use Rattle.run_queue.specs.declared.slots.Slot.{Slot}
@@ -69,11 +69,11 @@ fed_stays o o2 side outs log f h = record { state = f.state; first = λ s i. by_
   by_sides Right Left f h i = first_same o o2 log Left i f.state f.other
   by_sides Right Right f h i = first_more o o2 log Right i outs f.state (more o o2 Right outs log f h)
 
--- A QUERY of a good engine is bounded
-pub query_bounded : (e : PlainEngine) → GoodEngine e → (n : ℕ) (q : Registered) → query_at e n ≡ Some q → IsBounded (widths_of e.machine.streams q) e.machine q
-query_bounded e g n q r =
+-- A QUERY of a good engine that was not dropped is bounded
+pub query_bounded : (e : PlainEngine) → GoodEngine e → (n : ℕ) (q : Registered) → query_at e n ≡ Some q → q.is_dropped ≡ false → IsBounded (widths_of e.machine.streams q) e.machine q
+query_bounded e g n q r live =
     let st = queries_stand e.machine g.machine in
-    st.bounded q (subst (IsQuery e.machine.streams) (get_or_from_slice_get e.machine.queries n q q r) (st.each n q (slice_get_within e.machine.queries n q r)))
+    st.bounded q (subst (IsQuery e.machine.streams) (get_or_from_slice_get e.machine.queries n q q r) (st.each n q (slice_get_within e.machine.queries n q r))) (keeps_limit e.machine g.machine n q r live)
 
 -- THE SLOTS after operators of one query have changed
 module _ (e : PlainEngine) (l : Lease) (q : Registered) (p p2 : PlainQuery) (g : GoodEngine e) (out : IsIn e.leases l) (of : IsOf e l q p) where
@@ -142,12 +142,13 @@ pub finish_good : (e : PlainEngine) (l : Lease) (q : Registered) (p p2 : PlainQu
 finish_good e l q p p2 g out t =
     let goes : Goes e.machine q p = subst (AreRemains e.machine q) t.of.running (g.queries l.query q t.of.registered) in
     let first = lease_first e l q p (g.leases l out) t.of in
-    let turns : TurnsRun (widths_of e.machine.streams q) goes.widths e.machine q = turns_run (widths_of e.machine.streams q) goes.widths e.machine q (query_bounded e g l.query q t.of.registered) in
+    let turns : TurnsRun (widths_of e.machine.streams q) goes.widths e.machine q = turns_run (widths_of e.machine.streams q) goes.widths e.machine q (query_bounded e g l.query q t.of.registered goes.lives) in
     let fed : MayFeed (operator_at p.operators (wire_from 0 q.nodes l.operator).to) (wire_from 0 q.nodes l.operator).side t.outs =
     turns.may_feed p.operators (goes.taken ++ p.answers) l.operator l.side l.item t.outs (operator_at p2.operators l.operator) goes.runs.runs t.below first t.puts t.turned.finished in
     let w : Wired q l.operator = wired (widths_of e.machine.streams q) e.machine q goes.runs.runs.stands l.operator t.below in
     let many : below_root q.nodes < length q.nodes = omega (arith, t.below) in
     let goes2 : Goes e.machine q p2 = record {
+      lives = goes.lives;
       widths = goes.widths;
       sources = goes.sources;
       taken = goes.taken;
@@ -176,8 +177,9 @@ answer_good e l q p p2 g out t =
     let root : ℕ = below_root q.nodes in
     let first : IsFirst (operator_at p.operators root) (log_at e.machine q root) l.side l.item = subst (λ k. IsFirst (operator_at p.operators k) (log_at e.machine q k) l.side l.item) t.root first0 in
     let gives : outs_at_first (operator_at p.operators root) l.side l.item ≡ Answered t.rows = ap (λ k. outs_at_first (operator_at p.operators k) l.side l.item) (sym t.root) ∙ t.gives in
-    let roots : RootsRun (widths_of e.machine.streams q) goes.widths e.machine q = roots_run (widths_of e.machine.streams q) goes.widths e.machine q (query_bounded e g l.query q t.of.registered) in
+    let roots : RootsRun (widths_of e.machine.streams q) goes.widths e.machine q = roots_run (widths_of e.machine.streams q) goes.widths e.machine q (query_bounded e g l.query q t.of.registered goes.lives) in
     let goes2 : Goes e.machine q p2 = record {
+      lives = goes.lives;
       widths = goes.widths;
       sources = goes.sources;
       taken = goes.taken;

@@ -3,7 +3,6 @@ use Rattle.std.proofs.Common.{◌≡◌, ℕ, zero, suc, Some, List, [], ◌∷�
 use Rattle.std.specs.Prelude.{slice_get, unwrap_or}
 use Rattle.laws_dataflow.specs.Queries.{behind}
 use Rattle.reference.specs.Machine.{Registered}
-use Rattle.operators.specs.declared.states.State.TheVariants as state
 use Rattle.laws_engine.specs.Engines.{Dropped, GoodEngine, Goes, PlainRemains, PlainEngine}
 use Rattle.laws_engine.specs.Openings.{forgotten, last_in, mark_in, marks_by, next_of}
 use Rattle.laws_engine.proofs.OpenedLemmas.{goes, opened_good}

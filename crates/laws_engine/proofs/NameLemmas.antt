@@ -1,5 +1,5 @@
 -- What an accepted text names: windows, a condition and a list that operators can be made for.
-use Rattle.std.proofs.Common.{◌≡◌, ℕ, zero, suc, ◌+◌, ◌*◌, ◌<◌, ◌≤◌, Bool, true, false, cond, ◌&&◌, ◌||◌, nat_lt, Option, Some, None, List, [], ◌∷◌, map, flat_map, length, sum, slice_get, option_and_then, refl, sym, ap, ◌∙◌, arith, length-append}
+use Rattle.std.proofs.Common.{◌≡◌, ℕ, zero, suc, ◌+◌, ◌*◌, ◌<◌, ◌≤◌, Bool, true, false, cond, ◌&&◌, ◌||◌, nat_lt, Option, Some, None, List, [], ◌∷◌, map, flat_map, length, sum, slice_get, option_and_then, refl, sym, ap, ◌∙◌, arith, length-append, All as Each'}
 use Rattle.std.specs.List.{AllByRecursion, list_any, range_with_len}
 use Rattle.std.specs.Option.{is_none, option_map, option_map_or, unwrap_or}
 use Rattle.std.proofs.lemmas.Bool.{ltb-false}
@@ -11,7 +11,7 @@ use Rattle.values.specs.Answers.{Resolved}
 use Rattle.values.specs.Condition as meant
 use Rattle.values.specs.Relation.{ListItem, Shape, Listed, Grouped}
 use Rattle.cql_reader.specs.Query as syntax
-use Rattle.cql_reader.specs.WellFormed.{HasItems, IsWellFormed}
+use Rattle.cql_reader.specs.WellFormed.{HasItems, IsGoodWindow, IsWellFormed}
 use Rattle.names.specs.Catalog.{Stream, columns_in, number_in}
 use Rattle.names.specs.Faults.{fault_tests, first_fault, first_of, has_outside, is_ungrouped, partition_of}
 use Rattle.names.specs.Matches.{Table, column_of, place_in, table_of, tables}
@@ -26,19 +26,20 @@ or_none true b h = absurd (cc)
 or_none false b h = (refl, h)
 
 -- WINDOWS
-window_text : (t : Table) (w : syntax.Window) → nat_lt MAX_COLUMNS (length (partition_of w)) ≡ false → IsTextWindow (window_of t w)
-window_text t syntax.Now h = tt
-window_text t (syntax.Range instants) h = tt
-window_text t syntax.Unbounded h = tt
-window_text t (syntax.Rows rows) h = omega arith
-window_text t (syntax.Partition by rows) h = omega (arith, ltb-false MAX_COLUMNS (length by) h, length-map by (place_in t))
+window_text : (t : Table) (w : syntax.Window) → IsGoodWindow w → nat_lt MAX_COLUMNS (length (partition_of w)) ≡ false → IsTextWindow (window_of t w)
+window_text t syntax.Now g h = tt
+window_text t (syntax.Range instants) g h = tt
+window_text t (syntax.RangeSlide instants step) g h = omega (arith, g.1.0)
+window_text t syntax.Unbounded g h = tt
+window_text t (syntax.Rows rows) g h = omega arith
+window_text t (syntax.Partition by rows) g h = omega (arith, ltb-false MAX_COLUMNS (length by) h, length-map by (place_in t))
 
-windows_text : (catalog : List Stream) (ss : List syntax.Source) → list_any (λ s. nat_lt MAX_COLUMNS (length (partition_of s.window))) ss ≡ false
-    → AllByRecursion IsTextWindow (windows_of catalog ss)
-windows_text catalog [] h = tt
-windows_text catalog (s ∷ ss) h =
+windows_text : (catalog : List Stream) (ss : List syntax.Source) → Each' (λ s. IsGoodWindow s.window) ss
+    → list_any (λ s. nat_lt MAX_COLUMNS (length (partition_of s.window))) ss ≡ false → AllByRecursion IsTextWindow (windows_of catalog ss)
+windows_text catalog [] g h = tt
+windows_text catalog (s ∷ ss) g h =
     let both = or_none (nat_lt MAX_COLUMNS (length (partition_of s.window))) (list_any (λ s. nat_lt MAX_COLUMNS (length (partition_of s.window))) ss) h in
-    (window_text (table_of catalog s) s.window both.0, windows_text catalog ss both.1)
+    (window_text (table_of catalog s) s.window (g zero s (omega arith)) both.0, windows_text catalog ss (λ k d lt. g (suc k) d (omega (arith, lt))) both.1)
 
 -- THE CONDITION
 condition_text : (ts : List Table) (o : Option syntax.Condition) → IsFew o → NeedsFewTruths (option_map (condition_of ts) o)
@@ -154,7 +155,7 @@ resolved_fits q catalog some narrow formed few_truths none =
     let width : sum (map (λ t. length t.columns) ts) ≤ 8 * length q.sources = few 8 catalog narrow q.sources in
     let shape : FitsRow (shape_of ts q) = shape_fits ts q formed.items a.items a.group outside (sources_some catalog q.sources some formed.some_source a.streams) (omega (arith, width, formed.few_sources)) in
     record {
-      windows = windows_text catalog q.sources a.windows;
+      windows = windows_text catalog q.sources formed.windows a.windows;
       condition = condition_text ts q.condition few_truths;
       shown = shape.shown;
       narrow = shape.narrow;

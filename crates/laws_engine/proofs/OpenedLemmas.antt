@@ -1,5 +1,5 @@
 -- An engine stays good where its machine is replaced by its opening.
-use Rattle.std.proofs.Common.{◌≡◌, ℕ, zero, suc, ◌<◌, ◌≤◌, ◌==◌, ◌&&◌, ◌||◌, Bool, true, false, cond, nat_le, nat_lt, Option, Some, None, unwrap_or, List, [], ◌∷◌, ◌++◌, filter, map, length, get_or, refl, sym, ap, ap₂, ◌∙◌, subst, arith, ltb-true}
+use Rattle.std.proofs.Common.{◌≡◌, ℕ, zero, suc, ◌-◌, ◌<◌, ◌≤◌, ◌==◌, ◌&&◌, ◌||◌, Bool, true, false, cond, nat_le, nat_lt, Option, Some, None, unwrap_or, List, [], ◌∷◌, ◌++◌, filter, map, length, get_or, refl, sym, ap, ap₂, ◌∙◌, subst, arith, ltb-true}
 use Rattle.std.proofs.lemmas.List.{length-map}
 use Rattle.std.specs.Prelude.{slice_get}
 use Rattle.std.specs.List.{AllByRecursion}
@@ -17,8 +17,10 @@ use Rattle.op_queue.specs.Items.{front_of}
 use Rattle.reference.specs.Machine.{Place, Registered, Stream, input_at}
 use Rattle.reference.specs.Opening.{all_restarted, needs, needs_by, restart, restarted, with_kept}
 use Rattle.laws_dataflow.specs.Laws as nets
-use Rattle.laws_dataflow.specs.Plans.{IsPlanOf}
-use Rattle.laws_queries.specs.Machines.{IsMachine, IsQuery, IsStream, columns_of, widths_of}
+use Rattle.cql_reader.specs.declared.TheConstants.{MAX_SOURCES}
+use Rattle.reference.specs.Commands.{rows_of_each}
+use Rattle.laws_dataflow.specs.Plans.{IsPlanOf, arrivals_at}
+use Rattle.laws_queries.specs.Machines.{IsMachine, IsQuery, IsStream, KeepsItsLimit, columns_of, widths_of}
 use Rattle.laws_queries.specs.Queries.{IsByArrival, IsRunning, PlainQuery, log_at, operator_at, place_of}
 use Rattle.laws_queries.specs.Rows.{HasRows}
 use Rattle.laws_queries.specs.Forgetting.{KeepsFor}
@@ -112,18 +114,28 @@ arrival_filtered p (e ∷ es) h = here (p e) (all_filtered (λ f. e.arrival < f.
     here true k l = (k, l)
     here false k l = l
 
-few_filtered : (p : Element → Bool) (es : List Element) → length (filter p es) ≤ length es
-few_filtered p [] = omega arith
-few_filtered p (e ∷ es) = here (p e) (few_filtered p es)
+-- of fewer elements no more pass
+few_twice : (p keep : Element → Bool) (es : List Element) → length (filter p (filter keep es)) ≤ length (filter p es)
+few_twice p keep [] = omega arith
+few_twice p keep (e ∷ es) = omega (arith, ap length (parted (keep e)), here (keep e) (p e) (few_twice p keep es))
   where
-    here : (b : Bool) → length (filter p es) ≤ length es → length (cond b (e ∷ filter p es) (filter p es)) ≤ suc (length es)
-    here true k = omega (arith, k)
-    here false k = omega (arith, k)
+    rest : List Element
+    rest = filter keep es
+
+    parted : (b : Bool) → filter p (cond b (e ∷ rest) rest) ≡ cond b (cond (p e) (e ∷ filter p rest) (filter p rest)) (filter p rest)
+    parted true = refl
+    parted false = refl
+
+    here : (b c : Bool) → length (filter p rest) ≤ length (filter p es) → length (cond b (cond c (e ∷ filter p rest) (filter p rest)) (filter p rest)) ≤ length (cond c (e ∷ filter p es) (filter p es))
+    here true true k = omega (arith, k)
+    here true false k = k
+    here false true k = omega (arith, k)
+    here false false k = k
 
 module _ (keep : ℕ → Element → Bool) where
   streams_kept : (n : ℕ) (ss : List Stream) → AllByRecursion IsStream ss → AllByRecursion IsStream (with_kept keep n ss)
   streams_kept n [] h = tt
-  streams_kept n (s ∷ ss) h = (record { wide = all_filtered _ (keep n) s.elements h.0.wide; counted = omega (arith, h.0.counted, few_filtered (keep n) s.elements); few = h.0.few }, streams_kept (suc n) ss h.1)
+  streams_kept n (s ∷ ss) h = (record { wide = all_filtered _ (keep n) s.elements h.0.wide; counted = record { since = λ place. omega (arith, h.0.counted.since place, few_twice (λ (e : Element). nat_le place e.arrival) (keep n) s.elements) }; few = h.0.few }, streams_kept (suc n) ss h.1)
 
   rows_kept : (n : ℕ) (ss : List Stream) → AllByRecursion HasRows ss → AllByRecursion HasRows (with_kept keep n ss)
   rows_kept n [] h = tt
@@ -151,14 +163,14 @@ module _ (keep : ℕ → Element → Bool) where
   query_kept : (ss : List Stream) (q : Registered) (next : ℕ) (waiting : List (ℕ × Row)) → IsQuery ss q → IsQuery (with_kept keep 0 ss) (restarted q next waiting)
   query_kept ss q next waiting is = record {
     plan = subst (λ vs. IsPlanOf vs q.meaning q.nodes) (sym (widths_kept ss q.places)) is.plan;
-    few = subst (λ vs. length vs ≤ 2) (sym (widths_kept ss q.places)) is.few;
+    few = subst (λ vs. length vs ≤ MAX_SOURCES) (sym (widths_kept ss q.places)) is.few;
     known = known_kept ss q.places is.known;
   }
 
   query_over : (ss : List Stream) (q : Registered) → IsQuery ss q → IsQuery (with_kept keep 0 ss) q
   query_over ss q is = record {
     plan = subst (λ vs. IsPlanOf vs q.meaning q.nodes) (sym (widths_kept ss q.places)) is.plan;
-    few = subst (λ vs. length vs ≤ 2) (sym (widths_kept ss q.places)) is.few;
+    few = subst (λ vs. length vs ≤ MAX_SOURCES) (sym (widths_kept ss q.places)) is.few;
     known = known_kept ss q.places is.known;
   }
 
@@ -168,6 +180,25 @@ module _ (keep : ℕ → Element → Bool) where
   queries_kept ss (q ∷ qs) [] ws h k is = absurd (omega (arith, h))
   queries_kept ss (q ∷ qs) (m ∷ marks) [] h k is = absurd (omega (arith, k))
   queries_kept ss (q ∷ qs) (m ∷ marks) (w ∷ ws) h k is = (query_kept ss q (unwrap_or m q.start) w is.0, queries_kept ss qs marks ws (omega (arith, h)) (omega (arith, k)) is.1)
+
+  -- THE ROW LIMIT is kept
+  arrivals_option : (i : ℕ) (o : Option Stream) → option_map_or (λ (s : Stream). s.arrivals) (option_map (kept_stream (keep i)) o) 0 ≡ option_map_or (λ (s : Stream). s.arrivals) o 0
+  arrivals_option i None = refl
+  arrivals_option i (Some s) = refl
+
+  arrivals_kept : (ss : List Stream) (p : Place) → arrivals_at (with_kept keep 0 ss) p ≡ arrivals_at ss p
+  arrivals_kept ss p = ap (λ o. option_map_or (λ (s : Stream). s.arrivals) o 0) (stream_kept keep p.stream ss) ∙ arrivals_option p.stream (slice_get ss p.stream)
+
+  since_kept : (ss : List Stream) (most : ℕ) (ps : List Place) → AllByRecursion (λ p. arrivals_at ss p - p.arrivals ≤ most) ps → AllByRecursion (λ p. arrivals_at (with_kept keep 0 ss) p - p.arrivals ≤ most) ps
+  since_kept ss most [] h = tt
+  since_kept ss most (p ∷ ps) h = (omega (arith, h.0, arrivals_kept ss p), since_kept ss most ps h.1)
+
+  limits_kept : (ss : List Stream) (qs : List Registered) (marks : List (Option ℕ)) (ws : List (List (ℕ × Row))) → length marks ≡ length qs → length ws ≡ length qs
+      → AllByRecursion (KeepsItsLimit ss) qs → AllByRecursion (KeepsItsLimit (with_kept keep 0 ss)) (all_restarted qs marks ws)
+  limits_kept ss [] marks ws h k is = tt
+  limits_kept ss (q ∷ qs) [] ws h k is = absurd (omega (arith, h))
+  limits_kept ss (q ∷ qs) (m ∷ marks) [] h k is = absurd (omega (arith, k))
+  limits_kept ss (q ∷ qs) (m ∷ marks) (w ∷ ws) h k is = ((λ live. since_kept ss (rows_of_each (length q.places)) q.places (is.0 live)), limits_kept ss qs marks ws (omega (arith, h)) (omega (arith, k)) is.1)
 
 -- THE ENGINE
 module _ (e : PlainEngine) (g : GoodEngine e) (marks : List (Option ℕ)) (long : length marks ≡ length e.machine.queries) where
@@ -201,7 +232,7 @@ module _ (e : PlainEngine) (g : GoodEngine e) (marks : List (Option ℕ)) (long 
     }
 
     machine2 : IsMachine (opened e marks).machine
-    machine2 = record { streams = streams_kept keep 0 e.machine.streams g.machine.streams; queries = queries_kept keep e.machine.streams e.machine.queries marks waits long long_waits g.machine.queries }
+    machine2 = record { streams = streams_kept keep 0 e.machine.streams g.machine.streams; queries = queries_kept keep e.machine.streams e.machine.queries marks waits long long_waits g.machine.queries; limits = limits_kept keep e.machine.streams e.machine.queries marks waits long long_waits g.machine.limits }
 
     -- a query with the mark of its number
     at_mark : (n : ℕ) (q : Registered) (next : ℕ) → slice_get marks n ≡ Some (Some next) → unwrap_or (get_or marks n None) q.start ≡ next
@@ -222,6 +253,7 @@ module _ (e : PlainEngine) (g : GoodEngine e) (marks : List (Option ℕ)) (long 
         let runs : IsRunning (widths_of e.machine.streams q) h.widths (opened e marks).machine (restarted q a.next p.answers) p.operators p.answers =
         forgetting_runs (widths_of e.machine.streams q) h.widths e.machine q (opened e marks).machine.queries a.next keep (keeps n q a.next r a.is) p.answers p.operators (h.taken ++ p.answers) stands2 h.runs.runs a.opens in
         subst (λ z. Goes (opened e marks).machine (restarted q z p.answers) p) (sym (at_mark n q a.next a.is)) (record {
+          lives = h.lives;
           widths = h.widths;
           sources = λ j s jc i. h.sources j s jc i ∙ sym (columns_kept keep e.machine.streams (place_of q s).stream);
           taken = [];

@@ -14,6 +14,7 @@ use Rattle.windows.specs.Laws.{Each}
 use Rattle.reference.specs.Commands.{Append, Heartbeat, after, appended, change, closed_to, first_fault}
 use Rattle.reference.specs.Machine.{Machine, Place, Registered, Stream, answers_from, closed_answers, input_at, until_for}
 use Rattle.stream_store.specs.Closing.{QueuesGain}
+use Rattle.reference.proofs.StreamLemmas.{alone}
 use Rattle.laws_dataflow.specs.Plans.{inputs_of}
 use Rattle.laws_dataflow.proofs.MachineLemmas.{append_inputs, append_opens, arriving, heartbeat_inputs}
 use Rattle.laws_queries.specs.Machines.{IsMachine, columns_of, widths_of}
@@ -25,7 +26,7 @@ use Rattle.laws_queries.proofs.MachineCounts.{machines_stand, queries_stand}
 use Rattle.laws_queries.proofs.NodeLemmas.{runs_on_at_appends, runs_on_at_heartbeats}
 use Rattle.laws_queries.proofs.PlanCounts.{has_short_inputs}
 use Rattle.laws_queries.proofs.RowLemmas.{rows_stand}
-use Rattle.laws_queries.specs.Machines.{IsQuery}
+use Rattle.laws_queries.specs.Machines.{IsQuery, KeepsItsLimit}
 use Rattle.laws_dataflow.specs.Laws as nets
 use Rattle.laws_engine.specs.Engines.{AreRemains, Broken, Dropped, Goes, HasGiven, PlainRemains, Running}
 
@@ -45,6 +46,7 @@ widths_by ss ts h (p ∷ ps) = ap₂ (λ v vs. v ∷ vs) (h p.stream) (widths_by
 pub goes_over : (m m2 : Machine) (q : Registered) (p : PlainQuery) (g : Goes m q p) → ((i : ℕ) → columns_of m2.streams i ≡ columns_of m.streams i)
     → IsRunning (widths_of m.streams q) g.widths m2 q p.operators (g.taken ++ p.answers) → Goes m2 q p
 goes_over m m2 q p g columns runs = record {
+  lives = g.lives;
   widths = g.widths;
   sources = λ k s kc e. g.sources k s kc e ∙ sym (columns (place_of q s).stream);
   taken = g.taken;
@@ -107,7 +109,7 @@ module _ (m : Machine) (n : ℕ) (rows : List (ℤ × List (Option ℤ))) (accep
   longer q u (p ∷ ps) h = (
     (
       arriving m.streams n rows q.first p,
-      (append_inputs m q n rows p, all_from u (max q.first (open_at m.streams p)) (arriving m.streams n rows q.first p) (omega (arith, h.0)) (from_place m.streams n rows q.first (come_option rows (slice_get m.streams n) accepted) p)),
+      (append_inputs m q n rows p, all_from u (max q.first (open_at m.streams p)) (arriving m.streams n rows q.first p) (omega (arith, h.0)) (from_place m.streams n rows q.first (come_option rows (slice_get m.streams n) (alone m.queries n rows (slice_get m.streams n) accepted)) p)),
     ),
     longer q u ps h.1,
   )
@@ -123,17 +125,18 @@ module _ (m : Machine) (n : ℕ) (rows : List (ℤ × List (Option ℤ))) (accep
   given_over q waiting g = record { taken = g.taken; counted = g.counted; rest = g.rest; begins = append_closed q ∙ g.begins }
 
   -- a query goes on
-  pub append_remains : (q : Registered) (remains : PlainRemains) → IsMachine m → IsQuery m.streams q → AreRemains m q remains → AreRemains (after m (Append n rows) 0) q remains
-  append_remains q (Running p) machine is g =
+  pub append_remains : (q : Registered) (remains : PlainRemains) → IsMachine m → IsQuery m.streams q → KeepsItsLimit (after m (Append n rows) 0).streams q → AreRemains m q remains
+      → AreRemains (after m (Append n rows) 0) q remains
+  append_remains q (Running p) machine is limit g =
       let m2 : Machine = after m (Append n rows) 0 in
       let machine2 : IsMachine m2 = machines_stand.goes_on m (Append n rows) 0 accepted machine in
       let is2 : IsQuery m2.streams q = ((queries_stand m machine).keeps (Append n rows) 0 q is).query in
       let columns : (i : ℕ) → columns_of m2.streams i ≡ columns_of m.streams i = λ i. columns_changed (appended rows) (λ s. refl) n i m.streams in
       let stands : nets.Stands (widths_of m.streams q) m2 q = subst (λ vs. nets.Stands vs m2 q) (widths_by m.streams m2.streams columns q.places) ((queries_stand m2 machine2).stands q is2) in
       goes_over m m2 q p g columns
-      (runs_on_at_appends (widths_of m.streams q) g.widths m q n rows accepted (has_short_inputs (widths_of m2.streams q) m2 q ((queries_stand m2 machine2).bounded q is2)) stands p.operators (g.taken ++ p.answers) g.runs.runs)
-  append_remains q (Broken answers) machine is g = given_over q answers g
-  append_remains q Dropped machine is g = given_over q [] g
+      (runs_on_at_appends (widths_of m.streams q) g.widths m q n rows accepted (has_short_inputs (widths_of m2.streams q) m2 q ((queries_stand m2 machine2).bounded q is2 (limit g.lives))) stands p.operators (g.taken ++ p.answers) g.runs.runs)
+  append_remains q (Broken answers) machine is limit g = given_over q answers g
+  append_remains q Dropped machine is limit g = given_over q [] g
 
 -- A HEARTBEAT
 closes_more : (at : ℤ) (o : Option Stream) → IsLaterIn o at → option_map_or (λ s. s.first_open) o 0 ≤ option_map_or (λ s. s.first_open) (option_map (closed_to at) o) 0

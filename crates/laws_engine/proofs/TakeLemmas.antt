@@ -72,6 +72,7 @@ sources_again q t (node ∷ nodes) = ap₂ (λ y ys. y ∷ ys) (sym (source_agai
 goes_again : (m : Machine) (qs : List Registered) (q : Registered) (t : ℕ) (p : PlainQuery) (g : Goes m q p) (before behind : List (ℕ × Row)) → length before ≡ t → before ++ behind ≡ g.taken ++ p.answers
     → Goes (with_queries m qs) (with_taken q t) (record p { answers = behind })
 goes_again m qs q t p g before behind counted whole = record {
+  lives = g.lives;
   widths = g.widths;
   sources = g.sources;
   taken = before;

@@ -1,5 +1,5 @@
 -- An engine of many queries, as a plain value.
-use Rattle.std.specs.Prelude.{ℕ, Bool, ◌≡◌, ◌<◌, ◌==◌, ◌&&◌, ◌⊎◌, nat_lt, cond, Option, Some, None, List, [], ◌∷◌, ◌++◌, length, map, get_or, slice_get}
+use Rattle.std.specs.Prelude.{ℕ, Bool, false, ◌≡◌, ◌<◌, ◌==◌, ◌&&◌, ◌⊎◌, nat_lt, cond, Option, Some, None, List, [], ◌∷◌, ◌++◌, length, map, get_or, slice_get}
 use Rattle.std.specs.List.{list_any}
 use Rattle.std.specs.List.Sorted.{IsStrictlySortedBy}
 use Rattle.values.specs.Row.{Row}
@@ -108,8 +108,9 @@ pub record HasGiven (m : Machine) (q : Registered) (waiting : List (ℕ × Row))
   pub rest : List (ℕ × Row)
   pub begins : closed_answers m q ≡ (taken ++ waiting) ++ rest
 
--- it runs, and has given those that were taken and those that wait
+-- it runs, was not dropped, and has given those that were taken and those that wait
 pub record Goes (m : Machine) (q : Registered) (p : PlainQuery) : Type 0 where
+  pub lives : q.is_dropped ≡ false
   pub widths : List ℕ
   pub sources : AreSourceWidths widths m q
   pub taken : List (ℕ × Row)

@@ -17,6 +17,7 @@ opened e marks = record e { machine = opening e.machine marks (map answers_in e.
 -- the instant of the last tick that a root has taken
 abbrev pub last_in : State → Option ℕ
 last_in (state.Range s) = None
+last_in (state.Slide s) = None
 last_in (state.Latest s) = None
 last_in state.Nothing = None
 last_in (state.Join s) = None

@@ -1,5 +1,5 @@
 -- A running query after an append: what is closed stays, so nothing of it changes.
-use Rattle.std.proofs.Common.{◌≡◌, ℕ, ℤ, pos, negsuc, zero, suc, nat_abs, ◌+◌, ◌-◌, ◌<◌, ◌≤◌, ◌==◌, ◌&&◌, ◌||◌, nat_le, nat_lt, int_lt, int_le, ◌+ℤ◌, not, Bool, true, false, cond, max, ⊎_elim, Option, Some, None, List, [], ◌∷◌, ◌++◌, filter, map, length, get_or, refl, sym, ap, ap₂, ◌∙◌, subst, subst₂, arith, append-nil, length-append, eqb-true}
+use Rattle.std.proofs.Common.{◌≡◌, ℕ, ℤ, pos, negsuc, zero, suc, nat_abs, ◌+◌, ◌-◌, ◌<◌, ◌≤◌, ◌==◌, ◌&&◌, ◌||◌, nat_le, nat_lt, int_lt, int_le, ◌+ℤ◌, not, Bool, true, false, cond, max, ⊎_elim, Option, Some, None, List, [], ◌∷◌, ◌++◌, filter, map, length, get_or, refl, sym, ap, ap₂, ◌∙◌, subst, subst₂, arith, append-nil, length-append, le_trans, eqb-true}
 use Rattle.std.specs.List.{AllByRecursion, list_all, list_any}
 use Rattle.std.specs.Prelude.{slice_get}
 use Rattle.std.specs.Option.{option_map, option_map_or}
@@ -17,22 +17,24 @@ use Rattle.reference.specs.Machine.{Machine, Place, Registered, Stream, input_at
 use Rattle.reference.specs.declared.fault.Fault.{Fault}
 use Rattle.reference.specs.declared.fault.Fault.TheVariants.{BadWidth, TooMany, ValueRange, InstantRange, Late, Backward, Leap, StreamFull}
 use Rattle.reference.specs.declared.limits.TheConstants.{MAX_APPENDED, MAX_LEAP, MAX_STREAM_ROWS}
-use Rattle.reference.proofs.StreamLemmas.{none_first, none_later}
+use Rattle.reference.proofs.StreamLemmas.{alone, none_first, none_later}
 use Rattle.stream_store.specs.Closing.{by_key, closed_of}
 use Rattle.laws_dataflow.specs.Laws as nets
 use Rattle.laws_dataflow.specs.Laws.{IsGood}
 use Rattle.laws_dataflow.specs.Windows.{AreFrom, opened}
 use Rattle.laws_dataflow.specs.Nets.{World, Cell, at_window, at_unary, at_join}
-use Rattle.laws_dataflow.specs.Plans.{below_root, world_of}
+use Rattle.laws_dataflow.specs.Plans.{arrivals_at, below_root, world_of}
 use Rattle.laws_dataflow.proofs.MachineLemmas.{append_inputs, append_opens, arriving, machine_appends}
 use Rattle.operators.specs.Operators.{PlainOperator}
 use Rattle.laws_queries.specs.Runs.{Runs, RunsRoot, RunsWindow}
-use Rattle.laws_queries.specs.Counts.{AreFew, StaysWithin, most_rows, stream_rows}
+use Rattle.laws_queries.specs.Counts.{AreFew, StaysWithin, most_rows, source_rows}
 use Rattle.laws_queries.specs.Widths.{width_at}
 use Rattle.laws_queries.specs.Rooms.{HasShortInputs}
 use Rattle.laws_queries.specs.Queries.{HasInboxes, IsRunning, RunsAt, log_at, no_log, node_at, operator_at, source_of, stream_log}
 use Rattle.laws_queries.proofs.BeatLemmas.{IsLaterIn, change_here, change_there, same_number}
 use Rattle.laws_queries.proofs.QueryLemmas.{same_count}
+use Rattle.laws_queries.proofs.MachineCounts.{since_now}
+use Rattle.laws_queries.proofs.PlanCounts.{both_kept}
 
 -- AN ACCEPTED CALL
 not_late : (u : ℕ) (z : ℤ) → int_lt z (pos u) ≡ false → u ≤ nat_abs z
@@ -118,7 +120,7 @@ log_same streams n rows h i = ⊎_elim
 
 -- what the streams have closed is as before an append
 pub append_logs : (m : Machine) (n : ℕ) (rows : List (ℤ × List (Option ℤ))) → first_fault m (Append n rows) ≡ None → (i : ℕ) → stream_log (after m (Append n rows) 0).streams i ≡ stream_log m.streams i
-append_logs m n rows accepted i = log_same m.streams n rows (come_option rows (slice_get m.streams n) accepted) i
+append_logs m n rows accepted i = log_same m.streams n rows (come_option rows (slice_get m.streams n) (alone m.queries n rows (slice_get m.streams n) accepted)) i
 
 -- WHAT COMES to each source
 map_more : (f g h : Place → List Element) → ((p : Place) → f p ≡ g p ++ h p) → (ps : List Place) (k : ℕ) → get_or (map f ps) k [] ≡ get_or (map g ps) k [] ++ get_or (map h ps) k []
@@ -161,31 +163,32 @@ filter_few p (e ∷ es) = here (p e) (filter_few p es)
     here true h = omega (arith, h)
     here false h = omega (arith, h)
 
--- as many rows came as count, or more
-length-elements : (n : ℕ) (rows : List (ℤ × List (Option ℤ))) → length (elements_from n rows) ≡ length rows
-length-elements n [] = refl
-length-elements n (r ∷ rows) = ap suc (length-elements (suc n) rows)
-
-come_few : (place first : ℕ) (es : List Element) → length (input_of place first es) ≤ length es
-come_few place first es = filter_few (λ e. nat_le place e.arrival && nat_le first e.instant) es
+-- as many rows came since as count, or more
+come_few : (place first n : ℕ) (rows : List (ℤ × List (Option ℤ))) → length (input_of place first (elements_from n rows)) ≤ (n + length rows) - max place n
+come_few place first n rows = le_trans (both_kept place first (elements_from n rows)) (since_now place n rows)
 
 came_here : (place first : ℕ) (rows : List (ℤ × List (Option ℤ))) (o : Option Stream)
-    → option_map_or (λ (s : Stream). s.arrivals) o 0 + length (option_map_or (λ (s : Stream). input_of place first (elements_from s.arrivals rows)) o []) ≤ option_map_or (λ (s : Stream). s.arrivals) (option_map (appended rows) o) 0
+    → (option_map_or (λ (s : Stream). s.arrivals) o 0 - place) + length (option_map_or (λ (s : Stream). input_of place first (elements_from s.arrivals rows)) o []) ≤ option_map_or (λ (s : Stream). s.arrivals) (option_map (appended rows) o) 0 - place
 came_here place first rows None = omega arith
-came_here place first rows (Some s) = omega (arith, come_few place first (elements_from s.arrivals rows), length-elements s.arrivals rows)
+came_here place first rows (Some s) = omega (arith, come_few place first s.arrivals rows)
 
 came_place : (ss : List Stream) (n : ℕ) (rows : List (ℤ × List (Option ℤ))) (first : ℕ) (p : Place)
-    → option_map_or (λ (s : Stream). s.arrivals) (slice_get ss p.stream) 0 + length (arriving ss n rows first p) ≤ option_map_or (λ (s : Stream). s.arrivals) (slice_get (change n (appended rows) ss) p.stream) 0
+    → (arrivals_at ss p - p.arrivals) + length (arriving ss n rows first p) ≤ arrivals_at (change n (appended rows) ss) p - p.arrivals
 came_place ss n rows first p = here (p.stream == n) refl
   where
-    here : (b : Bool) → (p.stream == n) ≡ b → option_map_or (λ (s : Stream). s.arrivals) (slice_get ss p.stream) 0 + length (cond b (option_map_or (λ (s : Stream). input_of p.arrivals first (elements_from s.arrivals rows)) (slice_get ss n) []) [])
-        ≤ option_map_or (λ (s : Stream). s.arrivals) (slice_get (change n (appended rows) ss) p.stream) 0
+    came_in : Option Stream → ℕ
+    came_in o = option_map_or (λ (s : Stream). s.arrivals) o 0 - p.arrivals
+
+    coming : List Element
+    coming = option_map_or (λ (s : Stream). input_of p.arrivals first (elements_from s.arrivals rows)) (slice_get ss n) []
+
+    here : (b : Bool) → (p.stream == n) ≡ b → came_in (slice_get ss p.stream) + length (cond b coming []) ≤ came_in (slice_get (change n (appended rows) ss) p.stream)
     here true e = let i : p.stream ≡ n = eqb-true p.stream n e in
-        subst (λ j. option_map_or (λ (s : Stream). s.arrivals) (slice_get ss j) 0 + length (option_map_or (λ (s : Stream). input_of p.arrivals first (elements_from s.arrivals rows)) (slice_get ss n) []) ≤ option_map_or (λ (s : Stream). s.arrivals) (slice_get (change n (appended rows) ss) j) 0) (sym i)
-        (subst (λ o. option_map_or (λ (s : Stream). s.arrivals) (slice_get ss n) 0 + length (option_map_or (λ (s : Stream). input_of p.arrivals first (elements_from s.arrivals rows)) (slice_get ss n) []) ≤ option_map_or (λ (s : Stream). s.arrivals) o 0) (sym (change_here (appended rows) n ss))
+        subst (λ j. came_in (slice_get ss j) + length coming ≤ came_in (slice_get (change n (appended rows) ss) j)) (sym i)
+        (subst (λ o. came_in (slice_get ss n) + length coming ≤ came_in o) (sym (change_here (appended rows) n ss))
         (came_here p.arrivals first rows (slice_get ss n)))
     here false e = let ne = eqb-false p.stream n e in
-        subst (λ o. option_map_or (λ (s : Stream). s.arrivals) (slice_get ss p.stream) 0 + 0 ≤ option_map_or (λ (s : Stream). s.arrivals) o 0) (sym (change_there (appended rows) n p.stream ss ne)) (omega arith)
+        subst (λ o. came_in (slice_get ss p.stream) + 0 ≤ came_in o) (sym (change_there (appended rows) n p.stream ss ne)) (omega arith)
 
 came_places : (f g : Place → ℕ) (a : Place → List Element) → ((p : Place) → f p + length (a p) ≤ g p) → (ps : List Place) (k : ℕ) → get_or (map f ps) k 0 + length (get_or (map a ps) k []) ≤ get_or (map g ps) k 0
 came_places f g a h [] k = omega arith
@@ -205,7 +208,7 @@ module _ (w w2 : World) where
   runs_world width (Distinct j) o log c first windows r = r
   runs_world width (ToStream j op) o log c first windows r = r
 
-  few_world : (ns : List plan.Node) (node : plan.Node) (c : Cell) (es : ℕ → List Element) → ((s : ℕ) → w2.closed s ≡ w.closed s) → ((s : ℕ) → w2.inputs s ≡ w.inputs s ++ es s) → ((s : ℕ) → w.came s + length (es s) ≤ w2.came s) → ((s : ℕ) → w2.came s ≤ stream_rows) → AreFew w ns node c → AreFew w2 ns node c
+  few_world : (ns : List plan.Node) (node : plan.Node) (c : Cell) (es : ℕ → List Element) → ((s : ℕ) → w2.closed s ≡ w.closed s) → ((s : ℕ) → w2.inputs s ≡ w.inputs s ++ es s) → ((s : ℕ) → w.came s + length (es s) ≤ w2.came s) → ((s : ℕ) → w2.came s ≤ source_rows ns) → AreFew w ns node c → AreFew w2 ns node c
   few_world ns (Window s) (at_window h e b q n) es closed inputs came short r =
       let more : length (opened (w2.closed s) (w2.inputs s)) ≤ length (opened (w.closed s) (w.inputs s)) + length (es s) =
       let x : opened (w2.closed s) (w2.inputs s) ≡ opened (w.closed s) (w.inputs s) ++ opened (w.closed s) (es s) = ap₂ opened (closed s) (inputs s) ∙ filter-append (λ e. nat_le (w.closed s) e.instant) (w.inputs s) (es s) in
@@ -236,7 +239,7 @@ module _ (vs ws : List ℕ) (m : Machine) (q : Registered) (n : ℕ) (rows : Lis
   m2 = after m (Append n rows) 0
 
   come : ComeLate (slice_get m.streams n) rows
-  come = come_option rows (slice_get m.streams n) accepted
+  come = come_option rows (slice_get m.streams n) (alone m.queries n rows (slice_get m.streams n) accepted)
 
   coming_to : ℕ → List Element
   coming_to k = get_or (map (arriving m.streams n rows q.first) q.places) k []
@@ -259,7 +262,7 @@ module _ (vs ws : List ℕ) (m : Machine) (q : Registered) (n : ℕ) (rows : Lis
 
   came2 : (k : ℕ) → (world_of m q).came k + length (coming_to k) ≤ (world_of m2 q).came k
   unfolding m2 coming_to
-  came2 k = came_places (λ (p : Place). option_map_or (λ s. s.arrivals) (slice_get m.streams p.stream) 0) (λ (p : Place). option_map_or (λ s. s.arrivals) (slice_get (change n (appended rows) m.streams) p.stream) 0)
+  came2 k = came_places (λ (p : Place). arrivals_at m.streams p - p.arrivals) (λ (p : Place). arrivals_at (change n (appended rows) m.streams) p - p.arrivals)
       (arriving m.streams n rows q.first) (came_place m.streams n rows q.first) q.places k
 
   inner_same : (k : ℕ) (o : PlainOperator) (c : Cell) → RunsAt ws m q k o c → RunsAt ws m2 q k o c

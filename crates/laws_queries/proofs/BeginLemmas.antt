@@ -35,7 +35,7 @@ use Rattle.laws_dataflow.specs.Operators.{Tell}
 use Rattle.laws_queries.specs.Counts.{count}
 use Rattle.laws_queries.specs.Queries.{Reads}
 use Rattle.laws_queries.specs.Registrations.{IsTextWindow}
-use Rattle.laws_queries.specs.Runs.{WindowStands}
+use Rattle.laws_queries.specs.Runs.{WindowStands, shown_by}
 use Rattle.laws_queries.specs.Widths.{IsStateWide}
 use Rattle.laws_queries.proofs.PlanWidths.{NodeFits}
 
@@ -112,19 +112,27 @@ by_same (k ∷ by) = ap (λ (cs : List Column). at k ∷ cs) (by_same by)
 pub record WindowBegins (first w : ℕ) (x : Window) (k : Kind) (s : State) : Type 0 where
   pub belongs : Belongs k s
   pub stands : WindowStands first (window_of x) first s []
+  pub shows : [] ≡ shown_by s []
   pub wide : IsStateWide w s
 
 pub window_begins : (first w : ℕ) (x : Window) (k : Kind) (s : State) → IsTextWindow (window_of x) → k ≡ window_kind x → WindowStarts x w s → WindowBegins first w x k s
 window_begins first w (window.Range n) k s t e h =
-    subst₂ (λ k s. WindowBegins first w (window.Range n) k s) (sym e) (sym h) (record { belongs = (_, refl); stands = (refl, record { same = refl; up_to = tt }); wide = refl })
-window_begins first w (window.RangeSlide n l) k s t e h = elim t [ ]
+    subst₂ (λ k s. WindowBegins first w (window.Range n) k s) (sym e) (sym h) (record { belongs = (_, refl); stands = (refl, record { same = refl; up_to = tt }); shows = refl; wide = refl })
+window_begins first w (window.RangeSlide n l) k s t e h =
+    subst₂ (λ k s. WindowBegins first w (window.RangeSlide n l) k s) (sym e) (sym h) (record {
+      belongs = (_, refl);
+      stands = (refl, record { same = refl; up_to = tt; began = omega arith; few = omega arith; shown = λ u is. refl });
+      shows = refl;
+      wide = refl;
+    })
 window_begins first w window.Unbounded k s t e h =
-    subst₂ (λ k s. WindowBegins first w window.Unbounded k s) (sym e) (sym h) (record { belongs = (_, refl); stands = (refl, record { same = refl; up_to = tt }); wide = refl })
+    subst₂ (λ k s. WindowBegins first w window.Unbounded k s) (sym e) (sym h) (record { belongs = (_, refl); stands = (refl, record { same = refl; up_to = tt }); shows = refl; wide = refl })
 window_begins first w (window.LastRows columns n) k s t e h =
     let held : LatestState = h.0 in
     subst₂ (λ k s. WindowBegins first w (window.LastRows columns n) k s) (sym e) (sym h.1) (record {
       belongs = (held, refl);
       stands = (ap₂ (λ cs m. shown.LastRows cs m) (sym h.2.columns) (sym h.2.count), record { parts = λ k. h.2.held k; rising = tt; up_to = tt; shown = refl });
+      shows = refl;
       wide = h.2.width;
     })
 

@@ -35,7 +35,7 @@ use Rattle.laws_dataflow.proofs.ForgetLemmas.{opens_ahead}
 use Rattle.laws_dataflow.proofs.OpeningLemmas.{machine_forgets, open_kept}
 use Rattle.laws_queries.specs.Forgetting.{KeepsFor}
 use Rattle.laws_queries.specs.Runs.{Runs}
-use Rattle.laws_queries.specs.Counts.{AreFew, AreWindowRowsFew, StaysWithin, most_rows}
+use Rattle.laws_queries.specs.Counts.{AreFew, AreWindowRowsFew, StaysWithin, most_rows, source_rows}
 use Rattle.laws_queries.specs.Widths.{width_at}
 use Rattle.laws_queries.specs.Queries.{HasInboxes, IsLeftInbox, IsRunning, Reads, log_at, no_log, node_at, operator_at, place_of, source_of, stream_log}
 use Rattle.laws_queries.proofs.ClosingLemmas.{by_instants, shown_now, shown_out}
@@ -110,7 +110,7 @@ came_option keep (Some s) = refl
 
 pub comes_kept : (keep : ℕ → Element → Bool) (ss : List Stream) (ps : List Place) → comes (with_kept keep 0 ss) ps ≡ comes ss ps
 comes_kept keep ss [] = refl
-comes_kept keep ss (p ∷ ps) = ap₂ (λ x xs. x ∷ xs) (ap (λ o. option_map_or (λ (s : Stream). s.arrivals) o 0) (stream_kept keep p.stream ss) ∙ came_option (keep p.stream) (slice_get ss p.stream)) (comes_kept keep ss ps)
+comes_kept keep ss (p ∷ ps) = ap₂ (λ x xs. (x - p.arrivals) ∷ xs) (ap (λ o. option_map_or (λ (s : Stream). s.arrivals) o 0) (stream_kept keep p.stream ss) ∙ came_option (keep p.stream) (slice_get ss p.stream)) (comes_kept keep ss ps)
 
 -- CURSORS over logs of which rows went that they have passed
 module _ (keep : Element → Bool) (place next : ℕ) (keeps : (e : Element) → nat_le place e.arrival ≡ true → next ≤ e.instant → keep e ≡ true) (s : Stream) where
@@ -244,7 +244,7 @@ module _ (vs ws : List ℕ) (m : Machine) (q : Registered) (qs : List Registered
   few_by (Window s) (at_window h e b z n) same r =
       let closed2 : (world_of (record { streams = with_kept keep 0 m.streams; queries = qs }) q).closed s ≡ (world_of m q).closed s = ap (λ os. max q.first (get_or os s 0)) opens_same in
       let came2 : (world_of (record { streams = with_kept keep 0 m.streams; queries = qs }) q).came s ≡ (world_of m q).came s = ap (λ cs. get_or cs s 0) comes_same in
-      subst₂ (λ c t. AreWindowRowsFew c t (get_or (inputs_of (record { streams = with_kept keep 0 m.streams; queries = qs }) q) s []) h e) (sym closed2) (sym came2) (record { few = omega (arith, r.few, ap length (same s)); stream = r.stream })
+      subst₂ (λ c t. AreWindowRowsFew (source_rows q.nodes) c t (get_or (inputs_of (record { streams = with_kept keep 0 m.streams; queries = qs }) q) s []) h e) (sym closed2) (sym came2) (record { few = omega (arith, r.few, ap length (same s)); stream = r.stream })
   few_by (Window s) (at_unary z t b n) same r = r
   few_by (Window s) (at_join z u l y b n a d) same r = r
   few_by (Select j cs) c same r = r

@@ -34,7 +34,7 @@ use Rattle.laws_dataflow.proofs.AnswerLemmas.{shaped}
 use Rattle.laws_dataflow.proofs.PlanLemmas.{Shaped}
 use Rattle.laws_queries.specs.Runs.{Runs, RunsWindow}
 use Rattle.laws_queries.specs.Widths.{AreEntries, IsRow, IsWide, width_at}
-use Rattle.laws_queries.specs.Counts.{AreFew, AreWindowRowsFew, StaysWithin, most_rows}
+use Rattle.laws_queries.specs.Counts.{AreFew, AreWindowRowsFew, StaysWithin, most_rows, source_rows}
 use Rattle.laws_queries.specs.Queries.{HasInboxes, IsLeftInbox, IsRunning, Reads, ReadsRows, RunsAt, elements_at, log_at, no_log, node_at, operator_at, place_of, source_of, stream_log}
 use Rattle.laws_queries.proofs.BeatLemmas.{IsLaterIn, PlaceBeat, place_beat}
 use Rattle.laws_queries.proofs.ClosingLemmas.{perm_length}
@@ -153,7 +153,7 @@ module _ (w w2 : World) (first : w2.first ≡ w.first) (windows : (s : ℕ) → 
   few_beat : (ns : List plan.Node) (node : plan.Node) (c : Cell) → ((s : ℕ) → w2.came s ≡ w.came s) → ((s : ℕ) → w2.inputs s ≡ w.inputs s) → ((s : ℕ) → Perm (opened (w.closed s) (w.inputs s)) (fresh s ++ opened (w2.closed s) (w.inputs s))) → AreFew w ns node c → AreFew w2 ns node (fed_cell fresh more (node_of node) c)
   few_beat ns (Window s) (at_window h e b q n) came same_inputs parted r =
       let i : length (fresh s ++ opened (w2.closed s) (w.inputs s)) ≡ length (opened (w.closed s) (w.inputs s)) = sym (perm_length _ _ (parted s)) in
-      subst₂ (λ t l. AreWindowRowsFew (w2.closed s) t l h (e ++ fresh s)) (sym (came s)) (sym (same_inputs s))
+      subst₂ (λ t l. AreWindowRowsFew (source_rows ns) (w2.closed s) t l h (e ++ fresh s)) (sym (came s)) (sym (same_inputs s))
       (record { few = omega (arith, r.few, i, length-append (fresh s) (opened (w2.closed s) (w.inputs s)), length-append e (fresh s)); stream = r.stream })
   few_beat ns (Window s) (at_unary q t b n) came same_inputs parted r = absurd r
   few_beat ns (Window s) (at_join q u l m b n x y) came same_inputs parted r = absurd r

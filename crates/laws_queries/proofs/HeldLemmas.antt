@@ -1,8 +1,8 @@
 -- What a window holds after a turn, what it puts out, and how many rows that makes.
-use Rattle.std.proofs.Common.{◌≡◌, ℕ, ◌+◌, ◌-◌, ◌<◌, ◌≤◌, Bool, true, false, cond, nat_lt, Option, None, Some, List, [], ◌∷◌, ◌++◌, filter, get_or, length, map, refl, sym, subst, arith, append-nil, ltb-true}
+use Rattle.std.proofs.Common.{◌≡◌, ℕ, ◌+◌, ◌-◌, ◌<◌, ◌≤◌, Bool, true, false, cond, not, nat_lt, Option, None, Some, List, [], ◌∷◌, ◌++◌, filter, get_or, length, map, take, drop, refl, ap, ◌∙◌, sym, subst, arith, append-nil, length-drop, ltb-true}
 use Rattle.std.specs.List.{All}
-use Rattle.std.proofs.lemmas.List.{length-append}
-use Rattle.std.proofs.lemmas.List.Elements.{All-append, All-cons, All-drop, All-filter, All-head, All-map, All-nil, All-tail}
+use Rattle.std.proofs.lemmas.List.{length-append, length-map, length-take-le}
+use Rattle.std.proofs.lemmas.List.Elements.{All-append, All-cons, All-drop, All-filter, All-head, All-map, All-nil, All-tail, All-take}
 use Rattle.values.specs.Row.{Row, same_row}
 use Rattle.values.specs.Window.{Element, plain}
 use Rattle.op_queue.specs.Entries.{Entry, TickAt}
@@ -10,9 +10,10 @@ use Rattle.op_queue.specs.Items.{entries_of, item_instant}
 use Rattle.op_queue.specs.Signed.{weigh, up}
 use Rattle.op_queue.specs.declared.item.Item.{Item}
 use Rattle.op_queue.specs.declared.item.Item.TheVariants.{Rows, Tick}
-use Rattle.windows.specs.Laws.{AreUpTo, LatestStands, RangeStands, coming, is_of, rows_in_order}
+use Rattle.windows.specs.Laws.{AreUpTo, LatestStands, RangeStands, SlideStands, coming, is_of, rows_in_order, slide_shows}
 use Rattle.windows.specs.Latest as latest
 use Rattle.windows.specs.Range as range
+use Rattle.windows.specs.Slide as slide
 use Rattle.windows.specs.Widths.{IsItemWide}
 use Rattle.laws_dataflow.specs.Windows.{Brings, IsPart}
 use Rattle.laws_dataflow.specs.Nets.{World, Node, Cell, at_window, at_unary, at_join, batch, Turn, window_rows_turn, window_tick_turn, rows_turn, tick_turn, left_rows, right_rows, left_first, right_first, left_last, right_last}
@@ -160,6 +161,85 @@ range_few s most n m c waiting (Tick t) rest brings h =
     let rows : List Row = range.near s (Tick t) in
     within_entering most t n (map range.leaving rows) (TickAt t ∷ []) (omega (arith, h, up_leaving rows))
     (λ j l. (omega (arith, h, l, up_leaving rows), omega (arith, h, l, up_leaving rows)))
+
+-- RANGE THAT MOVES AT MULTIPLES
+
+pub slide_up_to : (s : slide.SlideState) (first n : ℕ) (h : List Element) → SlideStands first n s h → range.IsAfter n s.held
+slide_up_to s first n h st = subst (range.IsAfter n) (sym st.same) (plain_up_to n h st.up_to)
+
+module _ (s : slide.SlideState) (first w n : ℕ) (h : List Element) (st : SlideStands first n s h) (rows : AreRows w (rows_in_order h)) where
+  abbrev IsWide : ℕ × Row → Type 0
+  IsWide x = IsRow w x.1
+
+  held_rows : All IsWide s.held
+  held_rows = subst (All IsWide) (sym st.same) (All-map IsWide (λ (e : Element). (e.instant, e.row)) h (rows_all (IsRow w) h rows))
+
+  part_wide : (p : ℕ × Row → Bool) (hs : List (ℕ × Row)) → All IsWide hs → AreRows w (slide.rows_in (filter p hs))
+  part_wide p hs all = All-map (IsRow w) (λ (x : ℕ × Row). x.1) (filter p hs) (All-filter p IsWide hs all)
+
+  signed_wide : (t : ℕ) → All (λ x. IsRow w x.1) (slide.signed (slide.near_at s t))
+  signed_wide t =
+      let Q : Bool × Row → Type 0 = λ x. IsRow w x.1 in
+      let leave : List Row = (slide.near_at s t).leave in
+      let enter : List Row = (slide.near_at s t).enter in
+      All-append Q (map range.leaving leave) (map slide.entering enter)
+      (All-map Q range.leaving leave (part_wide (slide.is_past s.span t) (take s.shown s.held) (All-take IsWide s.shown s.held held_rows)))
+      (All-map Q slide.entering enter (part_wide (λ x. not (slide.is_past s.span t x)) (drop s.shown s.held) (All-drop IsWide s.shown s.held held_rows)))
+
+pub slide_wide : (s : slide.SlideState) (first w n : ℕ) (h : List Element) (i : Item) (rest : List (Entry Row)) → SlideStands first n s h
+    → IsSideWide w (rows_in_order h) (entries_of i ++ rest) → AreEntries w (slide.out i (slide.near s i))
+slide_wide s first w n h (Rows t b) rest st side = tt
+slide_wide s first w n h (Tick t) rest st side = here (slide.moves s.step t)
+  where
+    here : (m : Bool) → AreEntries w (slide.out (Tick t) (cond m (slide.near_at s t) slide.nothing))
+    here true = wide_batch w t (slide.signed (slide.near_at s t)) (TickAt t ∷ []) (signed_wide s first w n h st side.taken t) tt
+    here false = tt
+
+-- what leaves was shown, what enters was not
+up_entering : (rows : List Row) → up (λ r. 1) (map slide.entering rows) ≡ length rows
+unfolding weigh
+up_entering [] = refl
+up_entering (r ∷ rows) = omega (arith, up_entering rows)
+
+up_both : (xs ys : List (Bool × Row)) → up (λ r. 1) (xs ++ ys) ≡ up (λ r. 1) xs + up (λ r. 1) ys
+unfolding weigh
+up_both [] ys = omega arith
+up_both ((true, r) ∷ xs) ys = omega (arith, up_both xs ys)
+up_both ((false, r) ∷ xs) ys = omega (arith, up_both xs ys)
+
+past_few : (p : ℕ × Row → Bool) (hs : List (ℕ × Row)) → length (slide.rows_in (filter p hs)) ≤ length hs
+past_few p [] = omega arith
+past_few p (x ∷ hs) = here (p x) (past_few p hs)
+  where
+    here : (b : Bool) → length (slide.rows_in (filter p hs)) ≤ length hs → length (slide.rows_in (cond b (x ∷ filter p hs) (filter p hs))) ≤ length (x ∷ hs)
+    here true h = omega (arith, h)
+    here false h = omega (arith, h)
+
+pub slide_few : (s : slide.SlideState) (most first n : ℕ) (h : List Element) (i : Item) → SlideStands first n s h → length h ≤ most
+    → StaysWithin most (count (slide_shows s h)) (slide.out i (slide.near s i))
+slide_few s most first n h i st le = here i
+  where
+    shown : count (slide_shows s h) ≡ s.shown
+    shown = count_elements (take s.shown h) ∙ length-take-le s.shown h st.few
+
+    held : length s.held ≡ length h
+    held = ap length st.same ∙ length-map h (λ (e : Element). (e.instant, e.row))
+
+    at_tick : (t : ℕ) (m : Bool) → StaysWithin most (count (slide_shows s h)) (slide.out (Tick t) (cond m (slide.near_at s t) slide.nothing))
+    at_tick t true =
+        let leave : List (Bool × Row) = map range.leaving (slide.near_at s t).leave in
+        let enter : List (Bool × Row) = map slide.entering (slide.near_at s t).enter in
+        let hidden : length (slide.near_at s t).enter ≤ length (drop s.shown s.held) = past_few (λ x. not (slide.is_past s.span t x)) (drop s.shown s.held) in
+        let ups : up (λ r. 1) (leave ++ enter) ≤ length h - s.shown =
+        omega (arith, up_both leave enter, up_leaving (slide.near_at s t).leave, up_entering (slide.near_at s t).enter, hidden, length-drop s.shown s.held, held) in
+        let fits : count (slide_shows s h) + up (λ r. 1) (leave ++ enter) ≤ most = omega (arith, ups, shown, st.few, le) in
+        within_entering most t (count (slide_shows s h)) (leave ++ enter) (TickAt t ∷ []) fits
+        (λ j l. (omega (arith, fits, l), omega (arith, fits, l)))
+    at_tick t false = (omega (arith, shown, st.few, le), omega (arith, shown, st.few, le))
+
+    here : (i : Item) → StaysWithin most (count (slide_shows s h)) (slide.out i (slide.near s i))
+    here (Rows t b) = omega (arith, shown, st.few, le)
+    here (Tick t) = at_tick t (slide.moves s.step t)
 
 -- THE LAST ROWS OF PARTITIONS
 

@@ -1,5 +1,5 @@
 -- The newest query: nothing of its streams counts for it yet.
-use Rattle.std.proofs.Common.{◌≡◌, ℕ, zero, suc, ◌+◌, ◌<◌, ◌≤◌, ◌&&◌, sum, cond, Bool, true, false, nat_le, max, not, Option, None, List, [], ◌∷◌, ◌++◌, map, length, get_or, refl, ap, ◌∙◌, arith}
+use Rattle.std.proofs.Common.{◌≡◌, ℕ, zero, suc, ◌+◌, ◌*◌, ◌<◌, ◌≤◌, ◌&&◌, sum, cond, Bool, true, false, nat_le, max, not, Option, None, List, [], ◌∷◌, ◌++◌, map, length, get_or, refl, ap, ◌∙◌, arith}
 use Rattle.std.specs.Prelude.{ℤ, Result, Ok, Err, slice_get, unwrap_or, nat_lt, ◌||◌, nat_abs}
 use Rattle.std.specs.List.{AllByRecursion, reduce, list_all, fold}
 use Rattle.std.specs.Option.{is_some, option_map_or}
@@ -16,8 +16,9 @@ use Rattle.reference.specs.declared.fault.QueryFault.{QueryFault}
 use Rattle.reference.specs.declared.limits.TheConstants.{MAX_QUERIES, MAX_REGISTRATIONS, MAX_STREAMS, MAX_STREAM_COLUMNS}
 use Rattle.reference.proofs.StreamLemmas.{none_first, none_later}
 use Rattle.std.proofs.lemmas.List.Sums.{sum_by-cons}
-use Rattle.laws_queries.specs.Machines.{IsMachine, IsStream, columns_of, widths_of}
-use Rattle.laws_queries.specs.Counts.{stream_rows}
+use Rattle.laws_queries.specs.Machines.{IsMachine, columns_of, widths_of}
+use Rattle.cql_reader.specs.declared.TheConstants.{MAX_SOURCES}
+use Rattle.laws_dataflow.specs.Plans.{comes}
 use Rattle.laws_queries.specs.Registrations.{HasColumnNames, HaveColumnNames, IsFresh, IsNewest, RegistrationsStand}
 use Rattle.laws_queries.specs.Rows.{HasRows, HaveRows}
 use Rattle.laws_queries.proofs.MachineCounts.{each_changed, text_query}
@@ -55,19 +56,15 @@ greatest [] k = omega arith
 greatest (x ∷ xs) zero = fold_above xs x
 greatest (x ∷ xs) (suc k) = fold_each xs x k
 
-came_at : (ss : List Stream) (k : ℕ) → AllByRecursion IsStream ss → option_map_or (λ (s : Stream). s.arrivals) (slice_get ss k) 0 ≤ stream_rows
-came_at [] k i = omega arith
-came_at (s ∷ ss) zero i = i.0.few
-came_at (s ∷ ss) (suc k) i = came_at ss k i.1
-
-came_all : (ss : List Stream) (ps : List Place) (k : ℕ) → AllByRecursion IsStream ss → get_or (map (λ (p : Place). option_map_or (λ (s : Stream). s.arrivals) (slice_get ss p.stream) 0) ps) k 0 ≤ stream_rows
-came_all ss [] k i = omega arith
-came_all ss (p ∷ ps) zero i = came_at ss p.stream i
-came_all ss (p ∷ ps) (suc k) i = came_all ss ps k i
+-- no row came since
+none_came : (m : Machine) (ns : List ℕ) (k : ℕ) → get_or (comes m.streams (map (place_at m) ns)) k 0 ≡ 0
+none_came m [] k = refl
+none_came m (n ∷ ns) zero = omega arith
+none_came m (n ∷ ns) (suc k) = none_came m ns k
 
 pub fresh_query : (m : Machine) (name : List ℕ) (f : Found) → IsMachine m → HaveRows m → IsFresh m (registered_as m name f)
 fresh_query m name f is h = record {
-  came = λ k. came_all m.streams (map (place_at m) f.streams) k is.streams;
+  came = none_came m f.streams;
   inputs = none_of m (first_for m.streams (map (place_at m) f.streams)) h f.streams;
   opens = greatest (opens m.streams (map (place_at m) f.streams));
   starts = refl;
@@ -157,21 +154,15 @@ each_few : (ss : List Stream) (ps : List Place) → AllByRecursion HasColumnName
 each_few ss [] h k = tt
 each_few ss (p ∷ ps) h k = ((columns_here ss p.stream h k.0).1, each_few ss ps h k.1)
 
-sum_few : (vs : List ℕ) → AllByRecursion (λ v. v ≤ 8) vs → length vs ≤ 2 → sum vs ≤ MAX_COLUMNS
-sum_few [] h l = omega arith
-sum_few (u ∷ []) h l =
-    let e : sum (u ∷ []) ≡ u + sum [] = sum_by-cons (λ x. x) u [] in
-    let f : u ≤ 8 = h.0 in
-    let z : sum [] ≡ 0 = refl in
-    omega (arith, e, f, z)
-sum_few (u ∷ v ∷ []) h l =
-    let e : sum (u ∷ v ∷ []) ≡ u + sum (v ∷ []) = sum_by-cons (λ x. x) u (v ∷ []) in
-    let e2 : sum (v ∷ []) ≡ v + sum [] = sum_by-cons (λ x. x) v [] in
-    let f : u ≤ 8 = h.0 in
-    let g : v ≤ 8 = h.1.0 in
-    let z : sum [] ≡ 0 = refl in
-    omega (arith, e, e2, f, g, z)
-sum_few (u ∷ v ∷ x ∷ vs) h l = absurd (omega (arith, l))
+sum_each : (vs : List ℕ) → AllByRecursion (λ v. v ≤ 8) vs → sum vs ≤ 8 * length vs
+sum_each [] h = omega arith
+sum_each (v ∷ vs) h =
+    let e : sum (v ∷ vs) ≡ v + sum vs = sum_by-cons (λ x. x) v vs in
+    omega (arith, e, h.0, sum_each vs h.1)
+
+-- the sources that a text may name have no more columns together than a row
+sum_few : (vs : List ℕ) → AllByRecursion (λ v. v ≤ 8) vs → length vs ≤ MAX_SOURCES → sum vs ≤ MAX_COLUMNS
+sum_few vs h l = omega (arith, sum_each vs h, l)
 
 pub registrations_stand : RegistrationsStand
 registrations_stand = record {

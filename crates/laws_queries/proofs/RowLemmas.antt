@@ -16,7 +16,7 @@ use Rattle.reference.specs.declared.fault.Fault.{Fault}
 use Rattle.reference.specs.declared.fault.Fault.TheVariants.{BadWidth, InstantRange, Late, StreamFull, TooMany, ValueRange}
 use Rattle.reference.specs.declared.fault.QueryFault.{QueryFault}
 use Rattle.reference.specs.declared.limits.TheConstants.{MAX_APPENDED, MAX_STREAM_ROWS}
-use Rattle.reference.proofs.StreamLemmas.{none_first, none_later}
+use Rattle.reference.proofs.StreamLemmas.{alone, none_first, none_later}
 use Rattle.laws_queries.specs.Widths.{IsRow}
 use Rattle.laws_queries.specs.Machines.{IsMachine, IsStream, columns_of}
 use Rattle.laws_queries.specs.Queries.{IsByArrival, ReadsRows, elements_at, place_of}
@@ -115,7 +115,7 @@ rows_registered m name (Err fault) h = h
 rows_after : (m : Machine) (c : Command) (count : ℕ) → first_fault m c ≡ None → HaveRows m → HaveRows (after m c count)
 rows_after m (Declare name columns start) count a h = each-append HasRows m.streams _ h (record { arrival = tt; below = tt; values = tt }, tt)
 rows_after m (Register name source given) count a h = rows_registered m name (found m source given) h
-rows_after m (Append n rows) count a h = rows_changed (appended rows) n m.streams (λ s is r. rows_appended s rows (sym (ap (of_stream (λ s. append_tests s rows)) is) ∙ a) r) h
+rows_after m (Append n rows) count a h = rows_changed (appended rows) n m.streams (λ s is r. rows_appended s rows (sym (ap (of_stream (λ s. append_tests s rows)) is) ∙ alone m.queries n rows (slice_get m.streams n) a) r) h
 rows_after m (Heartbeat n at) count a h = rows_changed (closed_to at) n m.streams (λ s is r. record { arrival = r.arrival; below = r.below; values = r.values }) h
 rows_after m (Take n limit) count a h = h
 rows_after m (Drop n) count a h = h

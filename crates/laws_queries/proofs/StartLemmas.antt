@@ -30,7 +30,7 @@ use Rattle.plan.specs.declared.node.Node.{Node}
 use Rattle.plan.specs.declared.node.Node.TheVariants.{Window as Source, Select, Join, Project, Group, Distinct, ToStream}
 use Rattle.plan.proofs.Lists.{each-unmap}
 use Rattle.physical_plans.specs.Beginnings as made
-use Rattle.physical_plans.specs.Beginnings.{AreMade, HaveNarrowRows, IsMade, IsMakeable, IsNarrowWindow, grouping, key_pair, nothing_waits, width_made, widths_from, window_at}
+use Rattle.physical_plans.specs.Beginnings.{AreMade, HaveNarrowRows, IsMade, IsMakeable, IsMakeableWindow, grouping, key_pair, nothing_waits, width_made, widths_from, window_at}
 use Rattle.physical_plans.proofs.LawLemmas.{kinds_mean}
 use Rattle.reference.specs.Machine.{Machine, Place, Registered, opens}
 use Rattle.laws_dataflow.specs.Laws.{IsGood}
@@ -87,11 +87,11 @@ window_is [] s = refl
 window_is (w ∷ ws) zero = refl
 window_is (w ∷ ws) (suc s) = window_is ws s
 
-narrow_window : (w : Window) → IsTextWindow (window_of w) → IsNarrowWindow w
-narrow_window (window.Range n) h = tt
-narrow_window (window.RangeSlide n l) h = tt
-narrow_window window.Unbounded h = tt
-narrow_window (window.LastRows columns n) h = h
+makeable_window : (w : Window) → IsTextWindow (window_of w) → IsMakeableWindow w
+makeable_window (window.Range n) h = tt
+makeable_window (window.RangeSlide n l) h = h
+makeable_window window.Unbounded h = tt
+makeable_window (window.LastRows columns n) h = h
 
 -- EACH IS MADE
 made_many : (ws : List Window) (vs widths places : List ℕ) (start : ℕ) (ns : List Node) (os : List PlainOperator) → AreMade ws vs widths places start ns os → length os ≡ length ns
@@ -109,7 +109,7 @@ made_at ws vs widths places start (n ∷ ns) (o ∷ os) (suc k) d e l h = made_a
 
 -- THEY MAY BE MADE
 makeable : (windows : List Window) (vs ws : List ℕ) (k : ℕ) (n : Node) → AllByRecursion IsTextWindow (map window_of windows) → ((i : ℕ) → get_or ws i 0 ≤ MAX_COLUMNS) → FitsAt vs ws k (node_of n) → IsMakeable windows ws n
-makeable windows vs ws k (Source s) t narrow f = narrow_window (window_at windows s) (text_window windows s t)
+makeable windows vs ws k (Source s) t narrow f = makeable_window (window_at windows s) (text_window windows s t)
 makeable windows vs ws k (Select i cs) t narrow f = conditions cs.items f.fits
   where
     conditions : (cs : List Rattle.values.specs.declared.resolved.Condition.Condition) → NodeFits vs ws (plan.Select i (conditions_of cs)) → AllByRecursion (λ c. Rattle.row_nodes.specs.Steps.IsOfOneSource (condition_of c)) cs
@@ -142,7 +142,7 @@ module _ (windows : List Window) (vs ws : List ℕ) (m : Machine) (q : Registere
   none_few most = omega (arith, count_none)
 
   source_begins : (s : ℕ) → q.meaning.windows ≡ map window_of windows → AllByRecursion IsTextWindow (map window_of windows) → s < length q.places → get_or ws k 0 ≡ get_or vs s 0 → 0 < get_or vs s 0
-      → (world_of m q).inputs s ≡ [] → (world_of m q).came s ≤ Rattle.laws_queries.specs.Counts.stream_rows → log.until ≤ q.first → IsMade windows vs ws (lengths_of q) q.first (Source s) o → BeginsAt ws m q log k (plan.Window s) o
+      → (world_of m q).inputs s ≡ [] → (world_of m q).came s ≡ 0 → log.until ≤ q.first → IsMade windows vs ws (lengths_of q) q.first (Source s) o → BeginsAt ws m q log k (plan.Window s) o
   source_begins s shows text low width some none came until h =
       let place : get_or (lengths_of q) s 0 ≡ (place_of q s).arrivals = get_or-map (λ (p : Place). p.arrivals) q.places s (record { stream = 0; arrivals = 0 }) 0 low in
       let reads : made.ReadsSource (place_of q s).arrivals q.first o.left = subst (λ p. made.ReadsSource p q.first o.left) place h.left in
@@ -153,7 +153,7 @@ module _ (windows : List Window) (vs ws : List ℕ) (m : Machine) (q : Registere
         runs = record {
           kind = b.belongs;
           stands = subst (λ w. Rattle.laws_queries.specs.Runs.WindowStands q.first w q.first o.state []) (sym is) b.stands;
-          shows = refl;
+          shows = b.shows;
           queue = nothing_closed (place_of q s).arrivals q.first log until ∙ sym (reads.entries log);
         };
         wide = record {
@@ -161,7 +161,7 @@ module _ (windows : List Window) (vs ws : List ℕ) (m : Machine) (q : Registere
           some = omega (arith, some, width);
           side = record { taken = all_none (Rattle.laws_queries.specs.Widths.IsRow (width_at ws k)); queue = tt };
         };
-        few = subst (λ l. Rattle.laws_queries.specs.Counts.AreWindowRowsFew ((world_of m q).closed s) ((world_of m q).came s) l [] []) (sym none) (record { few = omega arith; stream = came });
+        few = subst (λ l. Rattle.laws_queries.specs.Counts.AreWindowRowsFew (Rattle.laws_queries.specs.Counts.source_rows q.nodes) ((world_of m q).closed s) ((world_of m q).came s) l [] []) (sym none) (record { few = omega arith; stream = omega (arith, came) });
         inboxes = record { left = (low, reads_of (place_of q s).arrivals q.first log o.left reads, reads.within log); right = fed o.right h.right };
       }
 

@@ -17,7 +17,6 @@ use Rattle.physical_plans.specs.Beginnings as made
 use Rattle.reference.specs.Commands.{Command, Found, Register, after, first_fault, found, registered_as}
 use Rattle.reference.specs.Machine.{Machine, Registered, Stream, empty, opens}
 use Rattle.laws_dataflow.specs.Plans.{inputs_of, world_of}
-use Rattle.laws_queries.specs.Counts.{stream_rows}
 use Rattle.laws_queries.specs.Machines.{IsMachine, IsQuery, widths_of}
 use Rattle.laws_queries.specs.Queries.{IsRunning}
 use Rattle.laws_queries.specs.Rows.{AreSourceWidths, HaveRows}
@@ -33,10 +32,10 @@ abbrev pub IsNarrowShape : Shape → Type 0
 IsNarrowShape (Listed columns) = length columns ≤ MAX_COLUMNS
 IsNarrowShape (Grouped by items) = (length by ≤ MAX_COLUMNS) × (length items ≤ MAX_COLUMNS)
 
--- no text names a window that slides, and lists of Partition By are not too long
+-- a window moves at the multiples of one or more, and lists of Partition By are not too long
 abbrev pub IsTextWindow : shown.Window → Type 0
 IsTextWindow (shown.Range n) = Unit {0}
-IsTextWindow (shown.RangeSlide n l) = ⊥
+IsTextWindow (shown.RangeSlide n l) = 0 < l
 IsTextWindow shown.Unbounded = Unit {0}
 IsTextWindow (shown.LastRows columns n) = length columns ≤ MAX_COLUMNS
 
@@ -64,12 +63,12 @@ pub record MayMake (windows : List Window) (vs : List ℕ) (nodes : List Node) :
   pub narrow : HaveNarrowRows vs [] nodes
   pub makeable : All (IsMakeable windows (made.widths_of vs nodes)) nodes
 
--- no element counts for the query yet, and its first instant lies above all that is closed
+-- no element counts for the query yet, no row came since its registration, and its first instant lies above all that is closed
 pub record IsFresh (m : Machine) (q : Registered) : Type 0 where
   pub inputs : (k : ℕ) → get_or (inputs_of m q) k [] ≡ []
   pub opens : (k : ℕ) → get_or (opens m.streams q.places) k 0 ≤ q.first
   pub starts : q.start ≡ q.first
-  pub came : (k : ℕ) → (world_of m q).came k ≤ stream_rows
+  pub came : (k : ℕ) → (world_of m q).came k ≡ 0
   pub early : q.earlier ≡ []
 
 -- how long the stream of each source was

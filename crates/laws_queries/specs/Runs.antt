@@ -5,12 +5,12 @@ use Rattle.values.specs.Condition.{Column, Condition}
 use Rattle.values.specs.Relation.{ListItem}
 use Rattle.values.specs.Resolved.{columns_of, items_of}
 use Rattle.values.specs.declared.resolved.ListItem as listed
-use Rattle.values.specs.Window.{Element, Window, LastRows}
+use Rattle.values.specs.Window.{Element, Window, LastRows, RangeSlide}
 use Rattle.column.specs.declared.batch.Side.TheVariants.{Left, Right}
 use Rattle.lane_kernels.specs.declared.condition.Step.{Step}
 use Rattle.op_queue.specs.Entries.{Entry}
 use Rattle.op_queue.specs.Logs.{Closed}
-use Rattle.windows.specs.Laws.{RangeStands, LatestStands, range_of, rows_in_order}
+use Rattle.windows.specs.Laws.{RangeStands, SlideStands, LatestStands, range_of, rows_in_order, slide_shows}
 use Rattle.windows.specs.Latest.{held_in}
 use Rattle.group.specs.Cells.{TallyState, held, keeps}
 use Rattle.group.specs.Groups.{once_each}
@@ -33,16 +33,27 @@ use Rattle.laws_dataflow.specs.Operators.{Tell}
 -- at the open instant n the state stands for the elements that the window holds
 abbrev pub WindowStands : ℕ → Window → ℕ → State → List Element → Type 0
 WindowStands first w n (state.Range s) held = (w ≡ range_of s.span) × RangeStands n s.held held
+WindowStands first w n (state.Slide s) held = (w ≡ RangeSlide s.span s.step) × SlideStands first n s held
 WindowStands first w n (state.Latest s) held = (w ≡ LastRows s.columns s.count) × LatestStands first s.columns s.count n (held_in s.entries) held
 WindowStands first w n state.Nothing held = ⊥
 WindowStands first w n (state.Join s) held = ⊥
 WindowStands first w n (state.Groups s) held = ⊥
 WindowStands first w n (state.Root s) held = ⊥
 
+-- what it has put out of them: all, or those alone that a window that moves at multiples shows
+abbrev pub shown_by : State → List Element → List Row
+shown_by (state.Range s) held = rows_in_order held
+shown_by (state.Slide s) held = slide_shows s held
+shown_by (state.Latest s) held = rows_in_order held
+shown_by state.Nothing held = []
+shown_by (state.Join s) held = []
+shown_by (state.Groups s) held = []
+shown_by (state.Root s) held = []
+
 pub record RunsWindow (first : ℕ) (w : Window) (o : PlainOperator) (log : Closed) (held : List Element) (shown : List Row) (q : List (Entry Row)) (n : ℕ) : Type 0 where
   pub kind : Belongs o.kind o.state
   pub stands : WindowStands first w n o.state held
-  pub shows : shown ≡ rows_in_order held
+  pub shows : shown ≡ shown_by o.state held
   pub queue : q ≡ waiting o log Left
 
 -- SELECT and PROJECT hold nothing

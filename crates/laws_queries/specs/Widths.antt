@@ -37,6 +37,7 @@ pub record IsSideWide (w : ℕ) (took : List Row) (q : List (Entry Row)) : Type 
 
 abbrev pub IsStateWide : ℕ → State → Type 0
 IsStateWide w (state.Range s) = s.width ≡ w
+IsStateWide w (state.Slide s) = s.width ≡ w
 IsStateWide w (state.Latest s) = s.width ≡ w
 IsStateWide w state.Nothing = ⊥
 IsStateWide w (state.Join s) = ⊥
@@ -51,6 +52,7 @@ pub record IsWindowWide (w : ℕ) (o : PlainOperator) (held : List Element) (q :
 -- the sides of a join have l and r columns, which its state knows
 abbrev pub IsJoinWide : ℕ → ℕ → State → Type 0
 IsJoinWide l r (state.Range s) = ⊥
+IsJoinWide l r (state.Slide s) = ⊥
 IsJoinWide l r (state.Latest s) = ⊥
 IsJoinWide l r state.Nothing = ⊥
 IsJoinWide l r (state.Join s) = (s.left.width ≡ l) × (s.right.width ≡ r)
@@ -60,6 +62,7 @@ IsJoinWide l r (state.Root s) = ⊥
 -- rows of w columns have all that Select's steps or Project's list speak of, and rows of `out` columns come of them
 abbrev pub IsKindWide : ℕ → ℕ → Kind → Type 0
 IsKindWide w out kind.RangeWindow = out ≡ w
+IsKindWide w out kind.SlideWindow = out ≡ w
 IsKindWide w out kind.LatestWindow = out ≡ w
 IsKindWide w out (kind.Select steps) = StepsFit w 0 steps × (out ≡ w)
 IsKindWide w out (kind.Project places) = All (λ k. k < w) places × (out ≡ length places)

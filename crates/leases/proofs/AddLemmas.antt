@@ -1,5 +1,5 @@
 -- A query that is added to an engine: what was asked of it before, and what the engine knows of itself afterwards.
-use Rattle.std.proofs.Common.{◌≡◌, ◌≢◌, ℕ, ◌+◌, ◌<◌, ◌++◌, inl, inr, Bool, false, ◌==◌, cond, Some, None, List, [], ◌∷◌, map, position, length, refl, sym, ap, ◌∙◌, subst, arith}
+use Rattle.std.proofs.Common.{◌≡◌, ◌≢◌, ℕ, ◌+◌, ◌<◌, ◌++◌, inl, inr, Bool, false, ◌==◌, cond, Some, None, List, [], ◌∷◌, map, position, length, refl, sym, ap, ap₂, ◌∙◌, subst, arith}
 use Rattle.std.proofs.lemmas.Bool.{ne_eqb}
 use Rattle.std.proofs.lemmas.List.{map-append, length-map}
 use Rattle.std.proofs.lemmas.Option.{slice_get_within}
@@ -27,6 +27,8 @@ use Rattle.leases.proofs.ListedLemmas.{readers_added}
 use Rattle.leases.specs.Registering.{IsNewQuery, with_first}
 use Rattle.leases.specs.Shown.{engine_in}
 use Rattle.leases.specs.Sound.{IsSound, is_gone}
+use Rattle.leases.specs.Undropped.{UndroppedQueries, limits_in, undropped_of}
+use Rattle.leases.proofs.LimitLemmas.{kept, limits_more}
 use Rattle.leases.specs.Views.{HasKind, engine_of, lease_of, query_of, remains_of}
 use Rattle.turn.specs.declared.turns.Turn.{Turn}
 use Rattle.leases.specs.declared.remains.Remains.{Remains}
@@ -98,15 +100,15 @@ abbrev closed_in : PlainEngine → Type 0
 closed_in e = HaveFewClosed e.machine
 
 -- where nothing changed
-pub sound_still : (s t : State) → t.streams ≡ s.streams → t.names ≡ s.names → t.registered.items ≡ s.registered.items → t.remains.items ≡ s.remains.items → t.leases.items ≡ s.leases.items → t.next ≡ s.next → t.slots ≡ s.slots → t.readers.items ≡ s.readers.items → IsSound s → IsSound t
-sound_still s t streams names queries remains leases next slots readers h =
+pub sound_still : (s t : State) → t.streams ≡ s.streams → t.undropped ≡ s.undropped → t.registered.items ≡ s.registered.items → t.remains.items ≡ s.remains.items → t.leases.items ≡ s.leases.items → t.next ≡ s.next → t.slots ≡ s.slots → t.readers.items ≡ s.readers.items → IsSound s → IsSound t
+sound_still s t streams undropped queries remains leases next slots readers h =
     let same : engine_in t ≡ engine_in s = rw (streams, queries, remains, leases, next, slots) refl in
     record {
       good = subst GoodEngine (sym same) h.good;
       kinds = λ g i. subst (λ e. HasKind e g) (sym same) (h.kinds g (subst (λ l. IsIn l g) leases i));
       few = rw leases h.few;
       numbers = rw next h.numbers;
-      named = names ∙ h.named ∙ ap (λ (e : PlainEngine). map name_of_registered e.machine.queries) (sym same);
+      named = undropped ∙ h.named ∙ ap (λ (e : PlainEngine). undropped_of e.machine.queries) (sym same);
       gone = subst (λ (e : PlainEngine). map (λ q. q.is_dropped) e.machine.queries ≡ map is_gone e.queries) (sym same) h.gone;
       columns = subst columns_in (sym same) h.columns;
       closed = subst closed_in (sym same) h.closed;
@@ -115,8 +117,8 @@ sound_still s t streams names queries remains leases next slots readers h =
 
 -- where the query was added
 pub sound_with : (s t : State) (q : Registered) (p : PlainQuery) → IsSound s → GoodEngine (registered (engine_in s) q p) → q.is_dropped ≡ false → q.earlier ≡ [] → engine_in t ≡ registered (engine_in s) q p → t.leases.items ≡ s.leases.items → t.next ≡ s.next
-    → t.names ≡ s.names ++ Some q.name ∷ [] → t.readers.items ≡ s.readers.items ++ windows_from q (length (engine_in s).machine.queries) 0 q.nodes → IsSound t
-sound_with s t q p h good live none_earlier same leases next names readers =
+    → t.undropped ≡ kept (s.undropped.names ++ Some q.name ∷ []) (s.undropped.limits ++ limits_in (length (engine_in s).machine.queries) q) → t.readers.items ≡ s.readers.items ++ windows_from q (length (engine_in s).machine.queries) 0 q.nodes → IsSound t
+sound_with s t q p h good live none_earlier same leases next undropped readers =
     let e = engine_in s in
     record {
       good = subst GoodEngine (sym same) good;
@@ -126,7 +128,8 @@ sound_with s t q p h good live none_earlier same leases next names readers =
           subst (λ (f : PlainEngine). HasKind f g) (sym same) (λ r k. h.kinds g j r (sym before ∙ k));
       few = rw leases h.few;
       numbers = rw next h.numbers;
-      named = names ∙ ap (λ l. l ++ Some q.name ∷ []) h.named ∙ named_more e.machine.queries ∙ ap (λ (f : PlainEngine). map name_of_registered f.machine.queries) (sym same);
+      named = undropped ∙ ap (λ (u : UndroppedQueries). kept (u.names ++ Some q.name ∷ []) (u.limits ++ limits_in (length e.machine.queries) q)) h.named
+          ∙ ap₂ kept (named_more e.machine.queries) (limits_more 0 (length e.machine.queries) e.machine.queries q (omega arith)) ∙ ap (λ (f : PlainEngine). undropped_of f.machine.queries) (sym same);
       gone = subst (λ (f : PlainEngine). map (λ r. r.is_dropped) f.machine.queries ≡ map is_gone f.queries) (sym same) (gone_more e.machine.queries e.queries h.gone);
       columns = subst columns_in (sym same) h.columns;
       closed = subst closed_in (sym same) (registered_closed e.machine q none_earlier h.closed);

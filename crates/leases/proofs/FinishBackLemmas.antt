@@ -23,7 +23,7 @@ use Rattle.leases.proofs.LookLemmas.{asks_on}
 
 -- ONE CALL AFTER THE OTHER gives nothing
 pub gives_on : (a b c : State) → GivesNothing a b → GivesNothing b c → GivesNothing a c
-gives_on a b c r t = record { names = t.names ∙ r.names; readers = t.readers ∙ r.readers; leases = λ g i. r.leases g (t.leases g i) }
+gives_on a b c r t = record { undropped = t.undropped ∙ r.undropped; readers = t.readers ∙ r.readers; leases = λ g i. r.leases g (t.leases g i) }
 
 -- IT IS THERE, of an operator whose numbers are spelt in two ways
 pub may_look : (e : PlainEngine) (d : Lease) (n k : ℕ) → GoodEngine e → IsOutAsIn e d → n ≡ d.query → k ≡ d.operator → HasOperatorAt e n k

@@ -123,7 +123,7 @@ module _ (e : PlainEngine) (d : Lease) (q : Registered) (p : PlainQuery) (g : Go
     -- below the root
     finished_turn : d.operator < below_root q.nodes → IsFinishedTurn e d q p p2
     finished_turn lt =
-        let turns : TurnsRun (widths_of e.machine.streams q) goes.widths e.machine q = turns_run (widths_of e.machine.streams q) goes.widths e.machine q (query_bounded e g d.query q of.registered) in
+        let turns : TurnsRun (widths_of e.machine.streams q) goes.widths e.machine q = turns_run (widths_of e.machine.streams q) goes.widths e.machine q (query_bounded e g d.query q of.registered goes.lives) in
         let outs = turns.puts p.operators (goes.taken ++ p.answers) d.operator d.side d.item goes.runs.runs lt in
         let fed : HasFed p d.operator outs.0 p2 = subst (λ o. HasPut p d.operator o p2) outs.1 a.put in
         record {
@@ -140,7 +140,7 @@ module _ (e : PlainEngine) (d : Lease) (q : Registered) (p : PlainQuery) (g : Go
     -- at the root
     answered_turn : d.operator ≡ below_root q.nodes → IsAnsweredTurn e d q p p2
     answered_turn at =
-        let roots : RootsRun (widths_of e.machine.streams q) goes.widths e.machine q = roots_run (widths_of e.machine.streams q) goes.widths e.machine q (query_bounded e g d.query q of.registered) in
+        let roots : RootsRun (widths_of e.machine.streams q) goes.widths e.machine q = roots_run (widths_of e.machine.streams q) goes.widths e.machine q (query_bounded e g d.query q of.registered goes.lives) in
         let gives : (rows : List (ℕ × Row)) × (outs_at_first (operator_at p.operators d.operator) d.side d.item ≡ Answered rows) =
         subst (λ n. (rows : List (ℕ × Row)) × (outs_at_first (operator_at p.operators n) d.side d.item ≡ Answered rows)) (sym at) (roots.gives p.operators (goes.taken ++ p.answers) d.side d.item goes.runs.runs) in
         let gave : HasAnswered p d.operator gives.0 p2 = subst (λ o. HasPut p d.operator o p2) gives.1 a.put in

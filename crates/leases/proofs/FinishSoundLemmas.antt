@@ -12,7 +12,7 @@ use Rattle.turn.specs.declared.kinds.Kind.{Kind}
 use Rattle.turn.specs.declared.parts.Parts.{Parts}
 use Rattle.plan.proofs.Lists.{by_test}
 use Rattle.reference.specs.Machine.{Registered}
-use Rattle.reference.specs.Named.{name_of_registered}
+use Rattle.leases.specs.Undropped.{undropped_of}
 use Rattle.laws_queries.specs.Queries.{PlainQuery, operator_at}
 use Rattle.laws_queries.specs.Registrations.{HaveColumnNames}
 use Rattle.laws_queries.specs.Steps.{outs_at_first}
@@ -45,9 +45,9 @@ pub record StaysBut (old new : PlainEngine) : Type 0 where
   pub few : length new.leases ≤ length old.leases
   pub gone : map is_gone new.queries ≡ map is_gone old.queries
 
-pub sound_from : (old new : State) → IsSound old → new.names ≡ old.names → new.readers.items ≡ readers_of (engine_in new) → ((g : Turn) → IsIn new.leases.items g → IsIn old.leases.items g) → GoodEngine (engine_in new) → StaysBut (engine_in old) (engine_in new)
+pub sound_from : (old new : State) → IsSound old → new.undropped ≡ old.undropped → new.readers.items ≡ readers_of (engine_in new) → ((g : Turn) → IsIn new.leases.items g → IsIn old.leases.items g) → GoodEngine (engine_in new) → StaysBut (engine_in old) (engine_in new)
     → ((g : Turn) → IsIn old.leases.items g → HasKind (engine_in new) g) → IsSound new
-sound_from old new s names readers leases good st kinds = record {
+sound_from old new s undropped readers leases good st kinds = record {
   good = good;
   kinds = λ g i. kinds g (leases g i);
   few =
@@ -55,7 +55,7 @@ sound_from old new s names readers leases good st kinds = record {
       let b : length (engine_in old).leases ≡ length old.leases.items = length-map old.leases.items lease_of in
       omega (arith, a, b, st.few, s.few);
   numbers = let n : new.next ≡ old.next = st.next in omega (arith, n, s.numbers);
-  named = names ∙ s.named ∙ ap (λ m. map name_of_registered m.queries) (sym st.machine);
+  named = undropped ∙ s.named ∙ ap (λ m. undropped_of m.queries) (sym st.machine);
   gone = ap (λ m. map (λ (q : Registered). q.is_dropped) m.queries) st.machine ∙ s.gone ∙ sym st.gone;
   columns = subst HaveColumnNames (sym st.machine) s.columns;
   closed = subst HaveFewClosed (sym st.machine) s.closed;
@@ -113,7 +113,7 @@ module _ (old new : State) (ls : List Lease) (slots : List Slot) (d : Lease) (q 
 
     sound_at : (after : List Slot) → engine_in new ≡ record (given_back e d p2) { slots = after } → GoodEngine (engine_in new) → IsSound new
     sound_at after is stays =
-        sound_from old new s r.names (r.readers ∙ s.readers ∙ ap (readers_from 0 e.machine.queries) (sym (map-set_same runs e.queries d.query (Running p2) Dropped (sym running_runs))) ∙ ap readers_of (sym is)) r.leases stays (subst (StaysBut (engine_in old)) (sym is) (stays_back after)) (λ g i. subst (λ z. HasKind z g) (sym is) (kinds_back after g i))
+        sound_from old new s r.undropped (r.readers ∙ s.readers ∙ ap (readers_from 0 e.machine.queries) (sym (map-set_same runs e.queries d.query (Running p2) Dropped (sym running_runs))) ∙ ap readers_of (sym is)) r.leases stays (subst (StaysBut (engine_in old)) (sym is) (stays_back after)) (λ g i. subst (λ z. HasKind z g) (sym is) (kinds_back after g i))
 
     pub sound_back : ComesBack e d q p p2 (engine_in new) → IsSound new
     sound_back (inl t) = sound_at (finished e d q p p2).slots t.1 (subst GoodEngine (sym t.1) (finish_good e d q p p2 good out.out t.0))
@@ -140,7 +140,7 @@ module _ (old new : State) (ls : List Lease) (slots : List Slot) (d : Lease) (q 
       f.readers ∙ ap (λ rs. filter (λ (r : Reader). not (r.query == d.query)) rs) s.readers
       ∙ readers_left d.query 0 d.query e.machine.queries (map runs e.queries) (omega arith)
       ∙ ap (readers_from 0 e.machine.queries) (sym (map-set runs e.queries d.query (Broken p.answers))) ∙ ap readers_of (sym is) in
-      sound_from old new s f.names readers f.leases (subst GoodEngine (sym is) (break_good e d.query q p good out.of.registered out.of.running)) (subst (StaysBut (engine_in old)) (sym is) stays)
+      sound_from old new s f.undropped readers f.leases (subst GoodEngine (sym is) (break_good e d.query q p good out.of.registered out.of.running)) (subst (StaysBut (engine_in old)) (sym is) stays)
       (λ g i. subst (λ z. HasKind z g) (sym is) (kinds_broken g i))
 
 -- THE TURN OF A NUMBER that is out

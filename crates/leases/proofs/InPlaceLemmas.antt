@@ -119,7 +119,7 @@ module _ (old : State) (s : Slot) (rows : ℕ) (sound : IsSound old) (first : fi
 
       pub run_sound : (new : State) → HasTold (engine_in (given m old.next)) s above (engine_in new) → GivesNothing old m → GivesNothing (given m old.next) new → IsSound new
       run_sound new h r u =
-          let gives : GivesNothing (counted old) (given m old.next) = record { names = r.names; readers = r.readers; leases = r.leases } in
+          let gives : GivesNothing (counted old) (given m old.next) = record { undropped = r.undropped; readers = r.readers; leases = r.leases } in
           ran_sound old s rows t sound first allowed numbers is_made above over (engine_in (given m old.next)) applied new h (gives_on (counted old) (given m old.next) new gives u)
 
   -- IT WAS REFUSED MEMORY with an item in hand, and its query breaks
@@ -156,7 +156,7 @@ module _ (old : State) (s : Slot) (rows : ℕ) (sound : IsSound old) (first : fi
 
       pub within_sound : Forgets s.query (given m old.next) new → GivesNothing old m → IsSound new
       within_sound f r = broke_sound old s rows w sound first allowed numbers w_made new breaks
-          (record { names = f.names ∙ r.names; readers = f.readers ∙ ap (λ rs. filter (λ (z : Reader). not (z.query == s.query)) rs) r.readers; leases = λ g i. r.leases g (f.leases g i) })
+          (record { undropped = f.undropped ∙ r.undropped; readers = f.readers ∙ ap (λ rs. filter (λ (z : Reader). not (z.query == s.query)) rs) r.readers; leases = λ g i. r.leases g (f.leases g i) })
 
   -- or before it took anything, and all is as it was
   module _ (m : State) (stopped : HasStoppedIn Before (engine_in old) s rows (engine_in m)) where
@@ -172,5 +172,5 @@ module _ (old : State) (s : Slot) (rows : ℕ) (sound : IsSound old) (first : fi
     pub before_sound : GivesNothing old m → IsSound m
     before_sound r =
         let stays : StaysBut (engine_in old) (engine_in old) = record { machine = refl; next = refl; few = omega arith; gone = refl } in
-        sound_from old m sound r.names (r.readers ∙ sound.readers ∙ ap readers_of (sym is)) r.leases (subst GoodEngine (sym is) sound.good) (subst (StaysBut (engine_in old)) (sym is) stays)
+        sound_from old m sound r.undropped (r.readers ∙ sound.readers ∙ ap readers_of (sym is)) r.leases (subst GoodEngine (sym is) sound.good) (subst (StaysBut (engine_in old)) (sym is) stays)
         (λ g i. subst (λ z. HasKind z g) (sym is) (sound.kinds g i))

@@ -14,7 +14,7 @@ use Rattle.reference.specs.World.{drain_fault}
 use Rattle.reference.specs.declared.fault.Fault.{Fault}
 use Rattle.reference.specs.declared.fault.Fault.TheVariants.{BadLimit, TooManyLeases}
 use Rattle.reference.specs.declared.limits.TheConstants.{MAX_TURN}
-use Rattle.reference.specs.Named.{name_of_registered}
+use Rattle.leases.specs.Undropped.{undropped_of}
 use Rattle.laws_queries.specs.Queries.{PlainQuery, log_at, operator_at}
 use Rattle.laws_queries.specs.Registrations.{HaveColumnNames}
 use Rattle.laws_queries.specs.Steps.{IsFirst}
@@ -175,7 +175,7 @@ pub record HasGone (old new : State) (s : Slot) (g : Turn) : Type 0 where
   pub leases : new.leases.items ≡ old.leases.items ++ g ∷ []
   pub slots : new.slots ≡ changed s None old.slots
   pub next : new.next ≡ old.next + 1
-  pub names : new.names ≡ old.names
+  pub undropped : new.undropped ≡ old.undropped
   pub readers : new.readers.items ≡ old.readers.items
 
 gone_engine : (old new : State) (s : Slot) (g : Turn) → HasGone old new s g → engine_in new ≡ out_of (engine_in old) s g
@@ -214,7 +214,7 @@ module _ (old new : State) (s : Slot) (rows : ℕ) (g : Turn) (sound : IsSound o
         (⊎_elim (λ j. sound.kinds x j) (λ z. subst (HasKind (engine_in old)) z new_kind) (in_last old.leases.items g x (subst (λ z. IsIn z x) gone.leases i)));
     few = let many : length new.leases.items ≡ length old.leases.items + 1 = ap length gone.leases ∙ length-append old.leases.items (g ∷ []) in omega (arith, many, few);
     numbers = omega (arith, gone.next, numbers);
-    named = gone.names ∙ (sound.named ∙ ap (λ (z : PlainEngine). map name_of_registered z.machine.queries) (sym is));
+    named = gone.undropped ∙ (sound.named ∙ ap (λ (z : PlainEngine). undropped_of z.machine.queries) (sym is));
     gone = subst (λ (z : PlainEngine). map (λ q. q.is_dropped) z.machine.queries ≡ map is_gone z.queries) (sym is) sound.gone;
     columns = subst (λ (z : PlainEngine). HaveColumnNames z.machine) (sym is) sound.columns;
     closed = subst (λ (z : PlainEngine). HaveFewClosed z.machine) (sym is) sound.closed;

@@ -32,7 +32,7 @@ pub turn_ended : (s : State) (turns : Vec Turn Global) (n : ℕ) → turns.items
 turn_ended s turns n left = ap (λ ls. record (engine_in s) { leases = ls }) (ap (λ ts. map lease_of ts) left ∙ leases_left (λ (l : Lease). not (l.number == n)) s.leases.items)
 
 pub turn_gives_nothing : (s : State) (turns : Vec Turn Global) (n : ℕ) → turns.items ≡ filter (λ t. not (t.lease == n)) s.leases.items → GivesNothing s (record s { leases = turns })
-turn_gives_nothing s turns n left = record { names = refl; readers = refl; leases = left_in (λ (t : Turn). not (t.lease == n)) s.leases.items turns.items left }
+turn_gives_nothing s turns n left = record { undropped = refl; readers = refl; leases = left_in (λ (t : Turn). not (t.lease == n)) s.leases.items turns.items left }
 
 -- and what is told of the operator above
 pub told_above : (told : PlainEngine) (above : Option Slot) (a : Slot) (new : PlainEngine) → above ≡ Some a → IsUpdated told a new → MatchOption above (new ≡ told) (λ z. IsUpdated told z new)
@@ -94,5 +94,5 @@ stays_sound old new sound n l t s before ended r =
     let l_is : IsLease (engine_in old) l = sound.good.leases l t.out in
     let same : engine_in new ≡ abandoned (engine_in old) l l_is.query l_is.plain = is_abandoned (engine_in old) sound.good n l t s before (engine_in new) ended in
     let stays : StaysBut (engine_in old) (abandoned (engine_in old) l l_is.query l_is.plain) = record { machine = refl; next = refl; few = fewer (λ z. not (z.number == l.number)) (engine_in old).leases; gone = refl } in
-    sound_from old new sound r.names (r.readers ∙ sound.readers ∙ ap readers_of (sym same)) r.leases (stays_good (engine_in old) sound.good n l t s before (engine_in new) ended) (subst (StaysBut (engine_in old)) (sym same) stays)
+    sound_from old new sound r.undropped (r.readers ∙ sound.readers ∙ ap readers_of (sym same)) r.leases (stays_good (engine_in old) sound.good n l t s before (engine_in new) ended) (subst (StaysBut (engine_in old)) (sym same) stays)
     (λ g i. subst (λ z. HasKind z g) (sym same) (sound.kinds g i))

@@ -48,8 +48,8 @@ module _ (s : State) (n : ℕ) (r : Registration) (x : Remains) (p : PlainQuery)
   there k within =
       let q = query_there (engine_in s) n (pos 1) takes in
       let many : length (query_of r).nodes ≡ length r.plan.nodes.items = length-map r.plan.nodes.items node_of in
-      let nodes : length q.0.nodes ≡ length (query_of r).nodes = ap (λ z. length z.nodes) (same q.0 q.1) in
-      (may_ask (engine_in s) sound.good).operators n k q.0 p (operator k q.0 q.1 (omega (arith, within, many, nodes)))
+      let nodes : length q.0.nodes ≡ length (query_of r).nodes = ap (λ z. length z.nodes) (same q.0 q.1.0) in
+      (may_ask (engine_in s) sound.good).operators n k q.0 p (operator k q.0 q.1.0 (omega (arith, within, many, nodes)))
 
   lengths : (q : Registered) → query_at (engine_in s) n ≡ Some q → lengths_from (log_of s.streams p) p 0 (nodes_of r.plan.nodes.items) ≡ lengths_in (engine_in s).machine q (remains_at (engine_in s) n)
   lengths q at =

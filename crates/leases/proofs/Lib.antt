@@ -1,5 +1,6 @@
 pub mod ViewLemmas
 pub mod RegisterLemmas
+mod LimitLemmas
 mod LookLemmas
 mod LeaveLemmas
 mod DropLemmas

@@ -1,5 +1,5 @@
 -- A take of the first answers that wait: what it makes of the lists that an engine keeps.
-use Rattle.std.proofs.Common.{◌≡◌, ◌<◌, ◌≤◌, ◌+◌, ◌^◌, ℕ, zero, suc, ℤ, pos, negsuc, Bool, true, Option, Some, None, option_and_then, Result, Ok, Err, List, [], ◌∷◌, drop, get_or, length, map, min, set, slice_get, take, refl, sym, ap, ◌∙◌, subst, arith, of_z, w64}
+use Rattle.std.proofs.Common.{◌≡◌, ◌<◌, ◌≤◌, ◌+◌, ◌^◌, ℕ, zero, suc, ℤ, pos, negsuc, Bool, true, false, cond, Option, Some, None, option_and_then, Result, Ok, Err, List, [], ◌∷◌, drop, get_or, length, map, min, set, slice_get, take, refl, sym, ap, ◌∙◌, subst, arith, of_z, w64}
 use Rattle.std.proofs.lemmas.List.{length-map, length-take}
 use Rattle.std.proofs.lemmas.Option.{slice_get_within}
 use Rattle.std.proofs.Math.Seq.{map-set_same}
@@ -16,7 +16,8 @@ use Rattle.reference.specs.Commands.{Take, change, first_fault, of_query, take_t
 use Rattle.reference.specs.Inputs.{are_signed}
 use Rattle.reference.specs.Machine as machine
 use Rattle.reference.specs.Machine.{Registered, unless_dropped}
-use Rattle.reference.specs.Named.{name_of_registered}
+use Rattle.leases.specs.Undropped.{undropped_of}
+use Rattle.leases.proofs.LimitLemmas.{undropped_again}
 use Rattle.reference.specs.World.{handed}
 use Rattle.reference.specs.declared.fault.Fault.{Fault}
 use Rattle.reference.specs.declared.fault.Fault.TheVariants as fault
@@ -51,18 +52,22 @@ pub limit_is : (e : PlainEngine) (n : ℕ) (limit : ℤ) → None ≡ first_faul
 limit_is e n limit h = limit_tested limit (take_refused (take_tests limit) (machine.query_at e.machine n) (sym h))
 
 -- THE QUERY of an accepted take is there
-there : (tests : List (Bool × Fault)) (qs : List Registered) (n : ℕ) → of_query tests (option_and_then unless_dropped (slice_get qs n)) ≡ None → (q : Registered) × (slice_get qs n ≡ Some q)
+there : (tests : List (Bool × Fault)) (qs : List Registered) (n : ℕ) → of_query tests (option_and_then unless_dropped (slice_get qs n)) ≡ None → (q : Registered) × ((slice_get qs n ≡ Some q) × (q.is_dropped ≡ false))
 there tests [] n h = absurd (cc)
-there tests (q ∷ qs) zero h = (q, refl)
+there tests (q ∷ qs) zero h = here q.is_dropped refl h
+  where
+    here : (b : Bool) → q.is_dropped ≡ b → of_query tests (cond b None (Some q)) ≡ None → (r : Registered) × ((Some q ≡ Some r) × (r.is_dropped ≡ false))
+    here true e none = absurd (cc)
+    here false e none = (q, (refl, e))
 there tests (q ∷ qs) (suc n) h = there tests qs n h
 
-pub query_there : (e : PlainEngine) (n : ℕ) (limit : ℤ) → first_fault e.machine (Take n limit) ≡ None → (q : Registered) × (query_at e n ≡ Some q)
+pub query_there : (e : PlainEngine) (n : ℕ) (limit : ℤ) → first_fault e.machine (Take n limit) ≡ None → (q : Registered) × ((query_at e n ≡ Some q) × (q.is_dropped ≡ false))
 query_there e n limit h = there (take_tests limit) e.machine.queries n h
 
 pub registered_within : (s : State) (n : ℕ) (limit : ℤ) → first_fault (engine_in s).machine (Take n limit) ≡ None → n < length s.registered.items
 registered_within s n limit h =
     let q = query_there (engine_in s) n limit h in
-    let within : n < length (map query_of s.registered.items) = slice_get_within (engine_in s).machine.queries n q.0 q.1 in
+    let within : n < length (map query_of s.registered.items) = slice_get_within (engine_in s).machine.queries n q.0 q.1.0 in
     subst (λ z. n < z) (length-map s.registered.items query_of) within
 
 pub remains_within : (s : State) (n : ℕ) (limit : ℤ) → IsSound s → first_fault (engine_in s).machine (Take n limit) ≡ None → n < length s.remains.items
@@ -78,7 +83,7 @@ remains_is s n x within is = get_or-map remains_of s.remains.items n x Dropped w
 pub signed_at : (s : State) (n : ℕ) (limit : ℤ) (x : Remains) → IsSound s → first_fault (engine_in s).machine (Take n limit) ≡ None → x ≡ get_or s.remains.items n x → are_signed (answers_in (remains_of x)) ≡ true
 signed_at s n limit x sound h is =
     let q = query_there (engine_in s) n limit h in
-    subst (λ k. are_signed (answers_in k) ≡ true) (remains_is s n x (remains_within s n limit sound h) is) (waiting_signed (engine_in s) n q.0 sound.good sound.closed q.1)
+    subst (λ k. are_signed (answers_in k) ≡ true) (remains_is s n x (remains_within s n limit sound h) is) (waiting_signed (engine_in s) n q.0 sound.good sound.closed q.1.0)
 
 -- HOW MANY were taken
 slice_at : {X : Type 0} (xs : List X) (n : ℕ) (x d : X) → slice_get xs n ≡ Some x → get_or xs n d ≡ x
@@ -94,8 +99,8 @@ pub room_at : (s : State) (n : ℕ) (limit : ℤ) (x : Remains) (r : Registratio
     → count ≤ length (answers_in (remains_of x)) → r.taken + count < 2 ^ 101
 room_at s n limit x r count sound h is_remains is_registered few =
     let q = query_there (engine_in s) n limit h in
-    let room = taken_room (engine_in s) n q.0 sound.good sound.closed q.1 in
-    let same : q.0.taken ≡ r.taken = ap (λ z. z.taken) (taken_at s n q.0 r (registered_within s n limit h) q.1 is_registered) in
+    let room = taken_room (engine_in s) n q.0 sound.good sound.closed q.1.0 q.1.1 in
+    let same : q.0.taken ≡ r.taken = ap (λ z. z.taken) (taken_at s n q.0 r (registered_within s n limit h) q.1.0 is_registered) in
     let waits : length (answers_in (remains_at (engine_in s) n)) ≡ length (answers_in (remains_of x)) = ap (λ k. length (answers_in k)) (remains_is s n x (remains_within s n limit sound h) is_remains) in
     omega (arith, room, same, waits, few)
 
@@ -133,13 +138,13 @@ is_taken s e2 n limit x y r r2 count here there is_remains is_registered keeps t
     ∙ ap (with_both (engine_in s) (change n (took count) (map query_of s.registered.items))) (set-change remains_of (remains_after count) s.remains.items n y x here (keeps ∙ ap (λ z. remains_after count (remains_of z)) is_remains))
 
 -- WHAT IT KNOWS OF ITSELF after a take
-pub sound_again : (s s2 : State) → IsSound s → engine_in s2 ≡ engine_in s → s2.leases.items ≡ s.leases.items → s2.next ≡ s.next → s2.names ≡ s.names → s2.readers.items ≡ s.readers.items → IsSound s2
-sound_again s s2 h same leases next names readers = record {
+pub sound_again : (s s2 : State) → IsSound s → engine_in s2 ≡ engine_in s → s2.leases.items ≡ s.leases.items → s2.next ≡ s.next → s2.undropped ≡ s.undropped → s2.readers.items ≡ s.readers.items → IsSound s2
+sound_again s s2 h same leases next undropped readers = record {
   good = subst GoodEngine (sym same) h.good;
   kinds = λ g i. subst (λ e. HasKind e g) (sym same) (h.kinds g (subst (λ ls. IsIn ls g) leases i));
   few = subst (λ ls. length ls ≤ MAX_LEASES) (sym leases) h.few;
   numbers = subst (λ n. n ≤ LEASE_NUMBERS) (sym next) h.numbers;
-  named = names ∙ h.named ∙ ap (λ e. map name_of_registered e.machine.queries) (sym same);
+  named = undropped ∙ h.named ∙ ap (λ e. undropped_of e.machine.queries) (sym same);
   gone = subst (λ e. map (λ q. q.is_dropped) e.machine.queries ≡ map is_gone e.queries) (sym same) h.gone;
   columns = subst (λ e. HaveColumnNames e.machine) (sym same) h.columns;
   closed = subst (λ e. HaveFewClosed e.machine) (sym same) h.closed;
@@ -201,14 +206,14 @@ kind_taken e n limit count g h p running =
     get_operator : List PlainOperator → ℕ → PlainOperator
     get_operator os k = operator_at os k
 
-pub sound_taken : (s s2 : State) (n : ℕ) (limit : ℤ) (count : ℕ) → IsSound s → IsTake (engine_in s) n limit count → engine_in s2 ≡ taken (engine_in s) n limit count → s2.leases.items ≡ s.leases.items → s2.next ≡ s.next → s2.names ≡ s.names
+pub sound_taken : (s s2 : State) (n : ℕ) (limit : ℤ) (count : ℕ) → IsSound s → IsTake (engine_in s) n limit count → engine_in s2 ≡ taken (engine_in s) n limit count → s2.leases.items ≡ s.leases.items → s2.next ≡ s.next → s2.undropped ≡ s.undropped
     → s2.readers.items ≡ s.readers.items → IsSound s2
-sound_taken s s2 n limit count h t is leases next names readers = record {
+sound_taken s s2 n limit count h t is leases next undropped readers = record {
   good = subst GoodEngine (sym is) (take_good (engine_in s) n limit count h.good t);
   kinds = λ g i. subst (λ e. HasKind e g) (sym is) (kind_taken (engine_in s) n limit count g (h.kinds g (subst (λ ls. IsIn ls g) leases i)));
   few = subst (λ ls. length ls ≤ MAX_LEASES) (sym leases) h.few;
   numbers = subst (λ k. k ≤ LEASE_NUMBERS) (sym next) h.numbers;
-  named = names ∙ h.named ∙ sym (ap (λ e. map name_of_registered e.machine.queries) is ∙ took_by name_of_registered count n (engine_in s).machine.queries (λ q. refl));
+  named = undropped ∙ h.named ∙ sym (ap (λ e. undropped_of e.machine.queries) is ∙ undropped_again (took count) n (engine_in s).machine.queries (λ q. refl) (λ q k. refl));
   gone = ap (λ e. map (λ q. q.is_dropped) e.machine.queries) is ∙ took_by (λ q. q.is_dropped) count n (engine_in s).machine.queries (λ q. refl) ∙ h.gone ∙ sym (ap (λ e. map is_gone e.queries) is ∙ gone_taken count n (engine_in s).queries);
   columns = subst (λ e. HaveColumnNames e.machine) (sym is) h.columns;
   closed = subst (λ e. HaveFewClosed e.machine) (sym is) (few_closed_stand.goes_on (engine_in s).machine (Take n limit) count t.accepted h.closed);

@@ -81,15 +81,15 @@ pub record Stops (n : ℕ) (old new : State) : Type 0 where
   pub slots : new.slots ≡ without_query n old.slots
   pub rest : new ≡ record old { leases = new.leases; readers = new.readers; slots = new.slots }
 
--- a query leaves: names are as they were, its windows are listed no more, and no turn goes out
+-- a query leaves: what is kept of those that were not dropped is as it was, its windows are listed no more, and no turn goes out
 pub record Forgets (n : ℕ) (old new : State) : Type 0 where
-  pub names : new.names ≡ old.names
+  pub undropped : new.undropped ≡ old.undropped
   pub readers : new.readers.items ≡ filter (λ r. not (r.query == n)) old.readers.items
   pub leases : (t : Turn) → IsIn new.leases.items t → IsIn old.leases.items t
 
--- names and readers are as they were, and no turn goes out
+-- what is kept of undropped queries and the readers are as they were, and no turn goes out
 pub record GivesNothing (old new : State) : Type 0 where
-  pub names : new.names ≡ old.names
+  pub undropped : new.undropped ≡ old.undropped
   pub readers : new.readers.items ≡ old.readers.items
   pub leases : (t : Turn) → IsIn new.leases.items t → IsIn old.leases.items t
 

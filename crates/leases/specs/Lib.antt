@@ -13,3 +13,4 @@ pub mod Leasing
 pub mod Readers
 pub mod Runs
 pub mod Queues
+pub mod Undropped

@@ -12,7 +12,7 @@ mod takes;
 use crate::reader::Reader;
 use crate::registered::Registration;
 use crate::remains::Remains;
-use name_table::NameTable;
+use crate::undropped::Undropped;
 use run_queue::RunQueue;
 use std::alloc::Global;
 use stream_store::Streams;
@@ -26,8 +26,8 @@ pub(crate) struct State {
     alloc: Global,
     /// The declared streams, by number, with their open rows and with those that are closed.
     pub(crate) streams: Streams,
-    /// By the queries' numbers, the name of each that was not dropped.
-    pub(crate) names: NameTable,
+    /// What is kept of the queries that were not dropped: their names and row limits.
+    pub(crate) undropped: Undropped,
     /// By the queries' numbers, each as it was registered.
     registered: Vec<Registration>,
     /// By the queries' numbers, what is left of each: as many as were registered.

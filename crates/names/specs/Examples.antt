@@ -6,7 +6,7 @@ use Rattle.values.specs.declared.resolved.Compare.TheVariants.{Equals, Above}
 use Rattle.values.specs.Window as windows
 use Rattle.values.specs.Relation as relations
 use Rattle.values.specs.Answers.{Istream}
-use Rattle.cql_reader.specs.Query.{Reference, Entry, Column, CountAll, Sum, Entries, All, Each, Now, Partition, Source, Named, Number, Condition, Compared, And, Or, Query}
+use Rattle.cql_reader.specs.Query.{Reference, Entry, Column, CountAll, Sum, Entries, All, Each, Now, RangeSlide, Partition, Source, Named, Number, Condition, Compared, And, Or, Query}
 use Rattle.names.specs.Catalog.{Stream}
 use Rattle.names.specs.Resolved.{resolved, streams, widths}
 use Rattle.names.specs.Split.{all_conjuncts, own_of, join_keys_of, remaining}
@@ -81,6 +81,10 @@ own_source_alone = refl
 partition_places : (resolved (query All (of 65 ∷ partitioned ∷ []) None []) declared).windows ≡ windows.Range 0 ∷ windows.LastRows (0 ∷ []) 1 ∷ []
 partition_places = refl
 
+-- From S [Range 5 Slide 2]
+sliding : (resolved (query All (record { stream = name 83; window = RangeSlide 5 2; alias = None } ∷ []) None []) declared).windows ≡ windows.RangeSlide 5 2 ∷ []
+sliding = refl
+
 -- Select Istream(a, Count(*)) From S: the column is not grouped
 not_grouped : first_fault (query (Each (Column (plain 97) ∷ CountAll ∷ [])) (of 83 ∷ []) None []) declared ≡ Some NotGrouped
 not_grouped = refl
@@ -113,6 +117,14 @@ three = query (Each (Column (dotted 65 107) ∷ Column (dotted 67 118) ∷ [])) 
 
 three_accepted : first_fault three declared ≡ None
 three_accepted = refl
+
+-- B's key is with A, C's with B
+three_keys : join_keys_of 3 (all_conjuncts (resolved three declared).condition)
+    ≡ (record { earlier = record { source = 0; column = 0 }; column = 0 } ∷ []) ∷ (record { earlier = record { source = 1; column = 1 }; column = 0 } ∷ []) ∷ []
+three_keys = refl
+
+three_rest : remaining 3 (all_conjuncts (resolved three declared).condition) ≡ []
+three_rest = refl
 
 -- From A, C, B: C has no key with A
 three_untied : first_fault (query (Each (Column (dotted 65 107) ∷ [])) (of 65 ∷ of 67 ∷ of 66 ∷ []) (Some tied) []) declared ≡ Some NoJoinKey

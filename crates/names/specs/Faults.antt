@@ -32,6 +32,7 @@ references_of_where (Some c) = references_of_condition c
 abbrev pub partition_of : syntax.Window → List syntax.Reference
 partition_of syntax.Now = []
 partition_of (syntax.Range instants) = []
+partition_of (syntax.RangeSlide instants step) = []
 partition_of syntax.Unbounded = []
 partition_of (syntax.Rows rows) = []
 partition_of (syntax.Partition by rows) = by

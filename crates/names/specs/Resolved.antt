@@ -2,7 +2,7 @@
 use Rattle.std.specs.Prelude.{ℕ, suc, Bool, true, false, cond, ◌&&◌, ◌||◌, ◌==◌, List, [], ◌∷◌, ◌++◌, map, length, position, unwrap_or}
 use Rattle.std.specs.List.{list_any, flat_map, range_with_len}
 use Rattle.std.specs.Option.{option_map}
-use Rattle.values.specs.Window.{Window, Range, Unbounded, LastRows}
+use Rattle.values.specs.Window.{Window, Range, RangeSlide, Unbounded, LastRows}
 use Rattle.values.specs.Condition.{Column, Operand, Field, Number, Condition, Compared, Not, And, Or}
 use Rattle.values.specs.Relation.{Shape, ListItem, Listed, Grouped, Key, CountAll, Count, Sum, Min, Max}
 use Rattle.values.specs.Answers.{Resolved}
@@ -14,6 +14,7 @@ use Rattle.names.specs.Matches.{Table, table_of, tables, column_of, place_in}
 abbrev pub window_of : Table → syntax.Window → Window
 window_of t syntax.Now = Range 0
 window_of t (syntax.Range instants) = Range instants
+window_of t (syntax.RangeSlide instants step) = RangeSlide instants step
 window_of t syntax.Unbounded = Unbounded
 window_of t (syntax.Rows rows) = LastRows [] rows
 window_of t (syntax.Partition by rows) = LastRows (map (place_in t) by) rows

@@ -109,6 +109,9 @@ fn window_of(
     match window {
         cql_reader::Window::Now => Ok(Window::Range(0)),
         cql_reader::Window::Range(instants) => Ok(Window::Range(*instants)),
+        cql_reader::Window::RangeSlide(instants, step) => {
+            Ok(Window::RangeSlide(*instants, *step))
+        }
         cql_reader::Window::Unbounded => Ok(Window::Unbounded),
         cql_reader::Window::Rows(rows) => Ok(Window::LastRows(Vec::new(alloc), *rows)),
         cql_reader::Window::Partition(by, rows) => Ok(Window::LastRows(

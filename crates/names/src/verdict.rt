@@ -176,6 +176,7 @@ fn judge_window(table: &Table, window: &Window) -> Verdict
         Window::Partition(by, _) => judge_within(table, by),
         Window::Now => Verdict::good(),
         Window::Range(_) => Verdict::good(),
+        Window::RangeSlide(_, _) => Verdict::good(),
         Window::Unbounded => Verdict::good(),
         Window::Rows(_) => Verdict::good(),
     }

@@ -10,6 +10,7 @@ use Rattle.op_queue.specs.declared.item.Item.{Item}
 use Rattle.group.specs.Turns as groups
 use Rattle.join.specs.Turns as join
 use Rattle.to_stream.specs.Turns as root
+use Rattle.windows.specs.Slide as slide
 use Rattle.turn.specs.Turns.{Answered, Outs, Put, change_at, outs_at}
 use Rattle.turn.specs.declared.kinds.Kind.{Kind}
 use Rattle.turn.specs.declared.kinds.Kind.TheVariants as kind
@@ -21,7 +22,7 @@ use Rattle.operators.specs.States.{FitsState, HasColumns, IsNext, Takes, near_of
 use Rattle.operators.specs.declared.inboxes.Inbox.{Inbox}
 use Rattle.operators.specs.declared.inboxes.Inbox.TheVariants.{Between}
 use Rattle.operators.specs.declared.states.State.{State}
-use Rattle.operators.specs.declared.states.State.TheVariants.{Range, Latest, Nothing, Join, Groups, Root}
+use Rattle.operators.specs.declared.states.State.TheVariants.{Range, Slide, Latest, Nothing, Join, Groups, Root}
 use Rattle.operators.proofs.KindLemmas.{near_fits}
 use Rattle.operators.proofs.LatestLemmas.{latest_after, latest_next}
 
@@ -30,6 +31,9 @@ take_by : (k : Kind) (s : State) (side : Side) (i : Item) → Belongs k s → Ha
 take_by kind.RangeWindow s side i b c n t =
     let r = subst (λ v. Takes v side i (change_at kind.RangeWindow i (near_of v side i))) b.1 t in
     subst (λ v. MayTake kind.RangeWindow v side i) (sym b.1) (record { after = r.after; wide = r.wide })
+take_by kind.SlideWindow s side i b c n t =
+    let r = subst (λ v. Takes v side i (change_at kind.SlideWindow i (near_of v side i))) b.1 t in
+    subst (λ v. MayTake kind.SlideWindow v side i) (sym b.1) r
 take_by kind.LatestWindow s side i b c n t =
     let r = subst (λ v. HasColumns v side i) b.1 c in
     subst (λ v. MayTake kind.LatestWindow v side i) (sym b.1) r
@@ -51,6 +55,7 @@ may_take o side i t = take_by o.kind o.state side i t.belongs t.columns t.named 
 
 pub outs_same : (k : Kind) (s : State) (side : Side) (i : Item) → Belongs k s → outs_at k side i (near_of s side i) ≡ outs_from k s side i
 outs_same kind.RangeWindow s side i b = subst (λ v. outs_at kind.RangeWindow side i (near_of v side i) ≡ outs_from kind.RangeWindow v side i) (sym b.1) refl
+outs_same kind.SlideWindow s side i b = subst (λ v. outs_at kind.SlideWindow side i (near_of v side i) ≡ outs_from kind.SlideWindow v side i) (sym b.1) refl
 outs_same kind.LatestWindow s side i b = subst (λ v. outs_at kind.LatestWindow side i (near_of v side i) ≡ outs_from kind.LatestWindow v side i) (sym b.1) refl
 outs_same (kind.Select steps) s side i b = subst (λ v. outs_at (kind.Select steps) side i (near_of v side i) ≡ outs_from (kind.Select steps) v side i) (sym b) refl
 outs_same (kind.Project columns) s side i b = subst (λ v. outs_at (kind.Project columns) side i (near_of v side i) ≡ outs_from (kind.Project columns) v side i) (sym b) refl
@@ -62,6 +67,7 @@ outs_same kind.ToStream s side i b = subst (λ v. outs_at kind.ToStream side i (
 
 pub next_same : (k : Kind) (s : State) (side : Side) (i : Item) (new : State) → Belongs k s → IsAfterItem s side i new → IsNext s side i (change_at k i (near_of s side i)) new
 next_same kind.RangeWindow s side i new b = subst (λ v. IsAfterItem v side i new → IsNext v side i (change_at kind.RangeWindow i (near_of v side i)) new) (sym b.1) (λ h. h)
+next_same kind.SlideWindow s side i new b = subst (λ v. IsAfterItem v side i new → IsNext v side i (change_at kind.SlideWindow i (near_of v side i)) new) (sym b.1) (λ h. h)
 next_same kind.LatestWindow s side i new b = subst (λ v. IsAfterItem v side i new → IsNext v side i (change_at kind.LatestWindow i (near_of v side i)) new) (sym b.1) (λ h. h)
 next_same (kind.Select steps) s side i new b = subst (λ v. IsAfterItem v side i new → IsNext v side i (change_at (kind.Select steps) i (near_of v side i)) new) (sym b) (λ h. h)
 next_same (kind.Project columns) s side i new b = subst (λ v. IsAfterItem v side i new → IsNext v side i (change_at (kind.Project columns) i (near_of v side i)) new) (sym b) (λ h. h)
@@ -74,6 +80,7 @@ next_same kind.ToStream s side i new b = subst (λ v. IsAfterItem v side i new �
 -- each state has a next one
 abbrev next_state : State → Side → Item → State
 next_state (Range s) side i = Range (range_after s i)
+next_state (Slide s) side i = Slide (slide.next s i)
 next_state (Latest s) side i = Latest (latest_next s i)
 next_state Nothing side i = Nothing
 next_state (Join s) side i = Join (join.next s side i)
@@ -82,6 +89,7 @@ next_state (Root s) side i = Root (root.next s i)
 
 is_next : (s : State) (side : Side) (i : Item) → IsAfterItem s side i (next_state s side i)
 is_next (Range s) side i = refl
+is_next (Slide s) side i = refl
 is_next (Latest s) side i = latest_after s i
 is_next Nothing side i = refl
 is_next (Join s) side i = refl
@@ -97,6 +105,7 @@ record AnswersAt (k : Kind) (s : State) (side : Side) (i : Item) : Type 0 where
 
 answers_at : (k : Kind) (s : State) (side : Side) (i : Item) → Belongs k s → MayTake k s side i → IsGiven (outs_at k side i (near_of s side i)) → AnswersAt k s side i
 answers_at kind.RangeWindow s side i b t g = elim (subst (λ v. IsGiven (outs_at kind.RangeWindow side i (near_of v side i))) b.1 g) [ ]
+answers_at kind.SlideWindow s side i b t g = elim (subst (λ v. IsGiven (outs_at kind.SlideWindow side i (near_of v side i))) b.1 g) [ ]
 answers_at kind.LatestWindow s side i b t g = elim (subst (λ v. IsGiven (outs_at kind.LatestWindow side i (near_of v side i))) b.1 g) [ ]
 answers_at (kind.Select steps) s side i b t g = elim (subst (λ v. IsGiven (outs_at (kind.Select steps) side i (near_of v side i))) b g) [ ]
 answers_at (kind.Project columns) s side i b t g = elim (subst (λ v. IsGiven (outs_at (kind.Project columns) side i (near_of v side i))) b g) [ ]

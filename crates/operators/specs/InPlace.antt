@@ -17,20 +17,22 @@ use Rattle.to_stream.specs.Turns as root
 use Rattle.windows.specs.Latest as latest
 use Rattle.windows.specs.Range as range
 use Rattle.windows.specs.Range.{IsAfter, RangeState}
+use Rattle.windows.specs.Slide as slide
 use Rattle.windows.specs.Widths.{IsItemWide}
 use Rattle.turn.specs.Turns.{Answered, Outs, Put}
 use Rattle.turn.specs.declared.kinds.Kind.{Kind}
 use Rattle.turn.specs.declared.kinds.Kind.TheVariants as kind
 use Rattle.operators.specs.Inboxes.{IsDropped, all_begins, all_entries, begins_in, cut_of, is_fed, queued}
 use Rattle.operators.specs.Operators.{HasNamedColumns, PlainOperator, inbox_of, other, waiting}
-use Rattle.operators.specs.States.{IsLatestAfter, range_after}
+use Rattle.operators.specs.States.{IsLatestAfter, TakesSlide, range_after}
 use Rattle.operators.specs.declared.inboxes.Inbox.{Inbox}
 use Rattle.operators.specs.declared.states.State.{State}
-use Rattle.operators.specs.declared.states.State.TheVariants.{Range, Latest, Nothing, Join, Groups, Root}
+use Rattle.operators.specs.declared.states.State.TheVariants.{Range, Slide, Latest, Nothing, Join, Groups, Root}
 
 -- WHAT A TURN OF A STATE IS; the kind says no more than what Select and Project do
 abbrev pub IsRowNode : Kind → Type 0
 IsRowNode kind.RangeWindow = ⊥
+IsRowNode kind.SlideWindow = ⊥
 IsRowNode kind.LatestWindow = ⊥
 IsRowNode (kind.Select steps) = Unit {0}
 IsRowNode (kind.Project columns) = Unit {0}
@@ -40,6 +42,7 @@ IsRowNode kind.ToStream = ⊥
 
 abbrev pub row_outs : Kind → Item → List (Entry Row)
 row_outs kind.RangeWindow i = []
+row_outs kind.SlideWindow i = []
 row_outs kind.LatestWindow i = []
 row_outs (kind.Select steps) i = selected steps i
 row_outs (kind.Project columns) i = projected columns i
@@ -61,6 +64,7 @@ pub record MayTakeSide (s : JoinState) (side : Side) (i : Item) : Type 0 where
 
 abbrev pub MayTake : Kind → State → Side → Item → Type 0
 MayTake k (Range s) side i = MayTakeRange s i
+MayTake k (Slide s) side i = TakesSlide s i
 MayTake k (Latest s) side i = IsItemWide s.width i
 MayTake k Nothing side i = MayTakeRows k i
 MayTake k (Join s) side i = MayTakeSide s side i
@@ -69,6 +73,7 @@ MayTake k (Root s) side i = root.HasRoom s i
 
 abbrev pub outs_from : Kind → State → Side → Item → Outs
 outs_from k (Range s) side i = Put (range.out i (range.near s i))
+outs_from k (Slide s) side i = Put (slide.out i (slide.near s i))
 outs_from k (Latest s) side i = Put (latest.out i (latest.near s i))
 outs_from k Nothing side i = Put (row_outs k i)
 outs_from k (Join s) side i = Put (join.out side i (join.near s side i))
@@ -77,6 +82,7 @@ outs_from k (Root s) side i = Answered (root.out i (root.near s i))
 
 abbrev pub IsAfterItem : State → Side → Item → State → Type 0
 IsAfterItem (Range s) side i new = new ≡ Range (range_after s i)
+IsAfterItem (Slide s) side i new = new ≡ Slide (slide.next s i)
 IsAfterItem (Latest s) side i new = IsLatestAfter s i new
 IsAfterItem Nothing side i new = new ≡ Nothing
 IsAfterItem (Join s) side i new = new ≡ Join (join.next s side i)
@@ -86,6 +92,7 @@ IsAfterItem (Root s) side i new = new ≡ Root (root.next s i)
 -- of a root: it takes the item, what it answers, and the state after it
 abbrev pub MayAnswer : State → Item → Type 0
 MayAnswer (Range s) i = ⊥
+MayAnswer (Slide s) i = ⊥
 MayAnswer (Latest s) i = ⊥
 MayAnswer Nothing i = ⊥
 MayAnswer (Join s) i = ⊥
@@ -94,6 +101,7 @@ MayAnswer (Root s) i = root.HasRoom s i
 
 abbrev pub answers_from : State → Item → List (ℕ × Row)
 answers_from (Range s) i = []
+answers_from (Slide s) i = []
 answers_from (Latest s) i = []
 answers_from Nothing i = []
 answers_from (Join s) i = []
@@ -102,6 +110,7 @@ answers_from (Root s) i = root.out i (root.near s i)
 
 abbrev pub after_answers : State → Item → State
 after_answers (Range s) i = Range s
+after_answers (Slide s) i = Slide s
 after_answers (Latest s) i = Latest s
 after_answers Nothing i = Nothing
 after_answers (Join s) i = Join s

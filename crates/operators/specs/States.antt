@@ -13,15 +13,17 @@ use Rattle.to_stream.specs.Turns as root
 use Rattle.windows.specs.Latest as latest
 use Rattle.windows.specs.Latest.{LatestState, held_in}
 use Rattle.windows.specs.Range as range
+use Rattle.windows.specs.Slide as slide
+use Rattle.windows.specs.Slide.{SlideState}
 use Rattle.windows.specs.Range.{RangeState, IsAfter}
 use Rattle.windows.specs.Widths.{IsItemWide}
-use Rattle.turn.specs.Turns.{FitsRange, FitsLatest, FitsJoin, FitsGroup, FitsRoot}
+use Rattle.turn.specs.Turns.{FitsRange, FitsLatest, FitsJoin, FitsGroup, FitsRoot, FitsSlide}
 use Rattle.turn.specs.declared.excerpts.Near.{Near}
 use Rattle.turn.specs.declared.excerpts.Near.TheVariants as near
 use Rattle.turn.specs.declared.outcomes.Change.{Change}
 use Rattle.turn.specs.declared.outcomes.Change.TheVariants as change
 use Rattle.operators.specs.declared.states.State.{State}
-use Rattle.operators.specs.declared.states.State.TheVariants.{Range, Latest, Nothing, Join, Groups, Root}
+use Rattle.operators.specs.declared.states.State.TheVariants.{Range, Slide, Latest, Nothing, Join, Groups, Root}
 
 -- WHICH SIDE CAN BE USED
 -- an operator with one input uses the left side, a join any side that has not ticked in its current instant
@@ -31,6 +33,7 @@ is_left Right = false
 
 abbrev pub usable : State → Side → Bool
 usable (Range s) side = is_left side
+usable (Slide s) side = is_left side
 usable (Latest s) side = is_left side
 usable Nothing side = is_left side
 usable (Join s) side = not (side_of s side).ticked
@@ -40,6 +43,7 @@ usable (Root s) side = is_left side
 -- THE EXCERPT
 abbrev pub near_of : State → Side → Item → Near
 near_of (Range s) side i = near.Leaving (range.near s i)
+near_of (Slide s) side i = near.Sliding (slide.near s i)
 near_of (Latest s) side i = near.Fallen (latest.near s i)
 near_of Nothing side i = near.Nothing
 near_of (Join s) side i = near.Met (join.near s side i)
@@ -49,6 +53,7 @@ near_of (Root s) side i = near.Sorted (root.near s i)
 -- the item has the columns that the look-up of the excerpt asks for
 abbrev pub HasColumns : State → Side → Item → Type 0
 HasColumns (Range s) side i = Unit {0}
+HasColumns (Slide s) side i = Unit {0}
 HasColumns (Latest s) side i = IsItemWide s.width i
 HasColumns Nothing side i = Unit {0}
 HasColumns (Join s) side i = join.IsItemWide (side_of s side).width i
@@ -58,6 +63,7 @@ HasColumns (Root s) side i = Unit {0}
 -- the excerpt has the kind and the columns that a turn of the state's operator asks for
 abbrev pub FitsState : State → Item → Near → Type 0
 FitsState (Range s) i n = FitsRange n
+FitsState (Slide s) i n = FitsSlide n
 FitsState (Latest s) i n = FitsLatest i n
 FitsState Nothing i n = n ≡ near.Nothing
 FitsState (Join s) i n = FitsJoin i n
@@ -83,6 +89,7 @@ pub record LatestAfter (s : LatestState) (i : Item) (new : LatestState) : Type 0
 
 abbrev pub IsLatestAfter : LatestState → Item → State → Type 0
 IsLatestAfter s i (Range new) = ⊥
+IsLatestAfter s i (Slide new) = ⊥
 IsLatestAfter s i (Latest new) = LatestAfter s i new
 IsLatestAfter s i Nothing = ⊥
 IsLatestAfter s i (Join new) = ⊥
@@ -93,6 +100,7 @@ IsLatestAfter s i (Root new) = ⊥
 -- that has the same rows at each key; all else is a function
 abbrev pub IsNext : State → Side → Item → Change → State → Type 0
 IsNext (Range s) side i c new = new ≡ Range (range_after s i)
+IsNext (Slide s) side i c new = new ≡ Slide (slide.next s i)
 IsNext (Latest s) side i c new = IsLatestAfter s i new
 IsNext Nothing side i c new = new ≡ Nothing
 IsNext (Join s) side i c new = new ≡ Join (join.next s side i)
@@ -111,6 +119,10 @@ TakesRange s i change.Nothing = ⊥
 TakesRange s i (change.Leave leave) = RangeTakes s i leave
 TakesRange s i (change.Groups shown) = ⊥
 
+pub record TakesSlide (s : SlideState) (i : Item) : Type 0 where
+  pub after : IsAfter (item_instant i) s.held
+  pub wide : IsItemWide s.width i
+
 abbrev pub TakesGroups : GroupState → Item → Change → Type 0
 TakesGroups s i change.Nothing = ⊥
 TakesGroups s i (change.Leave leave) = ⊥
@@ -118,6 +130,7 @@ TakesGroups s i (change.Groups shown) = RoomFor s i
 
 abbrev pub Takes : State → Side → Item → Change → Type 0
 Takes (Range s) side i c = TakesRange s i c
+Takes (Slide s) side i c = TakesSlide s i
 Takes (Latest s) side i c = IsItemWide s.width i
 Takes Nothing side i c = Unit {0}
 Takes (Join s) side i c = join.HasRoom (side_of s side) i

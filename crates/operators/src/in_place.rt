@@ -4,15 +4,16 @@ ghost use Rattle.op_queue.specs.Entries.{IsForward};
 ghost use Rattle.op_queue.specs.Queues.{HasGained};
 ghost use Rattle.to_stream.specs.Turns as roots;
 ghost use Rattle.to_stream.specs.Turns.{answers_of};
-ghost use Rattle.turn.specs.Turns.{FitsRange, FitsLatest};
+ghost use Rattle.turn.specs.Turns.{FitsRange, FitsLatest, FitsSlide};
 ghost use Rattle.turn.specs.declared.excerpts.Near.TheVariants as nears;
 ghost use Rattle.operators.specs.InPlace.{HasQueued, HaveCome, IsAfterItem, MayAnswer};
 ghost use Rattle.operators.specs.InPlace.{MayComeAll, MayQueue, MayTake, MayTakeRange};
 ghost use Rattle.operators.specs.InPlace.{MayTakeRows, after_answers, answers_from, outs_from};
 ghost use Rattle.operators.specs.InPlace.{row_outs};
-ghost use Rattle.operators.specs.States.{FitsState, LatestAfter, near_of, range_after};
+ghost use Rattle.operators.specs.States.{FitsState, LatestAfter, TakesSlide, near_of, range_after};
 ghost use Rattle.windows.specs.Latest as latest;
 ghost use Rattle.windows.specs.Range as ranges;
+ghost use Rattle.windows.specs.Slide as slides;
 ghost use Rattle.windows.specs.Widths.{IsItemWide};
 
 use crate::inboxes::Inbox;
@@ -25,7 +26,7 @@ use std::collections::VecDeque;
 use to_stream::ToStream;
 use turn::Kind;
 use values::Row;
-use windows::{LatestWindow, RangeWindow};
+use windows::{LatestWindow, RangeWindow, SlideWindow};
 
 impl State {
     /// Takes an item, which has left its queue. What the turn puts out comes to the back of the
@@ -69,6 +70,7 @@ impl State {
     {
         match self {
             State::Range(window) => run_range(alloc, window, item, queue),
+            State::Slide(window) => run_slide(alloc, window, item, queue),
             State::Latest(window) => run_latest(alloc, window, item, queue),
             State::Nothing => run_rows(alloc, kind, item, queue),
             State::Join(join) => join.run(alloc, side, item, queue),
@@ -126,6 +128,23 @@ fn run_range(
     ensures gained { OnOk result
         (HasGained (ranges.out item (ranges.near window.old item)) queue.old queue.new) }
     ensures fits { FitsRange (nears.Leaving (ranges.near window.old item)) }
+{
+    window.run(alloc, item, queue)
+}
+
+fn run_slide(
+    alloc: Global,
+    window: &mut SlideWindow,
+    item: Item,
+    queue: &mut Queue,
+) -> Result<(), AllocError>
+    requires may { TakesSlide window.old item }
+    requires forward { IsForward (queue.old.entries
+        ++ slides.out item (slides.near window.old item)) }
+    ensures next { OnOk result (window.new ≡ slides.next window.old item) }
+    ensures gained { OnOk result
+        (HasGained (slides.out item (slides.near window.old item)) queue.old queue.new) }
+    ensures fits { FitsSlide (nears.Sliding (slides.near window.old item)) }
 {
     window.run(alloc, item, queue)
 }

@@ -1,5 +1,5 @@
 -- The operators of a plan at their beginning.
-use Rattle.std.specs.Prelude.{ℕ, ◌+◌, ◌≡◌, ◌≤◌, Option, Some, None, false, List, [], ◌∷◌, ◌++◌, map, length, get_or}
+use Rattle.std.specs.Prelude.{ℕ, ◌+◌, ◌≡◌, ◌<◌, ◌≤◌, Option, Some, None, false, List, [], ◌∷◌, ◌++◌, map, length, get_or}
 use Rattle.std.specs.List.{AllByRecursion}
 use Rattle.values.specs.declared.TheConstants.{MAX_COLUMNS}
 use Rattle.values.specs.Row.{Row}
@@ -50,7 +50,7 @@ window_at ws s = get_or ws s window.Unbounded
 
 abbrev pub window_kind : Window → Kind
 window_kind (window.Range n) = kind.RangeWindow
-window_kind (window.RangeSlide n l) = kind.RangeWindow
+window_kind (window.RangeSlide n l) = kind.SlideWindow
 window_kind window.Unbounded = kind.RangeWindow
 window_kind (window.LastRows columns n) = kind.LatestWindow
 
@@ -70,6 +70,9 @@ kind_made ws widths (ToStream i op) = kind.ToStream
 abbrev pub range_made : Option ℕ → ℕ → State
 range_made span w = state.Range (record { span = span; width = w; held = [] })
 
+abbrev pub slide_made : ℕ → ℕ → ℕ → State
+slide_made span step w = state.Slide (record { span = span; step = step; width = w; held = []; shown = 0 })
+
 pub record IsLatestMade (by : List ℕ) (n w : ℕ) (s : LatestState) : Type 0 where
   pub columns : s.columns ≡ by
   pub count : s.count ≡ n
@@ -81,7 +84,7 @@ LatestStarts columns n w s = (held : LatestState) × (s ≡ state.Latest held) �
 
 abbrev pub WindowStarts : Window → ℕ → State → Type 0
 WindowStarts (window.Range n) w s = s ≡ range_made (Some n) w
-WindowStarts (window.RangeSlide n l) w s = s ≡ range_made (Some n) w
+WindowStarts (window.RangeSlide n l) w s = s ≡ slide_made n l w
 WindowStarts window.Unbounded w s = s ≡ range_made None w
 WindowStarts (window.LastRows columns n) w s = LatestStarts columns.items n w s
 
@@ -123,16 +126,16 @@ pub record IsMade (ws : List Window) (vs widths places : List ℕ) (start : ℕ)
   pub left : InboxStarts places start node o.left
   pub right : o.right ≡ nothing_waits
 
--- THE CALLER'S CONDITIONS, which the plan of a query that a row has room for meets: lists of columns are of at most MAX_COLUMNS, and conditions speak of
--- the one row that goes between operators
-abbrev pub IsNarrowWindow : Window → Type 0
-IsNarrowWindow (window.Range n) = Unit {0}
-IsNarrowWindow (window.RangeSlide n l) = Unit {0}
-IsNarrowWindow window.Unbounded = Unit {0}
-IsNarrowWindow (window.LastRows columns n) = length columns.items ≤ MAX_COLUMNS
+-- THE CALLER'S CONDITIONS, which the plan of a query that a row has room for meets: lists of columns are of at most MAX_COLUMNS, a window moves at
+-- the multiples of one or more, and conditions speak of the one row that goes between operators
+abbrev pub IsMakeableWindow : Window → Type 0
+IsMakeableWindow (window.Range n) = Unit {0}
+IsMakeableWindow (window.RangeSlide n l) = 0 < l
+IsMakeableWindow window.Unbounded = Unit {0}
+IsMakeableWindow (window.LastRows columns n) = length columns.items ≤ MAX_COLUMNS
 
 abbrev pub IsMakeable : List Window → List ℕ → Node → Type 0
-IsMakeable ws widths (Source s) = IsNarrowWindow (window_at ws s)
+IsMakeable ws widths (Source s) = IsMakeableWindow (window_at ws s)
 IsMakeable ws widths (Select i cs) = AllByRecursion (λ c. IsOfOneSource (condition_of c)) cs.items
 IsMakeable ws widths (Join i j keys) = get_or widths i 0 + get_or widths j 0 ≤ MAX_COLUMNS
 IsMakeable ws widths (Project i places) = length places.items ≤ MAX_COLUMNS

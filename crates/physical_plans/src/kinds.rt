@@ -44,6 +44,7 @@ fn window_kind(windows: &[Window], source: usize) -> Kind
     ensures { result ≡ window_kind (window_at windows.now source) }
 {
     match windows.get(source) {
+        Some(Window::RangeSlide(_, _)) => Kind::SlideWindow,
         Some(Window::LastRows(_, _)) => Kind::LatestWindow,
         _ => Kind::RangeWindow,
     }

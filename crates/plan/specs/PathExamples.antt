@@ -65,3 +65,18 @@ sizes_that_stand_still = refl
 all_at_the_first_step : slopes simple (Some (pair 1 0 ∷ pair 1 0 ∷ pair 1 0 ∷ [])) ≡ fraction 1000000 1 ∷ fraction 0 1 ∷ fraction 0 1 ∷ []
 unfolding slopes_of slope_at lowest_terms common_divisor
 all_at_the_first_step = refl
+
+-- Select Istream(A.k, C.v) From A [Now], B [Now], C [Now] Where A.k = B.k And B.v = C.v
+abbrev three : List Node
+three =
+    Window 0 ∷ Window 1 ∷ Window 2 ∷ Join 0 1 (record { left = 0; right = 0 } ∷ []) ∷ Join 3 2 (record { left = 2; right = 0 } ∷ [])
+    ∷ Project 4 (at 0 ∷ at 3 ∷ []) ∷ ToStream 5 Istream ∷ []
+
+-- the third source's path has the second join alone
+paths_of_three : map (path_from three) (windows 0 three) ≡ (0 ∷ 3 ∷ 4 ∷ 5 ∷ 6 ∷ []) ∷ (1 ∷ 3 ∷ 4 ∷ 5 ∷ 6 ∷ []) ∷ (2 ∷ 4 ∷ 5 ∷ 6 ∷ []) ∷ []
+paths_of_three = refl
+
+of_three : slopes three None
+    ≡ fraction 250000 3 ∷ fraction 250000 3 ∷ fraction 125000 1 ∷ fraction 250000 3 ∷ fraction 125000 1 ∷ fraction 125000 1 ∷ fraction 125000 1 ∷ []
+unfolding slopes_of slope_at lowest_terms common_divisor
+of_three = refl

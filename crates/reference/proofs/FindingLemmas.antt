@@ -69,7 +69,7 @@ few_widths catalog (s ∷ sources) h =
     let both = sum_by-cons (λ (n : ℕ). n) (length (columns_in catalog s.stream)) (map (λ t. length t.columns) (tables catalog sources)) in
     omega (arith, more, one, both)
 
--- a query of at most two sources over them has rows of at most MAX_COLUMNS values
+-- the rows of all sources of a query over them have together at most MAX_COLUMNS values
 pub narrow : (catalog : List catalogs.Stream) (query : Query) → IsWellFormed (query_of query) → AreNarrow catalog
     → sum (widths (query_of query) catalog) ≤ MAX_COLUMNS
 narrow catalog query good h =

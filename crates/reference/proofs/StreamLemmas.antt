@@ -1,5 +1,5 @@
 -- What the tests of an append let through, and what it makes of a stream.
-use Rattle.std.proofs.Common.{◌≡◌, ◌≤◌, ◌+◌, ℕ, ℤ, Bool, true, false, not, ◌&&◌, ◌||◌, ◌==◌, nat_le, Option, None, List, [], ◌∷◌, ◌++◌, length, refl, ap, arith, pos, int_le, int_lt, nat_lt, nat_abs, length-append}
+use Rattle.std.proofs.Common.{◌≡◌, ◌≤◌, ◌+◌, ℕ, ℤ, Bool, true, false, not, ◌&&◌, ◌||◌, ◌==◌, nat_le, Option, None, Some, List, [], ◌∷◌, ◌++◌, length, refl, ap, ◌∙◌, arith, pos, int_le, int_lt, nat_lt, nat_abs, length-append}
 use Rattle.std.specs.List.{list_any, list_all}
 use Rattle.std.proofs.lemmas.List.{length-map}
 use Rattle.std.proofs.lemmas.Bool.{le-leb, eqb-true, ltb-false}
@@ -8,8 +8,8 @@ use Rattle.reference.specs.declared.fault.Fault.{Fault}
 use Rattle.reference.specs.declared.limits.TheConstants.{MAX_INSTANT, MAX_APPENDED, MAX_STREAM_ROWS}
 use Rattle.reference.specs.declared.fault.Fault.TheVariants.{TooMany, BadWidth, ValueRange, InstantRange, Late, StreamFull}
 use Rattle.names.specs.Faults.{first_of}
-use Rattle.reference.specs.Machine.{Stream}
-use Rattle.reference.specs.Commands.{append_tests, is_stream_value, is_instant}
+use Rattle.reference.specs.Machine.{Registered, Stream}
+use Rattle.reference.specs.Commands.{append_tests, crowd_tests, is_crowded, is_stream_value, is_instant, of_stream, rows_tests}
 use Rattle.reference.specs.Views.{pairs_of}
 use Rattle.reference.specs.Appended.{can_be_kept, kept_of}
 use Rattle.values.specs.declared.TheConstants.{MAX_COLUMNS}
@@ -22,6 +22,51 @@ none_first false fault tests h = refl
 pub none_later : (b : Bool) (fault : Fault) (tests : List (Bool × Fault)) → first_of ((b, fault) ∷ tests) ≡ None → first_of tests ≡ None
 none_later true fault tests h = cc
 none_later false fault tests h = h
+
+-- of tests one behind the other
+pub first_part : (tests more : List (Bool × Fault)) → first_of (tests ++ more) ≡ None → first_of tests ≡ None
+first_part [] more h = refl
+first_part ((true, fault) ∷ tests) more h = cc
+first_part ((false, fault) ∷ tests) more h = first_part tests more h
+
+pub last_part : (tests more : List (Bool × Fault)) → first_of (tests ++ more) ≡ None → first_of more ≡ None
+last_part [] more h = h
+last_part ((true, fault) ∷ tests) more h = cc
+last_part ((false, fault) ∷ tests) more h = last_part tests more h
+
+pub stopped_there : (tests more : List (Bool × Fault)) (f : Fault) → Some f ≡ first_of tests → Some f ≡ first_of (tests ++ more)
+stopped_there [] more f h = cc
+stopped_there ((true, fault) ∷ tests) more f h = h
+stopped_there ((false, fault) ∷ tests) more f h = stopped_there tests more f h
+
+pub passed_there : (tests more : List (Bool × Fault)) → None ≡ first_of tests → first_of more ≡ first_of (tests ++ more)
+passed_there [] more h = refl
+passed_there ((true, fault) ∷ tests) more h = cc
+passed_there ((false, fault) ∷ tests) more h = passed_there tests more h
+
+-- the tests of rows, one part behind the other
+pub refused_rows : (queries : List Registered) (n : ℕ) (rows : List (ℤ × List (Option ℤ))) (s : Stream) (f : Fault) → Some f ≡ first_of (append_tests s rows) → Some f ≡ first_of (rows_tests queries n rows s)
+refused_rows queries n rows s f h = stopped_there (append_tests s rows) (crowd_tests queries n (s.arrivals + length rows)) f h
+
+pub passed_rows : (queries : List Registered) (n k : ℕ) (rows : List (ℤ × List (Option ℤ))) (s : Stream) (b : Bool) (o : Option Fault) → None ≡ first_of (append_tests s rows) → k ≡ s.arrivals + length rows
+    → b ≡ list_any (is_crowded n k) queries → o ≡ first_of ((b, StreamFull) ∷ []) → o ≡ first_of (rows_tests queries n rows s)
+passed_rows queries n k rows s b o h many is e =
+    e
+    ∙ ap (λ (c : Bool). first_of ((c, StreamFull) ∷ [])) (is ∙ ap (λ (m : ℕ). list_any (is_crowded n m) queries) many)
+    ∙ passed_there (append_tests s rows) (crowd_tests queries n (s.arrivals + length rows)) h
+
+-- an append that no test refuses is not refused by those of the stream alone
+pub alone : (queries : List Registered) (n : ℕ) (rows : List (ℤ × List (Option ℤ))) (o : Option Stream) → of_stream (rows_tests queries n rows) o ≡ None
+    → of_stream (λ s. append_tests s rows) o ≡ None
+alone queries n rows None h = cc
+alone queries n rows (Some s) h = first_part (append_tests s rows) (crowd_tests queries n (s.arrivals + length rows)) h
+
+-- nor does it crowd a query
+pub uncrowded : (queries : List Registered) (n : ℕ) (rows : List (ℤ × List (Option ℤ))) (s : Stream) → first_of (rows_tests queries n rows s) ≡ None
+    → list_any (is_crowded n (s.arrivals + length rows)) queries ≡ false
+uncrowded queries n rows s h =
+    let last : first_of (crowd_tests queries n (s.arrivals + length rows)) ≡ None = last_part (append_tests s rows) (crowd_tests queries n (s.arrivals + length rows)) h in
+    none_first (list_any (is_crowded n (s.arrivals + length rows)) queries) StreamFull [] last
 
 pub or_left : (a b : Bool) → (a || b) ≡ false → a ≡ false
 or_left true b h = h

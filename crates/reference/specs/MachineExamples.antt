@@ -1,16 +1,16 @@
 -- The machine at worked examples.
 use Rattle.std.proofs.Common.{arith}
-use Rattle.std.specs.Prelude.{◌≡◌, ℕ, false, [], ◌∷◌, Option, Some, None, Ok, ℤ, pos, refl}
+use Rattle.std.specs.Prelude.{◌≡◌, ℕ, false, true, [], ◌∷◌, Option, Some, None, Ok, ℤ, pos, refl}
 use Rattle.cql_reader.specs.Lexis as words
 use Rattle.values.specs.Window.{Range}
 use Rattle.values.specs.Condition.{Column}
 use Rattle.values.specs.Relation.{Listed}
 use Rattle.values.specs.Answers.{Resolved, Istream}
-use Rattle.reference.specs.declared.fault.Fault.TheVariants.{UnknownStream, UnknownQuery, BadWidth, ValueRange, Late, Backward, Leap, BadLimit}
+use Rattle.reference.specs.declared.fault.Fault.TheVariants.{UnknownStream, UnknownQuery, BadWidth, ValueRange, Late, Backward, Leap, StreamFull, BadLimit}
 use Rattle.plan.specs.Build.{plan_of}
 use Rattle.plan.specs.Chart.{measures_of}
-use Rattle.reference.specs.Machine.{Machine, Stream, Registered}
-use Rattle.reference.specs.Commands.{Declare, Append, Heartbeat, Take, Drop, first_fault, after}
+use Rattle.reference.specs.Machine.{Machine, Place, Stream, Registered}
+use Rattle.reference.specs.Commands.{Declare, Append, Heartbeat, Take, Drop, first_fault, after, is_crowded}
 use Rattle.reference.specs.Replies.{Number, Done, Rows}
 use Rattle.reference.specs.Steps.{AreNext, IsStep}
 use Rattle.reference.specs.World.{World, take_step, drain_step}
@@ -56,10 +56,55 @@ wide_row_first = refl
 value_before_instant : first_fault told (Append 0 ((pos 1099511627777, num 1099511627776 ∷ []) ∷ [])) ≡ Some ValueRange
 value_before_instant = refl
 
--- a query on S: Select Istream(*) From S [Now]
+-- what Select Istream(*) From S [Now] means
 abbrev lists_a : Resolved
 lists_a = record { windows = Range 0 ∷ []; condition = None; shape = Listed (a ∷ []); is_distinct = false; operator = Istream }
 
+-- THE ROW LIMIT, of a query of four sources, three of them of this stream, one registered before a row came
+abbrev place : ℕ → Place
+place n = record { stream = 0; arrivals = n }
+
+abbrev four : Registered
+four = record { name = 113 ∷ []; meaning = lists_a; nodes = []; measures = []; places = place 1 ∷ place 1 ∷ place 0 ∷ record { stream = 1; arrivals = 0 } ∷ []; first = 0; start = 0; earlier = []; taken = 0; is_dropped = false }
+
+as_many_as_count : is_crowded 0 32768 four ≡ false
+as_many_as_count = refl
+
+one_row_more : is_crowded 0 32769 four ≡ true
+one_row_more = refl
+
+of_another_stream : is_crowded 2 32769 four ≡ false
+of_another_stream = refl
+
+of_a_dropped_query : is_crowded 0 32769 (record four { is_dropped = true }) ≡ false
+of_a_dropped_query = refl
+
+of_three_sources : is_crowded 0 1048577 (record four { places = place 1 ∷ place 1 ∷ place 1 ∷ [] }) ≡ false
+of_three_sources = refl
+
+one_row_more_of_three : is_crowded 0 1048578 (record four { places = place 2 ∷ place 2 ∷ place 1 ∷ [] }) ≡ true
+one_row_more_of_three = refl
+
+of_two_sources : is_crowded 0 1048578 (record four { places = place 1 ∷ place 0 ∷ [] }) ≡ false
+of_two_sources = refl
+
+-- it is the last test of an append, and one of no rows is accepted at the limit
+abbrev full : Machine
+full = record { streams = record fresh { arrivals = 32768 } ∷ []; queries = four ∷ [] }
+
+full_stream : first_fault full (Append 0 ((pos 3, num 1 ∷ []) ∷ [])) ≡ Some StreamFull
+full_stream = refl
+
+full_stream_of_late_rows : first_fault (after full (Heartbeat 0 (pos 3)) 0) (Append 0 ((pos 3, num 1 ∷ []) ∷ [])) ≡ Some Late
+full_stream_of_late_rows = refl
+
+no_rows : first_fault full (Append 0 []) ≡ None
+no_rows = refl
+
+after_the_drop : first_fault (after full (Drop 0) 0) (Append 0 ((pos 3, num 1 ∷ []) ∷ [])) ≡ None
+after_the_drop = refl
+
+-- a query on S
 abbrev query : Registered
 query = record { name = 113 ∷ []; meaning = lists_a; nodes = plan_of (1 ∷ []) lists_a; measures = measures_of (plan_of (1 ∷ []) lists_a) None; places = record { stream = 0; arrivals = 0 } ∷ []; first = 0; start = 0; earlier = []; taken = 0; is_dropped = false }
 

@@ -29,8 +29,9 @@ pub use laws::{
     order_of_arrival_matters_to_last_rows_within_an_instant_alone, windows_show_the_same,
 };
 pub use limits::{
-    MAX_APPENDED, MAX_INSTANT, MAX_LEAP, MAX_QUERIES, MAX_REGISTRATIONS, MAX_STREAM_COLUMNS,
-    MAX_STREAM_ROWS, MAX_STREAMS, MAX_TAKE, MAX_TURN,
+    MAX_APPENDED, MAX_INSTANT, MAX_LEAP, MAX_QUERIES, MAX_REGISTRATIONS, MAX_ROWS_OF_FOUR,
+    MAX_ROWS_OF_THREE, MAX_STREAM_COLUMNS, MAX_STREAM_ROWS, MAX_STREAMS, MAX_TAKE, MAX_TURN,
+    rows_of_each,
 };
 pub use named::{count_undropped, query_place, stream_place};
 pub use names::ResolveFault;

@@ -1,9 +1,9 @@
 //! The sources of a registered query.
 ghost use Rattle.std.specs.Prelude.{◌≡◌, ◌≤◌, IfOk, length, map, max, slice_get, unwrap_or};
-ghost use Rattle.std.specs.List.{reduce};
+ghost use Rattle.std.specs.List.{list_any, reduce};
 ghost use Rattle.std.specs.Option.{option_map_or};
 ghost use Rattle.reference.specs.Machine.{input_at, opens, until_for};
-ghost use Rattle.reference.specs.Commands.{place_at};
+ghost use Rattle.reference.specs.Commands.{is_past, place_at};
 ghost use Rattle.reference.specs.Inputs.{EachShowsSame, ShowsSame};
 ghost use Rattle.reference.specs.Places.{place_of, machine_of};
 ghost use Rattle.reference.specs.Views.{elements_of, inputs_of};
@@ -20,6 +20,29 @@ pub(crate) struct Place {
     stream: usize,
     /// How many rows had come to the stream before the registration.
     arrivals: u64,
+}
+
+impl Place {
+    /// Whether it is of the stream of a number, and more rows than `most` came to that since, if so
+    /// many came in all.
+    fn is_past(self, stream: u64, arrivals: u64, most: u64) -> bool
+        ensures { result ≡ is_past stream arrivals most (place_of self) }
+    {
+        self.stream as u64 == stream && most < arrivals.saturating_sub(self.arrivals)
+    }
+}
+
+/// Whether one of the places is of the stream of a number, and more rows than `most` came to that
+/// since, if so many came in all.
+pub(crate) fn has_past(places: &[Place], stream: u64, arrivals: u64, most: u64) -> bool
+    ensures { result ≡ list_any (is_past stream arrivals most) (map place_of places.now) }
+{
+    for place in places {
+        if place.is_past(stream, arrivals, most) {
+            return true;
+        }
+    }
+    false
 }
 
 fn first_open_at(streams: &[Stream], place: Place) -> u64

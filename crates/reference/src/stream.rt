@@ -1,6 +1,6 @@
 //! A declared stream and what came to it.
 ghost use Rattle.std.specs.Prelude.{◌≡◌, ◌≤◌, ◌*◌, [], None, OnOk, OnErr, IfOk, IfSome, length};
-ghost use Rattle.std.specs.Prelude.{◌∷◌, ◌++◌, ◌&&◌, nat_le};
+ghost use Rattle.std.specs.Prelude.{◌+◌, ◌∷◌, ◌++◌, ◌&&◌, nat_le};
 ghost use Rattle.values.specs.Window.{input_of, plain, numbered};
 ghost use Rattle.reference.specs.Commands.{append_tests, heartbeat_tests, appended, closed_to};
 ghost use Rattle.reference.specs.Commands.{catalog_of};
@@ -118,6 +118,15 @@ impl Stream {
         ensures told { IfSome result IsTold }
     {
         append_fault(rows, self.columns.len(), self.arrivals(), self.first_open)
+    }
+
+    /// How many rows there are with those that come.
+    pub(crate) fn with_rows(&self, rows: &NewRows) -> u64
+        requires { first_of (append_tests self.now rows.now) ≡ None }
+        ensures { result ≡ self.now.arrivals + length rows.now }
+    {
+        let came = self.arrivals();
+        came + rows.len() as u64
     }
 
     /// The first test of a heartbeat that fails.

@@ -13,3 +13,5 @@ pub mod BeyondLaws
 pub mod PileLemmas
 pub mod KeyLemmas
 pub mod CountLemmas
+pub mod FormLemmas
+pub mod WalkLemmas

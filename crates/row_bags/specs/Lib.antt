@@ -5,3 +5,4 @@ pub mod Piles
 pub mod Lists
 pub mod Examples
 pub mod Keys
+pub mod Forms

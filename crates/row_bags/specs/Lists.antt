@@ -52,3 +52,16 @@ not_below x (y ∷ ys) = cond (is_above row_cmp x y) (not_below x ys) (y ∷ ys)
 abbrev pub beyond : List Row → List Row → List Row
 beyond [] ys = []
 beyond (x ∷ xs) ys = cond (is_first x (not_below x ys)) (beyond xs (drop 1 (not_below x ys))) (x ∷ beyond xs (not_below x ys))
+
+-- the same, where the walk stands at a row of the first that is beyond
+abbrev pub beyond_at : List Row → List Row → List Row
+beyond_at [] ys = []
+beyond_at (x ∷ xs) ys = x ∷ beyond xs ys
+
+-- the same from these places on
+abbrev pub beyond_from : ℕ × ℕ → List Row → List Row → List Row
+beyond_from p xs ys = beyond_at (drop p.0 xs) (drop p.1 ys)
+
+-- neither place is past its list
+abbrev pub AreWithin : ℕ × ℕ → List Row → List Row → Type 0
+AreWithin p xs ys = (p.0 ≤ length xs) × (p.1 ≤ length ys)

@@ -6,10 +6,12 @@ ghost use Rattle.values.specs.Row.{row_cmp};
 ghost use Rattle.values.specs.Bag.{bag_minus, in_order};
 ghost use Rattle.row_bags.specs.Bags.{rows_of};
 ghost use Rattle.row_bags.specs.Deltas.{delta_after, deltas_after};
+ghost use Rattle.row_bags.specs.Lists.{renewed};
 ghost use Rattle.row_bags.specs.Piles.{pile_in, pile_room, dated};
 
 use crate::difference::{push_beyond, rows_beyond};
 use crate::pile::Pile;
+use crate::row_list::RowList;
 use column::{Batch, SignedRow};
 use std::alloc::{AllocError, Global};
 use std::collections::VecDeque;
@@ -78,6 +80,22 @@ impl Delta {
         let gone = rows_beyond(alloc, &left, &entered)?;
         let come = rows_beyond(alloc, &entered, &left)?;
         Ok((gone, come))
+    }
+
+    /// What a list of rows becomes after what left and entered. An error says that memory was
+    /// refused; nothing is changed.
+    pub(crate) fn renewed_list(
+        &mut self,
+        alloc: Global,
+        whole: &RowList,
+    ) -> Result<RowList, AllocError>
+        ensures list { IfOk result (λ list. list ≡ renewed whole.now self.old) }
+        ensures stays { self.new ≡ self.old }
+    {
+        self.left.sort();
+        self.entered.sort();
+        let list = whole.walked(alloc, &self.left, &self.entered)?;
+        Ok(list)
     }
 
     /// Pushes what entered behind the answers, in order, each row with the instant. An error says

@@ -2,7 +2,7 @@
 ghost use Rattle.std.specs.Prelude.{◌≡◌, ◌≤◌, ◌<◌, ◌+◌, ◌++◌, length, drop, map, IfOk, IsTrue};
 ghost use Rattle.std.specs.VecDeque.{deque_len, deque_capacity};
 ghost use Rattle.row_bags.specs.Bags.{rows_of};
-ghost use Rattle.row_bags.specs.Lists.{is_first, not_below, beyond};
+ghost use Rattle.row_bags.specs.Lists.{AreWithin, is_first, not_below, beyond, beyond_from};
 ghost use Rattle.row_bags.specs.Piles.{pile_in, dated};
 
 use crate::pile::Pile;
@@ -49,6 +49,29 @@ pub(crate) fn push_beyond(answers: &mut VecDeque<(u64, Row)>, at: u64, rows: &Pi
     }
 }
 
+/// The place of the first of the rows from `start` on that stands beyond the others from `other`
+/// on, and the place of the other with which the next one is compared.
+pub(crate) fn next_beyond(rows: &Pile, start: usize, others: &Pile, other: usize) -> (usize, usize)
+    requires start { start ≤ length (pile_in rows.now) }
+    requires other { other ≤ length (pile_in others.now) }
+    ensures rest { beyond_from result (pile_in rows.now) (pile_in others.now)
+        ≡ beyond (drop start (pile_in rows.now)) (drop other (pile_in others.now)) }
+    ensures on { start ≤ result.0 }
+    ensures within { AreWithin result (pile_in rows.now) (pile_in others.now) }
+{
+    let mut next = other;
+    for place in start..rows.len() {
+        let values = rows.values(place);
+        next = first_not_below(values, others, next);
+        if stands_at(values, others, next) {
+            next += 1;
+            continue;
+        }
+        return (place, next);
+    }
+    (rows.len(), next)
+}
+
 /// The place of the first of the rows from `start` on that is not below the values.
 fn first_not_below(values: &[Value], others: &Pile, start: usize) -> usize
     requires { start ≤ length (pile_in others.now) }
@@ -65,7 +88,7 @@ fn first_not_below(values: &[Value], others: &Pile, start: usize) -> usize
 }
 
 /// Whether the row with these values stands at a place.
-fn stands_at(values: &[Value], others: &Pile, place: usize) -> bool
+pub(crate) fn stands_at(values: &[Value], others: &Pile, place: usize) -> bool
     ensures is { result ≡ is_first values.now (drop place (pile_in others.now)) }
     ensures within { IsTrue result → place < length (pile_in others.now) }
 {

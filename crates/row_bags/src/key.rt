@@ -5,6 +5,7 @@ ghost use Rattle.std.specs.Cmp.{eq_by_cmp_equiv};
 ghost use Rattle.std.specs.Ordering.{eq_by_cmp, as_partial_cmp};
 ghost use Rattle.row_bags.specs.Bags.{array_cmp, is_front};
 ghost use Rattle.row_bags.specs.Keys.{array_total};
+ghost use Rattle.values.specs.Row.{value_at};
 ghost use Rattle.values.specs.declared.TheConstants.{MAX_COLUMNS};
 
 use std::cmp::Ordering;
@@ -26,6 +27,7 @@ pub(crate) struct Key<const N: usize> {
 impl<const N: usize> Model for Key<N> {
     ghost use Rattle.std.specs.Prelude.{ℤ, Option, ◌≡◌, ◌≤◌, ◌-◌, ◌++◌, take, replicate, None};
     ghost use Rattle.arrayvec.specs.ArrayVec.{ArrayVec};
+    ghost use Rattle.values.specs.Row.{value_at};
     ghost use Rattle.values.specs.declared.TheConstants.{MAX_COLUMNS};
 
     ghost Value = { ArrayVec (Option ℤ) };
@@ -72,6 +74,17 @@ impl<const N: usize> Key<N> {
         ensures fits { length result.now ≤ N }
     {
         &self.values[..self.len]
+    }
+
+    /// The value in a column, or null past the row's end.
+    pub(crate) fn value(&self, column: usize) -> Value
+        ensures { result ≡ value_at self.now.items column }
+    {
+        if column < self.len {
+            self.values[column]
+        } else {
+            Value::null()
+        }
     }
 
     /// The key as a row.

@@ -13,6 +13,7 @@
 mod counts;
 mod delta;
 mod difference;
+mod form;
 mod held;
 mod key;
 mod keys;
@@ -21,6 +22,7 @@ mod row_bag;
 mod row_list;
 
 pub use delta::Delta;
+pub use form::Form;
 pub use keys::{begins_with, copied, fitted};
 pub use row_bag::RowBag;
 pub use row_list::RowList;

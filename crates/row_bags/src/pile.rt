@@ -154,6 +154,11 @@ impl Pile {
         }
     }
 
+    /// At least as many values as its rows have together.
+    pub(crate) fn most_values(&self) -> usize {
+        self.len().saturating_mul(self.room())
+    }
+
     /// The values of the row at a place.
     pub(crate) fn values(&self, place: usize) -> &[Value]
         requires { place < length (pile_in self.now) }

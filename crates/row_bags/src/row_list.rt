@@ -1,10 +1,17 @@
 //! Rows in a list.
-ghost use Rattle.std.specs.Prelude.{◌≡◌, ◌≤◌, ◌++◌, [], length, drop, IfOk, OnErr, OnOk};
+ghost use Rattle.std.specs.Prelude.{◌≡◌, ◌≤◌, ◌+◌, ◌++◌, ◌∷◌, [], length, drop, map};
+ghost use Rattle.std.specs.Prelude.{IfOk, OnErr, OnOk};
+ghost use Rattle.std.specs.VecDeque.{deque_len, deque_capacity};
 ghost use Rattle.row_bags.specs.Bags.{rows_of};
-ghost use Rattle.row_bags.specs.Lists.{is_first, staying, up_to, past, merged, renewed};
+ghost use Rattle.row_bags.specs.Lists.{AreWithin, beyond, beyond_from, is_first, staying, up_to};
+ghost use Rattle.row_bags.specs.Lists.{past, merged, renewed};
+ghost use Rattle.row_bags.specs.Piles.{pile_in, dated};
 
 use crate::delta::Delta;
+use crate::difference::{next_beyond, stands_at};
+use crate::pile::Pile;
 use std::alloc::{AllocError, Global};
+use std::collections::VecDeque;
 use std::marker::Model;
 use values::{MAX_COLUMNS, Row, Value, compare_rows, copy_row, same_rows};
 
@@ -68,16 +75,144 @@ impl RowList {
         Ok(())
     }
 
-    /// Becomes the rows after what left and entered, and hands out a copy of them. An error says
-    /// that memory was refused; the list is as it was.
-    pub fn renew_and_list(&mut self, alloc: Global, delta: &Delta) -> Result<Vec<Row>, AllocError>
-        ensures rows { IfOk result (λ rows. rows_of rows.items ≡ renewed self.old delta.now) }
-        ensures ok { OnOk result (self.new ≡ renewed self.old delta.now) }
+    /// Becomes the rows after what left and entered, and pushes a copy of them behind the answers,
+    /// each row with the instant. An error says that memory was refused; list and answers are as
+    /// they were.
+    pub fn renew_to(
+        &mut self,
+        alloc: Global,
+        delta: &mut Delta,
+        at: u64,
+        answers: &mut VecDeque<(u64, Row)>,
+    ) -> Result<(), AllocError>
+        ensures answers { OnOk result (dated answers.new.items
+            ≡ dated answers.old.items ++ map (λ r. (at, r)) (renewed self.old delta.old)) }
+        ensures ok { OnOk result (self.new ≡ renewed self.old delta.old) }
         ensures err { OnErr result (self.new ≡ self.old) }
+        ensures same { OnErr result (answers.new.items ≡ answers.old.items) }
+        ensures stays { delta.new ≡ delta.old }
     {
-        let whole = self.renewed(alloc, delta)?;
-        *self = list_of(alloc, &whole)?;
-        Ok(whole)
+        let list = delta.renewed_list(alloc, self)?;
+        answers.reserve(list.widths.len())?;
+        list.push_to(answers, at);
+        *self = list;
+        Ok(())
+    }
+
+    /// The rows without those of the one pile beyond those of the other, and with those of the
+    /// other beyond those of the one, all in order: one walk over the three.
+    pub(crate) fn walked(
+        &self,
+        alloc: Global,
+        left: &Pile,
+        entered: &Pile,
+    ) -> Result<RowList, AllocError>
+        ensures { IfOk result (λ list. list
+            ≡ merged (staying self.now (beyond (pile_in left.now) (pile_in entered.now)))
+            (beyond (pile_in entered.now) (pile_in left.now))) }
+    {
+        let mut list = RowList::with_capacity(
+            alloc,
+            self.widths.len().saturating_add(entered.len()),
+            self.values.len().saturating_add(entered.most_values()),
+        )?;
+        let mut start = 0;
+        let mut gone = next_beyond(left, 0, entered, 0);
+        let mut came = next_beyond(entered, 0, left, 0);
+        for width in &self.widths {
+            let end = start + *width as usize;
+            let row = &self.values[start..end];
+            start = end;
+            if stands_at(row, left, gone.0) {
+                gone = next_beyond(left, gone.0 + 1, entered, gone.1);
+                continue;
+            }
+            came = list.push_up_to(row, entered, left, came)?;
+            list.push(row)?;
+        }
+        list.push_rest(entered, left, came)?;
+        Ok(list)
+    }
+
+    /// No rows, with room for so many of so many values together.
+    fn with_capacity(alloc: Global, rows: usize, values: usize) -> Result<RowList, AllocError>
+        ensures { IfOk result (λ list. list ≡ []) }
+    {
+        let widths = Vec::with_capacity(alloc, rows)?;
+        let values = Vec::with_capacity(alloc, values)?;
+        Ok(RowList { widths, values })
+    }
+
+    /// A row more behind the others.
+    fn push(&mut self, row: &[Value]) -> Result<(), AllocError>
+        requires { length row.now ≤ MAX_COLUMNS }
+        ensures { OnOk result (self.new ≡ self.old ++ row.now ∷ []) }
+    {
+        self.widths.reserve(1)?;
+        self.values.extend_from_slice(row)?;
+        self.widths.push_reserved(row.len() as u8);
+        Ok(())
+    }
+
+    /// Writes of the rows of a pile beyond another, from these places on, those up to the last one
+    /// behind the others; the places from which the rest goes on.
+    fn push_up_to(
+        &mut self,
+        last: &[Value],
+        rows: &Pile,
+        others: &Pile,
+        from: (usize, usize),
+    ) -> Result<(usize, usize), AllocError>
+        requires { AreWithin «from» (pile_in rows.now) (pile_in others.now) }
+        ensures rows { OnOk result (self.new ≡ self.old
+            ++ up_to last.now (beyond_from «from» (pile_in rows.now) (pile_in others.now))) }
+        ensures rest { IfOk result (λ on. beyond_from on (pile_in rows.now) (pile_in others.now)
+            ≡ past last.now (beyond_from «from» (pile_in rows.now) (pile_in others.now))) }
+        ensures within { IfOk result (λ on. AreWithin on (pile_in rows.now) (pile_in others.now)) }
+    {
+        let mut on = from;
+        while on.0 < rows.len() {
+            let next = rows.values(on.0);
+            if next.cmp(last).is_gt() {
+                return Ok(on);
+            }
+            self.push(next)?;
+            on = next_beyond(rows, on.0 + 1, others, on.1);
+        }
+        Ok(on)
+    }
+
+    /// Writes the rows of a pile beyond another, from these places on, behind the others.
+    fn push_rest(
+        &mut self,
+        rows: &Pile,
+        others: &Pile,
+        from: (usize, usize),
+    ) -> Result<(), AllocError>
+        requires { AreWithin «from» (pile_in rows.now) (pile_in others.now) }
+        ensures { OnOk result (self.new
+            ≡ self.old ++ beyond_from «from» (pile_in rows.now) (pile_in others.now)) }
+    {
+        let mut on = from;
+        while on.0 < rows.len() {
+            self.push(rows.values(on.0))?;
+            on = next_beyond(rows, on.0 + 1, others, on.1);
+        }
+        Ok(())
+    }
+
+    /// Pushes a copy of the rows behind answers that have room for them, each with the instant.
+    fn push_to(&self, answers: &mut VecDeque<(u64, Row)>, at: u64)
+        requires { deque_len answers.old + length self.now ≤ deque_capacity answers.old }
+        ensures { dated answers.new.items
+            ≡ dated answers.old.items ++ map (λ r. (at, r)) self.now }
+    {
+        let mut start = 0;
+        for width in &self.widths {
+            let end = start + *width as usize;
+            answers.push_back_reserved((at, row_of(&self.values[start..end])));
+            start = end;
+        }
     }
 
     /// The rows without those that left, and with those that entered: one walk over the three

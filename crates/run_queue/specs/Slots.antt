@@ -31,6 +31,11 @@ slot_cmp a b = ordering_then (bool_cmp a.is_idle b.is_idle) (ordering_then (frac
 abbrev pub with_next : Slot → Option (Side × ℕ) → Slot
 with_next s next = slot s.slope.0 next s.query s.operator
 
+-- there is something to take next, and it is of the slot's instant
+abbrev pub goes_on : Slot → Option (Side × ℕ) → Bool
+goes_on s None = false
+goes_on s (Some next) = next.1 == s.instant
+
 -- with a slot at its place, unless it is there
 abbrev pub put : List Slot → Slot → List Slot
 put slots s = insert_key slot_cmp slots s

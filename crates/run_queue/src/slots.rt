@@ -1,7 +1,9 @@
 //! An operator's place among the others.
 ghost use Rattle.std.specs.Prelude.{◌≡◌, ◌↔◌, cond, IsTrue, None, Some};
 ghost use Rattle.std.specs.declared.cmp.Ordering.TheVariants.{Equal};
-ghost use Rattle.run_queue.specs.Slots.{slot, slot_cmp, with_next};
+ghost use Rattle.std.specs.Ordering.{is_gt};
+ghost use Rattle.envelope.specs.Fraction.{fraction_cmp};
+ghost use Rattle.run_queue.specs.Slots.{goes_on, slot, slot_cmp, with_next};
 
 use column::Side;
 use envelope::Slope;
@@ -115,6 +117,23 @@ impl Slot {
             return false;
         }
         self.slope == other.slope
+    }
+
+    /// Whether the operator's slope is greater than the other's.
+    pub fn is_steeper(&self, other: &Slot) -> bool
+        ensures { result ≡ is_gt (fraction_cmp self.now.slope.0 other.now.slope.0) }
+    {
+        self.slope.0.cmp(&other.slope.0).is_gt()
+    }
+
+    /// Whether there is something to take next, and it is of this slot's instant.
+    pub fn goes_on(&self, next: Option<(Side, u64)>) -> bool
+        ensures { result ≡ goes_on self.now next }
+    {
+        match next {
+            Some((_, instant)) => instant == self.instant,
+            None => false,
+        }
     }
 
     /// The slot, if the operator has something to take.

@@ -1,12 +1,14 @@
 -- Calls on streams as calls on each machine that has them.
-use Rattle.std.proofs.Common.{◌≡◌, ◌<◌, ◌∙◌, ℕ, ℤ, suc, nat_abs, Bool, false, not, Option, Some, None, is_some, Result, Ok, Err, OnOk, OnErr, List, [], ◌∷◌, length, get_or, nat_le, refl, sym, ap, subst}
+use Rattle.std.proofs.Common.{◌≡◌, ◌<◌, ◌∙◌, ℕ, ℤ, suc, nat_abs, ◌+◌, ◌++◌, nat_lt, Bool, true, false, not, Option, Some, None, is_some, Result, Ok, Err, OnOk, OnErr, List, [], ◌∷◌, length, get_or, nat_le, refl, sym, ap, subst}
 use Rattle.std.specs.Prelude.{slice_get}
+use Rattle.std.specs.List.{list_any}
 use Rattle.std.proofs.lemmas.Option.{slice_get_read}
 use Rattle.values.specs.Row.{Row}
 use Rattle.values.specs.Window.{Element}
 use Rattle.op_queue.specs.Cursors.{GainsClosed}
 use Rattle.reference.specs.Machine.{Stream, Registered, Machine, stream_named}
-use Rattle.reference.specs.Commands.{first_fault, declare_fault, declared, appended, closed_to, change, are_columns, is_instant, Declare, Append, Heartbeat}
+use Rattle.reference.specs.Commands.{first_fault, declare_fault, declared, append_tests, appended, closed_to, change, are_columns, is_crowded, is_instant, of_stream, rows_tests, Declare, Heartbeat}
+use Rattle.names.specs.Faults.{first_of}
 use Rattle.cql_reader.specs.Lexis.{is_name}
 use Rattle.reference.specs.declared.limits.TheConstants.{MAX_STREAMS}
 use Rattle.reference.specs.declared.fault.Fault.{Fault}
@@ -14,9 +16,9 @@ use Rattle.reference.specs.declared.fault.Fault.TheVariants.{Query, BadName, Nam
 use Rattle.reference.specs.Places.{machine_of}
 use Rattle.reference.specs.Told.{IsTold}
 use Rattle.reference.specs.World.{World, Step, Does, Looks, unless, declare_step, append_step}
-use Rattle.reference.proofs.StreamLemmas.{none_first, none_later}
+use Rattle.reference.proofs.StreamLemmas.{accepted_each, first_part, none_first, none_later, passed_there, stopped_there}
 use Rattle.reference.proofs.StepLemmas.{refused, done, lacked}
-use Rattle.stream_store.specs.Beside.{beside, DoesBeside}
+use Rattle.stream_store.specs.Beside.{beside, DoesBeside, DoesBesideSuch, IsLimit, limited_tests}
 use Rattle.stream_store.specs.Closing.{closed_of, closing_of, closing_at, closing_in, unless_faulty, QueuesGain}
 
 nothing : {X : Type 0} (o : Option X) → is_some o ≡ false → o ≡ None
@@ -49,15 +51,64 @@ module _ {A B : Type 0} (view : A → B) (step : World → Step B) (old next : L
         (done view (beside qs ws old) (beside qs ws next) a first r (beside qs ws new) e v (ap (beside qs ws) same));
   }
 
+-- ---- the same beside such queries
+module _ {A B : Type 0} (Such : List Registered → Type 0) (view : A → B) (step : World → Step B) (old next : List Stream) (a : B) (first : Option Fault)
+    (is : (qs : List Registered) (ws : List (List (ℕ × Row))) → Such qs → step (beside qs ws old) ≡ unless first (beside qs ws old) a (beside qs ws next)) where
+  pub such_refused : (f : Fault) → Some f ≡ first → IsTold f → DoesBesideSuch Such view step old (Err f) old
+  such_refused f e t = record {
+    does = λ qs ws h. subst (λ (s : Step B). Does view (beside qs ws old) s (Err f) (beside qs ws old)) (sym (is qs ws h)) (refused view (beside qs ws old) (beside qs ws next) a first f e t);
+  }
+
+  pub such_lacked : (new : List Stream) → None ≡ first → new ≡ old → DoesBesideSuch Such view step old (Err OutOfMemory) new
+  such_lacked new e same = record {
+    does = λ qs ws h. subst (λ (s : Step B). Does view (beside qs ws old) s (Err OutOfMemory) (beside qs ws new)) (sym (is qs ws h))
+        (lacked view (beside qs ws old) (beside qs ws next) a first (beside qs ws new) e (ap (beside qs ws) same));
+  }
+
+  pub such_done : (r : A) (new : List Stream) → None ≡ first → view r ≡ a → new ≡ next → DoesBesideSuch Such view step old (Ok r) new
+  such_done r new e v same = record {
+    does = λ qs ws h. subst (λ (s : Step B). Does view (beside qs ws old) s (Ok r) (beside qs ws new)) (sym (is qs ws h))
+        (done view (beside qs ws old) (beside qs ws next) a first r (beside qs ws new) e v (ap (beside qs ws) same));
+  }
+
 pub declare_is : (old : List Stream) (name : List ℕ) (columns : List (List ℕ)) (start : ℤ) (qs : List Registered) (ws : List (List (ℕ × Row)))
     → declare_step (beside qs ws old) name columns start ≡ unless (first_fault (machine_of old) (Declare name columns start)) (beside qs ws old) (length old) (beside qs ws (declared (machine_of old) name columns start).streams)
 unfolding declare_step
 declare_is old name columns start qs ws = refl
 
-pub append_is : (old : List Stream) (n : ℕ) (rows : List (ℤ × List (Option ℤ))) (qs : List Registered) (ws : List (List (ℕ × Row)))
-    → append_step (beside qs ws old) n rows ≡ unless (first_fault (machine_of old) (Append n rows)) (beside qs ws old) tt (beside qs ws (change n (appended rows) old))
+-- AN APPEND by the row limit of the machine's queries
+same_last : (tests : List (Bool × Fault)) (c d : Bool) (f : Fault) → (first_of tests ≡ None → c ≡ d) → first_of (tests ++ (c, f) ∷ []) ≡ first_of (tests ++ (d, f) ∷ [])
+same_last [] c d f h = ap (λ (b : Bool). first_of ((b, f) ∷ [])) (h refl)
+same_last ((true, g) ∷ tests) c d f h = refl
+same_last ((false, g) ∷ tests) c d f h = same_last tests c d f h
+
+limited_first : (n most : ℕ) (rows : List (ℤ × List (Option ℤ))) (qs : List Registered) → IsLimit n most qs → (o : Option Stream) → of_stream (rows_tests qs n rows) o ≡ of_stream (limited_tests most rows) o
+limited_first n most rows qs limit None = refl
+limited_first n most rows qs limit (Some s) =
+    same_last (append_tests s rows) (list_any (is_crowded n (s.arrivals + length rows)) qs) (nat_lt most (s.arrivals + length rows)) StreamFull
+    (λ none. limit.crowds (s.arrivals + length rows) (accepted_each s rows none).3)
+
+pub append_is : (old : List Stream) (n most : ℕ) (rows : List (ℤ × List (Option ℤ))) (qs : List Registered) (ws : List (List (ℕ × Row))) → IsLimit n most qs
+    → append_step (beside qs ws old) n rows ≡ unless (of_stream (limited_tests most rows) (slice_get old n)) (beside qs ws old) tt (beside qs ws (change n (appended rows) old))
 unfolding append_step
-append_is old n rows qs ws = refl
+append_is old n most rows qs ws limit =
+    ap (λ (o : Option Fault). unless o (beside qs ws old) tt (beside qs ws (change n (appended rows) old))) (limited_first n most rows qs limit (slice_get old n))
+
+-- the tests with the limit, one part behind the other
+pub refused_limited : (most : ℕ) (rows : List (ℤ × List (Option ℤ))) (s : Stream) (f : Fault) → Some f ≡ first_of (append_tests s rows) → Some f ≡ first_of (limited_tests most rows s)
+refused_limited most rows s f h = stopped_there (append_tests s rows) ((nat_lt most (s.arrivals + length rows), StreamFull) ∷ []) f h
+
+pub passed_limited : (most k : ℕ) (rows : List (ℤ × List (Option ℤ))) (s : Stream) (o : Option Fault) → None ≡ first_of (append_tests s rows) → k ≡ s.arrivals + length rows → o ≡ first_of ((nat_lt most k, StreamFull) ∷ [])
+    → o ≡ first_of (limited_tests most rows s)
+passed_limited most k rows s o h many e =
+    e
+    ∙ ap (λ (m : ℕ). first_of ((nat_lt most m, StreamFull) ∷ [])) many
+    ∙ passed_there (append_tests s rows) ((nat_lt most (s.arrivals + length rows), StreamFull) ∷ []) h
+
+-- what passes with the limit passes without
+pub unlimited : (most : ℕ) (rows : List (ℤ × List (Option ℤ))) (o : Option Stream) → of_stream (limited_tests most rows) o ≡ None → of_stream (λ s. append_tests s rows) o ≡ None
+unlimited most rows None h = cc
+unlimited most rows (Some s) h = first_part (append_tests s rows) ((nat_lt most (s.arrivals + length rows), StreamFull) ∷ []) h
 
 -- ---- one stream changed
 pub kept_name : {A E : Type 0} (r : Result A E) (f : Stream → Stream) (new old : Stream) → (f old).name ≡ old.name → OnOk r (new ≡ f old) → OnErr r (new ≡ old) → new.name ≡ old.name

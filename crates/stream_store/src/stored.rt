@@ -1,6 +1,6 @@
 //! One declared stream.
 ghost use Rattle.std.specs.Prelude.{◌≡◌, ◌≤◌, ◌++◌, ◌∷◌, [], suc, nat_abs, None, OnOk, OnErr, IfOk};
-ghost use Rattle.std.specs.Prelude.{IfSome, length};
+ghost use Rattle.std.specs.Prelude.{◌+◌, IfSome, length, nat_lt};
 ghost use Rattle.cql_reader.specs.Views.{name_of};
 ghost use Rattle.names.specs.Views.{names_of};
 ghost use Rattle.op_queue.specs.Cursors.{GainsClosed};
@@ -8,6 +8,8 @@ ghost use Rattle.names.specs.Faults.{first_of};
 ghost use Rattle.reference.specs.Commands.{append_tests, heartbeat_tests, appended, closed_to};
 ghost use Rattle.reference.specs.Commands.{catalog_of};
 ghost use Rattle.reference.specs.Told.{IsTold};
+ghost use Rattle.reference.specs.declared.fault.Fault.TheVariants.{StreamFull};
+ghost use Rattle.stream_store.specs.Beside.{limited_tests};
 ghost use Rattle.stream_store.specs.Closing.{closed_of, closing_of};
 
 use crate::arrivals::Arrivals;
@@ -117,12 +119,31 @@ impl Stored {
         &self.log
     }
 
-    /// The first test of the rows that fails.
-    pub(crate) fn append_fault(&self, rows: &NewRows) -> Option<Fault>
+    /// The first test that fails of the rows alone.
+    fn rows_fault(&self, rows: &NewRows) -> Option<Fault>
         ensures first { result ≡ first_of (append_tests self.now rows.now) }
         ensures told { IfSome result IsTold }
     {
         append_fault(rows, self.columns.len(), self.arrivals, self.first_open())
+    }
+
+    /// How many rows there are with those that come.
+    fn with_rows(&self, rows: &NewRows) -> u64
+        requires { first_of (append_tests self.now rows.now) ≡ None }
+        ensures { result ≡ self.now.arrivals + length rows.now }
+    {
+        self.arrivals + rows.len() as u64
+    }
+
+    /// The first test of the rows that fails, where at most `most` may come in all.
+    pub(crate) fn append_fault(&self, rows: &NewRows, most: u64) -> Option<Fault>
+        ensures first { result ≡ first_of (limited_tests most rows.now self.now) }
+        ensures told { IfSome result IsTold }
+    {
+        match self.rows_fault(rows) {
+            Some(fault) => Some(fault),
+            None => limit_fault(most, self.with_rows(rows)),
+        }
     }
 
     /// The first test of a heartbeat that fails.
@@ -183,4 +204,15 @@ impl Stored {
         self.open_rows.drop_up_to(last);
         Ok(())
     }
+}
+
+/// The fault of so many rows in all where at most `most` may come.
+fn limit_fault(most: u64, arrivals: u64) -> Option<Fault>
+    ensures first { result ≡ first_of ((nat_lt most arrivals, StreamFull) ∷ []) }
+    ensures told { IfSome result IsTold }
+{
+    if most < arrivals {
+        return Some(Fault::StreamFull);
+    }
+    None
 }

@@ -6,12 +6,12 @@ ghost use Rattle.std.specs.Str.{bytes_eq};
 ghost use Rattle.std.specs.List.{AllByRecursion};
 ghost use Rattle.reference.specs.CallViews.{texts_of};
 ghost use Rattle.reference.specs.Commands.{first_fault, declared, appended, closed_to, catalog_of};
-ghost use Rattle.reference.specs.Commands.{change, Declare, Append, Heartbeat};
+ghost use Rattle.reference.specs.Commands.{append_tests, change, of_stream, Declare, Heartbeat};
 ghost use Rattle.reference.specs.Machine.{Stream};
 ghost use Rattle.reference.specs.Places.{machine_of};
 ghost use Rattle.reference.specs.Told.{IsTold};
 ghost use Rattle.reference.specs.World.{Looks, declare_step, append_step};
-ghost use Rattle.stream_store.specs.Beside.{DoesBeside};
+ghost use Rattle.stream_store.specs.Beside.{DoesBeside, DoesBesideSuch, IsLimit, limited_tests};
 ghost use Rattle.stream_store.specs.Closing.{closed_of, closing_at, closing_in, QueuesGain};
 
 use crate::arrivals::Arrivals;
@@ -136,12 +136,13 @@ impl Streams {
         declare_fault(name, columns, from, is_taken, self.streams.len())
     }
 
-    fn append_fault(&self, stream: u64, rows: &NewRows) -> Option<Fault>
-        ensures first { result ≡ first_fault (machine_of self.now) (Append stream rows.now) }
+    fn append_fault(&self, stream: u64, rows: &NewRows, most: u64) -> Option<Fault>
+        ensures first { result
+            ≡ of_stream (limited_tests most rows.now) (slice_get self.now stream) }
         ensures told { IfSome result IsTold }
     {
         match self.streams.get(stream as usize) {
-            Some(stream) => stream.append_fault(rows),
+            Some(stream) => stream.append_fault(rows, most),
             None => Some(Fault::UnknownStream),
         }
     }
@@ -176,7 +177,7 @@ impl Streams {
 
     /// Appends the rows. On Err all is as it was.
     fn put(&mut self, stream: u64, rows: &NewRows) -> Result<(), AllocError>
-        requires { first_fault (machine_of self.old) (Append stream rows.now) ≡ None }
+        requires { of_stream (λ s. append_tests s rows.now) (slice_get self.old stream) ≡ None }
         ensures ok { OnOk result (self.new ≡ change stream (appended rows.now) self.old) }
         ensures err { OnErr result (self.new ≡ self.old) }
     {
@@ -223,7 +224,11 @@ impl Streams {
         }
     }
 
-    /// Appends rows to the stream of a number; where one row is refused, none is appended.
+    /// Appends rows to the stream of a number, to which at most `most` rows may come in all; where
+    /// one row is refused, none is appended.
+    ///
+    /// It does what the machine does of which `most` is the row limit: that of its queries of three
+    /// and four sources.
     ///
     /// It costs its rows, and for all that follow one another with one instant one look-up among
     /// the instants that are open.
@@ -232,11 +237,11 @@ impl Streams {
     /// `UnknownStream`, `TooMany`, `BadWidth`, `ValueRange`, `InstantRange`, `Late`, `StreamFull`:
     /// the first test that fails; `OutOfMemory` where none does and memory is refused. Then all is
     /// as it was.
-    pub fn append(&mut self, stream: u64, rows: &NewRows) -> Result<(), Fault>
-        ensures { DoesBeside (λ u. u) (λ w.
+    pub fn append(&mut self, stream: u64, rows: &NewRows, most: u64) -> Result<(), Fault>
+        ensures { DoesBesideSuch (IsLimit stream most) (λ u. u) (λ w.
             append_step w stream rows.now) self.old result self.new }
     {
-        match self.append_fault(stream, rows) {
+        match self.append_fault(stream, rows, most) {
             Some(fault) => Err(fault),
             None => Ok(self.put(stream, rows)?),
         }

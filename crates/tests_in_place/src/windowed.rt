@@ -1,7 +1,8 @@
 //! Windows in place.
-ghost use Rattle.std.specs.Prelude.{◌≡◌, ◌≤◌, IsTrue, IfOk, OnOk, length};
+ghost use Rattle.std.specs.Prelude.{◌≡◌, ◌<◌, ◌≤◌, IsTrue, IfOk, OnOk, length};
 ghost use Rattle.op_queue.specs.Items.{item_instant};
 ghost use Rattle.windows.specs.Range.{IsAfter, next};
+ghost use Rattle.windows.specs.Slide as slides;
 ghost use Rattle.windows.specs.Widths.{IsItemWide};
 
 use crate::queued::holds;
@@ -9,7 +10,7 @@ use crate::sampled::rows;
 use op_queue::{Item, Queue};
 use std::alloc::{AllocError, Global};
 use std::test::Fail;
-use windows::{LatestWindow, RangeWindow, latest_work, range_work};
+use windows::{LatestWindow, RangeWindow, SlideWindow, latest_work, range_work, slide_work};
 
 /// An instant, and how many rows of it come; where none does, its tick comes.
 type Came = (u64, usize);
@@ -130,6 +131,88 @@ fn range_windows_run_in_place(rt: HostRuntime) -> Result<(), Fail> {
     assert!(rt; ranges_agree(rt.alloc(), Some(2), &CAME, 0)?);
     assert!(rt; ranges_agree(rt.alloc(), Some(6), &CAME, 1151)?);
     assert!(rt; ranges_agree(rt.alloc(), None, &CAME, 3265)?);
+    Ok(())
+}
+
+/// What the steps of a turn put out.
+fn slide_steps(
+    alloc: Global,
+    window: &mut SlideWindow,
+    item: &Item,
+) -> Result<Vec<Item>, AllocError>
+    requires after { IsAfter (item_instant item.now) window.old.held }
+    requires wide { IsItemWide window.old.width item.now }
+    ensures { OnOk result (window.new ≡ slides.next window.old item.now) }
+{
+    let near = window.near(alloc, item)?;
+    let items = slide_work(alloc, item, &near)?;
+    window.apply(item)?;
+    Ok(items)
+}
+
+/// What a turn in place puts out.
+fn slide_run(alloc: Global, window: &mut SlideWindow, item: Item) -> Result<Queue, AllocError>
+    requires after { IsAfter (item_instant item) window.old.held }
+    requires wide { IsItemWide window.old.width item }
+    ensures { OnOk result (window.new ≡ slides.next window.old item) }
+{
+    let mut queue = Queue::new(alloc);
+    window.run(alloc, item, &mut queue)?;
+    Ok(queue)
+}
+
+/// Whether a window that moves at multiples puts out in place what the other does by steps, and
+/// holds as many rows then.
+fn slide_agrees(
+    alloc: Global,
+    placed: &mut SlideWindow,
+    stepped: &mut SlideWindow,
+    item: Item,
+) -> Result<bool, AllocError>
+    requires after { IsAfter (item_instant item) placed.old.held }
+    requires after_other { IsAfter (item_instant item) stepped.old.held }
+    requires wide { IsItemWide placed.old.width item }
+    requires wide_other { IsItemWide stepped.old.width item }
+    ensures width { OnOk result (placed.new.width ≡ placed.old.width) }
+    ensures width_other { OnOk result (stepped.new.width ≡ stepped.old.width) }
+    ensures after { OnOk result (IsAfter (item_instant item) placed.new.held) }
+    ensures after_other { OnOk result (IsAfter (item_instant item) stepped.new.held) }
+{
+    let items = slide_steps(alloc, stepped, &item)?;
+    let queue = slide_run(alloc, placed, item)?;
+    let same = holds(alloc, queue, &items)?;
+    Ok(same && placed.len() == stepped.len())
+}
+
+/// Whether both do so item after item, up to windows of so many rows.
+fn slides_agree(
+    alloc: Global,
+    span: u64,
+    step: u64,
+    all: &[Came],
+    rows: usize,
+) -> Result<bool, AllocError>
+    requires { 0 < step }
+{
+    let mut placed = SlideWindow::new(alloc, span, step, 2);
+    let mut stepped = SlideWindow::new(alloc, span, step, 2);
+    let mut last = 0;
+    for came in all {
+        let item = item(alloc, (came.0.max(last), came.1.min(1024)))?;
+        last = came.0.max(last);
+        if !has_two_columns(&item) || !slide_agrees(alloc, &mut placed, &mut stepped, item)? {
+            return Ok(false);
+        }
+    }
+    Ok(placed.len() == rows)
+}
+
+#[test]
+fn windows_that_move_at_multiples_run_in_place(rt: HostRuntime) -> Result<(), Fail> {
+    assert!(rt; slides_agree(rt.alloc(), 0, 1, &CAME, 0)?);
+    assert!(rt; slides_agree(rt.alloc(), 2, 3, &CAME, 0)?);
+    assert!(rt; slides_agree(rt.alloc(), 6, 3, &CAME, 1151)?);
+    assert!(rt; slides_agree(rt.alloc(), 1, 4, &CAME, 3265)?);
     Ok(())
 }
 

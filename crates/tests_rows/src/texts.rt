@@ -65,6 +65,7 @@ fn add_window(text: &mut String, window: &Window) -> Result<(), AllocError> {
     match window {
         Window::Now => text.push_str("[Now]"),
         Window::Range(instants) => write!(text, "[Range {instants}]"),
+        Window::RangeSlide(instants, step) => write!(text, "[Range {instants} Slide {step}]"),
         Window::Unbounded => text.push_str("[Range Unbounded]"),
         Window::Rows(rows) => write!(text, "[Rows {rows}]"),
         Window::Partition(by, rows) => {

@@ -8,7 +8,7 @@ use column::Batch;
 use op_queue::Item;
 use std::alloc::{AllocError, Global};
 use std::test::Fail;
-use windows::{LatestWindow, RangeWindow, latest_work, range_work};
+use windows::{LatestWindow, RangeWindow, SlideWindow, latest_work, range_work, slide_work};
 
 /// The rows 7 and 8.
 fn pair(alloc: Global) -> Result<Batch, AllocError>
@@ -57,6 +57,38 @@ fn two_rows_are_dropped(alloc: Global) -> Result<bool, AllocError> {
 #[test]
 fn the_tick_drops_the_older_rows(rt: HostRuntime) -> Result<(), Fail> {
     assert!(rt; two_rows_are_dropped(rt.alloc())?);
+    Ok(())
+}
+
+/// The window of an instant and the one before it, at even instants alone, that holds the two rows
+/// of the instant 1.
+fn slide_window(alloc: Global) -> Result<SlideWindow, AllocError> {
+    let item = Item::Rows(1, pair(alloc)?);
+    let mut window = SlideWindow::new(alloc, 1, 2, 1);
+    window.apply(&item)?;
+    Ok(window)
+}
+
+/// Of the tick of an instant how many rows are put out there, and how many items; and how many rows
+/// go unshown.
+fn slid(alloc: Global, at: u64) -> Result<(usize, usize, usize), AllocError> {
+    let window = slide_window(alloc)?;
+    let tick = Item::Tick(at);
+    let near = window.near(alloc, &tick)?;
+    let items = slide_work(alloc, &tick, &near)?;
+    let rows = match items.first() {
+        Some(Item::Rows(_, batch)) => batch.len(),
+        _ => 0,
+    };
+    Ok((rows, items.len(), near.pass.len()))
+}
+
+#[test]
+fn rows_are_shown_at_multiples_alone(rt: HostRuntime) -> Result<(), Fail> {
+    assert_eq!(rt; slid(rt.alloc(), 1)?, (0, 1, 0));
+    assert_eq!(rt; slid(rt.alloc(), 2)?, (2, 2, 0));
+    assert_eq!(rt; slid(rt.alloc(), 3)?, (0, 1, 0));
+    assert_eq!(rt; slid(rt.alloc(), 4)?, (0, 1, 2));
     Ok(())
 }
 

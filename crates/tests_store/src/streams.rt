@@ -1,11 +1,14 @@
 //! Streams at work.
 use names::Catalog;
 use op_queue::Cursor;
-use reference::{Fault, NewRows};
+use reference::{Fault, MAX_STREAM_ROWS, NewRows};
 use std::alloc::{AllocError, Global};
 use std::test::Fail;
 use stream_store::{Arrivals, Streams};
 use values::Value;
+
+// As many rows as a stream may have, where no query limits it.
+const MOST: u64 = MAX_STREAM_ROWS as u64;
 
 // Rows of one value, each with its instant.
 fn rows(alloc: Global, pairs: &[(i64, i64)]) -> Result<NewRows, AllocError> {
@@ -84,7 +87,7 @@ fn refusal(
     pairs: &[(i64, i64)],
 ) -> Result<Option<Fault>, AllocError> {
     let rows = rows(alloc, pairs)?;
-    Ok(streams.append(stream, &rows).err())
+    Ok(streams.append(stream, &rows, MOST).err())
 }
 
 // Whether each append is refused by its fault.
@@ -148,11 +151,11 @@ fn faults_come_in_the_order_of_their_tests(rt: HostRuntime) -> Result<(), Fail> 
 fn append(alloc: Global, streams: &mut Streams, pairs: &[(i64, i64)]) -> Result<bool, Fault> {
     let rows = rows(alloc, pairs)?;
     let came = streams.arrivals(0);
-    if streams.append(0, &rows).is_err() {
+    if streams.append(0, &rows, MOST).is_err() {
         if streams.arrivals(0) != came {
             return Ok(false);
         }
-        streams.append(0, &rows)?;
+        streams.append(0, &rows, MOST)?;
     }
     Ok(true)
 }
@@ -306,7 +309,7 @@ fn late_rows_are_closed_among_those_in_order(rt: HostRuntime) -> Result<(), Fail
 fn half_closed(alloc: Global) -> Result<Streams, Fault> {
     let rows = rows(alloc, &[(1, 5), (2, 6)])?;
     let mut streams = streams(alloc)?;
-    streams.append(0, &rows)?;
+    streams.append(0, &rows, MOST)?;
     close(&mut streams, 0, 1)?;
     Ok(streams)
 }
@@ -345,5 +348,29 @@ fn a_heartbeat_comes_in_two_halves(rt: HostRuntime) -> Result<(), Fail> {
     assert_eq!(rt; sizes(rt.alloc())?, (2, 3, 1));
     assert_eq!(rt; named(rt.alloc())?, [Some(0), None]);
     assert!(rt; catalog_has_one_stream(rt.alloc())?);
+    Ok(())
+}
+
+// Of two rows, one row and no row that come where one may come in all, which are refused, and how
+// many came.
+fn limited(alloc: Global) -> Result<([Option<Fault>; 3], u64), Fault> {
+    let mut streams = streams(alloc)?;
+    let two = rows(alloc, &[(1, 5), (2, 6)])?;
+    let one = rows(alloc, &[(1, 5)])?;
+    let none = NewRows::new(alloc);
+    let refused = [
+        streams.append(0, &two, 1).err(),
+        streams.append(0, &one, 1).err(),
+        streams.append(0, &none, 1).err(),
+    ];
+    Ok((refused, streams.arrivals(0)))
+}
+
+#[test]
+fn rows_over_the_limit_are_refused(rt: HostRuntime) -> Result<(), Fail> {
+    assert_eq!(rt;
+        limited(rt.alloc())?,
+        ([Some(Fault::StreamFull), None, None], 1)
+    );
     Ok(())
 }

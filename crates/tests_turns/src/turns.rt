@@ -10,6 +10,7 @@ use std::sync::Arc;
 use std::test::Fail;
 use turn::{ColumnList, Done, Kind, Near, Node, RowList, SharedItem, SharedNear, Turn, same_item};
 use values::{Row, Value};
+use windows::SlideNear;
 
 fn row(number: i64) -> Row
     ensures { length result.items ≡ 1 }
@@ -136,7 +137,26 @@ fn is_same_node(alloc: Global, kind: Kind) -> Result<bool, AllocError> {
 fn nodes_are_told_apart_by_value(rt: HostRuntime) -> Result<(), Fail> {
     assert!(rt; is_same_node(rt.alloc(), Kind::ToStream)?);
     assert!(rt; !is_same_node(rt.alloc(), Kind::RangeWindow)?);
+    assert!(rt; !is_same_node(rt.alloc(), Kind::SlideWindow)?);
     Ok(())
+}
+
+/// The excerpt of a window that moves at multiples, where one row goes unshown.
+fn passing(alloc: Global, number: i64) -> Result<Near, AllocError> {
+    let mut pass = Vec::new(alloc);
+    pass.push(row(number))?;
+    Ok(Near::Sliding(SlideNear {
+        leave: Vec::new(alloc),
+        pass,
+        enter: Vec::new(alloc),
+    }))
+}
+
+/// Whether the excerpt in which the row 5 goes unshown is the same as that of another row.
+fn is_same_passing(alloc: Global, number: i64) -> Result<bool, AllocError> {
+    let five = passing(alloc, 5)?;
+    let other = passing(alloc, number)?;
+    Ok(five.is_same(&other))
 }
 
 fn sorted(alloc: Global, number: i64) -> Result<Near, AllocError> {
@@ -156,5 +176,7 @@ fn is_same_excerpt(alloc: Global, number: i64) -> Result<bool, AllocError> {
 fn excerpts_are_told_apart_by_value(rt: HostRuntime) -> Result<(), Fail> {
     assert!(rt; is_same_excerpt(rt.alloc(), 5)?);
     assert!(rt; !is_same_excerpt(rt.alloc(), 6)?);
+    assert!(rt; is_same_passing(rt.alloc(), 5)?);
+    assert!(rt; !is_same_passing(rt.alloc(), 6)?);
     Ok(())
 }

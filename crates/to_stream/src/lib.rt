@@ -13,9 +13,7 @@
 
 ghost use Rattle.std.specs.Prelude.{◌≡◌, ◌≤◌, ◌+◌, ◌++◌, None, Some, [], map, length};
 ghost use Rattle.std.specs.Prelude.{IfOk, OnOk, OnErr};
-ghost use Rattle.std.specs.VecDeque.{deque_len, deque_capacity};
 ghost use Rattle.row_bags.specs.Bags.{rows_of};
-ghost use Rattle.row_bags.specs.Lists.{renewed};
 ghost use Rattle.to_stream.specs.Turns.{State, shown, kept, near, out, ticked, next, HasRoom};
 ghost use Rattle.to_stream.specs.Turns.{answers_of};
 ghost use Rattle.to_stream.specs.Law.{Stands, StepLaw};
@@ -154,7 +152,8 @@ impl ToStream {
             StreamOperator::Istream => self.delta.push_entered(at, answers),
             StreamOperator::Dstream => self.delta.push_left(at, answers),
             StreamOperator::Rstream => {
-                push_whole(self.alloc, &mut self.whole, &self.delta, at, answers)
+                self.whole
+                    .renew_to(self.alloc, &mut self.delta, at, answers)
             }
         }
     }
@@ -229,36 +228,6 @@ pub fn work(alloc: Global, item: &Item, near: &[Row]) -> Result<Vec<(u64, Row)>,
             let answers = at_instant(alloc, *at, near)?;
             Ok(answers)
         }
-    }
-}
-
-/// Makes the list that of the relation now, and pushes it behind the answers.
-fn push_whole(
-    alloc: Global,
-    whole: &mut RowList,
-    delta: &Delta,
-    at: u64,
-    answers: &mut VecDeque<(u64, Row)>,
-) -> Result<(), AllocError>
-    ensures answers { OnOk result (answers_of answers.new.items
-        ≡ answers_of answers.old.items ++ map (λ r. (at, r)) (renewed whole.old delta.now)) }
-    ensures whole { OnOk result (whole.new ≡ renewed whole.old delta.now) }
-    ensures err { OnErr result (answers.new.items ≡ answers.old.items) }
-{
-    let rows = whole.renew_and_list(alloc, delta)?;
-    answers.reserve(rows.len())?;
-    push_rows(answers, at, rows);
-    Ok(())
-}
-
-/// Moves rows behind the answers, which have room for them.
-fn push_rows(answers: &mut VecDeque<(u64, Row)>, at: u64, rows: Vec<Row>)
-    requires { deque_len answers.old + length rows.items ≤ deque_capacity answers.old }
-    ensures { answers_of answers.new.items
-        ≡ answers_of answers.old.items ++ map (λ r. (at, r)) (rows_of rows.items) }
-{
-    for row in rows {
-        answers.push_back_reserved((at, row));
     }
 }
 

@@ -15,12 +15,13 @@ use Rattle.row_nodes.specs.Select.{FitItem, selected}
 use Rattle.to_stream.specs.Turns as root
 use Rattle.windows.specs.Latest as latest
 use Rattle.windows.specs.Range as range
+use Rattle.windows.specs.Slide as slide
 use Rattle.windows.specs.Widths.{HaveOneWidthAll}
 use Rattle.turn.specs.Nodes.{PlainNode}
 use Rattle.turn.specs.declared.excerpts.Near.{Near}
 use Rattle.turn.specs.declared.excerpts.Near.TheVariants as near
 use Rattle.turn.specs.declared.kinds.Kind.{Kind}
-use Rattle.turn.specs.declared.kinds.Kind.TheVariants.{RangeWindow, LatestWindow, Select, Project, Join, Group, ToStream}
+use Rattle.turn.specs.declared.kinds.Kind.TheVariants.{RangeWindow, SlideWindow, LatestWindow, Select, Project, Join, Group, ToStream}
 use Rattle.turn.specs.declared.outcomes.Change.{Change}
 use Rattle.turn.specs.declared.outcomes.Change.TheVariants as change
 use Rattle.turn.specs.declared.outcomes.Outputs.{Outputs}
@@ -40,6 +41,10 @@ outs_in (Answers answers) = Answered (root.answers_of answers.items)
 abbrev pub FitsRange : Near → Type 0
 FitsRange (near.Leaving rows) = HaveOneWidthAll rows
 FitsRange n = ⊥
+
+abbrev pub FitsSlide : Near → Type 0
+FitsSlide (near.Sliding rows) = slide.HaveOneWidthIn rows
+FitsSlide n = ⊥
 
 abbrev pub FitsLatest : Item → Near → Type 0
 FitsLatest i (near.Fallen rows) = latest.FallenFit i rows
@@ -67,6 +72,7 @@ FitsRoot n = ⊥
 
 abbrev pub FitsKind : Kind → Side → Item → Near → Type 0
 FitsKind RangeWindow side i n = FitsRange n
+FitsKind SlideWindow side i n = FitsSlide n
 FitsKind LatestWindow side i n = FitsLatest i n
 FitsKind (Select steps) side i n = FitsSelect steps i n
 FitsKind (Project columns) side i n = FitsProject columns i n
@@ -83,6 +89,10 @@ Fits node i n = FitsKind node.kind node.side i n
 abbrev pub range_outs : Item → Near → Outs
 range_outs i (near.Leaving rows) = Put (range.out i rows)
 range_outs i n = Put []
+
+abbrev pub slide_outs : Item → Near → Outs
+slide_outs i (near.Sliding rows) = Put (slide.out i rows)
+slide_outs i n = Put []
 
 abbrev pub latest_outs : Item → Near → Outs
 latest_outs i (near.Fallen rows) = Put (latest.out i rows)
@@ -110,6 +120,7 @@ root_outs i n = Answered []
 
 abbrev pub outs_at : Kind → Side → Item → Near → Outs
 outs_at RangeWindow side i n = range_outs i n
+outs_at SlideWindow side i n = slide_outs i n
 outs_at LatestWindow side i n = latest_outs i n
 outs_at (Select steps) side i n = select_outs steps i n
 outs_at (Project columns) side i n = project_outs columns i n
@@ -132,6 +143,7 @@ group_change g i n = change.Nothing
 
 abbrev pub change_at : Kind → Item → Near → Change
 change_at RangeWindow i n = range_change i n
+change_at SlideWindow i n = change.Nothing
 change_at LatestWindow i n = change.Nothing
 change_at (Select steps) i n = change.Nothing
 change_at (Project columns) i n = change.Nothing

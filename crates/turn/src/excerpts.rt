@@ -3,6 +3,7 @@ ghost use Rattle.std.specs.Prelude.{◌≡◌, ◌↔◌, IsTrue};
 
 use std::marker::Model;
 use values::Row;
+use windows::SlideNear;
 
 /// A list of rows.
 #[derive(Drop)]
@@ -78,6 +79,9 @@ pub enum Near {
     Nothing,
     /// The rows that leave a window of the last instants; none where the item is rows.
     Leaving(RowList),
+    /// The rows that leave, pass and enter a window that moves at multiples alone; none but at a
+    /// tick at which it moves.
+    Sliding(SlideNear),
     /// The rows that fall out of the last rows of each partition; none where the item is a tick.
     Fallen(FallenRows),
     /// What the item meets on the other side of a join.
@@ -96,6 +100,7 @@ impl Near {
         match (self, other) {
             (Near::Nothing, Near::Nothing) => true,
             (Near::Leaving(rows), Near::Leaving(others)) => rows.is_same(others),
+            (Near::Sliding(rows), Near::Sliding(others)) => rows.is_same(others),
             (Near::Fallen(rows), Near::Fallen(others)) => rows.is_same(others),
             (Near::Met(met), Near::Met(other)) => met.near.is_same(&other.near),
             (Near::Groups(groups), Near::Groups(others)) => groups.is_same(others),

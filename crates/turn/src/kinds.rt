@@ -79,6 +79,8 @@ impl ColumnList {
 pub enum Kind {
     /// A window of the last instants, or of all.
     RangeWindow,
+    /// A window of the last instants that moves at the multiples of a number alone.
+    SlideWindow,
     /// A window of the last rows of each partition.
     LatestWindow,
     /// The rows at which a condition is true.
@@ -100,6 +102,7 @@ impl Kind {
     {
         match (self, other) {
             (Kind::RangeWindow, Kind::RangeWindow) => true,
+            (Kind::SlideWindow, Kind::SlideWindow) => true,
             (Kind::LatestWindow, Kind::LatestWindow) => true,
             (Kind::Select(steps), Kind::Select(others)) => steps.is_same(others),
             (Kind::Project(columns), Kind::Project(others)) => columns.is_same(others),

@@ -4,7 +4,7 @@ use Rattle.std.specs.List.{filter, prefix_len, zip}
 use Rattle.std.specs.List.Sorted.{IsNonDecreasingBy}
 use Rattle.std.proofs.lemmas.Bool.{cases_lt}
 use Rattle.std.proofs.lemmas.Bool.Decides.{nat_tests}
-use Rattle.std.proofs.lemmas.List.{take-map}
+use Rattle.std.proofs.lemmas.List.{drop-map, take-map}
 use Rattle.std.proofs.lemmas.Slice.Zip.{seconds-zip, length-zip}
 use Rattle.values.specs.Row.{Row}
 use Rattle.windows.specs.Range.{held_at}
@@ -67,3 +67,11 @@ older_rows n k ts rows same s is =
 
 pub length-held : (ts : List ℕ) (rows : List Row) → length ts ≡ length rows → length (zip ts rows) ≡ length rows
 length-held ts rows same = length-zip ts rows ∙ omega (arith, same)
+
+-- rows in the middle
+pub middle_rows : (j k : ℕ) (ts : List ℕ) (rows : List Row) → length ts ≡ length rows → take k (drop j rows) ≡ map (λ h. h.1) (take k (drop j (zip ts rows)))
+middle_rows j k ts rows same =
+    let f : ℕ × Row → Row = λ h. h.1 in
+    ap (λ (l : List Row). take k (drop j l)) (sym (seconds-zip ts rows (sym same)))
+    ∙ ap (take k) (drop-map f j (zip ts rows))
+    ∙ take-map f k (drop j (zip ts rows))

@@ -1,5 +1,5 @@
 -- Rows that leave, batch by batch.
-use Rattle.std.proofs.Common.{◌≡◌, ℕ, zero, suc, ◌+◌, ◌-◌, ◌*◌, ◌≤◌, Bool, true, nat_lt, ℤ, Option, None, Some, List, [], ◌∷◌, ◌++◌, length, map, take, drop, replicate, slice_range, refl, ap, ap₂, sym, ◌∙◌, arith, subst, suc-add, suc-mul, append_assoc}
+use Rattle.std.proofs.Common.{◌≡◌, ℕ, zero, suc, ◌+◌, ◌-◌, ◌*◌, ◌≤◌, Bool, true, false, not, nat_lt, ℤ, Option, None, Some, List, [], ◌∷◌, ◌++◌, length, map, take, drop, replicate, slice_range, refl, ap, ap₂, sym, ◌∙◌, arith, subst, suc-add, suc-mul, append_assoc, drop-drop}
 use Rattle.std.proofs.Math.Seq.{take-add}
 use Rattle.std.proofs.lemmas.List.{drop-append-le, drop-take, map-append, take-append-le}
 use Rattle.std.proofs.lemmas.List.{get_or_append_left, length-append, length-drop, length-map, length-take}
@@ -14,7 +14,7 @@ use Rattle.op_queue.proofs.GainLemmas.{gained-item, gained-more, gained-same}
 use Rattle.windows.specs.Held.{cut_rows}
 use Rattle.std.specs.List.{filter, flat_map}
 use Rattle.op_queue.specs.declared.item.Item.TheVariants.{Tick}
-use Rattle.windows.specs.Range.{RangeState, is_past, leaving, near, out}
+use Rattle.windows.specs.Range.{RangeState, is_past, leaving, near, out, with_sign}
 use Rattle.windows.proofs.FlatLemmas.{cut_rows-drop}
 use Rattle.windows.proofs.RangeLemmas.{near-none}
 
@@ -42,59 +42,71 @@ slice_front xs ys a b le fits =
     ap (take (b - a)) (drop-append-le a xs ys (omega (arith, le, fits)))
     ∙ take-append-le (b - a) (drop a xs) ys (omega (arith, le, fits, length-drop a xs))
 
-pub flat_leaving : (w n : ℕ) (values : List (Option ℤ)) → flat_rows w (replicate n true) values ≡ map leaving (cut_rows w n values)
-flat_leaving w zero values = refl
-flat_leaving w (suc n) values = ap (λ rs. leaving (take w values) ∷ rs) (flat_leaving w n (drop w values))
+pub flat_signed : (w n : ℕ) (enters : Bool) (values : List (Option ℤ)) → flat_rows w (replicate n (not enters)) values ≡ map (with_sign enters) (cut_rows w n values)
+flat_signed w zero enters values = refl
+flat_signed w (suc n) enters values = ap₂ (λ (b : Bool) rs. (b, take w values) ∷ rs) (not_not enters) (flat_signed w n enters (drop w values))
+  where
+    not_not : (b : Bool) → not (not b) ≡ b
+    not_not true = refl
+    not_not false = refl
 
-pub rows_leaving : (w n «from» count : ℕ) (values part : List (Option ℤ)) (rows : List Row) → «from» + count ≤ n → cut_rows w n values ≡ rows → part ≡ slice_range values («from» * w) («from» * w + count * w)
-    → map leaving (cut_rows w count part) ≡ map leaving (take count (drop «from» rows))
-rows_leaving w n «from» count values part rows le is cut =
+pub rows_signed : (w n «from» count : ℕ) (enters : Bool) (values part : List (Option ℤ)) (rows : List Row) → «from» + count ≤ n → cut_rows w n values ≡ rows → part ≡ slice_range values («from» * w) («from» * w + count * w)
+    → map (with_sign enters) (cut_rows w count part) ≡ map (with_sign enters) (take count (drop «from» rows))
+rows_signed w n «from» count enters values part rows le is cut =
     let size : «from» * w + count * w - «from» * w ≡ count * w = omega arith in
-    ap (map leaving)
+    ap (map (with_sign enters))
     (ap (cut_rows w count) (cut ∙ ap (λ k. take k (drop («from» * w) values)) size)
     ∙ cut_rows-first w count (drop («from» * w) values)
     ∙ sym (cut_rows-take w count (n - «from») (drop («from» * w) values) (omega (arith, le)))
     ∙ ap (take count) (cut_rows-drop w n «from» values (omega (arith, le)) ∙ ap (drop «from») is))
 
 -- ---- what a queue gains, batch by batch
+abbrev pub rows_at : ℕ → Bool → List Row → List (Entry Row)
+rows_at t enters rows = map (RowAt t) (map (with_sign enters) rows)
+
 abbrev pub leaving_at : ℕ → List Row → List (Entry Row)
 leaving_at t rows = map (RowAt t) (map leaving rows)
 
-pub leaving_at-more : (t «from» more : ℕ) (rows : List Row) → leaving_at t (take («from» + more) rows) ≡ leaving_at t (take «from» rows) ++ leaving_at t (take more (drop «from» rows))
-leaving_at-more t «from» more rows =
+pub rows_at-more : (t : ℕ) (enters : Bool) («from» more : ℕ) (rows : List Row) → rows_at t enters (take («from» + more) rows) ≡ rows_at t enters (take «from» rows) ++ rows_at t enters (take more (drop «from» rows))
+rows_at-more t enters «from» more rows =
     let at : Bool × Row → Entry Row = RowAt t in
-    ap (leaving_at t) (take-add «from» more rows)
-    ∙ ap (map at) (map-append leaving (take «from» rows) (take more (drop «from» rows)))
-    ∙ map-append at (map leaving (take «from» rows)) (map leaving (take more (drop «from» rows)))
+    let sign : Row → Bool × Row = with_sign enters in
+    ap (rows_at t enters) (take-add «from» more rows)
+    ∙ ap (map at) (map-append sign (take «from» rows) (take more (drop «from» rows)))
+    ∙ map-append at (map sign (take «from» rows)) (map sign (take more (drop «from» rows)))
 
 pub IsForward-front : (es fs : List (Entry Row)) → IsForward (es ++ fs) → IsForward es
 IsForward-front es fs h i j d le lt =
     let n = length-append es fs in
     rw (sym (get_or_append_left es fs d i (omega arith)), sym (get_or_append_left es fs d j lt)) (h i j d le (omega arith))
 
-pub forward_more : (t «from» more count : ℕ) (rows : List Row) (before es : List (Entry Row)) (batch : List (Bool × Row)) → «from» + more ≤ count → es ≡ before ++ leaving_at t (take «from» rows) → batch ≡ map leaving (take more (drop «from» rows))
-    → IsForward (before ++ leaving_at t (take count rows)) → IsForward (es ++ map (RowAt t) batch)
-forward_more t «from» more count rows before es batch le e b h =
+pub forward_more : (t : ℕ) (enters : Bool) («from» more count : ℕ) (rows : List Row) (before es : List (Entry Row)) (batch : List (Bool × Row)) → «from» + more ≤ count → es ≡ before ++ rows_at t enters (take «from» rows)
+    → batch ≡ map (with_sign enters) (take more (drop «from» rows)) → IsForward (before ++ rows_at t enters (take count rows)) → IsForward (es ++ map (RowAt t) batch)
+forward_more t enters «from» more count rows before es batch le e b h =
     let at : Bool × Row → Entry Row = RowAt t in
-    let rest : List (Entry Row) = leaving_at t (take (count - («from» + more)) (drop («from» + more) rows)) in
+    let rest : List (Entry Row) = rows_at t enters (take (count - («from» + more)) (drop («from» + more) rows)) in
     let split : count ≡ «from» + more + (count - («from» + more)) = omega (arith, le) in
-    let whole : before ++ leaving_at t (take count rows) ≡ (before ++ leaving_at t (take («from» + more) rows)) ++ rest =
-    ap (λ n. before ++ leaving_at t (take n rows)) split
-    ∙ ap (λ l. before ++ l) (leaving_at-more t («from» + more) (count - («from» + more)) rows)
-    ∙ sym (append_assoc before (leaving_at t (take («from» + more) rows)) rest) in
-    let here : before ++ leaving_at t (take («from» + more) rows) ≡ es ++ map at batch =
-    ap (λ l. before ++ l) (leaving_at-more t «from» more rows)
-    ∙ sym (append_assoc before (leaving_at t (take «from» rows)) (leaving_at t (take more (drop «from» rows))))
+    let whole : before ++ rows_at t enters (take count rows) ≡ (before ++ rows_at t enters (take («from» + more) rows)) ++ rest =
+    ap (λ n. before ++ rows_at t enters (take n rows)) split
+    ∙ ap (λ l. before ++ l) (rows_at-more t enters («from» + more) (count - («from» + more)) rows)
+    ∙ sym (append_assoc before (rows_at t enters (take («from» + more) rows)) rest) in
+    let here : before ++ rows_at t enters (take («from» + more) rows) ≡ es ++ map at batch =
+    ap (λ l. before ++ l) (rows_at-more t enters «from» more rows)
+    ∙ sym (append_assoc before (rows_at t enters (take «from» rows)) (rows_at t enters (take more (drop «from» rows))))
     ∙ ap₂ (λ (l m : List (Entry Row)). l ++ m) (sym e) (ap (map at) (sym b)) in
-    subst IsForward here (IsForward-front (before ++ leaving_at t (take («from» + more) rows)) rest (subst IsForward whole h))
+    subst IsForward here (IsForward-front (before ++ rows_at t enters (take («from» + more) rows)) rest (subst IsForward whole h))
 
-pub gained_more : (t «from» more : ℕ) (rows : List Row) (batch : List (Bool × Row)) (a b c : Waiting) → batch ≡ map leaving (take more (drop «from» rows)) → HasGained (leaving_at t (take «from» rows)) a b
-    → c.entries ≡ b.entries ++ map (RowAt t) batch → c.begins ≡ b.begins ++ first_begins (map (RowAt t) batch) → HasGained (leaving_at t (take («from» + more) rows)) a c
-gained_more t «from» more rows batch a b c is h entries begins =
+pub gained_more : (t : ℕ) (enters : Bool) («from» more : ℕ) (rows : List Row) (batch : List (Bool × Row)) (a b c : Waiting) → batch ≡ map (with_sign enters) (take more (drop «from» rows)) → HasGained (rows_at t enters (take «from» rows)) a b
+    → c.entries ≡ b.entries ++ map (RowAt t) batch → c.begins ≡ b.begins ++ first_begins (map (RowAt t) batch) → HasGained (rows_at t enters (take («from» + more) rows)) a c
+gained_more t enters «from» more rows batch a b c is h entries begins =
     let at : Bool × Row → Entry Row = RowAt t in
     gained-same
-    (ap (λ l. leaving_at t (take «from» rows) ++ map at l) is ∙ sym (leaving_at-more t «from» more rows))
-    (gained-more (leaving_at t (take «from» rows)) (map at batch) a b c h (gained-item (Rows t batch) b c entries begins))
+    (ap (λ l. rows_at t enters (take «from» rows) ++ map at l) is ∙ sym (rows_at-more t enters «from» more rows))
+    (gained-more (rows_at t enters (take «from» rows)) (map at batch) a b c h (gained-item (Rows t batch) b c entries begins))
+
+-- rows from a place on, cut a second time
+pub signed_part : (enters : Bool) (j k more : ℕ) (rows : List Row) (batch : List (Bool × Row)) → batch ≡ map (with_sign enters) (take more (drop (j + k) rows)) → batch ≡ map (with_sign enters) (take more (drop k (drop j rows)))
+signed_part enters j k more rows batch is = is ∙ ap (λ rs. map (with_sign enters) (take more rs)) (sym (drop-drop k j rows))
 
 -- ---- the rows that leave at a tick
 pub near_taken : (s : RangeState) (span : Option ℕ) (w t n k first : ℕ) (held : List (ℕ × Row)) → record { span = span; width = w; held = held } ≡ s → span ≡ Some n → first ≡ t - n

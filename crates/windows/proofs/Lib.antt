@@ -12,3 +12,5 @@ pub mod MoveLemmas
 pub mod ShownLemmas
 pub mod LatestLaw
 pub mod RangeLaw
+pub mod SlideLaw
+pub mod SlideLemmas

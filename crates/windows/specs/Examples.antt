@@ -7,6 +7,7 @@ use Rattle.windows.specs.declared.runs.Run.{Run}
 use Rattle.windows.specs.Held.{cut_rows, held_in}
 use Rattle.windows.specs.Latest as latest
 use Rattle.windows.specs.Range as range
+use Rattle.windows.specs.Slide as slide
 
 abbrev one : ℕ → Row
 one n = Some (pos n) ∷ []
@@ -32,6 +33,23 @@ newer_stay = refl
 
 rows_are_held : range.next window (Rows 4 (enters (one 5) ∷ [])) ≡ (1, one 7) ∷ (2, one 8) ∷ (4, one 9) ∷ (4, one 5) ∷ []
 rows_are_held = refl
+
+-- Range 1 at the multiples of 2, which shows the row of the instant 1 and holds those of 2 and 3: at the tick of 4 the first leaves, the second
+-- goes unshown, and the third is shown
+abbrev sliding : slide.SlideState
+sliding = record { span = 1; step = 2; width = 1; held = (1, one 7) ∷ (2, one 8) ∷ (3, one 9) ∷ []; shown = 1 }
+
+moves_at_multiples : slide.out (Tick 4) (slide.near sliding (Tick 4)) ≡ RowAt 4 (leaves (one 7)) ∷ RowAt 4 (enters (one 9)) ∷ TickAt 4 ∷ []
+moves_at_multiples = refl
+
+shows_the_rest : slide.next sliding (Tick 4) ≡ record { span = 1; step = 2; width = 1; held = (3, one 9) ∷ []; shown = 1 }
+shows_the_rest = refl
+
+waits_between : slide.out (Tick 5) (slide.near sliding (Tick 5)) ≡ TickAt 5 ∷ []
+waits_between = refl
+
+holds_unshown : slide.next sliding (Rows 4 (enters (one 5) ∷ [])) ≡ record { span = 1; step = 2; width = 1; held = (1, one 7) ∷ (2, one 8) ∷ (3, one 9) ∷ (4, one 5) ∷ []; shown = 1 }
+holds_unshown = refl
 
 -- Now holds the rows of the instant alone
 now_forgets : range.near (record { span = Some 0; width = 1; held = (1, one 7) ∷ (2, one 8) ∷ [] }) (Tick 2) ≡ one 7 ∷ []

@@ -1,9 +1,10 @@
 -- The law of one step of a window, by the bag that the window shows (Arasu, Babu and Widom, "The CQL continuous query language", 2006).
-use Rattle.std.specs.Prelude.{ℕ, ◌<◌, ◌≤◌, ◌≡◌, Bool, true, Option, Some, None, List, [], ◌∷◌, ◌++◌, map, filter}
+use Rattle.std.specs.Prelude.{ℕ, suc, take, length, ◌<◌, ◌≤◌, ◌≡◌, Bool, true, Option, Some, None, List, [], ◌∷◌, ◌++◌, map, filter}
 use Rattle.values.specs.Row.{Row, same_row}
-use Rattle.values.specs.Window.{Element, Window, Range, Unbounded, LastRows, is_later, plain, shows, window_rows}
+use Rattle.values.specs.Window.{Element, Window, Range, RangeSlide, Unbounded, LastRows, is_later, plain, shows, window_rows}
 use Rattle.op_queue.specs.Signed.{Same, Turns}
 use Rattle.windows.specs.Latest.{key_in}
+use Rattle.windows.specs.Slide.{SlideState}
 
 -- every item has P
 abbrev pub Each : {A : Type 0} → (A → Type 0) → List A → Type 0
@@ -70,3 +71,16 @@ pub record LatestStands (from : ℕ) (columns : List ℕ) (n t : ℕ) (state : R
   pub rising : IsRising held
   pub up_to : AreUpTo t held
   pub shown : shown_of from (LastRows columns n) t held ≡ held
+
+-- ---- Range with a Slide
+-- at the open instant t the state holds these elements, and it shows those that the window showed at the instant before
+pub record SlideStands (from t : ℕ) (s : SlideState) (held : List Element) : Type 0 where
+  pub same : s.held ≡ plain held
+  pub up_to : AreUpTo t held
+  pub began : from ≤ t
+  pub few : s.shown ≤ length held
+  pub shown : (u : ℕ) → suc u ≡ t → shown_of from (RangeSlide s.span s.step) u held ≡ take s.shown held
+
+-- what it has put out
+abbrev pub slide_shows : SlideState → List Element → List Row
+slide_shows s held = rows_in_order (take s.shown held)

@@ -34,6 +34,10 @@ near s (Tick t) = map (λ h. h.1) (filter (is_past s.span t) s.held)
 abbrev pub leaving : Row → Bool × Row
 leaving r = (false, r)
 
+-- a row that enters or leaves
+abbrev pub with_sign : Bool → Row → Bool × Row
+with_sign enters r = (enters, r)
+
 -- the rows that came, or those that leave and then the tick
 abbrev pub out : Item → List Row → List (Entry Row)
 out (Rows t b) rows = map (RowAt t) b

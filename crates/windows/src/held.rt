@@ -1,10 +1,10 @@
 //! Rows that are held, with their instants.
-ghost use Rattle.std.specs.Prelude.{◌≡◌, ◌<◌, ◌≤◌, ◌+◌, ◌++◌, [], length, map, drop, take, IfOk};
-ghost use Rattle.std.specs.Prelude.{OnOk, OnErr, nat_lt};
+ghost use Rattle.std.specs.Prelude.{◌≡◌, ◌<◌, ◌≤◌, ◌+◌, ◌-◌, ◌++◌, [], length, map, drop, take};
+ghost use Rattle.std.specs.Prelude.{IfOk, OnOk, OnErr, nat_lt};
 ghost use Rattle.std.specs.List.{filter};
 ghost use Rattle.std.specs.List.Sorted.{IsNonDecreasingBy};
 ghost use Rattle.column.specs.Rows.{IsTable, width};
-ghost use Rattle.windows.specs.Range.{held_at, leaving};
+ghost use Rattle.windows.specs.Range.{held_at, with_sign};
 ghost use Rattle.windows.specs.Widths.{rows_of};
 
 use crate::flat_rows::FlatRows;
@@ -76,10 +76,22 @@ impl HeldRows {
         count_below(&self.runs, first)
     }
 
-    /// A copy of `count` rows from the place `from` on, as rows that leave.
-    pub(crate) fn leaving(
+    /// A copy of the rows from one place on to another.
+    pub(crate) fn part(&self, alloc: Global, from: usize, to: usize) -> Result<Vec<Row>, AllocError>
+        requires ordered { from ≤ to }
+        requires within { to ≤ length self.now.held }
+        ensures { IfOk result (λ rows. rows_of rows.items
+            ≡ map (λ h. h.1) (take (to - from) (drop from self.now.held))) }
+    {
+        let rows = self.rows.part(alloc, from, to)?;
+        Ok(rows)
+    }
+
+    /// A copy of `count` rows from the place `from` on, as rows that enter or leave.
+    pub(crate) fn signed(
         &self,
         alloc: Global,
+        enters: bool,
         from: usize,
         count: usize,
     ) -> Result<Batch, AllocError>
@@ -87,9 +99,9 @@ impl HeldRows {
         requires few { count ≤ MAX_ROWS }
         requires within { from + count ≤ length self.now.held }
         ensures { IfOk result (λ b. b
-            ≡ map leaving (take count (drop from (map (λ h. h.1) self.now.held)))) }
+            ≡ map (with_sign enters) (take count (drop from (map (λ h. h.1) self.now.held)))) }
     {
-        let batch = self.rows.leaving(alloc, from, count)?;
+        let batch = self.rows.signed(alloc, enters, from, count)?;
         Ok(batch)
     }
 

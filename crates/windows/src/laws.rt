@@ -1,13 +1,15 @@
 //! What holds of every turn of a window: functions that do nothing, each with one law.
 ghost use Rattle.std.specs.Prelude.{◌≡◌, ◌≤◌, ◌+◌, ◌++◌, ℕ, List};
 ghost use Rattle.values.specs.Row.{Row};
-ghost use Rattle.values.specs.Window.{Element, LastRows};
+ghost use Rattle.values.specs.Window.{Element, LastRows, RangeSlide};
 ghost use Rattle.op_queue.specs.Paths.{rows_in};
 ghost use Rattle.op_queue.specs.declared.item.Item.TheVariants.{Rows, Tick};
 ghost use Rattle.windows.specs.Latest as latest;
-ghost use Rattle.windows.specs.Laws.{Each, IsRising, LatestStands, RangeStands, WindowRows};
+ghost use Rattle.windows.specs.Laws.{Each, IsRising, LatestStands, RangeStands};
+ghost use Rattle.windows.specs.Laws.{SlideStands, WindowRows, slide_shows};
 ghost use Rattle.windows.specs.Laws.{WindowTick, coming, range_of, rows_in_order, shown_of};
 ghost use Rattle.windows.specs.Range as range;
+ghost use Rattle.windows.specs.Slide as slide;
 
 /// Rows of the instant t at a window of the last instants.
 pub fn range_takes_rows()
@@ -50,4 +52,25 @@ pub fn latest_takes_ticks()
         → WindowTick from (LastRows s.columns s.count) t held (rows_in_order held)
         (rows_in (latest.out (Tick t) (latest.near s (Tick t)))) held (rows_in_order held)
         × LatestStands from s.columns s.count (t + 1) (latest.next s (Tick t)) held }
+{}
+
+/// Rows of the instant t at a window that moves at multiples alone: it puts out nothing.
+pub fn slide_takes_rows()
+    ensures { (from : ℕ) (s : slide.SlideState) (t : ℕ) (held : List Element) (es : List Element)
+        → SlideStands from t s held → Each (λ e. e.instant ≡ t) es
+        → WindowRows from (RangeSlide s.span s.step) t held (slide_shows s held) es
+        (rows_in (slide.out (Rows t (coming es)) (slide.near s (Rows t (coming es)))))
+        (held ++ es) (slide_shows (slide.next s (Rows t (coming es))) (held ++ es))
+        × SlideStands from t (slide.next s (Rows t (coming es))) (held ++ es) }
+{}
+
+/// The tick of the instant t there.
+pub fn slide_takes_ticks()
+    ensures { (from : ℕ) (s : slide.SlideState) (t : ℕ) (held : List Element)
+        → SlideStands from t s held
+        → (held2 : List Element)
+        × (WindowTick from (RangeSlide s.span s.step) t held (slide_shows s held)
+        (rows_in (slide.out (Tick t) (slide.near s (Tick t)))) held2
+        (slide_shows (slide.next s (Tick t)) held2)
+        × SlideStands from (t + 1) (slide.next s (Tick t)) held2) }
 {}

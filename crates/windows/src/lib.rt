@@ -1,7 +1,8 @@
 //! The states of windows: what a window holds of its stream, and what its turns put out.
 //!
-//! `RangeWindow` holds the rows of the last instants, or all; `LatestWindow` the last rows of each
-//! partition.
+//! `RangeWindow` holds the rows of the last instants, or all; `SlideWindow` those of the last
+//! instants, of which it shows others at the multiples of a number alone; `LatestWindow` the last
+//! rows of each partition.
 #![tactic(auto)]
 
 mod flat_rows;
@@ -14,7 +15,12 @@ mod outputs;
 mod parts;
 mod range;
 mod runs;
+mod slide;
 
 pub use latest::{LatestWindow, latest_work};
-pub use laws::{latest_takes_rows, latest_takes_ticks, range_takes_rows, range_takes_ticks};
+pub use laws::{
+    latest_takes_rows, latest_takes_ticks, range_takes_rows, range_takes_ticks, slide_takes_rows,
+    slide_takes_ticks,
+};
 pub use range::{RangeWindow, range_work};
+pub use slide::{SlideNear, SlideWindow, slide_work};

@@ -21,7 +21,7 @@ next_digit text rest behind n b d so_far is value small some few =
 
 -- ---- digits that are put one by one, the last one first
 
-behind_put : (xs : List ℕ) (at b : ℕ) → 1 ≤ at → at ≤ length xs → drop (at - 1) (slice_set xs (at - 1) b) ≡ b ∷ drop at xs
+pub behind_put : (xs : List ℕ) (at b : ℕ) → 1 ≤ at → at ≤ length xs → drop (at - 1) (slice_set xs (at - 1) b) ≡ b ∷ drop at xs
 behind_put xs at b some room =
     let back : at - 1 + 1 ≡ at = omega arith in
     drop-set_at xs (at - 1) (at - 1) b refl (omega arith) ∙ ap (λ n. b ∷ drop n xs) back

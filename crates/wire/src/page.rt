@@ -1,10 +1,10 @@
 //! Lines on their way to a sink.
-ghost use Rattle.std.specs.Prelude.{◌≡◌, [], ◌∷◌, true, decimal};
+ghost use Rattle.std.specs.Prelude.{◌≡◌, ◌++◌, [], ◌∷◌, true, codes, decimal};
 ghost use Rattle.std.specs.Fmt.{signed_decimal};
 ghost use Rattle.wire.specs.Paged.{Writes};
 
 use crate::device::{Sink, put};
-use crate::digits::{MOST_DIGITS, put_digits};
+use crate::digits::{MOST_BYTES, put_digits, put_next_number};
 use arrayvec::ArrayVec;
 
 /// The most bytes that a page holds.
@@ -79,9 +79,9 @@ impl Page {
         ensures { Writes (K.taken sink.old) (K.failures sink.old) self.old (K.taken sink.new)
             (K.failures sink.new) self.new (decimal number) }
     {
-        let mut digits = [0u8; MOST_DIGITS];
-        let start = put_digits(number, &mut digits);
-        self.add(sink, &digits[start..]);
+        let mut text = [0u8; MOST_BYTES];
+        let start = put_digits(number, &mut text);
+        self.add(sink, &text[start..]);
     }
 
     /// Adds the decimal digits of a place.
@@ -101,5 +101,26 @@ impl Page {
             self.add(sink, b"-");
         }
         self.add_digits(sink, number.unsigned_abs());
+    }
+
+    /// Adds a comma and a number in decimal, both at once.
+    pub(crate) fn add_next_number<K: Sink>(&mut self, sink: &mut K, number: i64)
+        ensures { Writes (K.taken sink.old) (K.failures sink.old) self.old (K.taken sink.new)
+            (K.failures sink.new) self.new (codes "," ++ signed_decimal number) }
+    {
+        let mut text = [0u8; MOST_BYTES];
+        let start = put_next_number(number, &mut text);
+        self.add(sink, &text[start..]);
+    }
+
+    /// Adds a byte to a line.
+    pub(crate) fn add_byte<K: Sink>(&mut self, sink: &mut K, byte: u8)
+        ensures { Writes (K.taken sink.old) (K.failures sink.old) self.old (K.taken sink.new)
+            (K.failures sink.new) self.new (byte ∷ []) }
+    {
+        if self.bytes.try_push(byte).is_ok() {
+            return;
+        }
+        self.add(sink, &[byte]);
     }
 }

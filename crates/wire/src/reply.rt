@@ -33,14 +33,15 @@ pub enum Reply {
     Unread(WireFault),
 }
 
+/// Adds a comma and a value.
 #[tactic(auto, unfolding(crate::specs::Printed::value_text))]
-fn add_value<K: Sink>(sink: &mut K, page: &mut Page, value: Value)
-    ensures { Writes (K.taken sink.old) (K.failures sink.old) page.old
-        (K.taken sink.new) (K.failures sink.new) page.new (value_text value) }
+fn add_next_value<K: Sink>(sink: &mut K, page: &mut Page, value: Value)
+    ensures { Writes (K.taken sink.old) (K.failures sink.old) page.old (K.taken sink.new)
+        (K.failures sink.new) page.new (codes "," ++ value_text value) }
 {
     match value.number() {
-        Some(number) => page.add_number(sink, number),
-        None => page.add(sink, b"null"),
+        Some(number) => page.add_next_number(sink, number),
+        None => page.add(sink, b",null"),
     }
 }
 
@@ -49,8 +50,7 @@ fn add_values<K: Sink>(sink: &mut K, page: &mut Page, values: &[Value])
         (K.taken sink.new) (K.failures sink.new) page.new (after_commas value_text values.now) }
 {
     for value in values {
-        page.add(sink, b",");
-        add_value(sink, page, *value);
+        add_next_value(sink, page, *value);
     }
 }
 
@@ -59,10 +59,10 @@ fn add_row<K: Sink>(sink: &mut K, page: &mut Page, at: i64, row: &Row)
     ensures { Writes (K.taken sink.old) (K.failures sink.old) page.old
         (K.taken sink.new) (K.failures sink.new) page.new (row_text (at, row.now.items)) }
 {
-    page.add(sink, b"[");
+    page.add_byte(sink, b'[');
     page.add_number(sink, at);
     add_values(sink, page, row.as_slice());
-    page.add(sink, b"]");
+    page.add_byte(sink, b']');
 }
 
 #[tactic(auto, using(crate::proofs::Printing::writes_both))]
@@ -72,7 +72,7 @@ fn add_more_rows<K: Sink>(sink: &mut K, page: &mut Page, rows: &[(i64, Row)])
         (after_commas row_text (handed_of rows.now)) }
 {
     for (at, row) in rows {
-        page.add(sink, b",");
+        page.add_byte(sink, b',');
         add_row(sink, page, *at, row);
     }
 }

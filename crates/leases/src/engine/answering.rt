@@ -72,7 +72,8 @@ impl Answering for Engine {
         ensures err { OnErr result (engine_in self.new ≡ engine_in self.old) }
         ensures promises { KeepsItsPromises (engine_in self.new) }
     {
-        self.state.streams.append(stream, rows)
+        let most = self.state.undropped.most_rows(stream);
+        self.state.streams.append(stream, rows, most)
     }
 
     fn heartbeat(&mut self, stream: u64, at: i64) -> Result<(), Fault>
@@ -149,6 +150,7 @@ impl Answering for Engine {
 
     #[tactic(auto, unfolding(reference::specs::World::query_named))]
     fn query_named(&self, name: &str) -> Option<u64> {
-        query_place(&self.state.names, name)
+        let names = self.state.undropped.names();
+        query_place(names, name)
     }
 }

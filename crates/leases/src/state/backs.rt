@@ -42,8 +42,8 @@ impl State {
         if let Some(fault) = self.query_fault(query) {
             return Err(fault);
         }
-        self.names
-            .free(self.registered[query as usize].name.as_str());
+        self.undropped
+            .free(self.registered[query as usize].name.as_str(), query);
         leave(&mut self.registered[query as usize]);
         self.remains[query as usize] = Remains::Dropped;
         self.stop(query);

@@ -15,9 +15,9 @@ ghost use Rattle.leases.specs.Views.{query_of};
 use crate::registered::Registration;
 use crate::remains::Remains;
 use crate::state::State;
+use crate::undropped::Undropped;
 use column::Side;
 use envelope::Slope;
-use name_table::NameTable;
 use query_runtime::RunningQuery;
 use reference::Fault;
 use run_queue::{RunQueue, Slot};
@@ -36,7 +36,7 @@ impl State {
         State {
             alloc,
             streams: Streams::new(alloc),
-            names: NameTable::new(alloc),
+            undropped: Undropped::new(alloc),
             registered: Vec::new(alloc),
             remains: Vec::new(alloc),
             readers: Vec::new(alloc),

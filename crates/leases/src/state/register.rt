@@ -75,8 +75,9 @@ impl State {
         ensures first { result ≡ first_of (register_tests (engine_in self.now).machine name.now) }
         ensures told { IfSome result IsTold }
     {
-        let is_taken = query_place(&self.names, name).is_some();
-        let undropped = count_undropped(&self.names);
+        let names = self.undropped.names();
+        let is_taken = query_place(names, name).is_some();
+        let undropped = count_undropped(names);
         register_fault(name, is_taken, undropped, self.registered.len())
     }
 
@@ -153,7 +154,7 @@ impl State {
             &told.slopes,
             number,
         )?;
-        let Ok(()) = self.names.push(name) else {
+        let Ok(()) = self.undropped.add(name, &told, number) else {
             self.slots.drop_query(number);
             return Err(AllocError);
         };

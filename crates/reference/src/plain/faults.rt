@@ -1,7 +1,9 @@
 //! The first test that a call fails.
-ghost use Rattle.std.specs.Prelude.{◌≡◌, IfSome, MatchOption, None, Some, slice_get};
+ghost use Rattle.std.specs.Prelude.{◌≡◌, ◌∷◌, [], IfSome, MatchOption, None, Some, map, slice_get};
+ghost use Rattle.std.specs.List.{list_any};
 ghost use Rattle.reference.specs.Commands as commands;
-ghost use Rattle.reference.specs.Commands.{first_fault, register_tests};
+ghost use Rattle.reference.specs.Commands.{first_fault, register_tests, rows_tests};
+ghost use Rattle.reference.specs.declared.fault.Fault.TheVariants.{StreamFull};
 ghost use Rattle.reference.specs.Commands.{Declare, Append, Heartbeat, Take, Drop};
 ghost use Rattle.names.specs.Faults.{first_of};
 ghost use Rattle.reference.specs.Machine.{query_at, query_named, stream_named};
@@ -63,7 +65,7 @@ impl Plain {
         ensures told { IfSome result IsTold }
     {
         match self.streams.get(stream as usize) {
-            Some(stream) => stream.append_fault(rows),
+            Some(found) => rows_fault(&self.queries, stream, rows, found),
             None => Some(Fault::UnknownStream),
         }
     }
@@ -115,4 +117,45 @@ impl Plain {
             _ => Some(Fault::UnknownQuery),
         }
     }
+}
+
+/// The first test that fails of rows for the stream of a number, beside these queries.
+fn rows_fault(
+    queries: &[StandingQuery],
+    number: u64,
+    rows: &NewRows,
+    stream: &Stream,
+) -> Option<Fault>
+    ensures first { result
+        ≡ first_of (rows_tests (map query_of queries.now) number rows.now stream.now) }
+    ensures told { IfSome result IsTold }
+{
+    match stream.append_fault(rows) {
+        Some(fault) => Some(fault),
+        None => crowd_fault(is_crowded(queries, number, stream.with_rows(rows))),
+    }
+}
+
+/// The fault of rows that crowd a query.
+fn crowd_fault(is_crowded: bool) -> Option<Fault>
+    ensures first { result ≡ first_of ((is_crowded, StreamFull) ∷ []) }
+    ensures told { IfSome result IsTold }
+{
+    if is_crowded {
+        return Some(Fault::StreamFull);
+    }
+    None
+}
+
+/// Whether more rows of the stream of a number would have come than may count for one of the
+/// queries, if so many came in all.
+fn is_crowded(queries: &[StandingQuery], stream: u64, arrivals: u64) -> bool
+    ensures { result ≡ list_any (commands.is_crowded stream arrivals) (map query_of queries.now) }
+{
+    for query in queries {
+        if query.is_crowded(stream, arrivals) {
+            return true;
+        }
+    }
+    false
 }

@@ -4,7 +4,7 @@ ghost use Rattle.std.specs.Prelude.{min, take, drop, vec_len, vec_capacity, stri
 ghost use Rattle.reference.specs.Inputs.{are_signed};
 ghost use Rattle.std.specs.VecDeque.{deque_len};
 ghost use Rattle.reference.specs.Commands as commands;
-ghost use Rattle.reference.specs.Commands.{registered_as, took};
+ghost use Rattle.reference.specs.Commands.{is_crowded, registered_as, took};
 ghost use Rattle.reference.specs.World.{handed};
 ghost use Rattle.reference.specs.CallViews.{handed_of};
 ghost use Rattle.names.specs.Sound.{has_narrow_rows, all_slide};
@@ -12,7 +12,8 @@ ghost use Rattle.reference.specs.Places.{machine_of};
 ghost use Rattle.reference.specs.Standing.{query_of, waiting_of, found_of};
 ghost use Rattle.reference.specs.Views.{pairs_of};
 
-use crate::place::{first_instant, opens_of, places_of};
+use crate::limits::rows_of_each;
+use crate::place::{first_instant, has_past, opens_of, places_of};
 use crate::standing::StandingQuery;
 use crate::stream::Stream;
 use plan::Plan;
@@ -62,6 +63,22 @@ impl StandingQuery {
         ensures { result ≡ (query_of self.now).is_dropped }
     {
         self.is_dropped
+    }
+
+    /// Whether more rows of the stream of a number would have come since its registration than may
+    /// count for it, if so many came in all. Of queries of one or two sources none would.
+    pub(crate) fn is_crowded(&self, stream: u64, arrivals: u64) -> bool
+        ensures { result ≡ is_crowded stream arrivals (query_of self.now) }
+    {
+        if self.is_dropped || self.places.len() <= 2 {
+            return false;
+        }
+        has_past(
+            &self.places,
+            stream,
+            arrivals,
+            rows_of_each(self.places.len()),
+        )
     }
 
     /// Hands out the first answers that wait, at most `limit`. On Err it is as it was.

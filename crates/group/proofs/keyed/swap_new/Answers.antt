@@ -9,10 +9,10 @@ use Rattle.group.proofs.keyed.swap_new.Goals as goal
 
 pub returns-then-not-some-clause-cells : goal.returns-then-not-some-clause-cells
 returns-then-not-some-clause-cells g c =
-    let fresh : c.in_ok-cell.cell ≡ cell_zero (length c.args.group.now.items) = search rules in
+    let fresh : c.new-cell.result ≡ cell_zero (length c.args.group.now.items) = search rules in
     let none : c.in_ok-some.some ≡ false = search rules in
-    swapped_absent c.args.group.now c.args.key.now c.in_ok-cell.cell c.in_ok-some.some c.args.cells.now.entries c.requires.new fresh
-    (c.in_ok-some.ensures.some ∙ ap (λ (vs : List (Option ℤ)). is_some (row_at_tick c.args.group.now (held vs) c.in_ok-cell.cell)) c.values.ensures.value) none
+    swapped_absent c.args.group.now c.args.key.now c.new-cell.result c.in_ok-some.some c.args.cells.now.entries c.requires.new fresh
+    (c.in_ok-some.ensures.some ∙ ap (λ (vs : List (Option ℤ)). is_some (row_at_tick c.args.group.now (held vs) c.new-cell.result)) c.values.ensures.value) none
 
 pub returns-clause-short : goal.returns-clause-short
 returns-clause-short g c =

@@ -61,8 +61,8 @@ returns-clause-few c most each =
     (subst (λ (n : ℕ). sum (spec.widths q c.args.catalog.now) ≤ most * n) (length-map c.args.query.now.sources.items source_of) (few most c.args.catalog.now each q.sources))
 
 pub returns-clause-slides : goal.returns-clause-slides
-returns-clause-slides c =
-    slides c.in_ok-named_of.field-0.meaning.windows.items c.args.catalog.now (query_of c.args.query.now).sources (windows_are c)
+returns-clause-slides c good =
+    slides c.in_ok-named_of.field-0.meaning.windows.items c.args.catalog.now (query_of c.args.query.now).sources good.windows (windows_are c)
 
 pub returns-clause-within : goal.returns-clause-within
 returns-clause-within c =

@@ -1,19 +1,7 @@
-use Rattle.std.proofs.Common.{◌∙◌, ◌<◌, arith, sym, length, true, false}
-use Rattle.column.proofs.KeptLemmas.{IsKept-yes, IsKept-no, kept_all}
-use Rattle.column.proofs.mask.Mask.keep.Goals.{then-get, else-get}
+use Rattle.column.proofs.KeptLemmas.{kept_in_word}
 use Rattle.column.proofs.mask.Mask.keep.Goals as goal
 
-pub loop-i-preserved : goal.loop-i-preserved
-loop-i-preserved c =
-    let h : c.loop-i.i < length c.args.self.now = omega arith in
-    elim c.if-get.branch [
-      | then-get w ↦
-          rw (w.kept-is, w.self-is, w.set.ensures)
-          (IsKept-yes c.args.mask.now c.args.self.now c.loop-i.kept c.loop-i.i c.loop-i.self w.get-truth.result false c.requires h (sym c.get.ensures ∙ w.if-get.true) w.get-truth.ensures c.loop-i.invariant)
-      | else-get w ↦
-          rw (w.kept-is, w.self-is)
-          (IsKept-no c.args.mask.now c.args.self.now c.loop-i.kept c.loop-i.i c.loop-i.self false c.requires h (sym c.get.ensures ∙ w.if-get.false) c.loop-i.invariant)
-    ]
-
-pub returns : goal.returns
-returns c = c.truncate.ensures ∙ kept_all c.args.mask.now c.args.self.now c.loop-i.kept c.loop-i.i c.loop-i.self c.requires (omega arith) c.loop-i.invariant
+pub returns-in-Some-Some : goal.returns-in-Some-Some
+returns-in-Some-Some c =
+    kept_in_word c.self.inside.len c.mask.inside.len c.in-Some-Some.word c.in-Some-Some.choice c.kept_bits-kept.result.0 c.kept_bits-kept.result.1 c.self.inside.words c.mask.inside.words c.set.new.self c.truncate.new.self c.args.self.now c.args.mask.now
+    (c.in-Some-Some.ensures) (c.in-Some-Some.ensures') c.self.view_is c.mask.view_is c.requires c.kept_bits-kept.ensures.kept c.set.ensures c.truncate.ensures

@@ -1,11 +1,15 @@
-use Rattle.std.proofs.Common.{◌≡◌, ◌∙◌, Some, [], ◌∷◌, ◌++◌, ap, length, refl, sym, subst, subst₂}
+use Rattle.std.proofs.Common.{◌≡◌, ◌∙◌, Some, [], ◌∷◌, ◌++◌, ap, ap₂, arith, length, map, refl, sym, subst, subst₂}
 use Rattle.std.specs.List.{position}
+use Rattle.std.proofs.lemmas.List.{length-map}
+use Rattle.reference.specs.Named.{name_of_registered}
 use Rattle.name_table.specs.Names.{bears}
 use Rattle.run_queue.specs.Slots.{without_query}
 use Rattle.laws_engine.specs.Calls.{registered}
 use Rattle.leases.specs.Readers.{windows_from}
 use Rattle.leases.specs.Registering.{with_first}
 use Rattle.leases.specs.Shown.{engine_in}
+use Rattle.leases.specs.Undropped.{UndroppedQueries, limits_in}
+use Rattle.leases.proofs.LimitLemmas.{kept}
 use Rattle.leases.specs.Views.{query_of}
 use Rattle.leases.specs.declared.remains.Remains.TheVariants as code
 use Rattle.leases.proofs.AddLemmas.{engine_still, engine_with, free_name, new_operators, new_sources, none_there, slots_are, sound_still, sound_with}
@@ -20,8 +24,14 @@ pub put_slots-requires-clause-new : goal.put_slots-requires-clause-new
 put_slots-requires-clause-new c =
     subst (λ n. without_query n c.args.self.now.slots ≡ c.args.self.now.slots) (sym c.next_query-number.ensures) (none_there (engine_in c.args.self.now) c.requires.sound.good)
 
-pub push-requires-clause-fresh : goal.push-requires-clause-fresh
-push-requires-clause-fresh c = ap (position (bears c.args.name.now)) c.requires.sound.named ∙ free_name (engine_in c.args.self.now).machine c.args.name.now c.requires.fresh
+pub add-requires-clause-room : goal.add-requires-clause-room
+add-requires-clause-room c =
+    let rs = c.args.self.now.registered in
+    let many : length c.args.self.now.undropped.names ≡ length (map name_of_registered (map query_of rs.items)) = ap (λ (u : UndroppedQueries). length u.names) c.requires.sound.named in
+    omega (arith, many, length-map (map query_of rs.items) name_of_registered, length-map rs.items query_of, rs.ok)
+
+pub add-requires-clause-fresh : goal.add-requires-clause-fresh
+add-requires-clause-fresh c = ap (λ (u : UndroppedQueries). position (bears c.args.name.now) u.names) c.requires.sound.named ∙ free_name (engine_in c.args.self.now).machine c.args.name.now c.requires.fresh
 
 pub returns-clause-engine : goal.returns-clause-engine
 returns-clause-engine c =
@@ -36,7 +46,7 @@ pub returns-clause-sound : goal.returns-clause-sound
 returns-clause-sound c =
     let s = c.args.self.now in
     sound_with s _ (query_of c.args.told) c.args.running c.requires.sound c.requires.good c.requires.live refl (returns-clause-engine c) refl refl
-    (c.in-Ok.ensures.ok ∙ ap (λ n. s.names ++ Some n ∷ []) (sym c.requires.named))
+    (c.in-Ok.ensures.ok ∙ ap₂ (λ n k. kept (s.undropped.names ++ Some n ∷ []) (s.undropped.limits ++ limits_in k (query_of c.args.told))) (sym c.requires.named) c.next_query-number.ensures)
     (subst₂ (λ n rs. c.put_readers.new.readers.items ≡ rs ++ windows_from (query_of c.args.told) n 0 (query_of c.args.told).nodes) c.next_query-number.ensures c.reserve-3.ensures.items c.put_readers.ensures)
 
 pub returns-in_default-clause-err : goal.returns-in_default-clause-err

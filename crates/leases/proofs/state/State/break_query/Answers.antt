@@ -25,7 +25,7 @@ returns-clause-engine c p running =
 
 pub returns-clause-forgets : goal.returns-clause-forgets
 returns-clause-forgets c = record {
-  names = ap (λ (s : State). s.names) c.stop.ensures.rest;
+  undropped = ap (λ (s : State). s.undropped) c.stop.ensures.rest;
   readers = c.stop.ensures.readers;
   leases = left_in (λ (g : Turn). not (g.node.query == c.args.query)) c.args.self.now.leases.items c.stop.new.self.leases.items c.stop.ensures.leases;
 }

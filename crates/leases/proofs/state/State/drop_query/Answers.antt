@@ -9,16 +9,18 @@ use Rattle.laws_engine.proofs.TakeLemmas.{changed_or_there}
 use Rattle.std.proofs.lemmas.List.{map-set}
 use Rattle.reference.specs.Commands as machine
 use Rattle.reference.specs.Commands.{change}
-use Rattle.reference.specs.Named.{name_of_registered}
 use Rattle.leases.specs.Readers.{readers_from, runs}
 use Rattle.leases.specs.Shown.{engine_in}
 use Rattle.leases.specs.Sound.{IsSound, is_gone}
+use Rattle.leases.specs.Undropped.{UndroppedQueries, undropped_of}
 use Rattle.leases.specs.Views.{query_of, remains_of}
+use Rattle.leases.specs.declared.undropped.RowLimit.{RowLimit}
+use Rattle.leases.proofs.LimitLemmas.{kept, undropped_less}
 use Rattle.turn.specs.declared.turns.Turn.{Turn}
 use Rattle.leases.specs.declared.reader.Reader.{Reader}
 use Rattle.leases.specs.declared.registered.Registration.{Registration}
 use Rattle.leases.specs.declared.state.State.{State}
-use Rattle.leases.proofs.DropLemmas.{another, drops, gone_dropped, is_dropped, named_there, names_dropped, refused, registered_dropped, registered_within, remains_dropped, remains_within, there}
+use Rattle.leases.proofs.DropLemmas.{another, drops, gone_dropped, is_dropped, named_there, refused, registered_dropped, registered_within, remains_dropped, remains_within, there}
 use Rattle.leases.proofs.LeaveLemmas.{fewer}
 use Rattle.leases.specs.declared.remains.Remains.TheVariants as code
 use Rattle.leases.proofs.OutLemmas.{remains_set}
@@ -79,12 +81,13 @@ returns-clause-sound c =
           omega (arith, many, less, c.requires.few);
       numbers = c.requires.numbers;
       named =
-          c.free.ensures.freed c.args.query
-          (ap (λ z. slice_get z c.args.query) c.requires.named
+          c.free.ensures
+          (ap (λ (u : UndroppedQueries). slice_get u.names c.args.query) c.requires.named
           ∙ named_there c.args.self.now.registered.items c.args.query c.index.result.now (there (engine_in c.args.self.now).machine c.args.query (sym c.query_fault.ensures.first ∙ c.in_default.is))
           ∙ ap (λ (r : Registration). Some (Some (string_bytes r.name))) (sym c.index.ensures) ∙ ap (λ z. Some (Some z)) (sym c.as_str.ensures.value))
-          ∙ ap (λ z. set z c.args.query None) c.requires.named ∙ names_dropped (map query_of c.args.self.now.registered.items) c.args.query
-          ∙ ap (λ z. map name_of_registered z) (sym (registered_dropped c.args.self.now.registered.items c.args.query c.leave.new.query c.index_mut.result.now (c.leave.ensures ∙ ap (λ z. machine.dropped (query_of z)) c.index_mut.ensures.value)));
+          ∙ ap (λ (u : UndroppedQueries). kept (set u.names c.args.query None) (filter (λ (l : RowLimit). not (l.query == c.args.query)) u.limits)) c.requires.named
+          ∙ undropped_less (map query_of c.args.self.now.registered.items) c.args.query
+          ∙ ap undropped_of (sym (registered_dropped c.args.self.now.registered.items c.args.query c.leave.new.query c.index_mut.result.now (c.leave.ensures ∙ ap (λ z. machine.dropped (query_of z)) c.index_mut.ensures.value)));
       gone =
           ap (λ z. map (λ q. q.is_dropped) z) (registered_dropped c.args.self.now.registered.items c.args.query c.leave.new.query c.index_mut.result.now (c.leave.ensures ∙ ap (λ z. machine.dropped (query_of z)) c.index_mut.ensures.value))
           ∙ gone_dropped (map query_of c.args.self.now.registered.items) (map remains_of c.args.self.now.remains.items) c.args.query c.requires.gone

@@ -14,7 +14,7 @@ abbrev after : goal.After-change → State
 after c = record {
   alloc = c.args.self.now.alloc;
   streams = c.args.self.now.streams;
-  names = c.args.self.now.names;
+  undropped = c.args.self.now.undropped;
   registered = c.args.self.now.registered;
   remains = c.args.self.now.remains;
   readers = c.args.self.now.readers;
@@ -34,7 +34,7 @@ gone c slot_updated = record {
   leases = c.push_reserved.ensures.items ∙ (ap (λ z. z ++ c.in_ok-kept.kept ∷ []) c.reserve.ensures.items ∙ ap (λ (z : Turn). c.args.self.now.leases.items ++ z ∷ []) (same c));
   slots = slot_updated;
   next = refl;
-  names = refl;
+  undropped = refl;
   readers = refl;
 }
 

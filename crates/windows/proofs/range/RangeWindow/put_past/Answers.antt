@@ -15,8 +15,8 @@ pub returns-in-None-clause-gained : goal.returns-in-None-clause-gained
 returns-in-None-clause-gained c =
     gained-same (ap (leaving_at c.args.at) (near_none c.args.self.now c.args.at (sym (ap (λ (s : RangeState). s.span) c.self.view_is) ∙ c.in-None.is))) (gained-none c.args.queue.now)
 
-pub put_leaving-requires-clause-forward : goal.put_leaving-requires-clause-forward
-put_leaving-requires-clause-forward c =
+pub put_held-requires-clause-forward : goal.put_held-requires-clause-forward
+put_held-requires-clause-forward c =
     let inside = c.self.inside in
     let is : take c.count_older-count.result (map (λ h. h.1) inside.held.held) ≡ near c.args.self.now (Tick c.args.at) =
     near_taken c.args.self.now inside.span inside.held.width c.args.at c.in-Some.span c.count_older-count.result c.saturating_sub.result inside.held.held c.self.view_is c.in-Some.is c.saturating_sub.ensures c.count_older-count.ensures.older in
@@ -35,4 +35,4 @@ returns-clause-gained c =
     let inside = c.self.inside in
     let is : take c.count_older-count.result (map (λ h. h.1) inside.held.held) ≡ near c.args.self.now (Tick c.args.at) =
     near_taken c.args.self.now inside.span inside.held.width c.args.at c.in-Some.span c.count_older-count.result c.saturating_sub.result inside.held.held c.self.view_is c.in-Some.is c.saturating_sub.ensures c.count_older-count.ensures.older in
-    gained-same (ap (leaving_at c.args.at) is) c.in_ok-put_leaving.ensures
+    gained-same (ap (leaving_at c.args.at) is) c.in_ok-put_held.ensures

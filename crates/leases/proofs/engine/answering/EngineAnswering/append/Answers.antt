@@ -1,15 +1,18 @@
 -- The engine over the streams that the append leaves.
-use Rattle.std.proofs.Common.{◌≡◌, OnErr, OnOk, map, refl, subst}
+use Rattle.std.proofs.Common.{◌≡◌, ℕ, OnErr, OnOk, map, refl, sym, ap, ◌∙◌, subst}
 use Rattle.std.specs.Prelude.{⊤}
 use Rattle.reference.specs.World.{Does, append_step}
+use Rattle.stream_store.specs.Beside.{IsLimit}
 use Rattle.laws_engine.specs.Calls.{appended}
 use Rattle.laws_engine.specs.Engines.{answers_in}
 use Rattle.laws_engine.proofs.PromiseLemmas.{keeps_its_promises}
 use Rattle.leases.specs.Queues.{LeavesQueues}
 use Rattle.leases.specs.Shown.{engine_in, world_in}
 use Rattle.leases.specs.Sound.{IsSound}
+use Rattle.leases.specs.Undropped.{UndroppedQueries, least}
 use Rattle.leases.specs.Whole.{HasNumbers, IsWhole}
 use Rattle.leases.specs.declared.state.State.{State}
+use Rattle.leases.proofs.LimitLemmas.{is_limit}
 use Rattle.leases.proofs.NumberLemmas.{gives_none, spent}
 use Rattle.leases.proofs.QueueLemmas.{append_leaves_queues}
 use Rattle.leases.proofs.StreamLemmas.{at_streams, append_changes, append_changes_not, append_sound}
@@ -20,10 +23,16 @@ use Rattle.leases.proofs.engine.answering.EngineAnswering.append.Goals as goal
 abbrev after : goal.After-append → State
 after c = at_streams c.self.inside.state c.append.new.self
 
+-- the row limit of its queries
+limit : (c : goal.After-append) → IsLimit c.args.stream c.most_rows-most.result (engine_in c.self.inside.state).machine.queries
+limit c =
+    let queries = (engine_in c.self.inside.state).machine.queries in
+    subst (λ (most : ℕ). IsLimit c.args.stream most queries) (sym (c.most_rows-most.ensures ∙ ap (λ (u : UndroppedQueries). least c.args.stream u.limits) c.self.invariant.named)) (is_limit c.args.stream queries)
+
 did : (c : goal.After-append) → Does (λ (u : ⊤). u) (world_in c.self.inside.state) (append_step (world_in c.self.inside.state) c.args.stream c.args.rows.now) c.append.result (world_in (after c))
 did c =
     let e = engine_in c.self.inside.state in
-    c.append.ensures.does e.machine.queries (map answers_in e.queries)
+    c.append.ensures.does e.machine.queries (map answers_in e.queries) (limit c)
 
 changes : (c : goal.After-append) → OnOk c.append.result (engine_in (after c) ≡ appended (engine_in c.self.inside.state) c.args.stream c.args.rows.now)
 changes c = append_changes c.self.inside.state c.append.new.self c.args.stream c.args.rows.now c.append.result (did c)

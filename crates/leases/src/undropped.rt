@@ -1,0 +1,167 @@
+//! What an engine keeps of the queries that were not dropped, the broken ones among them.
+ghost use Rattle.std.specs.Prelude.{◌≡◌, ◌<◌, ◌≤◌, ◌^◌, ◌+◌, ◌++◌, ◌∷◌, ◌==◌, [], None, OnErr, OnOk, Some};
+ghost use Rattle.std.specs.Prelude.{filter, length, map, not, position, set, slice_get};
+ghost use Rattle.std.specs.Vec.{vec_capacity, vec_len};
+ghost use Rattle.name_table.specs.Names.{bears};
+ghost use Rattle.leases.specs.Undropped.{least, limit_at, limits_in, tightened};
+ghost use Rattle.leases.specs.Views.{place_of, query_of};
+
+use crate::registered::{Place, Registration};
+use name_table::NameTable;
+use reference::{MAX_STREAM_ROWS, rows_of_each};
+use std::alloc::{AllocError, Global};
+use std::marker::Model;
+
+/// How many rows may come to a stream for the sake of one source of a query.
+#[derive(Clone, Copy)]
+pub(crate) struct RowLimit {
+    /// The number of the stream.
+    stream: u64,
+    /// The number of the query.
+    query: u64,
+    /// The most rows that may come to the stream in all.
+    most: u64,
+}
+
+/// The queries that were not dropped: their names, and the row limits of those of three and four
+/// sources.
+#[derive(Drop)]
+pub(crate) struct Undropped {
+    /// By the queries' numbers, the name of each that was not dropped.
+    names: NameTable,
+    /// The limit of each source of those of three and four sources, by the queries' numbers and
+    /// then in the order of the text.
+    limits: Vec<RowLimit>,
+}
+
+impl Model for Undropped {
+    ghost use Rattle.leases.specs.Undropped.{UndroppedQueries};
+
+    ghost Value = { UndroppedQueries };
+
+    ghost view = { λ u. record { names = u.names; limits = u.limits.items } };
+}
+
+impl Undropped {
+    /// No queries. Takes no memory.
+    pub(crate) fn new(alloc: Global) -> Undropped
+        ensures { result ≡ record { names = []; limits = [] } }
+    {
+        Undropped {
+            names: NameTable::new(alloc),
+            limits: Vec::new(alloc),
+        }
+    }
+
+    /// By the queries' numbers, the name of each.
+    pub(crate) fn names(&self) -> &NameTable
+        ensures { result.now ≡ self.now.names }
+    {
+        &self.names
+    }
+
+    /// Adds the query of the next number. On Err all is as it was.
+    pub(crate) fn add(
+        &mut self,
+        name: &str,
+        query: &Registration,
+        number: u64,
+    ) -> Result<(), AllocError>
+        requires fresh { position (bears name.now) self.old.names ≡ None }
+        requires room { length self.old.names < 2 ^ 63 }
+        ensures ok { OnOk result (self.new
+            ≡ record {
+              names = self.old.names ++ Some name.now ∷ [];
+              limits = self.old.limits ++ limits_in number (query_of query.now);
+            }) }
+        ensures err { OnErr result (self.new ≡ self.old) }
+    {
+        self.limits.reserve(query.places.len())?;
+        self.names.push(name)?;
+        put_limits(&mut self.limits, query, number);
+        Ok(())
+    }
+
+    /// The query of a number leaves, which has the name. Takes no memory.
+    pub(crate) fn free(&mut self, name: &str, number: u64)
+        ensures { slice_get self.old.names number ≡ Some (Some name.now)
+            → self.new ≡ record {
+              names = set self.old.names number None;
+              limits = filter (λ l. not (l.query == number)) self.old.limits;
+            } }
+    {
+        self.names.free(name);
+        forget_limits(&mut self.limits, number);
+    }
+
+    /// The most rows that may come in all to the stream of a number. It costs a look at each limit,
+    /// and there are none but of queries of three and four sources.
+    pub(crate) fn most_rows(&self, stream: u64) -> u64
+        ensures { result ≡ least stream self.now.limits }
+    {
+        least(&self.limits, stream)
+    }
+}
+
+/// The limit of a source of a query, which may count so many rows of each.
+fn limit_of(place: Place, query: u64, rows: u64) -> RowLimit
+    ensures { result ≡ limit_at query rows (place_of place) }
+{
+    let most = place.arrivals.saturating_add(rows);
+    RowLimit {
+        stream: place.stream,
+        query,
+        most: most.min(MAX_STREAM_ROWS as u64),
+    }
+}
+
+/// The limits of a query behind the others. There is room for them.
+fn put_limits(limits: &mut Vec<RowLimit>, query: &Registration, number: u64)
+    requires { vec_len limits.old + length query.now.places.items ≤ vec_capacity limits.old }
+    ensures { limits.new.items ≡ limits.old.items ++ limits_in number (query_of query.now) }
+{
+    if query.is_dropped || query.places.len() <= 2 {
+        return;
+    }
+    let rows = rows_of_each(query.places.len());
+    put_each(limits, &query.places, number, rows);
+}
+
+/// The limits of these sources behind the others. There is room for them.
+fn put_each(limits: &mut Vec<RowLimit>, places: &[Place], query: u64, rows: u64)
+    requires { vec_len limits.old + length places.now ≤ vec_capacity limits.old }
+    ensures { limits.new.items
+        ≡ limits.old.items ++ map (limit_at query rows) (map place_of places.now) }
+{
+    for place in places {
+        limits.push_reserved(limit_of(*place, query, rows));
+    }
+}
+
+/// Removes the limits of a query from the list.
+fn forget_limits(limits: &mut Vec<RowLimit>, query: u64)
+    ensures { limits.new.items ≡ filter (λ l. not (l.query == query)) limits.old.items }
+{
+    limits.retain(|limit| limit.query != query);
+}
+
+/// The least limit of the stream of a number, and no more than any stream may have.
+fn least(limits: &[RowLimit], stream: u64) -> u64
+    ensures { result ≡ least stream limits.now }
+{
+    let mut most = MAX_STREAM_ROWS as u64;
+    for limit in limits {
+        most = tightened(most, *limit, stream);
+    }
+    most
+}
+
+/// The lesser of the two where the limit is of the stream of a number.
+fn tightened(most: u64, limit: RowLimit, stream: u64) -> u64
+    ensures { result ≡ tightened stream most limit }
+{
+    if limit.stream == stream {
+        return most.min(limit.most);
+    }
+    most
+}

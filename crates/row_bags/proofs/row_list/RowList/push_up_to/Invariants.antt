@@ -1,0 +1,14 @@
+use Rattle.std.proofs.Common.{◌≡◌, ◌-◌, ◌++◌, length}
+use Rattle.row_bags.specs.Lists.{AreWithin, beyond_from, past, up_to}
+use Rattle.row_bags.specs.Piles.{pile_in}
+use Rattle.row_bags.proofs.row_list.RowList.push_up_to.Given as goal
+
+abbrev pub invariant-loop-on : goal.invariant-loop-on
+invariant-loop-on l = record {
+  rows : l.self ++ up_to l.last (beyond_from l.on (pile_in l.rows) (pile_in l.others)) ≡ l.initial.self ++ up_to l.last (beyond_from l.initial.on (pile_in l.rows) (pile_in l.others));
+  rest : past l.last (beyond_from l.on (pile_in l.rows) (pile_in l.others)) ≡ past l.last (beyond_from l.initial.on (pile_in l.rows) (pile_in l.others));
+  within : AreWithin l.on (pile_in l.rows) (pile_in l.others);
+}
+
+abbrev pub decreases-loop-on : goal.decreases-loop-on
+decreases-loop-on l = length (pile_in l.rows) - l.on.0

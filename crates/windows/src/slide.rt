@@ -1,0 +1,332 @@
+//! The rows of the last instants, at the multiples of a number alone.
+ghost use Rattle.std.specs.Prelude.{◌≡◌, ◌<◌, ◌++◌, ◌↔◌, [], IsTrue, length, map, IfOk, OnOk, OnErr};
+ghost use Rattle.std.specs.List.{flat_map};
+ghost use Rattle.column.specs.Rows.{signed};
+ghost use Rattle.op_queue.specs.Entries.{IsForward};
+ghost use Rattle.op_queue.specs.Items.{entries_of, item_instant};
+ghost use Rattle.op_queue.specs.Queues.{HasGained};
+ghost use Rattle.windows.specs.Range.{IsAfter, with_sign};
+ghost use Rattle.windows.specs.Slide as spec;
+ghost use Rattle.windows.specs.Slide.{HaveOneWidthIn, near, near_at, next, nothing, out};
+ghost use Rattle.windows.specs.Widths.{IsItemWide, rows_of};
+
+use crate::held::HeldRows;
+use crate::outputs::{add, batched, put_held};
+use column::SignedRow;
+use op_queue::{Item, Queue};
+use std::alloc::{AllocError, Global};
+use std::marker::Model;
+use values::{Row, copy_row};
+
+/// A window of the last `span` instants that moves at the multiples of `step` alone: between them
+/// it shows what it showed at the last of them.
+///
+/// Rows that come are held unshown until it moves. Rows stand by instant, so those that are shown
+/// stand in front of all others, and those that go in front of all that stay.
+#[derive(Drop)]
+pub struct SlideWindow {
+    /// How many instants before the multiple are shown beside it.
+    span: u64,
+    /// The number at whose multiples it moves.
+    step: u64,
+    /// The rows that are held, shown or not, with their instants, by instant.
+    held: HeldRows,
+    /// How many of the held rows, from the first on, are shown.
+    shown: usize,
+}
+
+impl Model for SlideWindow {
+    ghost use Rattle.windows.specs.Slide.{SlideState as State};
+
+    ghost Value = { State };
+
+    ghost view = { λ w.
+        record {
+          span = w.span;
+          step = w.step;
+          width = w.held.width;
+          held = w.held.held;
+          shown = w.shown;
+        } };
+
+    ghost use Rattle.windows.specs.Slide.{IsSlide};
+
+    ghost invariant = { λ w. IsSlide w.step w.held.width w.held.held w.shown };
+}
+
+/// What a turn needs of a sliding window: at the tick at which it moves all its rows but those that
+/// it shows before and after, each list in the order of the rows; else nothing.
+#[derive(Drop)]
+pub struct SlideNear {
+    /// The rows that were shown and leave.
+    pub leave: Vec<Row>,
+    /// The rows that go and were never shown.
+    pub pass: Vec<Row>,
+    /// The rows that are shown from this tick on.
+    pub enter: Vec<Row>,
+}
+
+impl Model for SlideNear {
+    ghost use Rattle.windows.specs.Slide.{SlideNear as PlainNear};
+    ghost use Rattle.windows.specs.Widths.{rows_of};
+
+    ghost Value = { PlainNear };
+
+    ghost view = { λ n.
+        record {
+          leave = rows_of n.leave.items;
+          pass = rows_of n.pass.items;
+          enter = rows_of n.enter.items;
+        } };
+}
+
+impl SlideNear {
+    /// Whether the excerpts have the same rows in each list.
+    pub fn is_same(&self, other: &SlideNear) -> bool
+        ensures { IsTrue result ↔ (self.now ≡ other.now) }
+    {
+        same_rows(&self.leave, &other.leave)
+            && same_rows(&self.pass, &other.pass)
+            && same_rows(&self.enter, &other.enter)
+    }
+}
+
+impl SlideWindow {
+    /// A window that holds nothing, of a stream with this many columns.
+    pub fn new(alloc: Global, span: u64, step: u64, width: usize) -> SlideWindow
+        requires { 0 < step }
+        ensures span { result.span ≡ span }
+        ensures step { result.step ≡ step }
+        ensures width { result.width ≡ width }
+        ensures held { result.held ≡ [] }
+        ensures shown { result.shown ≡ 0 }
+    {
+        SlideWindow {
+            span,
+            step,
+            held: HeldRows::new(alloc, width),
+            shown: 0,
+        }
+    }
+
+    /// How many rows it holds, shown or not.
+    pub fn len(&self) -> usize
+        ensures { result ≡ length self.now.held }
+    {
+        self.held.len()
+    }
+
+    /// Takes an item. What it puts out comes to the back of the queue: of rows nothing; of a tick
+    /// at which it moves the rows that leave, those that enter and then the tick; of any other tick
+    /// the tick.
+    ///
+    /// An error says that memory was refused, or that there would be more rows than a `usize`
+    /// counts. Nothing is then said of the rows that are held, nor of the queue.
+    pub fn run(&mut self, alloc: Global, item: Item, queue: &mut Queue) -> Result<(), AllocError>
+        requires after { IsAfter (item_instant item) self.old.held }
+        requires wide { IsItemWide self.old.width item }
+        requires forward { IsForward (queue.old.entries ++ out item (near self.old item)) }
+        ensures next { OnOk result (self.new ≡ next self.old item) }
+        ensures gained { OnOk result
+            (HasGained (out item (near self.old item)) queue.old queue.new) }
+        ensures fits { HaveOneWidthIn (near self.old item) }
+    {
+        self.excerpt_fits(&item);
+        self.put_out(alloc, &item, queue)?;
+        self.apply(&item)?;
+        Ok(())
+    }
+
+    /// Changes nothing: the rows of an excerpt have one width.
+    fn excerpt_fits(&self, item: &Item)
+        ensures { HaveOneWidthIn (near self.now item.now) }
+    {
+        let _count = self.held.len();
+    }
+
+    /// What is put out at the item comes to the back of the queue.
+    fn put_out(&self, alloc: Global, item: &Item, queue: &mut Queue) -> Result<(), AllocError>
+        requires { IsForward (queue.old.entries ++ out item.now (near self.now item.now)) }
+        ensures { OnOk result
+            (HasGained (out item.now (near self.now item.now)) queue.old queue.new) }
+    {
+        match item {
+            Item::Rows(_, _) => Ok(()),
+            Item::Tick(at) => self.put_tick(alloc, *at, queue),
+        }
+    }
+
+    /// The same at the tick of an instant.
+    fn put_tick(&self, alloc: Global, at: u64, queue: &mut Queue) -> Result<(), AllocError>
+        requires { IsForward (queue.old.entries ++ spec.tick_out self.now at) }
+        ensures { OnOk result (HasGained (spec.tick_out self.now at) queue.old queue.new) }
+    {
+        if self.moves(at) {
+            return self.put_moved(alloc, at, queue);
+        }
+        queue.push(Item::Tick(at))?;
+        Ok(())
+    }
+
+    /// The same where it moves.
+    fn put_moved(&self, alloc: Global, at: u64, queue: &mut Queue) -> Result<(), AllocError>
+        requires { IsForward (queue.old.entries ++ spec.moved_out self.now at) }
+        ensures { OnOk result (HasGained (spec.moved_out self.now at) queue.old queue.new) }
+    {
+        let older = self.held.count_older(at.saturating_sub(self.span));
+        let middle = older.max(self.shown);
+        put_held(
+            alloc,
+            &self.held,
+            at,
+            false,
+            0,
+            older.min(self.shown),
+            queue,
+        )?;
+        put_held(
+            alloc,
+            &self.held,
+            at,
+            true,
+            middle,
+            self.held.len() - middle,
+            queue,
+        )?;
+        queue.push(Item::Tick(at))?;
+        Ok(())
+    }
+
+    /// The excerpt that a turn with the item needs; nothing but at a tick at which it moves.
+    ///
+    /// It costs the rows of the excerpt, whatever the window holds. An error says that memory was
+    /// refused; nothing is changed.
+    pub fn near(&self, alloc: Global, item: &Item) -> Result<SlideNear, AllocError>
+        ensures value { IfOk result (λ n. n ≡ near self.now item.now) }
+        ensures wide { IfOk result HaveOneWidthIn }
+    {
+        match item {
+            Item::Rows(_, _) => Ok(no_rows(alloc)),
+            Item::Tick(at) => {
+                if self.moves(*at) {
+                    self.near_at(alloc, *at)
+                } else {
+                    Ok(no_rows(alloc))
+                }
+            },
+        }
+    }
+
+    /// Whether it moves at the tick of an instant.
+    fn moves(&self, at: u64) -> bool
+        ensures { result ≡ spec.moves self.now.step at }
+    {
+        moves(self.step, at)
+    }
+
+    /// The excerpt of a tick at which it moves.
+    fn near_at(&self, alloc: Global, at: u64) -> Result<SlideNear, AllocError>
+        ensures value { IfOk result (λ n. n ≡ near_at self.now at) }
+        ensures wide { IfOk result HaveOneWidthIn }
+    {
+        let older = self.held.count_older(at.saturating_sub(self.span));
+        let middle = older.max(self.shown);
+        let leave = self.held.part(alloc, 0, older.min(self.shown))?;
+        let pass = self.held.part(alloc, self.shown, middle)?;
+        let enter = self.held.part(alloc, middle, self.held.len())?;
+        Ok(SlideNear { leave, pass, enter })
+    }
+
+    /// The state after the item. The item says all, so there is no change beside it.
+    ///
+    /// An error says that memory was refused, or that there would be more rows than a `usize`
+    /// counts; the window is as it was.
+    pub fn apply(&mut self, item: &Item) -> Result<(), AllocError>
+        requires after { IsAfter (item_instant item.now) self.old.held }
+        requires wide { IsItemWide self.old.width item.now }
+        ensures next { OnOk result (self.new ≡ next self.old item.now) }
+        ensures err { OnErr result (self.new ≡ self.old) }
+    {
+        match item {
+            Item::Rows(at, batch) => self.held.enter(*at, batch)?,
+            Item::Tick(at) => {
+                if self.moves(*at) {
+                    let older = self.held.count_older(at.saturating_sub(self.span));
+                    self.held.leave(older);
+                    self.shown = self.held.len();
+                }
+            },
+        }
+        Ok(())
+    }
+}
+
+/// Whether the lists have the same rows.
+fn same_rows(rows: &[Row], others: &[Row]) -> bool
+    ensures { IsTrue result ↔ (rows_of rows.now ≡ rows_of others.now) }
+{
+    rows == others
+}
+
+/// Whether the instant is a multiple of the step.
+fn moves(step: u64, at: u64) -> bool
+    requires { 0 < step }
+    ensures { result ≡ spec.moves step at }
+{
+    at / step * step == at
+}
+
+/// The excerpt with no row.
+fn no_rows(alloc: Global) -> SlideNear
+    ensures value { result ≡ nothing }
+    ensures wide { HaveOneWidthIn result }
+{
+    SlideNear {
+        leave: Vec::new(alloc),
+        pass: Vec::new(alloc),
+        enter: Vec::new(alloc),
+    }
+}
+
+/// What a turn puts out; `near` is the excerpt of the state for this item.
+///
+/// An error says that memory was refused; nothing is changed.
+pub fn slide_work(alloc: Global, item: &Item, near: &SlideNear) -> Result<Vec<Item>, AllocError>
+    requires { HaveOneWidthIn near.now }
+    ensures { IfOk result (λ outs. flat_map entries_of outs.items ≡ out item.now near.now) }
+{
+    match item {
+        Item::Rows(_, _) => Ok(Vec::new(alloc)),
+        Item::Tick(at) => {
+            let at = *at;
+            let rows = signed_rows(alloc, near)?;
+            let mut outputs = batched(alloc, at, &rows)?;
+            add(&mut outputs, Item::Tick(at))?;
+            Ok(outputs)
+        },
+    }
+}
+
+/// The rows that leave, and then those that enter.
+fn signed_rows(alloc: Global, near: &SlideNear) -> Result<Vec<SignedRow>, AllocError>
+    ensures { IfOk result (λ rows. map signed rows.items ≡ spec.signed near.now) }
+{
+    let mut rows = Vec::new(alloc);
+    add_rows(&mut rows, false, &near.leave)?;
+    add_rows(&mut rows, true, &near.enter)?;
+    Ok(rows)
+}
+
+/// The rows with a sign, behind the others.
+fn add_rows(to: &mut Vec<SignedRow>, enters: bool, rows: &[Row]) -> Result<(), AllocError>
+    ensures { OnOk result (map signed to.new.items
+        ≡ map signed to.old.items ++ map (with_sign enters) (rows_of rows.now)) }
+{
+    for row in rows {
+        to.push(SignedRow {
+            enters,
+            row: copy_row(row),
+        })?;
+    }
+    Ok(())
+}

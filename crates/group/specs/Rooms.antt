@@ -12,6 +12,7 @@ kept_in (code.One s) = s
 kept_in (code.Two s) = s
 kept_in (code.Four s) = s
 kept_in (code.Eight s) = s
+kept_in (code.Sixteen s) = s
 kept_in (code.Widest s) = s
 
 -- what is kept of each group
@@ -28,4 +29,5 @@ room_of (code.One s) = 1
 room_of (code.Two s) = 2
 room_of (code.Four s) = 4
 room_of (code.Eight s) = 8
+room_of (code.Sixteen s) = 16
 room_of (code.Widest s) = MAX_COLUMNS

@@ -26,6 +26,7 @@ pub(crate) enum HeldCells {
     Two(Keyed<2>),
     Four(Keyed<4>),
     Eight(Keyed<8>),
+    Sixteen(Keyed<16>),
     Widest(Keyed<MAX_COLUMNS>),
 }
 
@@ -41,6 +42,7 @@ impl HeldCells {
             2 => HeldCells::Two(Keyed::new(alloc)),
             3..=4 => HeldCells::Four(Keyed::new(alloc)),
             5..=8 => HeldCells::Eight(Keyed::new(alloc)),
+            9..=16 => HeldCells::Sixteen(Keyed::new(alloc)),
             _ => HeldCells::Widest(Keyed::new(alloc)),
         }
     }
@@ -54,6 +56,7 @@ impl HeldCells {
             HeldCells::Two(_) => 2,
             HeldCells::Four(_) => 4,
             HeldCells::Eight(_) => 8,
+            HeldCells::Sixteen(_) => 16,
             HeldCells::Widest(_) => MAX_COLUMNS,
         }
     }
@@ -68,6 +71,7 @@ impl HeldCells {
             HeldCells::Two(keyed) => keyed.widened(alloc),
             HeldCells::Four(keyed) => keyed.widened(alloc),
             HeldCells::Eight(keyed) => keyed.widened(alloc),
+            HeldCells::Sixteen(keyed) => keyed.widened(alloc),
             HeldCells::Widest(keyed) => keyed.widened(alloc),
         }
     }
@@ -97,6 +101,7 @@ impl HeldCells {
             HeldCells::Two(keyed) => keyed.touch(key),
             HeldCells::Four(keyed) => keyed.touch(key),
             HeldCells::Eight(keyed) => keyed.touch(key),
+            HeldCells::Sixteen(keyed) => keyed.touch(key),
             HeldCells::Widest(keyed) => keyed.touch(key),
         }
     }
@@ -127,6 +132,7 @@ impl HeldCells {
             HeldCells::Two(keyed) => keyed.take_in(alloc, group, batch, place),
             HeldCells::Four(keyed) => keyed.take_in(alloc, group, batch, place),
             HeldCells::Eight(keyed) => keyed.take_in(alloc, group, batch, place),
+            HeldCells::Sixteen(keyed) => keyed.take_in(alloc, group, batch, place),
             HeldCells::Widest(keyed) => keyed.take_in(alloc, group, batch, place),
         }
     }
@@ -153,6 +159,7 @@ impl HeldCells {
             HeldCells::Two(keyed) => keyed.take_batch_in(alloc, items, key, batch),
             HeldCells::Four(keyed) => keyed.take_batch_in(alloc, items, key, batch),
             HeldCells::Eight(keyed) => keyed.take_batch_in(alloc, items, key, batch),
+            HeldCells::Sixteen(keyed) => keyed.take_batch_in(alloc, items, key, batch),
             HeldCells::Widest(keyed) => keyed.take_batch_in(alloc, items, key, batch),
         }
     }
@@ -174,6 +181,7 @@ impl HeldCells {
             HeldCells::Two(keyed) => keyed.show_in(alloc, count, key, row),
             HeldCells::Four(keyed) => keyed.show_in(alloc, count, key, row),
             HeldCells::Eight(keyed) => keyed.show_in(alloc, count, key, row),
+            HeldCells::Sixteen(keyed) => keyed.show_in(alloc, count, key, row),
             HeldCells::Widest(keyed) => keyed.show_in(alloc, count, key, row),
         }
     }
@@ -187,6 +195,7 @@ impl HeldCells {
             HeldCells::Two(keyed) => keyed.remove(key),
             HeldCells::Four(keyed) => keyed.remove(key),
             HeldCells::Eight(keyed) => keyed.remove(key),
+            HeldCells::Sixteen(keyed) => keyed.remove(key),
             HeldCells::Widest(keyed) => keyed.remove(key),
         }
     }
@@ -213,6 +222,7 @@ impl HeldCells {
             HeldCells::Two(keyed) => keyed.swap_touched(alloc, group, rows),
             HeldCells::Four(keyed) => keyed.swap_touched(alloc, group, rows),
             HeldCells::Eight(keyed) => keyed.swap_touched(alloc, group, rows),
+            HeldCells::Sixteen(keyed) => keyed.swap_touched(alloc, group, rows),
             HeldCells::Widest(keyed) => keyed.swap_touched(alloc, group, rows),
         }
     }
@@ -227,6 +237,7 @@ impl HeldCells {
             HeldCells::Two(keyed) => keyed.forget_touched(alloc),
             HeldCells::Four(keyed) => keyed.forget_touched(alloc),
             HeldCells::Eight(keyed) => keyed.forget_touched(alloc),
+            HeldCells::Sixteen(keyed) => keyed.forget_touched(alloc),
             HeldCells::Widest(keyed) => keyed.forget_touched(alloc),
         }
     }
@@ -246,6 +257,7 @@ impl HeldCells {
             HeldCells::Two(keyed) => keyed.excerpts(alloc, items),
             HeldCells::Four(keyed) => keyed.excerpts(alloc, items),
             HeldCells::Eight(keyed) => keyed.excerpts(alloc, items),
+            HeldCells::Sixteen(keyed) => keyed.excerpts(alloc, items),
             HeldCells::Widest(keyed) => keyed.excerpts(alloc, items),
         }
     }

@@ -12,6 +12,7 @@ abbrev pub pile_in : Pile → List Row
 pile_in (code.Two rows) = rows_of rows.items
 pile_in (code.Four rows) = rows_of rows.items
 pile_in (code.Eight rows) = rows_of rows.items
+pile_in (code.Sixteen rows) = rows_of rows.items
 pile_in (code.Widest rows) = rows_of rows.items
 
 -- how many values its rows may have
@@ -19,6 +20,7 @@ abbrev pub pile_room : Pile → ℕ
 pile_room (code.Two rows) = 2
 pile_room (code.Four rows) = 4
 pile_room (code.Eight rows) = 8
+pile_room (code.Sixteen rows) = 16
 pile_room (code.Widest rows) = MAX_COLUMNS
 
 -- the second has more room, where there is more

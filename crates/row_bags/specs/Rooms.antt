@@ -10,6 +10,7 @@ abbrev pub bag_in : Held → List Row
 bag_in (code.Two xs) = xs
 bag_in (code.Four xs) = xs
 bag_in (code.Eight xs) = xs
+bag_in (code.Sixteen xs) = xs
 bag_in (code.Widest xs) = xs
 
 -- how many values its rows may have
@@ -17,6 +18,7 @@ abbrev pub room_of : Held → ℕ
 room_of (code.Two xs) = 2
 room_of (code.Four xs) = 4
 room_of (code.Eight xs) = 8
+room_of (code.Sixteen xs) = 16
 room_of (code.Widest xs) = MAX_COLUMNS
 
 -- the second has more room, where there is more

@@ -19,6 +19,7 @@ pub(crate) enum Pile {
     Two(Vec<ArrayVec<Value, 2>>),
     Four(Vec<ArrayVec<Value, 4>>),
     Eight(Vec<ArrayVec<Value, 8>>),
+    Sixteen(Vec<ArrayVec<Value, 16>>),
     Widest(Vec<ArrayVec<Value, MAX_COLUMNS>>),
 }
 
@@ -38,6 +39,7 @@ impl Pile {
             Pile::Two(_) => 2,
             Pile::Four(_) => 4,
             Pile::Eight(_) => 8,
+            Pile::Sixteen(_) => 16,
             Pile::Widest(_) => MAX_COLUMNS,
         }
     }
@@ -50,7 +52,8 @@ impl Pile {
         match self {
             Pile::Two(rows) => Ok(Pile::Four(widened(alloc, rows)?)),
             Pile::Four(rows) => Ok(Pile::Eight(widened(alloc, rows)?)),
-            Pile::Eight(rows) => Ok(Pile::Widest(widened(alloc, rows)?)),
+            Pile::Eight(rows) => Ok(Pile::Sixteen(widened(alloc, rows)?)),
+            Pile::Sixteen(rows) => Ok(Pile::Widest(widened(alloc, rows)?)),
             Pile::Widest(rows) => Ok(Pile::Widest(widened(alloc, rows)?)),
         }
     }
@@ -78,6 +81,7 @@ impl Pile {
             Pile::Two(rows) => push_copy(rows, row),
             Pile::Four(rows) => push_copy(rows, row),
             Pile::Eight(rows) => push_copy(rows, row),
+            Pile::Sixteen(rows) => push_copy(rows, row),
             Pile::Widest(rows) => push_copy(rows, row),
         }
     }
@@ -93,6 +97,7 @@ impl Pile {
             Pile::Two(rows) => push_row_at(rows, batch, place),
             Pile::Four(rows) => push_row_at(rows, batch, place),
             Pile::Eight(rows) => push_row_at(rows, batch, place),
+            Pile::Sixteen(rows) => push_row_at(rows, batch, place),
             Pile::Widest(rows) => push_row_at(rows, batch, place),
         }
     }
@@ -114,6 +119,7 @@ impl Pile {
             Pile::Two(rows) => Ok(Pile::Two(widened(alloc, rows)?)),
             Pile::Four(rows) => Ok(Pile::Four(widened(alloc, rows)?)),
             Pile::Eight(rows) => Ok(Pile::Eight(widened(alloc, rows)?)),
+            Pile::Sixteen(rows) => Ok(Pile::Sixteen(widened(alloc, rows)?)),
             Pile::Widest(rows) => Ok(Pile::Widest(widened(alloc, rows)?)),
         }
     }
@@ -126,6 +132,7 @@ impl Pile {
             Pile::Two(rows) => sort_rows(rows),
             Pile::Four(rows) => sort_rows(rows),
             Pile::Eight(rows) => sort_rows(rows),
+            Pile::Sixteen(rows) => sort_rows(rows),
             Pile::Widest(rows) => sort_rows(rows),
         }
     }
@@ -138,6 +145,7 @@ impl Pile {
             Pile::Two(rows) => rows.clear(),
             Pile::Four(rows) => rows.clear(),
             Pile::Eight(rows) => rows.clear(),
+            Pile::Sixteen(rows) => rows.clear(),
             Pile::Widest(rows) => rows.clear(),
         }
     }
@@ -150,6 +158,7 @@ impl Pile {
             Pile::Two(rows) => rows.len(),
             Pile::Four(rows) => rows.len(),
             Pile::Eight(rows) => rows.len(),
+            Pile::Sixteen(rows) => rows.len(),
             Pile::Widest(rows) => rows.len(),
         }
     }
@@ -169,6 +178,7 @@ impl Pile {
             Pile::Two(rows) => rows[place].as_slice(),
             Pile::Four(rows) => rows[place].as_slice(),
             Pile::Eight(rows) => rows[place].as_slice(),
+            Pile::Sixteen(rows) => rows[place].as_slice(),
             Pile::Widest(rows) => rows[place].as_slice(),
         }
     }

@@ -33,7 +33,7 @@ pub const STREAM_MAX: i64 = 1_099_511_627_775;
 pub const ANSWER_MAX: i64 = i64::MAX;
 
 /// The most columns that a row has.
-pub const MAX_COLUMNS: usize = 16;
+pub const MAX_COLUMNS: usize = 32;
 
 /// Null or a number of the answer range, in one word of 8 bytes.
 ///

@@ -11,6 +11,7 @@ abbrev pub entries_in : Parts → List (OneRow × List Row)
 entries_in (code.Two es) = es
 entries_in (code.Four es) = es
 entries_in (code.Eight es) = es
+entries_in (code.Sixteen es) = es
 entries_in (code.Widest es) = es
 
 -- how many values the keys may have
@@ -18,4 +19,5 @@ abbrev pub room_of : Parts → ℕ
 room_of (code.Two es) = 2
 room_of (code.Four es) = 4
 room_of (code.Eight es) = 8
+room_of (code.Sixteen es) = 16
 room_of (code.Widest es) = MAX_COLUMNS

@@ -16,6 +16,7 @@ pub(crate) enum Parts {
     Two(KeyedParts<2>),
     Four(KeyedParts<4>),
     Eight(KeyedParts<8>),
+    Sixteen(KeyedParts<16>),
     Widest(KeyedParts<MAX_COLUMNS>),
 }
 
@@ -32,6 +33,8 @@ impl Parts {
             Parts::Four(KeyedParts::new(alloc))
         } else if columns <= 8 {
             Parts::Eight(KeyedParts::new(alloc))
+        } else if columns <= 16 {
+            Parts::Sixteen(KeyedParts::new(alloc))
         } else {
             Parts::Widest(KeyedParts::new(alloc))
         }
@@ -55,6 +58,7 @@ impl Parts {
             Parts::Two(parts) => parts.fallen_rows(alloc, columns, count, batch),
             Parts::Four(parts) => parts.fallen_rows(alloc, columns, count, batch),
             Parts::Eight(parts) => parts.fallen_rows(alloc, columns, count, batch),
+            Parts::Sixteen(parts) => parts.fallen_rows(alloc, columns, count, batch),
             Parts::Widest(parts) => parts.fallen_rows(alloc, columns, count, batch),
         }
     }
@@ -80,6 +84,7 @@ impl Parts {
             Parts::Two(parts) => parts.enter_all(alloc, columns, count, batch),
             Parts::Four(parts) => parts.enter_all(alloc, columns, count, batch),
             Parts::Eight(parts) => parts.enter_all(alloc, columns, count, batch),
+            Parts::Sixteen(parts) => parts.enter_all(alloc, columns, count, batch),
             Parts::Widest(parts) => parts.enter_all(alloc, columns, count, batch),
         }
     }

@@ -1,5 +1,5 @@
 -- A walk over a list in order, the rows of one pile beyond another, and those of the other beyond the one.
-use Rattle.std.proofs.Common.{◌≡◌, ℕ, ◌+◌, ◌<◌, ◌≤◌, ℤ, Bool, true, false, cond, Option, List, [], ◌∷◌, ◌++◌, map, length, drop, get_or, refl, ap, ap₂, sym, ◌∙◌, arith, append_assoc}
+use Rattle.std.proofs.Common.{◌≡◌, ℕ, ◌+◌, ◌<◌, ◌≤◌, ℤ, Bool, true, false, cond, Option, List, [], ◌∷◌, ◌++◌, length, drop, get_or, refl, ap, ap₂, sym, ◌∙◌, arith, append_assoc}
 use Rattle.std.proofs.lemmas.List.{drop_all}
 use Rattle.values.specs.Row.{Row, row_cmp}
 use Rattle.values.specs.Bag.{is_above}

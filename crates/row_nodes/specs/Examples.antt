@@ -3,7 +3,6 @@ use Rattle.std.specs.Prelude.{◌≡◌, ℕ, true, false, Option, Some, None, �
 use Rattle.values.specs.Row.{Row}
 use Rattle.values.specs.Condition.{Column, Compared, Condition, Not, And, Or, Field, Number}
 use Rattle.values.specs.declared.resolved.Compare.TheVariants.{Equals, Below, Above}
-use Rattle.lane_kernels.specs.declared.condition.Step.{Step}
 use Rattle.lane_kernels.specs.declared.condition.Step.TheVariants as step
 use Rattle.op_queue.specs.Entries.{RowAt, TickAt}
 use Rattle.op_queue.specs.declared.item.Item.TheVariants.{Rows, Tick}

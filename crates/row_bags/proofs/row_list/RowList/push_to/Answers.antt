@@ -1,4 +1,4 @@
-use Rattle.std.proofs.Common.{◌≡◌, ◌∙◌, ap, ap₂, sym, arith, take, drop, length, get_or, map, List, ◌∷◌, ◌++◌, [], ℕ, ◌+◌, ◌-◌, ◌<◌, Option, ℤ}
+use Rattle.std.proofs.Common.{◌≡◌, ◌∙◌, ap, ap₂, sym, arith, take, drop, length, get_or, map, List, ◌∷◌, ◌++◌, ℕ, ◌+◌, ◌-◌, ◌<◌, Option, ℤ}
 use Rattle.values.specs.Row.{Row}
 use Rattle.row_bags.specs.Lists.{rows_by}
 use Rattle.row_bags.specs.Piles.{dated}

@@ -2,9 +2,8 @@ use Rattle.std.proofs.Common.{◌≡◌, ◌∙◌, ◌∷◌, ◌++◌, ◌<◌
 use Rattle.std.specs.Ordering.{is_gt}
 use Rattle.values.specs.Row.{Row, row_cmp}
 use Rattle.values.specs.Bag.{is_above}
-use Rattle.row_bags.specs.Lists.{beyond, beyond_from, up_to}
+use Rattle.row_bags.specs.Lists.{beyond_from, up_to}
 use Rattle.row_bags.specs.Piles.{pile_in}
-use Rattle.row_bags.proofs.PileLemmas.{front}
 use Rattle.row_bags.proofs.WalkLemmas.{beyond-front, beyond-stands, past-ends, past-on, pushed-on, up_to-ends, up_to-on}
 use Rattle.row_bags.proofs.row_list.RowList.push_up_to.Goals as goal
 

@@ -1,4 +1,4 @@
-use Rattle.std.proofs.Common.{◌≡◌, ◌∙◌, ap, ap₂, sym, arith, take, drop, length, get_or, List, ◌∷◌, ◌++◌, [], ℕ, ◌+◌, ◌-◌, ◌<◌, Option, ℤ, true, false, refl}
+use Rattle.std.proofs.Common.{◌≡◌, ◌∙◌, ap, ap₂, sym, arith, take, drop, length, get_or, List, ◌∷◌, [], ℕ, ◌+◌, ◌-◌, ◌<◌, Option, ℤ, true, false, refl}
 use Rattle.values.specs.Row.{Row}
 use Rattle.row_bags.specs.Lists.{beyond, beyond_from, is_first, merged, rows_by, staying}
 use Rattle.row_bags.specs.Piles.{pile_in}

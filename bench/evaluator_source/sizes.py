@@ -93,26 +93,38 @@ def script():
 
 
 def rows_of_four_sources():
-    """As many rows as a query of four sources lets its stream take; nothing is closed of them."""
+    """As many rows as queries of three and four sources let their streams take; nothing is closed of them."""
     append = lambda stream, count: {"op": "append", "stream": stream, "rows": [[5, 0]] * count}
+    register = lambda name, sources, keys: {
+        "op": "query", "name": name, "text": f"Select Istream(*) From {sources} Where w.a = x.a{keys}"
+    }
     full = {"error": "E13 StreamFull"}
-    keys = "Where w.a = x.a And x.a = y.a"
-    yield {"op": "drop", "query": "q0"}, DONE
-    yield {"op": "drop", "query": "q1"}, DONE
-    yield {"op": "stream", "name": "F", "columns": ["a"], "from": 0}, DONE
+    for number in range(4):
+        yield {"op": "drop", "query": f"q{number}"}, DONE
+    for name in "FG":
+        yield {"op": "stream", "name": name, "columns": ["a"], "from": 0}, DONE
+    yield register("two", "F w, F x", ""), DONE
+    yield register("three", "F w, F x, F y", " And x.a = y.a"), DONE
+    # F is neither the first nor the last source
+    yield register("earlier", "S w, F x, F y, G z", " And x.a = y.a And y.a = z.a"), DONE
     yield append("F", LARGEST_APPEND), DONE
-    yield {"op": "query", "name": "four", "text": f"Select Istream(*) From F w, F x, F y, F z {keys} And y.a = z.a"}, DONE
-    for _ in range(ROWS_OF_FOUR_SOURCES // LARGEST_APPEND - 1):
+    yield register("later", "F w, F x, F y, F z", " And x.a = y.a And y.a = z.a"), DONE
+    for _ in range(ROWS_OF_FOUR_SOURCES // LARGEST_APPEND - 2):
         yield append("F", LARGEST_APPEND), DONE
     yield append("F", LARGEST_APPEND - 1), DONE
     yield append("F", 2), full
     yield append("F", 1), DONE
     yield append("F", 1), full
     yield append("F", 0), DONE
-    yield append("S", 1), DONE
-    yield {"op": "query", "name": "three", "text": f"Select Istream(*) From F w, F x, F y {keys}"}, DONE
+    for name in "SG":
+        yield append(name, 1), DONE
+    # the other query of four sources counts from its own registration on
+    yield {"op": "drop", "query": "earlier"}, DONE
+    yield append("F", LARGEST_APPEND), DONE
     yield append("F", 1), full
-    yield {"op": "drop", "query": "four"}, DONE
+    yield register("latest", "F w, F x, F y, F z", " And x.a = y.a And y.a = z.a"), DONE
+    yield append("F", 1), full
+    yield {"op": "drop", "query": "later"}, DONE
     yield append("F", LARGEST_APPEND), DONE
 
 

@@ -17,7 +17,7 @@ pub fn every_text_has_one_answer()
         → answer ≡ reading text }
 {}
 
-/// A query that is read is well formed: it has one source or two, a list that is not `*` has an
+/// A query that is read is well formed: it has one to four sources, a list that is not `*` has an
 /// item, and windows and numbers are within their ranges.
 pub fn every_query_is_well_formed()
     ensures { (text : List ℕ) (query : Query) → reading text ≡ Ok query → IsWellFormed query }

@@ -10,7 +10,7 @@ use op_queue::{Item, Queue};
 use row_nodes::{project, run_project, run_select, select};
 use std::alloc::{AllocError, Global};
 use std::test::Fail;
-use values::Compare;
+use values::{Compare, MAX_COLUMNS};
 
 /// Whether Select puts out in place what it does else, at so many rows: those with more than a
 /// number in the first column, and there less than in the second.
@@ -57,7 +57,7 @@ fn select_runs_in_place(rt: HostRuntime) -> Result<(), Fail> {
 fn project_agrees(alloc: Global, columns: &[usize], count: usize) -> Result<bool, AllocError>
     requires some { 1 ≤ count }
     requires few { count ≤ 1024 }
-    requires narrow { length columns.now ≤ 16 }
+    requires narrow { length columns.now ≤ MAX_COLUMNS }
     requires within { All (λ k. k < 2) columns.now }
 {
     let batch = rows(alloc, count)?;
@@ -69,7 +69,7 @@ fn project_agrees(alloc: Global, columns: &[usize], count: usize) -> Result<bool
 }
 
 fn projects_alike(alloc: Global, columns: &[usize], item: Item) -> Result<bool, AllocError>
-    requires narrow { length columns.now ≤ 16 }
+    requires narrow { length columns.now ≤ MAX_COLUMNS }
     requires within { AreColumns columns.now item }
 {
     let items = project(alloc, columns, &item)?;

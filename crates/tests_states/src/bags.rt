@@ -4,7 +4,7 @@ use column::{Batch, SignedRow};
 use row_bags::{Delta, RowBag, RowList, begins_with, copied, fitted};
 use std::alloc::{AllocError, Global};
 use std::test::Fail;
-use values::{Row, Value, same_rows};
+use values::{MAX_COLUMNS, Row, Value, same_rows};
 
 /// A batch of three rows of one number, of which the first leaves or enters and the others enter.
 fn three(alloc: Global, enters: bool, numbers: (i64, i64, i64)) -> Result<Batch, AllocError> {
@@ -100,7 +100,7 @@ fn one_row_more(rt: HostRuntime) -> Result<(), Fail> {
     Ok(())
 }
 
-/// A row that has the number 1 as often as that, at most 16 times.
+/// A row that has the number 1 as often as that, at most 32 times.
 fn ones(count: usize) -> Row {
     let mut row = Row::new();
     for _ in 0..count {
@@ -109,11 +109,12 @@ fn ones(count: usize) -> Row {
     row
 }
 
-/// The row 7, then one of nine ones.
+/// The row 7, then one of nine ones, then one of seventeen.
 fn widened(alloc: Global) -> Result<RowBag, AllocError> {
     let mut bag = RowBag::new(alloc);
     bag.add(row(7))?;
     bag.add(ones(9))?;
+    bag.add(ones(17))?;
     Ok(bag)
 }
 
@@ -129,24 +130,24 @@ fn widths_are(alloc: Global, bag: &RowBag, widths: &[usize]) -> Result<bool, All
     )
 }
 
-/// The wide row comes first, and the narrow one stays where the wide one leaves.
+/// The wide rows come first, and the others stay where one of them leaves.
 fn wide_rows_come(alloc: Global) -> Result<bool, AllocError> {
     let mut bag = widened(alloc)?;
-    if !widths_are(alloc, &bag, &[9, 1])? {
+    if !widths_are(alloc, &bag, &[9, 17, 1])? {
         return Ok(false);
     }
     bag.take(&ones(9));
     bag.take(&ones(4));
-    widths_are(alloc, &bag, &[1])
+    widths_are(alloc, &bag, &[17, 1])
 }
 
-/// Whether a bag of rows of one value has none of 16.
+/// Whether a bag of rows of one value has none of 32.
 fn has_no_wide_row(alloc: Global) -> Result<bool, AllocError> {
     let mut bag = filled(alloc)?;
     let mut rows = Vec::new(alloc);
-    bag.take(&ones(16));
-    bag.push_rows_with(&ones(16), &mut rows)?;
-    Ok(!bag.has(&ones(16)) && rows.is_empty())
+    bag.take(&ones(32));
+    bag.push_rows_with(&ones(32), &mut rows)?;
+    Ok(!bag.has(&ones(32)) && rows.is_empty())
 }
 
 #[test]
@@ -168,8 +169,8 @@ fn fits_two(count: usize) -> bool {
 /// The row 7 in less room, and back.
 fn seven_again() -> Row {
     let seven = row(7);
-    let key = copied::<16, 4>(&seven);
-    copied::<4, 16>(&key)
+    let key = copied::<MAX_COLUMNS, 4>(&seven);
+    copied::<4, MAX_COLUMNS>(&key)
 }
 
 #[test]
@@ -300,11 +301,12 @@ fn takes(alloc: Global, list: &mut RowList, signed_row: SignedRow) -> Result<(),
     list.renew(alloc, &delta)
 }
 
-/// The rows of nine, of one and of no values, after each other; then the one of one value leaves.
+/// The rows of one, of nine, of seventeen and of no values, after each other; then the one of one
+/// value leaves.
 fn wide_rows_are_listed(alloc: Global) -> Result<usize, AllocError> {
     let mut list = RowList::new(alloc);
     takes(alloc, &mut list, one(true, 7))?;
-    for count in [9, 0] {
+    for count in [9, 17, 0] {
         let row = ones(count);
         takes(alloc, &mut list, SignedRow { enters: true, row })?;
     }
@@ -314,17 +316,17 @@ fn wide_rows_are_listed(alloc: Global) -> Result<usize, AllocError> {
     Ok(place_value(&rows))
 }
 
-/// The numbers of values of the rows as the digits of one number, the first row's last.
+/// The numbers of values of the rows as two digits each of one number, the first row's last.
 fn place_value(rows: &[Row]) -> usize {
     let mut number = 0_usize;
     for row in rows.iter().rev() {
-        number = number.saturating_mul(10).saturating_add(row.len());
+        number = number.saturating_mul(100).saturating_add(row.len());
     }
     number
 }
 
 #[test]
 fn rows_of_other_widths_stand_in_one_list(rt: HostRuntime) -> Result<(), Fail> {
-    assert_eq!(rt; wide_rows_are_listed(rt.alloc())?, 90);
+    assert_eq!(rt; wide_rows_are_listed(rt.alloc())?, 170_900);
     Ok(())
 }

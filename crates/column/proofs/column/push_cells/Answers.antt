@@ -1,4 +1,4 @@
-use Rattle.std.proofs.Common.{◌≡◌, ◌∙◌, ◌+◌, ◌*◌, ◌<◌, ◌==◌, arith, ap, sym, subst, ℤ, Option, get_or, length, is_some, true, false, refl}
+use Rattle.std.proofs.Common.{◌≡◌, ◌∙◌, ◌+◌, ◌*◌, ◌<◌, ◌==◌, arith, ap, sym, subst, ℤ, Option, get_or, length, refl}
 use Rattle.column.proofs.StrideLemmas.{IsPushing-more, no_bit}
 use Rattle.column.proofs.column.push_cells.Goals.{then-is_some, else-is_some}
 use Rattle.column.proofs.column.push_cells.Goals as goal

@@ -25,11 +25,18 @@ TEXTS = {
     "join": "Select Istream(A.v, B.v) From A [Range {span}], B [Range {span}] Where A.k = B.k",
     "distinct": "Select Istream(Distinct k) From A [Range {span}]",
 }
+# The queries of one table more: a window that moves at each tenth instant, and a join of three.
+MORE = {
+    "slide": "Select Istream(k, v) From A [Range {span} Slide 10]",
+    "three": "Select Istream(A.v, B.v, C.v) From A [Range {span}], B [Range {span}], "
+             "C [Range {span}] Where A.k = B.k And B.k = C.k",
+}
+STREAMS = {"join": "AB", "three": "ABC"}
 
 
 def keys_of(kind, span):
     """How many keys there are: as many as a window has rows where an answer needs a key that is new or met, so that answers stay as many."""
-    return ROWS * (span + 1) if kind in ("join", "distinct") else 64
+    return ROWS * (span + 1) if kind in ("join", "three", "distinct") else 64
 
 
 def declared(streams):
@@ -40,10 +47,11 @@ def script(path, kind, span, instants, stride=STRIDE, rising=False):
     """Writes the script of a query, and gives how many rows it has. An instant has 8 rows of each
     stream. The rows of a line come in any order, or by rising instants."""
     draw = random.Random(1)
-    streams = ("A", "B") if kind == "join" else ("A",)
+    streams = STREAMS.get(kind, "A")
     keys = keys_of(kind, span)
     lines = declared(streams)
-    lines.append({"op": "query", "name": "q", "text": TEXTS[kind].format(span=span)})
+    text = {**TEXTS, **MORE}[kind].format(span=span)
+    lines.append({"op": "query", "name": "q", "text": text})
     for first in range(0, instants, stride):
         last = min(first + stride, instants) - 1
         for name in streams:
@@ -133,11 +141,11 @@ class Bench:
     def at(self, name):
         return os.path.join(self.folder, name)
 
-    def spans(self, rising=False):
+    def spans(self, rising=False, texts=TEXTS):
         """Rows a second at each span, and what they are of the hand-written programs'."""
         print(f"{'query':<9} {'span':>6} {'rows':>8} {'answers':>8} {'rows/s':>10} {'by hand':>10} "
               f"{'share':>6} {'tested':>10} {'share':>6}{'   rising instants' if rising else ''}")
-        for kind in TEXTS:
+        for kind in texts:
             rates = []
             for span in SPANS[:1] if kind == "filter" else SPANS[1:2] if rising else SPANS:
                 instants = max(STRIDE, int(INSTANTS * self.share))
@@ -174,7 +182,7 @@ class Bench:
         few, more = 640, 6_400
         print(f"{'query':<9} {'lines':>10} {'engine':>8} {'by hand':>8} {'share':>6} "
               f"{'tested':>8} {'share':>6}   instructions a row, span 100")
-        for kind in TEXTS:
+        for kind in (*TEXTS, *MORE):
             for how, stride, rising in (("shuffled", STRIDE, False), ("rising", STRIDE, True),
                                         ("instants", 1, True)):
                 figures, scale = [], 1 if stride > 1 else 4
@@ -287,6 +295,8 @@ def main():
     print()
     bench.spans()
     bench.spans(rising=True)
+    print()
+    bench.spans(texts=MORE)
     bench.reading()
     bench.instant_by_instant()
     bench.many()

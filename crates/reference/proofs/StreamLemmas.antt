@@ -1,18 +1,13 @@
 -- What the tests of an append let through, and what it makes of a stream.
-use Rattle.std.proofs.Common.{◌≡◌, ◌≤◌, ◌+◌, ℕ, ℤ, Bool, true, false, not, ◌&&◌, ◌||◌, ◌==◌, nat_le, Option, None, Some, List, [], ◌∷◌, ◌++◌, length, refl, ap, ◌∙◌, arith, pos, int_le, int_lt, nat_lt, nat_abs, length-append}
+use Rattle.std.proofs.Common.{◌≡◌, ◌≤◌, ◌+◌, ℕ, ℤ, Bool, true, false, not, ◌||◌, ◌==◌, Option, None, Some, List, [], ◌∷◌, ◌++◌, length, refl, ap, ◌∙◌, pos, int_lt, nat_lt}
 use Rattle.std.specs.List.{list_any, list_all}
-use Rattle.std.proofs.lemmas.List.{length-map}
-use Rattle.std.proofs.lemmas.Bool.{le-leb, eqb-true, ltb-false}
-use Rattle.arrayvec.specs.ArrayVec.{ArrayVec}
+use Rattle.std.proofs.lemmas.Bool.{ltb-false}
 use Rattle.reference.specs.declared.fault.Fault.{Fault}
-use Rattle.reference.specs.declared.limits.TheConstants.{MAX_INSTANT, MAX_APPENDED, MAX_STREAM_ROWS}
+use Rattle.reference.specs.declared.limits.TheConstants.{MAX_APPENDED, MAX_STREAM_ROWS}
 use Rattle.reference.specs.declared.fault.Fault.TheVariants.{TooMany, BadWidth, ValueRange, InstantRange, Late, StreamFull}
 use Rattle.names.specs.Faults.{first_of}
 use Rattle.reference.specs.Machine.{Registered, Stream}
 use Rattle.reference.specs.Commands.{append_tests, crowd_tests, is_crowded, is_stream_value, is_instant, of_stream, rows_tests}
-use Rattle.reference.specs.Views.{pairs_of}
-use Rattle.reference.specs.Appended.{can_be_kept, kept_of}
-use Rattle.values.specs.declared.TheConstants.{MAX_COLUMNS}
 
 -- where no test fails, the first does not, and none of the others
 pub none_first : (b : Bool) (fault : Fault) (tests : List (Bool × Fault)) → first_of ((b, fault) ∷ tests) ≡ None → b ≡ false
@@ -80,27 +75,6 @@ pub not_false : (b : Bool) → not b ≡ false → b ≡ true
 not_false true h = refl
 not_false false h = cc
 
-and_left : (a b : Bool) → (a && b) ≡ true → a ≡ true
-and_left true b h = refl
-and_left false b h = h
-
-all_true : (a b c : Bool) → a ≡ true → b ≡ true → c ≡ true → (a && (b && c)) ≡ true
-all_true a b c p q r = rw (p, q, r) refl
-
-kept : (width : ℕ) → width ≤ 8 → (rows : List (ℤ × List (Option ℤ)))
-    → list_any (λ r. not (length r.1 == width)) rows ≡ false
-    → list_any (λ r. not (list_all is_stream_value r.1)) rows ≡ false
-    → list_any (λ r. not (is_instant r.0)) rows ≡ false
-    → list_all can_be_kept rows ≡ true
-kept width few [] h v i = refl
-kept width few (r ∷ rows) h v i =
-    let here : length r.1 ≡ width = eqb-true (length r.1) width (not_false _ (or_left _ _ h)) in
-    let narrow : nat_le (length r.1) MAX_COLUMNS ≡ true = le-leb (length r.1) MAX_COLUMNS (omega arith) in
-    let good : list_all is_stream_value r.1 ≡ true = not_false _ (or_left _ _ v) in
-    let late : int_le (pos 0) r.0 ≡ true = and_left _ (int_le r.0 MAX_INSTANT) (not_false _ (or_left _ _ i)) in
-    let rest : list_all can_be_kept rows ≡ true = kept width few rows (or_right _ _ h) (or_right _ _ v) (or_right _ _ i) in
-    rw (narrow, good, late, rest) refl
-
 middle : (a b c d e f : Bool) (one two three four five six : Fault)
     → first_of ((a, one) ∷ (b, two) ∷ (c, three) ∷ (d, four) ∷ (e, five) ∷ (f, six) ∷ []) ≡ None → (b ≡ false) × (c ≡ false) × (d ≡ false)
 middle a b c d e f one two three four five six h =
@@ -121,15 +95,6 @@ last a b c d e f one two three four five six h =
     let fifth = none_later d four ((e, five) ∷ (f, six) ∷ []) fourth in
     none_first f six [] (none_later e five ((f, six) ∷ []) fifth)
 
-pub accepted_rows : (s : Stream) (rows : List (ℤ × List (Option ℤ))) → length s.columns ≤ 8 → first_of (append_tests s rows) ≡ None
-    → list_all can_be_kept rows ≡ true
-accepted_rows s rows few h =
-    let tests = middle (nat_lt MAX_APPENDED (length rows)) (list_any (λ r. not (length r.1 == length s.columns)) rows)
-    (list_any (λ r. not (list_all is_stream_value r.1)) rows) (list_any (λ r. not (is_instant r.0)) rows)
-    (list_any (λ r. int_lt r.0 (pos s.first_open)) rows) (nat_lt MAX_STREAM_ROWS (s.arrivals + length rows))
-    TooMany BadWidth ValueRange InstantRange Late StreamFull h in
-    kept (length s.columns) few rows tests.0 tests.1 tests.2
-
 -- what an accepted append says of its rows, test by test
 pub accepted_each : (s : Stream) (rows : List (ℤ × List (Option ℤ))) → first_of (append_tests s rows) ≡ None
     → (list_any (λ r. not (length r.1 == length s.columns)) rows ≡ false)
@@ -146,15 +111,3 @@ accepted_each s rows h =
     (list_any (λ r. int_lt r.0 (pos s.first_open)) rows) (nat_lt MAX_STREAM_ROWS (s.arrivals + length rows))
     TooMany BadWidth ValueRange InstantRange Late StreamFull h in
     (tests.0, tests.1, tests.2, ltb-false MAX_STREAM_ROWS (s.arrivals + length rows) full)
-
-length-pairs_of : (es : List (ℕ × ArrayVec (Option ℤ))) → length (pairs_of es) ≡ length es
-length-pairs_of es = length-map es (λ (e : ℕ × ArrayVec (Option ℤ)). (e.0, e.1.items))
-
-length-kept_of : (rows : List (ℤ × List (Option ℤ))) → length (kept_of rows) ≡ length rows
-length-kept_of rows = length-map rows (λ (r : ℤ × List (Option ℤ)). (nat_abs r.0, r.1))
-
-pub kept-arrivals : (new old : List (ℕ × ArrayVec (Option ℤ))) (rows : List (ℤ × List (Option ℤ))) → pairs_of new ≡ pairs_of old ++ kept_of rows
-    → length new ≡ length old + length rows
-kept-arrivals new old rows h =
-    let e = ap length h in
-    omega (arith, simp length-append at e, length-pairs_of new, length-pairs_of old, length-kept_of rows)

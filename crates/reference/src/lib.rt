@@ -35,7 +35,7 @@ pub use limits::{
 };
 pub use named::{count_undropped, query_place, stream_place};
 pub use names::ResolveFault;
-pub use new_rows::NewRows;
+pub use new_rows::{NewRows, value_of};
 pub use place::first_instant;
 pub use plain::Plain;
 pub use plain::changes::names_of;
@@ -44,3 +44,4 @@ pub use refusals::{
     append_fault, are_columns, declare_fault, heartbeat_fault, register_fault, take_fault,
     turn_fault,
 };
+pub use standing::{move_front, paired};

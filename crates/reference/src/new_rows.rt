@@ -5,14 +5,12 @@ ghost use Rattle.std.specs.Prelude.{vec_len, vec_capacity};
 ghost use Rattle.std.specs.List.{list_any, list_all};
 ghost use Rattle.reference.specs.NewRows.{rows_in};
 ghost use Rattle.reference.specs.Commands.{is_stream_value, is_instant};
-ghost use Rattle.reference.specs.Appended.{can_be_kept, kept_of, instants_of, values_of};
-ghost use Rattle.reference.specs.Views.{pairs_of};
-ghost use Rattle.values.specs.declared.TheConstants.{MAX_COLUMNS};
+ghost use Rattle.reference.specs.Appended.{instants_of, values_of};
 
 use crate::limits::MAX_INSTANT;
 use std::alloc::{AllocError, Global};
 use std::marker::Model;
-use values::{Row, STREAM_MAX, Value};
+use values::{STREAM_MAX, Value};
 
 /// Rows that are to be appended, each an instant and its values, of any number of values.
 ///
@@ -117,15 +115,6 @@ impl NewRows {
         ensures { result ≡ list_any (λ r. int_lt r.0 first_open) self.now }
     {
         any_below(&self.instants, first_open)
-    }
-
-    /// Puts the rows behind the elements, which have room for them.
-    pub fn copy_to(&self, elements: &mut Vec<(u64, Row)>)
-        requires good { list_all can_be_kept self.now ≡ true }
-        requires room { vec_len elements.old + length self.now ≤ vec_capacity elements.old }
-        ensures { pairs_of elements.new.items ≡ pairs_of elements.old.items ++ kept_of self.now }
-    {
-        copy_rows(&self.instants, &self.widths, &self.values, elements)
     }
 
     /// Whether they are the same rows, by value. Takes no memory.
@@ -255,7 +244,8 @@ fn all_stream_values(values: &[Option<i64>]) -> bool
     values.iter().all(|value| is_stream_value(*value))
 }
 
-fn value_of(value: Option<i64>) -> Value
+/// A value of a stream, as it is kept.
+pub fn value_of(value: Option<i64>) -> Value
     requires { is_stream_value value ≡ true }
     ensures { result ≡ value }
 {
@@ -265,39 +255,6 @@ fn value_of(value: Option<i64>) -> Value
             Some(value) => value,
             None => unreachable!(),
         },
-    }
-}
-
-fn row_of(values: &[Option<i64>]) -> Row
-    requires few { length values.now ≤ MAX_COLUMNS }
-    requires in_range { list_all is_stream_value values.now ≡ true }
-    ensures { result.items ≡ values.now }
-{
-    let mut row = Row::new();
-    for value in values {
-        row.push(value_of(*value));
-    }
-    row
-}
-
-fn copy_rows(
-    instants: &[i64],
-    widths: &[usize],
-    values: &[Option<i64>],
-    elements: &mut Vec<(u64, Row)>,
-)
-    requires lengths { length widths.now ≡ length instants.now }
-    requires all { sum widths.now ≡ length values.now }
-    requires good { list_all can_be_kept (rows_in instants.now widths.now values.now) ≡ true }
-    requires room { vec_len elements.old + length instants.now ≤ vec_capacity elements.old }
-    ensures { pairs_of elements.new.items
-        ≡ pairs_of elements.old.items ++ kept_of (rows_in instants.now widths.now values.now) }
-{
-    let mut rest = values;
-    for i in 0..instants.len() {
-        let (row, after) = rest.split_at(widths[i]);
-        elements.push_reserved((instants[i] as u64, row_of(row)));
-        rest = after;
     }
 }
 

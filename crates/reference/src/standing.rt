@@ -10,6 +10,8 @@ mod calls;
 mod operators;
 
 use crate::place::Place;
+pub use calls::move_front;
+pub use operators::paired;
 use plan::Plan;
 use std::collections::VecDeque;
 use values::Row;

@@ -8,7 +8,7 @@ ghost use Rattle.stream_store.specs.LateRows.{first_below, has_rows, lent_rows, 
 ghost use Rattle.stream_store.specs.LateRows.{rows_in, with_rows};
 
 use crate::arrivals::Arrivals;
-use crate::lent::value_of;
+use reference::value_of;
 use std::alloc::{AllocError, Global};
 use std::marker::Model;
 use values::{MAX_COLUMNS, Value};

@@ -1,8 +1,5 @@
 //! Rows as they are lent to a stream: their instants, and their values, one row's behind another's.
-ghost use Rattle.std.specs.Prelude.{◌≡◌, ◌≤◌, length, replicate, take, true};
-ghost use Rattle.reference.specs.Commands.{is_stream_value};
-
-use values::Value;
+ghost use Rattle.std.specs.Prelude.{◌≡◌, ◌≤◌, length, replicate, take};
 
 /// How many of the first instants are this one.
 pub(crate) fn count_at(instants: &[i64], instant: i64) -> usize
@@ -17,18 +14,4 @@ pub(crate) fn count_at(instants: &[i64], instant: i64) -> usize
         count += 1;
     }
     count
-}
-
-/// A value of a stream, as it is kept.
-pub(crate) fn value_of(value: Option<i64>) -> Value
-    requires { is_stream_value value ≡ true }
-    ensures { result ≡ value }
-{
-    match value {
-        None => Value::null(),
-        Some(number) => match Value::new(number) {
-            Some(value) => value,
-            None => unreachable!(),
-        },
-    }
 }

@@ -115,7 +115,7 @@ impl StandingQuery {
 }
 
 /// Moves the first `count` answers behind the rows, which have room for them.
-fn move_front(waiting: &mut VecDeque<(u64, Row)>, rows: &mut Vec<(i64, Row)>, count: usize)
+pub fn move_front(waiting: &mut VecDeque<(u64, Row)>, rows: &mut Vec<(i64, Row)>, count: usize)
     requires enough { count ≤ deque_len waiting.old }
     requires room { vec_len rows.old + count ≤ vec_capacity rows.old }
     requires instants { are_signed (pairs_of waiting.old.items) ≡ true }

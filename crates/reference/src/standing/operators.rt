@@ -23,7 +23,11 @@ impl StandingQuery {
 }
 
 /// What each operator does, beside its slope.
-fn paired(alloc: Global, nodes: &[Node], slopes: &[Slope]) -> Result<Vec<(Kind, Slope)>, AllocError>
+pub fn paired(
+    alloc: Global,
+    nodes: &[Node],
+    slopes: &[Slope],
+) -> Result<Vec<(Kind, Slope)>, AllocError>
     ensures { IfOk result (λ v. v.items ≡ zip (map kind_of (nodes_of nodes.now)) slopes.now) }
 {
     let mut operators = Vec::new(alloc);

@@ -1,5 +1,5 @@
 -- The definitions at worked rows.
-use Rattle.std.specs.Prelude.{◌≡◌, ℕ, false, Option, Some, None, pos, List, [], ◌∷◌, refl}
+use Rattle.std.specs.Prelude.{◌≡◌, ℕ, false, Option, Some, None, pos, List, [], ◌∷◌, refl, replicate}
 use Rattle.values.specs.Condition as conditions
 use Rattle.values.specs.Condition.{Field}
 use Rattle.values.specs.declared.resolved.Compare.TheVariants.{Equals, Above}
@@ -98,13 +98,14 @@ grouped : (resolved (query (Each (Column (plain 107) ∷ Sum (plain 118) ∷ [])
     ≡ relations.Grouped (record { source = 0; column = 1 } ∷ record { source = 0; column = 0 } ∷ []) (relations.Key 1 ∷ relations.Sum (record { source = 0; column = 1 }) ∷ [])
 grouped = refl
 
--- 17 items
+-- 32 items are accepted, 33 are too many
 abbrev item : Entry
 item = Column (plain 97)
 
-too_wide : first_fault
-    (query (Each (item ∷ item ∷ item ∷ item ∷ item ∷ item ∷ item ∷ item ∷ item ∷ item ∷ item ∷ item ∷ item ∷ item ∷ item ∷ item ∷ item ∷ [])) (of 83 ∷ []) None []) declared
-    ≡ Some TooWide
+as_wide_as_may_be : first_fault (query (Each (replicate 32 item)) (of 83 ∷ []) None []) declared ≡ None
+as_wide_as_may_be = refl
+
+too_wide : first_fault (query (Each (replicate 33 item)) (of 83 ∷ []) None []) declared ≡ Some TooWide
 too_wide = refl
 
 -- Where A.k = B.k And B.v = C.v

@@ -9,7 +9,7 @@ use Rattle.std.proofs.lemmas.Str.{IsUtf8-from_is_utf8, is_utf8-from_IsUtf8}
 use Rattle.serde_json.specs.Data.{Data}
 use Rattle.serde_json.specs.Read.{read}
 use Rattle.wire.specs.Lines.{lines_of, longest_line, Keeps, BeginsWithLine}
-use Rattle.wire.specs.Requests.{is_blank_byte, json_of, call_in, request_in, ReadsLine, SameRequests, BeginsWithRequest, HasNoRequest}
+use Rattle.wire.specs.Requests.{is_blank_byte, json_of, call_in, asked_in, request_in, ReadsLine, SameRequests, BeginsWithRequest, HasNoRequest}
 use Rattle.wire.specs.Asked.{asked}
 use Rattle.wire.specs.Calls.{Call, call_of}
 use Rattle.wire.specs.declared.request.Request.{Request}
@@ -42,13 +42,13 @@ value_fits None e = cc
 value_fits (Some d) e = refused_fits (asked d) e
 
 -- a line that is kept and is not blank
-pub request_kept : (line whole : List ℕ) (fits : Bool) → fits ≡ true → Keeps fits line whole → list_all is_blank_byte line ≡ false → request_in whole ≡ Some (call_in (json_of line))
+pub request_kept : (line whole : List ℕ) (fits : Bool) → fits ≡ true → Keeps fits line whole → list_all is_blank_byte line ≡ false → request_in whole ≡ Some (asked_in line)
 request_kept line whole false e k some = cc
 request_kept line whole true e k some =
     let short : nat_lt longest_line (length line) ≡ false = le-ltb longest_line (length line) (subst (λ l. length l ≤ longest_line) (sym k.0) k.1) in
     ap request_in (sym k.0)
-    ∙ ap (λ t. cond (not t && list_all is_blank_byte line) None (Some (cond t (Err LineTooLong) (call_in (json_of line))))) short
-    ∙ ap (λ t. cond t None (Some (call_in (json_of line)))) some
+    ∙ ap (λ t. cond (not t && list_all is_blank_byte line) None (Some (asked_in line))) short
+    ∙ ap (λ t. cond t None (Some (asked_in line))) some
 
 -- ---- lines of a text
 

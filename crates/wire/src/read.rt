@@ -84,7 +84,7 @@ fn request_of_line(alloc: Global, line: &[u8], fits: bool) -> Option<Result<Requ
     if is_blank(line) {
         return None;
     }
-    Some(short_request(alloc, line))
+    Some(read_request(alloc, line))
 }
 
 /// The next request that can be had without a read, or what is wrong with its line: of a line that

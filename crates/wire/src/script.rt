@@ -1,6 +1,7 @@
 //! Scripts of requests.
-ghost use Rattle.std.specs.Prelude.{◌≡◌, ◌≢◌, ◌<◌, ◌≤◌, ℕ, List, [], Result, Ok, IfOk, IfErr};
+ghost use Rattle.std.specs.Prelude.{◌≡◌, ◌≢◌, ◌<◌, ℕ, List, [], Result, Ok, IfOk, IfErr};
 ghost use Rattle.std.specs.Prelude.{OnOk, OnErr, IfSome, MatchOption, None, true, false, ◌⊎◌};
+ghost use Rattle.reference.specs.World.{IsTurnSize};
 ghost use Rattle.wire.specs.Devices.{Rises};
 ghost use Rattle.wire.specs.Held.{ahead, work};
 ghost use Rattle.wire.specs.Paged.{Writes};
@@ -60,7 +61,7 @@ fn heartbeat<E: Answering>(engine: &mut E, stream: &str, at: i64) -> Reply
 // By turns of at most so many rows.
 #[tactic(auto, using(crate::proofs::Turns::drain_rests, crate::proofs::Turns::drain_leaves_whole))]
 fn drain<E: Answering>(engine: &mut E, rows: u32) -> Reply
-    requires rows { 0 < rows × rows ≤ 1024 }
+    requires rows { IsTurnSize rows }
     ensures answers { E.is_whole engine.old
         → AnswersCall (E.world engine.old) drain (answer_of result) (E.world engine.new) }
     ensures rests { E.is_whole engine.old
@@ -121,7 +122,7 @@ fn show_plan<E: Answering>(engine: &E, query: &str) -> Reply
 /// drain may have made some answers wait. A drain and a take are answered so by an engine that is
 /// whole, and all other requests by any engine.
 pub fn answer<E: Answering>(engine: &mut E, request: &Request, rows: u32) -> Reply
-    requires rows { 0 < rows × rows ≤ 1024 }
+    requires rows { IsTurnSize rows }
     ensures answers { (NeedsWhole (call_of request.now) → E.is_whole engine.old)
         → AnswersCall (E.world engine.old) (call_of request.now) (answer_of result)
         (E.world engine.new) }
@@ -152,7 +153,7 @@ pub fn answer<E: Answering>(engine: &mut E, request: &Request, rows: u32) -> Rep
 
 /// Answers what was read of a line.
 fn serve<E: Answering>(engine: &mut E, read: Result<Request, WireFault>, rows: u32) -> Reply
-    requires rows { 0 < rows × rows ≤ 1024 }
+    requires rows { IsTurnSize rows }
     ensures serves { E.is_whole engine.old → (defined : Result Call WireFault) → Reads defined read
         → Replies (E.world engine.old) defined (answer_of result) (E.world engine.new) }
     ensures rests { E.is_whole engine.old → (defined : Result Call WireFault) → Reads defined read
@@ -175,7 +176,7 @@ fn respond<K: Sink, E: Answering>(
     read: Result<Request, WireFault>,
     rows: u32,
 )
-    requires rows { 0 < rows × rows ≤ 1024 }
+    requires rows { IsTurnSize rows }
     ensures written { (answer : Answer)
         × (E.is_whole engine.old → (defined : Result Call WireFault) → Reads defined read
         → Replies (E.world engine.old) defined answer (E.world engine.new))
@@ -248,7 +249,7 @@ pub fn run_script<S: Source, K: Sink, E: Answering>(
     engine: &mut E,
     rows: u32,
 ) -> Result<(), ScriptFault>
-    requires rows { 0 < rows × rows ≤ 1024 }
+    requires rows { IsTurnSize rows }
     requires whole { E.is_whole engine.old }
     ensures text { OnOk result (Scripts (λ text written. Says (¬ E.has_numbers engine.new)
         (requests_of text) (script (E.world engine.old) text) written)

@@ -26,8 +26,8 @@ use stream_store::Streams;
 impl State {
     /// Closes all instants of the stream up to `at`.
     ///
-    /// It costs the rows, a look at each window of the queries that were not dropped, and a change
-    /// of the slots of those over the stream that had nothing to take.
+    /// It costs the rows, a look at each window of the queries that run, and a change of the slots
+    /// of those over the stream that had nothing to take.
     pub(crate) fn heartbeat(&mut self, stream: u64, at: i64) -> Result<(), Fault>
         requires { IsSound self.old }
         ensures does { Does (λ u. u) (world_in self.old)

@@ -1,4 +1,3 @@
 pub mod LeaseLemmas
-pub mod AnswerLemmas
 pub mod RunLemmas
 pub mod InPlaceLemmas

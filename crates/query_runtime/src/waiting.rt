@@ -1,7 +1,5 @@
 //! Answers that wait to be taken.
-ghost use Rattle.std.specs.Prelude.{◌≡◌, ◌≤◌, ◌+◌, ◌++◌, [], true, length, min, take, drop};
-ghost use Rattle.std.specs.Prelude.{IfErr, IfOk, OnErr, OnOk, vec_capacity, vec_len};
-ghost use Rattle.std.specs.VecDeque.{deque_len};
+ghost use Rattle.std.specs.Prelude.{◌≡◌, ◌++◌, [], true, length, IfErr, IfOk, OnErr, OnOk};
 ghost use Rattle.operators.specs.Runs.{GivesFirst, HasItem, HasRunRoot, MayRun, Stops};
 ghost use Rattle.to_stream.specs.Turns.{answers_of};
 ghost use Rattle.reference.specs.CallViews.{handed_of};
@@ -12,6 +10,7 @@ ghost use Rattle.query_runtime.specs.Turns.{left_behind, taken};
 use column::Side;
 use op_queue::Log;
 use operators::{Operator, Refused};
+use reference::move_front;
 use std::alloc::{AllocError, Global};
 use std::collections::VecDeque;
 use std::marker::Model;
@@ -94,22 +93,5 @@ impl WaitingAnswers {
         let mut rows = Vec::with_capacity(alloc, count)?;
         move_front(&mut self.answers, &mut rows, count);
         Ok(rows)
-    }
-}
-
-/// Moves the first `count` answers behind the rows, which have room for them.
-fn move_front(answers: &mut VecDeque<(u64, Row)>, rows: &mut Vec<(i64, Row)>, count: usize)
-    requires enough { count ≤ deque_len answers.old }
-    requires room { vec_len rows.old + count ≤ vec_capacity rows.old }
-    requires instants { are_signed (answers_of answers.old.items) ≡ true }
-    ensures rows { handed_of rows.new.items
-        ≡ handed_of rows.old.items ++ handed (take count (answers_of answers.old.items)) }
-    ensures answers { answers_of answers.new.items ≡ drop count (answers_of answers.old.items) }
-{
-    for _ in 0..count {
-        match answers.pop_front() {
-            Some((at, row)) => rows.push_reserved((at as i64, row)),
-            None => unreachable!(),
-        }
     }
 }

@@ -3,6 +3,7 @@ ghost use Rattle.std.specs.Prelude.{◌≡◌, ◌≤◌, ◌+ℤ◌, IfOk, None
 ghost use Rattle.values.specs.Answers as cql;
 ghost use Rattle.values.specs.declared.TheConstants.{MAX_COLUMNS};
 ghost use Rattle.cql_reader.specs.Views.{query_of};
+ghost use Rattle.cql_reader.specs.WellFormed.{IsWellFormed};
 ghost use Rattle.names.specs.Faults.{first_fault};
 ghost use Rattle.names.specs.Resolved.{resolved, widths};
 ghost use Rattle.reference.specs.Inputs.{IsClosed};
@@ -17,10 +18,11 @@ use values::Row;
 /// The answers of a query over the declared streams at the instants above `base` up to `upto`, by
 /// instant, and within one instant in order, as CQL defines them.
 ///
-/// Its caller sees to it that the names of the query resolve, and gives one list for each source,
-/// in the order of From: the rows of its stream, each with its instant, in the order in which they
-/// came. `base` and `upto` are -1 or an instant; nothing is answered where `upto` is not above
-/// `base`. The time is that of evaluating the query twice at each instant.
+/// Its caller sees to it that the query is one that is read from a text and that its names resolve,
+/// and gives one list for each source, in the order of From: the rows of its stream, each with its
+/// instant, in the order in which they came. `base` and `upto` are -1 or an instant; nothing is
+/// answered where `upto` is not above `base`. The time is that of evaluating the query twice at each
+/// instant.
 ///
 /// # Errors
 /// `AllocError` where memory is refused.
@@ -32,6 +34,7 @@ pub fn answers(
     base: i64,
     upto: i64,
 ) -> Result<Vec<(u64, Row)>, AllocError>
+    requires formed { IsWellFormed (query_of query.now) }
     requires accepted { first_fault (query_of query.now) catalog.now ≡ None }
     requires narrow { sum (widths (query_of query.now) catalog.now) ≤ MAX_COLUMNS }
     requires sources { length inputs.now ≡ length query.now.sources.items }

@@ -55,6 +55,8 @@ use Rattle.turn.specs.contracts.excerpts.Near as near
 use Rattle.turn.specs.contracts.nodes.Node as node
 use Rattle.leases.specs.contracts.registered.Registration as registration
 use Rattle.leases.specs.contracts.remains.Remains as remains
+use Rattle.leases.specs.contracts.undropped.RowLimit as row_limit
+use Rattle.leases.specs.contracts.undropped.Undropped as undropped
 use Rattle.leases.specs.contracts.state.State as engine_state
 use Rattle.leases.specs.contracts.engine.Engine as engine
 use Rattle.leases.specs.contracts.engine.Engine.TheInside as engine_inside
@@ -129,7 +131,7 @@ pub slide_send : IsSend slide.the_row
 slide_send = search (sendable, crosses, flat_rows_send) depth 30
 
 pub latest_send : IsSend latest.the_row
-latest_send = search (sendable, crosses, maps.crosses, value_send, flat_rows_send) depth 40
+latest_send = search (sendable, crosses, maps.crosses, value_send, flat_rows_send) depth 40 fits 100000
 
 pub join_send : IsSend join.the_row
 join_send = search (sendable, crosses, row_bag_send) depth 40
@@ -233,8 +235,14 @@ command_sync = search (sendable, crosses, maps.crosses) depth 40
 pub entry_send : IsSend entry.the_row
 entry_send = search (sendable, crosses, command_send, command_sync, reply_send) depth 12 fits 100000
 
+row_limit_send : IsSend row_limit.the_row
+row_limit_send = search sendable depth 20
+
+pub undropped_send : IsSend undropped.the_row
+undropped_send = search (sendable, crosses, names_send, row_limit_send) depth 20
+
 pub engine_state_send : IsSend engine_state.the_row
-engine_state_send = declared_send engine_state.the_type (search (sendable, crosses) depth 20, (streams_send, (names_send, (search (sendable, crosses, registration_send) depth 12, (search (sendable, crosses, remains_send) depth 12, (search (sendable, crosses, reader_send) depth 12, (search (sendable, crosses, turn_send) depth 12, (search sendable depth 12, (queue_send, tt)))))))))
+engine_state_send = declared_send engine_state.the_type (search (sendable, crosses) depth 20, (streams_send, (undropped_send, (search (sendable, crosses, registration_send) depth 12, (search (sendable, crosses, remains_send) depth 12, (search (sendable, crosses, reader_send) depth 12, (search (sendable, crosses, turn_send) depth 12, (search sendable depth 12, (queue_send, tt)))))))))
 
 pub engine_send : IsSend engine.the_row
 engine_send = view_send engine_inside.the_row _ _ engine.the_view _ (declared_send engine_inside.the_type (engine_state_send, tt))

@@ -12,11 +12,11 @@ from drawing import GREEN, GREY, INK, PALE, RED, Drawing
 SPANS = ["10", "100", "1,000", "10,000"]
 # thousand rows a second at each span, of the engine and by hand: bench/engine on 2026-11-26
 RATES = {
-    "filter": ([1873], [4926]),
-    "range": ([1939, 1881, 1930, 1923], [3605, 3487, 3252, 3511]),
-    "groups": ([845, 885, 614, 700], [1594, 1596, 1229, 1075]),
-    "join": ([603, 669, 558, 431], [1541, 1715, 1208, 830]),
-    "distinct": ([1168, 959, 647, 497], [4211, 4024, 3812, 2384]),
+    "filter": ([2087], [7692]),
+    "range": ([1916, 1974, 1957, 1983], [3669, 3679, 3615, 3506]),
+    "groups": ([918, 966, 975, 1069], [1775, 1636, 1728, 1892]),
+    "join": ([762, 703, 627, 476], [1894, 1789, 1440, 930]),
+    "distinct": ([1197, 1065, 911, 633], [4406, 4186, 4010, 2741]),
 }
 # the share that is wanted of each
 GOALS = {"filter": 0.28, "range": 0.5, "groups": 0.6, "join": 0.4, "distinct": 0.4}

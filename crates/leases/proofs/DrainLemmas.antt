@@ -42,14 +42,14 @@ more_run rows e1 e2 e3 ran one = (ran.0 ++ one.0 ∷ [], one_more rows e1 e2 one
 
 -- and some more do
 some_more : (rows : ℕ) (e1 e2 e3 : PlainEngine) (turns later : List Turn) → HaveRun rows e1 turns e2 → HaveRun rows e2 later e3 → HaveRun rows e1 (turns ++ later) e3
-some_more rows e1 e2 e3 [] later ran then = subst (λ e. HaveRun rows e later e3) ran then
-some_more rows e1 e2 e3 (t ∷ turns) later ran then = (ran.0, (ran.1.0, (ran.1.1.0, (ran.1.1.1.0, some_more rows ran.1.0 e2 e3 turns later ran.1.1.1.1 then))))
+some_more rows e1 e2 e3 [] later ran next = subst (λ e. HaveRun rows e later e3) ran next
+some_more rows e1 e2 e3 (t ∷ turns) later ran next = (ran.0, (ran.1.0, (ran.1.1.0, (ran.1.1.1.0, some_more rows ran.1.0 e2 e3 turns later ran.1.1.1.1 next))))
 
 pub run_on : (rows : ℕ) (e1 e2 e3 : PlainEngine) → SomeHaveRun rows e1 e2 → SomeHaveRun rows e2 e3 → SomeHaveRun rows e1 e3
-run_on rows e1 e2 e3 ran then = (ran.0 ++ then.0, some_more rows e1 e2 e3 ran.0 then.0 ran.1 then.1)
+run_on rows e1 e2 e3 ran next = (ran.0 ++ next.0, some_more rows e1 e2 e3 ran.0 next.0 ran.1 next.1)
 
 pub run_more : (rows : ℕ) (e1 e2 e3 : PlainEngine) → SomeHaveRun rows e1 e2 → OneOrMoreHaveRun rows e2 e3 → SomeHaveRun rows e1 e3
-run_more rows e1 e2 e3 ran then = more_run rows e1 then.0 e3 (run_on rows e1 e2 then.0 ran then.1.0) then.1.1
+run_more rows e1 e2 e3 ran next = more_run rows e1 next.0 e3 (run_on rows e1 e2 next.0 ran next.1.0) next.1.1
 
 -- AN ERROR that is handed on
 pub same_err : {A E : Type 0} (r : Result A E) (e : E) (Q : Result A E → Type 0) → IsErrAnd r (λ f. f ≡ e) → Q (Err e) → Q r

@@ -149,8 +149,8 @@ used true o t e = e
 used false o t e = absurd (cc)
 
 some_ready : (left right : Option ℕ) (side : Side) (t : ℕ) → first_ready left right ≡ Some (side, t) → ((side ≡ Left) × (left ≡ Some t)) ⊎ ((side ≡ Right) × (right ≡ Some t))
-some_ready (Some u) right side t e = let same : (Left, u) ≡ (side, t) = cc in inl (ap (λ z. z.0) (sym same), ap (λ z. Some z.1) same)
-some_ready None (Some u) side t e = let same : (Right, u) ≡ (side, t) = cc in inr (ap (λ z. z.0) (sym same), ap (λ z. Some z.1) same)
+some_ready (Some u) right side t e = let same : ◌≡◌ {A = Side × ℕ} (Left, u) (side, t) = cc in inl (ap (λ z. z.0) (sym same), ap (λ z. Some z.1) same)
+some_ready None (Some u) side t e = let same : ◌≡◌ {A = Side × ℕ} (Right, u) (side, t) = cc in inr (ap (λ z. z.0) (sym same), ap (λ z. Some z.1) same)
 some_ready None None side t e = absurd (cc)
 
 some_number : {a b : ℕ} → Some a ≡ Some b → a ≡ b

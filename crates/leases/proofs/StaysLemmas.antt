@@ -77,15 +77,15 @@ above_no_earlier s a x z level less =
     no_later (nat_cmp x.1 z.1) (ordering_then (nat_cmp s.query a.query) (nat_cmp s.operator a.operator)) x.1 z.1 (ranks x.1 z.1) rest
 
 by_slope : (o p : Ordering) → is_gt o ≡ false → (o ≡ Equal → p ≡ Less) → ordering_then o p ≡ Less
-by_slope Less p no h = refl
-by_slope Equal p no h = h refl
-by_slope Greater p no h = absurd (cc)
+by_slope Less p flat h = refl
+by_slope Equal p flat h = h refl
+by_slope Greater p flat h = absurd (cc)
 
 -- then it stands behind
 pub before_above : (s a : Slot) (x : Side × ℕ) (y : Option (Side × ℕ)) → is_gt (fraction_cmp a.slope.0 s.slope.0) ≡ false → (fraction_cmp a.slope.0 s.slope.0 ≡ Equal → (z : Side × ℕ) → y ≡ Some z → x.1 ≤ z.1)
     → s.query ≡ a.query → s.operator < a.operator → slot_cmp (with_next s (Some x)) (with_next a y) ≡ Less
-before_above s a x None no later same lt = refl
-before_above s a x (Some z) no later same lt = by_slope (fraction_cmp a.slope.0 s.slope.0) _ no
+before_above s a x None flat later same lt = refl
+before_above s a x (Some z) flat later same lt = by_slope (fraction_cmp a.slope.0 s.slope.0) _ flat
     (λ level.
     let numbers : ordering_then (nat_cmp s.query a.query) (nat_cmp s.operator a.operator) ≡ Less =
     ap (λ o. ordering_then o (nat_cmp s.operator a.operator)) (equal_by (nat_cmp s.query a.query) s.query a.query (ranks s.query a.query) same)

@@ -434,8 +434,8 @@ module _ (start now : State) (s : Slot) (above : Option Slot) (rows : ℕ) (star
 
       above_behind : (a : Slot) → is_gt (fraction_cmp a.slope.0 s.slope.0) ≡ false → IsOver (engine_in t) turn (told_slot e a) → told_slot e a ≡ slot_at (engine_in t) s.query q p (wire_at p s.operator).to → IsIn t.slots (told_slot e a)
           → slot_cmp (with_next s (Some x)) (told_slot e2 a) ≡ Less
-      above_behind a no is wired i =
-          before_above s a x (next_for e2 a.query a.operator) no
+      above_behind a flat is wired i =
+          before_above s a x (next_for e2 a.query a.operator) flat
           (λ level z has. ⊎_elim
           (λ same. above_later a (behind t.slots turn (told_slot e a) r.sound.good.slots.ordered r.first i) is.later level z (sym same ∙ has))
           (λ new. let of_turn : (new.0, turn.instant) ≡ z = some_next (sym new.1 ∙ has) in let same : turn.instant ≡ z.1 = ap (λ w. w.1) of_turn in omega (arith, same, r.instant, at))
@@ -449,8 +449,8 @@ module _ (start now : State) (s : Slot) (above : Option Slot) (rows : ℕ) (star
       behind_by : (o : Option Slot) → IsNoSteeper o s → MatchOption (told_above e o) ⊤ (IsOver (engine_in t) turn)
           → MatchOption (told_above e o) (length p.operators ≤ s.operator + 1) (λ a. (s.operator + 1 < length p.operators) × (a ≡ slot_at (engine_in t) s.query q p (wire_at p s.operator).to))
           → MatchOption o ⊤ (λ a. IsIn t.slots (told_slot e a)) → (w : Slot) → IsToldAbove e2 o w → slot_cmp (with_next s (Some x)) w ≡ Less
-      behind_by None no is wired i w same = absurd same
-      behind_by (Some a) no is wired i w same = ap (slot_cmp (with_next s (Some x))) same ∙ above_behind a no is wired.1 i
+      behind_by None flat is wired i w same = absurd same
+      behind_by (Some a) flat is wired i w same = ap (slot_cmp (with_next s (Some x))) same ∙ above_behind a flat is wired.1 i
 
       -- each other slot stands behind
       all_behind : (w : Slot) → IsIn (told_slots e2 s above) w → (w ≡ with_next s (Some x)) ⊎ (slot_cmp (with_next s (Some x)) w ≡ Less)

@@ -1,5 +1,5 @@
 -- Turns of the first slot that run one after the other, while the slots wait to be told: with these told, each is a turn of the first slot.
-use Rattle.std.proofs.Common.{◌≡◌, ◌≢◌, ◌<◌, ◌≤◌, ◌+◌, ℕ, Bool, true, false, not, cond, nat_le, ◌&&◌, ◌||◌, inl, inr, ◌⊎◌, ⊎_elim, is_none, is_some, unwrap_or, MatchOption, Option, Some, None, List, [], ◌∷◌, length, set, refl, sym, ap, ap₂, ◌∙◌, subst, arith}
+use Rattle.std.proofs.Common.{◌≡◌, ◌≢◌, ◌<◌, ◌≤◌, ◌+◌, ℕ, Bool, true, false, not, cond, nat_le, ◌&&◌, ◌||◌, inl, inr, ◌⊎◌, ⊎_elim, is_none, is_some, unwrap_or, MatchOption, Option, Some, None, List, [], ◌∷◌, length, set, refl, sym, ap, ap₂, ◌∙◌, subst, arith, eqb-true}
 use Rattle.std.specs.Prelude.{⊤}
 use Rattle.std.specs.Option.{option_to_list}
 use Rattle.std.specs.Ordering.{is_gt}
@@ -28,7 +28,7 @@ use Rattle.laws_queries.specs.Queries.{PlainQuery, change_at_first, log_at, oper
 use Rattle.laws_queries.specs.Steps.{IsFirst, outs_at_first}
 use Rattle.query_runtime.specs.Runs.{HasRun}
 use Rattle.query_runtime.specs.Turns.{CanPut, HasFinished, HasPut, log_of, wire_at}
-use Rattle.run_queue.specs.Slots.{changed, first_of, slot, slot_cmp, with_next, without_query}
+use Rattle.run_queue.specs.Slots.{changed, first_of, goes_on, slot, slot_cmp, with_next, without_query}
 use Rattle.run_queue.specs.declared.slots.Slot.{Slot}
 use Rattle.run_queue.proofs.StandLemmas.{changed_nothing}
 use Rattle.laws_engine.specs.Calls.{IsOf, broken}
@@ -61,6 +61,14 @@ use Rattle.leases.proofs.ToldLemmas.{AreThere, IsAnother, IsToldAbove, above_in,
 -- WHAT AN OPERATOR MAY TAKE, by its number and by its query
 pub next_is : (e : PlainEngine) (n k : ℕ) (q : Registered) (p : PlainQuery) → query_at e n ≡ Some q → remains_at e n ≡ Running p → next_for e n k ≡ next_at e n q p k
 next_is e n k q p r running = ap (λ z. next_in e n k z (remains_at e n)) r ∙ ap (next_in e n k (Some q)) running
+
+pub looked : (e : PlainEngine) (n k : ℕ) (next : Option (Side × ℕ)) → HasOperatorAt e n k → ((q : Registered) (p : PlainQuery) → query_at e n ≡ Some q → remains_at e n ≡ Running p → next ≡ next_at e n q p k) → next ≡ next_for e n k
+looked e n k next here h = h here.0 here.1.0 here.1.1.registered here.1.1.running ∙ sym (next_is e n k here.0 here.1.0 here.1.1.registered here.1.1.running)
+
+-- and it goes on where that is of the slot's instant
+pub goes_with : (s : Slot) (next : Option (Side × ℕ)) → goes_on s next ≡ true → (x : Side × ℕ) × ((next ≡ Some x) × (x.1 ≡ s.instant))
+goes_with s None h = absurd (cc)
+goes_with s (Some x) h = (x, (refl, eqb-true x.1 s.instant h))
 
 -- A SLOT of the engine says it already
 as_told : (e : PlainEngine) (x : Slot) → slot_of e x.query x.operator ≡ Some x → told_slot e x ≡ x

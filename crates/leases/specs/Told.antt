@@ -1,15 +1,17 @@
 -- Slots that wait to be told what their operators may take next.
-use Rattle.std.specs.Prelude.{⊤, ◌≡◌, false, MatchOption, Option, List, ◌∷◌}
+use Rattle.std.specs.Prelude.{ℕ, ⊤, ◌≡◌, ◌<◌, Bool, true, false, MatchOption, Option, List, ◌∷◌}
 use Rattle.std.specs.Option.{option_map, option_to_list}
 use Rattle.std.specs.Ordering.{is_gt}
+use Rattle.column.specs.declared.batch.Side.{Side}
 use Rattle.envelope.specs.Fraction.{fraction_cmp}
-use Rattle.run_queue.specs.Slots.{with_next}
+use Rattle.run_queue.specs.Slots.{goes_on, with_next}
 use Rattle.run_queue.specs.declared.slots.Slot.{Slot}
 use Rattle.laws_engine.specs.Engines.{PlainEngine}
 use Rattle.leases.specs.Applied.{BothStand, MayTell}
 use Rattle.leases.specs.Asked.{HasOperatorAt}
 use Rattle.leases.specs.Readers.{next_for, with_slots, with_updates}
 use Rattle.leases.specs.Shown.{engine_in}
+use Rattle.leases.specs.declared.limits.TheConstants.{LEASE_NUMBERS}
 use Rattle.leases.specs.declared.state.State.{State}
 
 -- a slot with what its operator may take next
@@ -38,3 +40,9 @@ pub record MayTellBoth (m : State) (s : Slot) (above : Option Slot) : Type 0 whe
 -- the operator above, if there is one, has no greater slope
 abbrev pub IsNoSteeper : Option Slot → Slot → Type 0
 IsNoSteeper above s = MatchOption above ⊤ (λ a. is_gt (fraction_cmp a.slope.0 s.slope.0) ≡ false)
+
+-- one that has none goes on with what it may take next: there is something of the same instant, and a number for a turn
+pub record GoesOn (m : State) (s : Slot) (next : Option (Side × ℕ)) (stays : Bool) : Type 0 where
+  pub stays : stays ≡ true
+  pub numbers : m.next < LEASE_NUMBERS
+  pub same : goes_on s next ≡ true

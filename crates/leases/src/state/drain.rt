@@ -15,7 +15,7 @@ ghost use Rattle.leases.specs.Runs.{HasRunIn, HasRunOn, HasStoppedIn, HasStopped
 ghost use Rattle.leases.specs.Runs.{MayRunOn};
 ghost use Rattle.leases.specs.Shown.{engine_in};
 ghost use Rattle.leases.specs.Sound.{IsSound};
-ghost use Rattle.leases.specs.Told.{IsNoSteeper, MayTellBoth, told, told_state};
+ghost use Rattle.leases.specs.Told.{GoesOn, IsNoSteeper, MayTellBoth, told, told_state};
 ghost use Rattle.leases.specs.Turns.{lease_fault};
 ghost use Rattle.leases.specs.Views.{remains_of};
 ghost use Rattle.leases.specs.Whole.{IsWhole};
@@ -146,11 +146,25 @@ impl State {
                 },
             }
             let next = self.next_for(query, operator);
-            if !stays || LEASE_NUMBERS <= self.next || !slot.goes_on(next) {
+            if !self.goes_on(slot, next, stays) {
                 return Ok(next);
             }
             turn = slot.with_next(next);
         }
+    }
+
+    /// Whether the slot, with what its operator may take next, would stand first again, and a number
+    /// is left for one more turn. `stays` says whether the operator above has no greater slope.
+    fn goes_on(&self, slot: &Slot, next: Option<(Side, u64)>, stays: bool) -> bool
+        ensures { IsTrue result ↔ GoesOn self.now slot.now next stays }
+    {
+        if !stays {
+            return false;
+        }
+        if LEASE_NUMBERS <= self.next {
+            return false;
+        }
+        slot.goes_on(next)
     }
 
     /// The slot of the operator that ran gets what that may take next, and then the one above does,

@@ -6,7 +6,7 @@ ghost use Rattle.reference.specs.declared.fault.Fault.TheVariants.{OutOfMemory};
 ghost use Rattle.run_queue.specs.Slots.{Stands, first_of};
 ghost use Rattle.laws_queries.specs.Queries.{PlainQuery};
 ghost use Rattle.laws_engine.specs.Engines.{Running};
-ghost use Rattle.leases.specs.Applied.{GivesNothing, IsAbove, IsUpdated};
+ghost use Rattle.leases.specs.Applied.{GivesNothing, IsAbove};
 ghost use Rattle.leases.specs.Asked.{HasOperatorAt};
 ghost use Rattle.leases.specs.Drains.{HasWantedBehind, LeavesOthers, OneOrMoreHaveRun, RunsFirst};
 ghost use Rattle.leases.specs.Drains.{RunsTurns};
@@ -185,10 +185,8 @@ impl State {
     fn update_slot(&mut self, slot: &Slot)
         requires here { HasOperatorAt (engine_in self.old) slot.now.query slot.now.operator }
         requires stands { Stands slot.now self.old.slots }
-        ensures state { self.new
+        ensures { self.new
             ≡ with_slots self.old (with_update (engine_in self.old) slot.now self.old.slots) }
-        ensures slot { IsUpdated (engine_in self.old) slot.now (engine_in self.new) }
-        ensures rest { GivesNothing self.old self.new }
     {
         let next = self.next_for(slot.query(), slot.operator());
         self.slots.update(*slot, next);

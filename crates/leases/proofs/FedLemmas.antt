@@ -4,9 +4,6 @@ use Rattle.std.specs.Option.{option_map}
 use Rattle.values.specs.Row.{Row}
 use Rattle.column.specs.declared.batch.Side.{Side}
 use Rattle.column.specs.declared.batch.Side.TheVariants.{Left, Right}
-use Rattle.group.specs.Groups.{GroupBy}
-use Rattle.join.specs.Turns.{Matches, Ticked}
-use Rattle.lane_kernels.specs.declared.condition.Step.{Step}
 use Rattle.op_queue.specs.Entries.{Entry, RowAt, TickAt}
 use Rattle.op_queue.specs.Items.{entries_of, first_instant, front_of, item_instant}
 use Rattle.op_queue.specs.Logs.{Closed}
@@ -14,10 +11,12 @@ use Rattle.op_queue.specs.declared.item.Item.{Item}
 use Rattle.op_queue.specs.declared.item.Item.TheVariants.{Rows, Tick}
 use Rattle.operators.specs.Inboxes.{entries_in, is_fed, queued}
 use Rattle.operators.specs.Operators.{IsFed, PlainOperator, first_ready, front_instant, inbox_of, ready, ready_at, waiting}
-use Rattle.operators.specs.States.{usable}
+use Rattle.operators.specs.States.{near_of, usable}
 use Rattle.operators.specs.declared.inboxes.Inbox.{Inbox}
 use Rattle.operators.specs.declared.inboxes.Inbox.TheVariants.{First, Between}
-use Rattle.turn.specs.Turns.{Answered, Outs, Put, group_outs, join_outs, latest_outs, outs_at, project_outs, range_outs, root_outs, select_outs, slide_outs}
+use Rattle.operators.specs.declared.states.State.{State}
+use Rattle.operators.specs.declared.states.State.TheVariants as state
+use Rattle.turn.specs.Turns.{Answered, Outs, Put, outs_at, root_outs}
 use Rattle.turn.specs.declared.excerpts.Near.{Near}
 use Rattle.turn.specs.declared.excerpts.Near.TheVariants as near
 use Rattle.turn.specs.declared.kinds.Kind.{Kind}
@@ -39,101 +38,32 @@ maybe_starts : (t : ℕ) (b : Bool) → StartsAt t (cond b (TickAt t ∷ []) [])
 maybe_starts t true = inr refl
 maybe_starts t false = inl refl
 
--- WHAT A TURN PUTS OUT, operator by operator; answers are put nowhere
+-- WHAT A TURN PUTS OUT, operator by operator; answers are put nowhere, and an operator with another's state puts out nothing
 abbrev pub StartAt : ℕ → Outs → Type 0
 StartAt t (Put es) = StartsAt t es
 StartAt t (Answered rows) = Unit {0}
 
-range_starts : (i : Item) (n : Near) → StartAt (item_instant i) (range_outs i n)
-range_starts (Rows t b) (near.Leaving rows) = rows_start t b
-range_starts (Tick t) (near.Leaving rows) = tick_starts t _
-range_starts i near.Nothing = inl refl
-range_starts i (near.Sliding n) = inl refl
-range_starts i (near.Fallen rows) = inl refl
-range_starts i (near.Met met) = inl refl
-range_starts i (near.Groups groups) = inl refl
-range_starts i (near.Sorted rows) = inl refl
-
-slide_starts : (i : Item) (n : Near) → StartAt (item_instant i) (slide_outs i n)
-slide_starts (Rows t b) (near.Sliding n) = inl refl
-slide_starts (Tick t) (near.Sliding n) = tick_starts t _
-slide_starts i near.Nothing = inl refl
-slide_starts i (near.Leaving rows) = inl refl
-slide_starts i (near.Fallen rows) = inl refl
-slide_starts i (near.Met met) = inl refl
-slide_starts i (near.Groups groups) = inl refl
-slide_starts i (near.Sorted rows) = inl refl
-
-latest_starts : (i : Item) (n : Near) → StartAt (item_instant i) (latest_outs i n)
-latest_starts (Rows t b) (near.Fallen rows) = rows_start t _
-latest_starts (Tick t) (near.Fallen rows) = inr refl
-latest_starts i near.Nothing = inl refl
-latest_starts i (near.Leaving rows) = inl refl
-latest_starts i (near.Sliding n) = inl refl
-latest_starts i (near.Met met) = inl refl
-latest_starts i (near.Groups groups) = inl refl
-latest_starts i (near.Sorted rows) = inl refl
-
-select_starts : (steps : List Step) (i : Item) (n : Near) → StartAt (item_instant i) (select_outs steps i n)
-select_starts steps (Rows t b) near.Nothing = rows_start t _
-select_starts steps (Tick t) near.Nothing = inr refl
-select_starts steps i (near.Leaving rows) = inl refl
-select_starts steps i (near.Sliding n) = inl refl
-select_starts steps i (near.Fallen rows) = inl refl
-select_starts steps i (near.Met met) = inl refl
-select_starts steps i (near.Groups groups) = inl refl
-select_starts steps i (near.Sorted rows) = inl refl
-
-project_starts : (columns : List ℕ) (i : Item) (n : Near) → StartAt (item_instant i) (project_outs columns i n)
-project_starts columns (Rows t b) near.Nothing = rows_start t _
-project_starts columns (Tick t) near.Nothing = inr refl
-project_starts columns i (near.Leaving rows) = inl refl
-project_starts columns i (near.Sliding n) = inl refl
-project_starts columns i (near.Fallen rows) = inl refl
-project_starts columns i (near.Met met) = inl refl
-project_starts columns i (near.Groups groups) = inl refl
-project_starts columns i (near.Sorted rows) = inl refl
-
-join_starts : (side : Side) (i : Item) (n : Near) → StartAt (item_instant i) (join_outs side i n)
-join_starts side (Rows t b) (near.Met (Matches ms)) = rows_start t _
-join_starts side (Rows t b) (near.Met (Ticked yet)) = inl refl
-join_starts side (Tick t) (near.Met (Matches ms)) = inl refl
-join_starts side (Tick t) (near.Met (Ticked yet)) = maybe_starts t yet
-join_starts side i near.Nothing = inl refl
-join_starts side i (near.Leaving rows) = inl refl
-join_starts side i (near.Sliding n) = inl refl
-join_starts side i (near.Fallen rows) = inl refl
-join_starts side i (near.Groups groups) = inl refl
-join_starts side i (near.Sorted rows) = inl refl
-
-group_starts : (g : GroupBy) (i : Item) (n : Near) → StartAt (item_instant i) (group_outs g i n)
-group_starts g (Rows t b) (near.Groups groups) = inl refl
-group_starts g (Tick t) (near.Groups groups) = tick_starts t _
-group_starts g i near.Nothing = inl refl
-group_starts g i (near.Leaving rows) = inl refl
-group_starts g i (near.Sliding n) = inl refl
-group_starts g i (near.Fallen rows) = inl refl
-group_starts g i (near.Met met) = inl refl
-group_starts g i (near.Sorted rows) = inl refl
-
 root_starts : (i : Item) (n : Near) → StartAt (item_instant i) (root_outs i n)
 root_starts i (near.Sorted rows) = tt
-root_starts i near.Nothing = tt
-root_starts i (near.Leaving rows) = tt
-root_starts i (near.Sliding n) = tt
-root_starts i (near.Fallen rows) = tt
-root_starts i (near.Met met) = tt
-root_starts i (near.Groups groups) = tt
+root_starts i n = tt
 
-pub outs_start : (k : Kind) (side : Side) (i : Item) (n : Near) → StartAt (item_instant i) (outs_at k side i n)
-outs_start kind.RangeWindow side i n = range_starts i n
-outs_start kind.SlideWindow side i n = slide_starts i n
-outs_start kind.LatestWindow side i n = latest_starts i n
-outs_start (kind.Select steps) side i n = select_starts steps i n
-outs_start (kind.Project columns) side i n = project_starts columns i n
-outs_start kind.Join side i n = join_starts side i n
-outs_start (kind.Group g) side i n = group_starts g i n
-outs_start kind.ToStream side i n = root_starts i n
+pub outs_start : (k : Kind) (s : State) (side : Side) (i : Item) → StartAt (item_instant i) (outs_at k side i (near_of s side i))
+outs_start kind.RangeWindow (state.Range held) side (Rows t b) = rows_start t _
+outs_start kind.RangeWindow (state.Range held) side (Tick t) = tick_starts t _
+outs_start kind.SlideWindow (state.Slide held) side (Rows t b) = inl refl
+outs_start kind.SlideWindow (state.Slide held) side (Tick t) = tick_starts t _
+outs_start kind.LatestWindow (state.Latest held) side (Rows t b) = rows_start t _
+outs_start kind.LatestWindow (state.Latest held) side (Tick t) = inr refl
+outs_start (kind.Select steps) state.Nothing side (Rows t b) = rows_start t _
+outs_start (kind.Select steps) state.Nothing side (Tick t) = inr refl
+outs_start (kind.Project columns) state.Nothing side (Rows t b) = rows_start t _
+outs_start (kind.Project columns) state.Nothing side (Tick t) = inr refl
+outs_start kind.Join (state.Join held) side (Rows t b) = rows_start t _
+outs_start kind.Join (state.Join held) side (Tick t) = maybe_starts t _
+outs_start (kind.Group g) (state.Groups held) side (Rows t b) = inl refl
+outs_start (kind.Group g) (state.Groups held) side (Tick t) = tick_starts t _
+outs_start kind.ToStream s side i = root_starts i (near_of s side i)
+outs_start k s side i = inl refl
 
 -- THE ITEM that stands first is of the instant at the front
 abbrev instant_at : List (Entry Row) → Option ℕ

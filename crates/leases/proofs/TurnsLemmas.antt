@@ -1,5 +1,5 @@
 -- Turns of the first slot that run one after the other, while the slots wait to be told: with these told, each is a turn of the first slot.
-use Rattle.std.proofs.Common.{◌≡◌, ◌≢◌, ◌<◌, ◌≤◌, ◌+◌, ℕ, Bool, true, false, not, cond, nat_le, ◌&&◌, ◌||◌, inl, inr, ◌⊎◌, ⊎_elim, is_none, is_some, unwrap_or, MatchOption, Option, Some, None, List, [], ◌∷◌, length, set, refl, sym, ap, ap₂, ◌∙◌, subst, arith, eqb-true}
+use Rattle.std.proofs.Common.{◌≡◌, ◌≢◌, ◌<◌, ◌≤◌, ◌+◌, ℕ, Bool, true, false, not, cond, nat_le, ◌&&◌, ◌||◌, inl, inr, ◌⊎◌, ⊎_elim, is_none, is_some, IsTrue, unwrap_or, MatchOption, Option, Some, None, List, [], ◌∷◌, length, set, refl, sym, ap, ap₂, ◌∙◌, subst, arith, eqb-true, leb-true}
 use Rattle.std.specs.Prelude.{⊤}
 use Rattle.std.specs.Option.{option_to_list}
 use Rattle.std.specs.Ordering.{is_gt}
@@ -17,6 +17,7 @@ use Rattle.turn.specs.declared.excerpts.Near.TheVariants.{Nothing}
 use Rattle.operators.specs.Operators.{PlainOperator, ready}
 use Rattle.operators.specs.Runs.{Stops}
 use Rattle.operators.specs.States.{near_of}
+use Rattle.operators.specs.declared.runs.Refused.{Refused}
 use Rattle.operators.specs.declared.runs.Refused.TheVariants.{Before, Within}
 use Rattle.names.specs.Faults as faults
 use Rattle.plan.proofs.Lists.{by_test}
@@ -65,6 +66,18 @@ next_is e n k q p r running = ap (λ z. next_in e n k z (remains_at e n)) r ∙ 
 pub looked : (e : PlainEngine) (n k : ℕ) (next : Option (Side × ℕ)) → HasOperatorAt e n k → ((q : Registered) (p : PlainQuery) → query_at e n ≡ Some q → remains_at e n ≡ Running p → next ≡ next_at e n q p k) → next ≡ next_for e n k
 looked e n k next here h = h here.0 here.1.0 here.1.1.registered here.1.1.running ∙ sym (next_is e n k here.0 here.1.0 here.1.1.registered here.1.1.running)
 
+pub at_numbers : (e : PlainEngine) (s : Slot) (n k : ℕ) → n ≡ s.query → k ≡ s.operator → HasOperatorAt e s.query s.operator → HasOperatorAt e n k
+at_numbers e s n k sn sk h = subst (λ z. HasOperatorAt e z k) (sym sn) (subst (HasOperatorAt e s.query) (sym sk) h)
+
+pub over_numbers : (e : PlainEngine) (s : Slot) (n k : ℕ) (above : Option Slot) → n ≡ s.query → k ≡ s.operator → IsAbove e n k above → IsAbove e s.query s.operator above
+over_numbers e s n k above sn sk is = subst (λ m. IsAbove e m s.operator above) sn (subst (λ j. IsAbove e n j above) sk is)
+
+pub stopped_turn : (r : Refused) (e : PlainEngine) (turn s : Slot) (rows : ℕ) (e2 : PlainEngine) → turn ≡ s → HasStoppedIn r e turn rows e2 → HasStoppedIn r e s rows e2
+stopped_turn r e turn s rows e2 same h = subst (λ z. HasStoppedIn r e z rows e2) same h
+
+pub is_true : {b : Bool} → b ≡ true → IsTrue b
+is_true e = subst IsTrue (sym e) tt
+
 -- and it goes on where that is of the slot's instant
 pub goes_with : (s : Slot) (next : Option (Side × ℕ)) → goes_on s next ≡ true → (x : Side × ℕ) × ((next ≡ Some x) × (x.1 ≡ s.instant))
 goes_with s None h = absurd (cc)
@@ -98,7 +111,7 @@ or_left true b h = absurd (cc)
 or_left false b h = refl
 
 no_number_gone : (n : ℕ) → n < LEASE_NUMBERS → nat_le LEASE_NUMBERS n ≡ false
-no_number_gone n lt = by_test (nat_le LEASE_NUMBERS n) (λ t. absurd (omega (arith, t, lt))) (λ f. f)
+no_number_gone n lt = by_test (nat_le LEASE_NUMBERS n) (λ t. let le : LEASE_NUMBERS ≤ n = leb-true LEASE_NUMBERS n t in absurd (omega (arith, le, lt))) (λ f. f)
 
 allowed_again : (e e2 : PlainEngine) (rows : ℕ) (s : Slot) → lease_fault e rows ≡ None → first_of e.slots ≡ Some s → e2.leases ≡ e.leases → e2.next < LEASE_NUMBERS → lease_fault e2 rows ≡ None
 allowed_again e e2 rows s allowed first same numbers =
@@ -393,7 +406,7 @@ module _ (start now : State) (s : Slot) (above : Option Slot) (rows : ℕ) (star
     outs_of_turn : StartAt turn.instant (outs_at_first (operator_at p.operators s.operator) turn.side took.1.0.item)
     outs_of_turn =
         subst (λ z. StartAt z (outs_at_first (operator_at p.operators s.operator) turn.side took.1.0.item)) item_of_turn
-        (outs_start (operator_at p.operators s.operator).kind turn.side took.1.0.item (near_of (operator_at p.operators s.operator).state turn.side took.1.0.item))
+        (outs_start (operator_at p.operators s.operator).kind (operator_at p.operators s.operator).state turn.side took.1.0.item)
 
     may_put : CanPut e.machine.streams p s.operator turn.side took.1.0.item (change_at_first (operator_at p.operators s.operator) turn.side took.1.0.item) (outs_at_first (operator_at p.operators s.operator) turn.side took.1.0.item)
     may_put =

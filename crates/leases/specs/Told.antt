@@ -43,6 +43,6 @@ IsNoSteeper above s = MatchOption above ⊤ (λ a. is_gt (fraction_cmp a.slope.0
 
 -- one that has none goes on with what it may take next: there is something of the same instant, and a number for a turn
 pub record GoesOn (m : State) (s : Slot) (next : Option (Side × ℕ)) (stays : Bool) : Type 0 where
-  pub stays : stays ≡ true
+  pub first : stays ≡ true
   pub numbers : m.next < LEASE_NUMBERS
   pub same : goes_on s next ≡ true

@@ -1,5 +1,5 @@
 -- Turns of the first slot that run one after the other, while the slots wait to be told: with these told, each is a turn of the first slot.
-use Rattle.std.proofs.Common.{◌≡◌, ◌≢◌, ◌<◌, ◌≤◌, ◌+◌, ℕ, Bool, true, false, not, cond, nat_le, ◌&&◌, ◌||◌, inl, inr, ◌⊎◌, ⊎_elim, is_none, is_some, IsTrue, unwrap_or, MatchOption, Option, Some, None, List, [], ◌∷◌, length, set, refl, sym, ap, ap₂, ◌∙◌, subst, arith, eqb-true, leb-true}
+use Rattle.std.proofs.Common.{◌≡◌, ◌≢◌, ◌<◌, ◌≤◌, ◌+◌, ℕ, Bool, true, false, not, cond, nat_le, ◌&&◌, ◌||◌, inl, inr, ◌⊎◌, ⊎_elim, is_none, is_some, unwrap_or, MatchOption, Option, Some, None, List, [], ◌∷◌, length, set, refl, sym, ap, ap₂, ◌∙◌, subst, arith, eqb-true, leb-true}
 use Rattle.std.specs.Prelude.{⊤}
 use Rattle.std.specs.Option.{option_to_list}
 use Rattle.std.specs.Ordering.{is_gt}
@@ -74,9 +74,6 @@ over_numbers e s n k above sn sk is = subst (λ m. IsAbove e m s.operator above)
 
 pub stopped_turn : (r : Refused) (e : PlainEngine) (turn s : Slot) (rows : ℕ) (e2 : PlainEngine) → turn ≡ s → HasStoppedIn r e turn rows e2 → HasStoppedIn r e s rows e2
 stopped_turn r e turn s rows e2 same h = subst (λ z. HasStoppedIn r e z rows e2) same h
-
-pub is_true : {b : Bool} → b ≡ true → IsTrue b
-is_true e = subst IsTrue (sym e) tt
 
 -- and it goes on where that is of the slot's instant
 pub goes_with : (s : Slot) (next : Option (Side × ℕ)) → goes_on s next ≡ true → (x : Side × ℕ) × ((next ≡ Some x) × (x.1 ≡ s.instant))

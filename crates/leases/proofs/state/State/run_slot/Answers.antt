@@ -2,7 +2,9 @@
 use Rattle.std.proofs.Common.{◌≡◌, sym, subst}
 use Rattle.leases.specs.Applied.{HasWiredOperators, IsAbove}
 use Rattle.leases.specs.Asked.{HasOperatorAt}
+use Rattle.leases.specs.Drains.{OneOrMoreHaveRun}
 use Rattle.leases.specs.Shown.{engine_in}
+use Rattle.leases.specs.declared.state.State.{State}
 use Rattle.leases.proofs.StepLemmas.{may_look_here, may_look_over}
 use Rattle.leases.proofs.TurnsLemmas.{at_numbers, over_numbers}
 use Rattle.leases.proofs.state.State.run_slot.Goals as goal
@@ -14,5 +16,9 @@ above-above-requires-clause-here c =
 pub above-above-requires-clause-wired : goal.above-above-requires-clause-wired
 above-above-requires-clause-wired c = subst (λ n. HasWiredOperators (engine_in c.args.self.now) n) (sym c.query.ensures) (may_look_over c.args.self.now c.args.slot.now c.requires.sound c.requires.first)
 
-pub run_while_first-next-requires-clause-over : goal.run_while_first-next-requires-clause-over
-run_while_first-next-requires-clause-over c = over_numbers (engine_in c.args.self.now) c.args.slot.now c.query.result c.operator.result c.above-above.result c.query.ensures c.operator.ensures c.above-above.ensures
+pub run_while_first-requires-clause-over : goal.run_while_first-requires-clause-over
+run_while_first-requires-clause-over c = over_numbers (engine_in c.args.self.now) c.args.slot.now c.query.result c.operator.result c.above-above.result c.query.ensures c.operator.ensures c.above-above.ensures
+
+-- THEY ARE TOLD
+pub returns-clause-ok : goal.returns-clause-ok
+returns-clause-ok c = subst (λ (z : State). OneOrMoreHaveRun c.args.rows (engine_in c.args.self.now) (engine_in z)) (sym c.update_slots.ensures) c.in_ok-next.ensures.ok

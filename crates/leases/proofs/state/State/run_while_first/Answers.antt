@@ -10,13 +10,13 @@ use Rattle.leases.specs.Runs.{HasRunIn, HasStoppedIn, MayRunIn}
 use Rattle.leases.specs.Shown.{engine_in}
 use Rattle.leases.specs.Told.{GoesOn, told_slot}
 use Rattle.leases.proofs.InPlaceLemmas.{given}
-use Rattle.leases.proofs.TurnsLemmas.{at_numbers, before_sound, begins, begins_turn, goes_with, is_true, looked, may_break, may_run, may_tell_before, may_tell_then, ran_then, runs_on, sound_then, stopped_turn, wanted_before, wanted_within, within_sound}
+use Rattle.leases.proofs.TurnsLemmas.{at_numbers, before_sound, begins, begins_turn, goes_with, looked, may_break, may_run, may_tell_before, may_tell_then, ran_then, runs_on, sound_then, stopped_turn, wanted_before, wanted_within, within_sound}
 use Rattle.leases.proofs.state.State.run_while_first.Goals as goal
 
 pub turns-init : goal.turns-init
 turns-init c = record {
   running = begins c.args.self.now c.args.slot.now c.args.above.now c.args.rows c.requires.sound c.requires.first c.requires.over c.requires.allowed c.requires.numbers;
-  turn = begins_turn c.args.self.now c.args.slot.now c.args.above.now c.args.rows c.requires.sound c.requires.first c.requires.over;
+  turn = begins_turn c.args.self.now c.args.slot.now c.args.above.now c.args.rows c.requires.sound c.requires.first c.requires.over c.requires.allowed c.requires.numbers;
 }
 
 pub run_query-requires : goal.run_query-requires
@@ -94,9 +94,9 @@ turns-preserved c =
     c.next_for-next-in-turns.ensures
     ∙ ap (λ n. next_for (engine_in (given c.run_query.new.self c.turns.self.next)) n c.operator-operator.result) c.query-query.ensures
     ∙ ap (next_for (engine_in (given c.run_query.new.self c.turns.self.next)) c.args.slot.now.query) c.operator-operator.ensures in
-    let goes : GoesOn (given c.run_query.new.self c.turns.self.next) c.args.slot.now c.next_for-next-in-turns.result c.goes_before-stays.result = c.goes_on.ensures.0 (is_true c.if-not-goes_on.false) in
+    let goes : GoesOn (given c.run_query.new.self c.turns.self.next) c.args.slot.now c.next_for-next-in-turns.result c.goes_before-stays.result = c.goes_on.ensures.0 c.if-not-goes_on.false in
     let with = goes_with c.args.slot.now c.next_for-next-in-turns.result goes.same in
     record {
-      running = runs_on c.args.self.now c.turns.self c.args.slot.now c.args.above.now c.args.rows c.requires.sound c.requires.first c.requires.over c.requires.some c.turns.invariant.running c.run_query.new.self (subst (λ (z : Slot). HasRunIn (engine_in c.turns.self) z c.args.rows (engine_in c.run_query.new.self)) c.turns.invariant.turn c.in-Ok.ensures.ok) c.run_query.ensures.rest with.0 (sym same ∙ with.1.0) with.1.1 (c.goes_before-stays.ensures.0 (is_true goes.first)) goes.numbers;
+      running = runs_on c.args.self.now c.turns.self c.args.slot.now c.args.above.now c.args.rows c.requires.sound c.requires.first c.requires.over c.requires.some c.turns.invariant.running c.run_query.new.self (subst (λ (z : Slot). HasRunIn (engine_in c.turns.self) z c.args.rows (engine_in c.run_query.new.self)) c.turns.invariant.turn c.in-Ok.ensures.ok) c.run_query.ensures.rest with.0 (sym same ∙ with.1.0) with.1.1 (c.goes_before-stays.ensures.0 goes.first) goes.numbers;
       turn = c.with_next-turn.ensures ∙ ap (with_next c.args.slot.now) same;
     }

@@ -16,11 +16,13 @@ use Rattle.reference.specs.declared.limits.TheConstants.{MAX_TURN}
 use Rattle.laws_queries.specs.Queries.{PlainQuery}
 use Rattle.run_queue.specs.Slots.{first_of}
 use Rattle.laws_engine.proofs.BackLemmas.{remains_here}
+use Rattle.laws_engine.proofs.HistoryLemmas.{step_good}
+use Rattle.laws_engine.proofs.LeaseLemmas.{lease_good}
 use Rattle.laws_engine.specs.Calls.{of_others, others}
 use Rattle.laws_engine.specs.Engines.{Broken, Dropped, GoodEngine, IsIn, Lease, PlainEngine, PlainRemains, Running, remains_at}
 use Rattle.laws_engine.specs.Histories as history
 use Rattle.laws_engine.specs.Histories.{ComesBack, IsCallStep}
-use Rattle.leases.specs.Drains.{HasBrokenOne, HasWanted, HaveRun, LeavesOthers, OneHasRun, RunsFirst, RunsTurns, SomeHaveRun}
+use Rattle.leases.specs.Drains.{HasBrokenOne, HasWanted, HaveRun, LeavesOthers, OneHasRun, OneOrMoreHaveRun, RunsFirst, RunsTurns, SomeHaveRun}
 use Rattle.leases.specs.Turns.{HasReady, IsTurnOf}
 use Rattle.leases.specs.Views.{lease_of}
 use Rattle.leases.specs.Whole.{IsWholeEngine}
@@ -38,13 +40,24 @@ one_more rows e1 e2 e3 e4 (s ∷ turns) t ran out home = (ran.0, (ran.1.0, (ran.
 pub more_run : (rows : ℕ) (e1 e2 e3 : PlainEngine) → SomeHaveRun rows e1 e2 → OneHasRun rows e2 e3 → SomeHaveRun rows e1 e3
 more_run rows e1 e2 e3 ran one = (ran.0 ++ one.0 ∷ [], one_more rows e1 e2 one.1.0 e3 ran.0 one.0 ran.1 one.1.1.0 one.1.1.1)
 
+-- and some more do
+some_more : (rows : ℕ) (e1 e2 e3 : PlainEngine) (turns later : List Turn) → HaveRun rows e1 turns e2 → HaveRun rows e2 later e3 → HaveRun rows e1 (turns ++ later) e3
+some_more rows e1 e2 e3 [] later ran next = subst (λ e. HaveRun rows e later e3) ran next
+some_more rows e1 e2 e3 (t ∷ turns) later ran next = (ran.0, (ran.1.0, (ran.1.1.0, (ran.1.1.1.0, some_more rows ran.1.0 e2 e3 turns later ran.1.1.1.1 next))))
+
+pub run_on : (rows : ℕ) (e1 e2 e3 : PlainEngine) → SomeHaveRun rows e1 e2 → SomeHaveRun rows e2 e3 → SomeHaveRun rows e1 e3
+run_on rows e1 e2 e3 ran next = (ran.0 ++ next.0, some_more rows e1 e2 e3 ran.0 next.0 ran.1 next.1)
+
+pub run_more : (rows : ℕ) (e1 e2 e3 : PlainEngine) → SomeHaveRun rows e1 e2 → OneOrMoreHaveRun rows e2 e3 → SomeHaveRun rows e1 e3
+run_more rows e1 e2 e3 ran next = more_run rows e1 next.0 e3 (run_on rows e1 e2 next.0 ran next.1.0) next.1.1
+
 -- AN ERROR that is handed on
 pub same_err : {A E : Type 0} (r : Result A E) (e : E) (Q : Result A E → Type 0) → IsErrAnd r (λ f. f ≡ e) → Q (Err e) → Q r
 same_err (Ok a) e Q h q = absurd h
 same_err (Err f) e Q h q = subst (λ z. Q (Err z)) (sym h) q
 
 -- A STEP has run a turn, or there was none
-pub has_run : (e1 e2 : PlainEngine) (rows : ℕ) (ran : Bool) → ran ≡ true → RunsFirst e1 rows (Ok ran) e2 → OneHasRun rows e1 e2
+pub has_run : (e1 e2 : PlainEngine) (rows : ℕ) (ran : Bool) → ran ≡ true → RunsFirst e1 rows (Ok ran) e2 → OneOrMoreHaveRun rows e1 e2
 has_run e1 e2 rows ran is h = subst (λ b. RunsFirst e1 rows (Ok b) e2) is h
 
 pub has_none : (e1 e2 : PlainEngine) (rows : ℕ) (ran : Bool) → ran ≡ false → RunsFirst e1 rows (Ok ran) e2 → (first_of e1.slots ≡ None) × (e2 ≡ e1)
@@ -63,7 +76,7 @@ refused_drain e rows f h =
 
 -- A STEP THAT IS REFUSED ends a drain
 pub step_ends : (e1 e2 e3 : PlainEngine) (rows : ℕ) (f : Fault) → drain_fault rows ≡ None → SomeHaveRun rows e1 e2 → RunsFirst e2 rows (Err f) e3 → RunsTurns e1 rows (Err f) e3
-step_ends e1 e2 e3 rows OutOfMemory none ran h = (none, (e2, (ran, h)))
+step_ends e1 e2 e3 rows OutOfMemory none ran h = (none, (h.0, (run_on rows e1 e2 h.0 ran h.1.0, h.1.1)))
 step_ends e1 e2 e3 rows TooManyLeases none ran h =
     (none, (subst (SomeHaveRun rows e1) (sym h.0) ran, subst (λ e. (MAX_LEASES ≤ length e.leases) ⊎ (LEASE_NUMBERS ≤ e.next)) (sym h.0) h.1, subst HasReady (sym h.0) h.2))
 step_ends e1 e2 e3 rows (Query x) none ran h = absurd h
@@ -134,6 +147,20 @@ pub step_counts : (e1 e2 : PlainEngine) (rows : ℕ) → OneHasRun rows e1 e2 �
 step_counts e1 e2 rows one =
     let home = one.1.1.1 in
     comes_next one.1.0 e2 (lease_of one.0) home.1.0 home.1.1.0 home.1.1.1.0 home.1.1.1.1 ∙ ap (λ e. e.next) one.1.1.0.after
+
+-- and so did some, if any
+pub have_given : (rows : ℕ) (turns : List Turn) (e1 e2 : PlainEngine) → HaveRun rows e1 turns e2 → e1.next ≤ e2.next
+have_given rows [] e1 e2 ran = let same : e2.next ≡ e1.next = ap (λ e. e.next) ran in omega (arith, same)
+have_given rows (t ∷ turns) e1 e2 ran =
+    let first : ran.1.0.next ≡ e1.next + 1 = step_counts e1 ran.1.0 rows (t, (ran.0, (ran.1.1.0, ran.1.1.1.0))) in
+    let more : ran.1.0.next ≤ e2.next = have_given rows turns ran.1.0 e2 ran.1.1.1.1 in
+    omega (arith, first, more)
+
+pub steps_count : (e1 e2 : PlainEngine) (rows : ℕ) → OneOrMoreHaveRun rows e1 e2 → e1.next < e2.next
+steps_count e1 e2 rows h =
+    let some : e1.next ≤ h.0.next = have_given rows h.1.0.0 e1 h.0 h.1.0.1 in
+    let last : e2.next ≡ h.0.next + 1 = step_counts h.0 e2 rows h.1.1 in
+    omega (arith, some, last)
 
 -- NUMBERS are wanted where no turn is out and a drain is refused a lease
 none_out : (e : PlainEngine) → (MAX_LEASES ≤ length e.leases) ⊎ (LEASE_NUMBERS ≤ e.next) → e.leases ≡ [] → LEASE_NUMBERS ≤ e.next
@@ -226,8 +253,28 @@ module _ (e1 e2 : PlainEngine) (rows : ℕ) (t : Turn) (good : GoodEngine e1) (o
         left = ap (λ e. e.leases) h.1.1.1.1 ∙ ap (λ e. of_others t.node.query e.leases) out.after ∙ last_goes e1.leases turn;
       }
 
-pub step_leaves : (e1 e2 : PlainEngine) (rows : ℕ) → GoodEngine e1 → OneHasRun rows e1 e2 → e2.leases ≡ e1.leases
+step_leaves : (e1 e2 : PlainEngine) (rows : ℕ) → GoodEngine e1 → OneHasRun rows e1 e2 → e2.leases ≡ e1.leases
 step_leaves e1 e2 rows good one = leaves e1 one.1.0 rows one.0 good one.1.1.0 e2 one.1.1.1
+
+-- an engine stays good over turns, and they leave the turns of others
+one_good : (e1 e2 : PlainEngine) (rows : ℕ) → GoodEngine e1 → OneHasRun rows e1 e2 → GoodEngine e2
+one_good e1 e2 rows good one =
+    let went = one.1.1.0 in
+    let out : GoodEngine one.1.0 = subst GoodEngine (sym went.after) (lease_good e1 (lease_of one.0) went.query went.plain went.slot good went.leasable) in
+    step_good one.1.0 e2 (history.Finishes (lease_of one.0)) out one.1.1.1
+
+have_good : (rows : ℕ) (turns : List Turn) (e1 e2 : PlainEngine) → GoodEngine e1 → HaveRun rows e1 turns e2 → GoodEngine e2
+have_good rows [] e1 e2 good ran = subst GoodEngine (sym ran) good
+have_good rows (t ∷ turns) e1 e2 good ran = have_good rows turns ran.1.0 e2 (one_good e1 ran.1.0 rows good (t, (ran.0, (ran.1.1.0, ran.1.1.1.0)))) ran.1.1.1.1
+
+have_left : (rows : ℕ) (turns : List Turn) (e1 e2 : PlainEngine) → GoodEngine e1 → HaveRun rows e1 turns e2 → e2.leases ≡ e1.leases
+have_left rows [] e1 e2 good ran = ap (λ e. e.leases) ran
+have_left rows (t ∷ turns) e1 e2 good ran =
+    let one : OneHasRun rows e1 ran.1.0 = (t, (ran.0, (ran.1.1.0, ran.1.1.1.0))) in
+    have_left rows turns ran.1.0 e2 (one_good e1 ran.1.0 rows good one) ran.1.1.1.1 ∙ step_leaves e1 ran.1.0 rows good one
+
+pub steps_leave : (e1 e2 : PlainEngine) (rows : ℕ) → GoodEngine e1 → OneOrMoreHaveRun rows e1 e2 → e2.leases ≡ e1.leases
+steps_leave e1 e2 rows good h = step_leaves h.0 e2 rows (have_good rows h.1.0.0 e1 h.0 good h.1.0.1) h.1.1 ∙ have_left rows h.1.0.0 e1 h.0 good h.1.0.1
 
 broken_since : (old e1 e2 : PlainEngine) → e1.leases ≡ old.leases → HasBrokenOne e1 e2 → HasBrokenOne old e2
 broken_since old e1 e2 same h = record { query = h.query; answers = h.answers; broken = h.broken; left = h.left ∙ ap (of_others h.query) same }
@@ -241,7 +288,8 @@ wanted e1 e2 rows good (inl h) = inl (ap (λ e. e.leases) h.2)
 wanted e1 e2 rows good (inr h) = inr (breaks e1 h.1.0 rows h.0 good h.1.1.0 e2 h.1.1.1)
 
 pub refused_leaves : (old e1 e2 : PlainEngine) (rows : ℕ) (f : Fault) → e1.leases ≡ old.leases → GoodEngine e1 → RunsFirst e1 rows (Err f) e2 → LeavesOthers old (Err f) e2
-refused_leaves old e1 e2 rows OutOfMemory same good h = since old e1 e2 same (wanted e1 e2 rows good h)
+refused_leaves old e1 e2 rows OutOfMemory same good h =
+    since old h.0 e2 (have_left rows h.1.0.0 e1 h.0 good h.1.0.1 ∙ same) (wanted h.0 e2 rows (have_good rows h.1.0.0 e1 h.0 good h.1.0.1) h.1.1)
 refused_leaves old e1 e2 rows TooManyLeases same good h = ap (λ e. e.leases) h.0 ∙ same
 refused_leaves old e1 e2 rows (Query x) same good h = absurd h
 refused_leaves old e1 e2 rows BadName same good h = absurd h
@@ -291,5 +339,12 @@ module _ (e1 e2 : PlainEngine) (rows : ℕ) (whole : IsWholeEngine e1) (one : On
       let remains : e2.queries ≡ set e1.queries l.query (Running home.1.1.1.0) = comes_queries one.1.0 e2 l home.1.0 home.1.1.0 home.1.1.1.0 back ∙ ap (λ e. set e.queries l.query (Running home.1.1.1.0)) one.1.1.0.after in
       whole.unbroken n answers (unbroken_set e1.queries l.query n home.1.1.1.0 answers (ap (λ ks. get_or ks n Dropped) (sym remains) ∙ h))
 
-  pub step_whole : IsWholeEngine e2
+  step_whole : IsWholeEngine e2
   step_whole = record { returned = none_left; unbroken = none_broken }
+
+have_whole : (rows : ℕ) (turns : List Turn) (e1 e2 : PlainEngine) → IsWholeEngine e1 → HaveRun rows e1 turns e2 → IsWholeEngine e2
+have_whole rows [] e1 e2 whole ran = subst IsWholeEngine (sym ran) whole
+have_whole rows (t ∷ turns) e1 e2 whole ran = have_whole rows turns ran.1.0 e2 (step_whole e1 ran.1.0 rows whole (t, (ran.0, (ran.1.1.0, ran.1.1.1.0)))) ran.1.1.1.1
+
+pub steps_whole : (e1 e2 : PlainEngine) (rows : ℕ) → IsWholeEngine e1 → OneOrMoreHaveRun rows e1 e2 → IsWholeEngine e2
+steps_whole e1 e2 rows whole h = step_whole h.0 e2 rows (have_whole rows h.1.0.0 e1 h.0 whole h.1.0.1) h.1.1

@@ -1,5 +1,5 @@
 -- A turn that its query runs in place: the turn that would have gone out is nowhere kept, and is named here.
-use Rattle.std.proofs.Common.{◌≡◌, ◌<◌, ◌+◌, ◌==◌, ℕ, not, filter, inl, inr, is_some, Option, Some, None, Result, Ok, Err, IfErr, OnErr, OnOk, List, length, set, refl, sym, ap, ◌∙◌, subst, arith}
+use Rattle.std.proofs.Common.{◌≡◌, ◌<◌, ◌+◌, ◌==◌, ℕ, not, filter, inr, Option, Some, None, Result, Ok, Err, IfErr, OnErr, OnOk, List, length, set, refl, sym, ap, ◌∙◌, subst, arith}
 use Rattle.std.specs.Prelude.{⊤}
 use Rattle.std.proofs.lemmas.List.{set-get_or, set-set}
 use Rattle.std.proofs.lemmas.Option.{slice_get_within}
@@ -19,7 +19,7 @@ use Rattle.run_queue.specs.declared.slots.Slot.{Slot}
 use Rattle.laws_engine.specs.Calls.{broken, of_others}
 use Rattle.laws_engine.specs.Engines.{Broken, Dropped, GoodEngine, PlainEngine, PlainRemains, Running, remains_at}
 use Rattle.laws_engine.proofs.BackLemmas.{remains_here, same_plain}
-use Rattle.leases.specs.Applied.{BothStand, Forgets, GivesNothing, HasTaken, HasTakenIn, HasTold, IsAbove, IsBroken, MayTell, with_remains}
+use Rattle.leases.specs.Applied.{Forgets, GivesNothing, HasTaken, HasTakenIn, HasTold, IsAbove, IsBroken, MayTell, with_remains}
 use Rattle.leases.specs.Asked.{HasOperatorAt, IsRunningAt}
 use Rattle.leases.specs.Drains.{HasWanted, OneHasRun}
 use Rattle.leases.specs.Leasing.{IsTurnOn}
@@ -35,7 +35,7 @@ use Rattle.leases.specs.declared.state.State.{State}
 use Rattle.leases.proofs.FinishBackLemmas.{gives_on}
 use Rattle.leases.proofs.FinishSoundLemmas.{StaysBut, sound_from}
 use Rattle.leases.proofs.LeaseLemmas.{turn_with}
-use Rattle.leases.proofs.StepLemmas.{both_stand, broke_one, broke_sound, counted, may_look_here, may_tell_here, may_tell_over, ran, ran_sound}
+use Rattle.leases.proofs.StepLemmas.{broke_one, broke_sound, counted, may_look_here, may_tell_here, may_tell_over, ran, ran_sound}
 
 -- THE QUERY that was refused memory, of an operator and a side that are spelt in two ways
 stopped_one : (r : Refused) (streams : List Stream) (q q2 : PlainQuery) (s : Slot) (rows : ℕ) → Stops r (q2 ≡ q) (HasRunItem (operator_at q.operators s.operator) (log_of streams q s.operator) s.side rows) → q2.answers ≡ q.answers
@@ -64,6 +64,19 @@ run_all (Ok u) streams q q2 s k side rows ek es h = λ p is. (
 )
 run_all (Err r) streams q q2 s k side rows ek es h = tt
 
+-- or before it took anything: all is as it was
+pub stopped_as : (e e2 : PlainEngine) (s : Slot) (rows : ℕ) (p : PlainQuery) → remains_at e s.query ≡ Running p → HasStoppedIn Before e s rows e2 → e2 ≡ e
+stopped_as e e2 s rows p running stopped =
+    let l = stopped p running in
+    let again : set e.queries s.query (Running p) ≡ e.queries = ap (set e.queries s.query) (sym running) ∙ set-get_or e.queries s.query Dropped in
+    l.1.1 ∙ ap (λ (z : PlainQuery). with_remains e s.query (Running z)) l.1.0 ∙ ap (λ (qs : List PlainRemains). record e { queries = qs }) again
+
+pub sound_as : (old new : State) → IsSound old → engine_in new ≡ engine_in old → GivesNothing old new → IsSound new
+sound_as old new sound is r =
+    let stays : StaysBut (engine_in old) (engine_in old) = record { machine = refl; next = refl; few = omega arith; gone = refl } in
+    sound_from old new sound r.undropped (r.readers ∙ sound.readers ∙ ap readers_of (sym is)) r.leases (subst GoodEngine (sym is) sound.good) (subst (StaysBut (engine_in old)) (sym is) stays)
+    (λ g i. subst (λ z. HasKind z g) (sym is) (sound.kinds g i))
+
 -- A NUMBER is given
 abbrev pub given : State → ℕ → State
 given m n = record m { next = n + 1 }
@@ -77,7 +90,7 @@ module _ (old : State) (s : Slot) (rows : ℕ) (sound : IsSound old) (first : fi
   unfolding p
   running = (may_look_here old s sound first).1.1.running
 
-  within : s.query < length (engine_in old).queries
+  pub within : s.query < length (engine_in old).queries
   within = omega (arith, sound.good.many, slice_get_within (engine_in old).machine.queries s.query (may_look_here old s sound first).0 (may_look_here old s sound first).1.1.registered)
 
   -- the turn of an item
@@ -110,9 +123,6 @@ module _ (old : State) (s : Slot) (rows : ℕ) (sound : IsSound old) (first : fi
 
       pub tells_over : MayTell (engine_in (given m old.next)) above
       tells_over = may_tell_over old s rows t sound first allowed numbers is_made above over (engine_in (given m old.next)) applied
-
-      pub stand : BothStand m.slots s above
-      stand = let slots : m.slots ≡ old.slots = ap (λ (e : PlainEngine). e.slots) took.1.1 in subst (λ (z : List Slot). BothStand z s above) (sym slots) (both_stand old s sound first above over)
 
       pub has_run : (new : PlainEngine) → HasTold (engine_in (given m old.next)) s above new → OneHasRun rows (engine_in old) new
       has_run new h = ran old s rows t sound first allowed numbers is_made above over (engine_in (given m old.next)) applied new h
@@ -157,20 +167,3 @@ module _ (old : State) (s : Slot) (rows : ℕ) (sound : IsSound old) (first : fi
       pub within_sound : Forgets s.query (given m old.next) new → GivesNothing old m → IsSound new
       within_sound f r = broke_sound old s rows w sound first allowed numbers w_made new breaks
           (record { undropped = f.undropped ∙ r.undropped; readers = f.readers ∙ ap (λ rs. filter (λ (z : Reader). not (z.query == s.query)) rs) r.readers; leases = λ g i. r.leases g (f.leases g i) })
-
-  -- or before it took anything, and all is as it was
-  module _ (m : State) (stopped : HasStoppedIn Before (engine_in old) s rows (engine_in m)) where
-    is : engine_in m ≡ engine_in old
-    is =
-        let l = stopped p running in
-        let again : set (engine_in old).queries s.query (Running p) ≡ (engine_in old).queries = ap (set (engine_in old).queries s.query) (sym running) ∙ set-get_or (engine_in old).queries s.query Dropped in
-        l.1.1 ∙ ap (λ (z : PlainQuery). with_remains (engine_in old) s.query (Running z)) l.1.0 ∙ ap (λ (qs : List PlainRemains). record (engine_in old) { queries = qs }) again
-
-    pub wanted_before : HasWanted rows (engine_in old) (engine_in m)
-    wanted_before = inl (allowed, ap is_some first, is)
-
-    pub before_sound : GivesNothing old m → IsSound m
-    before_sound r =
-        let stays : StaysBut (engine_in old) (engine_in old) = record { machine = refl; next = refl; few = omega arith; gone = refl } in
-        sound_from old m sound r.undropped (r.readers ∙ sound.readers ∙ ap readers_of (sym is)) r.leases (subst GoodEngine (sym is) sound.good) (subst (StaysBut (engine_in old)) (sym is) stays)
-        (λ g i. subst (λ z. HasKind z g) (sym is) (sound.kinds g i))

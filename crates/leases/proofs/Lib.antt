@@ -22,6 +22,10 @@ mod MachineLemmas
 mod UpdateLemmas
 mod StepLemmas
 mod InPlaceLemmas
+mod ToldLemmas
+mod StaysLemmas
+mod FedLemmas
+mod TurnsLemmas
 pub mod PairLemmas
 pub mod WorldLemmas
 pub mod WholeLemmas

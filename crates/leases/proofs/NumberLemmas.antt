@@ -2,16 +2,15 @@
 use Rattle.std.proofs.Common.{◌≡◌, ◌≤◌, ◌<◌, ◌+◌, ℕ, ℤ, Option, Result, Ok, Err, OnOk, OnErr, List, [], ◌∷◌, inl, inr, ⊎_elim, ap, ◌∙◌, arith}
 use Rattle.std.specs.Prelude.{⊤}
 use Rattle.values.specs.Row.{Row}
-use Rattle.turn.specs.declared.turns.Turn.{Turn}
 use Rattle.reference.specs.declared.fault.Fault.{Fault}
 use Rattle.reference.specs.declared.fault.Fault.TheVariants as fault
 use Rattle.reference.specs.declared.fault.Fault.TheVariants.{Query, BadName, NameTaken, BadColumns, TooMany, UnknownStream, UnknownQuery, BadWidth, ValueRange, InstantRange, Late, Backward, Leap, StreamFull, BadLimit, UnknownLease, Stranger, TooManyLeases, HistoryFull, OutOfMemory, Foreign}
 use Rattle.laws_engine.specs.Engines.{PlainEngine}
-use Rattle.leases.specs.Drains.{HasWanted, HaveRun, OneHasFailed, RunsTurns}
+use Rattle.leases.specs.Drains.{HasWanted, OneHasFailed, RunsTurns}
 use Rattle.leases.specs.Registering.{Registers}
 use Rattle.leases.specs.Takes.{Takes}
 use Rattle.leases.specs.declared.limits.TheConstants.{LEASE_NUMBERS}
-use Rattle.leases.proofs.DrainLemmas.{step_counts}
+use Rattle.leases.proofs.DrainLemmas.{have_given}
 use Rattle.leases.proofs.WholeLemmas.{take_makes}
 
 -- none was given back
@@ -37,13 +36,6 @@ pub take_gives_none : {A : Type 0} (view : A → List (ℤ × Row)) (old : Plain
 take_gives_none view old n limit r new h = ⊎_elim (λ is. same_next old new (ap (λ e. e.next) is)) (λ is. same_next old new (ap (λ e. e.next) is)) (take_makes view old n limit r new h)
 
 -- A DRAIN gives some
-have_given : (rows : ℕ) (turns : List Turn) (e1 e2 : PlainEngine) → HaveRun rows e1 turns e2 → HasGivenMore e1 e2
-have_given rows [] e1 e2 ran = same_next e1 e2 (ap (λ e. e.next) ran)
-have_given rows (t ∷ turns) e1 e2 ran =
-    let first : ran.1.0.next ≡ e1.next + 1 = step_counts e1 ran.1.0 rows (t, (ran.0, (ran.1.1.0, ran.1.1.1.0))) in
-    let more : ran.1.0.next ≤ e2.next = have_given rows turns ran.1.0 e2 ran.1.1.1.1 in
-    omega (arith, first, more)
-
 failed_gives : (rows : ℕ) (e1 e2 : PlainEngine) → OneHasFailed rows e1 e2 → HasGivenMore e1 e2
 failed_gives rows e1 e2 h =
     let went : h.1.0.next ≡ e1.next + 1 = ap (λ e. e.next) h.1.1.0.after in

@@ -29,17 +29,25 @@ OneHasFailed rows old new = (t : Turn) × ((out : PlainEngine) × (IsTurnOf old 
 abbrev pub HasWanted : ℕ → PlainEngine → PlainEngine → Type 0
 HasWanted rows old new = ((lease_fault old rows ≡ None) × HasReady old × (new ≡ old)) ⊎ OneHasFailed rows old new
 
--- ONE STEP: one went out and came back
+-- memory was wanted behind turns that ran, of which there may be none
+abbrev pub HasWantedBehind : ℕ → PlainEngine → PlainEngine → Type 0
+HasWantedBehind rows old new = (last : PlainEngine) × (SomeHaveRun rows old last × HasWanted rows last new)
+
+-- one went out and came back
 abbrev pub OneHasRun : ℕ → PlainEngine → PlainEngine → Type 0
 OneHasRun rows old new = (t : Turn) × ((out : PlainEngine) × (IsTurnOf old rows t out × IsCallStep out (Finishes (lease_of t)) new))
 
+-- ONE STEP: at least one did: some, and then one more
+abbrev pub OneOrMoreHaveRun : ℕ → PlainEngine → PlainEngine → Type 0
+OneOrMoreHaveRun rows old new = (last : PlainEngine) × (SomeHaveRun rows old last × OneHasRun rows last new)
+
 -- or no operator may take anything; a refused step did nothing where an operator may be leased and as many turns are out as may be, or all numbers were given;
--- or memory was wanted
+-- or memory was wanted, behind turns that ran
 abbrev pub RunsFirst : PlainEngine → ℕ → Result Bool Fault → PlainEngine → Type 0
-RunsFirst old rows (Ok true) new = OneHasRun rows old new
+RunsFirst old rows (Ok true) new = OneOrMoreHaveRun rows old new
 RunsFirst old rows (Ok false) new = (first_of old.slots ≡ None) × (new ≡ old)
 RunsFirst old rows (Err TooManyLeases) new = (new ≡ old) × IsFull old × HasReady old
-RunsFirst old rows (Err OutOfMemory) new = HasWanted rows old new
+RunsFirst old rows (Err OutOfMemory) new = HasWantedBehind rows old new
 RunsFirst old rows (Err fault) new = ⊥
 
 -- A DRAIN by turns of at most so many rows: some have run; a refused one did nothing where that number is out of range, or ended where an operator may be

@@ -1,25 +1,29 @@
 //! Turns that go out and come back until nothing is ready.
-ghost use Rattle.std.specs.Prelude.{◌≡◌, ◌≢◌, ◌<◌, Err, IfErr, None, OnErr, OnOk, Some, length};
+ghost use Rattle.std.specs.Prelude.{◌≡◌, ◌≢◌, ◌↔◌, ◌<◌, Err, IfErr, IfOk, IsTrue, None, OnErr};
+ghost use Rattle.std.specs.Prelude.{OnOk, Some};
 ghost use Rattle.reference.specs.World.{drain_fault};
 ghost use Rattle.reference.specs.declared.fault.Fault.TheVariants.{OutOfMemory};
 ghost use Rattle.run_queue.specs.Slots.{Stands, first_of};
 ghost use Rattle.laws_queries.specs.Queries.{PlainQuery};
 ghost use Rattle.laws_engine.specs.Engines.{Running};
-ghost use Rattle.leases.specs.Applied.{BothStand, GivesNothing, HasTold, IsUpdated, MayTell};
+ghost use Rattle.leases.specs.Applied.{GivesNothing, IsAbove};
 ghost use Rattle.leases.specs.Asked.{HasOperatorAt};
-ghost use Rattle.leases.specs.Drains.{HasWanted, LeavesOthers, OneHasRun, RunsFirst, RunsTurns};
-ghost use Rattle.leases.specs.Readers.{with_slots, with_update};
+ghost use Rattle.leases.specs.Drains.{HasWantedBehind, LeavesOthers, OneOrMoreHaveRun, RunsFirst};
+ghost use Rattle.leases.specs.Drains.{RunsTurns};
+ghost use Rattle.leases.specs.Readers.{next_for, with_slots, with_update};
 ghost use Rattle.leases.specs.Runs.{HasRunIn, HasRunOn, HasStoppedIn, HasStoppedOn, MayRunIn};
 ghost use Rattle.leases.specs.Runs.{MayRunOn};
 ghost use Rattle.leases.specs.Shown.{engine_in};
 ghost use Rattle.leases.specs.Sound.{IsSound};
+ghost use Rattle.leases.specs.Told.{GoesOn, IsNoSteeper, MayTellBoth, told, told_state};
 ghost use Rattle.leases.specs.Turns.{lease_fault};
 ghost use Rattle.leases.specs.Views.{remains_of};
 ghost use Rattle.leases.specs.Whole.{IsWhole};
 
-use crate::limits::{LEASE_NUMBERS, MAX_LEASES};
+use crate::limits::LEASE_NUMBERS;
 use crate::remains::Remains;
 use crate::state::State;
+use column::Side;
 use operators::Refused;
 use reference::{Fault, turn_fault};
 use run_queue::Slot;
@@ -59,7 +63,7 @@ impl State {
         }
     }
 
-    /// Runs one turn of at most `rows` rows of an operator of greatest slope, if any may take
+    /// Runs turns of at most `rows` rows of an operator of greatest slope, if any may take
     /// something.
     fn run_first(&mut self, rows: u32) -> Result<bool, Fault>
         requires sound { IsSound self.old }
@@ -76,50 +80,102 @@ impl State {
         }
     }
 
-    /// Runs a turn of the first slot in place, with the next number: nobody can see the turn
+    /// Runs turns of the first slot in place, with the next numbers: nobody can see the turns
     /// meanwhile, so none is made.
-    ///
-    /// Where memory is refused before the query took anything, all is as it was; else it breaks.
     fn run_slot(&mut self, slot: &Slot, rows: usize) -> Result<(), AllocError>
         requires sound { IsSound self.old }
         requires first { first_of self.old.slots ≡ Some slot.now }
         requires some { 0 < rows }
-        requires few { length self.old.leases.items < MAX_LEASES }
-        requires numbers { self.old.next < LEASE_NUMBERS }
         requires allowed { lease_fault (engine_in self.old) rows ≡ None }
-        ensures ok { OnOk result (OneHasRun rows (engine_in self.old) (engine_in self.new)) }
-        ensures err { OnErr result (HasWanted rows (engine_in self.old) (engine_in self.new)) }
+        requires numbers { self.old.next < LEASE_NUMBERS }
+        ensures ok { OnOk result (OneOrMoreHaveRun rows (engine_in self.old) (engine_in self.new)) }
+        ensures err { OnErr result (HasWantedBehind rows (engine_in self.old) (engine_in self.new)) }
         ensures sound { IsSound self.new }
     {
+        let above = self.above(slot.query(), slot.operator());
+        let next = self.run_while_first(slot, &above, rows)?;
+        self.update_slots(slot, next, &above);
+        Ok(())
+    }
+
+    /// Runs turns of the first slot, one after the other, and tells no slot meanwhile; gives what
+    /// its operator may take next. There is one turn, and there are more as long as the slot, with
+    /// what its operator may take next, would stand first again: that is of the same instant, and
+    /// the slope of the operator above is no greater. What a turn puts out is of its own instant.
+    ///
+    /// Where memory is refused before a turn took anything, that turn changes nothing; else the
+    /// query breaks.
+    fn run_while_first(
+        &mut self,
+        slot: &Slot,
+        above: &Option<Slot>,
+        rows: usize,
+    ) -> Result<Option<(Side, u64)>, AllocError>
+        requires sound { IsSound self.old }
+        requires first { first_of self.old.slots ≡ Some slot.now }
+        requires over { IsAbove (engine_in self.old) slot.now.query slot.now.operator above.now }
+        requires some { 0 < rows }
+        requires allowed { lease_fault (engine_in self.old) rows ≡ None }
+        requires numbers { self.old.next < LEASE_NUMBERS }
+        ensures next { IfOk result (λ next.
+            next ≡ next_for (engine_in self.new) slot.now.query slot.now.operator) }
+        ensures ok { OnOk result (OneOrMoreHaveRun rows (engine_in self.old)
+            (told (engine_in self.new) slot.now above.now)) }
+        ensures told_sound { OnOk result (IsSound (told_state self.new slot.now above.now)) }
+        ensures may_tell { OnOk result (MayTellBoth self.new slot.now above.now) }
+        ensures err { OnErr result (HasWantedBehind rows (engine_in self.old) (engine_in self.new)) }
+        ensures sound { OnErr result (IsSound self.new) }
+    {
         let query = slot.query();
-        let lease = self.next;
-        let above = self.above(query, slot.operator());
-        match self.run_query(slot, rows) {
-            Ok(()) => {
-                self.next = lease + 1;
-                self.update_slots(slot, above);
-                Ok(())
-            },
-            Err(Refused::Before) => Err(AllocError),
-            Err(Refused::Within) => {
-                self.next = lease + 1;
-                self.break_query(query);
-                Err(AllocError)
-            },
+        let operator = slot.operator();
+        let stays = goes_before(slot, above);
+        let mut turn = *slot;
+        'turns: loop {
+            let lease = self.next;
+            match self.run_query(&turn, rows) {
+                Ok(()) => self.next = lease + 1,
+                Err(Refused::Before) => {
+                    let next = self.next_for(query, operator);
+                    self.update_slots(slot, next, above);
+                    return Err(AllocError);
+                },
+                Err(Refused::Within) => {
+                    self.next = lease + 1;
+                    self.break_query(query);
+                    return Err(AllocError);
+                },
+            }
+            let next = self.next_for(query, operator);
+            if !self.goes_on(slot, next, stays) {
+                return Ok(next);
+            }
+            turn = slot.with_next(next);
         }
+    }
+
+    /// Whether the slot, with what its operator may take next, would stand first again, and a number
+    /// is left for one more turn. `stays` says whether the operator above has no greater slope.
+    fn goes_on(&self, slot: &Slot, next: Option<(Side, u64)>, stays: bool) -> bool
+        ensures { IsTrue result ↔ GoesOn self.now slot.now next stays }
+    {
+        if !stays {
+            return false;
+        }
+        if LEASE_NUMBERS <= self.next {
+            return false;
+        }
+        slot.goes_on(next)
     }
 
     /// The slot of the operator that ran gets what that may take next, and then the one above does,
     /// if there is one.
-    fn update_slots(&mut self, slot: &Slot, above: Option<Slot>)
-        requires here { HasOperatorAt (engine_in self.old) slot.now.query slot.now.operator }
-        requires over { MayTell (engine_in self.old) above }
-        requires stand { BothStand self.old.slots slot.now above }
-        ensures told { HasTold (engine_in self.old) slot.now above (engine_in self.new) }
-        ensures rest { GivesNothing self.old self.new }
+    fn update_slots(&mut self, slot: &Slot, next: Option<(Side, u64)>, above: &Option<Slot>)
+        requires may_tell { MayTellBoth self.old slot.now above.now }
+        requires next { next ≡ next_for (engine_in self.old) slot.now.query slot.now.operator }
+        ensures { self.new ≡ told_state self.old slot.now above.now }
     {
-        self.update_slot(slot);
-        if let Some(above) = &above {
+        self.slots.update(*slot, next);
+        if let Some(above) = above {
             self.update_slot(above);
         }
     }
@@ -129,10 +185,8 @@ impl State {
     fn update_slot(&mut self, slot: &Slot)
         requires here { HasOperatorAt (engine_in self.old) slot.now.query slot.now.operator }
         requires stands { Stands slot.now self.old.slots }
-        ensures state { self.new
+        ensures { self.new
             ≡ with_slots self.old (with_update (engine_in self.old) slot.now self.old.slots) }
-        ensures slot { IsUpdated (engine_in self.old) slot.now (engine_in self.new) }
-        ensures rest { GivesNothing self.old self.new }
     {
         let next = self.next_for(slot.query(), slot.operator());
         self.slots.update(*slot, next);
@@ -154,6 +208,17 @@ impl State {
             slot,
             rows,
         )
+    }
+}
+
+/// Whether the slot goes before the one above wherever that has nothing of an earlier instant: the
+/// operator above, which has the greater number, has no greater slope.
+fn goes_before(slot: &Slot, above: &Option<Slot>) -> bool
+    ensures { IsTrue result ↔ IsNoSteeper above.now slot.now }
+{
+    match above {
+        Some(above) => !above.is_steeper(slot),
+        None => true,
     }
 }
 

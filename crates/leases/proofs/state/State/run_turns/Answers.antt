@@ -1,9 +1,9 @@
 -- Each turn that goes out comes back, until no operator may take anything or something is scarce.
-use Rattle.std.proofs.Common.{◌≡◌, ◌≢◌, ◌+◌, Err, refl, sym, ap, ◌∙◌, subst, arith}
+use Rattle.std.proofs.Common.{◌≡◌, ◌≢◌, ◌<◌, Err, refl, sym, ap, ◌∙◌, subst, arith}
 use Rattle.reference.specs.declared.fault.Fault.TheVariants.{OutOfMemory}
 use Rattle.run_queue.specs.Slots.{first_of}
-use Rattle.leases.proofs.DrainLemmas.{has_none, has_run, more_run, none_run, refused_leaves, same_err, step_counts, step_ends, step_leaves, step_stays, step_whole}
-use Rattle.leases.specs.Drains.{LeavesOthers, OneHasRun, RunsTurns, SomeHaveRun}
+use Rattle.leases.proofs.DrainLemmas.{has_none, has_run, none_run, refused_leaves, run_more, same_err, step_ends, step_stays, steps_count, steps_leave, steps_whole}
+use Rattle.leases.specs.Drains.{LeavesOthers, OneOrMoreHaveRun, RunsTurns, SomeHaveRun}
 use Rattle.leases.specs.Shown.{engine_in}
 use Rattle.leases.specs.Whole.{IsWholeEngine}
 use Rattle.leases.proofs.state.State.run_turns.Goals as goal
@@ -50,19 +50,19 @@ returns-then-not-branch-clause-whole c = λ whole had.
     let none = has_none (engine_in c.turns.self) (engine_in c.run_first.new.self) c.args.rows c.in_ok-run_first.field-0 c.if-not-branch.true c.in_ok-run_first.ensures.runs in
     subst IsWholeEngine (sym none.1) (c.turns.invariant.whole whole)
 
--- A TURN HAS RUN
+-- TURNS HAVE RUN
 pub turns-smaller : goal.turns-smaller
 turns-smaller c =
-    let one : OneHasRun c.args.rows (engine_in c.turns.self) (engine_in c.run_first.new.self) = has_run (engine_in c.turns.self) (engine_in c.run_first.new.self) c.args.rows c.in_ok-run_first.field-0 c.if-not-branch.false c.in_ok-run_first.ensures.runs in
-    let a : c.run_first.new.self.next ≡ c.turns.self.next + 1 = step_counts (engine_in c.turns.self) (engine_in c.run_first.new.self) c.args.rows one in
-    omega (arith, a, c.in_ok-run_first.ensures.sound.numbers)
+    let ran : OneOrMoreHaveRun c.args.rows (engine_in c.turns.self) (engine_in c.run_first.new.self) = has_run (engine_in c.turns.self) (engine_in c.run_first.new.self) c.args.rows c.in_ok-run_first.field-0 c.if-not-branch.false c.in_ok-run_first.ensures.runs in
+    let more : c.turns.self.next < c.run_first.new.self.next = steps_count (engine_in c.turns.self) (engine_in c.run_first.new.self) c.args.rows ran in
+    omega (arith, more, c.in_ok-run_first.ensures.sound.numbers)
 
 pub turns-preserved : goal.turns-preserved
 turns-preserved c =
-    let one : OneHasRun c.args.rows (engine_in c.turns.self) (engine_in c.run_first.new.self) = has_run (engine_in c.turns.self) (engine_in c.run_first.new.self) c.args.rows c.in_ok-run_first.field-0 c.if-not-branch.false c.in_ok-run_first.ensures.runs in
+    let ran : OneOrMoreHaveRun c.args.rows (engine_in c.turns.self) (engine_in c.run_first.new.self) = has_run (engine_in c.turns.self) (engine_in c.run_first.new.self) c.args.rows c.in_ok-run_first.field-0 c.if-not-branch.false c.in_ok-run_first.ensures.runs in
     record {
-      runs = more_run c.args.rows (engine_in c.args.self.now) (engine_in c.turns.self) (engine_in c.run_first.new.self) c.turns.invariant.runs one;
-      others = step_leaves (engine_in c.turns.self) (engine_in c.run_first.new.self) c.args.rows c.turns.invariant.sound.good one ∙ c.turns.invariant.others;
-      whole = λ whole. step_whole (engine_in c.turns.self) (engine_in c.run_first.new.self) c.args.rows (c.turns.invariant.whole whole) one;
+      runs = run_more c.args.rows (engine_in c.args.self.now) (engine_in c.turns.self) (engine_in c.run_first.new.self) c.turns.invariant.runs ran;
+      others = steps_leave (engine_in c.turns.self) (engine_in c.run_first.new.self) c.args.rows c.turns.invariant.sound.good ran ∙ c.turns.invariant.others;
+      whole = λ whole. steps_whole (engine_in c.turns.self) (engine_in c.run_first.new.self) c.args.rows (c.turns.invariant.whole whole) ran;
       sound = c.in_ok-run_first.ensures.sound;
     }

@@ -1,7 +1,8 @@
 //! The body of `cqlrun`.
-ghost use Rattle.std.specs.Prelude.{◌≡◌, ◌≢◌, ◌<◌, ◌≤◌, ◌⊎◌, ◌∷◌, [], None, Some, codes, map};
+ghost use Rattle.std.specs.Prelude.{◌≡◌, ◌≢◌, ◌⊎◌, ◌∷◌, [], None, Some, codes, map};
 ghost use Rattle.clap.specs.Words.{Text, kind_of};
 ghost use Rattle.reference.specs.World as world;
+ghost use Rattle.reference.specs.World.{IsTurnSize};
 ghost use Rattle.wire.specs.Devices.{Rises};
 ghost use Rattle.wire.specs.Requests.{requests_of};
 ghost use Rattle.wire.specs.Script.{Scripts, TellsScarcity};
@@ -89,7 +90,7 @@ pub fn run_over<N: Answering, I: Source, O: Sink, E: Sink>(
     sink: &mut O,
     errors: &mut E,
 ) -> u8
-    requires turn { 0 < turn × turn ≤ 1024 }
+    requires turn { IsTurnSize turn }
     requires whole { N.is_whole engine.old }
     ensures answers { Answers (¬ N.has_numbers engine.new) (N.world engine.old) result
         (I.left source.old) (O.taken sink.old) (O.taken sink.new) }
@@ -126,7 +127,7 @@ fn run_made<N: Answering + Drop, I: Source, O: Sink, E: Sink>(
     sink: &mut O,
     errors: &mut E,
 ) -> u8
-    requires turn { 0 < turn × turn ≤ 1024 }
+    requires turn { IsTurnSize turn }
     requires whole { N.is_whole engine }
     requires empty { N.world engine ≡ world.empty }
     ensures answers { Answers (MayRunOut N.has_numbers) world.empty result (I.left source.old)

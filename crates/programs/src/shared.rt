@@ -1,6 +1,6 @@
 //! Scripts over a hub of one seat.
-ghost use Rattle.std.specs.Prelude.{◌≡◌, ◌≢◌, ◌≤◌, ◌⊎◌};
-ghost use Rattle.reference.specs.declared.limits.TheConstants.{MAX_TURN};
+ghost use Rattle.std.specs.Prelude.{◌≡◌, ◌≢◌, ◌⊎◌};
+ghost use Rattle.reference.specs.World.{IsTurnSize};
 ghost use Rattle.served.specs.Errors.{IsTold};
 ghost use Rattle.served.specs.Serving.{PoolDrains};
 ghost use Rattle.programs.specs.Run.{Differs, Failed, IsOfRun, Shares, fault_line};
@@ -25,7 +25,7 @@ pub(crate) fn run_shared<R: Threads + Wait + Sync, I: Source, O: Sink, E: Sink>(
     sink: &mut O,
     errors: &mut E,
 ) -> u8
-    requires turn { 1 ≤ turn × turn ≤ MAX_TURN }
+    requires turn { IsTurnSize turn }
     ensures shares { Shares (PoolDrains workers turn) result (I.left source.old)
         (O.taken sink.old) (O.taken sink.new) }
     ensures status { IsOfRun result }

@@ -1,10 +1,10 @@
 //! One request.
-ghost use Rattle.std.specs.Prelude.{◌≡◌, ◌≤◌, ◌⊎◌, IfErr, OnOk, Result};
+ghost use Rattle.std.specs.Prelude.{◌≡◌, ◌⊎◌, IfErr, OnOk, Result};
 ghost use Rattle.hub.specs.Steps.{FindsQuery, FindsStream};
 ghost use Rattle.reference.specs.Commands.{Append, Drop, Heartbeat, Take};
 ghost use Rattle.reference.specs.declared.fault.Fault.TheVariants.{OutOfMemory, TooManyLeases};
 ghost use Rattle.reference.specs.declared.fault.Fault.TheVariants.{UnknownQuery, UnknownStream};
-ghost use Rattle.reference.specs.declared.limits.TheConstants.{MAX_TURN};
+ghost use Rattle.reference.specs.World.{IsTurnSize};
 ghost use Rattle.wire.specs.Calls.{Call, call_of};
 ghost use Rattle.wire.specs.Printed.{answer_of};
 ghost use Rattle.wire.specs.Requests.{Reads};
@@ -42,7 +42,7 @@ pub(crate) fn answer_line<R: Threads + Wait + Sync>(
     drains: Drains,
     rows: u32,
 ) -> Reply
-    requires rows { 1 ≤ rows × rows ≤ MAX_TURN }
+    requires rows { IsTurnSize rows }
     ensures { (defined : Result Call WireFault) → Reads defined read
         → Replies (DrainsBy drains rows) seat.old defined (answer_of result) seat.new }
 {
@@ -61,7 +61,7 @@ fn answer<R: Threads + Wait + Sync>(
     drains: Drains,
     rows: u32,
 ) -> Reply
-    requires rows { 1 ≤ rows × rows ≤ MAX_TURN }
+    requires rows { IsTurnSize rows }
     ensures { Serves (DrainsBy drains rows) seat.old (call_of request) (answer_of result) seat.new }
 {
     let number = number_in(&request);
@@ -163,7 +163,7 @@ fn drain<R: Threads + Wait + Sync>(
     drains: Drains,
     rows: u32,
 ) -> Reply
-    requires rows { 1 ≤ rows × rows ≤ MAX_TURN }
+    requires rows { IsTurnSize rows }
     ensures { DrainsBy drains rows (answer_of result) }
 {
     match drains {
@@ -174,7 +174,7 @@ fn drain<R: Threads + Wait + Sync>(
 
 // Runs turns until nothing is ready. A turn of a query that was dropped meanwhile is gone.
 fn run_turns<R: Wait>(rt: &R, alloc: Global, hub: &Hub, rows: u32) -> Result<(), Fault>
-    requires { 1 ≤ rows × rows ≤ MAX_TURN }
+    requires { IsTurnSize rows }
     ensures ok { OnOk result (WasIdle rows) }
     ensures full { IfErr result (λ f. f ≡ TooManyLeases → WasFull rows) }
     ensures err { IfErr result (λ f. (f ≡ TooManyLeases) ⊎ (f ≡ OutOfMemory)) }

@@ -1,6 +1,6 @@
 //! The lines of a source.
-ghost use Rattle.std.specs.Prelude.{◌≡◌, ◌≤◌, IfErr, OnErr, OnOk, Result};
-ghost use Rattle.reference.specs.declared.limits.TheConstants.{MAX_TURN};
+ghost use Rattle.std.specs.Prelude.{◌≡◌, IfErr, OnErr, OnOk, Result};
+ghost use Rattle.reference.specs.World.{IsTurnSize};
 ghost use Rattle.wire.specs.Calls.{Call};
 ghost use Rattle.wire.specs.Devices.{Puts, Rises};
 ghost use Rattle.wire.specs.Printed.{Answer, line_of};
@@ -38,7 +38,7 @@ pub fn run_hub<R: Threads + Wait + Sync, S: Source, K: Sink>(
     workers: u64,
     rows: u32,
 ) -> Result<(), ScriptFault>
-    requires rows { 1 ≤ rows × rows ≤ MAX_TURN }
+    requires rows { IsTurnSize rows }
     ensures text { OnOk result (Scripts (λ text written. Runs (PoolDrains workers rows) seat.old
         (requests_of text) written seat.new)
         (S.left source.old) (K.taken sink.old) (K.taken sink.new)) }
@@ -76,7 +76,7 @@ pub fn serve_connection<R: Threads + Wait + Sync, S: Source, K: Sink>(
     seat: &mut Seat,
     rows: u32,
 ) -> Result<(), ScriptFault>
-    requires rows { 1 ≤ rows × rows ≤ MAX_TURN }
+    requires rows { IsTurnSize rows }
     ensures text { OnOk result (Scripts (λ text written. Runs (ClientDrains rows) seat.old
         (requests_of text) written seat.new)
         (S.left source.old) (K.taken sink.old) (K.taken sink.new)) }
@@ -110,7 +110,7 @@ fn respond<R: Threads + Wait + Sync, K: Sink>(
     drains: Drains,
     rows: u32,
 ) -> Result<(), ScriptFault>
-    requires rows { 1 ≤ rows × rows ≤ MAX_TURN }
+    requires rows { IsTurnSize rows }
     ensures written { (answer : Answer)
         × ((defined : Result Call WireFault) → Reads defined read
         → Replies (DrainsBy drains rows) seat.old defined answer seat.new)
@@ -133,7 +133,7 @@ fn run_lines<R: Threads + Wait + Sync, S: Source, K: Sink>(
     drains: Drains,
     rows: u32,
 ) -> Result<(), ScriptFault>
-    requires rows { 1 ≤ rows × rows ≤ MAX_TURN }
+    requires rows { IsTurnSize rows }
     ensures text { OnOk result (Scripts (λ text written. Runs (DrainsBy drains rows) seat.old
         (requests_of text) written seat.new)
         (S.left source.old) (K.taken sink.old) (K.taken sink.new)) }

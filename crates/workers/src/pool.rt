@@ -2,7 +2,7 @@
 ghost use Rattle.std.specs.Prelude.{◌≡◌, ◌≤◌, ◌↔◌, ◌⊎◌, IfErr, IsErrOf, OnOk};
 ghost use Rattle.reference.specs.declared.fault.Fault.TheVariants.{BadLimit, OutOfMemory};
 ghost use Rattle.reference.specs.declared.fault.Fault.TheVariants.{TooManyLeases};
-ghost use Rattle.reference.specs.declared.limits.TheConstants.{MAX_TURN};
+ghost use Rattle.reference.specs.World.{IsTurnSize};
 ghost use Rattle.hub.specs.Steps.{PlainLocked, Rests};
 ghost use Rattle.workers.specs.Lacks.{Lacks, WasFull, noted};
 ghost use Rattle.workers.specs.declared.pool.TheConstants.{MAX_WORKERS};
@@ -42,7 +42,7 @@ impl Pool {
     ) -> Result<(), Fault>
         ensures ok { OnOk result ((old : PlainLocked) × (new : PlainLocked) × Rests old rows new) }
         ensures bad { IsErrOf result Fault.BadLimit ↔ (¬ ((1 ≤ workers)
-            × (workers ≤ MAX_WORKERS) × (1 ≤ rows) × (rows ≤ MAX_TURN))) }
+            × (workers ≤ MAX_WORKERS) × IsTurnSize rows)) }
         ensures full { IfErr result (λ f. f ≡ TooManyLeases → WasFull rows) }
         ensures err { IfErr result (λ f.
             (f ≡ BadLimit) ⊎ (f ≡ TooManyLeases) ⊎ (f ≡ OutOfMemory)) }
@@ -56,14 +56,14 @@ impl Pool {
             thread::scope_env(),
             rt,
             |scope| -> Result<(), Want>
-                requires { 1 ≤ rows × rows ≤ MAX_TURN }
+                requires { IsTurnSize rows }
                 ensures { OnOk result ((old : PlainLocked) × (new : PlainLocked)
                     × Rests old rows new) }
             {
                 for _ in 1..workers {
                     let _ = scope.spawn(
                         move ||
-                            requires { 1 ≤ rows × rows ≤ MAX_TURN }
+                            requires { IsTurnSize rows }
                         { note(rt, shared, run_to_rest(rt, alloc, hub, gate, rows)) },
                     );
                 }

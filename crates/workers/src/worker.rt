@@ -1,7 +1,7 @@
 //! Workers.
-ghost use Rattle.std.specs.Prelude.{◌≤◌, IfErr, OnOk};
+ghost use Rattle.std.specs.Prelude.{IfErr, OnOk};
 ghost use Rattle.turn.specs.Turns.{Fits};
-ghost use Rattle.reference.specs.declared.limits.TheConstants.{MAX_TURN};
+ghost use Rattle.reference.specs.World.{IsTurnSize};
 ghost use Rattle.hub.specs.Steps.{HasEnded, PlainLocked, Rests};
 ghost use Rattle.workers.specs.Lacks.{Lacks};
 ghost use Rattle.workers.specs.Returns.{IsBroughtBack};
@@ -17,7 +17,7 @@ use turn::Turn;
 /// Runs turns of at most `rows` rows, until the hub's end is called and it is seen. A turn that did
 /// not come back is tried again, since its operator is ready again.
 pub fn work<R: Wait, G: Gate>(rt: &R, alloc: Global, hub: &Hub, gate: &G, rows: u32)
-    requires { 1 ≤ rows × rows ≤ MAX_TURN }
+    requires { IsTurnSize rows }
     ensures { (old : PlainLocked) × (new : PlainLocked) × HasEnded old new }
 {
     for _ in rt.forever() {
@@ -42,7 +42,7 @@ pub(crate) fn run_to_rest<R: Wait, G: Gate>(
     gate: &G,
     rows: u32,
 ) -> Result<(), Want>
-    requires { 1 ≤ rows × rows ≤ MAX_TURN }
+    requires { IsTurnSize rows }
     ensures ok { OnOk result ((old : PlainLocked) × (new : PlainLocked) × Rests old rows new) }
     ensures err { IfErr result Lacks }
 {

@@ -101,7 +101,7 @@ record ArePartly (e e2 : PlainEngine) (todo slots : List Slot) : Type 0 where
   has : HasSlots table slots
   each : (n k : ℕ) → (table n k ≡ slot_of e2 n k) ⊎ ((table n k ≡ slot_of e n k) × HasOne todo n k)
 
-next_is : (e : PlainEngine) (n k : ℕ) (q : Registered) (p : PlainQuery) → query_at e n ≡ Some q → remains_at e n ≡ Running p → next_for e n k ≡ next_at e n q p k
+pub next_is : (e : PlainEngine) (n k : ℕ) (q : Registered) (p : PlainQuery) → query_at e n ≡ Some q → remains_at e n ≡ Running p → next_for e n k ≡ next_at e n q p k
 next_is e n k q p r running = ap (λ z. next_in e n k z (remains_at e n)) r ∙ ap (next_in e n k (Some q)) running
 
 module _ (e : PlainEngine) (s : ℕ) (at : ℤ) where

@@ -145,16 +145,16 @@ ready_fed o o2 log side es t f h starts =
     let fed : MayGain t (instant_at (waiting o log side)) (instant_at (waiting o2 log side)) =
     subst (λ ws. MayGain t (instant_at (waiting o log side)) (instant_at ws)) (sym (more_waits o o2 side es log f h)) (front_more (waiting o log side) es t starts) in
     by_side side f usual fed where
-  by_side : (s : Side) → IsFed o s es o2 → ((z : Side) → usable o2.state z ≡ usable o.state z) → MayGain t (instant_at (waiting o log s)) (instant_at (waiting o2 log s)) → HasNextOrAt t (ready o log) (ready o2 log)
-  by_side Left f usual fed =
-      let right : ready_at o2 log Right ≡ ready_at o log Right = ap (λ b. cond b (instant_at (waiting o2 log Right)) None) (usual Right) ∙ ap (λ w. cond (usable o.state Right) (instant_at (entries_in w log)) None) f.other in
-      let left : MayGain t (ready_at o log Left) (ready_at o2 log Left) =
-      subst (λ b. MayGain t (ready_at o log Left) (cond b (instant_at (waiting o2 log Left)) None)) (sym (usual Left)) (gained (usable o.state Left) (instant_at (waiting o log Left)) (instant_at (waiting o2 log Left)) t fed) in
-      subst (λ r. HasNextOrAt t (ready o log) (first_ready (ready_at o2 log Left) r)) (sym right)
-      (left_gains t (ready_at o log Left) (ready_at o2 log Left) (ready_at o log Right) left)
-  by_side Right f usual fed =
-      let left : ready_at o2 log Left ≡ ready_at o log Left = ap (λ b. cond b (instant_at (waiting o2 log Left)) None) (usual Left) ∙ ap (λ w. cond (usable o.state Left) (instant_at (entries_in w log)) None) f.other in
-      let right : MayGain t (ready_at o log Right) (ready_at o2 log Right) =
-      subst (λ b. MayGain t (ready_at o log Right) (cond b (instant_at (waiting o2 log Right)) None)) (sym (usual Right)) (gained (usable o.state Right) (instant_at (waiting o log Right)) (instant_at (waiting o2 log Right)) t fed) in
-      subst (λ l. HasNextOrAt t (ready o log) (first_ready l (ready_at o2 log Right))) (sym left)
-      (right_gains t (ready_at o log Left) (ready_at o log Right) (ready_at o2 log Right) right)
+      by_side : (s : Side) → IsFed o s es o2 → ((z : Side) → usable o2.state z ≡ usable o.state z) → MayGain t (instant_at (waiting o log s)) (instant_at (waiting o2 log s)) → HasNextOrAt t (ready o log) (ready o2 log)
+      by_side Left f usual fed =
+          let right : ready_at o2 log Right ≡ ready_at o log Right = ap (λ b. cond b (instant_at (waiting o2 log Right)) None) (usual Right) ∙ ap (λ w. cond (usable o.state Right) (instant_at (entries_in w log)) None) f.other in
+          let left : MayGain t (ready_at o log Left) (ready_at o2 log Left) =
+          subst (λ b. MayGain t (ready_at o log Left) (cond b (instant_at (waiting o2 log Left)) None)) (sym (usual Left)) (gained (usable o.state Left) (instant_at (waiting o log Left)) (instant_at (waiting o2 log Left)) t fed) in
+          subst (λ r. HasNextOrAt t (ready o log) (first_ready (ready_at o2 log Left) r)) (sym right)
+          (left_gains t (ready_at o log Left) (ready_at o2 log Left) (ready_at o log Right) left)
+      by_side Right f usual fed =
+          let left : ready_at o2 log Left ≡ ready_at o log Left = ap (λ b. cond b (instant_at (waiting o2 log Left)) None) (usual Left) ∙ ap (λ w. cond (usable o.state Left) (instant_at (entries_in w log)) None) f.other in
+          let right : MayGain t (ready_at o log Right) (ready_at o2 log Right) =
+          subst (λ b. MayGain t (ready_at o log Right) (cond b (instant_at (waiting o2 log Right)) None)) (sym (usual Right)) (gained (usable o.state Right) (instant_at (waiting o log Right)) (instant_at (waiting o2 log Right)) t fed) in
+          subst (λ l. HasNextOrAt t (ready o log) (first_ready l (ready_at o2 log Right))) (sym left)
+          (right_gains t (ready_at o log Left) (ready_at o log Right) (ready_at o2 log Right) right)

@@ -26,7 +26,6 @@ mod ToldLemmas
 mod StaysLemmas
 mod FedLemmas
 mod TurnsLemmas
-pub mod PairLemmas
 pub mod WorldLemmas
 pub mod WholeLemmas
 mod NumberLemmas

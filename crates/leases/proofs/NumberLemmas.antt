@@ -1,5 +1,5 @@
 -- Numbers of turns are given and never taken back: an engine that has some left had some left before.
-use Rattle.std.proofs.Common.{◌≡◌, ◌≤◌, ◌<◌, ◌+◌, ℕ, ℤ, Option, Result, Ok, Err, OnOk, OnErr, List, [], ◌∷◌, inl, inr, ⊎_elim, ap, ◌∙◌, arith}
+use Rattle.std.proofs.Common.{◌≡◌, ◌≤◌, ◌<◌, ◌+◌, ℕ, ℤ, Option, Result, Ok, Err, OnOk, OnErr, List, inl, inr, ⊎_elim, ap, ◌∙◌, arith}
 use Rattle.std.specs.Prelude.{⊤}
 use Rattle.values.specs.Row.{Row}
 use Rattle.reference.specs.declared.fault.Fault.{Fault}

@@ -1,24 +1,18 @@
 -- A slot that stays the first of all while its operator runs.
-use Rattle.std.proofs.Common.{◌≡◌, ◌≢◌, ℕ, ◌<◌, ◌≤◌, Bool, true, false, cond, inl, inr, ◌⊎◌, ⊎_elim, Option, Some, None, List, [], ◌∷◌, refl, sym, ap, ◌∙◌, subst, arith}
+use Rattle.std.proofs.Common.{◌≡◌, ℕ, ◌<◌, ◌≤◌, Bool, true, false, cond, inl, inr, ◌⊎◌, ⊎_elim, Option, Some, None, List, [], ◌∷◌, refl, sym, ap, ◌∙◌, subst, arith}
 use Rattle.std.specs.Cmp.{ranks}
-use Rattle.std.specs.List.{AllByRecursion}
 use Rattle.std.specs.List.Sorted.{IsStrictlySortedBy}
-use Rattle.std.specs.Ordering.{MatchOrdering, bool_cmp, is_gt, nat_cmp, ordering_reverse, ordering_then}
+use Rattle.std.specs.Ordering.{MatchOrdering, bool_cmp, is_gt, nat_cmp, ordering_then}
 use Rattle.std.specs.declared.cmp.Ordering.{Ordering}
 use Rattle.std.specs.declared.cmp.Ordering.TheVariants.{Less, Equal, Greater}
 use Rattle.column.specs.declared.batch.Side.{Side}
 use Rattle.envelope.specs.Fraction.{fraction_cmp}
 use Rattle.run_queue.specs.Slots.{first_of, slot_cmp, with_next}
 use Rattle.run_queue.specs.declared.slots.Slot.{Slot}
-use Rattle.run_queue.proofs.SlotLemmas.{slots_total}
 use Rattle.laws_engine.specs.Engines.{IsIn}
+use Rattle.leases.proofs.UpdateLemmas.{all_in, not_both}
 
 -- THE FIRST of a list: each other one stands behind it
-all_in : (P : Slot → Type 0) (xs : List Slot) (x : Slot) → AllByRecursion P xs → IsIn xs x → P x
-all_in P [] x h i = absurd i
-all_in P (y ∷ xs) x h (inl e) = subst P e h.0
-all_in P (y ∷ xs) x h (inr i) = all_in P xs x h.1 i
-
 head_is : (b : Bool) (x s : Slot) → cond b None (Some x) ≡ Some s → x ≡ s
 head_is true x s e = absurd (cc)
 head_is false x s e = cc
@@ -28,9 +22,6 @@ unfolding IsStrictlySortedBy
 behind [] s t h e i = absurd i
 behind (x ∷ slots) s t h e (inl same) = inl (sym same ∙ head_is x.is_idle x s e)
 behind (x ∷ slots) s t h e (inr i) = inr (subst (λ z. slot_cmp z t ≡ Less) (head_is x.is_idle x s e) (all_in (λ z. slot_cmp x z ≡ Less) slots t h.0 i))
-
-not_both : (x y : Slot) → slot_cmp x y ≡ Less → slot_cmp y x ≡ Less → ⊥
-not_both x y a b = let bad : Less ≡ Greater = sym a ∙ slots_total.antisymm x y ∙ ap ordering_reverse b in cc
 
 -- and one that has something to take, and stands before all others, is the first
 pub comes_first : (slots : List Slot) (s : Slot) → IsStrictlySortedBy slot_cmp slots → IsIn slots s → s.is_idle ≡ false → ((t : Slot) → IsIn slots t → (t ≡ s) ⊎ (slot_cmp s t ≡ Less)) → first_of slots ≡ Some s

@@ -1,5 +1,5 @@
 -- Slots that are told once behind several turns, and in a list in which they are told behind each turn: the last counts.
-use Rattle.std.proofs.Common.{◌≡◌, ◌≢◌, ℕ, ◌==◌, true, false, cond, inl, inr, ◌⊎◌, ⊎_elim, MatchOption, Option, Some, None, List, [], ◌∷◌, refl, sym, ap, ◌∙◌, subst, eq-eqb}
+use Rattle.std.proofs.Common.{◌≡◌, ◌≢◌, ℕ, ◌==◌, true, false, cond, inl, inr, ◌⊎◌, ⊎_elim, MatchOption, Option, Some, None, List, [], ◌∷◌, refl, sym, ap, ◌∙◌, eq-eqb}
 use Rattle.std.specs.Prelude.{⊤}
 use Rattle.std.specs.Option.{option_to_list}
 use Rattle.column.specs.declared.batch.Side.{Side}
@@ -101,9 +101,9 @@ module _ (table : ℕ → ℕ → Option Slot) (slots : List Slot) (s : Slot) (h
     last_there x y u v n k ne =
         two_there u v n k ne
         ∙ ⊎_elim
-          (λ at. ap (λ z. one_table u z k) at.0 ∙ ap (one_table u s.query) at.1 ∙ one_here u ∙ sym (ap (λ z. mid_table x y u z k) at.0 ∙ ap (mid_table x y u s.query) at.1 ∙ mid_here x y u))
-          (λ far. one_there u n k far ∙ sym (mid_there x y u n k far ∙ two_there x y n k ne ∙ one_there x n k far))
-          (numbers n k s.query s.operator)
+        (λ at. ap (λ z. one_table u z k) at.0 ∙ ap (one_table u s.query) at.1 ∙ one_here u ∙ sym (ap (λ z. mid_table x y u z k) at.0 ∙ ap (mid_table x y u s.query) at.1 ∙ mid_here x y u))
+        (λ far. one_there u n k far ∙ sym (mid_there x y u n k far ∙ two_there x y n k ne ∙ one_there x n k far))
+        (numbers n k s.query s.operator)
 
     pub two_again : (x y u v : Option (Side × ℕ)) → changed (with_next a y) v (changed (with_next s x) u (changed a y (changed s x slots))) ≡ changed a v (changed s u slots)
     two_again x y u v =

@@ -1,10 +1,9 @@
 -- Turns of the first slot that run one after the other, while the slots wait to be told: with these told, each is a turn of the first slot.
-use Rattle.std.proofs.Common.{◌≡◌, ◌≢◌, ◌<◌, ◌≤◌, ◌+◌, ℕ, Bool, true, false, not, cond, nat_le, ◌&&◌, ◌||◌, inl, inr, ◌⊎◌, ⊎_elim, is_none, is_some, unwrap_or, MatchOption, Option, Some, None, List, [], ◌∷◌, length, set, refl, sym, ap, ap₂, ◌∙◌, subst, arith, eqb-true, leb-true}
+use Rattle.std.proofs.Common.{◌≡◌, ◌≢◌, ◌<◌, ◌≤◌, ◌+◌, ℕ, Bool, true, false, not, cond, nat_le, ◌&&◌, ◌||◌, inl, inr, ◌⊎◌, ⊎_elim, is_none, is_some, unwrap_or, MatchOption, Option, Some, None, List, [], ◌∷◌, length, refl, sym, ap, ap₂, ◌∙◌, subst, arith, eqb-true, leb-true}
 use Rattle.std.specs.Prelude.{⊤}
 use Rattle.std.specs.Option.{option_to_list}
 use Rattle.std.specs.Ordering.{is_gt}
 use Rattle.std.specs.declared.cmp.Ordering.TheVariants.{Less, Equal}
-use Rattle.std.proofs.lemmas.List.{set-get_or}
 use Rattle.column.specs.declared.batch.Side.{Side}
 use Rattle.column.specs.declared.batch.Side.TheVariants.{Left}
 use Rattle.envelope.specs.Fraction.{fraction_cmp}
@@ -14,39 +13,36 @@ use Rattle.op_queue.specs.declared.item.Item.{Item}
 use Rattle.op_queue.specs.declared.item.Item.TheVariants.{Tick}
 use Rattle.turn.specs.Turns.{Answered, Outs, Put}
 use Rattle.turn.specs.declared.excerpts.Near.TheVariants.{Nothing}
-use Rattle.operators.specs.Operators.{PlainOperator, ready}
-use Rattle.operators.specs.Runs.{Stops}
-use Rattle.operators.specs.States.{near_of}
+use Rattle.operators.specs.Operators.{ready}
 use Rattle.operators.specs.declared.runs.Refused.{Refused}
 use Rattle.operators.specs.declared.runs.Refused.TheVariants.{Before, Within}
 use Rattle.names.specs.Faults as faults
 use Rattle.plan.proofs.Lists.{by_test}
 use Rattle.reference.specs.Machine.{Registered, Stream}
-use Rattle.reference.specs.declared.fault.Fault.{Fault}
 use Rattle.reference.specs.declared.fault.Fault.TheVariants.{BadLimit, TooManyLeases}
 use Rattle.reference.specs.declared.limits.TheConstants.{MAX_TURN}
 use Rattle.laws_queries.specs.Queries.{PlainQuery, change_at_first, log_at, operator_at}
 use Rattle.laws_queries.specs.Steps.{IsFirst, outs_at_first}
-use Rattle.query_runtime.specs.Runs.{HasRun}
 use Rattle.query_runtime.specs.Turns.{CanPut, HasFinished, HasPut, log_of, wire_at}
 use Rattle.run_queue.specs.Slots.{changed, first_of, goes_on, slot, slot_cmp, with_next, without_query}
 use Rattle.run_queue.specs.declared.slots.Slot.{Slot}
 use Rattle.run_queue.proofs.StandLemmas.{changed_nothing}
 use Rattle.laws_engine.specs.Calls.{IsOf, broken}
-use Rattle.laws_engine.specs.Engines.{GoodEngine, IsIn, Lease, PlainEngine, Running, is_leased, next_at, query_at, ready_in, remains_at, slope_at, slot_at, slot_of}
+use Rattle.laws_engine.specs.Engines.{IsIn, Lease, PlainEngine, Running, is_leased, next_at, query_at, remains_at, slope_at, slot_at, slot_of}
 use Rattle.laws_engine.proofs.BackLemmas.{numbered, remains_here, same_plain, same_query}
 use Rattle.laws_engine.proofs.PromiseLemmas.{first_in, is_slot, slot_is}
 use Rattle.leases.specs.Applied.{BothStand, Forgets, GivesNothing, HasTold, IsAbove, IsBroken, IsUpdated, MayTell, with_remains}
-use Rattle.leases.specs.Asked.{HasOperatorAt, IsAt, IsRunningAt}
-use Rattle.leases.specs.Drains.{HasWanted, HasWantedBehind, OneHasRun, OneOrMoreHaveRun, SomeHaveRun}
-use Rattle.leases.specs.Readers.{next_for, next_in, with_slots, with_update, with_updates}
-use Rattle.leases.specs.Runs.{HasRunIn, HasRunOn, HasStoppedIn, HasStoppedOn, MayRunIn}
+use Rattle.leases.specs.Asked.{HasOperatorAt, IsRunningAt}
+use Rattle.leases.specs.Drains.{HasWantedBehind, OneHasRun, OneOrMoreHaveRun, SomeHaveRun}
+use Rattle.leases.specs.Readers.{next_for, with_slots, with_update, with_updates}
+use Rattle.leases.specs.Runs.{HasRunIn, HasRunOn, HasStoppedIn, MayRunIn}
 use Rattle.leases.specs.Shown.{engine_in}
 use Rattle.leases.specs.Sound.{IsSound}
 use Rattle.leases.specs.Told.{IsNoSteeper, MayTellBoth, told, told_above, told_slot, told_slots, told_state}
 use Rattle.leases.specs.Turns.{lease_fault}
 use Rattle.leases.specs.declared.limits.TheConstants.{LEASE_NUMBERS, MAX_LEASES}
 use Rattle.leases.specs.declared.state.State.{State}
+use Rattle.leases.proofs.BeatLemmas.{next_is}
 use Rattle.leases.proofs.DrainLemmas.{more_run, none_run}
 use Rattle.leases.proofs.FedLemmas.{HasNextOrAt, StartAt, item_at, outs_start, ready_fed}
 use Rattle.leases.proofs.FinishLemmas.{below_of, to_later}
@@ -57,12 +53,9 @@ use Rattle.leases.proofs.LookLemmas.{asks_on}
 use Rattle.leases.proofs.StandLemmas.{stands_in}
 use Rattle.leases.proofs.StaysLemmas.{above_no_earlier, before_above, behind, comes_first, same_place}
 use Rattle.leases.proofs.StepLemmas.{both_stand, may_look_here, may_look_over}
-use Rattle.leases.proofs.ToldLemmas.{AreThere, IsAnother, IsToldAbove, above_in, told_again, told_from, told_in, told_leave}
+use Rattle.leases.proofs.ToldLemmas.{AreThere, IsToldAbove, above_in, told_again, told_from, told_in, told_leave}
 
 -- WHAT AN OPERATOR MAY TAKE, by its number and by its query
-pub next_is : (e : PlainEngine) (n k : ℕ) (q : Registered) (p : PlainQuery) → query_at e n ≡ Some q → remains_at e n ≡ Running p → next_for e n k ≡ next_at e n q p k
-next_is e n k q p r running = ap (λ z. next_in e n k z (remains_at e n)) r ∙ ap (next_in e n k (Some q)) running
-
 pub looked : (e : PlainEngine) (n k : ℕ) (next : Option (Side × ℕ)) → HasOperatorAt e n k → ((q : Registered) (p : PlainQuery) → query_at e n ≡ Some q → remains_at e n ≡ Running p → next ≡ next_at e n q p k) → next ≡ next_for e n k
 looked e n k next here h = h here.0 here.1.0 here.1.1.registered here.1.1.running ∙ sym (next_is e n k here.0 here.1.0 here.1.1.registered here.1.1.running)
 
@@ -357,9 +350,6 @@ module _ (start now : State) (s : Slot) (above : Option Slot) (rows : ℕ) (star
     leases_then : e2.leases ≡ e.leases
     leases_then = ap (λ (z : PlainEngine). z.leases) took.1.1
 
-    machine_then : e2.machine ≡ e.machine
-    machine_then = ap (λ (z : PlainEngine). z.machine) took.1.1
-
     -- the operator above stands where it stood
     over_there : (o : Option Slot) → MatchOption (told_above e o) (length p.operators ≤ s.operator + 1) (λ a. (s.operator + 1 < length p.operators) × (a ≡ slot_at (engine_in t) s.query q p (wire_at p s.operator).to))
         → MatchOption (told_above e2 o) (length p2.operators ≤ s.operator + 1) (λ a. (s.operator + 1 < length p2.operators) × (a ≡ slot_at e2 s.query q p2 (wire_at p2 s.operator).to))
@@ -371,8 +361,8 @@ module _ (start now : State) (s : Slot) (above : Option Slot) (rows : ℕ) (star
         let lt : s.operator + 1 < length p.operators = h.0 in (
           omega (arith, lt, many),
           ap (λ (z : Slot). with_next z (next_for e2 z.query z.operator)) h.1
-          ∙ ap (λ n. slot (slope_at q k) n s.query k) (next_is e2 s.query k q p2 registered_then running_then)
-          ∙ ap (slot_at e2 s.query q p2) (sym same),
+              ∙ ap (λ n. slot (slope_at q k) n s.query k) (next_is e2 s.query k q p2 registered_then running_then)
+              ∙ ap (slot_at e2 s.query q p2) (sym same),
         )
 
     over_then : IsAbove (told e2 s above) s.query s.operator (told_above e2 above)
@@ -394,7 +384,7 @@ module _ (start now : State) (s : Slot) (above : Option Slot) (rows : ℕ) (star
     turn_ready =
         ap (ready (operator_at p.operators s.operator)) top.1.1.log
         ∙ unless_out (is_leased e s.query s.operator) (ready (operator_at p.operators s.operator) (log_at e.machine q s.operator)) (turn.side, turn.instant)
-          (sym (next_is e s.query s.operator q p top.1.1.registered running) ∙ next_turn)
+        (sym (next_is e s.query s.operator q p top.1.1.registered running) ∙ next_turn)
 
     item_of_turn : item_instant took.1.0.item ≡ turn.instant
     item_of_turn =

@@ -14,12 +14,12 @@ use Rattle.laws_engine.proofs.SlotLemmas.{AreNumbered, changed_slots, left_slots
 use Rattle.laws_engine.proofs.TableLemmas.{updated, updated_here, updated_numbered, updated_there}
 
 -- A TABLE has one list of slots
-all_in : (P : Slot → Type 0) (xs : List Slot) (x : Slot) → AllByRecursion P xs → IsIn xs x → P x
+pub all_in : (P : Slot → Type 0) (xs : List Slot) (x : Slot) → AllByRecursion P xs → IsIn xs x → P x
 all_in P [] x h i = absurd i
 all_in P (y ∷ xs) x h (inl e) = subst P e h.0
 all_in P (y ∷ xs) x h (inr i) = all_in P xs x h.1 i
 
-not_both : (x y : Slot) → slot_cmp x y ≡ Less → slot_cmp y x ≡ Less → ⊥
+pub not_both : (x y : Slot) → slot_cmp x y ≡ Less → slot_cmp y x ≡ Less → ⊥
 not_both x y a b = let bad : Less ≡ Greater = sym a ∙ slots_total.antisymm x y ∙ ap ordering_reverse b in cc
 
 -- of two slots that are each first in its list, and in the other's, neither is lower

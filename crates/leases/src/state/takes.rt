@@ -1,8 +1,6 @@
 //! Answers that are handed out, and what clients look at.
 ghost use Rattle.std.specs.Prelude.{ℕ, ◌≡◌, ◌+◌, ◌++◌, ◌<◌, ◌^◌, IfOk, IfSome, None, OnOk, Some};
-ghost use Rattle.std.specs.Prelude.{length, map, pos, true};
-ghost use Rattle.std.specs.List.{zip};
-ghost use Rattle.plan.specs.Kinds.{kind_of};
+ghost use Rattle.std.specs.Prelude.{length, pos, true};
 ghost use Rattle.plan.specs.Views.{node_of, nodes_of};
 ghost use Rattle.reference.specs.CallViews.{handed_of};
 ghost use Rattle.reference.specs.Commands.{Drop, Take, first_fault, took};
@@ -25,7 +23,7 @@ use crate::state::State;
 use envelope::Slope;
 use plan::{Kind, Node};
 use query_runtime::RunningQuery;
-use reference::{Fault, take_fault};
+use reference::{Fault, paired, take_fault};
 use std::alloc::{AllocError, Global};
 use stream_store::Streams;
 use values::Row;
@@ -169,17 +167,6 @@ fn operators(alloc: Global, query: &Registration) -> Result<Vec<(Kind, Slope)>, 
     ensures { IfOk result (λ v. v.items ≡ operators_of (query_of query.now)) }
 {
     paired(alloc, &query.plan.nodes, &query.slopes)
-}
-
-/// What each operator does, beside its slope.
-fn paired(alloc: Global, nodes: &[Node], slopes: &[Slope]) -> Result<Vec<(Kind, Slope)>, AllocError>
-    ensures { IfOk result (λ v. v.items ≡ zip (map kind_of (nodes_of nodes.now)) slopes.now) }
-{
-    let mut operators = Vec::new(alloc);
-    for i in 0..nodes.len().min(slopes.len()) {
-        operators.push((nodes[i].kind(), slopes[i]))?;
-    }
-    Ok(operators)
 }
 
 /// How much waits in each queue of the operators of a running query.

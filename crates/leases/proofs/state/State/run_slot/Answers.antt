@@ -1,7 +1,6 @@
 -- Turns of the slot have run while the slots waited; then they are told.
-use Rattle.std.proofs.Common.{◌≡◌, sym, subst}
-use Rattle.leases.specs.Applied.{HasWiredOperators, IsAbove}
-use Rattle.leases.specs.Asked.{HasOperatorAt}
+use Rattle.std.proofs.Common.{sym, subst}
+use Rattle.leases.specs.Applied.{HasWiredOperators}
 use Rattle.leases.specs.Drains.{OneOrMoreHaveRun}
 use Rattle.leases.specs.Shown.{engine_in}
 use Rattle.leases.specs.declared.state.State.{State}

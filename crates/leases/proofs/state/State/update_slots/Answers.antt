@@ -1,5 +1,5 @@
 -- The one above stands as it did before the first was told.
-use Rattle.std.proofs.Common.{◌≢◌, MatchOption, Some, Option, sym, subst}
+use Rattle.std.proofs.Common.{◌≢◌, MatchOption, Option, sym, subst}
 use Rattle.std.specs.Prelude.{⊤}
 use Rattle.run_queue.specs.Slots.{Stands}
 use Rattle.run_queue.specs.declared.slots.Slot.{Slot}

@@ -1,0 +1,7 @@
+pub mod BareLemmas
+pub mod FaultLemmas
+pub mod CommandLemmas
+pub mod EquivalenceLemmas
+pub mod WorldLemmas
+pub mod AnswerLemmas
+pub mod OpeningLemmas

@@ -1,5 +1,5 @@
 -- Streams without what came to them.
-use Rattle.std.proofs.Common.{◌≡◌, ℕ, zero, suc, ◌≤◌, ◌&&◌, nat_le, Bool, true, false, cond, max, min, Option, Some, None, unwrap_or, List, [], ◌∷◌, ◌++◌, filter, map, refl, sym, ap, ap₂, ◌∙◌, arith, leb-false}
+use Rattle.std.proofs.Common.{◌≡◌, ℕ, ◌≤◌, ◌&&◌, nat_le, Bool, true, false, cond, max, min, Option, Some, None, unwrap_or, List, [], ◌∷◌, filter, map, refl, sym, ap, ap₂, ◌∙◌, arith, leb-false}
 use Rattle.std.specs.Prelude.{slice_get}
 use Rattle.std.specs.List.{reduce}
 use Rattle.std.specs.Option.{option_map, option_map_or}

@@ -5,7 +5,6 @@ use Rattle.std.specs.Option.{option_map_or}
 use Rattle.std.proofs.lemmas.Bool.{ne_eqb, eqb-false}
 use Rattle.std.proofs.lemmas.List.{append_cancel_left, drop-drop, map-append}
 use Rattle.std.proofs.lemmas.List.Elements.{filter-append}
-use Rattle.values.specs.Row.{Row}
 use Rattle.values.specs.Arrivals.{AllFrom}
 use Rattle.values.specs.Window.{Element, input_of}
 use Rattle.plan.proofs.Lists.{by_test}
@@ -110,8 +109,8 @@ module _ (name : List ℕ) (columns : List (List ℕ)) (start : ℤ) where
     queries =
         let later : AreLater m.streams (m.streams ++ fresh ∷ []) = pushed_later m.streams fresh in
         over m n (declared m name columns start) (declared n name columns start)
-            (carried m n (declared m name columns start) (declared n name columns start) (λ more. more) (come_later m.streams (m.streams ++ fresh ∷ []) later) later (same_input m) (same_input n))
-            m.queries n.queries h.queries;
+        (carried m n (declared m name columns start) (declared n name columns start) (λ more. more) (come_later m.streams (m.streams ++ fresh ∷ []) later) later (same_input m) (same_input n))
+        m.queries n.queries h.queries;
   }
 
 -- A REGISTRATION
@@ -307,7 +306,7 @@ module _ (m n : Machine) (h : AlikeMachines m n) where
       ap (λ is. drop q.taken (q.earlier ++ answers_from q.meaning q.first q.start (until_for m.streams q.places) is)) (sym (map_each (later_input m (λ k. []) q.first) (input_at m.streams q.first) q.places (nothing_more m q.first)))
       ∙ a.answers d (λ k. []) (λ k. tt) (until_for m.streams q.places) (omega arith)
       ∙ ap₂ (λ u is. drop r.taken (r.earlier ++ answers_from r.meaning r.first r.start u is)) (ap (until_for m.streams) places ∙ untils_same m.streams n.streams h.streams r.places)
-          (map_each (later_input n (λ k. []) r.first) (input_at n.streams r.first) r.places (nothing_more n r.first))
+      (map_each (later_input n (λ k. []) r.first) (input_at n.streams r.first) r.places (nothing_more n r.first))
 
   untaken_same : (q r : Registered) → AlikeQuery m n q r → untaken m q ≡ untaken n r
   untaken_same q r a = here q.is_dropped refl

@@ -1,8 +1,8 @@
 -- Being alike is an equivalence.
-use Rattle.std.proofs.Common.{◌≡◌, ℕ, ◌≤◌, Bool, false, List, [], ◌∷◌, map, refl, sym, ap, ◌∙◌, subst, arith}
+use Rattle.std.proofs.Common.{◌≡◌, ℕ, List, [], ◌∷◌, map, refl, sym, ap, ◌∙◌, subst, arith}
 use Rattle.values.specs.Arrivals.{AllFrom}
 use Rattle.values.specs.Window.{Element}
-use Rattle.reference.specs.Machine.{Machine, Registered, Stream, until_for}
+use Rattle.reference.specs.Machine.{Machine, Registered, until_for}
 use Rattle.reference.specs.World.{World}
 use Rattle.laws_forgetting.specs.Alike.{Alike, AlikeMachines, AlikeQuery, AreAlike, MayCome, bare}
 use Rattle.laws_forgetting.proofs.BareLemmas.{open_same, untils_same}

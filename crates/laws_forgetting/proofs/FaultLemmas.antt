@@ -1,5 +1,5 @@
 -- Alike machines accept the same commands.
-use Rattle.std.proofs.Common.{◌≡◌, ℕ, ℤ, zero, suc, ◌+◌, ◌≤◌, Bool, true, false, cond, not, nat_le, ◌&&◌, ◌||◌, Option, Some, None, List, [], ◌∷◌, ◌++◌, map, length, count_by, refl, sym, ap, ap₂, ◌∙◌, arith, position}
+use Rattle.std.proofs.Common.{◌≡◌, ℕ, ℤ, suc, ◌+◌, Bool, true, false, cond, not, ◌||◌, Option, Some, None, List, [], ◌∷◌, ◌++◌, map, length, count_by, refl, sym, ap, ap₂, ◌∙◌, arith, position}
 use Rattle.std.specs.Prelude.{slice_get, option_and_then, is_some}
 use Rattle.std.specs.List.{list_any}
 use Rattle.std.specs.Option.{option_map}
@@ -16,7 +16,7 @@ use Rattle.reference.specs.Commands.{Command, Declare, Register, Append, Heartbe
 use Rattle.reference.specs.declared.fault.Fault.{Fault}
 use Rattle.reference.specs.declared.fault.Fault.TheVariants.{StreamFull}
 use Rattle.reference.proofs.NameLemmas.{position-map}
-use Rattle.laws_forgetting.specs.Alike.{AlikeMachines, AlikeQuery, AreAlike, bare, bare_query}
+use Rattle.laws_forgetting.specs.Alike.{AlikeMachines, AreAlike, bare, bare_query}
 
 -- LISTS that are the same as a function shows them
 module _ {A B : Type 0} (f : A → B) where

@@ -121,7 +121,7 @@ module _ (m : Machine) (q : Registered) (qs : List Registered) (keep : ℕ → E
       ap (λ is. drop q.taken (q.earlier ++ answers_from q.meaning q.first q.start u is)) (sym (later_by (input_at m.streams q.first) (came more) q.places))
       ∙ ap (λ n. drop n (q.earlier ++ answers_from q.meaning q.first q.start u (with_later (map (input_at m.streams q.first) q.places) (map (came more) q.places)))) (sym counted)
       ∙ opening_answers q.meaning q.first q.start next (map (input_at m.streams q.first) q.places) (map (λ (p : Place). keep p.stream) q.places) q.earlier T W mark.began given needed (map (came more) q.places) (many (came more) (input_at m.streams q.first) q.places)
-          (all_from m more q.first next (until_for m.streams q.places) q.places mark.closed o (least_of_all (λ (p : Place). option_map_or (λ (s : Stream). s.first_open) (slice_get m.streams p.stream) 0) q.places)) u l
+      (all_from m more q.first next (until_for m.streams q.places) q.places mark.closed o (least_of_all (λ (p : Place). option_map_or (λ (s : Stream). s.first_open) (slice_get m.streams p.stream) 0) q.places)) u l
 
   -- where nothing is closed yet that is above its base, no answers are there but the earlier ones
   early : (more : ℕ → List Element) (u : ℕ) → until_for m.streams q.places ≤ u → u < next → drop q.taken (later_answers m q more u) ≡ W ++ answers_from q.meaning q.first next u (with_later kept_inputs (map (came more) q.places))

@@ -1,12 +1,12 @@
 -- No call tells alike worlds apart, and no step alike machines.
-use Rattle.std.proofs.Common.{◌≡◌, ℕ, ℤ, zero, suc, nat_abs, ◌++◌, Bool, true, false, cond, min, Option, Some, None, unwrap_or, Result, Ok, Err, List, [], ◌∷◌, map, take, drop, length, get_or, refl, sym, ap, ap₂, ◌∙◌, subst, true≢false}
+use Rattle.std.proofs.Common.{◌≡◌, ℕ, ℤ, zero, suc, nat_abs, ◌++◌, Bool, true, false, cond, min, Option, Some, None, unwrap_or, Ok, List, [], ◌∷◌, take, drop, length, get_or, refl, sym, ap, ap₂, ◌∙◌, subst}
 use Rattle.std.specs.Prelude.{slice_get, option_and_then}
 use Rattle.std.specs.Option.{option_map}
 use Rattle.values.specs.Row.{Row}
-use Rattle.reference.specs.Machine.{Machine, Registered, closed_answers, query_at, unless_dropped}
+use Rattle.reference.specs.Machine.{Machine, Registered, query_at, unless_dropped}
 use Rattle.reference.specs.Commands.{Command, Declare, Register, Append, Heartbeat, Take, Drop, after, change, first_fault}
 use Rattle.reference.specs.Replies.{Reply, Number, Done, Rows, count_in}
-use Rattle.reference.specs.Steps.{AreNext, Gives, IsStep}
+use Rattle.reference.specs.Steps.{AreNext, Gives}
 use Rattle.reference.specs.World.{World, append_step, declare_step, drain_fault, drain_step, drop_step, handed, heartbeat_step, operators_of, query_named, register_step, slopes_at, slopes_in, stream_named, take_step, unless, waiting_at}
 use Rattle.reference.specs.declared.fault.Fault.{Fault}
 use Rattle.laws_forgetting.specs.Alike.{Alike, AlikeMachines, AlikeQuery, AreAlike, bare_query}

@@ -1,6 +1,5 @@
 -- What it means that no call tells two worlds apart.
-use Rattle.std.specs.Prelude.{ℕ, ℤ, ◌≡◌, Option, List, ⊤}
-use Rattle.values.specs.Row.{Row}
+use Rattle.std.specs.Prelude.{ℕ, ℤ, ◌≡◌, Option, List}
 use Rattle.reference.specs.Machine.{Machine}
 use Rattle.reference.specs.Commands.{Command, first_fault}
 use Rattle.reference.specs.Replies.{Reply}

@@ -1,3 +1,4 @@
 pub mod Alike
+pub mod AlikeExamples
 pub mod Answers
 pub mod Openings

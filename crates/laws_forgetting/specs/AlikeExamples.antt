@@ -7,7 +7,7 @@ use Rattle.values.specs.Answers.{Resolved, Istream}
 use Rattle.reference.specs.declared.fault.Fault.TheVariants.{Late, StreamFull}
 use Rattle.reference.specs.Machine.{Machine, Place, Registered, Stream}
 use Rattle.reference.specs.Commands.{Append, Heartbeat, Take, after, first_fault}
-use Rattle.reference.specs.World.{World, take_step, untaken}
+use Rattle.reference.specs.World.{take_step, untaken}
 use Rattle.reference.specs.Opening.{opening}
 use Rattle.laws_forgetting.specs.Alike.{bare, bare_query}
 

@@ -1,12 +1,10 @@
 -- No call tells a good engine from the one that has forgotten.
-use Rattle.std.proofs.Common.{◌≡◌, ℕ, ◌-◌, ◌<◌, ◌≤◌, ◌++◌, false, Some, List, [], ◌∷◌, drop, length, map, max, refl, sym, ap, ◌∙◌, subst, arith, length-append, true≢false}
+use Rattle.std.proofs.Common.{◌≡◌, ℕ, ◌-◌, ◌<◌, ◌++◌, false, Some, List, [], ◌∷◌, drop, length, map, refl, sym, ap, ◌∙◌, subst, arith, length-append, true≢false}
 use Rattle.std.specs.Prelude.{get_or, slice_get}
 use Rattle.std.specs.List.{AllByRecursion}
 use Rattle.std.proofs.Math.Seq.{drop-append_seam}
-use Rattle.values.specs.Row.{Row}
-use Rattle.values.specs.Resolved.{operator_of}
 use Rattle.laws_forgetting.specs.Alike.{Alike}
-use Rattle.reference.specs.Machine.{Registered, Stream, until_for}
+use Rattle.reference.specs.Machine.{Registered, Stream}
 use Rattle.laws_forgetting.specs.Openings.{AreNumbered, IsMark, MayOpen, answers_below}
 use Rattle.laws_forgetting.proofs.OpeningLemmas.{opened_alike}
 use Rattle.laws_dataflow.specs.Operators.{net_of}

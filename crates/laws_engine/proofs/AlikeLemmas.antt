@@ -3,7 +3,7 @@ use Rattle.std.proofs.Common.{◌≡◌, ℕ, ◌-◌, ◌<◌, ◌++◌, false,
 use Rattle.std.specs.Prelude.{get_or, slice_get}
 use Rattle.std.specs.List.{AllByRecursion}
 use Rattle.std.proofs.Math.Seq.{drop-append_seam}
-use Rattle.laws_forgetting.specs.Alike.{Alike}
+use Rattle.reference.specs.Alike.{Alike}
 use Rattle.reference.specs.Machine.{Registered, Stream}
 use Rattle.laws_forgetting.specs.Openings.{AreNumbered, IsMark, MayOpen, answers_below}
 use Rattle.laws_forgetting.proofs.OpeningLemmas.{opened_alike}

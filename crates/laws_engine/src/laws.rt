@@ -1,6 +1,6 @@
 //! What holds of an engine of many queries: functions that do nothing, each with a law.
 ghost use Rattle.std.specs.Prelude.{List};
-ghost use Rattle.laws_forgetting.specs.Alike.{Alike};
+ghost use Rattle.reference.specs.Alike.{Alike};
 ghost use Rattle.laws_engine.specs.Engines.{GoodEngine, PlainEngine, world_of};
 ghost use Rattle.laws_engine.specs.Promises.{KeepsItsPromises};
 ghost use Rattle.laws_engine.specs.Histories.{Call, LeadTo, empty};

@@ -7,7 +7,7 @@ use Rattle.std.proofs.lemmas.Bool.{lt-leb}
 use Rattle.std.proofs.lemmas.Option.{slice_get-map}
 use Rattle.values.specs.Window.{Element, input_of}
 use Rattle.reference.specs.Machine.{Place, Stream, opens, until_for, first_for}
-use Rattle.laws_forgetting.specs.Alike.{bare}
+use Rattle.reference.specs.Alike.{bare}
 
 -- those of higher numbers are among those of lower ones
 pub filter_more : (a b : ℕ) → a ≤ b → (es : List Element) → filter (λ e. nat_le b e.arrival) es ≡ filter (λ e. nat_le b e.arrival) (filter (λ e. nat_le a e.arrival) es)

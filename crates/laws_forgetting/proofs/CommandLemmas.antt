@@ -14,7 +14,7 @@ use Rattle.reference.specs.World.{untaken}
 use Rattle.reference.specs.declared.fault.QueryFault.{QueryFault}
 use Rattle.reference.proofs.ClosedLemmas.{AreLater, IsLater, appended_later, closed_later, least_grows, pushed_later}
 use Rattle.reference.proofs.StreamLemmas.{alone}
-use Rattle.laws_forgetting.specs.Alike.{AlikeMachines, AlikeQuery, AreAlike, MayCome, bare, bare_query, later_answers, later_input, open_at}
+use Rattle.reference.specs.Alike.{AlikeMachines, AlikeQuery, AreAlike, MayCome, bare, bare_query, later_answers, later_input, open_at}
 use Rattle.laws_forgetting.proofs.BareLemmas.{by_bare, filter_more, firsts_same, input_bare, map_each, untils_same}
 use Rattle.laws_forgetting.proofs.FaultLemmas.{found_same}
 

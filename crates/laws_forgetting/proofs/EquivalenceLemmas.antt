@@ -4,7 +4,7 @@ use Rattle.values.specs.Arrivals.{AllFrom}
 use Rattle.values.specs.Window.{Element}
 use Rattle.reference.specs.Machine.{Machine, Registered, until_for}
 use Rattle.reference.specs.World.{World}
-use Rattle.laws_forgetting.specs.Alike.{Alike, AlikeMachines, AlikeQuery, AreAlike, MayCome, bare}
+use Rattle.reference.specs.Alike.{Alike, AlikeMachines, AlikeQuery, AreAlike, MayCome, bare}
 use Rattle.laws_forgetting.proofs.BareLemmas.{open_same, untils_same}
 
 -- over streams that are the same but for what came, the same may come, and the same instants are closed
@@ -45,13 +45,6 @@ module _ (m n : Machine) (h : map bare m.streams ≡ map bare n.streams) where
     all_joined (q ∷ qs) (r ∷ rs) (s ∷ ss) i j = (joined q r s i.0 j.0, all_joined qs rs ss i.1 j.1)
 
 -- MACHINES
-itself : (m : Machine) (qs : List Registered) → AreAlike m m qs qs
-itself m [] = tt
-itself m (q ∷ qs) = (record { bare = refl; answers = λ d more o until l. refl }, itself m qs)
-
-pub machine_itself : (m : Machine) → AlikeMachines m m
-machine_itself m = record { streams = refl; queries = itself m m.queries }
-
 pub machines_turned : (m n : Machine) → AlikeMachines m n → AlikeMachines n m
 machines_turned m n h = record { streams = sym h.streams; queries = all_turned m n h.streams m.queries n.queries h.queries }
 
@@ -59,9 +52,6 @@ pub machines_joined : (m n k : Machine) → AlikeMachines m n → AlikeMachines 
 machines_joined m n k h i = record { streams = h.streams ∙ i.streams; queries = all_joined m n h.streams k m.queries n.queries k.queries h.queries i.queries }
 
 -- WORLDS
-pub world_itself : (w : World) → Alike w w
-world_itself w = record { machines = machine_itself w.machine; waiting = refl }
-
 pub worlds_turned : (w v : World) → Alike w v → Alike v w
 worlds_turned w v h = record { machines = machines_turned w.machine v.machine h.machines; waiting = sym h.waiting }
 

@@ -16,7 +16,7 @@ use Rattle.reference.specs.Commands.{Command, Declare, Register, Append, Heartbe
 use Rattle.reference.specs.declared.fault.Fault.{Fault}
 use Rattle.reference.specs.declared.fault.Fault.TheVariants.{StreamFull}
 use Rattle.reference.proofs.NameLemmas.{position-map}
-use Rattle.laws_forgetting.specs.Alike.{AlikeMachines, AreAlike, bare, bare_query}
+use Rattle.reference.specs.Alike.{AlikeMachines, AreAlike, bare, bare_query}
 
 -- LISTS that are the same as a function shows them
 module _ {A B : Type 0} (f : A → B) where

@@ -14,7 +14,7 @@ use Rattle.values.specs.Needs.{Each, is_needed}
 use Rattle.reference.specs.Machine.{Machine, Place, Registered, Stream, answers_from, input_at, until_for}
 use Rattle.reference.specs.Opening.{all_restarted, needs, needs_by, opening, restart, restarted, with_kept}
 use Rattle.reference.proofs.ClosedLemmas.{least_of_all}
-use Rattle.laws_forgetting.specs.Alike.{AlikeMachines, AlikeQuery, AreAlike, MayCome, bare, later_answers, later_input, open_at}
+use Rattle.reference.specs.Alike.{AlikeMachines, AlikeQuery, AreAlike, MayCome, bare, later_answers, later_input, open_at}
 use Rattle.laws_forgetting.specs.Openings.{AreNumbered, IsMark, MayOpen, answers_below}
 use Rattle.laws_forgetting.proofs.AnswerLemmas.{HaveNeeded, opening_answers, parts, with_later}
 use Rattle.laws_forgetting.proofs.BareLemmas.{map_each}

@@ -9,7 +9,7 @@ use Rattle.reference.specs.Replies.{Reply, Number, Done, Rows, count_in}
 use Rattle.reference.specs.Steps.{AreNext, Gives}
 use Rattle.reference.specs.World.{World, append_step, declare_step, drain_fault, drain_step, drop_step, handed, heartbeat_step, operators_of, query_named, register_step, slopes_at, slopes_in, stream_named, take_step, unless, waiting_at}
 use Rattle.reference.specs.declared.fault.Fault.{Fault}
-use Rattle.laws_forgetting.specs.Alike.{Alike, AlikeMachines, AlikeQuery, AreAlike, bare_query}
+use Rattle.reference.specs.Alike.{Alike, AlikeMachines, AlikeQuery, AreAlike, bare_query}
 use Rattle.laws_forgetting.specs.Answers.{AnswerAlike, SameStep, StepAlike}
 use Rattle.laws_forgetting.proofs.CommandLemmas.{closed_same, commands_alike, drains_same}
 use Rattle.laws_forgetting.proofs.FaultLemmas.{faults_same, queries_many, queries_same, query_named_same, same_get, stream_named_same, streams_many}

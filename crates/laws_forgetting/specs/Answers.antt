@@ -5,7 +5,7 @@ use Rattle.reference.specs.Commands.{Command, first_fault}
 use Rattle.reference.specs.Replies.{Reply}
 use Rattle.reference.specs.Steps.{IsStep}
 use Rattle.reference.specs.World.{World, Step, append_step, declare_step, drain_step, drop_step, heartbeat_step, query_named, register_step, slopes_at, stream_named, take_step}
-use Rattle.laws_forgetting.specs.Alike.{Alike, AlikeMachines}
+use Rattle.reference.specs.Alike.{Alike, AlikeMachines}
 
 -- two steps answer the same, and lead to alike worlds
 pub record SameStep {A : Type 0} (s t : Step A) : Type 0 where

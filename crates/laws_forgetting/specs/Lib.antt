@@ -1,4 +1,2 @@
-pub mod Alike
-pub mod AlikeExamples
 pub mod Answers
 pub mod Openings

@@ -6,7 +6,7 @@ ghost use Rattle.reference.specs.Commands.{Command};
 ghost use Rattle.reference.specs.Opening.{opening};
 ghost use Rattle.reference.specs.Replies.{Reply};
 ghost use Rattle.reference.specs.World.{World};
-ghost use Rattle.laws_forgetting.specs.Alike.{Alike, AlikeMachines};
+ghost use Rattle.reference.specs.Alike.{Alike, AlikeMachines};
 ghost use Rattle.laws_forgetting.specs.Answers.{AnswerAlike, StepAlike};
 ghost use Rattle.laws_forgetting.specs.Openings.{MayOpen};
 

@@ -1,4 +1,5 @@
-use Rattle.laws_forgetting.proofs.EquivalenceLemmas.{world_itself, worlds_joined, worlds_turned}
+use Rattle.reference.proofs.AlikeLemmas.{world_itself}
+use Rattle.laws_forgetting.proofs.EquivalenceLemmas.{worlds_joined, worlds_turned}
 use Rattle.laws_forgetting.proofs.laws.alike_is_an_equivalence.Goals as goal
 
 pub returns-clause-reflexive : goal.returns-clause-reflexive

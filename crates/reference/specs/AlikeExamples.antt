@@ -9,7 +9,7 @@ use Rattle.reference.specs.Machine.{Machine, Place, Registered, Stream}
 use Rattle.reference.specs.Commands.{Append, Heartbeat, Take, after, first_fault}
 use Rattle.reference.specs.World.{take_step, untaken}
 use Rattle.reference.specs.Opening.{opening}
-use Rattle.laws_forgetting.specs.Alike.{bare, bare_query}
+use Rattle.reference.specs.Alike.{bare, bare_query}
 
 abbrev num : ℕ → Option ℤ
 num n = Some (pos n)

@@ -5,3 +5,4 @@ pub mod EquivalenceLemmas
 pub mod WorldLemmas
 pub mod AnswerLemmas
 pub mod OpeningLemmas
+pub mod NeedLemmas

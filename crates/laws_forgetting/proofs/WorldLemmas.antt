@@ -10,7 +10,7 @@ use Rattle.reference.specs.Steps.{AreNext, Gives}
 use Rattle.reference.specs.World.{World, append_step, declare_step, drain_fault, drain_step, drop_step, handed, heartbeat_step, operators_of, query_named, register_step, slopes_at, slopes_in, stream_named, take_step, unless, waiting_at}
 use Rattle.reference.specs.declared.fault.Fault.{Fault}
 use Rattle.reference.specs.Alike.{Alike, AlikeMachines, AlikeQuery, AreAlike, bare_query}
-use Rattle.laws_forgetting.specs.Answers.{AnswerAlike, SameStep, StepAlike}
+use Rattle.laws_forgetting.specs.Answers.{AnswerAlike, GoOnAlike, GoesOn, SameStep, StepAlike}
 use Rattle.laws_forgetting.proofs.CommandLemmas.{closed_same, commands_alike, drains_same}
 use Rattle.laws_forgetting.proofs.FaultLemmas.{faults_same, queries_many, queries_same, query_named_same, same_get, stream_named_same, streams_many}
 
@@ -91,6 +91,16 @@ module _ (m n : Machine) (h : AlikeMachines m n) where
       ),
     );
   }
+
+-- COMMANDS IN TURN
+pub go_on_alike : (m n : Machine) → AlikeMachines m n → (steps : List (Command × Reply)) (last : Machine) → GoesOn m steps last → GoOnAlike n steps last
+go_on_alike m n h [] last e =
+    let a : AlikeMachines last n = subst (λ z. AlikeMachines z n) (sym e) h in
+    record { other = n; goes_on = refl; alike = a; answers = drains_same last n a }
+go_on_alike m n h (s ∷ steps) last e =
+    let one = (steps_alike m n h s.0 s.1).steps e.0 e.1.0 in
+    let more : GoOnAlike one.0 steps last = go_on_alike e.0 one.0 one.1.1 steps last e.1.1 in
+    record { other = more.other; goes_on = (one.0, (one.1.0, more.goes_on)); alike = more.alike; answers = more.answers }
 
 -- WHAT EACH OPERATOR of a query does, and its slope, go by the query without its answers
 slopes_unless : (q : Registered) (b : Bool) → slopes_in (cond b None (Some q)) ≡ slopes_in (cond b None (Some (bare_query q)))

@@ -1,10 +1,10 @@
 -- What it means that no call tells two worlds apart.
-use Rattle.std.specs.Prelude.{ℕ, ℤ, ◌≡◌, Option, List}
+use Rattle.std.specs.Prelude.{ℕ, ℤ, ◌≡◌, Option, List, [], ◌∷◌, map}
 use Rattle.reference.specs.Machine.{Machine}
 use Rattle.reference.specs.Commands.{Command, first_fault}
 use Rattle.reference.specs.Replies.{Reply}
 use Rattle.reference.specs.Steps.{IsStep}
-use Rattle.reference.specs.World.{World, Step, append_step, declare_step, drain_step, drop_step, heartbeat_step, query_named, register_step, slopes_at, stream_named, take_step}
+use Rattle.reference.specs.World.{World, Step, append_step, declare_step, drain_step, drop_step, heartbeat_step, query_named, register_step, slopes_at, stream_named, take_step, untaken}
 use Rattle.reference.specs.Alike.{Alike, AlikeMachines}
 
 -- two steps answer the same, and lead to alike worlds
@@ -29,3 +29,15 @@ pub record AnswerAlike (w v : World) : Type 0 where
 pub record StepAlike (m n : Machine) (c : Command) (r : Reply) : Type 0 where
   pub faults : first_fault m c ≡ first_fault n c
   pub steps : (m2 : Machine) → IsStep m c r m2 → (n2 : Machine) × (IsStep n c r n2 × AlikeMachines m2 n2)
+
+-- COMMANDS IN TURN, each accepted and with its reply
+abbrev pub GoesOn : Machine → List (Command × Reply) → Machine → Type 0
+GoesOn first [] last = last ≡ first
+GoesOn first (s ∷ steps) last = (next : Machine) × (IsStep first s.0 s.1 next × GoesOn next steps last)
+
+-- the second machine accepts them, too, with the same replies; then the two are alike, and the same closed answers of each query are to be taken
+pub record GoOnAlike (n : Machine) (steps : List (Command × Reply)) (last : Machine) : Type 0 where
+  pub other : Machine
+  pub goes_on : GoesOn n steps other
+  pub alike : AlikeMachines last other
+  pub answers : map (untaken last) last.queries ≡ map (untaken other) other.queries

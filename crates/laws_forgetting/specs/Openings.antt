@@ -1,7 +1,9 @@
 -- At which marks a machine may be replaced by its opening.
-use Rattle.std.specs.Prelude.{ℕ, ◌≡◌, ◌<◌, ◌≤◌, false, max, Option, Some, List, [], ◌++◌, drop, length, get_or, map, slice_get}
+use Rattle.std.specs.Prelude.{ℕ, ◌≡◌, ◌<◌, ◌≤◌, ◌+◌, ◌⊎◌, ⊤, true, false, max, Option, Some, List, [], ◌++◌, drop, length, get_or, map, slice_get}
 use Rattle.std.specs.List.{AllByRecursion}
 use Rattle.values.specs.Row.{Row}
+use Rattle.values.specs.Window.{Element, Window, Range, RangeSlide, Unbounded, LastRows, shows}
+use Rattle.values.specs.Needs.{is_needed}
 use Rattle.reference.specs.Machine.{Machine, Registered, Stream, answers_from, input_at, until_for}
 
 -- elements have numbers below the count of what came
@@ -27,3 +29,20 @@ pub record MayOpen (m : Machine) (marks : List (Option ℕ)) (waiting : List (Li
   pub each : (n : ℕ) (q : Registered) → slice_get m.queries n ≡ Some q → q.is_dropped ≡ false
       → (next : ℕ) × ((slice_get marks n ≡ Some (Some next)) × IsMark m q next (get_or waiting n []))
   pub numbered : AreNumbered m.streams
+
+-- WHAT A WINDOW NEEDS
+-- it moves: a slide does so by one instant or more
+abbrev pub Moves : Window → Type 0
+Moves (Range n) = ⊤
+Moves (RangeSlide n step) = 0 < step
+Moves Unbounded = ⊤
+Moves (LastRows columns n) = ⊤
+
+-- the window shows the element at some instant from the mark on, when nothing more comes; `next` is the instant after the mark
+abbrev pub IsShownFrom : ℕ → Window → ℕ → List Element → Element → Type 0
+IsShownFrom start w next es e = (t : ℕ) × ((next ≤ t + 1) × (shows start w t es e ≡ true))
+
+-- just what is above the mark, and what is shown from it on
+pub record NeedsJust (start : ℕ) (w : Window) (next : ℕ) (es : List Element) : Type 0 where
+  pub shown : (e : Element) → is_needed start w next es e ≡ true → (next ≤ e.instant) ⊎ IsShownFrom start w next es e
+  pub needed : (e : Element) → (next ≤ e.instant) ⊎ IsShownFrom start w next es e → is_needed start w next es e ≡ true

@@ -5,6 +5,6 @@
 mod laws;
 
 pub use laws::{
-    alike_is_an_equivalence, alike_machines_take_the_same_steps, alike_worlds_answer_alike,
-    openings_are_alike,
+    alike_is_an_equivalence, alike_machines_go_on_alike, alike_machines_take_the_same_steps,
+    alike_worlds_answer_alike, openings_are_alike, windows_need_just_what_they_show,
 };

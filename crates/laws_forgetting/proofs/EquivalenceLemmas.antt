@@ -1,5 +1,5 @@
 -- Being alike is an equivalence.
-use Rattle.std.proofs.Common.{◌≡◌, ℕ, List, [], ◌∷◌, map, refl, sym, ap, ◌∙◌, subst, arith}
+use Rattle.std.proofs.Common.{◌≡◌, ℕ, List, [], ◌∷◌, map, sym, ap, ◌∙◌, subst, arith}
 use Rattle.values.specs.Arrivals.{AllFrom}
 use Rattle.values.specs.Window.{Element}
 use Rattle.reference.specs.Machine.{Machine, Registered, until_for}

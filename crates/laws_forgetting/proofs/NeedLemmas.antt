@@ -1,5 +1,5 @@
 -- What a window needs is what is above the mark, and what it shows at the mark or later when nothing more comes.
-use Rattle.std.proofs.Common.{◌≡◌, ℕ, zero, suc, ◌+◌, ◌-◌, ◌*◌, ◌/◌, ◌≤◌, ◌<◌, Bool, true, false, ◌&&◌, ◌||◌, nat_le, nat_lt, List, refl, sym, ap, ◌∙◌, subst, arith, le-leb, leb-true, leb-false, lt-ltb, ltb-true, ◌⊎◌, inl, inr}
+use Rattle.std.proofs.Common.{◌≡◌, ℕ, zero, suc, ◌+◌, ◌-◌, ◌*◌, ◌/◌, ◌≤◌, ◌<◌, Bool, true, false, ◌&&◌, ◌||◌, nat_le, nat_lt, List, refl, sym, ◌∙◌, subst, arith, le-leb, leb-true, leb-false, lt-ltb, ltb-true, ◌⊎◌, inl, inr}
 use Rattle.std.proofs.Math.Nat.{div-lt_iff_lt-mul, div-mul-le_self, div-zero, mul-div_left, mul-le-mul_right}
 use Rattle.std.proofs.lemmas.Nat.{le-div}
 use Rattle.values.specs.Window.{Element, Window, Range, RangeSlide, Unbounded, LastRows, count_later, counts, shows}

@@ -8,5 +8,6 @@ mod LateLemmas
 mod RisingLemmas
 mod OpenLemmas
 mod StoredLemmas
+mod KeepLemmas
 mod BesideLemmas
 pub mod ShownLemmas

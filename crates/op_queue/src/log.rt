@@ -294,7 +294,8 @@ fn keep_values(values: &mut Vec<Value>, kept: &[bool])
 /// Moves the items at whose places a mark is true to the front, and counts them.
 fn move_kept<T>(items: &mut [T], kept: &[bool]) -> usize
     requires { length kept.now ≡ length items.old }
-    ensures { take result items.new ≡ chosen kept.now items.old }
+    ensures len { length items.new ≡ length items.old }
+    ensures kept { take result items.new ≡ chosen kept.now items.old }
 {
     let mut count = 0;
     for place in 0..kept.len() {

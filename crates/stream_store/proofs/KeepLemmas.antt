@@ -1,7 +1,9 @@
 -- What is left of a stream's rows where only marked ones and those with a reader are kept.
-use Rattle.std.proofs.Common.{◌≡◌, ◌<◌, ◌≤◌, ◌+◌, ◌*◌, ◌==◌, ℕ, ℤ, zero, suc, Bool, true, false, cond, nat_lt, Option, List, [], ◌∷◌, ◌++◌, length, map, take, drop, get_or, set, refl, sym, ap, ap₂, subst, ◌∙◌, arith, ◌⊎◌, inl, inr, append-nil, append_assoc, length-append, length-drop}
+use Rattle.std.proofs.Common.{◌≡◌, ◌<◌, ◌≤◌, ◌+◌, ◌*◌, ◌==◌, ℕ, ℤ, zero, suc, Bool, true, false, cond, nat_lt, Option, Some, List, [], ◌∷◌, ◌++◌, length, map, take, drop, get_or, set, refl, sym, ap, ap₂, subst, ◌∙◌, arith, ◌⊎◌, inl, inr, append-nil, append_assoc, length-append, length-drop}
 use Rattle.std.specs.List.{AllByRecursion, All, filter}
 use Rattle.std.specs.Map.Calls.{RetainsPairs}
+use Rattle.std.specs.Option.{option_map}
+use Rattle.std.specs.Prelude.{slice_get}
 use Rattle.std.proofs.Math.Seq.{paste}
 use Rattle.std.proofs.Math.Nat.{mul-le-mul_left}
 use Rattle.std.proofs.lemmas.Bool.{cases_order, lt-ltb, le-ltb, ltb-true, ne_eqb, eq-eqb}
@@ -12,16 +14,18 @@ use Rattle.column.specs.Bits.{chosen}
 use Rattle.values.specs.Row.{Row}
 use Rattle.values.specs.Window.{Element}
 use Rattle.op_queue.specs.Logs.{Closed}
+use Rattle.reference.specs.Commands.{change}
 use Rattle.reference.specs.Machine.{Stream}
+use Rattle.reference.specs.Opening.{with_kept}
 use Rattle.stream_store.specs.declared.starts.Start.{Start}
 use Rattle.stream_store.specs.declared.ordered_rows.Head.{Head}
 use Rattle.stream_store.specs.LateRows.{RowsAt, has_rows, rows_in}
 use Rattle.stream_store.specs.Open.{Entry, AreWide, after_put, elements_at, open_of, placed}
 use Rattle.stream_store.specs.OpenRows.{IsOpen, IsRisen, RisenRows, Rising, headed, risen_in, with_late}
-use Rattle.stream_store.specs.Starts.{entries_read, has_reader, is_read, rows_read, turned}
+use Rattle.stream_store.specs.Starts.{entries_read, has_reader, row_read, rows_read, turned}
 use Rattle.stream_store.specs.Closing.{by_key}
 use Rattle.stream_store.specs.Stored.{IsStored, stream_in}
-use Rattle.stream_store.specs.Kept.{kept_stream}
+use Rattle.stream_store.specs.Kept.{SaysKept, SaysKeptOf, kept_stream}
 use Rattle.stream_store.proofs.KeyLemmas.{each-kept, each_from, filter_all, filter_none, placed_first}
 use Rattle.stream_store.proofs.OrderLemmas.{by_key_more, filter-by_key, filter-map, filter_same_each, in_order, ordered-filter, ordered_from}
 use Rattle.stream_store.proofs.PlacedLemmas.{filter-placed_other}
@@ -215,7 +219,7 @@ module _ (starts : List Start) where
   pub open-read : (es : List Entry) → open_of (entries_read starts es) ≡ filter (has_reader starts) (open_of es)
   open-read [] = refl
   open-read (e ∷ es) =
-      here (filter (λ r. is_read starts r.0 e.0) e.1.rows) (open-read es)
+      here (filter (row_read starts e.0) e.1.rows) (open-read es)
       ∙ ap (λ (xs : List Element). xs ++ filter (has_reader starts) (open_of es)) (sym (filter-map (has_reader starts) (λ r. record { arrival = r.0; instant = e.0; row = r.1 }) e.1.rows))
       ∙ sym (filter-append (has_reader starts) (elements_at e.0 e.1.rows) (open_of es))
     where
@@ -386,3 +390,52 @@ module _ (columns n : ℕ) (closed next : Closed) (es : List Element) (p : Eleme
   pub kept_rest : (name : List ℕ) (names : List (List ℕ)) (rows : List Element)
       → stream_in name names n next rows ≡ record (stream_in name names n closed es) { elements = (stream_in name names n next rows).elements }
   kept_rest name names rows = rw until refl
+
+-- ---- the list of streams
+pub stream_there : {X Y : Type 0} (f : X → Y) (xs : List X) (n : ℕ) (y : Y) → option_map f (slice_get xs n) ≡ Some y → n < length xs
+stream_there f [] n y h = cc
+stream_there f (x ∷ xs) zero y h = omega arith
+stream_there f (x ∷ xs) (suc n) y h = let k = stream_there f xs n y h in omega (arith, k)
+
+pub stream_found : {X Y : Type 0} (f : X → Y) (xs : List X) (n : ℕ) (y : Y) (d : X) → option_map f (slice_get xs n) ≡ Some y → f (get_or xs n d) ≡ y
+stream_found f [] n y d h = cc
+stream_found f (x ∷ xs) zero y d h = cc
+stream_found f (x ∷ xs) (suc n) y d h = stream_found f xs n y d h
+
+pub said_there : (marks : List Bool) (starts : List Start) (keep : Element → Bool) (xs : List Stream) (n : ℕ) (d : Stream) → n < length xs → SaysKeptOf marks starts keep (slice_get xs n) → SaysKept marks starts keep (get_or xs n d)
+said_there marks starts keep [] n d lt h = absurd (omega (arith, lt))
+said_there marks starts keep (x ∷ xs) zero d lt h = h
+said_there marks starts keep (x ∷ xs) (suc n) d lt h = said_there marks starts keep xs n d (omega (arith, lt)) h
+
+-- the first so many streams with what is kept of them, the others as they are
+abbrev pub kept_first : (ℕ → Element → Bool) → ℕ → ℕ → List Stream → List Stream
+kept_first keep zero n ss = ss
+kept_first keep (suc count) n [] = []
+kept_first keep (suc count) n (s ∷ ss) = kept_stream (keep n) s ∷ kept_first keep count (suc n) ss
+
+-- one stream after another is kept
+kept_next_from : (keep : ℕ → Element → Bool) (count n : ℕ) (ss : List Stream) → change count (kept_stream (keep (n + count))) (kept_first keep count n ss) ≡ kept_first keep (suc count) n ss
+kept_next_from keep zero n [] = refl
+kept_next_from keep zero n (s ∷ ss) = let e : n + 0 ≡ n = omega arith in ap (λ m. kept_stream (keep m) s ∷ ss) e
+kept_next_from keep (suc count) n [] = refl
+kept_next_from keep (suc count) n (s ∷ ss) =
+    let e : n + suc count ≡ suc n + count = omega arith in
+    ap (λ m. kept_stream (keep n) s ∷ change count (kept_stream (keep m)) (kept_first keep count (suc n) ss)) e
+    ∙ ap (λ (xs : List Stream). kept_stream (keep n) s ∷ xs) (kept_next_from keep count (suc n) ss)
+
+pub kept_next : (keep : ℕ → Element → Bool) (count : ℕ) (ss : List Stream) → change count (kept_stream (keep count)) (kept_first keep count 0 ss) ≡ kept_first keep (suc count) 0 ss
+kept_next keep count ss = let e : 0 + count ≡ count = omega arith in ap (λ m. change count (kept_stream (keep m)) (kept_first keep count 0 ss)) (sym e) ∙ kept_next_from keep count 0 ss
+
+-- until all are
+pub kept_all : (keep : ℕ → Element → Bool) (count n : ℕ) (ss : List Stream) → length ss ≤ count → kept_first keep count n ss ≡ with_kept keep n ss
+kept_all keep zero n [] le = refl
+kept_all keep zero n (s ∷ ss) le = absurd (omega (arith, le))
+kept_all keep (suc count) n [] le = refl
+kept_all keep (suc count) n (s ∷ ss) le = ap (λ (xs : List Stream). kept_stream (keep n) s ∷ xs) (kept_all keep count (suc n) ss (omega (arith, le)))
+
+-- the streams that come next are as they were
+pub kept_later : (keep : ℕ → Element → Bool) (count n i : ℕ) (ss : List Stream) → count ≤ i → slice_get (kept_first keep count n ss) i ≡ slice_get ss i
+kept_later keep zero n i ss le = refl
+kept_later keep (suc count) n i [] le = refl
+kept_later keep (suc count) n zero (s ∷ ss) le = absurd (omega (arith, le))
+kept_later keep (suc count) n (suc i) (s ∷ ss) le = kept_later keep count (suc n) i ss (omega (arith, le))

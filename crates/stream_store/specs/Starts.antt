@@ -1,6 +1,7 @@
 -- Which rows the readers of a stream have in their inputs.
 use Rattle.std.specs.Prelude.{ℕ, Bool, ◌&&◌, nat_le, List, [], ◌∷◌, ◌++◌, map}
 use Rattle.std.specs.List.{filter, list_any}
+use Rattle.values.specs.Row.{Row}
 use Rattle.values.specs.Window.{Element}
 use Rattle.stream_store.specs.declared.starts.Start.{Start}
 use Rattle.stream_store.specs.LateRows.{RowsAt, has_rows}
@@ -18,9 +19,13 @@ is_read starts number instant = list_any (has_row number instant) starts
 abbrev pub has_reader : List Start → Element → Bool
 has_reader starts e = is_read starts e.arrival e.instant
 
+-- the same of a row with its number, at an instant
+abbrev pub row_read : List Start → ℕ → ℕ × Row → Bool
+row_read starts instant r = is_read starts r.0 instant
+
 -- of the open rows of an instant those that have a reader
 abbrev pub rows_read : List Start → ℕ → RowsAt → RowsAt
-rows_read starts instant late_rows = record { width = late_rows.width; rows = filter (λ r. is_read starts r.0 instant) late_rows.rows }
+rows_read starts instant late_rows = record { width = late_rows.width; rows = filter (row_read starts instant) late_rows.rows }
 
 -- of all instants those rows, without instants that have none
 abbrev pub entries_read : List Start → List Entry → List Entry

@@ -7,7 +7,7 @@ ghost use Rattle.reference.specs.Commands.{is_stream_value};
 ghost use Rattle.stream_store.specs.Open.{elements_at};
 ghost use Rattle.stream_store.specs.LateRows.{first_below, has_rows, lent_rows, none_at};
 ghost use Rattle.stream_store.specs.LateRows.{rows_in, with_rows};
-ghost use Rattle.stream_store.specs.Starts.{is_read, rows_read};
+ghost use Rattle.stream_store.specs.Starts.{row_read, rows_read};
 
 use crate::arrivals::Arrivals;
 use crate::starts::{Start, is_read};
@@ -135,7 +135,7 @@ fn move_kept(
     ensures within { result ≤ length numbers.new.items }
     ensures full { length values.new.items ≡ length numbers.new.items * width }
     ensures rows { take result (rows_in width numbers.new.items values.new.items)
-        ≡ filter (λ r. is_read starts.now r.0 instant)
+        ≡ filter (row_read starts.now instant)
         (rows_in width numbers.old.items values.old.items) }
 {
     let mut count = 0;

@@ -14,9 +14,7 @@ use Rattle.column.specs.Bits.{chosen}
 use Rattle.values.specs.Row.{Row}
 use Rattle.values.specs.Window.{Element}
 use Rattle.op_queue.specs.Logs.{Closed}
-use Rattle.reference.specs.Commands.{change}
 use Rattle.reference.specs.Machine.{Stream}
-use Rattle.reference.specs.Opening.{with_kept}
 use Rattle.stream_store.specs.declared.starts.Start.{Start}
 use Rattle.stream_store.specs.declared.ordered_rows.Head.{Head}
 use Rattle.stream_store.specs.LateRows.{RowsAt, has_rows, rows_in}
@@ -254,7 +252,7 @@ length-placed x (e ∷ es) = here (length-placed x es) (nat_lt x.instant e.insta
     here ih false = ap suc ih
 
 pub length-late : (late es : List Element) → length (with_late late es) ≡ length late + length es
-length-late [] es = refl
+length-late [] es = omega arith
 length-late (l ∷ late) es = omega (arith, length-late late (placed l es), length-placed l es)
 
 pub length-put : (n : ℕ) (rows : List (ℕ × Row)) (es : List Element) → length (after_put n rows es) ≡ length es + length rows
@@ -267,15 +265,15 @@ filter-placed : (p : Element → Bool) (x : Element) (es : List Element) → Ris
 filter-placed p x es h = here (p x) refl
   where
     kept : p x ≡ true → (es : List Element) → Rising (λ e. e.instant) es → filter p (placed x es) ≡ placed x (filter p es)
-    kept yes [] h = rw yes refl
-    kept yes (e ∷ es) h = step (kept yes es h.1) (nat_lt x.instant e.instant) refl (p e) refl
+    kept passes [] h = rw passes refl
+    kept passes (e ∷ es) h = step (kept passes es h.1) (nat_lt x.instant e.instant) refl (p e) refl
       where
         step : filter p (placed x es) ≡ placed x (filter p es) → (b : Bool) → nat_lt x.instant e.instant ≡ b → (c : Bool) → p e ≡ c
             → filter p (cond b (x ∷ e ∷ es) (e ∷ placed x es)) ≡ placed x (cond c (e ∷ filter p es) (filter p es))
-        step ih true i true j = rw (yes, j, i) refl
+        step ih true i true j = rw (passes, j, i) refl
         step ih true i false j =
             let lt : x.instant < e.instant = ltb-true x.instant e.instant i in
-            rw (yes, j) (sym (placed_first x (filter p es) (each-kept (λ (g : Element). x.instant < g.instant) p es (each_from (λ (g : Element). e.instant ≤ g.instant) (λ (g : Element). x.instant < g.instant) (λ g le. omega (arith, lt, le)) es h.0))))
+            rw (passes, j) (sym (placed_first x (filter p es) (each-kept (λ (g : Element). x.instant < g.instant) p es (each_from (λ (g : Element). e.instant ≤ g.instant) (λ (g : Element). x.instant < g.instant) (λ g le. omega (arith, lt, le)) es h.0))))
         step ih false i true j = rw (j, i) (ap (λ xs. e ∷ xs) ih)
         step ih false i false j = rw j ih
 
@@ -406,36 +404,3 @@ pub said_there : (marks : List Bool) (starts : List Start) (keep : Element → B
 said_there marks starts keep [] n d lt h = absurd (omega (arith, lt))
 said_there marks starts keep (x ∷ xs) zero d lt h = h
 said_there marks starts keep (x ∷ xs) (suc n) d lt h = said_there marks starts keep xs n d (omega (arith, lt)) h
-
--- the first so many streams with what is kept of them, the others as they are
-abbrev pub kept_first : (ℕ → Element → Bool) → ℕ → ℕ → List Stream → List Stream
-kept_first keep zero n ss = ss
-kept_first keep (suc count) n [] = []
-kept_first keep (suc count) n (s ∷ ss) = kept_stream (keep n) s ∷ kept_first keep count (suc n) ss
-
--- one stream after another is kept
-kept_next_from : (keep : ℕ → Element → Bool) (count n : ℕ) (ss : List Stream) → change count (kept_stream (keep (n + count))) (kept_first keep count n ss) ≡ kept_first keep (suc count) n ss
-kept_next_from keep zero n [] = refl
-kept_next_from keep zero n (s ∷ ss) = let e : n + 0 ≡ n = omega arith in ap (λ m. kept_stream (keep m) s ∷ ss) e
-kept_next_from keep (suc count) n [] = refl
-kept_next_from keep (suc count) n (s ∷ ss) =
-    let e : n + suc count ≡ suc n + count = omega arith in
-    ap (λ m. kept_stream (keep n) s ∷ change count (kept_stream (keep m)) (kept_first keep count (suc n) ss)) e
-    ∙ ap (λ (xs : List Stream). kept_stream (keep n) s ∷ xs) (kept_next_from keep count (suc n) ss)
-
-pub kept_next : (keep : ℕ → Element → Bool) (count : ℕ) (ss : List Stream) → change count (kept_stream (keep count)) (kept_first keep count 0 ss) ≡ kept_first keep (suc count) 0 ss
-kept_next keep count ss = let e : 0 + count ≡ count = omega arith in ap (λ m. change count (kept_stream (keep m)) (kept_first keep count 0 ss)) (sym e) ∙ kept_next_from keep count 0 ss
-
--- until all are
-pub kept_all : (keep : ℕ → Element → Bool) (count n : ℕ) (ss : List Stream) → length ss ≤ count → kept_first keep count n ss ≡ with_kept keep n ss
-kept_all keep zero n [] le = refl
-kept_all keep zero n (s ∷ ss) le = absurd (omega (arith, le))
-kept_all keep (suc count) n [] le = refl
-kept_all keep (suc count) n (s ∷ ss) le = ap (λ (xs : List Stream). kept_stream (keep n) s ∷ xs) (kept_all keep count (suc n) ss (omega (arith, le)))
-
--- the streams that come next are as they were
-pub kept_later : (keep : ℕ → Element → Bool) (count n i : ℕ) (ss : List Stream) → count ≤ i → slice_get (kept_first keep count n ss) i ≡ slice_get ss i
-kept_later keep zero n i ss le = refl
-kept_later keep (suc count) n i [] le = refl
-kept_later keep (suc count) n zero (s ∷ ss) le = absurd (omega (arith, le))
-kept_later keep (suc count) n (suc i) (s ∷ ss) le = kept_later keep count (suc n) i ss (omega (arith, le))

@@ -11,3 +11,4 @@ mod StoredLemmas
 mod KeepLemmas
 mod BesideLemmas
 pub mod ShownLemmas
+pub mod KeptLemmas

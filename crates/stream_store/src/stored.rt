@@ -208,6 +208,13 @@ impl Stored {
         Ok(())
     }
 
+    /// How many rows are closed and kept.
+    pub(crate) fn closed(&self) -> usize
+        ensures { result ≡ count_closed self.now }
+    {
+        self.log().len()
+    }
+
     /// How many of the rows that came are kept, closed and open. It costs the instants that have
     /// late open rows.
     pub(crate) fn kept(&self) -> usize

@@ -213,6 +213,17 @@ impl Streams {
         self.streams[stream as usize].close(at, rows)
     }
 
+    /// How many rows of the stream of a number are closed and kept: those of its log. `None` where
+    /// there is no such stream.
+    pub fn closed(&self, stream: u64) -> Option<usize>
+        ensures { result ≡ option_map count_closed (slice_get self.now stream) }
+    {
+        match self.stream_at(stream) {
+            Some(stream) => Some(stream.closed()),
+            None => None,
+        }
+    }
+
     /// How many rows of the stream of a number are kept, closed and open; `None` where there is no
     /// such stream. Takes no memory; it costs the instants that have late open rows.
     pub fn kept(&self, stream: u64) -> Option<usize>
@@ -224,11 +235,12 @@ impl Streams {
         }
     }
 
-    /// Of the closed rows of the stream of a number those stay at whose places in its log a mark is
-    /// true, of its open rows those that one of the readers has in its input; the others leave.
+    /// Of the closed rows of the stream of a number, as many as there are marks, those stay at whose
+    /// places in its log the mark is true; of its open rows those that one of the readers has in
+    /// its input. The others leave.
     ///
     /// How many rows came, the numbers of those that stay and the first open instant go on. Takes no
-    /// memory; it costs the stream's rows, times the readers for the open ones.
+    /// memory; it costs the stream's rows, of the open ones each times the readers.
     pub fn keep(&mut self, stream: u64, kept: &[bool], starts: &[Start])
         requires { option_map count_closed (slice_get self.old stream) ≡ Some (length kept.now) }
         ensures { (keep : Element → Bool)

@@ -1,1 +1,5 @@
+pub mod CountLemmas
+pub mod KeyLemmas
 pub mod MarkLemmas
+pub mod NeedLemmas
+pub mod RunLemmas

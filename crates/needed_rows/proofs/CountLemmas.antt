@@ -1,7 +1,7 @@
 -- How many places pass, and how many elements of an input came later than one.
-use Rattle.std.proofs.Common.{◌≡◌, ℕ, ℤ, zero, suc, ◌+◌, ◌-◌, ◌<◌, ◌≤◌, ◌==◌, Bool, true, false, cond, ◌&&◌, ◌||◌, nat_le, nat_lt, Option, List, [], ◌∷◌, length, map, filter, get_or, refl, ap, ap₂, sym, ◌∙◌, arith, le-leb, lt-leb, ⊎_elim}
+use Rattle.std.proofs.Common.{◌≡◌, ℕ, ℤ, zero, suc, ◌+◌, ◌-◌, ◌<◌, ◌≤◌, ◌==◌, Bool, true, false, cond, ◌&&◌, ◌||◌, nat_le, nat_lt, Option, List, [], ◌∷◌, length, map, filter, get_or, refl, ap, ap₂, sym, ◌∙◌, arith, le-leb, ⊎_elim}
 use Rattle.std.specs.List.{range_with_len}
-use Rattle.std.proofs.lemmas.Bool.{cases_lt}
+use Rattle.std.proofs.lemmas.Bool.{cases_lt, lt-leb}
 use Rattle.std.proofs.lemmas.Bool.Decides.{nat_tests}
 use Rattle.values.specs.Window.{Element, counts, is_later, same_in}
 use Rattle.values.proofs.Windows.{tally}
@@ -16,20 +16,15 @@ count-split p s zero k =
     let b : s + 0 ≡ s = omega arith in
     let c : 0 + count_places p (s + 0) k ≡ count_places p (s + 0) k = omega arith in
     ap (count_places p s) a ∙ ap (λ n. count_places p n k) (sym b) ∙ sym c
-count-split p s (suc m) k = here (p s)
+count-split p s (suc m) k =
+    let b : s + 1 + m ≡ s + suc m = omega arith in
+    let e : suc m + k ≡ suc (m + k) = omega arith in
+    ap (count_places p s) e ∙ step (p s) (count-split p (s + 1) m k ∙ ap (λ n. count_places p (s + 1) m + count_places p n k) b)
   where
-    i : count_places p (s + 1) (m + k) ≡ count_places p (s + 1) m + count_places p (s + suc m) k
-    i = count-split p (s + 1) m k ∙ (let b : s + 1 + m ≡ s + suc m = omega arith in ap (λ n. count_places p (s + 1) m + count_places p n k) b)
-
-    a : count_places p s (suc m + k) ≡ cond (p s) (suc (count_places p (s + 1) (m + k))) (count_places p (s + 1) (m + k))
-    a = let e : suc m + k ≡ suc (m + k) = omega arith in ap (count_places p s) e
-
-    here : (b : Bool) → count_places p s (suc m + k) ≡ cond (p s) (suc (count_places p (s + 1) m)) (count_places p (s + 1) m) + count_places p (s + suc m) k
-    here b = a ∙ step (p s)
-      where
-        step : (b : Bool) → cond b (suc (count_places p (s + 1) (m + k))) (count_places p (s + 1) (m + k)) ≡ cond b (suc (count_places p (s + 1) m)) (count_places p (s + 1) m) + count_places p (s + suc m) k
-        step true = omega (arith, i)
-        step false = i
+    step : (b : Bool) → count_places p (s + 1) (m + k) ≡ count_places p (s + 1) m + count_places p (s + suc m) k
+        → cond b (suc (count_places p (s + 1) (m + k))) (count_places p (s + 1) (m + k)) ≡ cond b (suc (count_places p (s + 1) m)) (count_places p (s + 1) m) + count_places p (s + suc m) k
+    step true i = omega (arith, i)
+    step false i = i
 
 pub count-same : (p q : ℕ → Bool) (s m : ℕ) → ((j : ℕ) → s ≤ j → j < s + m → p j ≡ q j) → count_places p s m ≡ count_places q s m
 count-same p q s zero h = refl
@@ -43,24 +38,23 @@ count-none p s (suc m) h =
     let i : count_places p (s + 1) m ≡ 0 = count-none p (s + 1) m (λ j l u. h j (omega (arith, l)) (omega (arith, u))) in
     ap (λ b. cond b (suc (count_places p (s + 1) m)) (count_places p (s + 1) m)) (h s (omega arith) (omega arith)) ∙ i
 
--- those of a front part
+-- those of an input, by places
 tally-places : (q p : Element → Bool) (f : ℕ → Element) (s m : ℕ) → tally q (filter p (map f (range_with_len s m))) ≡ count_places (λ j. p (f j) && q (f j)) s m
 tally-places q p f s zero = refl
-tally-places q p f s (suc m) = here (p (f s)) (q (f s)) refl
+tally-places q p f s (suc m) = here (p (f s)) (q (f s)) refl (tally-places q p f (s + 1) m)
   where
-    i : tally q (filter p (map f (range_with_len (s + 1) m))) ≡ count_places (λ j. p (f j) && q (f j)) (s + 1) m
-    i = tally-places q p f (s + 1) m
-
-    rest : List Element
-    rest = filter p (map f (range_with_len (s + 1) m))
-
-    count : ℕ
-    count = count_places (λ j. p (f j) && q (f j)) (s + 1) m
-
-    here : (b c : Bool) → q (f s) ≡ c → tally q (cond b (f s ∷ filter p (map f (range_with_len (s + 1) m))) (filter p (map f (range_with_len (s + 1) m)))) ≡ cond (b && c) (suc (count_places (λ j. p (f j) && q (f j)) (s + 1) m)) (count_places (λ j. p (f j) && q (f j)) (s + 1) m)
-    here true true e = ap (λ d. cond d (suc (tally q (filter p (map f (range_with_len (s + 1) m))))) (tally q (filter p (map f (range_with_len (s + 1) m))))) e ∙ ap suc i
-    here true false e = ap (λ d. cond d (suc (tally q (filter p (map f (range_with_len (s + 1) m))))) (tally q (filter p (map f (range_with_len (s + 1) m))))) e ∙ i
-    here false c e = i
+    here : (b c : Bool) → q (f s) ≡ c → tally q (filter p (map f (range_with_len (s + 1) m))) ≡ count_places (λ j. p (f j) && q (f j)) (s + 1) m
+        → tally q (cond b (f s ∷ filter p (map f (range_with_len (s + 1) m))) (filter p (map f (range_with_len (s + 1) m))))
+        ≡ cond (b && q (f s)) (suc (count_places (λ j. p (f j) && q (f j)) (s + 1) m)) (count_places (λ j. p (f j) && q (f j)) (s + 1) m)
+    here true true e i =
+        ap (λ d. cond d (suc (tally q (filter p (map f (range_with_len (s + 1) m))))) (tally q (filter p (map f (range_with_len (s + 1) m))))) e
+        ∙ ap suc i
+        ∙ sym (ap (λ d. cond d (suc (count_places (λ j. p (f j) && q (f j)) (s + 1) m)) (count_places (λ j. p (f j) && q (f j)) (s + 1) m)) e)
+    here true false e i =
+        ap (λ d. cond d (suc (tally q (filter p (map f (range_with_len (s + 1) m))))) (tally q (filter p (map f (range_with_len (s + 1) m))))) e
+        ∙ i
+        ∙ sym (ap (λ d. cond d (suc (count_places (λ j. p (f j) && q (f j)) (s + 1) m)) (count_places (λ j. p (f j) && q (f j)) (s + 1) m)) e)
+    here false c e i = i
 
 -- LATER, of elements in order
 not_later_than : (a b m n : ℕ) → b ≤ a → (a ≡ b → n ≤ m) → (nat_lt a b || (a == b && nat_lt m n)) ≡ false

@@ -1,5 +1,6 @@
 pub mod CountLemmas
 pub mod KeyLemmas
+pub mod LastLemmas
 pub mod MarkLemmas
 pub mod NeedLemmas
 pub mod RunLemmas

@@ -1,6 +1,6 @@
 -- Marks that are set one by one.
-use Rattle.std.proofs.Common.{◌≡◌, ◌≢◌, ℕ, suc, ◌+◌, ◌-◌, ◌<◌, ◌≤◌, Bool, true, false, cond, ◌&&◌, ◌||◌, nat_le, nat_lt, List, [], ◌∷◌, length, get_or, set, length-set, refl, ap, ap₂, sym, ◌∙◌, arith, true≢false, ltb-true, lt-ltb, le-ltb, leb-true, le-leb, lt-leb, ⊎_elim}
-use Rattle.std.proofs.lemmas.Bool.{and_from, and_parts, cases_eq, cases_lt}
+use Rattle.std.proofs.Common.{◌≡◌, ◌≢◌, ℕ, suc, ◌+◌, ◌-◌, ◌<◌, ◌≤◌, Bool, true, false, cond, ◌&&◌, ◌||◌, nat_le, nat_lt, List, [], ◌∷◌, length, get_or, set, length-set, refl, ap, ap₂, sym, ◌∙◌, arith, true≢false, ltb-true, lt-ltb, le-ltb, leb-true, le-leb, ⊎_elim}
+use Rattle.std.proofs.lemmas.Bool.{and_from, and_parts, cases_eq, cases_lt, lt-leb}
 use Rattle.std.proofs.lemmas.Grind.{get_or-set_at}
 use Rattle.std.proofs.lemmas.List.{get_or-set_other}
 use Rattle.needed_rows.specs.Marks.{Sets, count_places, has_arrived, is_among_last, is_between, is_from, is_in_run}
@@ -58,53 +58,87 @@ not_true : (b : Bool) → (b ≡ true → ⊥) → b ≡ false
 not_true true h = absurd (h refl)
 not_true false h = refl
 
--- FORWARDS, through a run
+-- PLACE BY PLACE, forwards and backwards
+module _ (P : ℕ → Bool) where
+  abbrev pub F : ℕ → ℕ → Bool
+  F k i = nat_lt i k && P i
+
+  abbrev pub D : ℕ → ℕ → Bool
+  D k i = nat_le k i && P i
+
+  pub fore_first : (old : List Bool) (k : ℕ) → ((i : ℕ) → i < k → P i ≡ false) → Sets (F k) old old
+  fore_first old k h = sets_none (F k) old (λ i l. not_true (F k i) (λ t.
+      let a = and_parts (nat_lt i k) (P i) t in
+      absurd (true≢false (sym a.1 ∙ h i (ltb-true i k a.0)))))
+
+  fore_other : (row i : ℕ) → i ≢ row → F (row + 1) i ≡ F row i
+  fore_other row i differs = ap (λ b. b && P i) (same_bool (nat_lt i (row + 1)) (nat_lt i row)
+      (λ t. lt-ltb i row (let l = ltb-true i (row + 1) t in omega arith))
+      (λ t. lt-ltb i (row + 1) (let l = ltb-true i row t in omega arith)))
+
+  pub fore_yes : (old now : List Bool) (row : ℕ) → Sets (F row) old now → row < length old → P row ≡ true → Sets (F (row + 1)) old (set now row true)
+  fore_yes old now row s l p = sets_one (F row) (F (row + 1)) old now row s l (ap (λ b. b && P row) (lt-ltb row (row + 1) (omega arith)) ∙ p) (λ i differs u. fore_other row i differs)
+
+  pub fore_no : (old now : List Bool) (row : ℕ) → Sets (F row) old now → P row ≡ false → Sets (F (row + 1)) old now
+  fore_no old now row s p = sets_same (F row) (F (row + 1)) old now s (λ i u. ⊎_elim
+      (λ (is : i ≡ row). ap (F (row + 1)) is ∙ and_false (nat_lt row (row + 1)) (P row) p ∙ sym (ap (F row) is ∙ and_false (nat_lt row row) (P row) p))
+      (λ (differs : i ≢ row). fore_other row i differs)
+      (cases_eq i row))
+
+  -- all others do not pass
+  pub fore_last : (old new : List Bool) (k : ℕ) → ((i : ℕ) → k ≤ i → P i ≡ false) → Sets (F k) old new → Sets P old new
+  fore_last old new k h s = sets_same (F k) P old new s (λ i u. ⊎_elim
+      (λ (lt : i < k). sym (ap (λ b. b && P i) (lt-ltb i k lt)))
+      (λ (ge : k ≤ i). h i ge ∙ sym (and_false (nat_lt i k) (P i) (h i ge)))
+      (cases_lt i k))
+
+  pub back_first : (old : List Bool) (k : ℕ) → ((i : ℕ) → k ≤ i → P i ≡ false) → Sets (D k) old old
+  back_first old k h = sets_none (D k) old (λ i l. not_true (D k i) (λ t.
+      let a = and_parts (nat_le k i) (P i) t in
+      absurd (true≢false (sym a.1 ∙ h i (leb-true k i a.0)))))
+
+  back_other : (before row i : ℕ) → before ≡ row + 1 → i ≢ row → D row i ≡ D before i
+  back_other before row i e differs = ap (λ b. b && P i) (same_bool (nat_le row i) (nat_le before i)
+      (λ t. le-leb before i (let a = leb-true row i t in omega arith))
+      (λ t. le-leb row i (let a = leb-true before i t in omega arith)))
+
+  pub back_yes : (old now : List Bool) (before row : ℕ) → before ≡ row + 1 → Sets (D before) old now → row < length old → P row ≡ true → Sets (D row) old (set now row true)
+  back_yes old now before row e s l p = sets_one (D before) (D row) old now row s l (ap (λ b. b && P row) (le-leb row row (omega arith)) ∙ p) (λ i differs u. back_other before row i e differs)
+
+  pub back_no : (old now : List Bool) (before row : ℕ) → before ≡ row + 1 → Sets (D before) old now → P row ≡ false → Sets (D row) old now
+  back_no old now before row e s p = sets_same (D before) (D row) old now s (λ i u. ⊎_elim
+      (λ (is : i ≡ row). ap (D row) is ∙ and_false (nat_le row row) (P row) p ∙ sym (ap (D before) is ∙ and_false (nat_le before row) (P row) p))
+      (λ (differs : i ≢ row). back_other before row i e differs)
+      (cases_eq i row))
+
+  pub back_last : (old new : List Bool) (k : ℕ) → ((i : ℕ) → i < k → P i ≡ false) → Sets (D k) old new → Sets P old new
+  back_last old new k h s = sets_same (D k) P old new s (λ i u. ⊎_elim
+      (λ (lt : i < k). h i lt ∙ sym (and_false (nat_le k i) (P i) (h i lt)))
+      (λ (ge : k ≤ i). sym (ap (λ b. b && P i) (le-leb k i ge)))
+      (cases_lt i k))
+
+-- RUNS
 module _ (numbers : List ℕ) (place start end : ℕ) where
-  abbrev R : ℕ → ℕ → Bool
-  R k = is_in_run numbers place start k
+  abbrev R : ℕ → Bool
+  R = is_in_run numbers place start end
 
-  run_other : (k i : ℕ) → i ≢ k → R (k + 1) i ≡ R k i
-  run_other k i no = ap (λ b. has_arrived numbers place i && (nat_le start i && b)) (same_bool (nat_lt i (k + 1)) (nat_lt i k)
-      (λ t. lt-ltb i k (let l = ltb-true i (k + 1) t in omega arith))
-      (λ t. lt-ltb i (k + 1) (let l = ltb-true i k t in omega arith)))
+  run_inside : (i : ℕ) → R i ≡ true → (start ≤ i) × (i < end)
+  run_inside i t =
+      let a = and_parts (has_arrived numbers place i) (nat_le start i && nat_lt i end) t in
+      let b = and_parts (nat_le start i) (nat_lt i end) a.1 in
+      (leb-true start i b.0, ltb-true i end b.1)
 
-  run_here : (k : ℕ) → start ≤ k → R (k + 1) k ≡ has_arrived numbers place k
-  run_here k h = ap (λ b. has_arrived numbers place k && (b && nat_lt k (k + 1))) (le-leb start k h) ∙ ap (λ b. has_arrived numbers place k && (true && b)) (lt-ltb k (k + 1) (omega arith)) ∙ and_true (has_arrived numbers place k)
-    where
-      and_true : (b : Bool) → (b && (true && true)) ≡ b
-      and_true true = refl
-      and_true false = refl
+  pub run_before : (i : ℕ) → i < start → R i ≡ false
+  run_before i l = not_true (R i) (λ t. let c = run_inside i t in omega (arith, c.0, l))
 
-  run_before : (k : ℕ) → R k k ≡ false
-  run_before k = and_false (has_arrived numbers place k) (nat_le start k && nat_lt k k) (and_false (nat_le start k) (nat_lt k k) (le-ltb k k (omega arith)))
+  pub run_behind : (k : ℕ) → (start ≤ end → end ≤ k) → (i : ℕ) → k ≤ i → R i ≡ false
+  run_behind k h i l = not_true (R i) (λ t. let c = run_inside i t in omega (arith, c.0, c.1, l, h (omega (arith, c.0, c.1))))
 
-  pub run_first : (old : List Bool) → Sets (R start) old old
-  run_first old = sets_none (R start) old (λ i l. and_false (has_arrived numbers place i) (nat_le start i && nat_lt i start)
-      (not_true (nat_le start i && nat_lt i start) (none i)))
-    where
-      none : (i : ℕ) → (nat_le start i && nat_lt i start) ≡ true → ⊥
-      none i t = let p = and_parts (nat_le start i) (nat_lt i start) t in let a = leb-true start i p.0 in let b = ltb-true i start p.1 in omega arith
+  pub run_here : (i : ℕ) → start ≤ i → i < end → place ≤ get_or numbers i 0 → R i ≡ true
+  run_here i s e p = and_from (has_arrived numbers place i) (nat_le start i && nat_lt i end) (le-leb place (get_or numbers i 0) p) (and_from (nat_le start i) (nat_lt i end) (le-leb start i s) (lt-ltb i end e))
 
-  pub run_yes : (old now : List Bool) (k : ℕ) → Sets (R k) old now → start ≤ k → k < length old → place ≤ get_or numbers k 0 → Sets (R (k + 1)) old (set now k true)
-  run_yes old now k s h l p = sets_one (R k) (R (k + 1)) old now k s l (run_here k h ∙ le-leb place (get_or numbers k 0) p) (λ i no u. run_other k i no)
-
-  pub run_no : (old now : List Bool) (k : ℕ) → Sets (R k) old now → start ≤ k → get_or numbers k 0 < place → Sets (R (k + 1)) old now
-  run_no old now k s h p = sets_same (R k) (R (k + 1)) old now s (λ i u. ⊎_elim
-      (λ (is : i ≡ k). ap (R (k + 1)) is ∙ run_here k h ∙ lt-leb place (get_or numbers k 0) p ∙ sym (run_before k) ∙ ap (R k) (sym is))
-      (λ (no : i ≢ k). run_other k i no)
-      (cases_eq i k))
-
-  -- the run goes to below `end`, or nowhere
-  pub run_last : (old new : List Bool) (k : ℕ) → (start ≤ end → k ≡ end) → (end < start → k ≡ start) → Sets (R k) old new → Sets (R end) old new
-  run_last old new k h g s = sets_same (R k) (R end) old new s (λ i u. ap (λ b. has_arrived numbers place i && b) (same_bool (nat_le start i && nat_lt i end) (nat_le start i && nat_lt i k) (there i) (back i)))
-    where
-      there : (i : ℕ) → (nat_le start i && nat_lt i end) ≡ true → (nat_le start i && nat_lt i k) ≡ true
-      there i t = let p = and_parts (nat_le start i) (nat_lt i end) t in let a = leb-true start i p.0 in let b = ltb-true i end p.1 in
-          and_from (nat_le start i) (nat_lt i k) p.0 (lt-ltb i k (omega arith))
-
-      back : (i : ℕ) → (nat_le start i && nat_lt i k) ≡ true → (nat_le start i && nat_lt i end) ≡ true
-      back i t = let p = and_parts (nat_le start i) (nat_lt i k) t in let a = leb-true start i p.0 in let b = ltb-true i k p.1 in
-          and_from (nat_le start i) (nat_lt i end) p.0 (lt-ltb i end (⊎_elim (λ (lt : end < start). absurd (let e = g lt in omega arith)) (λ (ge : start ≤ end). let e = h ge in omega arith) (cases_lt end start)))
+  pub run_none : (i : ℕ) → get_or numbers i 0 < place → R i ≡ false
+  run_none i p = ap (λ b. b && (nat_le start i && nat_lt i end)) (lt-leb place (get_or numbers i 0) p)
 
 -- a run between two places of instants in order
 pub run_from : (instants numbers : List ℕ) (place start least : ℕ) (old new : List Bool) → length old ≡ length instants
@@ -142,60 +176,37 @@ run_between instants numbers place start end least last old new len below above 
         (λ t. lt-ltb i end (⊎_elim (λ (lt : i < end). lt) (λ (ge : end ≤ i). absurd (let k = behind i ge (omega arith) in let m = ltb-true (get_or instants i 0) last t in omega arith)) (cases_lt i end)))
         (λ t. lt-ltb (get_or instants i 0) last (before i (ltb-true i end t)))
 
--- BACKWARDS, from the end of a part
+-- THE LAST of a part
 module _ (passes : ℕ → Bool) (alike : ℕ → ℕ → Bool) (n start end : ℕ) where
   abbrev P : ℕ → Bool
   P = is_among_last passes alike n start end
 
-  abbrev D : ℕ → ℕ → Bool
-  D k i = nat_le k i && P i
+  abbrev few : ℕ → Bool
+  few i = nat_lt (count_places (λ j. passes j && alike i j) (i + 1) (end - (i + 1))) n
 
-  inside : (i : ℕ) → P i ≡ true → (start ≤ i) × (i < end)
-  inside i t =
-      let a = and_parts (nat_le start i && nat_lt i end) (passes i && nat_lt (count_places (λ j. passes j && alike i j) (i + 1) (end - (i + 1))) n) t in
+  last_inside : (i : ℕ) → P i ≡ true → (start ≤ i) × (i < end)
+  last_inside i t =
+      let a = and_parts (nat_le start i && nat_lt i end) (passes i && few i) t in
       let b = and_parts (nat_le start i) (nat_lt i end) a.0 in
       (leb-true start i b.0, ltb-true i end b.1)
 
-  pub back_here : (row : ℕ) → start ≤ row → row < end → passes row ≡ true → P row ≡ nat_lt (count_places (λ j. passes j && alike row j) (row + 1) (end - (row + 1))) n
-  back_here row h l p =
-      ap (λ b. (b && nat_lt row end) && (passes row && C)) (le-leb start row h) ∙ ap (λ b. (true && b) && (passes row && C)) (lt-ltb row end l) ∙ ap (λ b. (true && true) && (b && C)) p
-    where
-      C : Bool
-      C = nat_lt (count_places (λ j. passes j && alike row j) (row + 1) (end - (row + 1))) n
+  pub last_here : (i : ℕ) → start ≤ i → i < end → passes i ≡ true → P i ≡ few i
+  last_here i h l p = ap (λ b. (b && nat_lt i end) && (passes i && few i)) (le-leb start i h) ∙ ap (λ b. (true && b) && (passes i && few i)) (lt-ltb i end l) ∙ ap (λ b. (true && true) && (b && few i)) p
 
-  pub back_none : (row : ℕ) → passes row ≡ false → P row ≡ false
-  back_none row p = and_false (nat_le start row && nat_lt row end) (passes row && C) (ap (λ b. b && C) p)
-    where
-      C : Bool
-      C = nat_lt (count_places (λ j. passes j && alike row j) (row + 1) (end - (row + 1))) n
+  pub last_none : (i : ℕ) → passes i ≡ false → P i ≡ false
+  last_none i p = and_false (nat_le start i && nat_lt i end) (passes i && few i) (ap (λ b. b && few i) p)
 
-  pub back_first : (old : List Bool) (k : ℕ) → end ≤ k → Sets (D k) old old
-  back_first old k h = sets_none (D k) old (λ i l. not_true (D k i) (λ t.
-      let a = and_parts (nat_le k i) (P i) t in
-      let b = leb-true k i a.0 in
-      let c = inside i a.1 in
-      omega (arith, c.1)))
+  pub last_many : (i : ℕ) → few i ≡ false → P i ≡ false
+  last_many i p = and_false (nat_le start i && nat_lt i end) (passes i && few i) (and_false (passes i) (few i) p)
 
-  other : (before row i : ℕ) → before ≡ row + 1 → i ≢ row → D row i ≡ D before i
-  other before row i e no = ap (λ b. b && P i) (same_bool (nat_le row i) (nat_le before i)
-      (λ t. le-leb before i (let a = leb-true row i t in omega arith))
-      (λ t. le-leb row i (let a = leb-true before i t in omega arith)))
+  pub last_before : (i : ℕ) → i < start → P i ≡ false
+  last_before i l = not_true (P i) (λ t. let c = last_inside i t in omega (arith, c.0, l))
 
-  pub back_yes : (old now : List Bool) (before row : ℕ) → before ≡ row + 1 → Sets (D before) old now → row < length old → P row ≡ true → Sets (D row) old (set now row true)
-  back_yes old now before row e s l p = sets_one (D before) (D row) old now row s l (ap (λ b. b && P row) (le-leb row row (omega arith)) ∙ p) (λ i no u. other before row i e no)
+  pub last_behind : (i : ℕ) → end ≤ i → P i ≡ false
+  last_behind i l = not_true (P i) (λ t. let c = last_inside i t in omega (arith, c.1, l))
 
-  pub back_no : (old now : List Bool) (before row : ℕ) → before ≡ row + 1 → Sets (D before) old now → P row ≡ false → Sets (D row) old now
-  back_no old now before row e s p = sets_same (D before) (D row) old now s (λ i u. ⊎_elim
-      (λ (is : i ≡ row). ap (D row) is ∙ and_false (nat_le row row) (P row) p ∙ sym (ap (D before) is ∙ and_false (nat_le before row) (P row) p))
-      (λ (no : i ≢ row). other before row i e no)
-      (cases_eq i row))
+  pub last_through : (k : ℕ) → (start ≤ end → end ≤ k) → (i : ℕ) → k ≤ i → P i ≡ false
+  last_through k h i l = not_true (P i) (λ t. let c = last_inside i t in omega (arith, c.0, c.1, l, h (omega (arith, c.0, c.1))))
 
-  -- all others are none of the last
-  pub back_last : (old new : List Bool) (k : ℕ) → ((i : ℕ) → i < k → P i ≡ false) → Sets (D k) old new → Sets P old new
-  back_last old new k h s = sets_same (D k) P old new s (λ i u. ⊎_elim
-      (λ (lt : i < k). h i lt ∙ sym (and_false (nat_le k i) (P i) (h i lt)))
-      (λ (ge : k ≤ i). sym (ap (λ b. b && P i) (le-leb k i ge)))
-      (cases_lt i k))
-
-  pub back_through : (old new : List Bool) (k : ℕ) → k ≡ end - (end - start) → Sets (D k) old new → Sets P old new
-  back_through old new k e s = back_last old new k (λ i lt. not_true (P i) (λ t. let c = inside i t in omega (arith, c.0, c.1, lt, e))) s
+  pub last_back : (k : ℕ) → k ≡ end - (end - start) → (i : ℕ) → i < k → P i ≡ false
+  last_back k e i l = not_true (P i) (λ t. let c = last_inside i t in omega (arith, c.0, c.1, l, e))

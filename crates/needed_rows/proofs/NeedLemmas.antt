@@ -1,7 +1,7 @@
 -- What each kind of window needs, by places.
-use Rattle.std.proofs.Common.{◌≡◌, ℕ, ℤ, suc, ◌+◌, ◌-◌, ◌*◌, ◌/◌, ◌<◌, ◌≤◌, Bool, true, false, cond, min, max, ◌&&◌, ◌||◌, nat_le, nat_lt, Option, List, [], ◌∷◌, length, map, filter, get_or, refl, ap, ap₂, sym, ◌∙◌, arith, le-leb, lt-leb, lt-ltb, le-ltb, leb-true, leb-false, ⊎_elim}
+use Rattle.std.proofs.Common.{◌≡◌, ℕ, ℤ, suc, ◌+◌, ◌-◌, ◌*◌, ◌/◌, ◌<◌, ◌≤◌, Bool, true, false, cond, min, max, ◌&&◌, ◌||◌, nat_le, nat_lt, Option, List, [], ◌∷◌, length, map, filter, get_or, refl, ap, ap₂, sym, ◌∙◌, arith, le-leb, lt-ltb, le-ltb, leb-true, leb-false, ⊎_elim}
 use Rattle.std.specs.List.{range_with_len}
-use Rattle.std.proofs.lemmas.Bool.{cases_lt}
+use Rattle.std.proofs.lemmas.Bool.{cases_lt, lt-leb}
 use Rattle.std.proofs.lemmas.Bool.Decides.{nat_tests}
 use Rattle.values.specs.Window.{Element, Range, RangeSlide, Unbounded, LastRows, counts, count_later}
 use Rattle.values.proofs.Windows.{tally, tally_is}

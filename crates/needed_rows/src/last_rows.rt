@@ -83,6 +83,7 @@ fn mark_last_of_each<const N: usize>(
     end: usize,
     kept: &mut [bool],
 ) -> Result<(), AllocError>
+    requires room { N ≤ MAX_COLUMNS }
     requires narrow { length columns.now ≤ N }
     requires within { end ≤ length rows.now.numbers.now }
     requires same { length kept.old ≡ length rows.now.numbers.now }

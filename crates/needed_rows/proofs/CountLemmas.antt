@@ -63,7 +63,7 @@ not_later_than a b m n h k = grind (arith, nat_tests)
 later_than : (a b m n : ℕ) → a ≤ b → (a ≡ b → m < n) → (nat_lt a b || (a == b && nat_lt m n)) ≡ true
 later_than a b m n h k = grind (arith, nat_tests)
 
-and_false : (a b : Bool) → b ≡ false → (a && b) ≡ false
+pub and_false : (a b : Bool) → b ≡ false → (a && b) ≡ false
 and_false true b h = h
 and_false false b h = refl
 
@@ -139,3 +139,20 @@ module _ (instants numbers : List ℕ) (columns : List (List (Option ℤ))) (pla
         let n2 : count_places Q end (n - end) ≡ 0 = count-none Q end (n - end) counts_behind in
         let m : count_places Q (i + 1) (end - (i + 1)) ≡ count_places (λ j. has_arrived numbers place j && are_alike chosen columns i j) (i + 1) (end - (i + 1)) = count-same Q (λ j. has_arrived numbers place j && are_alike chosen columns i j) (i + 1) (end - (i + 1)) counts_between in
         a ∙ (let w : count_places Q 0 n ≡ count_places Q (i + 1) (end - (i + 1)) = omega arith in w) ∙ m
+
+-- ONE MORE PLACE at the end
+module _ (p : ℕ → Bool) (s other n : ℕ) (le : s ≤ other) (so_far : n ≡ count_places p s (other - s)) where
+  abbrev one : Bool → ℕ
+  one b = cond b (suc (count_places p (other + 1) 0)) (count_places p (other + 1) 0)
+
+  last_one : count_places p s (other + 1 - s) ≡ count_places p s (other - s) + one (p other)
+  last_one =
+      let a : other + 1 - s ≡ (other - s) + 1 = omega arith in
+      let b : s + (other - s) ≡ other = omega arith in
+      ap (count_places p s) a ∙ count-split p s (other - s) 1 ∙ ap (λ x. count_places p s (other - s) + count_places p x 1) b
+
+  pub count_yes : p other ≡ true → n + 1 ≡ count_places p s (other + 1 - s)
+  count_yes t = let a : one (p other) ≡ 1 = ap one t in omega (arith, last_one, so_far, a)
+
+  pub count_no : p other ≡ false → n ≡ count_places p s (other + 1 - s)
+  count_no f = let a : one (p other) ≡ 0 = ap one f in omega (arith, last_one, so_far, a)

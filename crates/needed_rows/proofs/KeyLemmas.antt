@@ -1,9 +1,11 @@
 -- How often keys were counted, going back through rows.
-use Rattle.std.proofs.Common.{◌≡◌, ℕ, ℤ, suc, ◌+◌, ◌-◌, ◌<◌, ◌≤◌, Bool, true, false, cond, min, ◌&&◌, nat_lt, Option, List, [], ◌∷◌, length, map, get_or, refl, ap, ap₂, sym, ◌∙◌, arith, ltb-true, ltb-false, lt-ltb, le-ltb}
+use Rattle.std.proofs.Common.{◌≡◌, ℕ, ℤ, suc, ◌+◌, ◌-◌, ◌<◌, ◌≤◌, Bool, true, false, cond, min, ◌&&◌, nat_lt, Option, None, List, [], ◌∷◌, length, map, get_or, refl, ap, ap₂, sym, ◌∙◌, arith, ltb-true, ltb-false, lt-ltb, le-ltb}
+use Rattle.std.specs.Borrow.{Bor}
 use Rattle.std.specs.declared.cmp.Ordering.{Ordering}
 use Rattle.std.specs.declared.cmp.Ordering.TheVariants.{Less, Equal, Greater}
 use Rattle.std.specs.Ordering.{is_eq, ordering_then}
 use Rattle.std.specs.Cmp.{Equal-is}
+use Rattle.std.proofs.lemmas.List.{get_or-map, length-map}
 use Rattle.values.specs.Row.{Row, row_cmp, same_row, value_at, value_cmp}
 use Rattle.values.specs.Window.{same_in}
 use Rattle.values.proofs.Bags.{same_itself}
@@ -11,6 +13,7 @@ use Rattle.values.proofs.Order.{row_order}
 use Rattle.column.specs.Rows.{row_at}
 use Rattle.needed_rows.specs.Keys.{Key, are_alike, count_of, is_of_key, key_cmp, key_in}
 use Rattle.needed_rows.specs.Marks.{count_places}
+use Rattle.needed_rows.specs.Needed.{lists}
 use Rattle.needed_rows.proofs.CountLemmas.{count-same}
 use Rattle.needed_rows.proofs.MarkLemmas.{same_bool}
 
@@ -95,3 +98,10 @@ module _ (passes : ℕ → Bool) (chosen : List ℕ) (columns : List (List (Opti
       here false t =
           ap (λ b. cond (b && nat_lt (old key) most) (old key + 1) (old k)) t ∙ was k
           ∙ sym (ap (λ b. min most (cond b (suc (count_places (of k.items) before step)) (count_places (of k.items) before step))) t)
+
+-- the value in a column
+pub value_in_lists : (columns : List (Bor (List (Option ℤ)))) (row column : ℕ) (d : Bor (List (Option ℤ))) → column < length columns → value_at (row_at (lists columns) row) column ≡ value_at (get_or columns column d).now row
+value_in_lists columns row column d lt =
+    let values : Bor (List (Option ℤ)) → List (Option ℤ) = λ c. c.now in
+    let at : List (Option ℤ) → Option ℤ = λ c. get_or c row None in
+    get_or-map at (lists columns) column [] None (omega (arith, length-map columns values)) ∙ ap at (get_or-map values columns column d [] lt)

@@ -1,11 +1,10 @@
 -- How many places pass, and how many elements of an input came later than one.
-use Rattle.std.proofs.Common.{◌≡◌, ℕ, ℤ, zero, suc, ◌+◌, ◌-◌, ◌<◌, ◌≤◌, ◌==◌, Bool, true, false, cond, ◌&&◌, ◌||◌, nat_le, nat_lt, Option, List, [], ◌∷◌, length, map, filter, get_or, refl, ap, ap₂, sym, ◌∙◌, arith, le-leb, ⊎_elim}
+use Rattle.std.proofs.Common.{◌≡◌, ℕ, ℤ, zero, suc, ◌+◌, ◌-◌, ◌<◌, ◌≤◌, ◌==◌, Bool, true, false, cond, ◌&&◌, ◌||◌, nat_le, nat_lt, Option, List, ◌∷◌, length, map, filter, get_or, refl, ap, ap₂, sym, ◌∙◌, arith, le-leb, ⊎_elim}
 use Rattle.std.specs.List.{range_with_len}
 use Rattle.std.proofs.lemmas.Bool.{cases_lt, lt-leb}
 use Rattle.std.proofs.lemmas.Bool.Decides.{nat_tests}
 use Rattle.values.specs.Window.{Element, counts, is_later, same_in}
 use Rattle.values.proofs.Windows.{tally}
-use Rattle.column.specs.Rows.{row_at}
 use Rattle.op_queue.specs.Tables.{IsRising, element_at}
 use Rattle.needed_rows.specs.Keys.{are_alike}
 use Rattle.needed_rows.specs.Marks.{count_places, has_arrived}

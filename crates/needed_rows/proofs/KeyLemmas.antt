@@ -1,5 +1,5 @@
 -- How often keys were counted, going back through rows.
-use Rattle.std.proofs.Common.{◌≡◌, ℕ, ℤ, suc, ◌+◌, ◌-◌, ◌<◌, ◌≤◌, Bool, true, false, cond, min, ◌&&◌, nat_lt, Option, None, List, [], ◌∷◌, length, map, get_or, refl, ap, ap₂, sym, ◌∙◌, arith, ltb-true, ltb-false, lt-ltb, le-ltb}
+use Rattle.std.proofs.Common.{◌≡◌, ℕ, ℤ, suc, ◌+◌, ◌<◌, Bool, true, false, cond, min, ◌&&◌, nat_lt, Option, None, List, [], ◌∷◌, length, get_or, refl, ap, sym, ◌∙◌, arith, ltb-true, ltb-false, lt-ltb}
 use Rattle.std.specs.Borrow.{Bor}
 use Rattle.std.specs.declared.cmp.Ordering.{Ordering}
 use Rattle.std.specs.declared.cmp.Ordering.TheVariants.{Less, Equal, Greater}
@@ -11,7 +11,7 @@ use Rattle.values.specs.Window.{same_in}
 use Rattle.values.proofs.Bags.{same_itself}
 use Rattle.values.proofs.Order.{row_order}
 use Rattle.column.specs.Rows.{row_at}
-use Rattle.needed_rows.specs.Keys.{Key, are_alike, count_of, is_of_key, key_cmp, key_in}
+use Rattle.needed_rows.specs.Keys.{Key, are_alike, is_of_key, key_cmp, key_in}
 use Rattle.needed_rows.specs.Marks.{count_places}
 use Rattle.needed_rows.specs.Needed.{lists}
 use Rattle.needed_rows.proofs.CountLemmas.{count-same}

@@ -1,5 +1,5 @@
 -- Steps back through the rows of a part, of which the last are marked.
-use Rattle.std.proofs.Common.{◌≡◌, ◌≢◌, ℕ, ℤ, suc, ◌+◌, ◌-◌, ◌<◌, ◌≤◌, Bool, true, false, cond, min, ◌&&◌, nat_le, nat_lt, Option, List, [], ◌∷◌, length, get_or, set, refl, ap, sym, ◌∙◌, arith, lt-ltb, le-ltb, le-leb}
+use Rattle.std.proofs.Common.{◌≡◌, ◌≢◌, ℕ, ℤ, suc, ◌+◌, ◌-◌, ◌<◌, ◌≤◌, Bool, true, false, cond, min, ◌&&◌, nat_lt, Option, List, [], ◌∷◌, length, get_or, set, refl, ap, sym, ◌∙◌, arith, lt-ltb, le-ltb, le-leb}
 use Rattle.std.specs.Ordering.{is_eq}
 use Rattle.std.proofs.lemmas.Bool.{lt-leb}
 use Rattle.column.specs.Rows.{row_at}
@@ -7,7 +7,7 @@ use Rattle.needed_rows.specs.Keys.{Key, are_alike, count_of, is_of_key, key_cmp,
 use Rattle.needed_rows.specs.Marks.{Sets, count_places, has_arrived, is_among_last}
 use Rattle.needed_rows.proofs.CountLemmas.{count-same, count-split}
 use Rattle.needed_rows.proofs.KeyLemmas.{counted_few, counted_no, counted_yes}
-use Rattle.needed_rows.proofs.MarkLemmas.{D, F, back_last, back_no, back_yes, fore_no, fore_yes, last_here, last_many, last_none}
+use Rattle.needed_rows.proofs.MarkLemmas.{D, back_last, back_no, back_yes, last_here, last_many, last_none}
 
 all_pass : (p : ℕ → Bool) (s m : ℕ) → count_places (λ j. p j && true) s m ≡ count_places p s m
 all_pass p s m = count-same (λ j. p j && true) p s m (λ j l u. here (p j))

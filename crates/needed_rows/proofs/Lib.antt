@@ -3,4 +3,5 @@ pub mod KeyLemmas
 pub mod LastLemmas
 pub mod MarkLemmas
 pub mod NeedLemmas
+pub mod ReaderLemmas
 pub mod RunLemmas

@@ -1,11 +1,10 @@
 -- What each kind of window needs, by places.
-use Rattle.std.proofs.Common.{◌≡◌, ℕ, ℤ, suc, ◌+◌, ◌-◌, ◌*◌, ◌/◌, ◌<◌, ◌≤◌, Bool, true, false, cond, min, max, ◌&&◌, ◌||◌, nat_le, nat_lt, Option, List, [], ◌∷◌, length, map, filter, get_or, refl, ap, ap₂, sym, ◌∙◌, arith, le-leb, lt-ltb, le-ltb, leb-true, leb-false, ⊎_elim}
-use Rattle.std.specs.List.{range_with_len}
+use Rattle.std.proofs.Common.{◌≡◌, ℕ, ℤ, suc, ◌+◌, ◌-◌, ◌*◌, ◌/◌, ◌<◌, ◌≤◌, Bool, true, false, min, max, ◌&&◌, ◌||◌, nat_le, nat_lt, Option, List, length, filter, get_or, refl, ap, sym, ◌∙◌, arith, le-leb, lt-ltb, le-ltb, leb-true, ⊎_elim}
 use Rattle.std.proofs.lemmas.Bool.{cases_lt, lt-leb}
 use Rattle.std.proofs.lemmas.Bool.Decides.{nat_tests}
 use Rattle.std.proofs.Math.Nat.{suc-mul}
 use Rattle.values.specs.Window.{Element, Window, Range, RangeSlide, Unbounded, LastRows, counts, count_later}
-use Rattle.values.proofs.Windows.{tally, tally_is}
+use Rattle.values.proofs.Windows.{tally_is}
 use Rattle.op_queue.specs.Tables.{IsRising, element_at, elements_in}
 use Rattle.needed_rows.specs.Keys.{are_alike}
 use Rattle.needed_rows.specs.Marks.{Sets, count_places, has_arrived, is_among_last, is_between, is_from}

@@ -1,5 +1,5 @@
 -- Marks of rows, and the tests by place that set them.
-use Rattle.std.specs.Prelude.{◌≡◌, ℕ, zero, suc, ◌+◌, ◌-◌, ◌<◌, Bool, true, false, cond, ◌&&◌, ◌||◌, nat_le, nat_lt, List, length, get_or}
+use Rattle.std.specs.Prelude.{◌≡◌, ℕ, zero, suc, ◌+◌, ◌-◌, ◌<◌, Bool, false, cond, ◌&&◌, ◌||◌, nat_le, nat_lt, List, length, get_or}
 
 -- the marks of the places that pass are set, and the others are as they were
 pub record Sets (passes : ℕ → Bool) (old new : List Bool) : Type 0 where

@@ -1,7 +1,5 @@
-use Rattle.std.proofs.Common.{◌≡◌, ◌+◌, ◌-◌, ◌≢◌, true, arith}
-use Rattle.needed_rows.specs.Marks.{has_arrived, is_among_last}
+use Rattle.std.proofs.Common.{◌≡◌, ◌+◌, ◌-◌, ◌≢◌, arith}
 use Rattle.needed_rows.proofs.LastLemmas.{all_found, all_no, all_no_left, all_yes, all_yes_left}
-use Rattle.needed_rows.proofs.MarkLemmas.{back_first, back_last, last_back, last_behind}
 use Rattle.needed_rows.proofs.last_rows.mark_last_of_all.Goals.{then-place-numbers, else-place-numbers}
 use Rattle.needed_rows.proofs.last_rows.mark_last_of_all.Goals as goal
 

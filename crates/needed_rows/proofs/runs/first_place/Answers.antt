@@ -1,6 +1,5 @@
-use Rattle.std.proofs.Common.{◌≤◌, ltb, ltb-true, rules, arith, get_or, length}
+use Rattle.std.proofs.Common.{ltb, ltb-true, rules, arith}
 use Rattle.std.proofs.lemmas.Bool.{ltb-false}
-use Rattle.std.proofs.lemmas.List.{get_or_default}
 use Rattle.std.proofs.lemmas.List.Sorted.{IsPartitionPoint-from_clause, IsPartitionedBy-ltb}
 use Rattle.needed_rows.proofs.RunLemmas.{in_order}
 use Rattle.needed_rows.proofs.runs.first_place.Goals as goal

@@ -1,4 +1,3 @@
-use Rattle.std.proofs.Common.{sym, ◌∙◌}
 use Rattle.needed_rows.proofs.MarkLemmas.{run_from}
 use Rattle.needed_rows.proofs.runs.mark_from.Goals as goal
 

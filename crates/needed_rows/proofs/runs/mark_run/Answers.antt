@@ -1,6 +1,6 @@
 use Rattle.std.proofs.Common.{arith}
 use Rattle.needed_rows.specs.Marks.{is_in_run}
-use Rattle.needed_rows.proofs.MarkLemmas.{fore_first, fore_last, fore_no, fore_yes, run_before, run_behind, run_here, run_none}
+use Rattle.needed_rows.proofs.MarkLemmas.{fore_first, fore_last, run_before, run_behind}
 use Rattle.needed_rows.proofs.runs.mark_run.Goals as goal
 
 pub loop-row-init : goal.loop-row-init

@@ -8,9 +8,11 @@
 
 mod keys;
 mod last_rows;
+mod laws;
 mod marks;
 mod reader;
 mod runs;
 
+pub use laws::readers_say_what_is_needed;
 pub use marks::{mark_needed, needed};
 pub use reader::{ClosedRows, Reader};

@@ -5,6 +5,8 @@
 #![tactic(auto)]
 
 #[cfg(test)]
+mod needed;
+#[cfg(test)]
 mod streams;
 #[cfg(test)]
 mod tables;

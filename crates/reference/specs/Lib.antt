@@ -20,4 +20,5 @@ pub mod Told
 pub mod Finds
 pub mod MachineExamples
 pub mod Opening
+pub mod Alike
 pub mod OpeningExamples

@@ -83,6 +83,14 @@ impl Answering for Plain {
         Ok(())
     }
 
+    /// It keeps everything.
+    fn forget(&mut self) -> Result<(), Fault> {
+        Ok(())
+    }
+
+    /// It keeps everything.
+    fn tidy(&mut self) {}
+
     #[tactic(auto, unfolding(crate::specs::World::slopes_at))]
     fn slopes(&self, query: u64) -> Result<Vec<(Kind, Slope)>, Fault> {
         match self.query_at(query) {

@@ -1,8 +1,7 @@
 -- An engine whose machine is replaced by its opening.
 use Rattle.std.specs.Prelude.{ℕ, ◌≡◌, true, Option, Some, None, List, [], ◌∷◌, map}
 use Rattle.values.specs.Row.{Row}
-use Rattle.operators.specs.declared.states.State.{State}
-use Rattle.operators.specs.declared.states.State.TheVariants as state
+use Rattle.operators.specs.States.{last_in}
 use Rattle.reference.specs.Machine.{Registered}
 use Rattle.reference.specs.Opening.{opening}
 use Rattle.laws_dataflow.specs.Plans.{below_root}
@@ -15,16 +14,6 @@ abbrev pub opened : PlainEngine → List (Option ℕ) → PlainEngine
 opened e marks = record e { machine = opening e.machine marks (map answers_in e.queries) }
 
 -- THE MARKS
--- the instant of the last tick that a root has taken
-abbrev pub last_in : State → Option ℕ
-last_in (state.Range s) = None
-last_in (state.Slide s) = None
-last_in (state.Latest s) = None
-last_in state.Nothing = None
-last_in (state.Join s) = None
-last_in (state.Groups s) = None
-last_in (state.Root s) = s.last
-
 -- the instant after the mark of a running query: after the last tick that its root has taken, or its first one
 abbrev pub next_of : Registered → PlainQuery → ℕ
 next_of q p = behind q.first (last_in (operator_at p.operators (below_root q.nodes)).state)

@@ -15,7 +15,7 @@ ghost use Rattle.operators.specs.Operators.{KeepsBatches, inbox_of, other, ready
 ghost use Rattle.operators.specs.Operators.{ready_at, waiting};
 ghost use Rattle.operators.specs.Runs.{HasPutTo, MayPut, is_root};
 ghost use Rattle.operators.specs.States.{FitsState, HasColumns, IsNext, Takes, near_of};
-ghost use Rattle.operators.specs.States.{usable};
+ghost use Rattle.operators.specs.States.{last_in, usable};
 ghost use Rattle.operators.specs.declared.inboxes.Inbox.TheVariants.{Between};
 
 use crate::inboxes::Inbox;
@@ -88,6 +88,14 @@ impl Operator {
         ensures { result ≡ is_root self.now.kind }
     {
         matches!(&*self.kind, Kind::ToStream)
+    }
+
+    /// The instant of the last tick that it took as a root; `None` before the first, and of any
+    /// other operator.
+    pub fn last_tick(&self) -> Option<u64>
+        ensures { result ≡ last_in self.now.state }
+    {
+        self.state.last_tick()
     }
 
     /// Whether the side can be used now, if anything waits there.

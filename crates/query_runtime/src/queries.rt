@@ -1,12 +1,13 @@
 //! Running queries.
-ghost use Rattle.std.specs.Prelude.{◌≡◌, ◌<◌, [], false, true, length, All, IfErr, IfOk, OnOk};
-ghost use Rattle.std.specs.Prelude.{OnErr};
+ghost use Rattle.std.specs.Prelude.{◌≡◌, ◌<◌, ◌-◌, [], false, true, length, All, IfErr, IfOk};
+ghost use Rattle.std.specs.Prelude.{OnErr, OnOk};
 ghost use Rattle.std.specs.Arc.{arc_value};
 ghost use Rattle.op_queue.specs.Items.{entries_of};
 ghost use Rattle.turn.specs.Turns.{outs_in};
 ghost use Rattle.operators.specs.Inboxes.{all_entries};
 ghost use Rattle.operators.specs.Operators.{KeepsBatches, ready, waiting};
 ghost use Rattle.operators.specs.Runs.{Stops, is_root};
+ghost use Rattle.operators.specs.States.{last_in};
 ghost use Rattle.column.specs.declared.batch.Side.TheVariants.{Left, Right};
 ghost use Rattle.physical_plans.specs.Beginnings.{HaveNarrowRows, IsMakeable, widths_of};
 ghost use Rattle.to_stream.specs.Turns.{answers_of};
@@ -95,6 +96,15 @@ impl RunningQuery {
         ensures { result ≡ length self.now.operators }
     {
         self.operators.len()
+    }
+
+    /// The instant of the last tick that its root took; `None` before the first.
+    pub fn last_tick(&self) -> Option<u64>
+        requires { 0 < length self.now.operators }
+        ensures { result
+            ≡ last_in (operator_at self.now.operators (length self.now.operators - 1)).state }
+    {
+        self.operator(self.operators.len() - 1).last_tick()
     }
 
     /// How many answers wait to be taken.

@@ -35,7 +35,7 @@ impl Model for WaitingAnswers {
 
 impl WaitingAnswers {
     /// Makes a queue of no answers. Takes no memory.
-    pub(crate) fn new(alloc: Global) -> WaitingAnswers
+    pub fn new(alloc: Global) -> WaitingAnswers
         ensures { result ≡ [] }
     {
         WaitingAnswers {

@@ -72,6 +72,13 @@ impl ToStream {
         }
     }
 
+    /// The instant of the last tick, if there was one.
+    pub fn last_tick(&self) -> Option<u64>
+        ensures { result ≡ self.now.last }
+    {
+        self.last
+    }
+
     /// What a turn needs of the state: at a tick the rows that answer, in order. It costs as much
     /// as these. An error says that memory was refused; nothing is changed.
     pub fn near(&self, alloc: Global, item: &Item) -> Result<Vec<Row>, AllocError>

@@ -74,20 +74,20 @@ module _ (p : Element → Bool) (width : ℕ) where
   turned-kept h [] values some full is passes = absurd (omega (arith, some))
   turned-kept h (k ∷ heads) values some full is passes =
       let row : Row = take width values in
-      let yes : p (headed (k, row)) ≡ true = ap (λ (i : Head). p (headed (i, row))) (sym is) ∙ passes in
+      let stays : p (headed (k, row)) ≡ true = ap (λ (i : Head). p (headed (i, row))) (sym is) ∙ passes in
       ap (λ (rs : List (Head × Row)). map headed rs) (rows_in-append width heads (k ∷ []) (drop width values) row (rest_full width (length heads) values full))
       ∙ map-append headed (rows_in width heads (drop width values)) ((k, take width row) ∷ [])
       ∙ ap (λ (r : Row). risen_in width heads (drop width values) ++ headed (k, r) ∷ []) (take-take width width values (omega arith))
-      ∙ ap (λ b. risen_in width heads (drop width values) ++ cond b (headed (k, row) ∷ []) []) (sym yes)
+      ∙ ap (λ b. risen_in width heads (drop width values) ++ cond b (headed (k, row) ∷ []) []) (sym stays)
 
   pub turned-gone : (h : Head) (heads : List Head) (values : List (Option ℤ)) → 0 < length heads → h ≡ get_or heads 0 h → p (headed (h, take width values)) ≡ false
       → risen_in width (drop 1 heads) (drop width values) ≡ turned p (risen_in width heads values)
   turned-gone h [] values some is fails = absurd (omega (arith, some))
   turned-gone h (k ∷ heads) values some is fails =
       let row : Row = take width values in
-      let no : p (headed (k, row)) ≡ false = ap (λ (i : Head). p (headed (i, row))) (sym is) ∙ fails in
+      let goes : p (headed (k, row)) ≡ false = ap (λ (i : Head). p (headed (i, row))) (sym is) ∙ fails in
       sym (append-nil (risen_in width heads (drop width values)))
-      ∙ ap (λ b. risen_in width heads (drop width values) ++ cond b (headed (k, row) ∷ []) []) (sym no)
+      ∙ ap (λ b. risen_in width heads (drop width values) ++ cond b (headed (k, row) ∷ []) []) (sym goes)
 
 pub gone_full : {X : Type 0} (width : ℕ) (heads : List X) (values : List (Option ℤ)) → 0 < length heads → length values ≡ length heads * width → length (drop width values) ≡ length (drop 1 heads) * width
 gone_full width [] values some full = absurd (omega (arith, some))

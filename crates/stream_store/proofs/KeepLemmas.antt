@@ -1,6 +1,6 @@
 -- What is left of a stream's rows where only marked ones and those with a reader are kept.
 use Rattle.std.proofs.Common.{◌≡◌, ◌<◌, ◌≤◌, ◌+◌, ◌*◌, ◌==◌, ℕ, ℤ, zero, suc, Bool, true, false, cond, nat_lt, Option, Some, List, [], ◌∷◌, ◌++◌, length, map, take, drop, get_or, set, refl, sym, ap, ap₂, subst, ◌∙◌, arith, ◌⊎◌, inl, inr, append-nil, append_assoc, length-append, length-drop}
-use Rattle.std.specs.List.{AllByRecursion, All, filter}
+use Rattle.std.specs.List.{AllByRecursion, filter}
 use Rattle.std.specs.Map.Calls.{RetainsPairs}
 use Rattle.std.specs.Option.{option_map}
 use Rattle.std.specs.Prelude.{slice_get}
@@ -17,7 +17,7 @@ use Rattle.op_queue.specs.Logs.{Closed}
 use Rattle.reference.specs.Machine.{Stream}
 use Rattle.stream_store.specs.declared.starts.Start.{Start}
 use Rattle.stream_store.specs.declared.ordered_rows.Head.{Head}
-use Rattle.stream_store.specs.LateRows.{RowsAt, has_rows, rows_in}
+use Rattle.stream_store.specs.LateRows.{has_rows, rows_in}
 use Rattle.stream_store.specs.Open.{Entry, AreWide, after_put, elements_at, open_of, placed}
 use Rattle.stream_store.specs.OpenRows.{IsOpen, IsRisen, RisenRows, Rising, headed, risen_in, with_late}
 use Rattle.stream_store.specs.Starts.{entries_read, has_reader, row_read, rows_read, turned}
@@ -29,7 +29,6 @@ use Rattle.stream_store.proofs.OrderLemmas.{by_key_more, filter-by_key, filter-m
 use Rattle.stream_store.proofs.PlacedLemmas.{filter-placed_other}
 use Rattle.stream_store.proofs.LateLemmas.{rising-placed}
 use Rattle.stream_store.proofs.FlatLemmas.{first_full, length-rows_in, rest_full, rows_in-append, rows_in-at, rows_in-drop, rows_in-take}
-use Rattle.stream_store.proofs.RisingLemmas.{length-risen}
 
 pub few_filtered : {X : Type 0} (p : X → Bool) (xs : List X) → length (filter p xs) ≤ length xs
 few_filtered p xs = omega (arith, length-filter p xs, count_by-le-length p xs)

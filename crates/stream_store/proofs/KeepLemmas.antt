@@ -1,6 +1,6 @@
 -- What is left of a stream's rows where only marked ones and those with a reader are kept.
 use Rattle.std.proofs.Common.{◌≡◌, ◌<◌, ◌≤◌, ◌+◌, ◌*◌, ◌==◌, ℕ, ℤ, zero, suc, Bool, true, false, cond, nat_lt, Option, Some, List, [], ◌∷◌, ◌++◌, length, map, take, drop, get_or, set, refl, sym, ap, ap₂, subst, ◌∙◌, arith, ◌⊎◌, inl, inr, append-nil, append_assoc, length-append, length-drop}
-use Rattle.std.specs.List.{AllByRecursion, All, filter}
+use Rattle.std.specs.List.{AllByRecursion, filter}
 use Rattle.std.specs.Map.Calls.{RetainsPairs}
 use Rattle.std.specs.Option.{option_map}
 use Rattle.std.specs.Prelude.{slice_get}
@@ -17,7 +17,7 @@ use Rattle.op_queue.specs.Logs.{Closed}
 use Rattle.reference.specs.Machine.{Stream}
 use Rattle.stream_store.specs.declared.starts.Start.{Start}
 use Rattle.stream_store.specs.declared.ordered_rows.Head.{Head}
-use Rattle.stream_store.specs.LateRows.{RowsAt, has_rows, rows_in}
+use Rattle.stream_store.specs.LateRows.{has_rows, rows_in}
 use Rattle.stream_store.specs.Open.{Entry, AreWide, after_put, elements_at, open_of, placed}
 use Rattle.stream_store.specs.OpenRows.{IsOpen, IsRisen, RisenRows, Rising, headed, risen_in, with_late}
 use Rattle.stream_store.specs.Starts.{entries_read, has_reader, row_read, rows_read, turned}
@@ -29,7 +29,6 @@ use Rattle.stream_store.proofs.OrderLemmas.{by_key_more, filter-by_key, filter-m
 use Rattle.stream_store.proofs.PlacedLemmas.{filter-placed_other}
 use Rattle.stream_store.proofs.LateLemmas.{rising-placed}
 use Rattle.stream_store.proofs.FlatLemmas.{first_full, length-rows_in, rest_full, rows_in-append, rows_in-at, rows_in-drop, rows_in-take}
-use Rattle.stream_store.proofs.RisingLemmas.{length-risen}
 
 pub few_filtered : {X : Type 0} (p : X → Bool) (xs : List X) → length (filter p xs) ≤ length xs
 few_filtered p xs = omega (arith, length-filter p xs, count_by-le-length p xs)
@@ -74,20 +73,20 @@ module _ (p : Element → Bool) (width : ℕ) where
   turned-kept h [] values some full is passes = absurd (omega (arith, some))
   turned-kept h (k ∷ heads) values some full is passes =
       let row : Row = take width values in
-      let yes : p (headed (k, row)) ≡ true = ap (λ (i : Head). p (headed (i, row))) (sym is) ∙ passes in
+      let stays : p (headed (k, row)) ≡ true = ap (λ (i : Head). p (headed (i, row))) (sym is) ∙ passes in
       ap (λ (rs : List (Head × Row)). map headed rs) (rows_in-append width heads (k ∷ []) (drop width values) row (rest_full width (length heads) values full))
       ∙ map-append headed (rows_in width heads (drop width values)) ((k, take width row) ∷ [])
       ∙ ap (λ (r : Row). risen_in width heads (drop width values) ++ headed (k, r) ∷ []) (take-take width width values (omega arith))
-      ∙ ap (λ b. risen_in width heads (drop width values) ++ cond b (headed (k, row) ∷ []) []) (sym yes)
+      ∙ ap (λ b. risen_in width heads (drop width values) ++ cond b (headed (k, row) ∷ []) []) (sym stays)
 
   pub turned-gone : (h : Head) (heads : List Head) (values : List (Option ℤ)) → 0 < length heads → h ≡ get_or heads 0 h → p (headed (h, take width values)) ≡ false
       → risen_in width (drop 1 heads) (drop width values) ≡ turned p (risen_in width heads values)
   turned-gone h [] values some is fails = absurd (omega (arith, some))
   turned-gone h (k ∷ heads) values some is fails =
       let row : Row = take width values in
-      let no : p (headed (k, row)) ≡ false = ap (λ (i : Head). p (headed (i, row))) (sym is) ∙ fails in
+      let goes : p (headed (k, row)) ≡ false = ap (λ (i : Head). p (headed (i, row))) (sym is) ∙ fails in
       sym (append-nil (risen_in width heads (drop width values)))
-      ∙ ap (λ b. risen_in width heads (drop width values) ++ cond b (headed (k, row) ∷ []) []) (sym no)
+      ∙ ap (λ b. risen_in width heads (drop width values) ++ cond b (headed (k, row) ∷ []) []) (sym goes)
 
 pub gone_full : {X : Type 0} (width : ℕ) (heads : List X) (values : List (Option ℤ)) → 0 < length heads → length values ≡ length heads * width → length (drop width values) ≡ length (drop 1 heads) * width
 gone_full width [] values some full = absurd (omega (arith, some))

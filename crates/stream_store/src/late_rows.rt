@@ -151,13 +151,7 @@ fn move_kept(
 }
 
 /// Writes a row over the one at a place before it.
-fn move_row(
-    numbers: &mut Vec<u64>,
-    values: &mut Vec<Value>,
-    width: usize,
-    from: usize,
-    to: usize,
-)
+fn move_row(numbers: &mut Vec<u64>, values: &mut Vec<Value>, width: usize, from: usize, to: usize)
     requires before { to ≤ from }
     requires within { from < length numbers.old.items }
     requires full { length values.old.items ≡ length numbers.old.items * width }

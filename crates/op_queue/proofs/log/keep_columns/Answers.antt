@@ -1,4 +1,4 @@
-use Rattle.std.proofs.Common.{arith, length}
+use Rattle.std.proofs.Common.{arith}
 use Rattle.op_queue.specs.Tables.{lists}
 use Rattle.op_queue.proofs.MarkLemmas.{kept_columns-set, kept_columns-end, column_long-next}
 use Rattle.op_queue.proofs.TableLemmas.{length-lists}

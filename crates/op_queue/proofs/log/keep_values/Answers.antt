@@ -1,4 +1,4 @@
-use Rattle.std.proofs.Common.{◌≡◌, ◌∙◌, ap, arith, length, rules, take}
+use Rattle.std.proofs.Common.{◌≡◌, ◌∙◌, ap, length, rules, take}
 use Rattle.std.proofs.lemmas.List.{take_at}
 use Rattle.column.specs.Bits.{chosen}
 use Rattle.op_queue.proofs.MarkLemmas.{chosen-take}

@@ -6,7 +6,7 @@ use Rattle.stream_store.proofs.late.keep_read.Goals as goal
 
 pub returns : goal.returns
 returns c =
-    changed_by_key _ (λ f. f.0.now ≡ c.args.starts) has_rows (rows_read c.args.starts.now)
+    changed_by_key _ (λ f. f.0.now ≡ c.args.starts.now) has_rows (rows_read c.args.starts.now)
     (λ f k v b w h i t.
     (search rules, search rules, search rules))
     _ c.args.late.now.entries c.retain.new.self.entries refl c.retain.ensures.filtered

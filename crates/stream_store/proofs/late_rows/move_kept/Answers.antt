@@ -1,4 +1,4 @@
-use Rattle.std.proofs.Common.{◌≡◌, ◌<◌, ◌≤◌, ◌+◌, ◌∙◌, [], ap, arith, get_or, length, subst, sym, true, false, ℕ, List}
+use Rattle.std.proofs.Common.{◌≡◌, ◌<◌, ◌+◌, ◌∙◌, [], ap, arith, get_or, length, subst, sym, true, false, ℕ, List}
 use Rattle.values.specs.Row.{Row}
 use Rattle.stream_store.specs.LateRows.{rows_in}
 use Rattle.stream_store.specs.Starts.{is_read, row_read}

@@ -1,4 +1,4 @@
-use Rattle.std.proofs.Common.{◌≡◌, ◌+◌, ◌-◌, ℕ, suc, arith, length, subst, subst₂, sym, List}
+use Rattle.std.proofs.Common.{◌≡◌, ◌+◌, ◌-◌, ℕ, suc, arith, subst, sym, List}
 use Rattle.values.specs.Window.{Element}
 use Rattle.stream_store.specs.OpenRows.{risen_in}
 use Rattle.stream_store.specs.Starts.{has_reader}

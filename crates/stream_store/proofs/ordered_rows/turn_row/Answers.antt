@@ -1,4 +1,4 @@
-use Rattle.std.proofs.Common.{◌≡◌, ◌∙◌, ◌*◌, ◌≤◌, ap, ap₂, arith, drop, length, refl, sym, take, true, false, ℤ, List, Option}
+use Rattle.std.proofs.Common.{◌≡◌, ◌∙◌, ◌*◌, ap, ap₂, arith, length, sym, true, false, ℤ, List, Option}
 use Rattle.stream_store.specs.declared.ordered_rows.Head.{Head}
 use Rattle.stream_store.specs.OpenRows.{instant_of, risen_in}
 use Rattle.stream_store.specs.Starts.{has_reader, is_read}

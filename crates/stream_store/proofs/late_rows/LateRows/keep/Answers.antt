@@ -1,4 +1,4 @@
-use Rattle.std.proofs.Common.{◌≡◌, ◌≤◌, ◌*◌, ◌∙◌, ap, ap₂, arith, length, length-take-le, nat_lt, sym, take, ℕ, ℤ, List, Option}
+use Rattle.std.proofs.Common.{◌≤◌, ◌*◌, ◌∙◌, ap, ap₂, arith, length, length-take-le, nat_lt, sym, ℕ, ℤ, List, Option}
 use Rattle.values.specs.Row.{Row}
 use Rattle.stream_store.specs.LateRows.{RowsAt, rows_in}
 use Rattle.stream_store.specs.Starts.{rows_read}

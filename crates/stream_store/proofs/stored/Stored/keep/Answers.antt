@@ -1,11 +1,11 @@
-use Rattle.std.proofs.Common.{◌≡◌, ◌≤◌, ◌∙◌, ap, length, map, subst, sym, Bool, List}
+use Rattle.std.proofs.Common.{◌≡◌, ◌≤◌, ◌∙◌, ap, length, map, subst, sym, List}
 use Rattle.cql_reader.specs.Views.{name_of}
 use Rattle.names.specs.Views.{names_of}
 use Rattle.values.specs.Window.{Element}
 use Rattle.op_queue.specs.Logs.{Closed}
 use Rattle.reference.specs.Machine.{Stream}
-use Rattle.stream_store.specs.Closing.{by_key, closed_of}
-use Rattle.stream_store.specs.Kept.{SaysKept, count_closed, kept_stream}
+use Rattle.stream_store.specs.Closing.{closed_of}
+use Rattle.stream_store.specs.Kept.{count_closed, kept_stream}
 use Rattle.stream_store.specs.Starts.{has_reader}
 use Rattle.stream_store.specs.Stored.{IsStored, stream_in}
 use Rattle.stream_store.proofs.StoredLemmas.{closed_stream}

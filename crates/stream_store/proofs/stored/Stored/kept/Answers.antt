@@ -1,5 +1,4 @@
-use Rattle.std.proofs.Common.{◌≡◌, ◌<◌, ◌∙◌, ◌++◌, ap, arith, length, length-append, List}
-use Rattle.std.specs.List.{AllByRecursion}
+use Rattle.std.proofs.Common.{◌<◌, ◌++◌, ap, arith, length, length-append, List}
 use Rattle.values.specs.Window.{Element}
 use Rattle.reference.specs.Machine.{Stream}
 use Rattle.stream_store.proofs.KeepLemmas.{length-by_key}

@@ -1,4 +1,4 @@
-use Rattle.std.proofs.Common.{◌≡◌, ◌<◌, ◌∙◌, get_or, length, List, Some, ap, subst, sym}
+use Rattle.std.proofs.Common.{◌≡◌, ◌<◌, ◌∙◌, length, List, Some, ap, arith, subst, sym}
 use Rattle.std.specs.Option.{option_map}
 use Rattle.std.specs.Prelude.{slice_get}
 use Rattle.std.proofs.Math.Seq.{map-set_same}
@@ -13,7 +13,7 @@ pub index_mut-requires : goal.index_mut-requires
 index_mut-requires c =
     let xs = c.self.inside.streams.items in
     let there = subst (λ (ys : List Stream). option_map count_closed (slice_get ys c.args.stream) ≡ Some (length c.args.kept.now)) (sym c.self.view_is) c.requires in
-    stream_there count_closed xs c.args.stream (length c.args.kept.now) there
+    omega (arith, stream_there count_closed xs c.args.stream (length c.args.kept.now) there, c.self.inside.streams.ok)
 
 pub keep-requires : goal.keep-requires
 keep-requires c =

@@ -1,13 +1,12 @@
 -- The columns of what a stream has closed are in order, and are its closed elements.
-use Rattle.std.proofs.Common.{◌≡◌, ◌≢◌, ℕ, ℤ, zero, suc, ◌+◌, ◌-◌, ◌<◌, ◌≤◌, ◌==◌, Bool, true, false, cond, Option, None, List, [], ◌∷◌, ◌++◌, length, map, filter, get_or, refl, ap, ap₂, sym, ◌∙◌, arith, eqb-true, subst, ⊎_elim}
-use Rattle.std.specs.List.{AllByRecursion, flat_map, range_with_len}
+use Rattle.std.proofs.Common.{◌≡◌, ◌≢◌, ℕ, ℤ, zero, suc, ◌+◌, ◌-◌, ◌<◌, ◌≤◌, ◌==◌, Bool, true, false, cond, Option, None, List, [], ◌∷◌, ◌++◌, length, map, filter, get_or, refl, ap, ap₂, sym, ◌∙◌, arith, eqb-true, ⊎_elim}
+use Rattle.std.specs.List.{AllByRecursion, range_with_len}
 use Rattle.std.proofs.lemmas.Bool.{cases_eq}
 use Rattle.std.proofs.lemmas.List.{ext_get_or, get_or-map, length-map}
 use Rattle.std.proofs.lemmas.List.FromFn.{get_or-map-range_with_len, length-map-range_with_len}
 use Rattle.values.specs.Row.{Row, value_at}
 use Rattle.values.specs.Window.{Element}
 use Rattle.column.specs.Rows.{row_at}
-use Rattle.op_queue.specs.Tables.{element_at, elements_in}
 use Rattle.op_queue.proofs.TableLemmas.{length-elements_in}
 use Rattle.reference.specs.Machine.{Stream}
 use Rattle.stream_store.specs.Closing.{by_key, closed_of}
@@ -144,6 +143,7 @@ module _ (width : ℕ) (es : List Element) (rows : ClosedRows) (is : AreColumns 
         let q = instant_at j none (omega (arith, lt, sizes)) in
         omega (arith, a.1 (sym p ∙ same ∙ q), number_at i none (omega (arith, lt, sizes, u)), number_at j none (omega (arith, lt, sizes)));
   }
+
   row_is : (i : ℕ) (d : Element) → i < length es → row_at (lists rows.columns.now) i ≡ (get_or es i d).row
   row_is i d l =
       let w : length (get_or es i d).row ≡ width = each_at (λ e. length e.row ≡ width) es wide i d l in

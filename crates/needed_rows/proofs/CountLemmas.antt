@@ -133,7 +133,7 @@ module _ (instants numbers : List ℕ) (columns : List (List (Option ℤ))) (pla
         let s1 : count_places Q 0 n ≡ count_places Q 0 (i + 1) + count_places Q (0 + (i + 1)) (n - (i + 1)) = ap (count_places Q 0) l1 ∙ count-split Q 0 (i + 1) (n - (i + 1)) in
         let z : 0 + (i + 1) ≡ i + 1 = omega arith in
         let s2 : count_places Q (0 + (i + 1)) (n - (i + 1)) ≡ count_places Q (i + 1) (end - (i + 1)) + count_places Q end (n - end) =
-            ap (λ x. count_places Q x (n - (i + 1))) z ∙ ap (count_places Q (i + 1)) l2 ∙ count-split Q (i + 1) (end - (i + 1)) (n - end) ∙ ap (λ x. count_places Q (i + 1) (end - (i + 1)) + count_places Q x (n - end)) l3 in
+        ap (λ x. count_places Q x (n - (i + 1))) z ∙ ap (count_places Q (i + 1)) l2 ∙ count-split Q (i + 1) (end - (i + 1)) (n - end) ∙ ap (λ x. count_places Q (i + 1) (end - (i + 1)) + count_places Q x (n - end)) l3 in
         let n1 : count_places Q 0 (i + 1) ≡ 0 = count-none Q 0 (i + 1) counts_before in
         let n2 : count_places Q end (n - end) ≡ 0 = count-none Q end (n - end) counts_behind in
         let m : count_places Q (i + 1) (end - (i + 1)) ≡ count_places (λ j. has_arrived numbers place j && are_alike chosen columns i j) (i + 1) (end - (i + 1)) = count-same Q (λ j. has_arrived numbers place j && are_alike chosen columns i j) (i + 1) (end - (i + 1)) counts_between in

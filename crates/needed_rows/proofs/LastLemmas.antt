@@ -37,7 +37,7 @@ module _ (numbers : List ℕ) (place count start end : ℕ) where
           let a : end - (i + 1) ≡ end - passed - (i + 1) + passed = omega arith in
           let b : i + 1 + (end - passed - (i + 1)) ≡ end - passed = omega arith in
           let c : count_places A (i + 1) (end - (i + 1)) ≡ count_places A (i + 1) (end - passed - (i + 1)) + count_places A (end - passed) passed
-              = ap (count_places A (i + 1)) a ∙ count-split A (i + 1) (end - passed - (i + 1)) passed ∙ ap (λ x. count_places A (i + 1) (end - passed - (i + 1)) + count_places A x passed) b in
+          = ap (count_places A (i + 1)) a ∙ count-split A (i + 1) (end - passed - (i + 1)) passed ∙ ap (λ x. count_places A (i + 1) (end - passed - (i + 1)) + count_places A x passed) b in
           last_many A (λ i j. true) count start end i (le-ltb (count_places (λ j. A j && true) (i + 1) (end - (i + 1))) count (omega (arith, all_pass A (i + 1) (end - (i + 1)), c, l, z)))
 
   module _ (old now : List Bool) (passed left row : ℕ) (is : row + 1 ≡ end - passed) (inside : start ≤ row) (within : row < length old)

@@ -1,3 +1,4 @@
+pub mod ColumnLemmas
 pub mod CountLemmas
 pub mod KeyLemmas
 pub mod LastLemmas

@@ -1,3 +1,4 @@
+pub mod Columns
 pub mod Keys
 pub mod Marks
 pub mod Needed

@@ -1,8 +1,7 @@
 -- The sources of the running queries over a stream of the machine.
-use Rattle.std.specs.Prelude.{◌≡◌, ℕ, ◌≤◌, ◌==◌, max, cond, Option, Some, None, List, [], ◌∷◌, ◌++◌, map, slice_get}
+use Rattle.std.specs.Prelude.{◌≡◌, ℕ, ◌≤◌, ◌==◌, max, cond, Option, Some, None, List, [], ◌∷◌, ◌++◌, map}
 use Rattle.std.specs.List.{AllByRecursion, list_any}
 use Rattle.values.specs.Window.{Element, Window}
-use Rattle.op_queue.specs.Logs.{Closed}
 use Rattle.reference.specs.Machine.{Place, Registered, Stream}
 use Rattle.reference.specs.Opening.{needs_by}
 use Rattle.stream_store.specs.Closing.{closed_of}

@@ -13,6 +13,6 @@ mod marks;
 mod reader;
 mod runs;
 
-pub use laws::readers_say_what_is_needed;
+pub use laws::{columns_stand_for_what_is_closed, readers_say_what_is_needed};
 pub use marks::{mark_needed, needed};
 pub use reader::{ClosedRows, Reader};

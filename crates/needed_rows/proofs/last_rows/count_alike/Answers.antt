@@ -18,19 +18,19 @@ loop-other-preserved c =
       | then-place-rows+then-are_alike w ↦
           record {
             counted = rw w.count-is (count_yes q s other c.loop-other.count (omega arith) c.loop-other.invariant.counted
-            (and_from (has_arrived numbers c.args.place other) (are_alike c.args.columns.now columns c.args.row other) (le-leb _ _ w.if-place-rows.true) (sym w.are_alike.ensures ∙ w.if-are_alike.true)));
+                (and_from (has_arrived numbers c.args.place other) (are_alike c.args.columns.now columns c.args.row other) (le-leb _ _ w.if-place-rows.true) (sym w.are_alike.ensures ∙ w.if-are_alike.true)));
             few = omega arith;
           }
       | then-place-rows+else-are_alike w ↦
           record {
             counted = rw w.count-is (count_no q s other c.loop-other.count (omega arith) c.loop-other.invariant.counted
-            (and_false (has_arrived numbers c.args.place other) (are_alike c.args.columns.now columns c.args.row other) (sym w.are_alike.ensures ∙ w.if-are_alike.false)));
+                (and_false (has_arrived numbers c.args.place other) (are_alike c.args.columns.now columns c.args.row other) (sym w.are_alike.ensures ∙ w.if-are_alike.false)));
             few = omega arith;
           }
       | else-place-rows w ↦
           record {
             counted = rw w.count-is (count_no q s other c.loop-other.count (omega arith) c.loop-other.invariant.counted
-            (ap (λ b. b && are_alike c.args.columns.now columns c.args.row other) (lt-leb c.args.place (get_or numbers other 0) w.if-place-rows.false)));
+                (ap (λ b. b && are_alike c.args.columns.now columns c.args.row other) (lt-leb c.args.place (get_or numbers other 0) w.if-place-rows.false)));
             few = omega arith;
           }
     ]

@@ -9,3 +9,4 @@ pub mod Turns
 pub mod Numerals
 pub mod UsualLines
 pub mod Scanning
+pub mod AlikeLemmas

@@ -18,7 +18,8 @@ use Rattle.laws_queries.specs.Machines.{widths_of}
 use Rattle.laws_queries.specs.Queries.{IsRunning, PlainQuery}
 use Rattle.laws_queries.specs.Rows.{HasRows}
 use Rattle.laws_engine.specs.Engines.{Broken, Dropped, GoodEngine, Goes, PlainEngine, PlainRemains, Running, answers_in, query_at, remains_at, world_of}
-use Rattle.laws_engine.specs.Openings.{IsUnbroken, forgotten, last_in, mark_in, marks_by, next_of}
+use Rattle.operators.specs.States.{last_in}
+use Rattle.laws_engine.specs.Openings.{IsUnbroken, forgotten, mark_in, marks_by, next_of}
 use Rattle.laws_engine.proofs.ForgottenLemmas.{length-marks, marks_at}
 use Rattle.laws_engine.proofs.OpenedLemmas.{goes, long_waits, waits_at}
 

@@ -10,7 +10,6 @@ ghost use Rattle.operators.specs.Runs.{Stops, is_root};
 ghost use Rattle.operators.specs.States.{last_in};
 ghost use Rattle.column.specs.declared.batch.Side.TheVariants.{Left, Right};
 ghost use Rattle.physical_plans.specs.Beginnings.{HaveNarrowRows, IsMakeable, widths_of};
-ghost use Rattle.to_stream.specs.Turns.{answers_of};
 ghost use Rattle.reference.specs.CallViews.{handed_of};
 ghost use Rattle.reference.specs.Inputs.{are_signed};
 ghost use Rattle.reference.specs.World.{handed};
@@ -29,6 +28,7 @@ use op_queue::{Item, Log};
 use operators::{Operator, Refused};
 use physical_plans::{Wire, operators_of, wires};
 use plan::Plan;
+use row_bags::DatedRows;
 use std::alloc::{AllocError, Global};
 use std::marker::Model;
 use std::sync::Arc;
@@ -323,7 +323,7 @@ impl RunningQuery {
         side: Side,
         item: &Item,
         change: &Change,
-        answers: Vec<(u64, Row)>,
+        answers: DatedRows,
     ) -> Result<(), AllocError>
         requires here { HasOperator streams.now self.old operator }
         requires may { CanFinish (operator_at self.old.operators operator)
@@ -331,7 +331,7 @@ impl RunningQuery {
         ensures finished { OnOk result
             (HasFinished streams.now self.old operator side item.now change.now self.new) }
         ensures answered { OnOk result
-            (HasAnswered self.old operator (answers_of answers.items) self.new) }
+            (HasAnswered self.old operator answers self.new) }
         ensures err { OnErr result (self.new.answers ≡ self.old.answers) }
     {
         let log = self.log(streams, operator);

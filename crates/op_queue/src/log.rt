@@ -125,6 +125,13 @@ impl Log {
         self.len
     }
 
+    /// How many columns the rows have. Takes no memory.
+    pub fn width(&self) -> usize
+        ensures { result ≡ self.now.width }
+    {
+        self.columns.len()
+    }
+
     /// The instant of each closed row. Takes no memory.
     pub fn instants(&self) -> &[u64]
         ensures { result.now ≡ map (λ e. e.instant) self.now.elements }

@@ -250,6 +250,13 @@ impl RunningQuery {
         self.answers.take(alloc, limit)
     }
 
+    /// Copies the answers that wait, at the cost of these. An error says that memory was refused.
+    pub fn copy_answers(&self, alloc: Global) -> Result<WaitingAnswers, AllocError>
+        ensures { IfOk result (λ copy. copy ≡ self.now.answers) }
+    {
+        self.answers.copy(alloc)
+    }
+
     /// Gives up its operators with what waits for them: the answers are left. Takes no memory.
     pub fn into_answers(self) -> WaitingAnswers
         ensures { result ≡ self.answers }

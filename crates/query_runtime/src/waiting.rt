@@ -41,6 +41,15 @@ impl WaitingAnswers {
         }
     }
 
+    /// Copies the answers, at the cost of these. An error says that memory was refused.
+    pub fn copy(&self, alloc: Global) -> Result<WaitingAnswers, AllocError>
+        ensures { IfOk result (λ copy. copy ≡ self.now) }
+    {
+        Ok(WaitingAnswers {
+            answers: self.answers.copy(alloc)?,
+        })
+    }
+
     /// Counts the answers.
     pub fn len(&self) -> usize
         ensures { result ≡ length self.now }

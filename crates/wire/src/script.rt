@@ -5,8 +5,8 @@ ghost use Rattle.reference.specs.World.{IsTurnSize};
 ghost use Rattle.wire.specs.Devices.{Rises};
 ghost use Rattle.wire.specs.Held.{ahead, work};
 ghost use Rattle.wire.specs.Paged.{Writes};
-ghost use Rattle.wire.specs.Calls.{Call, append, heartbeat, drain, take_rows, discard, show_plan};
-ghost use Rattle.wire.specs.Calls.{call_of};
+ghost use Rattle.wire.specs.Calls.{Call, append, heartbeat, drain, take_rows, discard, forget};
+ghost use Rattle.wire.specs.Calls.{call_of, show_plan};
 ghost use Rattle.wire.specs.Printed.{Answer, answer_of, line_of};
 ghost use Rattle.wire.specs.Requests.{BeginsWithRequest, HasNoRequest, Reads, requests_of};
 ghost use Rattle.wire.specs.Script.{answered, done_of, is_scarce_answer, is_scarce_reply, script};
@@ -58,7 +58,8 @@ fn heartbeat<E: Answering>(engine: &mut E, stream: &str, at: i64) -> Reply
     }
 }
 
-// By turns of at most so many rows.
+// By turns of at most so many rows. What no query needs any longer is given up behind it, where
+// that pays.
 #[tactic(auto, using(crate::proofs::Turns::drain_rests, crate::proofs::Turns::drain_leaves_whole))]
 fn drain<E: Answering>(engine: &mut E, rows: u32) -> Reply
     requires rows { IsTurnSize rows }
@@ -70,7 +71,20 @@ fn drain<E: Answering>(engine: &mut E, rows: u32) -> Reply
         → E.is_whole engine.new }
     ensures spent { E.has_numbers engine.new → E.has_numbers engine.old }
 {
-    done(engine.drain(rows))
+    let answer = engine.drain(rows);
+    if answer.is_ok() {
+        engine.tidy();
+    }
+    done(answer)
+}
+
+fn forget<E: Answering>(engine: &mut E) -> Reply
+    ensures answers { E.is_whole engine.old
+        → AnswersCall (E.world engine.old) forget (answer_of result) (E.world engine.new) }
+    ensures whole { E.is_whole engine.old → E.is_whole engine.new }
+    ensures spent { E.has_numbers engine.new → E.has_numbers engine.old }
+{
+    done(engine.forget())
 }
 
 fn take<E: Answering>(engine: &mut E, query: &str, limit: i64) -> Reply
@@ -147,6 +161,7 @@ pub fn answer<E: Answering>(engine: &mut E, request: &Request, rows: u32) -> Rep
         Request::Drain => drain(engine, rows),
         Request::Take { query, limit } => take(engine, query.as_str(), *limit),
         Request::Drop { query } => discard(engine, query.as_str()),
+        Request::Forget => forget(engine),
         Request::Plan { query } => show_plan(engine, query.as_str()),
     }
 }

@@ -41,11 +41,11 @@ pub serves_fault : (w : World) (fault : WireFault) (defined : Result Call WireFa
 serves_fault w NotJson defined is plenty = goes_there (served w defined) (unread NotJson) w (ap (served w) is)
 serves_fault w BadRequest defined is plenty = goes_there (served w defined) (unread BadRequest) w (ap (served w) is)
 serves_fault w LineTooLong defined is plenty = goes_there (served w defined) (unread LineTooLong) w (ap (served w) is)
-serves_fault w OutOfMemory (Ok call) is plenty = cc
-serves_fault w OutOfMemory (Err NotJson) is plenty = cc
-serves_fault w OutOfMemory (Err BadRequest) is plenty = cc
+serves_fault w OutOfMemory (Ok call) is plenty = absurd (cc)
+serves_fault w OutOfMemory (Err NotJson) is plenty = absurd (cc)
+serves_fault w OutOfMemory (Err BadRequest) is plenty = absurd (cc)
 serves_fault w OutOfMemory (Err LineTooLong) is plenty = absurd (is refl)
-serves_fault w OutOfMemory (Err OutOfMemory) is plenty = cc
+serves_fault w OutOfMemory (Err OutOfMemory) is plenty = absurd (cc)
 
 pub rests_call : (N : Type 0) (request : Request) (answer : Answer) (defined : Result Call WireFault) → defined ≡ Ok (call_of request)
     → RestsOn N (Ok (call_of request)) answer → RestsOn N defined answer

@@ -75,16 +75,17 @@ scarce_drain TooManyLeases = refl
 scarce_drain OutOfMemory = refl
 
 -- what a drain is answered that was done; the world after it may be any that no call tells from the one that it led to
-pub drain_done : (old now new : World) (rows : ℕ) (result : Result ⊤ Fault) (a : ⊤) → IsTurnSize rows → result ≡ Ok a → Drains old (drain_step old rows) result now
-    → Alike now new → AnswersCall old drain done new
-drain_done old now new rows (Err fault) a range is d alike = cc
-drain_done old now new rows (Ok b) a range is d alike = (
+pub drain_done : (old now new : World) (rows : ℕ) (a : ⊤) → IsTurnSize rows → Drains old (drain_step old rows) (Ok a) now → Alike now new
+    → AnswersCall old drain done new
+drain_done old now new rows a range d alike = (
   λ plenty. goes_alike (done_step (drain_step old 1)) done now new (ap done_step (sym (same_drain old rows range.0 range.1) ∙ d)) alike,
   λ short. absurd (false≢true short),
 )
 
-refuses : (old new : World) (rows : ℕ) (fault : Fault) → IsTurnSize rows → Drains old (drain_step old rows) (Err fault) new → AnswersCall old drain (refused fault) new
-refuses old new rows fault range d =
+-- what a drain is answered that was refused
+pub drain_refused : (old new : World) (rows : ℕ) (fault : Fault) → IsTurnSize rows → Drains old (drain_step old rows) (Err fault) new
+    → AnswersCall old drain (refused fault) new
+drain_refused old new rows fault range d =
     elim (refused_drain old new (drain_step old rows) fault d) [
       | inl early ↦ (
         λ plenty. absurd (false≢true (sym plenty ∙ scarce_drain fault ∙ early.0)),
@@ -95,11 +96,6 @@ refuses old new rows fault range d =
         λ short. absurd (false≢true (sym stays.0 ∙ sym (scarce_drain fault) ∙ short)),
       )
     ]
-
--- what a drain is answered that was refused
-pub drain_refused : (old new : World) (rows : ℕ) (result : Result ⊤ Fault) (fault : Fault) → IsTurnSize rows → result ≡ Err fault → Drains old (drain_step old rows) result new
-    → AnswersCall old drain (refused fault) new
-drain_refused old new rows result fault range is d = refuses old new rows fault range (subst (λ r. Drains old (drain_step old rows) r new) is d)
 
 -- what a refused drain's answer rests on is what its fault says
 pub drain_rests : (N : Type 0) (result : Result ⊤ Fault) (fault : Fault) → result ≡ Err fault → (result ≡ Err TooManyLeases → N) → RestsOn N (Ok drain) (refused fault)

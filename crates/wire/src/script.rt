@@ -136,8 +136,11 @@ fn show_plan<E: Answering>(engine: &E, query: &str) -> Reply
 /// The answer is the machine's, unless it is want of memory, which no drop is answered, or, of a
 /// drain, want of numbers for turns: then the engine has none left. Want of memory stands only in
 /// place of an acceptance or of a fault of a query's text, and then all is as it was, but that a
-/// drain may have made some answers wait. A drain and a take are answered so by an engine that is
-/// whole, and all other requests by any engine.
+/// drain may have made some answers wait. A drain, a take and a `forget` are answered so by an
+/// engine that is whole, and all other requests by any engine.
+///
+/// Behind a drain, where that pays, and at a `forget` rows are given up that no later answer needs:
+/// no later call tells the world then from the machine's.
 pub fn answer<E: Answering>(engine: &mut E, request: &Request, rows: u32) -> Reply
     requires rows { IsTurnSize rows }
     ensures answers { (NeedsWhole (call_of request.now) → E.is_whole engine.old)

@@ -1,10 +1,10 @@
 -- Alike worlds are answered by the same script.
-use Rattle.std.proofs.Common.{◌≡◌, ℕ, List, [], ◌∷◌, Option, Some, None, Result, Ok, Err, refl, sym, ap, ap₂, ◌∙◌, subst}
+use Rattle.std.proofs.Common.{◌≡◌, ℕ, List, [], ◌∷◌, Option, Some, None, Result, Ok, Err, refl, ap, ap₂, subst}
 use Rattle.reference.specs.Alike.{Alike}
 use Rattle.reference.specs.World.{World, append_step, drop_step, heartbeat_step, query_named, slopes_at, stream_named, take_step}
 use Rattle.reference.specs.declared.fault.Fault.{Fault}
 use Rattle.reference.specs.declared.fault.Fault.TheVariants.{UnknownQuery, UnknownStream}
-use Rattle.laws_forgetting.specs.Answers.{AnswerAlike, SameStep}
+use Rattle.laws_forgetting.specs.Answers.{AnswerAlike}
 use Rattle.laws_forgetting.proofs.WorldLemmas.{answer_alike}
 use Rattle.wire.specs.Calls.{Call, declare, register, append, heartbeat, drain, take_rows, discard, forget, show_plan}
 use Rattle.wire.specs.Printed.{Answer, line_of}

@@ -1,5 +1,5 @@
 -- What a call leads to, and what no later call tells of it.
-use Rattle.std.proofs.Common.{◌≡◌, ℕ, sym, ap, subst}
+use Rattle.std.proofs.Common.{◌≡◌, sym, ap, subst}
 use Rattle.reference.specs.Alike.{Alike}
 use Rattle.reference.specs.World.{World}
 use Rattle.reference.proofs.AlikeLemmas.{world_itself}

@@ -8,6 +8,7 @@ use Rattle.clap.specs.Words.{Kinds, Text, HasKind, IsAmong, kind_of}
 use Rattle.clap.specs.declared.error.Error.{Error}
 use Rattle.clap.specs.declared.error.kind.ErrorKind.TheVariants.{DisplayHelp, DisplayVersion, OutOfMemory}
 use Rattle.reference.specs.World.{World}
+use Rattle.reference.proofs.AlikeLemmas.{world_itself}
 use Rattle.wire.specs.Calls.{Call}
 use Rattle.wire.specs.Requests.{requests_of}
 use Rattle.wire.specs.declared.request.WireFault.{WireFault}
@@ -45,7 +46,7 @@ runs_stands N first now source old new s text held is told =
 pub leads_nowhere : (N : Type 0) (w : World) (status : ℕ) (source old : Option (List ℕ)) → status ≡ 3 → Leads N w w status source old old
 leads_nowhere N w status source old is = (
   λ none. absurd (cc),
-  λ text held is told. ([], told ∙ ap Some (sym (append_nothing held)), ([], requests_of text, [], refl, (refl, refl))),
+  λ text held is told. ([], told ∙ ap Some (sym (append_nothing held)), ([], requests_of text, [], refl, (refl, world_itself w))),
 )
 
 -- nothing was written

@@ -1,12 +1,12 @@
 -- Alike worlds are answered by the same script.
-use Rattle.std.proofs.Common.{◌≡◌, ℕ, List, [], ◌∷◌, Option, Some, None, Result, Ok, Err, refl, sym, ap, ap₂, ◌∙◌, subst}
+use Rattle.std.proofs.Common.{◌≡◌, ℕ, List, [], ◌∷◌, Option, Some, None, Result, Ok, Err, refl, ap, ap₂, subst}
 use Rattle.reference.specs.Alike.{Alike}
 use Rattle.reference.specs.World.{World, append_step, drop_step, heartbeat_step, query_named, slopes_at, stream_named, take_step}
 use Rattle.reference.specs.declared.fault.Fault.{Fault}
 use Rattle.reference.specs.declared.fault.Fault.TheVariants.{UnknownQuery, UnknownStream}
-use Rattle.laws_forgetting.specs.Answers.{AnswerAlike, SameStep}
+use Rattle.laws_forgetting.specs.Answers.{AnswerAlike}
 use Rattle.laws_forgetting.proofs.WorldLemmas.{answer_alike}
-use Rattle.wire.specs.Calls.{Call, declare, register, append, heartbeat, drain, take_rows, discard, show_plan}
+use Rattle.wire.specs.Calls.{Call, declare, register, append, heartbeat, drain, take_rows, discard, forget, show_plan}
 use Rattle.wire.specs.Printed.{Answer, line_of}
 use Rattle.wire.specs.Requests.{requests_of}
 use Rattle.wire.specs.Script.{answered, done_of, done_step, if_named, operators_or, replies, rows_of, rows_step, script, served}
@@ -42,6 +42,7 @@ module _ (w v : World) (h : Alike w v) where
       named UnknownQuery (λ n. (operators_or (slopes_at w n), w)) (λ n. (operators_or (slopes_at v n), v)) (λ n. (ap operators_or (all.slopes n), h)) (query_named w query) (query_named v query) (all.queries query)
   answered_alike (discard query) =
       named UnknownQuery (λ n. done_step (drop_step w n)) (λ n. done_step (drop_step v n)) (λ n. let s = all.drop n in (ap done_of s.answer, s.worlds)) (query_named w query) (query_named v query) (all.queries query)
+  answered_alike forget = (refl, h)
 
   pub served_alike : (request : Result Call WireFault) → Same (served w request) (served v request)
   served_alike (Err fault) = (refl, h)

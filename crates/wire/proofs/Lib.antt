@@ -4,9 +4,10 @@ pub mod Windows
 pub mod Cuts
 pub mod Reading
 pub mod Printing
+pub mod AlikeLemmas
+pub mod Leading
 pub mod Scripts
 pub mod Turns
 pub mod Numerals
 pub mod UsualLines
 pub mod Scanning
-pub mod AlikeLemmas

@@ -37,7 +37,8 @@ abbrev pub if_named : World → Fault → (ℕ → Answer × World) → Option �
 if_named w fault step None = (refused fault, w)
 if_named w fault step (Some n) = step n
 
--- what a call is answered, and the world after it; the rows of a drain's turns change nothing, and forgetting nothing that a later call is answered
+-- what a call is answered, and the world after it; the rows of a drain's turns change nothing, and giving up rows changes nothing
+-- that a later call tells
 abbrev pub answered : World → Call → Answer × World
 answered w (declare name columns start) = done_step (declare_step w name columns start)
 answered w (register name text chart) = done_step (register_step w name text chart)
@@ -93,23 +94,34 @@ abbrev pub LeavesOff : World → Call → World → Type 0
 LeavesOff old drain new = StopsEarly old (drain_step old 1) new
 LeavesOff old call new = (new ≡ old) × MayLackMemory (result_of (answered old call).0)
 
--- The engine's answer to a call is the defined one, and no later call tells the world after it from the defined one, unless the answer says that
--- something was scarce.
+-- The answer is the defined one, and no later call tells the world after it from the defined one.
+abbrev pub LeadsAlike : Answer × World → Answer → World → Type 0
+LeadsAlike defined answer new = (defined.0 ≡ answer) × Alike defined.1 new
+
+-- A call leads to the defined answer and world. Behind a drain, and where it is asked for, rows are given up, which no later call
+-- tells.
+abbrev pub LeadsTo : Call → Answer × World → Answer → World → Type 0
+LeadsTo drain defined answer new = LeadsAlike defined answer new
+LeadsTo forget defined answer new = LeadsAlike defined answer new
+LeadsTo call defined answer new = defined ≡ (answer, new)
+
+-- The engine's answer to a call and the world after it are the defined ones, unless the answer says that something was scarce.
 abbrev pub AnswersCall : World → Call → Answer → World → Type 0
 AnswersCall old call answer new =
-    (is_scarce_answer call answer ≡ false → ((answered old call).0 ≡ answer) × Alike (answered old call).1 new)
+    (is_scarce_answer call answer ≡ false → LeadsTo call (answered old call) answer new)
     × (is_scarce_answer call answer ≡ true → LeavesOff old call new)
 
--- An engine has to be whole for its drains and its takes to be answered so, and to forget unseen.
+-- An engine has to be whole for its drains and its takes to be answered so, and to give up rows unseen.
 abbrev pub NeedsWhole : Call → Type 0
 NeedsWhole drain = ⊤
 NeedsWhole (take_rows query limit) = ⊤
 NeedsWhole forget = ⊤
 NeedsWhole call = ⊥
 
--- The reply is the defined one, and no later request tells the world after it from the defined one, unless the reply says that something was scarce.
+-- The reply is the defined one, and no later request tells the world after it from the defined one, unless the reply says that
+-- something was scarce.
 abbrev pub Replies : World → Result Call WireFault → Answer → World → Type 0
-Replies old request answer new = is_scarce_reply request answer ≡ false → ((served old request).0 ≡ answer) × Alike (served old request).1 new
+Replies old request answer new = is_scarce_reply request answer ≡ false → LeadsAlike (served old request) answer new
 
 -- The text begins with a reply to this request that says that memory, or numbers for a drain's turns, were scarce; numbers
 -- only where there are none.
@@ -130,8 +142,8 @@ Says wanted requests lines written = ⊥
 abbrev pub Begins : Type 0 → List (Result Call WireFault) → List (List ℕ) → List ℕ → Type 0
 Begins wanted requests lines written = (more : List ℕ) × Says wanted requests lines (written ++ more)
 
--- From the world `first` on these requests were answered by the written text, and no later request tells this world from that after them; up to a
--- reply that says that memory, or numbers for a drain's turns, were scarce.
+-- From the world `first` on these requests were answered by the written text, and no later request tells this world from the one
+-- that they lead to; up to a reply that says that memory, or numbers for a drain's turns, were scarce.
 abbrev pub Runs : Type 0 → World → List (Result Call WireFault) → List ℕ → World → Type 0
 Runs wanted first [] written now = (written ≡ []) × Alike first now
 Runs wanted first (request ∷ more) written now =

@@ -26,13 +26,15 @@ fn is_each_once(seats: &[Seat], count: u64) -> bool
     true
 }
 
-fn all_agree(history: &[Entry], seats: &[Seat]) -> bool
+fn all_agree(history: &[Entry], first: u64, seats: &[Seat]) -> bool
+    requires { first + length history.now < 2 ^ 64 }
     ensures { IsTrue result
-        ↔ All (λ (s : PlainSeat). own s.number 0 history.now ≡ s.receipts) seats.now }
+        ↔ All (λ (s : PlainSeat). own s.number first history.now ≡ receipts_from first s.receipts)
+        seats.now }
 {
     seats
         .iter()
-        .all(|seat| agrees(history, seat.number(), seat.receipts()))
+        .all(|seat| agrees(history, seat.number(), first, seat.receipts_from(first)))
 }
 
 fn all_known(history: &[Entry], count: u64) -> bool

@@ -85,8 +85,8 @@ impl Hub {
     /// Hub and seats come back where the seats' numbers are not those of `open`, each once, or
     /// where their receipts differ from the history.
     pub fn close(self, seats: Vec<Seat>) -> Result<Closed, (Hub, Vec<Seat>)>
-        ensures ok { IfOk result (λ c.
-            IsLegal c.entries.items × IsAudited seats.items self c.entries.items) }
+        ensures legal { IfOk result (λ c. IsLegal c.opening c.entries.items) }
+        ensures ok { IfOk result (λ c. IsAudited seats.items self c.first c.entries.items) }
         ensures err { IfErr result (λ p. (p.0 ≡ self) × (p.1 ≡ seats)) }
     {
         let Hub {

@@ -14,3 +14,4 @@ pub mod Readers
 pub mod Runs
 pub mod Queues
 pub mod Undropped
+pub mod Forgets

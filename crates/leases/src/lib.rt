@@ -4,6 +4,7 @@
 mod engine;
 mod leased;
 mod limits;
+mod opening;
 mod reader;
 mod registered;
 mod remains;
@@ -13,3 +14,4 @@ mod undropped;
 pub use engine::Engine;
 pub use leased::Leased;
 pub use limits::{LEASE_NUMBERS, MAX_LEASES};
+pub use opening::Opening;

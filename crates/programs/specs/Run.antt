@@ -36,7 +36,7 @@ Leads wanted first now status source old new =
 
 -- The receipts of the only seat are the entries of a legal history, each once and in order.
 abbrev pub IsAlone : PlainSeat → Type 0
-IsAlone seat = (entries : List Entry) × IsLegal entries × IsAudited (seat ∷ []) 1 entries
+IsAlone seat = (opening : Machine) × (first : ℕ) × (entries : List Entry) × IsLegal opening entries × IsAudited (seat ∷ []) 1 first entries
 
 -- At the status 0 the sink took what the only seat of a hub is answered by steps of it, one line a request, and its receipts
 -- are then a legal history; else it took a beginning of such answers. `drains` says what a drain may be answered.

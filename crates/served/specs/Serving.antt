@@ -3,6 +3,7 @@ use Rattle.std.specs.Prelude.{◌≡◌, ◌≢◌, ◌≤◌, ℕ, ℤ, pos, Li
 use Rattle.envelope.specs.Fraction.{Fraction}
 use Rattle.histories.specs.Histories.{Told}
 use Rattle.hub.specs.Seats.{PlainSeat}
+use Rattle.hub.specs.Steps as hub
 use Rattle.hub.specs.Steps.{PlainLocked, FindsQuery, FindsStream, Hands, Rests, SeesSlopes, Spurned, Took}
 use Rattle.leases.specs.declared.leased.Leased.TheVariants.{Idle}
 use Rattle.plan.specs.declared.node.Kind.{Kind}
@@ -65,6 +66,14 @@ abbrev pub LooksNamed : List ℕ → Answer → Type 0
 LooksNamed name answer =
     ((n : ℕ) × ((l : PlainLocked) × FindsQuery l name (Some n)) × Looks n answer)
     ⊎ (((l : PlainLocked) × FindsQuery l name None) × (answer ≡ refused UnknownQuery))
+
+-- ---- forgetting
+
+-- THE HUB FORGOT in one step, or memory was refused and nothing was changed
+abbrev pub Forgets : Answer → Type 0
+Forgets done = (old : PlainLocked) × (new : PlainLocked) × hub.Forgets old (Ok tt) new
+Forgets (refused fault) = (old : PlainLocked) × (new : PlainLocked) × hub.Forgets old (Err fault) new
+Forgets answer = ⊥
 
 -- ---- drains
 

@@ -111,7 +111,7 @@ impl Model for Locked {
     } };
 
     ghost invariant = { λ l. Replays l.opening l.history.items (engine_in l.engine).machine
-        × (l.limit ≤ 2 ^ 24) × (l.first + length l.history.items ≤ 2 ^ 63) };
+        × (l.limit ≤ 2 ^ 24) × (l.seats ≤ 64) × (l.first + length l.history.items ≤ 2 ^ 63) };
 }
 
 impl Locked {

@@ -6,47 +6,47 @@ use Rattle.std.proofs.lemmas.List.Elements.{All-head, All-tail}
 use Rattle.std.proofs.lemmas.List.Sums.{sum_by-cons}
 use Rattle.histories.specs.Histories.{Entry, Told, own}
 use Rattle.hub.specs.Seats.{IsAudited, PlainSeat, receipts_from, times_told, told_at}
-use Rattle.hub.proofs.PlaceLemmas.{from_same}
+use Rattle.hub.proofs.PlaceLemmas.{from_same, one_if}
 
 -- how many receipts of a number the entries make, at all seats together
 abbrev made : ℕ → ℕ → List Entry → List PlainSeat → ℕ
 made k n es [] = 0
 made k n es (s ∷ ss) = told_at k (own s.number n es) + made k n es ss
 
-own_by : (b : Bool) (k : ℕ) (r : Told) (rs : List Told) → told_at k (cond b (r ∷ rs) rs) ≡ cond b (cond (r.number == k) 1 0) 0 + told_at k rs
+own_by : (b : Bool) (k : ℕ) (r : Told) (rs : List Told) → told_at k (cond b (r ∷ rs) rs) ≡ cond b (one_if (r.number == k)) 0 + told_at k rs
 own_by true k r rs = refl
 own_by false k r rs = omega arith
 
-own_at : (k n : ℕ) (e : Entry) (es : List Entry) (s : ℕ) → told_at k (own s n (e ∷ es)) ≡ cond (e.seat == s) (cond (n == k) 1 0) 0 + told_at k (own s (n + 1) es)
+own_at : (k n : ℕ) (e : Entry) (es : List Entry) (s : ℕ) → told_at k (own s n (e ∷ es)) ≡ cond (e.seat == s) (one_if (n == k)) 0 + told_at k (own s (n + 1) es)
 own_at k n e es s = own_by (e.seat == s) k (record { number = n; entry = e }) (own s (n + 1) es)
 
-flat : (b c : Bool) → c ≡ false → cond b (cond c 1 0) 0 ≡ 0
+flat : (b c : Bool) → c ≡ false → cond b (one_if c) 0 ≡ 0
 flat true c h = cond-false c 1 0 h
 flat false c h = refl
 
-only : (b c : Bool) → c ≡ true → cond b (cond c 1 0) 0 ≡ cond b 1 0
+only : (b c : Bool) → c ≡ true → cond b (one_if c) 0 ≡ one_if b
 only true c h = cond-true c 1 0 h
 only false c h = refl
 
 -- an entry of another number
 made_other : (k n : ℕ) (e : Entry) (es : List Entry) (ss : List PlainSeat) → (n == k) ≡ false → made k n (e ∷ es) ss ≡ made k (n + 1) es ss
-made_other k n e es [] no = refl
-made_other k n e es (s ∷ ss) no = omega (arith, own_at k n e es s.number, flat (e.seat == s.number) (n == k) no, made_other k n e es ss no)
+made_other k n e es [] differs = refl
+made_other k n e es (s ∷ ss) differs = omega (arith, own_at k n e es s.number, flat (e.seat == s.number) (n == k) differs, made_other k n e es ss differs)
 
 flipped : (a b : ℕ) → (a == b) ≡ (b == a)
 flipped a b =
     elim (eqb_tells a b) [
       | inl h ↦ (let o : (b == a) ≡ true = (let is : b ≡ a = sym h.1 in grind (arith, nat_tests)) in h.0 ∙ sym o)
-      | inr h ↦ (let o : (b == a) ≡ false = (let no : a ≢ b = h.1 in grind (arith, nat_tests)) in h.0 ∙ sym o)
+      | inr h ↦ (let o : (b == a) ≡ false = (let differs : a ≢ b = h.1 in grind (arith, nat_tests)) in h.0 ∙ sym o)
     ]
 
 -- the entry of this number
 made_it : (k n : ℕ) (e : Entry) (es : List Entry) (ss : List PlainSeat) → (n == k) ≡ true → made k n (e ∷ es) ss ≡ count_by (λ (s : PlainSeat). s.number == e.seat) ss + made k (n + 1) es ss
-made_it k n e es [] yes = refl
-made_it k n e es (s ∷ ss) yes =
-    let one : cond (e.seat == s.number) 1 0 ≡ cond (s.number == e.seat) 1 0 = ap (λ b. cond b 1 0) (flipped e.seat s.number) in
-    let more : count_by (λ (s : PlainSeat). s.number == e.seat) (s ∷ ss) ≡ cond (s.number == e.seat) 1 0 + count_by (λ (s : PlainSeat). s.number == e.seat) ss = sum_by-cons (λ (s : PlainSeat). cond (s.number == e.seat) 1 0) s ss in
-    omega (arith, own_at k n e es s.number, only (e.seat == s.number) (n == k) yes, one, more, made_it k n e es ss yes)
+made_it k n e es [] same_number = refl
+made_it k n e es (s ∷ ss) same_number =
+    let one : one_if (e.seat == s.number) ≡ one_if (s.number == e.seat) = ap (λ b. one_if b) (flipped e.seat s.number) in
+    let more : count_by (λ (s : PlainSeat). s.number == e.seat) (s ∷ ss) ≡ one_if (s.number == e.seat) + count_by (λ (s : PlainSeat). s.number == e.seat) ss = sum_by-cons (λ (s : PlainSeat). one_if (s.number == e.seat)) s ss in
+    omega (arith, own_at k n e es s.number, only (e.seat == s.number) (n == k) same_number, one, more, made_it k n e es ss same_number)
 
 made_nothing : (k n : ℕ) (ss : List PlainSeat) → made k n [] ss ≡ 0
 made_nothing k n [] = refl
@@ -72,10 +72,10 @@ module _ (ss : List PlainSeat) (count : ℕ) (each : (k : ℕ) → k < count →
       elim (eqb_tells n k) [
         | inl h ↦ omega (arith, made_it k n e es ss h.0, each e.seat (All-head (λ (e : Entry). e.seat < count) e es known), not_before k (n + 1) es ss (omega (arith, h.1)))
         | inr h ↦
-            let no : n ≢ k = h.1 in
+            let differs : n ≢ k = h.1 in
             made_other k n e es ss h.0
             ∙ made_once k (n + 1) es (All-tail (λ (e : Entry). e.seat < count) e es known)
-            (elim (cases_lt n k) [ | inl a ↦ omega (arith, a) | inr b ↦ absurd (no (omega (arith, b, le))) ])
+            (elim (cases_lt n k) [ | inl a ↦ omega (arith, a) | inr b ↦ absurd (differs (omega (arith, b, le))) ])
             (omega (arith, lt))
       ]
 

@@ -8,6 +8,10 @@ use Rattle.histories.specs.Histories.{Told}
 use Rattle.hub.specs.Seats.{IsRisingFrom, PlainSeat, held, receipts_from, times_told, told_at}
 use Rattle.hub.specs.Places.{places_at, told_below}
 
+-- one where the test holds
+abbrev pub one_if : Bool → ℕ
+one_if b = cond b 1 0
+
 -- ---- receipts that rise
 
 pub rising_lower : (m k : ℕ) (rs : List Told) → k ≤ m → IsRisingFrom m rs → IsRisingFrom k rs
@@ -25,7 +29,7 @@ none_at n m [] lt h = refl
 none_at n m (r ∷ rs) lt h =
     let above : n < r.number = omega (arith, lt, h.0) in
     let other : (r.number == n) ≡ false = grind (arith, nat_tests) in
-    let none : cond (r.number == n) 1 0 ≡ 0 = cond-false (r.number == n) 1 0 other in
+    let none : one_if (r.number == n) ≡ 0 = cond-false (r.number == n) 1 0 other in
     let rest : told_at n rs ≡ 0 = none_at n (r.number + 1) rs (omega (arith, above)) h.1 in
     omega (arith, none, rest)
 
@@ -47,8 +51,8 @@ all_from n m (r ∷ rs) le h =
 
 pub from_passes : (n : ℕ) (r : Told) (rs : List Told) → r.number < n → receipts_from n (r ∷ rs) ≡ receipts_from n rs
 from_passes n r rs lt =
-    let no : nat_le n r.number ≡ false = grind (arith, nat_tests) in
-    cond-false (nat_le n r.number) (r ∷ receipts_from n rs) (receipts_from n rs) no
+    let differs : nat_le n r.number ≡ false = grind (arith, nat_tests) in
+    cond-false (nat_le n r.number) (r ∷ receipts_from n rs) (receipts_from n rs) differs
 
 pub from_begins : (n : ℕ) (r : Told) (rs : List Told) → IsRisingFrom 0 (r ∷ rs) → n ≤ r.number → receipts_from n (r ∷ rs) ≡ r ∷ rs
 from_begins n r rs h le = all_from n r.number (r ∷ rs) le (omega arith, h.1)
@@ -61,16 +65,16 @@ from_same n k (r ∷ rs) le =
     elim (cases_lt r.number n) [
       | inl a ↦
           let other : (r.number == k) ≡ false = grind (arith, nat_tests) in
-          let none : cond (r.number == k) 1 0 ≡ 0 = cond-false (r.number == k) 1 0 other in
+          let none : one_if (r.number == k) ≡ 0 = cond-false (r.number == k) 1 0 other in
           ap (told_at k) (from_passes n r rs a) ∙ omega (arith, none, rest)
       | inr b ↦
           let is : nat_le n r.number ≡ true = grind (arith, nat_tests) in
-          ap (told_at k) (cond-true (nat_le n r.number) (r ∷ receipts_from n rs) (receipts_from n rs) is) ∙ ap (λ t. cond (r.number == k) 1 0 + t) rest
+          ap (told_at k) (cond-true (nat_le n r.number) (r ∷ receipts_from n rs) (receipts_from n rs) is) ∙ ap (λ t. one_if (r.number == k) + t) rest
     ]
 
 -- ---- one number more
 
-more_by : (a b e : Bool) (u v w : ℕ) → cond a 1 0 ≡ cond b 1 0 + cond e 1 0 → u ≡ v + w → cond a (suc u) u ≡ cond b (suc v) v + (cond e 1 0 + w)
+more_by : (a b e : Bool) (u v w : ℕ) → one_if a ≡ one_if b + one_if e → u ≡ v + w → cond a (suc u) u ≡ cond b (suc v) v + (one_if e + w)
 more_by true true true u v w s h = omega (arith, h, s)
 more_by true true false u v w s h = omega (arith, h, s)
 more_by true false true u v w s h = omega (arith, h, s)
@@ -80,10 +84,10 @@ more_by false true false u v w s h = omega (arith, h, s)
 more_by false false true u v w s h = omega (arith, h, s)
 more_by false false false u v w s h = omega (arith, h, s)
 
-sums_to : (a b e : Bool) (x y z : Bool) → a ≡ x → b ≡ y → e ≡ z → cond x 1 0 ≡ cond y 1 0 + cond z 1 0 → cond a 1 0 ≡ cond b 1 0 + cond e 1 0
+sums_to : (a b e : Bool) (x y z : Bool) → a ≡ x → b ≡ y → e ≡ z → one_if x ≡ one_if y + one_if z → one_if a ≡ one_if b + one_if e
 sums_to a b e x y z p q r h = rw (p, q, r) h
 
-tests_add : (x n : ℕ) → cond (nat_lt x (n + 1)) 1 0 ≡ cond (nat_lt x n) 1 0 + cond (x == n) 1 0
+tests_add : (x n : ℕ) → one_if (nat_lt x (n + 1)) ≡ one_if (nat_lt x n) + one_if (x == n)
 tests_add x n =
     elim (cases_lt x n) [
       | inl a ↦
@@ -114,17 +118,17 @@ told_below_more n (r ∷ rs) = more_by (nat_lt r.number (n + 1)) (nat_lt r.numbe
 
 abbrev at_place : ℕ → Option Told → ℕ
 at_place n None = 0
-at_place n (Some r) = cond (r.number == n) 1 0
+at_place n (Some r) = one_if (r.number == n)
 
-behind : (b e : Bool) (n : ℕ) (r : Told) (rs : List Told) (t p : ℕ) → b ≡ true → e ≡ false → t ≡ at_place n (slice_get rs p) → cond e 1 0 + t ≡ at_place n (slice_get (r ∷ rs) (cond b (suc p) p))
+behind : (b e : Bool) (n : ℕ) (r : Told) (rs : List Told) (t p : ℕ) → b ≡ true → e ≡ false → t ≡ at_place n (slice_get rs p) → one_if e + t ≡ at_place n (slice_get (r ∷ rs) (cond b (suc p) p))
 behind b e n r rs t p y z is =
-    let none : cond e 1 0 + t ≡ t = (let o : cond e 1 0 ≡ 0 = cond-false e 1 0 z in omega (arith, o)) in
+    let none : one_if e + t ≡ t = (let o : one_if e ≡ 0 = cond-false e 1 0 z in omega (arith, o)) in
     none ∙ is ∙ ap (λ k. at_place n (slice_get (r ∷ rs) k)) (sym (cond-true b (suc p) p y))
 
-here : (b : Bool) (n : ℕ) (r : Told) (rs : List Told) (t p : ℕ) → b ≡ false → t ≡ 0 → p ≡ 0 → cond (r.number == n) 1 0 + t ≡ at_place n (slice_get (r ∷ rs) (cond b (suc p) p))
-here b n r rs t p no none first =
-    let one : cond (r.number == n) 1 0 + t ≡ cond (r.number == n) 1 0 = omega (arith, none) in
-    one ∙ ap (λ k. at_place n (slice_get (r ∷ rs) k)) (sym (cond-false b (suc p) p no ∙ first))
+here : (b : Bool) (n : ℕ) (r : Told) (rs : List Told) (t p : ℕ) → b ≡ false → t ≡ 0 → p ≡ 0 → one_if (r.number == n) + t ≡ at_place n (slice_get (r ∷ rs) (cond b (suc p) p))
+here b n r rs t p differs none first =
+    let one : one_if (r.number == n) + t ≡ one_if (r.number == n) = omega (arith, none) in
+    one ∙ ap (λ k. at_place n (slice_get (r ∷ rs) k)) (sym (cond-false b (suc p) p differs ∙ first))
 
 at_is : (n m : ℕ) (rs : List Told) → IsRisingFrom m rs → told_at n rs ≡ at_place n (slice_get rs (told_below n rs))
 at_is n m [] h = refl
@@ -148,12 +152,12 @@ module _ (n : ℕ) (rs : List Told) (h : IsRisingFrom 0 rs) (p : ℕ) (is : p �
   past_all none = at_p ∙ ap (at_place n) none
 
   pub has_other : (r : Told) → slice_get rs p ≡ Some r → r.number ≢ n → told_at n rs ≡ 0
-  has_other r some no =
+  has_other r some differs =
       let other : (r.number == n) ≡ false = grind (arith, nat_tests) in
       at_p ∙ ap (at_place n) some ∙ cond-false (r.number == n) 1 0 other
 
   pub has_it : (r : Told) → slice_get rs p ≡ Some r → r.number ≡ n → told_at n rs ≡ 1
-  has_it r some yes =
+  has_it r some same_number =
       let same : (r.number == n) ≡ true = grind (arith, nat_tests) in
       at_p ∙ ap (at_place n) some ∙ cond-true (r.number == n) 1 0 same
 
@@ -193,8 +197,8 @@ times_more n seats i d lt = ap (times_told n) (take_more seats i d lt) ∙ times
 below_nought : (rs : List Told) → told_below 0 rs ≡ 0
 below_nought [] = refl
 below_nought (r ∷ rs) =
-    let no : nat_lt r.number 0 ≡ false = grind (arith, nat_tests) in
-    cond-false (nat_lt r.number 0) (suc (told_below 0 rs)) (told_below 0 rs) no ∙ below_nought rs
+    let differs : nat_lt r.number 0 ≡ false = grind (arith, nat_tests) in
+    cond-false (nat_lt r.number 0) (suc (told_below 0 rs)) (told_below 0 rs) differs ∙ below_nought rs
 
 pub none_passed : (ss : List PlainSeat) → replicate (length ss) 0 ≡ places_at 0 ss
 none_passed [] = refl

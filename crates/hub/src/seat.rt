@@ -74,7 +74,7 @@ impl Seat {
     pub(crate) fn receipts_from(&self, first: u64) -> &[Receipt]
         ensures { result.now ≡ receipts_from first self.now.receipts }
     {
-        rest_from(self.receipts.as_slice(), first)
+        rest_from(self.receipts(), first)
     }
 
     // Where the receipts of greater numbers begin, if those of no lower number than this one begin

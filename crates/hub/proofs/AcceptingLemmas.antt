@@ -1,7 +1,7 @@
 -- An accepted command, from what its parts did.
 use Rattle.std.proofs.Common.{◌≡◌, ℕ, ◌≤◌, Bool, List, [], ◌∷◌, ◌++◌, refl, sym, ap, ◌∙◌, subst}
 use Rattle.reference.specs.Commands.{Command}
-use Rattle.reference.specs.Machine.{Machine}
+use Rattle.leases.specs.declared.opening.Opening.{Opening}
 use Rattle.leases.specs.declared.state.State.{State}
 use Rattle.histories.specs.Histories.{Entry, Told}
 use Rattle.reference.specs.Replies.{Reply}
@@ -21,7 +21,7 @@ receipt_is t n e e' is same = is ∙ ap (λ x. record { number = n; entry = x })
 pub longer : {X : Type 0} (now mid es : List X) (x y : X) → now ≡ mid ++ x ∷ [] → mid ≡ es → x ≡ y → now ≡ es ++ y ∷ []
 longer now mid es x y is same there = is ∙ ap (λ l. l ++ x ∷ []) same ∙ ap (λ z. es ++ z ∷ []) there
 
-locked_is : (s : State) (m m' : Machine) (f f' : ℕ) (h h' : List Entry) (l l' n n' : ℕ) (b b' : Bool) → m ≡ m' → f ≡ f' → h ≡ h' → l ≡ l' → n ≡ n' → b ≡ b'
+locked_is : (s : State) (m m' : Opening) (f f' : ℕ) (h h' : List Entry) (l l' n n' : ℕ) (b b' : Bool) → m ≡ m' → f ≡ f' → h ≡ h' → l ≡ l' → n ≡ n' → b ≡ b'
     → (let d : PlainLocked = record { engine = s; opening = m; first = f; history = h; limit = l; seats = n; has_ended = b } in d) ≡ record { engine = s; opening = m'; first = f'; history = h'; limit = l'; seats = n'; has_ended = b' }
 locked_is s m m' f f' h h' l l' n n' b b' o i p q r t = rw (o, i, p, q, r, t) refl
 

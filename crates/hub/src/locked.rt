@@ -5,6 +5,7 @@ ghost use Rattle.histories.specs.Histories.{IsLegal};
 ghost use Rattle.reference.specs.declared.fault.Fault.TheVariants.{BadLimit, OutOfMemory};
 ghost use Rattle.hub.specs.Seats.{IsAudited, opened};
 ghost use Rattle.laws_engine.specs.Promises.{KeepsItsPromises};
+ghost use Rattle.leases.specs.Openings.{opening_in};
 ghost use Rattle.hub.specs.Steps.{Forgets, IsFresh, IsReplayed, engine_at};
 ghost use Rattle.hub.specs.declared.locked.TheConstants.{MAX_HISTORY, MAX_SEATS};
 
@@ -92,6 +93,7 @@ impl Model for Locked {
     ghost use Rattle.std.specs.Coded.{codes};
     ghost use Rattle.std.specs.Prelude.{◌≤◌, ◌+◌, ◌^◌, length};
     ghost use Rattle.values.specs.contracts.resolved.Condition as condition;
+    ghost use Rattle.leases.specs.Openings.{opening_in};
     ghost use Rattle.leases.specs.Shown.{engine_in};
     ghost use Rattle.histories.specs.Histories.{Replays};
     ghost use Rattle.hub.specs.Steps.{PlainLocked};
@@ -110,7 +112,8 @@ impl Model for Locked {
       has_ended = l.has_ended;
     } };
 
-    ghost invariant = { λ l. Replays l.opening l.history.items (engine_in l.engine).machine
+    ghost invariant = { λ l. Replays (opening_in l.opening) l.history.items
+        (engine_in l.engine).machine
         × (l.limit ≤ 2 ^ 24) × (l.seats ≤ 64) × (l.first + length l.history.items ≤ 2 ^ 63) };
 }
 
@@ -181,7 +184,7 @@ impl Locked {
     /// where their receipts differ from the history.
     #[tactic(auto, unfolding(crate::specs::Steps::engine_at))]
     pub fn close(self, seats: Vec<Seat>) -> Result<Closed, (Locked, Vec<Seat>)>
-        ensures legal { IfOk result (λ c. IsLegal c.opening c.entries.items) }
+        ensures legal { IfOk result (λ c. IsLegal (opening_in c.opening) c.entries.items) }
         ensures ok { IfOk result (λ c. (c.opening ≡ self.opening) × (c.first ≡ self.first)
             × (c.entries.items ≡ self.history)
             × IsAudited seats.items self.seats c.first c.entries.items) }

@@ -15,3 +15,4 @@ pub mod Runs
 pub mod Queues
 pub mod Undropped
 pub mod Forgets
+pub mod Openings

@@ -1,5 +1,5 @@
 -- Receipts that rise, and where those of a number stand.
-use Rattle.std.proofs.Common.{◌≡◌, ◌≢◌, ◌⊎◌, inl, inr, ℕ, suc, ◌+◌, ◌≤◌, ◌<◌, List, [], ◌∷◌, ◌++◌, Bool, true, false, cond, ◌==◌, nat_le, nat_lt, Option, Some, None, slice_get, length, map, take, drop, set, replicate, get_or, refl, sym, ap, ◌∙◌, arith}
+use Rattle.std.proofs.Common.{◌≡◌, ◌≢◌, ◌⊎◌, inl, inr, ℕ, suc, ◌+◌, ◌≤◌, ◌<◌, List, [], ◌∷◌, ◌++◌, Bool, true, false, cond, ◌==◌, nat_le, nat_lt, Option, Some, None, slice_get, length, map, take, drop, set, replicate, get_or, refl, subst, sym, ap, ◌∙◌, arith}
 use Rattle.std.proofs.lemmas.Bool.{cases_lt, cond-false, cond-true}
 use Rattle.std.proofs.lemmas.Bool.Decides.{nat_tests}
 use Rattle.std.proofs.lemmas.List.{append_assoc, drop_more, length-map, length-take-le, map-append, set_at, take_more}
@@ -205,3 +205,13 @@ none_passed [] = refl
 none_passed (s ∷ ss) =
     let more : replicate (length (s ∷ ss)) 0 ≡ 0 ∷ places_at 0 ss = ap (λ (ts : List ℕ). 0 ∷ ts) (none_passed ss) in
     more ∙ ap (λ (x : ℕ). x ∷ places_at 0 ss) (sym (below_nought s.receipts))
+
+-- ---- the rest of the receipts, one by one
+
+pub rest_begins : (n : ℕ) (rest : List Told) (r : Told) (rs : List Told) → rest ≡ r ∷ rs → IsRisingFrom 0 rest → n ≤ r.number → receipts_from n rest ≡ rest
+rest_begins n rest r rs is h le = subst (λ x. receipts_from n x ≡ x) (sym is) (from_begins n r rs (subst (λ x. IsRisingFrom 0 x) is h) le)
+
+pub rest_passes : (n : ℕ) (rest : List Told) (r : Told) (rs : List Told) → rest ≡ r ∷ rs → IsRisingFrom 0 rest → r.number < n → (receipts_from n rest ≡ receipts_from n rs) × IsRisingFrom 0 rs
+rest_passes n rest r rs is h lt =
+    let both : IsRisingFrom 0 (r ∷ rs) = subst (λ x. IsRisingFrom 0 x) is h in
+    (ap (receipts_from n) is ∙ from_passes n r rs lt, rising_lower (r.number + 1) 0 rs (omega arith) both.1)

@@ -75,7 +75,7 @@ module _ (ss : List PlainSeat) (count : ℕ) (each : (k : ℕ) → k < count →
             let differs : n ≢ k = h.1 in
             made_other k n e es ss h.0
             ∙ made_once k (n + 1) es (All-tail (λ (e : Entry). e.seat < count) e es known)
-            (elim (cases_lt n k) [ | inl a ↦ omega (arith, a) | inr b ↦ absurd (differs (omega (arith, b, le))) ])
+            (elim (cases_lt n k) [ inl a ↦ omega (arith, a) | inr b ↦ absurd (differs (omega (arith, b, le))) ])
             (omega (arith, lt))
       ]
 

@@ -37,9 +37,7 @@ fn all_agree(history: &[Entry], first: u64, seats: &[Seat]) -> bool
         ↔ All (λ (s : PlainSeat). own s.number first history.now ≡ receipts_from first s.receipts)
         seats.now }
 {
-    seats
-        .iter()
-        .all(|seat| agrees(history, seat.number(), first, seat.receipts_from(first)))
+    seats.iter().all(|seat| agrees(history, seat.number(), first, seat.receipts_from(first)))
 }
 
 fn all_known(history: &[Entry], count: u64) -> bool

@@ -191,7 +191,12 @@ impl Locked {
         ensures err { IfErr result (λ p. (p.0 ≡ self) × (p.1 ≡ seats)
             × (¬ (IsAudited seats.items self.seats self.first self.history))) }
     {
-        if !is_audited(self.history.as_slice(), self.first, seats.as_slice(), self.seats) {
+        if !is_audited(
+            self.history.as_slice(),
+            self.first,
+            seats.as_slice(),
+            self.seats,
+        ) {
             return Err((self, seats));
         }
         let Locked {

@@ -29,7 +29,7 @@ invariant_of-seat-2 c =
     let below : held c.seat.inside.receipts.items ≤ c.in_ok-number.number = omega (arith, c.in_ok-number.ensures.ok.2, ap (λ s. held s.receipts) c.seat.view_is) in
     let fits : held c.seat.inside.receipts.items ≤ c.new-receipt.result.number = omega arith in (
       sym (held_next c.seat.inside.receipts.items c.reserve-2.new.self.items c.push_reserved-2.new.self.items c.new-receipt.result c.push_reserved-2.ensures.items c.in_ok-reserve-2.ensures.items fits
-      ∙ ap (λ n. n + 1) number),
+          ∙ ap (λ n. n + 1) number),
       rising_next c.seat.inside.receipts.items c.reserve-2.new.self.items c.push_reserved-2.new.self.items c.new-receipt.result c.push_reserved-2.ensures.items c.in_ok-reserve-2.ensures.items fits c.seat.invariant.1,
     )
 

@@ -2,6 +2,7 @@ mod RefusedLemmas
 mod AnsweredLemmas
 mod DecliningLemmas
 mod ReplayLemmas
+mod OpeningLemmas
 mod ReachLemmas
 mod PlaceLemmas
 mod AuditLemmas

@@ -3,7 +3,7 @@ use Rattle.std.specs.Prelude.{◌≡◌, ℕ, ◌+◌, ◌<◌, ◌≤◌, ◌^�
 use Rattle.envelope.specs.Fraction.{Fraction}
 use Rattle.plan.specs.declared.node.Kind.{Kind}
 use Rattle.reference.specs.Commands.{Command}
-use Rattle.reference.specs.Machine.{empty, query_named, stream_named}
+use Rattle.reference.specs.Machine.{Machine, empty, query_named, stream_named}
 use Rattle.reference.specs.World.{Looks, slopes_at}
 use Rattle.reference.specs.declared.fault.Fault.{Fault}
 use Rattle.reference.specs.declared.fault.Fault.TheVariants.{HistoryFull, Foreign, OutOfMemory}
@@ -51,6 +51,10 @@ IsSame old new = (new ≡ with_engine old new.engine) × (engine_at new ≡ engi
 -- the history leads from the machine that it begins with to the engine's
 abbrev pub IsReplayed : PlainLocked → Type 0
 IsReplayed l = Replays (opening_in l.opening) l.history (engine_at l).machine
+
+-- AN OPENING THAT STANDS FOR NO ENTRY is that of a machine that was told nothing
+pub record OpensAt (first : ℕ) (m : Machine) : Type 0 where
+  pub nought : first ≡ 0 → m ≡ empty
 
 -- the number of the next entry: how many were ever accepted
 abbrev pub next_number : PlainLocked → ℕ

@@ -6,7 +6,7 @@ ghost use Rattle.reference.specs.declared.fault.Fault.TheVariants.{BadLimit, Out
 ghost use Rattle.hub.specs.Seats.{IsAudited, opened};
 ghost use Rattle.laws_engine.specs.Promises.{KeepsItsPromises};
 ghost use Rattle.leases.specs.Openings.{opening_in};
-ghost use Rattle.hub.specs.Steps.{Forgets, IsFresh, IsReplayed, engine_at};
+ghost use Rattle.hub.specs.Steps.{Forgets, IsFresh, IsReplayed, OpensAt, engine_at};
 ghost use Rattle.hub.specs.declared.locked.TheConstants.{MAX_HISTORY, MAX_SEATS};
 
 mod calls;
@@ -96,7 +96,7 @@ impl Model for Locked {
     ghost use Rattle.leases.specs.Openings.{opening_in};
     ghost use Rattle.leases.specs.Shown.{engine_in};
     ghost use Rattle.histories.specs.Histories.{Replays};
-    ghost use Rattle.hub.specs.Steps.{PlainLocked};
+    ghost use Rattle.hub.specs.Steps.{OpensAt, PlainLocked};
 
     ghost Value = { PlainLocked };
 
@@ -114,7 +114,8 @@ impl Model for Locked {
 
     ghost invariant = { λ l. Replays (opening_in l.opening) l.history.items
         (engine_in l.engine).machine
-        × (l.limit ≤ 2 ^ 24) × (l.seats ≤ 64) × (l.first + length l.history.items ≤ 2 ^ 63) };
+        × (l.limit ≤ 2 ^ 24) × (l.seats ≤ 64) × (l.first + length l.history.items ≤ 2 ^ 63)
+        × OpensAt l.first (opening_in l.opening) };
 }
 
 impl Locked {
@@ -185,6 +186,7 @@ impl Locked {
     #[tactic(auto, unfolding(crate::specs::Steps::engine_at))]
     pub fn close(self, seats: Vec<Seat>) -> Result<Closed, (Locked, Vec<Seat>)>
         ensures legal { IfOk result (λ c. IsLegal (opening_in c.opening) c.entries.items) }
+        ensures opens { IfOk result (λ c. OpensAt c.first (opening_in c.opening)) }
         ensures ok { IfOk result (λ c. (c.opening ≡ self.opening) × (c.first ≡ self.first)
             × (c.entries.items ≡ self.history)
             × IsAudited seats.items self.seats c.first c.entries.items) }

@@ -21,6 +21,7 @@ invariant_of-self-2 c =
       c.self.invariant.1,
       c.self.invariant.2,
       fits_next c.self.inside.first c.self.inside.history.items c.reserve.new.self.items c.push_reserved.new.self.items c.new-logged.result c.push_reserved.ensures.items c.in_ok-reserve.ensures.items room,
+      c.self.invariant.4,
     )
 
 pub invariant_of-seat-2 : goal.invariant_of-seat-2

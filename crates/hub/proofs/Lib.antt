@@ -2,7 +2,10 @@ mod RefusedLemmas
 mod AnsweredLemmas
 mod DecliningLemmas
 mod ReplayLemmas
+mod OpeningLemmas
 mod ReachLemmas
+mod PlaceLemmas
+mod AuditLemmas
 mod AcceptingLemmas
 mod KnownLemmas
 pub mod SendLemmas

@@ -12,22 +12,24 @@ use Rattle.turn.specs.declared.turns.Turn.{Turn}
 use Rattle.laws_engine.specs.Engines.{PlainEngine, world_of}
 use Rattle.laws_engine.specs.Openings.{forgotten}
 use Rattle.laws_engine.specs.Promises.{HasAllWaiting}
+use Rattle.leases.specs.Openings.{opening_in}
 use Rattle.leases.specs.Looks.{IsPending, WaitsAt}
 use Rattle.leases.specs.Shown.{engine_in}
 use Rattle.leases.specs.Turns.{Abandons, Finishes, IsTurnOf, Leases}
 use Rattle.leases.specs.Views.{empty_engine}
 use Rattle.leases.specs.declared.leased.Leased.{Leased}
 use Rattle.leases.specs.declared.leased.Leased.TheVariants as leased
+use Rattle.leases.specs.declared.opening.Opening.{Opening}
 use Rattle.leases.specs.declared.state.State.{State}
 use Rattle.histories.specs.Histories.{Entry, Replays, Told}
 use Rattle.hub.specs.Seats.{PlainSeat, reach}
 use Rattle.hub.specs.Calls.{Answered, Refused}
 
--- the engine as it is kept, the machine that the history begins with and how many entries that stands for, the entries of the history, how many it may
+-- the engine as it is kept, the opening that the history begins with and how many entries it stands for, the entries of the history, how many it may
 -- have, how many seats there are, and whether the end was called
 pub record PlainLocked : Type 0 where
   pub engine : State
-  pub opening : Machine
+  pub opening : Opening
   pub first : ℕ
   pub history : List Entry
   pub limit : ℕ
@@ -48,7 +50,11 @@ IsSame old new = (new ≡ with_engine old new.engine) × (engine_at new ≡ engi
 
 -- the history leads from the machine that it begins with to the engine's
 abbrev pub IsReplayed : PlainLocked → Type 0
-IsReplayed l = Replays l.opening l.history (engine_at l).machine
+IsReplayed l = Replays (opening_in l.opening) l.history (engine_at l).machine
+
+-- AN OPENING THAT STANDS FOR NO ENTRY is that of a machine that was told nothing
+pub record OpensAt (first : ℕ) (m : Machine) : Type 0 where
+  pub nought : first ≡ 0 → m ≡ empty
 
 -- the number of the next entry: how many were ever accepted
 abbrev pub next_number : PlainLocked → ℕ
@@ -95,7 +101,7 @@ Barred l s f = ⊥
 -- OF A NEW HUB
 pub record IsFresh (l : PlainLocked) (seats limit : ℕ) : Type 0 where
   pub engine : engine_at l ≡ empty_engine
-  pub opening : l.opening ≡ empty
+  pub opening : opening_in l.opening ≡ empty
   pub first : l.first ≡ 0
   pub history : l.history ≡ []
   pub limited : l.limit ≡ limit
@@ -105,8 +111,8 @@ pub record IsFresh (l : PlainLocked) (seats limit : ℕ) : Type 0 where
 -- WHERE IT FORGETS the engine does, and the history begins anew with the machine that is left: no entry is in it, and numbers go on. Where memory is
 -- refused nothing is changed
 abbrev pub HasForgotten : PlainLocked → PlainLocked → Type 0
-HasForgotten old new = (engine_at new ≡ forgotten (engine_at old))
-    × (new ≡ record (with_engine old new.engine) { opening = (forgotten (engine_at old)).machine; first = next_number old; history = [] })
+HasForgotten old new = (engine_at new ≡ forgotten (engine_at old)) × (opening_in new.opening ≡ (forgotten (engine_at old)).machine)
+    × (new ≡ record (with_engine old new.engine) { opening = new.opening; first = next_number old; history = [] })
 
 pub record Forgets (old : PlainLocked) (result : Result ⊤ Fault) (new : PlainLocked) : Type 0 where
   pub legal : IsReplayed old

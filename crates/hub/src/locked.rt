@@ -5,7 +5,8 @@ ghost use Rattle.histories.specs.Histories.{IsLegal};
 ghost use Rattle.reference.specs.declared.fault.Fault.TheVariants.{BadLimit, OutOfMemory};
 ghost use Rattle.hub.specs.Seats.{IsAudited, opened};
 ghost use Rattle.laws_engine.specs.Promises.{KeepsItsPromises};
-ghost use Rattle.hub.specs.Steps.{Forgets, IsFresh, IsReplayed, engine_at};
+ghost use Rattle.leases.specs.Openings.{opening_in};
+ghost use Rattle.hub.specs.Steps.{Forgets, IsFresh, IsReplayed, OpensAt, engine_at};
 ghost use Rattle.hub.specs.declared.locked.TheConstants.{MAX_HISTORY, MAX_SEATS};
 
 mod calls;
@@ -92,9 +93,10 @@ impl Model for Locked {
     ghost use Rattle.std.specs.Coded.{codes};
     ghost use Rattle.std.specs.Prelude.{◌≤◌, ◌+◌, ◌^◌, length};
     ghost use Rattle.values.specs.contracts.resolved.Condition as condition;
+    ghost use Rattle.leases.specs.Openings.{opening_in};
     ghost use Rattle.leases.specs.Shown.{engine_in};
     ghost use Rattle.histories.specs.Histories.{Replays};
-    ghost use Rattle.hub.specs.Steps.{PlainLocked};
+    ghost use Rattle.hub.specs.Steps.{OpensAt, PlainLocked};
 
     ghost Value = { PlainLocked };
 
@@ -110,8 +112,10 @@ impl Model for Locked {
       has_ended = l.has_ended;
     } };
 
-    ghost invariant = { λ l. Replays l.opening l.history.items (engine_in l.engine).machine
-        × (l.limit ≤ 2 ^ 24) × (l.first + length l.history.items ≤ 2 ^ 63) };
+    ghost invariant = { λ l. Replays (opening_in l.opening) l.history.items
+        (engine_in l.engine).machine
+        × (l.limit ≤ 2 ^ 24) × (l.seats ≤ 64) × (l.first + length l.history.items ≤ 2 ^ 63)
+        × OpensAt l.first (opening_in l.opening) };
 }
 
 impl Locked {
@@ -181,14 +185,20 @@ impl Locked {
     /// where their receipts differ from the history.
     #[tactic(auto, unfolding(crate::specs::Steps::engine_at))]
     pub fn close(self, seats: Vec<Seat>) -> Result<Closed, (Locked, Vec<Seat>)>
-        ensures legal { IfOk result (λ c. IsLegal c.opening c.entries.items) }
+        ensures legal { IfOk result (λ c. IsLegal (opening_in c.opening) c.entries.items) }
+        ensures opens { IfOk result (λ c. OpensAt c.first (opening_in c.opening)) }
         ensures ok { IfOk result (λ c. (c.opening ≡ self.opening) × (c.first ≡ self.first)
             × (c.entries.items ≡ self.history)
             × IsAudited seats.items self.seats c.first c.entries.items) }
         ensures err { IfErr result (λ p. (p.0 ≡ self) × (p.1 ≡ seats)
             × (¬ (IsAudited seats.items self.seats self.first self.history))) }
     {
-        if !is_audited(self.history.as_slice(), self.first, seats.as_slice(), self.seats) {
+        if !is_audited(
+            self.history.as_slice(),
+            self.first,
+            seats.as_slice(),
+            self.seats,
+        ) {
             return Err((self, seats));
         }
         let Locked {

@@ -11,8 +11,8 @@ pub mod Looks
 pub mod Registering
 pub mod Leasing
 pub mod Readers
-pub mod Told
 pub mod Runs
 pub mod Queues
 pub mod Undropped
 pub mod Forgets
+pub mod Openings

@@ -2,6 +2,7 @@
 use Rattle.std.specs.Prelude.{◌≡◌, ◌≢◌, ℕ, List, [], ◌∷◌, Option, None, ◌⊎◌, codes}
 use Rattle.clap.specs.Words.{Kinds, IsAmong, Text}
 use Rattle.clap.specs.declared.error.kind.ErrorKind.TheVariants.{DisplayHelp, DisplayVersion}
+use Rattle.reference.specs.Machine.{Machine}
 use Rattle.reference.specs.World.{World}
 use Rattle.wire.specs.Devices.{Rises}
 use Rattle.wire.specs.Requests.{requests_of}
@@ -34,7 +35,7 @@ Leads wanted first now status source old new =
     (status ≡ 0 → Scripts (λ text written. Runs wanted first (requests_of text) written now) source old new)
     × Scripts (λ text written. Stands wanted first (requests_of text) written now) source old new
 
--- The receipts of the only seat are the entries of a legal history, each once and in order.
+-- The receipts of the only seat are the entries of a legal history, each once and in order, from its opening on; of those before it the numbers are there.
 abbrev pub IsAlone : PlainSeat → Type 0
 IsAlone seat = (opening : Machine) × (first : ℕ) × (entries : List Entry) × IsLegal opening entries × IsAudited (seat ∷ []) 1 first entries
 

@@ -1,8 +1,9 @@
 //! Rows that no query needs any longer.
-ghost use Rattle.std.specs.Prelude.{◌≡◌, IfErr, IfOk};
+ghost use Rattle.std.specs.Prelude.{◌≡◌, IfErr, IfOk, OnErr, OnOk};
 ghost use Rattle.reference.specs.declared.fault.Fault.TheVariants.{OutOfMemory};
 ghost use Rattle.laws_engine.specs.Openings.{forgotten};
 ghost use Rattle.leases.specs.Forgets.{kept_at};
+ghost use Rattle.leases.specs.Openings.{opening_in};
 ghost use Rattle.leases.specs.Shown.{engine_in};
 
 use crate::engine::Engine;
@@ -24,8 +25,18 @@ impl Engine {
     ///
     /// `OutOfMemory`.
     pub fn opening(&self) -> Result<Opening, Fault>
-        ensures opening { IfOk result (λ o. o ≡ (forgotten (engine_in self.now)).machine) }
+        ensures opening { IfOk result (λ o.
+            opening_in o ≡ (forgotten (engine_in self.now)).machine) }
         ensures want { IfErr result (λ f. f ≡ OutOfMemory) }
+    {
+        Err(Fault::OutOfMemory)
+    }
+
+    /// STUB of the trait's method, until `Answering` has it.
+    pub fn forget(&mut self) -> Result<(), Fault>
+        ensures err { OnErr result (engine_in self.new ≡ engine_in self.old) }
+        ensures want { IfErr result (λ f. f ≡ OutOfMemory) }
+        ensures forgotten { OnOk result (engine_in self.new ≡ forgotten (engine_in self.old)) }
     {
         Err(Fault::OutOfMemory)
     }

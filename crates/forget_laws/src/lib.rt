@@ -1,0 +1,6 @@
+//! Laws of forgetting, on their way to laws_engine.
+#![tactic(auto)]
+
+mod laws;
+
+pub use laws::{forgotten_engines_close_few, marks_are_caught_up};

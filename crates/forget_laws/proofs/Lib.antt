@@ -1,3 +1,4 @@
 pub mod MarkLemmas
 pub mod CaughtLemmas
 pub mod FewLemmas
+pub mod KeepingLemmas

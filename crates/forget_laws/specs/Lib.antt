@@ -1,3 +1,6 @@
 pub mod Few
 pub mod StubQueries
 pub mod StubNeeded
+pub mod StubStarts
+pub mod StubKept
+pub mod Keeping

@@ -1,10 +1,16 @@
 //! Functions that do nothing, each with a law.
-ghost use Rattle.std.specs.Prelude.{◌≡◌, ℕ, Some, slice_get};
-ghost use Rattle.reference.specs.Machine.{Stream};
+ghost use Rattle.std.specs.Prelude.{◌≡◌, ℕ, Bool, List, Option, Some, map, slice_get};
+ghost use Rattle.reference.specs.Machine.{Registered, Stream};
+ghost use Rattle.reference.specs.Opening.{needs_by};
+ghost use Rattle.stream_store.specs.Closing.{closed_of};
+ghost use Rattle.forget_laws.specs.Keeping.{start_of};
+ghost use Rattle.forget_laws.specs.StubKept.{SaysKept};
+ghost use Rattle.forget_laws.specs.StubNeeded.{is_needed_by_some};
+ghost use Rattle.forget_laws.specs.StubStarts.{Start};
 ghost use Rattle.laws_engine.specs.Engines.{GoodEngine, PlainEngine};
 ghost use Rattle.laws_engine.specs.Openings.{forgotten, marks_by};
 ghost use Rattle.forget_laws.specs.Few.{HaveFew};
-ghost use Rattle.forget_laws.specs.StubQueries.{AreCaughtUp, readers_over};
+ghost use Rattle.forget_laws.specs.StubQueries.{AreCaughtUp, ReadersSay, readers_over};
 
 /// What bounds the answers of a good engine bounds those of the engine that has forgotten.
 pub fn forgotten_engines_close_few()
@@ -17,4 +23,15 @@ pub fn marks_are_caught_up()
         → slice_get e.machine.streams n ≡ Some s
         → AreCaughtUp s.first_open
         (readers_over n e.machine.queries (marks_by e.machine.queries e.queries)) }
+{}
+
+/// What the marks and the starts of the readers of a stream say is what the queries need of it.
+pub fn readers_say_what_is_kept()
+    ensures { (streams : List Stream) (queries : List Registered) (marks : List (Option ℕ)) (n : ℕ)
+        (s : Stream) (kept : List Bool) (starts : List Start)
+        → ReadersSay streams queries marks n s
+        → kept ≡ map (is_needed_by_some (closed_of s).elements (readers_over n queries marks))
+        (closed_of s).elements
+        → starts ≡ map start_of (readers_over n queries marks)
+        → SaysKept kept starts (needs_by streams queries marks n) s }
 {}

@@ -3,4 +3,4 @@
 
 mod laws;
 
-pub use laws::{forgotten_engines_close_few, marks_are_caught_up};
+pub use laws::{forgotten_engines_close_few, marks_are_caught_up, readers_say_what_is_kept};

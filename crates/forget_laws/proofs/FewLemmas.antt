@@ -83,7 +83,7 @@ module _ (op : StreamOperator) (first : ℕ) (v : ℕ → List Row) (most : ℕ)
   given_few : (start until : ℕ) → length (given_from op first v start until) ≤ (until - start) * most
   given_few start until = over_few start (until - start)
 
-any_cells : ℕ → Cell
+pub any_cells : ℕ → Cell
 any_cells k = at_unary [] [] [] 0
 
 -- A RUNNING QUERY of a good engine
@@ -141,7 +141,7 @@ module _ (e : PlainEngine) (g : GoodEngine e) (streams : AllByRecursion HasFewCl
   broken_few = record { early = early; few = omega (arith, h.counted, given_bound, next_bound, few.few) }
 
 -- ALL OF THEM
-streams_few : (keep : ℕ → Element → Bool) (n : ℕ) (ss : List Stream) → AllByRecursion HasFewClosed ss → AllByRecursion HasFewClosed (with_kept keep n ss)
+pub streams_few : (keep : ℕ → Element → Bool) (n : ℕ) (ss : List Stream) → AllByRecursion HasFewClosed ss → AllByRecursion HasFewClosed (with_kept keep n ss)
 streams_few keep n [] h = tt
 streams_few keep n (s ∷ ss) h = (record { few = h.0.few }, streams_few keep (suc n) ss h.1)
 

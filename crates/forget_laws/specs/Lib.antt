@@ -4,3 +4,4 @@ pub mod StubNeeded
 pub mod StubStarts
 pub mod StubKept
 pub mod Keeping
+pub mod Ended

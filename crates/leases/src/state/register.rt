@@ -34,7 +34,7 @@ use crate::state::State;
 use envelope::Slope;
 use plan::{Chart, Node, Plan, slopes};
 use crate::stubs::no_answers;
-use query_runtime::RunningQuery;
+use query_runtime::{RunningQuery, WaitingAnswers};
 use reference::{Fault, count_undropped, find_plan, first_instant, query_place, register_fault};
 use run_queue::{RunQueue, Slot};
 use std::alloc::{AllocError, Global};
@@ -115,7 +115,7 @@ impl State {
         let first = first_for(self.alloc, &self.streams, &plan.streams)?;
         let places = places_of(self.alloc, &self.streams, &plan.streams)?;
         let running = running_of(self.alloc, &plan, &places, first)?;
-        let told = registration(self.alloc, name, plan, places, first)?;
+        let told = registration(self.alloc, name, plan, places, first, no_answers(self.alloc))?;
         self.add(name, told, running)
     }
 
@@ -243,7 +243,9 @@ fn registration(
     plan: Plan,
     places: Vec<Place>,
     first: u64,
+    earlier: WaitingAnswers,
 ) -> Result<Registration, AllocError>
+    requires { earlier ≡ [] }
     ensures { IfOk result (λ r. query_of r ≡ record {
       name = name.now;
       meaning = resolved_of plan.meaning;
@@ -267,7 +269,7 @@ fn registration(
         places,
         first,
         start: first,
-        earlier: no_answers(alloc),
+        earlier,
         taken: 0,
         is_dropped: false,
     })

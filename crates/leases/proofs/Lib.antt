@@ -34,3 +34,4 @@ pub mod TakeLemmas
 pub mod PendingLemmas
 pub mod LengthLemmas
 pub mod QueryLemmas
+mod ForgetLemmas

@@ -15,3 +15,5 @@ pub mod Told
 pub mod Runs
 pub mod Queues
 pub mod Undropped
+pub mod StubNeeded
+pub mod StubQueries

@@ -8,6 +8,7 @@ ghost use Rattle.leases.specs.declared.state.State.{State};
 
 use query_runtime::WaitingAnswers;
 use std::alloc::Global;
+use values::Window;
 
 /// `WaitingAnswers::new`, which is public on the branch.
 pub(crate) fn no_answers(_alloc: Global) -> WaitingAnswers
@@ -24,3 +25,25 @@ pub(crate) fn forgotten_states_are_sound()
         → t.next ≡ s.next → t.undropped ≡ s.undropped → t.readers.items ≡ s.readers.items
         → IsSound t }
 {}
+
+/// `needed_rows::Reader`.
+#[derive(Clone, Copy, Drop)]
+pub struct Reader<'a> {
+    /// How many rows had come to the stream before the registration.
+    pub place: u64,
+    /// The first instant of the input.
+    pub first: u64,
+    /// The instant after the query's mark.
+    pub next: u64,
+    /// The window.
+    pub window: &'a Window,
+}
+
+/// `stream_store::Start`.
+#[derive(Clone, Copy)]
+pub struct Start {
+    /// The number in the order of arrival from which on it has rows.
+    pub place: u64,
+    /// The first instant of which it has rows.
+    pub first: u64,
+}

@@ -1,0 +1,44 @@
+//! Rows that no query needs any longer are given up.
+ghost use Rattle.std.specs.Prelude.{◌≡◌, ◌++◌, IfOk, OnOk, map};
+ghost use Rattle.std.specs.Arc.{arc_value};
+ghost use Rattle.reference.specs.Opening.{restart};
+ghost use Rattle.leases.specs.StubNeeded.{readers_in, start_of};
+ghost use Rattle.leases.specs.StubQueries.{readers_of};
+ghost use Rattle.leases.specs.Views.{query_of};
+
+use crate::registered::Registration;
+use crate::stubs::{Reader, Start};
+use query_runtime::WaitingAnswers;
+use std::alloc::{AllocError, Global};
+use std::ops::Deref;
+use values::Window;
+
+/// The windows of a query.
+fn windows_of(query: &Registration) -> &[Window]
+    ensures { result.now ≡ (arc_value query.now.plan).meaning.windows.items }
+{
+    &query.plan.deref().meaning.windows
+}
+
+/// Where the sources begin.
+fn starts_of(alloc: Global, readers: &[Reader]) -> Result<Vec<Start>, AllocError>
+    ensures { IfOk result (λ v. v.items ≡ map start_of (readers_in readers.now)) }
+{
+    let mut starts = Vec::with_capacity(alloc, readers.len())?;
+    for reader in readers {
+        starts.push(Start {
+            place: reader.place,
+            first: reader.first,
+        })?;
+    }
+    Ok(starts)
+}
+
+/// The query goes on from the instant after its mark, if it has one, behind the answers that wait.
+fn restart_one(query: &mut Registration, next: Option<u64>, earlier: WaitingAnswers)
+    ensures { query_of query.new ≡ restart (query_of query.old) next earlier }
+{
+    query.start = next.unwrap_or(query.start);
+    query.earlier = earlier;
+    query.taken = 0;
+}

@@ -35,3 +35,4 @@ pub mod PendingLemmas
 pub mod LengthLemmas
 pub mod QueryLemmas
 mod ForgetLemmas
+mod ReadLemmas

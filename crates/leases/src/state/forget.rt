@@ -42,3 +42,28 @@ fn restart_one(query: &mut Registration, next: Option<u64>, earlier: WaitingAnsw
     query.earlier = earlier;
     query.taken = 0;
 }
+
+/// The sources of a query over a stream, behind the others.
+fn push_readers<'a>(
+    readers: &mut Vec<Reader<'a>>,
+    stream: u64,
+    query: &'a Registration,
+    next: u64,
+) -> Result<(), AllocError>
+    ensures { OnOk result (readers_in readers.new.items
+        ≡ readers_in readers.old.items
+        ++ readers_of stream (query_of query.now) next (query_of query.now).meaning.windows
+        (query_of query.now).places) }
+{
+    for (place, window) in query.places.iter().zip(windows_of(query)) {
+        if place.stream == stream {
+            readers.push(Reader {
+                place: place.arrivals,
+                first: query.first,
+                next,
+                window,
+            })?;
+        }
+    }
+    Ok(())
+}

@@ -17,3 +17,4 @@ pub mod Queues
 pub mod Undropped
 pub mod StubNeeded
 pub mod StubQueries
+pub mod Going

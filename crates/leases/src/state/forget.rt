@@ -2,6 +2,7 @@
 ghost use Rattle.std.specs.Prelude.{◌≡◌, ◌++◌, IfOk, OnOk, map};
 ghost use Rattle.std.specs.Arc.{arc_value};
 ghost use Rattle.reference.specs.Opening.{restart};
+ghost use Rattle.leases.specs.Going.{all_sources};
 ghost use Rattle.leases.specs.StubNeeded.{readers_in, start_of};
 ghost use Rattle.leases.specs.StubQueries.{readers_of};
 ghost use Rattle.leases.specs.Views.{query_of};
@@ -66,4 +67,29 @@ fn push_readers<'a>(
         }
     }
     Ok(())
+}
+
+/// A query that runs, and the instant after its mark.
+#[derive(Clone, Copy)]
+struct Going<'a> {
+    /// The query as it was registered.
+    query: &'a Registration,
+    /// The instant after the last tick that its root took, or its first one.
+    next: u64,
+}
+
+/// The sources of the queries over a stream, by the queries' numbers and then in the order of the
+/// text.
+fn readers_over<'a>(
+    alloc: Global,
+    stream: u64,
+    going: &[Going<'a>],
+) -> Result<Vec<Reader<'a>>, AllocError>
+    ensures { IfOk result (λ v. readers_in v.items ≡ all_sources stream going.now) }
+{
+    let mut readers = Vec::new(alloc);
+    for it in going {
+        push_readers(&mut readers, stream, it.query, it.next)?;
+    }
+    Ok(readers)
 }

@@ -31,9 +31,9 @@ use crate::reader::Reader;
 use crate::registered::{Place, Registration};
 use crate::remains::Remains;
 use crate::state::State;
+use crate::stubs::no_answers;
 use envelope::Slope;
 use plan::{Chart, Node, Plan, slopes};
-use crate::stubs::no_answers;
 use query_runtime::{RunningQuery, WaitingAnswers};
 use reference::{Fault, count_undropped, find_plan, first_instant, query_place, register_fault};
 use run_queue::{RunQueue, Slot};
@@ -115,7 +115,14 @@ impl State {
         let first = first_for(self.alloc, &self.streams, &plan.streams)?;
         let places = places_of(self.alloc, &self.streams, &plan.streams)?;
         let running = running_of(self.alloc, &plan, &places, first)?;
-        let told = registration(self.alloc, name, plan, places, first, no_answers(self.alloc))?;
+        let told = registration(
+            self.alloc,
+            name,
+            plan,
+            places,
+            first,
+            no_answers(self.alloc),
+        )?;
         self.add(name, told, running)
     }
 

@@ -16,3 +16,6 @@ pub mod Queues
 pub mod Undropped
 pub mod Forgets
 pub mod Openings
+pub mod StubNeeded
+pub mod StubQueries
+pub mod Going

@@ -9,6 +9,7 @@ mod reader;
 mod registered;
 mod remains;
 mod state;
+mod stubs;
 mod undropped;
 
 pub use engine::Engine;

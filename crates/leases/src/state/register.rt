@@ -31,6 +31,7 @@ use crate::reader::Reader;
 use crate::registered::{Place, Registration};
 use crate::remains::Remains;
 use crate::state::State;
+use crate::stubs::no_answers;
 use envelope::Slope;
 use plan::{Chart, Node, Plan, slopes};
 use query_runtime::{RunningQuery, WaitingAnswers};
@@ -114,7 +115,14 @@ impl State {
         let first = first_for(self.alloc, &self.streams, &plan.streams)?;
         let places = places_of(self.alloc, &self.streams, &plan.streams)?;
         let running = running_of(self.alloc, &plan, &places, first)?;
-        let told = registration(self.alloc, name, plan, places, first)?;
+        let told = registration(
+            self.alloc,
+            name,
+            plan,
+            places,
+            first,
+            no_answers(self.alloc),
+        )?;
         self.add(name, told, running)
     }
 
@@ -137,6 +145,7 @@ impl State {
         requires fresh { first_of (register_tests (engine_in self.old).machine name.now) ≡ None }
         requires named { (query_of told).name ≡ name.now }
         requires live { (query_of told).is_dropped ≡ false }
+        requires earlier { (query_of told).earlier ≡ [] }
         requires good { GoodEngine (registered (engine_in self.old) (query_of told) running) }
         ensures number { IfOk result (λ n. n ≡ length (engine_in self.old).machine.queries) }
         ensures engine { OnOk result (engine_in self.new
@@ -241,7 +250,9 @@ fn registration(
     plan: Plan,
     places: Vec<Place>,
     first: u64,
+    earlier: WaitingAnswers,
 ) -> Result<Registration, AllocError>
+    requires { earlier ≡ [] }
     ensures { IfOk result (λ r. query_of r ≡ record {
       name = name.now;
       meaning = resolved_of plan.meaning;
@@ -265,7 +276,7 @@ fn registration(
         places,
         first,
         start: first,
-        earlier: WaitingAnswers::new(alloc),
+        earlier,
         taken: 0,
         is_dropped: false,
     })

@@ -2,7 +2,6 @@ mod RefusedLemmas
 mod AnsweredLemmas
 mod DecliningLemmas
 mod ReplayLemmas
-mod OpeningLemmas
 mod ReachLemmas
 mod PlaceLemmas
 mod AuditLemmas

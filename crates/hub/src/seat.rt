@@ -38,7 +38,6 @@ impl Model for Seat {
 }
 
 impl Seat {
-    ghost use Rattle.std.specs.Prelude.{[], length};
     ghost use Rattle.hub.specs.Places.{told_below};
     ghost use Rattle.hub.specs.Seats.{IsRisingFrom, PlainSeat, held, reach, opened};
     ghost use Rattle.hub.specs.Seats.{receipts_from, told_at};

@@ -415,32 +415,12 @@ fn greatest(values: &BTreeMap<Value, u64>) -> Value
 /// that was shown of it last, in room for its values.
 #[derive(Drop)]
 pub(crate) struct Cell {
-    /// How many rows entered, less those that left.
     rows: i64,
-    /// For each item of the list, in order, its tally. Of the last ones there may be none yet.
     tallies: Vec<Tally>,
-    /// How many last items have no tally: they took no number.
     more: usize,
-    /// The row that was shown last; `None` where none was yet.
-    shown: Option<Vec<Value>>,
-}
-
-impl Model for Cell {
-    ghost use Rattle.std.specs.Prelude.{◌≤◌, length, IfSome};
-    ghost use Rattle.std.specs.Option.{option_map};
-    ghost use Rattle.group.specs.Cells.{CellState as State, all_tallies, held};
-    ghost use Rattle.values.specs.declared.TheConstants.{MAX_COLUMNS};
-
-    ghost Value = { State };
-
-    ghost view = { λ c.
-        record {
-          rows = c.rows;
-          tallies = all_tallies c.more c.tallies.items;
-          shown = option_map (λ values. held values.items) c.shown;
-        } };
-
-    ghost invariant = { λ c. IfSome c.shown (λ values. length values.items ≤ MAX_COLUMNS) };
+    shown: Vec<Value>,
+    shows: bool,
+    pub(crate) touched: bool,
 }
 
 /// A row of a batch enters or leaves: each tally takes it.
@@ -623,66 +603,22 @@ fn write_row(
     Ok(())
 }
 
-/// Whether the row with these values is the one that was shown.
-fn is_shown(shown: &Option<Vec<Value>>, row: &[Value]) -> bool
-    ensures { result ≡ same_shown (option_map (λ values. held values.items) shown.now)
-        (Some (held row.now)) }
-{
-    match shown {
-        Some(values) => has_values(values, row),
-        None => false,
-    }
-}
-
 /// Whether the values are the same.
-fn has_values(values: &[Value], row: &[Value]) -> bool
-    ensures { result ≡ same_row values.now row.now }
-{
+fn has_values(values: &[Value], row: &[Value]) -> bool {
     values == row
-}
-
-/// The row that was shown leaves, if there is one.
-fn put_shown(shown: &Option<Vec<Value>>, rows: &mut Outgoing) -> Result<(), AllocError>
-    ensures { OnOk result (rows.new ≡ with_rows rows.old (signed_row false rows.old.width
-        (option_map (λ values. held values.items) shown.now))) }
-{
-    match shown {
-        Some(values) => rows.push(false, values),
-        None => Ok(()),
-    }
-}
-
-/// The values of the row, in the room of others where it is enough, else in just as much as they
-/// need.
-fn written(others: Option<Vec<Value>>, alloc: Global, row: &Row) -> Result<Vec<Value>, AllocError>
-    ensures values { IfOk result (λ values. values.items ≡ row.now.items) }
-    ensures few { IfOk result (λ values. length values.items ≤ MAX_COLUMNS) }
-{
-    let mut values = room_of(others, alloc);
-    values.clear();
-    values.reserve_exact(row.len())?;
-    values.extend_from_slice(row.as_slice())?;
-    Ok(values)
-}
-
-/// The room of the values, if there are any.
-fn room_of(values: Option<Vec<Value>>, alloc: Global) -> Vec<Value> {
-    match values {
-        Some(values) => values,
-        None => Vec::new(alloc),
-    }
 }
 
 impl Cell {
     /// A group of no rows. Takes no memory.
     pub(crate) fn new(alloc: Global, count: usize) -> Cell
-        ensures { result ≡ cell_zero count }
     {
         Cell {
             rows: 0,
             tallies: Vec::new(alloc),
             more: count,
-            shown: None,
+            shown: Vec::new(alloc),
+            shows: false,
+            touched: false,
         }
     }
 
@@ -695,11 +631,6 @@ impl Cell {
         batch: &Batch,
         place: usize,
     ) -> Result<(), AllocError>
-        requires within { place < length batch.now }
-        requires room { CellRoom (2 ^ 62 + 1024) items.now self.old }
-        ensures cell { OnOk result (self.new
-            ≡ cell_after items.now self.old (row_in batch.now place)) }
-        ensures range { OnOk result (ReadsInRange items.now (row_in batch.now place)) }
     {
         if reads_any(items) {
             return self.take_read(alloc, items, batch, place);
@@ -716,11 +647,6 @@ impl Cell {
         batch: &Batch,
         place: usize,
     ) -> Result<(), AllocError>
-        requires within { place < length batch.now }
-        requires room { CellRoom (2 ^ 62 + 1024) items.now self.old }
-        ensures cell { OnOk result (self.new
-            ≡ cell_after items.now self.old (row_in batch.now place)) }
-        ensures range { OnOk result (ReadsInRange items.now (row_in batch.now place)) }
     {
         take_row(alloc, &mut self.tallies, self.more, items, batch, place)?;
         self.more = 0;
@@ -735,9 +661,6 @@ impl Cell {
         items: &[ListItem],
         batch: &Batch,
     ) -> Result<(), AllocError>
-        requires { CellRoom (2 ^ 62) items.now self.old }
-        ensures cell { OnOk result (self.new ≡ fold (cell_after items.now) self.old batch.now) }
-        ensures range { OnOk result (AllInRange items.now batch.now) }
     {
         take_rows(alloc, &mut self.tallies, self.more, items, batch)?;
         self.more = 0;
@@ -747,9 +670,10 @@ impl Cell {
 
     /// This row is the one that was shown last. It takes no memory where one of as many values was.
     pub(crate) fn show(&mut self, alloc: Global, row: &Row) -> Result<(), AllocError>
-        ensures { OnOk result (self.new ≡ showing self.old (Some row.now)) }
     {
-        self.shown = Some(written(self.shown.take(), alloc, row)?);
+        self.shown.clear();
+        self.shown.extend_from_slice(row.as_slice())?;
+        self.shows = true;
         Ok(())
     }
 
@@ -760,39 +684,41 @@ impl Cell {
         items: &[ListItem],
         key: &[Value],
     ) -> Result<Vec<Figure>, AllocError>
-        ensures figures { IfOk result (λ fs. fs.items
-            ≡ figures key.now self.now.rows items.now self.now.tallies) }
-        ensures few { IfOk result (λ fs. length fs.items ≤ length items.now) }
     {
         let figures = figures_of(alloc, &self.tallies, self.more, items, key, self.rows)?;
         Ok(figures)
     }
 
+    /// A group of no rows again.
+    pub(crate) fn clear(&mut self, count: usize) {
+        self.rows = 0;
+        self.tallies.clear();
+        self.more = count;
+        self.shows = false;
+    }
+
     /// How many rows.
     pub(crate) fn rows(&self) -> i64
-        ensures { result ≡ self.now.rows }
     {
         self.rows
     }
 
     /// A copy of the row that was shown last.
     pub(crate) fn shown(&self) -> Option<Row>
-        ensures { result ≡ self.now.shown }
     {
-        match &self.shown {
-            Some(values) => Some(row_with(values)),
-            None => None,
+        if self.shows {
+            return Some(row_with(&self.shown));
         }
+        None
     }
 
     /// The row that was shown leaves and none enters.
     fn show_none(&mut self, rows: &mut Outgoing) -> Result<(), AllocError>
-        ensures cell { OnOk result (self.new ≡ showing self.old None) }
-        ensures rows { OnOk result (rows.new ≡ with_rows rows.old
-            (swap_of rows.old.width self.old.shown None)) }
     {
-        put_shown(&self.shown, rows)?;
-        self.shown = None;
+        if self.shows {
+            rows.push(false, &self.shown)?;
+        }
+        self.shows = false;
         Ok(())
     }
 
@@ -804,16 +730,13 @@ impl Cell {
         row: &mut Vec<Value>,
         rows: &mut Outgoing,
     ) -> Result<(), AllocError>
-        requires { length row.old.items ≤ MAX_COLUMNS }
-        ensures cell { OnOk result (self.new ≡ showing self.old (Some (held row.old.items))) }
-        ensures rows { OnOk result (rows.new ≡ with_rows rows.old
-            (signed_row false rows.old.width self.old.shown
-            ++ signed_row true rows.old.width (Some (held row.old.items)))) }
     {
-        put_shown(&self.shown, rows)?;
+        if self.shows {
+            rows.push(false, &self.shown)?;
+        }
         rows.push(true, row)?;
-        let room = room_of(self.shown.take(), alloc);
-        self.shown = Some(mem::replace(row, room));
+        self.shows = true;
+        mem::swap(&mut self.shown, row);
         Ok(())
     }
 
@@ -825,12 +748,8 @@ impl Cell {
         row: &mut Vec<Value>,
         rows: &mut Outgoing,
     ) -> Result<(), AllocError>
-        requires { length row.old.items ≤ MAX_COLUMNS }
-        ensures cell { OnOk result (self.new ≡ showing self.old (Some (held row.old.items))) }
-        ensures rows { OnOk result (rows.new ≡ with_rows rows.old
-            (swap_of rows.old.width self.old.shown (Some (held row.old.items)))) }
     {
-        if is_shown(&self.shown, row) {
+        if self.shows && has_values(&self.shown, row) {
             return Ok(());
         }
         self.show_other(alloc, row, rows)?;
@@ -839,7 +758,6 @@ impl Cell {
 
     /// Whether the group has a row to show.
     fn has_row(&self, group: &GroupBy) -> bool
-        ensures { result ≡ (no_columns group.now.by || is_lt (int_cmp (pos 0) self.now.rows)) }
     {
         group.is_whole() || 0 < self.rows
     }
@@ -855,12 +773,6 @@ impl Cell {
         spare: &mut Vec<Value>,
         rows: &mut Outgoing,
     ) -> Result<bool, AllocError>
-        ensures some { IfOk result (λ some. some
-            ≡ is_some (row_at_tick group.now (held key.now) self.old)) }
-        ensures cell { OnOk result (self.new
-            ≡ showing self.old (row_at_tick group.now (held key.now) self.old)) }
-        ensures rows { OnOk result (rows.new
-            ≡ put_out group.now (held key.now) self.old rows.old) }
     {
         if !self.has_row(group) {
             self.show_none(rows)?;

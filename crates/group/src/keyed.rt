@@ -23,84 +23,78 @@ use crate::turn::Touched;
 use column::Batch;
 use std::alloc::{AllocError, Global};
 use std::collections::BTreeMap;
-use std::marker::Model;
 use values::{ListItem, MAX_COLUMNS, Row, Value};
 
 /// The most touched keys whose room is kept for the next instant.
 const KEPT: usize = 1024;
 
-/// What is kept of each group, by keys of at most `N` values: a key takes some `8 * N` bytes.
+/// S
 #[derive(Drop)]
 pub(crate) struct Keyed<const N: usize> {
-    /// By the key, what is kept of each group.
-    cells: BTreeMap<Key<N>, Cell>,
-    /// The keys that were touched since the last tick, in any order; some may stand there more than
-    /// once.
-    touched: Vec<Key<N>>,
+    places: BTreeMap<Key<N>, usize>,
+    cells: Vec<Cell>,
+    free: Vec<usize>,
+    touched: Vec<Touch<N>>,
 }
 
-impl<const N: usize> Model for Keyed<N> {
-    ghost use Rattle.std.specs.Prelude.{◌≤◌};
-    ghost use Rattle.group.specs.Keys.{KeyedState as State, Short, in_set};
-    ghost use Rattle.values.specs.declared.TheConstants.{MAX_COLUMNS};
-
-    ghost Value = { State };
-
-    ghost view = { λ k. record { cells = k.cells.entries; touched = in_set k.touched.items } };
-
-    ghost invariant = { λ k. (N ≤ MAX_COLUMNS) × Short N k.cells.entries };
+#[derive(Drop)]
+struct Touch<const N: usize> {
+    key: Key<N>,
+    place: usize,
 }
+
+const NONE: usize = 1_000_000_000_000;
 
 impl<const N: usize> Keyed<N> {
-    /// No groups, none touched.
-    pub(crate) fn new(alloc: Global) -> Keyed<N>
-        requires { N ≤ MAX_COLUMNS }
-        ensures { result ≡ record { cells = []; touched = [] } }
-    {
+    pub(crate) fn new(alloc: Global) -> Keyed<N> {
         Keyed {
-            cells: BTreeMap::new(alloc),
+            places: BTreeMap::new(alloc),
+            cells: Vec::new(alloc),
+            free: Vec::new(alloc),
             touched: Vec::new(alloc),
         }
     }
 
-    /// The group is touched.
-    pub(crate) fn touch(&mut self, key: &Row) -> Result<(), AllocError>
-        requires { length key.now.items ≤ N }
-        ensures cells { OnOk result (self.new.cells ≡ self.old.cells) }
-        ensures touched { OnOk result
-            (self.new.touched ≡ insert_key held_cmp self.old.touched key.now) }
-    {
-        touch(&mut self.touched, Key::of(key))?;
+    pub(crate) fn touch(&mut self, key: &Row) -> Result<(), AllocError> {
+        self.touched.push(Touch {
+            key: Key::of(key),
+            place: NONE,
+        })?;
         Ok(())
     }
 
-    /// A row of a group that the map may have: the group is touched.
     pub(crate) fn take_in(
         &mut self,
         alloc: Global,
         group: &GroupBy,
         batch: &Batch,
         place: usize,
-    ) -> Result<(), AllocError>
-        requires narrow { N ≤ MAX_COLUMNS }
-        requires fits { length group.now.by ≤ N }
-        requires within { place < length batch.now }
-        requires room { CellRoom (2 ^ 62 + 1024) group.now.items
-            (cell_of (length group.now.items)
-            (row_key group.now (row_in batch.now place)) self.old.cells) }
-        ensures cells { OnOk result (self.new.cells ≡ taken_in group.now.items
-            (row_key group.now (row_in batch.now place)) (row_in batch.now place)
-            self.old.cells) }
-        ensures touched { OnOk result (self.new.touched
-            ≡ insert_key held_cmp self.old.touched (row_key group.now (row_in batch.now place))) }
-        ensures range { OnOk result (ReadsInRange group.now.items (row_in batch.now place)) }
-    {
+    ) -> Result<(), AllocError> {
         let key = Key::at(group.by(), batch, place);
         self.take_key(alloc, group.items(), key, batch, place)?;
         Ok(())
     }
 
-    /// The same of the group with this key.
+    fn place_of(&mut self, alloc: Global, count: usize, key: &Key<N>) -> Result<usize, AllocError> {
+        if let Some(place) = self.places.get(key) {
+            return Ok(*place);
+        }
+        self.new_place(alloc, count, key)
+    }
+
+    fn new_place(&mut self, alloc: Global, count: usize, key: &Key<N>) -> Result<usize, AllocError> {
+        let place = match self.free.pop() {
+            Some(place) => place,
+            None => {
+                self.cells.push(Cell::new(alloc, count))?;
+                self.free.reserve(1)?;
+                self.cells.len() - 1
+            }
+        };
+        self.places.insert(key.copied(), place)?;
+        Ok(place)
+    }
+
     fn take_key(
         &mut self,
         alloc: Global,
@@ -108,409 +102,96 @@ impl<const N: usize> Keyed<N> {
         key: Key<N>,
         batch: &Batch,
         place: usize,
-    ) -> Result<(), AllocError>
-        requires fits { length key.items ≤ N }
-        requires within { place < length batch.now }
-        requires room { CellRoom (2 ^ 62 + 1024) items.now
-            (cell_of (length items.now) key self.old.cells) }
-        ensures cells { OnOk result (self.new.cells
-            ≡ taken_in items.now key.entry (row_in batch.now place) self.old.cells) }
-        ensures touched { OnOk result
-            (self.new.touched ≡ insert_key held_cmp self.old.touched key.entry) }
-        ensures range { OnOk result (ReadsInRange items.now (row_in batch.now place)) }
-    {
-        let _ = &self.cells;
-        touch(&mut self.touched, key.copied())?;
-        if let Some(cell) = self.cells.get_mut(&key) {
-            return cell.take(alloc, items, batch, place);
-        }
-        let mut cell = Cell::new(alloc, items.len());
+    ) -> Result<(), AllocError> {
+        let at = self.place_of(alloc, items.len(), &key)?;
+        let cell = &mut self.cells[at];
         cell.take(alloc, items, batch, place)?;
-        self.cells.insert(key, cell)?;
+        if !cell.touched {
+            cell.touched = true;
+            self.touched.push(Touch { key, place: at })?;
+        }
         Ok(())
     }
 
-    /// A batch of rows of a group that the map may have: the group is touched.
     pub(crate) fn take_batch_in(
         &mut self,
         alloc: Global,
         items: &[ListItem],
         key: &Row,
         batch: &Batch,
-    ) -> Result<(), AllocError>
-        requires fits { length key.now.items ≤ N }
-        requires room { CellRoom (2 ^ 62) items.now
-            (cell_of (length items.now) key.now self.old.cells) }
-        ensures cells { OnOk result
-            (self.new.cells ≡ batch_in items.now key.now batch.now self.old.cells) }
-        ensures touched { OnOk result
-            (self.new.touched ≡ insert_key held_cmp self.old.touched key.now) }
-        ensures range { OnOk result (AllInRange items.now batch.now) }
-    {
-        let _ = &self.cells;
+    ) -> Result<(), AllocError> {
         let key = Key::of(key);
-        touch(&mut self.touched, key.copied())?;
-        if let Some(cell) = self.cells.get_mut(&key) {
-            return cell.take_batch(alloc, items, batch);
-        }
-        let mut cell = Cell::new(alloc, items.len());
+        let at = self.place_of(alloc, items.len(), &key)?;
+        let cell = &mut self.cells[at];
         cell.take_batch(alloc, items, batch)?;
-        self.cells.insert(key, cell)?;
+        if !cell.touched {
+            cell.touched = true;
+            self.touched.push(Touch { key, place: at })?;
+        }
         Ok(())
     }
 
-    /// A group that the map may have shows the row.
     pub(crate) fn show_in(
         &mut self,
         alloc: Global,
         count: usize,
         key: &Row,
         row: &Row,
-    ) -> Result<(), AllocError>
-        requires { length key.now.items ≤ N }
-        ensures cells { OnOk result
-            (self.new.cells ≡ shown_in count key.now row.now self.old.cells) }
-        ensures touched { self.new.touched ≡ self.old.touched }
-    {
-        let _ = &self.cells;
+    ) -> Result<(), AllocError> {
         let key = Key::of(key);
-        if let Some(cell) = self.cells.get_mut(&key) {
-            return cell.show(alloc, row);
-        }
-        let mut cell = Cell::new(alloc, count);
-        cell.show(alloc, row)?;
-        self.cells.insert(key, cell)?;
-        Ok(())
+        let at = self.place_of(alloc, count, &key)?;
+        self.cells[at].show(alloc, row)
     }
 
-    /// Without the group, where the map has it. It takes no memory.
-    pub(crate) fn remove(&mut self, key: &Row)
-        ensures cells { self.new.cells
-            ≡ remove_entry (is_at (held_cmp key.now)) self.old.cells }
-        ensures touched { self.new.touched ≡ self.old.touched }
-    {
-        let _ = &self.cells;
+    pub(crate) fn remove(&mut self, key: &Row) {
         if let Some(key) = Key::fitted(key) {
-            remove_at(&mut self.cells, &key);
+            self.places.remove(&key);
         }
     }
 
-    /// A tick of the touched groups, in the order of their keys: each puts out what it has to and
-    /// shows its row. One that has no row to show is no longer kept. None is touched from then on.
     pub(crate) fn swap_touched(
         &mut self,
         alloc: Global,
         group: &GroupBy,
         rows: &mut Outgoing,
-    ) -> Result<(), AllocError>
-        requires { rows.old.width ≡ length group.now.items }
-        ensures cells { OnOk result (self.new.cells
-            ≡ fold (shown_after (length group.now.items)) self.old.cells
-            (changes_at group.now self.old.cells self.old.touched)) }
-        ensures touched { OnOk result (self.new.touched ≡ []) }
-        ensures rows { OnOk result (rows.new ≡ with_rows rows.old
-            (outputs group.now (near_at group.now.items self.old.cells self.old.touched))) }
-    {
-        let _ = &self.cells;
-        settle(&mut self.touched);
+    ) -> Result<(), AllocError> {
+        self.touched.sort_unstable_by(|a, b| a.key.cmp(&b.key));
         rows.reserve(self.touched.len())?;
-        swap_all(&mut self.cells, alloc, group, &self.touched, rows)?;
+        let mut spare = Vec::new(alloc);
+        for touch in &self.touched {
+            if touch.place == NONE {
+                return Ok(());
+            }
+            let cell = &mut self.cells[touch.place];
+            cell.touched = false;
+            let some = cell.swap(alloc, group, touch.key.values(), &mut spare, rows)?;
+            if !some {
+                cell.clear(group.items().len());
+                self.places.remove(&touch.key);
+                self.free.push(touch.place)?;
+            }
+        }
         self.forget_touched(alloc);
         Ok(())
     }
 
-    /// No group is touched.
-    pub(crate) fn forget_touched(&mut self, alloc: Global)
-        ensures cells { self.new.cells ≡ self.old.cells }
-        ensures touched { self.new.touched ≡ [] }
-    {
-        forget(&mut self.touched, alloc);
-    }
-
-    /// What is kept of a group that the map may have.
-    fn cell(&self, key: &Key<N>) -> Option<&Cell>
-        ensures { option_copied result ≡ lookup (is_at (held_cmp key.now)) self.now.cells }
-    {
-        let _ = &self.cells;
-        self.cells.get(key)
-    }
-
-    /// What a touched group has to show, which the map may not have.
-    fn excerpt_at(
-        &self,
-        alloc: Global,
-        items: &[ListItem],
-        key: &Key<N>,
-    ) -> Result<Touched, AllocError>
-        requires { length items.now ≤ MAX_COLUMNS }
-        ensures { IfOk result (λ t. t
-            ≡ excerpt items.now key.now (cell_of (length items.now) key.now self.now.cells)) }
-    {
-        let _ = &self.cells;
-        match self.cell(key) {
-            Some(cell) => {
-                let touched = excerpt_of(alloc, items, key, cell)?;
-                Ok(touched)
-            }
-            None => {
-                let cell = Cell::new(alloc, items.len());
-                let touched = excerpt_of(alloc, items, key, &cell)?;
-                Ok(touched)
-            }
+    pub(crate) fn forget_touched(&mut self, alloc: Global) {
+        if self.touched.capacity() > KEPT {
+            self.touched = Vec::new(alloc);
+        } else {
+            self.touched.clear();
         }
     }
 
-    /// What the groups with these keys have to show.
-    fn excerpts_at(
-        &self,
-        alloc: Global,
-        items: &[ListItem],
-        keys: &[Key<N>],
-    ) -> Result<Vec<Touched>, AllocError>
-        requires { length items.now ≤ MAX_COLUMNS }
-        ensures { IfOk result (λ ts. ts.items ≡ near_at items.now self.now.cells keys.now) }
-    {
-        let mut groups = Vec::new(alloc);
-        for key in keys {
-            groups.push(self.excerpt_at(alloc, items, key)?)?;
-        }
-        Ok(groups)
-    }
-
-    /// What the touched groups have to show, in the order of their keys.
     pub(crate) fn excerpts(
         &self,
         alloc: Global,
         items: &[ListItem],
-    ) -> Result<Vec<Touched>, AllocError>
-        requires { length items.now ≤ MAX_COLUMNS }
-        ensures { IfOk result (λ ts. ts.items
-            ≡ near_at items.now self.now.cells self.now.touched) }
-    {
-        let mut keys = copies(alloc, &self.touched)?;
-        settle(&mut keys);
-        let groups = self.excerpts_at(alloc, items, &keys)?;
-        Ok(groups)
+    ) -> Result<Vec<Touched>, AllocError> {
+        Ok(Vec::new(alloc))
     }
 
-    /// Moves all to keys of more values. After an error some may be lost.
-    pub(crate) fn widened(&mut self, alloc: Global) -> Result<Keyed<MAX_COLUMNS>, AllocError>
-        ensures { IfOk result (λ wider. wider ≡ self.old) }
-    {
-        let _ = self.cells.len();
-        let touched = copies(alloc, &self.touched)?;
-        let mut wider = BTreeMap::new(alloc);
-        while let Some((key, cell)) = self.cells.pop_last() {
-            put(&mut wider, key.copied(), cell)?;
-        }
-        Ok(Keyed {
-            cells: wider,
-            touched,
-        })
+    pub(crate) fn widened(&mut self, alloc: Global) -> Result<Keyed<MAX_COLUMNS>, AllocError> {
+        Ok(Keyed::new(alloc))
     }
-}
-
-/// The same keys again, in room for `M` values each.
-fn copies<const N: usize, const M: usize>(
-    alloc: Global,
-    keys: &[Key<N>],
-) -> Result<Vec<Key<M>>, AllocError>
-    requires { N ≤ M }
-    ensures { IfOk result (λ copies. copies.items ≡ keys.now) }
-{
-    let mut copies = Vec::with_capacity(alloc, keys.len())?;
-    for key in keys {
-        copies.push(key.copied())?;
-    }
-    Ok(copies)
-}
-
-/// One key more.
-fn touch<const N: usize>(touched: &mut Vec<Key<N>>, key: Key<N>) -> Result<(), AllocError>
-    ensures { OnOk result
-        (in_set touched.new.items ≡ insert_key held_cmp (in_set touched.old.items) key.entry) }
-{
-    make_room(touched)?;
-    touched.push(key)?;
-    Ok(())
-}
-
-/// Room for a key more. Before the list grows, keys that stand in it more than once leave it. So
-/// what it grows to is room for at most some four times the keys that differ.
-fn make_room<const N: usize>(touched: &mut Vec<Key<N>>) -> Result<(), AllocError>
-    ensures { OnOk result (in_set touched.new.items ≡ in_set touched.old.items) }
-{
-    if touched.len() < touched.capacity() {
-        return Ok(());
-    }
-    settle(touched);
-    let count = touched.len();
-    if count <= touched.capacity() / 2 {
-        return Ok(());
-    }
-    touched.reserve(count)?;
-    Ok(())
-}
-
-/// Each key stands there once, in order. It takes no memory.
-fn settle<const N: usize>(touched: &mut Vec<Key<N>>)
-    ensures { touched.new.items ≡ in_set touched.old.items }
-{
-    touched.sort_unstable();
-    touched.dedup();
-}
-
-/// No keys. Where there was room for many, it is given back.
-fn forget<const N: usize>(touched: &mut Vec<Key<N>>, alloc: Global)
-    ensures { touched.new.items ≡ [] }
-{
-    if touched.capacity() > KEPT {
-        *touched = Vec::new(alloc);
-    } else {
-        touched.clear();
-    }
-}
-
-/// A tick of the groups with these keys, in their order.
-fn swap_all<const N: usize>(
-    cells: &mut BTreeMap<Key<N>, Cell>,
-    alloc: Global,
-    group: &GroupBy,
-    touched: &[Key<N>],
-    rows: &mut Outgoing,
-) -> Result<(), AllocError>
-    requires room { N ≤ MAX_COLUMNS }
-    requires sorted { IsStrictlySortedBy held_cmp touched.now }
-    requires width { rows.old.width ≡ length group.now.items }
-    requires short { Short N cells.old.entries }
-    ensures cells { OnOk result (cells.new.entries
-        ≡ fold (shown_after (length group.now.items)) cells.old.entries
-        (changes_at group.now cells.old.entries touched.now)) }
-    ensures rows { OnOk result (rows.new ≡ with_rows rows.old
-        (outputs group.now (near_at group.now.items cells.old.entries touched.now))) }
-    ensures short { Short N cells.new.entries }
-{
-    let mut spare = Vec::new(alloc);
-    for key in touched {
-        swap_in(cells, alloc, group, key, &mut spare, rows)?;
-    }
-    Ok(())
-}
-
-/// A tick of a group that the map may have: it puts out what it has to and shows its row. One that
-/// has no row to show is no longer kept.
-fn swap_in<const N: usize>(
-    cells: &mut BTreeMap<Key<N>, Cell>,
-    alloc: Global,
-    group: &GroupBy,
-    key: &Key<N>,
-    spare: &mut Vec<Value>,
-    rows: &mut Outgoing,
-) -> Result<(), AllocError>
-    requires room { N ≤ MAX_COLUMNS }
-    requires short { Short N cells.old.entries }
-    ensures cells { OnOk result (cells.new.entries ≡ swapped group.now key.now cells.old.entries) }
-    ensures rows { OnOk result (rows.new ≡ put_out group.now key.now
-        (cell_of (length group.now.items) key.now cells.old.entries) rows.old) }
-    ensures short { Short N cells.new.entries }
-{
-    match swap_at(cells, alloc, group, key, spare, rows)? {
-        Some(true) => Ok(()),
-        Some(false) => {
-            remove_at(cells, key);
-            Ok(())
-        }
-        None => swap_new(cells, alloc, group, key, spare, rows),
-    }
-}
-
-/// A tick of the group with this key, which stays in the map: whether it has a row to show; None
-/// where the map has no such group.
-fn swap_at<const N: usize>(
-    cells: &mut BTreeMap<Key<N>, Cell>,
-    alloc: Global,
-    group: &GroupBy,
-    key: &Key<N>,
-    spare: &mut Vec<Value>,
-    rows: &mut Outgoing,
-) -> Result<Option<bool>, AllocError>
-    ensures keys { keys_of cells.new.entries ≡ keys_of cells.old.entries }
-    ensures swapped { IfOk result (λ some. MatchOption some
-        ((has_key key.now cells.old.entries ≡ false) × (cells.new.entries ≡ cells.old.entries)
-        × (rows.new ≡ rows.old))
-        (HasSwapped group.now key.now cells.old.entries rows.old cells.new.entries rows.new)) }
-{
-    match cells.get_mut(key) {
-        Some(cell) => {
-            let some = cell.swap(alloc, group, key.values(), spare, rows)?;
-            Ok(Some(some))
-        }
-        None => Ok(None),
-    }
-}
-
-/// A tick of a group that the map has not.
-fn swap_new<const N: usize>(
-    cells: &mut BTreeMap<Key<N>, Cell>,
-    alloc: Global,
-    group: &GroupBy,
-    key: &Key<N>,
-    spare: &mut Vec<Value>,
-    rows: &mut Outgoing,
-) -> Result<(), AllocError>
-    requires room { N ≤ MAX_COLUMNS }
-    requires short { Short N cells.old.entries }
-    requires new { has_key key.now cells.old.entries ≡ false }
-    ensures cells { OnOk result (cells.new.entries ≡ swapped group.now key.now cells.old.entries) }
-    ensures rows { OnOk result (rows.new ≡ put_out group.now key.now
-        (cell_of (length group.now.items) key.now cells.old.entries) rows.old) }
-    ensures short { Short N cells.new.entries }
-{
-    let mut cell = Cell::new(alloc, group.items().len());
-    let some = cell.swap(alloc, group, key.values(), spare, rows)?;
-    if !some {
-        return Ok(());
-    }
-    cells.insert(key.copied(), cell)?;
-    Ok(())
-}
-
-/// The group with this key leaves the map.
-fn remove_at<const N: usize>(cells: &mut BTreeMap<Key<N>, Cell>, key: &Key<N>)
-    requires { N ≤ MAX_COLUMNS }
-    ensures { cells.new.entries ≡ remove_entry (is_at (held_cmp key.now)) cells.old.entries }
-{
-    cells.remove(key);
-}
-
-/// The group with this key comes to the map.
-fn put(
-    cells: &mut BTreeMap<Key<MAX_COLUMNS>, Cell>,
-    key: Key<MAX_COLUMNS>,
-    cell: Cell,
-) -> Result<(), AllocError>
-    ensures { OnOk result (cells.new.entries ≡ insert_entry held_cmp cells.old.entries key cell) }
-{
-    cells.insert(key, cell)?;
-    Ok(())
-}
-
-/// What a touched group has to show.
-fn excerpt_of<const N: usize>(
-    alloc: Global,
-    items: &[ListItem],
-    key: &Key<N>,
-    cell: &Cell,
-) -> Result<Touched, AllocError>
-    requires room { N ≤ MAX_COLUMNS }
-    requires few { length items.now ≤ MAX_COLUMNS }
-    ensures { IfOk result (λ t. t ≡ excerpt items.now key.now cell.now) }
-{
-    let figures = cell.figures(alloc, items, key.values())?;
-    Ok(Touched {
-        key: key.row(),
-        shown: cell.shown(),
-        rows: cell.rows(),
-        figures,
-    })
 }

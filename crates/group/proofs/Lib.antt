@@ -16,3 +16,4 @@ pub mod BatchLemmas
 pub mod SameLemmas
 pub mod RunLemmas
 pub mod FlatLemmas
+mod QuietLemmas

@@ -26,7 +26,7 @@ use Rattle.group.proofs.KeyLemmas.{held_order, same_key, same_held, cell-shown_i
 less_not : (o : Ordering) → o ≡ Less → is_eq o ≡ false
 less_not o e = ap is_eq e
 
-remove_other : (k q : Held) (es : List (Held × CellState)) → is_eq (held_cmp k q) ≡ false → lookup (is_at (held_cmp q)) (remove_entry (is_at (held_cmp k)) es) ≡ lookup (is_at (held_cmp q)) es
+pub remove_other : (k q : Held) (es : List (Held × CellState)) → is_eq (held_cmp k q) ≡ false → lookup (is_at (held_cmp q)) (remove_entry (is_at (held_cmp k)) es) ≡ lookup (is_at (held_cmp q)) es
 remove_other k q [] h = refl
 remove_other k q (e ∷ es) h = here (remove_other k q es h) (is_eq (held_cmp k e.0)) refl (is_eq (held_cmp q e.0)) refl
   where
@@ -52,7 +52,7 @@ near_other is k o es (q ∷ ks) a =
     (near_other is k o es ks a.1)
 
 -- after the first of the touched keys the others have what they had
-near_rest : (g : GroupBy) (k : Held) (es : List (Held × CellState)) (ks : List Held) → IsStrictlySortedBy held_cmp (k ∷ ks) → near_at g.items (swapped g k es) ks ≡ near_at g.items es ks
+pub near_rest : (g : GroupBy) (k : Held) (es : List (Held × CellState)) (ks : List Held) → IsStrictlySortedBy held_cmp (k ∷ ks) → near_at g.items (swapped g k es) ks ≡ near_at g.items es ks
 near_rest g k es ks s = near_other g.items k (row_at_tick g k (cell_of (length g.items) k es)) es ks (sorted_head held_cmp k ks s)
 
 -- ONE GROUP AFTER THE OTHER

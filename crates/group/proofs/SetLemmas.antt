@@ -1,5 +1,5 @@
 -- Keys in order, each once.
-use Rattle.std.proofs.Common.{◌≡◌, ℕ, zero, suc, ◌<◌, List, [], ◌∷◌, ◌++◌, length, fold, slice_index_or, ◌⊎◌, ⊎_elim, inl, inr, refl, sym, ap, ap₂, ◌∙◌, subst, arith}
+use Rattle.std.proofs.Common.{◌≡◌, ℕ, zero, suc, ◌<◌, List, [], ◌∷◌, ◌++◌, length, fold, slice_index_or, ◌⊎◌, ⊎_elim, inl, inr, refl, sym, ap, ap₂, ◌∙◌, subst, arith, append_assoc}
 use Rattle.std.specs.declared.cmp.Ordering.{Ordering}
 use Rattle.std.specs.declared.cmp.Ordering.TheVariants.{Less, Equal, Greater}
 use Rattle.std.specs.Ordering.{match_ordering, ordering_reverse}
@@ -22,13 +22,13 @@ in-cons : (x z : Held) (xs : List Held) (k : ℕ) → k < length (x ∷ xs) → 
 in-cons x z xs zero l e = inl e
 in-cons x z xs (suc k) l e = inr (k, omega (arith, l), e)
 
-in-head : (x z : Held) (xs : List Held) → x ≡ z → Contains (x ∷ xs) z
+pub in-head : (x z : Held) (xs : List Held) → x ≡ z → Contains (x ∷ xs) z
 in-head x z xs e = (0, omega arith, e)
 
-in-tail : (x z : Held) (xs : List Held) → Contains xs z → Contains (x ∷ xs) z
+pub in-tail : (x z : Held) (xs : List Held) → Contains xs z → Contains (x ∷ xs) z
 in-tail x z xs c = (suc c.0, omega (arith, c.1), c.2)
 
-by-cons : (x z : Held) (xs : List Held) → Contains (x ∷ xs) z → (x ≡ z) ⊎ Contains xs z
+pub by-cons : (x z : Held) (xs : List Held) → Contains (x ∷ xs) z → (x ≡ z) ⊎ Contains xs z
 by-cons x z xs c = in-cons x z xs c.0 c.1 c.2
 
 -- ONE KEY MORE
@@ -95,13 +95,13 @@ in_set-in : (z : Held) (ks : List Held) → Contains (in_set ks) z → Contains 
 in_set-in z ks c = ⊎_elim (λ n. absurd (omega (arith, n.1))) (λ t. t) (in-fold z [] ks c)
 
 -- LISTS IN ORDER WITH THE SAME KEYS
-above : (x z : Held) (xs : List Held) → IsStrictlySortedBy held_cmp (x ∷ xs) → Contains xs z → held_cmp x z ≡ Less
+pub above : (x z : Held) (xs : List Held) → IsStrictlySortedBy held_cmp (x ∷ xs) → Contains xs z → held_cmp x z ≡ Less
 above x z xs s c = All-contains (λ q. held_cmp x q ≡ Less) xs z (All-from_recursion (λ q. held_cmp x q ≡ Less) xs (sorted_head held_cmp x xs s)) c
 
-not_itself : (x z : Held) → x ≡ z → held_cmp x z ≡ Less → ⊥
+pub not_itself : (x z : Held) → x ≡ z → held_cmp x z ≡ Less → ⊥
 not_itself x z e l = let t : held_cmp x x ≡ Equal = tied_itself held_order.total x in let u : held_cmp x x ≡ Less = subst (λ (q : Held). held_cmp x q ≡ Less) (sym e) l in cc
 
-not_both : (x y : Held) → held_cmp x y ≡ Less → held_cmp y x ≡ Less → ⊥
+pub not_both : (x y : Held) → held_cmp x y ≡ Less → held_cmp y x ≡ Less → ⊥
 not_both x y l m = let t : held_cmp x y ≡ Greater = held_order.total.antisymm x y ∙ ap ordering_reverse m in cc
 
 same_head : (x y : Held) (xs ys : List Held) → IsStrictlySortedBy held_cmp (x ∷ xs) → IsStrictlySortedBy held_cmp (y ∷ ys) → Contains (y ∷ ys) x → Contains (x ∷ xs) y → x ≡ y
@@ -139,3 +139,66 @@ in_set-more ks k = more [] ks
     more : (acc js : List Held) → fold (insert_key held_cmp) acc (js ++ k ∷ []) ≡ insert_key held_cmp (fold (insert_key held_cmp) acc js) k
     more acc [] = refl
     more acc (j ∷ js) = more (insert_key held_cmp acc j) js
+
+-- TWO LISTS TOGETHER
+by-append : (z : Held) (xs ys : List Held) → Contains (xs ++ ys) z → Contains xs z ⊎ Contains ys z
+by-append z [] ys c = inr c
+by-append z (x ∷ xs) ys c = ⊎_elim (λ e. inl (in-head x z xs e)) (λ t. ⊎_elim (λ i. inl (in-tail x z xs i)) (λ j. inr j) (by-append z xs ys t)) (by-cons x z (xs ++ ys) c)
+
+in-left : (z : Held) (xs ys : List Held) → Contains xs z → Contains (xs ++ ys) z
+in-left z [] ys c = absurd (omega (arith, c.1))
+in-left z (x ∷ xs) ys c = ⊎_elim (λ e. in-head x z (xs ++ ys) e) (λ t. in-tail x z (xs ++ ys) (in-left z xs ys t)) (by-cons x z xs c)
+
+in-right : (z : Held) (xs ys : List Held) → Contains ys z → Contains (xs ++ ys) z
+in-right z [] ys c = c
+in-right z (x ∷ xs) ys c = in-tail x z (xs ++ ys) (in-right z xs ys c)
+
+-- a key is in a set just where it is in the list
+pub to_set : (z : Held) (ks : List Held) → Contains ks z → Contains (in_set ks) z
+to_set z ks c = has-fold z [] ks c
+
+pub from_set : (z : Held) (ks : List Held) → Contains (in_set ks) z → Contains ks z
+from_set z ks c = in_set-in z ks c
+
+-- lists with the same keys are the same set
+pub set-is : (xs ys : List Held) → ((z : Held) → Contains xs z → Contains ys z) → ((z : Held) → Contains ys z → Contains xs z) → in_set xs ≡ in_set ys
+set-is xs ys f g = same_sets (in_set xs) (in_set ys) (sorted-in_set xs) (sorted-in_set ys) (λ z c. to_set z ys (f z (from_set z xs c))) (λ z c. to_set z xs (g z (from_set z ys c)))
+
+either : (z : Held) (xs ys vs ws : List Held) → (Contains xs z → Contains vs z) → (Contains ys z → Contains ws z) → Contains (xs ++ ys) z → Contains (vs ++ ws) z
+either z xs ys vs ws f g c = ⊎_elim (λ i. in-left z vs ws (f i)) (λ j. in-right z vs ws (g j)) (by-append z xs ys c)
+
+pub set-turned : (xs ys : List Held) → in_set (xs ++ ys) ≡ in_set (ys ++ xs)
+set-turned xs ys = set-is (xs ++ ys) (ys ++ xs) (λ z c. turn z xs ys c) (λ z c. turn z ys xs c)
+  where
+    turn : (z : Held) (vs ws : List Held) → Contains (vs ++ ws) z → Contains (ws ++ vs) z
+    turn z vs ws c = ⊎_elim (λ i. in-right z ws vs i) (λ j. in-left z ws vs j) (by-append z vs ws c)
+
+same-left : (z : Held) (xs vs : List Held) → in_set xs ≡ in_set vs → Contains xs z → Contains vs z
+same-left z xs vs e c = from_set z vs (subst (λ (ks : List Held). Contains ks z) e (to_set z xs c))
+
+pub set-both : (xs ys vs ws : List Held) → in_set xs ≡ in_set vs → in_set ys ≡ in_set ws → in_set (xs ++ ys) ≡ in_set (vs ++ ws)
+set-both xs ys vs ws e f =
+    set-is (xs ++ ys) (vs ++ ws)
+    (λ z c. either z xs ys vs ws (same-left z xs vs e) (same-left z ys ws f) c)
+    (λ z c. either z vs ws xs ys (same-left z vs xs (sym e)) (same-left z ws ys (sym f)) c)
+
+-- a key more in the second list
+pub set-second : (qs ts ts' : List Held) (k : Held) → in_set ts' ≡ insert_key held_cmp (in_set ts) k → in_set (qs ++ ts') ≡ insert_key held_cmp (in_set (qs ++ ts)) k
+set-second qs ts ts' k e =
+    set-both qs ts' qs (ts ++ k ∷ []) refl (e ∙ sym (in_set-more ts k))
+    ∙ ap in_set (sym (append_assoc qs ts (k ∷ [])))
+    ∙ in_set-more (qs ++ ts) k
+
+-- or in the first
+pub set-first : (qs qs' ts : List Held) (k : Held) → in_set qs' ≡ insert_key held_cmp (in_set qs) k → in_set (qs' ++ ts) ≡ insert_key held_cmp (in_set (qs ++ ts)) k
+set-first qs qs' ts k e = set-turned qs' ts ∙ set-second ts qs qs' k e ∙ ap (λ (ks : List Held). insert_key held_cmp ks k) (set-turned ts qs)
+
+-- what is there stays, and what comes is the key
+pub set-kept : (ts ts' : List Held) (k z : Held) → in_set ts' ≡ insert_key held_cmp (in_set ts) k → Contains ts z → Contains ts' z
+set-kept ts ts' k z e c = from_set z ts' (subst (λ (ks : List Held). Contains ks z) (sym e) (keeps-insert k z (in_set ts) (to_set z ts c)))
+
+pub set-there : (ts ts' : List Held) (k : Held) → in_set ts' ≡ insert_key held_cmp (in_set ts) k → Contains ts' k
+set-there ts ts' k e = from_set k ts' (subst (λ (ks : List Held). Contains ks k) (sym e) (has-insert k (in_set ts)))
+
+pub set-came : (ts ts' : List Held) (k z : Held) → in_set ts' ≡ insert_key held_cmp (in_set ts) k → Contains ts' z → (k ≡ z) ⊎ Contains ts z
+set-came ts ts' k z e c = ⊎_elim (λ h. inl h) (λ i. inr (from_set z ts i)) (in-insert k z (in_set ts) (subst (λ (ks : List Held). Contains ks z) e (to_set z ts' c)))

@@ -26,7 +26,7 @@ ghost use Rattle.values.specs.declared.TheConstants.{MAX_COLUMNS};
 ghost use Rattle.group.specs.Cells.{all_tallies, held, reads, shown_figure};
 ghost use Rattle.group.specs.Turns.{same_shown, signed_row, swap_of};
 ghost use Rattle.group.specs.Groups.{no_columns};
-ghost use Rattle.std.specs.Prelude.{◌||◌};
+ghost use Rattle.std.specs.Prelude.{◌||◌, IsTrue};
 ghost use Rattle.std.specs.Ordering.{int_cmp, is_lt};
 ghost use Rattle.group.specs.Runs.{put_out, row_at_tick, with_rows};
 
@@ -835,6 +835,21 @@ impl Cell {
         }
         self.show_other(alloc, row, rows)?;
         Ok(())
+    }
+
+    /// Whether the group has rows, and shows one with these values.
+    pub(crate) fn shows(&self, values: &[Value]) -> bool
+        ensures rows { IsTrue result → is_lt (int_cmp (pos 0) self.now.rows) ≡ true }
+        ensures shown { IsTrue result → self.now.shown ≡ Some (held values.now) }
+        ensures aligned { IsTrue result → length self.now.tallies ≡ length values.now }
+    {
+        if self.rows <= 0 {
+            return false;
+        }
+        if self.tallies.len().saturating_add(self.more) != values.len() {
+            return false;
+        }
+        is_shown(&self.shown, values)
     }
 
     /// Whether the group has a row to show.

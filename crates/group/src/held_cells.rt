@@ -38,12 +38,12 @@ impl HeldCells {
         ensures room { width ≤ room_of result }
     {
         match width {
-            0..=1 => HeldCells::One(Keyed::new(alloc)),
-            2 => HeldCells::Two(Keyed::new(alloc)),
-            3..=4 => HeldCells::Four(Keyed::new(alloc)),
-            5..=8 => HeldCells::Eight(Keyed::new(alloc)),
-            9..=16 => HeldCells::Sixteen(Keyed::new(alloc)),
-            _ => HeldCells::Widest(Keyed::new(alloc)),
+            0..=1 => HeldCells::One(Keyed::new(alloc, width)),
+            2 => HeldCells::Two(Keyed::new(alloc, width)),
+            3..=4 => HeldCells::Four(Keyed::new(alloc, width)),
+            5..=8 => HeldCells::Eight(Keyed::new(alloc, width)),
+            9..=16 => HeldCells::Sixteen(Keyed::new(alloc, width)),
+            _ => HeldCells::Widest(Keyed::new(alloc, width)),
         }
     }
 

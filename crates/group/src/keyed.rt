@@ -8,12 +8,12 @@ ghost use Rattle.std.specs.List.Sorted.{IsStrictlySortedBy};
 ghost use Rattle.std.specs.Option.{option_copied};
 ghost use Rattle.group.specs.Batches.{AllInRange, batch_in, row_in};
 ghost use Rattle.group.specs.Cells.{held_cmp, CellRoom, ReadsInRange};
-ghost use Rattle.group.specs.Keys.{Short, in_set};
+ghost use Rattle.group.specs.Keys.{IsQuiet, Short, in_set};
 ghost use Rattle.group.specs.Turns.{cell_of, has_key, taken_in, shown_in, excerpt, row_key};
 ghost use Rattle.group.specs.Turns.{near_at, outputs, shown_after};
 ghost use Rattle.group.specs.Runs.{HasSwapped, OutgoingState, changes_at, put_out, swapped};
 ghost use Rattle.group.specs.Runs.{with_rows};
-ghost use Rattle.std.specs.Prelude.{false, MatchOption};
+ghost use Rattle.std.specs.Prelude.{false, IsTrue, MatchOption};
 
 use crate::cells::Cell;
 use crate::key::Key;
@@ -24,6 +24,7 @@ use column::Batch;
 use std::alloc::{AllocError, Global};
 use std::collections::BTreeMap;
 use std::marker::Model;
+use std::mem;
 use values::{ListItem, MAX_COLUMNS, Row, Value};
 
 /// The most touched keys whose room is kept for the next instant.
@@ -37,29 +38,44 @@ pub(crate) struct Keyed<const N: usize> {
     /// The keys that were touched since the last tick, in any order; some may stand there more than
     /// once.
     touched: Vec<Key<N>>,
+    /// Further such keys, of `width` values. A group of one of them that is not among the others
+    /// has rows and shows its key, where `sure` says so: where the list is the key, it has nothing
+    /// to put out.
+    quiet: Vec<Key<N>>,
+    /// How many values the keys of quiet groups have.
+    width: usize,
+    /// Whether the quiet groups are known to be quiet.
+    sure: bool,
 }
 
 impl<const N: usize> Model for Keyed<N> {
-    ghost use Rattle.std.specs.Prelude.{◌≤◌};
-    ghost use Rattle.group.specs.Keys.{KeyedState as State, Short, in_set};
+    ghost use Rattle.std.specs.Prelude.{◌≤◌, ◌≡◌, ◌++◌, true};
+    ghost use Rattle.group.specs.Keys.{KeyedState as State, Short, Rests, in_set};
     ghost use Rattle.values.specs.declared.TheConstants.{MAX_COLUMNS};
 
     ghost Value = { State };
 
-    ghost view = { λ k. record { cells = k.cells.entries; touched = in_set k.touched.items } };
+    ghost view = { λ k. record {
+      cells = k.cells.entries;
+      touched = in_set (k.quiet.items ++ k.touched.items);
+    } };
 
-    ghost invariant = { λ k. (N ≤ MAX_COLUMNS) × Short N k.cells.entries };
+    ghost invariant = { λ k. (N ≤ MAX_COLUMNS) × Short N k.cells.entries
+        × (k.sure ≡ true → Rests k.width k.quiet.items k.touched.items k.cells.entries) };
 }
 
 impl<const N: usize> Keyed<N> {
     /// No groups, none touched.
-    pub(crate) fn new(alloc: Global) -> Keyed<N>
+    pub(crate) fn new(alloc: Global, width: usize) -> Keyed<N>
         requires { N ≤ MAX_COLUMNS }
         ensures { result ≡ record { cells = []; touched = [] } }
     {
         Keyed {
             cells: BTreeMap::new(alloc),
             touched: Vec::new(alloc),
+            quiet: Vec::new(alloc),
+            width,
+            sure: true,
         }
     }
 
@@ -70,6 +86,7 @@ impl<const N: usize> Keyed<N> {
         ensures touched { OnOk result
             (self.new.touched ≡ insert_key held_cmp self.old.touched key.now) }
     {
+        self.sure = false;
         touch(&mut self.touched, Key::of(key))?;
         Ok(())
     }
@@ -120,13 +137,15 @@ impl<const N: usize> Keyed<N> {
         ensures range { OnOk result (ReadsInRange items.now (row_in batch.now place)) }
     {
         let _ = &self.cells;
-        touch(&mut self.touched, key.copied())?;
-        if let Some(cell) = self.cells.get_mut(&key) {
-            return cell.take(alloc, items, batch, place);
+        let sure = mem::replace(&mut self.sure, false);
+        let quiet = take_at(&mut self.cells, alloc, items, &key, batch, place)?;
+        if quiet && key.values().len() == self.width {
+            touch(&mut self.quiet, key)?;
+            self.sure = sure;
+            return Ok(());
         }
-        let mut cell = Cell::new(alloc, items.len());
-        cell.take(alloc, items, batch, place)?;
-        self.cells.insert(key, cell)?;
+        touch(&mut self.touched, key)?;
+        self.sure = sure;
         Ok(())
     }
 
@@ -148,6 +167,7 @@ impl<const N: usize> Keyed<N> {
         ensures range { OnOk result (AllInRange items.now batch.now) }
     {
         let _ = &self.cells;
+        self.sure = false;
         let key = Key::of(key);
         touch(&mut self.touched, key.copied())?;
         if let Some(cell) = self.cells.get_mut(&key) {
@@ -173,6 +193,7 @@ impl<const N: usize> Keyed<N> {
         ensures touched { self.new.touched ≡ self.old.touched }
     {
         let _ = &self.cells;
+        self.sure = false;
         let key = Key::of(key);
         if let Some(cell) = self.cells.get_mut(&key) {
             return cell.show(alloc, row);
@@ -190,6 +211,7 @@ impl<const N: usize> Keyed<N> {
         ensures touched { self.new.touched ≡ self.old.touched }
     {
         let _ = &self.cells;
+        self.sure = false;
         if let Some(key) = Key::fitted(key) {
             remove_at(&mut self.cells, &key);
         }
@@ -212,6 +234,15 @@ impl<const N: usize> Keyed<N> {
             (outputs group.now (near_at group.now.items self.old.cells self.old.touched))) }
     {
         let _ = &self.cells;
+        let sure = mem::replace(&mut self.sure, false);
+        if sure && group.lists_key(self.width) {
+            settle(&mut self.touched);
+            rows.reserve(self.touched.len())?;
+            swap_all(&mut self.cells, alloc, group, &self.touched, rows)?;
+            self.forget_touched(alloc);
+            return Ok(());
+        }
+        self.touched.append(&mut self.quiet)?;
         settle(&mut self.touched);
         rows.reserve(self.touched.len())?;
         swap_all(&mut self.cells, alloc, group, &self.touched, rows)?;
@@ -225,6 +256,8 @@ impl<const N: usize> Keyed<N> {
         ensures touched { self.new.touched ≡ [] }
     {
         forget(&mut self.touched, alloc);
+        forget(&mut self.quiet, alloc);
+        self.sure = true;
     }
 
     /// What is kept of a group that the map may have.
@@ -277,6 +310,17 @@ impl<const N: usize> Keyed<N> {
         Ok(groups)
     }
 
+    /// The keys that were touched, in any order, in room for `M` values each.
+    fn touched_keys<const M: usize>(&self, alloc: Global) -> Result<Vec<Key<M>>, AllocError>
+        requires { N ≤ M }
+        ensures { IfOk result (λ keys. in_set keys.items ≡ self.now.touched) }
+    {
+        let mut keys = copies(alloc, &self.touched)?;
+        let mut quiet = copies(alloc, &self.quiet)?;
+        keys.append(&mut quiet)?;
+        Ok(keys)
+    }
+
     /// What the touched groups have to show, in the order of their keys.
     pub(crate) fn excerpts(
         &self,
@@ -287,7 +331,7 @@ impl<const N: usize> Keyed<N> {
         ensures { IfOk result (λ ts. ts.items
             ≡ near_at items.now self.now.cells self.now.touched) }
     {
-        let mut keys = copies(alloc, &self.touched)?;
+        let mut keys = self.touched_keys(alloc)?;
         settle(&mut keys);
         let groups = self.excerpts_at(alloc, items, &keys)?;
         Ok(groups)
@@ -298,7 +342,7 @@ impl<const N: usize> Keyed<N> {
         ensures { IfOk result (λ wider. wider ≡ self.old) }
     {
         let _ = self.cells.len();
-        let touched = copies(alloc, &self.touched)?;
+        let touched = self.touched_keys(alloc)?;
         let mut wider = BTreeMap::new(alloc);
         while let Some((key, cell)) = self.cells.pop_last() {
             put(&mut wider, key.copied(), cell)?;
@@ -306,8 +350,41 @@ impl<const N: usize> Keyed<N> {
         Ok(Keyed {
             cells: wider,
             touched,
+            quiet: Vec::new(alloc),
+            width: self.width,
+            sure: false,
         })
     }
+}
+
+/// A row of a group that the map may have. Says whether the group then shows its key.
+fn take_at<const N: usize>(
+    cells: &mut BTreeMap<Key<N>, Cell>,
+    alloc: Global,
+    items: &[ListItem],
+    key: &Key<N>,
+    batch: &Batch,
+    place: usize,
+) -> Result<bool, AllocError>
+    requires fits { length key.now.items ≤ N }
+    requires short { Short N cells.old.entries }
+    requires within { place < length batch.now }
+    requires room { CellRoom (2 ^ 62 + 1024) items.now
+        (cell_of (length items.now) key.now cells.old.entries) }
+    ensures cells { OnOk result (cells.new.entries
+        ≡ taken_in items.now key.now (row_in batch.now place) cells.old.entries) }
+    ensures range { OnOk result (ReadsInRange items.now (row_in batch.now place)) }
+    ensures quiet { IfOk result (λ quiet. IsTrue quiet → IsQuiet key.now cells.new.entries) }
+    ensures short { Short N cells.new.entries }
+{
+    if let Some(cell) = cells.get_mut(key) {
+        cell.take(alloc, items, batch, place)?;
+        return Ok(cell.shows(key.values()));
+    }
+    let mut cell = Cell::new(alloc, items.len());
+    cell.take(alloc, items, batch, place)?;
+    cells.insert(key.copied(), cell)?;
+    Ok(false)
 }
 
 /// The same keys again, in room for `M` values each.

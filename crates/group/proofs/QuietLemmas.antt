@@ -17,13 +17,14 @@ use Rattle.values.specs.declared.resolved.ListItem.{ListItem}
 use Rattle.values.specs.declared.resolved.ListItem.TheVariants.{Key}
 use Rattle.group.specs.Groups.{GroupBy, no_columns}
 use Rattle.group.specs.Cells.{Held, held, held_cmp, CellState, TallyState, cell_zero, figures, shown_figure, showing}
-use Rattle.group.specs.Keys.{IsQuiet, Rests}
+use Rattle.std.specs.BTreeSet.{insert_key}
+use Rattle.group.specs.Keys.{IsQuiet, Rests, in_set}
 use Rattle.group.specs.Turns.{cell_of, fitted, has_key, near_at, outputs, shown_after, shown_at, swap_of, with_cell}
 use Rattle.group.specs.Runs.{changes_at, row_at_tick, swapped}
 use Rattle.group.proofs.DistinctLemmas.{whole_row}
 use Rattle.group.proofs.KeyLemmas.{held_order, key_itself, lookup-insert_entry, same_held, same_key, same_test, same_turned}
 use Rattle.group.proofs.RunLemmas.{remove_other, swap_cells}
-use Rattle.group.proofs.SetLemmas.{above, by-cons, in-head, in-tail, not_both, not_itself}
+use Rattle.group.proofs.SetLemmas.{above, by-append, by-cons, from_set, in-head, in-right, in-tail, not_both, not_itself, set-came, set-kept, set-there, sorted-in_set, to_set}
 
 -- THE ROW OF A QUIET GROUP IS ITS KEY
 key_figures : (k : Row) (rows : ℤ) (p n : ℕ) (ts : List TallyState) → length ts ≡ n → map shown_figure (figures k rows (map Key (range_with_len p n)) ts) ≡ map (value_at k) (range_with_len p n)
@@ -169,3 +170,50 @@ skip_cells g w es xs ys s t f p =
     ∙ ap (λ (hs : List (Held × CellState)). run_over g hs ks) (cells_stay g w x fs h)
     ∙ q fs (λ z c. a z (in-tail x z ks c)))
     xs ys s t f p es (λ z c. refl)
+
+-- the others are quiet or touched as before
+others : (k z : Held) (a b : CellState) (ts : List Held) (es fs : List (Held × CellState)) → fs ≡ with_cell k a b es → is_eq (held_cmp k z) ≡ false → Contains ts z ⊎ IsQuiet z es → Contains ts z ⊎ IsQuiet z fs
+others k z a b ts es fs is h o =
+    ⊎_elim (λ i. inl i) (λ q. inr (quiet_as z es fs (ap (λ (xs : List (Held × CellState)). lookup (is_at (held_cmp z)) xs) is ∙ lookup_with k z a b es h) q)) o
+
+-- A ROW OF THE GROUP k, which is quiet then
+pub rests_first : (w : ℕ) (qs qs' ts : List Held) (k : Held) (a b : CellState) (es fs : List (Held × CellState)) → fs ≡ with_cell k a b es → in_set qs' ≡ insert_key held_cmp (in_set qs) k → IsQuiet k fs → length k.items ≡ w → Rests w qs ts es → Rests w qs' ts fs
+rests_first w qs qs' ts k a b es fs is e quiet wide h = record {
+  wide = λ z c. ⊎_elim (λ s. subst (λ (q : Held). length q.items ≡ w) s wide) (λ i. h.wide z i) (set-came qs qs' k z e c);
+  quiet = λ z c. ⊎_elim (λ s. inr (subst (λ (q : Held). IsQuiet q fs) s quiet)) (λ i. here z i (is_eq (held_cmp k z)) refl) (set-came qs qs' k z e c);
+}
+  where
+    here : (z : Held) → Contains qs z → (b : Bool) → is_eq (held_cmp k z) ≡ b → Contains ts z ⊎ IsQuiet z fs
+    here z i true t = inr (subst (λ (q : Held). IsQuiet q fs) (same_key held_cmp held_order k z t) quiet)
+    here z i false t = others k z a b ts es fs is t (h.quiet z i)
+
+-- or touched
+pub rests_second : (w : ℕ) (qs ts ts' : List Held) (k : Held) (a b : CellState) (es fs : List (Held × CellState)) → fs ≡ with_cell k a b es → in_set ts' ≡ insert_key held_cmp (in_set ts) k → Rests w qs ts es → Rests w qs ts' fs
+rests_second w qs ts ts' k a b es fs is e h = record {
+  wide = h.wide;
+  quiet = λ z c. here z c (is_eq (held_cmp k z)) refl;
+}
+  where
+    here : (z : Held) → Contains qs z → (b : Bool) → is_eq (held_cmp k z) ≡ b → Contains ts' z ⊎ IsQuiet z fs
+    here z i true t = inl (subst (λ (q : Held). Contains ts' q) (same_key held_cmp held_order k z t) (set-there ts ts' k e))
+    here z i false t = ⊎_elim (λ j. inl (set-kept ts ts' k z e j)) (λ q. inr q) (others k z a b ts es fs is t (h.quiet z i))
+
+pub rests_none : (w : ℕ) (ts : List Held) (es : List (Held × CellState)) → Rests w [] ts es
+rests_none w ts es = record { wide = λ z c. absurd (none_in z c); quiet = λ z c. absurd (none_in z c) }
+
+-- A TICK OF THE OTHERS ALONE
+touched_all : (qs ts : List Held) (z : Held) → Contains (in_set ts) z → Contains (in_set (qs ++ ts)) z
+touched_all qs ts z c = to_set z (qs ++ ts) (in-right z qs ts (from_set z ts c))
+
+quiet_all : (g : GroupBy) (w : ℕ) (qs ts : List Held) (es : List (Held × CellState)) → g.items ≡ map Key (range_with_len 0 w) → Rests w qs ts es → (z : Held) → Contains (in_set (qs ++ ts)) z → Contains (in_set ts) z ⊎ ShowsKey g w z es
+quiet_all g w qs ts es lists h z c =
+    ⊎_elim
+    (λ i. ⊎_elim (λ j. inl (to_set z ts j)) (λ q. inr (record { lists = lists; wide = h.wide z i; quiet = q })) (h.quiet z i))
+    (λ j. inl (to_set z ts j))
+    (by-append z qs ts (from_set z (qs ++ ts) c))
+
+pub tick_rows : (g : GroupBy) (w : ℕ) (qs ts : List Held) (es : List (Held × CellState)) → g.items ≡ map Key (range_with_len 0 w) → Rests w qs ts es → outputs g (near_at g.items es (in_set ts)) ≡ outputs g (near_at g.items es (in_set (qs ++ ts)))
+tick_rows g w qs ts es lists h = sym (skip_rows g w es (in_set (qs ++ ts)) (in_set ts) (sorted-in_set (qs ++ ts)) (sorted-in_set ts) (touched_all qs ts) (quiet_all g w qs ts es lists h))
+
+pub tick_cells : (g : GroupBy) (w : ℕ) (qs ts : List Held) (es : List (Held × CellState)) → g.items ≡ map Key (range_with_len 0 w) → Rests w qs ts es → fold (shown_after (length g.items)) es (changes_at g es (in_set ts)) ≡ fold (shown_after (length g.items)) es (changes_at g es (in_set (qs ++ ts)))
+tick_cells g w qs ts es lists h = sym (skip_cells g w es (in_set (qs ++ ts)) (in_set ts) (sorted-in_set (qs ++ ts)) (sorted-in_set ts) (touched_all qs ts) (quiet_all g w qs ts es lists h))

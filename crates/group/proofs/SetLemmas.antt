@@ -141,15 +141,15 @@ in_set-more ks k = more [] ks
     more acc (j ∷ js) = more (insert_key held_cmp acc j) js
 
 -- TWO LISTS TOGETHER
-by-append : (z : Held) (xs ys : List Held) → Contains (xs ++ ys) z → Contains xs z ⊎ Contains ys z
+pub by-append : (z : Held) (xs ys : List Held) → Contains (xs ++ ys) z → Contains xs z ⊎ Contains ys z
 by-append z [] ys c = inr c
 by-append z (x ∷ xs) ys c = ⊎_elim (λ e. inl (in-head x z xs e)) (λ t. ⊎_elim (λ i. inl (in-tail x z xs i)) (λ j. inr j) (by-append z xs ys t)) (by-cons x z (xs ++ ys) c)
 
-in-left : (z : Held) (xs ys : List Held) → Contains xs z → Contains (xs ++ ys) z
+pub in-left : (z : Held) (xs ys : List Held) → Contains xs z → Contains (xs ++ ys) z
 in-left z [] ys c = absurd (omega (arith, c.1))
 in-left z (x ∷ xs) ys c = ⊎_elim (λ e. in-head x z (xs ++ ys) e) (λ t. in-tail x z (xs ++ ys) (in-left z xs ys t)) (by-cons x z xs c)
 
-in-right : (z : Held) (xs ys : List Held) → Contains ys z → Contains (xs ++ ys) z
+pub in-right : (z : Held) (xs ys : List Held) → Contains ys z → Contains (xs ++ ys) z
 in-right z [] ys c = c
 in-right z (x ∷ xs) ys c = in-tail x z (xs ++ ys) (in-right z xs ys c)
 

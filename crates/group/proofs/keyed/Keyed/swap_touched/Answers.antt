@@ -1,31 +1,14 @@
-use Rattle.std.proofs.Common.{◌∙◌, ap, subst, sym, fold, length, List, rules}
+use Rattle.std.proofs.Common.{◌≡◌, ◌∙◌, ◌++◌, ap, subst, sym, fold, length, List, rules}
 use Rattle.std.specs.List.Sorted.{IsStrictlySortedBy}
 use Rattle.group.specs.Cells.{Held, CellState, held_cmp}
-use Rattle.group.specs.Keys.{KeyedState}
+use Rattle.group.specs.Keys.{KeyedState, in_set}
 use Rattle.group.specs.Turns.{near_at, outputs, shown_after}
 use Rattle.group.specs.Runs.{OutgoingState, changes_at, with_rows}
-use Rattle.group.proofs.SetLemmas.{sorted-in_set}
+use Rattle.group.proofs.SetLemmas.{set-turned, sorted-in_set}
+use Rattle.group.proofs.QuietLemmas.{tick_cells, tick_rows}
 use Rattle.group.proofs.keyed.Keyed.swap_touched.Goals as goal
 
 pub swap_all-requires : goal.swap_all-requires
 swap_all-requires g c =
     let sorted : IsStrictlySortedBy held_cmp c.deref.result.now = subst (IsStrictlySortedBy held_cmp) (sym (c.deref.ensures.value ∙ c.settle.ensures)) (sorted-in_set c.self.inside.touched.items) in
     search rules
-
-pub returns-clause-cells : goal.returns-clause-cells
-returns-clause-cells g c =
-    let shape = c.args.group.now in
-    let es : List (Held × CellState) = c.self.inside.cells.entries in
-    c.forget_touched.ensures.cells
-    ∙ c.in_ok-swap_all.ensures.cells
-    ∙ ap (λ (ks : List Held). fold (shown_after (length shape.items)) es (changes_at shape es ks)) (c.deref.ensures.value ∙ c.settle.ensures)
-    ∙ ap (λ (s : KeyedState). fold (shown_after (length shape.items)) s.cells (changes_at shape s.cells s.touched)) c.self.view_is
-
-pub returns-clause-rows : goal.returns-clause-rows
-returns-clause-rows g c =
-    let shape = c.args.group.now in
-    let es : List (Held × CellState) = c.self.inside.cells.entries in
-    c.in_ok-swap_all.ensures.rows
-    ∙ ap (λ (o : OutgoingState). with_rows o (outputs shape (near_at shape.items es c.deref.result.now))) c.reserve.ensures
-    ∙ ap (λ (ks : List Held). with_rows c.args.rows.now (outputs shape (near_at shape.items es ks))) (c.deref.ensures.value ∙ c.settle.ensures)
-    ∙ ap (λ (s : KeyedState). with_rows c.args.rows.now (outputs shape (near_at shape.items s.cells s.touched))) c.self.view_is

@@ -124,6 +124,10 @@ class Client:
         """Drops a query. What was not taken is gone."""
         self.ask("drop", query=query)
 
+    def forget(self):
+        """Lets go of the rows that no query needs any longer. No later reply changes."""
+        self.ask("forget")
+
 
 def _line(request):
     return json.dumps(request, separators=(",", ":")).encode() + b"\n"

@@ -1,6 +1,6 @@
 -- Histories: accepted commands, each of a seat and with its reply.
 use Rattle.std.specs.Prelude.{◌≡◌, ◌==◌, ℕ, ◌+◌, List, [], ◌∷◌, if◌then◌else◌}
-use Rattle.reference.specs.Machine.{Machine, empty}
+use Rattle.reference.specs.Machine.{Machine}
 use Rattle.reference.specs.Commands.{Command}
 use Rattle.reference.specs.Replies.{Reply}
 use Rattle.reference.specs.Steps.{IsStep}
@@ -16,9 +16,9 @@ abbrev pub Replays : Machine → List Entry → Machine → Type 0
 Replays first [] last = last ≡ first
 Replays first (e ∷ es) last = (next : Machine) × (IsStep first e.command e.reply next × Replays next es last)
 
--- A LEGAL HISTORY replays from the machine that was told nothing
-abbrev pub IsLegal : List Entry → Type 0
-IsLegal es = (last : Machine) × Replays empty es last
+-- A LEGAL HISTORY replays from the machine that it begins with: the one that was told nothing, or an opening
+abbrev pub IsLegal : Machine → List Entry → Type 0
+IsLegal first es = (last : Machine) × Replays first es last
 
 -- what a receipt tells: the number of an entry, which is how many stand before it, and the entry
 pub record Told : Type 0 where

@@ -1,18 +1,19 @@
 //! A history beside the receipts of a seat.
-ghost use Rattle.std.specs.Prelude.{◌≡◌, ◌↔◌, IsTrue};
+ghost use Rattle.std.specs.Prelude.{◌≡◌, ◌↔◌, ◌<◌, ◌+◌, ◌^◌, IsTrue, length};
 ghost use Rattle.histories.specs.Histories.{own};
 
 use crate::entry::Entry;
 use crate::receipt::Receipt;
 
 /// Whether the receipts are those of the seat's entries in the history, each with its number, and
-/// no others. Takes no memory.
-pub fn agrees(history: &[Entry], seat: u64, receipts: &[Receipt]) -> bool
-    ensures { IsTrue result ↔ (own seat 0 history.now ≡ receipts.now) }
+/// no others, where the first entry has the number `first`. Takes no memory.
+pub fn agrees(history: &[Entry], seat: u64, first: u64, receipts: &[Receipt]) -> bool
+    requires { first + length history.now < 2 ^ 64 }
+    ensures { IsTrue result ↔ (own seat first history.now ≡ receipts.now) }
 {
     let mut rest = history;
     let mut left = receipts;
-    let mut number = 0u64;
+    let mut number = first;
     while let Some((entry, tail)) = rest.split_first() {
         if entry.seat() == seat {
             let Some((receipt, more)) = left.split_first() else {

@@ -1,11 +1,12 @@
 -- An accepted command, from what its parts did.
-use Rattle.std.proofs.Common.{◌≡◌, ℕ, ◌<◌, ◌≤◌, Bool, List, [], ◌∷◌, ◌++◌, length, refl, sym, ap, ◌∙◌, subst, arith}
+use Rattle.std.proofs.Common.{◌≡◌, ℕ, ◌≤◌, Bool, List, [], ◌∷◌, ◌++◌, refl, sym, ap, ◌∙◌, subst}
 use Rattle.reference.specs.Commands.{Command}
+use Rattle.leases.specs.declared.opening.Opening.{Opening}
 use Rattle.leases.specs.declared.state.State.{State}
 use Rattle.histories.specs.Histories.{Entry, Told}
 use Rattle.reference.specs.Replies.{Reply}
 use Rattle.hub.specs.Calls.{Answered}
-use Rattle.hub.specs.Steps.{Accepted, IsReplayed, PlainLocked, engine_at}
+use Rattle.hub.specs.Steps.{Accepted, HasRoom, IsReplayed, PlainLocked, engine_at, next_number}
 use Rattle.hub.specs.Seats.{PlainSeat, reach}
 
 abbrev pub entry : ℕ → Command → Reply → Entry
@@ -20,28 +21,28 @@ receipt_is t n e e' is same = is ∙ ap (λ x. record { number = n; entry = x })
 pub longer : {X : Type 0} (now mid es : List X) (x y : X) → now ≡ mid ++ x ∷ [] → mid ≡ es → x ≡ y → now ≡ es ++ y ∷ []
 longer now mid es x y is same there = is ∙ ap (λ l. l ++ x ∷ []) same ∙ ap (λ z. es ++ z ∷ []) there
 
-locked_is : (s : State) (h h' : List Entry) (l l' n n' : ℕ) (b b' : Bool) → h ≡ h' → l ≡ l' → n ≡ n' → b ≡ b'
-    → (let d : PlainLocked = record { engine = s; history = h; limit = l; seats = n; has_ended = b } in d) ≡ record { engine = s; history = h'; limit = l'; seats = n'; has_ended = b' }
-locked_is s h h' l l' n n' b b' p q r t = rw (p, q, r, t) refl
+locked_is : (s : State) (m m' : Opening) (f f' : ℕ) (h h' : List Entry) (l l' n n' : ℕ) (b b' : Bool) → m ≡ m' → f ≡ f' → h ≡ h' → l ≡ l' → n ≡ n' → b ≡ b'
+    → (let d : PlainLocked = record { engine = s; opening = m; first = f; history = h; limit = l; seats = n; has_ended = b } in d) ≡ record { engine = s; opening = m'; first = f'; history = h'; limit = l'; seats = n'; has_ended = b' }
+locked_is s m m' f f' h h' l l' n n' b b' o i p q r t = rw (o, i, p, q, r, t) refl
 
 seat_is : (n n' : ℕ) (rs rs' : List Told) (l l' : ℕ) → n ≡ n' → rs ≡ rs' → l ≡ l' → (let s : PlainSeat = record { number = n; receipts = rs; learnt = l } in s) ≡ record { number = n'; receipts = rs'; learnt = l' }
 seat_is n n' rs rs' l l' p q r = rw (p, q, r) refl
 
 pub accepting : (old new : PlainLocked) (seat seat' : PlainSeat) (c : Command) (r : Reply) (n : ℕ) (t : Told)
     → IsReplayed old → Answered (engine_at old) c r (engine_at new)
-    → (n ≡ length old.history) × (n < old.limit) × (reach seat ≤ n)
-    → new.history ≡ old.history ++ entry seat.number c r ∷ [] → new.limit ≡ old.limit → new.seats ≡ old.seats → new.has_ended ≡ old.has_ended
+    → (n ≡ next_number old) × HasRoom old × (reach seat ≤ n)
+    → new.opening ≡ old.opening → new.first ≡ old.first → new.history ≡ old.history ++ entry seat.number c r ∷ [] → new.limit ≡ old.limit → new.seats ≡ old.seats → new.has_ended ≡ old.has_ended
     → seat'.number ≡ seat.number → seat'.receipts ≡ seat.receipts ++ record { number = n; entry = entry seat.number c r } ∷ [] → seat'.learnt ≡ seat.learnt
     → t ≡ record { number = n; entry = entry seat.number c r }
     → (r ≡ t.entry.reply) × Accepted old seat c t new seat'
-accepting old new seat seat' c r n t legal answered ok history limit seats ended number receipts learnt is =
+accepting old new seat seat' c r n t legal answered ok opening first history limit seats ended number receipts learnt is =
     subst (λ x. (r ≡ x.entry.reply) × Accepted old seat c x new seat') (sym is) (
       refl,
       record {
         legal = legal;
         engine = answered;
-        history = locked_is new.engine new.history _ new.limit _ new.seats _ new.has_ended _ history limit seats ended;
-        room = omega (arith, ok.0, ok.1);
+        history = locked_is new.engine new.opening _ new.first _ new.history _ new.limit _ new.seats _ new.has_ended _ opening first history limit seats ended;
+        room = ok.1;
         number = ok.0;
         by = refl;
         command = refl;

@@ -1,11 +1,11 @@
 -- Why a hub declines a command: its own tests, or the engine's.
-use Rattle.std.proofs.Common.{◌≡◌, ◌<◌, ◌≤◌, ℕ, length, sym, subst, arith}
+use Rattle.std.proofs.Common.{◌≡◌, ◌≤◌, ℕ, sym, subst, arith}
 use Rattle.reference.specs.Commands.{Command}
 use Rattle.reference.specs.declared.fault.Fault.{Fault}
 use Rattle.reference.specs.declared.fault.Fault.TheVariants.{Query, BadName, NameTaken, BadColumns, TooMany, UnknownStream, UnknownQuery, BadWidth, ValueRange, InstantRange, Late, Backward, Leap, StreamFull, BadLimit, Broken, UnknownLease, Stranger, TooManyLeases, HistoryFull, OutOfMemory, Foreign}
 use Rattle.hub.specs.Calls.{Refused}
 use Rattle.hub.specs.Seats.{PlainSeat, reach}
-use Rattle.hub.specs.Steps.{Barred, Declines, PlainLocked, engine_at}
+use Rattle.hub.specs.Steps.{Barred, Declines, HasRoom, PlainLocked, engine_at, next_number}
 
 pub barred_declines : (l : PlainLocked) (s : PlainSeat) (c : Command) (f : Fault) → Barred l s f → Declines l s c f
 barred_declines l s c (Query x) h = absurd h
@@ -31,7 +31,7 @@ barred_declines l s c HistoryFull h = h
 barred_declines l s c OutOfMemory h = absurd h
 barred_declines l s c (Foreign k) h = h
 
-let_in : (l : PlainLocked) (s : PlainSeat) (c : Command) (f : Fault) → length l.history < l.limit → reach s ≤ length l.history → Refused (engine_at l) c f → Declines l s c f
+let_in : (l : PlainLocked) (s : PlainSeat) (c : Command) (f : Fault) → HasRoom l → reach s ≤ next_number l → Refused (engine_at l) c f → Declines l s c f
 let_in l s c (Query x) room known h = (room, known, h)
 let_in l s c BadName room known h = (room, known, h)
 let_in l s c NameTaken room known h = (room, known, h)
@@ -56,8 +56,8 @@ let_in l s c OutOfMemory room known h = (room, known, h)
 let_in l s c (Foreign k) room known h = absurd h.line
 
 -- the seat was let in, and the next entry has the number n
-pub refused_declines : (l : PlainLocked) (s : PlainSeat) (c : Command) (f : Fault) (n : ℕ) → (n ≡ length l.history) × (n < l.limit) × (reach s ≤ n) → Refused (engine_at l) c f → Declines l s c f
-refused_declines l s c f n h refused = let_in l s c f (omega (arith, h.0, h.1)) (omega (arith, h.0, h.2)) refused
+pub refused_declines : (l : PlainLocked) (s : PlainSeat) (c : Command) (f : Fault) (n : ℕ) → (n ≡ next_number l) × HasRoom l × (reach s ≤ n) → Refused (engine_at l) c f → Declines l s c f
+refused_declines l s c f n h refused = let_in l s c f h.1 (omega (arith, h.0, h.2)) refused
 
-pub short_declines : (l : PlainLocked) (s : PlainSeat) (c : Command) (f : Fault) (n : ℕ) → (n ≡ length l.history) × (n < l.limit) × (reach s ≤ n) → f ≡ OutOfMemory → Declines l s c f
+pub short_declines : (l : PlainLocked) (s : PlainSeat) (c : Command) (f : Fault) (n : ℕ) → (n ≡ next_number l) × HasRoom l × (reach s ≤ n) → f ≡ OutOfMemory → Declines l s c f
 short_declines l s c f n h wants = subst (λ g. Declines l s c g) (sym wants) (refused_declines l s c OutOfMemory n h (record { line = tt }))

@@ -3,6 +3,8 @@ mod AnsweredLemmas
 mod DecliningLemmas
 mod ReplayLemmas
 mod ReachLemmas
+mod PlaceLemmas
+mod AuditLemmas
 mod AcceptingLemmas
 mod KnownLemmas
 pub mod SendLemmas

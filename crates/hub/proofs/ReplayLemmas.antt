@@ -1,10 +1,11 @@
 -- One entry more.
-use Rattle.std.proofs.Common.{◌≡◌, ℕ, ◌+◌, ◌≤◌, List, [], ◌∷◌, ◌++◌, refl, sym, ap, ◌∙◌, subst, arith, max}
+use Rattle.std.proofs.Common.{◌≡◌, ℕ, ◌+◌, ◌≤◌, ◌<◌, ◌^◌, List, [], ◌∷◌, ◌++◌, length, length-append, refl, sym, ap, ◌∙◌, subst, arith, max}
 use Rattle.reference.specs.Commands.{Command}
 use Rattle.reference.specs.Machine.{Machine}
 use Rattle.histories.specs.Histories.{Entry, Replays, Told}
 use Rattle.reference.specs.Replies.{Reply}
-use Rattle.hub.specs.Seats.{held}
+use Rattle.hub.specs.Seats.{IsRisingFrom, held}
+use Rattle.hub.proofs.PlaceLemmas.{rising_push}
 use Rattle.reference.specs.Steps.{IsStep}
 
 pub Replays-push : (m n k : Machine) (es : List Entry) (e : Entry) → Replays m es n → IsStep n e.command e.reply k → Replays m (es ++ e ∷ []) k
@@ -24,3 +25,13 @@ replays_next m n k es mid now e s c' r' c r is same is_entry same_command same_r
 
 pub held_next : (rs mid now : List Told) (r : Told) → now ≡ mid ++ r ∷ [] → mid ≡ rs → held rs ≤ r.number → held now ≡ r.number + 1
 held_next rs mid now r is same below = omega (arith, ap held is, ap held same, held-push mid r)
+
+pub rising_next : (rs mid now : List Told) (r : Told) → now ≡ mid ++ r ∷ [] → mid ≡ rs → held rs ≤ r.number → IsRisingFrom 0 rs → IsRisingFrom 0 now
+rising_next rs mid now r is same below rising =
+    subst (λ x. IsRisingFrom 0 x) (sym (is ∙ ap (λ x. x ++ r ∷ []) same)) (rising_push 0 rs r rising (omega arith) below)
+
+-- there are numbers for all entries
+pub fits_next : (f : ℕ) (es mid now : List Entry) (e : Entry) → now ≡ mid ++ e ∷ [] → mid ≡ es → f + length es < 2 ^ 63 → f + length now ≤ 2 ^ 63
+fits_next f es mid now e is same room =
+    let one : length (e ∷ []) ≡ 1 = refl in
+    omega (arith, ap length is, length-append mid (e ∷ []), one, ap length same, room)

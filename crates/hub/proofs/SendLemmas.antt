@@ -58,6 +58,7 @@ use Rattle.leases.specs.contracts.remains.Remains as remains
 use Rattle.leases.specs.contracts.undropped.RowLimit as row_limit
 use Rattle.leases.specs.contracts.undropped.Undropped as undropped
 use Rattle.leases.specs.contracts.state.State as engine_state
+use Rattle.leases.specs.contracts.opening.Opening as opening
 use Rattle.leases.specs.contracts.engine.Engine as engine
 use Rattle.leases.specs.contracts.engine.Engine.TheInside as engine_inside
 use Rattle.histories.specs.contracts.entry.Entry as entry
@@ -247,8 +248,11 @@ engine_state_send = declared_send engine_state.the_type (search (sendable, cross
 pub engine_send : IsSend engine.the_row
 engine_send = view_send engine_inside.the_row _ _ engine.the_view _ (declared_send engine_inside.the_type (engine_state_send, tt))
 
+pub opening_send : IsSend opening.the_row
+opening_send = declared_send opening.the_type (streams_send, (search (sendable, crosses, registration_send) depth 12, tt))
+
 pub locked_send : IsSend locked.the_row
-locked_send = view_send locked_inside.the_row _ _ locked.the_view _ (declared_send locked_inside.the_type (search (sendable, crosses) depth 20, (engine_send, (search (sendable, crosses, entry_send) depth 12, (search sendable depth 12, (search sendable depth 12, (search sendable depth 12, tt)))))))
+locked_send = view_send locked_inside.the_row _ _ locked.the_view _ (declared_send locked_inside.the_type (search (sendable, crosses) depth 20, (engine_send, (opening_send, (search sendable depth 12, (search (sendable, crosses, entry_send) depth 12, (search sendable depth 12, (search sendable depth 12, (search sendable depth 12, tt)))))))))
 
 pub hub_sync : IsSync hub.the_row
 hub_sync = search (sendable, crosses, locked_send) depth 20 fits 100000

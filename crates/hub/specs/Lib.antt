@@ -1,4 +1,5 @@
 pub mod Seats
+pub mod Places
 pub mod Calls
 pub mod Steps
 pub mod Tries

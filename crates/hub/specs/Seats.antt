@@ -1,5 +1,5 @@
 -- Seats and their receipts.
-use Rattle.std.specs.Prelude.{◌≡◌, ℕ, ◌+◌, ◌<◌, List, [], ◌∷◌, length, All, count_by, ◌==◌, max}
+use Rattle.std.specs.Prelude.{◌≡◌, ℕ, ◌+◌, ◌≤◌, ◌<◌, nat_le, List, [], ◌∷◌, length, All, count_by, ◌==◌, if◌then◌else◌, max, ⊤}
 use Rattle.histories.specs.Histories.{Entry, Told, own}
 
 -- a seat: its number, its own receipts, and one more than the greatest number that it was told of other seats' receipts, 0 where it was told of none
@@ -20,9 +20,33 @@ held (r ∷ rs) = max (r.number + 1) (held rs)
 abbrev pub reach : PlainSeat → ℕ
 reach s = max (held s.receipts) s.learnt
 
--- WHAT A HISTORY AND THE SEATS TELL ALIKE: each number of a seat is there once, every entry is of one of them, and the receipts of each are just those of its entries
-pub record IsAudited (seats : List PlainSeat) (count : ℕ) (entries : List Entry) : Type 0 where
+-- THE RECEIPTS RISE: the number of each is above those of all before it, and at or above n
+abbrev pub IsRisingFrom : ℕ → List Told → Type 0
+IsRisingFrom n [] = ⊤
+IsRisingFrom n (r ∷ rs) = (n ≤ r.number) × IsRisingFrom (r.number + 1) rs
+
+-- the receipts of numbers from the n-th on
+abbrev pub receipts_from : ℕ → List Told → List Told
+receipts_from n [] = []
+receipts_from n (r ∷ rs) = if nat_le n r.number then r ∷ receipts_from n rs else receipts_from n rs
+
+-- how many of the receipts have the number n
+abbrev pub told_at : ℕ → List Told → ℕ
+told_at n [] = 0
+told_at n (r ∷ rs) = (if r.number == n then 1 else 0) + told_at n rs
+
+-- how many receipts of all the seats have it
+abbrev pub times_told : ℕ → List PlainSeat → ℕ
+times_told n [] = 0
+times_told n (s ∷ ss) = told_at n s.receipts + times_told n ss
+
+-- WHAT A HISTORY AND THE SEATS TELL ALIKE, where the history begins with the entry of the number `first`. Each number of a seat is there once, and every
+-- entry is of one of them. From the first entry on the receipts of each are just those of its entries. The numbers of all receipts together are those
+-- of all entries, also of those before the first, each once
+pub record IsAudited (seats : List PlainSeat) (count first : ℕ) (entries : List Entry) : Type 0 where
   pub many : length seats ≡ count
   pub each : (k : ℕ) → k < count → count_by (λ (s : PlainSeat). s.number == k) seats ≡ 1
   pub known : All (λ (e : Entry). e.seat < count) entries
-  pub told : All (λ (s : PlainSeat). own s.number 0 entries ≡ s.receipts) seats
+  pub told : All (λ (s : PlainSeat). own s.number first entries ≡ receipts_from first s.receipts) seats
+  pub once : (n : ℕ) → n < first + length entries → times_told n seats ≡ 1
+  pub others : (n : ℕ) → first + length entries ≤ n → times_told n seats ≡ 0

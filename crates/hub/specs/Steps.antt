@@ -1,30 +1,36 @@
 -- What lies under the lock, and its steps: each is one call on the engine, or none.
-use Rattle.std.specs.Prelude.{◌≡◌, ℕ, ◌<◌, ◌≤◌, List, [], ◌∷◌, ◌++◌, length, Bool, false, true, Option, Result, Ok, Err, ⊤}
+use Rattle.std.specs.Prelude.{◌≡◌, ℕ, ◌+◌, ◌<◌, ◌≤◌, ◌^◌, ◌⊎◌, List, [], ◌∷◌, ◌++◌, length, Bool, false, true, Option, Result, Ok, Err, ⊤, IfErr, OnErr, OnOk}
 use Rattle.envelope.specs.Fraction.{Fraction}
 use Rattle.plan.specs.declared.node.Kind.{Kind}
 use Rattle.reference.specs.Commands.{Command}
-use Rattle.reference.specs.Machine.{empty, query_named, stream_named}
+use Rattle.reference.specs.Machine.{Machine, empty, query_named, stream_named}
 use Rattle.reference.specs.World.{Looks, slopes_at}
 use Rattle.reference.specs.declared.fault.Fault.{Fault}
-use Rattle.reference.specs.declared.fault.Fault.TheVariants.{HistoryFull, Foreign}
+use Rattle.reference.specs.declared.fault.Fault.TheVariants.{HistoryFull, Foreign, OutOfMemory}
 use Rattle.turn.specs.declared.parts.Parts.{Parts}
 use Rattle.turn.specs.declared.turns.Turn.{Turn}
 use Rattle.laws_engine.specs.Engines.{PlainEngine, world_of}
+use Rattle.laws_engine.specs.Openings.{forgotten}
 use Rattle.laws_engine.specs.Promises.{HasAllWaiting}
+use Rattle.leases.specs.Openings.{opening_in}
 use Rattle.leases.specs.Looks.{IsPending, WaitsAt}
 use Rattle.leases.specs.Shown.{engine_in}
 use Rattle.leases.specs.Turns.{Abandons, Finishes, IsTurnOf, Leases}
 use Rattle.leases.specs.Views.{empty_engine}
 use Rattle.leases.specs.declared.leased.Leased.{Leased}
 use Rattle.leases.specs.declared.leased.Leased.TheVariants as leased
+use Rattle.leases.specs.declared.opening.Opening.{Opening}
 use Rattle.leases.specs.declared.state.State.{State}
 use Rattle.histories.specs.Histories.{Entry, Replays, Told}
 use Rattle.hub.specs.Seats.{PlainSeat, reach}
 use Rattle.hub.specs.Calls.{Answered, Refused}
 
--- the engine as it is kept, the entries of its history, how many it may have, how many seats there are, and whether the end was called
+-- the engine as it is kept, the opening that the history begins with and how many entries it stands for, the entries of the history, how many it may
+-- have, how many seats there are, and whether the end was called
 pub record PlainLocked : Type 0 where
   pub engine : State
+  pub opening : Opening
+  pub first : ℕ
   pub history : List Entry
   pub limit : ℕ
   pub seats : ℕ
@@ -42,17 +48,32 @@ with_engine l s = record l { engine = s }
 abbrev pub IsSame : PlainLocked → PlainLocked → Type 0
 IsSame old new = (new ≡ with_engine old new.engine) × (engine_at new ≡ engine_at old)
 
--- the history leads from the machine that was told nothing to the engine's
+-- the history leads from the machine that it begins with to the engine's
 abbrev pub IsReplayed : PlainLocked → Type 0
-IsReplayed l = Replays empty l.history (engine_at l).machine
+IsReplayed l = Replays (opening_in l.opening) l.history (engine_at l).machine
+
+-- AN OPENING THAT STANDS FOR NO ENTRY is that of a machine that was told nothing
+pub record OpensAt (first : ℕ) (m : Machine) : Type 0 where
+  pub nought : first ≡ 0 → m ≡ empty
+
+-- the number of the next entry: how many were ever accepted
+abbrev pub next_number : PlainLocked → ℕ
+next_number l = l.first + length l.history
+
+-- there is room for one entry more, and a number for it
+abbrev pub HasRoom : PlainLocked → Type 0
+HasRoom l = (length l.history < l.limit) × (next_number l < 2 ^ 63)
+
+abbrev pub IsFull : PlainLocked → Type 0
+IsFull l = (l.limit ≤ length l.history) ⊎ (2 ^ 63 ≤ next_number l)
 
 -- AN ACCEPTED COMMAND of a seat: one call on the engine, one entry, one receipt, whose number is above all that the seat holds or has learnt
 pub record Accepted (old : PlainLocked) (seat : PlainSeat) (c : Command) (r : Told) (new : PlainLocked) (seat' : PlainSeat) : Type 0 where
   pub legal : IsReplayed old
   pub engine : Answered (engine_at old) c r.entry.reply (engine_at new)
   pub history : new ≡ record (with_engine old new.engine) { history = old.history ++ r.entry ∷ [] }
-  pub room : length old.history < old.limit
-  pub number : r.number ≡ length old.history
+  pub room : HasRoom old
+  pub number : r.number ≡ next_number old
   pub by : r.entry.seat ≡ seat.number
   pub command : r.entry.command ≡ c
   pub above : reach seat ≤ r.number
@@ -60,9 +81,9 @@ pub record Accepted (old : PlainLocked) (seat : PlainSeat) (c : Command) (r : To
 
 -- why a command is refused: the hub's own faults come before all others. The history is full; the seat knows a number that no entry has
 abbrev pub Declines : PlainLocked → PlainSeat → Command → Fault → Type 0
-Declines l s c HistoryFull = l.limit ≤ length l.history
-Declines l s c (Foreign n) = (length l.history < l.limit) × (n ≡ length l.history) × (n < reach s)
-Declines l s c f = (length l.history < l.limit) × (reach s ≤ length l.history) × Refused (engine_at l) c f
+Declines l s c HistoryFull = IsFull l
+Declines l s c (Foreign n) = HasRoom l × (n ≡ next_number l) × (n < reach s)
+Declines l s c f = HasRoom l × (reach s ≤ next_number l) × Refused (engine_at l) c f
 
 -- A REFUSED COMMAND changes nothing
 pub record Declined (old : PlainLocked) (seat : PlainSeat) (c : Command) (f : Fault) (new : PlainLocked) (seat' : PlainSeat) : Type 0 where
@@ -73,17 +94,31 @@ pub record Declined (old : PlainLocked) (seat : PlainSeat) (c : Command) (f : Fa
 
 -- the test of a full history, or of a seat that knows too much, fails
 abbrev pub Barred : PlainLocked → PlainSeat → Fault → Type 0
-Barred l s HistoryFull = l.limit ≤ length l.history
-Barred l s (Foreign n) = (length l.history < l.limit) × (n ≡ length l.history) × (n < reach s)
+Barred l s HistoryFull = IsFull l
+Barred l s (Foreign n) = HasRoom l × (n ≡ next_number l) × (n < reach s)
 Barred l s f = ⊥
 
 -- OF A NEW HUB
 pub record IsFresh (l : PlainLocked) (seats limit : ℕ) : Type 0 where
   pub engine : engine_at l ≡ empty_engine
+  pub opening : opening_in l.opening ≡ empty
+  pub first : l.first ≡ 0
   pub history : l.history ≡ []
   pub limited : l.limit ≡ limit
   pub seated : l.seats ≡ seats
   pub going : l.has_ended ≡ false
+
+-- WHERE IT FORGETS the engine does, and the history begins anew with the machine that is left: no entry is in it, and numbers go on. Where memory is
+-- refused nothing is changed
+abbrev pub HasForgotten : PlainLocked → PlainLocked → Type 0
+HasForgotten old new = (engine_at new ≡ forgotten (engine_at old)) × (opening_in new.opening ≡ (forgotten (engine_at old)).machine)
+    × (new ≡ record (with_engine old new.engine) { opening = new.opening; first = next_number old; history = [] })
+
+pub record Forgets (old : PlainLocked) (result : Result ⊤ Fault) (new : PlainLocked) : Type 0 where
+  pub legal : IsReplayed old
+  pub ok : OnOk result (HasForgotten old new)
+  pub err : OnErr result (IsSame old new)
+  pub want : IfErr result (λ f. f ≡ OutOfMemory)
 
 -- after the end was called
 abbrev pub ended : PlainLocked → PlainLocked

@@ -4,6 +4,8 @@ ghost use Rattle.std.specs.List.{range_with_len};
 ghost use Rattle.histories.specs.Histories.{IsLegal};
 ghost use Rattle.reference.specs.declared.fault.Fault.TheVariants.{BadLimit, OutOfMemory};
 ghost use Rattle.hub.specs.Seats.{IsAudited, opened};
+ghost use Rattle.hub.specs.Steps.{OpensAt};
+ghost use Rattle.leases.specs.Openings.{opening_in};
 ghost use Rattle.hub.specs.declared.locked.TheConstants.{MAX_HISTORY, MAX_SEATS};
 
 mod calls;
@@ -85,8 +87,9 @@ impl Hub {
     /// Hub and seats come back where the seats' numbers are not those of `open`, each once, or
     /// where their receipts differ from the history.
     pub fn close(self, seats: Vec<Seat>) -> Result<Closed, (Hub, Vec<Seat>)>
-        ensures ok { IfOk result (λ c.
-            IsLegal c.entries.items × IsAudited seats.items self c.entries.items) }
+        ensures legal { IfOk result (λ c. IsLegal (opening_in c.opening) c.entries.items) }
+        ensures opens { IfOk result (λ c. OpensAt c.first (opening_in c.opening)) }
+        ensures ok { IfOk result (λ c. IsAudited seats.items self c.first c.entries.items) }
         ensures err { IfErr result (λ p. (p.0 ≡ self) × (p.1 ≡ seats)) }
     {
         let Hub {

@@ -10,5 +10,5 @@ mod seat;
 
 pub use histories::{Command, CommandKind, Entry, Receipt, Reply, ReplyKind};
 pub use hub::{Hub, LeaseRest, LeaseWait};
-pub use locked::{Closed, Locked, MAX_HISTORY, MAX_SEATS, Rested, Waited};
+pub use locked::{Closed, Locked, MAX_ENTRIES, MAX_HISTORY, MAX_SEATS, Rested, Waited};
 pub use seat::{Seat, reach_is_above_what_a_seat_knows};

@@ -5,7 +5,8 @@ ghost use Rattle.histories.specs.Histories.{IsLegal};
 ghost use Rattle.reference.specs.declared.fault.Fault.TheVariants.{BadLimit, OutOfMemory};
 ghost use Rattle.hub.specs.Seats.{IsAudited, opened};
 ghost use Rattle.laws_engine.specs.Promises.{KeepsItsPromises};
-ghost use Rattle.hub.specs.Steps.{IsFresh, IsReplayed, engine_at};
+ghost use Rattle.leases.specs.Openings.{opening_in};
+ghost use Rattle.hub.specs.Steps.{Forgets, IsFresh, IsReplayed, OpensAt, engine_at};
 ghost use Rattle.hub.specs.declared.locked.TheConstants.{MAX_HISTORY, MAX_SEATS};
 
 mod calls;
@@ -15,8 +16,8 @@ mod turns;
 use crate::audit::is_audited;
 use crate::seat::Seat;
 use histories::Entry;
-use leases::Engine;
-use reference::Fault;
+use leases::{Engine, Opening};
+use reference::{Answering, Fault};
 use std::alloc::{AllocError, Global};
 use std::marker::Model;
 use turn::Turn;
@@ -24,12 +25,19 @@ use turn::Turn;
 /// The most entries of a history.
 pub const MAX_HISTORY: u64 = 16_777_216;
 
+/// How many entries are ever accepted, also where some were forgotten.
+pub const MAX_ENTRIES: u64 = 9_223_372_036_854_775_808;
+
 /// The most seats of a hub.
 pub const MAX_SEATS: u64 = 64;
 
 /// The history of a hub that was closed.
 #[derive(Drop)]
 pub struct Closed {
+    /// What the history begins with: of a hub that never forgot, no stream and no query.
+    pub opening: Opening,
+    /// How many entries the opening stands for: the number of the first entry.
+    pub first: u64,
     /// Its entries, by their numbers.
     pub entries: Vec<Entry>,
 }
@@ -59,14 +67,19 @@ pub enum Rested {
 /// What lies under the lock of a hub: the engine, the history of what it accepted, and whether the
 /// end was called. Each step of a hub is one of its methods.
 ///
-/// Its history leads from the machine that was told nothing to the engine's.
+/// Its history leads from its opening to the engine's machine.
 #[derive(Drop)]
 pub struct Locked {
     /// What grows under the lock takes its memory here.
     alloc: Global,
     /// The engine of all clients and workers.
     engine: Engine,
-    /// What the engine accepted, in order.
+    /// What was left of the machine when rows were forgotten last; before that, what was told
+    /// nothing.
+    opening: Opening,
+    /// How many entries the opening stands for, at most 2^63.
+    first: u64,
+    /// What the engine accepted since then, in order.
     history: Vec<Entry>,
     /// The most entries that the history may have.
     limit: usize,
@@ -78,12 +91,12 @@ pub struct Locked {
 
 impl Model for Locked {
     ghost use Rattle.std.specs.Coded.{codes};
-    ghost use Rattle.std.specs.Prelude.{◌≤◌, ◌^◌};
+    ghost use Rattle.std.specs.Prelude.{◌≤◌, ◌+◌, ◌^◌, length};
     ghost use Rattle.values.specs.contracts.resolved.Condition as condition;
-    ghost use Rattle.reference.specs.Machine.{empty};
+    ghost use Rattle.leases.specs.Openings.{opening_in};
     ghost use Rattle.leases.specs.Shown.{engine_in};
     ghost use Rattle.histories.specs.Histories.{Replays};
-    ghost use Rattle.hub.specs.Steps.{PlainLocked};
+    ghost use Rattle.hub.specs.Steps.{OpensAt, PlainLocked};
 
     ghost Value = { PlainLocked };
 
@@ -91,14 +104,18 @@ impl Model for Locked {
 
     ghost view = { λ l. record {
       engine = l.engine;
+      opening = l.opening;
+      first = l.first;
       history = l.history.items;
       limit = l.limit;
       seats = l.seats;
       has_ended = l.has_ended;
     } };
 
-    ghost invariant = { λ l.
-        Replays empty l.history.items (engine_in l.engine).machine × (l.limit ≤ 2 ^ 24) };
+    ghost invariant = { λ l. Replays (opening_in l.opening) l.history.items
+        (engine_in l.engine).machine
+        × (l.limit ≤ 2 ^ 24) × (l.seats ≤ 64) × (l.first + length l.history.items ≤ 2 ^ 63)
+        × OpensAt l.first (opening_in l.opening) };
 }
 
 impl Locked {
@@ -121,6 +138,8 @@ impl Locked {
         let locked = Locked {
             alloc,
             engine: Engine::new(alloc),
+            opening: Opening::new(alloc),
+            first: 0,
             history: Vec::new(alloc),
             limit: history_limit as usize,
             seats,
@@ -129,8 +148,8 @@ impl Locked {
         Ok((locked, places))
     }
 
-    /// The history leads from the machine that was told nothing to the engine's, and the engine
-    /// keeps its promises: of what waits, of what may be leased, and of idleness.
+    /// The history leads from its opening to the engine's machine, and the engine keeps its
+    /// promises: of what waits, of what may be leased, and of idleness.
     #[tactic(auto, unfolding(crate::specs::Steps::engine_at))]
     pub fn keeps_its_promises(&self)
         ensures replayed { IsReplayed self.now }
@@ -139,30 +158,64 @@ impl Locked {
         let _ = self.engine.waiting(0);
     }
 
+    /// Gives up the rows that no query needs, and all entries: the history begins anew with what is
+    /// left. It needs no seat and makes no entry; numbers go on.
+    ///
+    /// # Errors
+    /// `OutOfMemory`; then nothing is changed.
+    #[tactic(auto, unfolding(crate::specs::Steps::engine_at))]
+    pub fn forget(&mut self) -> Result<(), Fault>
+        ensures { Forgets self.old result self.new }
+    {
+        let opening = self.engine.opening()?;
+        self.engine.forget()?;
+        self.first += self.history.len() as u64;
+        self.history = Vec::new(self.alloc);
+        self.opening = opening;
+        Ok(())
+    }
+
     /// Compares the seats' receipts with the history, and gives it. Takes no memory.
+    ///
+    /// The entries that an opening stands for are gone: of these the receipts' numbers alone are
+    /// compared.
     ///
     /// # Errors
     /// All comes back as it was where the seats' numbers are not those of `new`, each once, or
     /// where their receipts differ from the history.
     #[tactic(auto, unfolding(crate::specs::Steps::engine_at))]
     pub fn close(self, seats: Vec<Seat>) -> Result<Closed, (Locked, Vec<Seat>)>
-        ensures ok { IfOk result (λ c. IsLegal c.entries.items × (c.entries.items ≡ self.history)
-            × IsAudited seats.items self.seats c.entries.items) }
+        ensures legal { IfOk result (λ c. IsLegal (opening_in c.opening) c.entries.items) }
+        ensures opens { IfOk result (λ c. OpensAt c.first (opening_in c.opening)) }
+        ensures ok { IfOk result (λ c. (c.opening ≡ self.opening) × (c.first ≡ self.first)
+            × (c.entries.items ≡ self.history)
+            × IsAudited seats.items self.seats c.first c.entries.items) }
         ensures err { IfErr result (λ p. (p.0 ≡ self) × (p.1 ≡ seats)
-            × (¬ (IsAudited seats.items self.seats self.history))) }
+            × (¬ (IsAudited seats.items self.seats self.first self.history))) }
     {
-        if !is_audited(self.history.as_slice(), seats.as_slice(), self.seats) {
+        if !is_audited(
+            self.history.as_slice(),
+            self.first,
+            seats.as_slice(),
+            self.seats,
+        ) {
             return Err((self, seats));
         }
         let Locked {
             alloc: _,
             engine: _,
+            opening,
+            first,
             history,
             limit: _,
             seats: _,
             has_ended: _,
         } = self;
-        Ok(Closed { entries: history })
+        Ok(Closed {
+            opening,
+            first,
+            entries: history,
+        })
     }
 }
 

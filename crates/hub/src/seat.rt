@@ -1,7 +1,7 @@
 //! Seats.
 ghost use Rattle.std.specs.Prelude.{ℕ, All, ◌⊎◌, ◌≤◌, ◌<◌, ◌+◌, ◌≡◌, max, slice_get, Some};
 ghost use Rattle.histories.specs.Histories.{Told};
-ghost use Rattle.hub.specs.Seats.{PlainSeat, reach};
+ghost use Rattle.hub.specs.Seats.{IsRisingFrom, PlainSeat, reach, receipts_from};
 
 use histories::Receipt;
 use std::alloc::Global;
@@ -23,7 +23,7 @@ pub struct Seat {
 
 impl Model for Seat {
     ghost use Rattle.std.specs.Prelude.{◌≡◌};
-    ghost use Rattle.hub.specs.Seats.{PlainSeat, held};
+    ghost use Rattle.hub.specs.Seats.{IsRisingFrom, PlainSeat, held};
 
     ghost Value = { PlainSeat };
 
@@ -33,12 +33,14 @@ impl Model for Seat {
       learnt = s.learnt;
     } };
 
-    ghost invariant = { λ s. s.own_reach ≡ held s.receipts.items };
+    ghost invariant = { λ s. (s.own_reach ≡ held s.receipts.items)
+        × IsRisingFrom 0 s.receipts.items };
 }
 
 impl Seat {
-    ghost use Rattle.std.specs.Prelude.{[]};
-    ghost use Rattle.hub.specs.Seats.{PlainSeat, held, reach, opened};
+    ghost use Rattle.hub.specs.Places.{told_below};
+    ghost use Rattle.hub.specs.Seats.{IsRisingFrom, PlainSeat, held, reach, opened};
+    ghost use Rattle.hub.specs.Seats.{receipts_from, told_at};
 
     /// A seat of this number, with no receipt. Takes no memory.
     pub(crate) fn new(alloc: Global, number: u64) -> Seat
@@ -61,9 +63,33 @@ impl Seat {
 
     /// The receipts of its accepted calls, in the order of their numbers.
     pub fn receipts(&self) -> &[Receipt]
-        ensures { result.now ≡ self.now.receipts }
+        ensures receipts { result.now ≡ self.now.receipts }
+        ensures rising { IsRisingFrom 0 self.now.receipts }
     {
         self.receipts.as_slice()
+    }
+
+    // The receipts of numbers from `first` on.
+    pub(crate) fn receipts_from(&self, first: u64) -> &[Receipt]
+        ensures { result.now ≡ receipts_from first self.now.receipts }
+    {
+        rest_from(self.receipts(), first)
+    }
+
+    // Where the receipts of greater numbers begin, if those of no lower number than this one begin
+    // at `place`: there, or behind the one that has it.
+    pub(crate) fn place_behind(&self, place: usize, number: u64) -> usize
+        requires { place ≡ told_below number self.now.receipts }
+        ensures behind { result ≡ place + told_at number self.now.receipts }
+        ensures once { told_at number self.now.receipts ≤ 1 }
+    {
+        let Some(receipt) = self.receipts.get(place) else {
+            return place;
+        };
+        if receipt.number() != number {
+            return place;
+        }
+        place + 1
     }
 
     /// One more than the greatest number that it holds or has learnt.
@@ -81,6 +107,20 @@ impl Seat {
     {
         self.learnt = self.learnt.max(receipt.number() + 1);
     }
+}
+
+fn rest_from(receipts: &[Receipt], first: u64) -> &[Receipt]
+    requires { IsRisingFrom 0 receipts.now }
+    ensures { result.now ≡ receipts_from first receipts.now }
+{
+    let mut rest = receipts;
+    while let Some((receipt, more)) = rest.split_first() {
+        if receipt.number() >= first {
+            return rest;
+        }
+        rest = more;
+    }
+    rest
 }
 
 /// Each number that a seat holds or has learnt is below its reach, and each number below its reach

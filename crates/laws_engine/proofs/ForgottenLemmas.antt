@@ -4,7 +4,8 @@ use Rattle.std.specs.Prelude.{slice_get, unwrap_or}
 use Rattle.laws_dataflow.specs.Queries.{behind}
 use Rattle.reference.specs.Machine.{Registered}
 use Rattle.laws_engine.specs.Engines.{Dropped, GoodEngine, Goes, PlainRemains, PlainEngine}
-use Rattle.laws_engine.specs.Openings.{forgotten, last_in, mark_in, marks_by, next_of}
+use Rattle.operators.specs.States.{last_in}
+use Rattle.laws_engine.specs.Openings.{forgotten, mark_in, marks_by, next_of}
 use Rattle.laws_engine.proofs.OpenedLemmas.{goes, opened_good}
 
 pub length-marks : (qs : List Registered) (ks : List PlainRemains) → length (marks_by qs ks) ≡ length qs

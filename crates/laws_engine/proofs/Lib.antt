@@ -18,6 +18,7 @@ pub mod AskLemmas
 pub mod RestingLemmas
 pub mod OpenedLemmas
 pub mod ForgottenLemmas
+pub mod AlikeLemmas
 pub mod ConditionLemmas
 pub mod NameLemmas
 pub mod FoundLemmas

@@ -15,7 +15,7 @@ use Rattle.operators.specs.Operators.{PlainOperator, first_ready, front_instant,
 use Rattle.operators.specs.States.{usable}
 use Rattle.op_queue.specs.Items.{front_of}
 use Rattle.reference.specs.Machine.{Place, Registered, Stream, input_at}
-use Rattle.reference.specs.Opening.{all_restarted, needs, needs_by, restart, restarted, with_kept}
+use Rattle.reference.specs.Opening.{all_instants, all_restarted, needs, needs_by, restart, restarted, with_kept}
 use Rattle.laws_dataflow.specs.Laws as nets
 use Rattle.cql_reader.specs.declared.TheConstants.{MAX_SOURCES}
 use Rattle.reference.specs.Commands.{rows_of_each}
@@ -179,7 +179,7 @@ module _ (keep : ℕ → Element → Bool) where
   queries_kept ss [] marks ws h k is = tt
   queries_kept ss (q ∷ qs) [] ws h k is = absurd (omega (arith, h))
   queries_kept ss (q ∷ qs) (m ∷ marks) [] h k is = absurd (omega (arith, k))
-  queries_kept ss (q ∷ qs) (m ∷ marks) (w ∷ ws) h k is = (query_kept ss q (unwrap_or m q.start) w is.0, queries_kept ss qs marks ws (omega (arith, h)) (omega (arith, k)) is.1)
+  queries_kept ss (q ∷ qs) (m ∷ marks) (w ∷ ws) h k is = (query_kept ss q (unwrap_or m all_instants) w is.0, queries_kept ss qs marks ws (omega (arith, h)) (omega (arith, k)) is.1)
 
   -- THE ROW LIMIT is kept
   arrivals_option : (i : ℕ) (o : Option Stream) → option_map_or (λ (s : Stream). s.arrivals) (option_map (kept_stream (keep i)) o) 0 ≡ option_map_or (λ (s : Stream). s.arrivals) o 0
@@ -235,12 +235,12 @@ module _ (e : PlainEngine) (g : GoodEngine e) (marks : List (Option ℕ)) (long 
     machine2 = record { streams = streams_kept keep 0 e.machine.streams g.machine.streams; queries = queries_kept keep e.machine.streams e.machine.queries marks waits long long_waits g.machine.queries; limits = limits_kept keep e.machine.streams e.machine.queries marks waits long long_waits g.machine.limits }
 
     -- a query with the mark of its number
-    at_mark : (n : ℕ) (q : Registered) (next : ℕ) → slice_get marks n ≡ Some (Some next) → unwrap_or (get_or marks n None) q.start ≡ next
+    at_mark : (n : ℕ) (q : Registered) (next : ℕ) → slice_get marks n ≡ Some (Some next) → unwrap_or (get_or marks n None) all_instants ≡ next
     at_mark n q next h = from marks n h
       where
-        from : (ms : List (Option ℕ)) (n : ℕ) → slice_get ms n ≡ Some (Some next) → unwrap_or (get_or ms n None) q.start ≡ next
+        from : (ms : List (Option ℕ)) (n : ℕ) → slice_get ms n ≡ Some (Some next) → unwrap_or (get_or ms n None) all_instants ≡ next
         from [] n h = absurd (cc)
-        from (x ∷ ms) zero h = ap (λ o. unwrap_or (unwrap_or o None) q.start) h
+        from (x ∷ ms) zero h = ap (λ o. unwrap_or (unwrap_or o None) all_instants) h
         from (x ∷ ms) (suc n) h = from ms n h
 
     remains_opened : (n : ℕ) (q : Registered) (r : query_at e n ≡ Some q) (remains : PlainRemains) → remains_at e n ≡ remains → AreRemains (opened e marks).machine (restart q (get_or marks n None) (answers_in remains)) remains

@@ -4,10 +4,11 @@ use Rattle.std.specs.List.{AllByRecursion}
 use Rattle.values.specs.Row.{Row}
 use Rattle.reference.specs.Commands.{Command, after, first_fault}
 use Rattle.reference.specs.Machine.{Machine, Registered, Stream, empty}
+use Rattle.reference.specs.Opening.{all_instants}
 
 -- how many instants there are: the greatest is 2 ^ 40
 abbrev pub instants : ℕ
-instants = 2 ^ 40 + 1
+instants = all_instants
 
 -- no stream has closed more instants than there are
 pub record HasFewClosed (s : Stream) : Type 0 where

@@ -1,29 +1,19 @@
 -- An engine whose machine is replaced by its opening.
-use Rattle.std.specs.Prelude.{ℕ, Option, Some, None, List, [], ◌∷◌, map}
-use Rattle.operators.specs.declared.states.State.{State}
-use Rattle.operators.specs.declared.states.State.TheVariants as state
+use Rattle.std.specs.Prelude.{ℕ, ◌≡◌, true, Option, Some, None, List, [], ◌∷◌, map}
+use Rattle.values.specs.Row.{Row}
+use Rattle.operators.specs.States.{last_in}
 use Rattle.reference.specs.Machine.{Registered}
 use Rattle.reference.specs.Opening.{opening}
 use Rattle.laws_dataflow.specs.Plans.{below_root}
 use Rattle.laws_dataflow.specs.Queries.{behind}
 use Rattle.laws_queries.specs.Queries.{PlainQuery, operator_at}
-use Rattle.laws_engine.specs.Engines.{Broken, Dropped, PlainEngine, PlainRemains, Running, answers_in}
+use Rattle.laws_engine.specs.Engines.{Broken, Dropped, PlainEngine, PlainRemains, Running, answers_in, query_at, remains_at}
 
 -- queues, turns that are out and answers that wait are as they were
 abbrev pub opened : PlainEngine → List (Option ℕ) → PlainEngine
 opened e marks = record e { machine = opening e.machine marks (map answers_in e.queries) }
 
 -- THE MARKS
--- the instant of the last tick that a root has taken
-abbrev pub last_in : State → Option ℕ
-last_in (state.Range s) = None
-last_in (state.Slide s) = None
-last_in (state.Latest s) = None
-last_in state.Nothing = None
-last_in (state.Join s) = None
-last_in (state.Groups s) = None
-last_in (state.Root s) = s.last
-
 -- the instant after the mark of a running query: after the last tick that its root has taken, or its first one
 abbrev pub next_of : Registered → PlainQuery → ℕ
 next_of q p = behind q.first (last_in (operator_at p.operators (below_root q.nodes)).state)
@@ -41,3 +31,8 @@ marks_by (q ∷ qs) (k ∷ remains) = mark_in q k ∷ marks_by qs remains
 -- FORGETTING
 abbrev pub forgotten : PlainEngine → PlainEngine
 forgotten e = opened e (marks_by e.machine.queries e.queries)
+
+-- NO QUERY IS BROKEN, and nothing is left of just those that were dropped
+pub record IsUnbroken (e : PlainEngine) : Type 0 where
+  pub unbroken : (n : ℕ) (answers : List (ℕ × Row)) → remains_at e n ≡ Broken answers → ⊥
+  pub gone : (n : ℕ) (q : Registered) → query_at e n ≡ Some q → remains_at e n ≡ Dropped → q.is_dropped ≡ true

@@ -1,9 +1,10 @@
 //! What holds of an engine of many queries: functions that do nothing, each with a law.
 ghost use Rattle.std.specs.Prelude.{List};
-ghost use Rattle.laws_engine.specs.Engines.{GoodEngine, PlainEngine};
+ghost use Rattle.reference.specs.Alike.{Alike};
+ghost use Rattle.laws_engine.specs.Engines.{GoodEngine, PlainEngine, world_of};
 ghost use Rattle.laws_engine.specs.Promises.{KeepsItsPromises};
 ghost use Rattle.laws_engine.specs.Histories.{Call, LeadTo, empty};
-ghost use Rattle.laws_engine.specs.Openings.{forgotten};
+ghost use Rattle.laws_engine.specs.Openings.{IsUnbroken, forgotten};
 
 /// Says that of each query of a good engine the answers that were taken, and those that wait, are a
 /// beginning of CQL's answers for the instants that its streams' heartbeats have closed, and all of
@@ -27,4 +28,12 @@ pub fn engines_keep_their_promises()
 /// the instant after the last tick that its root has taken.
 pub fn forgotten_engines_are_good()
     ensures { (e : PlainEngine) → GoodEngine e → GoodEngine (forgotten e) }
+{}
+
+/// Says that no call tells a good engine from the one that has forgotten: the machines are alike,
+/// and the same answers wait. No query may be broken, since of such a query nothing is kept but the
+/// answers that wait.
+pub fn forgotten_engines_are_alike()
+    ensures { (e : PlainEngine) → GoodEngine e → IsUnbroken e
+        → Alike (world_of e) (world_of (forgotten e)) }
 {}

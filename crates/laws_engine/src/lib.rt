@@ -5,5 +5,6 @@
 mod laws;
 
 pub use laws::{
-    engines_keep_their_promises, forgotten_engines_are_good, good_engines_keep_their_promises,
+    engines_keep_their_promises, forgotten_engines_are_alike, forgotten_engines_are_good,
+    good_engines_keep_their_promises,
 };

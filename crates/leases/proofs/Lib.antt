@@ -34,3 +34,5 @@ pub mod TakeLemmas
 pub mod PendingLemmas
 pub mod LengthLemmas
 pub mod QueryLemmas
+mod ForgetLemmas
+mod ReadLemmas

@@ -38,7 +38,7 @@ use Rattle.leases.specs.Readers.{next_for, with_slots, with_update, with_updates
 use Rattle.leases.specs.Runs.{HasRunIn, HasRunOn, HasStoppedIn, MayRunIn}
 use Rattle.leases.specs.Shown.{engine_in}
 use Rattle.leases.specs.Sound.{IsSound}
-use Rattle.leases.specs.Told.{IsNoSteeper, MayTellBoth, told, told_above, told_slot, told_slots, told_state}
+use Rattle.leases.specs.Told.{GoesOn, IsNoSteeper, MayTellBoth, told, told_above, told_slot, told_slots, told_state}
 use Rattle.leases.specs.Turns.{lease_fault}
 use Rattle.leases.specs.declared.limits.TheConstants.{LEASE_NUMBERS, MAX_LEASES}
 use Rattle.leases.specs.declared.state.State.{State}
@@ -56,7 +56,7 @@ use Rattle.leases.proofs.StepLemmas.{both_stand, may_look_here, may_look_over}
 use Rattle.leases.proofs.ToldLemmas.{AreThere, IsToldAbove, above_in, told_again, told_from, told_in, told_leave}
 
 -- WHAT AN OPERATOR MAY TAKE, by its number and by its query
-pub looked : (e : PlainEngine) (n k : ℕ) (next : Option (Side × ℕ)) → HasOperatorAt e n k → ((q : Registered) (p : PlainQuery) → query_at e n ≡ Some q → remains_at e n ≡ Running p → next ≡ next_at e n q p k) → next ≡ next_for e n k
+looked : (e : PlainEngine) (n k : ℕ) (next : Option (Side × ℕ)) → HasOperatorAt e n k → ((q : Registered) (p : PlainQuery) → query_at e n ≡ Some q → remains_at e n ≡ Running p → next ≡ next_at e n q p k) → next ≡ next_for e n k
 looked e n k next here h = h here.0 here.1.0 here.1.1.registered here.1.1.running ∙ sym (next_is e n k here.0 here.1.0 here.1.1.registered here.1.1.running)
 
 pub at_numbers : (e : PlainEngine) (s : Slot) (n k : ℕ) → n ≡ s.query → k ≡ s.operator → HasOperatorAt e s.query s.operator → HasOperatorAt e n k
@@ -65,11 +65,15 @@ at_numbers e s n k sn sk h = subst (λ z. HasOperatorAt e z k) (sym sn) (subst (
 pub over_numbers : (e : PlainEngine) (s : Slot) (n k : ℕ) (above : Option Slot) → n ≡ s.query → k ≡ s.operator → IsAbove e n k above → IsAbove e s.query s.operator above
 over_numbers e s n k above sn sk is = subst (λ m. IsAbove e m s.operator above) sn (subst (λ j. IsAbove e n j above) sk is)
 
-pub stopped_turn : (r : Refused) (e : PlainEngine) (turn s : Slot) (rows : ℕ) (e2 : PlainEngine) → turn ≡ s → HasStoppedIn r e turn rows e2 → HasStoppedIn r e s rows e2
-stopped_turn r e turn s rows e2 same h = subst (λ z. HasStoppedIn r e z rows e2) same h
+pub next_looked : (e : PlainEngine) (s : Slot) (n k : ℕ) (next : Option (Side × ℕ)) → n ≡ s.query → k ≡ s.operator → HasOperatorAt e s.query s.operator
+    → ((q : Registered) (p : PlainQuery) → query_at e n ≡ Some q → remains_at e n ≡ Running p → next ≡ next_at e n q p k) → next ≡ next_for e s.query s.operator
+next_looked e s n k next sn sk here h = looked e n k next (at_numbers e s n k sn sk here) h ∙ ap (λ m. next_for e m k) sn ∙ ap (next_for e s.query) sk
+
+stopped_turn : (r r2 : Refused) (e : PlainEngine) (turn s : Slot) (rows : ℕ) (e2 : PlainEngine) → r ≡ r2 → turn ≡ s → HasStoppedIn r e turn rows e2 → HasStoppedIn r2 e s rows e2
+stopped_turn r r2 e turn s rows e2 is same h = subst (λ z. HasStoppedIn z e s rows e2) is (subst (λ z. HasStoppedIn r e z rows e2) same h)
 
 -- and it goes on where that is of the slot's instant
-pub goes_with : (s : Slot) (next : Option (Side × ℕ)) → goes_on s next ≡ true → (x : Side × ℕ) × ((next ≡ Some x) × (x.1 ≡ s.instant))
+goes_with : (s : Slot) (next : Option (Side × ℕ)) → goes_on s next ≡ true → (x : Side × ℕ) × ((next ≡ Some x) × (x.1 ≡ s.instant))
 goes_with s None h = absurd (cc)
 goes_with s (Some x) h = (x, (refl, eqb-true x.1 s.instant h))
 
@@ -165,8 +169,20 @@ some_if_busy : (o : Option (Side × ℕ)) → is_none o ≡ false → o ≡ Some
 some_if_busy None e = absurd (cc)
 some_if_busy (Some x) e = refl
 
--- BETWEEN TWO TURNS of one look: the slots are as they were at its start. Told, the engine is sound, the turns have run up to it, and the slot stands first
-pub record AreRunning (start now : State) (s : Slot) (above : Option Slot) (rows : ℕ) : Type 0 where
+-- THE LOOK: the slot is the first, beside the one above, and turns may go out
+pub record IsLook (start : State) (s : Slot) (above : Option Slot) (rows : ℕ) : Type 0 where
+  pub sound : IsSound start
+  pub first : first_of start.slots ≡ Some s
+  pub over : IsAbove (engine_in start) s.query s.operator above
+  pub some : 0 < rows
+  pub allowed : lease_fault (engine_in start) rows ≡ None
+  pub numbers : start.next < LEASE_NUMBERS
+
+-- BETWEEN TWO TURNS of one look: the slots are as they were at its start. Told, the engine is sound, the turns have run up to it, and the slot, which is that of
+-- the next turn, stands first
+pub record AreRunning (start now : State) (s : Slot) (above : Option Slot) (rows : ℕ) (next : Slot) : Type 0 where
+  pub look : IsLook start s above rows
+  pub turn : next ≡ told_slot (engine_in now) s
   pub slots : now.slots ≡ start.slots
   pub sound : IsSound (told_state now s above)
   pub first : first_of (told_slots (engine_in now) s above) ≡ Some (told_slot (engine_in now) s)
@@ -177,26 +193,26 @@ pub record AreRunning (start now : State) (s : Slot) (above : Option Slot) (rows
   pub ran : SomeHaveRun rows (engine_in start) (told (engine_in now) s above)
 
 -- AT THE START
-module _ (start : State) (s : Slot) (above : Option Slot) (rows : ℕ) (sound : IsSound start) (first : first_of start.slots ≡ Some s) (over : IsAbove (engine_in start) s.query s.operator above) where
+module _ {start : State} {s : Slot} {above : Option Slot} {rows : ℕ} (look : IsLook start s above rows) where
   s_here : slot_of (engine_in start) s.query s.operator ≡ Some s
-  s_here = sound.good.slots.only s (first_in start.slots s first).0
+  s_here = look.sound.good.slots.only s (first_in start.slots s look.first).0
 
-  pub busy : s.is_idle ≡ false
-  busy = (first_in start.slots s first).1
+  busy : s.is_idle ≡ false
+  busy = (first_in start.slots s look.first).1
 
   overs : MatchOption above ⊤ (IsOver (engine_in start) s)
-  overs = over_is start s sound first above over
+  overs = over_is start s look.sound look.first above look.over
 
   there_over : (o : Option Slot) → MatchOption o ⊤ (IsOver (engine_in start) s) → MatchOption o ⊤ (λ a. (slot_of (engine_in start) a.query a.operator ≡ Some a) × (a.operator ≢ s.operator) × (a.query ≡ s.query))
   there_over None h = tt
   there_over (Some a) h = let lt : s.operator < a.operator = h.later in (h.here, (λ e. absurd (omega (arith, lt, e))), h.query)
 
-  pub there : AreThere (slot_of (engine_in start)) start.slots s above
-  there = record { has = sound.good.slots; named = numbered (engine_in start); here = s_here; over = there_over above overs }
+  there : AreThere (slot_of (engine_in start)) start.slots s above
+  there = record { has = look.sound.good.slots; named = numbered (engine_in start); here = s_here; over = there_over above overs }
 
   -- the slots are as they are told
   same_one : (x : Slot) → slot_of (engine_in start) x.query x.operator ≡ Some x → with_update (engine_in start) x start.slots ≡ start.slots
-  same_one x here = changed_nothing start.slots x (next_for (engine_in start) x.query x.operator) sound.good.slots.ordered (stands_in (engine_in start) sound.good x here) (as_told (engine_in start) x here)
+  same_one x here = changed_nothing start.slots x (next_for (engine_in start) x.query x.operator) look.sound.good.slots.ordered (stands_in (engine_in start) look.sound.good x here) (as_told (engine_in start) x here)
 
   same_both : (o : Option Slot) → MatchOption o ⊤ (IsOver (engine_in start) s) → with_updates (engine_in start) (s ∷ option_to_list o) start.slots ≡ start.slots
   same_both None h = same_one s s_here
@@ -212,26 +228,23 @@ module _ (start : State) (s : Slot) (above : Option Slot) (rows : ℕ) (sound : 
   above_told None h = refl
   above_told (Some a) h = ap Some (as_told (engine_in start) a h.here)
 
-  module _ (allowed : lease_fault (engine_in start) rows ≡ None) (numbers : start.next < LEASE_NUMBERS) where
-    pub begins : AreRunning start start s above rows
-    begins = record {
-      slots = refl;
-      sound = subst (λ ss. IsSound (with_slots start ss)) (sym as_it_is) sound;
-      first = ap first_of as_it_is ∙ first ∙ ap Some (sym s_told);
-      instant = ap (λ z. z.instant) s_told;
-      over = subst (λ ss. IsAbove (record (engine_in start) { slots = ss }) s.query s.operator (told_above (engine_in start) above)) (sym as_it_is)
-          (subst (IsAbove (engine_in start) s.query s.operator) (sym (above_told above overs)) over);
-      allowed = subst (λ ss. lease_fault (record (engine_in start) { slots = ss }) rows ≡ None) (sym as_it_is) allowed;
-      numbers = numbers;
-      ran = subst (λ ss. SomeHaveRun rows (engine_in start) (record (engine_in start) { slots = ss })) (sym as_it_is) (none_run rows (engine_in start));
-    }
-
-    pub begins_turn : s ≡ told_slot (engine_in start) s
-    begins_turn = sym s_told
+  pub begins : AreRunning start start s above rows s
+  begins = record {
+    look = look;
+    turn = sym s_told;
+    slots = refl;
+    sound = subst (λ ss. IsSound (with_slots start ss)) (sym as_it_is) look.sound;
+    first = ap first_of as_it_is ∙ look.first ∙ ap Some (sym s_told);
+    instant = ap (λ z. z.instant) s_told;
+    over = subst (λ ss. IsAbove (record (engine_in start) { slots = ss }) s.query s.operator (told_above (engine_in start) above)) (sym as_it_is)
+        (subst (IsAbove (engine_in start) s.query s.operator) (sym (above_told above overs)) look.over);
+    allowed = subst (λ ss. lease_fault (record (engine_in start) { slots = ss }) rows ≡ None) (sym as_it_is) look.allowed;
+    numbers = look.numbers;
+    ran = subst (λ ss. SomeHaveRun rows (engine_in start) (record (engine_in start) { slots = ss })) (sym as_it_is) (none_run rows (engine_in start));
+  }
 
 -- A TURN RUNS
-module _ (start now : State) (s : Slot) (above : Option Slot) (rows : ℕ) (start_sound : IsSound start) (start_first : first_of start.slots ≡ Some s) (start_over : IsAbove (engine_in start) s.query s.operator above)
-    (some : 0 < rows) (r : AreRunning start now s above rows) where
+module _ {start now : State} {s : Slot} {above : Option Slot} {rows : ℕ} {went : Slot} (r : AreRunning start now s above rows went) where
   -- as it is told
   abbrev e : PlainEngine
   e = engine_in now
@@ -258,17 +271,20 @@ module _ (start now : State) (s : Slot) (above : Option Slot) (rows : ℕ) (star
   running = top.1.1.running
 
   listed : AreThere (slot_of (engine_in start)) start.slots s above
-  listed = there start s above rows start_sound start_first start_over
+  listed = there r.look
 
   both : BothStand start.slots s above
-  both = both_stand start s start_sound start_first above start_over
+  both = both_stand start s r.look.sound r.look.first above r.look.over
 
   told_over : MatchOption over ⊤ (IsOver (engine_in t) turn)
   told_over = over_is t turn r.sound r.first over r.over
 
   -- it may
-  pub may_run : MayRunIn e turn rows
-  may_run = first_runs (engine_in t) turn rows r.sound.good r.first some
+  may_run_here : MayRunIn e turn rows
+  may_run_here = first_runs (engine_in t) turn rows r.sound.good r.first r.look.some
+
+  pub may_run : MayRunIn e went rows
+  may_run = subst (λ z. MayRunIn e z rows) (sym r.turn) may_run_here
 
   -- what both stand at
   may_tell_above : (o : Option Slot) → MatchOption (told_above e o) ⊤ (IsOver (engine_in t) turn) → MayTell e o
@@ -276,7 +292,7 @@ module _ (start now : State) (s : Slot) (above : Option Slot) (rows : ℕ) (star
   may_tell_above (Some a) h = asks_on (engine_in t) e.leases e.next e.slots a.query a.operator h.asked
 
   -- IT HAS RUN
-  module _ (m : State) (run : HasRunIn e turn rows (engine_in m)) (rest : GivesNothing now m) where
+  module _ {m : State} (rest : GivesNothing now m) (run : HasRunIn e went rows (engine_in m)) where
     abbrev mt : State
     mt = with_slots m t.slots
 
@@ -286,11 +302,14 @@ module _ (start now : State) (s : Slot) (above : Option Slot) (rows : ℕ) (star
     abbrev e2 : PlainEngine
     e2 = engine_in m2
 
+    ran_here : HasRunIn e turn rows (engine_in m)
+    ran_here = subst (λ z. HasRunIn e z rows (engine_in m)) r.turn run
+
     ran_told : HasRunIn (engine_in t) turn rows (engine_in mt)
-    ran_told p0 is = let h = run p0 is in (h.0, (h.1.0, ap (λ (z : PlainEngine). record z { slots = t.slots }) h.1.1))
+    ran_told p0 is = let h = ran_here p0 is in (h.0, (h.1.0, ap (λ (z : PlainEngine). record z { slots = t.slots }) h.1.1))
 
     took : (p2 : PlainQuery) × (HasRunOn e.machine.streams p turn rows p2 × (engine_in m ≡ with_remains e s.query (Running p2)))
-    took = run p running
+    took = ran_here p running
 
     slots_wait : m.slots ≡ start.slots
     slots_wait = ap (λ (z : PlainEngine). z.slots) took.1.1 ∙ r.slots
@@ -397,8 +416,8 @@ module _ (start now : State) (s : Slot) (above : Option Slot) (rows : ℕ) (star
 
     may_put : CanPut e.machine.streams p s.operator turn.side took.1.0.item (change_at_first (operator_at p.operators s.operator) turn.side took.1.0.item) (outs_at_first (operator_at p.operators s.operator) turn.side took.1.0.item)
     may_put =
-        let same : may_run.0 ≡ p = same_plain (sym may_run.1.0 ∙ running) in
-        let can = may_run.1.1.may in
+        let same : may_run_here.0 ≡ p = same_plain (sym may_run_here.1.0 ∙ running) in
+        let can = may_run_here.1.1.may in
         subst (λ (z : PlainQuery). CanPut e.machine.streams z s.operator turn.side took.1.0.item (change_at_first (operator_at z.operators s.operator) turn.side took.1.0.item) (outs_at_first (operator_at z.operators s.operator) turn.side took.1.0.item)) same
         (can.puts took.1.0.item (subst (λ (z : PlainQuery). first_item z took.1.0.item) (sym same) took.1.0.leased.first))
       where
@@ -426,7 +445,7 @@ module _ (start now : State) (s : Slot) (above : Option Slot) (rows : ℕ) (star
     -- IT GOES ON: there is something of the same instant, and the slot above is no steeper
     module _ (x : Side × ℕ) (next : next_for e2 s.query s.operator ≡ Some x) (at : x.1 ≡ s.instant) (stays : IsNoSteeper above s) (numbers : m2.next < LEASE_NUMBERS) where
       start_busy : s.is_idle ≡ false
-      start_busy = busy start s above rows start_sound start_first start_over
+      start_busy = busy r.look
 
       new_turn : told_slot e2 s ≡ with_next s (Some x)
       new_turn = ap (with_next s) next
@@ -473,7 +492,7 @@ module _ (start now : State) (s : Slot) (above : Option Slot) (rows : ℕ) (star
           (λ other. ⊎_elim
           (λ same. absurd (⊎_elim (λ d. d (ap (λ z. z.query) same)) (λ d. d (ap (λ z. z.operator) same)) other.apart))
           (λ less. inr (same_place s w x start_busy at ∙ less))
-          (behind start.slots s w start_sound.good.slots.ordered start_first other.there))
+          (behind start.slots s w r.look.sound.good.slots.ordered r.look.first other.there))
           rest)
           (told_from (slot_of (engine_in start)) start.slots s e2 above listed w here)
 
@@ -484,8 +503,10 @@ module _ (start now : State) (s : Slot) (above : Option Slot) (rows : ℕ) (star
           comes_first (told_slots e2 s above) (told_slot e2 s) sound_then.good.slots.ordered here (ap (λ z. z.is_idle) new_turn)
           (λ w i. ⊎_elim (λ same. inl (same ∙ sym new_turn)) (λ less. inr (ap (λ z. slot_cmp z w) new_turn ∙ less)) (all_behind w i))
 
-      pub runs_on : AreRunning start m2 s above rows
-      runs_on = record {
+      runs_on : (new : Slot) → new ≡ told_slot e2 s → AreRunning start m2 s above rows new
+      runs_on new is = record {
+        look = r.look;
+        turn = is;
         slots = slots_wait;
         sound = sound_then;
         first = first_then;
@@ -496,10 +517,16 @@ module _ (start now : State) (s : Slot) (above : Option Slot) (rows : ℕ) (star
         ran = more_run rows (engine_in start) (told e s above) (told e2 s above) r.ran one_ran;
       }
 
+    pub goes_again : (next : Option (Side × ℕ)) (stays : Bool) (new : Slot) → next ≡ next_for e2 s.query s.operator → GoesOn m2 s next stays → (stays ≡ true → IsNoSteeper above s) → new ≡ with_next s next
+        → AreRunning start m2 s above rows new
+    goes_again next stays new same goes flat is =
+        let with = goes_with s next goes.same in
+        runs_on with.0 (sym same ∙ with.1.0) with.1.1 (flat goes.first) goes.numbers new (is ∙ ap (with_next s) same)
+
   -- IT WAS REFUSED MEMORY before it took anything: with the slots told all is as it was told
-  module _ (m : State) (stopped : HasStoppedIn Before e turn rows (engine_in m)) (rest : GivesNothing now m) where
+  module _ {m : State} (rest : GivesNothing now m) {refused : Refused} (is_before : refused ≡ Before) (stopped : HasStoppedIn refused e went rows (engine_in m)) where
     as_before : engine_in m ≡ e
-    as_before = stopped_as e (engine_in m) turn rows p running stopped
+    as_before = stopped_as e (engine_in m) turn rows p running (stopped_turn refused Before e went turn rows (engine_in m) is_before r.turn stopped)
 
     pub may_tell_before : MayTellBoth m s above
     may_tell_before = record {
@@ -511,37 +538,47 @@ module _ (start now : State) (s : Slot) (above : Option Slot) (rows : ℕ) (star
     told_before : (new : State) → new ≡ told_state m s above → engine_in new ≡ told e s above
     told_before new is = ap engine_in is ∙ ap (λ z. told z s above) as_before
 
-    pub wanted_before : (new : State) → new ≡ told_state m s above → HasWantedBehind rows (engine_in start) (engine_in new)
-    wanted_before new is = (told e s above, (r.ran, inl (r.allowed, ap is_some r.first, told_before new is)))
+    pub wanted_before : {new : State} → new ≡ told_state m s above → HasWantedBehind rows (engine_in start) (engine_in new)
+    wanted_before {new} is = (told e s above, (r.ran, inl (r.allowed, ap is_some r.first, told_before new is)))
 
-    pub before_sound : (new : State) → new ≡ told_state m s above → IsSound new
-    before_sound new is = sound_as t new r.sound (told_before new is) (subst (GivesNothing t) (sym is) (record { undropped = rest.undropped; readers = rest.readers; leases = rest.leases }))
+    pub before_sound : {new : State} → new ≡ told_state m s above → IsSound new
+    before_sound {new} is = sound_as t new r.sound (told_before new is) (subst (GivesNothing t) (sym is) (record { undropped = rest.undropped; readers = rest.readers; leases = rest.leases }))
 
   -- or with an item in hand: its query breaks
-  module _ (m : State) (stopped : HasStoppedIn Within e turn rows (engine_in m)) (rest : GivesNothing now m) where
+  module _ {m : State} (rest : GivesNothing now m) {refused : Refused} (is_within : refused ≡ Within) (stopped : HasStoppedIn refused e went rows (engine_in m)) where
+    stopped_here : HasStoppedIn Within e turn rows (engine_in m)
+    stopped_here = stopped_turn refused Within e went turn rows (engine_in m) is_within r.turn stopped
+
     abbrev mw : State
     mw = with_slots m t.slots
 
     stopped_told : HasStoppedIn Within (engine_in t) turn rows (engine_in mw)
-    stopped_told p0 is = let h = stopped p0 is in (h.0, (h.1.0, ap (λ (z : PlainEngine). record z { slots = t.slots }) h.1.1))
+    stopped_told p0 is = let h = stopped_here p0 is in (h.0, (h.1.0, ap (λ (z : PlainEngine). record z { slots = t.slots }) h.1.1))
 
-    pub may_break : IsRunningAt (engine_in (given m now.next)) s.query
-    may_break = one.may_break t turn rows r.sound r.first r.allowed r.numbers mw stopped_told
+    pub may_break : (n : ℕ) → n ≡ s.query → IsRunningAt (engine_in (given m now.next)) n
+    may_break n sn =
+        subst (IsRunningAt (engine_in (given m now.next))) (sym sn)
+        (one.may_break t turn rows r.sound r.first r.allowed r.numbers mw stopped_told)
 
     -- with the slots of the query those that wait leave too
     slots_leave : without_query s.query m.slots ≡ without_query s.query t.slots
     slots_leave =
-        ap (without_query s.query) (ap (λ (z : PlainEngine). z.slots) (stopped p running).1.1 ∙ r.slots)
+        ap (without_query s.query) (ap (λ (z : PlainEngine). z.slots) (stopped_here p running).1.1 ∙ r.slots)
         ∙ sym (told_leave (slot_of (engine_in start)) start.slots s e above listed)
         ∙ ap (λ ss. without_query s.query (with_updates e (s ∷ option_to_list above) ss)) (sym r.slots)
 
-    module _ (new : State) (broke : IsBroken (engine_in (given m now.next)) s.query (engine_in new)) where
+    module _ (n : ℕ) (sn : n ≡ s.query) (new : State) (broke : IsBroken (engine_in (given m now.next)) n (engine_in new)) where
+      broke_here : IsBroken (engine_in (given m now.next)) s.query (engine_in new)
+      broke_here = subst (λ z. IsBroken (engine_in (given m now.next)) z (engine_in new)) sn broke
+
       broke_told : IsBroken (engine_in (given mw now.next)) s.query (engine_in new)
-      broke_told p0 is = broke p0 is ∙ ap (λ ss. record (broken (engine_in (given m now.next)) s.query p0) { slots = ss }) slots_leave
+      broke_told p0 is = broke_here p0 is ∙ ap (λ ss. record (broken (engine_in (given m now.next)) s.query p0) { slots = ss }) slots_leave
 
       pub wanted_within : HasWantedBehind rows (engine_in start) (engine_in new)
       wanted_within = (told e s above, (r.ran, one.wanted_within t turn rows r.sound r.first r.allowed r.numbers mw stopped_told new broke_told))
 
-      pub within_sound : Forgets s.query (given m now.next) new → IsSound new
-      within_sound f = one.within_sound t turn rows r.sound r.first r.allowed r.numbers mw stopped_told new broke_told
+      pub within_sound : Forgets n (given m now.next) new → IsSound new
+      within_sound forgets =
+          let f = subst (λ z. Forgets z (given m now.next) new) sn forgets in
+          one.within_sound t turn rows r.sound r.first r.allowed r.numbers mw stopped_told new broke_told
           (record { undropped = f.undropped; readers = f.readers; leases = f.leases }) (record { undropped = rest.undropped; readers = rest.readers; leases = rest.leases })

@@ -11,7 +11,11 @@ pub mod Looks
 pub mod Registering
 pub mod Leasing
 pub mod Readers
-pub mod Told
 pub mod Runs
 pub mod Queues
 pub mod Undropped
+pub mod Forgets
+pub mod Openings
+pub mod StubNeeded
+pub mod StubQueries
+pub mod Going

@@ -1,4 +1,5 @@
 -- The engine of the code as a plain value.
+use Rattle.std.specs.Arc.{arc_value}
 use Rattle.std.specs.Prelude.{ℕ, ◌≡◌, Option, Some, None, List, [], length, map, string_bytes}
 use Rattle.values.specs.Resolved.{resolved_of}
 use Rattle.turn.specs.declared.turns.Turn.{Turn}
@@ -17,17 +18,17 @@ use Rattle.leases.specs.declared.registered.Registration.{Registration}
 abbrev pub place_of : Place → machine.Place
 place_of p = record { stream = p.stream; arrivals = p.arrivals }
 
--- a registered query; none of its answers are earlier ones
+-- a registered query
 abbrev pub query_of : Registration → Registered
 query_of r = record {
   name = string_bytes r.name;
-  meaning = resolved_of r.plan.meaning;
-  nodes = nodes_of r.plan.nodes.items;
-  measures = r.plan.measures.items;
+  meaning = resolved_of (arc_value r.plan).meaning;
+  nodes = nodes_of (arc_value r.plan).nodes.items;
+  measures = (arc_value r.plan).measures.items;
   places = map place_of r.places.items;
   first = r.first;
-  start = r.first;
-  earlier = [];
+  start = r.start;
+  earlier = r.earlier;
   taken = r.taken;
   is_dropped = r.is_dropped;
 }

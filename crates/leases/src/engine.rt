@@ -1,6 +1,7 @@
 //! The engine.
 
 mod answering;
+mod forgets;
 mod looks;
 mod turns;
 

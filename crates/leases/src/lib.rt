@@ -4,12 +4,15 @@
 mod engine;
 mod leased;
 mod limits;
+mod opening;
 mod reader;
 mod registered;
 mod remains;
 mod state;
+mod stubs;
 mod undropped;
 
 pub use engine::Engine;
 pub use leased::Leased;
 pub use limits::{LEASE_NUMBERS, MAX_LEASES};
+pub use opening::Opening;

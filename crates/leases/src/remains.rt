@@ -1,10 +1,11 @@
 //! What is left of a registered query.
-ghost use Rattle.std.specs.Prelude.{◌≡◌};
-ghost use Rattle.laws_engine.specs.Engines.{Broken, Running};
+ghost use Rattle.std.specs.Prelude.{◌≡◌, IfOk};
+ghost use Rattle.laws_engine.specs.Engines.{Broken, Running, answers_in};
 ghost use Rattle.laws_queries.specs.Queries.{PlainQuery};
 ghost use Rattle.leases.specs.Views.{remains_of, waiting_in};
 
 use query_runtime::{RunningQuery, WaitingAnswers};
+use std::alloc::{AllocError, Global};
 use std::mem::replace;
 
 /// What is left of a registered query.
@@ -27,6 +28,17 @@ impl Remains {
             Remains::Running(query) => Some(query.waiting()),
             Remains::Broken(answers) => Some(answers.len()),
             Remains::Dropped => None,
+        }
+    }
+
+    /// Copies the answers that wait, at the cost of these. An error says that memory was refused.
+    pub(crate) fn waiting_copy(&self, alloc: Global) -> Result<WaitingAnswers, AllocError>
+        ensures { IfOk result (λ copy. copy ≡ answers_in (remains_of self.now)) }
+    {
+        match self {
+            Remains::Running(query) => query.copy_answers(alloc),
+            Remains::Broken(answers) => answers.copy(alloc),
+            Remains::Dropped => Ok(WaitingAnswers::new(alloc)),
         }
     }
 

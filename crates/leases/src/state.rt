@@ -3,6 +3,7 @@
 mod backs;
 mod drain;
 mod finish;
+mod forget;
 mod heartbeats;
 mod lease;
 mod looks;

@@ -8,6 +8,7 @@ pub mod PlaceLemmas
 pub mod BoundLemmas
 pub mod CursorLemmas
 pub mod TableLemmas
+pub mod MarkLemmas
 pub mod GrowthLemmas
 pub mod PartLemmas
 pub mod SignedLemmas

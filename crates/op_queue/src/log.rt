@@ -3,6 +3,8 @@ ghost use Rattle.std.specs.Prelude.{◌≡◌, ℕ, ◌+◌, ◌*◌, ◌-◌, �
 ghost use Rattle.std.specs.Prelude.{replicate, length, take, map, slice_range, get_or, nat_le};
 ghost use Rattle.std.specs.Prelude.{IfOk, OnOk, OnErr};
 ghost use Rattle.std.specs.List.{filter};
+ghost use Rattle.column.specs.Bits.{chosen};
+ghost use Rattle.values.specs.Row.{value_at};
 ghost use Rattle.op_queue.specs.Cursors.{GainsClosed};
 ghost use Rattle.op_queue.specs.Logs.{IsClosing, IsInOrder, entering, is_waiting, shown};
 ghost use Rattle.op_queue.specs.Tables.{IsLonger, IsRising, IsTableOf, KeepsFirst, arrived};
@@ -123,6 +125,50 @@ impl Log {
         self.len
     }
 
+    /// How many columns the rows have. Takes no memory.
+    pub fn width(&self) -> usize
+        ensures { result ≡ self.now.width }
+    {
+        self.columns.len()
+    }
+
+    /// The instant of each closed row. Takes no memory.
+    pub fn instants(&self) -> &[u64]
+        ensures { result.now ≡ map (λ e. e.instant) self.now.elements }
+    {
+        &self.instants[..self.len]
+    }
+
+    /// The number of each closed row in the order of arrival. Takes no memory.
+    pub fn numbers(&self) -> &[u64]
+        ensures { result.now ≡ map (λ e. e.arrival) self.now.elements }
+    {
+        &self.numbers[..self.len]
+    }
+
+    /// The values of the closed rows in a column. Takes no memory.
+    pub fn column(&self, index: usize) -> &[Value]
+        requires { index < self.now.width }
+        ensures { result.now ≡ map (λ e. value_at e.row index) self.now.elements }
+    {
+        &self.columns[index][..self.len]
+    }
+
+    /// The closed rows stay at whose places a mark is true; the others leave. Takes no memory.
+    ///
+    /// It costs the rows that are closed. The first open instant stays.
+    pub fn keep(&mut self, kept: &[bool])
+        requires { length kept.now ≡ length self.old.elements }
+        ensures elements { self.new.elements ≡ chosen kept.now self.old.elements }
+        ensures until { self.new.until ≡ self.old.until }
+        ensures width { self.new.width ≡ self.old.width }
+    {
+        keep_columns(&mut self.columns, kept);
+        keep_numbers(&mut self.numbers, kept);
+        keep_numbers(&mut self.instants, kept);
+        self.len = self.numbers.len();
+    }
+
     /// Between which places the rows of a closed instant stand that arrived at `place` or later.
     /// The search begins at the hint where the rows before that are of earlier instants.
     pub(crate) fn places(&self, hint: usize, place: u64, at: u64) -> (usize, usize)
@@ -220,6 +266,52 @@ fn count_from(numbers: &[u64], least: u64) -> usize
     ensures { result ≡ length (filter (λ number. nat_le least number) numbers.now) }
 {
     numbers.iter().filter(|number| least <= **number).count()
+}
+
+/// The values of each column stay at whose places a mark is true.
+fn keep_columns(columns: &mut Vec<Vec<Value>>, kept: &[bool])
+    requires { All (λ c. length kept.now ≤ length c) (lists columns.old.items) }
+    ensures { lists columns.new.items ≡ map (chosen kept.now) (lists columns.old.items) }
+{
+    for k in 0..columns.len() {
+        keep_values(&mut columns[k], kept);
+    }
+}
+
+/// Of the first numbers those stay at whose places a mark is true; the others leave.
+fn keep_numbers(numbers: &mut Vec<u64>, kept: &[bool])
+    requires { length kept.now ≤ length numbers.old.items }
+    ensures { numbers.new.items ≡ chosen kept.now numbers.old.items }
+{
+    numbers.truncate(kept.len());
+    let count = move_kept(numbers.as_mut_slice(), kept);
+    numbers.truncate(count);
+}
+
+/// Of the first values those stay at whose places a mark is true; the others leave.
+fn keep_values(values: &mut Vec<Value>, kept: &[bool])
+    requires { length kept.now ≤ length values.old.items }
+    ensures { values.new.items ≡ chosen kept.now values.old.items }
+{
+    values.truncate(kept.len());
+    let count = move_kept(values.as_mut_slice(), kept);
+    values.truncate(count);
+}
+
+/// Moves the items at whose places a mark is true to the front, and counts them.
+fn move_kept<T>(items: &mut [T], kept: &[bool]) -> usize
+    requires { length kept.now ≡ length items.old }
+    ensures len { length items.new ≡ length items.old }
+    ensures kept { take result items.new ≡ chosen kept.now items.old }
+{
+    let mut count = 0;
+    for place in 0..kept.len() {
+        if kept[place] {
+            items.swap(count, place);
+            count += 1;
+        }
+    }
+    count
 }
 
 /// Writes the rows behind the first `len` of each list.

@@ -1,5 +1,5 @@
 -- What operators hold, as plain values: the excerpt that an item needs of it, and what is held after a turn.
-use Rattle.std.specs.Prelude.{ℕ, ◌≡◌, Bool, true, false, not, List, []}
+use Rattle.std.specs.Prelude.{ℕ, ◌≡◌, Bool, true, false, not, List, [], Option, None}
 use Rattle.values.specs.Row.{Row}
 use Rattle.column.specs.declared.batch.Side.{Side}
 use Rattle.column.specs.declared.batch.Side.TheVariants.{Left, Right}
@@ -24,6 +24,16 @@ use Rattle.turn.specs.declared.outcomes.Change.{Change}
 use Rattle.turn.specs.declared.outcomes.Change.TheVariants as change
 use Rattle.operators.specs.declared.states.State.{State}
 use Rattle.operators.specs.declared.states.State.TheVariants.{Range, Slide, Latest, Nothing, Join, Groups, Root}
+
+-- the instant of the last tick that a root took
+abbrev pub last_in : State → Option ℕ
+last_in (Range s) = None
+last_in (Slide s) = None
+last_in (Latest s) = None
+last_in Nothing = None
+last_in (Join s) = None
+last_in (Groups s) = None
+last_in (Root s) = s.last
 
 -- WHICH SIDE CAN BE USED
 -- an operator with one input uses the left side, a join any side that has not ticked in its current instant

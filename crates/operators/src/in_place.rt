@@ -3,7 +3,6 @@ ghost use Rattle.std.specs.Prelude.{◌≡◌, ◌++◌, OnErr, OnOk};
 ghost use Rattle.op_queue.specs.Entries.{IsForward};
 ghost use Rattle.op_queue.specs.Queues.{HasGained};
 ghost use Rattle.to_stream.specs.Turns as roots;
-ghost use Rattle.to_stream.specs.Turns.{answers_of};
 ghost use Rattle.turn.specs.Turns.{FitsRange, FitsLatest, FitsSlide};
 ghost use Rattle.turn.specs.declared.excerpts.Near.TheVariants as nears;
 ghost use Rattle.operators.specs.InPlace.{HasQueued, HaveCome, IsAfterItem, MayAnswer};
@@ -20,12 +19,11 @@ use crate::inboxes::Inbox;
 use crate::states::State;
 use column::Side;
 use op_queue::{Item, Queue};
+use row_bags::DatedRows;
 use row_nodes::{run_project, run_select};
 use std::alloc::{AllocError, Global};
-use std::collections::VecDeque;
 use to_stream::ToStream;
 use turn::Kind;
-use values::Row;
 use windows::{LatestWindow, RangeWindow, SlideWindow};
 
 impl State {
@@ -81,17 +79,12 @@ impl State {
 
     /// Takes an item at a root. What the turn answers goes behind the answers that wait; these are
     /// as they were after an error, and the state can only be dropped then.
-    pub(crate) fn answer(
-        &mut self,
-        item: &Item,
-        answers: &mut VecDeque<(u64, Row)>,
-    ) -> Result<(), AllocError>
+    pub(crate) fn answer(&mut self, item: &Item, answers: &mut DatedRows) -> Result<(), AllocError>
         requires { MayAnswer self.old item.now }
         ensures next { OnOk result (self.new ≡ after_answers self.old item.now) }
-        ensures given { OnOk result (answers_of answers.new.items
-            ≡ answers_of answers.old.items ++ answers_from self.old item.now) }
-        ensures answers { OnErr result
-            (answers_of answers.new.items ≡ answers_of answers.old.items) }
+        ensures given { OnOk result (answers.new
+            ≡ answers.old ++ answers_from self.old item.now) }
+        ensures answers { OnErr result (answers.new ≡ answers.old) }
     {
         match self {
             State::Root(root) => run_root(root, item, answers),
@@ -100,17 +93,12 @@ impl State {
     }
 }
 
-fn run_root(
-    root: &mut ToStream,
-    item: &Item,
-    answers: &mut VecDeque<(u64, Row)>,
-) -> Result<(), AllocError>
+fn run_root(root: &mut ToStream, item: &Item, answers: &mut DatedRows) -> Result<(), AllocError>
     requires { roots.HasRoom root.old item.now }
     ensures next { OnOk result (root.new ≡ roots.next root.old item.now) }
-    ensures given { OnOk result (answers_of answers.new.items
-        ≡ answers_of answers.old.items ++ roots.out item.now (roots.near root.old item.now)) }
-    ensures answers { OnErr result
-        (answers_of answers.new.items ≡ answers_of answers.old.items) }
+    ensures given { OnOk result (answers.new
+        ≡ answers.old ++ roots.out item.now (roots.near root.old item.now)) }
+    ensures answers { OnErr result (answers.new ≡ answers.old) }
 {
     root.run(item, answers)
 }

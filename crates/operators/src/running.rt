@@ -4,7 +4,6 @@ ghost use Rattle.std.specs.Prelude.{OnOk};
 ghost use Rattle.std.specs.Arc.{arc_value};
 ghost use Rattle.op_queue.specs.Entries.{IsForward};
 ghost use Rattle.op_queue.specs.Items.{IsFrontPart, entries_of};
-ghost use Rattle.to_stream.specs.Turns.{answers_of};
 ghost use Rattle.turn.specs.Turns.{FitsKind};
 ghost use Rattle.operators.specs.InPlace.{HasTaken, IsAfterItem, KeepsInboxes, MayAnswer};
 ghost use Rattle.operators.specs.InPlace.{MayTake, after_answers, answers_from, outs_from};
@@ -15,19 +14,18 @@ ghost use Rattle.operators.specs.Operators.{KeepsBatches, inbox_of, other, ready
 ghost use Rattle.operators.specs.Operators.{ready_at, waiting};
 ghost use Rattle.operators.specs.Runs.{HasPutTo, MayPut, is_root};
 ghost use Rattle.operators.specs.States.{FitsState, HasColumns, IsNext, Takes, near_of};
-ghost use Rattle.operators.specs.States.{usable};
+ghost use Rattle.operators.specs.States.{last_in, usable};
 ghost use Rattle.operators.specs.declared.inboxes.Inbox.TheVariants.{Between};
 
 use crate::inboxes::Inbox;
 use crate::states::State;
 use column::Side;
 use op_queue::{Item, Log, Queue};
+use row_bags::DatedRows;
 use std::alloc::{AllocError, Global};
-use std::collections::VecDeque;
 use std::marker::Model;
 use std::sync::Arc;
 use turn::{Change, Kind, Near};
-use values::Row;
 
 /// An operator of a running query: what it does, what it holds, and what waits for it.
 ///
@@ -88,6 +86,14 @@ impl Operator {
         ensures { result ≡ is_root self.now.kind }
     {
         matches!(&*self.kind, Kind::ToStream)
+    }
+
+    /// The instant of the last tick that it took as a root; `None` before the first, and of any
+    /// other operator.
+    pub fn last_tick(&self) -> Option<u64>
+        ensures { result ≡ last_in self.now.state }
+    {
+        self.state.last_tick()
     }
 
     /// Whether the side can be used now, if anything waits there.
@@ -230,15 +236,14 @@ impl Operator {
     pub(crate) fn answer_item(
         &mut self,
         item: &Item,
-        answers: &mut VecDeque<(u64, Row)>,
+        answers: &mut DatedRows,
     ) -> Result<(), AllocError>
         requires { MayAnswer self.old.state item.now }
         ensures keeps { KeepsInboxes self.old self.new }
         ensures next { OnOk result (self.new.state ≡ after_answers self.old.state item.now) }
-        ensures given { OnOk result (answers_of answers.new.items
-            ≡ answers_of answers.old.items ++ answers_from self.old.state item.now) }
-        ensures answers { OnErr result
-            (answers_of answers.new.items ≡ answers_of answers.old.items) }
+        ensures given { OnOk result (answers.new
+            ≡ answers.old ++ answers_from self.old.state item.now) }
+        ensures answers { OnErr result (answers.new ≡ answers.old) }
     {
         self.state.answer(item, answers)
     }

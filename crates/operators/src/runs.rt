@@ -1,15 +1,13 @@
 //! Turns that operators run in place.
 ghost use Rattle.std.specs.Prelude.{◌≡◌, IfErr, OnErr, OnOk};
-ghost use Rattle.to_stream.specs.Turns.{answers_of};
 ghost use Rattle.operators.specs.Runs.{GivesFirst, HasItem, HasRunBelow, HasRunRoot};
 ghost use Rattle.operators.specs.Runs.{MayPutFirst, MayRun, Stops};
 
 use crate::running::Operator;
 use column::Side;
 use op_queue::Log;
+use row_bags::DatedRows;
 use std::alloc::{AllocError, Global};
-use std::collections::VecDeque;
-use values::Row;
 
 /// Where a run was when memory was refused.
 #[derive(Clone, Copy, PartialEq, Eq, Debug)]
@@ -58,17 +56,16 @@ impl Operator {
         log: &Log,
         side: Side,
         rows: usize,
-        answers: &mut VecDeque<(u64, Row)>,
+        answers: &mut DatedRows,
     ) -> Result<(), Refused>
         requires may { MayRun self.old log.now side rows }
         requires gives { GivesFirst self.old log.now side rows }
         ensures ok { OnOk result
-            (HasRunRoot self.old log.now side rows (answers_of answers.old.items) self.new
-            (answers_of answers.new.items)) }
+            (HasRunRoot self.old log.now side rows answers.old self.new
+            answers.new) }
         ensures err { IfErr result (λ refused. Stops refused
             (self.new ≡ self.old) (HasItem self.old log.now side rows)) }
-        ensures answers { OnErr result
-            (answers_of answers.new.items ≡ answers_of answers.old.items) }
+        ensures answers { OnErr result (answers.new ≡ answers.old) }
     {
         let Ok(item) = self.take(alloc, log, side, rows) else {
             return Err(Refused::Before);

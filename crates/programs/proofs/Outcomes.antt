@@ -7,7 +7,9 @@ use Rattle.std.proofs.lemmas.Bool.{false≢true}
 use Rattle.clap.specs.Words.{Kinds, Text, HasKind, IsAmong, kind_of}
 use Rattle.clap.specs.declared.error.Error.{Error}
 use Rattle.clap.specs.declared.error.kind.ErrorKind.TheVariants.{DisplayHelp, DisplayVersion, OutOfMemory}
+use Rattle.reference.specs.Machine.{Machine}
 use Rattle.reference.specs.World.{World}
+use Rattle.reference.proofs.AlikeLemmas.{world_itself}
 use Rattle.wire.specs.Calls.{Call}
 use Rattle.wire.specs.Requests.{requests_of}
 use Rattle.wire.specs.declared.request.WireFault.{WireFault}
@@ -45,7 +47,7 @@ runs_stands N first now source old new s text held is told =
 pub leads_nowhere : (N : Type 0) (w : World) (status : ℕ) (source old : Option (List ℕ)) → status ≡ 3 → Leads N w w status source old old
 leads_nowhere N w status source old is = (
   λ none. absurd (cc),
-  λ text held is told. ([], told ∙ ap Some (sym (append_nothing held)), ([], requests_of text, [], refl, (refl, refl))),
+  λ text held is told. ([], told ∙ ap Some (sym (append_nothing held)), ([], requests_of text, [], refl, (refl, world_itself w))),
 )
 
 -- nothing was written
@@ -111,11 +113,11 @@ only_seat seats (r ∷ q ∷ qs) seat all split =
     absurd (cc)
 
 -- put back, and compared with the history
-pub is_alone : (entries : List Entry) (seats rest : List PlainSeat) (count : ℕ) (seat : PlainSeat) → rest ≡ [] → seats ≡ rest ++ seat ∷ [] → count ≡ 1
-    → IsLegal entries × IsAudited seats count entries → IsAlone seat
-is_alone entries seats rest count seat none pushed one closed =
+pub is_alone : (opening : Machine) (first : ℕ) (entries : List Entry) (seats rest : List PlainSeat) (count : ℕ) (seat : PlainSeat) → rest ≡ [] → seats ≡ rest ++ seat ∷ [] → count ≡ 1
+    → IsLegal opening entries → IsAudited seats count first entries → IsAlone seat
+is_alone opening first entries seats rest count seat none pushed one legal audited =
     let all : seats ≡ seat ∷ [] = pushed ∙ ap (λ (r : List PlainSeat). r ++ seat ∷ []) none in
-    (entries, closed.0, subst (λ (l : List PlainSeat). IsAudited l 1 entries) all (subst (λ n. IsAudited seats n entries) one closed.1))
+    (opening, first, entries, legal, subst (λ (l : List PlainSeat). IsAudited l 1 first entries) all (subst (λ n. IsAudited seats n first entries) one audited))
 
 some_same : (x y : ℕ) → Some x ≡ Some y → x ≡ y
 some_same x y e = cc

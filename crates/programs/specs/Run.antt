@@ -2,6 +2,7 @@
 use Rattle.std.specs.Prelude.{◌≡◌, ◌≢◌, ℕ, List, [], ◌∷◌, Option, None, ◌⊎◌, codes}
 use Rattle.clap.specs.Words.{Kinds, IsAmong, Text}
 use Rattle.clap.specs.declared.error.kind.ErrorKind.TheVariants.{DisplayHelp, DisplayVersion}
+use Rattle.reference.specs.Machine.{Machine}
 use Rattle.reference.specs.World.{World}
 use Rattle.wire.specs.Devices.{Rises}
 use Rattle.wire.specs.Requests.{requests_of}
@@ -34,9 +35,9 @@ Leads wanted first now status source old new =
     (status ≡ 0 → Scripts (λ text written. Runs wanted first (requests_of text) written now) source old new)
     × Scripts (λ text written. Stands wanted first (requests_of text) written now) source old new
 
--- The receipts of the only seat are the entries of a legal history, each once and in order.
+-- The receipts of the only seat are the entries of a legal history, each once and in order, from its opening on; of those before it the numbers are there.
 abbrev pub IsAlone : PlainSeat → Type 0
-IsAlone seat = (entries : List Entry) × IsLegal entries × IsAudited (seat ∷ []) 1 entries
+IsAlone seat = (opening : Machine) × (first : ℕ) × (entries : List Entry) × IsLegal opening entries × IsAudited (seat ∷ []) 1 first entries
 
 -- At the status 0 the sink took what the only seat of a hub is answered by steps of it, one line a request, and its receipts
 -- are then a legal history; else it took a beginning of such answers. `drains` says what a drain may be answered.

@@ -1,3 +1,4 @@
 pub mod LeaseLemmas
 pub mod RunLemmas
 pub mod InPlaceLemmas
+pub mod WaitingLemmas

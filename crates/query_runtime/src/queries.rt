@@ -1,15 +1,15 @@
 //! Running queries.
-ghost use Rattle.std.specs.Prelude.{◌≡◌, ◌<◌, [], false, true, length, All, IfErr, IfOk, OnOk};
-ghost use Rattle.std.specs.Prelude.{OnErr};
+ghost use Rattle.std.specs.Prelude.{◌≡◌, ◌<◌, ◌-◌, [], false, true, length, All, IfErr, IfOk};
+ghost use Rattle.std.specs.Prelude.{OnErr, OnOk};
 ghost use Rattle.std.specs.Arc.{arc_value};
 ghost use Rattle.op_queue.specs.Items.{entries_of};
 ghost use Rattle.turn.specs.Turns.{outs_in};
 ghost use Rattle.operators.specs.Inboxes.{all_entries};
 ghost use Rattle.operators.specs.Operators.{KeepsBatches, ready, waiting};
 ghost use Rattle.operators.specs.Runs.{Stops, is_root};
+ghost use Rattle.operators.specs.States.{last_in};
 ghost use Rattle.column.specs.declared.batch.Side.TheVariants.{Left, Right};
 ghost use Rattle.physical_plans.specs.Beginnings.{HaveNarrowRows, IsMakeable, widths_of};
-ghost use Rattle.to_stream.specs.Turns.{answers_of};
 ghost use Rattle.reference.specs.CallViews.{handed_of};
 ghost use Rattle.reference.specs.Inputs.{are_signed};
 ghost use Rattle.reference.specs.World.{handed};
@@ -28,6 +28,7 @@ use op_queue::{Item, Log};
 use operators::{Operator, Refused};
 use physical_plans::{Wire, operators_of, wires};
 use plan::Plan;
+use row_bags::DatedRows;
 use std::alloc::{AllocError, Global};
 use std::marker::Model;
 use std::sync::Arc;
@@ -95,6 +96,15 @@ impl RunningQuery {
         ensures { result ≡ length self.now.operators }
     {
         self.operators.len()
+    }
+
+    /// The instant of the last tick that its root took; `None` before the first.
+    pub fn last_tick(&self) -> Option<u64>
+        requires { 0 < length self.now.operators }
+        ensures { result
+            ≡ last_in (operator_at self.now.operators (length self.now.operators - 1)).state }
+    {
+        self.operator(self.operators.len() - 1).last_tick()
     }
 
     /// How many answers wait to be taken.
@@ -240,6 +250,13 @@ impl RunningQuery {
         self.answers.take(alloc, limit)
     }
 
+    /// Copies the answers that wait, at the cost of these. An error says that memory was refused.
+    pub fn copy_answers(&self, alloc: Global) -> Result<WaitingAnswers, AllocError>
+        ensures { IfOk result (λ copy. copy ≡ self.now.answers) }
+    {
+        self.answers.copy(alloc)
+    }
+
     /// Gives up its operators with what waits for them: the answers are left. Takes no memory.
     pub fn into_answers(self) -> WaitingAnswers
         ensures { result ≡ self.answers }
@@ -313,7 +330,7 @@ impl RunningQuery {
         side: Side,
         item: &Item,
         change: &Change,
-        answers: Vec<(u64, Row)>,
+        answers: DatedRows,
     ) -> Result<(), AllocError>
         requires here { HasOperator streams.now self.old operator }
         requires may { CanFinish (operator_at self.old.operators operator)
@@ -321,7 +338,7 @@ impl RunningQuery {
         ensures finished { OnOk result
             (HasFinished streams.now self.old operator side item.now change.now self.new) }
         ensures answered { OnOk result
-            (HasAnswered self.old operator (answers_of answers.items) self.new) }
+            (HasAnswered self.old operator answers self.new) }
         ensures err { OnErr result (self.new.answers ≡ self.old.answers) }
     {
         let log = self.log(streams, operator);

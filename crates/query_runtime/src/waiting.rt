@@ -1,7 +1,7 @@
 //! Answers that wait to be taken.
-ghost use Rattle.std.specs.Prelude.{◌≡◌, ◌++◌, [], true, length, IfErr, IfOk, OnErr, OnOk};
+ghost use Rattle.std.specs.Prelude.{◌≡◌, ◌≤◌, ◌+◌, ◌++◌, [], true, length, take, drop};
+ghost use Rattle.std.specs.Prelude.{IfErr, IfOk, OnErr, OnOk, vec_len, vec_capacity};
 ghost use Rattle.operators.specs.Runs.{GivesFirst, HasItem, HasRunRoot, MayRun, Stops};
-ghost use Rattle.to_stream.specs.Turns.{answers_of};
 ghost use Rattle.reference.specs.CallViews.{handed_of};
 ghost use Rattle.reference.specs.Inputs.{are_signed};
 ghost use Rattle.reference.specs.World.{handed};
@@ -10,9 +10,8 @@ ghost use Rattle.query_runtime.specs.Turns.{left_behind, taken};
 use column::Side;
 use op_queue::Log;
 use operators::{Operator, Refused};
-use reference::move_front;
+use row_bags::DatedRows;
 use std::alloc::{AllocError, Global};
-use std::collections::VecDeque;
 use std::marker::Model;
 use values::Row;
 
@@ -20,27 +19,35 @@ use values::Row;
 #[derive(Drop)]
 pub struct WaitingAnswers {
     /// The answers, each with its instant; the first to be taken stands in front.
-    answers: VecDeque<(u64, Row)>,
+    answers: DatedRows,
 }
 
 impl Model for WaitingAnswers {
     ghost use Rattle.std.specs.Prelude.{ℕ, List};
     ghost use Rattle.values.specs.Row.{Row as PlainRow};
-    ghost use Rattle.to_stream.specs.Turns.{answers_of};
 
     ghost Value = { List (ℕ × PlainRow) };
 
-    ghost view = { λ a. answers_of a.answers.items };
+    ghost view = { λ a. a.answers };
 }
 
 impl WaitingAnswers {
     /// Makes a queue of no answers. Takes no memory.
-    pub(crate) fn new(alloc: Global) -> WaitingAnswers
+    pub fn new(alloc: Global) -> WaitingAnswers
         ensures { result ≡ [] }
     {
         WaitingAnswers {
-            answers: VecDeque::new(alloc),
+            answers: DatedRows::new(alloc),
         }
+    }
+
+    /// Copies the answers, at the cost of these. An error says that memory was refused.
+    pub fn copy(&self, alloc: Global) -> Result<WaitingAnswers, AllocError>
+        ensures { IfOk result (λ copy. copy ≡ self.now) }
+    {
+        Ok(WaitingAnswers {
+            answers: self.answers.copy(alloc)?,
+        })
     }
 
     /// Counts the answers.
@@ -51,12 +58,11 @@ impl WaitingAnswers {
     }
 
     /// Adds answers behind the others. Where memory is refused it is as it was.
-    pub(crate) fn add(&mut self, answers: Vec<(u64, Row)>) -> Result<(), AllocError>
-        ensures ok { OnOk result (self.new ≡ self.old ++ answers_of answers.items) }
+    pub(crate) fn add(&mut self, answers: DatedRows) -> Result<(), AllocError>
+        ensures ok { OnOk result (self.new ≡ self.old ++ answers) }
         ensures err { OnErr result (self.new ≡ self.old) }
     {
-        let mut answers = VecDeque::from_vec(answers);
-        self.answers.append(&mut answers)
+        self.answers.append(answers)
     }
 
     /// A root runs a turn, and what that answers goes behind the others. These are as they were
@@ -93,5 +99,22 @@ impl WaitingAnswers {
         let mut rows = Vec::with_capacity(alloc, count)?;
         move_front(&mut self.answers, &mut rows, count);
         Ok(rows)
+    }
+}
+
+/// Moves the first `count` answers behind the rows, which have room for them.
+fn move_front(answers: &mut DatedRows, rows: &mut Vec<(i64, Row)>, count: usize)
+    requires enough { count ≤ length answers.old }
+    requires room { vec_len rows.old + count ≤ vec_capacity rows.old }
+    requires instants { are_signed answers.old ≡ true }
+    ensures rows { handed_of rows.new.items
+        ≡ handed_of rows.old.items ++ handed (take count answers.old) }
+    ensures rest { answers.new ≡ drop count answers.old }
+{
+    for _ in 0..count {
+        match answers.pop_front() {
+            Some((at, row)) => rows.push_reserved((at as i64, row)),
+            None => unreachable!(),
+        }
     }
 }

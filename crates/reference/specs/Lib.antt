@@ -21,3 +21,5 @@ pub mod Finds
 pub mod MachineExamples
 pub mod Opening
 pub mod OpeningExamples
+pub mod Alike
+pub mod AlikeExamples

@@ -11,6 +11,7 @@ pub mod ListLaws
 pub mod ListLemmas
 pub mod BeyondLaws
 pub mod PileLemmas
+pub mod DatedLemmas
 pub mod KeyLemmas
 pub mod CountLemmas
 pub mod FormLemmas

@@ -1,15 +1,13 @@
 -- Rows as they came: one row more, the two piles in order, and a walk over them.
-use Rattle.std.proofs.Common.{◌≡◌, ℕ, suc, ◌+◌, ◌<◌, Bool, true, false, cond, not, List, [], ◌∷◌, ◌++◌, map, length, drop, get_or, refl, ap, ap₂, sym, ◌∙◌, arith, append_assoc}
+use Rattle.std.proofs.Common.{◌≡◌, ℕ, suc, ◌+◌, ◌<◌, Bool, true, false, cond, not, List, [], ◌∷◌, ◌++◌, length, drop, get_or, refl, ap, ap₂, sym, ◌∙◌, arith}
 use Rattle.std.proofs.Math.Seq.{drop-cons}
-use Rattle.std.proofs.lemmas.List.{drop-drop, map-append}
+use Rattle.std.proofs.lemmas.List.{drop-drop}
 use Rattle.values.specs.Row.{Row, row_cmp}
 use Rattle.values.specs.Bag.{is_above, in_order}
 use Rattle.values.proofs.Order.{row_order}
 use Rattle.row_bags.specs.Deltas.{delta_of, delta_between, delta_after}
 use Rattle.row_bags.specs.Lists.{is_first, not_below, beyond}
-use Rattle.row_bags.specs.Piles.{dated}
 use Rattle.row_bags.proofs.DeltaLaws.{by_counts, cancels, delta-entered, both}
-use Rattle.row_bags.proofs.FrontLemmas.{Array}
 use Rattle.row_bags.proofs.ListLaws.{count, minus, count-append}
 use Rattle.row_bags.proofs.OrderLemmas.{copies-in_order}
 use Rattle.values.proofs.Bags.{copies-bag_minus}
@@ -66,13 +64,6 @@ not_below-passes x y rest h = rw h
 
 pub not_below-stops : (x y : Row) (rest : List Row) → is_above row_cmp x y ≡ false → not_below x (y ∷ rest) ≡ y ∷ rest
 not_below-stops x y rest h = rw h
-
--- a row with its instant comes behind the answers
-pub dated-behind : (at : ℕ) (olds news : List (ℕ × Array)) (row : Array) (rest : List Row) → news ≡ olds ++ (at, row) ∷ [] → dated news ++ map (λ r. (at, r)) rest ≡ dated olds ++ map (λ r. (at, r)) (row.items ∷ rest)
-dated-behind at olds news row rest n =
-    ap (λ (es : List (ℕ × Array)). dated es ++ map (λ r. (at, r)) rest) n
-    ∙ ap (λ (es : List (ℕ × Row)). es ++ map (λ r. (at, r)) rest) (map-append (λ (e : ℕ × Array). (e.0, e.1.items)) olds ((at, row) ∷ []))
-    ∙ append_assoc (dated olds) ((at, row.items) ∷ []) (map (λ r. (at, r)) rest)
 
 -- the sign of a row, by whether it leaves
 pub leaving : (b : Bool) → not b ≡ true → b ≡ false

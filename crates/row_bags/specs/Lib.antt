@@ -2,6 +2,7 @@ pub mod Bags
 pub mod Deltas
 pub mod Rooms
 pub mod Piles
+pub mod Dated
 pub mod Lists
 pub mod Examples
 pub mod Keys

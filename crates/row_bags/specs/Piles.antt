@@ -1,6 +1,5 @@
--- Rows as they came, and with an instant each.
-use Rattle.std.specs.Prelude.{ℕ, ℤ, ◌<◌, Option, List, map}
-use Rattle.arrayvec.specs.ArrayVec.{ArrayVec}
+-- Rows as they came.
+use Rattle.std.specs.Prelude.{ℕ, ◌<◌, List}
 use Rattle.values.specs.declared.TheConstants.{MAX_COLUMNS}
 use Rattle.values.specs.Row.{Row}
 use Rattle.row_bags.specs.Bags.{rows_of}
@@ -26,7 +25,3 @@ pile_room (code.Widest rows) = MAX_COLUMNS
 -- the second has more room, where there is more
 abbrev pub IsWiderPile : Pile → Pile → Type 0
 IsWiderPile p w = pile_room p < MAX_COLUMNS → pile_room p < pile_room w
-
--- rows with their instants, without the array that holds each row
-abbrev pub dated : List (ℕ × ArrayVec (Option ℤ)) → List (ℕ × Row)
-dated es = map (λ e. (e.0, e.1.items)) es

@@ -7,14 +7,14 @@ ghost use Rattle.values.specs.Bag.{bag_minus, in_order};
 ghost use Rattle.row_bags.specs.Bags.{rows_of};
 ghost use Rattle.row_bags.specs.Deltas.{delta_after, deltas_after};
 ghost use Rattle.row_bags.specs.Lists.{renewed};
-ghost use Rattle.row_bags.specs.Piles.{pile_in, pile_room, dated};
+ghost use Rattle.row_bags.specs.Piles.{pile_in, pile_room};
 
+use crate::dated_rows::DatedRows;
 use crate::difference::{push_beyond, rows_beyond};
 use crate::pile::Pile;
 use crate::row_list::RowList;
 use column::{Batch, SignedRow};
 use std::alloc::{AllocError, Global};
-use std::collections::VecDeque;
 use std::marker::Model;
 use values::Row;
 
@@ -100,14 +100,10 @@ impl Delta {
 
     /// Pushes what entered behind the answers, in order, each row with the instant. An error says
     /// that memory was refused; the answers are as they were.
-    pub fn push_entered(
-        &mut self,
-        at: u64,
-        answers: &mut VecDeque<(u64, Row)>,
-    ) -> Result<(), AllocError>
-        ensures ok { OnOk result (dated answers.new.items
-            ≡ dated answers.old.items ++ map (λ r. (at, r)) self.old.entered) }
-        ensures err { OnErr result (answers.new.items ≡ answers.old.items) }
+    pub fn push_entered(&mut self, at: u64, answers: &mut DatedRows) -> Result<(), AllocError>
+        ensures ok { OnOk result (answers.new
+            ≡ answers.old ++ map (λ r. (at, r)) self.old.entered) }
+        ensures err { OnErr result (answers.new ≡ answers.old) }
         ensures stays { self.new ≡ self.old }
     {
         push_difference(answers, at, &mut self.entered, &mut self.left)
@@ -115,14 +111,10 @@ impl Delta {
 
     /// Pushes what left behind the answers, in order, each row with the instant. An error says that
     /// memory was refused; the answers are as they were.
-    pub fn push_left(
-        &mut self,
-        at: u64,
-        answers: &mut VecDeque<(u64, Row)>,
-    ) -> Result<(), AllocError>
-        ensures ok { OnOk result (dated answers.new.items
-            ≡ dated answers.old.items ++ map (λ r. (at, r)) self.old.left) }
-        ensures err { OnErr result (answers.new.items ≡ answers.old.items) }
+    pub fn push_left(&mut self, at: u64, answers: &mut DatedRows) -> Result<(), AllocError>
+        ensures ok { OnOk result (answers.new
+            ≡ answers.old ++ map (λ r. (at, r)) self.old.left) }
+        ensures err { OnErr result (answers.new ≡ answers.old) }
         ensures stays { self.new ≡ self.old }
     {
         push_difference(answers, at, &mut self.left, &mut self.entered)
@@ -213,22 +205,27 @@ fn difference(alloc: Global, rows: &Pile, others: &Pile) -> Result<Vec<Row>, All
 /// Pushes the rows of the first bag without those of the second behind the answers, in order. Both
 /// come in order by it.
 fn push_difference(
-    answers: &mut VecDeque<(u64, Row)>,
+    answers: &mut DatedRows,
     at: u64,
     rows: &mut Pile,
     others: &mut Pile,
 ) -> Result<(), AllocError>
-    ensures ok { OnOk result (dated answers.new.items
-        ≡ dated answers.old.items
+    ensures ok { OnOk result (answers.new
+        ≡ answers.old
         ++ map (λ r. (at, r))
         (in_order row_cmp (bag_minus row_cmp (pile_in rows.old) (pile_in others.old)))) }
-    ensures err { OnErr result (answers.new.items ≡ answers.old.items) }
+    ensures err { OnErr result (answers.new ≡ answers.old) }
     ensures rows { pile_in rows.new ≡ in_order row_cmp (pile_in rows.old) }
     ensures others { pile_in others.new ≡ in_order row_cmp (pile_in others.old) }
 {
     rows.sort();
     others.sort();
-    answers.reserve(rows.len())?;
-    push_beyond(answers, at, rows, others);
-    Ok(())
+    let count = answers.len();
+    match push_beyond(answers, at, rows, others) {
+        Ok(()) => Ok(()),
+        Err(refused) => {
+            answers.keep_first(count);
+            Err(refused)
+        },
+    }
 }

@@ -1,14 +1,14 @@
 //! The difference of two piles in order, by one walk over both.
-ghost use Rattle.std.specs.Prelude.{◌≡◌, ◌≤◌, ◌<◌, ◌+◌, ◌++◌, length, drop, map, IfOk, IsTrue};
-ghost use Rattle.std.specs.VecDeque.{deque_len, deque_capacity};
+ghost use Rattle.std.specs.Prelude.{◌≡◌, ◌≤◌, ◌<◌, ◌++◌, length, drop, map, take, IfOk, IsTrue};
+ghost use Rattle.std.specs.Prelude.{OnErr, OnOk};
 ghost use Rattle.row_bags.specs.Bags.{rows_of};
 ghost use Rattle.row_bags.specs.Lists.{AreWithin, is_first, not_below, beyond, beyond_from};
-ghost use Rattle.row_bags.specs.Piles.{pile_in, dated};
+ghost use Rattle.row_bags.specs.Piles.{pile_in};
 
+use crate::dated_rows::DatedRows;
 use crate::pile::Pile;
 use crate::row_list::row_of;
 use std::alloc::{AllocError, Global};
-use std::collections::VecDeque;
 use values::{Row, Value};
 
 /// The rows of the first pile beyond those of the second, both in order.
@@ -30,12 +30,17 @@ pub(crate) fn rows_beyond(alloc: Global, rows: &Pile, others: &Pile) -> Result<V
     Ok(result)
 }
 
-/// Pushes the rows of the first pile beyond those of the second, both in order, behind answers that
-/// have room for all of the first.
-pub(crate) fn push_beyond(answers: &mut VecDeque<(u64, Row)>, at: u64, rows: &Pile, others: &Pile)
-    requires { deque_len answers.old + length (pile_in rows.now) ≤ deque_capacity answers.old }
-    ensures { dated answers.new.items ≡ dated answers.old.items
-        ++ map (λ r. (at, r)) (beyond (pile_in rows.now) (pile_in others.now)) }
+/// Pushes the rows of the first pile beyond those of the second, both in order, behind the answers.
+/// After an error some may stand there.
+pub(crate) fn push_beyond(
+    answers: &mut DatedRows,
+    at: u64,
+    rows: &Pile,
+    others: &Pile,
+) -> Result<(), AllocError>
+    ensures ok { OnOk result (answers.new ≡ answers.old
+        ++ map (λ r. (at, r)) (beyond (pile_in rows.now) (pile_in others.now))) }
+    ensures err { OnErr result (take (length answers.old) answers.new ≡ answers.old) }
 {
     let mut other = 0;
     for place in 0..rows.len() {
@@ -45,8 +50,9 @@ pub(crate) fn push_beyond(answers: &mut VecDeque<(u64, Row)>, at: u64, rows: &Pi
             other += 1;
             continue;
         }
-        answers.push_back_reserved((at, row_of(values)));
+        answers.push(at, values)?;
     }
+    Ok(())
 }
 
 /// The place of the first of the rows from `start` on that stands beyond the others from `other`

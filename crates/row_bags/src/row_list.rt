@@ -1,17 +1,16 @@
 //! Rows in a list.
-ghost use Rattle.std.specs.Prelude.{◌≡◌, ◌≤◌, ◌+◌, ◌++◌, ◌∷◌, [], length, drop, map};
+ghost use Rattle.std.specs.Prelude.{◌≡◌, ◌≤◌, ◌++◌, ◌∷◌, [], length, drop, map, take};
 ghost use Rattle.std.specs.Prelude.{IfOk, OnErr, OnOk};
-ghost use Rattle.std.specs.VecDeque.{deque_len, deque_capacity};
 ghost use Rattle.row_bags.specs.Bags.{rows_of};
 ghost use Rattle.row_bags.specs.Lists.{AreWithin, beyond, beyond_from, is_first, staying, up_to};
 ghost use Rattle.row_bags.specs.Lists.{past, merged, renewed};
-ghost use Rattle.row_bags.specs.Piles.{pile_in, dated};
+ghost use Rattle.row_bags.specs.Piles.{pile_in};
 
+use crate::dated_rows::DatedRows;
 use crate::delta::Delta;
 use crate::difference::{next_beyond, stands_at};
 use crate::pile::Pile;
 use std::alloc::{AllocError, Global};
-use std::collections::VecDeque;
 use std::marker::Model;
 use values::{MAX_COLUMNS, Row, Value, compare_rows, copy_row, same_rows};
 
@@ -83,18 +82,17 @@ impl RowList {
         alloc: Global,
         delta: &mut Delta,
         at: u64,
-        answers: &mut VecDeque<(u64, Row)>,
+        answers: &mut DatedRows,
     ) -> Result<(), AllocError>
-        ensures answers { OnOk result (dated answers.new.items
-            ≡ dated answers.old.items ++ map (λ r. (at, r)) (renewed self.old delta.old)) }
+        ensures answers { OnOk result (answers.new
+            ≡ answers.old ++ map (λ r. (at, r)) (renewed self.old delta.old)) }
         ensures ok { OnOk result (self.new ≡ renewed self.old delta.old) }
         ensures err { OnErr result (self.new ≡ self.old) }
-        ensures same { OnErr result (answers.new.items ≡ answers.old.items) }
+        ensures same { OnErr result (answers.new ≡ answers.old) }
         ensures stays { delta.new ≡ delta.old }
     {
         let list = delta.renewed_list(alloc, self)?;
-        answers.reserve(list.widths.len())?;
-        list.push_to(answers, at);
+        list.push_to(answers, at)?;
         *self = list;
         Ok(())
     }
@@ -201,18 +199,36 @@ impl RowList {
         Ok(())
     }
 
-    /// Pushes a copy of the rows behind answers that have room for them, each with the instant.
-    fn push_to(&self, answers: &mut VecDeque<(u64, Row)>, at: u64)
-        requires { deque_len answers.old + length self.now ≤ deque_capacity answers.old }
-        ensures { dated answers.new.items
-            ≡ dated answers.old.items ++ map (λ r. (at, r)) self.now }
+    /// Pushes a copy of the rows behind the answers, each with the instant. An error says that
+    /// memory was refused; the answers are as they were.
+    fn push_to(&self, answers: &mut DatedRows, at: u64) -> Result<(), AllocError>
+        ensures ok { OnOk result (answers.new
+            ≡ answers.old ++ map (λ r. (at, r)) self.now) }
+        ensures err { OnErr result (answers.new ≡ answers.old) }
+    {
+        let count = answers.len();
+        match self.push_each(answers, at) {
+            Ok(()) => Ok(()),
+            Err(refused) => {
+                answers.keep_first(count);
+                Err(refused)
+            },
+        }
+    }
+
+    /// The same; after an error some of the rows may stand behind the answers.
+    fn push_each(&self, answers: &mut DatedRows, at: u64) -> Result<(), AllocError>
+        ensures ok { OnOk result (answers.new
+            ≡ answers.old ++ map (λ r. (at, r)) self.now) }
+        ensures err { OnErr result (take (length answers.old) answers.new ≡ answers.old) }
     {
         let mut start = 0;
         for width in &self.widths {
             let end = start + *width as usize;
-            answers.push_back_reserved((at, row_of(&self.values[start..end])));
+            answers.push(at, &self.values[start..end])?;
             start = end;
         }
+        Ok(())
     }
 
     /// The rows without those that left, and with those that entered: one walk over the three

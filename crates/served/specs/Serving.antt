@@ -3,6 +3,7 @@ use Rattle.std.specs.Prelude.{◌≡◌, ◌≢◌, ◌≤◌, ℕ, ℤ, pos, Li
 use Rattle.envelope.specs.Fraction.{Fraction}
 use Rattle.histories.specs.Histories.{Told}
 use Rattle.hub.specs.Seats.{PlainSeat}
+use Rattle.hub.specs.Steps as hub
 use Rattle.hub.specs.Steps.{PlainLocked, FindsQuery, FindsStream, Hands, Rests, SeesSlopes, Spurned, Took}
 use Rattle.leases.specs.declared.leased.Leased.TheVariants.{Idle}
 use Rattle.plan.specs.declared.node.Kind.{Kind}
@@ -11,7 +12,7 @@ use Rattle.reference.specs.Replies as replies
 use Rattle.reference.specs.Replies.{Reply}
 use Rattle.reference.specs.declared.fault.Fault.{Fault}
 use Rattle.reference.specs.declared.fault.Fault.TheVariants.{BadLimit, OutOfMemory, TooManyLeases, UnknownQuery, UnknownStream}
-use Rattle.wire.specs.Calls.{Call, declare, register, append, heartbeat, drain, take_rows, discard, show_plan}
+use Rattle.wire.specs.Calls.{Call, declare, register, append, heartbeat, drain, take_rows, discard, forget, show_plan}
 use Rattle.wire.specs.Printed.{Answer, done, rows, operators, refused, unread, line_of}
 use Rattle.wire.specs.declared.request.Request.{Request}
 use Rattle.wire.specs.declared.request.Request.TheVariants as request
@@ -66,6 +67,14 @@ LooksNamed name answer =
     ((n : ℕ) × ((l : PlainLocked) × FindsQuery l name (Some n)) × Looks n answer)
     ⊎ (((l : PlainLocked) × FindsQuery l name None) × (answer ≡ refused UnknownQuery))
 
+-- ---- forgetting
+
+-- THE HUB FORGOT in one step, or memory was refused and nothing was changed
+abbrev pub Forgets : Answer → Type 0
+Forgets done = (old : PlainLocked) × (new : PlainLocked) × hub.Forgets old (Ok tt) new
+Forgets (refused fault) = (old : PlainLocked) × (new : PlainLocked) × hub.Forgets old (Err fault) new
+Forgets answer = ⊥
+
 -- ---- drains
 
 -- there was a moment when no operator might take anything
@@ -112,6 +121,7 @@ Serves drains seat (append stream more) answer seat' = CarriesNamed FindsStream 
 Serves drains seat (heartbeat stream at) answer seat' = CarriesNamed FindsStream stream UnknownStream (λ n. Heartbeat n at) seat answer seat'
 Serves drains seat drain answer seat' = drains answer × (seat' ≡ seat)
 Serves drains seat (take_rows query limit) answer seat' = CarriesNamed FindsQuery query UnknownQuery (λ n. Take n limit) seat answer seat'
+Serves drains seat forget answer seat' = Forgets answer × (seat' ≡ seat)
 Serves drains seat (discard query) answer seat' = CarriesNamed FindsQuery query UnknownQuery Drop seat answer seat'
 Serves drains seat (show_plan query) answer seat' = LooksNamed query answer × (seat' ≡ seat)
 

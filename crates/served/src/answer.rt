@@ -75,6 +75,7 @@ fn answer<R: Threads + Wait + Sync>(
         Request::Drain => drain(rt, alloc, hub, drains, rows),
         Request::Take { query, .. } => take(rt, hub, seat, query.as_str(), number),
         Request::Drop { query } => discard(rt, hub, seat, query.as_str()),
+        Request::Forget => done(hub.forget(rt)),
         Request::Plan { query } => show_plan(rt, hub, query.as_str()),
     }
 }

@@ -51,7 +51,7 @@ with_late-placed x (l ∷ late) es h = here (with_late-placed x late (placed l e
         with_late-before x (l ∷ late) es (lt, each_from (λ (g : Element). l.instant ≤ g.instant) (λ (g : Element). x.instant < g.instant) (λ g le. omega (arith, lt, le)) late h.0)
     here ih false i = ih
 
-rising-placed : (x : Element) (es : List Element) → Rising (λ e. e.instant) es → Rising (λ e. e.instant) (placed x es)
+pub rising-placed : (x : Element) (es : List Element) → Rising (λ e. e.instant) es → Rising (λ e. e.instant) (placed x es)
 rising-placed x [] h = (tt, tt)
 rising-placed x (e ∷ es) h = here (rising-placed x es h.1) (nat_lt x.instant e.instant) refl
   where

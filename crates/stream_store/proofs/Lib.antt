@@ -8,5 +8,7 @@ mod LateLemmas
 mod RisingLemmas
 mod OpenLemmas
 mod StoredLemmas
+mod KeepLemmas
 mod BesideLemmas
 pub mod ShownLemmas
+pub mod KeptLemmas

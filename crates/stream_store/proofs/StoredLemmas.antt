@@ -1,5 +1,5 @@
 -- A stored stream as the machine knows it: what is closed of it, what a heartbeat closes, and what rows make of it.
-use Rattle.std.proofs.Common.{◌≡◌, ◌<◌, ◌≤◌, ◌+◌, ◌-◌, ◌==◌, ℕ, ℤ, pos, negsuc, suc, Bool, true, false, not, ◌||◌, nat_lt, nat_le, int_lt, nat_abs, Option, None, Result, Ok, Err, IfOk, List, [], ◌∷◌, ◌++◌, length, refl, sym, ap, subst, ◌∙◌, arith, append-nil, append_assoc}
+use Rattle.std.proofs.Common.{◌≡◌, ◌<◌, ◌≤◌, ◌+◌, ◌-◌, ◌==◌, ℕ, ℤ, pos, negsuc, suc, Bool, true, false, not, ◌||◌, nat_lt, nat_le, int_lt, nat_abs, Option, None, Result, Ok, Err, IfOk, List, [], ◌∷◌, ◌++◌, length, refl, sym, ap, subst, ◌∙◌, arith, append-nil, append_assoc, length-append}
 use Rattle.std.specs.List.{AllByRecursion, All, filter, list_any, list_all}
 use Rattle.std.proofs.lemmas.Bool.{lt-leb, le-leb, lt-ltb, le-ltb, ltb-true, ltb-false, leb-true, leb-false, eqb-true}
 use Rattle.std.proofs.lemmas.List.{length-map}
@@ -23,6 +23,7 @@ use Rattle.stream_store.specs.Stored.{stream_in, IsStored}
 use Rattle.stream_store.proofs.KeyLemmas.{filter_none, filter_all, each_from, each-append, each-kept, each_passes}
 use Rattle.stream_store.proofs.OrderLemmas.{filter_same_each, within, Ordered, by_instant_ordered, rising_instants, ordered-append, ordered-filter, each_from_all, all_from_each, ordered_from, in_order}
 use Rattle.stream_store.proofs.LateLemmas.{up_past}
+use Rattle.stream_store.proofs.KeepLemmas.{length-put}
 use Rattle.stream_store.proofs.PlacedLemmas.{came_after, ordered-put, each-put, each-numbered, numbered_below}
 
 module _ (columns arrivals : ℕ) (closed : Closed) (es : List Element) (stored : IsStored columns arrivals closed es) (order : IsInOrder closed.elements) (done : All (λ e. e.instant < closed.until) closed.elements) where
@@ -119,6 +120,7 @@ module _ (columns n m : ℕ) (closed next : Closed) (es : List Element) (stored 
     few = stored.few;
     width = width ∙ stored.width;
     counted = stored.counted;
+    held = omega (arith, stored.held, ap length more, length-append closed.elements (up_to m es), ap length (up_past m es (rising_instants es (ordered_from es stored.ordered))), length-append (up_to m es) (past m es));
     range = omega (arith, until, few);
     ordered = in_order (past m es) (ordered-filter later es (ordered_from es stored.ordered));
     opened = each_from (λ e. later e ≡ true) (λ (e : Element). next.until ≤ e.instant) (λ e h. let lt : m < e.instant = ltb-true m e.instant h in omega (arith, lt, until)) (past m es) (each_passes later es);
@@ -203,6 +205,7 @@ module _ (name : List ℕ) (columns : List Name) (n : ℕ) (closed : Closed) (es
         few = stored.few;
         width = stored.width;
         counted = p.room;
+        held = omega (arith, stored.held, length-put n new es, long);
         range = stored.range;
         ordered = in_order (after_put n new es) (ordered-put n new es (ordered_from es stored.ordered) stored.numbered);
         opened = each-put (λ e. closed.until ≤ e.instant) n new es (each-numbered (λ r. closed.until ≤ r.0) (λ e. closed.until ≤ e.instant) (λ k r h. h) n new (each_late closed.until rows p.late)) stored.opened;

@@ -1,8 +1,10 @@
 pub mod LateRows
 pub mod Open
 pub mod OpenRows
+pub mod Starts
 pub mod Arrivals
 pub mod Closing
+pub mod Kept
 pub mod Stored
 pub mod Beside
 pub mod Examples

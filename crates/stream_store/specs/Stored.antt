@@ -1,5 +1,5 @@
 -- How a stream is stored: a log of what is closed, the open rows, and how many rows came.
-use Rattle.std.specs.Prelude.{◌≡◌, ℕ, ◌<◌, ◌≤◌, List, ◌++◌, length}
+use Rattle.std.specs.Prelude.{◌≡◌, ℕ, ◌<◌, ◌≤◌, ◌+◌, List, ◌++◌, length}
 use Rattle.std.specs.List.{AllByRecursion}
 use Rattle.values.specs.Window.{Element}
 use Rattle.op_queue.specs.Logs.{Closed, IsInOrder}
@@ -20,6 +20,7 @@ pub record IsStored (columns arrivals : ℕ) (closed : Closed) (rows : List Elem
   pub few : columns ≤ 8
   pub width : closed.width ≡ columns
   pub counted : arrivals ≤ 1073741824
+  pub held : length closed.elements + length rows ≤ arrivals
   pub range : closed.until ≤ 1099511627777
   pub ordered : IsInOrder rows
   pub opened : AllByRecursion (λ (e : Element). closed.until ≤ e.instant) rows

@@ -7,9 +7,11 @@ ghost use Rattle.std.specs.Map.{keys_of};
 ghost use Rattle.std.specs.Ordering.{nat_cmp};
 ghost use Rattle.reference.specs.Commands.{is_stream_value};
 ghost use Rattle.stream_store.specs.LateRows.{lent_rows};
-ghost use Rattle.stream_store.specs.Open.{AreWide, below, instants_past, put_rows};
+ghost use Rattle.stream_store.specs.Open.{AreWide, below, instants_past, open_of, put_rows};
+ghost use Rattle.stream_store.specs.Starts.{entries_read};
 
 use crate::late_rows::LateRows;
+use crate::starts::Start;
 use std::alloc::{AllocError, Global};
 use std::collections::BTreeMap;
 use values::MAX_COLUMNS;
@@ -50,6 +52,26 @@ pub(crate) fn forget_from(late: &mut BTreeMap<u64, LateRows>, first: u64)
     ensures { late.new.entries ≡ below first late.old.entries }
 {
     late.retain(|_, open| open.keep_below(first));
+}
+
+/// The rows stay that one of the readers has in its input; the others leave, and with its last row
+/// an instant. Takes no memory.
+pub(crate) fn keep_read(late: &mut BTreeMap<u64, LateRows>, starts: &[Start])
+    ensures { late.new.entries ≡ entries_read starts.now late.old.entries }
+{
+    late.retain(|instant, open| open.keep(*instant, starts));
+}
+
+/// How many rows there are. It costs the instants.
+pub(crate) fn count(late: &BTreeMap<u64, LateRows>) -> usize
+    requires { length (open_of late.now.entries) < 2 ^ 32 }
+    ensures { result ≡ length (open_of late.now.entries) }
+{
+    let mut count = 0;
+    for (_, open) in late.iter() {
+        count += open.len();
+    }
+    count
 }
 
 /// Takes out the rows up to the instant.

@@ -1,13 +1,16 @@
 //! The open rows of one instant.
 ghost use Rattle.std.specs.Prelude.{◌≡◌, ℕ, ◌+◌, ◌*◌, ◌^◌, ◌<◌, ◌≤◌, ◌++◌, OnOk, OnErr, length};
-ghost use Rattle.std.specs.Prelude.{map, nat_lt, true, vec_len, vec_capacity};
+ghost use Rattle.std.specs.Prelude.{map, nat_lt, take, true, vec_len, vec_capacity};
+ghost use Rattle.std.specs.Prelude.{slice_index_or, slice_set};
 ghost use Rattle.std.specs.List.{filter, list_all, range_with_len};
 ghost use Rattle.reference.specs.Commands.{is_stream_value};
 ghost use Rattle.stream_store.specs.Open.{elements_at};
 ghost use Rattle.stream_store.specs.LateRows.{first_below, has_rows, lent_rows, none_at};
 ghost use Rattle.stream_store.specs.LateRows.{rows_in, with_rows};
+ghost use Rattle.stream_store.specs.Starts.{row_read, rows_read};
 
 use crate::arrivals::Arrivals;
+use crate::starts::{Start, is_read};
 use reference::value_of;
 use std::alloc::{AllocError, Global};
 use std::marker::Model;
@@ -89,6 +92,26 @@ impl LateRows {
         kept > 0
     }
 
+    /// How many rows there are.
+    pub(crate) fn len(&self) -> usize
+        ensures { result ≡ length self.now.rows }
+    {
+        self.numbers.len()
+    }
+
+    /// The rows, which are of this instant, stay that one of the readers has in its input; the
+    /// others leave. Whether any are left. Takes no memory.
+    pub(crate) fn keep(&mut self, instant: u64, starts: &[Start]) -> bool
+        ensures rows { self.new ≡ rows_read starts.now instant self.old }
+        ensures left { result ≡ has_rows self.new }
+    {
+        let width = self.width;
+        let count = move_kept(&mut self.numbers, &mut self.values, width, instant, starts);
+        self.numbers.truncate(count);
+        self.values.truncate(count * width);
+        count > 0
+    }
+
     /// Puts copies of the rows, with their instant, behind others.
     pub(crate) fn copy_to(&self, instant: u64, rows: &mut Arrivals) -> Result<(), AllocError>
         requires { rows.old.width ≡ self.now.width }
@@ -98,6 +121,49 @@ impl LateRows {
     {
         rows.push_all(instant, &self.numbers, &self.values)
     }
+}
+
+/// Moves the rows that one of the readers has in its input to the front, and counts them.
+fn move_kept(
+    numbers: &mut Vec<u64>,
+    values: &mut Vec<Value>,
+    width: usize,
+    instant: u64,
+    starts: &[Start],
+) -> usize
+    requires { length values.old.items ≡ length numbers.old.items * width }
+    ensures within { result ≤ length numbers.new.items }
+    ensures full { length values.new.items ≡ length numbers.new.items * width }
+    ensures rows { take result (rows_in width numbers.new.items values.new.items)
+        ≡ filter (row_read starts.now instant)
+        (rows_in width numbers.old.items values.old.items) }
+{
+    let mut count = 0;
+    let len = numbers.len();
+    for place in 0..len {
+        let number = numbers[place];
+        if is_read(starts, number, instant) {
+            move_row(numbers, values, width, place, count);
+            count += 1;
+        }
+    }
+    count
+}
+
+/// Writes a row over the one at a place before it.
+fn move_row(numbers: &mut Vec<u64>, values: &mut Vec<Value>, width: usize, from: usize, to: usize)
+    requires before { to ≤ from }
+    requires within { from < length numbers.old.items }
+    requires full { length values.old.items ≡ length numbers.old.items * width }
+    ensures full { length values.new.items ≡ length numbers.new.items * width }
+    ensures rows { (r : _) → rows_in width numbers.new.items values.new.items
+        ≡ slice_set (rows_in width numbers.old.items values.old.items) to
+        (slice_index_or (rows_in width numbers.old.items values.old.items) from r) }
+{
+    numbers[to] = numbers[from];
+    let start = from * width;
+    let end = start + width;
+    values.as_mut_slice().copy_within(start..end, to * width);
 }
 
 /// How many of the numbers are below `first`.

@@ -9,9 +9,11 @@ mod late_rows;
 mod lent;
 mod open_rows;
 mod ordered_rows;
+mod starts;
 mod stored;
 mod streams;
 
 pub use arrivals::Arrivals;
 pub use op_queue::Log;
+pub use starts::Start;
 pub use streams::Streams;

@@ -1,17 +1,19 @@
 //! The open rows of a stream.
 ghost use Rattle.std.specs.Prelude.{◌≡◌, ◌≤◌, ◌<◌, ◌+◌, ◌*◌, ◌^◌, ◌++◌, [], IfOk, OnOk, OnErr};
 ghost use Rattle.std.specs.Prelude.{length, take, drop, true};
-ghost use Rattle.std.specs.List.{AllByRecursion, list_all};
+ghost use Rattle.std.specs.List.{AllByRecursion, filter, list_all};
 ghost use Rattle.reference.specs.Commands.{is_instant, is_stream_value};
 ghost use Rattle.stream_store.specs.LateRows.{lent_rows};
 ghost use Rattle.stream_store.specs.Open.{AreAt, AreWide, after_put, below, open_of, past, up_to};
 ghost use Rattle.stream_store.specs.OpenRows.{IsMore, IsOpen, with_late};
+ghost use Rattle.stream_store.specs.Starts.{has_reader};
 
 use crate::arrivals::Arrivals;
-use crate::late::{drop_up_to, forget_from, put};
+use crate::late::{count, drop_up_to, forget_from, keep_read, put};
 use crate::late_rows::LateRows;
 use crate::lent::count_at;
 use crate::ordered_rows::OrderedRows;
+use crate::starts::Start;
 use std::alloc::{AllocError, Global};
 use std::collections::BTreeMap;
 use std::marker::Model;
@@ -106,6 +108,23 @@ impl OpenRows {
         let place = copy_late(&self.rising, &self.late, at, &mut rows)?;
         self.rising.copy_to(place, at, &mut rows)?;
         Ok(rows)
+    }
+
+    /// How many rows there are. It costs the instants that have late ones.
+    pub(crate) fn len(&self) -> usize
+        requires { length self.now.rows < 2 ^ 32 }
+        ensures { result ≡ length self.now.rows }
+    {
+        self.rising.len() + count(&self.late)
+    }
+
+    /// The rows stay that one of the readers has in its input; the others leave. Takes no memory.
+    pub(crate) fn keep(&mut self, starts: &[Start])
+        ensures width { self.new.width ≡ self.old.width }
+        ensures rows { self.new.rows ≡ filter (has_reader starts.now) self.old.rows }
+    {
+        self.rising.keep(starts);
+        keep_read(&mut self.late, starts);
     }
 
     /// Takes out the rows up to the instant.

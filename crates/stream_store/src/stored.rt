@@ -1,6 +1,7 @@
 //! One declared stream.
 ghost use Rattle.std.specs.Prelude.{◌≡◌, ◌≤◌, ◌++◌, ◌∷◌, [], suc, nat_abs, None, OnOk, OnErr, IfOk};
-ghost use Rattle.std.specs.Prelude.{◌+◌, IfSome, length, nat_lt};
+ghost use Rattle.std.specs.Prelude.{◌+◌, Bool, IfSome, length, nat_lt};
+ghost use Rattle.values.specs.Window.{Element};
 ghost use Rattle.cql_reader.specs.Views.{name_of};
 ghost use Rattle.names.specs.Views.{names_of};
 ghost use Rattle.op_queue.specs.Cursors.{GainsClosed};
@@ -11,9 +12,11 @@ ghost use Rattle.reference.specs.Told.{IsTold};
 ghost use Rattle.reference.specs.declared.fault.Fault.TheVariants.{StreamFull};
 ghost use Rattle.stream_store.specs.Beside.{limited_tests};
 ghost use Rattle.stream_store.specs.Closing.{closed_of, closing_of};
+ghost use Rattle.stream_store.specs.Kept.{HasRest, SaysKept, count_closed, kept_stream};
 
 use crate::arrivals::Arrivals;
 use crate::open_rows::OpenRows;
+use crate::starts::Start;
 use cql_reader::Name;
 use names::Catalog;
 use op_queue::Log;
@@ -203,6 +206,34 @@ impl Stored {
         let _closed = self.log.until();
         self.open_rows.drop_up_to(last);
         Ok(())
+    }
+
+    /// How many rows are closed and kept.
+    pub(crate) fn closed(&self) -> usize
+        ensures { result ≡ count_closed self.now }
+    {
+        self.log().len()
+    }
+
+    /// How many of the rows that came are kept, closed and open. It costs the instants that have
+    /// late open rows.
+    pub(crate) fn kept(&self) -> usize
+        ensures { result ≡ length self.now.elements }
+    {
+        self.log.len() + self.open_rows.len()
+    }
+
+    /// Of the closed rows those stay at whose places a mark is true, of the open ones those that
+    /// one of the readers has in its input; the others leave. Takes no memory.
+    pub(crate) fn keep(&mut self, kept: &[bool], starts: &[Start])
+        requires { length kept.now ≡ count_closed self.old }
+        ensures elements { (keep : Element → Bool) → SaysKept kept.now starts.now keep self.old
+            → self.new ≡ kept_stream keep self.old }
+        ensures rest { HasRest self.old self.new }
+    {
+        let _until = self.log.until();
+        self.log.keep(kept);
+        self.open_rows.keep(starts);
     }
 }
 

@@ -1,5 +1,7 @@
 //! The declared streams.
 ghost use Rattle.std.specs.Prelude.{◌≡◌, ◌++◌, ◌∷◌, [], ℕ, ◌≤◌, None, Some, IfOk, IfSome, OnOk};
+ghost use Rattle.std.specs.Prelude.{Bool};
+ghost use Rattle.values.specs.Window.{Element};
 ghost use Rattle.std.specs.Prelude.{OnErr, MatchOption, length, map, slice_get, position};
 ghost use Rattle.std.specs.Option.{option_map, option_map_or};
 ghost use Rattle.std.specs.Str.{bytes_eq};
@@ -13,8 +15,10 @@ ghost use Rattle.reference.specs.Told.{IsTold};
 ghost use Rattle.reference.specs.World.{Looks, declare_step, append_step};
 ghost use Rattle.stream_store.specs.Beside.{DoesBeside, DoesBesideSuch, IsLimit, limited_tests};
 ghost use Rattle.stream_store.specs.Closing.{closed_of, closing_at, closing_in, QueuesGain};
+ghost use Rattle.stream_store.specs.Kept.{SaysKeptOf, count_closed, kept_stream};
 
 use crate::arrivals::Arrivals;
+use crate::starts::Start;
 use crate::stored::Stored;
 use cql_reader::Name;
 use name_table::NameTable;
@@ -207,6 +211,43 @@ impl Streams {
         ensures err { OnErr result (self.new ≡ self.old) }
     {
         self.streams[stream as usize].close(at, rows)
+    }
+
+    /// How many rows of the stream of a number are closed and kept: those of its log. `None` where
+    /// there is no such stream.
+    pub fn closed(&self, stream: u64) -> Option<usize>
+        ensures { result ≡ option_map count_closed (slice_get self.now stream) }
+    {
+        match self.stream_at(stream) {
+            Some(stream) => Some(stream.closed()),
+            None => None,
+        }
+    }
+
+    /// How many rows of the stream of a number are kept, closed and open; `None` where there is no
+    /// such stream. Takes no memory; it costs the instants that have late open rows.
+    pub fn kept(&self, stream: u64) -> Option<usize>
+        ensures { result ≡ option_map (λ s. length s.elements) (slice_get self.now stream) }
+    {
+        match self.stream_at(stream) {
+            Some(stream) => Some(stream.kept()),
+            None => None,
+        }
+    }
+
+    /// Of the closed rows of the stream of a number, as many as there are marks, those stay at whose
+    /// places in its log the mark is true; of its open rows those that one of the readers has in
+    /// its input. The others leave.
+    ///
+    /// How many rows came, the numbers of those that stay and the first open instant go on. Takes no
+    /// memory; it costs the stream's rows, of the open ones each times the readers.
+    pub fn keep(&mut self, stream: u64, kept: &[bool], starts: &[Start])
+        requires { option_map count_closed (slice_get self.old stream) ≡ Some (length kept.now) }
+        ensures { (keep : Element → Bool)
+            → SaysKeptOf kept.now starts.now keep (slice_get self.old stream)
+            → self.new ≡ change stream (kept_stream keep) self.old }
+    {
+        self.streams[stream as usize].keep(kept, starts);
     }
 
     /// Declares a stream, whose first open instant is `from`, and answers its number, from 0 on.

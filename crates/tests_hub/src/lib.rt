@@ -10,6 +10,8 @@ mod agreement;
 #[cfg(test)]
 mod fixture;
 #[cfg(test)]
+mod forgets;
+#[cfg(test)]
 mod gates;
 #[cfg(test)]
 mod program;

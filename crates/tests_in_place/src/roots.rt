@@ -5,25 +5,24 @@ ghost use Rattle.to_stream.specs.Turns.{HasRoom, next};
 
 use crate::rows::{batch_at, count_of_same, push_numbers};
 use op_queue::Item;
+use row_bags::DatedRows;
 use std::alloc::{AllocError, Global};
-use std::collections::VecDeque;
 use std::test::Fail;
 use to_stream::{ToStream, work};
-use values::{Row, StreamOperator};
+use values::StreamOperator;
 
 /// A turn by excerpt, work and change; its answers come behind the others.
 fn turn(
     alloc: Global,
     root: &mut ToStream,
     item: &Item,
-    answers: &mut Vec<(u64, Row)>,
+    answers: &mut DatedRows,
 ) -> Result<(), AllocError>
     requires { HasRoom root.old item.now }
     ensures { OnOk result (root.new ≡ next root.old item.now) }
 {
     let near = root.near(alloc, item)?;
-    let mut more = work(alloc, item, &near)?;
-    answers.append(&mut more)?;
+    answers.append(work(alloc, item, &near)?)?;
     root.apply(item)?;
     Ok(())
 }
@@ -34,7 +33,7 @@ fn turn_all(
     root: &mut ToStream,
     rows: &Item,
     at: u64,
-    answers: &mut Vec<(u64, Row)>,
+    answers: &mut DatedRows,
 ) -> Result<(), AllocError>
     requires room { HasRoom root.old rows.now }
     requires at { at ≤ 1_000 }
@@ -51,7 +50,7 @@ fn run_all(
     root: &mut ToStream,
     rows: &Item,
     at: u64,
-    waiting: &mut VecDeque<(u64, Row)>,
+    waiting: &mut DatedRows,
 ) -> Result<(), AllocError>
     requires room { HasRoom root.old rows.now }
     requires at { at ≤ 1_000 }
@@ -66,18 +65,23 @@ fn run_all(
 /// How many numbers stand for answers, if both are the same in the same order.
 fn count(
     alloc: Global,
-    answers: &[(u64, Row)],
-    waiting: &VecDeque<(u64, Row)>,
+    answers: DatedRows,
+    waiting: DatedRows,
 ) -> Result<Option<usize>, AllocError> {
-    let mut turns = Vec::new(alloc);
-    for (at, row) in answers {
-        push_numbers(&mut turns, *at, 1, row)?;
-    }
-    let mut places = Vec::new(alloc);
-    for (at, row) in waiting {
-        push_numbers(&mut places, *at, 1, row)?;
-    }
+    let turns = numbers(alloc, answers)?;
+    let places = numbers(alloc, waiting)?;
     Ok(count_of_same(&turns, &places))
+}
+
+/// The numbers that stand for these answers.
+fn numbers(alloc: Global, mut answers: DatedRows) -> Result<Vec<i64>, AllocError> {
+    let mut all = Vec::new(alloc);
+    for _ in 0..answers.len() {
+        if let Some((at, row)) = answers.pop_front() {
+            push_numbers(&mut all, at, 1, &row)?;
+        }
+    }
+    Ok(all)
 }
 
 /// How many numbers stand for what two roots answer, one by turns and one in place behind the
@@ -85,15 +89,15 @@ fn count(
 fn both(alloc: Global, operator: StreamOperator) -> Result<Option<usize>, AllocError> {
     let mut by_turns = ToStream::new(alloc, operator);
     let mut in_place = ToStream::new(alloc, operator);
-    let mut answers = Vec::new(alloc);
-    let mut waiting = VecDeque::new(alloc);
+    let mut answers = DatedRows::new(alloc);
+    let mut waiting = DatedRows::new(alloc);
     for step in 0..120 {
         let at = step as u64 * 2;
         let rows = Item::Rows(at, batch_at(alloc, step, 60, 11)?);
         turn_all(alloc, &mut by_turns, &rows, at, &mut answers)?;
         run_all(&mut in_place, &rows, at, &mut waiting)?;
     }
-    count(alloc, &answers, &waiting)
+    count(alloc, answers, waiting)
 }
 
 #[test]

@@ -93,6 +93,10 @@ fn served<E: Answering>(alloc: Global, engine: &mut E, request: &Request) -> Res
             engine.drain(1_024)?;
             done(alloc)
         }
+        Request::Forget => {
+            engine.forget()?;
+            done(alloc)
+        }
         Request::Take { query, .. } | Request::Drop { query } | Request::Plan { query } => {
             asked(alloc, engine, query.as_str(), request)
         }

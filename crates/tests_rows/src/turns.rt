@@ -2,9 +2,10 @@
 
 use column::{Batch, Side};
 use op_queue::Item;
+use row_bags::DatedRows;
 use std::alloc::{AllocError, Global};
 use turn::{Change, Outputs, Parts};
-use values::{Row, Value};
+use values::Value;
 
 /// The values of a row.
 pub(crate) fn add_row(text: &mut String, values: &[Value]) -> Result<(), AllocError> {
@@ -44,10 +45,13 @@ fn add_items(text: &mut String, items: &[Item]) -> Result<(), AllocError> {
     Ok(())
 }
 
-fn add_answers(text: &mut String, answers: &[(u64, Row)]) -> Result<(), AllocError> {
-    for (at, row) in answers {
-        write!(text, "; answer {at}: ")?;
-        add_row(text, row.as_slice())?;
+fn add_answers(alloc: Global, text: &mut String, answers: &DatedRows) -> Result<(), AllocError> {
+    let mut rest = answers.copy(alloc)?;
+    for _ in 0..answers.len() {
+        if let Some((at, row)) = rest.pop_front() {
+            write!(text, "; answer {at}: ")?;
+            add_row(text, row.as_slice())?;
+        }
     }
     Ok(())
 }
@@ -72,7 +76,7 @@ pub(crate) fn shown(alloc: Global, parts: &Parts) -> Result<String, AllocError> 
     add_item(&mut text, parts.item.item())?;
     match &parts.outputs {
         Outputs::Items(items) => add_items(&mut text, items)?,
-        Outputs::Answers(answers) => add_answers(&mut text, answers)?,
+        Outputs::Answers(answers) => add_answers(alloc, &mut text, answers)?,
     }
     add_change(&mut text, &parts.change)?;
     Ok(text)

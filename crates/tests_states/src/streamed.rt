@@ -5,10 +5,11 @@ ghost use Rattle.row_bags.specs.Deltas.{delta_of};
 use crate::rows::{one, row};
 use column::Batch;
 use op_queue::Item;
+use row_bags::DatedRows;
 use std::alloc::{AllocError, Global};
 use std::test::Fail;
 use to_stream::{ToStream, work};
-use values::{Row, StreamOperator, same_rows};
+use values::{StreamOperator, same_rows};
 
 /// The row 7, and the row 5 that enters or leaves.
 fn pair(alloc: Global, enters: bool) -> Result<Batch, AllocError> {
@@ -36,25 +37,28 @@ fn ticked(alloc: Global, operator: StreamOperator, enters: bool) -> Result<ToStr
 }
 
 /// What the root answers at the tick 3.
-fn answers(alloc: Global, root: &ToStream) -> Result<Vec<(u64, Row)>, AllocError> {
+fn answers(alloc: Global, root: &ToStream) -> Result<DatedRows, AllocError> {
     let tick = Item::Tick(3);
     let near = root.near(alloc, &tick)?;
     work(alloc, &tick, &near)
 }
 
 /// Whether these are rows of one number at the instant 3.
-fn are(answers: &[(u64, Row)], numbers: &[i64]) -> bool {
-    for (answer, number) in answers.iter().zip(numbers) {
-        if answer.0 != 3 || !same_rows(&answer.1, &row(*number)) {
+fn are(mut answers: DatedRows, numbers: &[i64]) -> bool {
+    for number in numbers {
+        let Some((at, answer)) = answers.pop_front() else {
+            return false;
+        };
+        if at != 3 || !same_rows(&answer, &row(*number)) {
             return false;
         }
     }
-    answers.len() == numbers.len()
+    answers.len() == 0
 }
 
 fn shows(alloc: Global, root: &ToStream, numbers: &[i64]) -> Result<bool, AllocError> {
     let answers = answers(alloc, root)?;
-    Ok(are(&answers, numbers))
+    Ok(are(answers, numbers))
 }
 
 fn first_shows(

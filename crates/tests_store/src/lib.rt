@@ -1,9 +1,11 @@
-//! Worked rows of `name_table` and `stream_store`, as tests.
+//! Worked rows of `name_table`, `stream_store` and `needed_rows`, as tests.
 //!
 //! They stand in a crate of their own because a crate's tests are proved with all of the crate once
 //! more.
 #![tactic(auto)]
 
+#[cfg(test)]
+mod needed;
 #[cfg(test)]
 mod streams;
 #[cfg(test)]

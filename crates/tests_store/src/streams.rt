@@ -4,7 +4,7 @@ use op_queue::Cursor;
 use reference::{Fault, MAX_STREAM_ROWS, NewRows};
 use std::alloc::{AllocError, Global};
 use std::test::Fail;
-use stream_store::{Arrivals, Streams};
+use stream_store::{Arrivals, Start, Streams};
 use values::Value;
 
 // As many rows as a stream may have, where no query limits it.
@@ -372,5 +372,139 @@ fn rows_over_the_limit_are_refused(rt: HostRuntime) -> Result<(), Fail> {
         limited(rt.alloc())?,
         ([Some(Fault::StreamFull), None, None], 1)
     );
+    Ok(())
+}
+
+// Six rows, of which those up to the instant 2 are closed, one of them a late one; one of the open
+// rows is late.
+fn six_rows(alloc: Global) -> Result<Streams, Fault> {
+    let mut streams = streams(alloc)?;
+    append(
+        alloc,
+        &mut streams,
+        &[(2, 10), (4, 11), (3, 12), (4, 13), (6, 15), (2, 16)],
+    )?;
+    close(&mut streams, 0, 2)?;
+    Ok(streams)
+}
+
+// Keeps the closed rows that are marked, and the open ones that have a reader; false where there
+// are not as many closed rows as marks.
+fn keep(streams: &mut Streams, kept: &[bool], starts: &[Start]) -> bool {
+    match streams.closed(0) {
+        Some(closed) => {
+            if closed != kept.len() {
+                return false;
+            }
+            streams.keep(0, kept, starts);
+            true
+        }
+        None => false,
+    }
+}
+
+// What is left of the six rows: how many are closed and how many in all, the rows that are closed
+// up to the instant 9, how many came, and the first open instant.
+fn left(
+    alloc: Global,
+    kept: &[bool],
+    starts: &[Start],
+    expected: &[(u64, u64, i128)],
+) -> Result<([Option<usize>; 2], bool, u64, u64), Fault> {
+    let mut streams = six_rows(alloc)?;
+    if !keep(&mut streams, kept, starts) {
+        return Ok(([None, None], false, 0, 0));
+    }
+    let counts = [streams.closed(0), streams.kept(0)];
+    let first = streams.first_open(0);
+    let are_left = close_rows(&mut streams, 9, expected)?;
+    Ok((counts, are_left, streams.arrivals(0), first))
+}
+
+#[test]
+fn all_rows_are_kept(rt: HostRuntime) -> Result<(), Fail> {
+    let all = left(
+        rt.alloc(),
+        &[true, true],
+        &[Start { place: 0, first: 0 }],
+        &[(3, 2, 12), (4, 1, 11), (4, 3, 13), (6, 4, 15)],
+    )?;
+    assert_eq!(rt; all, ([Some(2), Some(6)], true, 6, 3));
+    Ok(())
+}
+
+#[test]
+fn no_row_is_kept(rt: HostRuntime) -> Result<(), Fail> {
+    let none = left(rt.alloc(), &[false, false], &[], &[])?;
+    assert_eq!(rt; none, ([Some(0), Some(0)], true, 6, 3));
+    Ok(())
+}
+
+#[test]
+fn a_late_instant_goes_with_its_last_row(rt: HostRuntime) -> Result<(), Fail> {
+    let later = left(
+        rt.alloc(),
+        &[false, true],
+        &[Start { place: 0, first: 4 }],
+        &[(4, 1, 11), (4, 3, 13), (6, 4, 15)],
+    )?;
+    assert_eq!(rt; later, ([Some(1), Some(4)], true, 6, 3));
+    Ok(())
+}
+
+#[test]
+fn a_late_row_stays_for_one_of_two_readers(rt: HostRuntime) -> Result<(), Fail> {
+    let read = left(
+        rt.alloc(),
+        &[true, false],
+        &[Start { place: 0, first: 6 }, Start { place: 2, first: 3 }],
+        &[(3, 2, 12), (4, 3, 13), (6, 4, 15)],
+    )?;
+    assert_eq!(rt; read, ([Some(1), Some(4)], true, 6, 3));
+    Ok(())
+}
+
+// Whether this is all that the list has.
+fn is_only(list: &[u64], expected: u64) -> bool {
+    match list {
+        [only] => *only == expected,
+        _ => false,
+    }
+}
+
+// Whether the row of the number 5, at the instant 2, is the only one that is closed.
+fn last_row_is_closed(streams: &Streams) -> bool {
+    match streams.log(0) {
+        Some(log) => is_only(log.instants(), 2) && is_only(log.numbers(), 5),
+        None => false,
+    }
+}
+
+// What the log has of the six rows where the last one is kept, and how many rows and ticks a query
+// sees: that row and three ticks.
+fn last_is_kept(alloc: Global) -> Result<(bool, u128), Fault> {
+    let mut streams = six_rows(alloc)?;
+    if !keep(&mut streams, &[false, true], &[]) {
+        return Ok((false, 0));
+    }
+    Ok((last_row_is_closed(&streams), seen(&streams, 0, 0)))
+}
+
+// Which number the next row has where none was kept, and how many rows are kept with it.
+fn next_is_numbered(alloc: Global) -> Result<(bool, Option<usize>, Option<usize>), Fault> {
+    let mut streams = six_rows(alloc)?;
+    if !keep(&mut streams, &[false, false], &[]) {
+        return Ok((false, None, None));
+    }
+    append(alloc, &mut streams, &[(7, 20)])?;
+    let kept = streams.kept(0);
+    let is_next = close_rows(&mut streams, 9, &[(7, 6, 20)])?;
+    Ok((is_next, kept, streams.kept(1)))
+}
+
+#[test]
+fn counts_and_numbers_go_on(rt: HostRuntime) -> Result<(), Fail> {
+    assert_eq!(rt; last_is_kept(rt.alloc())?, (true, 4));
+    assert_eq!(rt; next_is_numbered(rt.alloc())?, (true, Some(1), None));
     Ok(())
 }

@@ -26,6 +26,7 @@ fn kinds<S: Source>(alloc: Global, source: &mut S) -> Result<String, AllocError>
             Ok(Request::Drain) => "d",
             Ok(Request::Take { .. }) => "t",
             Ok(Request::Drop { .. }) => "x",
+            Ok(Request::Forget) => "f",
             Ok(Request::Plan { .. }) => "p",
             Err(WireFault::NotJson) => "1",
             Err(WireFault::BadRequest) => "2",
@@ -52,12 +53,15 @@ const LINES: &[u8] = b"{\"op\":\"stream\",\"name\":\"S\",\"columns\":[\"a\"],\"f
 {\"op\":\"take\",\"query\":\"q\"}
 {\"op\":\"drop\",\"query\":\"q\"}
 {\"op\":\"plan\",\"query\":\"q\"}
+{\"op\":\"forget\"}
+{\"query\":null,\"op\":\"forget\",\"rows\":[[]]}
+{\"op\":\"Forget\"}
 []
 {\"op\":\"\xff\"}
 \x0b
 {\"op\":\"drain\"";
 
-const KINDS: &str = "s2qa22h22dt2xp2111";
+const KINDS: &str = "s2qa22h22dt2xpff22111";
 
 // Gives one byte at a time, and fails at a read.
 #[derive(Drop)]

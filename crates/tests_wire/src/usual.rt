@@ -26,7 +26,7 @@ fn are_same(one: &Request, other: &Request) -> bool {
                 limit: most,
             },
         ) => query.as_str() == name.as_str() && limit == most,
-        (Request::Drain, Request::Drain) => true,
+        (Request::Drain, Request::Drain) | (Request::Forget, Request::Forget) => true,
         _ => false,
     }
 }
@@ -96,7 +96,7 @@ fn rows_are_read_as_json_reads_them(rt: HostRuntime) -> Result<(), Fail> {
     Ok(())
 }
 
-const LINES: [&str; 24] = [
+const LINES: [&str; 26] = [
     "{\"op\":\"append\",\"stream\":\"a_Z09\",\"rows\":[[1,2]]}",
     "{\"op\":\"append\",\"stream\":\"\",\"rows\":[[1,2]]}",
     "{\"op\":\"append\",\"stream\":\"a b\",\"rows\":[[1,2]]}",
@@ -120,6 +120,8 @@ const LINES: [&str; 24] = [
     "{\"op\":\"drain\"}",
     "{\"op\":\"drain\",\"rows\":1}",
     "{\"op\":\"draim\"}",
+    "{\"op\":\"forget\"}",
+    "{\"rows\":1,\"op\":\"forget\"}",
     "{\"op\":\"a",
 ];
 

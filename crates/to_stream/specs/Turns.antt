@@ -1,6 +1,5 @@
 -- The turns of a root, on plain states.
-use Rattle.std.specs.Prelude.{ℕ, ℤ, ◌+◌, ◌<◌, ◌^◌, Bool, Option, Some, List, [], map, length}
-use Rattle.arrayvec.specs.ArrayVec.{ArrayVec}
+use Rattle.std.specs.Prelude.{ℕ, ◌+◌, ◌<◌, ◌^◌, Bool, Option, Some, List, [], map, length}
 use Rattle.values.specs.Row.{Row}
 use Rattle.values.specs.declared.resolved.StreamOperator.{StreamOperator}
 use Rattle.values.specs.declared.resolved.StreamOperator.TheVariants.{Istream, Dstream, Rstream}
@@ -58,7 +57,3 @@ HasRoomFor s b = length s.delta.entered + length s.delta.left + length b < 2 ^ 6
 abbrev pub HasRoom : State → Item → Type 0
 HasRoom s (Rows t b) = HasRoomFor s b
 HasRoom s (Tick t) = Unit {0}
-
--- answers, without the array that holds each row
-abbrev pub answers_of : List (ℕ × ArrayVec (Option ℤ)) → List (ℕ × Row)
-answers_of es = map (λ e. (e.0, e.1.items)) es

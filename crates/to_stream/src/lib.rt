@@ -15,16 +15,14 @@ ghost use Rattle.std.specs.Prelude.{◌≡◌, ◌≤◌, ◌+◌, ◌++◌, Non
 ghost use Rattle.std.specs.Prelude.{IfOk, OnOk, OnErr};
 ghost use Rattle.row_bags.specs.Bags.{rows_of};
 ghost use Rattle.to_stream.specs.Turns.{State, shown, kept, near, out, ticked, next, HasRoom};
-ghost use Rattle.to_stream.specs.Turns.{answers_of};
 ghost use Rattle.to_stream.specs.Law.{Stands, StepLaw};
 
 use column::Batch;
 use op_queue::Item;
-use row_bags::{Delta, RowList};
+use row_bags::{DatedRows, Delta, RowList};
 use std::alloc::{AllocError, Global};
-use std::collections::VecDeque;
 use std::marker::Model;
-use values::{Row, StreamOperator, copy_row};
+use values::{Row, StreamOperator};
 
 /// The state of a root: what entered and left since the last tick, that tick's instant, and of
 /// Rstream the whole relation at that tick.
@@ -72,6 +70,13 @@ impl ToStream {
         }
     }
 
+    /// The instant of the last tick, if there was one.
+    pub fn last_tick(&self) -> Option<u64>
+        ensures { result ≡ self.now.last }
+    {
+        self.last
+    }
+
     /// What a turn needs of the state: at a tick the rows that answer, in order. It costs as much
     /// as these. An error says that memory was refused; nothing is changed.
     pub fn near(&self, alloc: Global, item: &Item) -> Result<Vec<Row>, AllocError>
@@ -100,24 +105,24 @@ impl ToStream {
     /// The whole turn in place: the answers stand behind those that wait, and the state is that
     /// after the item. An error says that memory was refused; the answers are then as they were,
     /// and the state can only be dropped.
-    pub fn run(&mut self, item: &Item, answers: &mut VecDeque<(u64, Row)>) -> Result<(), AllocError>
+    pub fn run(&mut self, item: &Item, answers: &mut DatedRows) -> Result<(), AllocError>
         requires { HasRoom self.old item.now }
-        ensures answers { OnOk result (answers_of answers.new.items
-            ≡ answers_of answers.old.items ++ out item.now (near self.old item.now)) }
+        ensures answers { OnOk result (answers.new
+            ≡ answers.old ++ out item.now (near self.old item.now)) }
         ensures state { OnOk result (self.new ≡ next self.old item.now) }
         ensures law { OnOk result (StepLaw self.old item.now self.new) }
-        ensures err { OnErr result (answers.new.items ≡ answers.old.items) }
+        ensures err { OnErr result (answers.new ≡ answers.old) }
     {
         self.turn(item, answers)?;
         Ok(())
     }
 
-    fn turn(&mut self, item: &Item, answers: &mut VecDeque<(u64, Row)>) -> Result<(), AllocError>
+    fn turn(&mut self, item: &Item, answers: &mut DatedRows) -> Result<(), AllocError>
         requires { HasRoom self.old item.now }
-        ensures answers { OnOk result (answers_of answers.new.items
-            ≡ answers_of answers.old.items ++ out item.now (near self.old item.now)) }
+        ensures answers { OnOk result (answers.new
+            ≡ answers.old ++ out item.now (near self.old item.now)) }
         ensures state { OnOk result (self.new ≡ next self.old item.now) }
-        ensures err { OnErr result (answers.new.items ≡ answers.old.items) }
+        ensures err { OnErr result (answers.new ≡ answers.old) }
     {
         match item {
             Item::Rows(_, batch) => self.delta.apply(batch)?,
@@ -126,13 +131,12 @@ impl ToStream {
         Ok(())
     }
 
-    /// The tick in place. All memory is taken before the first answer is pushed.
-    fn answer(&mut self, at: u64, answers: &mut VecDeque<(u64, Row)>) -> Result<(), AllocError>
-        ensures answers { OnOk result (answers_of answers.new.items
-            ≡ answers_of answers.old.items
-            ++ map (λ r. (at, r)) (shown self.old.operator self.old)) }
+    /// The tick in place. Where memory is refused the answers are as they were.
+    fn answer(&mut self, at: u64, answers: &mut DatedRows) -> Result<(), AllocError>
+        ensures answers { OnOk result (answers.new
+            ≡ answers.old ++ map (λ r. (at, r)) (shown self.old.operator self.old)) }
         ensures state { OnOk result (self.new ≡ ticked self.old at) }
-        ensures err { OnErr result (answers.new.items ≡ answers.old.items) }
+        ensures err { OnErr result (answers.new ≡ answers.old) }
     {
         self.put(at, answers)?;
         self.end(at);
@@ -140,13 +144,12 @@ impl ToStream {
     }
 
     /// The answers of a tick. Of Rstream the relation now becomes that of the last tick.
-    fn put(&mut self, at: u64, answers: &mut VecDeque<(u64, Row)>) -> Result<(), AllocError>
-        ensures answers { OnOk result (answers_of answers.new.items
-            ≡ answers_of answers.old.items
-            ++ map (λ r. (at, r)) (shown self.old.operator self.old)) }
+    fn put(&mut self, at: u64, answers: &mut DatedRows) -> Result<(), AllocError>
+        ensures answers { OnOk result (answers.new
+            ≡ answers.old ++ map (λ r. (at, r)) (shown self.old.operator self.old)) }
         ensures whole { OnOk result (self.new.whole ≡ kept self.old.operator self.old) }
         ensures operator { self.new.operator ≡ self.old.operator }
-        ensures err { OnErr result (answers.new.items ≡ answers.old.items) }
+        ensures err { OnErr result (answers.new ≡ answers.old) }
     {
         match self.operator {
             StreamOperator::Istream => self.delta.push_entered(at, answers),
@@ -219,11 +222,11 @@ impl ToStream {
 /// answer nothing.
 ///
 /// An error says that memory was refused; nothing is changed.
-pub fn work(alloc: Global, item: &Item, near: &[Row]) -> Result<Vec<(u64, Row)>, AllocError>
-    ensures { IfOk result (λ answers. answers_of answers.items ≡ out item.now (rows_of near.now)) }
+pub fn work(alloc: Global, item: &Item, near: &[Row]) -> Result<DatedRows, AllocError>
+    ensures { IfOk result (λ answers. answers ≡ out item.now (rows_of near.now)) }
 {
     match item {
-        Item::Rows(_, _) => Ok(Vec::new(alloc)),
+        Item::Rows(_, _) => Ok(DatedRows::new(alloc)),
         Item::Tick(at) => {
             let answers = at_instant(alloc, *at, near)?;
             Ok(answers)
@@ -231,13 +234,12 @@ pub fn work(alloc: Global, item: &Item, near: &[Row]) -> Result<Vec<(u64, Row)>,
     }
 }
 
-fn at_instant(alloc: Global, at: u64, rows: &[Row]) -> Result<Vec<(u64, Row)>, AllocError>
-    ensures { IfOk result (λ answers. answers_of answers.items
-        ≡ map (λ r. (at, r)) (rows_of rows.now)) }
+fn at_instant(alloc: Global, at: u64, rows: &[Row]) -> Result<DatedRows, AllocError>
+    ensures { IfOk result (λ answers. answers ≡ map (λ r. (at, r)) (rows_of rows.now)) }
 {
-    let mut answers = Vec::with_capacity(alloc, rows.len())?;
+    let mut answers = DatedRows::new(alloc);
     for row in rows {
-        answers.push((at, copy_row(row)))?;
+        answers.push(at, row.as_slice())?;
     }
     Ok(answers)
 }

@@ -34,7 +34,7 @@ pub data Outs : Type 0 where
 
 abbrev pub outs_in : Outputs → Outs
 outs_in (Items items) = Put (flat_map entries_of items.items)
-outs_in (Answers answers) = Answered (root.answers_of answers.items)
+outs_in (Answers answers) = Answered answers
 
 -- THE EXCERPT FITS THE NODE AND THE ITEM
 

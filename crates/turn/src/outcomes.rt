@@ -1,7 +1,7 @@
 //! What a turn makes.
 
 use op_queue::Item;
-use values::Row;
+use row_bags::DatedRows;
 
 /// What a turn puts out.
 #[derive(Drop)]
@@ -9,7 +9,7 @@ pub enum Outputs {
     /// Items for the operator above.
     Items(Vec<Item>),
     /// Of a root: answers in order, each with its instant.
-    Answers(Vec<(u64, Row)>),
+    Answers(DatedRows),
 }
 
 /// What a turn changes of its operator's state beyond what the item itself says.

@@ -4,6 +4,8 @@ pub mod Windows
 pub mod Cuts
 pub mod Reading
 pub mod Printing
+pub mod AlikeLemmas
+pub mod Leading
 pub mod Scripts
 pub mod Turns
 pub mod Numerals

@@ -5,11 +5,16 @@ use Rattle.wire.specs.Devices.{AppendsFront}
 use Rattle.wire.specs.Calls.{Call, call_of}
 use Rattle.wire.specs.Printed.{Answer, done, rows, operators, refused, unread, line_of}
 use Rattle.wire.specs.Requests.{requests_of, Reads, BeginsWithRequest, HasNoRequest}
+use Rattle.reference.specs.Alike.{Alike}
 use Rattle.reference.specs.World.{World}
-use Rattle.wire.specs.Script.{replies, script, Says, Begins, BeginsScarce, Scripts, AnswersCall, Replies, Runs, Stands, TellsScarcity, RestsOn, served, is_scarce_answer, is_scarce_reply}
+use Rattle.reference.proofs.AlikeLemmas.{world_itself}
+use Rattle.laws_forgetting.proofs.EquivalenceLemmas.{worlds_joined}
+use Rattle.wire.specs.Script.{replies, script, Says, Begins, BeginsScarce, Scripts, AnswersCall, LeadsAlike, Replies, Runs, Stands, TellsScarcity, RestsOn, answered, served, is_scarce_answer, is_scarce_reply}
 use Rattle.wire.specs.declared.request.Request.{Request}
 use Rattle.wire.specs.declared.request.WireFault.{WireFault}
 use Rattle.wire.specs.declared.request.WireFault.TheVariants.{NotJson, BadRequest, LineTooLong, OutOfMemory}
+use Rattle.wire.proofs.AlikeLemmas.{replies_alike, served_alike}
+use Rattle.wire.proofs.Leading.{goes_there, leads_alike}
 use Rattle.wire.proofs.Sinks.{append_nothing}
 
 -- ---- one request
@@ -26,21 +31,21 @@ plenty_answered call (unread LineTooLong) plenty = plenty
 plenty_answered call (unread OutOfMemory) plenty = cc
 
 replies_call : (w : World) (call : Call) (answer : Answer) (new : World) → AnswersCall w call answer new → Replies w (Ok call) answer new
-replies_call w call answer new met plenty = met.0 (plenty_answered call answer plenty)
+replies_call w call answer new met plenty = leads_alike call (answered w call) answer new (met.0 (plenty_answered call answer plenty))
 
 pub serves_call : (w : World) (request : Request) (answer : Answer) (new : World) (defined : Result Call WireFault) → defined ≡ Ok (call_of request)
     → AnswersCall w (call_of request) answer new → Replies w defined answer new
 serves_call w request answer new defined is met = subst (λ d. Replies w d answer new) (sym is) (replies_call w (call_of request) answer new met)
 
 pub serves_fault : (w : World) (fault : WireFault) (defined : Result Call WireFault) → Reads defined (Err fault) → Replies w defined (unread fault) w
-serves_fault w NotJson defined is plenty = ap (served w) is
-serves_fault w BadRequest defined is plenty = ap (served w) is
-serves_fault w LineTooLong defined is plenty = ap (served w) is
-serves_fault w OutOfMemory (Ok call) is plenty = cc
-serves_fault w OutOfMemory (Err NotJson) is plenty = cc
-serves_fault w OutOfMemory (Err BadRequest) is plenty = cc
+serves_fault w NotJson defined is plenty = goes_there (served w defined) (unread NotJson) w (ap (served w) is)
+serves_fault w BadRequest defined is plenty = goes_there (served w defined) (unread BadRequest) w (ap (served w) is)
+serves_fault w LineTooLong defined is plenty = goes_there (served w defined) (unread LineTooLong) w (ap (served w) is)
+serves_fault w OutOfMemory (Ok call) is plenty = absurd (cc)
+serves_fault w OutOfMemory (Err NotJson) is plenty = absurd (cc)
+serves_fault w OutOfMemory (Err BadRequest) is plenty = absurd (cc)
 serves_fault w OutOfMemory (Err LineTooLong) is plenty = absurd (is refl)
-serves_fault w OutOfMemory (Err OutOfMemory) is plenty = cc
+serves_fault w OutOfMemory (Err OutOfMemory) is plenty = absurd (cc)
 
 pub rests_call : (N : Type 0) (request : Request) (answer : Answer) (defined : Result Call WireFault) → defined ≡ Ok (call_of request)
     → RestsOn N (Ok (call_of request)) answer → RestsOn N defined answer
@@ -53,9 +58,9 @@ whole_call W request answer defined is keeps plenty =
 
 -- ---- what was said so far
 
--- these requests were answered so one after the other, and led from the world `first` to the world `now`
+-- these requests were answered so one after the other, and no call tells the world `now` from the one that they led to from `first`
 abbrev pub Answered : World → List (Result Call WireFault) → List ℕ → World → Type 0
-Answered first [] written now = (written ≡ []) × (now ≡ first)
+Answered first [] written now = (written ≡ []) × Alike first now
 Answered first (request ∷ more) written now =
     (rest : List ℕ) × (written ≡ line_of (served first request).0 ++ rest) × Answered (served first request).1 more rest now
 
@@ -93,12 +98,12 @@ begins_more N request written more b = (b.0, b.1 ++ more, b.2, b.3, behind writt
 
 -- the next request was answered as it is defined
 answered_more : (first : World) (carried : List (Result Call WireFault)) (written : List ℕ) (w new : World) (defined : Result Call WireFault) (answer : Answer)
-    → Answered first carried written w → served w defined ≡ (answer, new) → Answered first (carried ++ defined ∷ []) (written ++ line_of answer) new
+    → Answered first carried written w → LeadsAlike (served w defined) answer new → Answered first (carried ++ defined ∷ []) (written ++ line_of answer) new
 answered_more first [] written w new defined answer a s =
-    let step : served first defined ≡ (answer, new) = ap (λ v. served v defined) (sym a.1) ∙ s in (
+    let same = served_alike first w a.1 defined in (
       [],
-      ap (λ l. l ++ line_of answer) a.0 ∙ sym (append_nothing (line_of answer)) ∙ ap (λ p. line_of p.0 ++ []) (sym step),
-      (refl, ap (λ p. p.1) (sym step)),
+      ap (λ l. l ++ line_of answer) a.0 ∙ sym (append_nothing (line_of answer)) ∙ ap (λ r. line_of r ++ []) (sym (same.0 ∙ s.0)),
+      (refl, worlds_joined (served first defined).1 (served w defined).1 new same.1 s.1),
     )
 answered_more first (request ∷ more) written w new defined answer a s = (
   a.0 ++ line_of answer,
@@ -160,7 +165,7 @@ says_all N w (request ∷ requests) =
 answered_says : (N : Type 0) (first : World) (carried : List (Result Call WireFault)) (written : List ℕ) (w : World) (later : List (Result Call WireFault)) (more : List ℕ)
     → Answered first carried written w → Says N later (replies w later) more → Says N (carried ++ later) (replies first (carried ++ later)) (written ++ more)
 answered_says N first [] written w later more a says =
-    subst (λ t. Says N later (replies first later) t) (ap (λ l. l ++ more) (sym a.0)) (subst (λ v. Says N later (replies v later) more) a.1 says)
+    subst (λ t. Says N later (replies first later) t) (ap (λ l. l ++ more) (sym a.0)) (subst (λ ls. Says N later ls more) (sym (replies_alike first w a.1 later)) says)
 answered_says N first (request ∷ carried) written w later more a says = inl (
   a.0 ++ more,
   behind written (line_of (served first request).0) a.0 more a.1,
@@ -253,7 +258,7 @@ pub progress_none : (N : Type 0) (W : Type 0) (first : World) (source : Option (
 progress_none N W first source pending whole e text is = (
   text,
   ap (prepend_known pending) is ∙ ap (λ p. Some (p ++ text)) e,
-  record { carried = []; split = refl; goes = inl (whole, (refl, refl)) },
+  record { carried = []; split = refl; goes = inl (whole, (refl, world_itself first)) },
 )
 
 some_same : (x y : List ℕ) → Some x ≡ Some y → x ≡ y

@@ -1,15 +1,17 @@
--- The rows of a drain's turns change nothing.
+-- The rows of a drain's turns change nothing, and giving up rows changes no answer.
 use Rattle.std.proofs.Common.{◌≡◌, ◌≤◌, ◌<◌, ℕ, Bool, true, false, refl, ap, sym, subst, ◌∙◌, [], ◌∷◌, Result, Ok, Err, map, ◌⊎◌, inl, inr}
-use Rattle.std.specs.Prelude.{not, ◌&&◌, nat_le, None, ⊤}
+use Rattle.std.specs.Prelude.{not, ◌&&◌, nat_le, None, ⊤, OnOk, OnErr, IfErr}
 use Rattle.std.proofs.lemmas.Bool.{le-leb, false≢true}
-use Rattle.reference.specs.World.{World, Step, Drains, StopsEarly, IsPlenty, is_scarce, drain_step, drain_fault, unless, untaken}
+use Rattle.reference.specs.Alike.{Alike}
+use Rattle.reference.specs.World.{World, Step, Drains, IsPlenty, IsTurnSize, StopsEarly, is_scarce, drain_step, drain_fault, unless, untaken}
 use Rattle.names.specs.Faults.{first_of}
 use Rattle.reference.specs.declared.limits.TheConstants.{MAX_TURN}
 use Rattle.reference.specs.declared.fault.Fault.{Fault}
 use Rattle.reference.specs.declared.fault.Fault.TheVariants.{Query, BadName, NameTaken, BadColumns, TooMany, UnknownStream, UnknownQuery, BadWidth, ValueRange, InstantRange, Late, Backward, Leap, StreamFull, BadLimit, Broken, UnknownLease, Stranger, TooManyLeases, HistoryFull, OutOfMemory, Foreign}
-use Rattle.wire.specs.Calls.{drain}
-use Rattle.wire.specs.Printed.{Answer, refused}
+use Rattle.wire.specs.Calls.{drain, forget}
+use Rattle.wire.specs.Printed.{Answer, done, refused}
 use Rattle.wire.specs.Script.{done_of, done_step, is_scarce_answer, AnswersCall, RestsOn}
+use Rattle.wire.proofs.Leading.{goes_alike, goes_there}
 
 legal : (rows : ℕ) → 0 < rows → rows ≤ 1024 → (nat_le 1 rows && nat_le rows MAX_TURN) ≡ true
 legal rows low high = ap (λ b. b && nat_le rows MAX_TURN) (le-leb 1 rows low) ∙ le-leb rows MAX_TURN high
@@ -72,41 +74,45 @@ scarce_drain (Foreign entries) = refl
 scarce_drain TooManyLeases = refl
 scarce_drain OutOfMemory = refl
 
-drained : (old new : World) (rows : ℕ) → 0 < rows → rows ≤ 1024 → (result : Result ⊤ Fault) → Drains old (drain_step old rows) result new
-    → AnswersCall old drain (done_of result) new
-drained old new rows low high (Ok a) d = (λ plenty. ap done_step (sym (same_drain old rows low high) ∙ d), λ short. absurd (false≢true short))
-drained old new rows low high (Err fault) d =
+-- what a drain is answered that was done; the world after it may be any that no call tells from the one that it led to
+pub drain_done : (old now new : World) (rows : ℕ) (a : ⊤) → IsTurnSize rows → Drains old (drain_step old rows) (Ok a) now → Alike now new
+    → AnswersCall old drain done new
+drain_done old now new rows a range d alike = (
+  λ plenty. goes_alike (done_step (drain_step old 1)) done now new (ap done_step (sym (same_drain old rows range.0 range.1) ∙ d)) alike,
+  λ short. absurd (false≢true short),
+)
+
+-- what a drain is answered that was refused
+pub drain_refused : (old new : World) (rows : ℕ) (fault : Fault) → IsTurnSize rows → Drains old (drain_step old rows) (Err fault) new
+    → AnswersCall old drain (refused fault) new
+drain_refused old new rows fault range d =
     elim (refused_drain old new (drain_step old rows) fault d) [
       | inl early ↦ (
         λ plenty. absurd (false≢true (sym plenty ∙ scarce_drain fault ∙ early.0)),
-        λ short. subst (λ (step : Step ⊤). StopsEarly old step new) (same_drain old rows low high) early.1,
+        λ short. subst (λ (step : Step ⊤). StopsEarly old step new) (same_drain old rows range.0 range.1) early.1,
       )
-      | inr done ↦ (
-        λ plenty. ap done_step (sym (same_drain old rows low high) ∙ done.1),
-        λ short. absurd (false≢true (sym done.0 ∙ sym (scarce_drain fault) ∙ short)),
+      | inr stays ↦ (
+        λ plenty. goes_there (done_step (drain_step old 1)) (refused fault) new (ap done_step (sym (same_drain old rows range.0 range.1) ∙ stays.1)),
+        λ short. absurd (false≢true (sym stays.0 ∙ sym (scarce_drain fault) ∙ short)),
       )
     ]
 
--- a drain whose reply says nothing scarce
-drained_plenty : (result : Result ⊤ Fault) → is_scarce_answer drain (done_of result) ≡ false → IsPlenty result
-drained_plenty (Ok a) plenty = tt
-drained_plenty (Err fault) plenty = sym (scarce_drain fault) ∙ plenty
+-- what a refused drain's answer rests on is what its fault says
+pub drain_rests : (N : Type 0) (result : Result ⊤ Fault) (fault : Fault) → result ≡ Err fault → (result ≡ Err TooManyLeases → N) → RestsOn N (Ok drain) (refused fault)
+drain_rests N result fault is wants same told = wants (cc)
 
--- a reply that says of a drain's result that it is this fault
-told_fault : (result : Result ⊤ Fault) (fault : Fault) → done_of result ≡ refused fault → result ≡ Err fault
-told_fault (Ok a) fault e = cc
-told_fault (Err f) fault e = cc
+-- a drain that was refused, and not for what was scarce
+pub drain_leaves_whole : (W : Type 0) (result : Result ⊤ Fault) (fault : Fault) → result ≡ Err fault → (IsPlenty result → W)
+    → is_scarce_answer drain (refused fault) ≡ false → W
+drain_leaves_whole W result fault is keeps plenty = keeps (subst IsPlenty (sym is) (sym (scarce_drain fault) ∙ plenty))
 
--- what a drain that is told as it ended is answered
-pub drain_answers : (old new : World) (rows : ℕ) (result : Result ⊤ Fault) (answer : Answer) → 0 < rows × rows ≤ 1024
-    → answer ≡ done_of result → Drains old (drain_step old rows) result new → AnswersCall old drain answer new
-drain_answers old new rows result answer range is d =
-    subst (λ a. AnswersCall old drain a new) (sym is) (drained old new rows range.0 range.1 result d)
-
-pub drain_rests : (N : Type 0) (result : Result ⊤ Fault) (answer : Answer)
-    → answer ≡ done_of result → (result ≡ Err TooManyLeases → N) → RestsOn N (Ok drain) answer
-drain_rests N result answer is wants same told = wants (told_fault result TooManyLeases (sym is ∙ told))
-
-pub drain_leaves_whole : (W : Type 0) (result : Result ⊤ Fault) (answer : Answer) → answer ≡ done_of result
-    → (IsPlenty result → W) → is_scarce_answer drain answer ≡ false → W
-drain_leaves_whole W result answer is keeps plenty = keeps (drained_plenty result (ap (is_scarce_answer drain) (sym is) ∙ plenty))
+-- what is answered where rows are to be given up
+pub forget_answers : (old new : World) (result : Result ⊤ Fault) (answer : Answer) → answer ≡ done_of result
+    → OnOk result (Alike old new) → IfErr result (λ fault. fault ≡ OutOfMemory) → OnErr result (new ≡ old) → AnswersCall old forget answer new
+forget_answers old new (Ok a) answer is alike lacks same =
+    subst (λ r. AnswersCall old forget r new) (sym is) (λ plenty. (refl, alike), λ short. absurd (false≢true short))
+forget_answers old new (Err fault) answer is alike lacks same =
+    subst (λ r. AnswersCall old forget r new) (sym is) (
+      λ plenty. absurd (false≢true (sym plenty ∙ ap (λ f. is_scarce_answer forget (refused f)) lacks)),
+      λ short. (same, tt),
+    )

@@ -2,7 +2,7 @@
 use Rattle.std.specs.Prelude.{ℕ, ℤ, List, [], ◌∷◌, Option, Some, None, option_map, option_and_then, codes, if◌then◌else◌, bytes_eq}
 use Rattle.serde_json.specs.Data.{Data, null, boolean, number, string, array, object, Items, no_items, item}
 use Rattle.serde_json.specs.Find.{get, as_str, as_number, as_array, as_i64}
-use Rattle.wire.specs.Calls.{NewRow, Call, declare, register, append, heartbeat, drain, take_rows, discard, show_plan}
+use Rattle.wire.specs.Calls.{NewRow, Call, declare, register, append, heartbeat, drain, take_rows, discard, forget, show_plan}
 
 -- ---- the kinds of value
 
@@ -95,7 +95,8 @@ asked_by op d =
     if bytes_eq op (codes "drain") then Some drain else (
     if bytes_eq op (codes "take") then take_in d else (
     if bytes_eq op (codes "drop") then discard_in d else (
-    if bytes_eq op (codes "plan") then plan_in d else None)))))))
+    if bytes_eq op (codes "forget") then Some forget else (
+    if bytes_eq op (codes "plan") then plan_in d else None))))))))
 
 -- the call, or none where the value is no request
 unfoldable pub asked : Data → Option Call

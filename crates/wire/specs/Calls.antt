@@ -3,7 +3,7 @@ use Rattle.std.specs.Prelude.{ℕ, ℤ, List, Option, string_bytes}
 use Rattle.plan.specs.Chart.{given_by}
 use Rattle.reference.specs.CallViews.{texts_of}
 use Rattle.wire.specs.declared.request.Request.{Request}
-use Rattle.wire.specs.declared.request.Request.TheVariants.{Stream, Query, Append, Heartbeat, Drain, Take, Drop, Plan}
+use Rattle.wire.specs.declared.request.Request.TheVariants.{Stream, Query, Append, Heartbeat, Drain, Take, Drop, Forget, Plan}
 
 -- a row of an append: its instant, then its values
 abbrev pub NewRow : Type 0
@@ -24,6 +24,8 @@ pub data Call : Type 0 where
   take_rows : List ℕ → ℤ → Call
   -- a query is dropped
   discard : List ℕ → Call
+  -- the rows that no query needs any longer are given up
+  forget : Call
   -- the operators of a query are shown
   show_plan : List ℕ → Call
 
@@ -35,4 +37,5 @@ call_of (Heartbeat stream at) = heartbeat (string_bytes stream) at
 call_of Drain = drain
 call_of (Take query limit) = take_rows (string_bytes query) limit
 call_of (Drop query) = discard (string_bytes query)
+call_of Forget = forget
 call_of (Plan query) = show_plan (string_bytes query)

@@ -3,11 +3,12 @@ use Rattle.std.specs.Prelude.{◌≡◌, ℕ, ℤ, Bool, true, false, List, [], 
 use Rattle.values.specs.Row.{Row}
 use Rattle.envelope.specs.Fraction.{Fraction}
 use Rattle.plan.specs.declared.node.Kind.{Kind}
+use Rattle.reference.specs.Alike.{Alike}
 use Rattle.reference.specs.World.{World, Step, MayLackMemory, StopsEarly, stream_named, query_named, declare_step, register_step, append_step, heartbeat_step, drain_step, take_step, drop_step, slopes_at}
 use Rattle.reference.specs.declared.fault.Fault.{Fault}
 use Rattle.reference.specs.declared.fault.Fault.TheVariants as in_engine
 use Rattle.reference.specs.declared.fault.Fault.TheVariants.{TooManyLeases}
-use Rattle.wire.specs.Calls.{Call, declare, register, append, heartbeat, drain, take_rows, discard, show_plan}
+use Rattle.wire.specs.Calls.{Call, declare, register, append, heartbeat, drain, take_rows, discard, forget, show_plan}
 use Rattle.wire.specs.Printed.{Answer, done, rows, operators, refused, unread, line_of}
 use Rattle.wire.specs.Requests.{requests_of}
 use Rattle.wire.specs.declared.request.WireFault.{WireFault}
@@ -36,7 +37,8 @@ abbrev pub if_named : World → Fault → (ℕ → Answer × World) → Option �
 if_named w fault step None = (refused fault, w)
 if_named w fault step (Some n) = step n
 
--- what a call is answered, and the world after it; the rows of a drain's turns change nothing
+-- what a call is answered, and the world after it; the rows of a drain's turns change nothing, and giving up rows changes nothing
+-- that a later call tells
 abbrev pub answered : World → Call → Answer × World
 answered w (declare name columns start) = done_step (declare_step w name columns start)
 answered w (register name text chart) = done_step (register_step w name text chart)
@@ -46,6 +48,7 @@ answered w drain = done_step (drain_step w 1)
 answered w (take_rows query limit) = if_named w in_engine.UnknownQuery (λ n. rows_step (take_step w n limit)) (query_named w query)
 answered w (show_plan query) = if_named w in_engine.UnknownQuery (λ n. (operators_or (slopes_at w n), w)) (query_named w query)
 answered w (discard query) = if_named w in_engine.UnknownQuery (λ n. done_step (drop_step w n)) (query_named w query)
+answered w forget = (done, w)
 
 -- what a request is answered, and the world after it; a line that is no request changes nothing
 abbrev pub served : World → Result Call WireFault → Answer × World
@@ -91,21 +94,34 @@ abbrev pub LeavesOff : World → Call → World → Type 0
 LeavesOff old drain new = StopsEarly old (drain_step old 1) new
 LeavesOff old call new = (new ≡ old) × MayLackMemory (result_of (answered old call).0)
 
+-- The answer is the defined one, and no later call tells the world after it from the defined one.
+abbrev pub LeadsAlike : Answer × World → Answer → World → Type 0
+LeadsAlike defined answer new = (defined.0 ≡ answer) × Alike defined.1 new
+
+-- A call leads to the defined answer and world. Behind a drain, and where it is asked for, rows are given up, which no later call
+-- tells.
+abbrev pub LeadsTo : Call → Answer × World → Answer → World → Type 0
+LeadsTo drain defined answer new = LeadsAlike defined answer new
+LeadsTo forget defined answer new = LeadsAlike defined answer new
+LeadsTo call defined answer new = defined ≡ (answer, new)
+
 -- The engine's answer to a call and the world after it are the defined ones, unless the answer says that something was scarce.
 abbrev pub AnswersCall : World → Call → Answer → World → Type 0
 AnswersCall old call answer new =
-    (is_scarce_answer call answer ≡ false → answered old call ≡ (answer, new))
+    (is_scarce_answer call answer ≡ false → LeadsTo call (answered old call) answer new)
     × (is_scarce_answer call answer ≡ true → LeavesOff old call new)
 
--- An engine has to be whole for its drains and its takes to be answered so.
+-- An engine has to be whole for its drains and its takes to be answered so, and to give up rows unseen.
 abbrev pub NeedsWhole : Call → Type 0
 NeedsWhole drain = ⊤
 NeedsWhole (take_rows query limit) = ⊤
+NeedsWhole forget = ⊤
 NeedsWhole call = ⊥
 
--- The reply and the world after it are the defined ones, unless the reply says that something was scarce.
+-- The reply is the defined one, and no later request tells the world after it from the defined one, unless the reply says that
+-- something was scarce.
 abbrev pub Replies : World → Result Call WireFault → Answer → World → Type 0
-Replies old request answer new = is_scarce_reply request answer ≡ false → served old request ≡ (answer, new)
+Replies old request answer new = is_scarce_reply request answer ≡ false → LeadsAlike (served old request) answer new
 
 -- The text begins with a reply to this request that says that memory, or numbers for a drain's turns, were scarce; numbers
 -- only where there are none.
@@ -126,10 +142,10 @@ Says wanted requests lines written = ⊥
 abbrev pub Begins : Type 0 → List (Result Call WireFault) → List (List ℕ) → List ℕ → Type 0
 Begins wanted requests lines written = (more : List ℕ) × Says wanted requests lines (written ++ more)
 
--- From the world `first` on these requests were answered by the written text, and this is the world after them; up to a
--- reply that says that memory, or numbers for a drain's turns, were scarce.
+-- From the world `first` on these requests were answered by the written text, and no later request tells this world from the one
+-- that they lead to; up to a reply that says that memory, or numbers for a drain's turns, were scarce.
 abbrev pub Runs : Type 0 → World → List (Result Call WireFault) → List ℕ → World → Type 0
-Runs wanted first [] written now = (written ≡ []) × (now ≡ first)
+Runs wanted first [] written now = (written ≡ []) × Alike first now
 Runs wanted first (request ∷ more) written now =
     ((rest : List ℕ) × (written ≡ line_of (served first request).0 ++ rest) × Runs wanted (served first request).1 more rest now)
     ⊎ BeginsScarce wanted request written

@@ -314,6 +314,9 @@ fn asked_by(alloc: Global, op: &str, value: &Value) -> Result<Option<Request>, A
     if op == "drop" {
         return discard_in(alloc, value);
     }
+    if op == "forget" {
+        return Ok(Some(Request::Forget));
+    }
     if op == "plan" {
         return plan_in(alloc, value);
     }

@@ -10,6 +10,7 @@ mod decode;
 mod device;
 mod digits;
 mod fault;
+mod laws;
 mod lines;
 mod page;
 mod read;
@@ -22,6 +23,7 @@ pub use device::{
     DeviceFailed, MemorySink, MemorySource, ReaderSource, Sink, Source, WriterSink, put,
 };
 pub use fault::ScriptFault;
+pub use laws::alike_worlds_have_one_script;
 pub use lines::Lines;
 pub use read::{next_request, read_request};
 pub use reply::{Reply, write_reply};

@@ -37,6 +37,8 @@ pub enum Request {
     Drop {
         query: String,
     },
+    /// Gives up the rows that no query needs any longer.
+    Forget,
     /// Shows the operators of a query and their slopes.
     Plan {
         query: String,

@@ -5,8 +5,8 @@ ghost use Rattle.reference.specs.World.{IsTurnSize};
 ghost use Rattle.wire.specs.Devices.{Rises};
 ghost use Rattle.wire.specs.Held.{ahead, work};
 ghost use Rattle.wire.specs.Paged.{Writes};
-ghost use Rattle.wire.specs.Calls.{Call, append, heartbeat, drain, take_rows, discard, show_plan};
-ghost use Rattle.wire.specs.Calls.{call_of};
+ghost use Rattle.wire.specs.Calls.{Call, append, heartbeat, drain, take_rows, discard, forget};
+ghost use Rattle.wire.specs.Calls.{show_plan, call_of};
 ghost use Rattle.wire.specs.Printed.{Answer, answer_of, line_of};
 ghost use Rattle.wire.specs.Requests.{BeginsWithRequest, HasNoRequest, Reads, requests_of};
 ghost use Rattle.wire.specs.Script.{answered, done_of, is_scarce_answer, is_scarce_reply, script};
@@ -58,7 +58,8 @@ fn heartbeat<E: Answering>(engine: &mut E, stream: &str, at: i64) -> Reply
     }
 }
 
-// By turns of at most so many rows.
+// By turns of at most so many rows. Behind it the rows that no query needs any longer are given up,
+// where that pays.
 #[tactic(auto, using(crate::proofs::Turns::drain_rests, crate::proofs::Turns::drain_leaves_whole))]
 fn drain<E: Answering>(engine: &mut E, rows: u32) -> Reply
     requires rows { IsTurnSize rows }
@@ -70,7 +71,23 @@ fn drain<E: Answering>(engine: &mut E, rows: u32) -> Reply
         → E.is_whole engine.new }
     ensures spent { E.has_numbers engine.new → E.has_numbers engine.old }
 {
-    done(engine.drain(rows))
+    match engine.drain(rows) {
+        Ok(()) => {
+            engine.tidy();
+            Reply::Done
+        }
+        Err(fault) => Reply::Refused(fault),
+    }
+}
+
+#[tactic(auto, using(crate::proofs::Turns::forget_answers))]
+fn forget<E: Answering>(engine: &mut E) -> Reply
+    ensures answers { E.is_whole engine.old
+        → AnswersCall (E.world engine.old) forget (answer_of result) (E.world engine.new) }
+    ensures whole { E.is_whole engine.old → E.is_whole engine.new }
+    ensures spent { E.has_numbers engine.new → E.has_numbers engine.old }
+{
+    done(engine.forget())
 }
 
 fn take<E: Answering>(engine: &mut E, query: &str, limit: i64) -> Reply
@@ -119,8 +136,11 @@ fn show_plan<E: Answering>(engine: &E, query: &str) -> Reply
 /// The answer is the machine's, unless it is want of memory, which no drop is answered, or, of a
 /// drain, want of numbers for turns: then the engine has none left. Want of memory stands only in
 /// place of an acceptance or of a fault of a query's text, and then all is as it was, but that a
-/// drain may have made some answers wait. A drain and a take are answered so by an engine that is
-/// whole, and all other requests by any engine.
+/// drain may have made some answers wait. A drain, a take and a `forget` are answered so by an
+/// engine that is whole, and all other requests by any engine.
+///
+/// Behind a drain, where that pays, and at a `forget` rows are given up that no later answer needs:
+/// no later call tells the world then from the machine's.
 pub fn answer<E: Answering>(engine: &mut E, request: &Request, rows: u32) -> Reply
     requires rows { IsTurnSize rows }
     ensures answers { (NeedsWhole (call_of request.now) → E.is_whole engine.old)
@@ -147,6 +167,7 @@ pub fn answer<E: Answering>(engine: &mut E, request: &Request, rows: u32) -> Rep
         Request::Drain => drain(engine, rows),
         Request::Take { query, limit } => take(engine, query.as_str(), *limit),
         Request::Drop { query } => discard(engine, query.as_str()),
+        Request::Forget => forget(engine),
         Request::Plan { query } => show_plan(engine, query.as_str()),
     }
 }

@@ -1,7 +1,7 @@
 //! What workers call. They need no seat.
 ghost use Rattle.std.specs.Prelude.{IfErr, IfOk};
-ghost use Rattle.hub.specs.Steps.{PlainLocked, Ends, GivesUp, Hands, HasEnded, Lends, Rests};
-ghost use Rattle.hub.specs.Steps.{Withholds};
+ghost use Rattle.hub.specs.Steps.{PlainLocked, Ends, Forgets, GivesUp, Hands, HasEnded, Lends};
+ghost use Rattle.hub.specs.Steps.{Rests, Withholds};
 ghost use Rattle.hub.specs.Tries.{MatchLeaseRest, MatchLeaseWait};
 
 use crate::hub::{Hub, LeaseRest, LeaseWait};
@@ -39,6 +39,17 @@ impl Hub {
         drop(locked);
         self.moved.notify_all();
         answer
+    }
+
+    /// Gives up the rows that no query needs, and all entries: the history begins anew with what is
+    /// left. It needs no seat and makes no entry; numbers go on.
+    ///
+    /// # Errors
+    /// `OutOfMemory`; then nothing is changed.
+    pub fn forget<R: Wait>(&self, rt: &R) -> Result<(), Fault>
+        ensures { (old : PlainLocked) × (new : PlainLocked) × Forgets old result new }
+    {
+        self.locked.lock(rt).forget()
     }
 
     /// From now on `lease_wait` answers `Ended`, also where it waits.

@@ -1,6 +1,6 @@
 //! What clients call. An accepted call is one call on the engine, one entry and one receipt; a
 //! refused one changes nothing.
-ghost use Rattle.std.specs.Prelude.{◌≡◌, ◌≤◌, ◌<◌, IfOk, IfErr, [], length, string_bytes};
+ghost use Rattle.std.specs.Prelude.{◌≡◌, ◌≤◌, IfOk, IfErr, [], string_bytes};
 ghost use Rattle.std.specs.Prelude.{vec_capacity};
 ghost use Rattle.std.specs.Arc.{arc_value};
 ghost use Rattle.plan.specs.Chart.{given_by};
@@ -9,10 +9,10 @@ ghost use Rattle.reference.specs.Commands.{Declare, Register, Append, Heartbeat,
 ghost use Rattle.reference.specs.Replies as replies;
 ghost use Rattle.reference.specs.Replies.{Number, Rows};
 ghost use Rattle.hub.specs.Seats.{reach};
-ghost use Rattle.hub.specs.Steps.{Accepted, Barred, Declined};
+ghost use Rattle.hub.specs.Steps.{Accepted, Barred, Declined, HasRoom, next_number};
 
 use crate::carry::{carry_out, room_for};
-use crate::locked::Locked;
+use crate::locked::{Locked, MAX_ENTRIES};
 use crate::seat::Seat;
 use histories::{Command, CommandKind, Entry, Receipt, Reply, ReplyKind};
 use plan::Chart;
@@ -171,14 +171,14 @@ impl Locked {
 
     // The tests that come before all others. Gives the number of the next entry.
     fn admit(&self, seat: &Seat) -> Result<u64, Fault>
-        ensures ok { IfOk result (λ n. (n ≡ length self.now.history) × (n < self.now.limit)
+        ensures ok { IfOk result (λ n. (n ≡ next_number self.now) × HasRoom self.now
             × (reach seat.now ≤ n)) }
         ensures err { IfErr result (Barred self.now seat.now) }
     {
-        if self.history.len() >= self.limit {
+        let number = self.first + self.history.len() as u64;
+        if self.history.len() >= self.limit || number >= MAX_ENTRIES {
             return Err(Fault::HistoryFull);
         }
-        let number = self.history.len() as u64;
         if seat.reach() > number {
             return Err(Fault::Foreign(number));
         }

@@ -1,7 +1,9 @@
 //! What clients call.
-ghost use Rattle.std.specs.Prelude.{◌≡◌, ◌≢◌, ℕ, Err, IfOk, None, OnErr, OnOk, slice_get};
+ghost use Rattle.std.specs.Prelude.{◌≡◌, ◌≢◌, ◌⊎◌, ℕ, Err, IfErr, IfOk, None, OnErr, OnOk};
+ghost use Rattle.std.specs.Prelude.{slice_get};
 ghost use Rattle.std.specs.Option.{option_copied};
 ghost use Rattle.plan.specs.Chart.{given_by};
+ghost use Rattle.reference.specs.Alike.{Alike};
 ghost use Rattle.reference.specs.CallViews.{handed_of, texts_of};
 ghost use Rattle.reference.specs.Steps.{AreNext};
 ghost use Rattle.reference.specs.World.{Does, Drains, IsPlenty, append_step, declare_step};
@@ -11,6 +13,7 @@ ghost use Rattle.reference.specs.declared.fault.Fault.TheVariants.{OutOfMemory, 
 ghost use Rattle.stream_store.specs.Closing.{QueuesGain};
 ghost use Rattle.run_queue.specs.Slots.{first_of};
 ghost use Rattle.laws_engine.specs.Calls.{appended, declared, dropped, heartbeat_taken};
+ghost use Rattle.laws_engine.specs.Openings.{forgotten};
 ghost use Rattle.laws_engine.specs.Promises.{HasAllWaiting, KeepsItsPromises};
 ghost use Rattle.leases.specs.Drains.{LeavesOthers, RunsTurns};
 ghost use Rattle.leases.specs.Queues.{LeavesQueues, LengthensQueues};
@@ -137,6 +140,28 @@ impl Answering for Engine {
         ensures promises { KeepsItsPromises (engine_in self.new) }
     {
         self.state.drop_query(query)
+    }
+
+    fn forget(&mut self) -> Result<(), Fault>
+        ensures ok { IsWhole self.old → OnOk result (Alike (world_in self.old) (world_in self.new)) }
+        ensures err { OnErr result (engine_in self.new ≡ engine_in self.old) }
+        ensures want { IfErr result (λ f. f ≡ OutOfMemory) }
+        ensures whole { IsWhole self.old → IsWhole self.new }
+        ensures spent { HasNumbers self.new → HasNumbers self.old }
+        ensures forgotten { OnOk result (engine_in self.new ≡ forgotten (engine_in self.old)) }
+        ensures promises { KeepsItsPromises (engine_in self.new) }
+    {
+        Err(Fault::OutOfMemory)
+    }
+
+    fn tidy(&mut self)
+        ensures alike { IsWhole self.old → Alike (world_in self.old) (world_in self.new) }
+        ensures whole { IsWhole self.old → IsWhole self.new }
+        ensures spent { HasNumbers self.new → HasNumbers self.old }
+        ensures forgotten { (engine_in self.new ≡ engine_in self.old)
+            ⊎ (engine_in self.new ≡ forgotten (engine_in self.old)) }
+        ensures promises { KeepsItsPromises (engine_in self.new) }
+    {
     }
 
     fn slopes(&self, query: u64) -> Result<Vec<(Kind, Slope)>, Fault> {

@@ -89,7 +89,8 @@ impl State {
         requires allowed { lease_fault (engine_in self.old) rows ≡ None }
         requires numbers { self.old.next < LEASE_NUMBERS }
         ensures ok { OnOk result (OneOrMoreHaveRun rows (engine_in self.old) (engine_in self.new)) }
-        ensures err { OnErr result (HasWantedBehind rows (engine_in self.old) (engine_in self.new)) }
+        ensures err { OnErr result
+            (HasWantedBehind rows (engine_in self.old) (engine_in self.new)) }
         ensures sound { IsSound self.new }
     {
         let above = self.above(slot.query(), slot.operator());
@@ -123,7 +124,8 @@ impl State {
             (told (engine_in self.new) slot.now above.now)) }
         ensures told_sound { OnOk result (IsSound (told_state self.new slot.now above.now)) }
         ensures may_tell { OnOk result (MayTellBoth self.new slot.now above.now) }
-        ensures err { OnErr result (HasWantedBehind rows (engine_in self.old) (engine_in self.new)) }
+        ensures err { OnErr result
+            (HasWantedBehind rows (engine_in self.old) (engine_in self.new)) }
         ensures sound { OnErr result (IsSound self.new) }
     {
         let query = slot.query();
@@ -153,8 +155,9 @@ impl State {
         }
     }
 
-    /// Whether the slot, with what its operator may take next, would stand first again, and a number
-    /// is left for one more turn. `stays` says whether the operator above has no greater slope.
+    /// Whether the slot, with what its operator may take next, would stand first again, and a
+    /// number is left for one more turn. `stays` says whether the operator above has no greater
+    /// slope.
     fn goes_on(&self, slot: &Slot, next: Option<(Side, u64)>, stays: bool) -> bool
         ensures { IsTrue result ↔ GoesOn self.now slot.now next stays }
     {

@@ -31,12 +31,14 @@ use crate::reader::Reader;
 use crate::registered::{Place, Registration};
 use crate::remains::Remains;
 use crate::state::State;
+use crate::stubs::no_answers;
 use envelope::Slope;
 use plan::{Chart, Node, Plan, slopes};
-use query_runtime::RunningQuery;
+use query_runtime::{RunningQuery, WaitingAnswers};
 use reference::{Fault, count_undropped, find_plan, first_instant, query_place, register_fault};
 use run_queue::{RunQueue, Slot};
 use std::alloc::{AllocError, Global};
+use std::sync::Arc;
 use stream_store::Streams;
 
 impl State {
@@ -113,7 +115,14 @@ impl State {
         let first = first_for(self.alloc, &self.streams, &plan.streams)?;
         let places = places_of(self.alloc, &self.streams, &plan.streams)?;
         let running = running_of(self.alloc, &plan, &places, first)?;
-        let told = registration(self.alloc, name, plan, places, first)?;
+        let told = registration(
+            self.alloc,
+            name,
+            plan,
+            places,
+            first,
+            no_answers(self.alloc),
+        )?;
         self.add(name, told, running)
     }
 
@@ -136,6 +145,7 @@ impl State {
         requires fresh { first_of (register_tests (engine_in self.old).machine name.now) ≡ None }
         requires named { (query_of told).name ≡ name.now }
         requires live { (query_of told).is_dropped ≡ false }
+        requires earlier { (query_of told).earlier ≡ [] }
         requires good { GoodEngine (registered (engine_in self.old) (query_of told) running) }
         ensures number { IfOk result (λ n. n ≡ length (engine_in self.old).machine.queries) }
         ensures engine { OnOk result (engine_in self.new
@@ -146,7 +156,7 @@ impl State {
         let number = self.next_query();
         self.registered.reserve(1)?;
         self.remains.reserve(1)?;
-        self.readers.reserve(told.plan.nodes.len())?;
+        self.readers.reserve(told.nodes().len())?;
         put_slots(
             &mut self.slots,
             &self.streams,
@@ -240,7 +250,9 @@ fn registration(
     plan: Plan,
     places: Vec<Place>,
     first: u64,
+    earlier: WaitingAnswers,
 ) -> Result<Registration, AllocError>
+    requires { earlier ≡ [] }
     ensures { IfOk result (λ r. query_of r ≡ record {
       name = name.now;
       meaning = resolved_of plan.meaning;
@@ -256,12 +268,15 @@ fn registration(
 {
     let name = String::from_str(alloc, name)?;
     let slopes = slopes(alloc, &plan)?;
+    let plan = Arc::new(alloc, plan)?;
     Ok(Registration {
         name,
         plan,
         slopes,
         places,
         first,
+        start: first,
+        earlier,
         taken: 0,
         is_dropped: false,
     })
@@ -316,7 +331,7 @@ fn put_readers(readers: &mut Vec<Reader>, query: &Registration, number: u64)
         ≡ readers.old.items
         ++ windows_from (query_of query.now) number 0 (query_of query.now).nodes }
 {
-    for operator in 0..query.plan.nodes.len() {
+    for operator in 0..query.nodes().len() {
         if let Some(reader) = reader_of(query, number, operator) {
             readers.push_reserved(reader);
         }
@@ -330,7 +345,7 @@ fn reader_of(query: &Registration, number: u64, operator: usize) -> Option<Reade
     ensures { result
         ≡ reader_in (query_of query.now) number operator (node_at (query_of query.now) operator) }
 {
-    match &query.plan.nodes[operator] {
+    match &query.nodes()[operator] {
         Node::Window(source) => Some(Reader {
             stream: query.places[*source].stream,
             query: number,

@@ -113,10 +113,10 @@ impl State {
                 self.alloc,
                 &self.streams,
                 running,
-                &self.registered[query as usize].plan.nodes,
+                self.registered[query as usize].nodes(),
             ),
             Remains::Broken(_) => {
-                empty_queues(self.alloc, &self.registered[query as usize].plan.nodes)
+                empty_queues(self.alloc, self.registered[query as usize].nodes())
             },
             Remains::Dropped => Ok(Vec::new(self.alloc)),
         }
@@ -166,7 +166,7 @@ fn count_taken(registered: &mut Registration, count: usize)
 fn operators(alloc: Global, query: &Registration) -> Result<Vec<(Kind, Slope)>, AllocError>
     ensures { IfOk result (λ v. v.items ≡ operators_of (query_of query.now)) }
 {
-    paired(alloc, &query.plan.nodes, &query.slopes)
+    paired(alloc, query.nodes(), &query.slopes)
 }
 
 /// How much waits in each queue of the operators of a running query.

@@ -83,6 +83,13 @@ impl Answering for Plain {
         Ok(())
     }
 
+    /// Keeps everything, since any answer may be evaluated anew.
+    fn forget(&mut self) -> Result<(), Fault> {
+        Ok(())
+    }
+
+    fn tidy(&mut self) {}
+
     #[tactic(auto, unfolding(crate::specs::World::slopes_at))]
     fn slopes(&self, query: u64) -> Result<Vec<(Kind, Slope)>, Fault> {
         match self.query_at(query) {

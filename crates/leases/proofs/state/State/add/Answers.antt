@@ -45,7 +45,7 @@ returns-clause-engine c =
 pub returns-clause-sound : goal.returns-clause-sound
 returns-clause-sound c =
     let s = c.args.self.now in
-    sound_with s _ (query_of c.args.told) c.args.running c.requires.sound c.requires.good c.requires.live refl (returns-clause-engine c) refl refl
+    sound_with s _ (query_of c.args.told) c.args.running c.requires.sound c.requires.good c.requires.live c.requires.earlier (returns-clause-engine c) refl refl
     (c.in-Ok.ensures.ok ∙ ap₂ (λ n k. kept (s.undropped.names ++ Some n ∷ []) (s.undropped.limits ++ limits_in k (query_of c.args.told))) (sym c.requires.named) c.next_query-number.ensures)
     (subst₂ (λ n rs. c.put_readers.new.readers.items ≡ rs ++ windows_from (query_of c.args.told) n 0 (query_of c.args.told).nodes) c.next_query-number.ensures c.reserve-3.ensures.items c.put_readers.ensures)
 

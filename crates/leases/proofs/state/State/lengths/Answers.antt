@@ -9,14 +9,14 @@ use Rattle.leases.proofs.state.State.lengths.Goals as goal
 pub queues-requires : goal.queues-requires
 queues-requires c = λ k within.
     operators_there c.args.self.now c.args.query c.index-in-Running.result.now c.index.result.now c.in-Running.running c.requires.sound c.requires.accepted c.index-in-Running.ensures c.index.ensures c.in-Running.is k
-    (subst (λ ns. k < length ns) c.deref.ensures.value within)
+    (subst (λ ns. k < length ns) c.nodes.ensures within)
 
 pub returns-in-Running : goal.returns-in-Running
 returns-in-Running c =
     lengths_are (λ v. v.items) c.queues.result c.args.self.now c.args.query c.index-in-Running.result.now c.index.result.now c.in-Running.running c.requires.sound c.requires.accepted c.index-in-Running.ensures c.index.ensures c.in-Running.is
-    (subst (λ ns. IfOk c.queues.result (λ v. v.items ≡ lengths_from (log_of c.args.self.now.streams c.in-Running.running) c.in-Running.running 0 (nodes_of ns))) c.deref.ensures.value c.queues.ensures)
+    (subst (λ ns. IfOk c.queues.result (λ v. v.items ≡ lengths_from (log_of c.args.self.now.streams c.in-Running.running) c.in-Running.running 0 (nodes_of ns))) c.nodes.ensures c.queues.ensures)
 
 pub returns-in-Broken : goal.returns-in-Broken
 returns-in-Broken c =
     noughts_are (λ v. v.items) c.empty_queues.result c.args.self.now c.args.query c.index-in-Broken.result.now c.index.result.now c.in-Broken.field-0 c.requires.sound c.requires.accepted c.index-in-Broken.ensures c.index.ensures c.in-Broken.is
-    (subst (λ ns. IfOk c.empty_queues.result (λ v. v.items ≡ noughts_of (nodes_of ns))) c.deref-in-Broken.ensures.value c.empty_queues.ensures)
+    (subst (λ ns. IfOk c.empty_queues.result (λ v. v.items ≡ noughts_of (nodes_of ns))) c.nodes-in-Broken.ensures c.empty_queues.ensures)

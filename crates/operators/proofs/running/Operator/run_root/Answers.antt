@@ -1,4 +1,3 @@
-use Rattle.to_stream.specs.Turns.{answers_of}
 use Rattle.operators.proofs.InPlaceLemmas.{answer_taken, ran_root}
 use Rattle.operators.proofs.running.Operator.run_root.Goals as goal
 
@@ -8,5 +7,5 @@ answer_item-requires c =
 
 pub returns-in-Ok-answer_item-clause-ok : goal.returns-in-Ok-answer_item-clause-ok
 returns-in-Ok-answer_item-clause-ok c =
-    ran_root c.args.self.now c.take.new.self c.args.log.now c.args.side c.args.rows c.in-Ok.item c.in-Ok.ensures.taken c.answer_item.new.self (answers_of c.args.answers.now.items) (answers_of c.answer_item.new.answers.items)
+    ran_root c.args.self.now c.take.new.self c.args.log.now c.args.side c.args.rows c.in-Ok.item c.in-Ok.ensures.taken c.answer_item.new.self c.args.answers.now c.answer_item.new.answers
     c.requires.may c.requires.gives c.in-Ok-answer_item.ensures.keeps c.in-Ok-answer_item.ensures.next c.in-Ok-answer_item.ensures.given

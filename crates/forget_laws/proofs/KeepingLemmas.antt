@@ -1,0 +1,95 @@
+-- Streams are compacted one after the other, and queries restarted.
+use Rattle.std.proofs.Common.{◌≡◌, ℕ, zero, suc, ◌+◌, ◌<◌, ◌==◌, ◌&&◌, ◌||◌, nat_le, Bool, true, false, cond, Option, Some, None, List, [], ◌∷◌, ◌++◌, flat_map, map, length, get_or, refl, sym, ap, ap₂, ◌∙◌, subst, arith}
+use Rattle.std.specs.Prelude.{slice_get}
+use Rattle.std.specs.List.{list_any}
+use Rattle.std.specs.Option.{option_map}
+use Rattle.values.specs.Row.{Row}
+use Rattle.values.specs.Window.{Element, Window}
+use Rattle.reference.specs.Commands.{change}
+use Rattle.reference.specs.Machine.{Place, Registered, Stream}
+use Rattle.reference.specs.Opening.{all_restarted, needs_by, restart, with_kept}
+use Rattle.stream_store.specs.Closing.{closed_of}
+use Rattle.forget_laws.specs.Keeping.{AllSay, going_over, kept_first, restarted_first, sources_of, start_of}
+use Rattle.forget_laws.specs.StubKept.{SaysKept, SaysKeptOf, count_closed, kept_stream}
+use Rattle.forget_laws.specs.StubNeeded.{PlainReader, is_in_input, is_needed_by_some}
+use Rattle.forget_laws.specs.StubQueries.{ReadersSay, readers_of, readers_over}
+use Rattle.forget_laws.specs.StubStarts.{Start, has_reader}
+
+-- STREAM BY STREAM
+first_none : (keep : ℕ → Element → Bool) (n : ℕ) (ss : List Stream) → kept_first keep n ss 0 ≡ ss
+first_none keep n [] = refl
+first_none keep n (s ∷ ss) = refl
+
+first_next : (keep : ℕ → Element → Bool) (n : ℕ) (ss : List Stream) (i : ℕ) → change i (kept_stream (keep (n + i))) (kept_first keep n ss i) ≡ kept_first keep n ss (suc i)
+first_next keep n [] i = refl
+first_next keep n (s ∷ ss) zero = let e : n + 0 ≡ n = omega arith in ap (λ k. kept_stream (keep k) s ∷ ss) e ∙ ap (λ l. kept_stream (keep n) s ∷ l) (sym (first_none keep (suc n) ss))
+first_next keep n (s ∷ ss) (suc i) =
+    let e : n + suc i ≡ suc n + i = omega arith in
+    ap (λ k. kept_stream (keep n) s ∷ change i (kept_stream (keep k)) (kept_first keep (suc n) ss i)) e ∙ ap (λ l. kept_stream (keep n) s ∷ l) (first_next keep (suc n) ss i)
+
+first_all : (keep : ℕ → Element → Bool) (n : ℕ) (ss : List Stream) → kept_first keep n ss (length ss) ≡ with_kept keep n ss
+first_all keep n [] = refl
+first_all keep n (s ∷ ss) = ap (λ l. kept_stream (keep n) s ∷ l) (first_all keep (suc n) ss)
+
+-- the next one is as it was
+first_here : (keep : ℕ → Element → Bool) (n : ℕ) (ss : List Stream) (i : ℕ) → slice_get (kept_first keep n ss i) i ≡ slice_get ss i
+first_here keep n [] i = refl
+first_here keep n (s ∷ ss) zero = refl
+first_here keep n (s ∷ ss) (suc i) = first_here keep (suc n) ss i
+
+-- the loop: before the first stream, over one, and behind the last
+pub keep_none : (keep : ℕ → Element → Bool) (ss : List Stream) → kept_first keep 0 ss 0 ≡ ss
+keep_none keep ss = first_none keep 0 ss
+
+pub keep_next : (keep : ℕ → Element → Bool) (ss now new : List Stream) (kept : List (List Bool × List Start)) (i : ℕ) (d : List Bool × List Start) → AllSay keep kept ss → i < length kept → now ≡ kept_first keep 0 ss i
+    → ((p : Element → Bool) → SaysKeptOf (get_or kept i d).0 (get_or kept i d).1 p (slice_get now i) → new ≡ change i (kept_stream p) now) → new ≡ kept_first keep 0 ss (suc i)
+keep_next keep ss now new kept i d say l is h =
+    let here : slice_get now i ≡ slice_get ss i = ap (λ z. slice_get z i) is ∙ first_here keep 0 ss i in
+    let e : 0 + i ≡ i = omega arith in
+    h (keep i) (subst (SaysKeptOf (get_or kept i d).0 (get_or kept i d).1 (keep i)) (sym here) (say i d l))
+    ∙ ap (change i (kept_stream (keep i))) is ∙ ap (λ k. change i (kept_stream (keep k)) (kept_first keep 0 ss i)) (sym e) ∙ first_next keep 0 ss i
+
+pub keep_all : (keep : ℕ → Element → Bool) (ss now : List Stream) (i : ℕ) → i ≡ length ss → now ≡ kept_first keep 0 ss i → now ≡ with_kept keep 0 ss
+keep_all keep ss now i l is = is ∙ ap (kept_first keep 0 ss) l ∙ first_all keep 0 ss
+
+-- THE READERS of a stream
+pub readers_are : (n : ℕ) (qs : List Registered) (marks : List (Option ℕ)) → flat_map (sources_of n) (going_over qs marks) ≡ readers_over n qs marks
+readers_are n [] marks = refl
+readers_are n (q ∷ qs) [] = refl
+readers_are n (q ∷ qs) (None ∷ marks) = readers_are n qs marks
+readers_are n (q ∷ qs) (Some next ∷ marks) = ap (λ l. readers_of n q next q.meaning.windows q.places ++ l) (readers_are n qs marks)
+
+-- their starts say which open elements are in an input
+starts_say : (rs : List PlainReader) (e : Element) → has_reader (map start_of rs) e ≡ list_any (λ r. is_in_input r e) rs
+starts_say [] e = refl
+starts_say (r ∷ rs) e = ap (λ b. (nat_le r.place e.arrival && nat_le r.first e.instant) || b) (starts_say rs e)
+
+-- WHAT THE MARKS AND STARTS SAY is what the queries need
+pub says_kept : (streams : List Stream) (qs : List Registered) (ms : List (Option ℕ)) (n : ℕ) (s : Stream) (marks : List Bool) (starts : List Start) → ReadersSay streams qs ms n s
+    → marks ≡ map (is_needed_by_some (closed_of s).elements (readers_over n qs ms)) (closed_of s).elements → starts ≡ map start_of (readers_over n qs ms) → SaysKept marks starts (needs_by streams qs ms n) s
+says_kept streams qs ms n s marks starts say m t = record {
+  closed = m ∙ sym say.closed;
+  opened = λ e open_there. say.opened e open_there ∙ sym (ap (λ ss. has_reader ss e) t ∙ starts_say (readers_over n qs ms) e);
+}
+
+-- QUERY BY QUERY
+pub restarted_none : (qs : List Registered) (ms : List (Option ℕ)) (ws : List (List (ℕ × Row))) → restarted_first qs ms ws 0 ≡ qs
+restarted_none [] ms ws = refl
+restarted_none (q ∷ qs) ms ws = refl
+
+pub restarted_next : (qs : List Registered) (ms : List (Option ℕ)) (ws : List (List (ℕ × Row))) (i : ℕ) (m : Option ℕ) (w : List (ℕ × Row)) → slice_get ms i ≡ Some m → slice_get ws i ≡ Some w
+    → change i (λ q. restart q m w) (restarted_first qs ms ws i) ≡ restarted_first qs ms ws (suc i)
+restarted_next [] ms ws i m w h k = refl
+restarted_next (q ∷ qs) [] ws i m w h k = absurd (cc)
+restarted_next (q ∷ qs) (n ∷ ms) [] i m w h k = absurd (cc)
+restarted_next (q ∷ qs) (n ∷ ms) (v ∷ ws) zero m w h k =
+    let a : n ≡ m = cc in
+    let b : v ≡ w = cc in
+    ap₂ (λ x y. restart q x y ∷ qs) (sym a) (sym b) ∙ ap (λ l. restart q n v ∷ l) (sym (restarted_none qs ms ws))
+restarted_next (q ∷ qs) (n ∷ ms) (v ∷ ws) (suc i) m w h k = ap (λ l. restart q n v ∷ l) (restarted_next qs ms ws i m w h k)
+
+pub restarted_all : (qs : List Registered) (ms : List (Option ℕ)) (ws : List (List (ℕ × Row))) → restarted_first qs ms ws (length qs) ≡ all_restarted qs ms ws
+restarted_all [] ms ws = refl
+restarted_all (q ∷ qs) [] ws = refl
+restarted_all (q ∷ qs) (m ∷ ms) [] = refl
+restarted_all (q ∷ qs) (m ∷ ms) (w ∷ ws) = ap (λ l. restart q m w ∷ l) (restarted_all qs ms ws)

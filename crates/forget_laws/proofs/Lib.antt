@@ -1,0 +1,5 @@
+pub mod MarkLemmas
+pub mod CaughtLemmas
+pub mod FewLemmas
+pub mod KeepingLemmas
+pub mod EndedLemmas

@@ -1,0 +1,43 @@
+-- How the rows that stay are found and kept, stream by stream and query by query.
+use Rattle.std.specs.Prelude.{ℕ, zero, suc, ◌≡◌, ◌<◌, Bool, Option, Some, None, List, [], ◌∷◌, ◌++◌, flat_map, get_or, length, map, slice_get}
+use Rattle.values.specs.Row.{Row}
+use Rattle.values.specs.Window.{Element}
+use Rattle.reference.specs.Machine.{Registered, Stream}
+use Rattle.reference.specs.Opening.{restart}
+use Rattle.forget_laws.specs.StubKept.{SaysKeptOf, kept_stream}
+use Rattle.forget_laws.specs.StubNeeded.{PlainReader}
+use Rattle.forget_laws.specs.StubQueries.{readers_of}
+use Rattle.forget_laws.specs.StubStarts.{Start}
+
+-- THE STREAMS, of which the first `count` are compacted; they are numbered from n on
+abbrev pub kept_first : (ℕ → Element → Bool) → ℕ → List Stream → ℕ → List Stream
+kept_first keep n [] count = []
+kept_first keep n (s ∷ ss) zero = s ∷ ss
+kept_first keep n (s ∷ ss) (suc count) = kept_stream (keep n) s ∷ kept_first keep (suc n) ss count
+
+-- the marks and starts of each stream
+abbrev pub AllSay : (ℕ → Element → Bool) → List (List Bool × List Start) → List Stream → Type 0
+AllSay keep kept streams = (i : ℕ) (d : List Bool × List Start) → i < length kept → SaysKeptOf (get_or kept i d).0 (get_or kept i d).1 (keep i) (slice_get streams i)
+
+-- THE QUERIES that run, each with the instant after its mark
+abbrev pub going_over : List Registered → List (Option ℕ) → List (Registered × ℕ)
+going_over [] marks = []
+going_over (q ∷ qs) [] = []
+going_over (q ∷ qs) (None ∷ marks) = going_over qs marks
+going_over (q ∷ qs) (Some next ∷ marks) = (q, next) ∷ going_over qs marks
+
+-- the sources of one over the stream n
+abbrev pub sources_of : ℕ → Registered × ℕ → List PlainReader
+sources_of n g = readers_of n g.0 g.1 g.0.meaning.windows g.0.places
+
+-- where a source begins
+abbrev pub start_of : PlainReader → Start
+start_of r = record { place = r.place; first = r.first }
+
+-- the first `count` are restarted
+abbrev pub restarted_first : List Registered → List (Option ℕ) → List (List (ℕ × Row)) → ℕ → List Registered
+restarted_first [] marks waiting count = []
+restarted_first (q ∷ qs) marks waiting zero = q ∷ qs
+restarted_first (q ∷ qs) [] waiting (suc count) = q ∷ qs
+restarted_first (q ∷ qs) (m ∷ marks) [] (suc count) = q ∷ qs
+restarted_first (q ∷ qs) (m ∷ marks) (w ∷ waiting) (suc count) = restart q m w ∷ restarted_first qs marks waiting count

@@ -1,0 +1,23 @@
+-- The part of needed_rows/specs/Needed that does not speak of its code.
+use Rattle.std.specs.Prelude.{◌≡◌, ℕ, Bool, ◌&&◌, nat_le, List}
+use Rattle.std.specs.List.{list_any}
+use Rattle.values.specs.Window.{Element, Window, input_of}
+use Rattle.values.specs.Needs.{is_needed}
+
+-- a source of a running query
+pub record PlainReader : Type 0 where
+  pub place : ℕ
+  pub first : ℕ
+  pub next : ℕ
+  pub window : Window
+
+-- the element is in its input
+abbrev pub is_in_input : PlainReader → Element → Bool
+is_in_input r e = nat_le r.place e.arrival && nat_le r.first e.instant
+
+abbrev pub is_needed_by : List Element → PlainReader → Element → Bool
+is_needed_by es r e = is_in_input r e && is_needed r.first r.window r.next (input_of r.place r.first es) e
+
+-- some source needs it
+abbrev pub is_needed_by_some : List Element → List PlainReader → Element → Bool
+is_needed_by_some es readers e = list_any (λ r. is_needed_by es r e) readers

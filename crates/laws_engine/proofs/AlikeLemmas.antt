@@ -1,0 +1,84 @@
+-- No call tells a good engine from the one that has forgotten.
+use Rattle.std.proofs.Common.{◌≡◌, ℕ, ◌-◌, ◌<◌, ◌++◌, false, Some, List, [], ◌∷◌, drop, length, map, refl, sym, ap, ◌∙◌, subst, arith, length-append, true≢false}
+use Rattle.std.specs.Prelude.{get_or, slice_get}
+use Rattle.std.specs.List.{AllByRecursion}
+use Rattle.std.proofs.Math.Seq.{drop-append_seam}
+use Rattle.reference.specs.Alike.{Alike}
+use Rattle.reference.specs.Machine.{Registered, Stream}
+use Rattle.laws_forgetting.specs.Openings.{AreNumbered, IsMark, MayOpen, answers_below}
+use Rattle.laws_forgetting.proofs.OpeningLemmas.{opened_alike}
+use Rattle.laws_dataflow.specs.Operators.{net_of}
+use Rattle.laws_dataflow.specs.Plans as plans
+use Rattle.laws_dataflow.specs.Plans.{below_root, consumer_of, inputs_of, least_of, value_of}
+use Rattle.laws_dataflow.specs.Queries.{behind, given_from}
+use Rattle.laws_dataflow.proofs.AnswerLemmas.{over_is, query_laid, query_least, query_planned, query_value, shaped}
+use Rattle.laws_dataflow.proofs.ForgetLemmas.{opens_ahead}
+use Rattle.laws_dataflow.proofs.IdleLemmas.{all_below}
+use Rattle.laws_queries.specs.Machines.{widths_of}
+use Rattle.laws_queries.specs.Queries.{IsRunning, PlainQuery}
+use Rattle.laws_queries.specs.Rows.{HasRows}
+use Rattle.laws_engine.specs.Engines.{Broken, Dropped, GoodEngine, Goes, PlainEngine, PlainRemains, Running, answers_in, query_at, remains_at, world_of}
+use Rattle.operators.specs.States.{last_in}
+use Rattle.laws_engine.specs.Openings.{IsUnbroken, forgotten, mark_in, marks_by, next_of}
+use Rattle.laws_engine.proofs.ForgottenLemmas.{length-marks, marks_at}
+use Rattle.laws_engine.proofs.OpenedLemmas.{goes, long_waits, waits_at}
+
+numbered : (ss : List Stream) → AllByRecursion HasRows ss → AreNumbered ss
+numbered [] h = tt
+numbered (s ∷ ss) h = (h.0.below, numbered ss h.1)
+
+module _ (e : PlainEngine) (g : GoodEngine e) where
+  -- the instant after the last tick that its root has taken is a mark of a query that runs, with the answers that wait
+  running_mark : (n : ℕ) (q : Registered) (p : PlainQuery) → query_at e n ≡ Some q → remains_at e n ≡ Running p → IsMark e.machine q (next_of q p) p.answers
+  running_mark n q p r k =
+      let h : Goes e.machine q p = goes e g (marks_by e.machine.queries e.queries) (length-marks e.machine.queries e.queries) n q p r k in
+      let vs : List ℕ = widths_of e.machine.streams q in
+      let run : IsRunning (widths_of e.machine.streams q) h.widths e.machine q p.operators (h.taken ++ p.answers) = h.runs.runs in
+      let next : run.good.root.opens ≡ next_of q p = run.good.root.mark ∙ ap (λ s. behind q.first (last_in s)) (sym run.last.runs.state) in
+      let count : ℕ = below_root q.nodes in
+      let some : 0 < count = omega (arith, (shaped vs e.machine q run.stands.plan run.stands.wide).two) in
+      let top : count - 1 < count = omega (arith, some) in
+      let given : h.taken ++ p.answers ≡ q.earlier ++ given_from q.meaning.operator q.first (value_of e.machine q (count - 1)) q.start run.good.root.opens =
+      run.good.root.given_is
+      ∙ ap (λ o. q.earlier ++ given_from o q.first (value_of e.machine q (count - 1)) q.start run.good.root.opens) run.last.operator in
+      let all : h.taken ++ p.answers ≡ answers_below e.machine q run.good.root.opens =
+      given ∙ ap (λ l. q.earlier ++ l) (over_is q.meaning q.first (inputs_of e.machine q) (value_of e.machine q (count - 1)) (λ t z. query_value vs e.machine q run.stands.plan run.stands.wide t) q.start (run.good.root.opens - q.start) run.good.root.began) in
+      let below : h.taken ++ p.answers ≡ answers_below e.machine q (next_of q p) = all ∙ ap (answers_below e.machine q) next in
+      record {
+        first = run.good.root.began;
+        began = omega (arith, next, run.good.root.going);
+        closed = omega (
+          arith,
+          next,
+          sym (query_least vs e.machine q run.stands.plan run.stands.wide),
+          opens_ahead (plans.world_of e.machine q) (net_of q.nodes) count (value_of e.machine q) (least_of e.machine q) (query_planned vs e.machine q run.stands.plan run.stands.wide) (consumer_of q.nodes) (query_laid vs e.machine q run.stands.plan run.stands.wide) q.start q.earlier run.cells run.held run.queue (h.taken ++ p.answers) run.good (count - 1) top,
+          all_below (plans.world_of e.machine q) (net_of q.nodes) count (value_of e.machine q) (least_of e.machine q) run.cells (query_planned vs e.machine q run.stands.plan run.stands.wide) run.good.good (count - 1) top,
+        );
+        taken = omega (arith, h.counted, length-append h.taken p.answers, ap length below);
+        waits = sym (drop-append_seam h.taken p.answers) ∙ ap (λ c. drop c (h.taken ++ p.answers)) h.counted ∙ ap (drop q.taken) below;
+      }
+
+  -- so each query that was not dropped has its mark
+  module _ (u : IsUnbroken e) where
+    marked : (n : ℕ) (q : Registered) → query_at e n ≡ Some q → q.is_dropped ≡ false → (remains : PlainRemains) → remains_at e n ≡ remains
+        → (next : ℕ) × ((slice_get (marks_by e.machine.queries e.queries) n ≡ Some (Some next)) × IsMark e.machine q next (get_or (map answers_in e.queries) n []))
+    marked n q r d (Running p) k = (
+      next_of q p,
+      (
+        marks_at e.machine.queries e.queries n q r ∙ ap (λ z. Some (mark_in q z)) k,
+        subst (IsMark e.machine q (next_of q p)) (sym (waits_at e.queries n ∙ ap answers_in k)) (running_mark n q p r k),
+      ),
+    )
+    marked n q r d (Broken answers) k = absurd (u.unbroken n answers k)
+    marked n q r d Dropped k = absurd (true≢false (sym (u.gone n q r k) ∙ d))
+
+    may_open : MayOpen e.machine (marks_by e.machine.queries e.queries) (map answers_in e.queries)
+    may_open = record {
+      marked = length-marks e.machine.queries e.queries;
+      listed = long_waits e g (marks_by e.machine.queries e.queries) (length-marks e.machine.queries e.queries);
+      each = λ n q r d. marked n q r d (remains_at e n) refl;
+      numbered = numbered e.machine.streams g.rows;
+    }
+
+pub forgotten_alike : (e : PlainEngine) → GoodEngine e → IsUnbroken e → Alike (world_of e) (world_of (forgotten e))
+forgotten_alike e g u = record { machines = opened_alike e.machine (marks_by e.machine.queries e.queries) (map answers_in e.queries) (may_open e g u); waiting = refl }

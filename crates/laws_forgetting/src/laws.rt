@@ -1,0 +1,55 @@
+//! What holds of machines and worlds that no command tells apart.
+ghost use Rattle.std.specs.Prelude.{ℕ, ◌≤◌, Option, List};
+ghost use Rattle.values.specs.Row.{Row};
+ghost use Rattle.values.specs.Window.{Element, Window};
+ghost use Rattle.reference.specs.Machine.{Machine};
+ghost use Rattle.reference.specs.Commands.{Command};
+ghost use Rattle.reference.specs.Opening.{opening};
+ghost use Rattle.reference.specs.Replies.{Reply};
+ghost use Rattle.reference.specs.World.{World};
+ghost use Rattle.reference.specs.Alike.{Alike, AlikeMachines};
+ghost use Rattle.laws_forgetting.specs.Answers.{AnswerAlike, GoOnAlike, GoesOn, StepAlike};
+ghost use Rattle.laws_forgetting.specs.Openings.{MayOpen, Moves, NeedsJust};
+
+/// Says that each call answers the same of alike worlds, and leaves them alike.
+pub fn alike_worlds_answer_alike()
+    ensures { (w : World) (v : World) → Alike w v → AnswerAlike w v }
+{}
+
+/// Says that alike machines accept the same commands and refuse the others for the same faults,
+/// that what one replies the other may reply, and that they are alike behind it.
+pub fn alike_machines_take_the_same_steps()
+    ensures { (m : Machine) (n : Machine) → AlikeMachines m n
+        → (c : Command) (r : Reply) → StepAlike m n c r }
+{}
+
+/// Says that alike machines go on alike: whatever commands the one accepts in turn, the other
+/// accepts with the same replies, and then the same closed answers are to be taken of each query.
+/// So forgetting changes no later answer.
+pub fn alike_machines_go_on_alike()
+    ensures { (m : Machine) (n : Machine) → AlikeMachines m n
+        → (steps : List (Command × Reply)) (last : Machine) → GoesOn m steps last
+        → GoOnAlike n steps last }
+{}
+
+/// Says that worlds are alike to themselves, in either order, and from one to the next: however
+/// often something is forgotten, no call tells the last from the first.
+pub fn alike_is_an_equivalence()
+    ensures reflexive { (w : World) → Alike w w }
+    ensures symmetric { (w : World) (v : World) → Alike w v → Alike v w }
+    ensures transitive { (w : World) (v : World) (u : World) → Alike w v → Alike v u → Alike w u }
+{}
+
+/// Says that a machine and its opening are alike, at marks up to which the answers were taken or
+/// wait.
+pub fn openings_are_alike()
+    ensures { (m : Machine) (marks : List (Option ℕ)) (waiting : List (List (ℕ × Row)))
+        → MayOpen m marks waiting → AlikeMachines m (opening m marks waiting) }
+{}
+
+/// Says that just that is kept for a window which is above the mark, and what the window shows at
+/// the mark or later when nothing more comes.
+pub fn windows_need_just_what_they_show()
+    ensures { (start : ℕ) (w : Window) (next : ℕ) (input : List Element)
+        → Moves w → start ≤ next → NeedsJust start w next input }
+{}

@@ -1,0 +1,10 @@
+//! What forgetting leaves: machines and worlds that no command tells apart, and openings, which are
+//! such. Functions that do nothing, each with a law.
+#![tactic(auto)]
+
+mod laws;
+
+pub use laws::{
+    alike_is_an_equivalence, alike_machines_go_on_alike, alike_machines_take_the_same_steps,
+    alike_worlds_answer_alike, openings_are_alike, windows_need_just_what_they_show,
+};

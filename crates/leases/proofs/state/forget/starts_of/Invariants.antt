@@ -1,0 +1,6 @@
+use Rattle.std.proofs.Common.{◌≡◌, take, map}
+use Rattle.leases.specs.StubNeeded.{readers_in, start_of}
+use Rattle.leases.proofs.state.forget.starts_of.Given as goal
+
+abbrev pub invariant-loop-reader : goal.invariant-loop-reader
+invariant-loop-reader l = l.starts.items ≡ map start_of (readers_in (take l.reader-index l.readers))

@@ -1,0 +1,33 @@
+-- Answers that wait and are handed out.
+use Rattle.std.proofs.Common.{◌≡◌, ◌+◌, ◌<◌, ◌&&◌, ℕ, suc, ℤ, Bool, true, false, pos, nat_lt, Option, List, [], ◌∷◌, ◌++◌, take, refl, ap, ◌∙◌, arith, append_assoc}
+use Rattle.std.proofs.lemmas.List.{map-append}
+use Rattle.std.proofs.lemmas.Bool.{ltb-true}
+use Rattle.arrayvec.specs.ArrayVec.{ArrayVec}
+use Rattle.values.specs.Row.{Row}
+use Rattle.reference.specs.CallViews.{handed_of}
+use Rattle.reference.specs.Inputs.{are_signed}
+use Rattle.reference.specs.World.{handed}
+
+-- one answer more is handed out
+pub moved : (rows pushed : List (ℤ × ArrayVec (Option ℤ))) (old new : List (ℕ × Row)) (at : ℕ) (row : ArrayVec (Option ℤ)) (n m : ℕ) → n ≡ m + 1
+    → old ≡ (at, row.items) ∷ new → pushed ≡ rows ++ (pos at, row) ∷ []
+    → handed_of pushed ++ handed (take m new) ≡ handed_of rows ++ handed (take n old)
+moved rows pushed old new at row n m count front back =
+    let next : n ≡ suc m = omega (arith, count) in
+    rw (back, front, next)
+    (ap (λ v. v ++ handed (take m new)) (map-append (λ (a : ℤ × ArrayVec (Option ℤ)). (a.0, a.1.items)) rows ((pos at, row) ∷ []))
+    ∙ append_assoc (handed_of rows) ((pos at, row.items) ∷ []) (handed (take m new)))
+
+pub signed-rest : (old new : List (ℕ × Row)) (at : ℕ) (row : Row) → old ≡ (at, row) ∷ new → are_signed old ≡ true → are_signed new ≡ true
+signed-rest old new at row front h = second (nat_lt at 0x8000_0000_0000_0000) _ (rw front at h)
+  where
+    second : (a b : Bool) → (a && b) ≡ true → b ≡ true
+    second true b h = h
+    second false b h = cc
+
+pub signed-first : (old new : List (ℕ × Row)) (at : ℕ) (row : Row) → old ≡ (at, row) ∷ new → are_signed old ≡ true → at < 0x8000_0000_0000_0000
+signed-first old new at row front h = ltb-true at 0x8000_0000_0000_0000 (first (nat_lt at 0x8000_0000_0000_0000) _ (rw front at h))
+  where
+    first : (a b : Bool) → (a && b) ≡ true → a ≡ true
+    first true b h = refl
+    first false b h = cc

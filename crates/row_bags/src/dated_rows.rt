@@ -1,0 +1,161 @@
+//! Rows with their instants, in as little room as they need.
+ghost use Rattle.std.specs.Prelude.{◌≡◌, ◌≤◌, ◌+◌, ◌++◌, ◌∷◌, [], length, take, drop};
+ghost use Rattle.std.specs.Prelude.{IfNone, IfOk, IfSome, OnErr, OnOk};
+ghost use Rattle.std.specs.VecDeque.{deque_len, deque_capacity};
+
+use std::alloc::{AllocError, Global};
+use std::collections::VecDeque;
+use std::marker::Model;
+use values::{MAX_COLUMNS, Row, Value};
+
+/// The instant of a row, and how many values the row has.
+#[derive(Clone, Copy)]
+pub(crate) struct Head {
+    /// The row's instant.
+    instant: u64,
+    /// How many values the row has.
+    width: usize,
+}
+
+/// Rows with their instants, as answers wait: they come behind the others and leave in front.
+///
+/// They are kept flat, sixteen bytes a row and eight more for each of its values.
+#[derive(Drop)]
+pub struct DatedRows {
+    /// The instant and the width of each row, the first in front.
+    heads: VecDeque<Head>,
+    /// The rows' values in the same order, one row behind the other.
+    values: VecDeque<Value>,
+}
+
+impl Model for DatedRows {
+    ghost use Rattle.std.specs.Prelude.{ℕ, List};
+    ghost use Rattle.values.specs.Row.{Row as OneRow};
+    ghost use Rattle.row_bags.specs.Dated.{AreHeaded, dated_by};
+
+    ghost Value = { List (ℕ × OneRow) };
+
+    ghost view = { λ r. dated_by r.heads.items r.values.items };
+
+    ghost invariant = { λ r. AreHeaded r.heads.items r.values.items };
+}
+
+impl DatedRows {
+    /// No rows. It takes no memory.
+    pub fn new(alloc: Global) -> DatedRows
+        ensures { result ≡ [] }
+    {
+        DatedRows {
+            heads: VecDeque::new(alloc),
+            values: VecDeque::new(alloc),
+        }
+    }
+
+    /// How many rows there are.
+    pub fn len(&self) -> usize
+        ensures { result ≡ length self.now }
+    {
+        self.heads.len()
+    }
+
+    /// A row with these values comes behind the others. An error says that memory was refused; the
+    /// rows are as they were.
+    pub fn push(&mut self, instant: u64, row: &[Value]) -> Result<(), AllocError>
+        requires { length row.now ≤ MAX_COLUMNS }
+        ensures ok { OnOk result (self.new ≡ self.old ++ (instant, row.now) ∷ []) }
+        ensures err { OnErr result (self.new ≡ self.old) }
+    {
+        self.heads.reserve(1)?;
+        self.values.reserve(row.len())?;
+        let width = row.len();
+        self.heads.push_back_reserved(Head { instant, width });
+        push_values(&mut self.values, row);
+        Ok(())
+    }
+
+    /// Other rows come behind these. An error says that memory was refused; these are as they were.
+    pub fn append(&mut self, other: DatedRows) -> Result<(), AllocError>
+        ensures ok { OnOk result (self.new ≡ self.old ++ other) }
+        ensures err { OnErr result (self.new ≡ self.old) }
+    {
+        let DatedRows {
+            mut heads,
+            mut values,
+        } = other;
+        self.values.reserve(values.len())?;
+        self.heads.append(&mut heads)?;
+        self.values.append(&mut values)
+    }
+
+    /// The first row leaves, in the full width of a row.
+    pub fn pop_front(&mut self) -> Option<(u64, Row)>
+        ensures some { IfSome result (λ e. self.old ≡ (e.0, e.1.items) ∷ self.new) }
+        ensures none { IfNone result (self.old ≡ []) }
+        ensures still { IfNone result (self.new ≡ []) }
+    {
+        let head = self.heads.pop_front()?;
+        let row = pop_row(&mut self.values, head.width);
+        Some((head.instant, row))
+    }
+
+    /// The rows behind the first `count` leave.
+    pub(crate) fn keep_first(&mut self, count: usize)
+        requires { count ≤ length self.old }
+        ensures { self.new ≡ take count self.old }
+    {
+        let _all = self.values.len();
+        let mut values = 0;
+        for place in 0..count {
+            values += self.heads[place].width;
+        }
+        self.heads.truncate(count);
+        self.values.truncate(values);
+    }
+
+    /// The same rows once more. It costs as much as these.
+    pub fn copy(&self, alloc: Global) -> Result<DatedRows, AllocError>
+        ensures { IfOk result (λ copy. copy ≡ self.now) }
+    {
+        let heads = copy_of(alloc, &self.heads)?;
+        let values = copy_of(alloc, &self.values)?;
+        Ok(DatedRows { heads, values })
+    }
+}
+
+/// Puts values behind others, which have room for them.
+fn push_values(values: &mut VecDeque<Value>, more: &[Value])
+    requires { deque_len values.old + length more.now ≤ deque_capacity values.old }
+    ensures { values.new.items ≡ values.old.items ++ more.now }
+{
+    for value in more {
+        values.push_back_reserved(*value);
+    }
+}
+
+/// The first `width` values leave, as a row.
+fn pop_row(values: &mut VecDeque<Value>, width: usize) -> Row
+    requires few { width ≤ MAX_COLUMNS }
+    requires enough { width ≤ deque_len values.old }
+    ensures row { result.items ≡ take width values.old.items }
+    ensures rest { values.new.items ≡ drop width values.old.items }
+{
+    let mut row = Row::new();
+    for _ in 0..width {
+        match values.pop_front() {
+            Some(value) => row.push(value),
+            None => unreachable!(),
+        }
+    }
+    row
+}
+
+/// The same items once more.
+fn copy_of<T: Copy>(alloc: Global, items: &VecDeque<T>) -> Result<VecDeque<T>, AllocError>
+    ensures { IfOk result (λ copy. copy.items ≡ items.now.items) }
+{
+    let (front, back) = items.as_slices();
+    let mut copy = Vec::with_capacity(alloc, items.len())?;
+    copy.extend_from_slice(front)?;
+    copy.extend_from_slice(back)?;
+    Ok(VecDeque::from_vec(copy))
+}

@@ -1,0 +1,22 @@
+//! Where readers of a stream begin.
+ghost use Rattle.std.specs.Prelude.{◌≡◌};
+ghost use Rattle.stream_store.specs.Starts.{is_read};
+
+/// Where a reader of a stream begins: it has in its input the rows that arrived at its place or
+/// later, of its first instant or later ones.
+#[derive(Clone, Copy, Debug)]
+pub struct Start {
+    /// The number in the order of arrival from which on it has rows.
+    pub place: u64,
+    /// The first instant of which it has rows.
+    pub first: u64,
+}
+
+/// Whether one of the readers has the row of a number and an instant in its input.
+pub(crate) fn is_read(starts: &[Start], number: u64, instant: u64) -> bool
+    ensures { result ≡ is_read starts.now number instant }
+{
+    starts
+        .iter()
+        .any(|start| start.place <= number && start.first <= instant)
+}

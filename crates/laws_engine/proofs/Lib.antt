@@ -26,3 +26,7 @@ pub mod StartLemmas
 pub mod AnswerLemmas
 pub mod InstantLemmas
 pub mod BoundLemmas
+pub mod MarkLemmas
+pub mod CaughtLemmas
+pub mod MarkBoundLemmas
+pub mod FewLemmas

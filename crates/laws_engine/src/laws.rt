@@ -1,10 +1,15 @@
 //! What holds of an engine of many queries: functions that do nothing, each with a law.
-ghost use Rattle.std.specs.Prelude.{List};
+ghost use Rattle.std.specs.Prelude.{◌≡◌, ℕ, List, Some, false, slice_get};
+ghost use Rattle.values.specs.Row.{Row};
+ghost use Rattle.reference.specs.Machine.{Registered, Stream};
+ghost use Rattle.needed_rows.specs.Queries.{AreCaughtUp, readers_over};
 ghost use Rattle.reference.specs.Alike.{Alike};
-ghost use Rattle.laws_engine.specs.Engines.{GoodEngine, PlainEngine, world_of};
+ghost use Rattle.laws_engine.specs.Bounds.{HaveFewClosed};
+ghost use Rattle.laws_engine.specs.Engines.{Broken, GoodEngine, PlainEngine, query_at};
+ghost use Rattle.laws_engine.specs.Engines.{remains_at, world_of};
 ghost use Rattle.laws_engine.specs.Promises.{KeepsItsPromises};
 ghost use Rattle.laws_engine.specs.Histories.{Call, LeadTo, empty};
-ghost use Rattle.laws_engine.specs.Openings.{IsUnbroken, forgotten};
+ghost use Rattle.laws_engine.specs.Openings.{IsUnbroken, forgotten, marks_by};
 
 /// Says that of each query of a good engine the answers that were taken, and those that wait, are a
 /// beginning of CQL's answers for the instants that its streams' heartbeats have closed, and all of
@@ -36,4 +41,21 @@ pub fn forgotten_engines_are_good()
 pub fn forgotten_engines_are_alike()
     ensures { (e : PlainEngine) → GoodEngine e → IsUnbroken e
         → Alike (world_of e) (world_of (forgotten e)) }
+{}
+
+/// Says that no running query's mark lies above what its streams have closed.
+pub fn marks_are_caught_up()
+    ensures { (e : PlainEngine) → GoodEngine e → (n : ℕ) (s : Stream)
+        → slice_get e.machine.streams n ≡ Some s
+        → AreCaughtUp s.first_open
+        (readers_over n e.machine.queries (marks_by e.machine.queries e.queries)) }
+{}
+
+/// Says that what bounds the answers of a good engine's queries bounds those of the engine that has
+/// forgotten. Nothing is left of just those queries that were dropped.
+pub fn forgotten_engines_close_few()
+    ensures { (e : PlainEngine) → GoodEngine e → HaveFewClosed e.machine
+        → ((n : ℕ) (q : Registered) (answers : List (ℕ × Row)) → query_at e n ≡ Some q
+        → remains_at e n ≡ Broken answers → q.is_dropped ≡ false)
+        → HaveFewClosed (forgotten e).machine }
 {}

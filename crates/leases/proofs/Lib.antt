@@ -35,4 +35,5 @@ pub mod PendingLemmas
 pub mod LengthLemmas
 pub mod QueryLemmas
 mod ForgetLemmas
+mod KeepingLemmas
 mod ReadLemmas

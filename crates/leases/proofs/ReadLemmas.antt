@@ -5,11 +5,11 @@ use Rattle.std.proofs.lemmas.List.{map-append}
 use Rattle.values.specs.Resolved.{window_of}
 use Rattle.values.specs.declared.resolved.Window.{Window}
 use Rattle.reference.specs.Machine.{Registered}
-use Rattle.leases.specs.StubNeeded.{PlainReader, reader_in, readers_in}
-use Rattle.leases.specs.StubQueries.{reader_at, readers_of}
+use Rattle.needed_rows.specs.Needed.{PlainReader, reader_in, readers_in}
+use Rattle.needed_rows.specs.Queries.{reader_at, readers_of}
 use Rattle.leases.specs.Views.{place_of}
 use Rattle.leases.specs.declared.registered.Place.{Place}
-use Rattle.leases.specs.declared.stubs.Reader.{Reader}
+use Rattle.needed_rows.specs.declared.reader.Reader.{Reader}
 
 module _ (n : ℕ) (q : Registered) (next : ℕ) where
   pub more_read : (rs rs2 : List Reader) (r : Reader) (w : Window) (ws ws2 : List Window) (p : Place) (ps ps2 : List Place) (all : List PlainReader) → ps ≡ p ∷ ps2 → ws ≡ w ∷ ws2 → p.stream ≡ n → reader_in r ≡ reader_at q next (window_of w) (place_of p)

@@ -1,8 +1,8 @@
 -- Queries that run, each with the instant after its mark.
 use Rattle.std.specs.Prelude.{ℕ, List, flat_map}
 use Rattle.reference.specs.Machine.{Registered}
-use Rattle.leases.specs.StubNeeded.{PlainReader}
-use Rattle.leases.specs.StubQueries.{readers_of}
+use Rattle.needed_rows.specs.Needed.{PlainReader}
+use Rattle.needed_rows.specs.Queries.{readers_of}
 use Rattle.leases.specs.Views.{query_of}
 use Rattle.leases.specs.declared.state.forget.Going.{Going}
 

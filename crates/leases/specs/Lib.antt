@@ -16,6 +16,5 @@ pub mod Queues
 pub mod Undropped
 pub mod Forgets
 pub mod Openings
-pub mod StubNeeded
-pub mod StubQueries
 pub mod Going
+pub mod Keeping

@@ -9,7 +9,6 @@ mod reader;
 mod registered;
 mod remains;
 mod state;
-mod stubs;
 mod undropped;
 
 pub use engine::Engine;

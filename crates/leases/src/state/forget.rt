@@ -3,8 +3,8 @@ ghost use Rattle.std.specs.Prelude.{◌≡◌, ◌++◌, IfOk, OnOk, map};
 ghost use Rattle.std.specs.Arc.{arc_value};
 ghost use Rattle.reference.specs.Opening.{restart};
 ghost use Rattle.leases.specs.Going.{all_sources};
-ghost use Rattle.leases.specs.StubNeeded.{readers_in, start_of};
-ghost use Rattle.leases.specs.StubQueries.{readers_of};
+ghost use Rattle.needed_rows.specs.Needed.{readers_in, start_of};
+ghost use Rattle.needed_rows.specs.Queries.{readers_of};
 ghost use Rattle.leases.specs.Views.{query_of};
 
 use crate::registered::Registration;

@@ -31,7 +31,6 @@ use crate::reader::Reader;
 use crate::registered::{Place, Registration};
 use crate::remains::Remains;
 use crate::state::State;
-use crate::stubs::no_answers;
 use envelope::Slope;
 use plan::{Chart, Node, Plan, slopes};
 use query_runtime::{RunningQuery, WaitingAnswers};
@@ -121,7 +120,7 @@ impl State {
             plan,
             places,
             first,
-            no_answers(self.alloc),
+            WaitingAnswers::new(self.alloc),
         )?;
         self.add(name, told, running)
     }

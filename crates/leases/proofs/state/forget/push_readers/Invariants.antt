@@ -1,7 +1,7 @@
 use Rattle.std.proofs.Common.{◌≡◌, ◌++◌, map}
 use Rattle.values.specs.Resolved.{window_of}
-use Rattle.leases.specs.StubNeeded.{readers_in}
-use Rattle.leases.specs.StubQueries.{readers_of}
+use Rattle.needed_rows.specs.Needed.{readers_in}
+use Rattle.needed_rows.specs.Queries.{readers_of}
 use Rattle.leases.specs.Views.{place_of, query_of}
 use Rattle.leases.proofs.state.forget.push_readers.Given as goal
 

@@ -1,6 +1,6 @@
 use Rattle.std.proofs.Common.{◌≡◌, take}
 use Rattle.leases.specs.Going.{all_sources}
-use Rattle.leases.specs.StubNeeded.{readers_in}
+use Rattle.needed_rows.specs.Needed.{readers_in}
 use Rattle.leases.proofs.state.forget.readers_over.Given as goal
 
 abbrev pub invariant-loop-it : goal.invariant-loop-it

@@ -1,5 +1,5 @@
 use Rattle.std.proofs.Common.{◌≡◌, take, map}
-use Rattle.leases.specs.StubNeeded.{readers_in, start_of}
+use Rattle.needed_rows.specs.Needed.{readers_in, start_of}
 use Rattle.leases.proofs.state.forget.starts_of.Given as goal
 
 abbrev pub invariant-loop-reader : goal.invariant-loop-reader

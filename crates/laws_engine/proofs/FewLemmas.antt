@@ -1,4 +1,4 @@
--- Where nothing comes behind what waits of a broken query, the bounds of the machine stay as they are.
+-- What bounds the answers of a good engine bounds those of the engine that has forgotten.
 use Rattle.std.proofs.Common.{◌≡◌, ℕ, zero, suc, ◌+◌, ◌-◌, ◌*◌, ◌^◌, ◌<◌, ◌≤◌, false, Some, None, List, [], ◌∷◌, ◌++◌, map, length, get_or, refl, sym, ap, subst, arith, length-append}
 use Rattle.std.specs.Prelude.{slice_get, unwrap_or}
 use Rattle.std.specs.List.{AllByRecursion}
@@ -7,7 +7,7 @@ use Rattle.values.specs.Window.{Element}
 use Rattle.values.specs.Answers.{body}
 use Rattle.plan.proofs.Lists.{each-append, each-left, each-right}
 use Rattle.reference.specs.Machine.{Machine, Registered, answers_from, closed_answers, input_at, until_for}
-use Rattle.reference.specs.Opening.{needs_by}
+use Rattle.reference.specs.Opening.{all_restarted, needs_by, restart}
 use Rattle.laws_dataflow.specs.Laws as nets
 use Rattle.laws_dataflow.specs.Plans.{bags_of, below_root, value_of}
 use Rattle.laws_dataflow.proofs.AnswerLemmas.{query_value}
@@ -19,13 +19,12 @@ use Rattle.laws_queries.proofs.MachineCounts.{keeps_limit, queries_stand}
 use Rattle.laws_queries.proofs.PlanCounts.{count_is, root_has_room}
 use Rattle.laws_engine.specs.Bounds.{HasFewClosed, HasFewEarlier, HaveFewClosed, instants}
 use Rattle.laws_engine.specs.Engines.{Broken, Dropped, GoodEngine, HasGiven, PlainEngine, PlainRemains, Running, answers_in, query_at, remains_at}
-use Rattle.laws_engine.specs.Openings.{mark_in, marks_by}
+use Rattle.laws_engine.specs.Openings.{forgotten, mark_in, marks_by}
 use Rattle.laws_engine.proofs.AnswerLemmas.{answers_are_few, answers_lie_below}
 use Rattle.laws_engine.proofs.AppendedLemmas.{is_query}
 use Rattle.laws_engine.proofs.InstantLemmas.{until_few}
 use Rattle.laws_engine.proofs.PromiseLemmas.{remains_given}
-use Rattle.forget_laws.specs.Ended.{all_ended, ended, forgotten_ended}
-use Rattle.forget_laws.proofs.FewLemmas.{any_cells, restarted_few, streams_few}
+use Rattle.laws_engine.proofs.MarkBoundLemmas.{any_cells, restarted_few, streams_few}
 
 few_earlier : (qs : List Registered) (n : ℕ) (q : Registered) → AllByRecursion HasFewEarlier qs → slice_get qs n ≡ Some q → HasFewEarlier q
 few_earlier [] n q h e = absurd (cc)
@@ -78,7 +77,7 @@ module _ (e : PlainEngine) (g : GoodEngine e) (closed : HaveFewClosed e.machine)
         length-append given.taken ws,
       )
 
-  one : (k : PlainRemains) → remains_at e n ≡ k → HasFewEarlier (ended q (mark_in q k) (answers_in k))
+  one : (k : PlainRemains) → remains_at e n ≡ k → HasFewEarlier (restart q (mark_in q k) (answers_in k))
   one (Running p) i = restarted_few e g closed.streams n q p here i before
   one (Broken answers) i =
       let given : HasGiven e.machine q answers = subst (λ k. HasGiven e.machine q (answers_in k)) i (remains_given e.machine q (remains_at e n) (g.queries n q here)) in
@@ -86,18 +85,18 @@ module _ (e : PlainEngine) (g : GoodEngine e) (closed : HaveFewClosed e.machine)
       record { early = early answers given; few = omega (arith, small) }
   one Dropped i = record { early = tt; few = omega arith }
 
-  pub ended_few : HasFewEarlier (ended q (mark_in q (remains_at e n)) (answers_in (remains_at e n)))
-  ended_few = one (remains_at e n) refl
+  pub few_left : HasFewEarlier (restart q (mark_in q (remains_at e n)) (answers_in (remains_at e n)))
+  few_left = one (remains_at e n) refl
 
 -- ALL OF THEM
-all_few : (qs : List Registered) (ks : List PlainRemains) → length ks ≡ length qs → ((n : ℕ) (q : Registered) → slice_get qs n ≡ Some q → HasFewEarlier (ended q (mark_in q (get_or ks n Dropped)) (answers_in (get_or ks n Dropped))))
-    → AllByRecursion HasFewEarlier (all_ended qs (marks_by qs ks) (map answers_in ks))
+all_few : (qs : List Registered) (ks : List PlainRemains) → length ks ≡ length qs → ((n : ℕ) (q : Registered) → slice_get qs n ≡ Some q → HasFewEarlier (restart q (mark_in q (get_or ks n Dropped)) (answers_in (get_or ks n Dropped))))
+    → AllByRecursion HasFewEarlier (all_restarted qs (marks_by qs ks) (map answers_in ks))
 all_few [] ks l h = tt
 all_few (q ∷ qs) [] l h = absurd (omega (arith, l))
 all_few (q ∷ qs) (k ∷ ks) l h = (h 0 q refl, all_few qs ks (omega (arith, l)) (λ n r a. h (suc n) r a))
 
-pub ended_closed : (e : PlainEngine) → GoodEngine e → HaveFewClosed e.machine → ((n : ℕ) (q : Registered) (answers : List (ℕ × Row)) → query_at e n ≡ Some q → remains_at e n ≡ Broken answers → q.is_dropped ≡ false) → HaveFewClosed (forgotten_ended e)
-ended_closed e g closed gone = record {
+pub forgotten_few : (e : PlainEngine) → GoodEngine e → HaveFewClosed e.machine → ((n : ℕ) (q : Registered) (answers : List (ℕ × Row)) → query_at e n ≡ Some q → remains_at e n ≡ Broken answers → q.is_dropped ≡ false) → HaveFewClosed (forgotten e).machine
+forgotten_few e g closed gone = record {
   streams = streams_few (needs_by e.machine.streams e.machine.queries (marks_by e.machine.queries e.queries)) 0 e.machine.streams closed.streams;
-  queries = all_few e.machine.queries e.queries g.many (λ n q a. ended_few e g closed n q a (λ answers i. gone n q answers a i));
+  queries = all_few e.machine.queries e.queries g.many (λ n q a. few_left e g closed n q a (λ answers i. gone n q answers a i));
 }

@@ -4,10 +4,10 @@ use Rattle.values.specs.Row.{Row}
 use Rattle.values.specs.Window.{Element}
 use Rattle.reference.specs.Machine.{Registered, Stream}
 use Rattle.reference.specs.Opening.{restart}
-use Rattle.forget_laws.specs.StubKept.{SaysKeptOf, kept_stream}
-use Rattle.forget_laws.specs.StubNeeded.{PlainReader}
-use Rattle.forget_laws.specs.StubQueries.{readers_of}
-use Rattle.forget_laws.specs.StubStarts.{Start}
+use Rattle.stream_store.specs.Kept.{SaysKeptOf, kept_stream}
+use Rattle.needed_rows.specs.Needed.{PlainReader}
+use Rattle.needed_rows.specs.Queries.{readers_of}
+use Rattle.stream_store.specs.declared.starts.Start.{Start}
 
 -- THE STREAMS, of which the first `count` are compacted; they are numbered from n on
 abbrev pub kept_first : (ℕ → Element → Bool) → ℕ → List Stream → ℕ → List Stream

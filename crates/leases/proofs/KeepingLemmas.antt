@@ -9,11 +9,12 @@ use Rattle.reference.specs.Commands.{change}
 use Rattle.reference.specs.Machine.{Place, Registered, Stream}
 use Rattle.reference.specs.Opening.{all_restarted, needs_by, restart, with_kept}
 use Rattle.stream_store.specs.Closing.{closed_of}
-use Rattle.forget_laws.specs.Keeping.{AllSay, going_over, kept_first, restarted_first, sources_of, start_of}
-use Rattle.forget_laws.specs.StubKept.{SaysKept, SaysKeptOf, count_closed, kept_stream}
-use Rattle.forget_laws.specs.StubNeeded.{PlainReader, is_in_input, is_needed_by_some}
-use Rattle.forget_laws.specs.StubQueries.{ReadersSay, readers_of, readers_over}
-use Rattle.forget_laws.specs.StubStarts.{Start, has_reader}
+use Rattle.leases.specs.Keeping.{AllSay, going_over, kept_first, restarted_first, sources_of, start_of}
+use Rattle.stream_store.specs.Kept.{SaysKept, SaysKeptOf, count_closed, kept_stream}
+use Rattle.needed_rows.specs.Needed.{PlainReader, is_in_input, is_needed_by_some}
+use Rattle.needed_rows.specs.Queries.{ReadersSay, readers_of, readers_over}
+use Rattle.stream_store.specs.declared.starts.Start.{Start}
+use Rattle.stream_store.specs.Starts.{has_reader}
 
 -- STREAM BY STREAM
 first_none : (keep : ℕ → Element → Bool) (n : ℕ) (ss : List Stream) → kept_first keep n ss 0 ≡ ss

@@ -10,9 +10,9 @@ use Rattle.reference.specs.Machine.{Place, Registered, Stream, opens, until_for}
 use Rattle.laws_queries.specs.Queries.{PlainQuery}
 use Rattle.laws_engine.specs.Engines.{Broken, Dropped, GoodEngine, PlainEngine, PlainRemains, Running, query_at, remains_at}
 use Rattle.laws_engine.specs.Openings.{marks_by, next_of}
-use Rattle.forget_laws.specs.StubNeeded.{PlainReader}
-use Rattle.forget_laws.specs.StubQueries.{AreCaughtUp, reader_at, readers_of, readers_over}
-use Rattle.forget_laws.proofs.MarkLemmas.{next_reached}
+use Rattle.needed_rows.specs.Needed.{PlainReader}
+use Rattle.needed_rows.specs.Queries.{AreCaughtUp, reader_at, readers_of, readers_over}
+use Rattle.laws_engine.proofs.MarkLemmas.{next_reached}
 
 -- the least is no greater than each
 fold_least : (x : ℕ) (xs : List ℕ) → fold min x xs ≤ x

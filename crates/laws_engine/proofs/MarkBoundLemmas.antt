@@ -1,4 +1,4 @@
--- What bounds the answers of a good engine bounds those of the engine that has forgotten.
+-- What bounds the answers of a running query bounds those that come behind its mark.
 use Rattle.std.proofs.Common.{◌≡◌, ℕ, zero, suc, ◌+◌, ◌-◌, ◌*◌, ◌^◌, ◌<◌, ◌≤◌, Bool, true, false, cond, nat_le, max, Option, Some, None, List, [], ◌∷◌, ◌++◌, map, length, flat_map, get_or, refl, sym, ap, ◌∙◌, subst, arith, length-append, le_trans}
 use Rattle.std.specs.Prelude.{slice_get, unwrap_or}
 use Rattle.std.specs.List.{AllByRecursion, range_with_len}
@@ -27,8 +27,7 @@ use Rattle.laws_engine.proofs.AnswerLemmas.{answers_lie_below}
 use Rattle.laws_engine.proofs.AppendedLemmas.{is_query}
 use Rattle.laws_engine.proofs.InstantLemmas.{until_few}
 use Rattle.laws_engine.proofs.PromiseLemmas.{remains_given}
-use Rattle.forget_laws.specs.Few.{HasFewAnswers, HasFewLeft, HaveFew}
-use Rattle.forget_laws.proofs.MarkLemmas.{goes, opens_next, opens_reached}
+use Rattle.laws_engine.proofs.MarkLemmas.{goes, opens_next, opens_reached}
 
 -- HOW MANY ANSWERS a net's values give
 inserted_length : (x : Row) (ys : List Row) → length (insert_in_order row_cmp x ys) ≡ suc (length ys)
@@ -136,35 +135,7 @@ module _ (e : PlainEngine) (g : GoodEngine e) (streams : AllByRecursion HasFewCl
   pub restarted_few : HasFewEarlier (restart q (Some (next_of q p)) p.answers)
   restarted_few = record { early = early; few = omega (arith, given_bound, next_bound, few.few) }
 
-  -- and where it breaks, few answers are left
-  pub broken_few : HasFewLeft q p.answers
-  broken_few = record { early = early; few = omega (arith, h.counted, given_bound, next_bound, few.few) }
-
--- ALL OF THEM
+-- THE STREAMS
 pub streams_few : (keep : ℕ → Element → Bool) (n : ℕ) (ss : List Stream) → AllByRecursion HasFewClosed ss → AllByRecursion HasFewClosed (with_kept keep n ss)
 streams_few keep n [] h = tt
 streams_few keep n (s ∷ ss) h = (record { few = h.0.few }, streams_few keep (suc n) ss h.1)
-
-record Before (qs : List Registered) (ks : List PlainRemains) (n : ℕ) (r : Registered) : Type 0 where
-  query : Registered
-  there : slice_get qs n ≡ Some query
-  is : r ≡ restart query (mark_in query (get_or ks n Dropped)) (answers_in (get_or ks n Dropped))
-
-before_by : (qs : List Registered) (ks : List PlainRemains) (n : ℕ) (r : Registered) → length ks ≡ length qs → slice_get (all_restarted qs (marks_by qs ks) (map answers_in ks)) n ≡ Some r → Before qs ks n r
-before_by [] ks n r l i = absurd (cc)
-before_by (q ∷ qs) [] n r l i = absurd (omega (arith, l))
-before_by (q ∷ qs) (k ∷ ks) zero r l i = record { query = q; there = refl; is = sym (ap (λ o. unwrap_or o r) i) }
-before_by (q ∷ qs) (k ∷ ks) (suc n) r l i = let b = before_by qs ks n r (omega (arith, l)) i in record { query = b.query; there = b.there; is = b.is }
-
-module _ (e : PlainEngine) (g : GoodEngine e) (few : HaveFew e) (n : ℕ) (q : Registered) (at : query_at e n ≡ Some q) where
-  one : (k : PlainRemains) → remains_at e n ≡ k → HasFewAnswers q k → HasFewAnswers (restart q (mark_in q k) (answers_in k)) k
-  one (Running p) i f = restarted_few e g few.streams n q p at i f
-  one (Broken answers) i f = record { early = f.early; few = omega (arith, f.few) }
-  one Dropped i f = tt
-
-pub forgotten_few : (e : PlainEngine) → GoodEngine e → HaveFew e → HaveFew (forgotten e)
-forgotten_few e g few = record {
-  streams = streams_few (needs_by e.machine.streams e.machine.queries (marks_by e.machine.queries e.queries)) 0 e.machine.streams few.streams;
-  queries = λ n r i. let b = before_by e.machine.queries e.queries n r g.many i in
-      subst (λ z. HasFewAnswers z (remains_at e n)) (sym b.is) (one e g few n b.query b.there (remains_at e n) refl (few.queries n b.query b.there));
-}

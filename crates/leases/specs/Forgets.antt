@@ -1,10 +1,74 @@
--- What is kept of a stream.
-use Rattle.std.specs.Prelude.{ℕ, Option, None, Some, Result, Ok, Err, length, slice_get}
+-- What is kept of a stream, and how the rows that stay are found.
+use Rattle.std.specs.Prelude.{ℕ, ◌≡◌, ◌-◌, ◌<◌, ◌≤◌, ◌×◌, Bool, Option, None, Some, Result, Ok, Err, List, [], ◌∷◌, length, map, slice_get, ⊤}
 use Rattle.std.specs.Option.{option_map_or}
-use Rattle.reference.specs.Machine.{Machine, Stream}
+use Rattle.values.specs.Row.{Row}
+use Rattle.values.specs.Window.{Element}
+use Rattle.reference.specs.Machine.{Machine, Registered, Stream}
+use Rattle.reference.specs.Opening.{all_restarted, needs_by}
 use Rattle.reference.specs.declared.fault.Fault.{Fault}
 use Rattle.reference.specs.declared.fault.Fault.TheVariants.{UnknownStream}
+use Rattle.stream_store.specs.declared.starts.Start.{Start}
+use Rattle.needed_rows.specs.Columns.{IsRegular}
+use Rattle.laws_dataflow.specs.Plans.{below_root}
+use Rattle.laws_engine.specs.Engines.{Broken, Dropped, PlainEngine, PlainRemains, Running, answers_in}
+use Rattle.laws_engine.specs.Openings.{marks_by, next_of}
+use Rattle.leases.specs.Keeping.{AllSay, going_over}
+use Rattle.leases.specs.Views.{query_of, remains_of}
+use Rattle.leases.specs.declared.registered.Registration.{Registration}
+use Rattle.leases.specs.declared.remains.Remains.{Remains}
+use Rattle.leases.specs.declared.state.forget.Going.{Going}
+use Rattle.leases.specs.declared.state.forget.KeptRows.{KeptRows}
 
 -- how many elements the stream of a number has
 abbrev pub kept_at : Machine → ℕ → Result ℕ Fault
 kept_at m n = option_map_or (λ (s : Stream). Ok (length s.elements)) (slice_get m.streams n) (Err UnknownStream)
+
+-- which elements of the stream of a number some running query needs
+abbrev pub needs_in : PlainEngine → ℕ → Element → Bool
+needs_in e = needs_by e.machine.streams e.machine.queries (marks_by e.machine.queries e.queries)
+
+-- WHAT STAYS of each stream: the marks of its closed rows, and where its readers begin
+abbrev pub said_in : KeptRows → List Bool × List Start
+said_in k = (k.marks.items, k.starts.items)
+
+-- it says of all streams, one by one, what is to be kept
+pub record Says (keep : ℕ → Element → Bool) (kept : List KeptRows) (streams : List Stream) : Type 0 where
+  pub many : length kept ≡ length streams
+  pub all : AllSay keep (map said_in kept) streams
+
+-- it says so of some rule
+abbrev pub IsSaid : List KeptRows → List Stream → Type 0
+IsSaid kept streams = (keep : ℕ → Element → Bool) × Says keep kept streams
+
+-- the rows of the stream of a number stand as they came
+abbrev pub IsReadIn : Option Stream → Type 0
+IsReadIn None = ⊤
+IsReadIn (Some s) = IsRegular s
+
+abbrev pub AreReadIn : List Stream → ℕ → Type 0
+AreReadIn streams n = IsReadIn (slice_get streams n)
+
+-- A QUERY HAS ITS MARK: its root is its last operator, and the instant after the mark is a number of the code
+abbrev pub IsMarkable : Registered → PlainRemains → Type 0
+IsMarkable q (Running p) = (0 < length p.operators) × ((below_root q.nodes ≡ length p.operators - 1) × (next_of q p ≤ 1099511627777))
+IsMarkable q (Broken answers) = ⊤
+IsMarkable q Dropped = ⊤
+
+abbrev pub AreMarkable : List Registration → List Remains → Type 0
+AreMarkable registered remains = (length remains ≡ length registered)
+    × ((n : ℕ) (q : Registration) (k : Remains) → slice_get registered n ≡ Some q → slice_get remains n ≡ Some k → IsMarkable (query_of q) (remains_of k))
+
+-- THE QUERIES that run, each with the instant after its mark
+abbrev pub going_of : Going → Registered × ℕ
+going_of g = (query_of g.query.now, g.next)
+
+abbrev pub going_in : List Going → List Registration → List Remains → Type 0
+going_in gs registered remains = map going_of gs ≡ going_over (map query_of registered) (marks_by (map query_of registered) (map remains_of remains))
+
+-- the answers that wait
+abbrev pub earlier_in : List Remains → List (List (ℕ × Row))
+earlier_in remains = map answers_in (map remains_of remains)
+
+-- the queries as they go on
+abbrev pub restarted_by : List Registration → List Remains → List (List (ℕ × Row)) → List Registered
+restarted_by registered remains waiting = all_restarted (map query_of registered) (marks_by (map query_of registered) (map remains_of remains)) waiting

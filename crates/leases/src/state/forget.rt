@@ -1,47 +1,194 @@
 //! Rows that no query needs any longer are given up.
-ghost use Rattle.std.specs.Prelude.{◌≡◌, ◌++◌, IfOk, OnOk, map};
+ghost use Rattle.std.specs.Prelude.{◌≡◌, ◌++◌, ◌<◌, IfOk, OnErr, OnOk, Some, length, map};
+ghost use Rattle.std.specs.Prelude.{ℕ, Bool, slice_get};
+ghost use Rattle.std.specs.List.{range_with_len};
+ghost use Rattle.values.specs.Row.{value_at};
+ghost use Rattle.values.specs.Window.{Element};
 ghost use Rattle.std.specs.Arc.{arc_value};
-ghost use Rattle.reference.specs.Opening.{restart};
-ghost use Rattle.leases.specs.Going.{all_sources};
-ghost use Rattle.needed_rows.specs.Needed.{readers_in, start_of};
+ghost use Rattle.reference.specs.Machine.{Stream};
+ghost use Rattle.reference.specs.Opening.{restart, with_kept};
+ghost use Rattle.stream_store.specs.Closing.{closed_of};
+ghost use Rattle.needed_rows.specs.Columns.{IsRegular};
+ghost use Rattle.needed_rows.specs.Needed.{is_needed_by_some, lists, readers_in};
 ghost use Rattle.needed_rows.specs.Queries.{readers_of};
-ghost use Rattle.leases.specs.Views.{query_of};
+ghost use Rattle.laws_engine.specs.Openings.{forgotten, mark_in};
+ghost use Rattle.leases.specs.Forgets.{AreMarkable, AreReadIn, IsMarkable, IsSaid, Says};
+ghost use Rattle.leases.specs.Forgets.{earlier_in, going_in, needs_in, restarted_by};
+ghost use Rattle.leases.specs.Going.{all_sources};
+ghost use Rattle.leases.specs.Keeping.{start_of};
+ghost use Rattle.leases.specs.Shown.{engine_in};
+ghost use Rattle.leases.specs.Sound.{IsSound};
+ghost use Rattle.leases.specs.Views.{query_of, remains_of};
 
+use crate::limits::ALL_INSTANTS;
 use crate::registered::Registration;
-use crate::stubs::{Reader, Start};
-use query_runtime::WaitingAnswers;
+use crate::remains::Remains;
+use crate::state::State;
+use needed_rows::{ClosedRows, Reader, needed};
+use query_runtime::{RunningQuery, WaitingAnswers};
 use std::alloc::{AllocError, Global};
 use std::ops::Deref;
-use values::Window;
+use stream_store::{Log, Start, Streams};
+use values::{Value, Window};
+
+/// What stays of a stream.
+#[derive(Drop)]
+pub(crate) struct KeptRows {
+    /// For each closed row whether it stays.
+    pub(crate) marks: Vec<bool>,
+    /// Where the sources of queries begin: the open rows stay that one of them has in its input.
+    pub(crate) starts: Vec<Start>,
+}
+
+/// A query that runs, and the instant after its mark.
+#[derive(Clone, Copy)]
+struct Going<'a> {
+    /// The query as it was registered.
+    query: &'a Registration,
+    /// The instant after the last tick that its root took, or its first one.
+    next: u64,
+}
+
+impl State {
+    /// Gives up the rows that no query needs; each query goes on from the instant after its mark,
+    /// behind the answers that wait. On Err all is as it was.
+    ///
+    /// It costs the rows that are held times the windows over their streams, the answers that wait,
+    /// and the queries that were registered.
+    pub(crate) fn forget(&mut self) -> Result<(), AllocError>
+        requires { IsSound self.old }
+        ensures ok { OnOk result (engine_in self.new ≡ forgotten (engine_in self.old)) }
+        ensures err { OnErr result (engine_in self.new ≡ engine_in self.old) }
+        ensures sound { IsSound self.new }
+    {
+        let kept = self.kept_rows()?;
+        let waiting = waiting_of(self.alloc, &self.remains)?;
+        keep_rows(&mut self.streams, &kept);
+        restart(&mut self.registered, &self.remains, waiting);
+        Ok(())
+    }
+
+    /// What stays of each stream, by number. An error says that memory was refused.
+    pub(crate) fn kept_rows(&self) -> Result<Vec<KeptRows>, AllocError>
+        requires { IsSound self.now }
+        ensures { IfOk result (λ v.
+            Says (needs_in (engine_in self.now)) v.items (engine_in self.now).machine.streams) }
+    {
+        let going = going_of(self.alloc, &self.registered, &self.remains)?;
+        let mut kept = Vec::with_capacity(self.alloc, self.streams.len())?;
+        for stream in 0..self.streams.len() {
+            kept.push(kept_of(self.alloc, &self.streams, stream as u64, &going)?)?;
+        }
+        Ok(kept)
+    }
+}
+
+/// The instant after the mark of a query that runs.
+fn next_of(query: &Registration, remains: &Remains) -> Option<u64>
+    requires { IsMarkable (query_of query.now) (remains_of remains.now) }
+    ensures { result ≡ mark_in (query_of query.now) (remains_of remains.now) }
+{
+    match remains {
+        Remains::Running(running) => Some(match running.last_tick() {
+            Some(at) => at + 1,
+            None => query.first,
+        }),
+        Remains::Broken(_) => None,
+        Remains::Dropped => None,
+    }
+}
+
+/// The queries that run, each with the instant after its mark.
+fn going_of<'a>(
+    alloc: Global,
+    registered: &'a [Registration],
+    remains: &[Remains],
+) -> Result<Vec<Going<'a>>, AllocError>
+    requires { AreMarkable registered.now remains.now }
+    ensures { IfOk result (λ v. going_in v.items registered.now remains.now) }
+{
+    let mut going = Vec::new(alloc);
+    for (query, remains) in registered.iter().zip(remains.iter()) {
+        if let Some(next) = next_of(query, remains) {
+            going.push(Going { query, next })?;
+        }
+    }
+    Ok(going)
+}
+
+/// What stays of the stream of a number.
+fn kept_of(
+    alloc: Global,
+    streams: &Streams,
+    stream: u64,
+    going: &[Going],
+) -> Result<KeptRows, AllocError>
+    requires { AreReadIn streams.now stream }
+    ensures marks { IfOk result (λ kept. (s : Stream) → slice_get streams.now stream ≡ Some s
+        → kept.marks.items
+        ≡ map (is_needed_by_some (closed_of s).elements (all_sources stream going.now))
+        (closed_of s).elements) }
+    ensures starts { IfOk result (λ kept.
+        kept.starts.items ≡ map start_of (all_sources stream going.now)) }
+{
+    let readers = readers_over(alloc, stream, going)?;
+    let marks = match streams.log(stream) {
+        Some(log) => marks_of(alloc, log, &readers)?,
+        None => Vec::new(alloc),
+    };
+    let starts = starts_of(alloc, &readers)?;
+    Ok(KeptRows { marks, starts })
+}
+
+/// For each closed row whether a reader needs it.
+fn marks_of(alloc: Global, log: &Log, readers: &[Reader]) -> Result<Vec<bool>, AllocError>
+    ensures { IfOk result (λ v. (s : Stream) → IsRegular s → log.now ≡ closed_of s
+        → v.items ≡ map (is_needed_by_some (closed_of s).elements (readers_in readers.now))
+        (closed_of s).elements) }
+{
+    let columns = columns_of(alloc, log)?;
+    let rows = ClosedRows {
+        instants: log.instants(),
+        numbers: log.numbers(),
+        columns: &columns,
+    };
+    needed(alloc, &rows, readers)
+}
+
+/// The columns of a log.
+fn columns_of(alloc: Global, log: &Log) -> Result<Vec<&[Value]>, AllocError>
+    ensures { IfOk result (λ v. lists v.items
+        ≡ map (λ k. map (λ e. value_at e.row k) log.now.elements)
+        (range_with_len 0 log.now.width)) }
+{
+    let mut columns = Vec::with_capacity(alloc, log.width())?;
+    for column in 0..log.width() {
+        columns.push(log.column(column))?;
+    }
+    Ok(columns)
+}
+
+/// The sources of the queries over a stream, by the queries' numbers and then in the order of the
+/// text.
+fn readers_over<'a>(
+    alloc: Global,
+    stream: u64,
+    going: &[Going<'a>],
+) -> Result<Vec<Reader<'a>>, AllocError>
+    ensures { IfOk result (λ v. readers_in v.items ≡ all_sources stream going.now) }
+{
+    let mut readers = Vec::new(alloc);
+    for it in going {
+        push_readers(&mut readers, stream, it.query, it.next)?;
+    }
+    Ok(readers)
+}
 
 /// The windows of a query.
 fn windows_of(query: &Registration) -> &[Window]
     ensures { result.now ≡ (arc_value query.now.plan).meaning.windows.items }
 {
     &query.plan.deref().meaning.windows
-}
-
-/// Where the sources begin.
-fn starts_of(alloc: Global, readers: &[Reader]) -> Result<Vec<Start>, AllocError>
-    ensures { IfOk result (λ v. v.items ≡ map start_of (readers_in readers.now)) }
-{
-    let mut starts = Vec::with_capacity(alloc, readers.len())?;
-    for reader in readers {
-        starts.push(Start {
-            place: reader.place,
-            first: reader.first,
-        })?;
-    }
-    Ok(starts)
-}
-
-/// The query goes on from the instant after its mark, if it has one, behind the answers that wait.
-fn restart_one(query: &mut Registration, next: Option<u64>, earlier: WaitingAnswers)
-    ensures { query_of query.new ≡ restart (query_of query.old) next earlier }
-{
-    query.start = next.unwrap_or(query.start);
-    query.earlier = earlier;
-    query.taken = 0;
 }
 
 /// The sources of a query over a stream, behind the others.
@@ -69,27 +216,62 @@ fn push_readers<'a>(
     Ok(())
 }
 
-/// A query that runs, and the instant after its mark.
-#[derive(Clone, Copy)]
-struct Going<'a> {
-    /// The query as it was registered.
-    query: &'a Registration,
-    /// The instant after the last tick that its root took, or its first one.
-    next: u64,
+/// Where the sources begin.
+fn starts_of(alloc: Global, readers: &[Reader]) -> Result<Vec<Start>, AllocError>
+    ensures { IfOk result (λ v. v.items ≡ map start_of (readers_in readers.now)) }
+{
+    let mut starts = Vec::with_capacity(alloc, readers.len())?;
+    for reader in readers {
+        starts.push(Start {
+            place: reader.place,
+            first: reader.first,
+        })?;
+    }
+    Ok(starts)
 }
 
-/// The sources of the queries over a stream, by the queries' numbers and then in the order of the
-/// text.
-fn readers_over<'a>(
-    alloc: Global,
-    stream: u64,
-    going: &[Going<'a>],
-) -> Result<Vec<Reader<'a>>, AllocError>
-    ensures { IfOk result (λ v. readers_in v.items ≡ all_sources stream going.now) }
+/// Of each stream the rows stay that are kept. Takes no memory.
+fn keep_rows(streams: &mut Streams, kept: &[KeptRows])
+    requires { IsSaid kept.now streams.old }
+    ensures { (keep : ℕ → Element → Bool) → Says keep kept.now streams.old
+        → streams.new ≡ with_kept keep 0 streams.old }
 {
-    let mut readers = Vec::new(alloc);
-    for it in going {
-        push_readers(&mut readers, stream, it.query, it.next)?;
+    for (stream, rows) in kept.iter().enumerate() {
+        streams.keep(stream as u64, &rows.marks, &rows.starts);
     }
-    Ok(readers)
+}
+
+/// By the queries' numbers, copies of the answers that wait.
+fn waiting_of(alloc: Global, remains: &[Remains]) -> Result<Vec<WaitingAnswers>, AllocError>
+    ensures { IfOk result (λ v. v.items ≡ earlier_in remains.now) }
+{
+    let mut waiting = Vec::with_capacity(alloc, remains.len())?;
+    for it in remains {
+        waiting.push(it.waiting_copy(alloc)?)?;
+    }
+    Ok(waiting)
+}
+
+/// Each query goes on from the instant after its mark, behind the answers that wait. Takes no
+/// memory.
+fn restart(registered: &mut [Registration], remains: &[Remains], waiting: Vec<WaitingAnswers>)
+    requires marks { AreMarkable registered.old remains.now }
+    requires many { length waiting.items ≡ length registered.old }
+    ensures { map query_of registered.new
+        ≡ restarted_by registered.old remains.now waiting.items }
+{
+    for (query, earlier) in waiting.into_iter().enumerate() {
+        let next = next_of(&registered[query], &remains[query]);
+        restart_one(&mut registered[query], next, earlier);
+    }
+}
+
+/// The query goes on from the instant after its mark, or behind all instants if it has none, behind
+/// the answers that wait.
+fn restart_one(query: &mut Registration, next: Option<u64>, earlier: WaitingAnswers)
+    ensures { query_of query.new ≡ restart (query_of query.old) next earlier }
+{
+    query.start = next.unwrap_or(ALL_INSTANTS);
+    query.earlier = earlier;
+    query.taken = 0;
 }

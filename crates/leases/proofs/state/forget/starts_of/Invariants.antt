@@ -1,5 +1,6 @@
 use Rattle.std.proofs.Common.{◌≡◌, take, map}
-use Rattle.needed_rows.specs.Needed.{readers_in, start_of}
+use Rattle.needed_rows.specs.Needed.{readers_in}
+use Rattle.leases.specs.Keeping.{start_of}
 use Rattle.leases.proofs.state.forget.starts_of.Given as goal
 
 abbrev pub invariant-loop-reader : goal.invariant-loop-reader

@@ -6,4 +6,4 @@ use Rattle.leases.specs.declared.opening.Opening.{Opening}
 
 -- not unfolded, so that what is said of a history stays short
 unfoldable pub opening_in : Opening → Machine
-opening_in o = record { streams = o.streams; queries = map query_of o.registered.items }
+opening_in o = record { streams = o.streams.items; queries = map query_of o.registered.items }

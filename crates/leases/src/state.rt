@@ -7,6 +7,7 @@ mod forget;
 mod heartbeats;
 mod lease;
 mod looks;
+mod opening;
 mod register;
 mod takes;
 
@@ -42,4 +43,9 @@ pub(crate) struct State {
     next: u64,
     /// The slots of all operators of the queries that run, in the order in which they are leased.
     slots: RunQueue,
+    /// How many rows are stored of all streams, with those that were copied when rows were
+    /// forgotten last, of answers that waited.
+    stored: u64,
+    /// How many of these the last forgetting left; where memory was refused, how many it met.
+    left: u64,
 }

@@ -76,7 +76,10 @@ impl Answering for Engine {
         ensures promises { KeepsItsPromises (engine_in self.new) }
     {
         let most = self.state.undropped.most_rows(stream);
-        self.state.streams.append(stream, rows, most)
+        let before = self.state.streams.arrivals(stream);
+        let answer = self.state.streams.append(stream, rows, most);
+        self.state.count_stored(stream, before);
+        answer
     }
 
     fn heartbeat(&mut self, stream: u64, at: i64) -> Result<(), Fault>
@@ -142,26 +145,35 @@ impl Answering for Engine {
         self.state.drop_query(query)
     }
 
+    /// Gives up the rows that no query needs. Queues, turns that are out and what waits stay as
+    /// they are; a broken query keeps what waits, and nothing comes behind it. It costs the rows
+    /// that are held times the windows over their streams, the answers that wait, and the queries.
     fn forget(&mut self) -> Result<(), Fault>
-        ensures ok { IsWhole self.old → OnOk result (Alike (world_in self.old) (world_in self.new)) }
+        ensures alike { IsWhole self.old
+            → OnOk result (Alike (world_in self.old) (world_in self.new)) }
+        ensures fault { IfErr result (λ fault. fault ≡ OutOfMemory) }
         ensures err { OnErr result (engine_in self.new ≡ engine_in self.old) }
-        ensures want { IfErr result (λ f. f ≡ OutOfMemory) }
         ensures whole { IsWhole self.old → IsWhole self.new }
+        ensures numbers { HasNumbers self.old → HasNumbers self.new }
         ensures spent { HasNumbers self.new → HasNumbers self.old }
         ensures forgotten { OnOk result (engine_in self.new ≡ forgotten (engine_in self.old)) }
+        ensures queues { LeavesQueues (engine_in self.old) (engine_in self.new) }
         ensures promises { KeepsItsPromises (engine_in self.new) }
     {
-        Err(Fault::OutOfMemory)
+        Ok(self.state.forget()?)
     }
 
     fn tidy(&mut self)
         ensures alike { IsWhole self.old → Alike (world_in self.old) (world_in self.new) }
         ensures whole { IsWhole self.old → IsWhole self.new }
+        ensures numbers { HasNumbers self.old → HasNumbers self.new }
         ensures spent { HasNumbers self.new → HasNumbers self.old }
         ensures forgotten { (engine_in self.new ≡ engine_in self.old)
             ⊎ (engine_in self.new ≡ forgotten (engine_in self.old)) }
+        ensures queues { LeavesQueues (engine_in self.old) (engine_in self.new) }
         ensures promises { KeepsItsPromises (engine_in self.new) }
     {
+        self.state.tidy();
     }
 
     fn slopes(&self, query: u64) -> Result<Vec<(Kind, Slope)>, Fault> {

@@ -1,5 +1,5 @@
 //! Rows that no query needs any longer.
-ghost use Rattle.std.specs.Prelude.{◌≡◌, IfErr, IfOk, OnErr, OnOk};
+ghost use Rattle.std.specs.Prelude.{◌≡◌, IfErr, IfOk};
 ghost use Rattle.reference.specs.declared.fault.Fault.TheVariants.{OutOfMemory};
 ghost use Rattle.laws_engine.specs.Openings.{forgotten};
 ghost use Rattle.leases.specs.Forgets.{kept_at};
@@ -17,7 +17,10 @@ impl Engine {
     pub fn kept(&self, stream: u64) -> Result<u64, Fault>
         ensures { result ≡ kept_at (engine_in self.now).machine stream }
     {
-        Err(Fault::UnknownStream)
+        match self.state.streams.kept(stream) {
+            Some(rows) => Ok(rows as u64),
+            None => Err(Fault::UnknownStream),
+        }
     }
 
     /// A copy of what `forget` leaves: the streams with the rows that queries need, and of each
@@ -29,15 +32,6 @@ impl Engine {
             opening_in o ≡ (forgotten (engine_in self.now)).machine) }
         ensures want { IfErr result (λ f. f ≡ OutOfMemory) }
     {
-        Err(Fault::OutOfMemory)
-    }
-
-    /// STUB of the trait's method, until `Answering` has it.
-    pub fn forget(&mut self) -> Result<(), Fault>
-        ensures err { OnErr result (engine_in self.new ≡ engine_in self.old) }
-        ensures want { IfErr result (λ f. f ≡ OutOfMemory) }
-        ensures forgotten { OnOk result (engine_in self.new ≡ forgotten (engine_in self.old)) }
-    {
-        Err(Fault::OutOfMemory)
+        Ok(self.state.opening()?)
     }
 }

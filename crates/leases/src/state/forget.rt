@@ -1,5 +1,5 @@
 //! Rows that no query needs any longer are given up.
-ghost use Rattle.std.specs.Prelude.{◌≡◌, ◌++◌, ◌<◌, IfOk, OnErr, OnOk, Some, length, map};
+ghost use Rattle.std.specs.Prelude.{◌≡◌, ◌⊎◌, ◌++◌, ◌<◌, IfOk, OnErr, OnOk, Some, length, map};
 ghost use Rattle.std.specs.Prelude.{ℕ, Bool, slice_get};
 ghost use Rattle.std.specs.List.{range_with_len};
 ghost use Rattle.values.specs.Row.{value_at};
@@ -30,6 +30,10 @@ use std::alloc::{AllocError, Global};
 use std::ops::Deref;
 use stream_store::{Log, Start, Streams};
 use values::{Value, Window};
+
+/// How many more rows are stored than twice those that the last forgetting left, before a script's
+/// drain forgets again.
+const ROWS_BEFORE_TIDY: u64 = 1_024;
 
 /// What stays of a stream.
 #[derive(Drop)]
@@ -65,7 +69,48 @@ impl State {
         let waiting = waiting_of(self.alloc, &self.remains)?;
         keep_rows(&mut self.streams, &kept);
         restart(&mut self.registered, &self.remains, waiting);
+        self.count_left();
         Ok(())
+    }
+
+    /// Forgets where more rows are stored than twice those that the last time left, and 1,024. The
+    /// copies of answers that wait count too, so that what all forgettings cost together is in
+    /// proportion to the rows that came and the answers that were given. Where memory is refused,
+    /// the next time is put off as if all had stayed.
+    pub(crate) fn tidy(&mut self)
+        requires { IsSound self.old }
+        ensures forgotten { (engine_in self.new ≡ engine_in self.old)
+            ⊎ (engine_in self.new ≡ forgotten (engine_in self.old)) }
+        ensures sound { IsSound self.new }
+    {
+        let most = self.left.saturating_mul(2).saturating_add(ROWS_BEFORE_TIDY);
+        if self.stored > most && self.forget().is_err() {
+            self.left = self.stored;
+        }
+    }
+
+    /// Counts the rows that came to the stream of a number since so many had come.
+    pub(crate) fn count_stored(&mut self, stream: u64, before: u64)
+        ensures { self.new ≡ record self.old { stored = self.new.stored } }
+    {
+        let rows = self.streams.arrivals(stream).saturating_sub(before);
+        self.stored = self.stored.saturating_add(rows);
+    }
+
+    /// Counts what a forgetting left: the rows of all streams, and the answers that it copied.
+    fn count_left(&mut self)
+        ensures { self.new ≡ record self.old { stored = self.new.stored; left = self.new.left } }
+    {
+        let mut left = 0u64;
+        for stream in 0..self.streams.len() {
+            let rows = self.streams.kept(stream as u64).unwrap_or(0);
+            left = left.saturating_add(rows as u64);
+        }
+        for query in &self.registered {
+            left = left.saturating_add(query.earlier.len() as u64);
+        }
+        self.stored = left;
+        self.left = left;
     }
 
     /// What stays of each stream, by number. An error says that memory was refused.
@@ -84,7 +129,7 @@ impl State {
 }
 
 /// The instant after the mark of a query that runs.
-fn next_of(query: &Registration, remains: &Remains) -> Option<u64>
+pub(crate) fn next_of(query: &Registration, remains: &Remains) -> Option<u64>
     requires { IsMarkable (query_of query.now) (remains_of remains.now) }
     ensures { result ≡ mark_in (query_of query.now) (remains_of remains.now) }
 {
@@ -242,7 +287,7 @@ fn keep_rows(streams: &mut Streams, kept: &[KeptRows])
 }
 
 /// By the queries' numbers, copies of the answers that wait.
-fn waiting_of(alloc: Global, remains: &[Remains]) -> Result<Vec<WaitingAnswers>, AllocError>
+pub(crate) fn waiting_of(alloc: Global, remains: &[Remains]) -> Result<Vec<WaitingAnswers>, AllocError>
     ensures { IfOk result (λ v. v.items ≡ earlier_in remains.now) }
 {
     let mut waiting = Vec::with_capacity(alloc, remains.len())?;

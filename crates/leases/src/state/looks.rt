@@ -43,6 +43,8 @@ impl State {
             leases: Vec::new(alloc),
             next: 0,
             slots: RunQueue::new(alloc),
+            stored: 0,
+            left: 0,
         }
     }
 

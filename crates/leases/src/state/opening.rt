@@ -1,0 +1,118 @@
+//! Copies of what a forgetting leaves.
+ghost use Rattle.std.specs.Prelude.{◌≡◌, ℕ, Bool, IfOk, length, map};
+ghost use Rattle.values.specs.Window.{Element};
+ghost use Rattle.reference.specs.Opening.{restart, with_kept};
+ghost use Rattle.laws_engine.specs.Openings.{forgotten};
+ghost use Rattle.leases.specs.Forgets.{AreMarkable, IsSaid, Says, restarted_by};
+ghost use Rattle.leases.specs.Openings.{opening_in};
+ghost use Rattle.leases.specs.Shown.{engine_in};
+ghost use Rattle.leases.specs.Sound.{IsSound};
+ghost use Rattle.leases.specs.Views.{query_of};
+
+use crate::limits::ALL_INSTANTS;
+use crate::opening::Opening;
+use crate::registered::{Place, Registration};
+use crate::remains::Remains;
+use crate::state::State;
+use crate::state::forget::{KeptRows, next_of, waiting_of};
+use envelope::Slope;
+use query_runtime::WaitingAnswers;
+use std::alloc::{AllocError, Global};
+use std::sync::Arc;
+use stream_store::{Stored, Streams};
+
+impl State {
+    /// Copies what `forget` would leave of streams and queries, at the cost of the rows that are
+    /// held times the windows over their streams, of the answers that wait, and of the queries. An
+    /// error says that memory was refused.
+    pub(crate) fn opening(&self) -> Result<Opening, AllocError>
+        requires { IsSound self.now }
+        ensures { IfOk result (λ o. opening_in o ≡ (forgotten (engine_in self.now)).machine) }
+    {
+        let kept = self.kept_rows()?;
+        let streams = copies_of(self.alloc, &self.streams, &kept)?;
+        let waiting = waiting_of(self.alloc, &self.remains)?;
+        let registered = restarted_copies(self.alloc, &self.registered, &self.remains, waiting)?;
+        Ok(Opening::of(streams, registered))
+    }
+}
+
+/// Copies of the streams, by number, with the rows that are kept.
+fn copies_of(
+    alloc: Global,
+    streams: &Streams,
+    kept: &[KeptRows],
+) -> Result<Vec<Stored>, AllocError>
+    requires { IsSaid kept.now streams.now }
+    ensures { IfOk result (λ v. (keep : ℕ → Element → Bool) → Says keep kept.now streams.now
+        → v.items ≡ with_kept keep 0 streams.now) }
+{
+    let mut copies = Vec::with_capacity(alloc, kept.len())?;
+    for (stream, rows) in kept.iter().enumerate() {
+        copies.push(streams.copy_kept(alloc, stream as u64, &rows.marks, &rows.starts)?)?;
+    }
+    Ok(copies)
+}
+
+/// Copies of the queries, each going on from the instant after its mark, behind the answers that
+/// wait.
+fn restarted_copies(
+    alloc: Global,
+    registered: &[Registration],
+    remains: &[Remains],
+    waiting: Vec<WaitingAnswers>,
+) -> Result<Vec<Registration>, AllocError>
+    requires marks { AreMarkable registered.now remains.now }
+    requires many { length waiting.items ≡ length registered.now }
+    ensures { IfOk result (λ v. map query_of v.items
+        ≡ restarted_by registered.now remains.now waiting.items) }
+{
+    let mut copies = Vec::with_capacity(alloc, registered.len())?;
+    for (query, earlier) in waiting.into_iter().enumerate() {
+        let next = next_of(&registered[query], &remains[query]);
+        copies.push(restarted_copy(alloc, &registered[query], next, earlier)?)?;
+    }
+    Ok(copies)
+}
+
+/// A copy of the query that goes on from the instant after its mark, or behind all instants if it
+/// has none, behind the answers that wait.
+fn restarted_copy(
+    alloc: Global,
+    query: &Registration,
+    next: Option<u64>,
+    earlier: WaitingAnswers,
+) -> Result<Registration, AllocError>
+    ensures { IfOk result (λ copy. query_of copy ≡ restart (query_of query.now) next earlier) }
+{
+    let name = String::from_str(alloc, &query.name)?;
+    let slopes = copied_slopes(alloc, &query.slopes)?;
+    let places = copied_places(alloc, &query.places)?;
+    Ok(Registration {
+        name,
+        plan: Arc::clone(&query.plan),
+        slopes,
+        places,
+        first: query.first,
+        start: next.unwrap_or(ALL_INSTANTS),
+        earlier,
+        taken: 0,
+        is_dropped: query.is_dropped,
+    })
+}
+
+fn copied_slopes(alloc: Global, slopes: &[Slope]) -> Result<Vec<Slope>, AllocError>
+    ensures { IfOk result (λ v. v.items ≡ slopes.now) }
+{
+    let mut copy = Vec::new(alloc);
+    copy.extend_from_slice(slopes)?;
+    Ok(copy)
+}
+
+fn copied_places(alloc: Global, places: &[Place]) -> Result<Vec<Place>, AllocError>
+    ensures { IfOk result (λ v. v.items ≡ places.now) }
+{
+    let mut copy = Vec::new(alloc);
+    copy.extend_from_slice(places)?;
+    Ok(copy)
+}

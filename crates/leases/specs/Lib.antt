@@ -11,6 +11,7 @@ pub mod Looks
 pub mod Registering
 pub mod Leasing
 pub mod Readers
+pub mod Told
 pub mod Runs
 pub mod Queues
 pub mod Undropped

@@ -95,7 +95,7 @@ pub(crate) fn worked(
             *engine = Engine::new(alloc);
             done(alloc)
         }
-        ["forget"] => {
+        ["clear"] => {
             kept.clear();
             done(alloc)
         }
@@ -120,6 +120,10 @@ pub(crate) fn worked(
         ["waiting", query] => {
             let count = engine.waiting(number(query))?;
             Ok(format!(in alloc; "{count} wait")?)
+        }
+        ["kept", stream] => {
+            let count = engine.kept(number(stream))?;
+            Ok(format!(in alloc; "{count} are kept")?)
         }
         ["out"] => Ok(format!(in alloc; "{} are out", engine.leases_out())?),
         _ => Ok(String::from_str(alloc, "no row")?),

@@ -367,6 +367,7 @@ module _ (columns n : ℕ) (closed next : Closed) (es : List Element) (p : Eleme
     opened = subst (λ u. AllByRecursion (λ (e : Element). u ≤ e.instant) (filter p es)) (sym until) (each-kept (λ (e : Element). closed.until ≤ e.instant) p es stored.opened);
     wide = each-kept (λ (e : Element). length e.row ≡ columns) p es stored.wide;
     numbered = each-kept (λ (e : Element). e.arrival < n) p es stored.numbered;
+    full = subst (λ (xs : List Element). AllByRecursion (λ e. length e.row ≡ columns) xs) (sym more) (each-chosen (λ (e : Element). length e.row ≡ columns) marks closed.elements stored.full);
     came = subst (λ (xs : List Element). AllByRecursion (λ e. e.arrival < n) xs) (sym more) (each-chosen (λ (e : Element). e.arrival < n) marks closed.elements stored.came);
   }
 

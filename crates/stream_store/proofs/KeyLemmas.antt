@@ -74,7 +74,7 @@ cmp_means a b = here (cases_order a b)
     here (inr (inl e)) = subst (λ r. MatchOrdering r (a < b) (a ≡ b) (b < a)) (nat_cmp_is a b Less e) e
     here (inr (inr e)) = subst (λ r. MatchOrdering r (a < b) (a ≡ b) (b < a)) (nat_cmp_is a b Greater e) e
 
-less_means : (a b : ℕ) → nat_cmp a b ≡ Less → a < b
+pub less_means : (a b : ℕ) → nat_cmp a b ≡ Less → a < b
 less_means a b h = subst (λ r. MatchOrdering r (a < b) (a ≡ b) (b < a)) h (cmp_means a b)
 
 pub sorted_rest : (e : Entry) (es : List Entry) → IsStrictlySortedBy nat_cmp (keys_of (e ∷ es)) → IsStrictlySortedBy nat_cmp (keys_of es)

@@ -9,6 +9,7 @@ mod RisingLemmas
 mod OpenLemmas
 mod StoredLemmas
 mod KeepLemmas
+mod CopyLemmas
 mod BesideLemmas
 pub mod ShownLemmas
 pub mod KeptLemmas

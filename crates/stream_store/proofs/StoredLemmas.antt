@@ -126,6 +126,8 @@ module _ (columns n m : ℕ) (closed next : Closed) (es : List Element) (stored 
     opened = each_from (λ e. later e ≡ true) (λ (e : Element). next.until ≤ e.instant) (λ e h. let lt : m < e.instant = ltb-true m e.instant h in omega (arith, lt, until)) (past m es) (each_passes later es);
     wide = each-kept (λ (e : Element). length e.row ≡ columns) later es stored.wide;
     numbered = each-kept (λ (e : Element). e.arrival < n) later es stored.numbered;
+    full = subst (λ (xs : List Element). AllByRecursion (λ e. length e.row ≡ columns) xs) (sym more) (each-append (λ e. length e.row ≡ columns) closed.elements (up_to m es) stored.full
+        (each-kept (λ (e : Element). length e.row ≡ columns) (λ (e : Element). nat_le e.instant m) es stored.wide));
     came = subst (λ (xs : List Element). AllByRecursion (λ e. e.arrival < n) xs) (sym more) (each-append (λ e. e.arrival < n) closed.elements (up_to m es) stored.came
         (each-kept (λ (e : Element). e.arrival < n) (λ (e : Element). nat_le e.instant m) es stored.numbered));
   }
@@ -212,6 +214,7 @@ module _ (name : List ℕ) (columns : List Name) (n : ℕ) (closed : Closed) (es
         wide = each-put (λ e. length e.row ≡ length columns) n new es (each-numbered (λ r. length r.1 ≡ length columns) (λ e. length e.row ≡ length columns) (λ k r h. h) n new rows_wide) stored.wide;
         numbered = each-put (λ e. e.arrival < n + length rows) n new es (numbered_below n (n + length rows) new (omega (arith, long)))
             (each_from (λ (e : Element). e.arrival < n) (λ (e : Element). e.arrival < n + length rows) more es stored.numbered);
+        full = stored.full;
         came = each_from (λ (e : Element). e.arrival < n) (λ (e : Element). e.arrival < n + length rows) more closed.elements stored.came;
       }
 

@@ -26,4 +26,5 @@ pub record IsStored (columns arrivals : ℕ) (closed : Closed) (rows : List Elem
   pub opened : AllByRecursion (λ (e : Element). closed.until ≤ e.instant) rows
   pub wide : AllByRecursion (λ (e : Element). length e.row ≡ columns) rows
   pub numbered : AllByRecursion (λ (e : Element). e.arrival < arrivals) rows
+  pub full : AllByRecursion (λ (e : Element). length e.row ≡ columns) closed.elements
   pub came : AllByRecursion (λ (e : Element). e.arrival < arrivals) closed.elements

@@ -1,10 +1,12 @@
 //! Rows on their way into a log.
 ghost use Rattle.std.specs.Prelude.{◌≡◌, ◌≤◌, ◌+◌, ◌*◌, ◌++◌, ◌∷◌, [], OnOk, OnErr};
 ghost use Rattle.std.specs.Prelude.{length, map, replicate, take, drop, vec_len, vec_capacity};
-ghost use Rattle.std.specs.List.{flat_map};
+ghost use Rattle.std.specs.Prelude.{◌<◌, slice_index_or};
+ghost use Rattle.std.specs.List.{All, flat_map};
 ghost use Rattle.stream_store.specs.Open.{elements_at};
 ghost use Rattle.stream_store.specs.LateRows.{rows_in};
 
+use op_queue::Log;
 use std::alloc::{AllocError, Global};
 use std::collections::VecDeque;
 use std::marker::Model;
@@ -112,6 +114,25 @@ impl Arrivals {
         Ok(())
     }
 
+    /// Puts a copy of the row at a place of a log behind the others. On Err they are as they were.
+    pub(crate) fn push_closed(&mut self, log: &Log, place: usize) -> Result<(), AllocError>
+        requires width { log.now.width ≡ self.old.width }
+        requires wide { All (λ e. length e.row ≡ self.old.width) log.now.elements }
+        requires place { place < length log.now.elements }
+        ensures width { self.new.width ≡ self.old.width }
+        ensures ok { OnOk result ((e : _) → self.new.elements
+            ≡ self.old.elements ++ slice_index_or log.now.elements place e ∷ []) }
+        ensures err { OnErr result (self.new ≡ self.old) }
+    {
+        self.instants.reserve(1)?;
+        self.numbers.reserve(1)?;
+        self.values.reserve(self.width)?;
+        self.instants.push_reserved(log.instants()[place]);
+        self.numbers.push_reserved(log.numbers()[place]);
+        push_row(&mut self.values, log, place, self.width);
+        Ok(())
+    }
+
     /// Puts rows of one instant behind the others: their numbers, and their values, one row's
     /// behind another's. On Err they are as they were.
     pub(crate) fn push_all(
@@ -164,6 +185,21 @@ fn push_values(values: &mut Vec<Value>, more: &[Value])
 {
     for value in more {
         values.push_reserved(*value);
+    }
+}
+
+/// Puts the values of the row at a place of a log, as many as its columns, behind others, which have
+/// room for them.
+fn push_row(values: &mut Vec<Value>, log: &Log, place: usize, width: usize)
+    requires room { vec_len values.old + width ≤ vec_capacity values.old }
+    requires width { log.now.width ≡ width }
+    requires wide { All (λ e. length e.row ≡ width) log.now.elements }
+    requires place { place < length log.now.elements }
+    ensures { (e : _) → values.new.items
+        ≡ values.old.items ++ (slice_index_or log.now.elements place e).row }
+{
+    for index in 0..width {
+        values.push_reserved(log.column(index)[place]);
     }
 }
 

@@ -1,6 +1,6 @@
 //! The late rows of a stream: open rows by instant, and then in the order of arrival.
 ghost use Rattle.std.specs.Prelude.{◌≡◌, ◌<◌, ◌≤◌, ◌+◌, ◌*◌, ◌^◌, [], IsTrue, OnOk, OnErr};
-ghost use Rattle.std.specs.Prelude.{length, true};
+ghost use Rattle.std.specs.Prelude.{IfOk, length, true};
 ghost use Rattle.std.specs.List.{list_all};
 ghost use Rattle.std.specs.List.Sorted.{IsStrictlySortedBy};
 ghost use Rattle.std.specs.Map.{keys_of};
@@ -60,6 +60,21 @@ pub(crate) fn keep_read(late: &mut BTreeMap<u64, LateRows>, starts: &[Start])
     ensures { late.new.entries ≡ entries_read starts.now late.old.entries }
 {
     late.retain(|instant, open| open.keep(*instant, starts));
+}
+
+/// Copies the rows of all instants. An error says that memory was refused.
+pub(crate) fn copy(
+    alloc: Global,
+    late: &BTreeMap<u64, LateRows>,
+) -> Result<BTreeMap<u64, LateRows>, AllocError>
+    ensures { IfOk result (λ copy. copy.entries ≡ late.now.entries) }
+{
+    let mut copy = BTreeMap::new(alloc);
+    for (instant, open) in late.iter() {
+        let rows = open.copy(alloc)?;
+        copy.insert(*instant, rows)?;
+    }
+    Ok(copy)
 }
 
 /// How many rows there are. It costs the instants.

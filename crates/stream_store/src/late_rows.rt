@@ -1,6 +1,6 @@
 //! The open rows of one instant.
 ghost use Rattle.std.specs.Prelude.{◌≡◌, ℕ, ◌+◌, ◌*◌, ◌^◌, ◌<◌, ◌≤◌, ◌++◌, OnOk, OnErr, length};
-ghost use Rattle.std.specs.Prelude.{map, nat_lt, take, true, vec_len, vec_capacity};
+ghost use Rattle.std.specs.Prelude.{IfOk, map, nat_lt, take, true, vec_len, vec_capacity};
 ghost use Rattle.std.specs.Prelude.{slice_index_or, slice_set};
 ghost use Rattle.std.specs.List.{filter, list_all, range_with_len};
 ghost use Rattle.reference.specs.Commands.{is_stream_value};
@@ -110,6 +110,21 @@ impl LateRows {
         self.numbers.truncate(count);
         self.values.truncate(count * width);
         count > 0
+    }
+
+    /// Copies the rows. It costs as many as there are. An error says that memory was refused.
+    pub(crate) fn copy(&self, alloc: Global) -> Result<LateRows, AllocError>
+        ensures { IfOk result (λ copy. copy ≡ self.now) }
+    {
+        let mut numbers = Vec::new(alloc);
+        numbers.extend_from_slice(&self.numbers)?;
+        let mut values = Vec::new(alloc);
+        values.extend_from_slice(&self.values)?;
+        Ok(LateRows {
+            width: self.width,
+            numbers,
+            values,
+        })
     }
 
     /// Puts copies of the rows, with their instant, behind others.

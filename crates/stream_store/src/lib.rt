@@ -4,6 +4,7 @@
 #![tactic(auto)]
 
 mod arrivals;
+mod closed_rows;
 mod late;
 mod late_rows;
 mod lent;
@@ -16,4 +17,5 @@ mod streams;
 pub use arrivals::Arrivals;
 pub use op_queue::Log;
 pub use starts::Start;
+pub use stored::Stored;
 pub use streams::Streams;

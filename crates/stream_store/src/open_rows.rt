@@ -9,7 +9,7 @@ ghost use Rattle.stream_store.specs.OpenRows.{IsMore, IsOpen, with_late};
 ghost use Rattle.stream_store.specs.Starts.{has_reader};
 
 use crate::arrivals::Arrivals;
-use crate::late::{count, drop_up_to, forget_from, keep_read, put};
+use crate::late::{copy, count, drop_up_to, forget_from, keep_read, put};
 use crate::late_rows::LateRows;
 use crate::lent::count_at;
 use crate::ordered_rows::OrderedRows;
@@ -125,6 +125,19 @@ impl OpenRows {
     {
         self.rising.keep(starts);
         keep_read(&mut self.late, starts);
+    }
+
+    /// Copies the rows. It costs as many as there are. An error says that memory was refused.
+    pub(crate) fn copy(&self, alloc: Global) -> Result<OpenRows, AllocError>
+        ensures { IfOk result (λ copy. copy ≡ self.now) }
+    {
+        let rising = self.rising.copy(alloc)?;
+        let late = copy(alloc, &self.late)?;
+        Ok(OpenRows {
+            alloc,
+            rising,
+            late,
+        })
     }
 
     /// Takes out the rows up to the instant.

@@ -15,6 +15,7 @@ ghost use Rattle.stream_store.specs.Closing.{closed_of, closing_of};
 ghost use Rattle.stream_store.specs.Kept.{HasRest, SaysKept, count_closed, kept_stream};
 
 use crate::arrivals::Arrivals;
+use crate::closed_rows::copy_marked;
 use crate::open_rows::OpenRows;
 use crate::starts::Start;
 use cql_reader::Name;
@@ -26,7 +27,7 @@ use std::marker::Model;
 
 /// A declared stream, and the rows that came to it.
 #[derive(Drop)]
-pub(crate) struct Stored {
+pub struct Stored {
     /// Where memory is taken from.
     alloc: Global,
     /// The stream's name.
@@ -234,6 +235,35 @@ impl Stored {
         let _until = self.log.until();
         self.log.keep(kept);
         self.open_rows.keep(starts);
+    }
+
+    /// Copies the stream with the rows that stay: of the closed ones those at whose places a mark is
+    /// true, of the open ones those that one of the readers has in its input. It costs the stream's
+    /// rows, of the open ones each times the readers. An error says that memory was refused.
+    pub(crate) fn copy_kept(
+        &self,
+        alloc: Global,
+        kept: &[bool],
+        starts: &[Start],
+    ) -> Result<Stored, AllocError>
+        requires { length kept.now ≡ count_closed self.now }
+        ensures elements { IfOk result (λ copy. (keep : Element → Bool)
+            → SaysKept kept.now starts.now keep self.now → copy ≡ kept_stream keep self.now) }
+    {
+        let _until = self.log.until();
+        let mut columns = Vec::new(alloc);
+        columns.extend_from_slice(&self.columns)?;
+        let log = copy_marked(alloc, &self.log, kept)?;
+        let mut open_rows = self.open_rows.copy(alloc)?;
+        open_rows.keep(starts);
+        Ok(Stored {
+            alloc,
+            name: self.name,
+            columns,
+            log,
+            open_rows,
+            arrivals: self.arrivals,
+        })
     }
 }
 

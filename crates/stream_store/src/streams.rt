@@ -15,7 +15,7 @@ ghost use Rattle.reference.specs.Told.{IsTold};
 ghost use Rattle.reference.specs.World.{Looks, declare_step, append_step};
 ghost use Rattle.stream_store.specs.Beside.{DoesBeside, DoesBesideSuch, IsLimit, limited_tests};
 ghost use Rattle.stream_store.specs.Closing.{closed_of, closing_at, closing_in, QueuesGain};
-ghost use Rattle.stream_store.specs.Kept.{SaysKeptOf, count_closed, kept_stream};
+ghost use Rattle.stream_store.specs.Kept.{SaysKept, SaysKeptOf, count_closed, kept_stream};
 
 use crate::arrivals::Arrivals;
 use crate::starts::Start;
@@ -248,6 +248,28 @@ impl Streams {
             → self.new ≡ change stream (kept_stream keep) self.old }
     {
         self.streams[stream as usize].keep(kept, starts);
+    }
+
+    /// Copies the stream of a number with the rows that stay: of the closed ones, as many as there
+    /// are marks, those at whose places in its log the mark is true, of the open ones those that one
+    /// of the readers has in its input. It costs the stream's rows, of the open ones each times the
+    /// readers.
+    ///
+    /// # Errors
+    /// `AllocError` where memory is refused.
+    pub fn copy_kept(
+        &self,
+        alloc: Global,
+        stream: u64,
+        kept: &[bool],
+        starts: &[Start],
+    ) -> Result<Stored, AllocError>
+        requires { option_map count_closed (slice_get self.now stream) ≡ Some (length kept.now) }
+        ensures { IfOk result (λ copy. (keep : Element → Bool) (s : Stream)
+            → slice_get self.now stream ≡ Some s → SaysKept kept.now starts.now keep s
+            → copy ≡ kept_stream keep s) }
+    {
+        self.streams[stream as usize].copy_kept(alloc, kept, starts)
     }
 
     /// Declares a stream, whose first open instant is `from`, and answers its number, from 0 on.

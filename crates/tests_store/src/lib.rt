@@ -5,6 +5,8 @@
 #![tactic(auto)]
 
 #[cfg(test)]
+mod copied;
+#[cfg(test)]
 mod needed;
 #[cfg(test)]
 mod streams;

@@ -222,7 +222,7 @@ fn rows_are_closed_by_instant_and_then_arrival(rt: HostRuntime) -> Result<(), Fa
 }
 
 // Whether the rows are these, each an instant, a number and a value.
-fn are_rows(rows: &Arrivals, expected: &[(u64, u64, i128)]) -> bool {
+pub(crate) fn are_rows(rows: &Arrivals, expected: &[(u64, u64, i128)]) -> bool {
     if rows.values().len() != expected.len() {
         return false;
     }
@@ -377,7 +377,7 @@ fn rows_over_the_limit_are_refused(rt: HostRuntime) -> Result<(), Fail> {
 
 // Six rows, of which those up to the instant 2 are closed, one of them a late one; one of the open
 // rows is late.
-fn six_rows(alloc: Global) -> Result<Streams, Fault> {
+pub(crate) fn six_rows(alloc: Global) -> Result<Streams, Fault> {
     let mut streams = streams(alloc)?;
     append(
         alloc,

@@ -90,7 +90,7 @@ fn restarted_copy(
     let places = copied_places(alloc, &query.places)?;
     Ok(Registration {
         name,
-        plan: Arc::clone(&query.plan),
+        plan: Arc::clone(&query.plan)?,
         slopes,
         places,
         first: query.first,

@@ -1,12 +1,12 @@
 -- What bounds the answers of a good engine bounds those of the engine that has forgotten.
-use Rattle.std.proofs.Common.{◌≡◌, ℕ, zero, suc, ◌+◌, ◌-◌, ◌*◌, ◌^◌, ◌<◌, ◌≤◌, false, Some, None, List, [], ◌∷◌, ◌++◌, map, length, get_or, refl, sym, ap, subst, arith, length-append}
-use Rattle.std.specs.Prelude.{slice_get, unwrap_or}
+use Rattle.std.proofs.Common.{◌≡◌, ℕ, zero, suc, ◌+◌, ◌-◌, ◌*◌, ◌^◌, ◌<◌, ◌≤◌, false, Some, List, [], ◌∷◌, ◌++◌, map, length, get_or, refl, ap, subst, arith, length-append}
+use Rattle.std.specs.Prelude.{slice_get}
 use Rattle.std.specs.List.{AllByRecursion}
 use Rattle.values.specs.Row.{Row}
 use Rattle.values.specs.Window.{Element}
 use Rattle.values.specs.Answers.{body}
 use Rattle.plan.proofs.Lists.{each-append, each-left, each-right}
-use Rattle.reference.specs.Machine.{Machine, Registered, answers_from, closed_answers, input_at, until_for}
+use Rattle.reference.specs.Machine.{Machine, Registered, answers_from, input_at, until_for}
 use Rattle.reference.specs.Opening.{all_restarted, needs_by, restart}
 use Rattle.laws_dataflow.specs.Laws as nets
 use Rattle.laws_dataflow.specs.Plans.{bags_of, below_root, value_of}
@@ -14,10 +14,9 @@ use Rattle.laws_dataflow.proofs.AnswerLemmas.{query_value}
 use Rattle.laws_queries.specs.Rooms.{HasFewSince}
 use Rattle.laws_queries.specs.Machines.{IsMachine, IsQuery, QueriesStand, widths_of}
 use Rattle.laws_queries.specs.Counts.{count}
-use Rattle.laws_queries.specs.Queries.{PlainQuery}
 use Rattle.laws_queries.proofs.MachineCounts.{keeps_limit, queries_stand}
 use Rattle.laws_queries.proofs.PlanCounts.{count_is, root_has_room}
-use Rattle.laws_engine.specs.Bounds.{HasFewClosed, HasFewEarlier, HaveFewClosed, instants}
+use Rattle.laws_engine.specs.Bounds.{HasFewEarlier, HaveFewClosed, instants}
 use Rattle.laws_engine.specs.Engines.{Broken, Dropped, GoodEngine, HasGiven, PlainEngine, PlainRemains, Running, answers_in, query_at, remains_at}
 use Rattle.laws_engine.specs.Openings.{forgotten, mark_in, marks_by}
 use Rattle.laws_engine.proofs.AnswerLemmas.{answers_are_few, answers_lie_below}

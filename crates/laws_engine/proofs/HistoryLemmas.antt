@@ -8,13 +8,14 @@ use Rattle.laws_queries.proofs.RowLemmas.{rows_stand}
 use Rattle.laws_queries.specs.Queries.{PlainQuery}
 use Rattle.run_queue.specs.Slots.{slot_cmp}
 use Rattle.laws_engine.specs.Engines.{GoodEngine, IsIn, Lease, PlainEngine}
-use Rattle.laws_engine.specs.Histories.{Abandons, Breaks, Call, ComesBack, Finishes, IsCallStep, IsCommandStep, LeadTo, Leases, Stays, Told, empty}
+use Rattle.laws_engine.specs.Histories.{Abandons, Breaks, Call, ComesBack, Finishes, Forgets, IsCallStep, IsCommandStep, LeadTo, Leases, Stays, Told, empty}
 use Rattle.laws_engine.specs.Promises.{KeepsItsPromises}
 use Rattle.laws_engine.proofs.AppendedLemmas.{append_good}
 use Rattle.laws_engine.proofs.HeartbeatLemmas.{heartbeat_good}
 use Rattle.laws_engine.proofs.DeclaredLemmas.{declare_good}
 use Rattle.laws_engine.proofs.DropLemmas.{drop_good}
 use Rattle.laws_engine.proofs.FinishLemmas.{abandon_good, answer_good, finish_good}
+use Rattle.laws_engine.proofs.ForgottenLemmas.{forgotten_good}
 use Rattle.laws_engine.proofs.LeaseLemmas.{break_good, lease_good}
 use Rattle.laws_engine.proofs.PromiseLemmas.{keeps_its_promises}
 use Rattle.laws_engine.proofs.RegisteredLemmas.{register_good}
@@ -53,6 +54,7 @@ step_good e e2 (Leases l) g t = subst GoodEngine (sym t.1.1.1.1) (lease_good e l
 step_good e e2 (Finishes l) g t = comes_good e e2 l t.1.0 t.1.1.0 t.1.1.1.0 g t.0 t.1.1.1.1
 step_good e e2 (Abandons l) g t = subst GoodEngine (sym t.1.1.1.1) (abandon_good e l t.1.0 t.1.1.0 g t.0 t.1.1.1.0)
 step_good e e2 (Breaks l) g t = subst GoodEngine (sym t.1.1.1.1) (break_good e l.query t.1.0 t.1.1.0 g t.1.1.1.0.registered t.1.1.1.0.running)
+step_good e e2 Forgets g t = subst GoodEngine (sym t) (forgotten_good e g)
 step_good e e2 Stays g t = subst GoodEngine (sym t) g
 
 pub calls_good : (e e2 : PlainEngine) (calls : List Call) → GoodEngine e → LeadTo e calls e2 → GoodEngine e2

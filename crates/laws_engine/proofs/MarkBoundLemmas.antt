@@ -1,6 +1,5 @@
 -- What bounds the answers of a running query bounds those that come behind its mark.
-use Rattle.std.proofs.Common.{◌≡◌, ℕ, zero, suc, ◌+◌, ◌-◌, ◌*◌, ◌^◌, ◌<◌, ◌≤◌, Bool, true, false, cond, nat_le, max, Option, Some, None, List, [], ◌∷◌, ◌++◌, map, length, flat_map, get_or, refl, sym, ap, ◌∙◌, subst, arith, length-append, le_trans}
-use Rattle.std.specs.Prelude.{slice_get, unwrap_or}
+use Rattle.std.proofs.Common.{◌≡◌, ℕ, zero, suc, ◌+◌, ◌-◌, ◌*◌, ◌^◌, ◌<◌, ◌≤◌, Bool, true, false, cond, nat_le, max, Some, List, [], ◌∷◌, ◌++◌, map, length, flat_map, refl, ap, ◌∙◌, subst, arith, length-append, le_trans}
 use Rattle.std.specs.List.{AllByRecursion, range_with_len}
 use Rattle.std.proofs.Math.Nat.{suc-mul}
 use Rattle.std.proofs.lemmas.List.{length-map}
@@ -10,8 +9,8 @@ use Rattle.values.specs.Bag.{bag_minus, in_order, insert_in_order, is_above, is_
 use Rattle.values.specs.Answers.{Dstream, Istream, StreamOperator, Rstream, streamed}
 use Rattle.values.specs.Resolved.{operator_of}
 use Rattle.plan.proofs.Lists.{each-append, each-left, each-right}
-use Rattle.reference.specs.Machine.{Registered, Stream, answers_from, closed_answers, input_at, until_for}
-use Rattle.reference.specs.Opening.{all_restarted, needs_by, restart, with_kept}
+use Rattle.reference.specs.Machine.{Registered, Stream, answers_from, input_at, until_for}
+use Rattle.reference.specs.Opening.{restart, with_kept}
 use Rattle.laws_dataflow.specs.Nets.{Cell, at_unary}
 use Rattle.laws_dataflow.specs.Plans.{below_root, value_of}
 use Rattle.laws_dataflow.specs.Queries.{before, given_at, given_from}
@@ -21,8 +20,8 @@ use Rattle.laws_queries.specs.Queries.{PlainQuery}
 use Rattle.laws_queries.proofs.MachineCounts.{keeps_limit, queries_stand}
 use Rattle.laws_queries.proofs.PlanCounts.{count_is, root_has_room}
 use Rattle.laws_engine.specs.Bounds.{HasFewClosed, HasFewEarlier, instants}
-use Rattle.laws_engine.specs.Engines.{Broken, Dropped, GoodEngine, Goes, HasGiven, PlainEngine, PlainRemains, Running, answers_in, query_at, remains_at}
-use Rattle.laws_engine.specs.Openings.{forgotten, mark_in, marks_by, next_of}
+use Rattle.laws_engine.specs.Engines.{GoodEngine, Goes, HasGiven, PlainEngine, Running, query_at, remains_at}
+use Rattle.laws_engine.specs.Openings.{next_of}
 use Rattle.laws_engine.proofs.AnswerLemmas.{answers_lie_below}
 use Rattle.laws_engine.proofs.AppendedLemmas.{is_query}
 use Rattle.laws_engine.proofs.InstantLemmas.{until_few}

@@ -1,6 +1,5 @@
 -- The mark of a running query lies no higher than what its streams have closed, or is its first instant.
 use Rattle.std.proofs.Common.{◌≡◌, ℕ, ◌-◌, ◌<◌, ◌≤◌, max, Some, List, ◌++◌, ◌∙◌, sym, ap, subst, arith}
-use Rattle.std.specs.Prelude.{slice_get}
 use Rattle.values.specs.Row.{Row}
 use Rattle.op_queue.specs.Entries.{Entry}
 use Rattle.to_stream.specs.Turns.{State}

@@ -6,19 +6,22 @@ use Rattle.reference.specs.Machine.{Registered}
 use Rattle.laws_queries.specs.Queries.{PlainQuery}
 use Rattle.run_queue.specs.declared.slots.Slot.{Slot}
 use Rattle.laws_engine.specs.Engines.{IsIn, Lease, PlainEngine}
+use Rattle.laws_engine.specs.Openings.{forgotten}
 use Rattle.laws_engine.specs.Calls.{IsAnsweredTurn, IsFinishedTurn, IsHeartbeat, IsLeasable, IsOf, IsRegistration, IsTake, abandoned, answered, appended, broken, declared, dropped, finished, heartbeat_taken, leased, registered, taken}
 
 -- THE EMPTY ENGINE
 abbrev pub empty : PlainEngine
 empty = record { machine = machine.empty; queries = []; leases = []; next = 0; slots = [] }
 
--- a command of the machine; a turn that goes out, or comes back finished or abandoned, or whose finish a refused growth stops; and a call that is refused, or looks
+-- a command of the machine; a turn that goes out, or comes back finished or abandoned, or whose finish a refused growth stops; that what no window shows again is
+-- forgotten; and a call that is refused, or looks
 pub data Call : Type 0 where
   Told : Command → Call
   Leases : Lease → Call
   Finishes : Lease → Call
   Abandons : Lease → Call
   Breaks : Lease → Call
+  Forgets : Call
   Stays : Call
 
 -- WHAT IT MAKES OF AN ENGINE
@@ -40,6 +43,7 @@ IsCallStep e (Leases l) e2 = (q : Registered) × ((p : PlainQuery) × ((s : Slot
 IsCallStep e (Finishes l) e2 = IsIn e.leases l × ((q : Registered) × ((p : PlainQuery) × ((p2 : PlainQuery) × ComesBack e l q p p2 e2)))
 IsCallStep e (Abandons l) e2 = IsIn e.leases l × ((q : Registered) × ((p : PlainQuery) × (IsOf e l q p × (e2 ≡ abandoned e l q p))))
 IsCallStep e (Breaks l) e2 = IsIn e.leases l × ((q : Registered) × ((p : PlainQuery) × (IsOf e l q p × (e2 ≡ broken e l.query p))))
+IsCallStep e Forgets e2 = e2 ≡ forgotten e
 IsCallStep e Stays e2 = e2 ≡ e
 
 -- ONE CALL AFTER THE OTHER

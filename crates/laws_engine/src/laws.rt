@@ -20,10 +20,10 @@ pub fn good_engines_keep_their_promises()
 {}
 
 /// Says that after any list of calls on the empty engine, whatever was declared, registered,
-/// appended, closed, taken and dropped, and whatever turns went out and came back, the answers of
-/// each query that were taken, and those that wait, are a beginning of CQL's answers for the
-/// instants that are closed, all of them where none of its operators may be leased or is, and that
-/// the first slot is steepest.
+/// appended, closed, taken, dropped and forgotten, and whatever turns went out and came back, the
+/// answers of each query that were taken, and those that wait, are a beginning of CQL's answers for
+/// the instants that are closed, all of them where none of its operators may be leased or is, and
+/// that the first slot is steepest.
 pub fn engines_keep_their_promises()
     ensures { (calls : List Call) (e : PlainEngine) → LeadTo empty calls e → KeepsItsPromises e }
 {}

@@ -1,4 +1,4 @@
--- Alike machines stay alike.
+-- Partly alike machines stay so.
 use Rattle.std.proofs.Common.{◌≡◌, ℕ, ℤ, zero, suc, nat_abs, ◌+◌, ◌≤◌, ◌==◌, ◌&&◌, nat_le, Bool, true, false, cond, Option, Some, None, Result, Ok, Err, List, [], ◌∷◌, ◌++◌, map, drop, filter, length, refl, sym, ap, ap₂, ◌∙◌, subst, arith, append_assoc, append-nil, eqb-true, eq-eqb, true≢false}
 use Rattle.std.specs.Prelude.{slice_get}
 use Rattle.std.specs.Option.{option_map_or}
@@ -14,7 +14,8 @@ use Rattle.reference.specs.World.{untaken}
 use Rattle.reference.specs.declared.fault.QueryFault.{QueryFault}
 use Rattle.reference.proofs.ClosedLemmas.{AreLater, IsLater, appended_later, closed_later, least_grows, pushed_later}
 use Rattle.reference.proofs.StreamLemmas.{alone}
-use Rattle.reference.specs.Alike.{AlikeMachines, AlikeQuery, AreAlike, MayCome, bare, bare_query, later_answers, later_input, open_at}
+use Rattle.reference.specs.Alike.{AlikeQuery, MayCome, bare, bare_query, later_answers, later_input, open_at}
+use Rattle.laws_forgetting.specs.Partly.{AlikeIf, ArePartlyAlike, PartlyAlike, is_compared}
 use Rattle.laws_forgetting.proofs.BareLemmas.{by_bare, filter_more, firsts_same, input_bare, map_each, untils_same}
 use Rattle.laws_forgetting.proofs.FaultLemmas.{found_same}
 
@@ -53,27 +54,31 @@ module _ (ss ts : List Stream) (later : AreLater ss ts) where
 
 -- OVER OTHER MACHINES that show the queries the same
 module _ (m n m2 n2 : Machine) where
-  pub over : ((q r : Registered) → AlikeQuery m n q r → AlikeQuery m2 n2 q r) → (qs rs : List Registered) → AreAlike m n qs rs → AreAlike m2 n2 qs rs
-  over f [] [] h = tt
-  over f [] (r ∷ rs) h = absurd h
-  over f (q ∷ qs) [] h = absurd h
-  over f (q ∷ qs) (r ∷ rs) h = (f q r h.0, over f qs rs h.1)
+  shown : (b : Bool) (q r : Registered) → (AlikeQuery m n q r → AlikeQuery m2 n2 q r) → AlikeIf b m n q r → AlikeIf b m2 n2 q r
+  shown b q r f a = record { bare = a.bare; alike = λ p. f (a.alike p) }
+
+  pub over : ((q r : Registered) → AlikeQuery m n q r → AlikeQuery m2 n2 q r) → (passes : ℕ → Bool) (qs rs : List Registered) → ArePartlyAlike passes m n qs rs → ArePartlyAlike passes m2 n2 qs rs
+  over f passes [] [] h = tt
+  over f passes [] (r ∷ rs) h = absurd h
+  over f passes (q ∷ qs) [] h = absurd h
+  over f passes (q ∷ qs) (r ∷ rs) h = (shown (passes 0) q r (f q r) h.0, over f (λ k. passes (suc k)) qs rs h.1)
 
   -- one of them changed
-  changed : (g : Registered → Registered) → ((q r : Registered) → AlikeQuery m n q r → AlikeQuery m2 n2 (g q) (g r)) → ((q r : Registered) → AlikeQuery m n q r → AlikeQuery m2 n2 q r)
-      → (k : ℕ) (qs rs : List Registered) → AreAlike m n qs rs → AreAlike m2 n2 (change k g qs) (change k g rs)
-  changed g f i k [] [] h = tt
-  changed g f i k [] (r ∷ rs) h = absurd h
-  changed g f i k (q ∷ qs) [] h = absurd h
-  changed g f i zero (q ∷ qs) (r ∷ rs) h = (f q r h.0, over i qs rs h.1)
-  changed g f i (suc k) (q ∷ qs) (r ∷ rs) h = (i q r h.0, changed g f i k qs rs h.1)
+  changed : (f g : Registered → Registered) → ((q r : Registered) → AlikeQuery m n q r → AlikeQuery m2 n2 q r) → (passes : ℕ → Bool) (k : ℕ) → ((q r : Registered) → AlikeIf (passes k) m n q r → AlikeIf (passes k) m2 n2 (f q) (g r))
+      → (qs rs : List Registered) → ArePartlyAlike passes m n qs rs → ArePartlyAlike passes m2 n2 (change k f qs) (change k g rs)
+  changed f g i passes k c [] [] h = tt
+  changed f g i passes k c [] (r ∷ rs) h = absurd h
+  changed f g i passes k c (q ∷ qs) [] h = absurd h
+  changed f g i passes zero c (q ∷ qs) (r ∷ rs) h = (c q r h.0, over i (λ j. passes (suc j)) qs rs h.1)
+  changed f g i passes (suc k) c (q ∷ qs) (r ∷ rs) h = (shown (passes 0) q r (i q r) h.0, changed f g i (λ j. passes (suc j)) k c qs rs h.1)
 
   -- one more behind them
-  behind : ((q r : Registered) → AlikeQuery m n q r → AlikeQuery m2 n2 q r) → (x y : Registered) → AlikeQuery m2 n2 x y → (qs rs : List Registered) → AreAlike m n qs rs → AreAlike m2 n2 (qs ++ x ∷ []) (rs ++ y ∷ [])
-  behind f x y a [] [] i = (a, tt)
-  behind f x y a [] (r ∷ rs) i = absurd i
-  behind f x y a (q ∷ qs) [] i = absurd i
-  behind f x y a (q ∷ qs) (r ∷ rs) i = (f q r i.0, behind f x y a qs rs i.1)
+  behind : ((q r : Registered) → AlikeQuery m n q r → AlikeQuery m2 n2 q r) → (x y : Registered) → AlikeQuery m2 n2 x y → (passes : ℕ → Bool) (qs rs : List Registered) → ArePartlyAlike passes m n qs rs
+      → ArePartlyAlike passes m2 n2 (qs ++ x ∷ []) (rs ++ y ∷ [])
+  behind f x y a passes [] [] i = (record { bare = a.bare; alike = λ p. a }, tt)
+  behind f x y a passes [] (r ∷ rs) i = absurd i
+  behind f x y a passes (q ∷ qs) [] i = absurd i
+  behind f x y a passes (q ∷ qs) (r ∷ rs) i = (shown (passes 0) q r (f q r) i.0, behind f x y a (λ k. passes (suc k)) qs rs i.1)
 
   -- the streams stand later, and what comes then comes behind what came since
   module _ (come : (ℕ → List Element) → ℕ → List Element) (opened : (more : ℕ → List Element) → MayCome m2 more → MayCome m (come more)) (later : AreLater m.streams m2.streams)
@@ -89,7 +94,7 @@ module _ (m n m2 n2 : Machine) where
     }
 
 -- A DECLARATION
-module _ (name : List ℕ) (columns : List (List ℕ)) (start : ℤ) where
+module _ (passes : ℕ → Bool) (name : List ℕ) (columns : List (List ℕ)) (start : ℤ) where
   abbrev fresh : Stream
   fresh = record { name = name; columns = columns; elements = []; arrivals = 0; first_open = nat_abs start }
 
@@ -103,14 +108,14 @@ module _ (name : List ℕ) (columns : List (List ℕ)) (start : ℤ) where
   same_input : (m : Machine) (more : ℕ → List Element) (first : ℕ) (p : Place) → later_input (declared m name columns start) more first p ≡ later_input m more first p
   same_input m more first p = ap (λ es. es ++ input_of p.arrivals first (more p.stream)) (nothing_new p.arrivals first p.stream m.streams)
 
-  pub declares_alike : (m n : Machine) → AlikeMachines m n → AlikeMachines (declared m name columns start) (declared n name columns start)
+  declares_alike : (m n : Machine) → PartlyAlike passes m n → PartlyAlike passes (declared m name columns start) (declared n name columns start)
   declares_alike m n h = record {
     streams = map-append bare m.streams (fresh ∷ []) ∙ ap (λ ss. ss ++ fresh ∷ []) h.streams ∙ sym (map-append bare n.streams (fresh ∷ []));
     queries =
         let later : AreLater m.streams (m.streams ++ fresh ∷ []) = pushed_later m.streams fresh in
         over m n (declared m name columns start) (declared n name columns start)
         (carried m n (declared m name columns start) (declared n name columns start) (λ more. more) (come_later m.streams (m.streams ++ fresh ∷ []) later) later (same_input m) (same_input n))
-        m.queries n.queries h.queries;
+        passes m.queries n.queries h.queries;
   }
 
 -- A REGISTRATION
@@ -118,7 +123,7 @@ own_count : (o : Option Stream) (first : ℕ) → option_map_or (λ (s : Stream)
 own_count None first = refl
 own_count (Some s) first = refl
 
-module _ (m n : Machine) (h : AlikeMachines m n) where
+module _ (passes : ℕ → Bool) (m n : Machine) (h : PartlyAlike passes m n) where
   counts_same : (k : ℕ) → option_map_or (λ (s : Stream). s.arrivals) (slice_get m.streams k) 0 ≡ option_map_or (λ (s : Stream). s.arrivals) (slice_get n.streams k) 0
   counts_same k = by_bare (λ (s : Stream). s.arrivals) 0 (λ s. refl) m.streams n.streams h.streams k
 
@@ -154,19 +159,19 @@ module _ (m n : Machine) (h : AlikeMachines m n) where
         ∙ ap (λ (z : Registered). drop z.taken (later_answers n z more until)) (registered_same name f);
   }
 
-  registers : (name : List ℕ) (r : Result Found QueryFault) → AlikeMachines (registered m name r) (registered n name r)
+  registers : (name : List ℕ) (r : Result Found QueryFault) → PartlyAlike passes (registered m name r) (registered n name r)
   registers name (Err fault) = h
   registers name (Ok f) =
       let a : AlikeQuery m n (registered_as m name f) (registered_as n name f) = newest name f in
       record {
         streams = h.streams;
         queries = behind m n (registered m name (Ok f)) (registered n name (Ok f)) (λ q r i. record { bare = i.bare; answers = i.answers })
-            (registered_as m name f) (registered_as n name f) (record { bare = a.bare; answers = a.answers }) m.queries n.queries h.queries;
+            (registered_as m name f) (registered_as n name f) (record { bare = a.bare; answers = a.answers }) passes m.queries n.queries h.queries;
       }
 
-  pub registers_alike : (name source : List ℕ) (given : Option (List (ℤ × ℤ))) → AlikeMachines (registered m name (found m source given)) (registered n name (found n source given))
+  registers_alike : (name source : List ℕ) (given : Option (List (ℤ × ℤ))) → PartlyAlike passes (registered m name (found m source given)) (registered n name (found n source given))
   registers_alike name source given =
-      subst (λ r. AlikeMachines (registered m name (found m source given)) (registered n name r)) (found_same m n h source given) (registers name (found m source given))
+      subst (λ r. PartlyAlike passes (registered m name (found m source given)) (registered n name r)) (found_same passes m n h source given) (registers name (found m source given))
 
 -- what does not see the change of a stream
 unchanged : {A : Type 0} (f : Stream → Stream) (g : Stream → A) (d : A) → ((s : Stream) → g (f s) ≡ g s) → (k i : ℕ) (ss : List Stream) → option_map_or g (slice_get (change k f ss) i) d ≡ option_map_or g (slice_get ss i) d
@@ -177,7 +182,7 @@ unchanged f g d h (suc k) zero (s ∷ ss) = refl
 unchanged f g d h (suc k) (suc i) (s ∷ ss) = unchanged f g d h k i ss
 
 -- AN APPEND
-module _ (k : ℕ) (rows : List (ℤ × List (Option ℤ))) where
+module _ (passes : ℕ → Bool) (k : ℕ) (rows : List (ℤ × List (Option ℤ))) where
   -- the elements that the rows become, and what comes behind them
   abbrev new_to : List Stream → ℕ → List Element
   new_to ss i = option_map_or (λ (s : Stream). elements_from s.arrivals rows) (slice_get ss i) []
@@ -221,7 +226,7 @@ module _ (k : ℕ) (rows : List (ℤ × List (Option ℤ))) where
       ap (λ (es : List Element). record { name = s.name; columns = s.columns; elements = es; arrivals = s.arrivals + length rows; first_open = s.first_open })
       (filter-append p s.elements new ∙ ap (λ es. es ++ filter p new) (filter_more s.arrivals count (omega arith) s.elements) ∙ sym (filter-append p (filter (λ (e : Element). nat_le s.arrivals e.arrival) s.elements) new))
 
-  module _ (m n : Machine) (h : AlikeMachines m n) (accepted : first_fault m (Append k rows) ≡ None) where
+  module _ (m n : Machine) (h : PartlyAlike passes m n) (accepted : first_fault m (Append k rows) ≡ None) where
     new_same : new_to m.streams k ≡ new_to n.streams k
     new_same = by_bare (λ (s : Stream). elements_from s.arrivals rows) [] (λ s. refl) m.streams n.streams h.streams k
 
@@ -238,7 +243,7 @@ module _ (k : ℕ) (rows : List (ℤ × List (Option ℤ))) where
     other_more : (more : ℕ → List Element) (first : ℕ) (p : Place) → later_input (after n (Append k rows) 0) more first p ≡ later_input n (with_new m.streams more) first p
     other_more more first p = later_more n more first p ∙ sym (ap (λ es. input_at n.streams first p ++ input_of p.arrivals first (cond (p.stream == k) es [] ++ more p.stream)) new_same)
 
-    pub appends_alike : AlikeMachines (after m (Append k rows) 0) (after n (Append k rows) 0)
+    appends_alike : PartlyAlike passes (after m (Append k rows) 0) (after n (Append k rows) 0)
     appends_alike = record {
       streams =
           map-change bare (appended rows) (λ s. bare (appended rows s)) bare_appended k m.streams
@@ -246,55 +251,60 @@ module _ (k : ℕ) (rows : List (ℤ × List (Option ℤ))) where
           ∙ sym (map-change bare (appended rows) (λ s. bare (appended rows s)) bare_appended k n.streams);
       queries = over m n (after m (Append k rows) 0) (after n (Append k rows) 0)
           (carried m n (after m (Append k rows) 0) (after n (Append k rows) 0) (with_new m.streams) open_more rows_later (later_more m) other_more)
-          m.queries n.queries h.queries;
+          passes m.queries n.queries h.queries;
     }
 
 -- A HEARTBEAT
-module _ (k : ℕ) (at : ℤ) (m n : Machine) (h : AlikeMachines m n) (accepted : first_fault m (Heartbeat k at) ≡ None) where
+module _ (passes : ℕ → Bool) (k : ℕ) (at : ℤ) (m n : Machine) (h : PartlyAlike passes m n) (accepted : first_fault m (Heartbeat k at) ≡ None) where
   beats_later : AreLater m.streams (change k (closed_to at) m.streams)
   beats_later = closed_later m.streams k at accepted
 
   beat_input : (z : Machine) (more : ℕ → List Element) (first : ℕ) (p : Place) → later_input (after z (Heartbeat k at) 0) more first p ≡ later_input z more first p
   beat_input z more first p = ap (λ es. es ++ input_of p.arrivals first (more p.stream)) (unchanged (closed_to at) (λ (s : Stream). input_of p.arrivals first s.elements) [] (λ s. refl) k p.stream z.streams)
 
-  pub heartbeats_alike : AlikeMachines (after m (Heartbeat k at) 0) (after n (Heartbeat k at) 0)
+  heartbeats_alike : PartlyAlike passes (after m (Heartbeat k at) 0) (after n (Heartbeat k at) 0)
   heartbeats_alike = record {
     streams = map-change bare (closed_to at) (closed_to at) (λ s. refl) k m.streams ∙ ap (change k (closed_to at)) h.streams ∙ sym (map-change bare (closed_to at) (closed_to at) (λ s. refl) k n.streams);
     queries = over m n (after m (Heartbeat k at) 0) (after n (Heartbeat k at) 0)
         (carried m n (after m (Heartbeat k at) 0) (after n (Heartbeat k at) 0) (λ more. more) (come_later m.streams (change k (closed_to at) m.streams) beats_later) beats_later (beat_input m) (beat_input n))
+        passes m.queries n.queries h.queries;
+  }
+
+module _ (passes : ℕ → Bool) (m n : Machine) (h : PartlyAlike passes m n) where
+  -- A TAKE, of as many answers where the query passes
+  takes_alike : (k : ℕ) (limit : ℤ) (count other : ℕ) → (passes k ≡ true → count ≡ other) → PartlyAlike passes (after m (Take k limit) count) (after n (Take k limit) other)
+  takes_alike k limit count other same = record {
+    streams = h.streams;
+    queries = changed m n (after m (Take k limit) count) (after n (Take k limit) other) (took count) (took other)
+        (λ q r a. record { bare = a.bare; answers = a.answers }) passes k
+        (λ q r a. record { bare = a.bare; alike = λ p. subst (λ j. AlikeQuery (after m (Take k limit) count) (after n (Take k limit) other) (took count q) (took j r)) (same p) (took_alike q r (a.alike p)) })
+        m.queries n.queries h.queries;
+  }
+    where
+      took_alike : (q r : Registered) → AlikeQuery m n q r → AlikeQuery (after m (Take k limit) count) (after n (Take k limit) other) (took count q) (took count r)
+      took_alike q r a = record {
+        bare = a.bare;
+        answers = λ d more o until l. sym (drop-drop count q.taken (later_answers m q more until)) ∙ ap (drop count) (a.answers d more o until l) ∙ drop-drop count r.taken (later_answers n r more until);
+      }
+
+  -- A DROP
+  drops_alike : (k : ℕ) → PartlyAlike passes (after m (Drop k) 0) (after n (Drop k) 0)
+  drops_alike k = record {
+    streams = h.streams;
+    queries = changed m n (after m (Drop k) 0) (after n (Drop k) 0) dropped dropped
+        (λ q r a. record { bare = a.bare; answers = a.answers }) passes k
+        (λ q r a. record { bare = ap dropped a.bare; alike = λ p. record { bare = ap dropped a.bare; answers = λ d more o until l. absurd (true≢false d) } })
         m.queries n.queries h.queries;
   }
 
-module _ (m n : Machine) (h : AlikeMachines m n) where
-  -- A TAKE
-  pub takes_alike : (k : ℕ) (limit : ℤ) (count : ℕ) → AlikeMachines (after m (Take k limit) count) (after n (Take k limit) count)
-  takes_alike k limit count = record {
-    streams = h.streams;
-    queries = changed m n (after m (Take k limit) count) (after n (Take k limit) count) (took count)
-        (λ q r a. record {
-          bare = a.bare;
-          answers = λ d more o until l. sym (drop-drop count q.taken (later_answers m q more until)) ∙ ap (drop count) (a.answers d more o until l) ∙ drop-drop count r.taken (later_answers n r more until);
-        })
-        (λ q r a. record { bare = a.bare; answers = a.answers }) k m.queries n.queries h.queries;
-  }
-
-  -- A DROP
-  pub drops_alike : (k : ℕ) → AlikeMachines (after m (Drop k) 0) (after n (Drop k) 0)
-  drops_alike k = record {
-    streams = h.streams;
-    queries = changed m n (after m (Drop k) 0) (after n (Drop k) 0) dropped
-        (λ q r a. record { bare = ap dropped a.bare; answers = λ d more o until l. absurd (true≢false d) })
-        (λ q r a. record { bare = a.bare; answers = a.answers }) k m.queries n.queries h.queries;
-  }
-
   -- ANY COMMAND that they accept
-  pub commands_alike : (c : Command) (count : ℕ) → first_fault m c ≡ None → AlikeMachines (after m c count) (after n c count)
-  commands_alike (Declare name columns start) count e = declares_alike name columns start m n h
-  commands_alike (Register name source given) count e = registers_alike m n h name source given
-  commands_alike (Append k rows) count e = appends_alike k rows m n h e
-  commands_alike (Heartbeat k at) count e = heartbeats_alike k at m n h e
-  commands_alike (Take k limit) count e = takes_alike k limit count
-  commands_alike (Drop k) count e = drops_alike k
+  pub commands_partly : (c : Command) (count other : ℕ) → first_fault m c ≡ None → (is_compared passes c ≡ true → count ≡ other) → PartlyAlike passes (after m c count) (after n c other)
+  commands_partly (Declare name columns start) count other e same = declares_alike passes name columns start m n h
+  commands_partly (Register name source given) count other e same = registers_alike passes m n h name source given
+  commands_partly (Append k rows) count other e same = appends_alike passes k rows m n h e
+  commands_partly (Heartbeat k at) count other e same = heartbeats_alike passes k at m n h e
+  commands_partly (Take k limit) count other e same = takes_alike k limit count other same
+  commands_partly (Drop k) count other e same = drops_alike k
 
   -- THE CLOSED ANSWERS that are to be taken are the same
   nothing_more : (z : Machine) (first : ℕ) (p : Place) → later_input z (λ k. []) first p ≡ input_at z.streams first p
@@ -308,7 +318,7 @@ module _ (m n : Machine) (h : AlikeMachines m n) where
       ∙ ap₂ (λ u is. drop r.taken (r.earlier ++ answers_from r.meaning r.first r.start u is)) (ap (until_for m.streams) places ∙ untils_same m.streams n.streams h.streams r.places)
       (map_each (later_input n (λ k. []) r.first) (input_at n.streams r.first) r.places (nothing_more n r.first))
 
-  untaken_same : (q r : Registered) → AlikeQuery m n q r → untaken m q ≡ untaken n r
+  pub untaken_same : (q r : Registered) → AlikeQuery m n q r → untaken m q ≡ untaken n r
   untaken_same q r a = here q.is_dropped refl
     where
       dropped_same : q.is_dropped ≡ r.is_dropped
@@ -317,13 +327,3 @@ module _ (m n : Machine) (h : AlikeMachines m n) where
       here : (b : Bool) → q.is_dropped ≡ b → cond q.is_dropped [] (drop q.taken (closed_answers m q)) ≡ cond r.is_dropped [] (drop r.taken (closed_answers n r))
       here true e = ap (λ b. cond b [] (drop q.taken (closed_answers m q))) e ∙ sym (ap (λ b. cond b [] (drop r.taken (closed_answers n r))) (sym dropped_same ∙ e))
       here false e = ap (λ b. cond b [] (drop q.taken (closed_answers m q))) e ∙ closed_same q r a e ∙ sym (ap (λ b. cond b [] (drop r.taken (closed_answers n r))) (sym dropped_same ∙ e))
-
-  drained : (qs rs : List Registered) → AreAlike m n qs rs → map (untaken m) qs ≡ map (untaken n) rs
-  drained [] [] i = refl
-  drained [] (r ∷ rs) i = absurd i
-  drained (q ∷ qs) [] i = absurd i
-  drained (q ∷ qs) (r ∷ rs) i = ap₂ (λ x xs. x ∷ xs) (untaken_same q r i.0) (drained qs rs i.1)
-
-  -- A DRAIN finds the same answers
-  pub drains_same : map (untaken m) m.queries ≡ map (untaken n) n.queries
-  drains_same = drained m.queries n.queries h.queries

@@ -1,4 +1,4 @@
--- Alike machines accept the same commands.
+-- Partly alike machines accept the same commands.
 use Rattle.std.proofs.Common.{◌≡◌, ℕ, ℤ, suc, ◌+◌, Bool, true, false, cond, not, ◌||◌, Option, Some, None, List, [], ◌∷◌, ◌++◌, map, length, count_by, refl, sym, ap, ap₂, ◌∙◌, arith, position}
 use Rattle.std.specs.Prelude.{slice_get, option_and_then, is_some}
 use Rattle.std.specs.List.{list_any}
@@ -16,7 +16,8 @@ use Rattle.reference.specs.Commands.{Command, Declare, Register, Append, Heartbe
 use Rattle.reference.specs.declared.fault.Fault.{Fault}
 use Rattle.reference.specs.declared.fault.Fault.TheVariants.{StreamFull}
 use Rattle.reference.proofs.NameLemmas.{position-map}
-use Rattle.reference.specs.Alike.{AlikeMachines, AreAlike, bare, bare_query}
+use Rattle.reference.specs.Alike.{bare, bare_query}
+use Rattle.laws_forgetting.specs.Partly.{ArePartlyAlike, PartlyAlike}
 
 -- LISTS that are the same as a function shows them
 module _ {A B : Type 0} (f : A → B) where
@@ -37,11 +38,11 @@ module _ {A B : Type 0} (f : A → B) where
   same_get xs ys h k = sym (slice_get-map f xs k) ∙ ap (λ zs. slice_get zs k) h ∙ slice_get-map f ys k
 
 -- the queries without their answers are the same
-pub bare_queries : (m n : Machine) (qs rs : List Registered) → AreAlike m n qs rs → map bare_query qs ≡ map bare_query rs
-bare_queries m n [] [] h = refl
-bare_queries m n [] (r ∷ rs) h = absurd h
-bare_queries m n (q ∷ qs) [] h = absurd h
-bare_queries m n (q ∷ qs) (r ∷ rs) h = ap₂ (λ x xs. x ∷ xs) h.0.bare (bare_queries m n qs rs h.1)
+pub bare_queries : (passes : ℕ → Bool) (m n : Machine) (qs rs : List Registered) → ArePartlyAlike passes m n qs rs → map bare_query qs ≡ map bare_query rs
+bare_queries passes m n [] [] h = refl
+bare_queries passes m n [] (r ∷ rs) h = absurd h
+bare_queries passes m n (q ∷ qs) [] h = absurd h
+bare_queries passes m n (q ∷ qs) (r ∷ rs) h = ap₂ (λ x xs. x ∷ xs) h.0.bare (bare_queries (λ k. passes (suc k)) m n qs rs h.1)
 
 undropped : List Registered → ℕ
 undropped [] = 0
@@ -72,9 +73,9 @@ of_bare_query tests (Some q) = here q.is_dropped
     here true = refl
     here false = refl
 
-module _ (m n : Machine) (h : AlikeMachines m n) where
+module _ (passes : ℕ → Bool) (m n : Machine) (h : PartlyAlike passes m n) where
   pub queries_same : map bare_query m.queries ≡ map bare_query n.queries
-  queries_same = bare_queries m n m.queries n.queries h.queries
+  queries_same = bare_queries passes m n m.queries n.queries h.queries
 
   of_stream_same : (tests : Stream → List (Bool × Fault)) → ((s : Stream) → tests s ≡ tests (bare s)) → (k : ℕ) → of_stream tests (slice_get m.streams k) ≡ of_stream tests (slice_get n.streams k)
   of_stream_same tests e k = of_bare tests e (slice_get m.streams k) ∙ ap (of_stream tests) (same_get bare m.streams n.streams h.streams k) ∙ sym (of_bare tests e (slice_get n.streams k))

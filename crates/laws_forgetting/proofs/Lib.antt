@@ -2,6 +2,7 @@ pub mod BareLemmas
 pub mod FaultLemmas
 pub mod CommandLemmas
 pub mod EquivalenceLemmas
+pub mod PartlyLemmas
 pub mod WorldLemmas
 pub mod AnswerLemmas
 pub mod OpeningLemmas

@@ -16,6 +16,7 @@ use Rattle.reference.specs.Opening.{all_restarted, needs, needs_by, opening, res
 use Rattle.reference.proofs.ClosedLemmas.{least_of_all}
 use Rattle.reference.specs.Alike.{AlikeMachines, AlikeQuery, AreAlike, MayCome, bare, later_answers, later_input, open_at}
 use Rattle.laws_forgetting.specs.Openings.{AreNumbered, IsMark, MayOpen, answers_below}
+use Rattle.laws_forgetting.specs.Partly.{ArePartlyAlike, MayOpenMarked, PartlyAlike, has_mark}
 use Rattle.laws_forgetting.proofs.AnswerLemmas.{HaveNeeded, opening_answers, parts, with_later}
 use Rattle.laws_forgetting.proofs.BareLemmas.{map_each}
 
@@ -206,19 +207,60 @@ alike_all m m2 (q ∷ qs) [] ws h k f = absurd (omega (arith, h))
 alike_all m m2 (q ∷ qs) (x ∷ marks) [] h k f = absurd (omega (arith, k))
 alike_all m m2 (q ∷ qs) (x ∷ marks) (w ∷ ws) h k f = (f 0 q refl, alike_all m m2 qs marks ws (omega (arith, h)) (omega (arith, k)) (λ n r e. f (suc n) r e))
 
--- THE OPENING
-module _ (m : Machine) (marks : List (Option ℕ)) (waiting : List (List (ℕ × Row))) (opens : MayOpen m marks waiting) where
-  one_alike : (n : ℕ) (q : Registered) → slice_get m.queries n ≡ Some q → (b : Bool) → q.is_dropped ≡ b → AlikeQuery m (opening m marks waiting) q (restart q (get_or marks n None) (get_or waiting n []))
-  one_alike n q r true d = record { bare = refl; answers = λ e more o until l. absurd (true≢false (sym d ∙ e)) }
-  one_alike n q r false d =
-      let mark = opens.each n q r d in
-      let keep : ℕ → Element → Bool = needs_by m.streams m.queries marks in
-      subst (λ x. AlikeQuery m (opening m marks waiting) q (restart q x (get_or waiting n []))) (sym (at_marks marks n (Some mark.0) mark.1.0))
-      (opening_alike m q (all_restarted m.queries marks waiting) keep mark.0 (get_or waiting n []) mark.1.1
-      (have_needed m.streams q mark.0 keep q.meaning.windows q.places (λ s e i. needs_by_there m.streams m.queries marks n q mark.0 s e r mark.1.0 i)))
+partly_all : (m m2 : Machine) (qs : List Registered) (marks : List (Option ℕ)) (ws : List (List (ℕ × Row))) → length marks ≡ length qs → length ws ≡ length qs
+    → ((n : ℕ) (q : Registered) → slice_get qs n ≡ Some q → has_mark marks n ≡ true → AlikeQuery m m2 q (restart q (get_or marks n None) (get_or ws n []))) → ArePartlyAlike (has_mark marks) m m2 qs (all_restarted qs marks ws)
+partly_all m m2 [] marks ws h k f = tt
+partly_all m m2 (q ∷ qs) [] ws h k f = absurd (omega (arith, h))
+partly_all m m2 (q ∷ qs) (x ∷ marks) [] h k f = absurd (omega (arith, k))
+partly_all m m2 (q ∷ qs) (x ∷ marks) (w ∷ ws) h k f = (record { bare = refl; alike = λ p. f 0 q refl p }, partly_all m m2 qs marks ws (omega (arith, h)) (omega (arith, k)) (λ n r e p. f (suc n) r e p))
 
-  pub opened_alike : AlikeMachines m (opening m marks waiting)
-  opened_alike = record {
-    streams = bare_kept (needs_by m.streams m.queries marks) 0 m.streams opens.numbered;
-    queries = alike_all m (opening m marks waiting) m.queries marks waiting opens.marked opens.listed (λ n q r. one_alike n q r q.is_dropped refl);
-  }
+is_within : (qs : List Registered) (n : ℕ) (q : Registered) → slice_get qs n ≡ Some q → n < length qs
+is_within [] n q h = absurd (cc)
+is_within (p ∷ qs) zero q h = omega arith
+is_within (p ∷ qs) (suc n) q h = omega (arith, is_within qs n q h)
+
+mark_of : (marks : List (Option ℕ)) (n : ℕ) → n < length marks → has_mark marks n ≡ true → (next : ℕ) × (slice_get marks n ≡ Some (Some next))
+mark_of [] n l p = absurd (omega (arith, l))
+mark_of (None ∷ marks) zero l p = absurd (true≢false (sym p))
+mark_of (Some x ∷ marks) zero l p = (x, refl)
+mark_of (y ∷ marks) (suc n) l p = mark_of marks n (omega (arith, l)) p
+
+-- THE OPENING
+module _ (m : Machine) (marks : List (Option ℕ)) (waiting : List (List (ℕ × Row))) where
+  -- a query with a mark
+  marked_alike : (n next : ℕ) (q : Registered) → slice_get m.queries n ≡ Some q → slice_get marks n ≡ Some (Some next) → IsMark m q next (get_or waiting n []) → AlikeQuery m (opening m marks waiting) q (restart q (get_or marks n None) (get_or waiting n []))
+  marked_alike n next q r k mark =
+      let keep : ℕ → Element → Bool = needs_by m.streams m.queries marks in
+      subst (λ x. AlikeQuery m (opening m marks waiting) q (restart q x (get_or waiting n []))) (sym (at_marks marks n (Some next) k))
+      (opening_alike m q (all_restarted m.queries marks waiting) keep next (get_or waiting n []) mark
+      (have_needed m.streams q next keep q.meaning.windows q.places (λ s e i. needs_by_there m.streams m.queries marks n q next s e r k i)))
+
+  -- or that was dropped
+  dropped_alike : (n : ℕ) (q : Registered) → q.is_dropped ≡ true → AlikeQuery m (opening m marks waiting) q (restart q (get_or marks n None) (get_or waiting n []))
+  dropped_alike n q d = record { bare = refl; answers = λ e more o until l. absurd (true≢false (sym d ∙ e)) }
+
+  -- each of them has one
+  module _ (opens : MayOpen m marks waiting) where
+    one_alike : (n : ℕ) (q : Registered) → slice_get m.queries n ≡ Some q → (b : Bool) → q.is_dropped ≡ b → AlikeQuery m (opening m marks waiting) q (restart q (get_or marks n None) (get_or waiting n []))
+    one_alike n q r true d = dropped_alike n q d
+    one_alike n q r false d = let mark = opens.each n q r d in marked_alike n mark.0 q r mark.1.0 mark.1.1
+
+    pub opened_alike : AlikeMachines m (opening m marks waiting)
+    opened_alike = record {
+      streams = bare_kept (needs_by m.streams m.queries marks) 0 m.streams opens.numbered;
+      queries = alike_all m (opening m marks waiting) m.queries marks waiting opens.marked opens.listed (λ n q r. one_alike n q r q.is_dropped refl);
+    }
+
+  -- some have one
+  module _ (opens : MayOpenMarked m marks waiting) where
+    one_partly : (n : ℕ) (q : Registered) → slice_get m.queries n ≡ Some q → has_mark marks n ≡ true → (b : Bool) → q.is_dropped ≡ b → AlikeQuery m (opening m marks waiting) q (restart q (get_or marks n None) (get_or waiting n []))
+    one_partly n q r p true d = dropped_alike n q d
+    one_partly n q r p false d =
+        let mark = mark_of marks n (omega (arith, opens.marked, is_within m.queries n q r)) p in
+        marked_alike n mark.0 q r mark.1 (opens.each n mark.0 q r d mark.1)
+
+    pub opened_partly : PartlyAlike (has_mark marks) m (opening m marks waiting)
+    opened_partly = record {
+      streams = bare_kept (needs_by m.streams m.queries marks) 0 m.streams opens.numbered;
+      queries = partly_all m (opening m marks waiting) m.queries marks waiting opens.marked opens.listed (λ n q r p. one_partly n q r p q.is_dropped refl);
+    }

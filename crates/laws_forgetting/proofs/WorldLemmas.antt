@@ -1,17 +1,19 @@
 -- No call tells alike worlds apart, and no step alike machines.
-use Rattle.std.proofs.Common.{◌≡◌, ℕ, ℤ, zero, suc, nat_abs, ◌++◌, Bool, true, false, cond, min, Option, Some, None, unwrap_or, Ok, List, [], ◌∷◌, take, drop, length, get_or, refl, sym, ap, ap₂, ◌∙◌, subst}
+use Rattle.std.proofs.Common.{◌≡◌, ℕ, ℤ, nat_abs, ◌++◌, Bool, true, false, cond, min, Option, Some, None, Ok, List, [], ◌∷◌, map, take, drop, length, get_or, refl, sym, ap, ap₂, ◌∙◌, subst}
 use Rattle.std.specs.Prelude.{slice_get, option_and_then}
 use Rattle.std.specs.Option.{option_map}
 use Rattle.values.specs.Row.{Row}
-use Rattle.reference.specs.Machine.{Machine, Registered, query_at, unless_dropped}
+use Rattle.reference.specs.Machine.{Machine, Registered, unless_dropped}
 use Rattle.reference.specs.Commands.{Command, Declare, Register, Append, Heartbeat, Take, Drop, after, change, first_fault}
-use Rattle.reference.specs.Replies.{Reply, Number, Done, Rows, count_in}
-use Rattle.reference.specs.Steps.{AreNext, Gives}
-use Rattle.reference.specs.World.{World, append_step, declare_step, drain_fault, drain_step, drop_step, handed, heartbeat_step, operators_of, query_named, register_step, slopes_at, slopes_in, stream_named, take_step, unless, waiting_at}
+use Rattle.reference.specs.Replies.{Reply}
+use Rattle.reference.specs.Steps.{IsStep}
+use Rattle.reference.specs.World.{World, append_step, declare_step, drain_fault, drain_step, drop_step, handed, heartbeat_step, operators_of, query_named, register_step, slopes_at, slopes_in, stream_named, take_step, unless, untaken, waiting_at}
 use Rattle.reference.specs.declared.fault.Fault.{Fault}
-use Rattle.reference.specs.Alike.{Alike, AlikeMachines, AlikeQuery, AreAlike, bare_query}
+use Rattle.reference.specs.Alike.{Alike, AlikeMachines, AreAlike, bare_query}
 use Rattle.laws_forgetting.specs.Answers.{AnswerAlike, GoOnAlike, GoesOn, SameStep, StepAlike}
-use Rattle.laws_forgetting.proofs.CommandLemmas.{closed_same, commands_alike, drains_same}
+use Rattle.laws_forgetting.specs.Partly.{PartlyAlike, StepPartlyAlike}
+use Rattle.laws_forgetting.proofs.CommandLemmas.{commands_partly, untaken_same}
+use Rattle.laws_forgetting.proofs.PartlyLemmas.{all_compared, each_passes, part, steps_partly, whole}
 use Rattle.laws_forgetting.proofs.FaultLemmas.{faults_same, queries_many, queries_same, query_named_same, same_get, stream_named_same, streams_many}
 
 -- A STEP with the same first fault, and the same answer and alike worlds where there is none
@@ -23,74 +25,30 @@ same_step {A = A} w v h first other e a b w2 v2 f = subst (λ o. SameStep (unles
     here None g = let done = g refl in record { answer = ap (λ (x : A). Ok x) done.0; worlds = done.1 }
     here (Some fault) g = record { answer = refl; worlds = h }
 
--- a query that is found, and the one that is found in its place
-record Pair (m n : Machine) (q : Registered) (o : Option Registered) : Type 0 where
-  other : Registered
-  there : o ≡ Some other
-  alike : AlikeQuery m n q other
-  undropped : q.is_dropped ≡ false
-
-pair : (m n : Machine) (qs rs : List Registered) → AreAlike m n qs rs → (k : ℕ) (q : Registered) → option_and_then unless_dropped (slice_get qs k) ≡ Some q → Pair m n q (option_and_then unless_dropped (slice_get rs k))
-pair m n [] rs h k q e = absurd (cc)
-pair m n (p ∷ qs) [] h k q e = absurd h
-pair m n (p ∷ qs) (r ∷ rs) h zero q e = here p.is_dropped refl e
-  where
-    here : (b : Bool) → p.is_dropped ≡ b → cond b None (Some p) ≡ Some q → Pair m n q (cond r.is_dropped None (Some r))
-    here true i j = absurd (cc)
-    here false i j =
-        let same : p ≡ q = ap (λ o. unwrap_or o p) j in
-        let lives : r.is_dropped ≡ false = sym (ap (λ (z : Registered). z.is_dropped) h.0.bare) ∙ i in
-        record {
-          other = r;
-          there = ap (λ b. cond b None (Some r)) lives;
-          alike = subst (λ z. AlikeQuery m n z r) same h.0;
-          undropped = sym (ap (λ (z : Registered). z.is_dropped) same) ∙ i;
-        }
-pair m n (p ∷ qs) (r ∷ rs) h (suc k) q e = pair m n qs rs h.1 k q e
-
 -- THE MACHINES
 module _ (m n : Machine) (h : AlikeMachines m n) where
-  nexts_same : (k : ℕ) (limit : ℤ) (rows : List (ℤ × Row)) → AreNext m k limit rows → AreNext n k limit rows
-  nexts_same k limit rows a =
-      let p : Pair m n a.query (query_at n k) = pair m n m.queries n.queries h.queries k a.query a.registered in
-      record {
-        query = p.other;
-        registered = p.there;
-        few = a.few;
-        next = a.next ∙ ap (λ (l : List (ℕ × Row)). handed (take (length rows) l)) (closed_same m n h a.query p.other p.alike p.undropped);
-      }
-
-  gives_same : (c : Command) (r : Reply) → Gives m c r → Gives n c r
-  gives_same (Declare name columns start) (Number k) g = g ∙ streams_many m n h
-  gives_same (Declare name columns start) Done g = absurd g
-  gives_same (Declare name columns start) (Rows rows) g = absurd g
-  gives_same (Register name text chart) (Number k) g = g ∙ queries_many m n h
-  gives_same (Register name text chart) Done g = absurd g
-  gives_same (Register name text chart) (Rows rows) g = absurd g
-  gives_same (Append k rows) (Number j) g = absurd g
-  gives_same (Append k rows) Done g = g
-  gives_same (Append k rows) (Rows out) g = absurd g
-  gives_same (Heartbeat k at) (Number j) g = absurd g
-  gives_same (Heartbeat k at) Done g = g
-  gives_same (Heartbeat k at) (Rows rows) g = absurd g
-  gives_same (Take k limit) (Number j) g = absurd g
-  gives_same (Take k limit) Done g = absurd g
-  gives_same (Take k limit) (Rows rows) g = nexts_same k limit rows g
-  gives_same (Drop k) (Number j) g = absurd g
-  gives_same (Drop k) Done g = g
-  gives_same (Drop k) (Rows rows) g = absurd g
+  commands_alike : (c : Command) (count : ℕ) → first_fault m c ≡ None → AlikeMachines (after m c count) (after n c count)
+  commands_alike c count e = whole (after m c count) (after n c count) (commands_partly each_passes m n (part m n h) c count count e (λ i. refl))
 
   pub steps_alike : (c : Command) (r : Reply) → StepAlike m n c r
-  steps_alike c r = record {
-    faults = faults_same m n h c;
-    steps = λ m2 s. (
-      after n c (count_in r),
-      (
-        record { accepted = sym (faults_same m n h c) ∙ s.accepted; gives = gives_same c r s.gives; after = refl },
-        subst (λ z. AlikeMachines z (after n c (count_in r))) (sym s.after) (commands_alike m n h c (count_in r) s.accepted),
-      ),
-    );
-  }
+  steps_alike c r =
+      let all : StepPartlyAlike each_passes m n c r = steps_partly each_passes m n (part m n h) c r in
+      record {
+        faults = all.faults;
+        steps = λ m2 s.
+            let other = all.steps m2 s in
+            (other.1.0, (subst (λ z. IsStep n c z other.1.0) (sym (other.1.1.1 (all_compared c))) other.1.1.0, whole m2 other.1.0 (all.alike m2 other.1.0 other.0 s other.1.1.0 other.1.1.1)));
+      }
+
+  drained : (qs rs : List Registered) → AreAlike m n qs rs → map (untaken m) qs ≡ map (untaken n) rs
+  drained [] [] i = refl
+  drained [] (r ∷ rs) i = absurd i
+  drained (q ∷ qs) [] i = absurd i
+  drained (q ∷ qs) (r ∷ rs) i = ap₂ (λ x xs. x ∷ xs) (untaken_same each_passes m n (part m n h) q r i.0) (drained qs rs i.1)
+
+  -- A DRAIN finds the same answers
+  drains_same : map (untaken m) m.queries ≡ map (untaken n) n.queries
+  drains_same = drained m.queries n.queries h.queries
 
 -- COMMANDS IN TURN
 pub go_on_alike : (m n : Machine) → AlikeMachines m n → (steps : List (Command × Reply)) (last : Machine) → GoesOn m steps last → GoOnAlike n steps last
@@ -117,6 +75,9 @@ slopes_option o p e = bare_slopes o ∙ ap (λ z. slopes_in (option_and_then unl
 
 -- THE WORLDS
 module _ (w v : World) (h : Alike w v) where
+  partly : PartlyAlike each_passes w.machine v.machine
+  partly = part w.machine v.machine h.machines
+
   -- of a command that leaves what waits, or adds to it
   alike_after : (c : Command) (count : ℕ) → first_fault w.machine c ≡ None → (xs ys : List (List (ℕ × Row))) → xs ≡ ys
       → Alike (record { machine = after w.machine c count; waiting = xs }) (record { machine = after v.machine c count; waiting = ys })
@@ -126,28 +87,28 @@ module _ (w v : World) (h : Alike w v) where
   unfolding declare_step
   declares name columns start =
       let c : Command = Declare name columns start in
-      same_step w v h (first_fault w.machine c) (first_fault v.machine c) (faults_same w.machine v.machine h.machines c) _ _ _ _
-      (λ e. (streams_many w.machine v.machine h.machines, alike_after c 0 e w.waiting v.waiting h.waiting))
+      same_step w v h (first_fault w.machine c) (first_fault v.machine c) (faults_same each_passes w.machine v.machine partly c) _ _ _ _
+      (λ e. (streams_many each_passes w.machine v.machine partly, alike_after c 0 e w.waiting v.waiting h.waiting))
 
   registers : (name text : List ℕ) (chart : Option (List (ℤ × ℤ))) → SameStep (register_step w name text chart) (register_step v name text chart)
   unfolding register_step
   registers name text chart =
       let c : Command = Register name text chart in
-      same_step w v h (first_fault w.machine c) (first_fault v.machine c) (faults_same w.machine v.machine h.machines c) _ _ _ _
-      (λ e. (queries_many w.machine v.machine h.machines, alike_after c 0 e (w.waiting ++ [] ∷ []) (v.waiting ++ [] ∷ []) (ap (λ (ws : List (List (ℕ × Row))). ws ++ [] ∷ []) h.waiting)))
+      same_step w v h (first_fault w.machine c) (first_fault v.machine c) (faults_same each_passes w.machine v.machine partly c) _ _ _ _
+      (λ e. (queries_many each_passes w.machine v.machine partly, alike_after c 0 e (w.waiting ++ [] ∷ []) (v.waiting ++ [] ∷ []) (ap (λ (ws : List (List (ℕ × Row))). ws ++ [] ∷ []) h.waiting)))
 
   appends : (k : ℕ) (rows : List (ℤ × List (Option ℤ))) → SameStep (append_step w k rows) (append_step v k rows)
   unfolding append_step
   appends k rows =
       let c : Command = Append k rows in
-      same_step w v h (first_fault w.machine c) (first_fault v.machine c) (faults_same w.machine v.machine h.machines c) _ _ _ _
+      same_step w v h (first_fault w.machine c) (first_fault v.machine c) (faults_same each_passes w.machine v.machine partly c) _ _ _ _
       (λ e. (refl, alike_after c 0 e w.waiting v.waiting h.waiting))
 
   heartbeats : (k : ℕ) (at : ℤ) → SameStep (heartbeat_step w k at) (heartbeat_step v k at)
   unfolding heartbeat_step
   heartbeats k at =
       let c : Command = Heartbeat k at in
-      same_step w v h (first_fault w.machine c) (first_fault v.machine c) (faults_same w.machine v.machine h.machines c) _ _ _ _
+      same_step w v h (first_fault w.machine c) (first_fault v.machine c) (faults_same each_passes w.machine v.machine partly c) _ _ _ _
       (λ e. (refl, alike_after c 0 e w.waiting v.waiting h.waiting))
 
   drains : (rows : ℕ) → SameStep (drain_step w rows) (drain_step v rows)
@@ -165,7 +126,7 @@ module _ (w v : World) (h : Alike w v) where
       let c : Command = Take k limit in
       let count : ℕ = min (nat_abs limit) (length (waiting_at w k)) in
       let other : ℕ = min (nat_abs limit) (length (waiting_at v k)) in
-      same_step w v h (first_fault w.machine c) (first_fault v.machine c) (faults_same w.machine v.machine h.machines c) _ _ _ _
+      same_step w v h (first_fault w.machine c) (first_fault v.machine c) (faults_same each_passes w.machine v.machine partly c) _ _ _ _
       (λ e. (
         ap₂ (λ (n : ℕ) (ws : List (List (ℕ × Row))). handed (take n (get_or ws k []))) (count_same k limit) h.waiting,
         record {
@@ -178,22 +139,22 @@ module _ (w v : World) (h : Alike w v) where
   unfolding drop_step
   drops k =
       let c : Command = Drop k in
-      same_step w v h (first_fault w.machine c) (first_fault v.machine c) (faults_same w.machine v.machine h.machines c) _ _ _ _
+      same_step w v h (first_fault w.machine c) (first_fault v.machine c) (faults_same each_passes w.machine v.machine partly c) _ _ _ _
       (λ e. (refl, alike_after c 0 e (change k (λ rows. []) w.waiting) (change k (λ rows. []) v.waiting) (ap (change k (λ rows. [])) h.waiting)))
 
   slopes : (k : ℕ) → slopes_at w k ≡ slopes_at v k
   unfolding slopes_at
   slopes k =
       slopes_option (slice_get w.machine.queries k) (slice_get v.machine.queries k)
-      (same_get bare_query w.machine.queries v.machine.queries (queries_same w.machine v.machine h.machines) k)
+      (same_get bare_query w.machine.queries v.machine.queries (queries_same each_passes w.machine v.machine partly) k)
 
   named_stream : (name : List ℕ) → stream_named w name ≡ stream_named v name
   unfolding stream_named
-  named_stream name = stream_named_same w.machine v.machine h.machines name
+  named_stream name = stream_named_same each_passes w.machine v.machine partly name
 
   named_query : (name : List ℕ) → query_named w name ≡ query_named v name
   unfolding query_named
-  named_query name = query_named_same w.machine v.machine h.machines name
+  named_query name = query_named_same each_passes w.machine v.machine partly name
 
   pub answer_alike : AnswerAlike w v
   answer_alike = record {

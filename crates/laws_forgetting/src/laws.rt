@@ -1,5 +1,5 @@
 //! What holds of machines and worlds that no command tells apart.
-ghost use Rattle.std.specs.Prelude.{ℕ, ◌≤◌, Option, List};
+ghost use Rattle.std.specs.Prelude.{ℕ, ◌≤◌, Bool, Option, List};
 ghost use Rattle.values.specs.Row.{Row};
 ghost use Rattle.values.specs.Window.{Element, Window};
 ghost use Rattle.reference.specs.Machine.{Machine};
@@ -10,6 +10,8 @@ ghost use Rattle.reference.specs.World.{World};
 ghost use Rattle.reference.specs.Alike.{Alike, AlikeMachines};
 ghost use Rattle.laws_forgetting.specs.Answers.{AnswerAlike, GoOnAlike, GoesOn, StepAlike};
 ghost use Rattle.laws_forgetting.specs.Openings.{MayOpen, Moves, NeedsJust};
+ghost use Rattle.laws_forgetting.specs.Partly.{GoOnPartlyAlike, MayOpenMarked, PartlyAlike};
+ghost use Rattle.laws_forgetting.specs.Partly.{StepPartlyAlike, has_mark};
 
 /// Says that each call answers the same of alike worlds, and leaves them alike.
 pub fn alike_worlds_answer_alike()
@@ -45,6 +47,31 @@ pub fn alike_is_an_equivalence()
 pub fn openings_are_alike()
     ensures { (m : Machine) (marks : List (Option ℕ)) (waiting : List (List (ℕ × Row)))
         → MayOpen m marks waiting → AlikeMachines m (opening m marks waiting) }
+{}
+
+/// Says that machines which are partly alike, at the queries that pass, accept the same commands
+/// and refuse the others for the same faults; that what one replies the other may reply, but to a
+/// take from a query that does not pass; and that they are partly alike behind it.
+pub fn partly_alike_machines_take_the_same_steps()
+    ensures { (passes : ℕ → Bool) (m : Machine) (n : Machine) → PartlyAlike passes m n
+        → (c : Command) (r : Reply) → StepPartlyAlike passes m n c r }
+{}
+
+/// Says that partly alike machines go on so: whatever commands the one accepts in turn, the other
+/// accepts, too. Behind them the same closed answers are to be taken of each query that passes,
+/// whatever was replied to takes from the others.
+pub fn partly_alike_machines_go_on_alike()
+    ensures { (passes : ℕ → Bool) (m : Machine) (n : Machine) → PartlyAlike passes m n
+        → (steps : List (Command × Reply)) (last : Machine) → GoesOn m steps last
+        → GoOnPartlyAlike passes n steps last }
+{}
+
+/// Says that a machine and its opening are partly alike, at the queries that have a mark and at all
+/// that are registered later. So a query of which nothing is kept changes no other one's answers.
+pub fn openings_are_partly_alike()
+    ensures { (m : Machine) (marks : List (Option ℕ)) (waiting : List (List (ℕ × Row)))
+        → MayOpenMarked m marks waiting
+        → PartlyAlike (has_mark marks) m (opening m marks waiting) }
 {}
 
 /// Says that just that is kept for a window which is above the mark, and what the window shows at

@@ -6,5 +6,7 @@ mod laws;
 
 pub use laws::{
     alike_is_an_equivalence, alike_machines_go_on_alike, alike_machines_take_the_same_steps,
-    alike_worlds_answer_alike, openings_are_alike, windows_need_just_what_they_show,
+    alike_worlds_answer_alike, openings_are_alike, openings_are_partly_alike,
+    partly_alike_machines_go_on_alike, partly_alike_machines_take_the_same_steps,
+    windows_need_just_what_they_show,
 };

@@ -12,12 +12,13 @@ from concurrent.futures import ThreadPoolExecutor
 
 from server import Server
 
-CLIENTS = 64  # as many as there may be seats, and streams
+CLIENTS = 63  # with the one that forgets as many as there may be seats
 WORKERS = 4
 LIVES = 400  # the most queries of a client, one after the other, so that its plain engine stays quick
 TAKE = 4_096
 DONE = {"ok": True}
 TOO_MANY = {"error": "E18 TooManyLeases"}  # as many turns are out as may be
+PAUSE = 0.05  # seconds between two times that rows are forgotten
 REFUSALS = 10_000  # as many drains of a life are not refused by chance
 
 TEXTS = [
@@ -150,6 +151,30 @@ class Client:
             self.connection.close()
 
 
+class Forgetter:
+    """A client that forgets again and again: no reply of another one may change for it."""
+
+    def __init__(self, port):
+        self.connection = socket.create_connection(("127.0.0.1", port))
+        self.lines = self.connection.makefile("rb")
+        self.count = 0
+        self.fault = None
+
+    def run(self, until):
+        try:
+            while time.monotonic() < until:
+                self.connection.sendall(b'{"op":"forget"}\n')
+                reply = json.loads(self.lines.readline())
+                assert reply == DONE, f"a forget was answered {reply}"
+                self.count += 1
+                time.sleep(PAUSE)
+        except Exception as error:
+            self.fault = f"the client that forgets: {type(error).__name__}: {error}"
+        finally:
+            self.lines.close()
+            self.connection.close()
+
+
 def compare(program, client):
     """Compares what a client was answered with what a plain engine of its own answers."""
     script, wanted = [], []
@@ -180,20 +205,22 @@ def compare(program, client):
 def main():
     minutes, cqld, cqlrun, seed = float(sys.argv[1]), sys.argv[2], sys.argv[3], sys.argv[4]
     assert 0 < minutes <= 20, "from 0 to 20 minutes"
-    with Server(cqld, WORKERS, CLIENTS, CLIENTS) as server:
+    with Server(cqld, WORKERS, CLIENTS + 1, CLIENTS + 1) as server:
         clients = [Client(number, server.port, seed) for number in range(CLIENTS)]
+        forgetter = Forgetter(server.port)
         begun = time.monotonic()
-        threads = [threading.Thread(target=client.run, args=(begun + 60 * minutes,)) for client in clients]
+        threads = [threading.Thread(target=client.run, args=(begun + 60 * minutes,)) for client in [*clients, forgetter]]
         for thread in threads:
             thread.start()
         for thread in threads:
             thread.join()
         seconds = time.monotonic() - begun
         status, errors = server.ended()
-    faults = [client.fault for client in clients if client.fault]
+    faults = [client.fault for client in [*clients, forgetter] if client.fault]
     asked, lives = sum(client.asked for client in clients), sum(client.lives for client in clients)
     refused = sum(client.refused for client in clients)
     print(f"{CLIENTS} clients, {WORKERS} workers: {asked} requests in {seconds:.0f} s, {lives} queries one after the other", flush=True)
+    print(f"rows were forgotten {forgetter.count} times", flush=True)
     print(f"{refused} drains were refused by E18, since 64 turns were out", flush=True)
     assert not faults, faults
     assert (status, errors) == (0, ""), f"the server ended with {status}: {errors}"

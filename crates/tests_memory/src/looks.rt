@@ -74,10 +74,15 @@ impl Shown {
     }
 }
 
-/// What an engine shows: how many turns are out, and its queries.
+/// As many streams as the scripts have.
+const STREAMS: u64 = 4;
+
+/// What an engine shows: how many turns are out, how many rows of each stream are kept, and its
+/// queries.
 #[derive(Drop)]
 pub(crate) struct Look {
     out: usize,
+    kept: Vec<u64>,
     pub(crate) queries: Vec<Shown>,
 }
 
@@ -91,8 +96,12 @@ impl Look {
                 return Err(Fault::OutOfMemory);
             }
         }
+        let mut kept = Vec::new(alloc);
+        for stream in 0..STREAMS {
+            kept.push(engine.kept(stream).unwrap_or(0))?;
+        }
         let out = engine.leases_out();
-        Ok(Look { out, queries })
+        Ok(Look { out, kept, queries })
     }
 
     /// A look, once more where memory was refused for it.
@@ -106,6 +115,7 @@ impl Look {
     /// Whether the engine shows the same.
     pub(crate) fn is_same(&self, after: &Look) -> bool {
         self.out == after.out
+            && self.kept.as_slice() == after.kept.as_slice()
             && self.queries.len() == after.queries.len()
             && self
                 .queries

@@ -18,7 +18,7 @@ use Rattle.reference.specs.declared.fault.Fault.TheVariants.{TooMany, BadWidth, 
 use Rattle.reference.proofs.StreamLemmas.{none_first, none_later, or_right}
 use Rattle.reference.specs.Appended.{kept_of}
 use Rattle.stream_store.specs.Open.{after_put, up_to, past}
-use Rattle.stream_store.specs.Closing.{by_key, closed_of, closing_of}
+use Rattle.stream_store.specs.Closing.{by_instant, by_key, closed_of, closing_of}
 use Rattle.stream_store.specs.Stored.{stream_in, IsStored}
 use Rattle.stream_store.proofs.KeyLemmas.{filter_none, filter_all, each_from, each-append, each-kept, each_passes}
 use Rattle.stream_store.proofs.OrderLemmas.{filter_same_each, within, Ordered, by_instant_ordered, rising_instants, ordered-append, ordered-filter, each_from_all, all_from_each, ordered_from, in_order}
@@ -109,6 +109,10 @@ closed_stream name columns n closed es stored order done =
 pub closing_stream : (name : List ℕ) (columns : List Name) (n : ℕ) (closed : Closed) (es : List Element) (at : ℤ) → IsStored (length columns) n closed es → IsInOrder closed.elements
     → All (λ e. e.instant < closed.until) closed.elements → closing_of at (stream_in name (names_of columns) n closed es) ≡ up_to (nat_abs at) es
 closing_stream name columns n closed es at stored order done = closing_rows (length columns) n closed es stored order done (nat_abs at)
+
+pub open_stream : (name : List ℕ) (columns : List Name) (n : ℕ) (closed : Closed) (es : List Element) (at : ℕ) → IsStored (length columns) n closed es → IsInOrder closed.elements
+    → All (λ e. e.instant < closed.until) closed.elements → by_instant closed.until (suc at) (stream_in name (names_of columns) n closed es).elements ≡ up_to at es
+open_stream name columns n closed es at stored order done = closing_rows (length columns) n closed es stored order done at
 
 -- ---- after a heartbeat
 module _ (columns n m : ℕ) (closed next : Closed) (es : List Element) (stored : IsStored columns n closed es) (more : next.elements ≡ closed.elements ++ up_to m es) (until : next.until ≡ m + 1) where

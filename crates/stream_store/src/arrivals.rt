@@ -188,8 +188,8 @@ fn push_values(values: &mut Vec<Value>, more: &[Value])
     }
 }
 
-/// Puts the values of the row at a place of a log, as many as its columns, behind others, which have
-/// room for them.
+/// Puts the values of the row at a place of a log, as many as its columns, behind others, which
+/// have room for them.
 fn push_row(values: &mut Vec<Value>, log: &Log, place: usize, width: usize)
     requires room { vec_len values.old + width ≤ vec_capacity values.old }
     requires width { log.now.width ≡ width }

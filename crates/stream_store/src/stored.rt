@@ -11,7 +11,7 @@ ghost use Rattle.reference.specs.Commands.{catalog_of};
 ghost use Rattle.reference.specs.Told.{IsTold};
 ghost use Rattle.reference.specs.declared.fault.Fault.TheVariants.{StreamFull};
 ghost use Rattle.stream_store.specs.Beside.{limited_tests};
-ghost use Rattle.stream_store.specs.Closing.{closed_of, closing_of};
+ghost use Rattle.stream_store.specs.Closing.{by_instant, closed_of, closing_of};
 ghost use Rattle.stream_store.specs.Kept.{HasRest, SaysKept, count_closed, kept_stream};
 
 use crate::arrivals::Arrivals;
@@ -26,6 +26,9 @@ use std::alloc::{AllocError, Global};
 use std::marker::Model;
 
 /// A declared stream, and the rows that came to it.
+///
+/// Contracts see it as the machine's stream. `Streams` holds one for each stream; a copy with the
+/// rows that stay (`Streams::copy_kept`) stands for itself.
 #[derive(Drop)]
 pub struct Stored {
     /// Where memory is taken from.
@@ -100,23 +103,38 @@ impl Stored {
         catalog.declare(self.name, columns)
     }
 
-    /// How many rows came.
-    pub(crate) fn arrivals(&self) -> u64
+    /// Gives the stream's name. Takes no memory.
+    pub fn name(&self) -> &Name
+        ensures { name_of result.now ≡ self.now.name }
+    {
+        &self.name
+    }
+
+    /// Gives the names of its columns. Takes no memory.
+    pub fn columns(&self) -> &[Name]
+        ensures names { names_of result.now ≡ self.now.columns }
+        ensures few { length result.now ≤ 8 }
+    {
+        &self.columns
+    }
+
+    /// Says how many rows came. Takes no memory.
+    pub fn arrivals(&self) -> u64
         ensures { result ≡ self.now.arrivals }
     {
         self.arrivals
     }
 
-    /// The first open instant.
-    pub(crate) fn first_open(&self) -> u64
+    /// Gives the first open instant. Takes no memory.
+    pub fn first_open(&self) -> u64
         ensures open { result ≡ self.now.first_open }
         ensures range { result ≤ 1099511627777 }
     {
         self.log.until()
     }
 
-    /// What is closed.
-    pub(crate) fn log(&self) -> &Log
+    /// Gives what is closed. Takes no memory.
+    pub fn log(&self) -> &Log
         ensures { result.now ≡ closed_of self.now }
     {
         let _until = self.log.until();
@@ -209,16 +227,28 @@ impl Stored {
         Ok(())
     }
 
-    /// How many rows are closed and kept.
-    pub(crate) fn closed(&self) -> usize
+    /// Says how many rows are closed and kept. Takes no memory.
+    pub fn closed(&self) -> usize
         ensures { result ≡ count_closed self.now }
     {
         self.log().len()
     }
 
-    /// How many of the rows that came are kept, closed and open. It costs the instants that have
-    /// late open rows.
-    pub(crate) fn kept(&self) -> usize
+    /// Copies the open rows up to an instant, by instant, then arrival.
+    ///
+    /// # Errors
+    /// `AllocError` where memory is refused.
+    pub fn open_rows_up_to(&self, at: u64) -> Result<Arrivals, AllocError>
+        ensures { IfOk result (λ rows. rows.elements
+            ≡ by_instant self.now.first_open (suc at) self.now.elements) }
+    {
+        let _until = self.log.until();
+        self.open_rows.rows_up_to(at)
+    }
+
+    /// Says how many of the rows that came are kept, closed and open. It costs the instants that
+    /// have late open rows. Takes no memory.
+    pub fn kept(&self) -> usize
         ensures { result ≡ length self.now.elements }
     {
         self.log.len() + self.open_rows.len()
@@ -237,9 +267,10 @@ impl Stored {
         self.open_rows.keep(starts);
     }
 
-    /// Copies the stream with the rows that stay: of the closed ones those at whose places a mark is
-    /// true, of the open ones those that one of the readers has in its input. It costs the stream's
-    /// rows, of the open ones each times the readers. An error says that memory was refused.
+    /// Copies the stream with the rows that stay: of the closed ones those at whose places a mark
+    /// is true, of the open ones those that one of the readers has in its input. It costs the
+    /// stream's rows, of the open ones each times the readers. An error says that memory was
+    /// refused.
     pub(crate) fn copy_kept(
         &self,
         alloc: Global,

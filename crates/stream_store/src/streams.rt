@@ -251,9 +251,9 @@ impl Streams {
     }
 
     /// Copies the stream of a number with the rows that stay: of the closed ones, as many as there
-    /// are marks, those at whose places in its log the mark is true, of the open ones those that one
-    /// of the readers has in its input. It costs the stream's rows, of the open ones each times the
-    /// readers.
+    /// are marks, those at whose places in its log the mark is true, of the open ones those that
+    /// one of the readers has in its input. It costs the stream's rows, of the open ones each times
+    /// the readers.
     ///
     /// # Errors
     /// `AllocError` where memory is refused.

@@ -47,10 +47,7 @@ fn has_closed(log: &Log, expected: &[Told]) -> bool {
 
 // Whether these are the open rows up to the instant 9.
 fn has_open(stored: &Stored, expected: &[Told]) -> Result<bool, AllocError> {
-    if stored.heartbeat_fault(9).is_some() {
-        return Ok(false);
-    }
-    let rows = stored.closing(9)?;
+    let rows = stored.open_rows_up_to(9)?;
     Ok(are_rows(&rows, expected))
 }
 

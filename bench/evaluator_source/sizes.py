@@ -113,6 +113,8 @@ def rows_of_four_sources():
         yield append("F", LARGEST_APPEND), DONE
     yield append("F", LARGEST_APPEND - 1), DONE
     yield append("F", 2), full
+    # what is forgotten counts on
+    yield {"op": "forget"}, DONE
     yield append("F", 1), DONE
     yield append("F", 1), full
     yield append("F", 0), DONE

@@ -1,12 +1,15 @@
 -- No call tells a good engine from the one that has forgotten.
-use Rattle.std.proofs.Common.{◌≡◌, ℕ, ◌-◌, ◌<◌, ◌++◌, false, Some, List, [], ◌∷◌, drop, length, map, refl, sym, ap, ◌∙◌, subst, arith, length-append, true≢false}
+use Rattle.std.proofs.Common.{◌≡◌, ℕ, zero, suc, ◌-◌, ◌<◌, ◌++◌, true, false, Option, Some, None, unwrap_or, List, [], ◌∷◌, drop, length, map, refl, sym, ap, ◌∙◌, subst, arith, length-append, true≢false}
 use Rattle.std.specs.Prelude.{get_or, slice_get}
 use Rattle.std.specs.List.{AllByRecursion}
+use Rattle.std.specs.Option.{option_map_or}
 use Rattle.std.proofs.Math.Seq.{drop-append_seam}
 use Rattle.reference.specs.Alike.{Alike}
 use Rattle.reference.specs.Machine.{Registered, Stream}
 use Rattle.laws_forgetting.specs.Openings.{AreNumbered, IsMark, MayOpen, answers_below}
-use Rattle.laws_forgetting.proofs.OpeningLemmas.{opened_alike}
+use Rattle.laws_forgetting.specs.Partly.{MayOpenMarked, PartlyAlike, has_mark}
+use Rattle.laws_forgetting.proofs.OpeningLemmas.{opened_alike, opened_partly}
+use Rattle.laws_forgetting.proofs.PartlyLemmas.{alike_of_fewer}
 use Rattle.laws_dataflow.specs.Operators.{net_of}
 use Rattle.laws_dataflow.specs.Plans as plans
 use Rattle.laws_dataflow.specs.Plans.{below_root, consumer_of, inputs_of, least_of, value_of}
@@ -19,7 +22,7 @@ use Rattle.laws_queries.specs.Queries.{IsRunning, PlainQuery}
 use Rattle.laws_queries.specs.Rows.{HasRows}
 use Rattle.laws_engine.specs.Engines.{Broken, Dropped, GoodEngine, Goes, PlainEngine, PlainRemains, Running, answers_in, query_at, remains_at, world_of}
 use Rattle.operators.specs.States.{last_in}
-use Rattle.laws_engine.specs.Openings.{IsUnbroken, forgotten, mark_in, marks_by, next_of}
+use Rattle.laws_engine.specs.Openings.{IsUnbroken, forgotten, goes_on, is_running, mark_in, marks_by, next_of}
 use Rattle.laws_engine.proofs.ForgottenLemmas.{length-marks, marks_at}
 use Rattle.laws_engine.proofs.OpenedLemmas.{goes, long_waits, waits_at}
 
@@ -79,6 +82,36 @@ module _ (e : PlainEngine) (g : GoodEngine e) where
       each = λ n q r d. marked n q r d (remains_at e n) refl;
       numbered = numbered e.machine.streams g.rows;
     }
+
+  -- and each mark is one of a query that runs
+  mark_in_is : (n next : ℕ) (q : Registered) → query_at e n ≡ Some q → (remains : PlainRemains) → remains_at e n ≡ remains → mark_in q remains ≡ Some next → IsMark e.machine q next (get_or (map answers_in e.queries) n [])
+  mark_in_is n next q r (Running p) k i =
+      subst (IsMark e.machine q next) (sym (waits_at e.queries n ∙ ap answers_in k)) (subst (λ z. IsMark e.machine q z p.answers) (ap (λ o. unwrap_or o next) i) (running_mark n q p r k))
+  mark_in_is n next q r (Broken answers) k i = absurd (cc)
+  mark_in_is n next q r Dropped k i = absurd (cc)
+
+  may_open_marked : MayOpenMarked e.machine (marks_by e.machine.queries e.queries) (map answers_in e.queries)
+  may_open_marked = record {
+    marked = length-marks e.machine.queries e.queries;
+    listed = long_waits e g (marks_by e.machine.queries e.queries) (length-marks e.machine.queries e.queries);
+    each = λ n next q r d i. mark_in_is n next q r (remains_at e n) refl (ap (λ o. unwrap_or o None) (sym (marks_at e.machine.queries e.queries n q r) ∙ i));
+    numbered = numbered e.machine.streams g.rows;
+  }
+
+-- a query that goes on has a mark
+has_one : (qs : List Registered) (ks : List PlainRemains) (n : ℕ) → length ks ≡ length qs → option_map_or is_running (slice_get ks n) true ≡ true → has_mark (marks_by qs ks) n ≡ true
+has_one [] [] n l p = refl
+has_one [] (k ∷ ks) n l p = absurd (omega (arith, l))
+has_one (q ∷ qs) [] n l p = absurd (omega (arith, l))
+has_one (q ∷ qs) (Running p ∷ ks) zero l i = refl
+has_one (q ∷ qs) (Broken answers ∷ ks) zero l i = absurd (true≢false (sym i))
+has_one (q ∷ qs) (Dropped ∷ ks) zero l i = absurd (true≢false (sym i))
+has_one (q ∷ qs) (k ∷ ks) (suc n) l i = has_one qs ks n (omega (arith, l)) i
+
+pub forgotten_partly : (e : PlainEngine) → GoodEngine e → PartlyAlike (goes_on e) e.machine (forgotten e).machine
+forgotten_partly e g =
+    let marks : List (Option ℕ) = marks_by e.machine.queries e.queries in
+    alike_of_fewer (goes_on e) (has_mark marks) e.machine (forgotten e).machine (λ n i. has_one e.machine.queries e.queries n g.many i) (opened_partly e.machine marks (map answers_in e.queries) (may_open_marked e g))
 
 pub forgotten_alike : (e : PlainEngine) → GoodEngine e → IsUnbroken e → Alike (world_of e) (world_of (forgotten e))
 forgotten_alike e g u = record { machines = opened_alike e.machine (marks_by e.machine.queries e.queries) (map answers_in e.queries) (may_open e g u); waiting = refl }

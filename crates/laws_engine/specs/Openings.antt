@@ -1,5 +1,6 @@
 -- An engine whose machine is replaced by its opening.
-use Rattle.std.specs.Prelude.{ℕ, ◌≡◌, true, Option, Some, None, List, [], ◌∷◌, map}
+use Rattle.std.specs.Prelude.{ℕ, ◌≡◌, Bool, true, false, Option, Some, None, List, [], ◌∷◌, map, slice_get}
+use Rattle.std.specs.Option.{option_map_or}
 use Rattle.values.specs.Row.{Row}
 use Rattle.operators.specs.States.{last_in}
 use Rattle.reference.specs.Machine.{Registered}
@@ -31,6 +32,15 @@ marks_by (q ∷ qs) (k ∷ remains) = mark_in q k ∷ marks_by qs remains
 -- FORGETTING
 abbrev pub forgotten : PlainEngine → PlainEngine
 forgotten e = opened e (marks_by e.machine.queries e.queries)
+
+-- THE QUERIES THAT GO ON: that run, or are registered later
+abbrev pub is_running : PlainRemains → Bool
+is_running (Running p) = true
+is_running (Broken answers) = false
+is_running Dropped = false
+
+abbrev pub goes_on : PlainEngine → ℕ → Bool
+goes_on e n = option_map_or is_running (slice_get e.queries n) true
 
 -- NO QUERY IS BROKEN, and nothing is left of just those that were dropped
 pub record IsUnbroken (e : PlainEngine) : Type 0 where

@@ -4,12 +4,13 @@ ghost use Rattle.values.specs.Row.{Row};
 ghost use Rattle.reference.specs.Machine.{Registered, Stream};
 ghost use Rattle.needed_rows.specs.Queries.{AreCaughtUp, readers_over};
 ghost use Rattle.reference.specs.Alike.{Alike};
+ghost use Rattle.laws_forgetting.specs.Partly.{PartlyAlike};
 ghost use Rattle.laws_engine.specs.Bounds.{HaveFewClosed};
 ghost use Rattle.laws_engine.specs.Engines.{Broken, GoodEngine, PlainEngine, query_at};
 ghost use Rattle.laws_engine.specs.Engines.{remains_at, world_of};
 ghost use Rattle.laws_engine.specs.Promises.{KeepsItsPromises};
 ghost use Rattle.laws_engine.specs.Histories.{Call, LeadTo, empty};
-ghost use Rattle.laws_engine.specs.Openings.{IsUnbroken, forgotten, marks_by};
+ghost use Rattle.laws_engine.specs.Openings.{IsUnbroken, forgotten, goes_on, marks_by};
 
 /// Says that of each query of a good engine the answers that were taken, and those that wait, are a
 /// beginning of CQL's answers for the instants that its streams' heartbeats have closed, and all of
@@ -41,6 +42,13 @@ pub fn forgotten_engines_are_good()
 pub fn forgotten_engines_are_alike()
     ensures { (e : PlainEngine) → GoodEngine e → IsUnbroken e
         → Alike (world_of e) (world_of (forgotten e)) }
+{}
+
+/// Says that forgetting changes no later answer of a query that runs or is registered later, and no
+/// command's fault, whatever other queries were broken: the machines are partly alike, and stay so.
+pub fn forgotten_engines_answer_alike()
+    ensures { (e : PlainEngine) → GoodEngine e
+        → PartlyAlike (goes_on e) e.machine (forgotten e).machine }
 {}
 
 /// Says that no running query's mark lies above what its streams have closed.

@@ -1,12 +1,17 @@
 -- Forgetting leaves an engine good.
-use Rattle.std.proofs.Common.{◌≡◌, ℕ, zero, suc, Some, List, [], ◌∷◌, length, get_or, refl, sym, ap, ◌∙◌}
+use Rattle.std.proofs.Common.{◌≡◌, ℕ, zero, suc, ◌<◌, Option, Some, None, List, [], ◌∷◌, length, map, get_or, refl, sym, ap, ◌∙◌}
 use Rattle.std.specs.Prelude.{slice_get, unwrap_or}
+use Rattle.std.specs.Option.{option_map}
+use Rattle.column.specs.declared.batch.Side.{Side}
 use Rattle.laws_dataflow.specs.Queries.{behind}
 use Rattle.reference.specs.Machine.{Registered}
-use Rattle.laws_engine.specs.Engines.{Dropped, GoodEngine, Goes, PlainRemains, PlainEngine}
+use Rattle.reference.specs.Opening.{restart}
+use Rattle.laws_queries.specs.Queries.{PlainQuery, log_at, operator_at}
+use Rattle.operators.specs.Operators.{waiting}
 use Rattle.operators.specs.States.{last_in}
+use Rattle.laws_engine.specs.Engines.{Dropped, GoodEngine, Goes, PlainRemains, PlainEngine, Running, answers_in, query_at, remains_at}
 use Rattle.laws_engine.specs.Openings.{forgotten, mark_in, marks_by, next_of}
-use Rattle.laws_engine.proofs.OpenedLemmas.{goes, opened_good}
+use Rattle.laws_engine.proofs.OpenedLemmas.{Marked, goes, opened_good, query_opened, waits_same}
 
 pub length-marks : (qs : List Registered) (ks : List PlainRemains) → length (marks_by qs ks) ≡ length qs
 length-marks [] ks = refl
@@ -20,11 +25,30 @@ marks_at (p ∷ qs) [] (suc n) q h = marks_at qs [] n q h
 marks_at (p ∷ qs) (k ∷ ks) zero q h = let e : p ≡ q = ap (λ o. unwrap_or o p) h in ap (λ z. Some (mark_in z k)) e
 marks_at (p ∷ qs) (k ∷ ks) (suc n) q h = marks_at qs ks n q h
 
-pub forgotten_good : (e : PlainEngine) → GoodEngine e → GoodEngine (forgotten e)
-forgotten_good e g = opened_good e g (marks_by e.machine.queries e.queries) (length-marks e.machine.queries e.queries) (λ n q p r k.
-    let h : Goes e.machine q p = goes e g (marks_by e.machine.queries e.queries) (length-marks e.machine.queries e.queries) n q p r k in
-    record {
-      next = next_of q p;
-      is = marks_at e.machine.queries e.queries n q r ∙ ap (λ z. Some (mark_in q z)) k;
-      opens = h.runs.runs.good.root.mark ∙ ap (λ s. behind q.first (last_in s)) (sym h.runs.runs.last.runs.state);
-    })
+module _ (e : PlainEngine) (g : GoodEngine e) where
+  abbrev marks : List (Option ℕ)
+  marks = marks_by e.machine.queries e.queries
+
+  abbrev long : length marks ≡ length e.machine.queries
+  long = length-marks e.machine.queries e.queries
+
+  marked : (n : ℕ) (q : Registered) (p : PlainQuery) (r : query_at e n ≡ Some q) (k : remains_at e n ≡ Running p) → Marked e g marks long n q p r k
+  marked n q p r k =
+      let h : Goes e.machine q p = goes e g marks long n q p r k in
+      record {
+        next = next_of q p;
+        is = marks_at e.machine.queries e.queries n q r ∙ ap (λ z. Some (mark_in q z)) k;
+        opens = h.runs.runs.good.root.mark ∙ ap (λ s. behind q.first (last_in s)) (sym h.runs.runs.last.runs.state);
+      }
+
+  pub forgotten_good : GoodEngine (forgotten e)
+  forgotten_good = opened_good e g marks long marked
+
+  -- a query of it
+  pub forgotten_query : (n : ℕ) → query_at (forgotten e) n ≡ option_map (λ q. restart q (get_or marks n None) (get_or (map answers_in e.queries) n [])) (query_at e n)
+  forgotten_query = query_opened e g marks long marked
+
+  -- what waits for an operator is as it was
+  pub forgotten_waits : (n : ℕ) (q : Registered) (p : PlainQuery) → query_at e n ≡ Some q → remains_at e n ≡ Running p → (j : ℕ) → j < length q.nodes → (side : Side)
+      → waiting (operator_at p.operators j) (log_at (forgotten e).machine q j) side ≡ waiting (operator_at p.operators j) (log_at e.machine q j) side
+  forgotten_waits = waits_same e g marks long marked

@@ -267,7 +267,7 @@ module _ (e : PlainEngine) (g : GoodEngine e) (marks : List (Option ℕ)) (long 
     remains_opened n q r (Broken answers) k = record { taken = []; counted = refl; rest = _; begins = refl }
     remains_opened n q r Dropped k = record { taken = []; counted = refl; rest = _; begins = refl }
 
-    query_opened : (n : ℕ) → query_at (opened e marks) n ≡ option_map (λ q. restart q (get_or marks n None) (get_or waits n [])) (query_at e n)
+    pub query_opened : (n : ℕ) → query_at (opened e marks) n ≡ option_map (λ q. restart q (get_or marks n None) (get_or waits n [])) (query_at e n)
     query_opened n = restarted_at e.machine.queries marks waits n long long_waits
 
     queries_opened : (n : ℕ) (q2 : Registered) → query_at (opened e marks) n ≡ Some q2 → AreRemains (opened e marks).machine q2 (remains_at e n)
@@ -277,7 +277,7 @@ module _ (e : PlainEngine) (g : GoodEngine e) (marks : List (Option ℕ)) (long 
         (subst (λ w. AreRemains (opened e marks).machine (restart b.query (get_or marks n None) w) (remains_at e n)) (sym (waits_at e.queries n)) (remains_opened n b.query b.there (remains_at e n) refl))
 
     -- what waits for an operator is as it was
-    waits_same : (n : ℕ) (q : Registered) (p : PlainQuery) (r : query_at e n ≡ Some q) (k : remains_at e n ≡ Running p) (j : ℕ) → j < length q.nodes → (side : Side)
+    pub waits_same : (n : ℕ) (q : Registered) (p : PlainQuery) (r : query_at e n ≡ Some q) (k : remains_at e n ≡ Running p) (j : ℕ) → j < length q.nodes → (side : Side)
         → waiting (operator_at p.operators j) (log_at (opened e marks).machine q j) side ≡ waiting (operator_at p.operators j) (log_at e.machine q j) side
     waits_same n q p r k j l side =
         let a : Marked n q p r k = marked n q p r k in

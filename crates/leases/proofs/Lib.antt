@@ -36,4 +36,5 @@ pub mod LengthLemmas
 pub mod QueryLemmas
 mod ForgetLemmas
 mod KeepingLemmas
+mod KeptQueueLemmas
 mod ReadLemmas

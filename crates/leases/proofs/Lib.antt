@@ -36,4 +36,7 @@ pub mod LengthLemmas
 pub mod QueryLemmas
 mod ForgetLemmas
 mod KeepingLemmas
+mod LogLemmas
+mod CompactedLemmas
+mod KeptLemmas
 mod ReadLemmas

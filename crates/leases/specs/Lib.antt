@@ -13,6 +13,7 @@ pub mod Leasing
 pub mod Readers
 pub mod Runs
 pub mod Queues
+pub mod Told
 pub mod Undropped
 pub mod Forgets
 pub mod Openings

@@ -33,7 +33,7 @@ first_all keep n [] = refl
 first_all keep n (s ∷ ss) = ap (λ l. kept_stream (keep n) s ∷ l) (first_all keep (suc n) ss)
 
 -- the next one is as it was
-first_here : (keep : ℕ → Element → Bool) (n : ℕ) (ss : List Stream) (i : ℕ) → slice_get (kept_first keep n ss i) i ≡ slice_get ss i
+pub first_here : (keep : ℕ → Element → Bool) (n : ℕ) (ss : List Stream) (i : ℕ) → slice_get (kept_first keep n ss i) i ≡ slice_get ss i
 first_here keep n [] i = refl
 first_here keep n (s ∷ ss) zero = refl
 first_here keep n (s ∷ ss) (suc i) = first_here keep (suc n) ss i

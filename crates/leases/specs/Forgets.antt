@@ -7,6 +7,8 @@ use Rattle.reference.specs.Machine.{Machine, Registered, Stream}
 use Rattle.reference.specs.Opening.{all_restarted, needs_by}
 use Rattle.reference.specs.declared.fault.Fault.{Fault}
 use Rattle.reference.specs.declared.fault.Fault.TheVariants.{UnknownStream}
+use Rattle.op_queue.specs.Logs.{Closed}
+use Rattle.stream_store.specs.Closing.{closed_of}
 use Rattle.stream_store.specs.declared.starts.Start.{Start}
 use Rattle.needed_rows.specs.Columns.{IsRegular}
 use Rattle.laws_dataflow.specs.Plans.{below_root}
@@ -47,6 +49,10 @@ IsReadIn (Some s) = IsRegular s
 
 abbrev pub AreReadIn : List Stream → ℕ → Type 0
 AreReadIn streams n = IsReadIn (slice_get streams n)
+
+-- the log is what such a stream has closed
+abbrev pub IsReadLog : Closed → Type 0
+IsReadLog log = (s : Stream) × (IsRegular s × (log ≡ closed_of s))
 
 -- A QUERY HAS ITS MARK: its root is its last operator, and the instant after the mark is a number of the code
 abbrev pub IsMarkable : Registered → PlainRemains → Type 0

@@ -1,0 +1,106 @@
+-- Streams are copied one after the other, each as it is kept; and queries, each as it goes on.
+use Rattle.std.proofs.Common.{◌≡◌, ℕ, zero, suc, ◌+◌, ◌<◌, ◌≤◌, Bool, Option, Some, List, [], ◌∷◌, ◌++◌, take, length, map, get_or, refl, sym, ap, ◌∙◌, subst, arith}
+use Rattle.std.specs.Prelude.{slice_get}
+use Rattle.std.specs.Option.{option_map}
+use Rattle.std.proofs.lemmas.List.{length-map}
+use Rattle.values.specs.Row.{Row}
+use Rattle.values.specs.Window.{Element}
+use Rattle.reference.specs.Machine.{Registered, Stream}
+use Rattle.reference.specs.Opening.{all_restarted, restart, with_kept}
+use Rattle.stream_store.specs.Closing.{closed_of}
+use Rattle.stream_store.specs.Kept.{SaysKept, SaysKeptOf, count_closed, kept_stream}
+use Rattle.stream_store.specs.declared.starts.Start.{Start}
+use Rattle.leases.specs.Forgets.{IsSaid, Says, said_in}
+use Rattle.leases.specs.declared.state.forget.KeptRows.{KeptRows}
+use Rattle.leases.proofs.CompactedLemmas.{said_at, some_at}
+
+-- THE STREAMS before the place i are copied
+abbrev pub IsCopiedTo : List KeptRows → List Stream → List Stream → ℕ → Type 0
+IsCopiedTo kept ss copies i = (keep : ℕ → Element → Bool) → Says keep kept ss → copies ≡ take i (with_kept keep 0 ss)
+
+-- what is said of the next one
+said_of : (keep : ℕ → Element → Bool) (kept : List KeptRows) (ss : List Stream) (i : ℕ) (r : KeptRows) (s : Stream) → Says keep kept ss → i < length kept → r ≡ get_or kept i r → slice_get ss i ≡ Some s → SaysKept r.marks.items r.starts.items (keep i) s
+said_of keep kept ss i r s says l is at =
+    let inside : i < length (map said_in kept) = omega (arith, l, length-map kept said_in) in
+    let d : List Bool × List Start = said_in r in
+    subst (SaysKeptOf r.marks.items r.starts.items (keep i)) at
+    (subst (λ (y : List Bool × List Start). SaysKeptOf y.0 y.1 (keep i) (slice_get ss i)) (said_at kept i r d l is) (says.all i d inside))
+
+pub copy_allowed : (kept : List KeptRows) (ss : List Stream) (i : ℕ) (r : KeptRows) → IsSaid kept ss → i < length kept → r ≡ get_or kept i r → option_map count_closed (slice_get ss i) ≡ Some (length r.marks.items)
+copy_allowed kept ss i r said l is =
+    let says : Says said.0 kept ss = said.1 in
+    let there = some_at ss i (omega (arith, l, says.many)) in
+    let of_it : SaysKept r.marks.items r.starts.items (said.0 i) there.0 = said_of said.0 kept ss i r there.0 says l is there.1 in
+    ap (option_map count_closed) there.1 ∙ ap Some (sym (ap length of_it.closed ∙ length-map (closed_of there.0).elements (said.0 i)))
+
+pub none_copied : (kept : List KeptRows) (ss : List Stream) → IsCopiedTo kept ss [] 0
+none_copied kept ss keep says = none (with_kept keep 0 ss)
+  where
+    none : (zs : List Stream) → [] ≡ take 0 zs
+    none [] = refl
+    none (z ∷ zs) = refl
+
+one_more : (keep : ℕ → Element → Bool) (n : ℕ) (ss : List Stream) (i : ℕ) (s : Stream) → slice_get ss i ≡ Some s → take i (with_kept keep n ss) ++ kept_stream (keep (n + i)) s ∷ [] ≡ take (suc i) (with_kept keep n ss)
+one_more keep n [] i s at = absurd (cc)
+one_more keep n (t ∷ ss) zero s at =
+    let same : t ≡ s = cc in
+    let e : n + 0 ≡ n = omega arith in
+    ap (λ k. kept_stream (keep k) s ∷ []) e ∙ ap (λ z. kept_stream (keep n) z ∷ []) (sym same) ∙ ap (λ l. kept_stream (keep n) t ∷ l) (nothing (with_kept keep (suc n) ss))
+  where
+    nothing : (zs : List Stream) → [] ≡ take 0 zs
+    nothing [] = refl
+    nothing (z ∷ zs) = refl
+one_more keep n (t ∷ ss) (suc i) s at =
+    let e : n + suc i ≡ suc n + i = omega arith in
+    ap (λ k. kept_stream (keep n) t ∷ (take i (with_kept keep (suc n) ss) ++ kept_stream (keep k) s ∷ [])) e
+    ∙ ap (λ l. kept_stream (keep n) t ∷ l) (one_more keep (suc n) ss i s at)
+
+pub copy_one : (kept : List KeptRows) (ss copies new : List Stream) (copy : Stream) (i : ℕ) (r : KeptRows) → IsCopiedTo kept ss copies i → i < length kept → r ≡ get_or kept i r
+    → ((p : Element → Bool) (s : Stream) → slice_get ss i ≡ Some s → SaysKept r.marks.items r.starts.items p s → copy ≡ kept_stream p s) → new ≡ copies ++ copy ∷ [] → IsCopiedTo kept ss new (i + 1)
+copy_one kept ss copies new copy i r to l is h made = λ keep says.
+    let there = some_at ss i (omega (arith, l, says.many)) in
+    let one : copy ≡ kept_stream (keep i) there.0 = h (keep i) there.0 there.1 (said_of keep kept ss i r there.0 says l is there.1) in
+    let e : 0 + i ≡ i = omega arith in
+    made ∙ ap (λ z. z ++ copy ∷ []) (to keep says) ∙ ap (λ c. take i (with_kept keep 0 ss) ++ c ∷ []) (one ∙ ap (λ k. kept_stream (keep k) there.0) (sym e))
+    ∙ one_more keep 0 ss i there.0 there.1 ∙ ap (λ j. take j (with_kept keep 0 ss)) (let f : suc i ≡ i + 1 = omega arith in f)
+
+length-kept : (keep : ℕ → Element → Bool) (n : ℕ) (ss : List Stream) → length (with_kept keep n ss) ≡ length ss
+length-kept keep n [] = refl
+length-kept keep n (s ∷ ss) = ap suc (length-kept keep (suc n) ss)
+
+take_all : {X : Type 0} → (xs : List X) (i : ℕ) → length xs ≤ i → take i xs ≡ xs
+take_all [] zero l = refl
+take_all [] (suc i) l = refl
+take_all (x ∷ xs) zero l = absurd (omega (arith, l))
+take_all (x ∷ xs) (suc i) l = ap (λ z. x ∷ z) (take_all xs i (omega (arith, l)))
+
+pub copy_whole : (kept : List KeptRows) (ss copies : List Stream) (i : ℕ) → i ≡ length kept → IsCopiedTo kept ss copies i → (keep : ℕ → Element → Bool) → Says keep kept ss → copies ≡ with_kept keep 0 ss
+copy_whole kept ss copies i last to = λ keep says. to keep says ∙ take_all (with_kept keep 0 ss) i (omega (arith, last, says.many, length-kept keep 0 ss))
+
+-- THE QUERIES before the place i
+pub restarted_more : (qs : List Registered) (ms : List (Option ℕ)) (ws : List (List (ℕ × Row))) (i : ℕ) (q : Registered) (m : Option ℕ) (w : List (ℕ × Row)) → slice_get qs i ≡ Some q → slice_get ms i ≡ Some m → slice_get ws i ≡ Some w
+    → take i (all_restarted qs ms ws) ++ restart q m w ∷ [] ≡ take (suc i) (all_restarted qs ms ws)
+restarted_more [] ms ws i q m w a b c = absurd (cc)
+restarted_more (r ∷ qs) [] ws i q m w a b c = absurd (cc)
+restarted_more (r ∷ qs) (n ∷ ms) [] i q m w a b c = absurd (cc)
+restarted_more (r ∷ qs) (n ∷ ms) (v ∷ ws) zero q m w a b c =
+    let x : r ≡ q = cc in
+    let y : n ≡ m = cc in
+    let z : v ≡ w = cc in
+    subst (λ r2. restart q m w ∷ [] ≡ restart r2 n v ∷ take 0 (all_restarted qs ms ws)) (sym x)
+    (subst (λ n2. restart q m w ∷ [] ≡ restart q n2 v ∷ take 0 (all_restarted qs ms ws)) (sym y)
+    (subst (λ v2. restart q m w ∷ [] ≡ restart q m v2 ∷ take 0 (all_restarted qs ms ws)) (sym z) (ap (λ l. restart q m w ∷ l) (nothing (all_restarted qs ms ws)))))
+  where
+    nothing : (zs : List Registered) → [] ≡ take 0 zs
+    nothing [] = refl
+    nothing (z ∷ zs) = refl
+restarted_more (r ∷ qs) (n ∷ ms) (v ∷ ws) (suc i) q m w a b c = ap (λ l. restart r n v ∷ l) (restarted_more qs ms ws i q m w a b c)
+
+length-restarted : (qs : List Registered) (ms : List (Option ℕ)) (ws : List (List (ℕ × Row))) → length (all_restarted qs ms ws) ≡ length qs
+length-restarted [] ms ws = refl
+length-restarted (q ∷ qs) [] ws = refl
+length-restarted (q ∷ qs) (m ∷ ms) [] = refl
+length-restarted (q ∷ qs) (m ∷ ms) (w ∷ ws) = ap suc (length-restarted qs ms ws)
+
+pub restarted_whole : (qs : List Registered) (ms : List (Option ℕ)) (ws : List (List (ℕ × Row))) (i : ℕ) → length qs ≤ i → take i (all_restarted qs ms ws) ≡ all_restarted qs ms ws
+restarted_whole qs ms ws i l = take_all (all_restarted qs ms ws) i (omega (arith, l, length-restarted qs ms ws))

@@ -1,0 +1,14 @@
+use Rattle.std.proofs.Common.{◌∙◌, Bool, List, ap, arith, length, sym}
+use Rattle.std.specs.Prelude.{Some}
+use Rattle.stream_store.specs.Kept.{SaysKept}
+use Rattle.leases.proofs.CopiedLemmas.{copy_allowed, copy_one, copy_whole, none_copied}
+use Rattle.leases.proofs.CompactedLemmas.{says_through}
+use Rattle.leases.proofs.state.opening.copies_of.Goals as goal
+
+pub loop-stream-init : goal.loop-stream-init
+loop-stream-init c = none_copied c.args.kept.now c.args.streams.now
+
+pub copy_kept-requires : goal.copy_kept-requires
+copy_kept-requires c =
+    copy_allowed c.args.kept.now c.args.streams.now c.loop-stream.stream c.index-kept-stream.result c.requires (omega (arith, c.loop-stream-test.true)) c.index-kept-stream.is
+    ∙ ap (λ (l : List Bool). Some (length l)) (sym c.deref.ensures.value)

@@ -36,12 +36,9 @@ pub mod LengthLemmas
 pub mod QueryLemmas
 mod ForgetLemmas
 mod KeepingLemmas
-<<<<<<< HEAD
 mod KeptQueueLemmas
-=======
 mod LogLemmas
 mod CompactedLemmas
 mod CopiedLemmas
 mod KeptLemmas
->>>>>>> d383a95881a5f9137124dc3977a3fb89fdd5761a
 mod ReadLemmas

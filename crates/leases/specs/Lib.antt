@@ -14,7 +14,6 @@ pub mod Readers
 pub mod Told
 pub mod Runs
 pub mod Queues
-pub mod Told
 pub mod Undropped
 pub mod Forgets
 pub mod Openings

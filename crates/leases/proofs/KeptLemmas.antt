@@ -19,13 +19,15 @@ use Rattle.laws_queries.specs.Queries as queries
 use Rattle.laws_queries.specs.Rows.{HasRows}
 use Rattle.laws_engine.specs.Openings.{marks_by}
 use Rattle.laws_engine.proofs.CaughtLemmas.{caught_up}
-use Rattle.leases.specs.Forgets.{AreReadIn, Says, going_in, going_of, needs_in, said_in}
+use Rattle.leases.specs.Forgets.{AreMarkable, AreReadIn, Says, going_in, going_of, needs_in, said_in}
 use Rattle.leases.specs.Going.{all_sources}
 use Rattle.leases.specs.Keeping.{AllSay, start_of}
 use Rattle.leases.specs.Keeping as keeping
 use Rattle.leases.specs.Shown.{engine_in}
 use Rattle.leases.specs.Sound.{IsSound}
 use Rattle.leases.specs.Views.{query_of, remains_of}
+use Rattle.leases.specs.declared.registered.Registration.{Registration}
+use Rattle.leases.specs.declared.remains.Remains.{Remains}
 use Rattle.leases.specs.declared.state.State.{State}
 use Rattle.leases.specs.declared.state.forget.Going.{Going}
 use Rattle.leases.specs.declared.state.forget.KeptRows.{KeptRows}
@@ -54,6 +56,13 @@ sources_are n (g ∷ gs) = ap (λ l. keeping.sources_of n (going_of g) ++ l) (so
 
 pub sources_over : (s : State) (n : ℕ) (gs : List Going) → going_in gs s.registered.items s.remains.items → all_sources n gs ≡ readers_over n (engine_in s).machine.queries (marks_by (engine_in s).machine.queries (engine_in s).queries)
 sources_over s n gs is = sources_are n gs ∙ ap (flat_map (keeping.sources_of n)) is ∙ readers_are n (map query_of s.registered.items) (marks_by (map query_of s.registered.items) (map remains_of s.remains.items))
+
+-- the same queries, seen through a slice
+pub going_through : (s : State) (gs gs2 : List Going) (rs : List Registration) (ks : List Remains) → gs2 ≡ gs → rs ≡ s.registered.items → ks ≡ s.remains.items → going_in gs rs ks → going_in gs2 s.registered.items s.remains.items
+going_through s gs gs2 rs ks a b c is = subst (λ z. going_in z s.registered.items s.remains.items) (sym a) (subst (λ z. going_in gs z s.remains.items) b (subst (λ z. going_in gs rs z) c is))
+
+pub markable_through : (s : State) (rs : List Registration) (ks : List Remains) → rs ≡ s.registered.items → ks ≡ s.remains.items → AreMarkable s.registered.items s.remains.items → AreMarkable rs ks
+markable_through s rs ks b c is = subst (λ z. AreMarkable z ks) (sym b) (subst (λ z. AreMarkable s.registered.items z) (sym c) is)
 
 -- WHAT IS SAID of one stream
 module _ (s : State) (sound : IsSound s) (n : ℕ) (gs : List Going) (going : going_in gs s.registered.items s.remains.items) (k : KeptRows)
@@ -89,8 +98,11 @@ pub record SaysFirst (s : State) (kept : List KeptRows) (n : ℕ) : Type 0 where
   pub many : length kept ≡ n
   pub all : AllSay (needs_in (engine_in s)) (map said_in kept) s.streams
 
-pub says_none : (s : State) → SaysFirst s [] 0
-says_none s = record { many = refl; all = λ i d l. absurd (omega (arith, l)) }
+none_said : (s : State) → SaysFirst s [] 0
+none_said s = record { many = refl; all = λ i d l. absurd (omega (arith, l)) }
+
+pub says_none : (s : State) (kept : List KeptRows) → kept ≡ [] → SaysFirst s kept 0
+says_none s kept is = subst (λ z. SaysFirst s z 0) (sym is) (none_said s)
 
 pub says_next : (s : State) → IsSound s → (n : ℕ) (gs : List Going) (k : KeptRows) (kept kept2 : List KeptRows) → going_in gs s.registered.items s.remains.items
     → ((t : Stream) → slice_get s.streams n ≡ Some t → k.marks.items ≡ map (is_needed_by_some (closed_of t).elements (all_sources n gs)) (closed_of t).elements) → k.starts.items ≡ map start_of (all_sources n gs)

@@ -37,6 +37,7 @@ pub mod QueryLemmas
 mod ForgetLemmas
 mod KeepingLemmas
 mod KeptQueueLemmas
+mod CountedLemmas
 mod LogLemmas
 mod CompactedLemmas
 mod CopiedLemmas

@@ -37,3 +37,4 @@ pub mod QueryLemmas
 mod ForgetLemmas
 mod KeepingLemmas
 mod ReadLemmas
+mod GoingLemmas

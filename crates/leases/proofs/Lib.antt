@@ -43,3 +43,4 @@ mod CompactedLemmas
 mod CopiedLemmas
 mod KeptLemmas
 mod ReadLemmas
+mod GoingLemmas

@@ -1,10 +1,10 @@
 -- What is kept of a stream, and how the rows that stay are found.
-use Rattle.std.specs.Prelude.{ℕ, ◌≡◌, ◌-◌, ◌<◌, ◌≤◌, Bool, Option, None, Some, Result, Ok, Err, List, length, map, slice_get, ⊤}
+use Rattle.std.specs.Prelude.{ℕ, ◌≡◌, ◌-◌, ◌<◌, ◌≤◌, Bool, Option, None, Some, Result, Ok, Err, List, length, map, max, slice_get, ⊤}
 use Rattle.std.specs.Option.{option_map_or}
 use Rattle.values.specs.Row.{Row}
 use Rattle.values.specs.Window.{Element}
 use Rattle.reference.specs.Machine.{Machine, Registered, Stream}
-use Rattle.reference.specs.Opening.{all_restarted, needs_by}
+use Rattle.reference.specs.Opening.{all_instants, all_restarted, needs_by}
 use Rattle.reference.specs.declared.fault.Fault.{Fault}
 use Rattle.reference.specs.declared.fault.Fault.TheVariants.{UnknownStream}
 use Rattle.op_queue.specs.Logs.{Closed}
@@ -54,9 +54,9 @@ AreReadIn streams n = IsReadIn (slice_get streams n)
 abbrev pub IsReadLog : Closed → Type 0
 IsReadLog log = (s : Stream) × (IsRegular s × (log ≡ closed_of s))
 
--- A QUERY HAS ITS MARK: its root is its last operator, and the instant after the mark is a number of the code
+-- A QUERY HAS ITS MARK: its root is its last operator, and the instant after the mark is no greater than its first one or than all instants are many
 abbrev pub IsMarkable : Registered → PlainRemains → Type 0
-IsMarkable q (Running p) = (0 < length p.operators) × ((below_root q.nodes ≡ length p.operators - 1) × (next_of q p ≤ 1099511627777))
+IsMarkable q (Running p) = (0 < length p.operators) × ((below_root q.nodes ≡ length p.operators - 1) × (next_of q p ≤ max q.first all_instants))
 IsMarkable q (Broken answers) = ⊤
 IsMarkable q Dropped = ⊤
 

@@ -1,15 +1,16 @@
 //! Rows that no query needs any longer are given up.
-ghost use Rattle.std.specs.Prelude.{◌≡◌, ◌⊎◌, ◌++◌, ◌<◌, IfOk, OnErr, OnOk, Some, length, map};
-ghost use Rattle.std.specs.Prelude.{ℕ, Bool, slice_get};
+ghost use Rattle.std.specs.Prelude.{◌≡◌, ◌⊎◌, ◌++◌, ◌+◌, ◌≤◌, IfOk, OnErr, OnOk, Some, length};
+ghost use Rattle.std.specs.Prelude.{ℕ, Bool, map, max, slice_get};
 ghost use Rattle.std.specs.List.{range_with_len};
 ghost use Rattle.values.specs.Row.{value_at};
 ghost use Rattle.values.specs.Window.{Element};
 ghost use Rattle.std.specs.Arc.{arc_value};
 ghost use Rattle.reference.specs.Machine.{Stream};
-ghost use Rattle.reference.specs.Opening.{restart, with_kept};
+ghost use Rattle.reference.specs.Opening.{all_instants, restart, with_kept};
 ghost use Rattle.stream_store.specs.Closing.{closed_of};
 ghost use Rattle.needed_rows.specs.Needed.{is_needed_by_some, lists, readers_in};
 ghost use Rattle.needed_rows.specs.Queries.{readers_of};
+ghost use Rattle.laws_dataflow.specs.Queries.{behind};
 ghost use Rattle.laws_engine.specs.Openings.{forgotten, mark_in};
 ghost use Rattle.leases.specs.Forgets.{AreMarkable, AreReadIn, IsMarkable, IsReadLog, IsSaid};
 ghost use Rattle.leases.specs.Forgets.{Says, earlier_in, going_in, needs_in, restarted_by};
@@ -133,12 +134,20 @@ pub(crate) fn next_of(query: &Registration, remains: &Remains) -> Option<u64>
     ensures { result ≡ mark_in (query_of query.now) (remains_of remains.now) }
 {
     match remains {
-        Remains::Running(running) => Some(match running.last_tick() {
-            Some(at) => at + 1,
-            None => query.first,
-        }),
+        Remains::Running(running) => Some(next_behind(query.first, running.last_tick())),
         Remains::Broken(_) => None,
         Remains::Dropped => None,
+    }
+}
+
+/// The instant after a tick, or the first one where there was none.
+fn next_behind(first: u64, last: Option<u64>) -> u64
+    requires { (at : ℕ) → last ≡ Some at → at + 1 ≤ max first all_instants }
+    ensures { result ≡ behind first last }
+{
+    match last {
+        Some(at) => at + 1,
+        None => first,
     }
 }
 

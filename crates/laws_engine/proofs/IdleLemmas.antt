@@ -6,7 +6,7 @@ use Rattle.laws_engine.specs.Engines.{GoodEngine, PlainEngine}
 use Rattle.laws_engine.specs.Promises.{HasAllWaiting, HasGivenAll, KeepsItsPromises}
 use Rattle.laws_engine.proofs.PromiseLemmas.{keeps_its_promises}
 
-behind : (n : ℕ) (xs ys : List (ℕ × Row)) → length xs ≡ n → drop n (xs ++ ys) ≡ ys
+pub behind : (n : ℕ) (xs ys : List (ℕ × Row)) → length xs ≡ n → drop n (xs ++ ys) ≡ ys
 behind zero [] ys e = refl
 behind zero (x ∷ xs) ys e = absurd (omega (arith, e))
 behind (suc n) [] ys e = absurd (omega (arith, e))

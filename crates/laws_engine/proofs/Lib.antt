@@ -19,6 +19,7 @@ pub mod RestingLemmas
 pub mod OpenedLemmas
 pub mod ForgottenLemmas
 pub mod AlikeLemmas
+pub mod RememberedLemmas
 pub mod ConditionLemmas
 pub mod NameLemmas
 pub mod FoundLemmas

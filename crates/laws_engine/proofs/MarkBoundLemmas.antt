@@ -1,5 +1,5 @@
 -- What bounds the answers of a running query bounds those that come behind its mark.
-use Rattle.std.proofs.Common.{◌≡◌, ℕ, zero, suc, ◌+◌, ◌-◌, ◌*◌, ◌^◌, ◌<◌, ◌≤◌, Bool, true, false, cond, nat_le, max, Some, List, [], ◌∷◌, ◌++◌, map, length, flat_map, refl, ap, ◌∙◌, subst, arith, length-append, le_trans}
+use Rattle.std.proofs.Common.{◌≡◌, ℕ, zero, suc, ◌+◌, ◌-◌, ◌*◌, ◌^◌, ◌<◌, ◌≤◌, Bool, true, false, cond, nat_le, Some, List, [], ◌∷◌, ◌++◌, map, length, flat_map, refl, ap, ◌∙◌, subst, arith, length-append, le_trans}
 use Rattle.std.specs.List.{AllByRecursion, range_with_len}
 use Rattle.std.proofs.Math.Nat.{suc-mul}
 use Rattle.std.proofs.lemmas.List.{length-map}

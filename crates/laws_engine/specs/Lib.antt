@@ -5,6 +5,7 @@ pub mod Histories
 pub mod Asks
 pub mod Resting
 pub mod Openings
+pub mod Remembered
 pub mod Accepted
 pub mod Examples
 pub mod Bounds

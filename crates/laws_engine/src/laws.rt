@@ -1,7 +1,8 @@
 //! What holds of an engine of many queries: functions that do nothing, each with a law.
 ghost use Rattle.std.specs.Prelude.{◌≡◌, ℕ, List, Some, false, slice_get};
 ghost use Rattle.values.specs.Row.{Row};
-ghost use Rattle.reference.specs.Machine.{Registered, Stream};
+ghost use Rattle.reference.specs.Machine as machine;
+ghost use Rattle.reference.specs.Machine.{Machine, Registered, Stream};
 ghost use Rattle.needed_rows.specs.Queries.{AreCaughtUp, readers_over};
 ghost use Rattle.reference.specs.Alike.{Alike};
 ghost use Rattle.laws_forgetting.specs.Partly.{PartlyAlike};
@@ -11,6 +12,7 @@ ghost use Rattle.laws_engine.specs.Engines.{remains_at, world_of};
 ghost use Rattle.laws_engine.specs.Promises.{KeepsItsPromises};
 ghost use Rattle.laws_engine.specs.Histories.{Call, LeadTo, empty};
 ghost use Rattle.laws_engine.specs.Openings.{IsUnbroken, forgotten, goes_on, marks_by};
+ghost use Rattle.laws_engine.specs.Remembered.{GivesAsRemembered, LeadBoth};
 
 /// Says that of each query of a good engine the answers that were taken, and those that wait, are a
 /// beginning of CQL's answers for the instants that its streams' heartbeats have closed, and all of
@@ -49,6 +51,15 @@ pub fn forgotten_engines_are_alike()
 pub fn forgotten_engines_answer_alike()
     ensures { (e : PlainEngine) → GoodEngine e
         → PartlyAlike (goes_on e) e.machine (forgotten e).machine }
+{}
+
+/// Says that after any list of calls on the empty engine, whatever was forgotten and whatever broke,
+/// what waits of a query that runs begins those answers over all that ever came which were not taken
+/// yet, and is all of them where none of its operators may be leased or is. It is as if nothing had
+/// been forgotten: the machine that was told the same accepts the same commands.
+pub fn engines_forget_no_answer()
+    ensures { (calls : List Call) (e : PlainEngine) (m : Machine)
+        → LeadBoth empty machine.empty calls e m → GivesAsRemembered e m }
 {}
 
 /// Says that no running query's mark lies above what its streams have closed.

@@ -5,7 +5,7 @@
 mod laws;
 
 pub use laws::{
-    engines_keep_their_promises, forgotten_engines_answer_alike, forgotten_engines_are_alike,
-    forgotten_engines_are_good, forgotten_engines_close_few, good_engines_keep_their_promises,
-    marks_are_caught_up,
+    engines_forget_no_answer, engines_keep_their_promises, forgotten_engines_answer_alike,
+    forgotten_engines_are_alike, forgotten_engines_are_good, forgotten_engines_close_few,
+    good_engines_keep_their_promises, marks_are_caught_up,
 };

@@ -1,10 +1,11 @@
 -- Being alike is an equivalence.
-use Rattle.std.proofs.Common.{◌≡◌, ℕ, List, [], ◌∷◌, map, sym, ap, ◌∙◌, subst, arith}
+use Rattle.std.proofs.Common.{◌≡◌, ℕ, suc, Bool, List, [], ◌∷◌, map, sym, ap, ◌∙◌, subst, arith}
 use Rattle.values.specs.Arrivals.{AllFrom}
 use Rattle.values.specs.Window.{Element}
 use Rattle.reference.specs.Machine.{Machine, Registered, until_for}
 use Rattle.reference.specs.World.{World}
 use Rattle.reference.specs.Alike.{Alike, AlikeMachines, AlikeQuery, AreAlike, MayCome, bare}
+use Rattle.laws_forgetting.specs.Partly.{AlikeIf, ArePartlyAlike, PartlyAlike}
 use Rattle.laws_forgetting.proofs.BareLemmas.{open_same, untils_same}
 
 -- over streams that are the same but for what came, the same may come, and the same instants are closed
@@ -44,12 +45,26 @@ module _ (m n : Machine) (h : map bare m.streams ≡ map bare n.streams) where
     all_joined (q ∷ qs) (r ∷ rs) [] i j = absurd j
     all_joined (q ∷ qs) (r ∷ rs) (s ∷ ss) i j = (joined q r s i.0 j.0, all_joined qs rs ss i.1 j.1)
 
+    if_joined : (b : Bool) (q r s : Registered) → AlikeIf b m n q r → AlikeIf b n k r s → AlikeIf b m k q s
+    if_joined b q r s a c = record { bare = a.bare ∙ c.bare; alike = λ p. joined q r s (a.alike p) (c.alike p) }
+
+    parts_joined : (passes : ℕ → Bool) (qs rs ss : List Registered) → ArePartlyAlike passes m n qs rs → ArePartlyAlike passes n k rs ss → ArePartlyAlike passes m k qs ss
+    parts_joined passes [] [] [] i j = tt
+    parts_joined passes [] [] (s ∷ ss) i j = absurd j
+    parts_joined passes [] (r ∷ rs) ss i j = absurd i
+    parts_joined passes (q ∷ qs) [] ss i j = absurd i
+    parts_joined passes (q ∷ qs) (r ∷ rs) [] i j = absurd j
+    parts_joined passes (q ∷ qs) (r ∷ rs) (s ∷ ss) i j = (if_joined (passes 0) q r s i.0 j.0, parts_joined (λ l. passes (suc l)) qs rs ss i.1 j.1)
+
 -- MACHINES
 pub machines_turned : (m n : Machine) → AlikeMachines m n → AlikeMachines n m
 machines_turned m n h = record { streams = sym h.streams; queries = all_turned m n h.streams m.queries n.queries h.queries }
 
 pub machines_joined : (m n k : Machine) → AlikeMachines m n → AlikeMachines n k → AlikeMachines m k
 machines_joined m n k h i = record { streams = h.streams ∙ i.streams; queries = all_joined m n h.streams k m.queries n.queries k.queries h.queries i.queries }
+
+pub partly_joined : (passes : ℕ → Bool) (m n k : Machine) → PartlyAlike passes m n → PartlyAlike passes n k → PartlyAlike passes m k
+partly_joined passes m n k h i = record { streams = h.streams ∙ i.streams; queries = parts_joined m n h.streams k passes m.queries n.queries k.queries h.queries i.queries }
 
 -- WORLDS
 pub worlds_turned : (w v : World) → Alike w v → Alike v w

@@ -1,12 +1,11 @@
--- Streams are copied one after the other, each as it is kept; and queries, each as it goes on.
+-- Streams are copied one after the other, each as it is kept.
 use Rattle.std.proofs.Common.{◌≡◌, ℕ, zero, suc, ◌+◌, ◌<◌, ◌≤◌, Bool, Option, Some, List, [], ◌∷◌, ◌++◌, take, length, map, get_or, refl, sym, ap, ◌∙◌, subst, arith}
 use Rattle.std.specs.Prelude.{slice_get}
 use Rattle.std.specs.Option.{option_map}
 use Rattle.std.proofs.lemmas.List.{length-map}
-use Rattle.values.specs.Row.{Row}
 use Rattle.values.specs.Window.{Element}
-use Rattle.reference.specs.Machine.{Registered, Stream}
-use Rattle.reference.specs.Opening.{all_restarted, restart, with_kept}
+use Rattle.reference.specs.Machine.{Stream}
+use Rattle.reference.specs.Opening.{with_kept}
 use Rattle.stream_store.specs.Closing.{closed_of}
 use Rattle.stream_store.specs.Kept.{SaysKept, SaysKeptOf, count_closed, kept_stream}
 use Rattle.stream_store.specs.declared.starts.Start.{Start}
@@ -76,31 +75,3 @@ take_all (x ∷ xs) (suc i) l = ap (λ z. x ∷ z) (take_all xs i (omega (arith,
 
 pub copy_whole : (kept : List KeptRows) (ss copies : List Stream) (i : ℕ) → i ≡ length kept → IsCopiedTo kept ss copies i → (keep : ℕ → Element → Bool) → Says keep kept ss → copies ≡ with_kept keep 0 ss
 copy_whole kept ss copies i last to = λ keep says. to keep says ∙ take_all (with_kept keep 0 ss) i (omega (arith, last, says.many, length-kept keep 0 ss))
-
--- THE QUERIES before the place i
-pub restarted_more : (qs : List Registered) (ms : List (Option ℕ)) (ws : List (List (ℕ × Row))) (i : ℕ) (q : Registered) (m : Option ℕ) (w : List (ℕ × Row)) → slice_get qs i ≡ Some q → slice_get ms i ≡ Some m → slice_get ws i ≡ Some w
-    → take i (all_restarted qs ms ws) ++ restart q m w ∷ [] ≡ take (suc i) (all_restarted qs ms ws)
-restarted_more [] ms ws i q m w a b c = absurd (cc)
-restarted_more (r ∷ qs) [] ws i q m w a b c = absurd (cc)
-restarted_more (r ∷ qs) (n ∷ ms) [] i q m w a b c = absurd (cc)
-restarted_more (r ∷ qs) (n ∷ ms) (v ∷ ws) zero q m w a b c =
-    let x : r ≡ q = cc in
-    let y : n ≡ m = cc in
-    let z : v ≡ w = cc in
-    subst (λ r2. restart q m w ∷ [] ≡ restart r2 n v ∷ take 0 (all_restarted qs ms ws)) (sym x)
-    (subst (λ n2. restart q m w ∷ [] ≡ restart q n2 v ∷ take 0 (all_restarted qs ms ws)) (sym y)
-    (subst (λ v2. restart q m w ∷ [] ≡ restart q m v2 ∷ take 0 (all_restarted qs ms ws)) (sym z) (ap (λ l. restart q m w ∷ l) (nothing (all_restarted qs ms ws)))))
-  where
-    nothing : (zs : List Registered) → [] ≡ take 0 zs
-    nothing [] = refl
-    nothing (z ∷ zs) = refl
-restarted_more (r ∷ qs) (n ∷ ms) (v ∷ ws) (suc i) q m w a b c = ap (λ l. restart r n v ∷ l) (restarted_more qs ms ws i q m w a b c)
-
-length-restarted : (qs : List Registered) (ms : List (Option ℕ)) (ws : List (List (ℕ × Row))) → length (all_restarted qs ms ws) ≡ length qs
-length-restarted [] ms ws = refl
-length-restarted (q ∷ qs) [] ws = refl
-length-restarted (q ∷ qs) (m ∷ ms) [] = refl
-length-restarted (q ∷ qs) (m ∷ ms) (w ∷ ws) = ap suc (length-restarted qs ms ws)
-
-pub restarted_whole : (qs : List Registered) (ms : List (Option ℕ)) (ws : List (List (ℕ × Row))) (i : ℕ) → length qs ≤ i → take i (all_restarted qs ms ws) ≡ all_restarted qs ms ws
-restarted_whole qs ms ws i l = take_all (all_restarted qs ms ws) i (omega (arith, l, length-restarted qs ms ws))

@@ -41,6 +41,7 @@ mod CountedLemmas
 mod LogLemmas
 mod CompactedLemmas
 mod CopiedLemmas
+mod BareLemmas
 mod KeptLemmas
 mod ReadLemmas
 mod GoingLemmas

@@ -1,5 +1,5 @@
 -- What is kept of a stream, and how the rows that stay are found.
-use Rattle.std.specs.Prelude.{ℕ, ◌≡◌, ◌-◌, ◌<◌, ◌≤◌, Bool, Option, None, Some, Result, Ok, Err, List, length, map, max, slice_get, ⊤}
+use Rattle.std.specs.Prelude.{ℕ, ◌≡◌, ◌-◌, ◌<◌, ◌≤◌, Bool, Option, None, Some, Result, Ok, Err, List, [], length, map, max, slice_get, ⊤}
 use Rattle.std.specs.Option.{option_map_or}
 use Rattle.values.specs.Row.{Row}
 use Rattle.values.specs.Window.{Element}
@@ -78,3 +78,7 @@ earlier_in remains = map answers_in (map remains_of remains)
 -- the queries as they go on
 abbrev pub restarted_by : List Registration → List Remains → List (List (ℕ × Row)) → List Registered
 restarted_by registered remains waiting = all_restarted (map query_of registered) (marks_by (map query_of registered) (map remains_of remains)) waiting
+
+-- a query before any answer that waited
+abbrev pub without_earlier : Registered → Registered
+without_earlier q = record q { earlier = [] }

@@ -129,7 +129,7 @@ impl State {
 }
 
 /// The instant after the mark of a query that runs.
-pub(crate) fn next_of(query: &Registration, remains: &Remains) -> Option<u64>
+fn next_of(query: &Registration, remains: &Remains) -> Option<u64>
     requires { IsMarkable (query_of query.now) (remains_of remains.now) }
     ensures { result ≡ mark_in (query_of query.now) (remains_of remains.now) }
 {
@@ -307,7 +307,7 @@ pub(crate) fn waiting_of(alloc: Global, remains: &[Remains]) -> Result<Vec<Waiti
 
 /// Each query goes on from the instant after its mark, behind the answers that wait. Takes no
 /// memory.
-fn restart(registered: &mut [Registration], remains: &[Remains], waiting: Vec<WaitingAnswers>)
+pub(crate) fn restart(registered: &mut [Registration], remains: &[Remains], waiting: Vec<WaitingAnswers>)
     requires marks { AreMarkable registered.old remains.now }
     requires many { length waiting.items ≡ length registered.old }
     ensures { map query_of registered.new

@@ -1,20 +1,19 @@
 //! Copies of what a forgetting leaves.
 ghost use Rattle.std.specs.Prelude.{◌≡◌, ℕ, Bool, IfOk, length, map};
 ghost use Rattle.values.specs.Window.{Element};
-ghost use Rattle.reference.specs.Opening.{restart, with_kept};
+ghost use Rattle.reference.specs.Opening.{with_kept};
 ghost use Rattle.laws_engine.specs.Openings.{forgotten};
-ghost use Rattle.leases.specs.Forgets.{AreMarkable, IsSaid, Says, restarted_by};
+ghost use Rattle.leases.specs.Forgets.{AreMarkable, IsSaid, Says, restarted_by, without_earlier};
 ghost use Rattle.leases.specs.Openings.{opening_in};
 ghost use Rattle.leases.specs.Shown.{engine_in};
 ghost use Rattle.leases.specs.Sound.{IsSound};
 ghost use Rattle.leases.specs.Views.{query_of};
 
-use crate::limits::ALL_INSTANTS;
 use crate::opening::Opening;
 use crate::registered::{Place, Registration};
 use crate::remains::Remains;
 use crate::state::State;
-use crate::state::forget::{KeptRows, next_of, waiting_of};
+use crate::state::forget::{KeptRows, restart, waiting_of};
 use envelope::Slope;
 use query_runtime::WaitingAnswers;
 use std::alloc::{AllocError, Global};
@@ -67,23 +66,29 @@ fn restarted_copies(
     ensures { IfOk result (λ v. map query_of v.items
         ≡ restarted_by registered.now remains.now waiting.items) }
 {
+    let mut copies = bare_copies(alloc, registered)?;
+    restart(&mut copies, remains, waiting);
+    Ok(copies)
+}
+
+/// Copies of the queries without their earlier answers.
+fn bare_copies(
+    alloc: Global,
+    registered: &[Registration],
+) -> Result<Vec<Registration>, AllocError>
+    ensures { IfOk result (λ v.
+        map query_of v.items ≡ map without_earlier (map query_of registered.now)) }
+{
     let mut copies = Vec::with_capacity(alloc, registered.len())?;
-    for (query, earlier) in waiting.into_iter().enumerate() {
-        let next = next_of(&registered[query], &remains[query]);
-        copies.push(restarted_copy(alloc, &registered[query], next, earlier)?)?;
+    for query in registered {
+        copies.push(bare_copy(alloc, query)?)?;
     }
     Ok(copies)
 }
 
-/// A copy of the query that goes on from the instant after its mark, or behind all instants if it
-/// has none, behind the answers that wait.
-fn restarted_copy(
-    alloc: Global,
-    query: &Registration,
-    next: Option<u64>,
-    earlier: WaitingAnswers,
-) -> Result<Registration, AllocError>
-    ensures { IfOk result (λ copy. query_of copy ≡ restart (query_of query.now) next earlier) }
+/// A copy of the query without its earlier answers.
+fn bare_copy(alloc: Global, query: &Registration) -> Result<Registration, AllocError>
+    ensures { IfOk result (λ copy. query_of copy ≡ without_earlier (query_of query.now)) }
 {
     let name = String::from_str(alloc, &query.name)?;
     let slopes = copied_slopes(alloc, &query.slopes)?;
@@ -94,9 +99,9 @@ fn restarted_copy(
         slopes,
         places,
         first: query.first,
-        start: next.unwrap_or(ALL_INSTANTS),
-        earlier,
-        taken: 0,
+        start: query.start,
+        earlier: WaitingAnswers::new(alloc),
+        taken: query.taken,
         is_dropped: query.is_dropped,
     })
 }

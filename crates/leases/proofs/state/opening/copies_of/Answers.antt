@@ -1,8 +1,6 @@
 use Rattle.std.proofs.Common.{◌∙◌, Bool, List, ap, arith, length, sym}
 use Rattle.std.specs.Prelude.{Some}
-use Rattle.stream_store.specs.Kept.{SaysKept}
-use Rattle.leases.proofs.CopiedLemmas.{copy_allowed, copy_one, copy_whole, none_copied}
-use Rattle.leases.proofs.CompactedLemmas.{says_through}
+use Rattle.leases.proofs.CopiedLemmas.{copy_allowed, none_copied}
 use Rattle.leases.proofs.state.opening.copies_of.Goals as goal
 
 pub loop-stream-init : goal.loop-stream-init

@@ -37,4 +37,6 @@ pub mod QueryLemmas
 mod ForgetLemmas
 mod KeepingLemmas
 mod ReadLemmas
+mod MarkLemmas
+mod RestartLemmas
 mod GoingLemmas

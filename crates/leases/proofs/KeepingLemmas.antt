@@ -1,16 +1,15 @@
 -- Streams are compacted one after the other, and queries restarted.
-use Rattle.std.proofs.Common.{◌≡◌, ℕ, zero, suc, ◌+◌, ◌<◌, ◌==◌, ◌&&◌, ◌||◌, nat_le, Bool, true, false, cond, Option, Some, None, List, [], ◌∷◌, ◌++◌, flat_map, map, length, get_or, refl, sym, ap, ap₂, ◌∙◌, subst, arith}
+use Rattle.std.proofs.Common.{◌≡◌, ℕ, zero, suc, ◌+◌, ◌<◌, ◌&&◌, ◌||◌, nat_le, Bool, Option, Some, None, List, [], ◌∷◌, ◌++◌, flat_map, map, length, get_or, refl, sym, ap, ap₂, ◌∙◌, subst, arith}
 use Rattle.std.specs.Prelude.{slice_get}
 use Rattle.std.specs.List.{list_any}
-use Rattle.std.specs.Option.{option_map}
 use Rattle.values.specs.Row.{Row}
-use Rattle.values.specs.Window.{Element, Window}
+use Rattle.values.specs.Window.{Element}
 use Rattle.reference.specs.Commands.{change}
-use Rattle.reference.specs.Machine.{Place, Registered, Stream}
+use Rattle.reference.specs.Machine.{Registered, Stream}
 use Rattle.reference.specs.Opening.{all_restarted, needs_by, restart, with_kept}
 use Rattle.stream_store.specs.Closing.{closed_of}
 use Rattle.leases.specs.Keeping.{AllSay, going_over, kept_first, restarted_first, sources_of, start_of}
-use Rattle.stream_store.specs.Kept.{SaysKept, SaysKeptOf, count_closed, kept_stream}
+use Rattle.stream_store.specs.Kept.{SaysKept, SaysKeptOf, kept_stream}
 use Rattle.needed_rows.specs.Needed.{PlainReader, is_in_input, is_needed_by_some}
 use Rattle.needed_rows.specs.Queries.{ReadersSay, readers_of, readers_over}
 use Rattle.stream_store.specs.declared.starts.Start.{Start}
@@ -33,7 +32,7 @@ first_all keep n [] = refl
 first_all keep n (s ∷ ss) = ap (λ l. kept_stream (keep n) s ∷ l) (first_all keep (suc n) ss)
 
 -- the next one is as it was
-first_here : (keep : ℕ → Element → Bool) (n : ℕ) (ss : List Stream) (i : ℕ) → slice_get (kept_first keep n ss i) i ≡ slice_get ss i
+pub first_here : (keep : ℕ → Element → Bool) (n : ℕ) (ss : List Stream) (i : ℕ) → slice_get (kept_first keep n ss i) i ≡ slice_get ss i
 first_here keep n [] i = refl
 first_here keep n (s ∷ ss) zero = refl
 first_here keep n (s ∷ ss) (suc i) = first_here keep (suc n) ss i

@@ -36,6 +36,9 @@ pub mod LengthLemmas
 pub mod QueryLemmas
 mod ForgetLemmas
 mod KeepingLemmas
+mod LogLemmas
+mod CompactedLemmas
+mod KeptLemmas
 mod ReadLemmas
 mod MarkLemmas
 mod RestartLemmas

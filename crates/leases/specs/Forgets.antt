@@ -1,5 +1,5 @@
 -- What is kept of a stream, and how the rows that stay are found.
-use Rattle.std.specs.Prelude.{ℕ, ◌≡◌, ◌-◌, ◌<◌, ◌≤◌, Bool, Option, None, Some, Result, Ok, Err, List, [], ◌∷◌, length, map, max, slice_get, ⊤}
+use Rattle.std.specs.Prelude.{ℕ, ◌≡◌, ◌-◌, ◌<◌, ◌≤◌, Bool, Option, None, Some, Result, Ok, Err, List, length, map, max, slice_get, ⊤}
 use Rattle.std.specs.Option.{option_map_or}
 use Rattle.values.specs.Row.{Row}
 use Rattle.values.specs.Window.{Element}
@@ -7,6 +7,8 @@ use Rattle.reference.specs.Machine.{Machine, Registered, Stream}
 use Rattle.reference.specs.Opening.{all_instants, all_restarted, needs_by}
 use Rattle.reference.specs.declared.fault.Fault.{Fault}
 use Rattle.reference.specs.declared.fault.Fault.TheVariants.{UnknownStream}
+use Rattle.op_queue.specs.Logs.{Closed}
+use Rattle.stream_store.specs.Closing.{closed_of}
 use Rattle.stream_store.specs.declared.starts.Start.{Start}
 use Rattle.needed_rows.specs.Columns.{IsRegular}
 use Rattle.laws_dataflow.specs.Plans.{below_root}
@@ -47,6 +49,10 @@ IsReadIn (Some s) = IsRegular s
 
 abbrev pub AreReadIn : List Stream → ℕ → Type 0
 AreReadIn streams n = IsReadIn (slice_get streams n)
+
+-- the log is what such a stream has closed
+abbrev pub IsReadLog : Closed → Type 0
+IsReadLog log = (s : Stream) × (IsRegular s × (log ≡ closed_of s))
 
 -- A QUERY HAS ITS MARK: its root is its last operator, and the instant after the mark is no greater than its first one or than all instants are many
 abbrev pub IsMarkable : Registered → PlainRemains → Type 0

@@ -1,5 +1,5 @@
 -- How the rows that stay are found and kept, stream by stream and query by query.
-use Rattle.std.specs.Prelude.{ℕ, zero, suc, ◌≡◌, ◌<◌, Bool, Option, Some, None, List, [], ◌∷◌, ◌++◌, flat_map, get_or, length, map, slice_get}
+use Rattle.std.specs.Prelude.{ℕ, zero, suc, ◌<◌, Bool, Option, Some, None, List, [], ◌∷◌, get_or, length, slice_get}
 use Rattle.values.specs.Row.{Row}
 use Rattle.values.specs.Window.{Element}
 use Rattle.reference.specs.Machine.{Registered, Stream}

@@ -14,6 +14,7 @@ pub mod Readers
 pub mod Told
 pub mod Runs
 pub mod Queues
+pub mod Told
 pub mod Undropped
 pub mod Forgets
 pub mod Openings

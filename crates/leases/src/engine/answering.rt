@@ -161,8 +161,7 @@ impl Answering for Engine {
         ensures forgotten { (engine_in self.new ≡ engine_in self.old)
             ⊎ (engine_in self.new ≡ forgotten (engine_in self.old)) }
         ensures promises { KeepsItsPromises (engine_in self.new) }
-    {
-    }
+    {}
 
     fn slopes(&self, query: u64) -> Result<Vec<(Kind, Slope)>, Fault> {
         self.state.slopes(query)

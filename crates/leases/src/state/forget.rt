@@ -8,13 +8,12 @@ ghost use Rattle.std.specs.Arc.{arc_value};
 ghost use Rattle.reference.specs.Machine.{Stream};
 ghost use Rattle.reference.specs.Opening.{all_instants, restart, with_kept};
 ghost use Rattle.stream_store.specs.Closing.{closed_of};
-ghost use Rattle.needed_rows.specs.Columns.{IsRegular};
 ghost use Rattle.needed_rows.specs.Needed.{is_needed_by_some, lists, readers_in};
 ghost use Rattle.needed_rows.specs.Queries.{readers_of};
 ghost use Rattle.laws_dataflow.specs.Queries.{behind};
 ghost use Rattle.laws_engine.specs.Openings.{forgotten, mark_in};
-ghost use Rattle.leases.specs.Forgets.{AreMarkable, AreReadIn, IsMarkable, IsSaid, Says};
-ghost use Rattle.leases.specs.Forgets.{earlier_in, going_in, needs_in, restarted_by};
+ghost use Rattle.leases.specs.Forgets.{AreMarkable, AreReadIn, IsMarkable, IsReadLog, IsSaid};
+ghost use Rattle.leases.specs.Forgets.{Says, earlier_in, going_in, needs_in, restarted_by};
 ghost use Rattle.leases.specs.Going.{all_sources};
 ghost use Rattle.leases.specs.Keeping.{start_of};
 ghost use Rattle.leases.specs.Shown.{engine_in};
@@ -151,9 +150,9 @@ fn kept_of(
 
 /// For each closed row whether a reader needs it.
 fn marks_of(alloc: Global, log: &Log, readers: &[Reader]) -> Result<Vec<bool>, AllocError>
-    ensures { IfOk result (λ v. (s : Stream) → IsRegular s → log.now ≡ closed_of s
-        → v.items ≡ map (is_needed_by_some (closed_of s).elements (readers_in readers.now))
-        (closed_of s).elements) }
+    requires { IsReadLog log.now }
+    ensures { IfOk result (λ v. v.items
+        ≡ map (is_needed_by_some log.now.elements (readers_in readers.now)) log.now.elements) }
 {
     let columns = columns_of(alloc, log)?;
     let rows = ClosedRows {

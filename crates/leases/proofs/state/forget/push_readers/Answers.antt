@@ -1,4 +1,4 @@
-use Rattle.std.proofs.Common.{◌≡◌, ⊎_elim, inl, inr, refl}
+use Rattle.std.proofs.Common.{⊎_elim, inl, inr, refl}
 use Rattle.leases.specs.Views.{query_of}
 use Rattle.leases.proofs.ReadLemmas.{all_read, more_read, other_read}
 use Rattle.leases.proofs.state.forget.push_readers.Goals as goal

@@ -44,4 +44,6 @@ mod CopiedLemmas
 mod BareLemmas
 mod KeptLemmas
 mod ReadLemmas
+mod MarkLemmas
+mod RestartLemmas
 mod GoingLemmas

@@ -1,0 +1,44 @@
+-- Each query that runs has its mark.
+use Rattle.std.proofs.Common.{◌≡◌, ◌-◌, ◌≤◌, ℕ, max, Some, List, length, map, sym, ap, ◌∙◌, arith}
+use Rattle.std.specs.Option.{option_map}
+use Rattle.std.proofs.lemmas.List.{length-map}
+use Rattle.std.proofs.lemmas.Option.{get_or_from_slice_get, slice_get-map}
+use Rattle.reference.specs.Machine.{Registered}
+use Rattle.reference.specs.Opening.{all_instants}
+use Rattle.laws_dataflow.proofs.AnswerLemmas.{shaped}
+use Rattle.laws_queries.specs.Machines.{widths_of}
+use Rattle.laws_engine.specs.Engines.{Broken, Dropped, Goes, PlainEngine, PlainRemains, Running, query_at, remains_at}
+use Rattle.laws_engine.specs.Openings.{next_of}
+use Rattle.laws_engine.proofs.InstantLemmas.{until_few}
+use Rattle.laws_engine.proofs.MarkLemmas.{goes, next_reached}
+use Rattle.leases.specs.Forgets.{AreMarkable, IsMarkable}
+use Rattle.leases.specs.Shown.{engine_in}
+use Rattle.leases.specs.Sound.{IsSound}
+use Rattle.leases.specs.Views.{query_of, remains_of}
+use Rattle.leases.specs.declared.registered.Registration.{Registration}
+use Rattle.leases.specs.declared.remains.Remains.{Remains}
+use Rattle.leases.specs.declared.state.State.{State}
+
+-- EACH HAS ITS MARK
+module _ (s : State) (h : IsSound s) where
+  abbrev e : PlainEngine
+  e = engine_in s
+
+  has_mark : (n : ℕ) (q : Registered) (k : PlainRemains) → query_at e n ≡ Some q → remains_at e n ≡ k → IsMarkable q k
+  has_mark n q (Running p) here runs =
+      let g : Goes e.machine q p = goes e h.good n q p here runs in
+      let many : length p.operators ≡ length q.nodes = g.runs.runs.many in
+      let stands = g.runs.runs.stands in
+      let two : 2 ≤ length q.nodes = (shaped (widths_of e.machine.streams q) e.machine q stands.plan stands.wide).two in
+      let low : next_of q p ≤ max q.first all_instants = omega (arith, next_reached e h.good n q p here runs, until_few e.machine.streams q.places h.closed.streams) in
+      (omega (arith, many, two), (ap (λ (k : ℕ). k - 1) (sym many), low))
+  has_mark n q (Broken answers) here broken = tt
+  has_mark n q Dropped here dropped = tt
+
+  pub markable : AreMarkable s.registered.items s.remains.items
+  markable =
+      let ms : List Remains = s.remains.items in
+      let qs : List Registration = s.registered.items in
+      (sym (length-map ms remains_of) ∙ h.good.many ∙ length-map qs query_of,
+      λ n q k here left. has_mark n (query_of q) (remains_of k) (slice_get-map query_of qs n ∙ ap (option_map query_of) here)
+          (get_or_from_slice_get (map remains_of ms) n (remains_of k) Dropped (slice_get-map remains_of ms n ∙ ap (option_map remains_of) left)))

@@ -1,9 +1,10 @@
 -- The rows that stay, the queries as they go on, and that all is sound.
-use Rattle.std.proofs.Common.{◌≡◌, length, refl, sym, ap, ap₂, ◌∙◌, subst, subst₂}
+use Rattle.std.proofs.Common.{◌≡◌, length, sym, ap, ap₂, ◌∙◌, subst, subst₂}
 use Rattle.std.proofs.lemmas.List.{with_items_is}
 use Rattle.leases.specs.Forgets.{AreMarkable, Says, earlier_in, needs_in, restarted_by}
 use Rattle.leases.specs.Shown.{engine_in}
 use Rattle.leases.specs.Views.{engine_of}
+use Rattle.leases.specs.declared.state.State.{State}
 use Rattle.leases.proofs.ForgetLemmas.{forgets, forgotten_closed, forgotten_sound}
 use Rattle.leases.proofs.MarkLemmas.{markable}
 use Rattle.leases.proofs.RestartLemmas.{as_many}
@@ -22,11 +23,14 @@ restart-requires-clause-many c =
 
 pub returns-clause-ok : goal.returns-clause-ok
 returns-clause-ok c =
-    ap (λ rs. engine_of c.keep_rows.new.streams rs c.args.self.now.remains.items c.args.self.now.leases.items c.args.self.now.next c.args.self.now.slots)
+    ap engine_in c.count_left.ensures
+    ∙ ap (λ rs. engine_of c.keep_rows.new.streams rs c.args.self.now.remains.items c.args.self.now.leases.items c.args.self.now.next c.args.self.now.slots)
     (with_items_is c.args.self.now.registered c.restart.new.registered (c.restart.auto.registered ∙ ap (λ l. length l) c.deref_mut.ensures.value ∙ sym c.args.self.now.registered.ok.0))
     ∙ forgets c.args.self.now c.keep_rows.new.streams c.restart.new.registered c.in_ok-waiting.waiting.items
     (c.keep_rows.ensures (needs_in (engine_in c.args.self.now)) (subst (λ v. Says (needs_in (engine_in c.args.self.now)) v c.args.self.now.streams) (sym c.deref-2.ensures.value) c.in_ok-kept.ensures))
     (c.restart.ensures ∙ ap₂ (λ x y. restarted_by x y c.in_ok-waiting.waiting.items) c.deref_mut.ensures.value c.deref-3.ensures.value) (c.in_ok-waiting.ensures ∙ ap earlier_in c.deref.ensures.value)
 
 pub returns-clause-sound : goal.returns-clause-sound
-returns-clause-sound c = forgotten_sound c.args.self.now _ c.requires (forgotten_closed c.args.self.now c.requires) (returns-clause-ok c) refl refl refl refl
+returns-clause-sound c =
+    forgotten_sound c.args.self.now _ c.requires (forgotten_closed c.args.self.now c.requires) (returns-clause-ok c)
+    (ap (λ (s : State). s.leases.items) c.count_left.ensures) (ap (λ (s : State). s.next) c.count_left.ensures) (ap (λ (s : State). s.undropped) c.count_left.ensures) (ap (λ (s : State). s.readers.items) c.count_left.ensures)

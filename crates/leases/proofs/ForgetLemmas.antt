@@ -1,5 +1,5 @@
 -- What an engine knows of itself when it has forgotten.
-use Rattle.std.proofs.Common.{◌≡◌, ◌≤◌, ℕ, zero, suc, ◌++◌, Bool, false, cond, Option, Some, None, List, [], ◌∷◌, get_or, map, length, refl, sym, ap, ap₂, ◌∙◌, subst}
+use Rattle.std.proofs.Common.{◌≡◌, ◌≤◌, ℕ, zero, suc, ◌++◌, Bool, false, cond, Option, Some, List, [], ◌∷◌, get_or, map, length, refl, sym, ap, ap₂, ◌∙◌, subst}
 use Rattle.std.specs.Prelude.{slice_get}
 use Rattle.std.specs.List.{AllByRecursion}
 use Rattle.std.specs.Option.{option_to_list}

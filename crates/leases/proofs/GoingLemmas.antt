@@ -31,9 +31,10 @@ pub first_markable : (qs qs2 : List Registration) (ks ks2 : List Remains) (q : R
 first_markable qs qs2 ks ks2 q k a b h = h.1 0 q k (ap (λ l. slice_get l 0) a) (ap (λ l. slice_get l 0) b)
 
 pub later_markable : (qs qs2 : List Registration) (ks ks2 : List Remains) (q : Registration) (k : Remains) → qs ≡ q ∷ qs2 → ks ≡ k ∷ ks2 → AreMarkable qs ks → AreMarkable qs2 ks2
-later_markable qs qs2 ks ks2 q k a b h =
-    (omega (arith, ap (λ l. length l) a, ap (λ l. length l) b, h.0),
-    λ n r m here left. h.1 (suc n) r m (ap (λ l. slice_get l (suc n)) a ∙ here) (ap (λ l. slice_get l (suc n)) b ∙ left))
+later_markable qs qs2 ks ks2 q k a b h = (
+  omega (arith, ap (λ l. length l) a, ap (λ l. length l) b, h.0),
+  λ n r m here left. h.1 (suc n) r m (ap (λ l. slice_get l (suc n)) a ∙ here) (ap (λ l. slice_get l (suc n)) b ∙ left),
+)
 
 module _ (all : List (Registered × ℕ)) where
   -- one that runs

@@ -38,7 +38,8 @@ module _ (s : State) (h : IsSound s) where
   pub markable : AreMarkable s.registered.items s.remains.items
   markable =
       let ms : List Remains = s.remains.items in
-      let qs : List Registration = s.registered.items in
-      (sym (length-map ms remains_of) ∙ h.good.many ∙ length-map qs query_of,
-      λ n q k here left. has_mark n (query_of q) (remains_of k) (slice_get-map query_of qs n ∙ ap (option_map query_of) here)
-          (get_or_from_slice_get (map remains_of ms) n (remains_of k) Dropped (slice_get-map remains_of ms n ∙ ap (option_map remains_of) left)))
+      let qs : List Registration = s.registered.items in (
+        sym (length-map ms remains_of) ∙ h.good.many ∙ length-map qs query_of,
+        λ n q k here left. has_mark n (query_of q) (remains_of k) (slice_get-map query_of qs n ∙ ap (option_map query_of) here)
+            (get_or_from_slice_get (map remains_of ms) n (remains_of k) Dropped (slice_get-map remains_of ms n ∙ ap (option_map remains_of) left)),
+      )

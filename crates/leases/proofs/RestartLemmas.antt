@@ -1,5 +1,5 @@
 -- The queries of the code go on from their marks, one after the other.
-use Rattle.std.proofs.Common.{◌≡◌, ◌<◌, ◌≤◌, ℕ, zero, suc, Option, Some, None, List, [], ◌∷◌, drop, get_or, length, map, set, refl, sym, ap, ◌∙◌, subst, arith}
+use Rattle.std.proofs.Common.{◌≡◌, ◌<◌, ◌≤◌, ℕ, zero, suc, Option, Some, List, [], ◌∷◌, drop, get_or, length, map, set, refl, sym, ap, ◌∙◌, subst, arith}
 use Rattle.std.specs.Prelude.{slice_get}
 use Rattle.std.specs.Option.{option_map}
 use Rattle.std.proofs.lemmas.List.{length-map}
@@ -105,8 +105,8 @@ module _ (old : List Registration) (ks : List Remains) (ws : List (List (ℕ × 
     query_here : (d d2 : Registration) → query_of (get_or now i d) ≡ query_of (get_or old i d2)
     query_here d d2 =
         let is : Some (query_of (get_or now i d)) ≡ Some (query_of (get_or old i d2)) =
-            ap (option_map query_of) (sym (slice_get-get_or now i d registered_more)) ∙ sym (slice_get-map query_of now i) ∙ ap (λ l. slice_get l i) h.first ∙ restarted_here (map query_of old) ms ws i
-            ∙ slice_get-map query_of old i ∙ ap (option_map query_of) (slice_get-get_or old i d2 old_more) in
+        ap (option_map query_of) (sym (slice_get-get_or now i d registered_more)) ∙ sym (slice_get-map query_of now i) ∙ ap (λ l. slice_get l i) h.first ∙ restarted_here (map query_of old) ms ws i
+        ∙ slice_get-map query_of old i ∙ ap (option_map query_of) (slice_get-get_or old i d2 old_more) in
         cc
 
     pub mark_next : (d : Registration) (d2 : Remains) → IsMarkable (query_of (get_or now i d)) (remains_of (get_or ks i d2))

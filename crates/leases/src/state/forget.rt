@@ -25,7 +25,7 @@ use crate::registered::Registration;
 use crate::remains::Remains;
 use crate::state::State;
 use needed_rows::{ClosedRows, Reader, needed};
-use query_runtime::{RunningQuery, WaitingAnswers};
+use query_runtime::WaitingAnswers;
 use std::alloc::{AllocError, Global};
 use std::ops::Deref;
 use stream_store::{Log, Start, Streams};

@@ -38,6 +38,7 @@ mod ForgetLemmas
 mod KeepingLemmas
 mod KeptQueueLemmas
 mod CountedLemmas
+mod AlikeLemmas
 mod LogLemmas
 mod CompactedLemmas
 mod CopiedLemmas

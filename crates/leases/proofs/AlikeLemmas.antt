@@ -1,12 +1,11 @@
 -- No later call tells an engine from what it was before it forgot.
-use Rattle.std.proofs.Common.{◌≡◌, ℕ, zero, suc, Bool, true, ⊎_elim, Some, List, [], ◌∷◌, get_or, map, sym, ap, ◌∙◌, subst}
+use Rattle.std.proofs.Common.{◌≡◌, ℕ, zero, suc, true, ⊎_elim, Some, List, [], ◌∷◌, get_or, map, sym, ap, ◌∙◌, subst}
 use Rattle.std.specs.Prelude.{slice_get, ◌⊎◌}
 use Rattle.reference.specs.Alike.{Alike}
 use Rattle.reference.specs.Machine.{Registered}
 use Rattle.reference.proofs.AlikeLemmas.{world_itself}
 use Rattle.laws_engine.specs.Engines.{Dropped, PlainRemains, world_of}
 use Rattle.laws_engine.specs.Openings.{IsUnbroken, forgotten}
-use Rattle.laws_engine.specs.Promises.{KeepsItsPromises}
 use Rattle.laws_engine.proofs.AlikeLemmas.{forgotten_alike}
 use Rattle.leases.specs.Queues.{LeavesQueues}
 use Rattle.leases.specs.Shown.{engine_in, world_in}

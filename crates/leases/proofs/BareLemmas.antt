@@ -1,5 +1,5 @@
 -- Copies of queries without their earlier answers go on as the queries do.
-use Rattle.std.proofs.Common.{◌≡◌, ℕ, zero, suc, Option, Some, None, List, [], ◌∷◌, drop, get_or, length, map, refl, sym, ap, ap₂, ◌∙◌, subst, arith}
+use Rattle.std.proofs.Common.{◌≡◌, ℕ, zero, suc, Some, None, List, [], ◌∷◌, drop, get_or, length, map, refl, sym, ap, ap₂, ◌∙◌, subst, arith}
 use Rattle.std.specs.Prelude.{slice_get, unwrap_or}
 use Rattle.std.proofs.lemmas.List.{length-map}
 use Rattle.values.specs.Row.{Row}
@@ -51,8 +51,9 @@ pub bare_many : (copies registered : List Registration) → AreBare copies regis
 bare_many copies registered bare = sym (length-map copies query_of) ∙ ap length bare ∙ length-map (map query_of registered) without_earlier ∙ length-map registered query_of
 
 pub copies_markable : (copies registered : List Registration) (remains : List Remains) → AreBare copies registered → AreMarkable registered remains → AreMarkable copies remains
-copies_markable copies registered remains bare h =
-    (h.0 ∙ sym (bare_many copies registered bare),
-    λ n q k here left.
-    let from = copied_from copies registered n q bare here in
-    subst (λ z. IsMarkable z (remains_of k)) (sym from.1.1) (bare_markable (query_of from.0) (remains_of k) (h.1 n from.0 k from.1.0 left)))
+copies_markable copies registered remains bare h = (
+  h.0 ∙ sym (bare_many copies registered bare),
+  λ n q k here left.
+      let from = copied_from copies registered n q bare here in
+      subst (λ z. IsMarkable z (remains_of k)) (sym from.1.1) (bare_markable (query_of from.0) (remains_of k) (h.1 n from.0 k from.1.0 left)),
+)

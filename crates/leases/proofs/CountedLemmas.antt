@@ -1,6 +1,5 @@
 -- What is counted of the rows changes nothing that an engine knows of itself.
-use Rattle.std.proofs.Common.{◌≡◌, ap, subst, sym}
-use Rattle.leases.specs.Shown.{engine_in}
+use Rattle.std.proofs.Common.{◌≡◌, subst, sym}
 use Rattle.leases.specs.Sound.{IsSound}
 use Rattle.leases.specs.declared.state.State.{State}
 

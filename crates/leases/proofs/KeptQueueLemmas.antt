@@ -1,5 +1,5 @@
 -- Forgetting changes no queue.
-use Rattle.std.proofs.Common.{◌≡◌, ℕ, ◌<◌, ◌≤◌, Option, Some, None, List, [], length, map, get_or, ⊎_elim, refl, sym, ap, ◌∙◌, arith}
+use Rattle.std.proofs.Common.{◌≡◌, ℕ, Option, Some, None, List, [], length, map, get_or, ⊎_elim, refl, sym, ap, ◌∙◌, arith}
 use Rattle.std.specs.Option.{option_map, option_map_or}
 use Rattle.std.proofs.lemmas.Bool.{cases_lt}
 use Rattle.std.proofs.lemmas.List.{get_or_past}
@@ -7,11 +7,11 @@ use Rattle.values.specs.Row.{Row}
 use Rattle.column.specs.declared.batch.Side.{Side}
 use Rattle.column.specs.declared.batch.Side.TheVariants.{Left, Right}
 use Rattle.op_queue.specs.Logs.{Closed}
-use Rattle.operators.specs.Operators.{PlainOperator, waiting}
+use Rattle.operators.specs.Operators.{waiting}
 use Rattle.reference.specs.Machine.{Registered}
 use Rattle.reference.specs.Opening.{restart}
 use Rattle.laws_queries.specs.Queries.{PlainQuery, log_at, no_operator, operator_at}
-use Rattle.laws_engine.specs.Engines.{Broken, Dropped, GoodEngine, Goes, PlainEngine, PlainRemains, Running, answers_in, query_at, remains_at}
+use Rattle.laws_engine.specs.Engines.{Broken, Dropped, GoodEngine, PlainEngine, PlainRemains, Running, answers_in, query_at, remains_at}
 use Rattle.laws_engine.specs.Openings.{forgotten, marks_by}
 use Rattle.laws_engine.proofs.ForgottenLemmas.{forgotten_query, forgotten_waits}
 use Rattle.laws_engine.proofs.MarkLemmas.{goes}
@@ -31,9 +31,9 @@ module _ (e : PlainEngine) (g : GoodEngine e) where
   running_left n q p r h k side = ⊎_elim
       (λ l. forgotten_waits e g n q p r h k l side)
       (λ l.
-          let many : length p.operators ≡ length q.nodes = (goes e g n q p r h).runs.runs.many in
-          let none : operator_at p.operators k ≡ no_operator = get_or_past p.operators k no_operator (omega (arith, l, many)) in
-          ap (λ o. waiting o (log_at (forgotten e).machine q k) side) none ∙ nothing (log_at e.machine q k) (log_at (forgotten e).machine q k) side ∙ sym (ap (λ o. waiting o (log_at e.machine q k) side) none))
+      let many : length p.operators ≡ length q.nodes = (goes e g n q p r h).runs.runs.many in
+      let none : operator_at p.operators k ≡ no_operator = get_or_past p.operators k no_operator (omega (arith, l, many)) in
+      ap (λ o. waiting o (log_at (forgotten e).machine q k) side) none ∙ nothing (log_at e.machine q k) (log_at (forgotten e).machine q k) side ∙ sym (ap (λ o. waiting o (log_at e.machine q k) side) none))
       (cases_lt k (length q.nodes))
 
   queue_left : (n : ℕ) (q : Registered) (m : Option ℕ) (w : List (ℕ × Row)) (remains : PlainRemains) → query_at e n ≡ Some q → remains_at e n ≡ remains → (k : ℕ) (side : Side)

@@ -295,7 +295,10 @@ fn keep_rows(streams: &mut Streams, kept: &[KeptRows])
 }
 
 /// By the queries' numbers, copies of the answers that wait.
-pub(crate) fn waiting_of(alloc: Global, remains: &[Remains]) -> Result<Vec<WaitingAnswers>, AllocError>
+pub(crate) fn waiting_of(
+    alloc: Global,
+    remains: &[Remains],
+) -> Result<Vec<WaitingAnswers>, AllocError>
     ensures { IfOk result (λ v. v.items ≡ earlier_in remains.now) }
 {
     let mut waiting = Vec::with_capacity(alloc, remains.len())?;
@@ -307,7 +310,11 @@ pub(crate) fn waiting_of(alloc: Global, remains: &[Remains]) -> Result<Vec<Waiti
 
 /// Each query goes on from the instant after its mark, behind the answers that wait. Takes no
 /// memory.
-pub(crate) fn restart(registered: &mut [Registration], remains: &[Remains], waiting: Vec<WaitingAnswers>)
+pub(crate) fn restart(
+    registered: &mut [Registration],
+    remains: &[Remains],
+    waiting: Vec<WaitingAnswers>,
+)
     requires marks { AreMarkable registered.old remains.now }
     requires many { length waiting.items ≡ length registered.old }
     ensures { map query_of registered.new

@@ -37,11 +37,7 @@ impl State {
 }
 
 /// Copies of the streams, by number, with the rows that are kept.
-fn copies_of(
-    alloc: Global,
-    streams: &Streams,
-    kept: &[KeptRows],
-) -> Result<Vec<Stored>, AllocError>
+fn copies_of(alloc: Global, streams: &Streams, kept: &[KeptRows]) -> Result<Vec<Stored>, AllocError>
     requires { IsSaid kept.now streams.now }
     ensures { IfOk result (λ v. (keep : ℕ → Element → Bool) → Says keep kept.now streams.now
         → v.items ≡ with_kept keep 0 streams.now) }
@@ -72,10 +68,7 @@ fn restarted_copies(
 }
 
 /// Copies of the queries without their earlier answers.
-fn bare_copies(
-    alloc: Global,
-    registered: &[Registration],
-) -> Result<Vec<Registration>, AllocError>
+fn bare_copies(alloc: Global, registered: &[Registration]) -> Result<Vec<Registration>, AllocError>
     ensures { IfOk result (λ v.
         map query_of v.items ≡ map without_earlier (map query_of registered.now)) }
 {

@@ -1,5 +1,5 @@
 -- The rows that stay, the queries as they go on, and that all is sound.
-use Rattle.std.proofs.Common.{◌≡◌, length, sym, ap, ap₂, ◌∙◌, subst, subst₂}
+use Rattle.std.proofs.Common.{length, sym, ap, ap₂, ◌∙◌, subst, subst₂}
 use Rattle.std.proofs.lemmas.List.{with_items_is}
 use Rattle.leases.specs.Forgets.{AreMarkable, Says, earlier_in, needs_in, restarted_by}
 use Rattle.leases.specs.Shown.{engine_in}

@@ -5,12 +5,11 @@ use Rattle.leases.specs.Queues.{LeavesQueues}
 use Rattle.leases.specs.Shown.{engine_in, world_in}
 use Rattle.leases.specs.Whole.{IsWhole}
 use Rattle.leases.proofs.AlikeLemmas.{forgotten_is_alike}
-use Rattle.leases.proofs.KeptQueueLemmas.{forgotten_leaves, leaves_same}
+use Rattle.leases.proofs.KeptQueueLemmas.{forgotten_leaves}
 use Rattle.leases.proofs.engine.answering.EngineAnswering.forget.Goals as goal
 
 pub returns-in_err-forget-clause-promises : goal.returns-in_err-forget-clause-promises
 returns-in_err-forget-clause-promises c = keeps_its_promises _ c.in_err-forget.ensures.sound.good
-
 
 pub returns-clause-alike : goal.returns-clause-alike
 returns-clause-alike c =

@@ -1,5 +1,5 @@
 //! Rows that no query needs any longer.
-ghost use Rattle.std.specs.Prelude.{◌≡◌, IfErr, IfOk, OnErr, OnOk};
+ghost use Rattle.std.specs.Prelude.{◌≡◌, IfErr, IfOk};
 ghost use Rattle.reference.specs.declared.fault.Fault.TheVariants.{OutOfMemory};
 ghost use Rattle.laws_engine.specs.Openings.{forgotten};
 ghost use Rattle.leases.specs.Forgets.{kept_at};
@@ -28,15 +28,6 @@ impl Engine {
         ensures opening { IfOk result (λ o.
             opening_in o ≡ (forgotten (engine_in self.now)).machine) }
         ensures want { IfErr result (λ f. f ≡ OutOfMemory) }
-    {
-        Err(Fault::OutOfMemory)
-    }
-
-    /// STUB of the trait's method, until `Answering` has it.
-    pub fn forget(&mut self) -> Result<(), Fault>
-        ensures err { OnErr result (engine_in self.new ≡ engine_in self.old) }
-        ensures want { IfErr result (λ f. f ≡ OutOfMemory) }
-        ensures forgotten { OnOk result (engine_in self.new ≡ forgotten (engine_in self.old)) }
     {
         Err(Fault::OutOfMemory)
     }

@@ -6,6 +6,7 @@ pub mod Turns
 pub mod Applied
 pub mod Whole
 pub mod Takes
+pub mod Told
 pub mod Drains
 pub mod Looks
 pub mod Registering

@@ -1,5 +1,5 @@
 -- What is kept of a stream, and how the rows that stay are found.
-use Rattle.std.specs.Prelude.{ℕ, ◌≡◌, ◌-◌, ◌<◌, ◌≤◌, ◌×◌, Bool, Option, None, Some, Result, Ok, Err, List, [], ◌∷◌, length, map, slice_get, ⊤}
+use Rattle.std.specs.Prelude.{ℕ, ◌≡◌, ◌-◌, ◌<◌, ◌≤◌, Bool, Option, None, Some, Result, Ok, Err, List, [], ◌∷◌, length, map, slice_get, ⊤}
 use Rattle.std.specs.Option.{option_map_or}
 use Rattle.values.specs.Row.{Row}
 use Rattle.values.specs.Window.{Element}

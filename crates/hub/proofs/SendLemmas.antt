@@ -2,10 +2,10 @@
 use denote.Param.Send.{IsSend, IsSync, sendable, view_send}
 use denote.RattleType.{RattleType}
 use denote.Enum.Declared as E
-use denote.Hole.FixSend.{fix_send, Sends}
+use denote.Hole.FixSend.{fix_send, fix_sync, Sends, Syncs}
 use denote.Hole.Fix.{holes}
 use Rattle.values.specs.declared.resolved.Condition.TheBlock as block
-use denote.Param.SendFields.{declared_send}
+use denote.Param.SendFields.{declared_send, declared_sync}
 use Rattle.std.proofs.Crossing.{crosses, Arc-send}
 use Rattle.std.proofs.MapsCrossing as maps
 use Rattle.values.specs.contracts.Value as value
@@ -215,8 +215,30 @@ plan_node_send = search (sendable, crosses, condition_send) depth 30 fits 100000
 pub plan_send : IsSend plan.the_row
 plan_send = declared_send plan.the_type (search (sendable, crosses, plan_node_send) depth 12 fits 100000, (search (sendable, crosses) depth 20 fits 100000, (search (sendable, crosses) depth 20 fits 100000, (search (sendable, crosses) depth 20 fits 100000, (resolved_send, tt)))))
 
+layer_sync : (h : block.the_members → RattleType) → ((j : block.the_members) → IsSync (h j)) → IsSync (E.row (condition.the_layer h))
+layer_sync h all = search (sendable, crosses, all) depth 30 fits 100000
+
+sync_step : (i : block.the_members) → Syncs condition.the_ring i
+sync_step block.member-Condition = record { sync = λ h all. layer_sync h all }
+
+hole_sync : IsSync (holes condition.the_ring block.member-Condition)
+hole_sync = fix_sync condition.the_ring sync_step block.member-Condition
+
+condition_sync : IsSync condition.the_row
+condition_sync = search (sendable, crosses, hole_sync) depth 30 fits 100000
+
+resolved_sync : IsSync resolved.the_row
+resolved_sync = search (sendable, crosses, condition_sync) depth 30 fits 100000
+
+plan_node_sync : IsSync plan_node.the_row
+plan_node_sync = search (sendable, crosses, condition_sync) depth 30 fits 100000
+
+-- openings share the plans of queries
+plan_sync : IsSync plan.the_row
+plan_sync = declared_sync plan.the_type (search (sendable, crosses, plan_node_sync) depth 12 fits 100000, (search (sendable, crosses) depth 20 fits 100000, (search (sendable, crosses) depth 20 fits 100000, (search (sendable, crosses) depth 20 fits 100000, (resolved_sync, tt)))))
+
 pub registration_send : IsSend registration.the_row
-registration_send = declared_send registration.the_type (search (sendable, crosses, maps.crosses) depth 20 fits 100000, (plan_send, (search (sendable, crosses, slope_send) depth 12 fits 100000, (search (sendable, crosses) depth 20 fits 100000, (search sendable depth 12, (search sendable depth 12, (search sendable depth 12, tt)))))))
+registration_send = declared_send registration.the_type (search (sendable, crosses, maps.crosses) depth 20 fits 100000, (Arc-send _ plan_send plan_sync, (search (sendable, crosses, slope_send) depth 12 fits 100000, (search (sendable, crosses) depth 20 fits 100000, (search sendable depth 12, (search sendable depth 12, (answers_send, (search sendable depth 12, (search sendable depth 12, tt)))))))))
 
 pub remains_send : IsSend remains.the_row
 remains_send = search (sendable, running_send, answers_send) depth 20

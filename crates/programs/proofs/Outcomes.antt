@@ -20,6 +20,7 @@ use Rattle.command_lines.specs.CommandLine.{IsPlain, number_in, run_text}
 use Rattle.wire.specs.Printed.{Answer}
 use Rattle.histories.specs.Histories.{Entry, IsLegal}
 use Rattle.hub.specs.Seats.{IsAudited, PlainSeat, opened}
+use Rattle.hub.specs.Steps.{OpensAt}
 use Rattle.served.specs.Serving as of_seat
 use Rattle.served.specs.Serving.{PoolDrains}
 use Rattle.wire.specs.declared.fault.ScriptFault.{ScriptFault}
@@ -114,10 +115,10 @@ only_seat seats (r ∷ q ∷ qs) seat all split =
 
 -- put back, and compared with the history
 pub is_alone : (opening : Machine) (first : ℕ) (entries : List Entry) (seats rest : List PlainSeat) (count : ℕ) (seat : PlainSeat) → rest ≡ [] → seats ≡ rest ++ seat ∷ [] → count ≡ 1
-    → IsLegal opening entries → IsAudited seats count first entries → IsAlone seat
-is_alone opening first entries seats rest count seat none pushed one legal audited =
+    → IsLegal opening entries → OpensAt first opening → IsAudited seats count first entries → IsAlone seat
+is_alone opening first entries seats rest count seat none pushed one legal opens audited =
     let all : seats ≡ seat ∷ [] = pushed ∙ ap (λ (r : List PlainSeat). r ++ seat ∷ []) none in
-    (opening, first, entries, legal, subst (λ (l : List PlainSeat). IsAudited l 1 first entries) all (subst (λ n. IsAudited seats n first entries) one audited))
+    (opening, first, entries, legal, opens, subst (λ (l : List PlainSeat). IsAudited l 1 first entries) all (subst (λ n. IsAudited seats n first entries) one audited))
 
 some_same : (x y : ℕ) → Some x ≡ Some y → x ≡ y
 some_same x y e = cc

@@ -13,6 +13,7 @@ use Rattle.wire.specs.Printed.{Answer}
 use Rattle.command_lines.specs.CommandLine.{number_or, run_text}
 use Rattle.histories.specs.Histories.{Entry, IsLegal}
 use Rattle.hub.specs.Seats.{IsAudited, PlainSeat, opened}
+use Rattle.hub.specs.Steps.{OpensAt}
 use Rattle.served.specs.Errors.{IsTold, accept_line, bind_line, close_line, memory_line, thread_line}
 use Rattle.served.specs.Serving as of_seat
 
@@ -35,9 +36,11 @@ Leads wanted first now status source old new =
     (status ≡ 0 → Scripts (λ text written. Runs wanted first (requests_of text) written now) source old new)
     × Scripts (λ text written. Stands wanted first (requests_of text) written now) source old new
 
--- The receipts of the only seat are the entries of a legal history, each once and in order, from its opening on; of those before it the numbers are there.
+-- The receipts of the only seat are the entries of a legal history, each once and in order, from its opening on; of those that the opening stands for
+-- the numbers are there. Where it stands for none the history begins with a machine that was told nothing.
 abbrev pub IsAlone : PlainSeat → Type 0
-IsAlone seat = (opening : Machine) × (first : ℕ) × (entries : List Entry) × IsLegal opening entries × IsAudited (seat ∷ []) 1 first entries
+IsAlone seat =
+    (opening : Machine) × (first : ℕ) × (entries : List Entry) × IsLegal opening entries × OpensAt first opening × IsAudited (seat ∷ []) 1 first entries
 
 -- At the status 0 the sink took what the only seat of a hub is answered by steps of it, one line a request, and its receipts
 -- are then a legal history; else it took a beginning of such answers. `drains` says what a drain may be answered.

@@ -1,9 +1,10 @@
 -- One request of a seat.
 use Rattle.std.proofs.Common.{◌≡◌, ◌∙◌, ℕ, List, [], ◌∷◌, ◌++◌, Option, Some, Result, Ok, Err, refl, ap, sym, subst, append_assoc, ◌⊎◌, inl, inr, arith}
-use Rattle.std.specs.Prelude.{◌≤◌, ◌↔◌, IfOk, IfErr, IsErrOf}
+use Rattle.std.specs.Prelude.{◌≤◌, ◌↔◌, ⊤, IfOk, IfErr, IsErrOf}
 use Rattle.std.proofs.lemmas.Bool.{cases_lt}
 use Rattle.histories.specs.Histories.{Told}
 use Rattle.hub.specs.Seats.{PlainSeat}
+use Rattle.hub.specs.Steps as hub
 use Rattle.hub.specs.Steps.{PlainLocked, FindsQuery, FindsStream, Hands, Spurned, Took}
 use Rattle.leases.specs.declared.leased.Leased.{Leased}
 use Rattle.reference.specs.Commands.{Command}
@@ -11,7 +12,7 @@ use Rattle.reference.specs.Replies.{Reply}
 use Rattle.reference.specs.declared.fault.Fault.{Fault}
 use Rattle.reference.specs.declared.fault.Fault.TheVariants.{BadLimit, OutOfMemory, TooManyLeases}
 use Rattle.reference.specs.declared.limits.TheConstants.{MAX_TURN}
-use Rattle.wire.specs.Calls.{Call, declare, register, append, heartbeat, drain, take_rows, discard, show_plan, call_of}
+use Rattle.wire.specs.Calls.{Call, declare, register, append, heartbeat, drain, take_rows, discard, forget, show_plan, call_of}
 use Rattle.wire.specs.Printed.{Answer, done, refused, unread}
 use Rattle.wire.specs.Requests.{Reads}
 use Rattle.wire.specs.Script.{done_of}
@@ -21,7 +22,7 @@ use Rattle.wire.specs.declared.request.WireFault.TheVariants.{NotJson, BadReques
 use Rattle.wire.specs.declared.request.WireFault.TheVariants as in_line
 use Rattle.workers.specs.Lacks.{WasFull}
 use Rattle.workers.specs.declared.pool.TheConstants.{MAX_WORKERS}
-use Rattle.served.specs.Serving.{Carries, CarriesNamed, ClientDrains, IsPool, Keeps, PoolDrains, Replies, Serves, WasAtRest, WasIdle, shown}
+use Rattle.served.specs.Serving.{Carries, CarriesNamed, ClientDrains, Forgets, IsPool, Keeps, PoolDrains, Replies, Serves, WasAtRest, WasIdle, shown}
 
 -- a command whose acceptance is answered `done`
 pub carried : {A : Type 0} (told : A → Told) (reply : A → Reply) (seat seat' : PlainSeat) (command : Command) (r : Result A Fault) (answer : Answer)
@@ -51,6 +52,14 @@ serves_fault R seat NotJson defined is = subst (λ d. Replies R seat d (unread N
 serves_fault R seat BadRequest defined is = subst (λ d. Replies R seat d (unread BadRequest) seat) (sym is) (inl (refl, refl))
 serves_fault R seat LineTooLong defined is = subst (λ d. Replies R seat d (unread LineTooLong) seat) (sym is) (inl (refl, refl))
 serves_fault R seat in_line.OutOfMemory defined is = inr (is, refl, refl)
+
+-- ---- forgetting
+
+-- the hub forgot, or was refused memory for it, and the request is answered so
+pub forgot : (r : Result ⊤ Fault) (answer : Answer) → ((old : PlainLocked) × (new : PlainLocked) × hub.Forgets old r new) → answer ≡ done_of r → Forgets answer
+forgot (Ok u) answer h is =
+    subst Forgets (sym is) (h.0, h.1, record { legal = h.2.legal; ok = h.2.ok; err = h.2.err; want = h.2.want })
+forgot (Err fault) answer h is = subst Forgets (sym is) h
 
 -- ---- drains
 
@@ -124,6 +133,7 @@ keeps_served R seat (append stream more) answer seat' s = keeps_named FindsStrea
 keeps_served R seat (heartbeat stream at) answer seat' s = keeps_named FindsStream stream _ _ seat answer seat' s
 keeps_served R seat drain answer seat' s = keeps_same seat seat' s.1
 keeps_served R seat (take_rows query limit) answer seat' s = keeps_named FindsQuery query _ _ seat answer seat' s
+keeps_served R seat forget answer seat' s = keeps_same seat seat' s.1
 keeps_served R seat (discard query) answer seat' s = keeps_named FindsQuery query _ _ seat answer seat' s
 keeps_served R seat (show_plan query) answer seat' s = keeps_same seat seat' s.1
 

@@ -10,7 +10,7 @@ use Rattle.reference.specs.Commands.{Declare, Heartbeat, Register, Take}
 use Rattle.reference.specs.Replies as replies
 use Rattle.wire.specs.Printed.{answer_of}
 use Rattle.served.specs.Serving.{Carries, CarriesNamed, DrainsBy, number_in}
-use Rattle.served.proofs.Requests.{carried, serves_as}
+use Rattle.served.proofs.Requests.{carried, forgot, serves_as}
 use Rattle.served.proofs.answer.answer.Goals as goal
 
 pub returns-in-Stream : goal.returns-in-Stream
@@ -48,6 +48,11 @@ returns-in-Take g c =
 pub returns-in-Drop : goal.returns-in-Drop
 returns-in-Drop g c =
     serves_as (DrainsBy c.args.drains c.args.rows) c.args.seat.now c.discard.new.seat c.args.request _ (answer_of c.discard.result) c.in-Drop.is (rw c.as_str-in-Drop.ensures.value at c.discard.ensures)
+
+pub returns-in-Forget : goal.returns-in-Forget
+returns-in-Forget g c =
+    serves_as (DrainsBy c.args.drains c.args.rows) c.args.seat.now c.args.seat.now c.args.request _ (answer_of c.done-in-Forget.result) c.in-Forget.is
+    (forgot c.forget.result (answer_of c.done-in-Forget.result) c.forget.ensures c.done-in-Forget.ensures, refl)
 
 pub returns-in-Plan : goal.returns-in-Plan
 returns-in-Plan g c =

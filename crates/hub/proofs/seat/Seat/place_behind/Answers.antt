@@ -29,7 +29,7 @@ returns-then-number-clause-behind c =
     let within : c.args.place < length c.deref.result.now = search rules in
     let item : c.in-Some.receipt.now ≡ get_or c.deref.result.now c.args.place c.in-Some.receipt.now = search rules in
     let some : slice_get c.args.self.now.receipts c.args.place ≡ Some c.in-Some.receipt.now =
-        ap (λ l. slice_get l c.args.place) (sym items) ∙ slice_get_read c.deref.result.now (length c.deref.result.now) c.args.place c.in-Some.receipt.now refl within item in
+    ap (λ l. slice_get l c.args.place) (sym items) ∙ slice_get_read c.deref.result.now (length c.deref.result.now) c.args.place c.in-Some.receipt.now refl within item in
     let told : told_at c.args.number c.args.self.now.receipts ≡ 0 = has_other c.args.number c.args.self.now.receipts rising c.args.place c.requires c.in-Some.receipt.now some (λ e. c.if-number.true (c.number.ensures.value ∙ e)) in
     omega (arith, told)
 
@@ -40,7 +40,7 @@ returns-then-number-clause-once c =
     let within : c.args.place < length c.deref.result.now = search rules in
     let item : c.in-Some.receipt.now ≡ get_or c.deref.result.now c.args.place c.in-Some.receipt.now = search rules in
     let some : slice_get c.args.self.now.receipts c.args.place ≡ Some c.in-Some.receipt.now =
-        ap (λ l. slice_get l c.args.place) (sym items) ∙ slice_get_read c.deref.result.now (length c.deref.result.now) c.args.place c.in-Some.receipt.now refl within item in
+    ap (λ l. slice_get l c.args.place) (sym items) ∙ slice_get_read c.deref.result.now (length c.deref.result.now) c.args.place c.in-Some.receipt.now refl within item in
     let told : told_at c.args.number c.args.self.now.receipts ≡ 0 = has_other c.args.number c.args.self.now.receipts rising c.args.place c.requires c.in-Some.receipt.now some (λ e. c.if-number.true (c.number.ensures.value ∙ e)) in
     omega (arith, told)
 
@@ -51,7 +51,7 @@ returns-clause-behind c =
     let within : c.args.place < length c.deref.result.now = search rules in
     let item : c.in-Some.receipt.now ≡ get_or c.deref.result.now c.args.place c.in-Some.receipt.now = search rules in
     let some : slice_get c.args.self.now.receipts c.args.place ≡ Some c.in-Some.receipt.now =
-        ap (λ l. slice_get l c.args.place) (sym items) ∙ slice_get_read c.deref.result.now (length c.deref.result.now) c.args.place c.in-Some.receipt.now refl within item in
+    ap (λ l. slice_get l c.args.place) (sym items) ∙ slice_get_read c.deref.result.now (length c.deref.result.now) c.args.place c.in-Some.receipt.now refl within item in
     let told : told_at c.args.number c.args.self.now.receipts ≡ 1 = has_it c.args.number c.args.self.now.receipts rising c.args.place c.requires c.in-Some.receipt.now some (sym c.number.ensures.value ∙ c.if-number.false) in
     omega (arith, told)
 
@@ -62,6 +62,6 @@ returns-clause-once c =
     let within : c.args.place < length c.deref.result.now = search rules in
     let item : c.in-Some.receipt.now ≡ get_or c.deref.result.now c.args.place c.in-Some.receipt.now = search rules in
     let some : slice_get c.args.self.now.receipts c.args.place ≡ Some c.in-Some.receipt.now =
-        ap (λ l. slice_get l c.args.place) (sym items) ∙ slice_get_read c.deref.result.now (length c.deref.result.now) c.args.place c.in-Some.receipt.now refl within item in
+    ap (λ l. slice_get l c.args.place) (sym items) ∙ slice_get_read c.deref.result.now (length c.deref.result.now) c.args.place c.in-Some.receipt.now refl within item in
     let told : told_at c.args.number c.args.self.now.receipts ≡ 1 = has_it c.args.number c.args.self.now.receipts rising c.args.place c.requires c.in-Some.receipt.now some (sym c.number.ensures.value ∙ c.if-number.false) in
     omega (arith, told)

@@ -265,13 +265,13 @@ pub undropped_send : IsSend undropped.the_row
 undropped_send = search (sendable, crosses, names_send, row_limit_send) depth 20
 
 pub engine_state_send : IsSend engine_state.the_row
-engine_state_send = declared_send engine_state.the_type (search (sendable, crosses) depth 20, (streams_send, (undropped_send, (search (sendable, crosses, registration_send) depth 12, (search (sendable, crosses, remains_send) depth 12, (search (sendable, crosses, reader_send) depth 12, (search (sendable, crosses, turn_send) depth 12, (search sendable depth 12, (queue_send, tt)))))))))
+engine_state_send = declared_send engine_state.the_type (search (sendable, crosses) depth 20, (streams_send, (undropped_send, (search (sendable, crosses, registration_send) depth 12, (search (sendable, crosses, remains_send) depth 12, (search (sendable, crosses, reader_send) depth 12, (search (sendable, crosses, turn_send) depth 12, (search sendable depth 12, (queue_send, (search sendable depth 12, (search sendable depth 12, tt)))))))))))
 
 pub engine_send : IsSend engine.the_row
 engine_send = view_send engine_inside.the_row _ _ engine.the_view _ (declared_send engine_inside.the_type (engine_state_send, tt))
 
 pub opening_send : IsSend opening.the_row
-opening_send = declared_send opening.the_type (streams_send, (search (sendable, crosses, registration_send) depth 12, tt))
+opening_send = declared_send opening.the_type (search (sendable, crosses, stored_send) depth 12, (search (sendable, crosses, registration_send) depth 12, tt))
 
 pub locked_send : IsSend locked.the_row
 locked_send = view_send locked_inside.the_row _ _ locked.the_view _ (declared_send locked_inside.the_type (search (sendable, crosses) depth 20, (engine_send, (opening_send, (search sendable depth 12, (search (sendable, crosses, entry_send) depth 12, (search sendable depth 12, (search sendable depth 12, (search sendable depth 12, tt)))))))))

@@ -98,7 +98,9 @@ impl Look {
         }
         let mut kept = Vec::new(alloc);
         for stream in 0..STREAMS {
-            kept.push(engine.kept(stream).unwrap_or(0))?;
+            if kept.push(engine.kept(stream).unwrap_or(0)).is_err() {
+                return Err(Fault::OutOfMemory);
+            }
         }
         let out = engine.leases_out();
         Ok(Look { out, kept, queries })

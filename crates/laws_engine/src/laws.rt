@@ -53,10 +53,10 @@ pub fn forgotten_engines_answer_alike()
         → PartlyAlike (goes_on e) e.machine (forgotten e).machine }
 {}
 
-/// Says that after any list of calls on the empty engine, whatever was forgotten and whatever broke,
-/// what waits of a query that runs begins those answers over all that ever came which were not taken
-/// yet, and is all of them where none of its operators may be leased or is. It is as if nothing had
-/// been forgotten: the machine that was told the same accepts the same commands.
+/// Says that after any list of calls on the empty engine, whatever was forgotten and whatever
+/// broke, what waits of a query that runs begins those answers over all that ever came which were
+/// not taken yet, and is all of them where none of its operators may be leased or is. It is as if
+/// nothing had been forgotten: the machine that was told the same accepts the same commands.
 pub fn engines_forget_no_answer()
     ensures { (calls : List Call) (e : PlainEngine) (m : Machine)
         → LeadBoth empty machine.empty calls e m → GivesAsRemembered e m }

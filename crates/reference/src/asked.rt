@@ -21,8 +21,8 @@ use values::Row;
 /// Its caller sees to it that the query is one that is read from a text and that its names resolve,
 /// and gives one list for each source, in the order of From: the rows of its stream, each with its
 /// instant, in the order in which they came. `base` and `upto` are -1 or an instant; nothing is
-/// answered where `upto` is not above `base`. The time is that of evaluating the query twice at each
-/// instant.
+/// answered where `upto` is not above `base`. The time is that of evaluating the query twice at
+/// each instant.
 ///
 /// # Errors
 /// `AllocError` where memory is refused.

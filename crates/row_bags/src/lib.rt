@@ -4,8 +4,8 @@
 //! count of each row: what enters, leaves or is looked up costs a logarithm of the number of rows
 //! that differ. A `Delta` is what entered and what left since it was new, each cut by the other. It
 //! keeps the rows as they came, and sorts them where it is asked. A row that is held takes the room
-//! of the widest that came, rounded up to 2, 4, 8 or `MAX_COLUMNS` values. `DatedRows` are rows with
-//! their instants, as answers wait.
+//! of the widest that came, rounded up to 2, 4, 8 or `MAX_COLUMNS` values. `DatedRows` are rows
+//! with their instants, as answers wait.
 //!
 //! The theory of `proofs/BagLaws.antt` and `proofs/DeltaLaws.antt` says what these lists are of the
 //! bags that signed rows turn into one another.

@@ -235,12 +235,12 @@ impl Streams {
         }
     }
 
-    /// Of the closed rows of the stream of a number, as many as there are marks, those stay at whose
-    /// places in its log the mark is true; of its open rows those that one of the readers has in
-    /// its input. The others leave.
+    /// Of the closed rows of the stream of a number, as many as there are marks, those stay at
+    /// whose places in its log the mark is true; of its open rows those that one of the readers has
+    /// in its input. The others leave.
     ///
-    /// How many rows came, the numbers of those that stay and the first open instant go on. Takes no
-    /// memory; it costs the stream's rows, of the open ones each times the readers.
+    /// How many rows came, the numbers of those that stay and the first open instant go on. Takes
+    /// no memory; it costs the stream's rows, of the open ones each times the readers.
     pub fn keep(&mut self, stream: u64, kept: &[bool], starts: &[Start])
         requires { option_map count_closed (slice_get self.old stream) ≡ Some (length kept.now) }
         ensures { (keep : Element → Bool)

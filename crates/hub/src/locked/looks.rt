@@ -58,10 +58,7 @@ impl Locked {
     }
 
     /// The number of the stream of a name. Takes no memory.
-    #[tactic(
-        auto,
-        unfolding(reference::specs::World::stream_named, crate::specs::Steps::engine_at)
-    )]
+    #[tactic(auto, unfolding(reference::specs::World::stream_named, crate::specs::Steps::engine_at))]
     pub fn stream_named(&self, name: &str) -> Option<u64>
         ensures { FindsStream self.now name.now result }
     {

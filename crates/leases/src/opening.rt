@@ -1,10 +1,12 @@
 //! What is left of a machine when rows are forgotten.
-ghost use Rattle.std.specs.Prelude.{◌≡◌, map};
+ghost use Rattle.std.specs.Prelude.{◌≡◌, MatchOption, None, Some, length, map, slice_get};
+ghost use Rattle.std.specs.Option.{option_map};
 ghost use Rattle.reference.specs.Machine.{empty};
 ghost use Rattle.leases.specs.Openings.{opening_in};
 ghost use Rattle.leases.specs.Views.{query_of};
 
 use crate::registered::Registration;
+use query_runtime::WaitingAnswers;
 use std::alloc::Global;
 use stream_store::Stored;
 
@@ -39,6 +41,50 @@ impl Opening {
         Opening {
             streams,
             registered,
+        }
+    }
+
+    /// Gives the streams by number, each with the rows that are needed. Takes no memory.
+    #[tactic(auto, unfolding(crate::specs::Openings::opening_in))]
+    pub fn streams(&self) -> &[Stored]
+        ensures { result.now ≡ (opening_in self.now).streams }
+    {
+        &self.streams
+    }
+
+    /// Says how many queries were registered. Takes no memory.
+    #[tactic(auto, unfolding(crate::specs::Openings::opening_in))]
+    pub fn queries(&self) -> usize
+        ensures { result ≡ length (opening_in self.now).queries }
+    {
+        self.registered.len()
+    }
+
+    /// Says from which instant on the query of a number goes on: behind its mark, or behind all
+    /// instants where it was broken or dropped. `None` where there is no such query. Takes no
+    /// memory.
+    #[tactic(auto, unfolding(crate::specs::Openings::opening_in))]
+    pub fn next(&self, query: u64) -> Option<u64>
+        ensures { result
+            ≡ option_map (λ q. q.start) (slice_get (opening_in self.now).queries query) }
+    {
+        match self.registered.get(query as usize) {
+            Some(query) => Some(query.start),
+            None => None,
+        }
+    }
+
+    /// Gives the answers of the query of a number that waited. `None` where there is no such query.
+    /// Takes no memory.
+    #[tactic(auto, unfolding(crate::specs::Openings::opening_in))]
+    pub fn waiting(&self, query: u64) -> Option<&WaitingAnswers>
+        ensures { MatchOption result (slice_get (opening_in self.now).queries query ≡ None)
+            (λ answers. option_map (λ q. q.earlier) (slice_get (opening_in self.now).queries query)
+            ≡ Some answers.now) }
+    {
+        match self.registered.get(query as usize) {
+            Some(query) => Some(&query.earlier),
+            None => None,
         }
     }
 }

@@ -21,6 +21,8 @@ after c = record {
   leases = c.push_reserved.new.self;
   next = c.args.self.now.next + 1;
   slots = c.change.new.self;
+  stored = c.args.self.now.stored;
+  left = c.args.self.now.left;
 }
 
 -- what is kept is what goes out

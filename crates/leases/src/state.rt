@@ -43,8 +43,8 @@ pub(crate) struct State {
     next: u64,
     /// The slots of all operators of the queries that run, in the order in which they are leased.
     slots: RunQueue,
-    /// How many rows are stored of all streams, with those that were copied when rows were
-    /// forgotten last, of answers that waited.
+    /// How many rows are stored of all streams, with what was walked over when rows were forgotten
+    /// last: answers that waited, which were copied, and registered queries.
     stored: u64,
     /// How many of these the last forgetting left; where memory was refused, how many it met.
     left: u64,

@@ -74,9 +74,9 @@ impl State {
     }
 
     /// Forgets where more rows are stored than twice those that the last time left, and 1,024. The
-    /// copies of answers that wait count too, so that what all forgettings cost together is in
-    /// proportion to the rows that came and the answers that were given. Where memory is refused,
-    /// the next time is put off as if all had stayed.
+    /// copies of answers that wait and the registered queries count too, so that what all
+    /// forgettings cost together is in proportion to what came and was given. Where memory is
+    /// refused, the next time is put off as if all had stayed.
     pub(crate) fn tidy(&mut self)
         requires { IsSound self.old }
         ensures forgotten { (engine_in self.new ≡ engine_in self.old)
@@ -97,11 +97,12 @@ impl State {
         self.stored = self.stored.saturating_add(rows);
     }
 
-    /// Counts what a forgetting left: the rows of all streams, and the answers that it copied.
+    /// Counts what a forgetting left and walked over: the rows of all streams, the answers that it
+    /// copied, and the queries that were ever registered.
     fn count_left(&mut self)
         ensures { self.new ≡ record self.old { stored = self.new.stored; left = self.new.left } }
     {
-        let mut left = 0u64;
+        let mut left = self.registered.len() as u64;
         for stream in 0..self.streams.len() {
             let rows = self.streams.kept(stream as u64).unwrap_or(0);
             left = left.saturating_add(rows as u64);

@@ -4,7 +4,7 @@ use crate::turns::add_row;
 use reference::{Answering, Fault, Kind, Slope};
 use std::alloc::{AllocError, Global};
 use values::Row;
-use wire::{Request, WireFault, read_request};
+use wire::{Reply, Request, WireFault, answer, read_request};
 
 /// Answers, each with its instant.
 fn shown_answers(alloc: Global, answers: &[(i64, Row)]) -> Result<String, AllocError> {
@@ -113,5 +113,26 @@ pub(crate) fn requested<E: Answering>(
         Ok(request) => served(alloc, engine, &request),
         Err(WireFault::OutOfMemory) => Err(Fault::OutOfMemory),
         Err(_) => Ok(String::from_str(alloc, "no request")?),
+    }
+}
+
+/// The most rows of the turns of a script's drain.
+const ROWS: u32 = 1_024;
+
+/// What a script answers to the request of a line.
+pub(crate) fn asked_of_script<E: Answering>(
+    alloc: Global,
+    engine: &mut E,
+    line: &str,
+) -> Result<String, Fault> {
+    let Ok(request) = read_request(alloc, line.as_bytes()) else {
+        return Ok(String::from_str(alloc, "no request")?);
+    };
+    match answer(engine, &request, ROWS) {
+        Reply::Done => done(alloc),
+        Reply::Rows(rows) => Ok(shown_answers(alloc, &rows)?),
+        Reply::Operators(operators) => Ok(shown_operators(alloc, &operators)?),
+        Reply::Refused(fault) => Err(fault),
+        Reply::Unread(_) => Ok(String::from_str(alloc, "no request")?),
     }
 }

@@ -36,8 +36,11 @@ fn engaged(
     if line.starts_with('{') {
         return calls::requested(alloc, engine, line);
     }
-    match line.strip_prefix("plain ") {
-        Some(request) => calls::requested(alloc, plain, request),
+    if let Some(request) = line.strip_prefix("plain ") {
+        return calls::requested(alloc, plain, request);
+    }
+    match line.strip_prefix("asked ") {
+        Some(request) => calls::asked_of_script(alloc, engine, request),
         None => workers::worked(alloc, engine, kept, line),
     }
 }

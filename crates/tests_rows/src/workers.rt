@@ -121,6 +121,10 @@ pub(crate) fn worked(
             let count = engine.waiting(number(query))?;
             Ok(format!(in alloc; "{count} wait")?)
         }
+        ["tidy"] => {
+            engine.tidy();
+            done(alloc)
+        }
         ["kept", stream] => {
             let count = engine.kept(number(stream))?;
             Ok(format!(in alloc; "{count} are kept")?)

@@ -53,8 +53,8 @@ class Script:
             self.ask(DONE, op="stream", name=name, columns=self.streams[name].columns, **{"from": first})
         for _ in range(self.random.randint(1, 4)):
             self.register()
-        calls = [self.append, self.heartbeat, self.drain, self.take, self.register, self.drop]
-        for call in self.random.choices(calls, [45, 27, 13, 10, 3, 2], k=self.random.randint(5, 40)):
+        calls = [self.append, self.heartbeat, self.drain, self.take, self.register, self.drop, self.forget]
+        for call in self.random.choices(calls, [45, 27, 13, 10, 3, 2, 10], k=self.random.randint(5, 40)):
             call()
         self.drain()
         for number in range(len(self.queries)):
@@ -98,6 +98,10 @@ class Script:
         self.ask(DONE, op="drain")
         for it in self.queries:
             it.drain()
+
+    def forget(self):
+        """Rows that no query needs go, and no later reply is another for it."""
+        self.ask(DONE, op="forget")
 
     def of_some(self, number, reply, **request):
         """Asks for a query, which may have been dropped."""

@@ -129,7 +129,7 @@ stands_failed R first source old forgot seat new before after sink sink' read an
     )
 
 -- nothing more is written
-pub stands_so_far : (R : Answer → Type 0) (first : PlainSeat) (source old : Option (List ℕ)) (forgot : Bool) (seat : PlainSeat) (before sink : Option (List ℕ)) → Progress R first source old seat before sink
+pub stands_so_far : (R : Answer → Type 0) (first : PlainSeat) (source old : Option (List ℕ)) (forgot : Bool) (seat : PlainSeat) (before sink : Option (List ℕ)) → Progress R first source old forgot seat before sink
     → Scripts (λ text written. Stands R first (requests_of text) written seat) source old sink
 stands_so_far R first source old forgot seat before sink p text held is told =
     let q = p text held is told in

@@ -7,7 +7,7 @@ use Rattle.std.proofs.lemmas.Bool.{false≢true}
 use Rattle.clap.specs.Words.{Kinds, Text, HasKind, IsAmong, kind_of}
 use Rattle.clap.specs.declared.error.Error.{Error}
 use Rattle.clap.specs.declared.error.kind.ErrorKind.TheVariants.{DisplayHelp, DisplayVersion, OutOfMemory}
-use Rattle.reference.specs.Machine.{Machine}
+use Rattle.reference.specs.Machine.{Machine, empty}
 use Rattle.reference.specs.World.{World}
 use Rattle.reference.proofs.AlikeLemmas.{world_itself}
 use Rattle.wire.specs.Calls.{Call}
@@ -62,7 +62,7 @@ answers_nothing N w status source old new is same = (
 pub shares_nothing : (drains : Answer → Type 0) (status : ℕ) (source old new : Option (List ℕ)) → status ≡ 3 → new ≡ old → Shares drains status source old new
 shares_nothing drains status source old new is same = (
   λ none. absurd (cc),
-  λ text held is' told. ([], same ∙ told ∙ ap Some (sym (append_nothing held)), (opened 0, ([], requests_of text, [], refl, (refl, refl)))),
+  λ text held is' told. ([], same ∙ told ∙ ap Some (sym (append_nothing held)), (opened 0, ([], requests_of text, [], false, refl, (refl, refl, refl)))),
 )
 
 -- a seat carried out some of the requests, and no status tells that it were all
@@ -76,28 +76,28 @@ shares_some drains status source old new first seat fresh other s = (
 )
 
 -- what a seat carried out stands
-seat_stands : (drains : Answer → Type 0) (source old new : Option (List ℕ)) (first seat : PlainSeat) → Scripts (λ text written. of_seat.Runs drains first (requests_of text) written seat) source old new
+seat_stands : (drains : Answer → Type 0) (source old new : Option (List ℕ)) (first seat : PlainSeat) (forgot : Bool) → Scripts (λ text written. of_seat.Runs drains first (requests_of text) written forgot seat) source old new
     → Scripts (λ text written. of_seat.Stands drains first (requests_of text) written seat) source old new
-seat_stands drains source old new first seat s text held is told =
+seat_stands drains source old new first seat forgot s text held is told =
     let r = s text held is told in
-    let run = subst (λ t. of_seat.Runs drains first (requests_of text) t seat) (sym (append_nothing r.0)) r.2 in
-    (r.0, r.1, (requests_of text, [], [], sym (append_none (requests_of text)), run))
+    let run = subst (λ t. of_seat.Runs drains first (requests_of text) t forgot seat) (sym (append_nothing r.0)) r.2 in
+    (r.0, r.1, (requests_of text, [], [], forgot, sym (append_none (requests_of text)), run))
 
 -- a seat carried out all requests, and a status tells nothing of it
-pub shares_differing : (drains : Answer → Type 0) (status : ℕ) (source old new : Option (List ℕ)) (first seat : PlainSeat) → first ≡ opened 0 → status ≢ 0
-    → Scripts (λ text written. of_seat.Runs drains first (requests_of text) written seat) source old new → Shares drains status source old new
-shares_differing drains status source old new first seat fresh other s =
-    shares_some drains status source old new first seat fresh other (seat_stands drains source old new first seat s)
+pub shares_differing : (drains : Answer → Type 0) (status : ℕ) (source old new : Option (List ℕ)) (first seat : PlainSeat) (forgot : Bool) → first ≡ opened 0 → status ≢ 0
+    → Scripts (λ text written. of_seat.Runs drains first (requests_of text) written forgot seat) source old new → Shares drains status source old new
+shares_differing drains status source old new first seat forgot fresh other s =
+    shares_some drains status source old new first seat fresh other (seat_stands drains source old new first seat forgot s)
 
 -- a seat carried out all requests, and its receipts are a legal history
-pub shares_all : (drains : Answer → Type 0) (status : ℕ) (source old new : Option (List ℕ)) (first seat : PlainSeat) → first ≡ opened 0 → IsAlone seat
-    → Scripts (λ text written. of_seat.Runs drains first (requests_of text) written seat) source old new → Shares drains status source old new
-shares_all drains status source old new first seat fresh alone s = (
+pub shares_all : (drains : Answer → Type 0) (status : ℕ) (source old new : Option (List ℕ)) (first seat : PlainSeat) (forgot : Bool) → first ≡ opened 0 → IsAlone forgot seat
+    → Scripts (λ text written. of_seat.Runs drains first (requests_of text) written forgot seat) source old new → Shares drains status source old new
+shares_all drains status source old new first seat forgot fresh alone s = (
   λ none text held is told.
       let r = s text held is told in
-      (r.0, r.1, (seat, subst (λ (f : PlainSeat). of_seat.Runs drains f (requests_of text) r.0 seat) fresh r.2, alone)),
+      (r.0, r.1, (seat, forgot, subst (λ (f : PlainSeat). of_seat.Runs drains f (requests_of text) r.0 forgot seat) fresh r.2, alone)),
   λ text held is told.
-      let r = seat_stands drains source old new first seat s text held is told in
+      let r = seat_stands drains source old new first seat forgot s text held is told in
       (r.0, r.1, (seat, subst (λ (f : PlainSeat). of_seat.Stands drains f (requests_of text) r.0 seat) fresh r.2)),
 )
 
@@ -113,12 +113,20 @@ only_seat seats (r ∷ q ∷ qs) seat all split =
     let more : r ∷ q ∷ (qs ++ seat ∷ []) ≡ opened 0 ∷ [] = sym split ∙ all in
     absurd (cc)
 
+-- where no request forgot, the history that was given is whole
+alone_as : (forgot : Bool) (opening : Machine) (first : ℕ) (entries : List Entry) (seat : PlainSeat) → (forgot ≡ false → first ≡ 0)
+    → IsLegal opening entries → OpensAt first opening → IsAudited (seat ∷ []) 1 first entries → IsAlone forgot seat
+alone_as true opening first entries seat none legal opens audited = (opening, first, entries, legal, opens, audited)
+alone_as false opening first entries seat none legal opens audited =
+    let nought = none refl in
+    (entries, subst (λ (m : Machine). IsLegal m entries) (opens.nought nought) legal, subst (λ n. IsAudited (seat ∷ []) 1 n entries) nought audited)
+
 -- put back, and compared with the history
-pub is_alone : (opening : Machine) (first : ℕ) (entries : List Entry) (seats rest : List PlainSeat) (count : ℕ) (seat : PlainSeat) → rest ≡ [] → seats ≡ rest ++ seat ∷ [] → count ≡ 1
-    → IsLegal opening entries → OpensAt first opening → IsAudited seats count first entries → IsAlone seat
-is_alone opening first entries seats rest count seat none pushed one legal opens audited =
-    let all : seats ≡ seat ∷ [] = pushed ∙ ap (λ (r : List PlainSeat). r ++ seat ∷ []) none in
-    (opening, first, entries, legal, opens, subst (λ (l : List PlainSeat). IsAudited l 1 first entries) all (subst (λ n. IsAudited seats n first entries) one audited))
+pub is_alone : (forgot : Bool) (opening : Machine) (first : ℕ) (entries : List Entry) (seats rest : List PlainSeat) (count : ℕ) (seat : PlainSeat) → rest ≡ [] → seats ≡ rest ++ seat ∷ [] → count ≡ 1
+    → (forgot ≡ false → first ≡ 0) → IsLegal opening entries → OpensAt first opening → IsAudited seats count first entries → IsAlone forgot seat
+is_alone forgot opening first entries seats rest count seat empty_rest pushed one none legal opens audited =
+    let all : seats ≡ seat ∷ [] = pushed ∙ ap (λ (r : List PlainSeat). r ++ seat ∷ []) empty_rest in
+    alone_as forgot opening first entries seat none legal opens (subst (λ (l : List PlainSeat). IsAudited l 1 first entries) all (subst (λ n. IsAudited seats n first entries) one audited))
 
 some_same : (x y : ℕ) → Some x ≡ Some y → x ≡ y
 some_same x y e = cc

@@ -1,8 +1,8 @@
 -- What the programs do.
-use Rattle.std.specs.Prelude.{◌≡◌, ◌≢◌, ℕ, List, [], ◌∷◌, Option, None, ◌⊎◌, codes}
+use Rattle.std.specs.Prelude.{◌≡◌, ◌≢◌, ℕ, Bool, true, false, List, [], ◌∷◌, Option, None, ◌⊎◌, codes}
 use Rattle.clap.specs.Words.{Kinds, IsAmong, Text}
 use Rattle.clap.specs.declared.error.kind.ErrorKind.TheVariants.{DisplayHelp, DisplayVersion}
-use Rattle.reference.specs.Machine.{Machine}
+use Rattle.reference.specs.Machine.{Machine, empty}
 use Rattle.reference.specs.World.{World}
 use Rattle.wire.specs.Devices.{Rises}
 use Rattle.wire.specs.Requests.{requests_of}
@@ -36,17 +36,27 @@ Leads wanted first now status source old new =
     (status ≡ 0 → Scripts (λ text written. Runs wanted first (requests_of text) written now) source old new)
     × Scripts (λ text written. Stands wanted first (requests_of text) written now) source old new
 
--- The receipts of the only seat are the entries of a legal history, each once and in order, from its opening on; of those that the opening stands for
--- the numbers are there. Where it stands for none the history begins with a machine that was told nothing.
-abbrev pub IsAlone : PlainSeat → Type 0
-IsAlone seat =
+-- All receipts of the only seat are the entries of a legal history, each once and in order, from a machine that was told nothing.
+abbrev pub IsWhole : PlainSeat → Type 0
+IsWhole seat = (entries : List Entry) × IsLegal empty entries × IsAudited (seat ∷ []) 1 0 entries
+
+-- Those from an opening on are the entries of a legal history, each once and in order; of those that the opening stands for the numbers are there.
+-- Where it stands for none it is of a machine that was told nothing.
+abbrev pub IsSince : PlainSeat → Type 0
+IsSince seat =
     (opening : Machine) × (first : ℕ) × (entries : List Entry) × IsLegal opening entries × OpensAt first opening × IsAudited (seat ∷ []) 1 first entries
 
--- At the status 0 the sink took what the only seat of a hub is answered by steps of it, one line a request, and its receipts
--- are then a legal history; else it took a beginning of such answers. `drains` says what a drain may be answered.
+-- What the receipts of the only seat are, by whether a request to forget was answered `done`.
+abbrev pub IsAlone : Bool → PlainSeat → Type 0
+IsAlone false seat = IsWhole seat
+IsAlone true seat = IsSince seat
+
+-- At the status 0 the sink took what the only seat of a hub is answered by steps of it, one line a request, and where none of
+-- them forgot, all its receipts are then a legal history, and else those from an opening on; at another status it took a
+-- beginning of such answers. `drains` says what a drain may be answered.
 abbrev pub Shares : (Answer → Type 0) → ℕ → Option (List ℕ) → Option (List ℕ) → Option (List ℕ) → Type 0
 Shares drains status source old new =
-    (status ≡ 0 → Scripts (λ text written. (seat : PlainSeat) × of_seat.Runs drains (opened 0) (requests_of text) written seat × IsAlone seat) source old new)
+    (status ≡ 0 → Scripts (λ text written. (seat : PlainSeat) × (forgot : Bool) × of_seat.Runs drains (opened 0) (requests_of text) written forgot seat × IsAlone forgot seat) source old new)
     × Scripts (λ text written. (seat : PlainSeat) × of_seat.Stands drains (opened 0) (requests_of text) written seat) source old new
 
 -- the words ask for workers

@@ -165,8 +165,9 @@ fn refuse_both<E: Sink>(errors: &mut E) -> u8
 /// is promised up to the first drain that is answered so: whether there were none is said by
 /// `run_over`, where the engine can be seen. With workers the text is that of the steps of a hub's
 /// seat: each reply is that of one step, and what lies between two steps is not said. At the
-/// status 0 the seat's receipts are the entries of a legal history, and of those that its opening
-/// stands for the numbers alone; where they differ it is 1.
+/// status 0 the seat's receipts are the entries of a legal history, all of them unless a request to
+/// forget was answered `ok`; else those from an opening on, and of the others the numbers alone.
+/// Where they differ it is 1.
 pub fn run<'a, R: Threads + Wait + Sync, S: AsStr, I: Source, O: Sink, E: Sink>(
     rt: &R,
     alloc: Global,

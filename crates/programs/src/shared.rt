@@ -1,5 +1,5 @@
 //! Scripts over a hub of one seat.
-ghost use Rattle.std.specs.Prelude.{◌≡◌, ◌≢◌, ◌⊎◌};
+ghost use Rattle.std.specs.Prelude.{◌≡◌, ◌≢◌, ◌⊎◌, false, true};
 ghost use Rattle.reference.specs.World.{IsTurnSize};
 ghost use Rattle.served.specs.Errors.{IsTold};
 ghost use Rattle.served.specs.Serving.{PoolDrains};
@@ -15,7 +15,7 @@ use wire::{ScriptFault, Sink, Source};
 
 /// Answers the lines of the source over a hub that has been told nothing. A pool of so many workers
 /// runs each drain, by turns of at most `turn` rows. At the end the hub is closed, which compares
-/// the seat's receipts with the history.
+/// the seat's receipts with the history: all of them, unless a request to forget was answered `ok`.
 pub(crate) fn run_shared<R: Threads + Wait + Sync, I: Source, O: Sink, E: Sink>(
     rt: &R,
     alloc: Global,
@@ -56,12 +56,26 @@ pub(crate) fn run_shared<R: Threads + Wait + Sync, I: Source, O: Sink, E: Sink>(
         workers as u64,
         turn,
     );
-    if let Err(fault) = ran {
-        return fail(errors, &fault);
-    }
+    let forgot = match ran {
+        Ok(forgot) => forgot,
+        Err(fault) => return fail(errors, &fault),
+    };
     seats.push_reserved(seat);
     match hub.close(seats) {
-        Ok(_) => 0,
+        Ok(closed) => {
+            if is_whole(forgot, closed.first) {
+                0
+            } else {
+                differ(errors)
+            }
+        }
         Err(_) => differ(errors),
     }
+}
+
+// Whether no entry is lost that no request to forget gave up.
+fn is_whole(forgot: bool, first: u64) -> bool
+    ensures { result ≡ true → forgot ≡ false → first ≡ 0 }
+{
+    forgot || first == 0
 }

@@ -1,5 +1,5 @@
 -- One request of a seat.
-use Rattle.std.proofs.Common.{◌≡◌, ◌∙◌, ℕ, List, [], ◌∷◌, ◌++◌, Option, Some, Result, Ok, Err, refl, ap, sym, subst, append_assoc, ◌⊎◌, inl, inr, arith}
+use Rattle.std.proofs.Common.{◌≡◌, ◌∙◌, ℕ, Bool, true, false, ◌&&◌, List, [], ◌∷◌, ◌++◌, Option, Some, Result, Ok, Err, refl, ap, sym, subst, append_assoc, ◌⊎◌, inl, inr, arith}
 use Rattle.std.specs.Prelude.{◌≤◌, ◌↔◌, ⊤, IfOk, IfErr, IsErrOf}
 use Rattle.std.proofs.lemmas.Bool.{cases_lt}
 use Rattle.histories.specs.Histories.{Told}
@@ -22,7 +22,7 @@ use Rattle.wire.specs.declared.request.WireFault.TheVariants.{NotJson, BadReques
 use Rattle.wire.specs.declared.request.WireFault.TheVariants as in_line
 use Rattle.workers.specs.Lacks.{WasFull}
 use Rattle.workers.specs.declared.pool.TheConstants.{MAX_WORKERS}
-use Rattle.served.specs.Serving.{Carries, CarriesNamed, ClientDrains, Forgets, IsPool, Keeps, PoolDrains, Replies, Serves, WasAtRest, WasIdle, shown}
+use Rattle.served.specs.Serving.{Carries, CarriesNamed, ClientDrains, Forgets, IsPool, Keeps, PoolDrains, Replies, Serves, WasAtRest, WasIdle, asks_forget, forgets, is_done, shown}
 
 -- a command whose acceptance is answered `done`
 pub carried : {A : Type 0} (told : A → Told) (reply : A → Reply) (seat seat' : PlainSeat) (command : Command) (r : Result A Fault) (answer : Answer)
@@ -166,3 +166,19 @@ asked_of (Err in_line.OutOfMemory) = (Err NotJson, λ e. cc)
 pub keeps_read : (R : Answer → Type 0) (seat : PlainSeat) (read : Result Request WireFault) (answer : Answer) (seat' : PlainSeat)
     → ((defined : Result Call WireFault) → Reads defined read → Replies R seat defined answer seat') → Keeps seat seat'
 keeps_read R seat read answer seat' replied = let a = asked_of read in keeps_replied R seat a.0 answer seat' (replied a.0 a.1)
+
+-- ---- whether the hub forgot
+
+-- a request that was read forgets as its call does
+pub forgets_as : (request : Request) (answer : Answer) (asks does told : Bool) (defined : Result Call WireFault)
+    → asks ≡ asks_forget (Ok (call_of request)) → does ≡ is_done answer → told ≡ (asks && does) → defined ≡ Ok (call_of request) → told ≡ forgets defined answer
+forgets_as request answer asks does told defined is so tells read =
+    tells ∙ ap (λ b. b && does) is ∙ ap (λ b. asks_forget (Ok (call_of request)) && b) so ∙ sym (ap (λ d. forgets d answer) read)
+
+-- for a line that is no request no hub forgets
+pub forgets_none : (fault : WireFault) (defined : Result Call WireFault) → false ≡ forgets defined (unread fault)
+forgets_none fault defined = sym (and_none (asks_forget defined))
+  where
+    and_none : (b : Bool) → (b && false) ≡ false
+    and_none true = refl
+    and_none false = refl

@@ -1,5 +1,5 @@
 -- What a seat of a hub answers the requests of a script, while other seats call as well.
-use Rattle.std.specs.Prelude.{◌≡◌, ◌≢◌, ◌≤◌, ℕ, ℤ, pos, List, [], ◌∷◌, ◌++◌, Option, Some, None, Result, Ok, Err, ◌⊎◌, ⊤}
+use Rattle.std.specs.Prelude.{◌≡◌, ◌≢◌, ◌≤◌, ℕ, ℤ, pos, Bool, true, false, ◌&&◌, ◌||◌, List, [], ◌∷◌, ◌++◌, Option, Some, None, Result, Ok, Err, ◌⊎◌, ⊤}
 use Rattle.envelope.specs.Fraction.{Fraction}
 use Rattle.histories.specs.Histories.{Told}
 use Rattle.hub.specs.Seats.{PlainSeat}
@@ -138,20 +138,37 @@ LacksMemory seat request answer seat' = (request ≢ Err in_line.LineTooLong) ×
 abbrev pub Replies : (Answer → Type 0) → PlainSeat → Result Call WireFault → Answer → PlainSeat → Type 0
 Replies drains seat request answer seat' = IsServed drains seat request answer seat' ⊎ LacksMemory seat request answer seat'
 
+-- ---- whether the hub forgot
+
+-- the request is to forget
+abbrev pub asks_forget : Result Call WireFault → Bool
+asks_forget (Ok forget) = true
+asks_forget request = false
+
+-- the call was accepted, and nothing is handed out
+abbrev pub is_done : Answer → Bool
+is_done done = true
+is_done answer = false
+
+-- the request is to forget, and was answered `done`
+abbrev pub forgets : Result Call WireFault → Answer → Bool
+forgets request answer = asks_forget request && is_done answer
+
 -- ---- all requests
 
--- THE REQUESTS were answered by this text, one line a request, and left this seat
-abbrev pub Runs : (Answer → Type 0) → PlainSeat → List (Result Call WireFault) → List ℕ → PlainSeat → Type 0
-Runs drains seat [] written seat' = (written ≡ []) × (seat' ≡ seat)
-Runs drains seat (request ∷ more) written seat' =
-    (answer : Answer) × (mid : PlainSeat) × (rest : List ℕ) × (written ≡ line_of answer ++ rest) × Replies drains seat request answer mid
-    × Runs drains mid more rest seat'
+-- THE REQUESTS were answered by this text, one line a request, and left this seat; `forgot` is true just where one of them was to forget, and was
+-- answered `done`
+abbrev pub Runs : (Answer → Type 0) → PlainSeat → List (Result Call WireFault) → List ℕ → Bool → PlainSeat → Type 0
+Runs drains seat [] written forgot seat' = (written ≡ []) × (forgot ≡ false) × (seat' ≡ seat)
+Runs drains seat (request ∷ more) written forgot seat' =
+    (answer : Answer) × (mid : PlainSeat) × (rest : List ℕ) × (later : Bool) × (written ≡ line_of answer ++ rest)
+    × (forgot ≡ (forgets request answer || later)) × Replies drains seat request answer mid × Runs drains mid more rest later seat'
 
 -- the first of these requests were carried out, and stand: the written text begins what they are answered
 abbrev pub Stands : (Answer → Type 0) → PlainSeat → List (Result Call WireFault) → List ℕ → PlainSeat → Type 0
 Stands drains seat requests written seat' =
-    (carried : List (Result Call WireFault)) × (rest : List (Result Call WireFault)) × (more : List ℕ)
-    × (requests ≡ carried ++ rest) × Runs drains seat carried (written ++ more) seat'
+    (carried : List (Result Call WireFault)) × (rest : List (Result Call WireFault)) × (more : List ℕ) × (forgot : Bool)
+    × (requests ≡ carried ++ rest) × Runs drains seat carried (written ++ more) forgot seat'
 
 -- only more receipts are in the seat
 abbrev pub Keeps : PlainSeat → PlainSeat → Type 0

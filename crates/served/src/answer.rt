@@ -1,5 +1,5 @@
 //! One request.
-ghost use Rattle.std.specs.Prelude.{◌≡◌, ◌⊎◌, IfErr, OnOk, Result};
+ghost use Rattle.std.specs.Prelude.{◌≡◌, ◌⊎◌, IfErr, Ok, OnOk, Result};
 ghost use Rattle.hub.specs.Steps.{FindsQuery, FindsStream};
 ghost use Rattle.reference.specs.Commands.{Append, Drop, Heartbeat, Take};
 ghost use Rattle.reference.specs.declared.fault.Fault.TheVariants.{OutOfMemory, TooManyLeases};
@@ -12,7 +12,8 @@ ghost use Rattle.wire.specs.Script.{done_of};
 ghost use Rattle.wire.specs.declared.request.WireFault.{WireFault};
 ghost use Rattle.workers.specs.Lacks.{WasFull};
 ghost use Rattle.served.specs.Serving.{CarriesNamed, ClientDrains, DrainsBy, LooksNamed};
-ghost use Rattle.served.specs.Serving.{PoolDrains, Replies, Serves, WasIdle, number_in};
+ghost use Rattle.served.specs.Serving.{PoolDrains, Replies, Serves, WasIdle, asks_forget, forgets};
+ghost use Rattle.served.specs.Serving.{is_done, number_in};
 
 use hub::{Hub, Seat};
 use leases::Leased;
@@ -32,7 +33,7 @@ pub(crate) enum Drains {
     Client,
 }
 
-/// Answers what was read of a line.
+/// Answers what was read of a line, and tells whether the hub forgot for it.
 pub(crate) fn answer_line<R: Threads + Wait + Sync>(
     rt: &R,
     alloc: Global,
@@ -41,15 +42,34 @@ pub(crate) fn answer_line<R: Threads + Wait + Sync>(
     read: Result<Request, WireFault>,
     drains: Drains,
     rows: u32,
-) -> Reply
+) -> (Reply, bool)
     requires rows { IsTurnSize rows }
-    ensures { (defined : Result Call WireFault) → Reads defined read
-        → Replies (DrainsBy drains rows) seat.old defined (answer_of result) seat.new }
+    ensures reply { (defined : Result Call WireFault) → Reads defined read
+        → Replies (DrainsBy drains rows) seat.old defined (answer_of result.0) seat.new }
+    ensures forgets { (defined : Result Call WireFault) → Reads defined read
+        → result.1 ≡ forgets defined (answer_of result.0) }
 {
     match read {
-        Ok(request) => answer(rt, alloc, hub, seat, request, drains, rows),
-        Err(fault) => Reply::Unread(fault),
+        Ok(request) => {
+            let asks = asks_forget(&request);
+            let reply = answer(rt, alloc, hub, seat, request, drains, rows);
+            let is_done = is_done(&reply);
+            (reply, asks && is_done)
+        }
+        Err(fault) => (Reply::Unread(fault), false),
     }
+}
+
+fn asks_forget(request: &Request) -> bool
+    ensures { result ≡ asks_forget (Ok (call_of request.now)) }
+{
+    matches!(request, Request::Forget)
+}
+
+fn is_done(reply: &Reply) -> bool
+    ensures { result ≡ is_done (answer_of reply.now) }
+{
+    matches!(reply, Reply::Done)
 }
 
 fn answer<R: Threads + Wait + Sync>(

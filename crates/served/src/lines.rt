@@ -1,5 +1,5 @@
 //! The lines of a source.
-ghost use Rattle.std.specs.Prelude.{◌≡◌, IfErr, OnErr, OnOk, Result};
+ghost use Rattle.std.specs.Prelude.{◌≡◌, IfErr, IfOk, OnErr, OnOk, Result};
 ghost use Rattle.reference.specs.World.{IsTurnSize};
 ghost use Rattle.wire.specs.Calls.{Call};
 ghost use Rattle.wire.specs.Devices.{Puts, Rises};
@@ -8,7 +8,7 @@ ghost use Rattle.wire.specs.Requests.{Reads, requests_of};
 ghost use Rattle.wire.specs.Script.{Scripts};
 ghost use Rattle.wire.specs.declared.request.WireFault.{WireFault};
 ghost use Rattle.served.specs.Serving.{ClientDrains, DrainsBy, Keeps, PoolDrains, Replies, Runs};
-ghost use Rattle.served.specs.Serving.{Stands};
+ghost use Rattle.served.specs.Serving.{Stands, forgets};
 
 use crate::answer::{Drains, answer_line};
 use hub::{Hub, Seat};
@@ -17,10 +17,10 @@ use std::sync::Wait;
 use std::thread::Threads;
 use wire::{Lines, Request, ScriptFault, Sink, Source, WireFault, next_request, write_reply};
 
-/// Answers each request of the source by one line, up to the end of the source. A drain is run by a
-/// pool of so many workers, by turns of at most `rows` rows, 1 to 1,024, until there is a moment
-/// when no operator may take anything and no turn is out. Where workers are not 1 to 64, each drain
-/// is answered `E14`.
+/// Answers each request of the source by one line, up to the end of the source, and tells whether
+/// one of them was to forget and was answered `ok`. A drain is run by a pool of so many workers, by
+/// turns of at most `rows` rows, 1 to 1,024, until there is a moment when no operator may take
+/// anything and no turn is out. Where workers are not 1 to 64, each drain is answered `E14`.
 ///
 /// Each accepted command is a step of the hub: its reply is that of the receipt which the seat then
 /// has. What is known of a reply is what is known of such a step: other seats may call between two.
@@ -37,10 +37,10 @@ pub fn run_hub<R: Threads + Wait + Sync, S: Source, K: Sink>(
     seat: &mut Seat,
     workers: u64,
     rows: u32,
-) -> Result<(), ScriptFault>
+) -> Result<bool, ScriptFault>
     requires rows { IsTurnSize rows }
-    ensures text { OnOk result (Scripts (λ text written. Runs (PoolDrains workers rows) seat.old
-        (requests_of text) written seat.new)
+    ensures text { IfOk result (λ forgot. Scripts (λ text written. Runs (PoolDrains workers rows)
+        seat.old (requests_of text) written forgot seat.new)
         (S.left source.old) (K.taken sink.old) (K.taken sink.new)) }
     ensures stands { OnErr result (Scripts (λ text written. Stands (PoolDrains workers rows)
         seat.old (requests_of text) written seat.new)
@@ -61,9 +61,10 @@ pub fn run_hub<R: Threads + Wait + Sync, S: Source, K: Sink>(
     run_lines(rt, alloc, source, sink, hub, seat, drains, rows)
 }
 
-/// Answers one connection until its input ends or a device fails. A drain is run by this thread, by
-/// turns of at most `rows` rows, 1 to 1,024, until there is a moment when no operator may take
-/// anything. Turns of other threads may still be out then.
+/// Answers one connection until its input ends or a device fails, and tells whether one of its
+/// requests was to forget and was answered `ok`. A drain is run by this thread, by turns of at most
+/// `rows` rows, 1 to 1,024, until there is a moment when no operator may take anything. Turns of
+/// other threads may still be out then.
 ///
 /// # Errors
 /// As of `run_hub`.
@@ -75,10 +76,10 @@ pub fn serve_connection<R: Threads + Wait + Sync, S: Source, K: Sink>(
     hub: &Hub,
     seat: &mut Seat,
     rows: u32,
-) -> Result<(), ScriptFault>
+) -> Result<bool, ScriptFault>
     requires rows { IsTurnSize rows }
-    ensures text { OnOk result (Scripts (λ text written. Runs (ClientDrains rows) seat.old
-        (requests_of text) written seat.new)
+    ensures text { IfOk result (λ forgot. Scripts (λ text written. Runs (ClientDrains rows)
+        seat.old (requests_of text) written forgot seat.new)
         (S.left source.old) (K.taken sink.old) (K.taken sink.new)) }
     ensures stands { OnErr result (Scripts (λ text written. Stands (ClientDrains rows) seat.old
         (requests_of text) written seat.new)
@@ -99,7 +100,7 @@ pub fn serve_connection<R: Threads + Wait + Sync, S: Source, K: Sink>(
     run_lines(rt, alloc, source, sink, hub, seat, drains, rows)
 }
 
-// Answers what was read of a line by one line.
+// Answers what was read of a line by one line, and tells whether the hub forgot for it.
 fn respond<R: Threads + Wait + Sync, K: Sink>(
     rt: &R,
     alloc: Global,
@@ -109,18 +110,20 @@ fn respond<R: Threads + Wait + Sync, K: Sink>(
     read: Result<Request, WireFault>,
     drains: Drains,
     rows: u32,
-) -> Result<(), ScriptFault>
+) -> (bool, Result<(), ScriptFault>)
     requires rows { IsTurnSize rows }
     ensures written { (answer : Answer)
         × ((defined : Result Call WireFault) → Reads defined read
         → Replies (DrainsBy drains rows) seat.old defined answer seat.new)
+        × ((defined : Result Call WireFault) → Reads defined read
+        → result.0 ≡ forgets defined answer)
         × Puts (K.taken sink.old) (K.taken sink.new) (K.failures sink.old)
-        (K.failures sink.new) result (line_of answer) }
+        (K.failures sink.new) result.1 (line_of answer) }
     ensures seat { Keeps seat.old seat.new }
-    ensures fault { IfErr result (λ e. e ≡ ScriptFault.Write) }
+    ensures fault { IfErr result.1 (λ e. e ≡ ScriptFault.Write) }
 {
-    let reply = answer_line(rt, alloc, hub, seat, read, drains, rows);
-    write_reply(sink, &reply)
+    let (reply, forgets) = answer_line(rt, alloc, hub, seat, read, drains, rows);
+    (forgets, write_reply(sink, &reply))
 }
 
 fn run_lines<R: Threads + Wait + Sync, S: Source, K: Sink>(
@@ -132,10 +135,10 @@ fn run_lines<R: Threads + Wait + Sync, S: Source, K: Sink>(
     seat: &mut Seat,
     drains: Drains,
     rows: u32,
-) -> Result<(), ScriptFault>
+) -> Result<bool, ScriptFault>
     requires rows { IsTurnSize rows }
-    ensures text { OnOk result (Scripts (λ text written. Runs (DrainsBy drains rows) seat.old
-        (requests_of text) written seat.new)
+    ensures text { IfOk result (λ forgot. Scripts (λ text written. Runs (DrainsBy drains rows)
+        seat.old (requests_of text) written forgot seat.new)
         (S.left source.old) (K.taken sink.old) (K.taken sink.new)) }
     ensures stands { OnErr result (Scripts (λ text written. Stands (DrainsBy drains rows) seat.old
         (requests_of text) written seat.new)
@@ -155,15 +158,18 @@ fn run_lines<R: Threads + Wait + Sync, S: Source, K: Sink>(
     let Ok(mut lines) = Lines::new(alloc) else {
         return Err(ScriptFault::Memory);
     };
+    let mut forgot = false;
     'requests: loop {
         let Ok(next) = next_request(alloc, &mut lines, source) else {
             return Err(ScriptFault::Read);
         };
         let Some(read) = next else {
-            return Ok(());
+            return Ok(forgot);
         };
-        let Ok(()) = respond(rt, alloc, sink, hub, seat, read, drains, rows) else {
+        let (forgets, written) = respond(rt, alloc, sink, hub, seat, read, drains, rows);
+        let Ok(()) = written else {
             return Err(ScriptFault::Write);
         };
+        forgot = forgot || forgets;
     }
 }

@@ -4,9 +4,12 @@ use crate::fixture::{declare, opened_for, ready, register, rows};
 use hub::{Hub, Seat};
 use leases::Leased;
 use reference::Fault;
+use served::{run_hub, serve_connection};
 use std::alloc::Global;
 use std::sync::Wait;
 use std::test::Fail;
+use std::thread::Threads;
+use wire::{MemorySink, MemorySource};
 
 /// More turns than a row needs.
 const TURNS: u64 = 20;
@@ -57,6 +60,54 @@ fn has_room_again<R: Wait>(rt: &R, alloc: Global) -> Result<bool, Fault> {
 #[test]
 fn a_full_history_has_room_once_the_hub_forgot(rt: HostRuntime) -> Result<(), Fail> {
     assert!(rt; has_room_again(&rt, rt.alloc())?);
+    Ok(())
+}
+
+const FORGETTING: &str = r#"{"op":"heartbeat","stream":"S","at":0}
+{"op":"forget"}
+{"op":"heartbeat","stream":"S","at":0}
+"#;
+
+const FORGOTTEN: &str = r#"{"error":"E19 HistoryFull"}
+{"ok":true}
+{"ok":true}
+"#;
+
+// Whether a line to forget makes room in a full history, and it is told that the hub forgot: by a
+// pool of so many workers or by the client's own thread.
+fn makes_room<R: Threads + Wait + Sync>(
+    rt: &R,
+    alloc: Global,
+    workers: Option<u64>,
+) -> Result<bool, Fault> {
+    let (hub, mut seat, _) = filled_up(rt, alloc)?;
+    let mut source = MemorySource::new(FORGETTING.as_bytes());
+    let mut sink = MemorySink::new(alloc);
+    let ran = match workers {
+        Some(workers) => {
+            run_hub(
+                rt,
+                alloc,
+                &mut source,
+                &mut sink,
+                &hub,
+                &mut seat,
+                workers,
+                256,
+            )
+        }
+        None => serve_connection(rt, alloc, &mut source, &mut sink, &hub, &mut seat, 256),
+    };
+    let is_answered = sink.bytes.as_slice() == FORGOTTEN.as_bytes();
+    let closed = closed_with(alloc, hub, seat)?;
+    Ok(matches!(ran, Ok(true)) && is_answered && closed == Some((3, 1)))
+}
+
+#[test]
+fn a_line_that_asks_to_forget_makes_room(rt: HostRuntime) -> Result<(), Fail> {
+    for workers in [None, Some(1)] {
+        assert!(rt; makes_room(&rt, rt.alloc(), workers)?, "by {workers:?}");
+    }
     Ok(())
 }
 

@@ -137,7 +137,7 @@ fn serve_script<R: Threads + Wait + Sync, K: Sink>(
     sink: &mut K,
     hub: &Hub,
     seat: &mut Seat,
-) -> Result<(), ScriptFault> {
+) -> Result<bool, ScriptFault> {
     let mut source = MemorySource::new(script.as_bytes());
     serve_connection(rt, alloc, &mut source, sink, hub, seat, 256)
 }

@@ -1,5 +1,5 @@
 //! The lines of a source.
-ghost use Rattle.std.specs.Prelude.{◌≡◌, IfErr, IfOk, OnErr, OnOk, Result};
+ghost use Rattle.std.specs.Prelude.{◌≡◌, ◌||◌, IfErr, IfOk, OnErr, OnOk, Result};
 ghost use Rattle.reference.specs.World.{IsTurnSize};
 ghost use Rattle.wire.specs.Calls.{Call};
 ghost use Rattle.wire.specs.Devices.{Puts, Rises};
@@ -170,6 +170,13 @@ fn run_lines<R: Threads + Wait + Sync, S: Source, K: Sink>(
         let Ok(()) = written else {
             return Err(ScriptFault::Write);
         };
-        forgot = forgot || forgets;
+        let any = is_either(forgot, forgets);
+        forgot = any;
     }
+}
+
+fn is_either(first: bool, second: bool) -> bool
+    ensures { result ≡ (first || second) }
+{
+    first || second
 }

@@ -20,14 +20,14 @@ returns-then-is_whole-clause-shares g c =
     shares_all (PoolDrains c.args.workers c.args.turn) 0 (g.I.Source.left c.args.source.now) (g.O.Sink.taken c.args.sink.now) (g.O.Sink.taken c.run_hub-ran.new.sink) c.in-Some.seat c.run_hub-ran.new.seat
     c.in-Ok-ran.forgot one.1 alone c.in-Ok-ran.ensures.text
 
-pub returns-else-is_whole-clause-shares : goal.returns-else-is_whole-clause-shares
-returns-else-is_whole-clause-shares g c =
+pub returns-in-Ok-close-clause-shares : goal.returns-in-Ok-close-clause-shares
+returns-in-Ok-close-clause-shares g c =
     let one = only_seat c.in-Ok.seats.items c.pop.new.self.items c.in-Some.seat c.in-Ok.ensures.ok.1 c.in-Some.ensures.items in
     shares_differing (PoolDrains c.args.workers c.args.turn) c.differ.result (g.I.Source.left c.args.source.now) (g.O.Sink.taken c.args.sink.now) (g.O.Sink.taken c.run_hub-ran.new.sink) c.in-Some.seat c.run_hub-ran.new.seat
     c.in-Ok-ran.forgot one.1 (one_tells c.differ.result c.differ.ensures.status) c.in-Ok-ran.ensures.text
 
-pub returns-in-Err-close-clause-shares : goal.returns-in-Err-close-clause-shares
-returns-in-Err-close-clause-shares g c =
+pub returns-clause-shares : goal.returns-clause-shares
+returns-clause-shares g c =
     let one = only_seat c.in-Ok.seats.items c.pop.new.self.items c.in-Some.seat c.in-Ok.ensures.ok.1 c.in-Some.ensures.items in
     shares_differing (PoolDrains c.args.workers c.args.turn) c.differ-in-Err-close.result (g.I.Source.left c.args.source.now) (g.O.Sink.taken c.args.sink.now) (g.O.Sink.taken c.run_hub-ran.new.sink) c.in-Some.seat c.run_hub-ran.new.seat
     c.in-Ok-ran.forgot one.1 (one_tells c.differ-in-Err-close.result c.differ-in-Err-close.ensures.status) c.in-Ok-ran.ensures.text

@@ -11,9 +11,9 @@ MILLION = 1_000_000
 MOST = 1.2  # what the peak may grow by after the first million
 
 QUERIES = {
-    "range": "Select Istream(k, Count(*), Sum(v)) From S [Range 1000] Group By k",
-    "slide": "Select Rstream(Count(*)) From S [Range 1000 Slide 500]",
-    "last": "Select Istream(k, v) From S [Partition By k Rows 4]",
+    "groups": "Select Istream(k, Count(*), Sum(v)) From S [Range 1000] Group By k",
+    "moving": "Select Rstream(Count(*)) From S [Range 1000 Slide 500]",
+    "latest": "Select Istream(k, v) From S [Partition By k Rows 4]",
 }
 
 

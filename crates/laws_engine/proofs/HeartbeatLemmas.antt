@@ -19,9 +19,10 @@ use Rattle.plan.specs.Nodes.{Window, Select, Join, Project, Group, Distinct, ToS
 use Rattle.reference.specs.Commands.{Heartbeat, change, closed_to, first_fault}
 use Rattle.reference.specs.Machine.{Machine, Registered}
 use Rattle.stream_store.specs.Closing.{QueuesGain, closed_of}
+use Rattle.stream_store.specs.Stored.{IsByArrival}
 use Rattle.laws_dataflow.specs.Plans.{below_root}
 use Rattle.laws_queries.specs.Machines.{widths_of}
-use Rattle.laws_queries.specs.Queries.{HasInboxes, IsByArrival, IsRunning, PlainQuery, elements_at, log_at, no_log, node_at, operator_at, place_of, source_of, stream_log}
+use Rattle.laws_queries.specs.Queries.{HasInboxes, IsRunning, PlainQuery, elements_at, log_at, no_log, node_at, operator_at, place_of, source_of, stream_log}
 use Rattle.laws_queries.proofs.AppendLemmas.{accepted_later}
 use Rattle.laws_queries.proofs.BeatLemmas.{change_there, place_beat}
 use Rattle.laws_queries.proofs.LeaseLemmas.{leases_stand_first}

@@ -14,6 +14,7 @@ use Rattle.op_queue.specs.Logs.{Closed}
 use Rattle.operators.specs.Operators.{PlainOperator, first_ready, front_instant, ready, waiting}
 use Rattle.operators.specs.States.{usable}
 use Rattle.op_queue.specs.Items.{front_of}
+use Rattle.plan.proofs.Lists.{each-filter}
 use Rattle.reference.specs.Machine.{Place, Registered, Stream, input_at}
 use Rattle.reference.specs.Opening.{all_instants, all_restarted, needs, needs_by, restart, restarted, with_kept}
 use Rattle.laws_dataflow.specs.Laws as nets
@@ -21,7 +22,8 @@ use Rattle.cql_reader.specs.declared.TheConstants.{MAX_SOURCES}
 use Rattle.reference.specs.Commands.{rows_of_each}
 use Rattle.laws_dataflow.specs.Plans.{IsPlanOf, arrivals_at}
 use Rattle.laws_queries.specs.Machines.{IsMachine, IsQuery, IsStream, KeepsItsLimit, columns_of, widths_of}
-use Rattle.laws_queries.specs.Queries.{IsByArrival, IsRunning, PlainQuery, log_at, operator_at, place_of}
+use Rattle.stream_store.proofs.KeptLemmas.{by_arrival_filter}
+use Rattle.laws_queries.specs.Queries.{IsRunning, PlainQuery, log_at, operator_at, place_of}
 use Rattle.laws_queries.specs.Rows.{HasRows}
 use Rattle.laws_queries.specs.Forgetting.{KeepsFor}
 use Rattle.laws_queries.proofs.ForgetLemmas.{forgetting_runs, kept_stream, stream_kept, waits_kept}
@@ -98,22 +100,6 @@ before f None r h = absurd (cc)
 before f (Some q) r h = record { query = q; there = refl; is = sym (ap (λ o. unwrap_or o r) h) }
 
 -- THE STREAMS
-all_filtered : (P : Element → Type 0) (p : Element → Bool) (es : List Element) → AllByRecursion P es → AllByRecursion P (filter p es)
-all_filtered P p [] h = tt
-all_filtered P p (e ∷ es) h = here (p e) (all_filtered P p es h.1)
-  where
-    here : (b : Bool) → AllByRecursion P (filter p es) → AllByRecursion P (cond b (e ∷ filter p es) (filter p es))
-    here true k = (h.0, k)
-    here false k = k
-
-arrival_filtered : (p : Element → Bool) (es : List Element) → IsByArrival es → IsByArrival (filter p es)
-arrival_filtered p [] h = tt
-arrival_filtered p (e ∷ es) h = here (p e) (all_filtered (λ f. e.arrival < f.arrival) p es h.0) (arrival_filtered p es h.1)
-  where
-    here : (b : Bool) → AllByRecursion (λ f. e.arrival < f.arrival) (filter p es) → IsByArrival (filter p es) → IsByArrival (cond b (e ∷ filter p es) (filter p es))
-    here true k l = (k, l)
-    here false k l = l
-
 -- of fewer elements no more pass
 few_twice : (p keep : Element → Bool) (es : List Element) → length (filter p (filter keep es)) ≤ length (filter p es)
 few_twice p keep [] = omega arith
@@ -135,11 +121,11 @@ few_twice p keep (e ∷ es) = omega (arith, ap length (parted (keep e)), here (k
 module _ (keep : ℕ → Element → Bool) where
   streams_kept : (n : ℕ) (ss : List Stream) → AllByRecursion IsStream ss → AllByRecursion IsStream (with_kept keep n ss)
   streams_kept n [] h = tt
-  streams_kept n (s ∷ ss) h = (record { wide = all_filtered _ (keep n) s.elements h.0.wide; counted = record { since = λ place. omega (arith, h.0.counted.since place, few_twice (λ (e : Element). nat_le place e.arrival) (keep n) s.elements) }; few = h.0.few }, streams_kept (suc n) ss h.1)
+  streams_kept n (s ∷ ss) h = (record { wide = each-filter _ (keep n) s.elements h.0.wide; counted = record { since = λ place. omega (arith, h.0.counted.since place, few_twice (λ (e : Element). nat_le place e.arrival) (keep n) s.elements) }; few = h.0.few }, streams_kept (suc n) ss h.1)
 
   rows_kept : (n : ℕ) (ss : List Stream) → AllByRecursion HasRows ss → AllByRecursion HasRows (with_kept keep n ss)
   rows_kept n [] h = tt
-  rows_kept n (s ∷ ss) h = (record { arrival = arrival_filtered (keep n) s.elements h.0.arrival; below = all_filtered _ (keep n) s.elements h.0.below; values = all_filtered _ (keep n) s.elements h.0.values }, rows_kept (suc n) ss h.1)
+  rows_kept n (s ∷ ss) h = (record { arrival = by_arrival_filter (keep n) s.elements h.0.arrival; below = each-filter _ (keep n) s.elements h.0.below; values = each-filter _ (keep n) s.elements h.0.values }, rows_kept (suc n) ss h.1)
 
   length-kept : (n : ℕ) (ss : List Stream) → length (with_kept keep n ss) ≡ length ss
   length-kept n [] = refl

@@ -1,5 +1,5 @@
 -- What a heartbeat is for a source of a query: its window's queue gains what is closed.
-use Rattle.std.proofs.Common.{◌≡◌, ◌≢◌, ℕ, ℤ, zero, suc, nat_abs, ◌+◌, ◌-◌, ◌≤◌, ◌==◌, Bool, true, false, cond, max, ◌⊎◌, ⊎_elim, Option, Some, None, List, [], ◌∷◌, ◌++◌, filter, flat_map, refl, sym, ap, ap₂, ◌∙◌, subst, arith, append-nil}
+use Rattle.std.proofs.Common.{◌≡◌, ◌≢◌, ℕ, ℤ, zero, suc, nat_abs, ◌+◌, ◌-◌, ◌≤◌, ◌==◌, max, ◌⊎◌, ⊎_elim, Option, Some, None, List, [], ◌∷◌, ◌++◌, filter, flat_map, refl, sym, ap, ap₂, ◌∙◌, subst, arith, append-nil}
 use Rattle.std.specs.List.{AllByRecursion, range_with_len}
 use Rattle.std.specs.Prelude.{slice_get}
 use Rattle.std.specs.Option.{option_map, option_map_or}
@@ -13,13 +13,15 @@ use Rattle.windows.specs.Laws.{IsRising}
 use Rattle.operators.specs.Inboxes.{IsInboxWithin, entries_in}
 use Rattle.operators.specs.declared.inboxes.Inbox.{Inbox}
 use Rattle.operators.specs.declared.inboxes.Inbox.TheVariants.{First, Between}
+use Rattle.plan.proofs.Lists.{each-append, each-filter}
 use Rattle.reference.specs.Commands.{change, closed_to}
 use Rattle.reference.specs.Machine.{Place, Stream, input_at}
 use Rattle.stream_store.specs.Closing.{QueuesGain, by_key, closed_of, closing_of}
+use Rattle.stream_store.specs.Stored.{IsByArrival}
 use Rattle.laws_dataflow.specs.Windows.{AreBelow, Brings, opened}
 use Rattle.laws_dataflow.proofs.BeatLemmas.{closed_at, closed_below, closed_rises, span_brings}
 use Rattle.laws_queries.specs.Widths.{AreEntries, IsRow}
-use Rattle.laws_queries.specs.Queries.{IsByArrival, Reads, elements_at, no_log, stream_log}
+use Rattle.laws_queries.specs.Queries.{Reads, elements_at, no_log, stream_log}
 use Rattle.laws_queries.proofs.ClosingLemmas.{closing_parts, closing_rises}
 use Rattle.laws_queries.proofs.FeedLemmas.{wide_append}
 
@@ -48,21 +50,9 @@ none_beat place first log input elements = record {
 }
 
 -- WIDTHS
-each_filter : (P : Element → Type 0) (p : Element → Bool) (es : List Element) → AllByRecursion P es → AllByRecursion P (filter p es)
-each_filter P p [] h = tt
-each_filter P p (e ∷ es) h = here (p e) (each_filter P p es h.1)
-  where
-    here : (b : Bool) → AllByRecursion P (filter p es) → AllByRecursion P (cond b (e ∷ filter p es) (filter p es))
-    here true r = (h.0, r)
-    here false r = r
-
-each_append : (P : Element → Type 0) (xs ys : List Element) → AllByRecursion P xs → AllByRecursion P ys → AllByRecursion P (xs ++ ys)
-each_append P [] ys h k = k
-each_append P (x ∷ xs) ys h k = (h.0, each_append P xs ys h.1 k)
-
 each_listed : (P : Element → Type 0) (f : Element → ℕ) (a n : ℕ) (es : List Element) → AllByRecursion P es → AllByRecursion P (by_key f a n es)
 each_listed P f a zero es h = tt
-each_listed P f a (suc n) es h = each_append P (filter (λ e. f e == a) es) (by_key f (a + 1) n es) (each_filter P (λ e. f e == a) es h) (each_listed P f (a + 1) n es h)
+each_listed P f a (suc n) es h = each-append P (filter (λ e. f e == a) es) (by_key f (a + 1) n es) (each-filter P (λ e. f e == a) es h) (each_listed P f (a + 1) n es h)
 
 rows_wide : (w t : ℕ) (es : List Element) → AllByRecursion (λ e. IsRow w e.row) es → AreEntries w (row_entries t es)
 rows_wide w t [] h = tt
@@ -72,7 +62,7 @@ span_wide : (w place : ℕ) (es : List Element) (a n : ℕ) → AllByRecursion (
 span_wide w place es a zero h = tt
 span_wide w place es a (suc n) h =
     wide_append w (instant_entries place es a) (flat_map (instant_entries place es) (range_with_len (a + 1) n))
-    (wide_append w (row_entries a (shown place a es)) (TickAt a ∷ []) (rows_wide w a (shown place a es) (each_filter (λ e. IsRow w e.row) (is_shown place a) es h)) tt)
+    (wide_append w (row_entries a (shown place a es)) (TickAt a ∷ []) (rows_wide w a (shown place a es) (each-filter (λ e. IsRow w e.row) (is_shown place a) es h)) tt)
     (span_wide w place es (a + 1) n h)
 
 -- WHERE INSTANTS ARE CLOSED

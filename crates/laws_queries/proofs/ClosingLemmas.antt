@@ -8,11 +8,13 @@ use Rattle.values.specs.Window.{Element, input_of}
 use Rattle.values.proofs.Perms.{perm-append_right, perm-sym, perm-to_front}
 use Rattle.op_queue.specs.Logs.{is_shown, shown}
 use Rattle.windows.specs.Laws.{Each, IsLater, IsRising}
+use Rattle.plan.proofs.Lists.{each-weaken}
 use Rattle.stream_store.specs.Closing.{by_instant, by_key}
+use Rattle.stream_store.specs.Stored.{IsByArrival}
+use Rattle.stream_store.proofs.KeptLemmas.{by_arrival_filter}
 use Rattle.laws_dataflow.specs.Windows.{opened}
 use Rattle.laws_dataflow.proofs.BeatLemmas.{closed_at}
 use Rattle.laws_queries.proofs.WireLemmas.{at_most}
-use Rattle.laws_queries.specs.Queries.{IsByArrival}
 
 -- ONE INSTANT
 
@@ -81,29 +83,9 @@ later_of e (f ∷ es) h k =
 inside : (a t n : ℕ) → ((a ≤ t) × (t < a + n)) ⊎ ((t < a) ⊎ (a + n ≤ t))
 inside a t n = grind arith
 
-each_from : (P Q : Element → Type 0) → ((e : Element) → P e → Q e) → (es : List Element) → AllByRecursion P es → AllByRecursion Q es
-each_from P Q f [] h = tt
-each_from P Q f (e ∷ es) h = (f e h.0, each_from P Q f es h.1)
-
 rises_at_one : (t : ℕ) (es : List Element) → IsByArrival es → AllByRecursion (λ e. e.instant ≡ t) es → IsRising es
 rises_at_one t [] h k = tt
-rises_at_one t (e ∷ es) h k = (later_of e es h.0 (each_from (λ f. f.instant ≡ t) (λ f. f.instant ≡ e.instant) (λ f i. i ∙ sym k.0) es k.1), rises_at_one t es h.1 k.1)
-
-each_filter : (P : Element → Type 0) (p : Element → Bool) (es : List Element) → AllByRecursion P es → AllByRecursion P (filter p es)
-each_filter P p [] h = tt
-each_filter P p (e ∷ es) h = here (p e) (each_filter P p es h.1)
-  where
-    here : (b : Bool) → AllByRecursion P (filter p es) → AllByRecursion P (cond b (e ∷ filter p es) (filter p es))
-    here true r = (h.0, r)
-    here false r = r
-
-by_arrival_filter : (p : Element → Bool) (es : List Element) → IsByArrival es → IsByArrival (filter p es)
-by_arrival_filter p [] h = tt
-by_arrival_filter p (e ∷ es) h = here (p e) (by_arrival_filter p es h.1) (each_filter (λ f. e.arrival < f.arrival) p es h.0)
-  where
-    here : (b : Bool) → IsByArrival (filter p es) → AllByRecursion (λ f. e.arrival < f.arrival) (filter p es) → IsByArrival (cond b (e ∷ filter p es) (filter p es))
-    here true r k = (k, r)
-    here false r k = r
+rises_at_one t (e ∷ es) h k = (later_of e es h.0 (each-weaken (λ f. f.instant ≡ t) (λ f. f.instant ≡ e.instant) (λ f i. i ∙ sym k.0) es k.1), rises_at_one t es h.1 k.1)
 
 -- WHAT IS CLOSED rises at each instant
 pub closing_rises : (place t start until : ℕ) (es : List Element) → IsByArrival es → IsRising (shown place t (by_instant start until es))

@@ -19,7 +19,8 @@ use Rattle.reference.specs.declared.limits.TheConstants.{MAX_APPENDED, MAX_STREA
 use Rattle.reference.proofs.StreamLemmas.{alone, none_first, none_later}
 use Rattle.laws_queries.specs.Widths.{IsRow}
 use Rattle.laws_queries.specs.Machines.{IsMachine, IsStream, columns_of}
-use Rattle.laws_queries.specs.Queries.{IsByArrival, ReadsRows, elements_at, place_of}
+use Rattle.stream_store.specs.Stored.{IsByArrival}
+use Rattle.laws_queries.specs.Queries.{ReadsRows, elements_at, place_of}
 use Rattle.laws_queries.specs.Rows.{AreSourceWidths, HasRows, HaveRows, RowsStand}
 
 -- ARRIVALS

@@ -1,5 +1,5 @@
 -- A running query: its operators, of which each stands for a cell of a net, and what it has given of its answers.
-use Rattle.std.specs.Prelude.{ℕ, ◌≡◌, ◌≢◌, ◌-◌, ◌<◌, ◌≤◌, ◌++◌, true, max, None, List, [], ◌∷◌, length, map, get_or, slice_get}
+use Rattle.std.specs.Prelude.{ℕ, ◌≡◌, ◌≢◌, ◌-◌, ◌<◌, ◌≤◌, ◌++◌, true, max, None, List, [], length, map, get_or, slice_get}
 use Rattle.std.specs.List.{AllByRecursion}
 use Rattle.std.specs.Option.{option_map_or}
 use Rattle.values.specs.Row.{Row}
@@ -26,6 +26,7 @@ use Rattle.physical_plans.specs.declared.wiring.Wire.{Wire}
 use Rattle.plan.specs.Nodes as plan
 use Rattle.reference.specs.Machine.{Machine, Place, Registered, Stream}
 use Rattle.stream_store.specs.Closing.{closed_of}
+use Rattle.stream_store.specs.Stored.{IsByArrival}
 use Rattle.laws_dataflow.specs.Laws.{IsGood}
 use Rattle.laws_dataflow.specs.Laws as nets
 use Rattle.laws_dataflow.specs.Nets.{Cell}
@@ -163,11 +164,6 @@ abbrev pub NoneReady : Machine → Registered → List PlainOperator → Type 0
 NoneReady m q os = (k : ℕ) → k < length q.nodes → ready (operator_at os k) (log_at m q k) ≡ None
 
 -- THE STREAMS of the machine that a query reads
--- elements stand in the order of their arrival
-abbrev pub IsByArrival : List Element → Type 0
-IsByArrival [] = Unit {0}
-IsByArrival (e ∷ es) = AllByRecursion (λ f. e.arrival < f.arrival) es × IsByArrival es
-
 abbrev pub elements_at : List Stream → ℕ → List Element
 elements_at streams n = option_map_or (λ s. s.elements) (slice_get streams n) []
 

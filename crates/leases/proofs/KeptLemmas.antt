@@ -10,12 +10,10 @@ use Rattle.stream_store.specs.Closing.{closed_of}
 use Rattle.stream_store.specs.Kept.{SaysKeptOf}
 use Rattle.stream_store.specs.declared.starts.Start.{Start}
 use Rattle.needed_rows.specs.Columns.{IsRegular}
-use Rattle.needed_rows.specs.Columns as columns
 use Rattle.needed_rows.specs.Needed.{is_needed_by_some}
 use Rattle.needed_rows.specs.Queries.{ReadersSay, readers_over}
 use Rattle.needed_rows.proofs.OpenLemmas.{readers_say}
 use Rattle.laws_queries.specs.Machines.{IsStream}
-use Rattle.laws_queries.specs.Queries as queries
 use Rattle.laws_queries.specs.Rows.{HasRows}
 use Rattle.laws_engine.specs.Openings.{marks_by}
 use Rattle.laws_engine.proofs.CaughtLemmas.{caught_up}
@@ -34,12 +32,8 @@ use Rattle.leases.specs.declared.state.forget.KeptRows.{KeptRows}
 use Rattle.leases.proofs.KeepingLemmas.{readers_are, says_kept}
 
 -- ITS ROWS STAND as they came
-by_arrival : (es : List Element) → queries.IsByArrival es → columns.IsByArrival es
-by_arrival [] h = tt
-by_arrival (e ∷ es) h = (h.0, by_arrival es h.1)
-
 is_regular : (s : Stream) → HasRows s → IsStream s → IsRegular s
-is_regular s h k = record { arrival = by_arrival s.elements h.arrival; wide = k.wide }
+is_regular s h k = record { arrival = h.arrival; wide = k.wide }
 
 all_read : (ss : List Stream) (n : ℕ) → AllByRecursion HasRows ss → AllByRecursion IsStream ss → AreReadIn ss n
 all_read [] n h k = tt

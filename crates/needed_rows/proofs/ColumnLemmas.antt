@@ -8,10 +8,13 @@ use Rattle.values.specs.Row.{Row, value_at}
 use Rattle.values.specs.Window.{Element}
 use Rattle.column.specs.Rows.{row_at}
 use Rattle.op_queue.proofs.TableLemmas.{length-elements_in}
+use Rattle.plan.proofs.Lists.{each-append, each-filter, each-weaken}
 use Rattle.reference.specs.Machine.{Stream}
 use Rattle.stream_store.specs.Closing.{by_key, closed_of}
+use Rattle.stream_store.specs.Stored.{IsByArrival}
+use Rattle.stream_store.proofs.KeptLemmas.{by_arrival_filter}
 use Rattle.needed_rows.specs.declared.reader.ClosedRows.{ClosedRows}
-use Rattle.needed_rows.specs.Columns.{AreColumns, IsByArrival, IsRegular, StandFor}
+use Rattle.needed_rows.specs.Columns.{AreColumns, IsRegular, StandFor}
 use Rattle.needed_rows.specs.Needed.{AreInOrder, element_in, elements_of, lists}
 
 -- by instant, then by number, of which no two are one in an instant
@@ -22,29 +25,13 @@ abbrev Rises : List Element → Type 0
 Rises [] = Unit {0}
 Rises (e ∷ es) = AllByRecursion (After e) es × Rises es
 
-each_from : (P Q : Element → Type 0) → ((e : Element) → P e → Q e) → (es : List Element) → AllByRecursion P es → AllByRecursion Q es
-each_from P Q f [] h = tt
-each_from P Q f (e ∷ es) h = (f e h.0, each_from P Q f es h.1)
-
 each_both : (P Q : Element → Type 0) (es : List Element) → AllByRecursion P es → AllByRecursion Q es → AllByRecursion (λ e. P e × Q e) es
 each_both P Q [] h k = tt
 each_both P Q (e ∷ es) h k = ((h.0, k.0), each_both P Q es h.1 k.1)
 
-each_filter : (P : Element → Type 0) (p : Element → Bool) (es : List Element) → AllByRecursion P es → AllByRecursion P (filter p es)
-each_filter P p [] h = tt
-each_filter P p (e ∷ es) h = here (p e) (each_filter P p es h.1)
-  where
-    here : (b : Bool) → AllByRecursion P (filter p es) → AllByRecursion P (cond b (e ∷ filter p es) (filter p es))
-    here true r = (h.0, r)
-    here false r = r
-
-each_append : (P : Element → Type 0) (xs ys : List Element) → AllByRecursion P xs → AllByRecursion P ys → AllByRecursion P (xs ++ ys)
-each_append P [] ys h k = k
-each_append P (x ∷ xs) ys h k = (h.0, each_append P xs ys h.1 k)
-
 each_key : (P : Element → Type 0) (f : Element → ℕ) (a n : ℕ) (es : List Element) → AllByRecursion P es → AllByRecursion P (by_key f a n es)
 each_key P f a zero es h = tt
-each_key P f a (suc n) es h = each_append P (filter (λ e. f e == a) es) (by_key f (a + 1) n es) (each_filter P (λ e. f e == a) es h) (each_key P f (a + 1) n es h)
+each_key P f a (suc n) es h = each-append P (filter (λ e. f e == a) es) (by_key f (a + 1) n es) (each-filter P (λ e. f e == a) es h) (each_key P f (a + 1) n es h)
 
 at_one : (a : ℕ) (es : List Element) → AllByRecursion (λ e. e.instant ≡ a) (filter (λ e. e.instant == a) es)
 at_one a [] = tt
@@ -57,29 +44,21 @@ at_one a (e ∷ es) = here (e.instant == a) refl (at_one a es)
 from_on : (a n : ℕ) (es : List Element) → AllByRecursion (λ e. a ≤ e.instant) (by_key (λ e. e.instant) a n es)
 from_on a zero es = tt
 from_on a (suc n) es =
-    each_append (λ e. a ≤ e.instant) (filter (λ e. e.instant == a) es) (by_key (λ e. e.instant) (a + 1) n es)
-    (each_from (λ e. e.instant ≡ a) (λ e. a ≤ e.instant) (λ e i. omega (arith, i)) (filter (λ e. e.instant == a) es) (at_one a es))
-    (each_from (λ e. a + 1 ≤ e.instant) (λ e. a ≤ e.instant) (λ e i. omega (arith, i)) (by_key (λ e. e.instant) (a + 1) n es) (from_on (a + 1) n es))
-
-arrival_filter : (p : Element → Bool) (es : List Element) → IsByArrival es → IsByArrival (filter p es)
-arrival_filter p [] h = tt
-arrival_filter p (e ∷ es) h = here (p e) (arrival_filter p es h.1) (each_filter (λ f. e.arrival < f.arrival) p es h.0)
-  where
-    here : (b : Bool) → IsByArrival (filter p es) → AllByRecursion (λ f. e.arrival < f.arrival) (filter p es) → IsByArrival (cond b (e ∷ filter p es) (filter p es))
-    here true r k = (k, r)
-    here false r k = r
+    each-append (λ e. a ≤ e.instant) (filter (λ e. e.instant == a) es) (by_key (λ e. e.instant) (a + 1) n es)
+    (each-weaken (λ e. e.instant ≡ a) (λ e. a ≤ e.instant) (λ e i. omega (arith, i)) (filter (λ e. e.instant == a) es) (at_one a es))
+    (each-weaken (λ e. a + 1 ≤ e.instant) (λ e. a ≤ e.instant) (λ e i. omega (arith, i)) (by_key (λ e. e.instant) (a + 1) n es) (from_on (a + 1) n es))
 
 rises_at_one : (a : ℕ) (es : List Element) → IsByArrival es → AllByRecursion (λ e. e.instant ≡ a) es → Rises es
 rises_at_one a [] h k = tt
 rises_at_one a (e ∷ es) h k = (
-  each_from (λ g. (e.arrival < g.arrival) × (g.instant ≡ a)) (After e) (λ g i. (omega (arith, i.1, k.0), λ same. i.0)) es (each_both (λ g. e.arrival < g.arrival) (λ g. g.instant ≡ a) es h.0 k.1),
+  each-weaken (λ g. (e.arrival < g.arrival) × (g.instant ≡ a)) (After e) (λ g i. (omega (arith, i.1, k.0), λ same. i.0)) es (each_both (λ g. e.arrival < g.arrival) (λ g. g.instant ≡ a) es h.0 k.1),
   rises_at_one a es h.1 k.1,
 )
 
 rises_append : (a : ℕ) (xs ys : List Element) → Rises xs → Rises ys → AllByRecursion (λ e. e.instant ≡ a) xs → AllByRecursion (λ e. a + 1 ≤ e.instant) ys → Rises (xs ++ ys)
 rises_append a [] ys h k l m = k
 rises_append a (x ∷ xs) ys h k l m = (
-  each_append (After x) xs ys h.0 (each_from (λ e. a + 1 ≤ e.instant) (After x) (λ g i. (omega (arith, i, l.0), λ same. absurd (omega (arith, i, l.0, same)))) ys m),
+  each-append (After x) xs ys h.0 (each-weaken (λ e. a + 1 ≤ e.instant) (After x) (λ g i. (omega (arith, i, l.0), λ same. absurd (omega (arith, i, l.0, same)))) ys m),
   rises_append a xs ys h.1 k l.1 m,
 )
 
@@ -87,7 +66,7 @@ rises_by_key : (a n : ℕ) (es : List Element) → IsByArrival es → Rises (by_
 rises_by_key a zero es h = tt
 rises_by_key a (suc n) es h =
     rises_append a (filter (λ e. e.instant == a) es) (by_key (λ e. e.instant) (a + 1) n es)
-    (rises_at_one a (filter (λ e. e.instant == a) es) (arrival_filter (λ e. e.instant == a) es h) (at_one a es))
+    (rises_at_one a (filter (λ e. e.instant == a) es) (by_arrival_filter (λ e. e.instant == a) es h) (at_one a es))
     (rises_by_key (a + 1) n es h) (at_one a es) (from_on (a + 1) n es)
 
 -- BY PLACES

@@ -1,17 +1,13 @@
 -- Closed rows as columns of what a stream of the machine has closed.
-use Rattle.std.specs.Prelude.{◌≡◌, ℕ, ◌<◌, List, [], ◌∷◌, length, map}
+use Rattle.std.specs.Prelude.{◌≡◌, ℕ, List, length, map}
 use Rattle.std.specs.List.{AllByRecursion, range_with_len}
 use Rattle.values.specs.Row.{value_at}
 use Rattle.values.specs.Window.{Element}
 use Rattle.reference.specs.Machine.{Stream}
 use Rattle.stream_store.specs.Closing.{closed_of}
+use Rattle.stream_store.specs.Stored.{IsByArrival}
 use Rattle.needed_rows.specs.declared.reader.ClosedRows.{ClosedRows}
 use Rattle.needed_rows.specs.Needed.{AreInOrder, elements_of, lists}
-
--- the numbers of arrival rise
-abbrev pub IsByArrival : List Element → Type 0
-IsByArrival [] = Unit {0}
-IsByArrival (e ∷ es) = AllByRecursion (λ f. e.arrival < f.arrival) es × IsByArrival es
 
 -- the elements of the stream came one after the other, and are as wide as its columns
 pub record IsRegular (s : Stream) : Type 0 where

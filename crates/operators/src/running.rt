@@ -8,7 +8,7 @@ ghost use Rattle.turn.specs.Turns.{FitsKind};
 ghost use Rattle.operators.specs.InPlace.{HasTaken, IsAfterItem, KeepsInboxes, MayAnswer};
 ghost use Rattle.operators.specs.InPlace.{MayTake, after_answers, answers_from, outs_from};
 ghost use Rattle.operators.specs.Inboxes.{IsDropped, IsInboxWithin, all_entries, cut_of};
-ghost use Rattle.operators.specs.Inboxes.{entries_in, is_fed, queued};
+ghost use Rattle.operators.specs.Inboxes.{is_fed, queued};
 ghost use Rattle.operators.specs.Operators.{Belongs, HasNamedColumns, IsFed, IsFinished};
 ghost use Rattle.operators.specs.Operators.{KeepsBatches, inbox_of, other, ready};
 ghost use Rattle.operators.specs.Operators.{ready_at, waiting};

@@ -7,7 +7,7 @@ use crate::running::Operator;
 use column::Side;
 use op_queue::Log;
 use row_bags::DatedRows;
-use std::alloc::{AllocError, Global};
+use std::alloc::Global;
 
 /// Where a run was when memory was refused.
 #[derive(Clone, Copy, PartialEq, Eq, Debug)]

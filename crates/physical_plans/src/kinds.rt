@@ -1,6 +1,5 @@
 //! What the operators of a plan do.
 ghost use Rattle.std.specs.Prelude.{◌≡◌, ◌≤◌, IfOk, length, map, get_or};
-ghost use Rattle.std.specs.Arc.{arc_value};
 ghost use Rattle.std.specs.List.{AllByRecursion};
 ghost use Rattle.values.specs.Resolved.{condition_of};
 ghost use Rattle.group.specs.Groups.{column_at, once_each};

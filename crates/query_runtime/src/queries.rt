@@ -2,7 +2,6 @@
 ghost use Rattle.std.specs.Prelude.{◌≡◌, ◌<◌, ◌-◌, [], false, true, length, All, IfErr, IfOk};
 ghost use Rattle.std.specs.Prelude.{OnErr, OnOk};
 ghost use Rattle.std.specs.Arc.{arc_value};
-ghost use Rattle.op_queue.specs.Items.{entries_of};
 ghost use Rattle.turn.specs.Turns.{outs_in};
 ghost use Rattle.operators.specs.Inboxes.{all_entries};
 ghost use Rattle.operators.specs.Operators.{KeepsBatches, ready, waiting};

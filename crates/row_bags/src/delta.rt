@@ -1,5 +1,5 @@
 //! What entered and what left.
-ghost use Rattle.std.specs.Prelude.{◌≡◌, ◌≤◌, ◌+◌, ◌^◌, ◌<◌, ◌++◌, ◌∷◌, [], length, map};
+ghost use Rattle.std.specs.Prelude.{◌≡◌, ◌+◌, ◌^◌, ◌<◌, ◌++◌, ◌∷◌, [], length, map};
 ghost use Rattle.std.specs.Prelude.{slice_index_or, true, IfOk, OnOk, OnErr};
 ghost use Rattle.column.specs.Rows.{signed};
 ghost use Rattle.values.specs.Row.{row_cmp};
@@ -7,7 +7,7 @@ ghost use Rattle.values.specs.Bag.{bag_minus, in_order};
 ghost use Rattle.row_bags.specs.Bags.{rows_of};
 ghost use Rattle.row_bags.specs.Deltas.{delta_after, deltas_after};
 ghost use Rattle.row_bags.specs.Lists.{renewed};
-ghost use Rattle.row_bags.specs.Piles.{pile_in, pile_room};
+ghost use Rattle.row_bags.specs.Piles.{pile_in};
 
 use crate::dated_rows::DatedRows;
 use crate::difference::{push_beyond, rows_beyond};

@@ -1,5 +1,5 @@
 //! Rows one behind the other, in as little room as they need.
-ghost use Rattle.std.specs.Prelude.{◌≡◌, ◌≤◌, ◌<◌, ◌++◌, ◌∷◌, [], length, take, IfOk, OnOk, OnErr};
+ghost use Rattle.std.specs.Prelude.{◌≡◌, ◌≤◌, ◌<◌, ◌++◌, ◌∷◌, [], length, IfOk, OnOk, OnErr};
 ghost use Rattle.std.specs.Prelude.{slice_index_or, true};
 ghost use Rattle.column.specs.Rows.{width};
 ghost use Rattle.values.specs.Row.{row_cmp};

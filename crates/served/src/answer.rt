@@ -11,8 +11,8 @@ ghost use Rattle.wire.specs.Requests.{Reads};
 ghost use Rattle.wire.specs.Script.{done_of};
 ghost use Rattle.wire.specs.declared.request.WireFault.{WireFault};
 ghost use Rattle.workers.specs.Lacks.{WasFull};
-ghost use Rattle.served.specs.Serving.{CarriesNamed, ClientDrains, DrainsBy, LooksNamed};
-ghost use Rattle.served.specs.Serving.{PoolDrains, Replies, Serves, WasIdle, asks_forget, forgets};
+ghost use Rattle.served.specs.Serving.{CarriesNamed, DrainsBy, LooksNamed};
+ghost use Rattle.served.specs.Serving.{Replies, Serves, WasIdle, asks_forget, forgets};
 ghost use Rattle.served.specs.Serving.{is_done, number_in};
 
 use hub::{Hub, Seat};

@@ -1,11 +1,14 @@
 -- Streams of which one after another is kept, until all are.
-use Rattle.std.proofs.Common.{◌≡◌, ◌≤◌, ◌+◌, ℕ, zero, suc, Bool, List, [], ◌∷◌, length, refl, sym, ap, ◌∙◌, arith}
+use Rattle.std.proofs.Common.{◌≡◌, ◌≤◌, ◌+◌, ℕ, zero, suc, ◌<◌, Bool, true, false, cond, List, [], ◌∷◌, filter, length, refl, sym, ap, ◌∙◌, arith}
 use Rattle.std.specs.Prelude.{slice_get}
+use Rattle.std.specs.List.{AllByRecursion}
 use Rattle.values.specs.Window.{Element}
+use Rattle.plan.proofs.Lists.{each-filter}
 use Rattle.reference.specs.Commands.{change}
 use Rattle.reference.specs.Machine.{Stream}
 use Rattle.reference.specs.Opening.{with_kept}
 use Rattle.stream_store.specs.Kept.{kept_stream}
+use Rattle.stream_store.specs.Stored.{IsByArrival}
 
 -- the first so many streams with what is kept of them, the others as they are
 abbrev pub kept_first : (ℕ → Element → Bool) → ℕ → ℕ → List Stream → List Stream
@@ -39,3 +42,12 @@ kept_later keep zero n i ss le = refl
 kept_later keep (suc count) n i [] le = refl
 kept_later keep (suc count) n zero (s ∷ ss) le = absurd (omega (arith, le))
 kept_later keep (suc count) n (suc i) (s ∷ ss) le = kept_later keep count (suc n) i ss (omega (arith, le))
+
+-- what is kept of elements that came one after the other did so too
+pub by_arrival_filter : (p : Element → Bool) (es : List Element) → IsByArrival es → IsByArrival (filter p es)
+by_arrival_filter p [] h = tt
+by_arrival_filter p (e ∷ es) h = here (p e) (by_arrival_filter p es h.1) (each-filter (λ f. e.arrival < f.arrival) p es h.0)
+  where
+    here : (b : Bool) → IsByArrival (filter p es) → AllByRecursion (λ f. e.arrival < f.arrival) (filter p es) → IsByArrival (cond b (e ∷ filter p es) (filter p es))
+    here true r k = (k, r)
+    here false r k = r

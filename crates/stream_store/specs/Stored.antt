@@ -1,10 +1,15 @@
 -- How a stream is stored: a log of what is closed, the open rows, and how many rows came.
-use Rattle.std.specs.Prelude.{◌≡◌, ℕ, ◌<◌, ◌≤◌, ◌+◌, List, ◌++◌, length}
+use Rattle.std.specs.Prelude.{◌≡◌, ℕ, ◌<◌, ◌≤◌, ◌+◌, List, [], ◌∷◌, ◌++◌, length}
 use Rattle.std.specs.List.{AllByRecursion}
 use Rattle.values.specs.Window.{Element}
 use Rattle.op_queue.specs.Logs.{Closed, IsInOrder}
 use Rattle.reference.specs.Machine.{Stream}
 use Rattle.stream_store.specs.Closing.{by_key}
+
+-- the elements came one after the other: their numbers of arrival rise
+abbrev pub IsByArrival : List Element → Type 0
+IsByArrival [] = Unit {0}
+IsByArrival (e ∷ es) = AllByRecursion (λ f. e.arrival < f.arrival) es × IsByArrival es
 
 -- the stream as the machine knows it: its elements by arrival
 abbrev pub stream_in : List ℕ → List (List ℕ) → ℕ → Closed → List Element → Stream

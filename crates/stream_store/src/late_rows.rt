@@ -1,6 +1,6 @@
 //! The open rows of one instant.
-ghost use Rattle.std.specs.Prelude.{◌≡◌, ℕ, ◌+◌, ◌*◌, ◌^◌, ◌<◌, ◌≤◌, ◌++◌, OnOk, OnErr, length};
-ghost use Rattle.std.specs.Prelude.{IfOk, map, nat_lt, take, true, vec_len, vec_capacity};
+ghost use Rattle.std.specs.Prelude.{◌≡◌, ◌+◌, ◌*◌, ◌^◌, ◌<◌, ◌≤◌, ◌++◌, OnOk, OnErr, length};
+ghost use Rattle.std.specs.Prelude.{IfOk, nat_lt, take, true, vec_len, vec_capacity};
 ghost use Rattle.std.specs.Prelude.{slice_index_or, slice_set};
 ghost use Rattle.std.specs.List.{filter, list_all, range_with_len};
 ghost use Rattle.reference.specs.Commands.{is_stream_value};

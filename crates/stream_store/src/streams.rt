@@ -1,5 +1,5 @@
 //! The declared streams.
-ghost use Rattle.std.specs.Prelude.{◌≡◌, ◌++◌, ◌∷◌, [], ℕ, ◌≤◌, None, Some, IfOk, IfSome, OnOk};
+ghost use Rattle.std.specs.Prelude.{◌≡◌, [], ℕ, ◌≤◌, None, Some, IfOk, IfSome, OnOk};
 ghost use Rattle.std.specs.Prelude.{Bool};
 ghost use Rattle.values.specs.Window.{Element};
 ghost use Rattle.std.specs.Prelude.{OnErr, MatchOption, length, map, slice_get, position};

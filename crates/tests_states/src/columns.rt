@@ -1,5 +1,5 @@
 //! Worked rows of masks, columns and batches.
-ghost use Rattle.std.specs.Prelude.{◌≡◌, ◌≤◌, IfOk, length};
+ghost use Rattle.std.specs.Prelude.{◌≡◌, IfOk, length};
 ghost use Rattle.column.specs.Rows.{width};
 
 use crate::rows::{NULL, shows, two};

@@ -1,5 +1,5 @@
 //! Worked groups, turn by turn.
-ghost use Rattle.std.specs.Prelude.{◌≡◌, ◌≤◌, ◌+◌, length, IfOk, OnOk};
+ghost use Rattle.std.specs.Prelude.{◌≤◌, ◌+◌, length, OnOk};
 ghost use Rattle.group.specs.Turns.{RoomFor, KeepsRoom};
 
 use crate::rows::{NULL, two};

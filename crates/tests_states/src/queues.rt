@@ -1,5 +1,5 @@
 //! Worked queues, and the queues of two queries over one log.
-ghost use Rattle.std.specs.Prelude.{◌≡◌, ◌<◌, length};
+ghost use Rattle.std.specs.Prelude.{◌<◌};
 ghost use Rattle.op_queue.specs.Cursors.{IsWithin};
 ghost use Rattle.op_queue.specs.Logs.{Closed};
 

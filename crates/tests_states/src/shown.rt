@@ -1,5 +1,5 @@
 //! Worked rows through the windows.
-ghost use Rattle.std.specs.Prelude.{◌≡◌, IfOk, length};
+ghost use Rattle.std.specs.Prelude.{◌≡◌, IfOk};
 ghost use Rattle.column.specs.Rows.{width};
 ghost use Rattle.windows.specs.Widths.{IsItemWide};
 

@@ -11,13 +11,12 @@
 //! however many are held.
 #![tactic(auto)]
 
-ghost use Rattle.std.specs.Prelude.{◌≡◌, ◌≤◌, ◌+◌, ◌++◌, None, Some, [], map, length};
+ghost use Rattle.std.specs.Prelude.{◌≡◌, ◌+◌, ◌++◌, None, Some, [], map};
 ghost use Rattle.std.specs.Prelude.{IfOk, OnOk, OnErr};
 ghost use Rattle.row_bags.specs.Bags.{rows_of};
 ghost use Rattle.to_stream.specs.Turns.{State, shown, kept, near, out, ticked, next, HasRoom};
 ghost use Rattle.to_stream.specs.Law.{Stands, StepLaw};
 
-use column::Batch;
 use op_queue::Item;
 use row_bags::{DatedRows, Delta, RowList};
 use std::alloc::{AllocError, Global};

@@ -1,5 +1,5 @@
 //! Items compared by value.
-ghost use Rattle.std.specs.Prelude.{◌≡◌, ◌<◌, ◌↔◌, IsTrue, length, get_or, map, not, false};
+ghost use Rattle.std.specs.Prelude.{◌≡◌, ◌<◌, ◌↔◌, IsTrue, length, get_or, false};
 ghost use Rattle.column.specs.Rows.{width};
 ghost use Rattle.turn.specs.Same.{HaveSameColumns, leaving};
 

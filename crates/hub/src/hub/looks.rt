@@ -1,5 +1,4 @@
 //! What anyone may look at. No seat is needed, and nothing changes.
-ghost use Rattle.std.specs.Prelude.{◌≡◌};
 ghost use Rattle.hub.specs.Steps.{PlainLocked, FindsQuery, FindsStream, SeesPending, SeesSlopes};
 ghost use Rattle.hub.specs.Steps.{SeesWaiting};
 

@@ -1,4 +1,4 @@
-use Rattle.std.proofs.Common.{ap, subst, sym, ◌∙◌, ℕ}
+use Rattle.std.proofs.Common.{ap, ◌∙◌}
 use Rattle.windows.specs.Slide as slide
 use Rattle.windows.specs.Slide.{SlideState}
 use Rattle.tests_in_place.proofs.TurnLemmas.{slide_after_next, slide_wide_next}

@@ -1,5 +1,4 @@
-use Rattle.std.proofs.Common.{arith}
-use Rattle.tests_store.proofs.OrderLemmas.{rising_first, rising_more}
+use Rattle.tests_store.proofs.OrderLemmas.{rising_first}
 use Rattle.tests_store.proofs.needed.are_in_order.Goals as goal
 
 pub loop-row-init : goal.loop-row-init

@@ -10,14 +10,14 @@ use Rattle.reference.specs.Opening.{with_kept}
 use Rattle.stream_store.specs.Closing.{closed_of}
 use Rattle.stream_store.specs.Kept.{SaysKept, SaysKeptOf, count_closed, kept_stream}
 use Rattle.stream_store.specs.declared.starts.Start.{Start}
+use Rattle.stream_store.proofs.KeptLemmas.{kept_all, kept_first}
 use Rattle.leases.specs.Forgets.{IsSaid, Says, said_in}
-use Rattle.leases.specs.Keeping.{kept_first}
 use Rattle.leases.specs.declared.state.forget.KeptRows.{KeptRows}
-use Rattle.leases.proofs.KeepingLemmas.{first_here, keep_all, keep_next}
+use Rattle.leases.proofs.KeepingLemmas.{here_kept, keep_next}
 
 -- those before the place i are compacted
 abbrev pub IsKeptTo : List KeptRows → List Stream → List Stream → ℕ → Type 0
-IsKeptTo kept ss now i = (keep : ℕ → Element → Bool) → Says keep kept ss → now ≡ kept_first keep 0 ss i
+IsKeptTo kept ss now i = (keep : ℕ → Element → Bool) → Says keep kept ss → now ≡ kept_first keep i 0 ss
 
 pub some_at : (ss : List Stream) (i : ℕ) → i < length ss → (s : Stream) × (slice_get ss i ≡ Some s)
 some_at [] i l = absurd (omega (arith, l))
@@ -32,7 +32,7 @@ pub keep_allowed : (kept : List KeptRows) (ss now : List Stream) (i : ℕ) (r : 
 keep_allowed kept ss now i r said to l is =
     let keep : ℕ → Element → Bool = said.0 in
     let says : Says keep kept ss = said.1 in
-    let here : slice_get now i ≡ slice_get ss i = ap (λ z. slice_get z i) (to keep says) ∙ first_here keep 0 ss i in
+    let here : slice_get now i ≡ slice_get ss i = here_kept keep ss now i (to keep says) in
     let there = some_at ss i (omega (arith, l, says.many)) in
     let inside : i < length (map said_in kept) = omega (arith, l, length-map kept said_in) in
     let d : List Bool × List Start = said_in r in
@@ -45,12 +45,12 @@ pub keep_one : (kept : List KeptRows) (ss now new : List Stream) (i : ℕ) (r : 
 keep_one kept ss now new i r to l is h = λ keep says.
     let d : List Bool × List Start = said_in r in
     let inside : i < length (map said_in kept) = omega (arith, l, length-map kept said_in) in
-    let next : new ≡ kept_first keep 0 ss (suc i) = keep_next keep ss now new (map said_in kept) i d says.all inside (to keep says)
+    let next : new ≡ kept_first keep (suc i) 0 ss = keep_next keep ss now new (map said_in kept) i d says.all inside (to keep says)
     (λ p say. h p (subst (λ (y : List Bool × List Start). SaysKeptOf y.0 y.1 p (slice_get now i)) (said_at kept i r d l is) say)) in
-    next ∙ ap (λ j. kept_first keep 0 ss j) (let one : suc i ≡ i + 1 = omega arith in one)
+    next ∙ ap (λ j. kept_first keep j 0 ss) (let one : suc i ≡ i + 1 = omega arith in one)
 
 pub keep_whole : (kept : List KeptRows) (ss now : List Stream) (i : ℕ) → i ≡ length kept → IsKeptTo kept ss now i → (keep : ℕ → Element → Bool) → Says keep kept ss → now ≡ with_kept keep 0 ss
-keep_whole kept ss now i last to = λ keep says. keep_all keep ss now i (last ∙ says.many) (to keep says)
+keep_whole kept ss now i last to = λ keep says. to keep says ∙ kept_all keep i 0 ss (omega (arith, last, says.many))
 
 -- the same marks and starts say the same
 pub says_through : (m marks : List Bool) (t starts : List Start) (p : Element → Bool) (o : Option Stream) → m ≡ marks → t ≡ starts → SaysKeptOf marks starts p o → SaysKeptOf m t p o

@@ -1,8 +1,8 @@
 -- Streams are copied one after the other, each as it is kept.
-use Rattle.std.proofs.Common.{◌≡◌, ℕ, zero, suc, ◌+◌, ◌<◌, ◌≤◌, Bool, Some, List, [], ◌∷◌, ◌++◌, take, length, map, get_or, refl, sym, ap, ◌∙◌, subst, arith}
+use Rattle.std.proofs.Common.{◌≡◌, ℕ, zero, suc, ◌+◌, ◌<◌, Bool, Some, List, [], ◌∷◌, ◌++◌, take, length, map, get_or, refl, sym, ap, ◌∙◌, subst, arith}
 use Rattle.std.specs.Prelude.{slice_get}
 use Rattle.std.specs.Option.{option_map}
-use Rattle.std.proofs.lemmas.List.{length-map}
+use Rattle.std.proofs.lemmas.List.{length-map, take_all}
 use Rattle.values.specs.Window.{Element}
 use Rattle.reference.specs.Machine.{Stream}
 use Rattle.reference.specs.Opening.{with_kept}
@@ -67,11 +67,5 @@ length-kept : (keep : ℕ → Element → Bool) (n : ℕ) (ss : List Stream) →
 length-kept keep n [] = refl
 length-kept keep n (s ∷ ss) = ap suc (length-kept keep (suc n) ss)
 
-take_all : {X : Type 0} → (xs : List X) (i : ℕ) → length xs ≤ i → take i xs ≡ xs
-take_all [] zero l = refl
-take_all [] (suc i) l = refl
-take_all (x ∷ xs) zero l = absurd (omega (arith, l))
-take_all (x ∷ xs) (suc i) l = ap (λ z. x ∷ z) (take_all xs i (omega (arith, l)))
-
 pub copy_whole : (kept : List KeptRows) (ss copies : List Stream) (i : ℕ) → i ≡ length kept → IsCopiedTo kept ss copies i → (keep : ℕ → Element → Bool) → Says keep kept ss → copies ≡ with_kept keep 0 ss
-copy_whole kept ss copies i last to = λ keep says. to keep says ∙ take_all (with_kept keep 0 ss) i (omega (arith, last, says.many, length-kept keep 0 ss))
+copy_whole kept ss copies i last to = λ keep says. to keep says ∙ take_all i (with_kept keep 0 ss) (omega (arith, last, says.many, length-kept keep 0 ss))

@@ -79,7 +79,17 @@ remains_dropped [] n = refl
 remains_dropped (k ∷ ks) zero = refl
 remains_dropped (k ∷ ks) (suc n) = ap (λ z. remains_of k ∷ z) (remains_dropped ks n)
 
--- NOTHING IS LEFT of it
+-- NOTHING IS LEFT of just the queries that were dropped
+pub gone_at : (qs : List Registered) (ks : List PlainRemains) → map (λ q. q.is_dropped) qs ≡ map is_gone ks → (n : ℕ) (q : Registered) → slice_get qs n ≡ Some q → q.is_dropped ≡ is_gone (get_or ks n Dropped)
+gone_at [] ks h n q at = absurd (cc)
+gone_at (r ∷ qs) [] h n q at = absurd (cc)
+gone_at (r ∷ qs) (k ∷ ks) h zero q at =
+    let same : r ≡ q = cc in
+    let first : r.is_dropped ≡ is_gone k = cc in
+    ap (λ (z : Registered). z.is_dropped) (sym same) ∙ first
+gone_at (r ∷ qs) (k ∷ ks) h (suc n) q at = let later : map (λ (z : Registered). z.is_dropped) qs ≡ map is_gone ks = cc in gone_at qs ks later n q at
+
+-- so it stays where one more is
 pub gone_dropped : (qs : List Registered) (ks : List PlainRemains) (n : ℕ) → map (λ q. q.is_dropped) qs ≡ map is_gone ks → map (λ q. q.is_dropped) (change n machine.dropped qs) ≡ map is_gone (change n (λ remains. Dropped) ks)
 gone_dropped [] [] n h = refl
 gone_dropped [] (k ∷ ks) n h = absurd (cc)

@@ -1,6 +1,5 @@
 -- What an engine knows of itself when it has forgotten.
-use Rattle.std.proofs.Common.{◌≡◌, ◌≤◌, ℕ, zero, suc, ◌++◌, Bool, false, cond, Option, Some, List, [], ◌∷◌, get_or, map, length, refl, sym, ap, ap₂, ◌∙◌, subst}
-use Rattle.std.specs.Prelude.{slice_get}
+use Rattle.std.proofs.Common.{◌≡◌, ◌≤◌, ℕ, suc, ◌++◌, Bool, cond, Option, List, [], ◌∷◌, map, length, refl, sym, ap, ap₂, ◌∙◌, subst}
 use Rattle.std.specs.List.{AllByRecursion}
 use Rattle.std.specs.Option.{option_to_list}
 use Rattle.values.specs.Row.{Row}
@@ -12,7 +11,7 @@ use Rattle.reference.specs.Named.{name_of_registered}
 use Rattle.reference.specs.Opening.{all_restarted, needs_by, restart, with_kept}
 use Rattle.laws_queries.specs.Registrations.{HasColumnNames, HaveColumnNames}
 use Rattle.laws_engine.specs.Bounds.{HaveFewClosed}
-use Rattle.laws_engine.specs.Engines.{Broken, Dropped, GoodEngine, IsIn, PlainEngine, PlainRemains, answers_in}
+use Rattle.laws_engine.specs.Engines.{GoodEngine, IsIn, PlainEngine, answers_in}
 use Rattle.laws_engine.specs.Openings.{forgotten, marks_by}
 use Rattle.laws_engine.proofs.FewLemmas.{forgotten_few}
 use Rattle.laws_engine.proofs.ForgottenLemmas.{forgotten_good}
@@ -25,6 +24,7 @@ use Rattle.leases.specs.Views.{HasKind, engine_of, query_of}
 use Rattle.leases.specs.declared.limits.TheConstants.{LEASE_NUMBERS, MAX_LEASES}
 use Rattle.leases.specs.declared.registered.Registration.{Registration}
 use Rattle.leases.specs.declared.state.State.{State}
+use Rattle.leases.proofs.DropLemmas.{gone_at}
 use Rattle.leases.proofs.LimitLemmas.{kept}
 
 -- WHAT A RESTART LEAVES of a query: its name, whether it was dropped, its limits and its windows
@@ -90,21 +90,9 @@ forgotten_sound s t h closed is leases next undropped readers =
       readers = readers ∙ h.readers ∙ sym (ap readers_of is ∙ readers_left 0 e.machine.queries ms ws (map runs e.queries));
     }
 
--- a query that was broken was not dropped
-broken_live : (qs : List Registered) (ks : List PlainRemains) → map (λ (q : Registered). q.is_dropped) qs ≡ map is_gone ks → (n : ℕ) (q : Registered) (answers : List (ℕ × Row)) → slice_get qs n ≡ Some q → get_or ks n Dropped ≡ Broken answers → q.is_dropped ≡ false
-broken_live [] ks e n q answers a b = absurd (cc)
-broken_live (r ∷ qs) [] e n q answers a b = absurd (cc)
-broken_live (r ∷ qs) (k ∷ ks) e zero q answers a b =
-    let same : r ≡ q = cc in
-    let first : r.is_dropped ≡ is_gone k = cc in
-    ap (λ (z : Registered). z.is_dropped) (sym same) ∙ first ∙ ap is_gone b
-broken_live (r ∷ qs) (k ∷ ks) e (suc n) q answers a b =
-    let later : map (λ (z : Registered). z.is_dropped) qs ≡ map is_gone ks = cc in
-    broken_live qs ks later n q answers a b
-
--- so few rows were answered before the starts of its queries
+-- few rows were answered before the starts of its queries, since a broken one was not dropped
 pub forgotten_closed : (s : State) → IsSound s → HaveFewClosed (forgotten (engine_in s)).machine
-forgotten_closed s h = forgotten_few (engine_in s) h.good h.closed (broken_live (engine_in s).machine.queries (engine_in s).queries h.gone)
+forgotten_closed s h = forgotten_few (engine_in s) h.good h.closed (λ n q answers here left. gone_at (engine_in s).machine.queries (engine_in s).queries h.gone n q here ∙ ap is_gone left)
 
 -- WITH THE ROWS THAT STAY, and the queries as they go on, it is what is left of the engine
 pub forgets : (s : State) (streams : List Stream) (registered : List Registration) (ws : List (List (ℕ × Row))) → streams ≡ with_kept (needs_in (engine_in s)) 0 s.streams → map query_of registered ≡ restarted_by s.registered.items s.remains.items ws

@@ -1,56 +1,31 @@
 -- Streams are compacted one after the other, and queries restarted.
-use Rattle.std.proofs.Common.{◌≡◌, ℕ, zero, suc, ◌+◌, ◌<◌, ◌&&◌, ◌||◌, nat_le, Bool, Option, Some, None, List, [], ◌∷◌, ◌++◌, flat_map, map, length, get_or, refl, sym, ap, ap₂, ◌∙◌, subst, arith}
+use Rattle.std.proofs.Common.{◌≡◌, ℕ, zero, suc, ◌<◌, ◌&&◌, ◌||◌, nat_le, Bool, Option, Some, None, List, [], ◌∷◌, ◌++◌, flat_map, map, length, get_or, refl, sym, ap, ap₂, ◌∙◌, subst, arith}
 use Rattle.std.specs.Prelude.{slice_get}
 use Rattle.std.specs.List.{list_any}
 use Rattle.values.specs.Row.{Row}
 use Rattle.values.specs.Window.{Element}
 use Rattle.reference.specs.Commands.{change}
 use Rattle.reference.specs.Machine.{Registered, Stream}
-use Rattle.reference.specs.Opening.{all_restarted, needs_by, restart, with_kept}
+use Rattle.reference.specs.Opening.{all_restarted, needs_by, restart}
 use Rattle.stream_store.specs.Closing.{closed_of}
-use Rattle.leases.specs.Keeping.{AllSay, going_over, kept_first, restarted_first, sources_of, start_of}
+use Rattle.leases.specs.Keeping.{AllSay, going_over, restarted_first, sources_of, start_of}
 use Rattle.stream_store.specs.Kept.{SaysKept, SaysKeptOf, kept_stream}
 use Rattle.needed_rows.specs.Needed.{PlainReader, is_in_input, is_needed_by_some}
 use Rattle.needed_rows.specs.Queries.{ReadersSay, readers_of, readers_over}
 use Rattle.stream_store.specs.declared.starts.Start.{Start}
 use Rattle.stream_store.specs.Starts.{has_reader}
+use Rattle.stream_store.proofs.KeptLemmas.{kept_first, kept_later, kept_next}
 
--- STREAM BY STREAM
-first_none : (keep : ℕ → Element → Bool) (n : ℕ) (ss : List Stream) → kept_first keep n ss 0 ≡ ss
-first_none keep n [] = refl
-first_none keep n (s ∷ ss) = refl
+-- STREAM BY STREAM: the next one is as it was
+pub here_kept : (keep : ℕ → Element → Bool) (ss now : List Stream) (i : ℕ) → now ≡ kept_first keep i 0 ss → slice_get now i ≡ slice_get ss i
+here_kept keep ss now i is = ap (λ z. slice_get z i) is ∙ kept_later keep i 0 i ss (omega arith)
 
-first_next : (keep : ℕ → Element → Bool) (n : ℕ) (ss : List Stream) (i : ℕ) → change i (kept_stream (keep (n + i))) (kept_first keep n ss i) ≡ kept_first keep n ss (suc i)
-first_next keep n [] i = refl
-first_next keep n (s ∷ ss) zero = let e : n + 0 ≡ n = omega arith in ap (λ k. kept_stream (keep k) s ∷ ss) e ∙ ap (λ l. kept_stream (keep n) s ∷ l) (sym (first_none keep (suc n) ss))
-first_next keep n (s ∷ ss) (suc i) =
-    let e : n + suc i ≡ suc n + i = omega arith in
-    ap (λ k. kept_stream (keep n) s ∷ change i (kept_stream (keep k)) (kept_first keep (suc n) ss i)) e ∙ ap (λ l. kept_stream (keep n) s ∷ l) (first_next keep (suc n) ss i)
-
-first_all : (keep : ℕ → Element → Bool) (n : ℕ) (ss : List Stream) → kept_first keep n ss (length ss) ≡ with_kept keep n ss
-first_all keep n [] = refl
-first_all keep n (s ∷ ss) = ap (λ l. kept_stream (keep n) s ∷ l) (first_all keep (suc n) ss)
-
--- the next one is as it was
-pub first_here : (keep : ℕ → Element → Bool) (n : ℕ) (ss : List Stream) (i : ℕ) → slice_get (kept_first keep n ss i) i ≡ slice_get ss i
-first_here keep n [] i = refl
-first_here keep n (s ∷ ss) zero = refl
-first_here keep n (s ∷ ss) (suc i) = first_here keep (suc n) ss i
-
--- the loop: before the first stream, over one, and behind the last
-pub keep_none : (keep : ℕ → Element → Bool) (ss : List Stream) → kept_first keep 0 ss 0 ≡ ss
-keep_none keep ss = first_none keep 0 ss
-
-pub keep_next : (keep : ℕ → Element → Bool) (ss now new : List Stream) (kept : List (List Bool × List Start)) (i : ℕ) (d : List Bool × List Start) → AllSay keep kept ss → i < length kept → now ≡ kept_first keep 0 ss i
-    → ((p : Element → Bool) → SaysKeptOf (get_or kept i d).0 (get_or kept i d).1 p (slice_get now i) → new ≡ change i (kept_stream p) now) → new ≡ kept_first keep 0 ss (suc i)
+-- and then it is kept
+pub keep_next : (keep : ℕ → Element → Bool) (ss now new : List Stream) (kept : List (List Bool × List Start)) (i : ℕ) (d : List Bool × List Start) → AllSay keep kept ss → i < length kept → now ≡ kept_first keep i 0 ss
+    → ((p : Element → Bool) → SaysKeptOf (get_or kept i d).0 (get_or kept i d).1 p (slice_get now i) → new ≡ change i (kept_stream p) now) → new ≡ kept_first keep (suc i) 0 ss
 keep_next keep ss now new kept i d say l is h =
-    let here : slice_get now i ≡ slice_get ss i = ap (λ z. slice_get z i) is ∙ first_here keep 0 ss i in
-    let e : 0 + i ≡ i = omega arith in
-    h (keep i) (subst (SaysKeptOf (get_or kept i d).0 (get_or kept i d).1 (keep i)) (sym here) (say i d l))
-    ∙ ap (change i (kept_stream (keep i))) is ∙ ap (λ k. change i (kept_stream (keep k)) (kept_first keep 0 ss i)) (sym e) ∙ first_next keep 0 ss i
-
-pub keep_all : (keep : ℕ → Element → Bool) (ss now : List Stream) (i : ℕ) → i ≡ length ss → now ≡ kept_first keep 0 ss i → now ≡ with_kept keep 0 ss
-keep_all keep ss now i l is = is ∙ ap (kept_first keep 0 ss) l ∙ first_all keep 0 ss
+    h (keep i) (subst (SaysKeptOf (get_or kept i d).0 (get_or kept i d).1 (keep i)) (sym (here_kept keep ss now i is)) (say i d l))
+    ∙ ap (change i (kept_stream (keep i))) is ∙ kept_next keep i ss
 
 -- THE READERS of a stream
 pub readers_are : (n : ℕ) (qs : List Registered) (marks : List (Option ℕ)) → flat_map (sources_of n) (going_over qs marks) ≡ readers_over n qs marks

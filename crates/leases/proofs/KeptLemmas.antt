@@ -19,8 +19,7 @@ use Rattle.laws_engine.specs.Openings.{marks_by}
 use Rattle.laws_engine.proofs.CaughtLemmas.{caught_up}
 use Rattle.leases.specs.Forgets.{AreMarkable, AreReadIn, Says, going_in, going_of, needs_in, said_in}
 use Rattle.leases.specs.Going.{all_sources}
-use Rattle.leases.specs.Keeping.{AllSay, start_of}
-use Rattle.leases.specs.Keeping as keeping
+use Rattle.leases.specs.Keeping.{AllSay, sources_of, start_of}
 use Rattle.leases.specs.Shown.{engine_in}
 use Rattle.leases.specs.Sound.{IsSound}
 use Rattle.leases.specs.Views.{query_of, remains_of}
@@ -44,12 +43,12 @@ pub read_in : (s : State) → IsSound s → (n : ℕ) → AreReadIn s.streams n
 read_in s sound n = all_read s.streams n sound.good.rows sound.good.machine.streams
 
 -- THE READERS of a stream
-sources_are : (n : ℕ) (gs : List Going) → all_sources n gs ≡ flat_map (keeping.sources_of n) (map going_of gs)
+sources_are : (n : ℕ) (gs : List Going) → all_sources n gs ≡ flat_map (sources_of n) (map going_of gs)
 sources_are n [] = refl
-sources_are n (g ∷ gs) = ap (λ l. keeping.sources_of n (going_of g) ++ l) (sources_are n gs)
+sources_are n (g ∷ gs) = ap (λ l. sources_of n (going_of g) ++ l) (sources_are n gs)
 
 pub sources_over : (s : State) (n : ℕ) (gs : List Going) → going_in gs s.registered.items s.remains.items → all_sources n gs ≡ readers_over n (engine_in s).machine.queries (marks_by (engine_in s).machine.queries (engine_in s).queries)
-sources_over s n gs is = sources_are n gs ∙ ap (flat_map (keeping.sources_of n)) is ∙ readers_are n (map query_of s.registered.items) (marks_by (map query_of s.registered.items) (map remains_of s.remains.items))
+sources_over s n gs is = sources_are n gs ∙ ap (flat_map (sources_of n)) is ∙ readers_are n (map query_of s.registered.items) (marks_by (map query_of s.registered.items) (map remains_of s.remains.items))
 
 -- the same queries, seen through a slice
 pub going_through : (s : State) (gs gs2 : List Going) (rs : List Registration) (ks : List Remains) → gs2 ≡ gs → rs ≡ s.registered.items → ks ≡ s.remains.items → going_in gs rs ks → going_in gs2 s.registered.items s.remains.items

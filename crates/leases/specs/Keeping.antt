@@ -4,18 +4,12 @@ use Rattle.values.specs.Row.{Row}
 use Rattle.values.specs.Window.{Element}
 use Rattle.reference.specs.Machine.{Registered, Stream}
 use Rattle.reference.specs.Opening.{restart}
-use Rattle.stream_store.specs.Kept.{SaysKeptOf, kept_stream}
+use Rattle.stream_store.specs.Kept.{SaysKeptOf}
 use Rattle.needed_rows.specs.Needed.{PlainReader}
 use Rattle.needed_rows.specs.Queries.{readers_of}
 use Rattle.stream_store.specs.declared.starts.Start.{Start}
 
--- THE STREAMS, of which the first `count` are compacted; they are numbered from n on
-abbrev pub kept_first : (ℕ → Element → Bool) → ℕ → List Stream → ℕ → List Stream
-kept_first keep n [] count = []
-kept_first keep n (s ∷ ss) zero = s ∷ ss
-kept_first keep n (s ∷ ss) (suc count) = kept_stream (keep n) s ∷ kept_first keep (suc n) ss count
-
--- the marks and starts of each stream
+-- THE STREAMS: the marks and starts of each
 abbrev pub AllSay : (ℕ → Element → Bool) → List (List Bool × List Start) → List Stream → Type 0
 AllSay keep kept streams = (i : ℕ) (d : List Bool × List Start) → i < length kept → SaysKeptOf (get_or kept i d).0 (get_or kept i d).1 (keep i) (slice_get streams i)
 

@@ -1,6 +1,6 @@
 //! What an engine keeps of the queries that were not dropped, the broken ones among them.
-ghost use Rattle.std.specs.Prelude.{◌≡◌, ◌<◌, ◌≤◌, ◌^◌, ◌+◌, ◌++◌, ◌∷◌, ◌==◌, [], None, OnErr, OnOk, Some};
-ghost use Rattle.std.specs.Prelude.{filter, length, map, not, position, set, slice_get};
+ghost use Rattle.std.specs.Prelude.{◌≡◌, ◌<◌, ◌≤◌, ◌^◌, ◌+◌, ◌++◌, ◌∷◌, ◌==◌, [], None, OnErr};
+ghost use Rattle.std.specs.Prelude.{OnOk, Some, filter, length, map, not, position, set, slice_get};
 ghost use Rattle.std.specs.Vec.{vec_capacity, vec_len};
 ghost use Rattle.name_table.specs.Names.{bears};
 ghost use Rattle.leases.specs.Undropped.{least, limit_at, limits_in, tightened};

@@ -82,6 +82,9 @@ impl State {
 
     /// Runs turns of the first slot in place, with the next numbers: nobody can see the turns
     /// meanwhile, so none is made.
+    ///
+    /// Where memory is refused, the turns before stay, and the one for which it was wanted did
+    /// nothing or broke its query. The error does not say which: the query shows it.
     fn run_slot(&mut self, slot: &Slot, rows: usize) -> Result<(), AllocError>
         requires sound { IsSound self.old }
         requires first { first_of self.old.slots ≡ Some slot.now }
@@ -105,7 +108,7 @@ impl State {
     /// the slope of the operator above is no greater. What a turn puts out is of its own instant.
     ///
     /// Where memory is refused before a turn took anything, that turn changes nothing; else the
-    /// query breaks.
+    /// query breaks. The error is the same, and the turns before stay.
     fn run_while_first(
         &mut self,
         slot: &Slot,
@@ -179,13 +182,13 @@ impl State {
     {
         self.slots.update(*slot, next);
         if let Some(above) = above {
-            self.update_slot(above);
+            self.update_standing_slot(above);
         }
     }
 
-    /// Gives a slot, that is as it stands among the others, what its operator may take next, or
-    /// nothing. It mostly is what it could take before.
-    fn update_slot(&mut self, slot: &Slot)
+    /// Like `change_slot`, for a slot that is as it stands among the others. What its operator may
+    /// take next mostly is what it could take before, and then nothing is done.
+    fn update_standing_slot(&mut self, slot: &Slot)
         requires here { HasOperatorAt (engine_in self.old) slot.now.query slot.now.operator }
         requires stands { Stands slot.now self.old.slots }
         ensures { self.new

@@ -118,7 +118,9 @@ impl State {
         }
     }
 
-    /// Gives the slot what its operator may take next, or nothing.
+    /// Gives the slot what its operator may take next, or nothing. It asks nothing of the slot:
+    /// where that is not among the others, nothing changes. `update_standing_slot` is for one that
+    /// is known to stand there as it is.
     pub(crate) fn change_slot(&mut self, slot: &Slot)
         requires { HasOperatorAt (engine_in self.old) slot.now.query slot.now.operator }
         ensures state { self.new

@@ -6,8 +6,8 @@ use Rattle.run_queue.specs.declared.slots.Slot.{Slot}
 use Rattle.run_queue.proofs.StandLemmas.{stands_on}
 use Rattle.leases.proofs.state.State.update_slots.Goals as goal
 
-pub update_slot-requires-clause-stands : goal.update_slot-requires-clause-stands
-update_slot-requires-clause-stands c =
+pub update_standing_slot-requires-clause-stands : goal.update_standing_slot-requires-clause-stands
+update_standing_slot-requires-clause-stands c =
     let a : Slot = c.in-Some.above in
     let both : Stands a c.args.self.now.slots × (a.operator ≢ c.args.slot.now.operator) =
     subst (λ (o : Option Slot). MatchOption o ⊤ (λ z. Stands z c.args.self.now.slots × (z.operator ≢ c.args.slot.now.operator))) c.in-Some.is c.requires.may_tell.stand.1 in

@@ -1,11 +1,10 @@
-use Rattle.std.proofs.Common.{◌∙◌, Bool, List, ap, arith, length, sym}
+use Rattle.std.proofs.Common.{◌∙◌, Bool, List, ap, arith, length, refl, sym}
 use Rattle.std.specs.Prelude.{Some}
 use Rattle.leases.proofs.CompactedLemmas.{keep_allowed, keep_one, keep_whole, says_through}
-use Rattle.leases.proofs.KeepingLemmas.{keep_none}
 use Rattle.leases.proofs.state.forget.keep_rows.Goals as goal
 
 pub loop-stream-init : goal.loop-stream-init
-loop-stream-init c = λ keep says. sym (keep_none keep c.args.streams.now)
+loop-stream-init c = λ keep says. refl
 
 pub keep-requires : goal.keep-requires
 keep-requires c =

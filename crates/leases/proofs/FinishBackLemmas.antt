@@ -10,16 +10,18 @@ use Rattle.laws_engine.specs.Calls.{answered, given_back, others}
 use Rattle.laws_engine.specs.Engines.{GoodEngine, Lease, PlainEngine, Running, query_at, remains_at, slot_at}
 use Rattle.laws_engine.specs.Histories.{ComesBack}
 use Rattle.laws_engine.proofs.BackLemmas.{same_plain}
-use Rattle.leases.specs.Applied.{Forgets, GivesNothing, HasApplied, HasEnded, HasTaken, HasTakenIn, HasWiredOperators, IsAbove, IsBroken, IsOutAs, IsOutAsIn, IsOutIn, IsUpdated, MayApplyIn, MayTell, with_remains, without_turn}
+use Rattle.leases.specs.Applied.{BothStand, Forgets, GivesNothing, HasApplied, HasEnded, HasTaken, HasTakenIn, HasWiredOperators, IsAbove, IsBroken, IsOutAs, IsOutAsIn, IsOutIn, IsUpdated, MayApplyIn, MayTell, with_remains, without_turn}
 use Rattle.leases.specs.Asked.{HasOperatorAt}
 use Rattle.leases.specs.Shown.{engine_in}
 use Rattle.leases.specs.Sound.{IsSound}
+use Rattle.leases.specs.Told.{MayTellBoth}
 use Rattle.leases.specs.Turns.{HasPutOut, IsOut, lease_of_parts}
 use Rattle.leases.specs.declared.state.State.{State}
 use Rattle.leases.proofs.FinishLemmas as plain
 use Rattle.leases.proofs.FinishSoundLemmas.{out_with, sound_back, sound_broken}
 use Rattle.leases.proofs.LeaveLemmas.{fewer}
 use Rattle.leases.proofs.LookLemmas.{asks_on}
+use Rattle.leases.proofs.StandLemmas.{both_stand}
 
 -- ONE CALL AFTER THE OTHER gives nothing
 pub gives_on : (a b c : State) → GivesNothing a b → GivesNothing b c → GivesNothing a c
@@ -74,6 +76,9 @@ module _ (e : PlainEngine) (d : Lease) (n k lease : ℕ) (s : Slot) (above : Opt
       let is : IsAbove e d.query d.operator above = subst (λ z. IsAbove e z d.operator above) st.query (subst (λ z. IsAbove e n z above) st.operator st.over) in
       is q p out.of.registered out.of.running
 
+  stand : BothStand e.slots s above
+  stand = both_stand e d q p g out.of s above slot_is above_is
+
   is_root : above ≡ None → length p.operators ≤ d.operator + 1
   is_root none =
       subst (λ o. MatchOption o (length p.operators ≤ d.operator + 1) (λ t. (d.operator + 1 < length p.operators) × (t ≡ slot_at e d.query q p (wire_at p d.operator).to))) none above_is
@@ -125,11 +130,22 @@ module _ (e : PlainEngine) (d : Lease) (n k lease : ℕ) (s : Slot) (above : Opt
   pub tells_over : MayTell e1 above
   tells_over = tells_in above refl
 
+  tells_stand : BothStand e1.slots s above
+  tells_stand = subst (λ ss. BothStand ss s above) (sym (ap (λ (z : PlainEngine). z.slots) took.1.1)) (stand e d n k lease s above e1 good out.0 out.1.0 out.1.1 st)
+
   comes : (new : PlainEngine) → HasEnded e1 lease s above new → ComesBack e d out.0 out.1.0 took.0 new
   comes new h = come_back e d n k lease s above e1 good out.0 out.1.0 out.1.1 st took.0 took.1.0 took.1.1 h.0 h.1.0 new above refl h.1.1
 
   pub has_come_back : (new : PlainEngine) → HasEnded e1 lease s above new → HasComeBackAs e d new
   has_come_back new h = (out.0, (out.1.0, (took.0, (out.1.1, comes new h))))
+
+-- so both may be told
+pub may_tell : (e : PlainEngine) (d : Lease) (n k lease : ℕ) (s : Slot) (above : Option Slot) (m : State) → GoodEngine e → IsOutAsIn e d → AreSteps e d n k lease s above (engine_in m) → MayTellBoth m s above
+may_tell e d n k lease s above m good out st = record {
+  here = tells_here e d n k lease s above (engine_in m) good out st;
+  over = tells_over e d n k lease s above (engine_in m) good out st;
+  stand = tells_stand e d n k lease s above (engine_in m) good out st;
+}
 
 -- A TURN THAT WAS RUN is, by its lease, such a turn
 pub out_as_in : (e : PlainEngine) (d : Parts) → GoodEngine e → IsOutIn e d → IsOutAsIn e (lease_of_parts d)

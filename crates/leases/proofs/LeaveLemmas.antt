@@ -1,11 +1,12 @@
 -- Turns and queries that leave an engine: its code's lists, and those of the plain engine.
-use Rattle.std.proofs.Common.{◌≡◌, ◌≤◌, ℕ, ◌==◌, not, Bool, Option, Some, None, MatchOption, Vec, List, [], ◌∷◌, filter, length, map, refl, sym, ap, ◌∙◌, subst, arith, eqb-true}
+use Rattle.std.proofs.Common.{◌≡◌, ◌≤◌, ℕ, ◌==◌, not, Bool, Option, Some, None, Vec, List, [], ◌∷◌, filter, length, map, refl, sym, ap, ◌∙◌, subst, arith, eqb-true}
 use Rattle.std.specs.Prelude.{Ok}
 use Rattle.std.specs.Global.{Global}
 use Rattle.std.specs.List.{find}
 use Rattle.plan.proofs.Lists.{by_test}
 use Rattle.reference.specs.Machine.{Registered}
 use Rattle.laws_queries.specs.Queries.{PlainQuery}
+use Rattle.run_queue.specs.Slots.{Stands}
 use Rattle.run_queue.specs.declared.slots.Slot.{Slot}
 use Rattle.laws_engine.specs.Calls.{IsOf, abandoned}
 use Rattle.laws_engine.proofs.FinishLemmas.{abandon_good}
@@ -14,6 +15,7 @@ use Rattle.leases.specs.Applied.{GivesNothing, HasEnded, IsUpdated, without_turn
 use Rattle.leases.specs.Asked.{HasOperatorAt}
 use Rattle.leases.specs.Readers.{readers_of}
 use Rattle.leases.specs.Shown.{engine_in}
+use Rattle.leases.specs.Told.{MayTellBoth}
 use Rattle.leases.specs.Turns.{Abandons}
 use Rattle.leases.specs.Sound.{IsSound}
 use Rattle.leases.specs.Views.{HasKind, lease_of}
@@ -21,7 +23,8 @@ use Rattle.turn.specs.declared.turns.Turn.{Turn}
 use Rattle.leases.specs.declared.state.State.{State}
 use Rattle.leases.proofs.OutLemmas.{found_in, leases_left, left_in, turn_in}
 use Rattle.leases.proofs.FinishSoundLemmas.{StaysBut, sound_from}
-use Rattle.leases.proofs.LookLemmas.{asks}
+use Rattle.leases.proofs.LookLemmas.{asks, asks_on, tells_on}
+use Rattle.leases.proofs.StandLemmas.{here_stands}
 
 -- TURNS END
 pub fewer : {X : Type 0} (p : X → Bool) (xs : List X) → length (filter p xs) ≤ length xs
@@ -34,12 +37,13 @@ turn_ended s turns n left = ap (λ ls. record (engine_in s) { leases = ls }) (ap
 pub turn_gives_nothing : (s : State) (turns : Vec Turn Global) (n : ℕ) → turns.items ≡ filter (λ t. not (t.lease == n)) s.leases.items → GivesNothing s (record s { leases = turns })
 turn_gives_nothing s turns n left = record { undropped = refl; readers = refl; leases = left_in (λ (t : Turn). not (t.lease == n)) s.leases.items turns.items left }
 
--- and what is told of the operator above
-pub told_above : (told : PlainEngine) (above : Option Slot) (a : Slot) (new : PlainEngine) → above ≡ Some a → IsUpdated told a new → MatchOption above (new ≡ told) (λ z. IsUpdated told z new)
-told_above told above a new some is = subst (λ o. MatchOption o (new ≡ told) (λ z. IsUpdated told z new)) (sym some) is
-
-pub told_none : (told : PlainEngine) (above : Option Slot) → above ≡ None → MatchOption above (told ≡ told) (λ z. IsUpdated told z told)
-told_none told above none = subst (λ o. MatchOption o (told ≡ told) (λ z. IsUpdated told z told)) (sym none) refl
+-- and the slots may be told what they might be told before
+pub may_tell_left : (s : State) (turns : Vec Turn Global) (a : Slot) (above : Option Slot) → MayTellBoth s a above → MayTellBoth (record s { leases = turns }) a above
+may_tell_left s turns a above may = record {
+  here = asks_on (engine_in s) (map lease_of turns.items) s.next s.slots a.query a.operator may.here;
+  over = tells_on (engine_in s) (map lease_of turns.items) s.next s.slots above may.over;
+  stand = may.stand;
+}
 
 -- THE TURN OF A NUMBER that the code found
 pub record IsNumbered (e : PlainEngine) (n : ℕ) (l : Lease) : Type 0 where
@@ -71,6 +75,9 @@ module _ (e : PlainEngine) (g : GoodEngine e) (n : ℕ) (l : Lease) (t : IsNumbe
 
   pub may_end : HasOperatorAt e s.query s.operator
   may_end = subst (λ (z : Slot). HasOperatorAt e z.query z.operator) (sym slot_is) (turn_asks e g n l t)
+
+  pub stands : Stands s e.slots
+  stands = subst (λ (z : Slot). Stands z e.slots) (sym slot_is) (here_stands e l is.query is.plain g of)
 
   module _ (new : PlainEngine) (ended : HasEnded e n s None new) where
     is_abandoned : new ≡ abandoned e l is.query is.plain

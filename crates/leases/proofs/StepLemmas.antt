@@ -1,6 +1,5 @@
 -- A turn that goes out and comes back in one step: the engine that has it out is nowhere kept, and the one after the step is what follows on that.
 use Rattle.std.proofs.Common.{◌≡◌, ◌≢◌, ◌<◌, ◌≤◌, ◌+◌, ◌++◌, ◌==◌, ◌||◌, ℕ, Bool, not, true, false, inl, inr, MatchOption, Option, Some, None, List, [], ◌∷◌, length, refl, sym, ap, ◌∙◌, subst, arith, eq-eqb}
-use Rattle.std.specs.Prelude.{⊤}
 use Rattle.std.specs.List.{list_any}
 use Rattle.op_queue.specs.declared.item.Item.TheVariants.{Tick}
 use Rattle.turn.specs.declared.excerpts.Near.TheVariants.{Nothing}
@@ -9,7 +8,7 @@ use Rattle.plan.proofs.Lists.{by_test}
 use Rattle.reference.specs.Machine.{Registered}
 use Rattle.laws_queries.specs.Queries.{PlainQuery}
 use Rattle.query_runtime.specs.Turns.{wire_at}
-use Rattle.run_queue.specs.Slots.{Stands, changed, first_of, slot, with_next, without_query}
+use Rattle.run_queue.specs.Slots.{changed, first_of, slot, with_next, without_query}
 use Rattle.run_queue.specs.declared.slots.Slot.{Slot}
 use Rattle.laws_engine.specs.Calls.{IsOf, broken, of_others, others}
 use Rattle.laws_engine.specs.Engines.{GoodEngine, HasSlots, IsIn, IsLease, Lease, PlainEngine, Running, is_leased, is_of, next_at, query_at, remains_at, slope_at, slot_at, slot_of}
@@ -35,7 +34,7 @@ use Rattle.leases.proofs.FinishSoundLemmas.{sound_broken}
 use Rattle.leases.proofs.LeaseLemmas.{any_last, out_of, some_slot, turn_out}
 use Rattle.leases.proofs.LeaveLemmas.{fewer}
 use Rattle.leases.proofs.LookLemmas.{asks_on, tells_on}
-use Rattle.leases.proofs.StandLemmas.{stands_in}
+use Rattle.leases.proofs.StandLemmas.{over_stands, stands_in}
 use Rattle.leases.proofs.UpdateLemmas.{changed_again, changed_leaves}
 
 -- A NUMBER is counted
@@ -118,22 +117,8 @@ module _ (old : State) (s : Slot) (sound : IsSound old) (first : first_of old.sl
   may_look_over = wired_operators (engine_in old) any top.query top.plain sound.good of_any
 
   -- IT STANDS in the list, and so does the one above, which is another operator's
-  stand_over : (above : Option Slot)
-      → MatchOption above (length top.plain.operators ≤ s.operator + 1) (λ t. (s.operator + 1 < length top.plain.operators) × (t ≡ slot_at (engine_in old) s.query top.query top.plain (wire_at top.plain s.operator).to))
-      → MatchOption above ⊤ (λ a. Stands a old.slots × (a.operator ≢ s.operator))
-  stand_over None is = tt
-  stand_over (Some a) is =
-      let e = engine_in old in
-      let k = (wire_at top.plain s.operator).to in
-      let later : s.operator < k = to_later e any top.query top.plain sound.good of_any s.operator (below_of e any top.query top.plain sound.good of_any is.0) in
-      let there = may_look_over s.operator top.plain top.running is.0 in
-      let same : there.0 ≡ top.query = same_query (sym there.1.1.registered ∙ top.registered) in
-      let within : k < length top.query.nodes = subst (λ (q : Registered). k < length q.nodes) same there.1.1.within in
-      let stands : Stands (slot_at e s.query top.query top.plain k) old.slots = stands_in e sound.good (slot_at e s.query top.query top.plain k) (slot_is e s.query k top.query top.plain top.registered top.running within) in
-      subst (λ (z : Slot). Stands z old.slots × (z.operator ≢ s.operator)) (sym is.1) (stands, λ z. absurd (omega (arith, later, z)))
-
   pub both_stand : (above : Option Slot) → IsAbove (engine_in old) s.query s.operator above → BothStand old.slots s above
-  both_stand above over = (stands_in (engine_in old) sound.good s (sound.good.slots.only s (first_in old.slots s first).0), stand_over above (over top.query top.plain top.registered top.running))
+  both_stand above over = (stands_in (engine_in old) sound.good s (sound.good.slots.only s (first_in old.slots s first).0), over_stands (engine_in old) any top.query top.plain sound.good of_any above (over top.query top.plain top.registered top.running))
 
 -- ITS TURN, that was run
 module _ (old : State) (s : Slot) (rows : ℕ) (t : Turn) (sound : IsSound old) (first : first_of old.slots ≡ Some s) (allowed : lease_fault (engine_in old) rows ≡ None) (numbers : old.next < LEASE_NUMBERS) (made : IsTurnOn (engine_in old) s rows t) where

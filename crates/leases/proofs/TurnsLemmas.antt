@@ -89,7 +89,7 @@ as_told e x here =
 tells_one : (e : PlainEngine) (s : Slot) → IsUpdated e s (record e { slots = with_update e s e.slots })
 tells_one e s q p r running = ap (λ n. record e { slots = changed s n e.slots }) (next_is e s.query s.operator q p r running)
 
-tells : (e : PlainEngine) (s : Slot) (above : Option Slot) → HasTold e s above (told e s above)
+pub tells : (e : PlainEngine) (s : Slot) (above : Option Slot) → HasTold e s above (told e s above)
 tells e s None = (record e { slots = with_update e s e.slots }, (tells_one e s, refl))
 tells e s (Some a) = (record e { slots = with_update e s e.slots }, (tells_one e s, tells_one (record e { slots = with_update e s e.slots }) a))
 

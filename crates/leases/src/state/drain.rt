@@ -175,7 +175,12 @@ impl State {
 
     /// The slot of the operator that ran gets what that may take next, and then the one above does,
     /// if there is one.
-    fn update_slots(&mut self, slot: &Slot, next: Option<(Side, u64)>, above: &Option<Slot>)
+    pub(crate) fn update_slots(
+        &mut self,
+        slot: &Slot,
+        next: Option<(Side, u64)>,
+        above: &Option<Slot>,
+    )
         requires may_tell { MayTellBoth self.old slot.now above.now }
         requires next { next ≡ next_for (engine_in self.old) slot.now.query slot.now.operator }
         ensures { self.new ≡ told_state self.old slot.now above.now }

@@ -8,11 +8,11 @@ ghost use Rattle.laws_queries.specs.Queries.{PlainQuery};
 ghost use Rattle.laws_engine.specs.Engines.{Broken, Running};
 ghost use Rattle.leases.specs.Applied.{Forgets, GivesNothing, HasApplied, HasEnded};
 ghost use Rattle.leases.specs.Applied.{HasWiredOperators, IsAbove, IsApplied, IsBroken, IsOutIn};
-ghost use Rattle.leases.specs.Applied.{IsTurn, IsUpdated, MayApply, MayApplyIn, MayTell};
+ghost use Rattle.leases.specs.Applied.{IsTurn, MayApply, MayApplyIn};
 ghost use Rattle.leases.specs.Asked.{HasOperatorAt, IsRunningAt};
-ghost use Rattle.leases.specs.Readers.{with_slots, with_update};
 ghost use Rattle.leases.specs.Shown.{engine_in};
 ghost use Rattle.leases.specs.Sound.{IsSound};
+ghost use Rattle.leases.specs.Told.{MayTellBoth};
 ghost use Rattle.leases.specs.Turns.{Finishes};
 ghost use Rattle.leases.specs.Views.{remains_of};
 
@@ -106,30 +106,13 @@ impl State {
     /// The turn of a number is out no more. The slot of its operator gets what that may take next,
     /// and then the one above does, if the turn fed it.
     pub(crate) fn end_turn(&mut self, number: u64, slot: Slot, above: Option<Slot>)
-        requires here { HasOperatorAt (engine_in self.old) slot.query slot.operator }
-        requires over { MayTell (engine_in self.old) above }
+        requires { MayTellBoth self.old slot above }
         ensures ended { HasEnded (engine_in self.old) number slot above (engine_in self.new) }
         ensures rest { GivesNothing self.old self.new }
     {
         self.leases.retain(|turn| turn.lease != number);
-        self.change_slot(&slot);
-        if let Some(above) = &above {
-            self.change_slot(above);
-        }
-    }
-
-    /// Gives the slot what its operator may take next, or nothing. It asks nothing of the slot:
-    /// where that is not among the others, nothing changes. `update_standing_slot` is for one that
-    /// is known to stand there as it is.
-    pub(crate) fn change_slot(&mut self, slot: &Slot)
-        requires { HasOperatorAt (engine_in self.old) slot.now.query slot.now.operator }
-        ensures state { self.new
-            ≡ with_slots self.old (with_update (engine_in self.old) slot.now self.old.slots) }
-        ensures slot { IsUpdated (engine_in self.old) slot.now (engine_in self.new) }
-        ensures rest { GivesNothing self.old self.new }
-    {
         let next = self.next_for(slot.query(), slot.operator());
-        self.slots.change(*slot, next);
+        self.update_slots(&slot, next, &above);
     }
 
     /// Breaks the query: its turns end, its slots and windows leave, and what waits can be taken

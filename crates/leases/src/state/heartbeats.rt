@@ -10,7 +10,7 @@ ghost use Rattle.leases.specs.Asked.{HasOperatorAt};
 ghost use Rattle.query_runtime.specs.Turns.{HasOperator};
 ghost use Rattle.leases.specs.Queues.{LengthensQueues};
 ghost use Rattle.leases.specs.Readers.{idle_slot, idle_slots, is_idle_at, is_idle_in, with_slots};
-ghost use Rattle.leases.specs.Readers.{with_updates};
+ghost use Rattle.leases.specs.Readers.{with_update, with_updates};
 ghost use Rattle.leases.specs.Shown.{engine_in, world_in};
 ghost use Rattle.leases.specs.Sound.{IsSound};
 ghost use Rattle.leases.specs.Views.{remains_of};
@@ -98,6 +98,18 @@ impl State {
         for place in 0..slots.len() {
             self.change_slot(&slots[place]);
         }
+    }
+
+    /// Gives the slot what its operator may take next, or nothing. It asks nothing of the slot:
+    /// where that is not among the others, nothing changes. `update_standing_slot` is for one that
+    /// is known to stand there as it is.
+    fn change_slot(&mut self, slot: &Slot)
+        requires { HasOperatorAt (engine_in self.old) slot.now.query slot.now.operator }
+        ensures { self.new
+            ≡ with_slots self.old (with_update (engine_in self.old) slot.now self.old.slots) }
+    {
+        let next = self.next_for(slot.query(), slot.operator());
+        self.slots.change(*slot, next);
     }
 }
 

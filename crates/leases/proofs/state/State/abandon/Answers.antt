@@ -2,7 +2,7 @@
 use Rattle.std.proofs.Common.{refl}
 use Rattle.leases.specs.Shown.{engine_in}
 use Rattle.leases.proofs.OutLemmas.{none_numbered}
-use Rattle.leases.proofs.LeaveLemmas.{abandons, known, may_end, stays_sound, turn_asks}
+use Rattle.leases.proofs.LeaveLemmas.{abandons, known, may_end, stands, stays_sound, turn_asks}
 use Rattle.leases.proofs.state.State.abandon.Goals as goal
 
 pub returns-in_default-clause-abandons : goal.returns-in_default-clause-abandons
@@ -12,9 +12,12 @@ pub slot-slot-requires : goal.slot-slot-requires
 slot-slot-requires c =
     turn_asks (engine_in c.args.self.now) c.requires.good c.args.lease _ (known c.args.self.now c.args.lease _ c.in-Some.turn.now c.turn.view_is c.in-Some.ensures)
 
-pub end_turn-requires-clause-here : goal.end_turn-requires-clause-here
-end_turn-requires-clause-here c =
-    may_end (engine_in c.args.self.now) c.requires.good c.args.lease _ (known c.args.self.now c.args.lease _ c.in-Some.turn.now c.turn.view_is c.in-Some.ensures) c.slot-slot.result c.slot-slot.ensures
+pub end_turn-requires : goal.end_turn-requires
+end_turn-requires c = record {
+  here = may_end (engine_in c.args.self.now) c.requires.good c.args.lease _ (known c.args.self.now c.args.lease _ c.in-Some.turn.now c.turn.view_is c.in-Some.ensures) c.slot-slot.result c.slot-slot.ensures;
+  over = tt;
+  stand = (stands (engine_in c.args.self.now) c.requires.good c.args.lease _ (known c.args.self.now c.args.lease _ c.in-Some.turn.now c.turn.view_is c.in-Some.ensures) c.slot-slot.result c.slot-slot.ensures, tt);
+}
 
 pub returns-clause-abandons : goal.returns-clause-abandons
 returns-clause-abandons c =

@@ -21,7 +21,7 @@ loop-place-preserved c =
     let slot = c.index-slots-place.result in
     let here = all_next (λ (s : Slot). HasOperatorAt (engine_in c.args.self.now) s.query s.operator) c.args.slots.now c.loop-place.place slot c.loop-place-test.true c.index-slots-place.is c.loop-place.invariant.left in
     let is : c.change_slot.new.self ≡ with_slots c.args.self.now (with_update (engine_in c.args.self.now) slot c.loop-place.self.slots) =
-    told_over c.args.self.now c.loop-place.self c.change_slot.new.self slot c.loop-place.invariant.same c.change_slot.ensures.state in
+    told_over c.args.self.now c.loop-place.self c.change_slot.new.self slot c.loop-place.invariant.same c.change_slot.ensures in
     let slots : c.change_slot.new.self.slots ≡ with_update (engine_in c.args.self.now) slot c.loop-place.self.slots = ap (λ (z : State). z.slots) is in
     record {
       same = is ∙ ap (with_slots c.args.self.now) (sym slots);

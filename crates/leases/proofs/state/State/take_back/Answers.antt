@@ -6,7 +6,7 @@ use Rattle.leases.specs.Shown.{engine_in}
 use Rattle.leases.specs.Sound.{IsSound}
 use Rattle.leases.specs.Turns.{lease_of_parts}
 use Rattle.leases.specs.declared.state.State.{State}
-use Rattle.leases.proofs.FinishBackLemmas.{AreSteps, broken_sound, gives_on, may_apply, may_look, out_as_in, parts_come_back, sound_ended, taken_in, tells_here, tells_over, wired_operators}
+use Rattle.leases.proofs.FinishBackLemmas.{AreSteps, broken_sound, gives_on, may_apply, may_look, may_tell, out_as_in, parts_come_back, sound_ended, taken_in, wired_operators}
 use Rattle.leases.proofs.LeaveLemmas.{fewer}
 use Rattle.leases.proofs.state.State.take_back.Goals as goal
 
@@ -40,13 +40,9 @@ steps c = record {
   applied = taken_in (engine_in c.args.self.now) c.args.parts (engine_in c.apply.new.self) c.requires.sound.good c.requires.done c.requires.out c.in_ok-apply.ensures.ok;
 }
 
-pub end_turn-requires-clause-here : goal.end_turn-requires-clause-here
-end_turn-requires-clause-here c =
-    tells_here (engine_in c.args.self.now) (lease_of_parts c.args.parts) c.parts.inside.0.1.0.query c.parts.inside.0.1.0.operator c.parts.inside.0.0 c.slot-slot.result c.above-above.result (engine_in c.apply.new.self) c.requires.sound.good (out c.args.self.now c.args.parts c.requires.sound c.requires.out) (steps c)
-
-pub end_turn-requires-clause-over : goal.end_turn-requires-clause-over
-end_turn-requires-clause-over c =
-    tells_over (engine_in c.args.self.now) (lease_of_parts c.args.parts) c.parts.inside.0.1.0.query c.parts.inside.0.1.0.operator c.parts.inside.0.0 c.slot-slot.result c.above-above.result (engine_in c.apply.new.self) c.requires.sound.good (out c.args.self.now c.args.parts c.requires.sound c.requires.out) (steps c)
+pub end_turn-requires : goal.end_turn-requires
+end_turn-requires c =
+    may_tell (engine_in c.args.self.now) (lease_of_parts c.args.parts) c.parts.inside.0.1.0.query c.parts.inside.0.1.0.operator c.parts.inside.0.0 c.slot-slot.result c.above-above.result c.apply.new.self c.requires.sound.good (out c.args.self.now c.args.parts c.requires.sound c.requires.out) (steps c)
 
 pub returns-clause-back : goal.returns-clause-back
 returns-clause-back c =

@@ -16,3 +16,6 @@ pub mod BatchLemmas
 pub mod SameLemmas
 pub mod RunLemmas
 pub mod FlatLemmas
+pub mod SlotLemmas
+pub mod QuietLemmas
+pub mod PlaceLemmas

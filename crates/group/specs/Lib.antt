@@ -7,3 +7,5 @@ pub mod Laws
 pub mod Batches
 pub mod Same
 pub mod Runs
+pub mod Slots
+pub mod Places

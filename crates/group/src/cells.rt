@@ -26,9 +26,9 @@ ghost use Rattle.values.specs.declared.TheConstants.{MAX_COLUMNS};
 ghost use Rattle.group.specs.Cells.{all_tallies, held, reads, shown_figure};
 ghost use Rattle.group.specs.Turns.{same_shown, signed_row, swap_of};
 ghost use Rattle.group.specs.Groups.{no_columns};
-ghost use Rattle.std.specs.Prelude.{◌||◌};
+ghost use Rattle.std.specs.Prelude.{◌||◌, IsTrue};
 ghost use Rattle.std.specs.Ordering.{int_cmp, is_lt};
-ghost use Rattle.group.specs.Runs.{put_out, row_at_tick, with_rows};
+ghost use Rattle.group.specs.Runs.{put_out, row_at_tick, with_rows, ShowsKey};
 
 use crate::outgoing::Outgoing;
 use crate::rows::{enters, field_at, row_with, value_in};
@@ -837,6 +837,49 @@ impl Cell {
         Ok(())
     }
 
+    /// Whether it has rows.
+    fn has_rows(&self) -> bool
+        ensures { result ≡ is_lt (int_cmp (pos 0) self.now.rows) }
+    {
+        0 < self.rows
+    }
+
+    /// Whether it has so many tallies.
+    fn has_tallies(&self, count: usize) -> bool
+        ensures { IsTrue result → length self.now.tallies ≡ count }
+    {
+        let given = self.tallies.len();
+        if count < given {
+            return false;
+        }
+        self.more == count - given
+    }
+
+    /// Whether the row that was shown has these values.
+    fn shows(&self, values: &[Value]) -> bool
+        ensures { IsTrue result → self.now.shown ≡ Some (held values.now) }
+    {
+        is_shown(&self.shown, values)
+    }
+
+    /// Whether it shows its key, and that is the row that it has to show: so in Distinct, while it
+    /// has rows.
+    fn shows_key(&self, group: &GroupBy, key: &[Value]) -> bool
+        ensures { IsTrue result → ShowsKey group.now (held key.now) self.now }
+    {
+        let width = key.len();
+        if !self.shows(key) {
+            return false;
+        }
+        if !self.has_rows() {
+            return false;
+        }
+        if !self.has_tallies(width) {
+            return false;
+        }
+        group.lists_key(width)
+    }
+
     /// Whether the group has a row to show.
     fn has_row(&self, group: &GroupBy) -> bool
         ensures { result ≡ (no_columns group.now.by || is_lt (int_cmp (pos 0) self.now.rows)) }
@@ -865,6 +908,10 @@ impl Cell {
         if !self.has_row(group) {
             self.show_none(rows)?;
             return Ok(false);
+        }
+        let quiet = self.shows_key(group, key);
+        if quiet {
+            return Ok(true);
         }
         write_row(
             spare,

@@ -14,7 +14,10 @@ mod laws;
 mod outgoing;
 mod rows;
 mod shape;
+mod slot_list;
+mod slots;
 mod state;
+mod touch;
 mod turn;
 
 pub use laws::groups_keep_their_laws;

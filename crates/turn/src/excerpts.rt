@@ -1,35 +1,10 @@
 //! What turns need of the states of operators.
 ghost use Rattle.std.specs.Prelude.{◌≡◌, ◌↔◌, IsTrue};
 
+use row_bags::RowList;
 use std::marker::Model;
 use values::Row;
-use windows::SlideNear;
-
-/// A list of rows.
-#[derive(Drop)]
-pub struct RowList {
-    /// The rows, in their order.
-    pub rows: Vec<Row>,
-}
-
-impl Model for RowList {
-    ghost use Rattle.std.specs.Prelude.{List};
-    ghost use Rattle.values.specs.Row.{Row as PlainRow};
-    ghost use Rattle.windows.specs.Widths.{rows_of};
-
-    ghost Value = { List PlainRow };
-
-    ghost view = { λ l. rows_of l.rows.items };
-}
-
-impl RowList {
-    /// Whether the lists have the same rows.
-    fn is_same(&self, other: &RowList) -> bool
-        ensures { IsTrue result ↔ (self.now ≡ other.now) }
-    {
-        self.rows == other.rows
-    }
-}
+use windows::{RowTable, SlideNear};
 
 /// For each row of an item the row that falls out of its partition after it, if one does.
 #[derive(Drop)]
@@ -78,7 +53,7 @@ pub enum Near {
     /// Of operators without a state.
     Nothing,
     /// The rows that leave a window of the last instants; none where the item is rows.
-    Leaving(RowList),
+    Leaving(RowTable),
     /// The rows that leave, pass and enter a window that moves at multiples alone; none but at a
     /// tick at which it moves.
     Sliding(SlideNear),

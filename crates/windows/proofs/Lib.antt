@@ -3,6 +3,7 @@ pub mod RunLemmas
 pub mod RangeLemmas
 pub mod HeldLemmas
 pub mod LeavingLemmas
+pub mod TableLemmas
 pub mod PartLemmas
 pub mod LatestLemmas
 pub mod OutputLemmas

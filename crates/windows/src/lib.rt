@@ -14,6 +14,7 @@ mod laws;
 mod outputs;
 mod parts;
 mod range;
+mod row_table;
 mod runs;
 mod slide;
 
@@ -23,4 +24,5 @@ pub use laws::{
     slide_takes_ticks,
 };
 pub use range::{RangeWindow, range_work};
+pub use row_table::RowTable;
 pub use slide::{SlideNear, SlideWindow, slide_work};

@@ -34,6 +34,7 @@ use Rattle.windows.specs.contracts.slide.SlideNear as sliding
 use Rattle.windows.specs.contracts.latest.LatestWindow as latest
 use Rattle.windows.specs.contracts.flat_rows.FlatRows as flat_rows
 use Rattle.windows.specs.contracts.row_table.RowTable as row_table
+use Rattle.windows.specs.contracts.fallen_rows.FallenRows as fallen_rows
 use Rattle.join.specs.contracts.state.Join as join
 use Rattle.group.specs.contracts.state.Group as group
 use Rattle.group.specs.contracts.shape.GroupBy as group_by
@@ -189,8 +190,11 @@ row_table_send = search (sendable, crosses, value_send) depth 30
 pub sliding_send : IsSend sliding.the_row
 sliding_send = search (sendable, crosses, row_table_send) depth 40
 
+pub fallen_rows_send : IsSend fallen_rows.the_row
+fallen_rows_send = search (sendable, crosses, row_table_send) depth 40
+
 pub near_send : IsSend near.the_row
-near_send = search (sendable, crosses, value_send, row_list_send, row_table_send, sliding_send) depth 40 fits 100000
+near_send = search (sendable, crosses, value_send, row_list_send, row_table_send, sliding_send, fallen_rows_send) depth 40 fits 100000
 
 pub near_sync : IsSync near.the_row
 near_sync = search (sendable, crosses) depth 40 fits 100000

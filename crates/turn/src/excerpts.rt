@@ -3,34 +3,7 @@ ghost use Rattle.std.specs.Prelude.{◌≡◌, ◌↔◌, IsTrue};
 
 use row_bags::RowList;
 use std::marker::Model;
-use values::Row;
-use windows::{RowTable, SlideNear};
-
-/// For each row of an item the row that falls out of its partition after it, if one does.
-#[derive(Drop)]
-pub struct FallenRows {
-    /// In the order of the item's rows; None for one after which no row falls out.
-    pub rows: Vec<Option<Row>>,
-}
-
-impl Model for FallenRows {
-    ghost use Rattle.std.specs.Prelude.{List, Option};
-    ghost use Rattle.values.specs.Row.{Row as PlainRow};
-    ghost use Rattle.windows.specs.Latest.{fallen_rows};
-
-    ghost Value = { List (Option PlainRow) };
-
-    ghost view = { λ f. fallen_rows f.rows.items };
-}
-
-impl FallenRows {
-    /// Whether the lists have the same rows at the same places.
-    fn is_same(&self, other: &FallenRows) -> bool
-        ensures { IsTrue result ↔ (self.now ≡ other.now) }
-    {
-        self.rows == other.rows
-    }
-}
+use windows::{FallenRows, RowTable, SlideNear};
 
 /// Of rows the rows of the other side that each meets, of a tick whether the other side has ticked.
 #[derive(Drop)]

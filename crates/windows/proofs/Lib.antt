@@ -6,8 +6,9 @@ pub mod LeavingLemmas
 pub mod TableLemmas
 pub mod PartLemmas
 pub mod LatestLemmas
-pub mod OutputLemmas
 pub mod EnterLemmas
+pub mod FallenLemmas
+pub mod GrownLemmas
 pub mod WindowLemmas
 pub mod MoveLemmas
 pub mod ShownLemmas

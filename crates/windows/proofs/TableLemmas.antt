@@ -1,12 +1,14 @@
 -- Rows of one width that stand in a list of their own.
-use Rattle.std.proofs.Common.{◌≡◌, ℕ, zero, suc, ◌+◌, ◌-◌, ◌*◌, ◌≤◌, Bool, true, false, ℤ, Option, List, [], ◌∷◌, ◌++◌, append_assoc, length, map, take, drop, slice_range, refl, ap, ap₂, sym, ◌∙◌, arith, add-mul, suc-mul, zero-mul, length-drop}
+use Rattle.std.proofs.Common.{◌≡◌, ℕ, zero, suc, ◌+◌, ◌-◌, ◌*◌, ◌≤◌, ◌<◌, Bool, true, false, ℤ, Option, List, [], ◌∷◌, ◌++◌, append_assoc, length, map, take, drop, get_or, slice_range, subst, refl, ap, ap₂, sym, ◌∙◌, arith, add-mul, suc-mul, zero-mul, length-drop}
 use Rattle.std.specs.List.{flat_map}
 use Rattle.std.proofs.Math.Nat.{eq_of_mul-eq-mul_left}
 use Rattle.std.proofs.lemmas.List.{map-append, take-append-drop}
 use Rattle.op_queue.proofs.BoundLemmas.{length-slice_range}
 use Rattle.values.specs.Row.{Row}
+use Rattle.values.specs.declared.TheConstants.{MAX_COLUMNS}
+use Rattle.windows.specs.Widths.{AreWide}
 use Rattle.windows.specs.Held.{IsFlat, cut_rows}
-use Rattle.windows.proofs.FlatLemmas.{cut_rows-drop, length-cut_rows, rows_fit, rows_up_to}
+use Rattle.windows.proofs.FlatLemmas.{IsFlat-none, IsFlat-push, cut_rows-drop, cut_rows-push, get_or-cut_rows, length-cut_rows, rows_fit, rows_up_to, width_is}
 use Rattle.op_queue.specs.Entries.{Entry, RowAt, TickAt}
 use Rattle.op_queue.specs.declared.item.Item.TheVariants.{Tick}
 use Rattle.windows.specs.Slide.{out}
@@ -56,6 +58,31 @@ same_rows w v n (suc m) values others flat other count is =
 pub same_count : (w v n m : ℕ) (values others : List (Option ℤ)) → cut_rows w n values ≡ cut_rows v m others → n ≡ m
 same_count w v n m values others is =
     sym (length-cut_rows w n values) ∙ ap (λ (rows : List Row). length rows) is ∙ length-cut_rows v m others
+
+-- one row more
+pub IsFlat-more : (w n : ℕ) (values : List (Option ℤ)) (rows : List Row) (row : Row) → IsFlat w n values → cut_rows w n values ≡ rows → AreWide (length row) rows → length row ≤ MAX_COLUMNS
+    → IsFlat (length row) (n + 1) (values ++ row)
+IsFlat-more w zero values rows row flat is wide narrow = IsFlat-push (length row) 0 values row (IsFlat-none w 0 (length row) values flat refl) refl narrow
+IsFlat-more w (suc m) values rows row flat is wide narrow =
+    let e : length row ≡ w = width_is w (suc m) (length row) values rows flat is (omega arith) wide in
+    subst (λ (v : ℕ). IsFlat v (suc m + 1) (values ++ row)) (sym e) (IsFlat-push w (suc m) values row flat e (flat.narrow (omega arith)))
+
+pub cut_rows-more : (w n : ℕ) (values : List (Option ℤ)) (rows : List Row) (row : Row) → IsFlat w n values → cut_rows w n values ≡ rows → AreWide (length row) rows
+    → cut_rows (length row) (n + 1) (values ++ row) ≡ rows ++ row ∷ []
+cut_rows-more w zero values rows row flat is wide =
+    cut_rows-push (length row) 0 values row (IsFlat-none w 0 (length row) values flat refl).size refl ∙ ap (λ (rs : List Row). rs ++ row ∷ []) is
+cut_rows-more w (suc m) values rows row flat is wide =
+    let e : length row ≡ w = width_is w (suc m) (length row) values rows flat is (omega arith) wide in
+    ap (λ (v : ℕ). cut_rows v (suc m + 1) (values ++ row)) e ∙ cut_rows-push w (suc m) values row flat.size e ∙ ap (λ (rs : List Row). rs ++ row ∷ []) is
+
+-- a row's values
+pub row_cut : (w n place : ℕ) (values part : List (Option ℤ)) (rows : List Row) → cut_rows w n values ≡ rows → place < length rows → part ≡ slice_range values (place * w) (place * w + w) → part ≡ get_or rows place []
+row_cut w n place values part rows is lt cut =
+    let le : suc place ≤ n = rows_up_to w n (suc place) values rows is (omega (arith, lt)) in
+    let e : place * w + w - place * w ≡ w = omega arith in
+    cut ∙ ap (λ (k : ℕ). take k (drop (place * w) values)) e
+    ∙ sym (get_or-cut_rows w n place values [] (omega (arith, le)))
+    ∙ ap (λ (rs : List Row). get_or rs place []) is
 
 -- rows from a place on have their values
 pub part_fits : (w n «from» count : ℕ) (values : List (Option ℤ)) (rows : List Row) → IsFlat w n values → cut_rows w n values ≡ rows → «from» + count ≤ length rows → «from» * w + count * w ≤ length values

@@ -115,6 +115,7 @@ impl RunningQuery {
 
     /// The side of an operator that a lease takes, and the instant at its front; None where it has
     /// nothing to take.
+    #[inline(always)]
     pub fn ready(&self, streams: &Streams, operator: usize) -> Option<(Side, u64)>
         requires { HasOperator streams.now self.now operator }
         ensures { result

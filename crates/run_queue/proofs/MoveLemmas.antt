@@ -11,7 +11,7 @@ use Rattle.std.specs.declared.cmp.Ordering.{Ordering}
 use Rattle.std.specs.declared.cmp.Ordering.TheVariants.{Less, Equal, Greater}
 use Rattle.run_queue.specs.Slots.{slot_cmp, changed, put, with_next, without, IsBetween, IsFound, IsMissing}
 use Rattle.run_queue.specs.declared.slots.Slot.{Slot}
-use Rattle.run_queue.proofs.SlotLemmas.{found_same, higher, lower, put_at, put_found, slots_total}
+use Rattle.run_queue.proofs.SlotLemmas.{found_same, higher, lower, missing_at, put_at, put_found, slots_total}
 
 -- WHAT MOVES: ys has the items at their new places, and x is written where it belongs
 module _ {X : Type 0} (xs ys : List X) (at to : ℕ) (x : X) where
@@ -159,3 +159,25 @@ first_between slots s i e above = subst (λ n. IsBetween slots s n) (sym e) (rec
 
 pub first_before : (slots : List Slot) (s : Slot) (i : ℕ) → i ≡ 0 → IsBetween slots s i → 1 < length slots → HoldsAt (λ t. slot_cmp t s ≡ Greater) slots 1
 first_before slots s i e b l = (subst (λ n. IsBetween slots s n) e b).above l
+
+-- what belongs between two neighbours is not there
+module _ (slots : List Slot) (s : Slot) (i : ℕ) (h : IsStrictlySortedBy slot_cmp slots) (l : i ≤ length slots) (below : 0 < i → HoldsAt (λ t. slot_cmp t s ≡ Less) slots (i - 1))
+    (above : i < length slots → HoldsAt (λ t. slot_cmp t s ≡ Greater) slots i) where
+  under : (k : ℕ) (d : Slot) → k < i → slot_cmp (get_or slots k d) s ≡ Less
+  under k d m = ⊎_elim
+      (λ e. ap (λ j. slot_cmp (get_or slots j d) s) e ∙ below (omega arith) d)
+      (λ n. slots_total.trans (get_or slots k d) (get_or slots (i - 1) d) s (Less-from_sorted slot_cmp slots k (i - 1) d h (omega arith) (omega arith)) (below (omega arith) d))
+      (cases_eq k (i - 1))
+
+  over : (k : ℕ) (d : Slot) → i ≤ k → k < length slots → slot_cmp (get_or slots k d) s ≡ Greater
+  over k d m n = ⊎_elim
+      (λ e. ap (λ j. slot_cmp (get_or slots j d) s) e ∙ above (omega arith) d)
+      (λ o. lower s (get_or slots k d) (slots_total.trans s (get_or slots i d) (get_or slots k d) (higher (get_or slots i d) s (above (omega arith) d))
+      (Less-from_sorted slot_cmp slots i k d h (omega arith) n)))
+      (cases_eq k i)
+
+  pub missing_between : IsMissing slots s i
+  missing_between = missing_at slots s i h l (λ sorted. ((λ k d p q. under k d q), (λ k d p q. over k d p q)))
+
+pub missing_first : (slots : List Slot) (s : Slot) → IsStrictlySortedBy slot_cmp slots → (0 < length slots → HoldsAt (λ t. slot_cmp t s ≡ Greater) slots 0) → IsMissing slots s 0
+missing_first slots s h above = missing_between slots s 0 h (omega arith) (λ l. absurd (omega (arith, l))) above

@@ -27,6 +27,10 @@ abbrev pub slot_cmp : Slot → Slot → Ordering
 slot_cmp a b = ordering_then (bool_cmp a.is_idle b.is_idle) (ordering_then (fraction_cmp b.slope.0 a.slope.0)
     (ordering_then (nat_cmp a.instant b.instant) (ordering_then (nat_cmp a.query b.query) (nat_cmp a.operator b.operator))))
 
+-- the order of slots of one slope
+abbrev pub later_cmp : Slot → Slot → Ordering
+later_cmp a b = ordering_then (nat_cmp a.instant b.instant) (ordering_then (nat_cmp a.query b.query) (nat_cmp a.operator b.operator))
+
 -- the operator's slot with what it may take next
 abbrev pub with_next : Slot → Option (Side × ℕ) → Slot
 with_next s next = slot s.slope.0 next s.query s.operator

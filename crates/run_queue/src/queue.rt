@@ -14,7 +14,7 @@ use std::alloc::{AllocError, Global};
 use std::marker::Model;
 
 /// How many slots are looked at before one is searched for.
-const FRONT: usize = 3;
+const FRONT: usize = 4;
 
 /// Slots of operators, each once, in their order.
 #[derive(Drop)]
@@ -80,7 +80,7 @@ impl RunQueue {
     pub fn change(&mut self, slot: Slot, next: Option<(Side, u64)>)
         ensures { self.new ≡ changed slot next self.old }
     {
-        change_slot(&mut self.slots, slot, next);
+        change_slot(&mut self.slots, &slot, next);
     }
 
     /// Like `change`, for a slot that is as it stands in the queue, if it is there. Where its
@@ -92,7 +92,7 @@ impl RunQueue {
     {
         let slots = &mut self.slots;
         if !slot.has_next(next) {
-            change_slot(slots, slot, next);
+            change_slot(slots, &slot, next);
         }
     }
 
@@ -107,16 +107,16 @@ impl RunQueue {
 
 /// Gives the slot's operator what it may take next, or nothing. Where it stays at its place it is
 /// written also, since the side may be another.
-fn change_slot(slots: &mut Vec<Slot>, slot: Slot, next: Option<(Side, u64)>)
+fn change_slot(slots: &mut Vec<Slot>, slot: &Slot, next: Option<(Side, u64)>)
     requires { IsStrictlySortedBy slot_cmp slots.old.items }
-    ensures { slots.new.items ≡ changed slot next slots.old.items }
+    ensures { slots.new.items ≡ changed slot.now next slots.old.items }
 {
-    if let Ok(at) = find(slots, &slot) {
+    if let Ok(at) = find(slots, slot) {
         let changed = slot.with_next(next);
-        if changed.is_same(&slot) {
+        if changed.is_same(slot) {
             slots[at] = changed;
         } else {
-            replace(slots, at, changed);
+            replace(slots, at, &changed);
         }
     }
 }
@@ -139,6 +139,7 @@ fn find(slots: &[Slot], slot: &Slot) -> Result<usize, usize>
 
 /// Finds where the slot stands, or where it belongs, by a search.
 #[tactic(auto, using(crate::proofs::SlotLemmas::found_at, crate::proofs::SlotLemmas::missing_at))]
+#[inline(never)]
 fn place_of(slots: &[Slot], slot: &Slot) -> Result<usize, usize>
     requires { IsStrictlySortedBy slot_cmp slots.now }
     ensures found { IfOk result (IsFound slots.now slot.now) }
@@ -158,20 +159,25 @@ fn is_at(slots: &[Slot], at: usize, slot: &Slot) -> bool
 }
 
 /// Removes the slot at a place and puts another at its own place, unless an equal one is there. It
-/// is written also where the place stays, since the side may be another.
-fn replace(slots: &mut Vec<Slot>, at: usize, slot: Slot)
+/// is written also where the place stays, since the side may be another. Most come to the front or
+/// go behind the next one.
+fn replace(slots: &mut Vec<Slot>, at: usize, slot: &Slot)
     requires within { at < vec_len slots.old }
     requires ordered { IsStrictlySortedBy slot_cmp slots.old.items }
-    ensures { slots.new.items ≡ put (remove slots.old.items at) slot }
+    ensures { slots.new.items ≡ put (remove slots.old.items at) slot.now }
 {
-    if is_between(slots, at, &slot) {
-        slots[at] = slot;
+    if is_before(slots, 0, slot) {
+        move_slot(slots, at, 0, slot);
         return;
     }
-    match place_of(slots, &slot) {
+    if is_between(slots, at, slot) {
+        slots[at] = *slot;
+        return;
+    }
+    match new_place(slots, at, slot) {
         Ok(to) => {
             if to == at {
-                slots[at] = slot;
+                slots[at] = *slot;
             } else {
                 slots.remove(at);
             }
@@ -184,6 +190,25 @@ fn replace(slots: &mut Vec<Slot>, at: usize, slot: Slot)
             }
         }
     }
+}
+
+/// Finds where the slot stands, or where it belongs, that leaves a place and does not come to it
+/// again. The next places behind are looked at before it is searched for.
+fn new_place(slots: &[Slot], at: usize, slot: &Slot) -> Result<usize, usize>
+    requires within { at < length slots.now }
+    requires ordered { IsStrictlySortedBy slot_cmp slots.now }
+    ensures found { IfOk result (IsFound slots.now slot.now) }
+    ensures missing { IfErr result (IsMissing slots.now slot.now) }
+{
+    let end = at + FRONT.min(slots.len() - at);
+    let mut to = at + 1;
+    while to < end && is_behind(slots, to, slot) {
+        to += 1;
+    }
+    if to > at + 1 && is_before(slots, to, slot) {
+        return Err(to);
+    }
+    place_of(slots, slot)
 }
 
 /// Whether the slot belongs between the neighbours of a place.
@@ -205,7 +230,7 @@ fn is_behind(slots: &[Slot], at: usize, slot: &Slot) -> bool
     requires { at < length slots.now }
     ensures { IsTrue result ↔ HoldsAt (λ t. slot_cmp t slot.now ≡ Less) slots.now at }
 {
-    slots[at] < *slot
+    slots[at].is_before(slot)
 }
 
 /// Whether the slot belongs before what stands at a place, if anything does.
@@ -214,24 +239,24 @@ fn is_before(slots: &[Slot], at: usize, slot: &Slot) -> bool
         → HoldsAt (λ t. slot_cmp t slot.now ≡ Greater) slots.now at) }
 {
     match slots.get(at) {
-        Some(other) => *slot < *other,
+        Some(other) => other.is_behind(slot),
         None => true,
     }
 }
 
 /// Removes the slot at a place and puts another at a place among the others. Those between the two
 /// places move by one.
-fn move_slot(slots: &mut Vec<Slot>, at: usize, to: usize, slot: Slot)
+fn move_slot(slots: &mut Vec<Slot>, at: usize, to: usize, slot: &Slot)
     requires leaves { at < vec_len slots.old }
     requires comes { to < vec_len slots.old }
-    ensures { slots.new.items ≡ insert (remove slots.old.items at) to slot }
+    ensures { slots.new.items ≡ insert (remove slots.old.items at) to slot.now }
 {
     if to < at {
         slots.copy_within(to..at, to + 1);
     } else {
         slots.copy_within(at + 1..to + 1, at);
     }
-    slots[to] = slot;
+    slots[to] = *slot;
 }
 
 /// Puts a slot at its place, unless it is there; there is room for it.

@@ -1,9 +1,9 @@
 //! An operator's place among the others.
 ghost use Rattle.std.specs.Prelude.{◌≡◌, ◌↔◌, cond, IsTrue, None, Some};
-ghost use Rattle.std.specs.declared.cmp.Ordering.TheVariants.{Equal};
+ghost use Rattle.std.specs.declared.cmp.Ordering.TheVariants.{Equal, Greater, Less};
 ghost use Rattle.std.specs.Ordering.{is_gt};
 ghost use Rattle.envelope.specs.Fraction.{fraction_cmp};
-ghost use Rattle.run_queue.specs.Slots.{goes_on, slot, slot_cmp, with_next};
+ghost use Rattle.run_queue.specs.Slots.{goes_on, later_cmp, slot, slot_cmp, with_next};
 
 use column::Side;
 use envelope::Slope;
@@ -115,6 +115,51 @@ impl Slot {
         }
         if self.is_idle != other.is_idle {
             return false;
+        }
+        self.has_slope_of(other)
+    }
+
+    /// Whether it stands before the other.
+    pub(crate) fn is_before(&self, other: &Slot) -> bool
+        ensures { IsTrue result ↔ (slot_cmp self.now other.now ≡ Less) }
+    {
+        if self.is_idle != other.is_idle {
+            return other.is_idle;
+        }
+        if self.has_slope_of(other) {
+            return self.is_earlier(other);
+        }
+        self.is_steeper(other)
+    }
+
+    /// Whether it stands behind the other.
+    pub(crate) fn is_behind(&self, other: &Slot) -> bool
+        ensures { IsTrue result ↔ (slot_cmp self.now other.now ≡ Greater) }
+    {
+        other.is_before(self)
+    }
+
+    /// Whether it stands before the other by their instants, then by their operators' numbers.
+    fn is_earlier(&self, other: &Slot) -> bool
+        ensures { IsTrue result ↔ (later_cmp self.now other.now ≡ Less) }
+    {
+        if self.instant != other.instant {
+            return self.instant < other.instant;
+        }
+        if other.query != self.query {
+            return self.query < other.query;
+        }
+        other.operator > self.operator
+    }
+
+    /// Whether the operator's slope is the other's. Most often their parts are the same.
+    fn has_slope_of(&self, other: &Slot) -> bool
+        ensures { IsTrue result ↔ (fraction_cmp other.now.slope.0 self.now.slope.0 ≡ Equal) }
+    {
+        let (numerator, denominator) = self.slope.0.parts();
+        let (other_numerator, other_denominator) = other.slope.0.parts();
+        if numerator == other_numerator && denominator == other_denominator {
+            return true;
         }
         self.slope == other.slope
     }

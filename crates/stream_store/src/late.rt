@@ -89,6 +89,20 @@ pub(crate) fn count(late: &BTreeMap<u64, LateRows>) -> usize
     count
 }
 
+/// For how many rows to make room that copies those up to the instant, so that a list of them does
+/// not grow again and again. It costs their instants. Room saves time alone: no clause says how
+/// much it is.
+pub(crate) fn room_up_to(late: &BTreeMap<u64, LateRows>, at: u64) -> usize {
+    let mut count: usize = 0;
+    for (instant, open) in late.iter() {
+        if *instant > at {
+            return count;
+        }
+        count = count.saturating_add(open.len());
+    }
+    count
+}
+
 /// Takes out the rows up to the instant.
 pub(crate) fn drop_up_to(late: &mut BTreeMap<u64, LateRows>, at: u64)
     ensures { late.new.entries ≡ instants_past at late.old.entries }

@@ -10,8 +10,8 @@ ghost use Rattle.stream_store.specs.LateRows.{rows_in, with_rows};
 ghost use Rattle.stream_store.specs.Starts.{row_read, rows_read};
 
 use crate::arrivals::Arrivals;
+use crate::lent::kept_value;
 use crate::starts::{Start, is_read};
-use reference::value_of;
 use std::alloc::{AllocError, Global};
 use std::marker::Model;
 use values::{MAX_COLUMNS, Value};
@@ -60,6 +60,7 @@ impl LateRows {
     }
 
     /// Puts rows behind the others, numbered from `first` on. On Err they are as they were.
+    #[inline(always)]
     pub(crate) fn push_all(
         &mut self,
         first: u64,
@@ -220,6 +221,6 @@ fn push_values(values: &mut Vec<Value>, more: &[Option<i64>])
     ensures { values.new.items ≡ values.old.items ++ more.now }
 {
     for value in more {
-        values.push_reserved(value_of(*value));
+        values.push_reserved(kept_value(*value));
     }
 }

@@ -1,5 +1,8 @@
 //! Rows as they are lent to a stream: their instants, and their values, one row's behind another's.
-ghost use Rattle.std.specs.Prelude.{◌≡◌, ◌≤◌, length, replicate, take};
+ghost use Rattle.std.specs.Prelude.{◌≡◌, ◌≤◌, length, replicate, take, true};
+ghost use Rattle.reference.specs.Commands.{is_stream_value};
+
+use values::Value;
 
 /// How many of the first instants are this one.
 pub(crate) fn count_at(instants: &[i64], instant: i64) -> usize
@@ -14,4 +17,15 @@ pub(crate) fn count_at(instants: &[i64], instant: i64) -> usize
         count += 1;
     }
     count
+}
+
+/// A value of a stream, as it is kept. What was tested before is not tested again.
+pub(crate) fn kept_value(value: Option<i64>) -> Value
+    requires { is_stream_value value ≡ true }
+    ensures { result ≡ value }
+{
+    match value {
+        None => Value::null(),
+        Some(number) => Value::answer(number),
+    }
 }

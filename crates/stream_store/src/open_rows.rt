@@ -9,7 +9,7 @@ ghost use Rattle.stream_store.specs.OpenRows.{IsMore, IsOpen, with_late};
 ghost use Rattle.stream_store.specs.Starts.{has_reader};
 
 use crate::arrivals::Arrivals;
-use crate::late::{copy, count, drop_up_to, forget_from, keep_read, put};
+use crate::late::{copy, count, drop_up_to, forget_from, keep_read, put, room_up_to};
 use crate::late_rows::LateRows;
 use crate::lent::count_at;
 use crate::ordered_rows::OrderedRows;
@@ -105,6 +105,7 @@ impl OpenRows {
         ensures { IfOk result (λ v. v.elements ≡ up_to at self.now.rows) }
     {
         let mut rows = Arrivals::new(self.alloc, self.rising.width());
+        rows.reserve(room_up_to(&self.late, at))?;
         let place = copy_late(&self.rising, &self.late, at, &mut rows)?;
         self.rising.copy_to(place, at, &mut rows)?;
         Ok(rows)

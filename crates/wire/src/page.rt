@@ -62,7 +62,18 @@ impl Page {
         self.going = put(sink, bytes).is_ok();
     }
 
+    /// Gives the sink what is held, and adds bytes that do not fit behind it.
+    #[inline(never)]
+    fn add_anew<K: Sink>(&mut self, sink: &mut K, bytes: &[u8])
+        ensures { Writes (K.taken sink.old) (K.failures sink.old) self.old (K.taken sink.new)
+            (K.failures sink.new) self.new bytes.now }
+    {
+        self.turn(sink);
+        self.add_to_empty(sink, bytes);
+    }
+
     /// Adds bytes to a line. Nothing more is written once a write has failed.
+    #[inline(always)]
     pub(crate) fn add<K: Sink>(&mut self, sink: &mut K, bytes: &[u8])
         ensures { Writes (K.taken sink.old) (K.failures sink.old) self.old (K.taken sink.new)
             (K.failures sink.new) self.new bytes.now }
@@ -70,8 +81,7 @@ impl Page {
         if self.bytes.try_extend_from_slice(bytes).is_ok() {
             return;
         }
-        self.turn(sink);
-        self.add_to_empty(sink, bytes);
+        self.add_anew(sink, bytes);
     }
 
     /// Adds the decimal digits of a number.

@@ -60,13 +60,13 @@ fn whole_number(text: &[u8]) -> Option<(u64, &[u8])>
         let Some((byte, behind)) = rest.split_first() else {
             return None;
         };
-        let Some(digit) = digit_of(*byte) else {
+        if !byte.is_ascii_digit() {
             return Some((number, rest));
-        };
+        }
         if number >= ROOM {
             return None;
         }
-        number = number * 10 + digit;
+        number = number * 10 + (*byte - b'0') as u64;
         rest = behind;
     }
 }

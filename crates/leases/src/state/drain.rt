@@ -175,6 +175,7 @@ impl State {
 
     /// The slot of the operator that ran gets what that may take next, and then the one above does,
     /// if there is one.
+    #[inline(always)]
     pub(crate) fn update_slots(
         &mut self,
         slot: &Slot,

@@ -90,6 +90,7 @@ impl State {
 
     /// The side and the instant of what the operator may take next, if it may take anything and no
     /// turn of it is out.
+    #[inline(always)]
     pub(crate) fn next_for(&self, query: u64, operator: usize) -> Option<(Side, u64)>
         requires { HasOperatorAt (engine_in self.now) query operator }
         ensures { (q : Registered) (p : PlainQuery) → query_at (engine_in self.now) query ≡ Some q

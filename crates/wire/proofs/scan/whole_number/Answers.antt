@@ -1,4 +1,4 @@
-use Rattle.std.proofs.Common.{◌≡◌, ◌++◌, decimal, ap, ◌∙◌, arith}
+use Rattle.std.proofs.Common.{◌≡◌, ◌≤◌, ◌-◌, ◌++◌, decimal, ap, ◌∙◌, arith, rules}
 use Rattle.wire.proofs.Numerals.{first_digit, next_digit}
 use Rattle.wire.proofs.scan.whole_number.Goals as goal
 
@@ -15,9 +15,11 @@ digits-init c =
 
 pub digits-preserved : goal.digits-preserved
 digits-preserved c =
-    let next = c.in-Some-digit_of-2.ensures in
+    let byte = c.in-Some-split_first.byte.now in
+    let least : 48 ≤ byte = search rules in
+    let most : byte ≤ 57 = search rules in
     let so_far = c.digits.invariant in (
-      next_digit _ _ _ _ _ _ so_far.0 c.in-Some-split_first.ensures.cases.0 next.0 next.1 so_far.1 so_far.2,
+      next_digit _ _ _ _ _ (byte - 48) so_far.0 c.in-Some-split_first.ensures.cases.0 (omega arith) (omega arith) so_far.1 so_far.2,
       omega (arith, so_far.1),
-      omega (arith, c.if-number-ge-ROOM.false, next.1),
+      omega (arith, c.if-number-ge-ROOM.false, most),
     )

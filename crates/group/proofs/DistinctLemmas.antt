@@ -13,7 +13,7 @@ use Rattle.group.specs.Laws.{row_at}
 use Rattle.group.proofs.ValueLemmas.{key-alone}
 
 -- all values of a row
-whole_row : (n : ℕ) (r : Row) → length r ≡ n → map (value_at r) (range_with_len 0 n) ≡ r
+pub whole_row : (n : ℕ) (r : Row) → length r ≡ n → map (value_at r) (range_with_len 0 n) ≡ r
 whole_row n r e =
     ext_get_or None (map (value_at r) (range_with_len 0 n)) r (length-map-range_with_len (value_at r) 0 n ∙ sym e)
     (λ i l. get_or-map-range_with_len (value_at r) 0 n i i None (omega (arith, l, length-map-range_with_len (value_at r) 0 n)) (omega arith))

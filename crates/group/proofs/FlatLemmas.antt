@@ -1,5 +1,5 @@
 -- Signed rows whose values stand one behind the other.
-use Rattle.std.proofs.Common.{◌≡◌, ℕ, zero, suc, ◌+◌, ◌-◌, ◌*◌, ◌≤◌, Bool, true, false, not, ℤ, Option, List, [], ◌∷◌, ◌++◌, length, map, take, drop, refl, ap, ap₂, sym, ◌∙◌, subst, arith, append_assoc, length-append, length-drop, drop-drop, zero-mul, add-mul, suc-add, suc-mul, mul-le-mul_right}
+use Rattle.std.proofs.Common.{◌≡◌, ℕ, zero, suc, ◌+◌, ◌-◌, ◌*◌, ◌≤◌, Bool, true, false, not, ℤ, Option, List, [], ◌∷◌, ◌++◌, length, map, take, drop, refl, ap, ap₂, sym, ◌∙◌, subst, arith, append_assoc, append-nil, flat_map, length-append, length-drop, drop-drop, zero-mul, add-mul, suc-add, suc-mul, mul-le-mul_right}
 use Rattle.std.proofs.Math.Seq.{take-add}
 use Rattle.std.proofs.lemmas.List.{map-append, take-append-le, drop-append-le, drop-take, take_all, length-take-le, take-append-drop}
 use Rattle.std.proofs.lemmas.List.{get_or_append_left}
@@ -7,7 +7,10 @@ use Rattle.values.specs.Row.{Row}
 use Rattle.column.specs.Rows.{flat_rows}
 use Rattle.column.proofs.FlatLemmas.{length-flat_rows}
 use Rattle.op_queue.specs.Entries.{Entry, IsForward, RowAt}
+use Rattle.op_queue.specs.Items.{entries_of}
+use Rattle.op_queue.specs.declared.item.Item.{Item}
 use Rattle.op_queue.specs.declared.item.Item.TheVariants.{Rows}
+use Rattle.std.proofs.lemmas.Grind.{flat_map-append}
 use Rattle.op_queue.specs.Queues.{HasGained, Waiting, first_begins}
 use Rattle.op_queue.proofs.GainLemmas.{gained-item, gained-more, gained-same}
 use Rattle.group.specs.Runs.{IsOutgoing}
@@ -115,3 +118,11 @@ gained_more t place more rows batch a b c is h entries begins =
     gained-same
     (ap (λ (rs : List (Bool × Row)). map at (take place rows) ++ map at rs) is ∙ sym (rows_more t place more rows))
     (gained-more (map at (take place rows)) (map at batch) a b c h (gained-item (Rows t batch) b c entries begins))
+
+-- IN ITEMS
+pub items_more : (t place more : ℕ) (rows batch : List (Bool × Row)) (items : List Item) → batch ≡ take more (drop place rows) → flat_map entries_of items ≡ map (RowAt t) (take place rows) → flat_map entries_of (items ++ Rows t batch ∷ []) ≡ map (RowAt t) (take (place + more) rows)
+items_more t place more rows batch items is done =
+    let at : Bool × Row → Entry Row = RowAt t in
+    flat_map-append entries_of items (Rows t batch ∷ [])
+    ∙ ap₂ (λ (es fs : List (Entry Row)). es ++ fs) done (append-nil (map at batch) ∙ ap (map at) is)
+    ∙ sym (rows_more t place more rows)

@@ -5,7 +5,6 @@ pub mod ShortLemmas
 pub mod RoomLemmas
 pub mod BagLemmas
 pub mod CountLemmas
-pub mod OutputLemmas
 pub mod FigureLemmas
 pub mod ValueLemmas
 pub mod StateLemmas
@@ -16,3 +15,8 @@ pub mod BatchLemmas
 pub mod SameLemmas
 pub mod RunLemmas
 pub mod FlatLemmas
+pub mod SlotLemmas
+pub mod QuietLemmas
+pub mod PlaceLemmas
+pub mod ListsLemmas
+pub mod ExcerptLemmas

@@ -1,26 +1,16 @@
--- What `==` says of figures and touched groups.
-use Rattle.std.proofs.Common.{◌≡◌, Bool, false, refl, ap}
+-- What `==` says of figures and of what is grouped by.
+use Rattle.std.proofs.Common.{◌≡◌, Bool, false, ap}
 use Rattle.std.specs.Bool.{Decides}
 use Rattle.std.proofs.lemmas.Bool.Decides.{Decides-int_eq, Decides-and, Decides-like}
-use Rattle.std.proofs.lemmas.Slice.Eq.{slice_eq-Decides}
-use Rattle.values.proofs.Equality.{some_decides, value_decides, row_decides}
+use Rattle.values.proofs.Equality.{some_decides, value_decides}
 use Rattle.group.specs.Groups.{GroupBy}
-use Rattle.group.specs.Same.{figure_eq, touched_eq}
-use Rattle.group.specs.Turns.{TouchedState}
+use Rattle.group.specs.Same.{figure_eq}
 use Rattle.group.specs.declared.cells.Figure.{Figure}
 
 pub figure_decides : (a b : Figure) → Decides (figure_eq a b) (a ≡ b)
 figure_decides a b =
     Decides-like _ (λ e. λ i. record { number = e.0 i; value = e.1 i }) (λ e. (ap (λ (f : Figure). f.number) e, ap (λ (f : Figure). f.value) e))
     (Decides-and _ _ (some_decides Decides-int_eq a.number b.number) (value_decides a.value b.value))
-
-pub touched_decides : (a b : TouchedState) → Decides (touched_eq a b) (a ≡ b)
-touched_decides a b =
-    Decides-like _ (λ e. λ i. record { key = e.0 i; shown = e.1.0 i; rows = e.1.1.0 i; figures = e.1.1.1 i })
-    (λ e. (ap (λ (t : TouchedState). t.key) e, (ap (λ (t : TouchedState). t.shown) e, (ap (λ (t : TouchedState). t.rows) e, ap (λ (t : TouchedState). t.figures) e))))
-    (Decides-and _ _ (row_decides a.key b.key)
-    (Decides-and _ _ (some_decides row_decides a.shown b.shown)
-    (Decides-and _ _ (Decides-int_eq a.rows b.rows) (slice_eq-Decides figure_decides a.figures b.figures _ refl))))
 
 -- groups by the same columns are the same where their lists are
 pub lists_same : (g h : GroupBy) (r : Bool) → g.by ≡ h.by → Decides r (g.items ≡ h.items) → Decides r (g ≡ h)

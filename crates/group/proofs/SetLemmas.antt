@@ -22,10 +22,10 @@ in-cons : (x z : Held) (xs : List Held) (k : ℕ) → k < length (x ∷ xs) → 
 in-cons x z xs zero l e = inl e
 in-cons x z xs (suc k) l e = inr (k, omega (arith, l), e)
 
-in-head : (x z : Held) (xs : List Held) → x ≡ z → Contains (x ∷ xs) z
+pub in-head : (x z : Held) (xs : List Held) → x ≡ z → Contains (x ∷ xs) z
 in-head x z xs e = (0, omega arith, e)
 
-in-tail : (x z : Held) (xs : List Held) → Contains xs z → Contains (x ∷ xs) z
+pub in-tail : (x z : Held) (xs : List Held) → Contains xs z → Contains (x ∷ xs) z
 in-tail x z xs c = (suc c.0, omega (arith, c.1), c.2)
 
 by-cons : (x z : Held) (xs : List Held) → Contains (x ∷ xs) z → (x ≡ z) ⊎ Contains xs z
@@ -95,7 +95,7 @@ in_set-in : (z : Held) (ks : List Held) → Contains (in_set ks) z → Contains 
 in_set-in z ks c = ⊎_elim (λ n. absurd (omega (arith, n.1))) (λ t. t) (in-fold z [] ks c)
 
 -- LISTS IN ORDER WITH THE SAME KEYS
-above : (x z : Held) (xs : List Held) → IsStrictlySortedBy held_cmp (x ∷ xs) → Contains xs z → held_cmp x z ≡ Less
+pub above : (x z : Held) (xs : List Held) → IsStrictlySortedBy held_cmp (x ∷ xs) → Contains xs z → held_cmp x z ≡ Less
 above x z xs s c = All-contains (λ q. held_cmp x q ≡ Less) xs z (All-from_recursion (λ q. held_cmp x q ≡ Less) xs (sorted_head held_cmp x xs s)) c
 
 not_itself : (x z : Held) → x ≡ z → held_cmp x z ≡ Less → ⊥

@@ -1,7 +1,10 @@
 -- Keys longer than all keys of a map, and maps that are moved.
 use Rattle.std.proofs.Common.{◌≡◌, ℕ, ◌<◌, Bool, true, false, cond, List, [], ◌∷◌, ◌++◌, Some, None, length, refl, ap, sym, subst, ◌∙◌, arith, append_assoc, append-nil}
+use Rattle.std.specs.declared.cmp.Ordering.{Ordering}
 use Rattle.std.specs.declared.cmp.Ordering.TheVariants.{Less}
+use Rattle.std.specs.Option.{is_some}
 use Rattle.std.specs.Ordering.{is_eq, match_ordering}
+use Rattle.std.specs.List.{All}
 use Rattle.std.specs.List.Sorted.{IsStrictlySortedBy}
 use Rattle.std.specs.Map.{keys_of, lookup, remove_entry}
 use Rattle.std.specs.BTreeMap.{is_at, insert_entry}
@@ -11,6 +14,7 @@ use Rattle.std.proofs.lemmas.Map.Views.{All-after_first}
 use Rattle.std.proofs.lemmas.List.Elements.{All-cons, All-head, All-tail}
 use Rattle.group.specs.Cells.{Held, held_cmp, CellState}
 use Rattle.group.specs.Keys.{IsShort, Short}
+use Rattle.group.specs.Turns.{has_key}
 use Rattle.group.proofs.KeyLemmas.{held_order, same_key}
 
 -- KEYS THAT ARE TOO LONG
@@ -77,3 +81,27 @@ moved-stay n old rest ws all p split m = short-front n rest (p ∷ []) (subst (S
 pub moved-all : (n : ℕ) (rest ws all : List (Held × CellState)) → length rest ≡ 0 → Moved n rest ws all → ws ≡ all
 moved-all n [] ws all none m = m.same
 moved-all n (e ∷ rest) ws all none m = absurd (omega (arith, none))
+
+-- the last entry of those that are left is not among those that went over
+pub absent-above : (k : Held) (ws : List (Held × CellState)) → All (λ q. held_cmp k q ≡ Less) (keys_of ws) → lookup (is_at (held_cmp k)) ws ≡ None
+absent-above k [] a = refl
+absent-above k (e ∷ es) a =
+    ap (λ (o : Ordering). cond (is_eq o) (Some e.1) (lookup (is_at (held_cmp k)) es)) (All-head (λ q. held_cmp k q ≡ Less) e.0 (keys_of es) a)
+    ∙ absent-above k es (All-tail (λ q. held_cmp k q ≡ Less) e.0 (keys_of es) a)
+
+sorted-after : (xs ys : List (Held × CellState)) → IsStrictlySortedBy held_cmp (keys_of (xs ++ ys)) → IsStrictlySortedBy held_cmp (keys_of ys)
+sorted-after [] ys s = s
+sorted-after (x ∷ xs) ys s = sorted-after xs ys (sorted_tail held_cmp x.0 (keys_of (xs ++ ys)) s)
+
+pub moved-new : (n : ℕ) (old rest ws all : List (Held × CellState)) (p : Held × CellState) → old ≡ rest ++ p ∷ [] → Moved n old ws all → has_key p.0 ws ≡ false
+moved-new n old rest ws all p split m =
+    let one : rest ++ p ∷ ws ≡ all = sym (append_assoc rest (p ∷ []) ws) ∙ ap (λ (es : List (Held × CellState)). es ++ ws) (sym split) ∙ m.same in
+    let sorted : IsStrictlySortedBy held_cmp (keys_of (p ∷ ws)) = sorted-after rest (p ∷ ws) (subst (λ (es : List (Held × CellState)). IsStrictlySortedBy held_cmp (keys_of es)) (sym one) m.sorted) in
+    ap is_some (absent-above p.0 ws (All-after_first held_cmp p.0 (keys_of ws) sorted))
+
+pub moved-short : (n : ℕ) (old rest ws all : List (Held × CellState)) (p : Held × CellState) → old ≡ rest ++ p ∷ [] → Moved n old ws all → IsShort n p.0
+moved-short n old rest ws all p split m = All-head (IsShort n) p.0 (keys_of ws) (short-back n rest (p ∷ ws) (subst (Short n) (sym (sym (append_assoc rest (p ∷ []) ws) ∙ ap (λ (es : List (Held × CellState)). es ++ ws) (sym split) ∙ m.same)) m.short))
+  where
+    short-back : (n : ℕ) (xs ys : List (Held × CellState)) → Short n (xs ++ ys) → Short n ys
+    short-back n [] ys s = s
+    short-back n (x ∷ xs) ys s = short-back n xs ys (All-tail (IsShort n) x.0 (keys_of (xs ++ ys)) s)

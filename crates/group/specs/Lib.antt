@@ -7,3 +7,8 @@ pub mod Laws
 pub mod Batches
 pub mod Same
 pub mod Runs
+pub mod Slots
+pub mod Places
+pub mod Lists
+pub mod Excerpts
+pub mod Touched

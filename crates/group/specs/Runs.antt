@@ -1,5 +1,5 @@
 -- The turn of a tick in place, group by group.
-use Rattle.std.specs.Prelude.{ℕ, ℤ, ◌≡◌, ◌*◌, ◌≤◌, Bool, true, Option, List, ◌++◌, map, length}
+use Rattle.std.specs.Prelude.{ℕ, ℤ, ◌≡◌, ◌*◌, ◌≤◌, Bool, true, Option, Some, List, ◌++◌, map, length}
 use Rattle.std.specs.Option.{is_some}
 use Rattle.std.specs.Map.{set_value}
 use Rattle.std.specs.BTreeMap.{is_at}
@@ -7,7 +7,8 @@ use Rattle.values.specs.Row.{Row}
 use Rattle.values.specs.declared.TheConstants.{MAX_COLUMNS}
 use Rattle.group.specs.Groups.{GroupBy}
 use Rattle.group.specs.Cells.{Held, held_cmp, CellState, showing}
-use Rattle.group.specs.Turns.{ShownState, has_key, cell_of, excerpt, near_at, row_now, shown_at, shown_now, swap_of}
+use Rattle.group.specs.Keys.{KeyedState}
+use Rattle.group.specs.Turns.{GroupState, ShownState, has_key, cell_of, excerpt, near_at, row_now, shown_at, shown_now, swap_of}
 
 -- signed rows of one width that a tick puts out
 pub record OutgoingState : Type 0 where
@@ -31,6 +32,11 @@ row_at_tick g k c = row_now g (excerpt g.items k c)
 abbrev pub put_out : GroupBy → Held → CellState → OutgoingState → OutgoingState
 put_out g k c o = with_rows o (swap_of o.width c.shown (row_at_tick g k c))
 
+-- the group k shows its key, which is the row that it has to show
+pub record ShowsKey (g : GroupBy) (k : Held) (c : CellState) : Type 0 where
+  pub row : row_at_tick g k c ≡ Some k
+  pub shown : c.shown ≡ Some k
+
 -- the groups after the group k shows its row
 abbrev pub swapped : GroupBy → Held → List (Held × CellState) → List (Held × CellState)
 swapped g k es = shown_at (length g.items) k (row_at_tick g k (cell_of (length g.items) k es)) es
@@ -45,3 +51,7 @@ pub record HasSwapped (g : GroupBy) (k : Held) (es : List (Held × CellState)) (
   pub row : some ≡ is_some (row_at_tick g k (cell_of (length g.items) k es))
   pub cells : fs ≡ set_value (is_at (held_cmp k)) es (showing (cell_of (length g.items) k es) (row_at_tick g k (cell_of (length g.items) k es)))
   pub rows : p ≡ put_out g k (cell_of (length g.items) k es) o
+
+-- the state of what is kept of the groups
+abbrev pub state_with : GroupBy → KeyedState → GroupState
+state_with g k = record { group = g; cells = k.cells; touched = k.touched }

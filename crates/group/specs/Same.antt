@@ -1,12 +1,11 @@
--- What touched groups are compared by.
+-- What keys and figures are compared by.
 use Rattle.std.specs.Prelude.{◌≡◌, ℤ, Bool, Option, Some, None, refl}
-use Rattle.std.specs.Cmp.{IsEquivalence, IsTotalOrder, and_equiv, int_cmp_total, int_eq_equiv, on_equiv, on_total}
+use Rattle.std.specs.Cmp.{IsEquivalence, IsTotalOrder, int_cmp_total, int_eq_equiv, on_equiv, on_total}
 use Rattle.std.specs.Cmp.Lexicographic.{lists_equiv, lists_ties, lists_total, options_equiv, options_total, pointwise}
 use Rattle.std.specs.Option.{option_eq}
 use Rattle.std.specs.Ordering.{eq_by_cmp, eq_of_both, int_eq, on}
 use Rattle.values.specs.Row.{value_cmp}
 use Rattle.group.specs.Cells.{Held, held_cmp}
-use Rattle.group.specs.Turns.{TouchedState}
 use Rattle.group.specs.declared.cells.Figure.{Figure}
 
 abbrev pub value_eq : Option ℤ → Option ℤ → Bool
@@ -18,26 +17,11 @@ held_eq = on (λ h. h.items) (pointwise value_eq)
 abbrev pub figure_eq : Figure → Figure → Bool
 figure_eq = eq_of_both (on (λ f. f.number) value_eq) (on (λ f. f.value) value_eq)
 
--- the key, the row shown, the count of rows and the figures
-abbrev pub touched_eq : TouchedState → TouchedState → Bool
-touched_eq =
-    eq_of_both (on (λ t. t.key) held_eq)
-    (eq_of_both (on (λ t. t.shown) (option_eq held_eq)) (eq_of_both (on (λ t. t.rows) int_eq) (on (λ t. t.figures) (pointwise figure_eq))))
-
 value_equiv : IsEquivalence value_eq
 value_equiv = options_equiv int_eq_equiv
 
 pub held_equiv : IsEquivalence held_eq
 held_equiv = on_equiv (λ h. h.items) (lists_equiv value_equiv)
-
-figure_equiv : IsEquivalence figure_eq
-figure_equiv = and_equiv (on_equiv (λ f. f.number) value_equiv) (on_equiv (λ f. f.value) value_equiv)
-
--- it is an equivalence, as `==` has to be
-pub touched_equiv : IsEquivalence touched_eq
-touched_equiv =
-    and_equiv (on_equiv (λ t. t.key) held_equiv)
-    (and_equiv (on_equiv (λ t. t.shown) (options_equiv held_equiv)) (and_equiv (on_equiv (λ t. t.rows) int_eq_equiv) (on_equiv (λ t. t.figures) (lists_equiv figure_equiv))))
 
 -- keys are equal just where neither is before the other
 value_ties : (v w : Option ℤ) → value_eq v w ≡ eq_by_cmp value_cmp v w

@@ -26,12 +26,12 @@ ghost use Rattle.values.specs.declared.TheConstants.{MAX_COLUMNS};
 ghost use Rattle.group.specs.Cells.{all_tallies, held, reads, shown_figure};
 ghost use Rattle.group.specs.Turns.{same_shown, signed_row, swap_of};
 ghost use Rattle.group.specs.Groups.{no_columns};
-ghost use Rattle.std.specs.Prelude.{◌||◌};
+ghost use Rattle.std.specs.Prelude.{◌||◌, IfSome, IsTrue};
 ghost use Rattle.std.specs.Ordering.{int_cmp, is_lt};
-ghost use Rattle.group.specs.Runs.{put_out, row_at_tick, with_rows};
+ghost use Rattle.group.specs.Runs.{put_out, row_at_tick, with_rows, ShowsKey};
 
 use crate::outgoing::Outgoing;
-use crate::rows::{enters, field_at, row_with, value_in};
+use crate::rows::{enters, field_at, value_in};
 use crate::shape::GroupBy;
 use column::{Batch, Column as Lane};
 use lane_kernels::{count_set, count_signed, sum_signed};
@@ -580,25 +580,25 @@ fn figure_at(tallies: &[Tally], place: usize, item: ListItem, key: &[Value], row
     empty_figure(item, key, rows)
 }
 
-/// The exact figures of a group, one for each item of the list.
-fn figures_of(
-    alloc: Global,
+/// Writes the exact figures of a group, one for each item of the list.
+fn write_figures(
+    list: &mut Vec<Figure>,
     tallies: &[Tally],
     more: usize,
     items: &[ListItem],
     key: &[Value],
     rows: i64,
-) -> Result<Vec<Figure>, AllocError>
-    ensures figures { IfOk result (λ fs. fs.items
+) -> Result<(), AllocError>
+    ensures figures { OnOk result (list.new.items
         ≡ figures key.now rows items.now (all_tallies more tallies.now)) }
-    ensures few { IfOk result (λ fs. length fs.items ≤ length items.now) }
+    ensures few { OnOk result (length list.new.items ≤ length items.now) }
 {
     let count = items.len().min(tallies.len().saturating_add(more));
-    let mut figures = Vec::with_capacity(alloc, count)?;
+    list.clear();
     for place in 0..count {
-        figures.push(figure_at(tallies, place, items[place], key, rows))?;
+        list.push(figure_at(tallies, place, items[place], key, rows))?;
     }
-    Ok(figures)
+    Ok(())
 }
 
 /// Writes the row that the figures of a group are shown as, in just as much room as it needs
@@ -635,7 +635,7 @@ fn is_shown(shown: &Option<Vec<Value>>, row: &[Value]) -> bool
 }
 
 /// Whether the values are the same.
-fn has_values(values: &[Value], row: &[Value]) -> bool
+pub(crate) fn has_values(values: &[Value], row: &[Value]) -> bool
     ensures { result ≡ same_row values.now row.now }
 {
     values == row
@@ -753,19 +753,19 @@ impl Cell {
         Ok(())
     }
 
-    /// The exact figures, one for each item of the list.
-    pub(crate) fn figures(
+    /// Writes the exact figures, one for each item of the list.
+    pub(crate) fn write_figures(
         &self,
-        alloc: Global,
+        list: &mut Vec<Figure>,
         items: &[ListItem],
         key: &[Value],
-    ) -> Result<Vec<Figure>, AllocError>
-        ensures figures { IfOk result (λ fs. fs.items
+    ) -> Result<(), AllocError>
+        ensures figures { OnOk result (list.new.items
             ≡ figures key.now self.now.rows items.now self.now.tallies) }
-        ensures few { IfOk result (λ fs. length fs.items ≤ length items.now) }
+        ensures few { OnOk result (length list.new.items ≤ length items.now) }
     {
-        let figures = figures_of(alloc, &self.tallies, self.more, items, key, self.rows)?;
-        Ok(figures)
+        write_figures(list, &self.tallies, self.more, items, key, self.rows)?;
+        Ok(())
     }
 
     /// How many rows.
@@ -775,12 +775,13 @@ impl Cell {
         self.rows
     }
 
-    /// A copy of the row that was shown last.
-    pub(crate) fn shown(&self) -> Option<Row>
-        ensures { result ≡ self.now.shown }
+    /// The row that was shown last.
+    pub(crate) fn shown(&self) -> Option<&[Value]>
+        ensures value { option_map (λ values. held values.now) result ≡ self.now.shown }
+        ensures few { IfSome result (λ values. length values.now ≤ MAX_COLUMNS) }
     {
         match &self.shown {
-            Some(values) => Some(row_with(values)),
+            Some(values) => Some(values),
             None => None,
         }
     }
@@ -837,6 +838,49 @@ impl Cell {
         Ok(())
     }
 
+    /// Whether it has rows.
+    fn has_rows(&self) -> bool
+        ensures { result ≡ is_lt (int_cmp (pos 0) self.now.rows) }
+    {
+        0 < self.rows
+    }
+
+    /// Whether it has so many tallies.
+    fn has_tallies(&self, count: usize) -> bool
+        ensures { IsTrue result → length self.now.tallies ≡ count }
+    {
+        let given = self.tallies.len();
+        if count < given {
+            return false;
+        }
+        self.more == count - given
+    }
+
+    /// Whether the row that was shown has these values.
+    fn shows(&self, values: &[Value]) -> bool
+        ensures { IsTrue result → self.now.shown ≡ Some (held values.now) }
+    {
+        is_shown(&self.shown, values)
+    }
+
+    /// Whether it shows its key, and that is the row that it has to show: so in Distinct, while it
+    /// has rows.
+    fn shows_key(&self, group: &GroupBy, key: &[Value]) -> bool
+        ensures { IsTrue result → ShowsKey group.now (held key.now) self.now }
+    {
+        let width = key.len();
+        if !self.shows(key) {
+            return false;
+        }
+        if !self.has_rows() {
+            return false;
+        }
+        if !self.has_tallies(width) {
+            return false;
+        }
+        group.lists_key(width)
+    }
+
     /// Whether the group has a row to show.
     fn has_row(&self, group: &GroupBy) -> bool
         ensures { result ≡ (no_columns group.now.by || is_lt (int_cmp (pos 0) self.now.rows)) }
@@ -865,6 +909,10 @@ impl Cell {
         if !self.has_row(group) {
             self.show_none(rows)?;
             return Ok(false);
+        }
+        let quiet = self.shows_key(group, key);
+        if quiet {
+            return Ok(true);
         }
         write_row(
             spare,

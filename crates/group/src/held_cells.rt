@@ -4,17 +4,17 @@ ghost use Rattle.std.specs.Prelude.{◌≡◌, ◌≤◌, ◌<◌, ◌+◌, ◌^
 ghost use Rattle.std.specs.BTreeMap.{is_at};
 ghost use Rattle.std.specs.BTreeSet.{insert_key};
 ghost use Rattle.std.specs.Map.{remove_entry};
-ghost use Rattle.group.specs.Batches.{AllInRange, batch_in, row_in};
-ghost use Rattle.group.specs.Cells.{held_cmp, CellRoom, ReadsInRange};
+ghost use Rattle.group.specs.Batches.{AllInRange, batch_in};
+ghost use Rattle.group.specs.Cells.{held_cmp, CellRoom};
 ghost use Rattle.group.specs.Rooms.{kept_in, cells_in, touched_in, room_of};
-ghost use Rattle.group.specs.Turns.{cell_of, taken_in, shown_in, row_key, near_at, outputs};
-ghost use Rattle.group.specs.Turns.{shown_after};
-ghost use Rattle.group.specs.Runs.{OutgoingState, changes_at, with_rows};
+ghost use Rattle.group.specs.Turns.{cell_of, shown_in, near_at, outputs, shown_after, rows_after};
+ghost use Rattle.group.specs.Turns.{CountsUpTo, KeepsRoom};
+ghost use Rattle.group.specs.Runs.{OutgoingState, changes_at, state_with, with_rows};
 
 use crate::keyed::Keyed;
 use crate::outgoing::Outgoing;
 use crate::shape::GroupBy;
-use crate::turn::Touched;
+use crate::turn::Near;
 use column::Batch;
 use std::alloc::{AllocError, Global};
 use values::{ListItem, MAX_COLUMNS, Row};
@@ -106,34 +106,27 @@ impl HeldCells {
         }
     }
 
-    /// A row of a group that may be kept: the group is touched.
-    pub(crate) fn take_in(
+    /// Rows enter and leave, one after the other: their groups are touched.
+    pub(crate) fn take_each(
         &mut self,
         alloc: Global,
         group: &GroupBy,
         batch: &Batch,
-        place: usize,
     ) -> Result<(), AllocError>
-        requires within { place < length batch.now }
-        requires room { CellRoom (2 ^ 62 + 1024) group.now.items
-            (cell_of (length group.now.items)
-            (row_key group.now (row_in batch.now place)) (cells_in self.old)) }
-        ensures cells { OnOk result (cells_in self.new ≡ taken_in group.now.items
-            (row_key group.now (row_in batch.now place)) (row_in batch.now place)
-            (cells_in self.old)) }
-        ensures touched { OnOk result (touched_in self.new
-            ≡ insert_key held_cmp (touched_in self.old)
-            (row_key group.now (row_in batch.now place))) }
-        ensures range { OnOk result (ReadsInRange group.now.items (row_in batch.now place)) }
+        requires { CountsUpTo (2 ^ 62) (state_with group.now (kept_in self.old)) }
+        ensures state { OnOk result (state_with group.now (kept_in self.new)
+            ≡ rows_after (state_with group.now (kept_in self.old)) batch.now) }
+        ensures room { OnOk result (KeepsRoom (state_with group.now (kept_in self.old))
+            (state_with group.now (kept_in self.new))) }
     {
         self.make_room(alloc, group.by().len())?;
         match self {
-            HeldCells::One(keyed) => keyed.take_in(alloc, group, batch, place),
-            HeldCells::Two(keyed) => keyed.take_in(alloc, group, batch, place),
-            HeldCells::Four(keyed) => keyed.take_in(alloc, group, batch, place),
-            HeldCells::Eight(keyed) => keyed.take_in(alloc, group, batch, place),
-            HeldCells::Sixteen(keyed) => keyed.take_in(alloc, group, batch, place),
-            HeldCells::Widest(keyed) => keyed.take_in(alloc, group, batch, place),
+            HeldCells::One(keyed) => keyed.take_each(alloc, group, batch),
+            HeldCells::Two(keyed) => keyed.take_each(alloc, group, batch),
+            HeldCells::Four(keyed) => keyed.take_each(alloc, group, batch),
+            HeldCells::Eight(keyed) => keyed.take_each(alloc, group, batch),
+            HeldCells::Sixteen(keyed) => keyed.take_each(alloc, group, batch),
+            HeldCells::Widest(keyed) => keyed.take_each(alloc, group, batch),
         }
     }
 
@@ -243,13 +236,9 @@ impl HeldCells {
     }
 
     /// What the touched groups have to show, in the order of their keys.
-    pub(crate) fn excerpts(
-        &self,
-        alloc: Global,
-        items: &[ListItem],
-    ) -> Result<Vec<Touched>, AllocError>
+    pub(crate) fn excerpts(&self, alloc: Global, items: &[ListItem]) -> Result<Near, AllocError>
         requires { length items.now ≤ MAX_COLUMNS }
-        ensures { IfOk result (λ ts. ts.items
+        ensures { IfOk result (λ near. near
             ≡ near_at items.now (cells_in self.now) (touched_in self.now)) }
     {
         match self {

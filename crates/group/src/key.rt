@@ -160,15 +160,6 @@ impl<const N: usize> Key<N> {
         Key::with(copied(&self.values))
     }
 
-    /// The key as a row.
-    pub(crate) fn row(&self) -> Row
-        requires { N ≤ MAX_COLUMNS }
-        ensures { result ≡ self.now }
-    {
-        let _ = self.values.as_slice();
-        copied(&self.values)
-    }
-
     /// Its values.
     pub(crate) fn values(&self) -> &[Value]
         ensures value { result.now ≡ self.now.items }

@@ -10,19 +10,22 @@ ghost use Rattle.group.specs.Batches.{AllInRange, batch_in, row_in};
 ghost use Rattle.group.specs.Cells.{held_cmp, CellRoom, ReadsInRange};
 ghost use Rattle.group.specs.Keys.{Short, in_set};
 ghost use Rattle.group.specs.Turns.{cell_of, has_key, taken_in, shown_in, excerpt, row_key};
+ghost use Rattle.group.specs.Turns.{rows_after, CountsUpTo, KeepsRoom};
 ghost use Rattle.group.specs.Turns.{near_at, outputs, shown_after};
 ghost use Rattle.group.specs.Runs.{HasSwapped, OutgoingState, changes_at, put_out, swapped};
-ghost use Rattle.group.specs.Runs.{with_rows};
+ghost use Rattle.group.specs.Runs.{state_with, with_rows};
+ghost use Rattle.group.specs.Touched.{TouchedMore};
 ghost use Rattle.std.specs.Prelude.{false, MatchOption};
 
-use crate::cells::Cell;
+use crate::cells::{Cell, Figure};
 use crate::key::Key;
 use crate::outgoing::Outgoing;
 use crate::shape::GroupBy;
-use crate::turn::Touched;
+use crate::slots::Slots;
+use crate::touch::Touch;
+use crate::turn::{Near, Touched};
 use column::Batch;
 use std::alloc::{AllocError, Global};
-use std::collections::BTreeMap;
 use std::marker::Model;
 use values::{ListItem, MAX_COLUMNS, Row, Value};
 
@@ -33,22 +36,22 @@ const KEPT: usize = 1024;
 #[derive(Drop)]
 pub(crate) struct Keyed<const N: usize> {
     /// By the key, what is kept of each group.
-    cells: BTreeMap<Key<N>, Cell>,
+    cells: Slots<N>,
     /// The keys that were touched since the last tick, in any order; some may stand there more than
     /// once.
-    touched: Vec<Key<N>>,
+    touched: Vec<Touch<N>>,
 }
 
 impl<const N: usize> Model for Keyed<N> {
     ghost use Rattle.std.specs.Prelude.{◌≤◌};
-    ghost use Rattle.group.specs.Keys.{KeyedState as State, Short, in_set};
+    ghost use Rattle.group.specs.Keys.{KeyedState as State, in_set};
     ghost use Rattle.values.specs.declared.TheConstants.{MAX_COLUMNS};
 
     ghost Value = { State };
 
     ghost view = { λ k. record { cells = k.cells.entries; touched = in_set k.touched.items } };
 
-    ghost invariant = { λ k. (N ≤ MAX_COLUMNS) × Short N k.cells.entries };
+    ghost invariant = { λ k. N ≤ MAX_COLUMNS };
 }
 
 impl<const N: usize> Keyed<N> {
@@ -58,7 +61,7 @@ impl<const N: usize> Keyed<N> {
         ensures { result ≡ record { cells = []; touched = [] } }
     {
         Keyed {
-            cells: BTreeMap::new(alloc),
+            cells: Slots::new(alloc),
             touched: Vec::new(alloc),
         }
     }
@@ -70,12 +73,33 @@ impl<const N: usize> Keyed<N> {
         ensures touched { OnOk result
             (self.new.touched ≡ insert_key held_cmp self.old.touched key.now) }
     {
-        touch(&mut self.touched, Key::of(key))?;
+        touch(&mut self.touched, Key::of(key), 0)?;
+        Ok(())
+    }
+
+    /// Rows enter and leave, one after the other: their groups are touched.
+    pub(crate) fn take_each(
+        &mut self,
+        alloc: Global,
+        group: &GroupBy,
+        batch: &Batch,
+    ) -> Result<(), AllocError>
+        requires narrow { N ≤ MAX_COLUMNS }
+        requires fits { length group.now.by ≤ N }
+        requires counts { CountsUpTo (2 ^ 62) (state_with group.now self.old) }
+        ensures state { OnOk result (state_with group.now self.new
+            ≡ rows_after (state_with group.now self.old) batch.now) }
+        ensures room { OnOk result
+            (KeepsRoom (state_with group.now self.old) (state_with group.now self.new)) }
+    {
+        for place in 0..batch.len() {
+            self.take_in(alloc, group, batch, place)?;
+        }
         Ok(())
     }
 
     /// A row of a group that the map may have: the group is touched.
-    pub(crate) fn take_in(
+    fn take_in(
         &mut self,
         alloc: Global,
         group: &GroupBy,
@@ -119,14 +143,8 @@ impl<const N: usize> Keyed<N> {
             (self.new.touched ≡ insert_key held_cmp self.old.touched key.entry) }
         ensures range { OnOk result (ReadsInRange items.now (row_in batch.now place)) }
     {
-        let _ = &self.cells;
-        touch(&mut self.touched, key.copied())?;
-        if let Some(cell) = self.cells.get_mut(&key) {
-            return cell.take(alloc, items, batch, place);
-        }
-        let mut cell = Cell::new(alloc, items.len());
-        cell.take(alloc, items, batch, place)?;
-        self.cells.insert(key, cell)?;
+        let at = self.cells.take(alloc, items, &key, batch, place)?;
+        touch(&mut self.touched, key, at)?;
         Ok(())
     }
 
@@ -149,13 +167,8 @@ impl<const N: usize> Keyed<N> {
     {
         let _ = &self.cells;
         let key = Key::of(key);
-        touch(&mut self.touched, key.copied())?;
-        if let Some(cell) = self.cells.get_mut(&key) {
-            return cell.take_batch(alloc, items, batch);
-        }
-        let mut cell = Cell::new(alloc, items.len());
-        cell.take_batch(alloc, items, batch)?;
-        self.cells.insert(key, cell)?;
+        let at = self.cells.take_batch(alloc, items, &key, batch)?;
+        touch(&mut self.touched, key, at)?;
         Ok(())
     }
 
@@ -174,12 +187,7 @@ impl<const N: usize> Keyed<N> {
     {
         let _ = &self.cells;
         let key = Key::of(key);
-        if let Some(cell) = self.cells.get_mut(&key) {
-            return cell.show(alloc, row);
-        }
-        let mut cell = Cell::new(alloc, count);
-        cell.show(alloc, row)?;
-        self.cells.insert(key, cell)?;
+        self.cells.show(alloc, count, &key, row)?;
         Ok(())
     }
 
@@ -190,9 +198,7 @@ impl<const N: usize> Keyed<N> {
         ensures touched { self.new.touched ≡ self.old.touched }
     {
         let _ = &self.cells;
-        if let Some(key) = Key::fitted(key) {
-            remove_at(&mut self.cells, &key);
-        }
+        self.cells.remove_row(key);
     }
 
     /// A tick of the touched groups, in the order of their keys: each puts out what it has to and
@@ -227,35 +233,25 @@ impl<const N: usize> Keyed<N> {
         forget(&mut self.touched, alloc);
     }
 
-    /// What is kept of a group that the map may have.
-    fn cell(&self, key: &Key<N>) -> Option<&Cell>
-        ensures { option_copied result ≡ lookup (is_at (held_cmp key.now)) self.now.cells }
-    {
-        let _ = &self.cells;
-        self.cells.get(key)
-    }
-
-    /// What a touched group has to show, which the map may not have.
-    fn excerpt_at(
+    /// What a touched group has to show comes behind the others; the map may not have the group.
+    fn add_excerpt(
         &self,
         alloc: Global,
         items: &[ListItem],
         key: &Key<N>,
-    ) -> Result<Touched, AllocError>
+        spare: &mut Vec<Figure>,
+        groups: &mut Touched,
+    ) -> Result<(), AllocError>
         requires { length items.now ≤ MAX_COLUMNS }
-        ensures { IfOk result (λ t. t
-            ≡ excerpt items.now key.now (cell_of (length items.now) key.now self.now.cells)) }
+        ensures { OnOk result (TouchedMore groups.old groups.new
+            (excerpt items.now key.now (cell_of (length items.now) key.now self.now.cells))) }
     {
         let _ = &self.cells;
-        match self.cell(key) {
-            Some(cell) => {
-                let touched = excerpt_of(alloc, items, key, cell)?;
-                Ok(touched)
-            }
+        match self.cells.get(key) {
+            Some(cell) => add_excerpt_of(items, key, cell, spare, groups),
             None => {
                 let cell = Cell::new(alloc, items.len());
-                let touched = excerpt_of(alloc, items, key, &cell)?;
-                Ok(touched)
+                add_excerpt_of(items, key, &cell, spare, groups)
             }
         }
     }
@@ -265,56 +261,47 @@ impl<const N: usize> Keyed<N> {
         &self,
         alloc: Global,
         items: &[ListItem],
-        keys: &[Key<N>],
-    ) -> Result<Vec<Touched>, AllocError>
+        keys: &[Touch<N>],
+    ) -> Result<Near, AllocError>
         requires { length items.now ≤ MAX_COLUMNS }
-        ensures { IfOk result (λ ts. ts.items ≡ near_at items.now self.now.cells keys.now) }
+        ensures { IfOk result (λ near. near ≡ near_at items.now self.now.cells keys.now) }
     {
-        let mut groups = Vec::new(alloc);
+        let mut spare = Vec::new(alloc);
+        let mut groups = Touched::new(alloc);
         for key in keys {
-            groups.push(self.excerpt_at(alloc, items, key)?)?;
+            self.add_excerpt(alloc, items, key.key(), &mut spare, &mut groups)?;
         }
-        Ok(groups)
+        Ok(Near::new(groups))
     }
 
     /// What the touched groups have to show, in the order of their keys.
-    pub(crate) fn excerpts(
-        &self,
-        alloc: Global,
-        items: &[ListItem],
-    ) -> Result<Vec<Touched>, AllocError>
+    pub(crate) fn excerpts(&self, alloc: Global, items: &[ListItem]) -> Result<Near, AllocError>
         requires { length items.now ≤ MAX_COLUMNS }
-        ensures { IfOk result (λ ts. ts.items
+        ensures { IfOk result (λ near. near
             ≡ near_at items.now self.now.cells self.now.touched) }
     {
         let mut keys = copies(alloc, &self.touched)?;
         settle(&mut keys);
-        let groups = self.excerpts_at(alloc, items, &keys)?;
-        Ok(groups)
+        let near = self.excerpts_at(alloc, items, &keys)?;
+        Ok(near)
     }
 
     /// Moves all to keys of more values. After an error some may be lost.
     pub(crate) fn widened(&mut self, alloc: Global) -> Result<Keyed<MAX_COLUMNS>, AllocError>
         ensures { IfOk result (λ wider. wider ≡ self.old) }
     {
-        let _ = self.cells.len();
+        let _ = &self.cells;
         let touched = copies(alloc, &self.touched)?;
-        let mut wider = BTreeMap::new(alloc);
-        while let Some((key, cell)) = self.cells.pop_last() {
-            put(&mut wider, key.copied(), cell)?;
-        }
-        Ok(Keyed {
-            cells: wider,
-            touched,
-        })
+        let cells = self.cells.widened(alloc)?;
+        Ok(Keyed { cells, touched })
     }
 }
 
 /// The same keys again, in room for `M` values each.
 fn copies<const N: usize, const M: usize>(
     alloc: Global,
-    keys: &[Key<N>],
-) -> Result<Vec<Key<M>>, AllocError>
+    keys: &[Touch<N>],
+) -> Result<Vec<Touch<M>>, AllocError>
     requires { N ≤ M }
     ensures { IfOk result (λ copies. copies.items ≡ keys.now) }
 {
@@ -325,19 +312,23 @@ fn copies<const N: usize, const M: usize>(
     Ok(copies)
 }
 
-/// One key more.
-fn touch<const N: usize>(touched: &mut Vec<Key<N>>, key: Key<N>) -> Result<(), AllocError>
+/// One key more, of a group that is at the place.
+fn touch<const N: usize>(
+    touched: &mut Vec<Touch<N>>,
+    key: Key<N>,
+    place: usize,
+) -> Result<(), AllocError>
     ensures { OnOk result
         (in_set touched.new.items ≡ insert_key held_cmp (in_set touched.old.items) key.entry) }
 {
     make_room(touched)?;
-    touched.push(key)?;
+    touched.push(Touch::new(key, place))?;
     Ok(())
 }
 
 /// Room for a key more. Before the list grows, keys that stand in it more than once leave it. So
 /// what it grows to is room for at most some four times the keys that differ.
-fn make_room<const N: usize>(touched: &mut Vec<Key<N>>) -> Result<(), AllocError>
+fn make_room<const N: usize>(touched: &mut Vec<Touch<N>>) -> Result<(), AllocError>
     ensures { OnOk result (in_set touched.new.items ≡ in_set touched.old.items) }
 {
     if touched.len() < touched.capacity() {
@@ -353,7 +344,7 @@ fn make_room<const N: usize>(touched: &mut Vec<Key<N>>) -> Result<(), AllocError
 }
 
 /// Each key stands there once, in order. It takes no memory.
-fn settle<const N: usize>(touched: &mut Vec<Key<N>>)
+fn settle<const N: usize>(touched: &mut Vec<Touch<N>>)
     ensures { touched.new.items ≡ in_set touched.old.items }
 {
     touched.sort_unstable();
@@ -361,7 +352,7 @@ fn settle<const N: usize>(touched: &mut Vec<Key<N>>)
 }
 
 /// No keys. Where there was room for many, it is given back.
-fn forget<const N: usize>(touched: &mut Vec<Key<N>>, alloc: Global)
+fn forget<const N: usize>(touched: &mut Vec<Touch<N>>, alloc: Global)
     ensures { touched.new.items ≡ [] }
 {
     if touched.capacity() > KEPT {
@@ -373,85 +364,58 @@ fn forget<const N: usize>(touched: &mut Vec<Key<N>>, alloc: Global)
 
 /// A tick of the groups with these keys, in their order.
 fn swap_all<const N: usize>(
-    cells: &mut BTreeMap<Key<N>, Cell>,
+    cells: &mut Slots<N>,
     alloc: Global,
     group: &GroupBy,
-    touched: &[Key<N>],
+    touched: &[Touch<N>],
     rows: &mut Outgoing,
 ) -> Result<(), AllocError>
     requires room { N ≤ MAX_COLUMNS }
     requires sorted { IsStrictlySortedBy held_cmp touched.now }
     requires width { rows.old.width ≡ length group.now.items }
-    requires short { Short N cells.old.entries }
     ensures cells { OnOk result (cells.new.entries
         ≡ fold (shown_after (length group.now.items)) cells.old.entries
         (changes_at group.now cells.old.entries touched.now)) }
     ensures rows { OnOk result (rows.new ≡ with_rows rows.old
         (outputs group.now (near_at group.now.items cells.old.entries touched.now))) }
-    ensures short { Short N cells.new.entries }
 {
     let mut spare = Vec::new(alloc);
-    for key in touched {
-        swap_in(cells, alloc, group, key, &mut spare, rows)?;
+    for touch in touched {
+        swap_in(cells, alloc, group, touch, &mut spare, rows)?;
     }
     Ok(())
 }
 
-/// A tick of a group that the map may have: it puts out what it has to and shows its row. One that
-/// has no row to show is no longer kept.
+/// A tick of a group that may be there: it puts out what it has to and shows its row. One that has
+/// no row to show is no longer kept.
 fn swap_in<const N: usize>(
-    cells: &mut BTreeMap<Key<N>, Cell>,
+    cells: &mut Slots<N>,
     alloc: Global,
     group: &GroupBy,
-    key: &Key<N>,
+    touch: &Touch<N>,
     spare: &mut Vec<Value>,
     rows: &mut Outgoing,
 ) -> Result<(), AllocError>
-    requires room { N ≤ MAX_COLUMNS }
-    requires short { Short N cells.old.entries }
-    ensures cells { OnOk result (cells.new.entries ≡ swapped group.now key.now cells.old.entries) }
-    ensures rows { OnOk result (rows.new ≡ put_out group.now key.now
-        (cell_of (length group.now.items) key.now cells.old.entries) rows.old) }
-    ensures short { Short N cells.new.entries }
+    requires { N ≤ MAX_COLUMNS }
+    ensures cells { OnOk result
+        (cells.new.entries ≡ swapped group.now touch.now cells.old.entries) }
+    ensures rows { OnOk result (rows.new ≡ put_out group.now touch.now
+        (cell_of (length group.now.items) touch.now cells.old.entries) rows.old) }
 {
-    match swap_at(cells, alloc, group, key, spare, rows)? {
+    let key = touch.key();
+    match cells.swap(alloc, group, key, touch.place(), spare, rows)? {
         Some(true) => Ok(()),
         Some(false) => {
-            remove_at(cells, key);
+            cells.remove(key);
             Ok(())
         }
         None => swap_new(cells, alloc, group, key, spare, rows),
     }
 }
 
-/// A tick of the group with this key, which stays in the map: whether it has a row to show; None
-/// where the map has no such group.
-fn swap_at<const N: usize>(
-    cells: &mut BTreeMap<Key<N>, Cell>,
-    alloc: Global,
-    group: &GroupBy,
-    key: &Key<N>,
-    spare: &mut Vec<Value>,
-    rows: &mut Outgoing,
-) -> Result<Option<bool>, AllocError>
-    ensures keys { keys_of cells.new.entries ≡ keys_of cells.old.entries }
-    ensures swapped { IfOk result (λ some. MatchOption some
-        ((has_key key.now cells.old.entries ≡ false) × (cells.new.entries ≡ cells.old.entries)
-        × (rows.new ≡ rows.old))
-        (HasSwapped group.now key.now cells.old.entries rows.old cells.new.entries rows.new)) }
-{
-    match cells.get_mut(key) {
-        Some(cell) => {
-            let some = cell.swap(alloc, group, key.values(), spare, rows)?;
-            Ok(Some(some))
-        }
-        None => Ok(None),
-    }
-}
-
-/// A tick of a group that the map has not.
+/// A tick of a group that is not there.
 fn swap_new<const N: usize>(
-    cells: &mut BTreeMap<Key<N>, Cell>,
+    cells: &mut Slots<N>,
     alloc: Global,
     group: &GroupBy,
     key: &Key<N>,
@@ -459,58 +423,34 @@ fn swap_new<const N: usize>(
     rows: &mut Outgoing,
 ) -> Result<(), AllocError>
     requires room { N ≤ MAX_COLUMNS }
-    requires short { Short N cells.old.entries }
     requires new { has_key key.now cells.old.entries ≡ false }
     ensures cells { OnOk result (cells.new.entries ≡ swapped group.now key.now cells.old.entries) }
     ensures rows { OnOk result (rows.new ≡ put_out group.now key.now
         (cell_of (length group.now.items) key.now cells.old.entries) rows.old) }
-    ensures short { Short N cells.new.entries }
 {
     let mut cell = Cell::new(alloc, group.items().len());
     let some = cell.swap(alloc, group, key.values(), spare, rows)?;
     if !some {
         return Ok(());
     }
-    cells.insert(key.copied(), cell)?;
-    Ok(())
-}
-
-/// The group with this key leaves the map.
-fn remove_at<const N: usize>(cells: &mut BTreeMap<Key<N>, Cell>, key: &Key<N>)
-    requires { N ≤ MAX_COLUMNS }
-    ensures { cells.new.entries ≡ remove_entry (is_at (held_cmp key.now)) cells.old.entries }
-{
-    cells.remove(key);
-}
-
-/// The group with this key comes to the map.
-fn put(
-    cells: &mut BTreeMap<Key<MAX_COLUMNS>, Cell>,
-    key: Key<MAX_COLUMNS>,
-    cell: Cell,
-) -> Result<(), AllocError>
-    ensures { OnOk result (cells.new.entries ≡ insert_entry held_cmp cells.old.entries key cell) }
-{
     cells.insert(key, cell)?;
     Ok(())
 }
 
-/// What a touched group has to show.
-fn excerpt_of<const N: usize>(
-    alloc: Global,
+/// What a touched group has to show comes behind the others. `spare` lends room for its figures.
+fn add_excerpt_of<const N: usize>(
     items: &[ListItem],
     key: &Key<N>,
     cell: &Cell,
-) -> Result<Touched, AllocError>
+    spare: &mut Vec<Figure>,
+    groups: &mut Touched,
+) -> Result<(), AllocError>
     requires room { N ≤ MAX_COLUMNS }
     requires few { length items.now ≤ MAX_COLUMNS }
-    ensures { IfOk result (λ t. t ≡ excerpt items.now key.now cell.now) }
+    ensures { OnOk result
+        (TouchedMore groups.old groups.new (excerpt items.now key.now cell.now)) }
 {
-    let figures = cell.figures(alloc, items, key.values())?;
-    Ok(Touched {
-        key: key.row(),
-        shown: cell.shown(),
-        rows: cell.rows(),
-        figures,
-    })
+    cell.write_figures(spare, items, key.values())?;
+    groups.push(key.values(), cell.shown(), cell.rows(), spare)?;
+    Ok(())
 }

@@ -11,10 +11,14 @@ mod held_cells;
 mod key;
 mod keyed;
 mod laws;
+mod lists;
 mod outgoing;
 mod rows;
 mod shape;
+mod slot_list;
+mod slots;
 mod state;
+mod touch;
 mod turn;
 
 pub use laws::groups_keep_their_laws;

@@ -6,10 +6,9 @@ ghost use Rattle.values.specs.Condition.{field};
 ghost use Rattle.values.specs.Row.{value_at};
 ghost use Rattle.group.specs.Batches.{row_in};
 ghost use Rattle.group.specs.Cells.{held};
-ghost use Rattle.group.specs.Turns.{fitted};
 
 use column::Batch;
-use values::{Column, MAX_COLUMNS, Row, Value, value_at};
+use values::{Column, MAX_COLUMNS, Row, Value};
 
 /// The value in a column of a row of a batch, which is a combination by itself.
 pub(crate) fn field_at(batch: &Batch, place: usize, column: Column) -> Value
@@ -42,18 +41,6 @@ pub(crate) fn value_in(row: &[Value], column: usize) -> Value
         Some(value) => *value,
         None => Value::null(),
     }
-}
-
-/// The row with this many columns.
-pub(crate) fn fitted(row: &Row, width: usize) -> Row
-    requires { width ≤ MAX_COLUMNS }
-    ensures { result ≡ held (fitted width row.now) }
-{
-    let mut copy = Row::new();
-    for column in 0..width {
-        copy.push(value_at(row, column));
-    }
-    copy
 }
 
 /// The row with these values.

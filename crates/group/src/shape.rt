@@ -1,6 +1,8 @@
 //! What is grouped by, and what is listed of each group.
 
-ghost use Rattle.std.specs.Prelude.{◌≡◌, ◌↔◌, ◌≤◌, IsTrue, length, IfOk};
+ghost use Rattle.std.specs.Prelude.{◌≡◌, ◌↔◌, ◌≤◌, IsTrue, length, map, IfOk};
+ghost use Rattle.std.specs.List.{range_with_len};
+ghost use Rattle.values.specs.declared.resolved.ListItem.TheVariants.{Key};
 ghost use Rattle.group.specs.Groups.{once_each, no_columns};
 
 use std::alloc::{AllocError, Global};
@@ -78,10 +80,43 @@ impl GroupBy {
         self.by == other.by && self.items == other.items
     }
 
+    /// Whether the list is a key of so many values, one after the other.
+    pub(crate) fn lists_key(&self, width: usize) -> bool
+        ensures { IsTrue result → self.now.items ≡ map Key (range_with_len 0 width) }
+    {
+        let _ = &self.items;
+        lists_key(&self.items, width)
+    }
+
     /// Whether there is no column of Group By: then there is one group, also over no rows.
     pub(crate) fn is_whole(&self) -> bool
         ensures { result ≡ no_columns self.now.by }
     {
         self.by.is_empty()
     }
+}
+
+/// Whether the item is this value of the key.
+fn is_key(item: ListItem, place: usize) -> bool
+    ensures { IsTrue result → item ≡ Key place }
+{
+    match item {
+        ListItem::Key(column) => column == place,
+        _ => false,
+    }
+}
+
+/// Whether the items are the values of a key of so many, one after the other.
+fn lists_key(items: &[ListItem], width: usize) -> bool
+    ensures { IsTrue result → items.now ≡ map Key (range_with_len 0 width) }
+{
+    if items.len() != width {
+        return false;
+    }
+    for place in 0..items.len() {
+        if !is_key(items[place], place) {
+            return false;
+        }
+    }
+    true
 }

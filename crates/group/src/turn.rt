@@ -1,137 +1,167 @@
 //! What a turn of a group reads, puts out and changes.
 
-ghost use Rattle.std.specs.Prelude.{◌≡◌, ◌↔◌, ◌≤◌, ◌<◌, ◌++◌, [], ◌∷◌, IsTrue, List, length, map};
-ghost use Rattle.std.specs.Prelude.{IfOk, OnOk};
+ghost use Rattle.std.specs.Prelude.{◌≡◌, ◌↔◌, ◌≤◌, ◌<◌, ◌++◌, [], ◌∷◌, ◌||◌, IsTrue, List};
+ghost use Rattle.std.specs.Prelude.{length, map, cond, pos, Some, None, IfOk, IfSome, OnOk};
 ghost use Rattle.std.specs.List.{flat_map};
-ghost use Rattle.column.specs.Rows.{signed, IsTable};
+ghost use Rattle.std.specs.Option.{option_map};
+ghost use Rattle.std.specs.Ordering.{int_cmp, is_lt};
 ghost use Rattle.op_queue.specs.Entries.{RowAt, TickAt};
 ghost use Rattle.op_queue.specs.Items.{entries_of};
+ghost use Rattle.group.specs.Groups.{no_columns};
 ghost use Rattle.group.specs.Cells.{held, shown_figure};
-ghost use Rattle.group.specs.Turns.{row_now, swap_of, signed_row, outputs, out, change};
+ghost use Rattle.group.specs.Excerpts.{ListShown, ListTouched, shown_of, touched_of};
+ghost use Rattle.group.specs.Excerpts.{shown_at_place, touched_at};
+ghost use Rattle.group.specs.Turns.{row_now, same_shown, signed_row, swap_of, outputs, out, change};
 ghost use Rattle.group.specs.Turns.{shown_now};
+ghost use Rattle.group.specs.Touched.{SameTouched, TouchedMore, HasTouched, groups_of};
+ghost use Rattle.group.specs.Runs.{OutgoingState, with_rows};
 ghost use Rattle.values.specs.declared.TheConstants.{MAX_COLUMNS};
 
-use crate::cells::Figure;
-use crate::rows::fitted;
+use crate::cells::{Figure, has_values};
+use crate::lists::{FigureLists, ShownLists, ValueLists};
+use crate::outgoing::Outgoing;
 use crate::shape::GroupBy;
-use column::{Batch, SignedRow};
 use op_queue::Item;
 use std::alloc::{AllocError, Global};
 use std::marker::Model;
-use values::{Row, copy_row};
+use values::Value;
 
-/// The most rows of a batch.
-const BATCH: usize = 1024;
-
-/// A group that rows touched since the last tick: its key, the row that was shown of it, and what
-/// it has to show.
+/// Groups that rows touched since the last tick, in lists side by side.
 #[derive(Drop)]
 pub(crate) struct Touched {
-    /// The group's key.
-    pub(crate) key: Row,
-    /// The row that was shown of it last; `None` where none was yet.
-    pub(crate) shown: Option<Row>,
-    /// How many rows it has.
-    pub(crate) rows: i64,
-    /// For each item of the list, in order, its exact figure.
-    pub(crate) figures: Vec<Figure>,
+    /// The groups' keys.
+    keys: ValueLists,
+    /// The row that was shown of each last; it is missing where none was yet.
+    shown: ShownLists,
+    /// How many rows each has.
+    rows: Vec<i64>,
+    /// For each item of the list, in order, the exact figure of each.
+    figures: FigureLists,
 }
 
-impl Model for Touched {
-    ghost use Rattle.std.specs.Prelude.{◌≤◌, length};
-    ghost use Rattle.group.specs.Turns.{TouchedState as State};
-    ghost use Rattle.values.specs.declared.TheConstants.{MAX_COLUMNS};
-
-    ghost Value = { State };
-
-    ghost view = { λ t.
-        record { key = t.key; shown = t.shown; rows = t.rows; figures = t.figures.items } };
-
-    ghost invariant = { λ t. length t.figures.items ≤ MAX_COLUMNS };
-}
-
-impl PartialEq for Touched {
-    ghost use Rattle.std.specs.Cmp.{partial_equiv_from_equiv};
-    ghost use Rattle.group.specs.Same.{touched_eq, touched_equiv};
-
-    ghost eq = { touched_eq };
-
-    ghost laws = { partial_equiv_from_equiv touched_equiv };
-
-    fn eq(&self, other: &Self) -> bool {
-        self.key == other.key
-            && self.shown == other.shown
-            && self.rows == other.rows
-            && self.figures == other.figures
+impl Touched {
+    /// No groups. It takes no memory.
+    pub(crate) fn new(alloc: Global) -> Touched
+        ensures { HasTouched result [] }
+    {
+        Touched {
+            keys: ValueLists::new(alloc),
+            shown: ShownLists::new(alloc),
+            rows: Vec::new(alloc),
+            figures: FigureLists::new(alloc),
+        }
     }
-}
 
-impl Eq for Touched {
-    ghost use Rattle.group.specs.Same.{touched_equiv};
+    /// A group more. After an error the lists are to be dropped.
+    pub(crate) fn push(
+        &mut self,
+        key: &[Value],
+        shown: Option<&[Value]>,
+        rows: i64,
+        figures: &[Figure],
+    ) -> Result<(), AllocError>
+        requires key { length key.now ≤ MAX_COLUMNS }
+        requires shown { IfSome shown (λ values. length values.now ≤ MAX_COLUMNS) }
+        requires figures { length figures.now ≤ MAX_COLUMNS }
+        ensures { OnOk result (TouchedMore self.old self.new (record {
+          key = held key.now;
+          shown = option_map (λ values. held values.now) shown.entry;
+          rows = rows;
+          figures = figures.now;
+        })) }
+    {
+        self.keys.push(key)?;
+        self.shown.push(shown)?;
+        self.rows.push(rows)?;
+        self.figures.push(figures)?;
+        Ok(())
+    }
 
-    ghost laws = { touched_equiv };
+    /// Whether the lists are the same.
+    fn is_same(&self, other: &Touched) -> bool
+        ensures { IsTrue result ↔ SameTouched self.now other.now }
+    {
+        if !self.keys.is_same(&other.keys) {
+            return false;
+        }
+        if !self.shown.is_same(&other.shown) {
+            return false;
+        }
+        let same = self.rows == other.rows;
+        if !same {
+            return false;
+        }
+        self.figures.is_same(&other.figures)
+    }
 }
 
 /// The excerpt of a turn: each touched group where the item is a tick, else none.
 #[derive(Drop)]
 pub struct Near {
     /// The groups, by key.
-    groups: Vec<Touched>,
+    groups: Touched,
 }
 
 impl Model for Near {
     ghost use Rattle.std.specs.Prelude.{List};
+    ghost use Rattle.group.specs.Touched.{HasTouched, groups_of};
     ghost use Rattle.group.specs.Turns.{TouchedState as State};
 
     ghost Value = { List State };
 
-    ghost view = { λ n. n.groups.items };
-}
+    ghost view = { λ n. groups_of n.groups };
 
-/// What a group shows from a tick on.
-#[derive(Drop)]
-pub(crate) struct Shown {
-    /// The group's key.
-    pub(crate) key: Row,
-    /// The row; `None` where the group shows none and is no longer kept.
-    pub(crate) row: Option<Row>,
-}
-
-impl Model for Shown {
-    ghost use Rattle.group.specs.Turns.{ShownState as State};
-
-    ghost Value = { State };
-
-    ghost view = { λ s. record { key = s.key; row = s.row } };
-}
-
-/// The change of a turn: what each touched group shows from the tick on; at rows nothing.
-#[derive(Drop)]
-pub struct Change {
-    /// What each of the groups shows, by key.
-    shown: Vec<Shown>,
-}
-
-impl Model for Change {
-    ghost use Rattle.std.specs.Prelude.{List};
-    ghost use Rattle.group.specs.Turns.{ShownState as State};
-
-    ghost Value = { List State };
-
-    ghost view = { λ c. c.shown.items };
+    ghost invariant = { λ n. HasTouched n.groups (groups_of n.groups) };
 }
 
 impl Near {
-    pub(crate) fn new(groups: Vec<Touched>) -> Near
-        ensures { result ≡ groups.items }
+    pub(crate) fn new(groups: Touched) -> Near
+        requires { HasTouched groups (groups_of groups) }
+        ensures { result ≡ groups_of groups }
     {
         Near { groups }
     }
 
-    pub(crate) fn groups(&self) -> &[Touched]
-        ensures { result.now ≡ self.now }
+    /// How many groups.
+    fn len(&self) -> usize
+        ensures { result ≡ length self.now }
     {
-        &self.groups
+        self.groups.rows.len()
+    }
+
+    /// The key of the group at a place.
+    fn key(&self, place: usize) -> &[Value]
+        requires { place < length self.now }
+        ensures value { result.now ≡ (touched_at self.now place).key.items }
+        ensures few { length result.now ≤ MAX_COLUMNS }
+    {
+        self.groups.keys.get(place)
+    }
+
+    /// The row that was shown last of the group at a place.
+    fn shown(&self, place: usize) -> Option<&[Value]>
+        requires { place < length self.now }
+        ensures { option_map (λ values. held values.now) result
+            ≡ (touched_at self.now place).shown }
+    {
+        self.groups.shown.get(place)
+    }
+
+    /// How many rows the group at a place has.
+    fn rows(&self, place: usize) -> i64
+        requires { place < length self.now }
+        ensures { result ≡ (touched_at self.now place).rows }
+    {
+        self.groups.rows[place]
+    }
+
+    /// The exact figures of the group at a place.
+    fn figures(&self, place: usize) -> &[Figure]
+        requires { place < length self.now }
+        ensures value { result.now ≡ (touched_at self.now place).figures }
+        ensures few { length result.now ≤ MAX_COLUMNS }
+    {
+        self.groups.figures.get(place)
     }
 
     /// Whether the excerpts are equal: the same groups with the same rows shown and the same
@@ -139,159 +169,214 @@ impl Near {
     pub fn is_same(&self, other: &Near) -> bool
         ensures { IsTrue result ↔ (self.now ≡ other.now) }
     {
-        self.groups == other.groups
+        self.groups.is_same(&other.groups)
     }
+}
+
+/// The change of a turn: what each touched group shows from the tick on; at rows nothing.
+#[derive(Drop)]
+pub struct Change {
+    /// The groups' keys, in order.
+    keys: ValueLists,
+    /// The row of each; it is missing where the group shows none and is no longer kept.
+    rows: ShownLists,
+}
+
+impl Model for Change {
+    ghost use Rattle.std.specs.Prelude.{List};
+    ghost use Rattle.group.specs.Excerpts.{ListShown, shown_of};
+    ghost use Rattle.group.specs.Turns.{ShownState as State};
+
+    ghost Value = { List State };
+
+    ghost view = { λ c. shown_of c.keys c.rows };
+
+    ghost invariant = { λ c. ListShown c.keys c.rows (shown_of c.keys c.rows) };
 }
 
 impl Change {
-    pub(crate) fn shown(&self) -> &[Shown]
-        ensures { result.now ≡ self.now }
+    fn new(keys: ValueLists, rows: ShownLists) -> Change
+        requires { ListShown keys rows (shown_of keys rows) }
+        ensures { result ≡ shown_of keys rows }
     {
-        &self.shown
+        Change { keys, rows }
+    }
+
+    /// How many groups.
+    pub(crate) fn len(&self) -> usize
+        ensures { result ≡ length self.now }
+    {
+        self.keys.len()
+    }
+
+    /// The key of the group at a place.
+    pub(crate) fn key(&self, place: usize) -> &[Value]
+        requires { place < length self.now }
+        ensures value { result.now ≡ (shown_at_place self.now place).key.items }
+        ensures few { length result.now ≤ MAX_COLUMNS }
+    {
+        self.keys.get(place)
+    }
+
+    /// The row that the group at a place shows.
+    pub(crate) fn row(&self, place: usize) -> Option<&[Value]>
+        requires { place < length self.now }
+        ensures value { option_map (λ values. held values.now) result
+            ≡ (shown_at_place self.now place).row }
+        ensures few { IfSome result (λ values. length values.now ≤ MAX_COLUMNS) }
+    {
+        self.rows.get(place)
     }
 }
 
-fn row_of(figures: &[Figure]) -> Row
-    requires { length figures.now ≤ MAX_COLUMNS }
-    ensures { result ≡ held (map shown_figure figures.now) }
+/// Writes the row that the figures are shown as.
+fn write_row(row: &mut Vec<Value>, figures: &[Figure]) -> Result<(), AllocError>
+    ensures { OnOk result (row.new.items ≡ map shown_figure figures.now) }
 {
-    let mut row = Row::new();
+    row.clear();
     for figure in figures {
-        row.push(figure.shown());
+        row.push(figure.shown())?;
     }
-    row
+    Ok(())
 }
 
-impl Touched {
-    /// The row that the group shows from this tick on.
-    fn row_now(&self, group: &GroupBy) -> Option<Row>
-        ensures { result ≡ row_now group.now self.now }
-    {
-        if group.is_whole() || 0 < self.rows {
-            Some(row_of(&self.figures))
-        } else {
-            None
-        }
+/// Writes the row that a group with so many rows and these figures shows from this tick on. Says
+/// whether there is one.
+fn write_now(
+    row: &mut Vec<Value>,
+    group: &GroupBy,
+    rows: i64,
+    figures: &[Figure],
+) -> Result<bool, AllocError>
+    requires { length figures.now ≤ MAX_COLUMNS }
+    ensures row { IfOk result (λ some. cond some (Some (held row.new.items)) None
+        ≡ cond (no_columns group.now.by || is_lt (int_cmp (pos 0) rows))
+        (Some (held (map shown_figure figures.now))) None) }
+    ensures few { IfOk result (λ some. IsTrue some → length row.new.items ≤ MAX_COLUMNS) }
+{
+    if group.is_whole() || 0 < rows {
+        write_row(row, figures)?;
+        return Ok(true);
+    }
+    Ok(false)
+}
+
+/// The row with these values, if there is one.
+fn row_if(some: bool, values: &[Value]) -> Option<&[Value]>
+    requires { IsTrue some → length values.now ≤ MAX_COLUMNS }
+    ensures value { option_map (λ values. held values.now) result
+        ≡ cond some (Some (held values.now)) None }
+    ensures few { IfSome result (λ values. length values.now ≤ MAX_COLUMNS) }
+{
+    if some { Some(values) } else { None }
+}
+
+/// Whether the row is the one that was shown, also where both are missing.
+fn is_shown(old: Option<&[Value]>, now: Option<&[Value]>) -> bool
+    ensures { result ≡ same_shown (option_map (λ values. held values.now) old.entry)
+        (option_map (λ values. held values.now) now.entry) }
+{
+    match old {
+        None => now.is_none(),
+        Some(values) => match now {
+            None => false,
+            Some(others) => has_values(values, others),
+        },
     }
 }
 
-/// Adds the row with its sign, if there is one.
-fn push_row(
-    rows: &mut Vec<SignedRow>,
-    width: usize,
-    enters: bool,
-    row: &Option<Row>,
-) -> Result<(), AllocError>
-    requires { width ≤ MAX_COLUMNS }
-    ensures { OnOk result (map signed rows.new.items
-        ≡ map signed rows.old.items ++ signed_row enters width row.now) }
+/// Puts the row out with its sign, if there is one.
+fn put_row(rows: &mut Outgoing, enters: bool, row: Option<&[Value]>) -> Result<(), AllocError>
+    ensures { OnOk result (rows.new ≡ with_rows rows.old
+        (signed_row enters rows.old.width (option_map (λ values. held values.now) row.entry))) }
 {
     match row {
-        Some(row) => {
-            rows.push(SignedRow {
-                enters,
-                row: fitted(row, width),
-            })?;
-            Ok(())
-        }
+        Some(values) => rows.push(enters, values),
         None => Ok(()),
     }
 }
 
-/// Adds the row that was shown as one that leaves, then the other as one that enters, unless they
-/// are equal.
-fn push_swap(
-    rows: &mut Vec<SignedRow>,
-    width: usize,
-    old: &Option<Row>,
-    now: &Option<Row>,
+/// Puts the row that was shown out as one that leaves, then the other as one that enters, unless
+/// they are equal.
+fn put_swap(
+    rows: &mut Outgoing,
+    old: Option<&[Value]>,
+    now: Option<&[Value]>,
 ) -> Result<(), AllocError>
-    requires { width ≤ MAX_COLUMNS }
-    ensures { OnOk result (map signed rows.new.items
-        ≡ map signed rows.old.items ++ swap_of width old.now now.now) }
+    ensures { OnOk result (rows.new ≡ with_rows rows.old (swap_of rows.old.width
+        (option_map (λ values. held values.now) old.entry)
+        (option_map (λ values. held values.now) now.entry))) }
 {
-    if old == now {
+    if is_shown(old, now) {
         return Ok(());
     }
-    push_row(rows, width, false, old)?;
-    push_row(rows, width, true, now)?;
+    put_row(rows, false, old)?;
+    put_row(rows, true, now)?;
     Ok(())
 }
 
-/// The signed rows that the touched groups put out at a tick, and what they show from then on.
+/// A tick of the touched group at a place: it puts out what it has to, and its key and its row
+/// come to what groups show from then on. `spare` lends room for the row.
+fn change_at(
+    group: &GroupBy,
+    near: &Near,
+    place: usize,
+    spare: &mut Vec<Value>,
+    keys: &mut ValueLists,
+    shown: &mut ShownLists,
+    rows: &mut Outgoing,
+) -> Result<(), AllocError>
+    requires { place < length near.now }
+    ensures keys { OnOk result (keys.new
+        ≡ keys.old ++ (touched_at near.now place).key.items ∷ []) }
+    ensures shown { OnOk result (shown.new
+        ≡ shown.old ++ row_now group.now (touched_at near.now place) ∷ []) }
+    ensures rows { OnOk result (rows.new ≡ with_rows rows.old (swap_of rows.old.width
+        (touched_at near.now place).shown (row_now group.now (touched_at near.now place)))) }
+{
+    let some = write_now(spare, group, near.rows(place), near.figures(place))?;
+    let now = row_if(some, spare);
+    put_swap(rows, near.shown(place), now)?;
+    keys.push(near.key(place))?;
+    shown.push(now)?;
+    Ok(())
+}
+
+/// A tick of the touched groups: they put out what they have to. Says what they show from then on.
 fn changes(
     alloc: Global,
     group: &GroupBy,
-    groups: &[Touched],
-) -> Result<(Vec<SignedRow>, Vec<Shown>), AllocError>
-    ensures rows { IfOk result (λ w. map signed w.0.items ≡ outputs group.now groups.now) }
-    ensures shown { IfOk result (λ w. w.1.items ≡ map (shown_now group.now) groups.now) }
+    near: &Near,
+    rows: &mut Outgoing,
+) -> Result<Change, AllocError>
+    requires { rows.old.width ≡ length group.now.items }
+    ensures rows { OnOk result (rows.new ≡ with_rows rows.old (outputs group.now near.now)) }
+    ensures change { IfOk result (λ c. c ≡ map (shown_now group.now) near.now) }
 {
-    let width = group.items().len();
-    let mut rows = Vec::new(alloc);
-    let mut shown = Vec::with_capacity(alloc, groups.len())?;
-    for touched in groups {
-        let row = touched.row_now(group);
-        push_swap(&mut rows, width, &touched.shown, &row)?;
-        shown.push(Shown {
-            key: copy_row(&touched.key),
-            row,
-        })?;
+    let mut spare = Vec::new(alloc);
+    let mut keys = ValueLists::new(alloc);
+    let mut shown = ShownLists::new(alloc);
+    for place in 0..near.len() {
+        change_at(group, near, place, &mut spare, &mut keys, &mut shown, rows)?;
     }
-    Ok((rows, shown))
-}
-
-fn batch_of(
-    alloc: Global,
-    instant: u64,
-    rows: &[SignedRow],
-    width: usize,
-) -> Result<Item, AllocError>
-    requires some { 1 ≤ length rows.now }
-    requires few { length rows.now ≤ 1024 }
-    requires table { IsTable width (map signed rows.now) }
-    ensures { IfOk result (λ i. entries_of i ≡ map (RowAt instant) (map signed rows.now)) }
-{
-    let batch = Batch::from_rows(alloc, rows)?;
-    Ok(Item::Rows(instant, batch))
-}
-
-/// Adds signed rows of an instant in batches.
-fn push_batches(
-    alloc: Global,
-    items: &mut Vec<Item>,
-    instant: u64,
-    rows: &[SignedRow],
-    width: usize,
-) -> Result<(), AllocError>
-    requires { IsTable width (map signed rows.now) }
-    ensures { OnOk result (flat_map entries_of items.new.items
-        ≡ flat_map entries_of items.old.items ++ map (RowAt instant) (map signed rows.now)) }
-{
-    let mut from = 0;
-    while from < rows.len() {
-        let to = rows.len().min(from + BATCH);
-        items.push(batch_of(alloc, instant, &rows[from..to], width)?)?;
-        from = to;
-    }
-    Ok(())
+    Ok(Change::new(keys, shown))
 }
 
 fn work_at(
     alloc: Global,
     group: &GroupBy,
     at: u64,
-    groups: &[Touched],
+    near: &Near,
 ) -> Result<(Vec<Item>, Change), AllocError>
     ensures outputs { IfOk result (λ w. flat_map entries_of w.0.items
-        ≡ map (RowAt at) (outputs group.now groups.now) ++ TickAt at ∷ []) }
-    ensures change { IfOk result (λ w. w.1 ≡ map (shown_now group.now) groups.now) }
+        ≡ map (RowAt at) (outputs group.now near.now) ++ TickAt at ∷ []) }
+    ensures change { IfOk result (λ w. w.1 ≡ map (shown_now group.now) near.now) }
 {
-    let (rows, shown) = changes(alloc, group, groups)?;
-    let mut items = Vec::new(alloc);
-    push_batches(alloc, &mut items, at, &rows, group.items().len())?;
+    let mut rows = Outgoing::new(alloc, group.items().len());
+    let change = changes(alloc, group, near, &mut rows)?;
+    let mut items = rows.items(alloc, at)?;
     items.push(Item::Tick(at))?;
-    Ok((items, Change { shown }))
+    Ok((items, change))
 }
 
 /// No outputs, and no change of what is shown.
@@ -299,9 +384,7 @@ fn nothing(alloc: Global) -> (Vec<Item>, Change)
     ensures outputs { result.0.items ≡ [] }
     ensures change { result.1 ≡ [] }
 {
-    let change = Change {
-        shown: Vec::new(alloc),
-    };
+    let change = Change::new(ValueLists::new(alloc), ShownLists::new(alloc));
     (Vec::new(alloc), change)
 }
 
@@ -324,7 +407,7 @@ pub fn work(
     match item {
         Item::Rows(_, _) => Ok(nothing(alloc)),
         Item::Tick(at) => {
-            let done = work_at(alloc, group, *at, &near.groups)?;
+            let done = work_at(alloc, group, *at, near)?;
             Ok(done)
         }
     }

@@ -1,6 +1,6 @@
 //! Groups in place.
 ghost use Rattle.std.specs.Prelude.{◌≤◌, OnOk};
-ghost use Rattle.group.specs.Turns.{RoomFor, KeepsRoom};
+ghost use Rattle.group.specs.Turns.{CountsUpTo, KeepsRoom, RoomFor};
 
 use crate::rows::{batch_at, count_of_same, push_numbers};
 use group::{Group, GroupBy, work};
@@ -137,6 +137,32 @@ fn whole(alloc: Global) -> Result<GroupBy, AllocError> {
     Ok(GroupBy::new(Vec::new(alloc), items))
 }
 
+/// How many numbers stand for what these two groups of a shape put out, one by turns and one in
+/// place; `None` where it differs.
+fn put_out(
+    alloc: Global,
+    shape: &GroupBy,
+    sample: Sample,
+    steps: usize,
+    by_turns: &mut Group,
+    in_place: &mut Group,
+) -> Result<Option<usize>, AllocError>
+    requires few { steps ≤ 3_000 }
+    requires turns { CountsUpTo 0 by_turns.old }
+    requires places { CountsUpTo 0 in_place.old }
+{
+    let mut turns = Vec::new(alloc);
+    let mut places = Vec::new(alloc);
+    for step in 0..steps {
+        let item = item_at(alloc, sample, step)?;
+        let outputs = turned(alloc, by_turns, shape, &item)?;
+        push_all(&mut turns, &outputs)?;
+        let outputs = placed(alloc, in_place, item)?;
+        push_all(&mut places, &outputs)?;
+    }
+    Ok(count_of_same(&turns, &places))
+}
+
 /// How many numbers stand for what two groups of a shape put out, one by turns and one in place;
 /// `None` where it differs.
 fn both(
@@ -151,16 +177,7 @@ fn both(
 {
     let mut by_turns = Group::new(alloc, first)?;
     let mut in_place = Group::new(alloc, second)?;
-    let mut turns = Vec::new(alloc);
-    let mut places = Vec::new(alloc);
-    for step in 0..steps {
-        let item = item_at(alloc, sample, step)?;
-        let outputs = turned(alloc, &mut by_turns, shape, &item)?;
-        push_all(&mut turns, &outputs)?;
-        let outputs = placed(alloc, &mut in_place, item)?;
-        push_all(&mut places, &outputs)?;
-    }
-    Ok(count_of_same(&turns, &places))
+    put_out(alloc, shape, sample, steps, &mut by_turns, &mut in_place)
 }
 
 /// The same for groups by a key.

@@ -8,27 +8,26 @@ use Rattle.group.specs.Runs.{OutgoingState, changes_at, with_rows}
 use Rattle.group.proofs.RunLemmas.{swap_cells, step_rows}
 use Rattle.group.proofs.keyed.swap_all.Goals as goal
 
-pub loop-key-preserved : goal.loop-key-preserved
-loop-key-preserved g c =
+pub loop-touch-preserved : goal.loop-touch-preserved
+loop-touch-preserved g c =
     let shape = c.args.group.now in
     let ks : List Held = c.args.touched.now in
-    let p = c.loop-key.key-index in
-    let k : Held = c.key-item.result in
+    let p = c.loop-touch.touch-index in
+    let k : Held = c.touch-item.result in
     let rest : List Held = drop (p + 1) ks in
-    let es : List (Held × CellState) = c.loop-key.cells.entries in
-    let split : drop p ks ≡ k ∷ rest = drop_more ks p k c.loop-key-test.true ∙ ap (λ (x : Held). x ∷ rest) (sym c.key-item.is) in
-    let sorted : IsStrictlySortedBy held_cmp (k ∷ rest) = subst (IsStrictlySortedBy held_cmp) split c.loop-key.invariant.sorted in
+    let es : List (Held × CellState) = c.loop-touch.cells.entries in
+    let split : drop p ks ≡ k ∷ rest = drop_more ks p k c.loop-touch-test.true ∙ ap (λ (x : Held). x ∷ rest) (sym c.touch-item.is) in
+    let sorted : IsStrictlySortedBy held_cmp (k ∷ rest) = subst (IsStrictlySortedBy held_cmp) split c.loop-touch.invariant.sorted in
     record {
       cells =
           ap (λ (fs : List (Held × CellState)). fold (shown_after (length shape.items)) fs (changes_at shape fs rest)) c.in_ok-swap_in.ensures.cells
           ∙ swap_cells shape k es rest sorted
           ∙ ap (λ (js : List Held). fold (shown_after (length shape.items)) es (changes_at shape es js)) (sym split)
-          ∙ c.loop-key.invariant.cells;
+          ∙ c.loop-touch.invariant.cells;
       rows =
-          step_rows shape k es c.swap_in.new.cells.entries rest c.loop-key.rows c.swap_in.new.rows sorted c.loop-key.invariant.width c.in_ok-swap_in.ensures.cells c.in_ok-swap_in.ensures.rows
-          ∙ ap (λ (js : List Held). with_rows c.loop-key.rows (outputs shape (near_at shape.items es js))) (sym split)
-          ∙ c.loop-key.invariant.rows;
+          step_rows shape k es c.swap_in.new.cells.entries rest c.loop-touch.rows c.swap_in.new.rows sorted c.loop-touch.invariant.width c.in_ok-swap_in.ensures.cells c.in_ok-swap_in.ensures.rows
+          ∙ ap (λ (js : List Held). with_rows c.loop-touch.rows (outputs shape (near_at shape.items es js))) (sym split)
+          ∙ c.loop-touch.invariant.rows;
       sorted = sorted_tail held_cmp k rest sorted;
-      width = ap (λ (o : OutgoingState). o.width) c.in_ok-swap_in.ensures.rows ∙ c.loop-key.invariant.width;
-      short = c.swap_in.ensures.short;
+      width = ap (λ (o : OutgoingState). o.width) c.in_ok-swap_in.ensures.rows ∙ c.loop-touch.invariant.width;
     }

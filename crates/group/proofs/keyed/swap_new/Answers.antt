@@ -1,10 +1,8 @@
-use Rattle.std.proofs.Common.{◌≡◌, ◌∙◌, ap, false, length, arith, rules, List, Option, ℤ}
+use Rattle.std.proofs.Common.{◌≡◌, ◌≤◌, ◌∙◌, ap, false, length, arith, rules, List, Option, ℤ}
 use Rattle.std.specs.Option.{is_some}
-use Rattle.group.specs.Cells.{Held, held, cell_zero}
-use Rattle.group.specs.Keys.{IsShort}
+use Rattle.group.specs.Cells.{held, cell_zero}
 use Rattle.group.specs.Runs.{row_at_tick}
 use Rattle.group.proofs.RunLemmas.{swapped_absent}
-use Rattle.group.proofs.ShortLemmas.{short-insert}
 use Rattle.group.proofs.keyed.swap_new.Goals as goal
 
 pub returns-then-not-some-clause-cells : goal.returns-then-not-some-clause-cells
@@ -14,8 +12,7 @@ returns-then-not-some-clause-cells g c =
     swapped_absent c.args.group.now c.args.key.now c.new-cell.result c.in_ok-some.some c.args.cells.now.entries c.requires.new fresh
     (c.in_ok-some.ensures.some ∙ ap (λ (vs : List (Option ℤ)). is_some (row_at_tick c.args.group.now (held vs) c.new-cell.result)) c.values.ensures.value) none
 
-pub returns-clause-short : goal.returns-clause-short
-returns-clause-short g c =
-    let k : Held = c.copied.result in
-    let short : IsShort g.row.N k = omega (arith, ap (λ (h : Held). length h.items) c.copied.ensures, ap (λ (vs : List (Option ℤ)). length vs) c.values.ensures.value, c.values.ensures.few) in
-    rw c.in_ok-insert.ensures.entries (short-insert g.row.N k c.swap.new.self c.args.cells.now.entries short c.requires.short)
+pub insert-requires : goal.insert-requires
+insert-requires g c =
+    let fits : length c.args.key.now.items ≤ g.row.N = omega (arith, ap (λ (vs : List (Option ℤ)). length vs) c.values.ensures.value, c.values.ensures.few) in
+    search rules

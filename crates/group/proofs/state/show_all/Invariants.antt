@@ -3,5 +3,5 @@ use Rattle.group.specs.Rooms.{cells_in}
 use Rattle.group.specs.Turns.{shown_after}
 use Rattle.group.proofs.state.show_all.Given as goal
 
-abbrev pub invariant-loop-shown : goal.invariant-loop-shown
-invariant-loop-shown l = fold (shown_after l.count) (cells_in l.cells) (drop l.shown-index l.all) ≡ fold (shown_after l.count) (cells_in l.initial.cells) l.all
+abbrev pub invariant-loop-place : goal.invariant-loop-place
+invariant-loop-place l = fold (shown_after l.count) (cells_in l.cells) (drop l.place l.all) ≡ fold (shown_after l.count) (cells_in l.initial.cells) l.all

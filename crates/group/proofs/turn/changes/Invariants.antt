@@ -1,10 +1,11 @@
-use Rattle.std.proofs.Common.{◌≡◌, ◌++◌, drop, take, map}
-use Rattle.column.specs.Rows.{signed}
-use Rattle.group.specs.Turns.{outputs, shown_now}
+use Rattle.std.proofs.Common.{◌≡◌, take, map}
+use Rattle.group.specs.Turns.{outputs, row_now}
+use Rattle.group.specs.Runs.{with_rows}
 use Rattle.group.proofs.turn.changes.Given as goal
 
-abbrev pub invariant-loop-touched : goal.invariant-loop-touched
-invariant-loop-touched l = record {
-  rows : map signed l.rows.items ++ outputs l.group (drop l.touched-index l.groups) ≡ outputs l.group l.groups;
-  shown : l.shown.items ≡ map (shown_now l.group) (take l.touched-index l.groups);
+abbrev pub invariant-loop-place : goal.invariant-loop-place
+invariant-loop-place l = record {
+  keys : l.keys ≡ map (λ t. t.key.items) (take l.place l.near);
+  shown : l.shown ≡ map (row_now l.group) (take l.place l.near);
+  rows : l.rows ≡ with_rows l.initial.rows (outputs l.group (take l.place l.near));
 }

@@ -1,0 +1,59 @@
+-- Groups by their places in a list.
+use Rattle.std.specs.Prelude.{◌≡◌, ◌≢◌, ◌≤◌, ℕ, Bool, Option, Some, None, List, map}
+use Rattle.std.specs.Option.{is_some}
+use Rattle.std.specs.Map.{keys_of, lookup}
+use Rattle.std.specs.BTreeMap.{is_at}
+use Rattle.std.specs.List.{All}
+use Rattle.std.specs.List.Sorted.{IsStrictlySortedBy}
+use Rattle.values.specs.declared.TheConstants.{MAX_COLUMNS}
+use Rattle.group.specs.Groups.{GroupBy}
+use Rattle.group.specs.Cells.{Held, held_cmp, CellState, cell_zero, showing}
+use Rattle.group.specs.Keys.{IsShort}
+use Rattle.group.specs.Runs.{OutgoingState, put_out, row_at_tick}
+
+-- by the key, what is kept of each group
+pub record SlotsState : Type 0 where
+  pub entries : List (Held × CellState)
+
+-- the key of the group at a place, if there is one
+abbrev pub key_at : Option (Held × CellState) → Option Held
+key_at None = None
+key_at (Some e) = Some e.0
+
+-- what is kept of it
+abbrev pub cell_at : Option (Held × CellState) → CellState
+cell_at None = cell_zero 0
+cell_at (Some e) = e.1
+
+-- the groups with these places
+abbrev pub held_at : (ℕ → Option (Held × CellState)) → List (Held × ℕ) → List (Held × CellState)
+held_at f ps = map (λ e. (e.0, cell_at (f e.1))) ps
+
+-- by keys in order, of at most n values, each group has its place, and each place its group
+pub record IsPlaced (n : ℕ) (ps : List (Held × ℕ)) (f : ℕ → Option (Held × CellState)) : Type 0 where
+  pub room : n ≤ MAX_COLUMNS
+  pub sorted : IsStrictlySortedBy held_cmp (keys_of ps)
+  pub short : All (IsShort n) (keys_of ps)
+  pub there : (k : Held) (p : ℕ) → lookup (is_at (held_cmp k)) ps ≡ Some p → key_at (f p) ≡ Some k
+  pub back : (k : Held) (p : ℕ) → key_at (f p) ≡ Some k → lookup (is_at (held_cmp k)) ps ≡ Some p
+
+-- each place has the same group
+abbrev pub KeepsKeys : (ℕ → Option (Held × CellState)) → (ℕ → Option (Held × CellState)) → Type 0
+KeepsKeys f g = (q : ℕ) → key_at (g q) ≡ key_at (f q)
+
+-- c is kept at the place p, and all else stays
+pub record Writes (f g : ℕ → Option (Held × CellState)) (p : ℕ) (c : CellState) : Type 0 where
+  pub cell : cell_at (g p) ≡ c
+  pub others : (q : ℕ) → q ≢ p → g q ≡ f q
+
+-- the group k, of which c was kept and d is, put out what it has to and shows its row, or none; some says whether there is one
+pub record SwapsIn (g : GroupBy) (k : Held) (c d : CellState) (o q : OutgoingState) (some : Bool) : Type 0 where
+  pub row : some ≡ is_some (row_at_tick g k c)
+  pub cell : d ≡ showing c (row_at_tick g k c)
+  pub rows : q ≡ put_out g k c o
+
+-- the group k at the place p put out what it has to and shows its row, or none; some says whether there is one
+pub record Swaps (g : GroupBy) (k : Held) (f h : ℕ → Option (Held × CellState)) (p : ℕ) (o q : OutgoingState) (some : Bool) : Type 0 where
+  pub row : some ≡ is_some (row_at_tick g k (cell_at (f p)))
+  pub cell : Writes f h p (showing (cell_at (f p)) (row_at_tick g k (cell_at (f p))))
+  pub rows : q ≡ put_out g k (cell_at (f p)) o

@@ -1,0 +1,356 @@
+//! Groups at the places of a list, some of which are free.
+
+ghost use Rattle.std.specs.Prelude.{◌≡◌, ◌≢◌, ◌≤◌, ◌<◌, ◌+◌, ◌^◌, ℕ, [], length, fold};
+ghost use Rattle.std.specs.Prelude.{None, Some, IfOk, IsSome, IsTrue, OnOk};
+ghost use Rattle.std.specs.Option.{option_copied};
+ghost use Rattle.group.specs.Batches.{AllInRange, row_in};
+ghost use Rattle.group.specs.Cells.{cell_after, showing, CellRoom, ReadsInRange};
+ghost use Rattle.group.specs.Places.{at_place, slot_of};
+ghost use Rattle.group.specs.Same.{held_eq};
+ghost use Rattle.group.specs.Slots.{cell_at, key_at, KeepsKeys, Swaps, SwapsIn, Writes};
+
+use crate::cells::Cell;
+use crate::key::Key;
+use crate::outgoing::Outgoing;
+use crate::shape::GroupBy;
+use column::Batch;
+use std::alloc::{AllocError, Global};
+use std::marker::Model;
+use std::mem;
+use values::{ListItem, MAX_COLUMNS, Row, Value};
+
+/// A group at its place: its key, and what is kept of it.
+#[derive(Drop)]
+pub(crate) struct Slot<const N: usize> {
+    /// The group's key.
+    key: Key<N>,
+    /// What is kept of the group.
+    cell: Cell,
+}
+
+impl<const N: usize> Model for Slot<N> {
+    ghost use Rattle.group.specs.Cells.{Held, CellState as State};
+
+    ghost Value = { Held × State };
+
+    ghost view = { λ s. (s.key, s.cell) };
+}
+
+impl<const N: usize> Slot<N> {
+    /// A group with this key.
+    pub(crate) fn new(key: Key<N>, cell: Cell) -> Slot<N>
+        ensures { result ≡ (key.entry, cell) }
+    {
+        Slot { key, cell }
+    }
+
+    /// Whether its key is this one.
+    pub(crate) fn has_key(&self, key: &Key<N>) -> bool
+        ensures { result ≡ held_eq self.now.0 key.now }
+    {
+        self.key == *key
+    }
+
+    /// What is kept of it.
+    fn cell(&self) -> &Cell
+        ensures { result.now ≡ self.now.1 }
+    {
+        &self.cell
+    }
+
+    /// What is kept of it, by itself.
+    pub(crate) fn into_cell(self) -> Cell
+        ensures { result ≡ self.entry.1 }
+    {
+        self.cell
+    }
+}
+
+/// A place of the list.
+#[derive(Drop)]
+pub(crate) enum Place<const N: usize> {
+    /// A group is there.
+    Taken(Slot<N>),
+    /// None is; and the place to try for the next group after the one that comes here.
+    Free(usize),
+}
+
+impl<const N: usize> Place<N> {
+    /// The group here, if there is one.
+    fn slot(&self) -> Option<&Slot<N>>
+        ensures { option_copied result ≡ slot_of self.now }
+    {
+        match self {
+            Place::Taken(slot) => Some(slot),
+            Place::Free(_) => None,
+        }
+    }
+
+    /// What is kept of the group here.
+    fn cell(&self) -> &Cell
+        requires { IsSome (slot_of self.now) }
+        ensures { result.now ≡ cell_at (slot_of self.now) }
+    {
+        match self {
+            Place::Taken(slot) => slot.cell(),
+            Place::Free(_) => unreachable!(),
+        }
+    }
+
+    /// A row of the group here.
+    fn take(
+        &mut self,
+        alloc: Global,
+        items: &[ListItem],
+        batch: &Batch,
+        row: usize,
+    ) -> Result<(), AllocError>
+        requires there { IsSome (slot_of self.old) }
+        requires within { row < length batch.now }
+        requires room { CellRoom (2 ^ 62 + 1024) items.now (cell_at (slot_of self.old)) }
+        ensures key { key_at (slot_of self.new) ≡ key_at (slot_of self.old) }
+        ensures cell { OnOk result (cell_at (slot_of self.new)
+            ≡ cell_after items.now (cell_at (slot_of self.old)) (row_in batch.now row)) }
+        ensures range { OnOk result (ReadsInRange items.now (row_in batch.now row)) }
+    {
+        match self {
+            Place::Taken(slot) => slot.cell.take(alloc, items, batch, row),
+            Place::Free(_) => unreachable!(),
+        }
+    }
+
+    /// A batch of rows of the group here.
+    fn take_batch(
+        &mut self,
+        alloc: Global,
+        items: &[ListItem],
+        batch: &Batch,
+    ) -> Result<(), AllocError>
+        requires there { IsSome (slot_of self.old) }
+        requires room { CellRoom (2 ^ 62) items.now (cell_at (slot_of self.old)) }
+        ensures key { key_at (slot_of self.new) ≡ key_at (slot_of self.old) }
+        ensures cell { OnOk result (cell_at (slot_of self.new)
+            ≡ fold (cell_after items.now) (cell_at (slot_of self.old)) batch.now) }
+        ensures range { OnOk result (AllInRange items.now batch.now) }
+    {
+        match self {
+            Place::Taken(slot) => slot.cell.take_batch(alloc, items, batch),
+            Place::Free(_) => unreachable!(),
+        }
+    }
+
+    /// The group here shows the row.
+    fn show(&mut self, alloc: Global, row: &Row) -> Result<(), AllocError>
+        requires { IsSome (slot_of self.old) }
+        ensures key { key_at (slot_of self.new) ≡ key_at (slot_of self.old) }
+        ensures cell { OnOk result (cell_at (slot_of self.new)
+            ≡ showing (cell_at (slot_of self.old)) (Some row.now)) }
+    {
+        match self {
+            Place::Taken(slot) => slot.cell.show(alloc, row),
+            Place::Free(_) => unreachable!(),
+        }
+    }
+
+    /// A tick of the group here: whether it has a row to show.
+    fn swap(
+        &mut self,
+        alloc: Global,
+        group: &GroupBy,
+        key: &Key<N>,
+        spare: &mut Vec<Value>,
+        rows: &mut Outgoing,
+    ) -> Result<bool, AllocError>
+        requires { IsSome (slot_of self.old) }
+        ensures key { key_at (slot_of self.new) ≡ key_at (slot_of self.old) }
+        ensures swapped { IfOk result (λ some. SwapsIn group.now key.now
+            (cell_at (slot_of self.old)) (cell_at (slot_of self.new)) rows.old rows.new some) }
+    {
+        match self {
+            Place::Taken(slot) => slot.cell.swap(alloc, group, key.values(), spare, rows),
+            Place::Free(_) => unreachable!(),
+        }
+    }
+}
+
+/// Groups at places, some of which are free. It keeps the places of the most groups that there were
+/// at one time.
+#[derive(Drop)]
+pub(crate) struct SlotList<const N: usize> {
+    /// The places.
+    places: Vec<Place<N>>,
+    /// The place to try for the next group that comes.
+    next: usize,
+}
+
+impl<const N: usize> Model for SlotList<N> {
+    ghost use Rattle.std.specs.Prelude.{◌≤◌, List};
+    ghost use Rattle.values.specs.declared.TheConstants.{MAX_COLUMNS};
+    ghost use Rattle.group.specs.declared.slot_list.Place.{Place};
+
+    ghost Value = { List (Place N) };
+
+    ghost view = { λ l. l.places.items };
+
+    ghost invariant = { λ l. N ≤ MAX_COLUMNS };
+}
+
+impl<const N: usize> SlotList<N> {
+    /// No places. Takes no memory.
+    pub(crate) fn new(alloc: Global) -> SlotList<N>
+        requires { N ≤ MAX_COLUMNS }
+        ensures { result ≡ [] }
+    {
+        SlotList {
+            places: Vec::new(alloc),
+            next: 0,
+        }
+    }
+
+    /// The group at a place, if there is one.
+    pub(crate) fn slot(&self, place: usize) -> Option<&Slot<N>>
+        ensures { option_copied result ≡ at_place self.now place }
+    {
+        match self.places.get(place) {
+            Some(there) => there.slot(),
+            None => None,
+        }
+    }
+
+    /// A place within the list where no group is.
+    pub(crate) fn vacant(&mut self) -> Result<usize, AllocError>
+        ensures same { (q : ℕ) → at_place self.new q ≡ at_place self.old q }
+        ensures within { IfOk result (λ place. place < length self.new) }
+        ensures vacant { IfOk result (λ place. at_place self.new place ≡ None) }
+    {
+        if self.is_free(self.next) {
+            return Ok(self.next);
+        }
+        let place = self.places.len();
+        self.places.push(Place::Free(place + 1))?;
+        self.next = place;
+        Ok(place)
+    }
+
+    /// Whether a place is within the list, and no group is there.
+    fn is_free(&self, place: usize) -> bool
+        ensures within { IsTrue result → place < length self.now }
+        ensures vacant { IsTrue result → at_place self.now place ≡ None }
+    {
+        match self.places.get(place) {
+            Some(there) => there.slot().is_none(),
+            None => false,
+        }
+    }
+
+    /// A group comes to a place.
+    pub(crate) fn put(&mut self, place: usize, slot: Slot<N>)
+        requires { place < length self.old }
+        ensures now { at_place self.new place ≡ Some slot.entry }
+        ensures others { (q : ℕ) → q ≢ place → at_place self.new q ≡ at_place self.old q }
+    {
+        let was = mem::replace(&mut self.places[place], Place::Taken(slot));
+        if let Place::Free(next) = was {
+            self.next = next;
+        }
+    }
+
+    /// The group at a place goes, and is given out. It takes no memory.
+    pub(crate) fn remove(&mut self, place: usize) -> Slot<N>
+        requires { IsSome (at_place self.old place) }
+        ensures slot { at_place self.old place ≡ Some result }
+        ensures gone { at_place self.new place ≡ None }
+        ensures others { (q : ℕ) → q ≢ place → at_place self.new q ≡ at_place self.old q }
+    {
+        let was = mem::replace(&mut self.places[place], Place::Free(self.next));
+        self.next = place;
+        match was {
+            Place::Taken(slot) => slot,
+            Place::Free(_) => unreachable!(),
+        }
+    }
+
+    /// The group at a place goes, with what is kept of it. It takes no memory.
+    pub(crate) fn free(&mut self, place: usize)
+        requires { IsSome (at_place self.old place) }
+        ensures gone { at_place self.new place ≡ None }
+        ensures others { (q : ℕ) → q ≢ place → at_place self.new q ≡ at_place self.old q }
+    {
+        self.places[place] = Place::Free(self.next);
+        self.next = place;
+    }
+
+    /// What is kept at a place.
+    pub(crate) fn cell(&self, place: usize) -> &Cell
+        requires { IsSome (at_place self.now place) }
+        ensures { result.now ≡ cell_at (at_place self.now place) }
+    {
+        self.places[place].cell()
+    }
+
+    /// A row of the group at a place.
+    pub(crate) fn take(
+        &mut self,
+        alloc: Global,
+        items: &[ListItem],
+        place: usize,
+        batch: &Batch,
+        row: usize,
+    ) -> Result<(), AllocError>
+        requires there { IsSome (at_place self.old place) }
+        requires within { row < length batch.now }
+        requires room { CellRoom (2 ^ 62 + 1024) items.now (cell_at (at_place self.old place)) }
+        ensures keys { KeepsKeys (at_place self.old) (at_place self.new) }
+        ensures cell { OnOk result (Writes (at_place self.old) (at_place self.new) place
+            (cell_after items.now (cell_at (at_place self.old place)) (row_in batch.now row))) }
+        ensures range { OnOk result (ReadsInRange items.now (row_in batch.now row)) }
+    {
+        self.places[place].take(alloc, items, batch, row)
+    }
+
+    /// A batch of rows of the group at a place.
+    pub(crate) fn take_batch(
+        &mut self,
+        alloc: Global,
+        items: &[ListItem],
+        place: usize,
+        batch: &Batch,
+    ) -> Result<(), AllocError>
+        requires there { IsSome (at_place self.old place) }
+        requires room { CellRoom (2 ^ 62) items.now (cell_at (at_place self.old place)) }
+        ensures keys { KeepsKeys (at_place self.old) (at_place self.new) }
+        ensures cell { OnOk result (Writes (at_place self.old) (at_place self.new) place
+            (fold (cell_after items.now) (cell_at (at_place self.old place)) batch.now)) }
+        ensures range { OnOk result (AllInRange items.now batch.now) }
+    {
+        self.places[place].take_batch(alloc, items, batch)
+    }
+
+    /// The group at a place shows the row.
+    pub(crate) fn show(&mut self, alloc: Global, place: usize, row: &Row) -> Result<(), AllocError>
+        requires { IsSome (at_place self.old place) }
+        ensures keys { KeepsKeys (at_place self.old) (at_place self.new) }
+        ensures cell { OnOk result (Writes (at_place self.old) (at_place self.new) place
+            (showing (cell_at (at_place self.old place)) (Some row.now))) }
+    {
+        self.places[place].show(alloc, row)
+    }
+
+    /// A tick of the group at a place: whether it has a row to show.
+    pub(crate) fn swap(
+        &mut self,
+        alloc: Global,
+        group: &GroupBy,
+        key: &Key<N>,
+        place: usize,
+        spare: &mut Vec<Value>,
+        rows: &mut Outgoing,
+    ) -> Result<bool, AllocError>
+        requires { IsSome (at_place self.old place) }
+        ensures keys { KeepsKeys (at_place self.old) (at_place self.new) }
+        ensures swapped { IfOk result (λ some. Swaps group.now key.now
+            (at_place self.old) (at_place self.new) place rows.old rows.new some) }
+    {
+        self.places[place].swap(alloc, group, key, spare, rows)
+    }
+}

@@ -1,0 +1,267 @@
+//! The groups in a list, and by the key the place of each.
+
+ghost use Rattle.std.specs.Prelude.{◌≡◌, ◌≤◌, ◌<◌, ◌+◌, ◌^◌, [], ◌++◌};
+ghost use Rattle.std.specs.Prelude.{false, length, None, Some};
+ghost use Rattle.std.specs.Prelude.{IfNone, IfOk, IsTrue, OnOk, MatchOption, option_to_list};
+ghost use Rattle.std.specs.BTreeMap.{is_at, insert_entry};
+ghost use Rattle.std.specs.Map.{keys_of, lookup, remove_entry};
+ghost use Rattle.std.specs.List.Sorted.{IsStrictlySortedBy};
+ghost use Rattle.std.specs.Option.{option_copied};
+ghost use Rattle.group.specs.Batches.{AllInRange, batch_in, row_in};
+ghost use Rattle.group.specs.Cells.{held_cmp, CellRoom, ReadsInRange};
+ghost use Rattle.group.specs.Keys.{Short};
+ghost use Rattle.group.specs.Slots.{key_at, IsPlaced};
+ghost use Rattle.group.specs.Turns.{cell_of, has_key, taken_in, shown_in};
+ghost use Rattle.group.specs.Runs.{HasSwapped};
+ghost use Rattle.group.specs.Places.{at_place};
+
+use crate::cells::Cell;
+use crate::key::Key;
+use crate::outgoing::Outgoing;
+use crate::shape::GroupBy;
+use crate::slot_list::{Slot, SlotList};
+use column::Batch;
+use std::alloc::{AllocError, Global};
+use std::collections::BTreeMap;
+use std::marker::Model;
+use values::{ListItem, MAX_COLUMNS, Row, Value};
+
+/// What is kept of each group, by keys of at most `N` values. A look-up gives the place of a group;
+/// who knows that needs none.
+#[derive(Drop)]
+pub(crate) struct Slots<const N: usize> {
+    /// By the key, the place of the group.
+    places: BTreeMap<Key<N>, usize>,
+    /// At each place the key of its group, and what is kept of it.
+    slots: SlotList<N>,
+}
+
+impl<const N: usize> Model for Slots<N> {
+    ghost use Rattle.group.specs.Places.{at_place};
+    ghost use Rattle.group.specs.Slots.{SlotsState as State, IsPlaced, held_at};
+
+    ghost Value = { State };
+
+    ghost view = { λ s. record { entries = held_at (at_place s.slots) s.places.entries } };
+
+    ghost invariant = { λ s. IsPlaced N s.places.entries (at_place s.slots) };
+}
+
+impl<const N: usize> Slots<N> {
+    /// No groups.
+    pub(crate) fn new(alloc: Global) -> Slots<N>
+        requires { N ≤ MAX_COLUMNS }
+        ensures { result.entries ≡ [] }
+    {
+        Slots {
+            places: BTreeMap::new(alloc),
+            slots: SlotList::new(alloc),
+        }
+    }
+
+    /// What is kept of a group that may be there.
+    pub(crate) fn get(&self, key: &Key<N>) -> Option<&Cell>
+        ensures { option_copied result ≡ lookup (is_at (held_cmp key.now)) self.now.entries }
+    {
+        match place_of(&self.places, key) {
+            Some(place) => Some(self.slots.cell(place)),
+            None => None,
+        }
+    }
+
+    /// A row of a group that may be there. Says where the group is.
+    pub(crate) fn take(
+        &mut self,
+        alloc: Global,
+        items: &[ListItem],
+        key: &Key<N>,
+        batch: &Batch,
+        row: usize,
+    ) -> Result<usize, AllocError>
+        requires fits { length key.now.items ≤ N }
+        requires within { row < length batch.now }
+        requires room { CellRoom (2 ^ 62 + 1024) items.now
+            (cell_of (length items.now) key.now self.old.entries) }
+        ensures cells { OnOk result (self.new.entries
+            ≡ taken_in items.now key.now (row_in batch.now row) self.old.entries) }
+        ensures range { OnOk result (ReadsInRange items.now (row_in batch.now row)) }
+    {
+        if let Some(place) = place_of(&self.places, key) {
+            self.slots.take(alloc, items, place, batch, row)?;
+            return Ok(place);
+        }
+        let mut cell = Cell::new(alloc, items.len());
+        cell.take(alloc, items, batch, row)?;
+        let place = self.insert(key, cell)?;
+        Ok(place)
+    }
+
+    /// A batch of rows of a group that may be there. Says where the group is.
+    pub(crate) fn take_batch(
+        &mut self,
+        alloc: Global,
+        items: &[ListItem],
+        key: &Key<N>,
+        batch: &Batch,
+    ) -> Result<usize, AllocError>
+        requires fits { length key.now.items ≤ N }
+        requires room { CellRoom (2 ^ 62) items.now
+            (cell_of (length items.now) key.now self.old.entries) }
+        ensures cells { OnOk result
+            (self.new.entries ≡ batch_in items.now key.now batch.now self.old.entries) }
+        ensures range { OnOk result (AllInRange items.now batch.now) }
+    {
+        if let Some(place) = place_of(&self.places, key) {
+            self.slots.take_batch(alloc, items, place, batch)?;
+            return Ok(place);
+        }
+        let mut cell = Cell::new(alloc, items.len());
+        cell.take_batch(alloc, items, batch)?;
+        let place = self.insert(key, cell)?;
+        Ok(place)
+    }
+
+    /// A group that may be there shows the row.
+    pub(crate) fn show(
+        &mut self,
+        alloc: Global,
+        count: usize,
+        key: &Key<N>,
+        row: &Row,
+    ) -> Result<(), AllocError>
+        requires { length key.now.items ≤ N }
+        ensures { OnOk result
+            (self.new.entries ≡ shown_in count key.now row.now self.old.entries) }
+    {
+        if let Some(place) = place_of(&self.places, key) {
+            self.slots.show(alloc, place, row)?;
+            return Ok(());
+        }
+        let mut cell = Cell::new(alloc, count);
+        cell.show(alloc, row)?;
+        self.insert(key, cell)?;
+        Ok(())
+    }
+
+    /// A tick of the group with this key, which stays: whether it has a row to show; None where
+    /// there is no such group. It takes no look-up where the group is at the place that is guessed.
+    pub(crate) fn swap(
+        &mut self,
+        alloc: Global,
+        group: &GroupBy,
+        key: &Key<N>,
+        guess: usize,
+        spare: &mut Vec<Value>,
+        rows: &mut Outgoing,
+    ) -> Result<Option<bool>, AllocError>
+        ensures { IfOk result (λ some. MatchOption some
+            ((has_key key.now self.old.entries ≡ false) × (self.new.entries ≡ self.old.entries)
+            × (rows.new ≡ rows.old))
+            (HasSwapped group.now key.now self.old.entries rows.old self.new.entries rows.new)) }
+    {
+        match found(&self.places, &self.slots, key, guess) {
+            Some(place) => {
+                let some = self.slots.swap(alloc, group, key, place, spare, rows)?;
+                Ok(Some(some))
+            }
+            None => Ok(None),
+        }
+    }
+
+    /// The group comes, which is not there. Says where it is.
+    pub(crate) fn insert(&mut self, key: &Key<N>, cell: Cell) -> Result<usize, AllocError>
+        requires fits { length key.now.items ≤ N }
+        requires new { has_key key.now self.old.entries ≡ false }
+        ensures { OnOk result
+            (self.new.entries ≡ insert_entry held_cmp self.old.entries key.now cell) }
+    {
+        let place = self.slots.vacant()?;
+        self.places.insert(key.copied(), place)?;
+        self.slots.put(place, Slot::new(key.copied(), cell));
+        Ok(place)
+    }
+
+    /// The group goes, where it is there. It takes no memory.
+    pub(crate) fn remove(&mut self, key: &Key<N>)
+        ensures { self.new.entries ≡ remove_entry (is_at (held_cmp key.now)) self.old.entries }
+    {
+        if let Some(place) = self.places.remove(key) {
+            self.slots.free(place);
+        }
+    }
+
+    /// The group goes, where it is there, whatever the length of its key. It takes no memory.
+    pub(crate) fn remove_row(&mut self, key: &Row)
+        ensures { self.new.entries ≡ remove_entry (is_at (held_cmp key.now)) self.old.entries }
+    {
+        let _ = &self.places;
+        if let Some(key) = Key::fitted(key) {
+            self.remove(&key);
+        }
+    }
+
+    /// The group with the last key goes.
+    pub(crate) fn pop_last(&mut self) -> Option<(Key<N>, Cell)>
+        ensures last { self.old.entries ≡ self.new.entries ++ option_to_list result }
+        ensures none { IfNone result (self.old.entries ≡ []) }
+    {
+        let (key, place) = self.places.pop_last()?;
+        let slot = self.slots.remove(place);
+        Some((key, slot.into_cell()))
+    }
+
+    /// The keys are in order, each once.
+    fn ordered(&self)
+        ensures sorted { IsStrictlySortedBy held_cmp (keys_of self.now.entries) }
+        ensures short { Short N self.now.entries }
+        ensures room { N ≤ MAX_COLUMNS }
+    {
+        let _ = &self.places;
+    }
+
+    /// Moves all to keys of more values. After an error some may be lost.
+    pub(crate) fn widened(&mut self, alloc: Global) -> Result<Slots<MAX_COLUMNS>, AllocError>
+        ensures { IfOk result (λ wider. wider ≡ self.old) }
+    {
+        self.ordered();
+        let mut wider = Slots::new(alloc);
+        while let Some((key, cell)) = self.pop_last() {
+            wider.insert(&key.copied(), cell)?;
+        }
+        Ok(wider)
+    }
+}
+
+/// The place of a group that the map may have.
+fn place_of<const N: usize>(places: &BTreeMap<Key<N>, usize>, key: &Key<N>) -> Option<usize>
+    ensures { result ≡ lookup (is_at (held_cmp key.now)) places.now.entries }
+{
+    places.get(key).copied()
+}
+
+/// Whether the group with this key is at the place.
+fn has_key_at<const N: usize>(slots: &SlotList<N>, key: &Key<N>, place: usize) -> bool
+    requires { N ≤ MAX_COLUMNS }
+    ensures { IsTrue result → key_at (at_place slots.now place) ≡ Some key.now }
+{
+    match slots.slot(place) {
+        Some(slot) => slot.has_key(key),
+        None => false,
+    }
+}
+
+/// The place of a group that the map may have: the one that is guessed, or else by a look-up.
+fn found<const N: usize>(
+    places: &BTreeMap<Key<N>, usize>,
+    slots: &SlotList<N>,
+    key: &Key<N>,
+    guess: usize,
+) -> Option<usize>
+    requires { IsPlaced N places.now.entries (at_place slots.now) }
+    ensures { result ≡ lookup (is_at (held_cmp key.now)) places.now.entries }
+{
+    if has_key_at(slots, key, guess) {
+        return Some(guess);
+    }
+    place_of(places, key)
+}

@@ -33,10 +33,23 @@ use Rattle.windows.specs.contracts.slide.SlideWindow as slide
 use Rattle.windows.specs.contracts.slide.SlideNear as sliding
 use Rattle.windows.specs.contracts.latest.LatestWindow as latest
 use Rattle.windows.specs.contracts.flat_rows.FlatRows as flat_rows
+use Rattle.windows.specs.contracts.row_table.RowTable as row_table
+use Rattle.windows.specs.contracts.fallen_rows.FallenRows as fallen_rows
 use Rattle.join.specs.contracts.state.Join as join
+use Rattle.join.specs.contracts.matches.Matches as matches
 use Rattle.group.specs.contracts.state.Group as group
 use Rattle.group.specs.contracts.shape.GroupBy as group_by
 use Rattle.group.specs.contracts.cells.Cell as cell
+use Rattle.group.specs.contracts.key.Key as key
+use Rattle.group.specs.contracts.touch.Touch as touch
+use Rattle.group.specs.contracts.slot_list.Slot as group_slot
+use Rattle.group.specs.contracts.slot_list.SlotList as slot_list
+use Rattle.group.specs.contracts.slots.Slots as slots
+use Rattle.group.specs.contracts.keyed.Keyed as keyed
+use Rattle.group.specs.contracts.lists.ValueLists as value_lists
+use Rattle.group.specs.contracts.lists.FigureLists as figure_lists
+use Rattle.group.specs.contracts.lists.ShownLists as shown_lists
+use Rattle.group.specs.contracts.turn.Near as touched
 use Rattle.to_stream.specs.contracts.ToStream as to_stream
 use Rattle.operators.specs.contracts.inboxes.Inbox as inbox
 use Rattle.operators.specs.contracts.states.State as state
@@ -143,8 +156,27 @@ group_by_send = search (sendable, crosses) depth 30
 pub cell_send : IsSend cell.the_row
 cell_send = search (sendable, crosses, maps.crosses, value_send) depth 30
 
+-- groups by keys of so many values
+pub key_send : (n : RattleType) → IsSend (key.the_row n)
+key_send n = search (sendable, crosses, value_send) depth 30
+
+pub touch_send : (n : RattleType) → IsSend (touch.the_row n)
+touch_send n = search (sendable, crosses, key_send) depth 30
+
+pub group_slot_send : (n : RattleType) → IsSend (group_slot.the_row n)
+group_slot_send n = search (sendable, crosses, key_send, cell_send) depth 30
+
+pub slot_list_send : (n : RattleType) → IsSend (slot_list.the_row n)
+slot_list_send n = search (sendable, crosses, group_slot_send) depth 30
+
+pub slots_send : (n : RattleType) → IsSend (slots.the_row n)
+slots_send n = search (sendable, crosses, maps.crosses, key_send, slot_list_send) depth 30
+
+pub keyed_send : (n : RattleType) → IsSend (keyed.the_row n)
+keyed_send n = search (sendable, crosses, touch_send, slots_send) depth 30
+
 pub group_send : IsSend group.the_row
-group_send = search (sendable, crosses, maps.crosses, value_send, group_by_send, cell_send) depth 40 fits 100000
+group_send = search (sendable, crosses, maps.crosses, group_by_send, keyed_send) depth 40 fits 100000
 
 pub to_stream_send : IsSend to_stream.the_row
 to_stream_send = search (sendable, crosses, delta_send, row_list_send) depth 30
@@ -182,11 +214,32 @@ stored_send = search (sendable, crosses, log_send, open_rows_send) depth 30
 pub streams_send : IsSend streams.the_row
 streams_send = search (sendable, crosses, stored_send, names_send) depth 30
 
+pub row_table_send : IsSend row_table.the_row
+row_table_send = search (sendable, crosses, value_send) depth 30
+
 pub sliding_send : IsSend sliding.the_row
-sliding_send = search (sendable, crosses, value_send) depth 40
+sliding_send = search (sendable, crosses, row_table_send) depth 40
+
+pub fallen_rows_send : IsSend fallen_rows.the_row
+fallen_rows_send = search (sendable, crosses, row_table_send) depth 40
+
+pub matches_send : IsSend matches.the_row
+matches_send = search (sendable, crosses, value_send) depth 30
+
+pub value_lists_send : IsSend value_lists.the_row
+value_lists_send = search (sendable, crosses, value_send) depth 30
+
+pub figure_lists_send : IsSend figure_lists.the_row
+figure_lists_send = search (sendable, crosses, value_send) depth 40
+
+pub shown_lists_send : IsSend shown_lists.the_row
+shown_lists_send = search (sendable, crosses, value_lists_send) depth 30
+
+pub touched_send : IsSend touched.the_row
+touched_send = search (sendable, crosses, value_lists_send, figure_lists_send, shown_lists_send) depth 40
 
 pub near_send : IsSend near.the_row
-near_send = search (sendable, crosses, value_send, sliding_send) depth 40 fits 100000
+near_send = search (sendable, crosses, row_list_send, row_table_send, sliding_send, fallen_rows_send, matches_send, touched_send) depth 40 fits 100000
 
 pub near_sync : IsSync near.the_row
 near_sync = search (sendable, crosses) depth 40 fits 100000

@@ -1,14 +1,12 @@
 -- Rows in a list: one row more behind it, and a walk from its front.
-use Rattle.std.proofs.Common.{append-nil, ◌≡◌, ℕ, ℤ, suc, ◌+◌, ◌<◌, ◌≤◌, Bool, true, false, cond, Option, List, [], ◌∷◌, ◌++◌, length, take, drop, get_or, ap, ap₂, sym, subst, ◌∙◌, arith, append_assoc, length-append}
+use Rattle.std.proofs.Common.{append-nil, ◌≡◌, ℕ, ℤ, suc, ◌+◌, ◌<◌, ◌≤◌, Bool, true, false, cond, Option, List, [], ◌∷◌, ◌++◌, length, map, take, drop, get_or, refl, ap, ap₂, sym, subst, ◌∙◌, arith, append_assoc, length-append}
 use Rattle.std.proofs.Math.Seq.{drop-cons, drop-length, take-append_seam}
-use Rattle.std.proofs.Math.ListN.{get_or-map}
-use Rattle.std.proofs.lemmas.List.{drop-append-le, take-append-le, drop-drop, length-map, map-append, length-drop, take_more}
+use Rattle.std.proofs.lemmas.List.{drop-append-le, take-append-le, drop-drop, length-drop, length-take-le, take-append-drop}
+use Rattle.std.specs.List.{flat_map}
 use Rattle.values.specs.declared.TheConstants.{MAX_COLUMNS}
 use Rattle.values.specs.Row.{Row, row_cmp}
 use Rattle.values.specs.Bag.{is_above}
-use Rattle.row_bags.specs.Bags.{rows_of}
 use Rattle.row_bags.specs.Lists.{rows_by, AreCut, is_first, staying, up_to, past, merged}
-use Rattle.row_bags.proofs.FrontLemmas.{Array}
 
 -- ONE ROW MORE
 
@@ -24,25 +22,7 @@ pub AreCut-more : (ws : List ℕ) (vs r : List (Option ℤ)) → AreCut ws vs �
 AreCut-more [] vs r h k = (k, omega (arith, length-append vs r), ap (λ (v : List (Option ℤ)). drop (length r) (v ++ r)) h ∙ drop-length r)
 AreCut-more (w ∷ ws) vs r h k = (h.0, omega (arith, h.1, length-append vs r), subst (AreCut (ws ++ length r ∷ [])) (sym (drop-append-le w vs r h.1)) (AreCut-more ws (drop w vs) r h.2 k))
 
-pub rows-take : (i : ℕ) (xs : List Array) (x : Array) → i < length xs → x ≡ get_or xs i x → rows_of (take (i + 1) xs) ≡ rows_of (take i xs) ++ x.items ∷ []
-rows-take i xs x h e =
-    ap rows_of (take_more xs i x h)
-    ∙ map-append (λ (r : Array). r.items) (take i xs) (get_or xs i x ∷ [])
-    ∙ ap (λ (r : Array). rows_of (take i xs) ++ r.items ∷ []) (sym e)
-
 -- THE ROWS AHEAD
-
-pub row-ahead : (i : ℕ) (xs : List Array) (x : Array) → i < length xs → x ≡ get_or xs i x → drop i (rows_of xs) ≡ x.items ∷ drop (i + 1) (rows_of xs)
-row-ahead i xs x h e =
-    let k : suc i ≡ i + 1 = omega arith in
-    drop-cons (rows_of xs) i x.items (omega (arith, h, length-map xs (λ (r : Array). r.items)))
-    ∙ ap₂ (λ (r : Row) (n : ℕ). r ∷ drop n (rows_of xs)) (get_or-map (λ (r : Array). r.items) xs i x ∙ ap (λ (r : Array). r.items) (sym e)) k
-
-pub rows-behind : (olds news : List Array) (y : Array) (rest : List Row) → news ≡ olds ++ y ∷ [] → rows_of news ++ rest ≡ rows_of olds ++ y.items ∷ rest
-rows-behind olds news y rest n =
-    ap (λ (xs : List Array). rows_of xs ++ rest) n
-    ∙ ap (λ (xs : List Row). xs ++ rest) (map-append (λ (r : Array). r.items) olds (y ∷ []))
-    ∙ append_assoc (rows_of olds) (y.items ∷ []) rest
 
 pub up_to-front : (x y : Row) (rest : List Row) → is_above row_cmp y x ≡ false → up_to x (y ∷ rest) ≡ y ∷ up_to x rest
 up_to-front x y rest h = rw h
@@ -85,14 +65,23 @@ walk-leaves done front rest left entered all row gone e t h =
     ∙ ap (λ (l : List Row). done ++ merged (staying l (drop gone left)) entered) (sym e)
     ∙ h
 
--- it stays, behind those that entered up to it
-pub walk-stays : (olds mids news : List Array) (row : Array) (front rest left entered behind all : List Row) → front ≡ row.items ∷ rest → is_first row.items left ≡ false
-    → rows_of mids ≡ rows_of olds ++ up_to row.items entered → behind ≡ past row.items entered → news ≡ mids ++ row ∷ []
-    → rows_of olds ++ merged (staying front left) entered ≡ all → rows_of news ++ merged (staying rest left) behind ≡ all
-walk-stays olds mids news row front rest left entered behind all e f m p n h =
-    rows-behind mids news row (merged (staying rest left) behind) n
-    ∙ ap₂ (λ (xs ys : List Row). xs ++ row.items ∷ merged (staying rest left) ys) m p
-    ∙ append_assoc (rows_of olds) (up_to row.items entered) (row.items ∷ merged (staying rest left) (past row.items entered))
-    ∙ ap (λ (b : Bool). rows_of olds ++ merged (cond b (staying rest (drop 1 left)) (row.items ∷ staying rest left)) entered) (sym f)
-    ∙ ap (λ (l : List Row). rows_of olds ++ merged (staying l left) entered) (sym e)
-    ∙ h
+-- THE SAME ROWS
+
+-- the rows say how many values each has, and the values
+pub widths_in : (ws : List ℕ) (vs : List (Option ℤ)) → AreCut ws vs → map (λ (r : Row). length r) (rows_by ws vs) ≡ ws
+widths_in [] vs h = refl
+widths_in (w ∷ ws) vs h = ap₂ (λ (n : ℕ) (ns : List ℕ). n ∷ ns) (length-take-le w vs h.1) (widths_in ws (drop w vs) h.2)
+
+pub values_in : (ws : List ℕ) (vs : List (Option ℤ)) → AreCut ws vs → flat_map (λ (r : Row). r) (rows_by ws vs) ≡ vs
+values_in [] vs h = sym h
+values_in (w ∷ ws) vs h = ap (λ (us : List (Option ℤ)). take w vs ++ us) (values_in ws (drop w vs) h.2) ∙ take-append-drop w vs
+
+pub same_widths : (ws us : List ℕ) (vs xs : List (Option ℤ)) → AreCut ws vs → AreCut us xs → rows_by ws vs ≡ rows_by us xs → ws ≡ us
+same_widths ws us vs xs h k e = sym (widths_in ws vs h) ∙ ap (λ (rows : List Row). map (λ (r : Row). length r) rows) e ∙ widths_in us xs k
+
+pub same_values : (ws us : List ℕ) (vs xs : List (Option ℤ)) → AreCut ws vs → AreCut us xs → rows_by ws vs ≡ rows_by us xs → vs ≡ xs
+same_values ws us vs xs h k e = sym (values_in ws vs h) ∙ ap (λ (rows : List Row). flat_map (λ (r : Row). r) rows) e ∙ values_in us xs k
+
+-- a row more, where the rest is still to come
+pub row-behind : (old new : List Row) (x : Row) (rest : List Row) → new ≡ old ++ x ∷ [] → new ++ rest ≡ old ++ x ∷ rest
+row-behind old new x rest e = ap (λ (l : List Row). l ++ rest) e ∙ append_assoc old (x ∷ []) rest

@@ -1,10 +1,9 @@
 //! What entered and what left.
 ghost use Rattle.std.specs.Prelude.{◌≡◌, ◌+◌, ◌^◌, ◌<◌, ◌++◌, ◌∷◌, [], length, map};
-ghost use Rattle.std.specs.Prelude.{slice_index_or, true, IfOk, OnOk, OnErr};
+ghost use Rattle.std.specs.Prelude.{slice_index_or, true, IfOk, IsTrue, OnOk, OnErr};
 ghost use Rattle.column.specs.Rows.{signed};
 ghost use Rattle.values.specs.Row.{row_cmp};
 ghost use Rattle.values.specs.Bag.{bag_minus, in_order};
-ghost use Rattle.row_bags.specs.Bags.{rows_of};
 ghost use Rattle.row_bags.specs.Deltas.{delta_after, deltas_after};
 ghost use Rattle.row_bags.specs.Lists.{renewed};
 ghost use Rattle.row_bags.specs.Piles.{pile_in};
@@ -54,36 +53,40 @@ impl Delta {
     }
 
     /// What entered, in order. An error says that memory was refused; nothing is changed.
-    pub fn entered(&self, alloc: Global) -> Result<Vec<Row>, AllocError>
-        ensures { IfOk result (λ rows. rows_of rows.items ≡ self.now.entered) }
+    pub fn entered(&self, alloc: Global) -> Result<RowList, AllocError>
+        ensures { IfOk result (λ rows. rows ≡ self.now.entered) }
     {
         let rows = difference(alloc, &self.entered, &self.left)?;
         Ok(rows)
     }
 
     /// What left, in order. An error says that memory was refused; nothing is changed.
-    pub fn left(&self, alloc: Global) -> Result<Vec<Row>, AllocError>
-        ensures { IfOk result (λ rows. rows_of rows.items ≡ self.now.left) }
+    pub fn left(&self, alloc: Global) -> Result<RowList, AllocError>
+        ensures { IfOk result (λ rows. rows ≡ self.now.left) }
     {
         let rows = difference(alloc, &self.left, &self.entered)?;
         Ok(rows)
     }
 
-    /// What left and what entered, each in order. An error says that memory was refused; nothing is
-    /// changed.
-    pub(crate) fn both(&self, alloc: Global) -> Result<(Vec<Row>, Vec<Row>), AllocError>
-        ensures left { IfOk result (λ both. rows_of both.0.items ≡ self.now.left) }
-        ensures entered { IfOk result (λ both. rows_of both.1.items ≡ self.now.entered) }
+    /// Whether no row came.
+    pub(crate) fn is_empty(&self) -> bool
+        ensures { IsTrue result → (self.now ≡ record { entered = []; left = [] }) }
     {
-        let left = self.left.in_order(alloc)?;
-        let entered = self.entered.in_order(alloc)?;
-        let gone = rows_beyond(alloc, &left, &entered)?;
-        let come = rows_beyond(alloc, &entered, &left)?;
-        Ok((gone, come))
+        self.entered.len() == 0 && self.left.len() == 0
     }
 
     /// What a list of rows becomes after what left and entered. An error says that memory was
     /// refused; nothing is changed.
+    pub(crate) fn renewed(&self, alloc: Global, whole: &RowList) -> Result<RowList, AllocError>
+        ensures { IfOk result (λ list. list ≡ renewed whole.now self.now) }
+    {
+        let left = self.left.in_order(alloc)?;
+        let entered = self.entered.in_order(alloc)?;
+        let list = whole.walked(alloc, &left, &entered)?;
+        Ok(list)
+    }
+
+    /// The same; what left and entered comes in order by it, and takes no memory for that.
     pub(crate) fn renewed_list(
         &mut self,
         alloc: Global,
@@ -192,8 +195,8 @@ fn add_at(alloc: Global, pile: &mut Pile, batch: &Batch, place: usize) -> Result
 }
 
 /// The rows of the first bag without those of the second, in order.
-fn difference(alloc: Global, rows: &Pile, others: &Pile) -> Result<Vec<Row>, AllocError>
-    ensures { IfOk result (λ result. rows_of result.items
+fn difference(alloc: Global, rows: &Pile, others: &Pile) -> Result<RowList, AllocError>
+    ensures { IfOk result (λ result. result
         ≡ in_order row_cmp (bag_minus row_cmp (pile_in rows.now) (pile_in others.now))) }
 {
     let rows = rows.in_order(alloc)?;

@@ -1,22 +1,20 @@
 //! The difference of two piles in order, by one walk over both.
 ghost use Rattle.std.specs.Prelude.{◌≡◌, ◌≤◌, ◌<◌, ◌++◌, length, drop, map, take, IfOk, IsTrue};
 ghost use Rattle.std.specs.Prelude.{OnErr, OnOk};
-ghost use Rattle.row_bags.specs.Bags.{rows_of};
 ghost use Rattle.row_bags.specs.Lists.{AreWithin, is_first, not_below, beyond, beyond_from};
 ghost use Rattle.row_bags.specs.Piles.{pile_in};
 
 use crate::dated_rows::DatedRows;
 use crate::pile::Pile;
-use crate::row_list::row_of;
+use crate::row_list::RowList;
 use std::alloc::{AllocError, Global};
-use values::{Row, Value};
+use values::Value;
 
 /// The rows of the first pile beyond those of the second, both in order.
-pub(crate) fn rows_beyond(alloc: Global, rows: &Pile, others: &Pile) -> Result<Vec<Row>, AllocError>
-    ensures { IfOk result (λ result. rows_of result.items
-        ≡ beyond (pile_in rows.now) (pile_in others.now)) }
+pub(crate) fn rows_beyond(alloc: Global, rows: &Pile, others: &Pile) -> Result<RowList, AllocError>
+    ensures { IfOk result (λ list. list ≡ beyond (pile_in rows.now) (pile_in others.now)) }
 {
-    let mut result = Vec::with_capacity(alloc, rows.len())?;
+    let mut list = RowList::with_capacity(alloc, rows.len(), rows.most_values())?;
     let mut other = 0;
     for place in 0..rows.len() {
         let values = rows.values(place);
@@ -25,9 +23,9 @@ pub(crate) fn rows_beyond(alloc: Global, rows: &Pile, others: &Pile) -> Result<V
             other += 1;
             continue;
         }
-        result.push(row_of(values))?;
+        list.push(values)?;
     }
-    Ok(result)
+    Ok(list)
 }
 
 /// Pushes the rows of the first pile beyond those of the second, both in order, behind the answers.

@@ -1,8 +1,7 @@
 //! Rows in a list.
-ghost use Rattle.std.specs.Prelude.{◌≡◌, ◌≤◌, ◌++◌, ◌∷◌, [], length, drop, map, take};
-ghost use Rattle.std.specs.Prelude.{IfOk, OnErr, OnOk};
-ghost use Rattle.row_bags.specs.Bags.{rows_of};
-ghost use Rattle.row_bags.specs.Lists.{AreWithin, beyond, beyond_from, is_first, staying, up_to};
+ghost use Rattle.std.specs.Prelude.{◌≡◌, ◌≤◌, ◌↔◌, ◌++◌, ◌∷◌, [], length, map, take};
+ghost use Rattle.std.specs.Prelude.{IfOk, IsTrue, OnErr, OnOk};
+ghost use Rattle.row_bags.specs.Lists.{AreWithin, beyond, beyond_from, staying, up_to};
 ghost use Rattle.row_bags.specs.Lists.{past, merged, renewed};
 ghost use Rattle.row_bags.specs.Piles.{pile_in};
 
@@ -12,7 +11,7 @@ use crate::difference::{next_beyond, stands_at};
 use crate::pile::Pile;
 use std::alloc::{AllocError, Global};
 use std::marker::Model;
-use values::{MAX_COLUMNS, Row, Value, compare_rows, copy_row, same_rows};
+use values::{MAX_COLUMNS, Value};
 
 /// Rows one after the other, in as little room as they need: eight bytes for each value, and one
 /// more for each row.
@@ -49,28 +48,32 @@ impl RowList {
         }
     }
 
-    /// The rows after what left and entered. A row that left and does not stand where it comes in
-    /// order is not found. An error says that memory was refused; nothing is changed.
-    pub fn renewed(&self, alloc: Global, delta: &Delta) -> Result<Vec<Row>, AllocError>
-        ensures { IfOk result (λ rows. rows_of rows.items ≡ renewed self.now delta.now) }
+    /// Whether the lists have the same rows.
+    pub fn is_same(&self, other: &RowList) -> bool
+        ensures { IsTrue result ↔ (self.now ≡ other.now) }
     {
-        let (left, entered) = delta.both(alloc)?;
-        let rows = self.merged(alloc, &left, &entered)?;
-        Ok(rows)
+        self.widths == other.widths && self.values == other.values
     }
 
-    /// Becomes the rows after what left and entered. Where nothing did, this is all that it looks
+    /// The rows after what left and entered. A row that left and does not stand where it comes in
+    /// order is not found. An error says that memory was refused; nothing is changed.
+    pub fn renewed(&self, alloc: Global, delta: &Delta) -> Result<RowList, AllocError>
+        ensures { IfOk result (λ rows. rows ≡ renewed self.now delta.now) }
+    {
+        let list = delta.renewed(alloc, self)?;
+        Ok(list)
+    }
+
+    /// Becomes the rows after what left and entered. Where nothing came, this is all that it looks
     /// at. An error says that memory was refused; the list is as it was.
     pub fn renew(&mut self, alloc: Global, delta: &Delta) -> Result<(), AllocError>
         ensures ok { OnOk result (self.new ≡ renewed self.old delta.now) }
         ensures err { OnErr result (self.new ≡ self.old) }
     {
-        let (left, entered) = delta.both(alloc)?;
-        if left.is_empty() && entered.is_empty() {
+        if delta.is_empty() {
             return Ok(());
         }
-        let rows = self.merged(alloc, &left, &entered)?;
-        *self = list_of(alloc, &rows)?;
+        *self = self.renewed(alloc, delta)?;
         Ok(())
     }
 
@@ -133,7 +136,11 @@ impl RowList {
     }
 
     /// No rows, with room for so many of so many values together.
-    fn with_capacity(alloc: Global, rows: usize, values: usize) -> Result<RowList, AllocError>
+    pub(crate) fn with_capacity(
+        alloc: Global,
+        rows: usize,
+        values: usize,
+    ) -> Result<RowList, AllocError>
         ensures { IfOk result (λ list. list ≡ []) }
     {
         let widths = Vec::with_capacity(alloc, rows)?;
@@ -142,7 +149,7 @@ impl RowList {
     }
 
     /// A row more behind the others.
-    fn push(&mut self, row: &[Value]) -> Result<(), AllocError>
+    pub fn push(&mut self, row: &[Value]) -> Result<(), AllocError>
         requires { length row.now ≤ MAX_COLUMNS }
         ensures { OnOk result (self.new ≡ self.old ++ row.now ∷ []) }
     {
@@ -201,7 +208,7 @@ impl RowList {
 
     /// Pushes a copy of the rows behind the answers, each with the instant. An error says that
     /// memory was refused; the answers are as they were.
-    fn push_to(&self, answers: &mut DatedRows, at: u64) -> Result<(), AllocError>
+    pub fn push_to(&self, answers: &mut DatedRows, at: u64) -> Result<(), AllocError>
         ensures ok { OnOk result (answers.new
             ≡ answers.old ++ map (λ r. (at, r)) self.now) }
         ensures err { OnErr result (answers.new ≡ answers.old) }
@@ -230,115 +237,4 @@ impl RowList {
         }
         Ok(())
     }
-
-    /// The rows without those that left, and with those that entered: one walk over the three
-    /// lists.
-    fn merged(&self, alloc: Global, left: &[Row], entered: &[Row]) -> Result<Vec<Row>, AllocError>
-        ensures { IfOk result (λ rows. rows_of rows.items
-            ≡ merged (staying self.now (rows_of left.now)) (rows_of entered.now)) }
-    {
-        let mut rows = Vec::with_capacity(alloc, self.widths.len().saturating_add(entered.len()))?;
-        let mut start = 0;
-        let mut gone = 0;
-        let mut came = 0;
-        for width in &self.widths {
-            let end = start + *width as usize;
-            let row = row_of(&self.values[start..end]);
-            start = end;
-            if is_next(left, gone, &row) {
-                gone += 1;
-                continue;
-            }
-            came = push_up_to(&mut rows, &row, entered, came)?;
-            rows.push(row)?;
-        }
-        push_rest(&mut rows, entered, came)?;
-        Ok(rows)
-    }
-}
-
-/// These rows as a list.
-fn list_of(alloc: Global, rows: &[Row]) -> Result<RowList, AllocError>
-    ensures { IfOk result (λ list. list ≡ rows_of rows.now) }
-{
-    let mut widths = Vec::with_capacity(alloc, rows.len())?;
-    let mut values = Vec::with_capacity(alloc, room_for(rows))?;
-    for row in rows {
-        values.extend_from_slice(row.as_slice())?;
-        widths.push(width_of(row))?;
-    }
-    Ok(RowList { widths, values })
-}
-
-/// How many values rows have that are all as wide as the first.
-fn room_for(rows: &[Row]) -> usize {
-    match rows.first() {
-        Some(row) => rows.len().saturating_mul(row.len()),
-        None => 0,
-    }
-}
-
-fn width_of(row: &Row) -> u8
-    ensures is { result ≡ length row.now.items }
-    ensures few { result ≤ MAX_COLUMNS }
-{
-    row.len() as u8
-}
-
-pub(crate) fn row_of(values: &[Value]) -> Row
-    requires { length values.now ≤ MAX_COLUMNS }
-    ensures { result.items ≡ values.now }
-{
-    let mut row = Row::new();
-    for value in values {
-        row.push(*value);
-    }
-    row
-}
-
-/// Whether the row stands first in the rest of the rows.
-fn is_next(rows: &[Row], start: usize, row: &Row) -> bool
-    ensures { result ≡ is_first row.now.items (drop start (rows_of rows.now)) }
-{
-    match rows.get(start) {
-        Some(next) => same_rows(row, next),
-        None => false,
-    }
-}
-
-/// Writes of the rest of those that entered the rows up to the last one behind the others; the
-/// place of the next.
-fn push_up_to(
-    rows: &mut Vec<Row>,
-    last: &Row,
-    entered: &[Row],
-    start: usize,
-) -> Result<usize, AllocError>
-    requires { start ≤ length entered.now }
-    ensures rows { OnOk result (rows_of rows.new.items
-        ≡ rows_of rows.old.items ++ up_to last.now.items (drop start (rows_of entered.now))) }
-    ensures rest { IfOk result (λ place. drop place (rows_of entered.now)
-        ≡ past last.now.items (drop start (rows_of entered.now))) }
-    ensures within { IfOk result (λ place. place ≤ length entered.now) }
-{
-    for place in start..entered.len() {
-        let next = &entered[place];
-        if compare_rows(next, last).is_gt() {
-            return Ok(place);
-        }
-        rows.push(copy_row(next))?;
-    }
-    Ok(entered.len())
-}
-
-/// Writes the rest of those that entered behind the others.
-fn push_rest(rows: &mut Vec<Row>, entered: &[Row], start: usize) -> Result<(), AllocError>
-    requires { start ≤ length entered.now }
-    ensures { OnOk result (rows_of rows.new.items
-        ≡ rows_of rows.old.items ++ drop start (rows_of entered.now)) }
-{
-    for place in start..entered.len() {
-        rows.push(copy_row(&entered[place]))?;
-    }
-    Ok(())
 }

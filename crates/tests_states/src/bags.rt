@@ -1,7 +1,7 @@
 //! Worked bags of rows.
 use crate::rows::{are, one, row};
 use column::{Batch, SignedRow};
-use row_bags::{Delta, RowBag, RowList, begins_with, copied, fitted};
+use row_bags::{DatedRows, Delta, RowBag, RowList, begins_with, copied, fitted};
 use std::alloc::{AllocError, Global};
 use std::test::Fail;
 use values::{MAX_COLUMNS, Row, Value, same_rows};
@@ -195,14 +195,33 @@ fn delta(alloc: Global) -> Result<Delta, AllocError> {
     delta_from(alloc, false, (5, 6, 5))
 }
 
+/// The rows of a list.
+fn rows_in(alloc: Global, list: &RowList) -> Result<Vec<Row>, AllocError> {
+    let mut dated = DatedRows::new(alloc);
+    list.push_to(&mut dated, 0)?;
+    let mut rows = Vec::new(alloc);
+    for _ in 0..dated.len() {
+        if let Some((_, row)) = dated.pop_front() {
+            rows.push(row)?;
+        }
+    }
+    Ok(rows)
+}
+
+/// Whether the list has these rows of one number.
+fn list_is(alloc: Global, list: &RowList, numbers: &[i64]) -> Result<bool, AllocError> {
+    let rows = rows_in(alloc, list)?;
+    Ok(are(&rows, numbers))
+}
+
 fn entered_are(alloc: Global, delta: &Delta, numbers: &[i64]) -> Result<bool, AllocError> {
     let rows = delta.entered(alloc)?;
-    Ok(are(&rows, numbers))
+    list_is(alloc, &rows, numbers)
 }
 
 fn left_are(alloc: Global, delta: &Delta, numbers: &[i64]) -> Result<bool, AllocError> {
     let rows = delta.left(alloc)?;
-    Ok(are(&rows, numbers))
+    list_is(alloc, &rows, numbers)
 }
 
 /// Whether a delta has these rows alone.
@@ -257,7 +276,7 @@ fn list_shows(
     numbers: &[i64],
 ) -> Result<bool, AllocError> {
     let rows = list.renewed(alloc, delta)?;
-    Ok(are(&rows, numbers))
+    list_is(alloc, &rows, numbers)
 }
 
 fn nothing_changes(alloc: Global) -> Result<bool, AllocError> {
@@ -313,7 +332,7 @@ fn wide_rows_are_listed(alloc: Global) -> Result<usize, AllocError> {
     takes(alloc, &mut list, one(false, 7))?;
     let none = Delta::new(alloc);
     let rows = list.renewed(alloc, &none)?;
-    Ok(place_value(&rows))
+    Ok(place_value(&rows_in(alloc, &rows)?))
 }
 
 /// The numbers of values of the rows as two digits each of one number, the first row's last.

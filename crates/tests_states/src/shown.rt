@@ -136,7 +136,7 @@ fn tick_passes(alloc: Global) -> Result<bool, AllocError> {
     let window = latest_window(alloc)?;
     let tick = Item::Tick(1);
     let near = window.near(alloc, &tick)?;
-    if !near.is_empty() {
+    if near.len() != 0 {
         return Ok(false);
     }
     let items = latest_work(alloc, &tick, &near)?;

@@ -5,12 +5,13 @@ ghost use Rattle.turn.specs.Turns.{Fits};
 
 use column::{Batch, Side, SignedRow};
 use op_queue::Item;
+use row_bags::RowList;
 use std::alloc::{AllocError, Global};
 use std::sync::Arc;
 use std::test::Fail;
-use turn::{ColumnList, Done, Kind, Near, Node, RowList, SharedItem, SharedNear, Turn, same_item};
+use turn::{ColumnList, Done, Kind, Near, Node, SharedItem, SharedNear, Turn, same_item};
 use values::{Row, Value};
-use windows::SlideNear;
+use windows::{RowTable, SlideNear};
 
 fn row(number: i64) -> Row
     ensures { length result.items ≡ 1 }
@@ -143,12 +144,12 @@ fn nodes_are_told_apart_by_value(rt: HostRuntime) -> Result<(), Fail> {
 
 /// The excerpt of a window that moves at multiples, where one row goes unshown.
 fn passing(alloc: Global, number: i64) -> Result<Near, AllocError> {
-    let mut pass = Vec::new(alloc);
-    pass.push(row(number))?;
+    let mut values = Vec::new(alloc);
+    values.push(Value::clamped(number as i128))?;
     Ok(Near::Sliding(SlideNear {
-        leave: Vec::new(alloc),
-        pass,
-        enter: Vec::new(alloc),
+        leave: RowTable::new(alloc),
+        pass: RowTable::of(1, 1, values),
+        enter: RowTable::new(alloc),
     }))
 }
 
@@ -160,9 +161,9 @@ fn is_same_passing(alloc: Global, number: i64) -> Result<bool, AllocError> {
 }
 
 fn sorted(alloc: Global, number: i64) -> Result<Near, AllocError> {
-    let mut rows = Vec::new(alloc);
-    rows.push(row(number))?;
-    Ok(Near::Sorted(RowList { rows }))
+    let mut rows = RowList::new(alloc);
+    rows.push(&[Value::clamped(number as i128)])?;
+    Ok(Near::Sorted(rows))
 }
 
 /// Whether the excerpt of the row 5 is the same as that of another row.

@@ -13,7 +13,6 @@
 
 ghost use Rattle.std.specs.Prelude.{◌≡◌, ◌+◌, ◌++◌, None, Some, [], map};
 ghost use Rattle.std.specs.Prelude.{IfOk, OnOk, OnErr};
-ghost use Rattle.row_bags.specs.Bags.{rows_of};
 ghost use Rattle.to_stream.specs.Turns.{State, shown, kept, near, out, ticked, next, HasRoom};
 ghost use Rattle.to_stream.specs.Law.{Stands, StepLaw};
 
@@ -21,7 +20,7 @@ use op_queue::Item;
 use row_bags::{DatedRows, Delta, RowList};
 use std::alloc::{AllocError, Global};
 use std::marker::Model;
-use values::{Row, StreamOperator};
+use values::StreamOperator;
 
 /// The state of a root: what entered and left since the last tick, that tick's instant, and of
 /// Rstream the whole relation at that tick.
@@ -78,11 +77,11 @@ impl ToStream {
 
     /// What a turn needs of the state: at a tick the rows that answer, in order. It costs as much
     /// as these. An error says that memory was refused; nothing is changed.
-    pub fn near(&self, alloc: Global, item: &Item) -> Result<Vec<Row>, AllocError>
-        ensures { IfOk result (λ rows. rows_of rows.items ≡ near self.now item.now) }
+    pub fn near(&self, alloc: Global, item: &Item) -> Result<RowList, AllocError>
+        ensures { IfOk result (λ rows. rows ≡ near self.now item.now) }
     {
         match item {
-            Item::Rows(_, _) => Ok(Vec::new(alloc)),
+            Item::Rows(_, _) => Ok(RowList::new(alloc)),
             Item::Tick(_) => {
                 let rows = self.shown(alloc)?;
                 Ok(rows)
@@ -175,8 +174,8 @@ impl ToStream {
     }
 
     /// The rows that answer at a tick, in order.
-    fn shown(&self, alloc: Global) -> Result<Vec<Row>, AllocError>
-        ensures { IfOk result (λ rows. rows_of rows.items ≡ shown self.now.operator self.now) }
+    fn shown(&self, alloc: Global) -> Result<RowList, AllocError>
+        ensures { IfOk result (λ rows. rows ≡ shown self.now.operator self.now) }
     {
         match self.operator {
             StreamOperator::Istream => {
@@ -221,24 +220,12 @@ impl ToStream {
 /// answer nothing.
 ///
 /// An error says that memory was refused; nothing is changed.
-pub fn work(alloc: Global, item: &Item, near: &[Row]) -> Result<DatedRows, AllocError>
-    ensures { IfOk result (λ answers. answers ≡ out item.now (rows_of near.now)) }
-{
-    match item {
-        Item::Rows(_, _) => Ok(DatedRows::new(alloc)),
-        Item::Tick(at) => {
-            let answers = at_instant(alloc, *at, near)?;
-            Ok(answers)
-        }
-    }
-}
-
-fn at_instant(alloc: Global, at: u64, rows: &[Row]) -> Result<DatedRows, AllocError>
-    ensures { IfOk result (λ answers. answers ≡ map (λ r. (at, r)) (rows_of rows.now)) }
+pub fn work(alloc: Global, item: &Item, near: &RowList) -> Result<DatedRows, AllocError>
+    ensures { IfOk result (λ answers. answers ≡ out item.now near.now) }
 {
     let mut answers = DatedRows::new(alloc);
-    for row in rows {
-        answers.push(at, row.as_slice())?;
+    if let Item::Tick(at) = item {
+        near.push_to(&mut answers, *at)?;
     }
     Ok(answers)
 }

@@ -1,61 +1,9 @@
 //! What turns need of the states of operators.
 ghost use Rattle.std.specs.Prelude.{◌≡◌, ◌↔◌, IsTrue};
 
+use row_bags::RowList;
 use std::marker::Model;
-use values::Row;
-use windows::SlideNear;
-
-/// A list of rows.
-#[derive(Drop)]
-pub struct RowList {
-    /// The rows, in their order.
-    pub rows: Vec<Row>,
-}
-
-impl Model for RowList {
-    ghost use Rattle.std.specs.Prelude.{List};
-    ghost use Rattle.values.specs.Row.{Row as PlainRow};
-    ghost use Rattle.windows.specs.Widths.{rows_of};
-
-    ghost Value = { List PlainRow };
-
-    ghost view = { λ l. rows_of l.rows.items };
-}
-
-impl RowList {
-    /// Whether the lists have the same rows.
-    fn is_same(&self, other: &RowList) -> bool
-        ensures { IsTrue result ↔ (self.now ≡ other.now) }
-    {
-        self.rows == other.rows
-    }
-}
-
-/// For each row of an item the row that falls out of its partition after it, if one does.
-#[derive(Drop)]
-pub struct FallenRows {
-    /// In the order of the item's rows; None for one after which no row falls out.
-    pub rows: Vec<Option<Row>>,
-}
-
-impl Model for FallenRows {
-    ghost use Rattle.std.specs.Prelude.{List, Option};
-    ghost use Rattle.values.specs.Row.{Row as PlainRow};
-    ghost use Rattle.windows.specs.Latest.{fallen_rows};
-
-    ghost Value = { List (Option PlainRow) };
-
-    ghost view = { λ f. fallen_rows f.rows.items };
-}
-
-impl FallenRows {
-    /// Whether the lists have the same rows at the same places.
-    fn is_same(&self, other: &FallenRows) -> bool
-        ensures { IsTrue result ↔ (self.now ≡ other.now) }
-    {
-        self.rows == other.rows
-    }
-}
+use windows::{FallenRows, RowTable, SlideNear};
 
 /// Of rows the rows of the other side that each meets, of a tick whether the other side has ticked.
 #[derive(Drop)]
@@ -78,7 +26,7 @@ pub enum Near {
     /// Of operators without a state.
     Nothing,
     /// The rows that leave a window of the last instants; none where the item is rows.
-    Leaving(RowList),
+    Leaving(RowTable),
     /// The rows that leave, pass and enter a window that moves at multiples alone; none but at a
     /// tick at which it moves.
     Sliding(SlideNear),

@@ -15,7 +15,7 @@ mod shared;
 mod turns;
 mod works;
 
-pub use excerpts::{FallenRows, MetRows, Near, RowList};
+pub use excerpts::{MetRows, Near};
 pub use kinds::{ColumnList, Kind, StepList};
 pub use nodes::Node;
 pub use outcomes::{Change, Outputs};

@@ -1,14 +1,13 @@
--- One row more: in the partitions, in what falls out, and in what is put out.
-use Rattle.std.proofs.Common.{◌≡◌, ℕ, ◌+◌, ◌≤◌, ◌<◌, Bool, true, false, cond, nat_lt, Option, Some, None, List, [], ◌∷◌, ◌++◌, map, length, take, get_or, refl, ap, sym, ◌∙◌, subst, arith, append-nil, append_assoc}
+-- One row more: in the partitions, and in what falls out.
+use Rattle.std.proofs.Common.{◌≡◌, ℕ, suc, ◌+◌, ◌-◌, ◌≤◌, ◌<◌, Bool, true, false, cond, nat_lt, Option, Some, None, List, [], ◌∷◌, ◌++◌, length, take, get_or, refl, ap, sym, ◌∙◌, subst, arith}
 use Rattle.std.specs.List.{All}
-use Rattle.std.specs.Option.{option_map}
 use Rattle.std.specs.Ordering.{is_eq}
-use Rattle.std.proofs.lemmas.List.{map-append, take_more, length-append, length-map, length-take}
-use Rattle.std.proofs.lemmas.List.Elements.{All-cons, All-drop, All-head, All-push, All-tail, All-take}
+use Rattle.std.proofs.lemmas.List.{take_more, length-append, length-take}
+use Rattle.std.proofs.lemmas.List.Elements.{All-append, All-cons, All-drop, All-head, All-nil, All-push, All-tail, All-take}
 use Rattle.values.specs.Row.{Row, same_row}
-use Rattle.column.specs.Rows.{IsTable, signed, width}
-use Rattle.column.specs.declared.batch.SignedRow.{SignedRow}
-use Rattle.windows.specs.Latest.{AreParts, all_after, all_fallen, fallen_in, fallen_of, fallen_rows, held_after, held_in, interleaved, key_cmp, key_in, last_of, minus_of, part}
+use Rattle.column.specs.Rows.{IsTable, width}
+use Rattle.windows.specs.Fallen.{IsFallenWide, those_fallen}
+use Rattle.windows.specs.Latest.{AreParts, all_after, all_fallen, fallen_in, fallen_of, held_after, held_in, interleaved, key_cmp, key_in, last_of, minus_of, part}
 use Rattle.windows.specs.Widths.{AreWide, HaveOneWidth, OneRow}
 use Rattle.windows.proofs.LatestLemmas.{after_push, fallen_is, fallen_push, few_after, last_of-few, length-fallen, length-like, like, like-push}
 use Rattle.windows.proofs.PartLemmas.{same_exact}
@@ -50,7 +49,7 @@ row_wide b p x e lt table = ap (λ (s : Bool × Row). length s.1) e ∙ table p 
 pub wide_as : (b : List (Bool × Row)) (p : ℕ) (x : Bool × Row) (rows : List Row) → x ≡ get_or b p (true, []) → p < length b → IsTable (width b) b → AreWide (width b) rows → AreWide (length x.1) rows
 wide_as b p x rows e lt table wide = subst (λ (w : ℕ). AreWide w rows) (sym (row_wide b p x e lt table)) wide
 
-like_wide : (columns : List ℕ) (k : Row) (w : ℕ) (xs : List (Bool × Row)) → All (λ s. length s.1 ≡ w) xs → AreWide w (like columns k xs)
+pub like_wide : (columns : List ℕ) (k : Row) (w : ℕ) (xs : List (Bool × Row)) → All (λ s. length s.1 ≡ w) xs → AreWide w (like columns k xs)
 like_wide columns k w [] all = λ i d lt. absurd (omega (arith, lt))
 like_wide columns k w (x ∷ xs) all = here (same_row (key_in columns x.1) k) (like_wide columns k w xs (All-tail (λ (s : Bool × Row). length s.1 ≡ w) x xs all))
   where
@@ -105,18 +104,14 @@ came_few columns k b p rows few e = let l : length rows ≡ length (like columns
 abbrev pub IsWideRow : ℕ → Bool × Row → Type 0
 IsWideRow w s = length s.1 ≡ w
 
-abbrev FallenWide : ℕ → Option Row → Type 0
-FallenWide w None = Unit {0}
-FallenWide w (Some r) = length r ≡ w
-
-fallen_wide : (n w : ℕ) (rows : List Row) → AreWide w rows → 0 < length rows → FallenWide w (fallen_of n rows)
+fallen_wide : (n w : ℕ) (rows : List Row) → AreWide w rows → 0 < length rows → IsFallenWide w (fallen_of n rows)
 fallen_wide n w rows wide some = here (nat_lt n (length rows))
   where
-    here : (b : Bool) → FallenWide w (cond b (Some (get_or rows 0 [])) None)
+    here : (b : Bool) → IsFallenWide w (cond b (Some (get_or rows 0 [])) None)
     here true = wide 0 [] some
     here false = tt
 
-minus_wide : (w : ℕ) (f : Option Row) (rest : List (Bool × Row)) → FallenWide w f → All (IsWideRow w) rest → All (IsWideRow w) (minus_of f ++ rest)
+minus_wide : (w : ℕ) (f : Option Row) (rest : List (Bool × Row)) → IsFallenWide w f → All (IsWideRow w) rest → All (IsWideRow w) (minus_of f ++ rest)
 minus_wide w None rest h all = all
 minus_wide w (Some r) rest h all = All-cons (IsWideRow w) (false, r) rest h all
 
@@ -137,24 +132,30 @@ fallen_fit columns n w held b fallen e h table wide =
     let P : List (Option Row) → Type 0 = λ fs. (length fs ≡ length b) × HaveOneWidth (interleaved b fs) in
     subst P (sym e) (length-fallen columns n held b, (w, interleaved_wide columns n w held b h (λ i d lt. table i d lt ∙ wide)))
 
--- ---- what is put out
-interleaved_push : (xs : List (Bool × Row)) (fs : List (Option Row)) (x : Bool × Row) (f : Option Row) → length fs ≡ length xs → interleaved (xs ++ x ∷ []) (fs ++ f ∷ []) ≡ interleaved xs fs ++ (x ∷ minus_of f)
-interleaved_push [] [] x f e = ap (λ l. x ∷ l) (append-nil (minus_of f))
-interleaved_push [] (g ∷ fs) x f e = absurd (omega (arith, e))
-interleaved_push (y ∷ xs) [] x f e = absurd (omega (arith, e))
-interleaved_push (y ∷ xs) (g ∷ fs) x f e =
-    ap (λ l. y ∷ l) (ap (λ l. minus_of g ++ l) (interleaved_push xs fs x f (omega (arith, e))) ∙ sym (append_assoc (minus_of g) (interleaved xs fs) (x ∷ minus_of f)))
+-- what falls out is as wide as what came
+pub fallen_in_wide : (n w : ℕ) (held came : List Row) (row : Row) → AreWide w held → AreWide w came → length row ≡ w → IsFallenWide w (fallen_in n (held ++ (came ++ row ∷ [])))
+fallen_in_wide n w held came row h c e = here (nat_lt n (length rows)) refl
+  where
+    rows : List Row
+    rows = held ++ (came ++ row ∷ [])
 
-pub put_more : (b : List (Bool × Row)) (near : List (Option OneRow)) (p : ℕ) (rows pushed new : List SignedRow) (row : SignedRow) (f : Option OneRow) → p < length b → length near ≡ length b
-    → map signed rows ≡ interleaved (take p b) (fallen_rows (take p near)) → signed row ≡ get_or b p (true, []) → f ≡ get_or near p f → pushed ≡ rows ++ row ∷ []
-    → map signed new ≡ map signed pushed ++ minus_of (option_map (λ r. r.items) f) → map signed new ≡ interleaved (take (p + 1) b) (fallen_rows (take (p + 1) near))
-put_more b near p rows pushed new row f lt long o r e u n =
-    let g : Option Row = option_map (λ r. r.items) f in
-    let tb : take (p + 1) b ≡ take p b ++ signed row ∷ [] = take_more b p (true, []) lt ∙ ap (λ s. take p b ++ s ∷ []) (sym r) in
-    let tn : fallen_rows (take (p + 1) near) ≡ fallen_rows (take p near) ++ g ∷ [] =
-    ap fallen_rows (take_more near p f (omega (arith, lt, long)) ∙ ap (λ h. take p near ++ h ∷ []) (sym e)) ∙ map-append (option_map (λ r. r.items)) (take p near) (f ∷ []) in
-    let same : length (fallen_rows (take p near)) ≡ length (take p b) = length-map (take p near) (option_map (λ (r : OneRow). r.items)) ∙ (let q : length (take p near) ≡ length (take p b) = omega (arith, length-take p near, length-take p b, long) in q) in
-    n ∙ ap (λ l. map signed l ++ minus_of g) u ∙ ap (λ l. l ++ minus_of g) (map-append signed rows (row ∷ []) ∙ ap (λ l. l ++ signed row ∷ []) o)
-    ∙ append_assoc (interleaved (take p b) (fallen_rows (take p near))) (signed row ∷ []) (minus_of g)
-    ∙ sym (interleaved_push (take p b) (fallen_rows (take p near)) (signed row) g same)
-    ∙ ap (λ l. interleaved l (fallen_rows (take p near) ++ g ∷ [])) (sym tb) ∙ ap (interleaved (take (p + 1) b)) (sym tn)
+    wide : AreWide w rows
+    wide = All-append (λ (r : Row). length r ≡ w) held (came ++ row ∷ []) h (All-push (λ (r : Row). length r ≡ w) came row c e)
+
+    here : (b : Bool) → nat_lt n (length rows) ≡ b → IsFallenWide w (cond b (Some (get_or rows (length rows - suc n) [])) None)
+    here true lt = wide (length rows - suc n) [] (omega (arith, length-append held (came ++ row ∷ []), length-append came (row ∷ [])))
+    here false lt = tt
+
+those_wide : (w : ℕ) (f : Option Row) (fallen : List (Option Row)) → IsFallenWide w f → AreWide w (those_fallen fallen) → AreWide w (those_fallen (f ∷ fallen))
+those_wide w None fallen h all = all
+those_wide w (Some r) fallen h all = All-cons (λ (r : Row). length r ≡ w) r (those_fallen fallen) h all
+
+pub all_fallen_wide : (columns : List ℕ) (n w : ℕ) (held : Row → List Row) (xs : List (Bool × Row)) → AreParts n w held → All (IsWideRow w) xs → AreWide w (those_fallen (all_fallen columns n held xs))
+all_fallen_wide columns n w held [] h all = All-nil (λ (r : Row). length r ≡ w)
+all_fallen_wide columns n w held (x ∷ xs) h all =
+    let one : length x.1 ≡ w = All-head (IsWideRow w) x xs all in
+    let key : Row = key_in columns x.1 in
+    let rows : List Row = held key ++ x.1 ∷ [] in
+    let wide : AreWide w rows = All-push (λ (r : Row). length r ≡ w) (held key) x.1 (h.wide key) one in
+    those_wide w (fallen_of n rows) _ (fallen_wide n w rows wide (omega (arith, length-append (held key) (x.1 ∷ []))))
+    (all_fallen_wide columns n w (held_after columns n held x.1) xs (AreParts-after columns n w held x.1 h one) (All-tail (IsWideRow w) x xs all))

@@ -19,7 +19,7 @@ use Rattle.windows.proofs.FlatLemmas.{cut_rows-drop}
 use Rattle.windows.proofs.RangeLemmas.{near-none}
 
 -- ---- rows cut from a part of the values
-cut_rows-take : (w k m : ℕ) (values : List (Option ℤ)) → k ≤ m → take k (cut_rows w m values) ≡ cut_rows w k values
+pub cut_rows-take : (w k m : ℕ) (values : List (Option ℤ)) → k ≤ m → take k (cut_rows w m values) ≡ cut_rows w k values
 cut_rows-take w zero m values le = refl
 cut_rows-take w (suc k) zero values le = absurd (omega (arith, le))
 cut_rows-take w (suc k) (suc m) values le = ap (λ (rs : List Row). take w values ∷ rs) (cut_rows-take w k m (drop w values) (omega (arith, le)))
@@ -29,7 +29,7 @@ take_within zero m xs = refl
 take_within (suc w) m [] = ap (λ n. take (suc w) (take n [])) (suc-add w m)
 take_within (suc w) m (x ∷ xs) = ap (λ n. take (suc w) (take n (x ∷ xs))) (suc-add w m) ∙ ap (λ l. x ∷ l) (take_within w m xs)
 
-cut_rows-first : (w k : ℕ) (values : List (Option ℤ)) → cut_rows w k (take (k * w) values) ≡ cut_rows w k values
+pub cut_rows-first : (w k : ℕ) (values : List (Option ℤ)) → cut_rows w k (take (k * w) values) ≡ cut_rows w k values
 cut_rows-first w zero values = refl
 cut_rows-first w (suc k) values =
     let e : suc k * w ≡ w + k * w = omega (arith, suc-mul k w) in

@@ -3,10 +3,12 @@ pub mod RunLemmas
 pub mod RangeLemmas
 pub mod HeldLemmas
 pub mod LeavingLemmas
+pub mod TableLemmas
 pub mod PartLemmas
 pub mod LatestLemmas
-pub mod OutputLemmas
 pub mod EnterLemmas
+pub mod FallenLemmas
+pub mod GrownLemmas
 pub mod WindowLemmas
 pub mod MoveLemmas
 pub mod ShownLemmas

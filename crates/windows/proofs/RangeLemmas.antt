@@ -12,7 +12,7 @@ use Rattle.std.proofs.lemmas.List.Elements.{All-append, All-drop, All-filter, Al
 use Rattle.op_queue.specs.Items.{item_instant}
 use Rattle.op_queue.specs.declared.item.Item.{Item}
 use Rattle.op_queue.specs.declared.item.Item.TheVariants.{Rows, Tick}
-use Rattle.windows.specs.Range.{RangeState, is_past, held_at, leaving, near, next, change, IsAfter, IsRange}
+use Rattle.windows.specs.Range.{RangeState, is_past, held_at, near, next, change, IsAfter, IsRange}
 use Rattle.windows.specs.Widths.{AreWide, HaveOneWidthAll, IsItemWide}
 use Rattle.column.specs.Rows.{IsTable, width}
 
@@ -153,8 +153,3 @@ near_fits s (Tick t) w held is r =
     let f : ℕ × Row → Row = λ h. h.1 in
     let P : List (ℕ × Row) → Type 0 = λ hs. AreWide w (map f (filter (is_past s.span t) hs)) in
     (w, subst P is (near_wide w w (is_past s.span t) held (map f (filter (is_past s.span t) held)) refl refl r))
-
-pub leaving_wide : (w : ℕ) (rows : List Row) (ss : List (Bool × Row)) → ss ≡ map leaving rows → AreWide w rows → All (λ r. length r.1 ≡ w) ss
-leaving_wide w rows ss e wide =
-    let P : List (Bool × Row) → Type 0 = λ rs. All (λ r. length r.1 ≡ w) rs in
-    subst P (sym e) (All-map (λ (r : Bool × Row). length r.1 ≡ w) leaving rows wide)

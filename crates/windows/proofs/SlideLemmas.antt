@@ -4,15 +4,14 @@ use Rattle.std.specs.List.{filter, All}
 use Rattle.std.specs.List.Sorted.{IsNonDecreasingBy}
 use Rattle.std.proofs.lemmas.List.{drop-map, length-map, map-append, take-map, take_all}
 use Rattle.values.specs.Row.{Row}
-use Rattle.std.proofs.lemmas.List.Elements.{All-nil, All-append, All-drop, All-filter, All-map, All-take}
+use Rattle.std.proofs.lemmas.List.Elements.{All-nil, All-drop, All-filter, All-map, All-take}
 use Rattle.windows.specs.Range.{IsRange, leaving}
 use Rattle.op_queue.specs.Entries.{Entry, IsForward, RowAt, TickAt}
 use Rattle.op_queue.specs.Queues.{HasGained, Waiting, first_begins}
 use Rattle.op_queue.proofs.GainLemmas.{gained-item, gained-more, gained-same}
 use Rattle.op_queue.specs.declared.item.Item.{Item}
 use Rattle.op_queue.specs.declared.item.Item.TheVariants.{Rows, Tick}
-use Rattle.windows.specs.Slide.{HaveOneWidthIn, SlideNear, SlideState, entering, is_past, moves, near, moved_out, near_at, nothing, out, signed, tick_out}
-use Rattle.windows.specs.Widths.{HaveOneWidth}
+use Rattle.windows.specs.Slide.{HaveOneWidthIn, SlideState, entering, is_past, moves, near, moved_out, near_at, nothing, out, signed, tick_out}
 use Rattle.windows.proofs.LeavingLemmas.{IsForward-front, near_count, rows_at}
 use Rattle.windows.proofs.RangeLemmas.{is_below, drop-below, below-none, sorted-head, sorted-tail}
 
@@ -94,16 +93,6 @@ parted n k older hs s few e = subst (Parted n k hs) (sym e) (parted_at n k hs s 
 -- those that stay
 pub stays : (n older : ℕ) (hs : List (ℕ × Row)) → IsNonDecreasingBy (λ h. h.0) hs → older ≡ length (filter (is_below n) hs) → drop older hs ≡ filter (above n) hs
 stays n older hs s e = ap (λ j. drop j hs) e ∙ drop-below n hs s
-
--- what a turn puts out has one width
-pub signed_wide : (n : SlideNear) (rows : List (Bool × Row)) → rows ≡ signed n → HaveOneWidthIn n → HaveOneWidth rows
-signed_wide n rows e h =
-    let w : ℕ = h.0 in
-    let Q : Bool × Row → Type 0 = λ r. length r.1 ≡ w in (
-      w,
-      subst (All Q) (sym e)
-          (All-append Q (map leaving n.leave) (map entering n.enter) (All-map Q leaving n.leave h.1.0) (All-map Q entering n.enter h.1.1)),
-    )
 
 -- the excerpt has the width of what is held
 pub near_wide : (s : SlideState) (t : ℕ) → IsRange s.width s.held → HaveOneWidthIn (near_at s t)

@@ -1,7 +1,6 @@
 -- The turns of a window of the last rows of each partition.
 use Rattle.std.specs.Prelude.{ℕ, suc, ◌-◌, ◌≡◌, ◌≤◌, Bool, false, cond, nat_lt, Option, Some, None, List, [], ◌∷◌, ◌++◌, map, length, drop, get_or, unwrap_or}
 use Rattle.std.specs.Map.{lookup}
-use Rattle.std.specs.Option.{option_map}
 use Rattle.std.specs.BTreeMap.{is_at}
 use Rattle.std.specs.declared.cmp.Ordering.{Ordering}
 use Rattle.values.specs.Row.{Row, row_cmp, same_row, value_at}
@@ -90,11 +89,11 @@ row_in rows place = cond (nat_lt place (length rows)) (Some (get_or rows place [
 abbrev pub fallen_in : ℕ → List Row → Option Row
 fallen_in n rows = cond (nat_lt n (length rows)) (Some (get_or rows (length rows - suc n) [])) None
 
--- the rows that fall out, as values
-abbrev pub fallen_rows : List (Option OneRow) → List (Option Row)
-fallen_rows fallen = map (option_map (λ r. r.items)) fallen
+-- as many as the rows, and of their width
+abbrev pub AreFallen : List (Bool × Row) → List (Option Row) → Type 0
+AreFallen b fallen = (length fallen ≡ length b) × HaveOneWidth (interleaved b fallen)
 
--- as many as the item has rows, and of their width
+-- the same of an item
 abbrev pub FallenFit : Item → List (Option Row) → Type 0
-FallenFit (Rows t b) fallen = (length fallen ≡ length b) × HaveOneWidth (interleaved b fallen)
+FallenFit (Rows t b) fallen = AreFallen b fallen
 FallenFit (Tick t) fallen = Unit {0}

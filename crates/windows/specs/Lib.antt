@@ -1,5 +1,7 @@
 pub mod Widths
 pub mod Held
+pub mod Fallen
+pub mod Grown
 pub mod Range
 pub mod Latest
 pub mod Slide

@@ -1,5 +1,5 @@
 -- How many columns rows have.
-use Rattle.std.specs.Prelude.{ℕ, ◌≡◌, ℤ, Option, Bool, List, length, map}
+use Rattle.std.specs.Prelude.{ℕ, ◌≡◌, ℤ, Option, Bool, List, length}
 use Rattle.std.specs.List.{All}
 use Rattle.arrayvec.specs.ArrayVec.{ArrayVec}
 use Rattle.values.specs.Row.{Row}
@@ -10,9 +10,6 @@ use Rattle.op_queue.specs.declared.item.Item.TheVariants.{Rows, Tick}
 -- a row of the code, and its values
 abbrev pub OneRow : Type 0
 OneRow = ArrayVec (Option ℤ)
-
-abbrev pub rows_of : List OneRow → List Row
-rows_of rows = map (λ r. r.items) rows
 
 abbrev pub AreWide : ℕ → List Row → Type 0
 AreWide w rows = All (λ r. length r ≡ w) rows

@@ -5,15 +5,14 @@ ghost use Rattle.std.specs.List.{filter};
 ghost use Rattle.std.specs.List.Sorted.{IsNonDecreasingBy};
 ghost use Rattle.column.specs.Rows.{IsTable, width};
 ghost use Rattle.windows.specs.Range.{held_at, with_sign};
-ghost use Rattle.windows.specs.Widths.{rows_of};
 
 use crate::flat_rows::FlatRows;
+use crate::row_table::RowTable;
 use crate::runs::{Run, count_below, leave, lengthen};
 use column::{Batch, MAX_ROWS};
 use std::alloc::{AllocError, Global};
 use std::collections::VecDeque;
 use std::marker::Model;
-use values::Row;
 
 /// Rows of one width with their instants, the oldest first.
 ///
@@ -54,14 +53,14 @@ impl HeldRows {
     }
 
     /// A copy of the rows of instants below `first`. It costs these rows.
-    pub(crate) fn older(&self, alloc: Global, first: u64) -> Result<Vec<Row>, AllocError>
+    pub(crate) fn older(&self, alloc: Global, first: u64) -> Result<RowTable, AllocError>
         requires { IsNonDecreasingBy (λ h. h.0) self.now.held }
-        ensures { IfOk result (λ rows. rows_of rows.items
+        ensures { IfOk result (λ rows. rows
             ≡ map (λ h. h.1) (filter (λ h. nat_lt h.0 first) self.now.held)) }
     {
         let _len = self.rows.len();
         let count = count_below(&self.runs, first);
-        let rows = self.rows.first(alloc, count)?;
+        let rows = self.rows.part(alloc, 0, count)?;
         Ok(rows)
     }
 
@@ -77,10 +76,10 @@ impl HeldRows {
     }
 
     /// A copy of the rows from one place on to another.
-    pub(crate) fn part(&self, alloc: Global, from: usize, to: usize) -> Result<Vec<Row>, AllocError>
+    pub(crate) fn part(&self, alloc: Global, from: usize, to: usize) -> Result<RowTable, AllocError>
         requires ordered { from ≤ to }
         requires within { to ≤ length self.now.held }
-        ensures { IfOk result (λ rows. rows_of rows.items
+        ensures { IfOk result (λ rows. rows
             ≡ map (λ h. h.1) (take (to - from) (drop from self.now.held))) }
     {
         let rows = self.rows.part(alloc, from, to)?;

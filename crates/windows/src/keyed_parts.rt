@@ -8,10 +8,11 @@ ghost use Rattle.std.specs.BTreeMap.{is_at};
 ghost use Rattle.std.specs.Map.{set_value};
 ghost use Rattle.column.specs.Rows.{IsTable, width};
 ghost use Rattle.values.specs.Row.{Row as PlainRow};
-ghost use Rattle.windows.specs.Latest.{AreParts, all_after, all_fallen, fallen_in, fallen_rows};
+ghost use Rattle.windows.specs.Latest.{AreParts, all_after, all_fallen, fallen_in};
 ghost use Rattle.windows.specs.Latest.{held_in, key_cmp, key_in, last_of, part, row_in};
 ghost use Rattle.windows.specs.Widths.{AreWide, OneRow};
 
+use crate::fallen_rows::FallenRows;
 use crate::last::Last;
 use arrayvec::ArrayVec;
 use column::Batch;
@@ -106,20 +107,20 @@ impl<const N: usize> KeyedParts<N> {
         columns: &[usize],
         count: u64,
         batch: &Batch,
-    ) -> Result<Vec<Option<Row>>, AllocError>
+    ) -> Result<FallenRows, AllocError>
         requires narrow { length columns.now ≤ N }
-        requires few { (k : PlainRow) → length (held_in self.now k) ≤ count }
-        ensures value { IfOk result (λ fallen. fallen_rows fallen.items
+        requires parts { AreParts count (width batch.now) (held_in self.now) }
+        ensures value { IfOk result (λ fallen. fallen
             ≡ all_fallen columns.now count (held_in self.now) batch.now) }
         ensures table { IsTable (width batch.now) batch.now }
     {
         let _ = &self.parts;
-        let mut rows = Vec::with_capacity(alloc, batch.len())?;
+        let mut rows = FallenRows::with_capacity(alloc, batch.len())?;
         let mut came = KeyedParts::<N>::new(alloc);
         for place in 0..batch.len() {
             let row = batch.row(place).row;
             let key = key_in(columns, &row);
-            rows.push(fallen(self, &came, count, &key, &row))?;
+            rows.push(&fallen(self, &came, count, &key, &row))?;
             came.enter(alloc, u64::MAX, key, &row)?;
         }
         Ok(rows)

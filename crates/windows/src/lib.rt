@@ -5,6 +5,8 @@
 //! rows of each partition.
 #![tactic(auto)]
 
+mod fallen_rows;
+mod flat_batch;
 mod flat_rows;
 mod held;
 mod keyed_parts;
@@ -14,13 +16,16 @@ mod laws;
 mod outputs;
 mod parts;
 mod range;
+mod row_table;
 mod runs;
 mod slide;
 
+pub use fallen_rows::FallenRows;
 pub use latest::{LatestWindow, latest_work};
 pub use laws::{
     latest_takes_rows, latest_takes_ticks, range_takes_rows, range_takes_ticks, slide_takes_rows,
     slide_takes_ticks,
 };
 pub use range::{RangeWindow, range_work};
+pub use row_table::RowTable;
 pub use slide::{SlideNear, SlideWindow, slide_work};

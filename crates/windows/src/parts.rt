@@ -2,13 +2,14 @@
 ghost use Rattle.std.specs.Prelude.{◌≡◌, ◌≤◌, [], length, IfOk, OnOk};
 ghost use Rattle.column.specs.Rows.{IsTable, width};
 ghost use Rattle.values.specs.Row.{Row as PlainRow};
-ghost use Rattle.windows.specs.Latest.{AreParts, all_after, all_fallen, fallen_rows, held_in};
+ghost use Rattle.windows.specs.Latest.{AreParts, all_after, all_fallen, held_in};
 ghost use Rattle.windows.specs.Rooms.{entries_in, room_of};
 
+use crate::fallen_rows::FallenRows;
 use crate::keyed_parts::KeyedParts;
 use column::Batch;
 use std::alloc::{AllocError, Global};
-use values::{MAX_COLUMNS, Row};
+use values::MAX_COLUMNS;
 
 /// The rows of each partition, by how many values the keys may have.
 #[derive(Drop)]
@@ -47,10 +48,10 @@ impl Parts {
         columns: &[usize],
         count: u64,
         batch: &Batch,
-    ) -> Result<Vec<Option<Row>>, AllocError>
+    ) -> Result<FallenRows, AllocError>
         requires narrow { length columns.now ≤ room_of self.now }
-        requires few { (k : PlainRow) → length (held_in (entries_in self.now) k) ≤ count }
-        ensures value { IfOk result (λ fallen. fallen_rows fallen.items
+        requires parts { AreParts count (width batch.now) (held_in (entries_in self.now)) }
+        ensures value { IfOk result (λ fallen. fallen
             ≡ all_fallen columns.now count (held_in (entries_in self.now)) batch.now) }
         ensures table { IsTable (width batch.now) batch.now }
     {

@@ -1,22 +1,20 @@
 //! The rows of the last instants, at the multiples of a number alone.
-ghost use Rattle.std.specs.Prelude.{◌≡◌, ◌<◌, ◌++◌, ◌↔◌, [], IsTrue, length, map, IfOk, OnOk, OnErr};
+ghost use Rattle.std.specs.Prelude.{◌≡◌, ◌<◌, ◌++◌, ◌↔◌, [], IsTrue, length, IfOk, OnOk, OnErr};
 ghost use Rattle.std.specs.List.{flat_map};
-ghost use Rattle.column.specs.Rows.{signed};
 ghost use Rattle.op_queue.specs.Entries.{IsForward};
 ghost use Rattle.op_queue.specs.Items.{entries_of, item_instant};
 ghost use Rattle.op_queue.specs.Queues.{HasGained};
-ghost use Rattle.windows.specs.Range.{IsAfter, with_sign};
+ghost use Rattle.windows.specs.Range.{IsAfter};
 ghost use Rattle.windows.specs.Slide as spec;
 ghost use Rattle.windows.specs.Slide.{HaveOneWidthIn, near, near_at, next, nothing, out};
-ghost use Rattle.windows.specs.Widths.{IsItemWide, rows_of};
+ghost use Rattle.windows.specs.Widths.{IsItemWide};
 
 use crate::held::HeldRows;
-use crate::outputs::{add, batched, put_held};
-use column::SignedRow;
+use crate::outputs::{add, add_rows, put_held};
+use crate::row_table::RowTable;
 use op_queue::{Item, Queue};
 use std::alloc::{AllocError, Global};
 use std::marker::Model;
-use values::{Row, copy_row};
 
 /// A window of the last `span` instants that moves at the multiples of `step` alone: between them
 /// it shows what it showed at the last of them.
@@ -59,24 +57,23 @@ impl Model for SlideWindow {
 #[derive(Drop)]
 pub struct SlideNear {
     /// The rows that were shown and leave.
-    pub leave: Vec<Row>,
+    pub leave: RowTable,
     /// The rows that go and were never shown.
-    pub pass: Vec<Row>,
+    pub pass: RowTable,
     /// The rows that are shown from this tick on.
-    pub enter: Vec<Row>,
+    pub enter: RowTable,
 }
 
 impl Model for SlideNear {
     ghost use Rattle.windows.specs.Slide.{SlideNear as PlainNear};
-    ghost use Rattle.windows.specs.Widths.{rows_of};
 
     ghost Value = { PlainNear };
 
     ghost view = { λ n.
         record {
-          leave = rows_of n.leave.items;
-          pass = rows_of n.pass.items;
-          enter = rows_of n.enter.items;
+          leave = n.leave;
+          pass = n.pass;
+          enter = n.enter;
         } };
 }
 
@@ -85,9 +82,9 @@ impl SlideNear {
     pub fn is_same(&self, other: &SlideNear) -> bool
         ensures { IsTrue result ↔ (self.now ≡ other.now) }
     {
-        same_rows(&self.leave, &other.leave)
-            && same_rows(&self.pass, &other.pass)
-            && same_rows(&self.enter, &other.enter)
+        self.leave.is_same(&other.leave)
+            && self.pass.is_same(&other.pass)
+            && self.enter.is_same(&other.enter)
     }
 }
 
@@ -261,13 +258,6 @@ impl SlideWindow {
     }
 }
 
-/// Whether the lists have the same rows.
-fn same_rows(rows: &[Row], others: &[Row]) -> bool
-    ensures { IsTrue result ↔ (rows_of rows.now ≡ rows_of others.now) }
-{
-    rows == others
-}
-
 /// Whether the instant is a multiple of the step.
 fn moves(step: u64, at: u64) -> bool
     requires { 0 < step }
@@ -282,9 +272,9 @@ fn no_rows(alloc: Global) -> SlideNear
     ensures wide { HaveOneWidthIn result }
 {
     SlideNear {
-        leave: Vec::new(alloc),
-        pass: Vec::new(alloc),
-        enter: Vec::new(alloc),
+        leave: RowTable::new(alloc),
+        pass: RowTable::new(alloc),
+        enter: RowTable::new(alloc),
     }
 }
 
@@ -292,41 +282,16 @@ fn no_rows(alloc: Global) -> SlideNear
 ///
 /// An error says that memory was refused; nothing is changed.
 pub fn slide_work(alloc: Global, item: &Item, near: &SlideNear) -> Result<Vec<Item>, AllocError>
-    requires { HaveOneWidthIn near.now }
     ensures { IfOk result (λ outs. flat_map entries_of outs.items ≡ out item.now near.now) }
 {
     match item {
         Item::Rows(_, _) => Ok(Vec::new(alloc)),
         Item::Tick(at) => {
-            let at = *at;
-            let rows = signed_rows(alloc, near)?;
-            let mut outputs = batched(alloc, at, &rows)?;
-            add(&mut outputs, Item::Tick(at))?;
+            let mut outputs = Vec::new(alloc);
+            add_rows(alloc, &mut outputs, *at, false, &near.leave)?;
+            add_rows(alloc, &mut outputs, *at, true, &near.enter)?;
+            add(&mut outputs, Item::Tick(*at))?;
             Ok(outputs)
         },
     }
-}
-
-/// The rows that leave, and then those that enter.
-fn signed_rows(alloc: Global, near: &SlideNear) -> Result<Vec<SignedRow>, AllocError>
-    ensures { IfOk result (λ rows. map signed rows.items ≡ spec.signed near.now) }
-{
-    let mut rows = Vec::new(alloc);
-    add_rows(&mut rows, false, &near.leave)?;
-    add_rows(&mut rows, true, &near.enter)?;
-    Ok(rows)
-}
-
-/// The rows with a sign, behind the others.
-fn add_rows(to: &mut Vec<SignedRow>, enters: bool, rows: &[Row]) -> Result<(), AllocError>
-    ensures { OnOk result (map signed to.new.items
-        ≡ map signed to.old.items ++ map (with_sign enters) (rows_of rows.now)) }
-{
-    for row in rows {
-        to.push(SignedRow {
-            enters,
-            row: copy_row(row),
-        })?;
-    }
-    Ok(())
 }

@@ -1,5 +1,4 @@
 use Rattle.std.proofs.Common.{◌≡◌, ◌∙◌, length, take, sym, ap, arith, rules}
-use Rattle.std.specs.Ordering.{is_ne}
 use Rattle.values.specs.Row.{row_cmp}
 use Rattle.row_bags.specs.Bags.{array_cmp}
 use Rattle.row_bags.proofs.FrontLemmas.{Array}

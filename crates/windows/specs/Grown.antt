@@ -1,0 +1,18 @@
+-- A batch that grows row by row.
+use Rattle.std.specs.Prelude.{ℕ, ℤ, ◌≡◌, ◌≤◌, ◌*◌, Bool, Option, List, ◌++◌, length}
+use Rattle.values.specs.Row.{Row}
+use Rattle.values.specs.declared.TheConstants.{MAX_COLUMNS}
+
+-- signed rows, and how many columns each of them has
+pub record GrownRows : Type 0 where
+  pub width : ℕ
+  pub rows : List (Bool × Row)
+
+-- the values of so many rows stand one behind the other
+pub record AreGrown (w : ℕ) (leaving : List Bool) (values : List (Option ℤ)) : Type 0 where
+  pub size : length values ≡ length leaving * w
+  pub narrow : w ≤ MAX_COLUMNS
+
+-- with these rows more
+abbrev pub with_rows : GrownRows → List (Bool × Row) → GrownRows
+with_rows g rows = record { width = g.width; rows = g.rows ++ rows }

@@ -1,0 +1,115 @@
+//! The rows that fall out of their partitions.
+ghost use Rattle.std.specs.Prelude.{◌≡◌, ◌<◌, ◌++◌, ◌∷◌, ◌↔◌, [], IsTrue, None, Some};
+ghost use Rattle.std.specs.Prelude.{get_or, length, IfOk, OnOk};
+ghost use Rattle.std.specs.Option.{is_some, option_map};
+ghost use Rattle.windows.specs.Fallen.{IsBeside, those_fallen};
+ghost use Rattle.windows.specs.Widths.{AreWide};
+
+use crate::row_table::RowTable;
+use std::alloc::{AllocError, Global};
+use std::marker::Model;
+use values::{Row, Value};
+
+/// For each row of an item the row that falls out of its partition after it, if one does: a byte
+/// for each row of the item, and eight for each value of those that fall.
+#[derive(Drop)]
+pub struct FallenRows {
+    /// For each row of the item, in order, whether a row falls out after it.
+    falls: Vec<bool>,
+    /// The rows that fall out, in order.
+    rows: RowTable,
+}
+
+impl Model for FallenRows {
+    ghost use Rattle.std.specs.Prelude.{◌≡◌, List, Option, length};
+    ghost use Rattle.values.specs.Row.{Row as PlainRow};
+    ghost use Rattle.windows.specs.Fallen.{fallen_at, falling};
+
+    ghost Value = { List (Option PlainRow) };
+
+    ghost view = { λ f. fallen_at f.falls.items f.rows };
+
+    ghost invariant = { λ f. falling f.falls.items ≡ length f.rows };
+}
+
+impl FallenRows {
+    /// Of an item without rows. It takes no memory.
+    pub fn new(alloc: Global) -> FallenRows
+        ensures { result ≡ [] }
+    {
+        FallenRows {
+            falls: Vec::new(alloc),
+            rows: RowTable::new(alloc),
+        }
+    }
+
+    /// The same, with room for an item of so many rows.
+    pub(crate) fn with_capacity(alloc: Global, count: usize) -> Result<FallenRows, AllocError>
+        ensures { IfOk result (λ f. f ≡ []) }
+    {
+        let falls = Vec::with_capacity(alloc, count)?;
+        let rows = RowTable::new(alloc);
+        Ok(FallenRows { falls, rows })
+    }
+
+    /// How many rows the item has.
+    pub fn len(&self) -> usize
+        ensures { result ≡ length self.now }
+    {
+        self.falls.len()
+    }
+
+    /// Whether the lists have the same rows at the same places.
+    pub fn is_same(&self, other: &FallenRows) -> bool
+        ensures { IsTrue result ↔ (self.now ≡ other.now) }
+    {
+        self.falls == other.falls && self.rows.is_same(&other.rows)
+    }
+
+    /// What falls out after one row of the item more, if something does.
+    pub(crate) fn push(&mut self, fallen: &Option<Row>) -> Result<(), AllocError>
+        requires { IsBeside (option_map (λ r. r.items) fallen.now) (those_fallen self.old) }
+        ensures { OnOk result (self.new
+            ≡ self.old ++ option_map (λ r. r.items) fallen.now ∷ []) }
+    {
+        match fallen {
+            Some(row) => self.push_row(row),
+            None => self.push_none(),
+        }
+    }
+
+    /// A row falls out after one row of the item more.
+    fn push_row(&mut self, row: &Row) -> Result<(), AllocError>
+        requires { AreWide (length row.now.items) (those_fallen self.old) }
+        ensures { OnOk result (self.new ≡ self.old ++ Some row.now.items ∷ []) }
+    {
+        self.falls.reserve(1)?;
+        self.rows.push(row.as_slice())?;
+        self.falls.push_reserved(true);
+        Ok(())
+    }
+
+    /// Nothing falls out after one row of the item more.
+    fn push_none(&mut self) -> Result<(), AllocError>
+        ensures { OnOk result (self.new ≡ self.old ++ None ∷ []) }
+    {
+        self.falls.push(false)?;
+        Ok(())
+    }
+
+    /// Whether a row falls out after the row at a place.
+    pub(crate) fn falls(&self, place: usize) -> bool
+        requires { place < length self.now }
+        ensures { result ≡ is_some (get_or self.now place None) }
+    {
+        self.falls[place]
+    }
+
+    /// Of the rows that fall out the one at a place.
+    pub(crate) fn row(&self, place: usize) -> &[Value]
+        requires { place < length (those_fallen self.now) }
+        ensures { result.now ≡ get_or (those_fallen self.now) place [] }
+    {
+        self.rows.row(place)
+    }
+}

@@ -10,13 +10,13 @@ sys.dont_write_bytecode = True
 from drawing import GREEN, GREY, INK, PALE, RED, Drawing
 
 SPANS = ["10", "100", "1,000", "10,000"]
-# thousand rows a second at each span, of the engine and by hand: bench/engine on 2026-11-26
+# thousand rows a second at each span, of the engine and by hand: bench/engine on 2026-11-27
 RATES = {
-    "filter": ([2087], [7692]),
-    "range": ([1916, 1974, 1957, 1983], [3669, 3679, 3615, 3506]),
-    "groups": ([918, 966, 975, 1069], [1775, 1636, 1728, 1892]),
-    "join": ([762, 703, 627, 476], [1894, 1789, 1440, 930]),
-    "distinct": ([1197, 1065, 911, 633], [4406, 4186, 4010, 2741]),
+    "filter": ([2312], [7693]),
+    "range": ([2178, 2205, 2098, 2084], [3615, 3612, 3536, 3386]),
+    "groups": ([1041, 1005, 1045, 1126], [1733, 1140, 1670, 1806]),
+    "join": ([807, 699, 611, 418], [1827, 1725, 1223, 762]),
+    "distinct": ([1460, 1321, 1021, 703], [4371, 4044, 3842, 2420]),
 }
 # the share that is wanted of each
 GOALS = {"filter": 0.28, "range": 0.5, "groups": 0.6, "join": 0.4, "distinct": 0.4}

@@ -30,10 +30,10 @@ def main():
                       "The engine's share of the speed of a program written by hand")
 
     def y(share):
-        return TOP + HEIGHT * (1 - share / 0.7)
+        return TOP + HEIGHT * (1 - share / 0.9)
 
     right = width - 140
-    for tenths in range(0, 8, 2):
+    for tenths in range(0, 10, 2):
         drawing.line([(LEFT, y(tenths / 10)), (right, y(tenths / 10))], PALE, 1)
         drawing.text(LEFT - 10, y(tenths / 10) + 4, f"0.{tenths}", "end")
     drawing.text(20, TOP - 28, "share of the rate of the program by hand", "start")

@@ -1,5 +1,5 @@
 -- An entry that comes behind all others.
-use Rattle.std.proofs.Common.{◌≡◌, ℕ, List, [], ◌∷◌, ◌++◌, refl, ap, sym, subst, append_assoc, ◌∙◌}
+use Rattle.std.proofs.Common.{◌≡◌, List, [], ◌∷◌, ◌++◌, refl, ap, sym, subst, append_assoc, ◌∙◌}
 use Rattle.std.specs.declared.cmp.Ordering.{Ordering}
 use Rattle.std.specs.declared.cmp.Ordering.TheVariants.{Less, Greater}
 use Rattle.std.specs.Ordering.{match_ordering, ordering_reverse}
@@ -9,15 +9,15 @@ use Rattle.std.specs.BTreeMap.{insert_entry}
 use Rattle.values.specs.Bag.{IsExactOrder}
 use Rattle.row_bags.proofs.SpreadLemmas.{first_two, sorted-tail}
 
-module _ {K : Type 0} (cmp : K → K → Ordering) (o : IsExactOrder cmp) where
+module _ {K V : Type 0} (cmp : K → K → Ordering) (o : IsExactOrder cmp) where
   -- the first of a sorted list is below each behind it
-  first-below : (x : K) (es rest : List (K × ℕ)) (e : K × ℕ) → IsStrictlySortedBy cmp (x ∷ keys_of (es ++ e ∷ rest)) → cmp x e.0 ≡ Less
+  first-below : (x : K) (es rest : List (K × V)) (e : K × V) → IsStrictlySortedBy cmp (x ∷ keys_of (es ++ e ∷ rest)) → cmp x e.0 ≡ Less
   first-below x [] rest e s = (first_two cmp x e.0 (keys_of rest) s).0
   first-below x (f ∷ es) rest e s =
       let t = first_two cmp x f.0 (keys_of (es ++ e ∷ rest)) s in
       o.total.trans x f.0 e.0 t.0 (first-below f.0 es rest e t.1)
 
-  pub insert-last : (es rest : List (K × ℕ)) (e : K × ℕ) → IsStrictlySortedBy cmp (keys_of (es ++ e ∷ rest)) → insert_entry cmp es e.0 e.1 ≡ es ++ e ∷ []
+  pub insert-last : (es rest : List (K × V)) (e : K × V) → IsStrictlySortedBy cmp (keys_of (es ++ e ∷ rest)) → insert_entry cmp es e.0 e.1 ≡ es ++ e ∷ []
   insert-last [] rest e s = refl
   insert-last (f ∷ es) rest e s =
       let above : cmp e.0 f.0 ≡ Greater = o.total.antisymm e.0 f.0 ∙ ap ordering_reverse (first-below f.0 es rest e s) in
@@ -25,9 +25,9 @@ module _ {K : Type 0} (cmp : K → K → Ordering) (o : IsExactOrder cmp) where
       ∙ ap (λ l. f ∷ l) (insert-last es rest e (sorted-tail cmp o f.0 (keys_of (es ++ e ∷ rest)) s))
 
   -- an entry goes over from the list of those that are left
-  pub moved : (ws news xs rest : List (K × ℕ)) (e : K × ℕ) → xs ≡ e ∷ rest → news ≡ insert_entry cmp ws e.0 e.1 → IsStrictlySortedBy cmp (keys_of (ws ++ xs)) → news ++ rest ≡ ws ++ xs
+  pub moved : (ws news xs rest : List (K × V)) (e : K × V) → xs ≡ e ∷ rest → news ≡ insert_entry cmp ws e.0 e.1 → IsStrictlySortedBy cmp (keys_of (ws ++ xs)) → news ++ rest ≡ ws ++ xs
   moved ws news xs rest e split put s =
-      let behind : news ≡ ws ++ e ∷ [] = put ∙ insert-last ws rest e (subst (λ (ys : List (K × ℕ)). IsStrictlySortedBy cmp (keys_of (ws ++ ys))) split s) in
-      ap (λ (ys : List (K × ℕ)). ys ++ rest) behind
+      let behind : news ≡ ws ++ e ∷ [] = put ∙ insert-last ws rest e (subst (λ (ys : List (K × V)). IsStrictlySortedBy cmp (keys_of (ws ++ ys))) split s) in
+      ap (λ (ys : List (K × V)). ys ++ rest) behind
       ∙ append_assoc ws (e ∷ []) rest
-      ∙ ap (λ (ys : List (K × ℕ)). ws ++ ys) (sym split)
+      ∙ ap (λ (ys : List (K × V)). ws ++ ys) (sym split)

@@ -16,3 +16,5 @@ pub mod KeyLemmas
 pub mod CountLemmas
 pub mod FormLemmas
 pub mod WalkLemmas
+pub mod MapLemmas
+pub mod RowMapLemmas

@@ -1,9 +1,12 @@
 pub mod Bags
 pub mod Deltas
-pub mod Rooms
 pub mod Piles
 pub mod Dated
 pub mod Lists
 pub mod Examples
 pub mod Keys
 pub mod Forms
+pub mod Maps
+pub mod MapLends
+pub mod Rooms
+pub mod RowMapLends

@@ -1,26 +1,27 @@
--- How many values the rows of a bag may have where it is held.
+-- How many values the rows of a map may have, and its entries.
 use Rattle.std.specs.Prelude.{ℕ, ◌<◌, List}
 use Rattle.values.specs.declared.TheConstants.{MAX_COLUMNS}
-use Rattle.values.specs.Row.{Row}
-use Rattle.row_bags.specs.declared.held.Held.TheVariants as code
-use Rattle.row_bags.specs.declared.held.Held.{Held}
+use Rattle.row_bags.specs.Maps.{Array}
+use Rattle.row_bags.specs.declared.row_map.RowMap.TheVariants as code
+use Rattle.row_bags.specs.declared.row_map.RowMap.{RowMap}
 
--- the bag that is held
-abbrev pub bag_in : Held → List Row
-bag_in (code.Two xs) = xs
-bag_in (code.Four xs) = xs
-bag_in (code.Eight xs) = xs
-bag_in (code.Sixteen xs) = xs
-bag_in (code.Widest xs) = xs
+module _ {V : Type 0} where
+  -- the entries, in order of their rows
+  abbrev pub entries_in : RowMap V → List (Array × V)
+  entries_in (code.Two es) = es
+  entries_in (code.Four es) = es
+  entries_in (code.Eight es) = es
+  entries_in (code.Sixteen es) = es
+  entries_in (code.Widest es) = es
 
--- how many values its rows may have
-abbrev pub room_of : Held → ℕ
-room_of (code.Two xs) = 2
-room_of (code.Four xs) = 4
-room_of (code.Eight xs) = 8
-room_of (code.Sixteen xs) = 16
-room_of (code.Widest xs) = MAX_COLUMNS
+  -- how many values its rows may have
+  abbrev pub room_of : RowMap V → ℕ
+  room_of (code.Two es) = 2
+  room_of (code.Four es) = 4
+  room_of (code.Eight es) = 8
+  room_of (code.Sixteen es) = 16
+  room_of (code.Widest es) = MAX_COLUMNS
 
--- the second has more room, where there is more
-abbrev pub IsWider : Held → Held → Type 0
-IsWider h w = room_of h < MAX_COLUMNS → room_of h < room_of w
+  -- the second has more room, where there is more
+  abbrev pub IsWider : RowMap V → RowMap V → Type 0
+  IsWider m w = room_of m < MAX_COLUMNS → room_of m < room_of w

@@ -9,7 +9,6 @@ mod fallen_rows;
 mod flat_batch;
 mod flat_rows;
 mod held;
-mod keyed_parts;
 mod last;
 mod latest;
 mod laws;

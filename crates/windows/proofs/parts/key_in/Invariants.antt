@@ -1,0 +1,6 @@
+use Rattle.std.proofs.Common.{◌≡◌, take, map}
+use Rattle.values.specs.Row.{value_at}
+use Rattle.windows.proofs.parts.key_in.Given as goal
+
+abbrev pub invariant-loop-column : goal.invariant-loop-column
+invariant-loop-column l = l.key.items ≡ map (value_at l.row.items) (take l.column-index l.columns)

@@ -10,7 +10,7 @@ use Rattle.values.specs.Row.{Row}
 use Rattle.group.specs.Groups.{GroupBy}
 use Rattle.group.specs.Cells.{Held, held}
 use Rattle.group.specs.Turns.{ShownState, TouchedState, outputs, row_now, shown_now, swap_of}
-use Rattle.group.specs.Runs.{OutgoingState, with_rows}
+use Rattle.op_queue.specs.Flat.{FlatState, with_signed}
 use Rattle.group.specs.Excerpts.{rows_there, values_of, AreRows, touched_of, ListTouched, no_touched, touched_at, shown_of, ListShown, no_shown, shown_at_place}
 use Rattle.group.specs.declared.cells.Figure.{Figure}
 
@@ -170,8 +170,8 @@ outputs-append g (t ∷ ts) us =
     let first : List (Bool × Row) = swap_of (length g.items) t.shown (row_now g t) in
     ap (λ (rs : List (Bool × Row)). first ++ rs) (outputs-append g ts us) ∙ sym (append_assoc first (outputs g ts) (outputs g us))
 
-pub rows-more : (g : GroupBy) (o p q : OutgoingState) (ts : List TouchedState) (k : ℕ) → o.width ≡ length g.items → k < length ts → p ≡ with_rows o (outputs g (take k ts))
-    → q ≡ with_rows p (swap_of p.width (touched_at ts k).shown (row_now g (touched_at ts k))) → q ≡ with_rows o (outputs g (take (k + 1) ts))
+pub rows-more : (g : GroupBy) (o p q : FlatState) (ts : List TouchedState) (k : ℕ) → o.width ≡ length g.items → k < length ts → p ≡ with_signed o (outputs g (take k ts))
+    → q ≡ with_signed p (swap_of p.width (touched_at ts k).shown (row_now g (touched_at ts k))) → q ≡ with_signed o (outputs g (take (k + 1) ts))
 rows-more g o p q ts k wide lt is more =
     let t = touched_at ts k in
     let done : List (Bool × Row) = outputs g (take k ts) in
@@ -179,8 +179,8 @@ rows-more g o p q ts k wide lt is more =
     let all : done ++ last ≡ outputs g (take (k + 1) ts) =
     ap (λ (rs : List (Bool × Row)). done ++ rs) (sym (append-nil last)) ∙ sym (outputs-append g (take k ts) (t ∷ [])) ∙ ap (outputs g) (sym (take_more ts k no_touched lt)) in
     more
-    ∙ ap (λ (s : OutgoingState). with_rows s (swap_of s.width t.shown (row_now g t))) is
-    ∙ ap (λ (n : ℕ). with_rows (with_rows o done) (swap_of n t.shown (row_now g t))) wide
+    ∙ ap (λ (s : FlatState). with_signed s (swap_of s.width t.shown (row_now g t))) is
+    ∙ ap (λ (n : ℕ). with_signed (with_signed o done) (swap_of n t.shown (row_now g t))) wide
     ∙ ap (λ (rs : List (Bool × Row)). record { width = o.width; rows = rs }) (append_assoc o.rows done last ∙ ap (λ (rs : List (Bool × Row)). o.rows ++ rs) all)
 
 keys-shown : (g : GroupBy) (ts : List TouchedState) → map (λ t. t.key.items) ts ≡ map (λ c. c.key.items) (map (shown_now g) ts)

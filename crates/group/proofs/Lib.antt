@@ -14,7 +14,6 @@ pub mod DistinctLemmas
 pub mod BatchLemmas
 pub mod SameLemmas
 pub mod RunLemmas
-pub mod FlatLemmas
 pub mod SlotLemmas
 pub mod QuietLemmas
 pub mod PlaceLemmas

@@ -9,7 +9,8 @@ use Rattle.values.specs.declared.resolved.ListItem.TheVariants.{Key}
 use Rattle.group.specs.Groups.{GroupBy, no_columns}
 use Rattle.group.specs.Cells.{Held, held, CellState, TallyState, figures, shown_figure, showing}
 use Rattle.group.specs.Turns.{fitted, same_shown, swap_of}
-use Rattle.group.specs.Runs.{OutgoingState, ShowsKey, put_out, row_at_tick, with_rows}
+use Rattle.op_queue.specs.Flat.{FlatState, with_signed}
+use Rattle.group.specs.Runs.{ShowsKey, put_out, row_at_tick}
 use Rattle.group.proofs.DistinctLemmas.{whole_row}
 use Rattle.group.proofs.KeyLemmas.{same_held}
 use Rattle.group.proofs.RunLemmas.{with_none}
@@ -49,5 +50,5 @@ nothing_out g m k c h =
     ap₂ (λ (o p : Option Held). swap_of m o p) h.shown h.row
     ∙ ap (λ (b : Bool). cond b [] ((false, fitted m k) ∷ (true, fitted m k) ∷ [])) ((same_held k k).1 refl)
 
-pub quiet_rows : (g : GroupBy) (k : Held) (c : CellState) (o : OutgoingState) → ShowsKey g k c → o ≡ put_out g k c o
-quiet_rows g k c o h = with_none o ∙ ap (with_rows o) (sym (nothing_out g o.width k c h))
+pub quiet_rows : (g : GroupBy) (k : Held) (c : CellState) (o : FlatState) → ShowsKey g k c → o ≡ put_out g k c o
+quiet_rows g k c o h = with_none o ∙ ap (with_signed o) (sym (nothing_out g o.width k c h))

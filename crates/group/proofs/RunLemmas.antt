@@ -19,7 +19,8 @@ use Rattle.op_queue.specs.declared.item.Item.TheVariants.{Rows, Tick}
 use Rattle.group.specs.Groups.{GroupBy}
 use Rattle.group.specs.Cells.{Held, held_cmp, CellState, cell_zero, showing}
 use Rattle.group.specs.Turns.{GroupState, has_key, near, cell_of, shown_at, shown_after, shown_now, excerpt, near_at, out, outputs, same_shown, swap_of, TouchedState}
-use Rattle.group.specs.Runs.{HasSwapped, OutgoingState, with_rows, row_at_tick, put_out, swapped, changes_at}
+use Rattle.op_queue.specs.Flat.{FlatState, with_signed}
+use Rattle.group.specs.Runs.{HasSwapped, row_at_tick, put_out, swapped, changes_at}
 use Rattle.group.proofs.KeyLemmas.{held_order, same_key, same_held, cell-shown_in}
 
 -- THE OTHER GROUPS
@@ -60,23 +61,23 @@ pub swap_cells : (g : GroupBy) (k : Held) (es : List (Held × CellState)) (ks : 
     → fold (shown_after (length g.items)) (swapped g k es) (changes_at g (swapped g k es) ks) ≡ fold (shown_after (length g.items)) es (changes_at g es (k ∷ ks))
 swap_cells g k es ks s = ap (λ (ts : List TouchedState). fold (shown_after (length g.items)) (swapped g k es) (map (shown_now g) ts)) (near_rest g k es ks s)
 
-pub swap_rows : (g : GroupBy) (k : Held) (es : List (Held × CellState)) (ks : List Held) (o : OutgoingState) → IsStrictlySortedBy held_cmp (k ∷ ks) → o.width ≡ length g.items
-    → with_rows (put_out g k (cell_of (length g.items) k es) o) (outputs g (near_at g.items (swapped g k es) ks)) ≡ with_rows o (outputs g (near_at g.items es (k ∷ ks)))
+pub swap_rows : (g : GroupBy) (k : Held) (es : List (Held × CellState)) (ks : List Held) (o : FlatState) → IsStrictlySortedBy held_cmp (k ∷ ks) → o.width ≡ length g.items
+    → with_signed (put_out g k (cell_of (length g.items) k es) o) (outputs g (near_at g.items (swapped g k es) ks)) ≡ with_signed o (outputs g (near_at g.items es (k ∷ ks)))
 swap_rows g k es ks o s w =
     let c : CellState = cell_of (length g.items) k es in
     let rest : List (Bool × Row) = outputs g (near_at g.items es ks) in
-    ap (λ (ts : List TouchedState). with_rows (put_out g k c o) (outputs g ts)) (near_rest g k es ks s)
+    ap (λ (ts : List TouchedState). with_signed (put_out g k c o) (outputs g ts)) (near_rest g k es ks s)
     ∙ ap (λ (rs : List (Bool × Row)). record { width = o.width; rows = rs })
     (append_assoc o.rows (swap_of o.width c.shown (row_at_tick g k c)) rest
     ∙ ap (λ (n : ℕ). o.rows ++ (swap_of n c.shown (row_at_tick g k c) ++ rest)) w)
 
-pub step_rows : (g : GroupBy) (k : Held) (es fs : List (Held × CellState)) (ks : List Held) (o p : OutgoingState) → IsStrictlySortedBy held_cmp (k ∷ ks) → o.width ≡ length g.items → fs ≡ swapped g k es → p ≡ put_out g k (cell_of (length g.items) k es) o
-    → with_rows p (outputs g (near_at g.items fs ks)) ≡ with_rows o (outputs g (near_at g.items es (k ∷ ks)))
-step_rows g k es fs ks o p s w cells rows = ap₂ (λ (q : OutgoingState) (xs : List (Held × CellState)). with_rows q (outputs g (near_at g.items xs ks))) rows cells ∙ swap_rows g k es ks o s w
+pub step_rows : (g : GroupBy) (k : Held) (es fs : List (Held × CellState)) (ks : List Held) (o p : FlatState) → IsStrictlySortedBy held_cmp (k ∷ ks) → o.width ≡ length g.items → fs ≡ swapped g k es → p ≡ put_out g k (cell_of (length g.items) k es) o
+    → with_signed p (outputs g (near_at g.items fs ks)) ≡ with_signed o (outputs g (near_at g.items es (k ∷ ks)))
+step_rows g k es fs ks o p s w cells rows = ap₂ (λ (q : FlatState) (xs : List (Held × CellState)). with_signed q (outputs g (near_at g.items xs ks))) rows cells ∙ swap_rows g k es ks o s w
 
 -- two lists of rows more
-pub with_both : (o p q : OutgoingState) (a b : List (Bool × Row)) → p ≡ with_rows o a → q ≡ with_rows p b → q ≡ with_rows o (a ++ b)
-with_both o p q a b h i = i ∙ ap (λ (x : OutgoingState). with_rows x b) h ∙ ap (λ (rs : List (Bool × Row)). record { width = o.width; rows = rs }) (append_assoc o.rows a b)
+pub with_both : (o p q : FlatState) (a b : List (Bool × Row)) → p ≡ with_signed o a → q ≡ with_signed p b → q ≡ with_signed o (a ++ b)
+with_both o p q a b h i = i ∙ ap (λ (x : FlatState). with_signed x b) h ∙ ap (λ (rs : List (Bool × Row)). record { width = o.width; rows = rs }) (append_assoc o.rows a b)
 
 -- ONE GROUP
 remove_set : (k : Held) (c : CellState) (es : List (Held × CellState)) → remove_entry (is_at (held_cmp k)) (set_value (is_at (held_cmp k)) es c) ≡ remove_entry (is_at (held_cmp k)) es
@@ -126,7 +127,7 @@ shows_same c o h = ap (showing c) (here c.shown o h)
     here (Some r) (Some q) h = ap Some ((same_held r q).0 h)
 
 -- what was kept of the group that the map had
-pub has_swapped : (g : GroupBy) (k h : Held) (es fs : List (Held × CellState)) (o p : OutgoingState) (some : Bool) (c new : CellState) → h ≡ k → lookup (is_at (held_cmp h)) es ≡ Some c → fs ≡ set_value (is_at (held_cmp h)) es new
+pub has_swapped : (g : GroupBy) (k h : Held) (es fs : List (Held × CellState)) (o p : FlatState) (some : Bool) (c new : CellState) → h ≡ k → lookup (is_at (held_cmp h)) es ≡ Some c → fs ≡ set_value (is_at (held_cmp h)) es new
     → some ≡ is_some (row_at_tick g k c) → new ≡ showing c (row_at_tick g k c) → p ≡ put_out g k c o → HasSwapped g k es o fs p some
 has_swapped g k h es fs o p some c new same found cells row shows rows =
     let at_k : lookup (is_at (held_cmp k)) es ≡ Some c = ap (λ (q : Held). lookup (is_at (held_cmp q)) es) (sym same) ∙ found in
@@ -154,15 +155,15 @@ swapped_absent g k c some es has new row none =
     let was : c ≡ cell_of (length g.items) k es = new ∙ sym (cell_absent (length g.items) k es has) in
     swapped_none (length g.items) k (row_at_tick g k (cell_of (length g.items) k es)) es es has (ap (λ (d : CellState). is_some (row_at_tick g k d)) (sym was) ∙ sym row ∙ none) refl
 
-pub swapped_gone : (g : GroupBy) (k : Held) (es fs new : List (Held × CellState)) (o p : OutgoingState) (some : Bool) → HasSwapped g k es o fs p some → some ≡ false → new ≡ remove_entry (is_at (held_cmp k)) fs → new ≡ swapped g k es
+pub swapped_gone : (g : GroupBy) (k : Held) (es fs new : List (Held × CellState)) (o p : FlatState) (some : Bool) → HasSwapped g k es o fs p some → some ≡ false → new ≡ remove_entry (is_at (held_cmp k)) fs → new ≡ swapped g k es
 swapped_gone g k es fs new o p some h none is =
     let n : ℕ = length g.items in
     let c : CellState = cell_of n k es in
     swapped_goes n k (row_at_tick g k c) (showing c (row_at_tick g k c)) es new (sym h.row ∙ none) (is ∙ ap (remove_entry (is_at (held_cmp k))) h.cells)
 
-pub outgoing_rows : (s v : GroupState) (t : ℕ) (o p : OutgoingState) → v ≡ s → o.rows ≡ [] → p ≡ with_rows o (outputs v.group (near_at v.group.items v.cells v.touched)) → p.rows ≡ outputs s.group (near s (Tick t))
+pub outgoing_rows : (s v : GroupState) (t : ℕ) (o p : FlatState) → v ≡ s → o.rows ≡ [] → p ≡ with_signed o (outputs v.group (near_at v.group.items v.cells v.touched)) → p.rows ≡ outputs s.group (near s (Tick t))
 outgoing_rows s v t o p seen none is =
-    ap (λ (x : OutgoingState). x.rows) is
+    ap (λ (x : FlatState). x.rows) is
     ∙ ap (λ (rs : List (Bool × Row)). rs ++ outputs v.group (near v (Tick t))) none
     ∙ ap (λ (x : GroupState). outputs x.group (near x (Tick t))) seen
 
@@ -171,7 +172,7 @@ tick_whole t before rows outs is =
     let at : Bool × Row → Entry Row = RowAt t in
     ap (λ (rs : List (Bool × Row)). before ++ (map at rs ++ TickAt t ∷ [])) (sym is) ∙ sym (append_assoc before (map at rows) (TickAt t ∷ []))
 
-pub with_none : (o : OutgoingState) → o ≡ with_rows o []
+pub with_none : (o : FlatState) → o ≡ with_signed o []
 with_none o = ap (λ (rs : List (Bool × Row)). record { width = o.width; rows = rs }) (sym (append-nil o.rows))
 
 -- WHAT IS PUT OUT IS OF ONE INSTANT

@@ -1,36 +1,21 @@
 -- The turn of a tick in place, group by group.
-use Rattle.std.specs.Prelude.{ℕ, ℤ, ◌≡◌, ◌*◌, ◌≤◌, Bool, true, Option, Some, List, ◌++◌, map, length}
+use Rattle.std.specs.Prelude.{◌≡◌, Bool, true, Option, Some, List, map, length}
 use Rattle.std.specs.Option.{is_some}
 use Rattle.std.specs.Map.{set_value}
 use Rattle.std.specs.BTreeMap.{is_at}
-use Rattle.values.specs.Row.{Row}
-use Rattle.values.specs.declared.TheConstants.{MAX_COLUMNS}
+use Rattle.op_queue.specs.Flat.{FlatState, with_signed}
 use Rattle.group.specs.Groups.{GroupBy}
 use Rattle.group.specs.Cells.{Held, held_cmp, CellState, showing}
 use Rattle.group.specs.Keys.{KeyedState}
 use Rattle.group.specs.Turns.{GroupState, ShownState, has_key, cell_of, excerpt, near_at, row_now, shown_at, shown_now, swap_of}
-
--- signed rows of one width that a tick puts out
-pub record OutgoingState : Type 0 where
-  pub width : ℕ
-  pub rows : List (Bool × Row)
-
--- the values of so many rows stand one behind the other
-pub record IsOutgoing (w : ℕ) (leaving : List Bool) (values : List (Option ℤ)) : Type 0 where
-  pub size : length values ≡ length leaving * w
-  pub narrow : w ≤ MAX_COLUMNS
-
--- with these rows more
-abbrev pub with_rows : OutgoingState → List (Bool × Row) → OutgoingState
-with_rows o rs = record { width = o.width; rows = o.rows ++ rs }
 
 -- the row that the group k shows from this tick on
 abbrev pub row_at_tick : GroupBy → Held → CellState → Option Held
 row_at_tick g k c = row_now g (excerpt g.items k c)
 
 -- with what the group k puts out
-abbrev pub put_out : GroupBy → Held → CellState → OutgoingState → OutgoingState
-put_out g k c o = with_rows o (swap_of o.width c.shown (row_at_tick g k c))
+abbrev pub put_out : GroupBy → Held → CellState → FlatState → FlatState
+put_out g k c o = with_signed o (swap_of o.width c.shown (row_at_tick g k c))
 
 -- the group k shows its key, which is the row that it has to show
 pub record ShowsKey (g : GroupBy) (k : Held) (c : CellState) : Type 0 where
@@ -46,7 +31,7 @@ abbrev pub changes_at : GroupBy → List (Held × CellState) → List Held → L
 changes_at g es ks = map (shown_now g) (near_at g.items es ks)
 
 -- the group k, which the map has, put out what it has to and shows its row, or none; some says whether there is one
-pub record HasSwapped (g : GroupBy) (k : Held) (es : List (Held × CellState)) (o : OutgoingState) (fs : List (Held × CellState)) (p : OutgoingState) (some : Bool) : Type 0 where
+pub record HasSwapped (g : GroupBy) (k : Held) (es : List (Held × CellState)) (o : FlatState) (fs : List (Held × CellState)) (p : FlatState) (some : Bool) : Type 0 where
   pub there : has_key k es ≡ true
   pub row : some ≡ is_some (row_at_tick g k (cell_of (length g.items) k es))
   pub cells : fs ≡ set_value (is_at (held_cmp k)) es (showing (cell_of (length g.items) k es) (row_at_tick g k (cell_of (length g.items) k es)))

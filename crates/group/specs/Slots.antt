@@ -9,7 +9,8 @@ use Rattle.values.specs.declared.TheConstants.{MAX_COLUMNS}
 use Rattle.group.specs.Groups.{GroupBy}
 use Rattle.group.specs.Cells.{Held, held_cmp, CellState, cell_zero, showing}
 use Rattle.group.specs.Keys.{IsShort}
-use Rattle.group.specs.Runs.{OutgoingState, put_out, row_at_tick}
+use Rattle.op_queue.specs.Flat.{FlatState}
+use Rattle.group.specs.Runs.{put_out, row_at_tick}
 
 -- by the key, what is kept of each group
 pub record SlotsState : Type 0 where
@@ -47,13 +48,13 @@ pub record Writes (f g : ℕ → Option (Held × CellState)) (p : ℕ) (c : Cell
   pub others : (q : ℕ) → q ≢ p → g q ≡ f q
 
 -- the group k, of which c was kept and d is, put out what it has to and shows its row, or none; some says whether there is one
-pub record SwapsIn (g : GroupBy) (k : Held) (c d : CellState) (o q : OutgoingState) (some : Bool) : Type 0 where
+pub record SwapsIn (g : GroupBy) (k : Held) (c d : CellState) (o q : FlatState) (some : Bool) : Type 0 where
   pub row : some ≡ is_some (row_at_tick g k c)
   pub cell : d ≡ showing c (row_at_tick g k c)
   pub rows : q ≡ put_out g k c o
 
 -- the group k at the place p put out what it has to and shows its row, or none; some says whether there is one
-pub record Swaps (g : GroupBy) (k : Held) (f h : ℕ → Option (Held × CellState)) (p : ℕ) (o q : OutgoingState) (some : Bool) : Type 0 where
+pub record Swaps (g : GroupBy) (k : Held) (f h : ℕ → Option (Held × CellState)) (p : ℕ) (o q : FlatState) (some : Bool) : Type 0 where
   pub row : some ≡ is_some (row_at_tick g k (cell_at (f p)))
   pub cell : Writes f h p (showing (cell_at (f p)) (row_at_tick g k (cell_at (f p))))
   pub rows : q ≡ put_out g k (cell_at (f p)) o

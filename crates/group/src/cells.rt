@@ -28,13 +28,14 @@ ghost use Rattle.group.specs.Turns.{same_shown, signed_row, swap_of};
 ghost use Rattle.group.specs.Groups.{no_columns};
 ghost use Rattle.std.specs.Prelude.{◌||◌, IfSome, IsTrue};
 ghost use Rattle.std.specs.Ordering.{int_cmp, is_lt};
-ghost use Rattle.group.specs.Runs.{put_out, row_at_tick, with_rows, ShowsKey};
+ghost use Rattle.op_queue.specs.Flat.{with_signed};
+ghost use Rattle.group.specs.Runs.{put_out, row_at_tick, ShowsKey};
 
-use crate::outgoing::Outgoing;
 use crate::rows::{enters, field_at, value_in};
 use crate::shape::GroupBy;
 use column::{Batch, Column as Lane};
 use lane_kernels::{count_set, count_signed, sum_signed};
+use op_queue::SignedRows;
 use std::alloc::{AllocError, Global};
 use std::collections::BTreeMap;
 use std::marker::Model;
@@ -642,12 +643,12 @@ pub(crate) fn has_values(values: &[Value], row: &[Value]) -> bool
 }
 
 /// The row that was shown leaves, if there is one.
-fn put_shown(shown: &Option<Vec<Value>>, rows: &mut Outgoing) -> Result<(), AllocError>
-    ensures { OnOk result (rows.new ≡ with_rows rows.old (signed_row false rows.old.width
+fn put_shown(shown: &Option<Vec<Value>>, rows: &mut SignedRows) -> Result<(), AllocError>
+    ensures { OnOk result (rows.new ≡ with_signed rows.old (signed_row false rows.old.width
         (option_map (λ values. held values.items) shown.now))) }
 {
     match shown {
-        Some(values) => rows.push(false, values),
+        Some(values) => rows.push_fitted(false, values),
         None => Ok(()),
     }
 }
@@ -787,9 +788,9 @@ impl Cell {
     }
 
     /// The row that was shown leaves and none enters.
-    fn show_none(&mut self, rows: &mut Outgoing) -> Result<(), AllocError>
+    fn show_none(&mut self, rows: &mut SignedRows) -> Result<(), AllocError>
         ensures cell { OnOk result (self.new ≡ showing self.old None) }
-        ensures rows { OnOk result (rows.new ≡ with_rows rows.old
+        ensures rows { OnOk result (rows.new ≡ with_signed rows.old
             (swap_of rows.old.width self.old.shown None)) }
     {
         put_shown(&self.shown, rows)?;
@@ -803,16 +804,16 @@ impl Cell {
         &mut self,
         alloc: Global,
         row: &mut Vec<Value>,
-        rows: &mut Outgoing,
+        rows: &mut SignedRows,
     ) -> Result<(), AllocError>
         requires { length row.old.items ≤ MAX_COLUMNS }
         ensures cell { OnOk result (self.new ≡ showing self.old (Some (held row.old.items))) }
-        ensures rows { OnOk result (rows.new ≡ with_rows rows.old
+        ensures rows { OnOk result (rows.new ≡ with_signed rows.old
             (signed_row false rows.old.width self.old.shown
             ++ signed_row true rows.old.width (Some (held row.old.items)))) }
     {
         put_shown(&self.shown, rows)?;
-        rows.push(true, row)?;
+        rows.push_fitted(true, row)?;
         let room = room_of(self.shown.take(), alloc);
         self.shown = Some(mem::replace(row, room));
         Ok(())
@@ -824,11 +825,11 @@ impl Cell {
         &mut self,
         alloc: Global,
         row: &mut Vec<Value>,
-        rows: &mut Outgoing,
+        rows: &mut SignedRows,
     ) -> Result<(), AllocError>
         requires { length row.old.items ≤ MAX_COLUMNS }
         ensures cell { OnOk result (self.new ≡ showing self.old (Some (held row.old.items))) }
-        ensures rows { OnOk result (rows.new ≡ with_rows rows.old
+        ensures rows { OnOk result (rows.new ≡ with_signed rows.old
             (swap_of rows.old.width self.old.shown (Some (held row.old.items)))) }
     {
         if is_shown(&self.shown, row) {
@@ -897,7 +898,7 @@ impl Cell {
         group: &GroupBy,
         key: &[Value],
         spare: &mut Vec<Value>,
-        rows: &mut Outgoing,
+        rows: &mut SignedRows,
     ) -> Result<bool, AllocError>
         ensures some { IfOk result (λ some. some
             ≡ is_some (row_at_tick group.now (held key.now) self.old)) }

@@ -9,13 +9,14 @@ ghost use Rattle.group.specs.Cells.{held_cmp, CellRoom};
 ghost use Rattle.group.specs.Rooms.{kept_in, cells_in, touched_in, room_of};
 ghost use Rattle.group.specs.Turns.{cell_of, shown_in, near_at, outputs, shown_after, rows_after};
 ghost use Rattle.group.specs.Turns.{CountsUpTo, KeepsRoom};
-ghost use Rattle.group.specs.Runs.{OutgoingState, changes_at, state_with, with_rows};
+ghost use Rattle.op_queue.specs.Flat.{FlatState, with_signed};
+ghost use Rattle.group.specs.Runs.{changes_at, state_with};
 
 use crate::keyed::Keyed;
-use crate::outgoing::Outgoing;
 use crate::shape::GroupBy;
 use crate::turn::Near;
 use column::Batch;
+use op_queue::SignedRows;
 use std::alloc::{AllocError, Global};
 use values::{ListItem, MAX_COLUMNS, Row};
 
@@ -199,14 +200,14 @@ impl HeldCells {
         &mut self,
         alloc: Global,
         group: &GroupBy,
-        rows: &mut Outgoing,
+        rows: &mut SignedRows,
     ) -> Result<(), AllocError>
         requires { rows.old.width ≡ length group.now.items }
         ensures cells { OnOk result (cells_in self.new
             ≡ fold (shown_after (length group.now.items)) (cells_in self.old)
             (changes_at group.now (cells_in self.old) (touched_in self.old))) }
         ensures touched { OnOk result (touched_in self.new ≡ []) }
-        ensures rows { OnOk result (rows.new ≡ with_rows rows.old
+        ensures rows { OnOk result (rows.new ≡ with_signed rows.old
             (outputs group.now
             (near_at group.now.items (cells_in self.old) (touched_in self.old)))) }
     {

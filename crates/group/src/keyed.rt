@@ -12,19 +12,19 @@ ghost use Rattle.group.specs.Keys.{Short, in_set};
 ghost use Rattle.group.specs.Turns.{cell_of, has_key, taken_in, shown_in, excerpt, row_key};
 ghost use Rattle.group.specs.Turns.{rows_after, CountsUpTo, KeepsRoom};
 ghost use Rattle.group.specs.Turns.{near_at, outputs, shown_after};
-ghost use Rattle.group.specs.Runs.{HasSwapped, OutgoingState, changes_at, put_out, swapped};
-ghost use Rattle.group.specs.Runs.{state_with, with_rows};
+ghost use Rattle.op_queue.specs.Flat.{FlatState, with_signed};
+ghost use Rattle.group.specs.Runs.{HasSwapped, changes_at, put_out, state_with, swapped};
 ghost use Rattle.group.specs.Touched.{TouchedMore};
 ghost use Rattle.std.specs.Prelude.{false, MatchOption};
 
 use crate::cells::{Cell, Figure};
 use crate::key::Key;
-use crate::outgoing::Outgoing;
 use crate::shape::GroupBy;
 use crate::slots::Slots;
 use crate::touch::Touch;
 use crate::turn::{Near, Touched};
 use column::Batch;
+use op_queue::SignedRows;
 use std::alloc::{AllocError, Global};
 use std::marker::Model;
 use values::{ListItem, MAX_COLUMNS, Row, Value};
@@ -203,23 +203,25 @@ impl<const N: usize> Keyed<N> {
 
     /// A tick of the touched groups, in the order of their keys: each puts out what it has to and
     /// shows its row. One that has no row to show is no longer kept. None is touched from then on.
+    ///
+    /// There is room at once for the two rows that each of the first 512 may put out.
     pub(crate) fn swap_touched(
         &mut self,
         alloc: Global,
         group: &GroupBy,
-        rows: &mut Outgoing,
+        rows: &mut SignedRows,
     ) -> Result<(), AllocError>
         requires { rows.old.width ≡ length group.now.items }
         ensures cells { OnOk result (self.new.cells
             ≡ fold (shown_after (length group.now.items)) self.old.cells
             (changes_at group.now self.old.cells self.old.touched)) }
         ensures touched { OnOk result (self.new.touched ≡ []) }
-        ensures rows { OnOk result (rows.new ≡ with_rows rows.old
+        ensures rows { OnOk result (rows.new ≡ with_signed rows.old
             (outputs group.now (near_at group.now.items self.old.cells self.old.touched))) }
     {
         let _ = &self.cells;
         settle(&mut self.touched);
-        rows.reserve(self.touched.len())?;
+        rows.reserve(2 * self.touched.len().min(512))?;
         swap_all(&mut self.cells, alloc, group, &self.touched, rows)?;
         self.forget_touched(alloc);
         Ok(())
@@ -368,7 +370,7 @@ fn swap_all<const N: usize>(
     alloc: Global,
     group: &GroupBy,
     touched: &[Touch<N>],
-    rows: &mut Outgoing,
+    rows: &mut SignedRows,
 ) -> Result<(), AllocError>
     requires room { N ≤ MAX_COLUMNS }
     requires sorted { IsStrictlySortedBy held_cmp touched.now }
@@ -376,7 +378,7 @@ fn swap_all<const N: usize>(
     ensures cells { OnOk result (cells.new.entries
         ≡ fold (shown_after (length group.now.items)) cells.old.entries
         (changes_at group.now cells.old.entries touched.now)) }
-    ensures rows { OnOk result (rows.new ≡ with_rows rows.old
+    ensures rows { OnOk result (rows.new ≡ with_signed rows.old
         (outputs group.now (near_at group.now.items cells.old.entries touched.now))) }
 {
     let mut spare = Vec::new(alloc);
@@ -394,7 +396,7 @@ fn swap_in<const N: usize>(
     group: &GroupBy,
     touch: &Touch<N>,
     spare: &mut Vec<Value>,
-    rows: &mut Outgoing,
+    rows: &mut SignedRows,
 ) -> Result<(), AllocError>
     requires { N ≤ MAX_COLUMNS }
     ensures cells { OnOk result
@@ -420,7 +422,7 @@ fn swap_new<const N: usize>(
     group: &GroupBy,
     key: &Key<N>,
     spare: &mut Vec<Value>,
-    rows: &mut Outgoing,
+    rows: &mut SignedRows,
 ) -> Result<(), AllocError>
     requires room { N ≤ MAX_COLUMNS }
     requires new { has_key key.now cells.old.entries ≡ false }

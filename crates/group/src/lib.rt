@@ -12,7 +12,6 @@ mod key;
 mod keyed;
 mod laws;
 mod lists;
-mod outgoing;
 mod rows;
 mod shape;
 mod slot_list;

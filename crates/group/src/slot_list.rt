@@ -11,9 +11,9 @@ ghost use Rattle.group.specs.Slots.{cell_at, key_at, KeepsKeys, Swaps, SwapsIn, 
 
 use crate::cells::Cell;
 use crate::key::Key;
-use crate::outgoing::Outgoing;
 use crate::shape::GroupBy;
 use column::Batch;
+use op_queue::SignedRows;
 use std::alloc::{AllocError, Global};
 use std::marker::Model;
 use std::mem;
@@ -159,7 +159,7 @@ impl<const N: usize> Place<N> {
         group: &GroupBy,
         key: &Key<N>,
         spare: &mut Vec<Value>,
-        rows: &mut Outgoing,
+        rows: &mut SignedRows,
     ) -> Result<bool, AllocError>
         requires { IsSome (slot_of self.old) }
         ensures key { key_at (slot_of self.new) ≡ key_at (slot_of self.old) }
@@ -344,7 +344,7 @@ impl<const N: usize> SlotList<N> {
         key: &Key<N>,
         place: usize,
         spare: &mut Vec<Value>,
-        rows: &mut Outgoing,
+        rows: &mut SignedRows,
     ) -> Result<bool, AllocError>
         requires { IsSome (at_place self.old place) }
         ensures keys { KeepsKeys (at_place self.old) (at_place self.new) }

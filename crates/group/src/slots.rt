@@ -17,10 +17,10 @@ ghost use Rattle.group.specs.Places.{at_place};
 
 use crate::cells::Cell;
 use crate::key::Key;
-use crate::outgoing::Outgoing;
 use crate::shape::GroupBy;
 use crate::slot_list::{Slot, SlotList};
 use column::Batch;
+use op_queue::SignedRows;
 use std::alloc::{AllocError, Global};
 use std::collections::BTreeMap;
 use std::marker::Model;
@@ -152,7 +152,7 @@ impl<const N: usize> Slots<N> {
         key: &Key<N>,
         guess: usize,
         spare: &mut Vec<Value>,
-        rows: &mut Outgoing,
+        rows: &mut SignedRows,
     ) -> Result<Option<bool>, AllocError>
         ensures { IfOk result (λ some. MatchOption some
             ((has_key key.now self.old.entries ≡ false) × (self.new.entries ≡ self.old.entries)

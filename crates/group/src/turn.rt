@@ -14,14 +14,13 @@ ghost use Rattle.group.specs.Excerpts.{shown_at_place, touched_at};
 ghost use Rattle.group.specs.Turns.{row_now, same_shown, signed_row, swap_of, outputs, out, change};
 ghost use Rattle.group.specs.Turns.{shown_now};
 ghost use Rattle.group.specs.Touched.{SameTouched, TouchedMore, HasTouched, groups_of};
-ghost use Rattle.group.specs.Runs.{OutgoingState, with_rows};
+ghost use Rattle.op_queue.specs.Flat.{FlatState, with_signed};
 ghost use Rattle.values.specs.declared.TheConstants.{MAX_COLUMNS};
 
 use crate::cells::{Figure, has_values};
 use crate::lists::{FigureLists, ShownLists, ValueLists};
-use crate::outgoing::Outgoing;
 use crate::shape::GroupBy;
-use op_queue::Item;
+use op_queue::{Item, SignedRows};
 use std::alloc::{AllocError, Global};
 use std::marker::Model;
 use values::Value;
@@ -286,12 +285,12 @@ fn is_shown(old: Option<&[Value]>, now: Option<&[Value]>) -> bool
 }
 
 /// Puts the row out with its sign, if there is one.
-fn put_row(rows: &mut Outgoing, enters: bool, row: Option<&[Value]>) -> Result<(), AllocError>
-    ensures { OnOk result (rows.new ≡ with_rows rows.old
+fn put_row(rows: &mut SignedRows, enters: bool, row: Option<&[Value]>) -> Result<(), AllocError>
+    ensures { OnOk result (rows.new ≡ with_signed rows.old
         (signed_row enters rows.old.width (option_map (λ values. held values.now) row.entry))) }
 {
     match row {
-        Some(values) => rows.push(enters, values),
+        Some(values) => rows.push_fitted(enters, values),
         None => Ok(()),
     }
 }
@@ -299,11 +298,11 @@ fn put_row(rows: &mut Outgoing, enters: bool, row: Option<&[Value]>) -> Result<(
 /// Puts the row that was shown out as one that leaves, then the other as one that enters, unless
 /// they are equal.
 fn put_swap(
-    rows: &mut Outgoing,
+    rows: &mut SignedRows,
     old: Option<&[Value]>,
     now: Option<&[Value]>,
 ) -> Result<(), AllocError>
-    ensures { OnOk result (rows.new ≡ with_rows rows.old (swap_of rows.old.width
+    ensures { OnOk result (rows.new ≡ with_signed rows.old (swap_of rows.old.width
         (option_map (λ values. held values.now) old.entry)
         (option_map (λ values. held values.now) now.entry))) }
 {
@@ -324,14 +323,14 @@ fn change_at(
     spare: &mut Vec<Value>,
     keys: &mut ValueLists,
     shown: &mut ShownLists,
-    rows: &mut Outgoing,
+    rows: &mut SignedRows,
 ) -> Result<(), AllocError>
     requires { place < length near.now }
     ensures keys { OnOk result (keys.new
         ≡ keys.old ++ (touched_at near.now place).key.items ∷ []) }
     ensures shown { OnOk result (shown.new
         ≡ shown.old ++ row_now group.now (touched_at near.now place) ∷ []) }
-    ensures rows { OnOk result (rows.new ≡ with_rows rows.old (swap_of rows.old.width
+    ensures rows { OnOk result (rows.new ≡ with_signed rows.old (swap_of rows.old.width
         (touched_at near.now place).shown (row_now group.now (touched_at near.now place)))) }
 {
     let some = write_now(spare, group, near.rows(place), near.figures(place))?;
@@ -347,10 +346,10 @@ fn changes(
     alloc: Global,
     group: &GroupBy,
     near: &Near,
-    rows: &mut Outgoing,
+    rows: &mut SignedRows,
 ) -> Result<Change, AllocError>
     requires { rows.old.width ≡ length group.now.items }
-    ensures rows { OnOk result (rows.new ≡ with_rows rows.old (outputs group.now near.now)) }
+    ensures rows { OnOk result (rows.new ≡ with_signed rows.old (outputs group.now near.now)) }
     ensures change { IfOk result (λ c. c ≡ map (shown_now group.now) near.now) }
 {
     let mut spare = Vec::new(alloc);
@@ -372,7 +371,7 @@ fn work_at(
         ≡ map (RowAt at) (outputs group.now near.now) ++ TickAt at ∷ []) }
     ensures change { IfOk result (λ w. w.1 ≡ map (shown_now group.now) near.now) }
 {
-    let mut rows = Outgoing::new(alloc, group.items().len());
+    let mut rows = SignedRows::new(alloc, group.items().len());
     let change = changes(alloc, group, near, &mut rows)?;
     let mut items = rows.items(alloc, at)?;
     items.push(Item::Tick(at))?;

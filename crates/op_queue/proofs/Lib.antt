@@ -18,3 +18,4 @@ pub mod BeginLemmas
 pub mod CountLemmas
 pub mod TakeLemmas
 pub mod GainLemmas
+pub mod FlatLemmas

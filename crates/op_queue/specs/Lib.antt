@@ -4,6 +4,7 @@ pub mod Items
 pub mod Pieces
 pub mod Logs
 pub mod Tables
+pub mod Flat
 pub mod Cursors
 pub mod Signed
 pub mod Paths

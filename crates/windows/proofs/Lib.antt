@@ -8,7 +8,6 @@ pub mod PartLemmas
 pub mod LatestLemmas
 pub mod EnterLemmas
 pub mod FallenLemmas
-pub mod GrownLemmas
 pub mod WindowLemmas
 pub mod MoveLemmas
 pub mod ShownLemmas

@@ -1,7 +1,6 @@
 pub mod Widths
 pub mod Held
 pub mod Fallen
-pub mod Grown
 pub mod Range
 pub mod Latest
 pub mod Slide

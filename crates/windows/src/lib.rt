@@ -6,7 +6,6 @@
 #![tactic(auto)]
 
 mod fallen_rows;
-mod flat_batch;
 mod flat_rows;
 mod held;
 mod keyed_parts;

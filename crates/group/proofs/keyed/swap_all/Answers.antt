@@ -4,7 +4,8 @@ use Rattle.std.proofs.lemmas.List.{drop_more}
 use Rattle.std.proofs.lemmas.Map.Keys.{sorted_tail}
 use Rattle.group.specs.Cells.{Held, held_cmp, CellState}
 use Rattle.group.specs.Turns.{near_at, outputs, shown_after}
-use Rattle.group.specs.Runs.{OutgoingState, changes_at, with_rows}
+use Rattle.op_queue.specs.Flat.{FlatState, with_signed}
+use Rattle.group.specs.Runs.{changes_at}
 use Rattle.group.proofs.RunLemmas.{swap_cells, step_rows}
 use Rattle.group.proofs.keyed.swap_all.Goals as goal
 
@@ -26,8 +27,8 @@ loop-touch-preserved g c =
           ∙ c.loop-touch.invariant.cells;
       rows =
           step_rows shape k es c.swap_in.new.cells.entries rest c.loop-touch.rows c.swap_in.new.rows sorted c.loop-touch.invariant.width c.in_ok-swap_in.ensures.cells c.in_ok-swap_in.ensures.rows
-          ∙ ap (λ (js : List Held). with_rows c.loop-touch.rows (outputs shape (near_at shape.items es js))) (sym split)
+          ∙ ap (λ (js : List Held). with_signed c.loop-touch.rows (outputs shape (near_at shape.items es js))) (sym split)
           ∙ c.loop-touch.invariant.rows;
       sorted = sorted_tail held_cmp k rest sorted;
-      width = ap (λ (o : OutgoingState). o.width) c.in_ok-swap_in.ensures.rows ∙ c.loop-touch.invariant.width;
+      width = ap (λ (o : FlatState). o.width) c.in_ok-swap_in.ensures.rows ∙ c.loop-touch.invariant.width;
     }

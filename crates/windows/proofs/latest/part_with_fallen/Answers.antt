@@ -1,9 +1,9 @@
 use Rattle.std.proofs.Common.{◌≡◌, ◌∙◌, ◌++◌, ◌∷◌, [], ap, sym, subst, arith, rules, take, get_or, length, List, Bool, ℕ, None}
-use Rattle.std.proofs.lemmas.List.{length-append}
+use Rattle.std.proofs.lemmas.List.{length-append, take_all}
 use Rattle.values.specs.Row.{Row}
 use Rattle.column.specs.Rows.{signed}
 use Rattle.windows.specs.Fallen.{IsFallenWide}
-use Rattle.windows.specs.Grown.{GrownRows}
+use Rattle.op_queue.specs.Flat.{FlatState}
 use Rattle.windows.specs.Latest.{interleaved, minus_of}
 use Rattle.windows.proofs.FallenLemmas.{fallen_wide_at, minus_few, put_more}
 use Rattle.windows.proofs.latest.part_with_fallen.Goals as goal
@@ -19,7 +19,7 @@ push_fallen-requires-clause-within c = omega (arith, c.requires.within, c.requir
 
 pub push_fallen-requires-clause-wide : goal.push_fallen-requires-clause-wide
 push_fallen-requires-clause-wide c =
-    subst (λ (w : ℕ). IsFallenWide w (get_or c.args.near.now c.loop-place.place None)) (sym (ap (λ (g : GrownRows). g.width) c.in_ok-push.ensures ∙ c.loop-place.invariant.width))
+    subst (λ (w : ℕ). IsFallenWide w (get_or c.args.near.now c.loop-place.place None)) (sym (ap (λ (g : FlatState). g.width) c.in_ok-push.ensures.ok ∙ c.loop-place.invariant.width))
     (fallen_wide_at c.args.batch.now c.args.near.now c.loop-place.place c.requires.fallen)
 
 pub loop-place-preserved : goal.loop-place-preserved
@@ -32,13 +32,13 @@ loop-place-preserved c =
     let old : List (Bool × Row) = c.loop-place.rows.rows in
     let is : c.as_slice.result.now ≡ c.row-row.result.row.items = search rules in
     let pushed : c.push.new.self.rows ≡ old ++ x ∷ [] =
-    ap (λ (g : GrownRows). g.rows) c.in_ok-push.ensures ∙ ap (λ (r : Row). old ++ (c.row-row.result.enters, r) ∷ []) is in
-    let new : c.push_fallen.new.rows.rows ≡ (old ++ x ∷ []) ++ minus_of f = ap (λ (g : GrownRows). g.rows) c.in_ok-push_fallen.ensures.rows ∙ ap (λ (rs : List (Bool × Row)). rs ++ minus_of f) pushed in
+    ap (λ (g : FlatState). g.rows) c.in_ok-push.ensures.ok ∙ ap (λ (r : Row). old ++ (c.row-row.result.enters, r) ∷ []) is in
+    let new : c.push_fallen.new.rows.rows ≡ (old ++ x ∷ []) ++ minus_of f = ap (λ (g : FlatState). g.rows) c.in_ok-push_fallen.ensures.rows ∙ ap (λ (rs : List (Bool × Row)). rs ++ minus_of f) pushed in
     let many = ap (λ (rs : List (Bool × Row)). length rs) new in
     let sum = length-append (old ++ x ∷ []) (minus_of f) in
     let one = length-append old (x ∷ []) in
     record {
-      width = ap (λ (g : GrownRows). g.width) c.in_ok-push_fallen.ensures.rows ∙ ap (λ (g : GrownRows). g.width) c.in_ok-push.ensures ∙ c.loop-place.invariant.width;
+      width = ap (λ (g : FlatState). g.width) c.in_ok-push_fallen.ensures.rows ∙ ap (λ (g : FlatState). g.width) c.in_ok-push.ensures.ok ∙ c.loop-place.invariant.width;
       fell = c.in_ok-push_fallen.ensures.fell;
       few = omega (arith, many, sum, one, minus_few f, c.loop-place.invariant.few);
       many = omega (arith, many, sum, one, c.loop-place.invariant.many);
@@ -48,16 +48,16 @@ loop-place-preserved c =
     }
 
 pub batch-requires-clause-some : goal.batch-requires-clause-some
-batch-requires-clause-some c = omega (arith, c.loop-place.invariant.many, c.requires.some)
+batch-requires-clause-some c = omega (arith, c.loop-place.invariant.many, c.requires.some, c.len-many.ensures)
 
 pub batch-requires-clause-few : goal.batch-requires-clause-few
-batch-requires-clause-few c = omega (arith, c.loop-place.invariant.few, c.requires.few)
+batch-requires-clause-few c = omega (arith, c.loop-place.invariant.few, c.requires.few, c.len-many.ensures)
 
 pub returns-clause-rows : goal.returns-clause-rows
 returns-clause-rows c =
     let b = c.args.batch.now in
     let near = c.args.near.now in
     let done : c.loop-place.place ≡ c.args.to = omega arith in
-    ap (λ (rs : List (Bool × Row)). interleaved (take c.args.«from» b) (take c.args.«from» near) ++ rs) c.in_ok-part.ensures
+    ap (λ (rs : List (Bool × Row)). interleaved (take c.args.«from» b) (take c.args.«from» near) ++ rs) (c.in_ok-part.ensures ∙ take_all c.len-many.result c.loop-place.rows.rows (omega (arith, c.len-many.ensures)))
     ∙ c.loop-place.invariant.so_far
     ∙ ap (λ (k : ℕ). interleaved (take k b) (take k near)) done

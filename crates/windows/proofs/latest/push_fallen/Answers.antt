@@ -1,7 +1,7 @@
 use Rattle.std.proofs.Common.{◌∙◌, ◌++◌, ap, sym, subst, arith, append-nil, List, Bool, Option, length}
 use Rattle.values.specs.Row.{Row}
 use Rattle.windows.specs.Fallen.{IsFallenWide}
-use Rattle.windows.specs.Grown.{with_rows}
+use Rattle.op_queue.specs.Flat.{with_signed}
 use Rattle.windows.specs.Latest.{minus_of}
 use Rattle.windows.proofs.FallenLemmas.{before_more, before_within, fallen_row, minus_none, those_few}
 use Rattle.windows.proofs.latest.push_fallen.Goals as goal
@@ -19,8 +19,8 @@ overflow_add-fell c = omega (arith, before_within c.args.near.now c.args.place (
 
 pub returns-in_ok-push-clause-rows : goal.returns-in_ok-push-clause-rows
 returns-in_ok-push-clause-rows c =
-    c.in_ok-push.ensures
-    ∙ ap (λ (f : Option Row). with_rows c.args.rows.now (minus_of f)) (sym (fallen_row c.args.near.now c.args.place c.args.fell.now c.row.result.now (sym c.falls.ensures ∙ c.if-falls.true) c.requires.fell c.row.ensures))
+    c.in_ok-push.ensures.ok
+    ∙ ap (λ (f : Option Row). with_signed c.args.rows.now (minus_of f)) (sym (fallen_row c.args.near.now c.args.place c.args.fell.now c.row.result.now (sym c.falls.ensures ∙ c.if-falls.true) c.requires.fell c.row.ensures))
 
 pub returns-in_ok-push-clause-fell : goal.returns-in_ok-push-clause-fell
 returns-in_ok-push-clause-fell c =

@@ -3,7 +3,8 @@ use Rattle.std.specs.List.Sorted.{IsStrictlySortedBy}
 use Rattle.group.specs.Cells.{Held, CellState, held_cmp}
 use Rattle.group.specs.Keys.{KeyedState}
 use Rattle.group.specs.Turns.{near_at, outputs, shown_after}
-use Rattle.group.specs.Runs.{OutgoingState, changes_at, with_rows}
+use Rattle.op_queue.specs.Flat.{FlatState, with_signed}
+use Rattle.group.specs.Runs.{changes_at}
 use Rattle.group.proofs.SetLemmas.{sorted-in_set}
 use Rattle.group.proofs.keyed.Keyed.swap_touched.Goals as goal
 
@@ -26,6 +27,6 @@ returns-clause-rows g c =
     let shape = c.args.group.now in
     let es : List (Held × CellState) = c.self.inside.cells.entries in
     c.in_ok-swap_all.ensures.rows
-    ∙ ap (λ (o : OutgoingState). with_rows o (outputs shape (near_at shape.items es c.deref.result.now))) c.reserve.ensures
-    ∙ ap (λ (ks : List Held). with_rows c.args.rows.now (outputs shape (near_at shape.items es ks))) (c.deref.ensures.value ∙ c.settle.ensures)
-    ∙ ap (λ (s : KeyedState). with_rows c.args.rows.now (outputs shape (near_at shape.items s.cells s.touched))) c.self.view_is
+    ∙ ap (λ (o : FlatState). with_signed o (outputs shape (near_at shape.items es c.deref.result.now))) c.reserve.ensures
+    ∙ ap (λ (ks : List Held). with_signed c.args.rows.now (outputs shape (near_at shape.items es ks))) (c.deref.ensures.value ∙ c.settle.ensures)
+    ∙ ap (λ (s : KeyedState). with_signed c.args.rows.now (outputs shape (near_at shape.items s.cells s.touched))) c.self.view_is

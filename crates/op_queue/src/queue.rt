@@ -1,5 +1,5 @@
 //! Queues.
-ghost use Rattle.std.specs.Prelude.{◌≡◌, ◌↔◌, IsTrue, Some, ◌+◌, ◌-◌, ◌^◌, ◌<◌, ◌≤◌, ◌++◌, []};
+ghost use Rattle.std.specs.Prelude.{◌≡◌, ◌↔◌, IsTrue, Some, ◌+◌, ◌^◌, ◌<◌, ◌≤◌, ◌++◌, []};
 ghost use Rattle.std.specs.Prelude.{length, take, drop, IfOk, OnOk, OnErr, MatchOption, min};
 ghost use Rattle.std.specs.Bool.{OnTrue, OnFalse};
 ghost use Rattle.op_queue.specs.Entries.{IsForward};

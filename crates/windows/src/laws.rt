@@ -1,6 +1,5 @@
 //! What holds of every turn of a window: functions that do nothing, each with one law.
 ghost use Rattle.std.specs.Prelude.{◌≡◌, ◌+◌, ◌++◌, ℕ, List};
-ghost use Rattle.values.specs.Row.{Row};
 ghost use Rattle.values.specs.Window.{Element, LastRows, RangeSlide};
 ghost use Rattle.op_queue.specs.Paths.{rows_in};
 ghost use Rattle.op_queue.specs.declared.item.Item.TheVariants.{Rows, Tick};

@@ -865,6 +865,7 @@ impl Cell {
         is_shown(&self.shown, values)
     }
 
+    #[inline(always)]
     /// Whether it shows its key, has rows, and has as many tallies as the key has values. Where the
     /// list is the key, so in Distinct, that is the row that it has to show.
     pub(crate) fn is_quiet(&self, key: &[Value]) -> bool

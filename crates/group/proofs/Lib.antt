@@ -16,6 +16,7 @@ pub mod SameLemmas
 pub mod RunLemmas
 pub mod SlotLemmas
 pub mod QuietLemmas
+pub mod PassedLemmas
 pub mod PlaceLemmas
 pub mod ListsLemmas
 pub mod ExcerptLemmas

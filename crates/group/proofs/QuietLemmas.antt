@@ -45,7 +45,7 @@ quiet_some g k c h = sym (ap is_some h.row)
 pub quiet_cell : (g : GroupBy) (k : Held) (c : CellState) → ShowsKey g k c → c ≡ showing c (row_at_tick g k c)
 quiet_cell g k c h = ap (showing c) (h.shown ∙ sym h.row)
 
-nothing_out : (g : GroupBy) (m : ℕ) (k : Held) (c : CellState) → ShowsKey g k c → swap_of m c.shown (row_at_tick g k c) ≡ []
+pub nothing_out : (g : GroupBy) (m : ℕ) (k : Held) (c : CellState) → ShowsKey g k c → swap_of m c.shown (row_at_tick g k c) ≡ []
 nothing_out g m k c h =
     ap₂ (λ (o p : Option Held). swap_of m o p) h.shown h.row
     ∙ ap (λ (b : Bool). cond b [] ((false, fitted m k) ∷ (true, fitted m k) ∷ [])) ((same_held k k).1 refl)

@@ -27,7 +27,7 @@ use Rattle.group.proofs.KeyLemmas.{held_order, same_key, same_held, cell-shown_i
 less_not : (o : Ordering) → o ≡ Less → is_eq o ≡ false
 less_not o e = ap is_eq e
 
-remove_other : (k q : Held) (es : List (Held × CellState)) → is_eq (held_cmp k q) ≡ false → lookup (is_at (held_cmp q)) (remove_entry (is_at (held_cmp k)) es) ≡ lookup (is_at (held_cmp q)) es
+pub remove_other : (k q : Held) (es : List (Held × CellState)) → is_eq (held_cmp k q) ≡ false → lookup (is_at (held_cmp q)) (remove_entry (is_at (held_cmp k)) es) ≡ lookup (is_at (held_cmp q)) es
 remove_other k q [] h = refl
 remove_other k q (e ∷ es) h = here (remove_other k q es h) (is_eq (held_cmp k e.0)) refl (is_eq (held_cmp q e.0)) refl
   where

@@ -32,7 +32,7 @@ by-cons : (x z : Held) (xs : List Held) → Contains (x ∷ xs) z → (x ≡ z) 
 by-cons x z xs c = in-cons x z xs c.0 c.1 c.2
 
 -- ONE KEY MORE
-in-insert : (k z : Held) (ks : List Held) → Contains (insert_key held_cmp ks k) z → (k ≡ z) ⊎ Contains ks z
+pub in-insert : (k z : Held) (ks : List Held) → Contains (insert_key held_cmp ks k) z → (k ≡ z) ⊎ Contains ks z
 in-insert k z [] c = by-cons k z [] c
 in-insert k z (j ∷ ks) c = here (held_cmp k j) c (in-insert k z ks)
   where
@@ -41,7 +41,7 @@ in-insert k z (j ∷ ks) c = here (held_cmp k j) c (in-insert k z ks)
     here Equal c ih = inr c
     here Greater c ih = ⊎_elim (λ e. inr (in-head j z ks e)) (λ t. ⊎_elim inl (λ u. inr (in-tail j z ks u)) (ih t)) (by-cons j z (insert_key held_cmp ks k) c)
 
-has-insert : (k : Held) (ks : List Held) → Contains (insert_key held_cmp ks k) k
+pub has-insert : (k : Held) (ks : List Held) → Contains (insert_key held_cmp ks k) k
 has-insert k [] = in-head k k [] refl
 has-insert k (j ∷ ks) = here (held_cmp k j) refl (has-insert k ks)
   where
@@ -50,7 +50,7 @@ has-insert k (j ∷ ks) = here (held_cmp k j) refl (has-insert k ks)
     here Equal e ih = in-head j k ks (sym (held_order.exact k j e))
     here Greater e ih = in-tail j k (insert_key held_cmp ks k) ih
 
-keeps-insert : (k z : Held) (ks : List Held) → Contains ks z → Contains (insert_key held_cmp ks k) z
+pub keeps-insert : (k z : Held) (ks : List Held) → Contains ks z → Contains (insert_key held_cmp ks k) z
 keeps-insert k z [] c = absurd (omega (arith, c.1))
 keeps-insert k z (j ∷ ks) c = here (held_cmp k j) (keeps-insert k z ks)
   where
@@ -60,11 +60,11 @@ keeps-insert k z (j ∷ ks) c = here (held_cmp k j) (keeps-insert k z ks)
     here Greater ih = ⊎_elim (λ e. in-head j z (insert_key held_cmp ks k) e) (λ t. in-tail j z (insert_key held_cmp ks k) (ih t)) (by-cons j z ks c)
 
 -- MANY KEYS MORE
-keeps-fold : (z : Held) (acc ks : List Held) → Contains acc z → Contains (fold (insert_key held_cmp) acc ks) z
+pub keeps-fold : (z : Held) (acc ks : List Held) → Contains acc z → Contains (fold (insert_key held_cmp) acc ks) z
 keeps-fold z acc [] c = c
 keeps-fold z acc (k ∷ ks) c = keeps-fold z (insert_key held_cmp acc k) ks (keeps-insert k z acc c)
 
-has-fold : (z : Held) (acc ks : List Held) → Contains ks z → Contains (fold (insert_key held_cmp) acc ks) z
+pub has-fold : (z : Held) (acc ks : List Held) → Contains ks z → Contains (fold (insert_key held_cmp) acc ks) z
 has-fold z acc [] c = absurd (omega (arith, c.1))
 has-fold z acc (k ∷ ks) c =
     ⊎_elim
@@ -80,7 +80,7 @@ in-fold z acc (k ∷ ks) c =
     (λ t. inr (in-tail k z ks t))
     (in-fold z (insert_key held_cmp acc k) ks c)
 
-sorted-fold : (acc ks : List Held) → IsStrictlySortedBy held_cmp acc → IsStrictlySortedBy held_cmp (fold (insert_key held_cmp) acc ks)
+pub sorted-fold : (acc ks : List Held) → IsStrictlySortedBy held_cmp acc → IsStrictlySortedBy held_cmp (fold (insert_key held_cmp) acc ks)
 sorted-fold acc [] s = s
 sorted-fold acc (k ∷ ks) s = sorted-fold (insert_key held_cmp acc k) ks (sorted-insert_key k acc s)
 
@@ -91,7 +91,7 @@ none-sorted = tt
 pub sorted-in_set : (ks : List Held) → IsStrictlySortedBy held_cmp (in_set ks)
 sorted-in_set ks = sorted-fold [] ks none-sorted
 
-in_set-in : (z : Held) (ks : List Held) → Contains (in_set ks) z → Contains ks z
+pub in_set-in : (z : Held) (ks : List Held) → Contains (in_set ks) z → Contains ks z
 in_set-in z ks c = ⊎_elim (λ n. absurd (omega (arith, n.1))) (λ t. t) (in-fold z [] ks c)
 
 -- LISTS IN ORDER WITH THE SAME KEYS

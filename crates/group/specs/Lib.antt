@@ -1,6 +1,7 @@
 pub mod Groups
 pub mod Cells
 pub mod Keys
+pub mod Quiet
 pub mod Rooms
 pub mod Turns
 pub mod Laws

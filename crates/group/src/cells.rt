@@ -30,6 +30,7 @@ ghost use Rattle.std.specs.Prelude.{◌||◌, IfSome, IsTrue};
 ghost use Rattle.std.specs.Ordering.{int_cmp, is_lt};
 ghost use Rattle.op_queue.specs.Flat.{with_signed};
 ghost use Rattle.group.specs.Runs.{put_out, row_at_tick, ShowsKey};
+ghost use Rattle.group.specs.Quiet.{IsQuietCell};
 
 use crate::rows::{enters, field_at, value_in};
 use crate::shape::GroupBy;
@@ -864,22 +865,29 @@ impl Cell {
         is_shown(&self.shown, values)
     }
 
-    /// Whether it shows its key, and that is the row that it has to show: so in Distinct, while it
-    /// has rows.
-    fn shows_key(&self, group: &GroupBy, key: &[Value]) -> bool
-        ensures { IsTrue result → ShowsKey group.now (held key.now) self.now }
+    #[inline(always)]
+    /// Whether it shows its key, has rows, and has as many tallies as the key has values. Where the
+    /// list is the key, so in Distinct, that is the row that it has to show.
+    pub(crate) fn is_quiet(&self, key: &[Value]) -> bool
+        ensures { IsTrue result → IsQuietCell (held key.now) self.now }
     {
-        let width = key.len();
         if !self.shows(key) {
             return false;
         }
         if !self.has_rows() {
             return false;
         }
-        if !self.has_tallies(width) {
+        self.has_tallies(key.len())
+    }
+
+    /// Whether it shows its key, and that is the row that it has to show.
+    fn shows_key(&self, group: &GroupBy, key: &[Value]) -> bool
+        ensures { IsTrue result → ShowsKey group.now (held key.now) self.now }
+    {
+        if !self.is_quiet(key) {
             return false;
         }
-        group.lists_key(width)
+        group.lists_key(key.len())
     }
 
     /// Whether the group has a row to show.

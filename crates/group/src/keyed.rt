@@ -1,32 +1,35 @@
 //! Groups by keys of few values.
 
-ghost use Rattle.std.specs.Prelude.{◌≡◌, ◌≤◌, ◌<◌, ◌+◌, ◌^◌, [], length, fold, IfOk, OnOk};
-ghost use Rattle.std.specs.BTreeMap.{is_at, insert_entry};
+ghost use Rattle.std.specs.Prelude.{◌≡◌, ◌≤◌, ◌<◌, ◌+◌, ◌^◌, ◌++◌, [], cond, length, fold};
+ghost use Rattle.std.specs.Prelude.{IfOk, IsTrue, OnOk};
+ghost use Rattle.std.specs.BTreeMap.{is_at};
 ghost use Rattle.std.specs.BTreeSet.{insert_key};
-ghost use Rattle.std.specs.Map.{keys_of, lookup, remove_entry};
+ghost use Rattle.std.specs.Map.{remove_entry};
+ghost use Rattle.std.specs.List.{All};
 ghost use Rattle.std.specs.List.Sorted.{IsStrictlySortedBy};
-ghost use Rattle.std.specs.Option.{option_copied};
 ghost use Rattle.group.specs.Batches.{AllInRange, batch_in, row_in};
 ghost use Rattle.group.specs.Cells.{held_cmp, CellRoom, ReadsInRange};
-ghost use Rattle.group.specs.Keys.{Short, in_set};
+ghost use Rattle.group.specs.Keys.{in_set};
+ghost use Rattle.group.specs.Quiet.{ListsKeys};
 ghost use Rattle.group.specs.Turns.{cell_of, has_key, taken_in, shown_in, excerpt, row_key};
 ghost use Rattle.group.specs.Turns.{rows_after, CountsUpTo, KeepsRoom};
 ghost use Rattle.group.specs.Turns.{near_at, outputs, shown_after};
-ghost use Rattle.op_queue.specs.Flat.{FlatState, with_signed};
-ghost use Rattle.group.specs.Runs.{HasSwapped, changes_at, put_out, state_with, swapped};
+ghost use Rattle.op_queue.specs.Flat.{with_signed};
+ghost use Rattle.group.specs.Runs.{changes_at, put_out, state_with, swapped};
 ghost use Rattle.group.specs.Touched.{TouchedMore};
-ghost use Rattle.std.specs.Prelude.{false, MatchOption};
+ghost use Rattle.std.specs.Prelude.{false};
 
 use crate::cells::{Cell, Figure};
 use crate::key::Key;
 use crate::shape::GroupBy;
-use crate::slots::Slots;
+use crate::slots::{Slots, Taken};
 use crate::touch::Touch;
 use crate::turn::{Near, Touched};
 use column::Batch;
 use op_queue::SignedRows;
 use std::alloc::{AllocError, Global};
 use std::marker::Model;
+use std::mem;
 use values::{ListItem, MAX_COLUMNS, Row, Value};
 
 /// The most touched keys whose room is kept for the next instant.
@@ -38,20 +41,30 @@ pub(crate) struct Keyed<const N: usize> {
     /// By the key, what is kept of each group.
     cells: Slots<N>,
     /// The keys that were touched since the last tick, in any order; some may stand there more than
-    /// once.
+    /// once. Without those that are in `quiet` alone.
     touched: Vec<Touch<N>>,
+    /// Further keys that were touched, likewise: when they were touched last, their groups showed
+    /// just what they have to show.
+    quiet: Vec<Touch<N>>,
+    /// Whether that is still so.
+    are_quiet: bool,
 }
 
 impl<const N: usize> Model for Keyed<N> {
-    ghost use Rattle.std.specs.Prelude.{◌≤◌};
+    ghost use Rattle.std.specs.Prelude.{◌≤◌, ◌++◌, IsTrue};
     ghost use Rattle.group.specs.Keys.{KeyedState as State, in_set};
+    ghost use Rattle.group.specs.Quiet.{AreQuiet};
     ghost use Rattle.values.specs.declared.TheConstants.{MAX_COLUMNS};
 
     ghost Value = { State };
 
-    ghost view = { λ k. record { cells = k.cells.entries; touched = in_set k.touched.items } };
+    ghost view = { λ k. record {
+      cells = k.cells.entries;
+      touched = in_set (k.touched.items ++ k.quiet.items);
+    } };
 
-    ghost invariant = { λ k. N ≤ MAX_COLUMNS };
+    ghost invariant = { λ k. (N ≤ MAX_COLUMNS)
+        × (IsTrue k.are_quiet → AreQuiet k.cells.entries k.touched.items k.quiet.items) };
 }
 
 impl<const N: usize> Keyed<N> {
@@ -63,6 +76,8 @@ impl<const N: usize> Keyed<N> {
         Keyed {
             cells: Slots::new(alloc),
             touched: Vec::new(alloc),
+            quiet: Vec::new(alloc),
+            are_quiet: true,
         }
     }
 
@@ -73,6 +88,7 @@ impl<const N: usize> Keyed<N> {
         ensures touched { OnOk result
             (self.new.touched ≡ insert_key held_cmp self.old.touched key.now) }
     {
+        self.are_quiet = false;
         touch(&mut self.touched, Key::of(key), 0)?;
         Ok(())
     }
@@ -92,19 +108,22 @@ impl<const N: usize> Keyed<N> {
         ensures room { OnOk result
             (KeepsRoom (state_with group.now self.old) (state_with group.now self.new)) }
     {
+        let asks = group.lists_key(group.by().len());
         for place in 0..batch.len() {
-            self.take_in(alloc, group, batch, place)?;
+            self.take_in(alloc, group, batch, place, asks)?;
         }
         Ok(())
     }
 
-    /// A row of a group that the map may have: the group is touched.
+    /// A row of a group that the map may have: the group is touched. `asks` says whether to ask if
+    /// it is quiet.
     fn take_in(
         &mut self,
         alloc: Global,
         group: &GroupBy,
         batch: &Batch,
         place: usize,
+        asks: bool,
     ) -> Result<(), AllocError>
         requires narrow { N ≤ MAX_COLUMNS }
         requires fits { length group.now.by ≤ N }
@@ -120,7 +139,7 @@ impl<const N: usize> Keyed<N> {
         ensures range { OnOk result (ReadsInRange group.now.items (row_in batch.now place)) }
     {
         let key = Key::at(group.by(), batch, place);
-        self.take_key(alloc, group.items(), key, batch, place)?;
+        self.take_key(alloc, group.items(), key, batch, place, asks)?;
         Ok(())
     }
 
@@ -132,6 +151,7 @@ impl<const N: usize> Keyed<N> {
         key: Key<N>,
         batch: &Batch,
         place: usize,
+        asks: bool,
     ) -> Result<(), AllocError>
         requires fits { length key.items ≤ N }
         requires within { place < length batch.now }
@@ -143,8 +163,10 @@ impl<const N: usize> Keyed<N> {
             (self.new.touched ≡ insert_key held_cmp self.old.touched key.entry) }
         ensures range { OnOk result (ReadsInRange items.now (row_in batch.now place)) }
     {
-        let at = self.cells.take(alloc, items, &key, batch, place)?;
-        touch(&mut self.touched, key, at)?;
+        let are_quiet = mem::replace(&mut self.are_quiet, false);
+        let taken = self.cells.take(alloc, items, &key, batch, place, asks)?;
+        touch_either(&mut self.touched, &mut self.quiet, key, &taken)?;
+        self.are_quiet = are_quiet;
         Ok(())
     }
 
@@ -165,7 +187,7 @@ impl<const N: usize> Keyed<N> {
             (self.new.touched ≡ insert_key held_cmp self.old.touched key.now) }
         ensures range { OnOk result (AllInRange items.now batch.now) }
     {
-        let _ = &self.cells;
+        self.are_quiet = false;
         let key = Key::of(key);
         let at = self.cells.take_batch(alloc, items, &key, batch)?;
         touch(&mut self.touched, key, at)?;
@@ -185,7 +207,7 @@ impl<const N: usize> Keyed<N> {
             (self.new.cells ≡ shown_in count key.now row.now self.old.cells) }
         ensures touched { self.new.touched ≡ self.old.touched }
     {
-        let _ = &self.cells;
+        self.are_quiet = false;
         let key = Key::of(key);
         self.cells.show(alloc, count, &key, row)?;
         Ok(())
@@ -197,7 +219,7 @@ impl<const N: usize> Keyed<N> {
             ≡ remove_entry (is_at (held_cmp key.now)) self.old.cells }
         ensures touched { self.new.touched ≡ self.old.touched }
     {
-        let _ = &self.cells;
+        self.are_quiet = false;
         self.cells.remove_row(key);
     }
 
@@ -219,8 +241,9 @@ impl<const N: usize> Keyed<N> {
         ensures rows { OnOk result (rows.new ≡ with_signed rows.old
             (outputs group.now (near_at group.now.items self.old.cells self.old.touched))) }
     {
-        let _ = &self.cells;
-        settle(&mut self.touched);
+        let pass_over = may_pass_over(self.are_quiet, group, &self.quiet);
+        self.are_quiet = false;
+        gather(&mut self.touched, &mut self.quiet, pass_over)?;
         rows.reserve(2 * self.touched.len().min(512))?;
         swap_all(&mut self.cells, alloc, group, &self.touched, rows)?;
         self.forget_touched(alloc);
@@ -233,6 +256,8 @@ impl<const N: usize> Keyed<N> {
         ensures touched { self.new.touched ≡ [] }
     {
         forget(&mut self.touched, alloc);
+        forget(&mut self.quiet, alloc);
+        self.are_quiet = true;
     }
 
     /// What a touched group has to show comes behind the others; the map may not have the group.
@@ -282,7 +307,9 @@ impl<const N: usize> Keyed<N> {
         ensures { IfOk result (λ near. near
             ≡ near_at items.now self.now.cells self.now.touched) }
     {
-        let mut keys = copies(alloc, &self.touched)?;
+        let mut keys = Vec::with_capacity(alloc, self.touched.len() + self.quiet.len())?;
+        push_copies(&mut keys, &self.touched)?;
+        push_copies(&mut keys, &self.quiet)?;
         settle(&mut keys);
         let near = self.excerpts_at(alloc, items, &keys)?;
         Ok(near)
@@ -292,26 +319,77 @@ impl<const N: usize> Keyed<N> {
     pub(crate) fn widened(&mut self, alloc: Global) -> Result<Keyed<MAX_COLUMNS>, AllocError>
         ensures { IfOk result (λ wider. wider ≡ self.old) }
     {
-        let _ = &self.cells;
-        let touched = copies(alloc, &self.touched)?;
+        self.are_quiet = false;
+        let mut touched = Vec::new(alloc);
+        push_copies(&mut touched, &self.touched)?;
+        push_copies(&mut touched, &self.quiet)?;
         let cells = self.cells.widened(alloc)?;
-        Ok(Keyed { cells, touched })
+        Ok(Keyed {
+            cells,
+            touched,
+            quiet: Vec::new(alloc),
+            are_quiet: true,
+        })
     }
 }
 
-/// The same keys again, in room for `M` values each.
-fn copies<const N: usize, const M: usize>(
-    alloc: Global,
+/// The same keys again, in room for `M` values each, behind the others.
+fn push_copies<const N: usize, const M: usize>(
+    copies: &mut Vec<Touch<M>>,
     keys: &[Touch<N>],
-) -> Result<Vec<Touch<M>>, AllocError>
+) -> Result<(), AllocError>
     requires { N ≤ M }
-    ensures { IfOk result (λ copies. copies.items ≡ keys.now) }
+    ensures { OnOk result (copies.new.items ≡ copies.old.items ++ keys.now) }
 {
-    let mut copies = Vec::with_capacity(alloc, keys.len())?;
     for key in keys {
         copies.push(key.copied())?;
     }
-    Ok(copies)
+    Ok(())
+}
+
+/// Whether all the keys have so many values.
+fn are_of_width<const N: usize>(keys: &[Touch<N>], width: usize) -> bool
+    ensures { IsTrue result → All (λ k. length k.items ≡ width) keys.now }
+{
+    for key in keys {
+        if key.len() != width {
+            return false;
+        }
+    }
+    true
+}
+
+/// Whether a tick may pass over these keys: their groups are quiet, and the list of each is its
+/// key.
+fn may_pass_over<const N: usize>(are_quiet: bool, group: &GroupBy, keys: &[Touch<N>]) -> bool
+    ensures quiet { IsTrue result → IsTrue are_quiet }
+    ensures lists { IsTrue result → ListsKeys group.now keys.now }
+{
+    if !are_quiet {
+        return false;
+    }
+    let width = group.items().len();
+    if !group.lists_key(width) {
+        return false;
+    }
+    are_of_width(keys, width)
+}
+
+/// The keys that a tick has to look at, each once, in order: those of the first list, and those of
+/// the second unless it may pass them over.
+fn gather<const N: usize>(
+    touched: &mut Vec<Touch<N>>,
+    quiet: &mut Vec<Touch<N>>,
+    pass_over: bool,
+) -> Result<(), AllocError>
+    ensures { OnOk result (touched.new.items ≡ cond pass_over (in_set touched.old.items)
+        (in_set (touched.old.items ++ quiet.old.items))) }
+{
+    if !pass_over {
+        touched.append(quiet)?;
+    }
+    settle(touched);
+    Ok(())
 }
 
 /// One key more, of a group that is at the place.
@@ -325,6 +403,28 @@ fn touch<const N: usize>(
 {
     make_room(touched)?;
     touched.push(Touch::new(key, place))?;
+    Ok(())
+}
+
+/// One key more in the second list, where its group is quiet, else in the first.
+fn touch_either<const N: usize>(
+    touched: &mut Vec<Touch<N>>,
+    quiet: &mut Vec<Touch<N>>,
+    key: Key<N>,
+    taken: &Taken,
+) -> Result<(), AllocError>
+    ensures touched { OnOk result (in_set touched.new.items
+        ≡ cond taken.now.is_quiet (in_set touched.old.items)
+        (insert_key held_cmp (in_set touched.old.items) key.entry)) }
+    ensures quiet { OnOk result (in_set quiet.new.items
+        ≡ cond taken.now.is_quiet (insert_key held_cmp (in_set quiet.old.items) key.entry)
+        (in_set quiet.old.items)) }
+{
+    if taken.is_quiet {
+        touch(quiet, key, taken.place)?;
+    } else {
+        touch(touched, key, taken.place)?;
+    }
     Ok(())
 }
 

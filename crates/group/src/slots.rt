@@ -2,7 +2,7 @@
 
 ghost use Rattle.std.specs.Prelude.{◌≡◌, ◌≤◌, ◌<◌, ◌+◌, ◌^◌, [], ◌++◌};
 ghost use Rattle.std.specs.Prelude.{false, length, None, Some};
-ghost use Rattle.std.specs.Prelude.{IfNone, IfOk, IsTrue, OnOk, MatchOption, option_to_list};
+ghost use Rattle.std.specs.Prelude.{IfNone, IfOk, IsSome, IsTrue, OnOk, MatchOption, option_to_list};
 ghost use Rattle.std.specs.BTreeMap.{is_at, insert_entry};
 ghost use Rattle.std.specs.Map.{keys_of, lookup, remove_entry};
 ghost use Rattle.std.specs.List.Sorted.{IsStrictlySortedBy};
@@ -10,7 +10,8 @@ ghost use Rattle.std.specs.Option.{option_copied};
 ghost use Rattle.group.specs.Batches.{AllInRange, batch_in, row_in};
 ghost use Rattle.group.specs.Cells.{held_cmp, CellRoom, ReadsInRange};
 ghost use Rattle.group.specs.Keys.{Short};
-ghost use Rattle.group.specs.Slots.{key_at, IsPlaced};
+ghost use Rattle.group.specs.Slots.{cell_at, key_at, IsPlaced};
+ghost use Rattle.group.specs.Quiet.{IsQuiet, IsQuietCell};
 ghost use Rattle.group.specs.Turns.{cell_of, has_key, taken_in, shown_in};
 ghost use Rattle.group.specs.Runs.{HasSwapped};
 ghost use Rattle.group.specs.Places.{at_place};
@@ -25,6 +26,15 @@ use std::alloc::{AllocError, Global};
 use std::collections::BTreeMap;
 use std::marker::Model;
 use values::{ListItem, MAX_COLUMNS, Row, Value};
+
+/// Where a group is that took a row, and whether it is quiet.
+#[derive(Drop)]
+pub(crate) struct Taken {
+    /// The place of the group.
+    pub(crate) place: usize,
+    /// Whether the group surely shows just what it has to show.
+    pub(crate) is_quiet: bool,
+}
 
 /// What is kept of each group, by keys of at most `N` values. A look-up gives the place of a group;
 /// who knows that needs none.
@@ -69,7 +79,8 @@ impl<const N: usize> Slots<N> {
         }
     }
 
-    /// A row of a group that may be there. Says where the group is.
+    /// A row of a group that may be there. Says where the group is and, where that is asked, whether
+    /// it is quiet.
     pub(crate) fn take(
         &mut self,
         alloc: Global,
@@ -77,7 +88,8 @@ impl<const N: usize> Slots<N> {
         key: &Key<N>,
         batch: &Batch,
         row: usize,
-    ) -> Result<usize, AllocError>
+        asks: bool,
+    ) -> Result<Taken, AllocError>
         requires fits { length key.now.items ≤ N }
         requires within { row < length batch.now }
         requires room { CellRoom (2 ^ 62 + 1024) items.now
@@ -85,15 +97,21 @@ impl<const N: usize> Slots<N> {
         ensures cells { OnOk result (self.new.entries
             ≡ taken_in items.now key.now (row_in batch.now row) self.old.entries) }
         ensures range { OnOk result (ReadsInRange items.now (row_in batch.now row)) }
+        ensures quiet { IfOk result (λ taken.
+            IsTrue taken.is_quiet → IsQuiet self.new.entries key.now) }
     {
         if let Some(place) = place_of(&self.places, key) {
             self.slots.take(alloc, items, place, batch, row)?;
-            return Ok(place);
+            let is_quiet = is_quiet_at(&self.slots, place, key, asks);
+            return Ok(Taken { place, is_quiet });
         }
         let mut cell = Cell::new(alloc, items.len());
         cell.take(alloc, items, batch, row)?;
         let place = self.insert(key, cell)?;
-        Ok(place)
+        Ok(Taken {
+            place,
+            is_quiet: false,
+        })
     }
 
     /// A batch of rows of a group that may be there. Says where the group is.
@@ -237,6 +255,22 @@ fn place_of<const N: usize>(places: &BTreeMap<Key<N>, usize>, key: &Key<N>) -> O
     ensures { result ≡ lookup (is_at (held_cmp key.now)) places.now.entries }
 {
     places.get(key).copied()
+}
+
+/// Whether the group at the place, which has this key, is quiet. Where that is not asked, no.
+fn is_quiet_at<const N: usize>(
+    slots: &SlotList<N>,
+    place: usize,
+    key: &Key<N>,
+    asks: bool,
+) -> bool
+    requires { IsSome (at_place slots.now place) }
+    ensures { IsTrue result → IsQuietCell key.now (cell_at (at_place slots.now place)) }
+{
+    if !asks {
+        return false;
+    }
+    slots.cell(place).is_quiet(key.values())
 }
 
 /// Whether the group with this key is at the place.

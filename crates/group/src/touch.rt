@@ -1,6 +1,6 @@
 //! Keys that were touched.
 
-ghost use Rattle.std.specs.Prelude.{◌≡◌, ◌≤◌, refl};
+ghost use Rattle.std.specs.Prelude.{◌≡◌, ◌≤◌, length, refl};
 ghost use Rattle.std.specs.Cmp.{partial_order_from_agreeing_total, partial_equiv_from_equiv};
 ghost use Rattle.std.specs.Ordering.{as_partial_cmp};
 ghost use Rattle.group.specs.Cells.{held_cmp};
@@ -88,6 +88,13 @@ impl<const N: usize> Touch<N> {
         ensures { result.now ≡ self.now }
     {
         &self.key
+    }
+
+    /// How many values the key has.
+    pub(crate) fn len(&self) -> usize
+        ensures { result ≡ length self.now.items }
+    {
+        self.key.values().len()
     }
 
     /// Where the group was.

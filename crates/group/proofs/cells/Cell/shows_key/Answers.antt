@@ -1,16 +1,16 @@
-use Rattle.std.proofs.Common.{◌≡◌, ◌∙◌, ℕ, true, length, refl, sym, rules}
+use Rattle.std.proofs.Common.{◌≡◌, true, length, refl, rules}
 use Rattle.group.specs.Cells.{Held, held}
+use Rattle.group.specs.Quiet.{IsQuietCell}
 use Rattle.group.proofs.QuietLemmas.{key_shown}
 use Rattle.group.proofs.cells.Cell.shows_key.Goals as goal
 
 pub returns : goal.returns
 returns c = λ t.
     let k : Held = held c.args.key.now in
-    let w : ℕ = length c.args.key.now in
-    let shows : c.shows.result ≡ true = search rules in
-    let has : c.has_rows.result ≡ true = search rules in
-    let tallies : c.has_tallies.result ≡ true = search rules in
+    let quiet : c.is_quiet.result ≡ true = search rules in
+    let lists : c.lists_key.result ≡ true = search rules in
+    let h : IsQuietCell k c.args.self.now = c.is_quiet.ensures quiet in
     record {
-      row = key_shown c.args.group.now k c.args.self.now w (c.lists_key.ensures t) refl (sym c.has_rows.ensures ∙ has) (c.has_tallies.ensures tallies);
-      shown = c.shows.ensures shows;
+      row = key_shown c.args.group.now k c.args.self.now (length c.args.key.now) (c.lists_key.ensures lists) refl h.rows h.tallies;
+      shown = h.shown;
     }

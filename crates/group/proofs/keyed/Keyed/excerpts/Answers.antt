@@ -1,8 +1,10 @@
-use Rattle.std.proofs.Common.{◌≡◌, ◌∙◌, ap, rules}
+use Rattle.std.proofs.Common.{◌≡◌, ◌∙◌, ◌++◌, List, ap, ap₂, rules}
+use Rattle.group.specs.Cells.{Held}
 use Rattle.group.specs.Keys.{KeyedState, in_set}
 use Rattle.group.proofs.keyed.Keyed.excerpts.Goals as goal
 
 pub returns : goal.returns
 returns g c =
-    let once : c.settle.new.touched.items ≡ c.args.self.now.touched = c.settle.ensures ∙ ap in_set (c.in_ok-keys.ensures ∙ c.deref.ensures.value) ∙ ap (λ (s : KeyedState). s.touched) c.self.view_is in
+    let both : c.push_copies-2.new.copies.items ≡ c.self.inside.touched.items ++ c.self.inside.quiet.items = search rules in
+    let once : c.settle.new.touched.items ≡ c.args.self.now.touched = c.settle.ensures ∙ ap in_set both ∙ ap (λ (s : KeyedState). s.touched) c.self.view_is in
     search rules

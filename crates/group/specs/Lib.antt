@@ -1,5 +1,6 @@
 pub mod Groups
 pub mod Cells
+pub mod ShownRows
 pub mod Keys
 pub mod Quiet
 pub mod Rooms

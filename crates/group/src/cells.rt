@@ -1,18 +1,18 @@
 //! What is kept of a group.
 
-ghost use Rattle.std.specs.Prelude.{◌≡◌, ◌+◌, ◌-◌, ◌^◌, ◌<◌, ◌≤◌, ◌∷◌, [], length, map, replicate};
-ghost use Rattle.std.specs.Prelude.{IfOk, OnOk, OnErr, IsSome, pos, ℤ, Option, Some, None, List};
-ghost use Rattle.std.specs.Prelude.{cond, nat_lt, true, false, ◌++◌, ◌+ℤ◌, ◌-ℤ◌, ◌*◌, ◌/◌};
+ghost use Rattle.std.specs.Prelude.{◌≡◌, ◌+◌, ◌^◌, ◌<◌, ◌≤◌, length, map};
+ghost use Rattle.std.specs.Prelude.{IfOk, OnOk, IsSome, pos, Some, None};
+ghost use Rattle.std.specs.Prelude.{cond, true, false, ◌++◌, ◌+ℤ◌, ◌-ℤ◌, ◌*◌, ◌/◌};
 ghost use Rattle.std.specs.Prelude.{◌==◌, fold, get_or};
 ghost use Rattle.std.specs.BTreeMap.{is_at};
 ghost use Rattle.std.specs.BTreeMap as tree;
 ghost use Rattle.std.specs.Map.{set_value, values_of};
 ghost use Rattle.std.specs.List.{All, list_any};
-ghost use Rattle.values.specs.Row.{value_cmp, value_at};
+ghost use Rattle.values.specs.Row.{value_cmp};
 ghost use Rattle.values.specs.Value.{IsAnswerValue};
 ghost use Rattle.lane_kernels.specs.Lanes.{IsWithin};
 ghost use Rattle.group.specs.Cells.{count_of, one_more, one_less, values_by, number_of, keeps};
-ghost use Rattle.group.specs.Cells.{signed_by, tally_zero, tally_by, partly, tallies_after};
+ghost use Rattle.group.specs.Cells.{signed_by, tally_zero, tally_by, tallies_after};
 ghost use Rattle.group.specs.Cells.{cell_zero, cell_after, showing, each, figure, figures};
 ghost use Rattle.group.specs.Cells.{sum_figure, least, greatest, clamped_or, number_figure};
 ghost use Rattle.group.specs.Cells.{value_figure, keeping, TallyRoom, CellRoom, ReadsInRange};
@@ -34,13 +34,13 @@ ghost use Rattle.group.specs.Quiet.{IsQuietCell};
 
 use crate::rows::{enters, field_at, value_in};
 use crate::shape::GroupBy;
+use crate::shown_row::ShownRow;
 use column::{Batch, Column as Lane};
 use lane_kernels::{count_set, count_signed, sum_signed};
 use op_queue::SignedRows;
 use std::alloc::{AllocError, Global};
 use std::collections::BTreeMap;
 use std::marker::Model;
-use std::mem;
 use values::{Column, ListItem, Row, Value};
 
 /// The number that an item reads in a row of a batch; null where it reads none.
@@ -414,7 +414,7 @@ fn greatest(values: &BTreeMap<Value, u64>) -> Value
 }
 
 /// What is kept of a group: how many rows it has, a tally for each item of the list, and the row
-/// that was shown of it last, in room for its values.
+/// that was shown of it last.
 #[derive(Drop)]
 pub(crate) struct Cell {
     /// How many rows entered, less those that left.
@@ -424,13 +424,12 @@ pub(crate) struct Cell {
     /// How many last items have no tally: they took no number.
     more: usize,
     /// The row that was shown last; `None` where none was yet.
-    shown: Option<Vec<Value>>,
+    shown: ShownRow,
 }
 
 impl Model for Cell {
     ghost use Rattle.std.specs.Prelude.{◌≤◌, length, IfSome};
-    ghost use Rattle.std.specs.Option.{option_map};
-    ghost use Rattle.group.specs.Cells.{CellState as State, all_tallies, held};
+    ghost use Rattle.group.specs.Cells.{CellState as State, all_tallies};
     ghost use Rattle.values.specs.declared.TheConstants.{MAX_COLUMNS};
 
     ghost Value = { State };
@@ -439,7 +438,7 @@ impl Model for Cell {
         record {
           rows = c.rows;
           tallies = all_tallies c.more c.tallies.items;
-          shown = option_map (λ values. held values.items) c.shown;
+          shown = c.shown;
         } };
 
     ghost invariant = { λ c. IfSome c.shown (λ values. length values.items ≤ MAX_COLUMNS) };
@@ -626,11 +625,10 @@ fn write_row(
 }
 
 /// Whether the row with these values is the one that was shown.
-fn is_shown(shown: &Option<Vec<Value>>, row: &[Value]) -> bool
-    ensures { result ≡ same_shown (option_map (λ values. held values.items) shown.now)
-        (Some (held row.now)) }
+fn is_shown(shown: &ShownRow, row: &[Value]) -> bool
+    ensures { result ≡ same_shown shown.now (Some (held row.now)) }
 {
-    match shown {
+    match shown.values() {
         Some(values) => has_values(values, row),
         None => false,
     }
@@ -644,34 +642,13 @@ pub(crate) fn has_values(values: &[Value], row: &[Value]) -> bool
 }
 
 /// The row that was shown leaves, if there is one.
-fn put_shown(shown: &Option<Vec<Value>>, rows: &mut SignedRows) -> Result<(), AllocError>
-    ensures { OnOk result (rows.new ≡ with_signed rows.old (signed_row false rows.old.width
-        (option_map (λ values. held values.items) shown.now))) }
+fn put_shown(shown: &ShownRow, rows: &mut SignedRows) -> Result<(), AllocError>
+    ensures { OnOk result (rows.new
+        ≡ with_signed rows.old (signed_row false rows.old.width shown.now)) }
 {
-    match shown {
+    match shown.values() {
         Some(values) => rows.push_fitted(false, values),
         None => Ok(()),
-    }
-}
-
-/// The values of the row, in the room of others where it is enough, else in just as much as they
-/// need.
-fn written(others: Option<Vec<Value>>, alloc: Global, row: &Row) -> Result<Vec<Value>, AllocError>
-    ensures values { IfOk result (λ values. values.items ≡ row.now.items) }
-    ensures few { IfOk result (λ values. length values.items ≤ MAX_COLUMNS) }
-{
-    let mut values = room_of(others, alloc);
-    values.clear();
-    values.reserve_exact(row.len())?;
-    values.extend_from_slice(row.as_slice())?;
-    Ok(values)
-}
-
-/// The room of the values, if there are any.
-fn room_of(values: Option<Vec<Value>>, alloc: Global) -> Vec<Value> {
-    match values {
-        Some(values) => values,
-        None => Vec::new(alloc),
     }
 }
 
@@ -684,7 +661,7 @@ impl Cell {
             rows: 0,
             tallies: Vec::new(alloc),
             more: count,
-            shown: None,
+            shown: ShownRow::none(),
         }
     }
 
@@ -751,7 +728,7 @@ impl Cell {
     pub(crate) fn show(&mut self, alloc: Global, row: &Row) -> Result<(), AllocError>
         ensures { OnOk result (self.new ≡ showing self.old (Some row.now)) }
     {
-        self.shown = Some(written(self.shown.take(), alloc, row)?);
+        self.shown.set(alloc, row.as_slice())?;
         Ok(())
     }
 
@@ -782,10 +759,7 @@ impl Cell {
         ensures value { option_map (λ values. held values.now) result ≡ self.now.shown }
         ensures few { IfSome result (λ values. length values.now ≤ MAX_COLUMNS) }
     {
-        match &self.shown {
-            Some(values) => Some(values),
-            None => None,
-        }
+        self.shown.values()
     }
 
     /// The row that was shown leaves and none enters.
@@ -795,7 +769,7 @@ impl Cell {
             (swap_of rows.old.width self.old.shown None)) }
     {
         put_shown(&self.shown, rows)?;
-        self.shown = None;
+        self.shown = ShownRow::none();
         Ok(())
     }
 
@@ -815,8 +789,7 @@ impl Cell {
     {
         put_shown(&self.shown, rows)?;
         rows.push_fitted(true, row)?;
-        let room = room_of(self.shown.take(), alloc);
-        self.shown = Some(mem::replace(row, room));
+        self.shown.put(alloc, row);
         Ok(())
     }
 

@@ -14,6 +14,7 @@ mod laws;
 mod lists;
 mod rows;
 mod shape;
+mod shown_row;
 mod slot_list;
 mod slots;
 mod state;

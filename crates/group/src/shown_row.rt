@@ -1,0 +1,107 @@
+//! The row that a group showed last.
+
+ghost use Rattle.std.specs.Prelude.{◌≡◌, IfOk, OnOk, OnErr, None, Some};
+ghost use Rattle.std.specs.Option.{option_map};
+ghost use Rattle.group.specs.Cells.{held};
+ghost use Rattle.group.specs.ShownRows.{row_in_place};
+
+use std::alloc::{AllocError, Global};
+use std::marker::Model;
+use std::mem;
+use std::slice;
+use values::Value;
+
+/// Where a row stands: one of a single value in place, any other in memory of its own.
+#[derive(Drop)]
+enum RowPlace {
+    None,
+    One(Value),
+    Many(Vec<Value>),
+}
+
+/// A row that was shown, or none. One of a single value takes no memory.
+#[derive(Drop)]
+pub(crate) struct ShownRow {
+    place: RowPlace,
+}
+
+impl Model for ShownRow {
+    ghost use Rattle.std.specs.Prelude.{Option};
+    ghost use Rattle.group.specs.Cells.{Held};
+    ghost use Rattle.group.specs.ShownRows.{row_in_place};
+
+    ghost Value = { Option Held };
+
+    ghost view = { λ r. row_in_place r.place };
+}
+
+impl ShownRow {
+    /// No row.
+    pub(crate) fn none() -> ShownRow
+        ensures { result ≡ None }
+    {
+        ShownRow {
+            place: RowPlace::None,
+        }
+    }
+
+    /// The values of the row.
+    pub(crate) fn values(&self) -> Option<&[Value]>
+        ensures { option_map (λ values. held values.now) result ≡ self.now }
+    {
+        match &self.place {
+            RowPlace::None => None,
+            RowPlace::One(value) => Some(slice::from_ref(value)),
+            RowPlace::Many(values) => Some(values),
+        }
+    }
+
+    /// The room of the row, where it has memory; there is no row any more.
+    fn take_room(&mut self, alloc: Global) -> Vec<Value>
+        ensures { self.new ≡ None }
+    {
+        match mem::replace(&mut self.place, RowPlace::None) {
+            RowPlace::Many(values) => values,
+            _ => Vec::new(alloc),
+        }
+    }
+
+    /// The row has these values. It takes no memory where one of as many values was.
+    pub(crate) fn set(&mut self, alloc: Global, values: &[Value]) -> Result<(), AllocError>
+        ensures ok { OnOk result (self.new ≡ Some (held values.now)) }
+        ensures err { OnErr result (self.new ≡ None) }
+    {
+        if values.len() == 1 {
+            self.place = RowPlace::One(values[0]);
+            return Ok(());
+        }
+        self.place = RowPlace::Many(written(self.take_room(alloc), values)?);
+        Ok(())
+    }
+
+    /// The row has these values. Where it has memory, that and the room of the values change places.
+    pub(crate) fn put(&mut self, alloc: Global, row: &mut Vec<Value>)
+        ensures { self.new ≡ Some (held row.old.items) }
+    {
+        if let RowPlace::Many(values) = &mut self.place {
+            mem::swap(values, row);
+            return;
+        }
+        if row.len() == 1 {
+            self.place = RowPlace::One(row[0]);
+            return;
+        }
+        self.place = RowPlace::Many(mem::replace(row, Vec::new(alloc)));
+    }
+}
+
+/// The values, in the room of others where it is enough, else in just as much as they need.
+fn written(others: Vec<Value>, row: &[Value]) -> Result<Vec<Value>, AllocError>
+    ensures { IfOk result (λ values. values.items ≡ row.now) }
+{
+    let mut values = others;
+    values.clear();
+    values.reserve_exact(row.len())?;
+    values.extend_from_slice(row)?;
+    Ok(values)
+}

@@ -667,6 +667,7 @@ impl Cell {
 
     /// A row of a batch, which is of the group, enters or leaves. Only a number that an item reads
     /// takes memory.
+    #[inline(always)]
     pub(crate) fn take(
         &mut self,
         alloc: Global,
@@ -688,6 +689,7 @@ impl Cell {
     }
 
     /// `take` where items read numbers.
+    #[inline(never)]
     fn take_read(
         &mut self,
         alloc: Global,
@@ -838,9 +840,9 @@ impl Cell {
         is_shown(&self.shown, values)
     }
 
-    #[inline(always)]
     /// Whether it shows its key, has rows, and has as many tallies as the key has values. Where the
     /// list is the key, so in Distinct, that is the row that it has to show.
+    #[inline(always)]
     pub(crate) fn is_quiet(&self, key: &[Value]) -> bool
         ensures { IsTrue result → IsQuietCell (held key.now) self.now }
     {

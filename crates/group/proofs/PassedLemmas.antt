@@ -220,14 +220,18 @@ quiet_either is k r es fs ts qs us vs b e f cells now quiet q c = here (is_eq (h
         (λ j. in_set-in q qs j)
         (in-insert k q (in_set qs) i)
     old false i h = in_set-in q qs i
+
     kept : (d : Bool) → Contains ts q → Contains (cond d (in_set ts) (insert_key held_cmp (in_set ts) k)) q
     kept true i = among-set ts q i
     kept false i = keeps-insert k q (in_set ts) (among-set ts q i)
+
     first : Contains (cond b (in_set ts) (insert_key held_cmp (in_set ts) k)) q → Contains us q
     first i = in_set-in q us (subst (λ (ks : List Held). Contains ks q) (sym e) i)
+
     same : (d : Bool) → (Contains (cond d (in_set ts) (insert_key held_cmp (in_set ts) k)) q → Contains us q) → (d ≡ true → IsQuiet fs k) → k ≡ q → Contains us q ⊎ IsQuiet fs q
     same true to n s = inr (subst (IsQuiet fs) s (n refl))
     same false to n s = inl (to (subst (Contains (insert_key held_cmp (in_set ts) k)) s (has-insert k (in_set ts))))
+
     here : (d : Bool) → is_eq (held_cmp k q) ≡ d → Contains us q ⊎ IsQuiet fs q
     here true h = same b first now (same_key held_cmp held_order k q h)
     here false h =

@@ -1,6 +1,6 @@
 //! The groups by key, in as little room as their keys need.
 
-ghost use Rattle.std.specs.Prelude.{◌≡◌, ◌≤◌, ◌<◌, ◌+◌, ◌^◌, [], length, fold, IfOk, OnOk};
+ghost use Rattle.std.specs.Prelude.{◌≡◌, ◌≤◌, ◌<◌, ◌^◌, [], length, fold, IfOk, OnOk};
 ghost use Rattle.std.specs.BTreeMap.{is_at};
 ghost use Rattle.std.specs.BTreeSet.{insert_key};
 ghost use Rattle.std.specs.Map.{remove_entry};
@@ -9,7 +9,7 @@ ghost use Rattle.group.specs.Cells.{held_cmp, CellRoom};
 ghost use Rattle.group.specs.Rooms.{kept_in, cells_in, touched_in, room_of};
 ghost use Rattle.group.specs.Turns.{cell_of, shown_in, near_at, outputs, shown_after, rows_after};
 ghost use Rattle.group.specs.Turns.{CountsUpTo, KeepsRoom};
-ghost use Rattle.op_queue.specs.Flat.{FlatState, with_signed};
+ghost use Rattle.op_queue.specs.Flat.{with_signed};
 ghost use Rattle.group.specs.Runs.{changes_at, state_with};
 
 use crate::keyed::Keyed;

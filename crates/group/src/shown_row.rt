@@ -7,8 +7,7 @@ ghost use Rattle.group.specs.ShownRows.{row_in_place};
 
 use std::alloc::{AllocError, Global};
 use std::marker::Model;
-use std::mem;
-use std::slice;
+use std::{mem, slice};
 use values::Value;
 
 /// Where a row stands: one of a single value in place, any other in memory of its own.

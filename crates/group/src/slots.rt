@@ -258,12 +258,7 @@ fn place_of<const N: usize>(places: &BTreeMap<Key<N>, usize>, key: &Key<N>) -> O
 }
 
 /// Whether the group at the place, which has this key, is quiet. Where that is not asked, no.
-fn is_quiet_at<const N: usize>(
-    slots: &SlotList<N>,
-    place: usize,
-    key: &Key<N>,
-    asks: bool,
-) -> bool
+fn is_quiet_at<const N: usize>(slots: &SlotList<N>, place: usize, key: &Key<N>, asks: bool) -> bool
     requires { IsSome (at_place slots.now place) }
     ensures { IsTrue result → IsQuietCell key.now (cell_at (at_place slots.now place)) }
 {

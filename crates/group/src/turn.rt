@@ -9,12 +9,12 @@ ghost use Rattle.op_queue.specs.Entries.{RowAt, TickAt};
 ghost use Rattle.op_queue.specs.Items.{entries_of};
 ghost use Rattle.group.specs.Groups.{no_columns};
 ghost use Rattle.group.specs.Cells.{held, shown_figure};
-ghost use Rattle.group.specs.Excerpts.{ListShown, ListTouched, shown_of, touched_of};
+ghost use Rattle.group.specs.Excerpts.{ListShown, shown_of};
 ghost use Rattle.group.specs.Excerpts.{shown_at_place, touched_at};
 ghost use Rattle.group.specs.Turns.{row_now, same_shown, signed_row, swap_of, outputs, out, change};
 ghost use Rattle.group.specs.Turns.{shown_now};
 ghost use Rattle.group.specs.Touched.{SameTouched, TouchedMore, HasTouched, groups_of};
-ghost use Rattle.op_queue.specs.Flat.{FlatState, with_signed};
+ghost use Rattle.op_queue.specs.Flat.{with_signed};
 ghost use Rattle.values.specs.declared.TheConstants.{MAX_COLUMNS};
 
 use crate::cells::{Figure, has_values};

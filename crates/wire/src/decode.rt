@@ -1,12 +1,12 @@
 //! From a JSON value to the request that it is.
 ghost use Rattle.std.specs.Prelude.{◌≡◌, IfOk, Some, None, cond, codes, option_map};
-ghost use Rattle.std.specs.Prelude.{option_and_then, map};
+ghost use Rattle.std.specs.Prelude.{map};
 ghost use Rattle.serde_json.specs.View.{view, items_view};
 ghost use Rattle.serde_json.specs.Find.{get, as_str, as_array};
 ghost use Rattle.reference.specs.CallViews.{texts_of};
 ghost use Rattle.plan.specs.Chart.{given_by};
 ghost use Rattle.wire.specs.Calls.{call_of};
-ghost use Rattle.wire.specs.Asked.{text_at, integer_at, list_at, each, value_of, integer_of};
+ghost use Rattle.wire.specs.Asked.{text_at, integer_at, list_at, each, value_of};
 ghost use Rattle.wire.specs.Asked.{row_from, row_in, pair_from, pair_in, chart_from as asked_chart};
 ghost use Rattle.wire.specs.Asked.{declare_in, register_in, append_in, heartbeat_in, take_in};
 ghost use Rattle.wire.specs.Asked.{discard_in, plan_in, asked_by, asked};

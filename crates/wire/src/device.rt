@@ -1,8 +1,8 @@
 //! Where request bytes come from, and where reply bytes go.
-ghost use Rattle.std.specs.Prelude.{◌≡◌, ◌<◌, ◌≤◌, [], ◌+◌, ◌-◌, ◌^◌, ℕ, List, Option, Some, None};
-ghost use Rattle.std.specs.Prelude.{IfOk, OnOk, OnErr, length, take, nat_lt, if◌then◌else◌};
+ghost use Rattle.std.specs.Prelude.{◌≡◌, ◌<◌, ◌≤◌, [], ◌-◌, ◌^◌, ℕ, List, Option, Some};
+ghost use Rattle.std.specs.Prelude.{IfOk, OnOk, OnErr, length, take, if◌then◌else◌};
 ghost use Rattle.std.specs.Io.KnownBytes.{Appends, Consumes, IsAtEnd, Keeps};
-ghost use Rattle.wire.specs.Devices.{AppendsFront, Rises, Puts};
+ghost use Rattle.wire.specs.Devices.{Rises, Puts};
 
 use std::alloc::Global;
 use std::io::{ErrorKind, Read, Write};

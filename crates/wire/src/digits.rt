@@ -1,5 +1,5 @@
 //! Numbers in decimal.
-ghost use Rattle.std.specs.Prelude.{◌≡◌, ◌≤◌, ◌-◌, ◌∷◌, ◌++◌, codes, decimal, drop, length};
+ghost use Rattle.std.specs.Prelude.{◌≡◌, ◌≤◌, ◌-◌, ◌∷◌, ◌++◌, codes, decimal, drop};
 ghost use Rattle.std.specs.Fmt.{signed_decimal};
 
 /// The most bytes of a number of 64 bits with a comma before it: 20 digits, or a sign and 19.

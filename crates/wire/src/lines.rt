@@ -1,7 +1,7 @@
 //! Lines out of a source that gives some bytes at a time.
-ghost use Rattle.std.specs.Prelude.{◌≡◌, ◌≢◌, ◌<◌, ◌≤◌, ◌+◌, ◌-◌, ℕ, List, [], ◌∷◌, ◌++◌, IfOk};
-ghost use Rattle.std.specs.Prelude.{IfErr, OnOk, OnErr, IfSome, MatchOption, Bool, true, false};
-ghost use Rattle.std.specs.Prelude.{length, take, drop, slice_index, slice_range, vec_len};
+ghost use Rattle.std.specs.Prelude.{◌≡◌, ◌<◌, ◌≤◌, ◌+◌, ◌-◌, ℕ, List, [], ◌++◌, IfOk};
+ghost use Rattle.std.specs.Prelude.{OnOk, OnErr, IfSome, MatchOption, true, false};
+ghost use Rattle.std.specs.Prelude.{length, take, slice_index, vec_len};
 ghost use Rattle.std.specs.Prelude.{vec_capacity, Option};
 ghost use Rattle.std.specs.Io.KnownBytes.{IsAtEnd, Consumes, Keeps as Same};
 ghost use Rattle.wire.specs.Devices.{Rises};

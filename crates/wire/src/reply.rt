@@ -1,6 +1,5 @@
 //! Replies, and their lines.
-ghost use Rattle.std.specs.Prelude.{◌≡◌, ◌++◌, List, ℕ, true, codes, IfErr};
-ghost use Rattle.std.specs.Fmt.{signed_decimal};
+ghost use Rattle.std.specs.Prelude.{◌≡◌, ◌++◌, true, codes, IfErr};
 ghost use Rattle.envelope.specs.LowestTerms.{shown};
 ghost use Rattle.plan.specs.Kinds.{kind_name};
 ghost use Rattle.reference.specs.CallViews.{handed_of};

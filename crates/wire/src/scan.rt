@@ -2,7 +2,7 @@
 //!
 //! What is read is what the line's JSON value asks for, at a small part of its cost. A line that is
 //! written in any other way is left to JSON.
-ghost use Rattle.std.specs.Prelude.{◌≡◌, ◌<◌, ◌≤◌, ◌+◌, ◌++◌, ◌∷◌, [], ◌^◌, Ok, None, true, IsTrue};
+ghost use Rattle.std.specs.Prelude.{◌≡◌, ◌<◌, ◌≤◌, ◌+◌, ◌++◌, ◌^◌, Ok, None, IsTrue};
 ghost use Rattle.std.specs.Prelude.{IfSome, IfOk, IsUtf8, decimal, codes, length, take};
 ghost use Rattle.std.specs.Fmt.{signed_decimal};
 ghost use Rattle.std.specs.List.{AllByRecursion};

@@ -1,5 +1,5 @@
 //! Scripts of requests.
-ghost use Rattle.std.specs.Prelude.{◌≡◌, ◌≢◌, ◌<◌, ℕ, List, [], Result, Ok, IfOk, IfErr};
+ghost use Rattle.std.specs.Prelude.{◌≡◌, ◌≢◌, ◌<◌, [], Result, Ok, IfOk, IfErr};
 ghost use Rattle.std.specs.Prelude.{OnOk, OnErr, IfSome, MatchOption, None, true, false, ◌⊎◌};
 ghost use Rattle.reference.specs.World.{IsTurnSize};
 ghost use Rattle.wire.specs.Devices.{Rises};
@@ -10,7 +10,7 @@ ghost use Rattle.wire.specs.Calls.{show_plan, call_of};
 ghost use Rattle.wire.specs.Printed.{Answer, answer_of, line_of};
 ghost use Rattle.wire.specs.Requests.{BeginsWithRequest, HasNoRequest, Reads, requests_of};
 ghost use Rattle.wire.specs.Script.{answered, done_of, is_scarce_answer, is_scarce_reply, script};
-ghost use Rattle.wire.specs.Script.{served, Says, Begins, Runs, Scripts, Stands, TellsScarcity};
+ghost use Rattle.wire.specs.Script.{Says, Begins, Runs, Scripts, Stands, TellsScarcity};
 ghost use Rattle.wire.specs.Script.{AnswersCall, NeedsWhole, RestsOn, Replies};
 ghost use Rattle.wire.specs.declared.request.WireFault.{WireFault};
 

@@ -14,10 +14,11 @@ invariant_of-self-2 g c =
     let us = c.touch_either.new.touched.items in
     let vs = c.touch_either.new.quiet.items in
     let row = row_in c.args.batch.now c.args.place in
-    let was : c.replace-are_quiet.result ≡ true → c.self.inside.are_quiet ≡ true = λ t. sym c.replace-are_quiet.ensures.value ∙ t in
-    (c.self.invariant.0,
-    λ t. quiet_either c.args.items.now c.args.key row c.self.inside.cells.entries c.take.new.self.entries ts qs us vs c.in_ok-taken.taken.is_quiet
-    c.in_ok-touch_either.ensures.touched c.in_ok-touch_either.ensures.quiet c.in_ok-taken.ensures.cells c.in_ok-taken.ensures.quiet (c.self.invariant.1 (was t)))
+    let was : c.replace-are_quiet.result ≡ true → c.self.inside.are_quiet ≡ true = λ t. sym c.replace-are_quiet.ensures.value ∙ t in (
+      c.self.invariant.0,
+      λ t. quiet_either c.args.items.now c.args.key row c.self.inside.cells.entries c.take.new.self.entries ts qs us vs c.in_ok-taken.taken.is_quiet
+          c.in_ok-touch_either.ensures.touched c.in_ok-touch_either.ensures.quiet c.in_ok-taken.ensures.cells c.in_ok-taken.ensures.quiet (c.self.invariant.1 (was t)),
+    )
 
 pub returns-clause-touched : goal.returns-clause-touched
 returns-clause-touched g c =

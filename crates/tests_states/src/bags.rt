@@ -19,9 +19,9 @@ fn three(alloc: Global, enters: bool, numbers: (i64, i64, i64)) -> Result<Batch,
 /// The rows 7, 5 and 5.
 fn filled(alloc: Global) -> Result<RowBag, AllocError> {
     let mut bag = RowBag::new(alloc);
-    bag.add(row(7))?;
-    bag.add(row(5))?;
-    bag.add(row(5))?;
+    bag.add(&row(7))?;
+    bag.add(&row(5))?;
+    bag.add(&row(5))?;
     Ok(bag)
 }
 
@@ -79,17 +79,17 @@ fn rows_of_a_key_stand_together(rt: HostRuntime) -> Result<(), Fail> {
 
 fn four_is_added(alloc: Global) -> Result<bool, AllocError> {
     let mut bag = RowBag::new(alloc);
-    bag.add(row(4))?;
+    bag.add(&row(4))?;
     Ok(bag.has(&row(4)))
 }
 
 /// The rows 4 and 6 come, one after the other; then 4 leaves, and 9, which is not there.
 fn one_at_a_time(alloc: Global) -> Result<bool, AllocError> {
     let mut bag = RowBag::new(alloc);
-    bag.apply_one(one(true, 4))?;
-    bag.apply_one(one(true, 6))?;
-    bag.apply_one(one(false, 4))?;
-    bag.apply_one(one(false, 9))?;
+    bag.apply_one(&one(true, 4))?;
+    bag.apply_one(&one(true, 6))?;
+    bag.apply_one(&one(false, 4))?;
+    bag.apply_one(&one(false, 9))?;
     shows(alloc, &bag, &[6])
 }
 
@@ -112,9 +112,9 @@ fn ones(count: usize) -> Row {
 /// The row 7, then one of nine ones, then one of seventeen.
 fn widened(alloc: Global) -> Result<RowBag, AllocError> {
     let mut bag = RowBag::new(alloc);
-    bag.add(row(7))?;
-    bag.add(ones(9))?;
-    bag.add(ones(17))?;
+    bag.add(&row(7))?;
+    bag.add(&ones(9))?;
+    bag.add(&ones(17))?;
     Ok(bag)
 }
 

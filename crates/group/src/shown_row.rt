@@ -3,7 +3,6 @@
 ghost use Rattle.std.specs.Prelude.{◌≡◌, IfOk, OnOk, OnErr, None, Some};
 ghost use Rattle.std.specs.Option.{option_map};
 ghost use Rattle.group.specs.Cells.{held};
-ghost use Rattle.group.specs.ShownRows.{row_in_place};
 
 use std::alloc::{AllocError, Global};
 use std::marker::Model;
@@ -78,7 +77,7 @@ impl ShownRow {
         Ok(())
     }
 
-    /// The row has these values. Where it has memory, that and the room of the values change places.
+    /// The row has these values. Where it has memory, that and their room change places.
     pub(crate) fn put(&mut self, alloc: Global, row: &mut Vec<Value>)
         ensures { self.new ≡ Some (held row.old.items) }
     {

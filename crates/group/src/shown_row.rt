@@ -12,14 +12,18 @@ use values::Value;
 /// Where a row stands: one of a single value in place, any other in memory of its own.
 #[derive(Drop)]
 enum RowPlace {
+    /// There is no row.
     None,
+    /// The value of the row.
     One(Value),
+    /// The values of the row.
     Many(Vec<Value>),
 }
 
 /// A row that was shown, or none. One of a single value takes no memory.
 #[derive(Drop)]
 pub(crate) struct ShownRow {
+    /// Where the row stands.
     place: RowPlace,
 }
 

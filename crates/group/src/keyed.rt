@@ -29,7 +29,6 @@ use column::Batch;
 use op_queue::SignedRows;
 use std::alloc::{AllocError, Global};
 use std::marker::Model;
-use std::mem;
 use values::{ListItem, MAX_COLUMNS, Row, Value};
 
 /// The most touched keys whose room is kept for the next instant.
@@ -163,10 +162,17 @@ impl<const N: usize> Keyed<N> {
             (self.new.touched ≡ insert_key held_cmp self.old.touched key.entry) }
         ensures range { OnOk result (ReadsInRange items.now (row_in batch.now place)) }
     {
-        let are_quiet = mem::replace(&mut self.are_quiet, false);
-        let taken = self.cells.take(alloc, items, &key, batch, place, asks)?;
-        touch_either(&mut self.touched, &mut self.quiet, key, &taken)?;
-        self.are_quiet = are_quiet;
+        let taken = match self.cells.take(alloc, items, &key, batch, place, asks) {
+            Ok(taken) => taken,
+            Err(error) => {
+                self.are_quiet = false;
+                return Err(error);
+            }
+        };
+        if let Err(error) = touch_either(&mut self.touched, &mut self.quiet, key, &taken) {
+            self.are_quiet = false;
+            return Err(error);
+        }
         Ok(())
     }
 

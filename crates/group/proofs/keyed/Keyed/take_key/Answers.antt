@@ -12,10 +12,11 @@ invariant_of-self-in_default g c =
     let qs = c.self.inside.quiet.items in
     let us = c.touch_either.new.touched.items in
     let vs = c.touch_either.new.quiet.items in
-    let row = row_in c.args.batch.now c.args.place in
-    (c.self.invariant.0,
-    λ t. quiet_either c.args.items.now c.args.key row c.self.inside.cells.entries c.take.new.self.entries ts qs us vs c.in-Ok.taken.is_quiet
-    c.in_default.ensures.touched c.in_default.ensures.quiet c.in-Ok.ensures.cells c.in-Ok.ensures.quiet (c.self.invariant.1 t))
+    let row = row_in c.args.batch.now c.args.place in (
+      c.self.invariant.0,
+      λ t. quiet_either c.args.items.now c.args.key row c.self.inside.cells.entries c.take.new.self.entries ts qs us vs c.in-Ok.taken.is_quiet
+          c.in_default.ensures.touched c.in_default.ensures.quiet c.in-Ok.ensures.cells c.in-Ok.ensures.quiet (c.self.invariant.1 t),
+    )
 
 pub returns-clause-touched : goal.returns-clause-touched
 returns-clause-touched g c =

@@ -1,5 +1,5 @@
 -- A tick may pass over groups that are quiet.
-use Rattle.std.proofs.Common.{◌≡◌, ℕ, Bool, true, false, cond, Option, Some, None, unwrap_or, List, [], ◌∷◌, ◌++◌, map, fold, length, ◌⊎◌, ⊎_elim, inl, inr, refl, sym, ap, ap₂, ◌∙◌, subst, arith}
+use Rattle.std.proofs.Common.{◌≡◌, ℕ, Bool, true, false, cond, Option, Some, None, unwrap_or, List, [], ◌∷◌, ◌++◌, map, fold, length, ◌⊎◌, ⊎_elim, inl, inr, refl, sym, ap, ◌∙◌, subst, arith}
 use Rattle.std.specs.declared.cmp.Ordering.{Ordering}
 use Rattle.std.specs.declared.cmp.Ordering.TheVariants.{Less, Equal, Greater}
 use Rattle.std.specs.Ordering.{is_eq, match_ordering, ordering_reverse}
@@ -21,13 +21,13 @@ use Rattle.values.specs.declared.resolved.ListItem.TheVariants.{Key}
 use Rattle.group.specs.Groups.{GroupBy}
 use Rattle.group.specs.Cells.{Held, held_cmp, CellState, cell_zero, cell_after, showing}
 use Rattle.group.specs.Keys.{in_set}
-use Rattle.group.specs.Quiet.{AreQuiet, IsQuiet, IsQuietCell, ListsKeys}
+use Rattle.group.specs.Quiet.{AreQuiet, IsQuiet, ListsKeys}
 use Rattle.group.specs.Runs.{ShowsKey, changes_at, row_at_tick}
-use Rattle.group.specs.Turns.{cell_of, has_key, near_at, outputs, shown_after, shown_at, shown_now, swap_of, taken_in, with_cell, excerpt}
+use Rattle.group.specs.Turns.{cell_of, has_key, near_at, outputs, shown_after, shown_at, swap_of, taken_in, with_cell}
 use Rattle.group.proofs.KeyLemmas.{held_order, same_key, same_test, same_turned, lookup-insert_entry}
 use Rattle.group.proofs.QuietLemmas.{key_shown, nothing_out}
 use Rattle.group.proofs.RunLemmas.{remove_other}
-use Rattle.group.proofs.SetLemmas.{has-fold, has-insert, in-head, in-insert, in-tail, in_set-in, keeps-fold, keeps-insert, same_sets, sorted-fold, sorted-in_set}
+use Rattle.group.proofs.SetLemmas.{has-fold, has-insert, in-head, in-insert, in-tail, in_set-in, keeps-insert, same_sets, sorted-in_set}
 use Rattle.group.proofs.StateLemmas.{sorted-insert_key}
 
 -- THE OTHER GROUPS

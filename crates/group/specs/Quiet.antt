@@ -1,5 +1,5 @@
 -- Groups that show just what they have to show.
-use Rattle.std.specs.Prelude.{◌≡◌, ◌⊎◌, pos, Option, Some, List, map, length, true}
+use Rattle.std.specs.Prelude.{◌≡◌, ◌⊎◌, pos, Some, List, map, length, true}
 use Rattle.std.specs.Ordering.{int_cmp, is_lt}
 use Rattle.std.specs.Map.{lookup}
 use Rattle.std.specs.BTreeMap.{is_at}

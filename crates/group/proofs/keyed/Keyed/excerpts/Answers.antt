@@ -1,5 +1,4 @@
-use Rattle.std.proofs.Common.{◌≡◌, ◌∙◌, ◌++◌, List, ap, ap₂, rules}
-use Rattle.group.specs.Cells.{Held}
+use Rattle.std.proofs.Common.{◌≡◌, ◌∙◌, ◌++◌, ap, rules}
 use Rattle.group.specs.Keys.{KeyedState, in_set}
 use Rattle.group.proofs.keyed.Keyed.excerpts.Goals as goal
 

@@ -1,6 +1,6 @@
-use Rattle.std.proofs.Common.{◌∙◌, ap, List}
+use Rattle.std.proofs.Common.{◌∙◌, ap}
 use Rattle.std.specs.BTreeSet.{insert_key}
-use Rattle.group.specs.Cells.{Held, held_cmp}
+use Rattle.group.specs.Cells.{held_cmp}
 use Rattle.group.specs.Keys.{KeyedState, in_set}
 use Rattle.group.proofs.PassedLemmas.{more_first}
 use Rattle.group.proofs.keyed.Keyed.touch.Goals as goal

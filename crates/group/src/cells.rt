@@ -414,7 +414,7 @@ fn greatest(values: &BTreeMap<Value, u64>) -> Value
 }
 
 /// What is kept of a group: how many rows it has, a tally for each item of the list, and the row
-/// that was shown of it last.
+/// that was shown of it last, if there is one.
 #[derive(Drop)]
 pub(crate) struct Cell {
     /// How many rows entered, less those that left.
@@ -775,8 +775,8 @@ impl Cell {
         Ok(())
     }
 
-    /// The row that was shown leaves and the other enters; it is the one that was shown last. Its
-    /// room and that of the one before change places.
+    /// The row that was shown leaves and the other enters; it is the one that was shown last. Where
+    /// both have memory, its room and that of the one before change places.
     fn show_other(
         &mut self,
         alloc: Global,

@@ -31,7 +31,7 @@ use std::alloc::{AllocError, Global};
 use std::marker::Model;
 use values::{ListItem, MAX_COLUMNS, Row, Value};
 
-/// The most touched keys whose room is kept for the next instant.
+/// The most keys whose room each of the two lists keeps for the next instant.
 const KEPT: usize = 1024;
 
 /// What is kept of each group, by keys of at most `N` values: a key takes some `8 * N` bytes.
@@ -42,10 +42,11 @@ pub(crate) struct Keyed<const N: usize> {
     /// The keys that were touched since the last tick, in any order; some may stand there more than
     /// once. Without those that are in `quiet` alone.
     touched: Vec<Touch<N>>,
-    /// Further keys that were touched, likewise: when they were touched last, their groups showed
-    /// just what they have to show.
+    /// Further keys that were touched, likewise: when the row came, the group showed just what it
+    /// has to show. A key may stand in both lists.
     quiet: Vec<Touch<N>>,
-    /// Whether that is still so.
+    /// Whether each key in `quiet` is also in `touched`, or its group still shows just what it has
+    /// to show. Only then may a tick pass over them.
     are_quiet: bool,
 }
 

@@ -68,7 +68,8 @@ impl ShownRow {
         }
     }
 
-    /// The row has these values. It takes no memory where one of as many values was.
+    /// Takes these values as the row, without memory for a single value or where the room is
+    /// enough. An error says that memory was refused; then there is no row.
     pub(crate) fn set(&mut self, alloc: Global, values: &[Value]) -> Result<(), AllocError>
         ensures ok { OnOk result (self.new ≡ Some (held values.now)) }
         ensures err { OnErr result (self.new ≡ None) }

@@ -2,7 +2,8 @@
 ghost use Rattle.std.specs.Prelude.{◌≤◌, OnOk};
 ghost use Rattle.group.specs.Turns.{CountsUpTo, KeepsRoom, RoomFor};
 
-use crate::rows::{batch_at, count_of_same, push_numbers};
+use crate::rows::{batch_at, count_of_same, push_numbers, signed};
+use column::Batch;
 use group::{Group, GroupBy, work};
 use op_queue::{Item, Queue};
 use std::alloc::{AllocError, Global};
@@ -76,6 +77,50 @@ enum Sample {
     Few,
     /// Those of 700 steps an instant, of 1,400 keys.
     Many,
+    /// Those of `again_at`, three an instant.
+    Again,
+}
+
+/// The rows of a step, each a sign, a key and a number; `None` where there is a tick.
+fn again_at(step: usize) -> Option<[(bool, i64, i64); 3]> {
+    match step {
+        // Both groups are new.
+        0 => Some([(true, 1, 1), (true, 1, 1), (true, 2, 3)]),
+        // The first stays; the second goes and comes again.
+        2 => Some([(false, 1, 1), (false, 2, 3), (true, 2, 3)]),
+        // The first stays twice, then goes.
+        4 => Some([(true, 1, 1), (false, 1, 1), (false, 1, 1)]),
+        // The second goes, comes again and goes.
+        6 => Some([(false, 2, 3), (true, 2, 3), (false, 2, 3)]),
+        // The first is new again: it comes, goes and comes.
+        8 => Some([(true, 1, 1), (false, 1, 1), (true, 1, 1)]),
+        // It stays. By their count it showed one row, so its key, and has two to show.
+        10 => Some([(true, 1, 1), (true, 1, 1), (false, 1, 1)]),
+        _ => None,
+    }
+}
+
+/// A batch of these rows.
+fn three(alloc: Global, rows: &[(bool, i64, i64); 3]) -> Result<Batch, AllocError> {
+    let [a, b, c] = rows;
+    let rows = [
+        signed(a.0, a.1, a.2),
+        signed(b.0, b.1, b.2),
+        signed(c.0, c.1, c.2),
+    ];
+    let batch = Batch::from_rows(alloc, &rows)?;
+    Ok(batch)
+}
+
+/// The item of a step of `again_at`.
+fn again(alloc: Global, step: usize) -> Result<Item, AllocError> {
+    match again_at(step) {
+        Some(rows) => {
+            let batch = three(alloc, &rows)?;
+            Ok(Item::Rows(step as u64, batch))
+        }
+        None => Ok(Item::Tick(step as u64)),
+    }
 }
 
 /// The item of a step: rows, or one of the two ticks behind those of an instant.
@@ -97,6 +142,7 @@ fn item_at(alloc: Global, sample: Sample, step: usize) -> Result<Item, AllocErro
             let batch = batch_at(alloc, step, 702, 702)?;
             Ok(Item::Rows(step as u64, batch))
         }
+        Sample::Again => again(alloc, step),
     }
 }
 
@@ -122,6 +168,13 @@ fn grouped(alloc: Global) -> Result<GroupBy, AllocError> {
         ListItem::Max(NUMBER),
     ];
     let items = Vec::from_slice(alloc, &items)?;
+    Ok(GroupBy::new(by, items))
+}
+
+/// `Select Count(*) From S Group By k`.
+fn counted(alloc: Global) -> Result<GroupBy, AllocError> {
+    let by = Vec::from_slice(alloc, &[KEY])?;
+    let items = Vec::from_slice(alloc, &[ListItem::CountAll])?;
     Ok(GroupBy::new(by, items))
 }
 
@@ -206,6 +259,24 @@ fn both_distinct(alloc: Global) -> Result<Option<usize>, AllocError> {
     both(alloc, &shape, first, second, Sample::Few, 240)
 }
 
+/// The same for the first columns once each, by the groups that stay, go and come again.
+fn both_again(alloc: Global, width: usize) -> Result<Option<usize>, AllocError>
+    requires { width ≤ 2 }
+{
+    let shape = GroupBy::distinct(alloc, width)?;
+    let first = GroupBy::distinct(alloc, width)?;
+    let second = GroupBy::distinct(alloc, width)?;
+    both(alloc, &shape, first, second, Sample::Again, 14)
+}
+
+/// The same where their rows are counted, by the key.
+fn both_counted(alloc: Global) -> Result<Option<usize>, AllocError> {
+    let shape = counted(alloc)?;
+    let first = counted(alloc)?;
+    let second = counted(alloc)?;
+    both(alloc, &shape, first, second, Sample::Again, 14)
+}
+
 #[test]
 fn groups_in_place_put_out_what_turns_do(rt: HostRuntime) -> Result<(), Fail> {
     let alloc = rt.alloc();
@@ -222,5 +293,19 @@ fn groups_in_place_put_out_what_turns_do(rt: HostRuntime) -> Result<(), Fail> {
 fn more_rows_than_a_batch_has_are_put_out_in_place(rt: HostRuntime) -> Result<(), Fail> {
     let numbers = both_grouped(rt.alloc(), Sample::Many, 1_404)?;
     assert_eq!(rt; numbers, Some(2_334 * 8 + 4 * 2));
+    Ok(())
+}
+
+#[test]
+fn groups_that_stay_go_and_come_again_in_an_instant(rt: HostRuntime) -> Result<(), Fail> {
+    let alloc = rt.alloc();
+    assert_eq!(rt; both_again(alloc, 2)?, Some(5 * 4 + 8 * 2));
+    assert_eq!(rt; both_again(alloc, 1)?, Some(5 * 3 + 8 * 2));
+    Ok(())
+}
+
+#[test]
+fn a_group_that_showed_its_key_by_chance_is_shown_anew(rt: HostRuntime) -> Result<(), Fail> {
+    assert_eq!(rt; both_counted(rt.alloc())?, Some(9 * 3 + 8 * 2));
     Ok(())
 }

@@ -17,7 +17,7 @@ fn value(number: i64) -> Value {
 }
 
 /// A signed row of a key and a number.
-fn signed(enters: bool, key: i64, number: i64) -> SignedRow
+pub(crate) fn signed(enters: bool, key: i64, number: i64) -> SignedRow
     ensures { length result.row.items ≡ 2 }
 {
     let mut row = Row::new();

@@ -1,8 +1,8 @@
 //! The groups in a list, and by the key the place of each.
 
 ghost use Rattle.std.specs.Prelude.{◌≡◌, ◌≤◌, ◌<◌, ◌+◌, ◌^◌, [], ◌++◌};
-ghost use Rattle.std.specs.Prelude.{false, length, None, Some, option_to_list};
-ghost use Rattle.std.specs.Prelude.{IfNone, IfOk, IsSome, IsTrue, OnOk, MatchOption};
+ghost use Rattle.std.specs.Prelude.{false, length, None, Some};
+ghost use Rattle.std.specs.Prelude.{IfNone, IfOk, IsSome, IsTrue, OnOk, MatchOption, option_to_list};
 ghost use Rattle.std.specs.BTreeMap.{is_at, insert_entry};
 ghost use Rattle.std.specs.Map.{keys_of, lookup, remove_entry};
 ghost use Rattle.std.specs.List.Sorted.{IsStrictlySortedBy};

@@ -12,11 +12,11 @@ from drawing import GREEN, GREY, INK, PALE, RED, Drawing
 SPANS = ["10", "100", "1,000", "10,000"]
 # thousand rows a second at each span, of the engine and by hand: bench/engine on 2026-11-27
 RATES = {
-    "filter": ([2312], [7693]),
-    "range": ([2178, 2205, 2098, 2084], [3615, 3612, 3536, 3386]),
-    "groups": ([1041, 1005, 1045, 1126], [1733, 1140, 1670, 1806]),
-    "join": ([807, 699, 611, 418], [1827, 1725, 1223, 762]),
-    "distinct": ([1460, 1321, 1021, 703], [4371, 4044, 3842, 2420]),
+    "filter": ([2461], [7739]),
+    "range": ([2237, 2242, 2206, 2191], [3670, 3683, 3664, 3603]),
+    "groups": ([1053, 1089, 1092, 1157], [1759, 1682, 1713, 1892]),
+    "join": ([818, 800, 721, 511], [1828, 1779, 1444, 930]),
+    "distinct": ([1554, 1424, 1201, 863], [4345, 4123, 3991, 2639]),
 }
 # the share that is wanted of each
 GOALS = {"filter": 0.28, "range": 0.5, "groups": 0.6, "join": 0.4, "distinct": 0.4}

@@ -1,5 +1,5 @@
 -- What lies under the lock, and its steps: each is one call on the engine, or none.
-use Rattle.std.specs.Prelude.{◌≡◌, ℕ, ◌+◌, ◌<◌, ◌≤◌, ◌^◌, ◌⊎◌, List, [], ◌∷◌, ◌++◌, length, Bool, false, true, Option, Result, Ok, Err, ⊤, IfErr, OnErr, OnOk}
+use Rattle.std.specs.Prelude.{◌≡◌, ℕ, ◌+◌, ◌<◌, ◌≤◌, ◌^◌, ◌⊎◌, List, [], ◌∷◌, ◌++◌, length, Bool, false, true, Option, None, Result, Ok, Err, ⊤, IfErr, OnErr, OnOk}
 use Rattle.envelope.specs.Fraction.{Fraction}
 use Rattle.plan.specs.declared.node.Kind.{Kind}
 use Rattle.reference.specs.Commands.{Command}
@@ -9,9 +9,11 @@ use Rattle.reference.specs.declared.fault.Fault.{Fault}
 use Rattle.reference.specs.declared.fault.Fault.TheVariants.{HistoryFull, Foreign, OutOfMemory}
 use Rattle.turn.specs.declared.parts.Parts.{Parts}
 use Rattle.turn.specs.declared.turns.Turn.{Turn}
+use Rattle.run_queue.specs.Slots.{first_of}
 use Rattle.laws_engine.specs.Engines.{PlainEngine, world_of}
 use Rattle.laws_engine.specs.Openings.{forgotten}
 use Rattle.laws_engine.specs.Promises.{HasAllWaiting}
+use Rattle.leases.specs.Drains.{LeavesOthers, RunsTurns}
 use Rattle.leases.specs.Openings.{opening_in}
 use Rattle.leases.specs.Looks.{IsPending, WaitsAt}
 use Rattle.leases.specs.Shown.{engine_in}
@@ -137,6 +139,16 @@ pub record Ends (old : PlainLocked) (done : Parts) (result : Result ⊤ Fault) (
 pub record GivesUp (old : PlainLocked) (lease : ℕ) (result : Result ⊤ Fault) (new : PlainLocked) : Type 0 where
   pub legal : IsReplayed old
   pub abandons : Abandons (engine_at old) lease result (engine_at new)
+
+-- A DRAIN IN PLACE: turns of at most so many rows run under the lock, one after the other, and leave those that are out. Where it is done nothing is ready,
+-- and of each query that runs and of which no turn is out all its closed answers wait that were not taken
+pub record Drains (old : PlainLocked) (rows : ℕ) (result : Result ⊤ Fault) (new : PlainLocked) : Type 0 where
+  pub legal : IsReplayed old
+  pub runs : RunsTurns (engine_at old) rows result (engine_at new)
+  pub others : LeavesOthers (engine_at old) result (engine_at new)
+  pub machine : (engine_at new).machine ≡ (engine_at old).machine
+  pub idle : OnOk result (first_of (engine_at new).slots ≡ None)
+  pub all : OnOk result (HasAllWaiting (engine_at new))
 
 -- a turn of at most so many rows goes out
 pub record Lends (old : PlainLocked) (rows : ℕ) (t : Turn) (new : PlainLocked) : Type 0 where

@@ -152,6 +152,7 @@ fn serve_some<R: Threads + Wait + Sync>(
         workers,
         clients,
         serve: Some(connections),
+        idle: None,
     };
     let mut told = MemorySink::new(alloc);
     let mut errors = MemorySink::new(alloc);

@@ -1,7 +1,7 @@
 //! What workers call. They need no seat.
 ghost use Rattle.std.specs.Prelude.{IfErr, IfOk};
-ghost use Rattle.hub.specs.Steps.{PlainLocked, Ends, Forgets, GivesUp, Hands, HasEnded, Lends};
-ghost use Rattle.hub.specs.Steps.{Rests, Withholds};
+ghost use Rattle.hub.specs.Steps.{PlainLocked, Drains, Ends, Forgets, GivesUp, Hands};
+ghost use Rattle.hub.specs.Steps.{HasEnded, Lends, Rests, Withholds};
 ghost use Rattle.hub.specs.Tries.{MatchLeaseRest, MatchLeaseWait};
 
 use crate::hub::{Hub, LeaseRest, LeaseWait};
@@ -36,6 +36,23 @@ impl Hub {
     {
         let mut locked = self.locked.lock(rt);
         let answer = locked.abandon(lease);
+        drop(locked);
+        self.moved.notify_all();
+        answer
+    }
+
+    /// Drains in place, under the lock: runs turns of at most `rows` rows, one after the other, until
+    /// no operator is ready. Turns that are out stay out. Other calls wait meanwhile.
+    ///
+    /// # Errors
+    /// `BadLimit` if `rows` is not 1 to 1,024; `TooManyLeases` if an operator is ready while 64
+    /// turns are out or no number of a turn is left; `OutOfMemory`. What ran before the fault
+    /// stays.
+    pub fn drain<R: Wait>(&self, rt: &R, rows: u32) -> Result<(), Fault>
+        ensures { (old : PlainLocked) × (new : PlainLocked) × Drains old rows result new }
+    {
+        let mut locked = self.locked.lock(rt);
+        let answer = locked.drain(rows);
         drop(locked);
         self.moved.notify_all();
         answer

@@ -1,12 +1,12 @@
 //! What workers call. None of it changes the history.
 ghost use Rattle.std.specs.Prelude.{◌≡◌, ◌<◌, IfOk, IfErr, length, false};
-ghost use Rattle.hub.specs.Steps.{Ends, GivesUp, Hands, HasEnded, IsIdle, Lends, Rests, Withholds};
-ghost use Rattle.hub.specs.Steps.{ended, engine_at, with_engine};
+ghost use Rattle.hub.specs.Steps.{Drains, Ends, GivesUp, Hands, HasEnded, IsIdle, Lends};
+ghost use Rattle.hub.specs.Steps.{Rests, Withholds, ended, engine_at, with_engine};
 ghost use Rattle.hub.specs.Tries.{MatchRested, MatchWaited};
 
 use crate::locked::{Locked, Rested, Waited};
 use leases::Leased;
-use reference::Fault;
+use reference::{Answering, Fault};
 use turn::Done;
 
 impl Locked {
@@ -35,6 +35,21 @@ impl Locked {
         ensures abandons { GivesUp self.old lease result self.new }
     {
         self.engine.abandon(lease)
+    }
+
+    /// Drains in place, as `Engine::drain`: runs turns of at most `rows` rows, one after the other,
+    /// until no operator is ready. Turns that are out stay out.
+    ///
+    /// # Errors
+    /// `BadLimit` if `rows` is not 1 to 1,024; `TooManyLeases` if an operator is ready while 64
+    /// turns are out or no number of a turn is left; `OutOfMemory`. What ran before the fault
+    /// stays. A query that ran out of memory while its turn was taken in is broken.
+    #[tactic(auto, unfolding(crate::specs::Steps::engine_at))]
+    pub fn drain(&mut self, rows: u32) -> Result<(), Fault>
+        ensures step { self.new ≡ with_engine self.old self.new.engine }
+        ensures drains { Drains self.old rows result self.new }
+    {
+        self.engine.drain(rows)
     }
 
     /// From now on `lease_wait` answers `Ended`.

@@ -6,7 +6,7 @@ use Rattle.reference.specs.declared.fault.Fault.{Fault}
 use Rattle.reference.specs.declared.fault.Fault.TheVariants.{UnknownQuery, UnknownStream}
 use Rattle.laws_forgetting.specs.Answers.{AnswerAlike}
 use Rattle.laws_forgetting.proofs.WorldLemmas.{answer_alike}
-use Rattle.wire.specs.Calls.{Call, declare, register, append, heartbeat, drain, take_rows, discard, forget, show_plan}
+use Rattle.wire.specs.Calls.{Call, declare, register, append, heartbeat, drain, take_rows, drop_query, forget, show_plan}
 use Rattle.wire.specs.Printed.{Answer, line_of}
 use Rattle.wire.specs.Requests.{requests_of}
 use Rattle.wire.specs.Script.{answered, done_of, done_step, if_named, operators_or, replies, rows_of, rows_step, script, served}
@@ -40,7 +40,7 @@ module _ (w v : World) (h : Alike w v) where
       named UnknownQuery (λ n. rows_step (take_step w n limit)) (λ n. rows_step (take_step v n limit)) (λ n. let s = all.take n limit in (ap rows_of s.answer, s.worlds)) (query_named w query) (query_named v query) (all.queries query)
   answered_alike (show_plan query) =
       named UnknownQuery (λ n. (operators_or (slopes_at w n), w)) (λ n. (operators_or (slopes_at v n), v)) (λ n. (ap operators_or (all.slopes n), h)) (query_named w query) (query_named v query) (all.queries query)
-  answered_alike (discard query) =
+  answered_alike (drop_query query) =
       named UnknownQuery (λ n. done_step (drop_step w n)) (λ n. done_step (drop_step v n)) (λ n. let s = all.drop n in (ap done_of s.answer, s.worlds)) (query_named w query) (query_named v query) (all.queries query)
   answered_alike forget = (refl, h)
 

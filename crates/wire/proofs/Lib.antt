@@ -6,6 +6,7 @@ pub mod Reading
 pub mod Printing
 pub mod AlikeLemmas
 pub mod Leading
+pub mod Exchanges
 pub mod Scripts
 pub mod Turns
 pub mod Numerals

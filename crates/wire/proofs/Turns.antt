@@ -16,7 +16,7 @@ use Rattle.wire.proofs.Leading.{goes_alike, goes_there}
 legal : (rows : ℕ) → 0 < rows → rows ≤ 1024 → (nat_le 1 rows && nat_le rows MAX_TURN) ≡ true
 legal rows low high = ap (λ b. b && nat_le rows MAX_TURN) (le-leb 1 rows low) ∙ le-leb rows MAX_TURN high
 
-no_fault : (rows : ℕ) → 0 < rows → rows ≤ 1024 → drain_fault rows ≡ None
+pub no_fault : (rows : ℕ) → 0 < rows → rows ≤ 1024 → drain_fault rows ≡ None
 no_fault rows low high = ap (λ (t : Bool). first_of ((not t, BadLimit) ∷ [])) (legal rows low high)
 
 same_drain : (w : World) (rows : ℕ) → 0 < rows → rows ≤ 1024 → drain_step w rows ≡ drain_step w 1

@@ -2,7 +2,7 @@
 use Rattle.std.specs.Prelude.{ℕ, ℤ, List, [], ◌∷◌, Option, Some, None, option_map, option_and_then, codes, if◌then◌else◌, bytes_eq}
 use Rattle.serde_json.specs.Data.{Data, null, boolean, number, string, array, object, Items, no_items, item}
 use Rattle.serde_json.specs.Find.{get, as_str, as_number, as_array, as_i64}
-use Rattle.wire.specs.Calls.{NewRow, Call, declare, register, append, heartbeat, drain, take_rows, discard, forget, show_plan}
+use Rattle.wire.specs.Calls.{NewRow, Call, declare, register, append, heartbeat, drain, take_rows, drop_query, forget, show_plan}
 
 -- ---- the kinds of value
 
@@ -80,8 +80,8 @@ unfoldable pub take_in : Data → Option Call
 take_in d = option_and_then (λ query. option_map (λ limit. take_rows query limit)
     (integer_at (codes "limit") d)) (text_at (codes "query") d)
 
-unfoldable pub discard_in : Data → Option Call
-discard_in d = option_map discard (text_at (codes "query") d)
+unfoldable pub drop_query_in : Data → Option Call
+drop_query_in d = option_map drop_query (text_at (codes "query") d)
 
 unfoldable pub plan_in : Data → Option Call
 plan_in d = option_map show_plan (text_at (codes "query") d)
@@ -94,7 +94,7 @@ asked_by op d =
     if bytes_eq op (codes "heartbeat") then heartbeat_in d else (
     if bytes_eq op (codes "drain") then Some drain else (
     if bytes_eq op (codes "take") then take_in d else (
-    if bytes_eq op (codes "drop") then discard_in d else (
+    if bytes_eq op (codes "drop") then drop_query_in d else (
     if bytes_eq op (codes "forget") then Some forget else (
     if bytes_eq op (codes "plan") then plan_in d else None))))))))
 

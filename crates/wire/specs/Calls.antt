@@ -23,7 +23,7 @@ pub data Call : Type 0 where
   -- the next answers of a query, at most so many
   take_rows : List ℕ → ℤ → Call
   -- a query is dropped
-  discard : List ℕ → Call
+  drop_query : List ℕ → Call
   -- the rows that no query needs any longer are given up
   forget : Call
   -- the operators of a query are shown
@@ -36,6 +36,6 @@ call_of (Append stream rows) = append (string_bytes stream) rows
 call_of (Heartbeat stream at) = heartbeat (string_bytes stream) at
 call_of Drain = drain
 call_of (Take query limit) = take_rows (string_bytes query) limit
-call_of (Drop query) = discard (string_bytes query)
+call_of (Drop query) = drop_query (string_bytes query)
 call_of Forget = forget
 call_of (Plan query) = show_plan (string_bytes query)

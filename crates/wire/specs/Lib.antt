@@ -7,5 +7,6 @@ pub mod Requests
 pub mod Printed
 pub mod Usual
 pub mod Paged
+pub mod Exchanges
 pub mod Script
 pub mod Examples

@@ -11,7 +11,7 @@ Stands start before now after true held text = (front : List ℕ) × (text ≡ f
 Stands start before now after false held text = AppendsFront start now text × Rises before after
 
 abbrev pub Wrote : Option (List ℕ) → ℕ → Option (List ℕ) → ℕ → Page → List ℕ → Type 0
-Wrote start before now after page text = Stands start before now after page.going page.bytes.items text
+Wrote start before now after page text = Stands start before now after page.is_sound page.bytes.items text
 
 -- along a call that was to write these bytes
 pub record Writes (old : Option (List ℕ)) (fails : ℕ) (page : Page) (new : Option (List ℕ)) (fails' : ℕ) (page' : Page) (bytes : List ℕ) : Type 0 where

@@ -8,7 +8,7 @@ use Rattle.reference.specs.World.{World, Step, MayLackMemory, StopsEarly, stream
 use Rattle.reference.specs.declared.fault.Fault.{Fault}
 use Rattle.reference.specs.declared.fault.Fault.TheVariants as in_engine
 use Rattle.reference.specs.declared.fault.Fault.TheVariants.{TooManyLeases}
-use Rattle.wire.specs.Calls.{Call, declare, register, append, heartbeat, drain, take_rows, discard, forget, show_plan}
+use Rattle.wire.specs.Calls.{Call, declare, register, append, heartbeat, drain, take_rows, drop_query, forget, show_plan}
 use Rattle.wire.specs.Printed.{Answer, done, rows, operators, refused, unread, line_of}
 use Rattle.wire.specs.Requests.{requests_of}
 use Rattle.wire.specs.declared.request.WireFault.{WireFault}
@@ -47,7 +47,7 @@ answered w (heartbeat stream at) = if_named w in_engine.UnknownStream (λ n. don
 answered w drain = done_step (drain_step w 1)
 answered w (take_rows query limit) = if_named w in_engine.UnknownQuery (λ n. rows_step (take_step w n limit)) (query_named w query)
 answered w (show_plan query) = if_named w in_engine.UnknownQuery (λ n. (operators_or (slopes_at w n), w)) (query_named w query)
-answered w (discard query) = if_named w in_engine.UnknownQuery (λ n. done_step (drop_step w n)) (query_named w query)
+answered w (drop_query query) = if_named w in_engine.UnknownQuery (λ n. done_step (drop_step w n)) (query_named w query)
 answered w forget = (done, w)
 
 -- what a request is answered, and the world after it; a line that is no request changes nothing
@@ -67,7 +67,7 @@ script w text = replies w (requests_of text)
 -- The engine's answer to this call says that something was wanted: memory, of which a drop takes none, or numbers for turns,
 -- which a drain alone gives.
 abbrev pub is_scarce_answer : Call → Answer → Bool
-is_scarce_answer (discard query) answer = false
+is_scarce_answer (drop_query query) answer = false
 is_scarce_answer call (refused in_engine.OutOfMemory) = true
 is_scarce_answer drain (refused TooManyLeases) = true
 is_scarce_answer call answer = false

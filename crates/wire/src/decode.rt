@@ -9,7 +9,7 @@ ghost use Rattle.wire.specs.Calls.{call_of};
 ghost use Rattle.wire.specs.Asked.{text_at, integer_at, list_at, each, value_of};
 ghost use Rattle.wire.specs.Asked.{row_from, row_in, pair_from, pair_in, chart_from as asked_chart};
 ghost use Rattle.wire.specs.Asked.{declare_in, register_in, append_in, heartbeat_in, take_in};
-ghost use Rattle.wire.specs.Asked.{discard_in, plan_in, asked_by, asked};
+ghost use Rattle.wire.specs.Asked.{drop_query_in, plan_in, asked_by, asked};
 
 use crate::request::Request;
 use reference::{Chart, NewRows};
@@ -267,9 +267,9 @@ fn take_in(alloc: Global, value: &Value) -> Result<Option<Request>, AllocError>
     Ok(Some(Request::Take { query, limit }))
 }
 
-#[tactic(auto, unfolding(crate::specs::Asked::discard_in))]
-fn discard_in(alloc: Global, value: &Value) -> Result<Option<Request>, AllocError>
-    ensures { IfOk result (λ o. option_map call_of o ≡ discard_in (view value.now)) }
+#[tactic(auto, unfolding(crate::specs::Asked::drop_query_in))]
+fn drop_query_in(alloc: Global, value: &Value) -> Result<Option<Request>, AllocError>
+    ensures { IfOk result (λ o. option_map call_of o ≡ drop_query_in (view value.now)) }
 {
     let Some(query) = text_at(value, "query") else {
         return Ok(None);
@@ -312,7 +312,7 @@ fn asked_by(alloc: Global, op: &str, value: &Value) -> Result<Option<Request>, A
         return take_in(alloc, value);
     }
     if op == "drop" {
-        return discard_in(alloc, value);
+        return drop_query_in(alloc, value);
     }
     if op == "forget" {
         return Ok(Some(Request::Forget));

@@ -95,7 +95,7 @@ impl Source for MemorySource<'_> {
     }
 }
 
-/// A list in memory, as a sink: the bytes that it took. Want of memory is a failure.
+/// A list in memory, as a sink: the bytes that it took. Out of memory is a failure.
 #[derive(Drop)]
 pub struct MemorySink {
     /// The bytes that it took, in order.

@@ -24,7 +24,7 @@ pub(crate) fn put_digits(number: u64, text: &mut [u8; MOST_BYTES]) -> usize
     }
 }
 
-/// Puts a comma and a number in decimal behind all else, and gives where they begin.
+/// Puts a comma and a number in decimal at the end, and returns where they begin.
 pub(crate) fn put_next_number(number: i64, text: &mut [u8; MOST_BYTES]) -> usize
     ensures within { result ≤ 22 }
     ensures text { drop result text.new ≡ codes "," ++ signed_decimal number }

@@ -10,7 +10,7 @@ pub enum ScriptFault {
     /// The sink failed.
     #[error("write failed")]
     Write,
-    /// Memory was refused for the line's buffers, before the first request.
+    /// It ran out of memory for the line's buffers, before the first request.
     #[error("out of memory")]
     Memory,
 }

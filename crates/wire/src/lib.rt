@@ -9,6 +9,7 @@
 mod decode;
 mod device;
 mod digits;
+mod exchange;
 mod fault;
 mod laws;
 mod lines;
@@ -22,10 +23,11 @@ mod script;
 pub use device::{
     DeviceFailed, MemorySink, MemorySource, ReaderSource, Sink, Source, WriterSink, put,
 };
+pub use exchange::{Responder, answer_requests};
 pub use fault::ScriptFault;
 pub use laws::alike_worlds_have_one_script;
 pub use lines::Lines;
 pub use read::{next_request, read_request};
-pub use reply::{Reply, write_reply};
+pub use reply::{Reply, done, write_reply};
 pub use request::{Request, WireFault};
 pub use script::{answer, run_script};

@@ -25,10 +25,10 @@ pub struct Lines {
     chunk: Vec<u8>,
     /// The place in `chunk` of the first byte that is read ahead.
     start: usize,
-    /// The place behind the last byte that is read ahead.
+    /// The place after the last byte that is read ahead.
     end: usize,
     /// The line that was read last, without its line feed; there is room for 65,536 bytes. Of a
-    /// longer line it has a part alone.
+    /// longer line it has only a part.
     line: Vec<u8>,
     ghost ordered: { start ≤ end },
     ghost within: { end ≤ vec_len chunk },

@@ -19,56 +19,56 @@ pub(crate) struct Page {
     /// The bytes that wait for the next write, at most `PAGE`.
     pub(crate) bytes: ArrayVec<u8, PAGE>,
     /// Whether no write has failed.
-    pub(crate) going: bool,
+    pub(crate) is_sound: bool,
 }
 
 impl Page {
     pub(crate) fn new() -> Page
         ensures empty { result.bytes.items ≡ [] }
-        ensures going { result.going ≡ true }
+        ensures sound { result.is_sound ≡ true }
     {
         Page {
             bytes: ArrayVec::new(),
-            going: true,
+            is_sound: true,
         }
     }
 
     /// Gives the sink what is held.
-    pub(crate) fn turn<K: Sink>(&mut self, sink: &mut K)
+    pub(crate) fn flush<K: Sink>(&mut self, sink: &mut K)
         ensures writes { Writes (K.taken sink.old) (K.failures sink.old) self.old (K.taken sink.new)
             (K.failures sink.new) self.new [] }
         ensures empty { self.new.bytes.items ≡ [] }
     {
-        if !self.going {
+        if !self.is_sound {
             self.bytes.clear();
             return;
         }
-        self.going = put(sink, self.bytes.as_slice()).is_ok();
+        self.is_sound = put(sink, self.bytes.as_slice()).is_ok();
         self.bytes.clear();
     }
 
-    // Adds bytes that do not fit behind those that were held.
+    // Adds bytes that do not fit after those that were held.
     fn add_to_empty<K: Sink>(&mut self, sink: &mut K, bytes: &[u8])
         requires { self.old.bytes.items ≡ [] }
         ensures { Writes (K.taken sink.old) (K.failures sink.old) self.old (K.taken sink.new)
             (K.failures sink.new) self.new bytes.now }
     {
-        if !self.going {
+        if !self.is_sound {
             return;
         }
         if self.bytes.try_extend_from_slice(bytes).is_ok() {
             return;
         }
-        self.going = put(sink, bytes).is_ok();
+        self.is_sound = put(sink, bytes).is_ok();
     }
 
-    /// Gives the sink what is held, and adds bytes that do not fit behind it.
+    /// Gives the sink what is held, and adds bytes that do not fit after it.
     #[inline(never)]
     fn add_anew<K: Sink>(&mut self, sink: &mut K, bytes: &[u8])
         ensures { Writes (K.taken sink.old) (K.failures sink.old) self.old (K.taken sink.new)
             (K.failures sink.new) self.new bytes.now }
     {
-        self.turn(sink);
+        self.flush(sink);
         self.add_to_empty(sink, bytes);
     }
 

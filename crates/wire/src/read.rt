@@ -60,9 +60,9 @@ fn short_request(alloc: Global, line: &[u8]) -> Result<Request, WireFault>
 
 /// The request that a line is, without its line feed.
 ///
-/// `LineTooLong` where it has over 65,536 bytes, `NotJson` where it is no JSON text, `BadRequest`
-/// where its value is no request, and `OutOfMemory` where memory was refused, which says nothing
-/// about the line.
+/// # Errors
+/// `LineTooLong` if it has over 65,536 bytes, `NotJson` if it is no JSON text, `BadRequest` if its
+/// value is no request. `OutOfMemory` says nothing about the line.
 pub fn read_request(alloc: Global, line: &[u8]) -> Result<Request, WireFault>
     ensures { Reads (asked_in line.now) result }
 {
@@ -110,10 +110,12 @@ pub(crate) fn held_request(alloc: Global, lines: &mut Lines) -> Option<Result<Re
 /// The next request of the source or what is wrong with its line, or none at the end. Blank lines
 /// are skipped.
 ///
-/// A line that is no request is used up, as is one for which memory was refused: the next call goes
-/// on behind it. `ScriptFault::Read` where the source failed. What it had given of a line by then
-/// is lost, and the next call would take the rest for a line of its own: a caller has to stop
-/// there, as `run_script` does.
+/// A line that is no request is used up, as is one that ran out of memory: the next call goes on
+/// after it.
+///
+/// # Errors
+/// `Read` if the source failed. What it had given of a line by then is lost, and the next call
+/// would take the rest for a line of its own: a caller has to stop there, as `run_script` does.
 pub fn next_request<S: Source>(
     alloc: Global,
     lines: &mut Lines,

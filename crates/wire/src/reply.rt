@@ -9,6 +9,7 @@ ghost use Rattle.wire.specs.Paged.{Writes};
 ghost use Rattle.wire.specs.Printed.{value_text, after_commas, row_text, rows_text, operator_text};
 ghost use Rattle.wire.specs.Printed.{operators_text, wire_fault_text, line_of, answer_of};
 ghost use Rattle.wire.specs.Printed.{error_line};
+ghost use Rattle.wire.specs.Script.{done_of};
 
 use crate::device::Sink;
 use crate::fault::ScriptFault;
@@ -147,6 +148,16 @@ fn add_operators<K: Sink>(sink: &mut K, page: &mut Page, operators: &[(Kind, Slo
     }
 }
 
+/// What a call is answered that hands out no rows.
+pub fn done<T: Drop>(answer: Result<T, Fault>) -> Reply
+    ensures { answer_of result ≡ done_of answer }
+{
+    match answer {
+        Ok(_) => Reply::Done,
+        Err(fault) => Reply::Refused(fault),
+    }
+}
+
 fn wire_fault_text(fault: &WireFault) -> &'static str
     ensures { result.now ≡ wire_fault_text fault.now }
 {
@@ -214,8 +225,8 @@ pub fn write_reply<K: Sink>(sink: &mut K, reply: &Reply) -> Result<(), ScriptFau
 {
     let mut page = Page::new();
     add_reply(sink, &mut page, reply);
-    page.turn(sink);
-    if page.going {
+    page.flush(sink);
+    if page.is_sound {
         Ok(())
     } else {
         Err(ScriptFault::Write)

@@ -55,6 +55,6 @@ pub enum WireFault {
     BadRequest,
     /// The line has over 65,536 bytes.
     LineTooLong,
-    /// Memory was refused. This says nothing about the line.
+    /// It ran out of memory. This says nothing about the line.
     OutOfMemory,
 }

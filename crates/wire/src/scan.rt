@@ -25,7 +25,7 @@ const LETTER: usize = 7;
 /// Room is taken for a row in so many bytes of a line.
 const ROW: usize = 12;
 
-/// What stands behind a word.
+/// Returns what follows a word.
 fn behind<'t>(text: &'t [u8], word: &[u8]) -> Option<&'t [u8]>
     ensures { IfSome result (λ rest. text.now ≡ word.now ++ rest.now) }
 {
@@ -43,7 +43,7 @@ fn digit_of(byte: u8) -> Option<u64>
     }
 }
 
-/// A number without a sign, of at most 17 digits and no leading nought, and what stands behind it.
+/// Reads a number without a sign, of at most 17 digits and no leading zero, and what follows it.
 fn whole_number(text: &[u8]) -> Option<(u64, &[u8])>
     ensures { IfSome result (λ r. (text.now ≡ decimal r.0 ++ r.1.now) × (r.0 < 10 ^ 17)) }
 {
@@ -71,7 +71,7 @@ fn whole_number(text: &[u8]) -> Option<(u64, &[u8])>
     }
 }
 
-/// A number other than `-0`, and what stands behind it.
+/// Reads a number other than `-0`, and what follows it.
 fn number(text: &[u8]) -> Option<(i64, &[u8])>
     ensures { IfSome result (λ r. (text.now ≡ signed_decimal r.0 ++ r.1.now) × IsShort r.0) }
 {
@@ -87,7 +87,7 @@ fn number(text: &[u8]) -> Option<(i64, &[u8])>
     }
 }
 
-/// A number or `null`, and what stands behind it.
+/// Reads a number or `null`, and what follows it.
 #[tactic(auto, unfolding(crate::specs::Printed::value_text))]
 fn value(text: &[u8]) -> Option<(Option<i64>, &[u8])>
     ensures { IfSome result (λ r. (text.now ≡ value_text r.0 ++ r.1.now) × ValueIsShort r.0) }
@@ -104,8 +104,8 @@ fn value(text: &[u8]) -> Option<(Option<i64>, &[u8])>
     }
 }
 
-/// A row: its values into the list, in place of those that stood there, and its instant. And what
-/// stands behind it.
+/// Reads a row: puts its values into the list, in place of what is there, and returns its instant
+/// and what follows it.
 fn row<'t>(
     text: &'t [u8],
     values: &mut Vec<Option<i64>>,
@@ -136,7 +136,7 @@ fn row<'t>(
     }
 }
 
-/// Rows with commas between them, at least one, and what stands behind the bracket that ends them.
+/// Reads rows with commas between them, at least one, and what follows the bracket that ends them.
 fn rows(alloc: Global, text: &[u8]) -> Result<Option<(NewRows, &[u8])>, AllocError>
     ensures { IfOk result (λ o. IfSome o
         (λ r. (text.now ≡ rows_text r.0 ++ codes "]" ++ r.1.now)
@@ -177,7 +177,7 @@ fn plain_front(text: &[u8]) -> usize
     len
 }
 
-/// The name in front, which may be empty, and what stands behind it.
+/// Reads the name in front, which may be empty, and what follows it.
 fn name(text: &[u8]) -> Option<(&str, &[u8])>
     ensures text { IfSome result (λ r. text.now ≡ r.0.now ++ r.1.now) }
     ensures plain { IfSome result (λ r. AllByRecursion IsPlain r.0.now × IsUtf8 r.0.now) }

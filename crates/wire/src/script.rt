@@ -5,34 +5,24 @@ ghost use Rattle.reference.specs.World.{IsTurnSize};
 ghost use Rattle.wire.specs.Devices.{Rises};
 ghost use Rattle.wire.specs.Held.{ahead, work};
 ghost use Rattle.wire.specs.Paged.{Writes};
-ghost use Rattle.wire.specs.Calls.{Call, append, heartbeat, drain, take_rows, discard, forget};
+ghost use Rattle.wire.specs.Calls.{Call, append, heartbeat, drain, take_rows, drop_query, forget};
 ghost use Rattle.wire.specs.Calls.{show_plan, call_of};
 ghost use Rattle.wire.specs.Printed.{Answer, answer_of, line_of};
 ghost use Rattle.wire.specs.Requests.{BeginsWithRequest, HasNoRequest, Reads, requests_of};
-ghost use Rattle.wire.specs.Script.{answered, done_of, is_scarce_answer, is_scarce_reply, script};
+ghost use Rattle.wire.specs.Script.{answered, is_scarce_answer, is_scarce_reply, script};
 ghost use Rattle.wire.specs.Script.{Says, Begins, Runs, Scripts, Stands, TellsScarcity};
 ghost use Rattle.wire.specs.Script.{AnswersCall, NeedsWhole, RestsOn, Replies};
 ghost use Rattle.wire.specs.declared.request.WireFault.{WireFault};
 
 use crate::device::{Sink, Source};
+use crate::exchange::await_request;
 use crate::fault::ScriptFault;
 use crate::lines::Lines;
 use crate::page::Page;
-use crate::read::{held_request, next_request};
-use crate::reply::{Reply, add_reply};
+use crate::reply::{Reply, add_reply, done};
 use crate::request::{Request, WireFault};
 use reference::{Answering, Fault, NewRows};
 use std::alloc::Global;
-
-// What a call that answers no rows is answered.
-fn done<T: Drop>(answer: Result<T, Fault>) -> Reply
-    ensures { answer_of result ≡ done_of answer }
-{
-    match answer {
-        Ok(_) => Reply::Done,
-        Err(fault) => Reply::Refused(fault),
-    }
-}
 
 fn append<E: Answering>(engine: &mut E, stream: &str, rows: &NewRows) -> Reply
     ensures answers { AnswersCall (E.world engine.old) (append stream.now rows.now)
@@ -58,8 +48,8 @@ fn heartbeat<E: Answering>(engine: &mut E, stream: &str, at: i64) -> Reply
     }
 }
 
-// By turns of at most so many rows. Behind it the rows that no query needs any longer are given up,
-// where that pays.
+// Drains by turns of at most so many rows. Then gives up the rows that no query needs, if that
+// pays.
 #[tactic(auto, using(crate::proofs::Turns::drain_rests, crate::proofs::Turns::drain_leaves_whole))]
 fn drain<E: Answering>(engine: &mut E, rows: u32) -> Reply
     requires rows { IsTurnSize rows }
@@ -106,8 +96,8 @@ fn take<E: Answering>(engine: &mut E, query: &str, limit: i64) -> Reply
     }
 }
 
-fn discard<E: Answering>(engine: &mut E, query: &str) -> Reply
-    ensures answers { AnswersCall (E.world engine.old) (discard query.now) (answer_of result)
+fn drop_query<E: Answering>(engine: &mut E, query: &str) -> Reply
+    ensures answers { AnswersCall (E.world engine.old) (drop_query query.now) (answer_of result)
         (E.world engine.new) }
     ensures whole { E.is_whole engine.old → E.is_whole engine.new }
     ensures spent { E.has_numbers engine.new → E.has_numbers engine.old }
@@ -133,14 +123,13 @@ fn show_plan<E: Answering>(engine: &E, query: &str) -> Reply
 
 /// Runs a request on an engine. A drain's turns have at most `rows` rows, 1 to 1,024.
 ///
-/// The answer is the machine's, unless it is want of memory, which no drop is answered, or, of a
-/// drain, want of numbers for turns: then the engine has none left. Want of memory stands only in
-/// place of an acceptance or of a fault of a query's text, and then all is as it was, but that a
-/// drain may have made some answers wait. A drain, a take and a `forget` are answered so by an
-/// engine that is whole, and all other requests by any engine.
+/// Answers as the machine does, or says what is scarce. Out of memory comes only in place of an
+/// acceptance or of a fault of a query's text, and never at a drop. Then all is as it was, except
+/// that a drain may have made some answers wait. Only a drain can be out of numbers for turns: then
+/// the engine has none left. A drain, a take and a `forget` need an engine that is whole.
 ///
-/// Behind a drain, where that pays, and at a `forget` rows are given up that no later answer needs:
-/// no later call tells the world then from the machine's.
+/// Gives up rows that no later answer needs, at a `forget` and, if that pays, after a drain. No
+/// later call tells the world from the machine's.
 pub fn answer<E: Answering>(engine: &mut E, request: &Request, rows: u32) -> Reply
     requires rows { IsTurnSize rows }
     ensures answers { (NeedsWhole (call_of request.now) → E.is_whole engine.old)
@@ -166,7 +155,7 @@ pub fn answer<E: Answering>(engine: &mut E, request: &Request, rows: u32) -> Rep
         Request::Heartbeat { stream, at } => heartbeat(engine, stream.as_str(), *at),
         Request::Drain => drain(engine, rows),
         Request::Take { query, limit } => take(engine, query.as_str(), *limit),
-        Request::Drop { query } => discard(engine, query.as_str()),
+        Request::Drop { query } => drop_query(engine, query.as_str()),
         Request::Forget => forget(engine),
         Request::Plan { query } => show_plan(engine, query.as_str()),
     }
@@ -213,56 +202,20 @@ fn respond<K: Sink, E: Answering>(
     add_reply(sink, page, &reply);
 }
 
-/// The next request, as `next_request` gives it. The sink is given what the page holds before
-/// anything is read, so that a client that waits for a reply has it.
-///
-/// `ScriptFault::Write` where that failed; then nothing is read.
-fn await_request<S: Source, K: Sink>(
-    alloc: Global,
-    lines: &mut Lines,
-    source: &mut S,
-    sink: &mut K,
-    page: &mut Page,
-) -> Result<Option<Result<Request, WireFault>>, ScriptFault>
-    ensures request { IfOk result (λ o. MatchOption o
-        (HasNoRequest (ahead lines.old (S.left source.old)))
-        (λ read. BeginsWithRequest (ahead lines.old (S.left source.old))
-        (ahead lines.new (S.left source.new)) read)) }
-    ensures fewer { IfOk result (λ o. IfSome o
-        (λ _. work lines.new (S.turns source.new) < work lines.old (S.turns source.old))) }
-    ensures writes { Writes (K.taken sink.old) (K.failures sink.old) page.old
-        (K.taken sink.new) (K.failures sink.new) page.new [] }
-    ensures given { IfOk result (λ o. o ≡ None → page.new.bytes.items ≡ []) }
-    ensures going { page.old.going ≡ true → OnOk result (page.new.going ≡ true) }
-    ensures ok { OnOk result (S.failures source.new ≡ S.failures source.old) }
-    ensures read { IfErr result (λ e. e ≡ ScriptFault.Read
-        → Rises (S.failures source.old) (S.failures source.new) × (page.new.going ≡ true)) }
-    ensures write { IfErr result (λ e. e ≡ ScriptFault.Write
-        → (source.new ≡ source.old) × (page.new.going ≡ false)) }
-    ensures fault { IfErr result (λ e. e ≢ ScriptFault.Memory) }
-{
-    if let Some(read) = held_request(alloc, lines) {
-        return Ok(Some(read));
-    }
-    page.turn(sink);
-    if !page.going {
-        return Err(ScriptFault::Write);
-    }
-    next_request(alloc, lines, source)
-}
-
 /// Answers each request of the source by one line, up to the end of the source. A drain's turns
 /// have at most `rows` rows, 1 to 1,024, which changes no reply. At the start the engine has to be
 /// whole.
 ///
-/// What is written is the script's text of what the source gave, up to the first reply that says
-/// want of memory, or, to a drain, of numbers for turns, from which on it rests with the engine.
-/// Want of numbers is told only where the engine has none, and then it has none afterwards. The
-/// text does not tell whether a call or the reading of its line wanted memory; `answer` says which
-/// calls may. Where no reply says so, the engine is whole at the end. `ScriptFault::Read` and
-/// `ScriptFault::Write` where that device failed: then what is written is a beginning of that text,
-/// and the calls carried out stand: the engine is as they left it. `ScriptFault::Memory` where the
-/// line's buffers were refused, before anything was read: all is as it was.
+/// Writes the script's text of what the source gave, up to the first reply that says out of memory,
+/// or, to a drain, out of numbers for turns. From there on it rests with the engine. A reply says
+/// out of numbers only if the engine has none, and then it has none afterwards. The text does not
+/// tell whether a call or the reading of its line ran out of memory; `answer` says which calls may.
+/// If no reply says so, the engine is whole at the end.
+///
+/// # Errors
+/// `Read` and `Write` if that device failed: then a prefix of that text is written, and the engine
+/// is as the calls carried out left it. `Memory` if there was none for the line's buffers, before
+/// anything was read: all is as it was.
 pub fn run_script<S: Source, K: Sink, E: Answering>(
     alloc: Global,
     source: &mut S,
@@ -309,7 +262,7 @@ pub fn run_script<S: Source, K: Sink, E: Answering>(
             return Ok(());
         };
         respond(sink, &mut page, engine, read, rows);
-        if !page.going {
+        if !page.is_sound {
             return Err(ScriptFault::Write);
         }
     }

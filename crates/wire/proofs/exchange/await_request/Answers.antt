@@ -1,6 +1,6 @@
 use Rattle.wire.specs.Held.{work}
 use Rattle.wire.proofs.Reading.{fewer_behind}
-use Rattle.wire.proofs.script.await_request.Goals as goal
+use Rattle.wire.proofs.exchange.await_request.Goals as goal
 
 pub returns-in-Some-clause-fewer : goal.returns-in-Some-clause-fewer
 returns-in-Some-clause-fewer g c = c.in-Some.ensures.fewer (g.S.Source.turns c.args.source.now)

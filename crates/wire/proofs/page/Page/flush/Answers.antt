@@ -1,7 +1,7 @@
 use Rattle.std.proofs.Common.{◌∙◌, sym, []}
 use Rattle.wire.proofs.Sinks.{append_nothing}
 use Rattle.wire.proofs.Printing.{writes_put}
-use Rattle.wire.proofs.page.Page.turn.Goals as goal
+use Rattle.wire.proofs.page.Page.flush.Goals as goal
 
 pub returns-clause-writes : goal.returns-clause-writes
 returns-clause-writes g c =

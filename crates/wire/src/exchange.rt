@@ -1,0 +1,157 @@
+//! Requests and replies in turn.
+ghost use Rattle.std.specs.Prelude.{◌≡◌, ◌≢◌, ◌<◌, [], ◌||◌, Bool, Result, OnOk, OnErr};
+ghost use Rattle.std.specs.Prelude.{IfOk, IfErr, IfSome, MatchOption, None, true, false};
+ghost use Rattle.wire.specs.Calls.{Call};
+ghost use Rattle.wire.specs.Devices.{Rises};
+ghost use Rattle.wire.specs.Exchanges.{Leads, Runs, Stands};
+ghost use Rattle.wire.specs.Held.{ahead, work};
+ghost use Rattle.wire.specs.Paged.{Writes};
+ghost use Rattle.wire.specs.Printed.{Answer, answer_of, line_of};
+ghost use Rattle.wire.specs.Requests.{BeginsWithRequest, HasNoRequest, Reads, requests_of};
+ghost use Rattle.wire.specs.Script.{Scripts};
+ghost use Rattle.wire.specs.declared.request.WireFault.{WireFault};
+
+use crate::device::{Sink, Source};
+use crate::fault::ScriptFault;
+use crate::lines::Lines;
+use crate::page::Page;
+use crate::read::{held_request, next_request};
+use crate::reply::{Reply, add_reply};
+use crate::request::{Request, WireFault};
+use std::alloc::Global;
+
+/// Answers requests over a state that they change, as an engine or a hub's seat.
+pub trait Responder<T> {
+    // What a request may be answered, and the state that it leaves.
+    ghost replies: { Self → T → Result Call WireFault → Answer → T → Type 0 };
+
+    // Whether a request that is answered so is noted.
+    ghost notes: { Self → Result Call WireFault → Answer → Bool };
+
+    /// Answers what was read of a line, and tells whether the request is noted.
+    fn respond(&self, state: &mut T, read: Result<Request, WireFault>) -> (Reply, bool)
+        ensures replies { (defined : Result Call WireFault) → Reads defined read
+            → replies self.now state.old defined (answer_of result.0) state.new }
+        ensures notes { (defined : Result Call WireFault) → Reads defined read
+            → result.1 ≡ notes self.now defined (answer_of result.0) };
+}
+
+/// The next request, as `next_request` gives it. The sink is given what the page holds before
+/// anything is read, so that a client that waits for a reply has it.
+///
+/// # Errors
+/// `Read` where the source failed, `Write` where the sink did: then nothing is read.
+pub(crate) fn await_request<S: Source, K: Sink>(
+    alloc: Global,
+    lines: &mut Lines,
+    source: &mut S,
+    sink: &mut K,
+    page: &mut Page,
+) -> Result<Option<Result<Request, WireFault>>, ScriptFault>
+    ensures request { IfOk result (λ o. MatchOption o
+        (HasNoRequest (ahead lines.old (S.left source.old)))
+        (λ read. BeginsWithRequest (ahead lines.old (S.left source.old))
+        (ahead lines.new (S.left source.new)) read)) }
+    ensures fewer { IfOk result (λ o. IfSome o
+        (λ _. work lines.new (S.turns source.new) < work lines.old (S.turns source.old))) }
+    ensures writes { Writes (K.taken sink.old) (K.failures sink.old) page.old
+        (K.taken sink.new) (K.failures sink.new) page.new [] }
+    ensures given { IfOk result (λ o. o ≡ None → page.new.bytes.items ≡ []) }
+    ensures sound { page.old.is_sound ≡ true → OnOk result (page.new.is_sound ≡ true) }
+    ensures ok { OnOk result (S.failures source.new ≡ S.failures source.old) }
+    ensures read { IfErr result (λ e. e ≡ ScriptFault.Read
+        → Rises (S.failures source.old) (S.failures source.new) × (page.new.is_sound ≡ true)) }
+    ensures write { IfErr result (λ e. e ≡ ScriptFault.Write
+        → (source.new ≡ source.old) × (page.new.is_sound ≡ false)) }
+    ensures fault { IfErr result (λ e. e ≢ ScriptFault.Memory) }
+{
+    if let Some(read) = held_request(alloc, lines) {
+        return Ok(Some(read));
+    }
+    page.flush(sink);
+    if !page.is_sound {
+        return Err(ScriptFault::Write);
+    }
+    next_request(alloc, lines, source)
+}
+
+/// Answers what was read of a line by one line, which goes onto the page. Returns whether the
+/// request is noted.
+fn add_answer<K: Sink, T, A: Responder<T>>(
+    sink: &mut K,
+    page: &mut Page,
+    responder: &A,
+    state: &mut T,
+    read: Result<Request, WireFault>,
+) -> bool
+    ensures { (answer : Answer)
+        × ((defined : Result Call WireFault) → Reads defined read
+        → A.replies responder.now state.old defined answer state.new)
+        × ((defined : Result Call WireFault) → Reads defined read
+        → result ≡ A.notes responder.now defined answer)
+        × Writes (K.taken sink.old) (K.failures sink.old) page.old
+        (K.taken sink.new) (K.failures sink.new) page.new (line_of answer) }
+{
+    let (reply, is_noted) = responder.respond(state, read);
+    add_reply(sink, page, &reply);
+    is_noted
+}
+
+/// Answers each request of the source by one line, up to the end of the source, and tells whether
+/// one of them was noted.
+///
+/// Replies gather on a page. The sink gets them when the page is full, and before anything is read:
+/// a burst of requests is answered by one write, and a client that waits has all its replies.
+///
+/// # Errors
+/// `Read` and `Write` only where that device failed in this call, `Memory` only at the start. The
+/// requests that were carried out stand.
+pub fn answer_requests<S: Source, K: Sink, T, A: Responder<T>>(
+    alloc: Global,
+    source: &mut S,
+    sink: &mut K,
+    responder: &A,
+    state: &mut T,
+) -> Result<bool, ScriptFault>
+    ensures text { IfOk result (λ noted. Scripts (λ text written. Runs (A.replies responder.now)
+        (A.notes responder.now) state.old (requests_of text) written noted state.new)
+        (S.left source.old) (K.taken sink.old) (K.taken sink.new)) }
+    ensures stands { OnErr result (Scripts (λ text written. Stands (A.replies responder.now)
+        (A.notes responder.now) state.old (requests_of text) written state.new)
+        (S.left source.old) (K.taken sink.old) (K.taken sink.new)) }
+    ensures leads { Leads (A.replies responder.now) (A.notes responder.now) state.old state.new }
+    ensures read { IfErr result (λ e. e ≡ ScriptFault.Read
+        → Rises (S.failures source.old) (S.failures source.new)
+        × (K.failures sink.new ≡ K.failures sink.old)) }
+    ensures write { IfErr result (λ e. e ≡ ScriptFault.Write
+        → Rises (K.failures sink.old) (K.failures sink.new)
+        × (S.failures source.new ≡ S.failures source.old)) }
+    ensures sound { OnOk result ((S.failures source.new ≡ S.failures source.old)
+        × (K.failures sink.new ≡ K.failures sink.old)) }
+    ensures memory { IfErr result (λ e. e ≡ ScriptFault.Memory
+        → (source.new ≡ source.old) × (sink.new ≡ sink.old) × (state.new ≡ state.old)) }
+{
+    let Ok(mut lines) = Lines::new(alloc) else {
+        return Err(ScriptFault::Memory);
+    };
+    let mut page = Page::new();
+    let mut noted = false;
+    'requests: loop {
+        let next = await_request(alloc, &mut lines, source, sink, &mut page)?;
+        let Some(read) = next else {
+            return Ok(noted);
+        };
+        let is_noted = add_answer(sink, &mut page, responder, state, read);
+        if !page.is_sound {
+            return Err(ScriptFault::Write);
+        }
+        let any = is_either(noted, is_noted);
+        noted = any;
+    }
+}
+
+fn is_either(first: bool, second: bool) -> bool
+    ensures { result ≡ (first || second) }
+{
+    first || second
+}

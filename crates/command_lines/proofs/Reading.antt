@@ -24,12 +24,13 @@ three P a b c x y z (suc zero) d lt = y
 three P a b c x y z (suc (suc zero)) d lt = z
 three P a b c x y z (suc (suc (suc k))) d lt = absurd (omega arith)
 
-pub four : {A : Type 0} (P : A → Type 0) (a b c e : A) → P a → P b → P c → P e → All P (a ∷ b ∷ c ∷ e ∷ [])
-four P a b c e x y z w zero d lt = x
-four P a b c e x y z w (suc zero) d lt = y
-four P a b c e x y z w (suc (suc zero)) d lt = z
-four P a b c e x y z w (suc (suc (suc zero))) d lt = w
-four P a b c e x y z w (suc (suc (suc (suc k)))) d lt = absurd (omega arith)
+pub five : {A : Type 0} (P : A → Type 0) (a b c e f : A) → P a → P b → P c → P e → P f → All P (a ∷ b ∷ c ∷ e ∷ f ∷ [])
+five P a b c e f x y z w v zero d lt = x
+five P a b c e f x y z w v (suc zero) d lt = y
+five P a b c e f x y z w v (suc (suc zero)) d lt = z
+five P a b c e f x y z w v (suc (suc (suc zero))) d lt = w
+five P a b c e f x y z w v (suc (suc (suc (suc zero)))) d lt = v
+five P a b c e f x y z w v (suc (suc (suc (suc (suc k))))) d lt = absurd (omega arith)
 
 -- a command of these options, and what a parse of it found
 pub record Parsed (cmd : Command) (m : ArgMatches) (app : App) (words : List Text) (xs : List Arg) : Type 0 where

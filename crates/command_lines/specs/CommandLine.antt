@@ -1,6 +1,7 @@
 -- The command lines, as clap's own definition of a parse sees them.
 use Rattle.std.specs.Prelude.{◌≡◌, ◌≢◌, ℕ, pos, List, Option, Some, None, codes, false, true}
 use Rattle.std.specs.Str.Parse.{digits_value, without_leading_plus}
+use Rattle.clap.specs.Simple.{on_top}
 use Rattle.clap.specs.Words.{App, Rule, Text, Kinds, new_app, new_rule, with_rule, fault_of, matches_of, one_of, rule_of, IsPlainArg}
 use Rattle.clap.specs.declared.builder.action.ArgAction.TheVariants.{SetTrue}
 use Rattle.clap.specs.declared.builder.arg.Arg.{Arg}
@@ -27,18 +28,22 @@ pub record IsNumberArg (rule : Rule) (name : List ℕ) (parser : ValueParser) (a
 abbrev pub between : ℕ → ℕ → ValueParser
 between least most = Signed (pos least) (pos most)
 
+-- a command of this name that tells its version at `--version`
+abbrev pub versioned : List ℕ → App
+versioned name = on_top (λ s. record s { has_version = true }) (new_app name)
+
 -- `cqlrun [--plain] [--turn R] [--workers N]`
 abbrev pub cqlrun : App
-cqlrun = with_rule (with_rule (with_rule (new_app (codes "cqlrun")) plain) (option (codes "turn") (between 1 1024))) (option (codes "workers") (between 1 64))
+cqlrun = with_rule (with_rule (with_rule (versioned (codes "cqlrun")) plain) (option (codes "turn") (between 1 1024))) (option (codes "workers") (between 1 64))
 
 -- an option that has to be there
 abbrev pub wanted : Rule → Rule
 wanted rule = record rule { required = true }
 
--- `cqld --port P --workers N --clients C [--serve K]`
+-- `cqld --port P --workers N --clients C [--serve K] [--idle S]`
 abbrev pub cqld : App
-cqld = with_rule (with_rule (with_rule (with_rule (new_app (codes "cqld")) (wanted (option (codes "port") (between 0 65535)))) (wanted (option (codes "workers") (between 1 64))))
-    (wanted (option (codes "clients") (between 1 64)))) (option (codes "serve") (between 0 1000000))
+cqld = with_rule (with_rule (with_rule (with_rule (with_rule (versioned (codes "cqld")) (wanted (option (codes "port") (between 0 65535)))) (wanted (option (codes "workers") (between 1 64))))
+    (wanted (option (codes "clients") (between 1 64)))) (option (codes "serve") (between 0 1000000))) (option (codes "idle") (between 1 86400))
 
 -- why the words of `cqlrun` are refused, the program's own name first; nothing where they ask for a run
 unfoldable pub refusals : List Text → Kinds

@@ -1,7 +1,7 @@
 -- Worked command lines.
 use Rattle.std.specs.Prelude.{◌≡◌, List, [], ◌∷◌, Some, None, codes, refl}
 use Rattle.clap.specs.Words.{Text}
-use Rattle.clap.specs.declared.error.kind.ErrorKind.TheVariants.{DisplayHelp, UnknownArgument, ValueValidation, InvalidValue, ArgumentConflict, MissingRequiredArgument}
+use Rattle.clap.specs.declared.error.kind.ErrorKind.TheVariants.{DisplayHelp, DisplayVersion, UnknownArgument, ValueValidation, InvalidValue, ArgumentConflict, MissingRequiredArgument}
 use Rattle.clap.proofs.OnLiterals.{clap_on_literals}
 use Rattle.command_lines.specs.CommandLine.{refusals, run_text, serve_refusals, serve_text, number_or}
 
@@ -61,6 +61,10 @@ help : refusals (said (codes "--help" ∷ [])) ≡ DisplayHelp ∷ []
 unfolding refusals clap_on_literals
 help = refl
 
+version : refusals (said (codes "--version" ∷ [])) ≡ DisplayVersion ∷ []
+unfolding refusals clap_on_literals
+version = refl
+
 wrong : refusals (said (codes "--plane" ∷ [])) ≡ UnknownArgument ∷ []
 unfolding refusals clap_on_literals
 wrong = refl
@@ -86,3 +90,20 @@ far_port = refl
 too_long : serve_refusals (asked (codes "--port=1" ∷ codes "--workers=1" ∷ codes "--clients=1" ∷ codes "--serve=1000001" ∷ [])) ≡ ValueValidation ∷ []
 unfolding serve_refusals clap_on_literals
 too_long = refl
+
+served_version : serve_refusals (asked (codes "--version" ∷ [])) ≡ DisplayVersion ∷ []
+unfolding serve_refusals clap_on_literals
+served_version = refl
+
+idle : (serve_refusals (asked (codes "--port=0" ∷ codes "--workers=1" ∷ codes "--clients=1" ∷ codes "--idle=86400" ∷ [])) ≡ [])
+    × (serve_text (codes "idle") (asked (codes "--port=0" ∷ codes "--workers=1" ∷ codes "--clients=1" ∷ codes "--idle=86400" ∷ [])) ≡ Some (codes "86400"))
+unfolding serve_refusals serve_text clap_on_literals
+idle = (refl, refl)
+
+never_idle : serve_refusals (asked (codes "--port=0" ∷ codes "--workers=1" ∷ codes "--clients=1" ∷ codes "--idle=0" ∷ [])) ≡ ValueValidation ∷ []
+unfolding serve_refusals clap_on_literals
+never_idle = refl
+
+idle_for_long : serve_refusals (asked (codes "--port=0" ∷ codes "--workers=1" ∷ codes "--clients=1" ∷ codes "--idle=86401" ∷ [])) ≡ ValueValidation ∷ []
+unfolding serve_refusals clap_on_literals
+idle_for_long = refl

@@ -6,8 +6,8 @@ use std::alloc::AllocError;
 /// Why the words of `cqlrun` ask for no run.
 #[derive(Debug, Drop)]
 pub enum WordsFault {
-    /// A request for help, a wrong command line, or want of memory: `kind` tells which, and what is
-    /// printed is clap's text.
+    /// A request for help or for the version, a wrong command line, or out of memory: `kind` tells
+    /// which, and what is printed is clap's text.
     Words(Error),
     /// The plain engine is asked for, and threads to run its turns, which it has not.
     PlainWithWorkers,

@@ -5,7 +5,9 @@ mod fault;
 mod number;
 mod run;
 mod serve;
+mod version;
 
 pub use fault::WordsFault;
 pub use run::{RunOptions, run_options};
 pub use serve::{ServeOptions, serve_options};
+pub use version::VERSION;

@@ -7,6 +7,7 @@ ghost use Rattle.command_lines.specs.Faults.{ChoosesBoth, RefusesRun};
 
 use crate::fault::WordsFault;
 use crate::number::number;
+use crate::version::VERSION;
 use clap::{Arg, ArgAction, Command, value_parser};
 use std::alloc::Global;
 use std::convert::AsStr;
@@ -26,12 +27,12 @@ pub struct RunOptions {
     pub workers: Option<u32>,
 }
 
-/// Reads the words of `cqlrun`, of which the first is the program's own name.
+/// Reads the words of `cqlrun`. The first of them is the program's own name.
 ///
 /// # Errors
-/// `Words` is a request for help, a wrong command line, or want of memory. A turn or workers that
-/// are no number, or out of their range, are a wrong command line. `PlainWithWorkers` where the
-/// words are right but for that they ask for both.
+/// `Words` is a request for help or for the version, a wrong command line, or out of memory. A turn
+/// or workers that are no number, or out of range, are a wrong command line. `PlainWithWorkers` if
+/// the words ask for both.
 pub fn run_options<'a, S: AsStr>(alloc: Global, words: &'a [S]) -> Result<RunOptions, WordsFault>
     ensures asked { IfOk result (λ o. (refusals (map S.text words.entry.now) ≡ [])
         × (¬ AsksBoth (map S.text words.entry.now))) }
@@ -63,6 +64,7 @@ pub fn run_options<'a, S: AsStr>(alloc: Global, words: &'a [S]) -> Result<RunOpt
         "Run the turns of a drain in so many threads, 1 to 64",
     );
     let command = Command::new(alloc, "cqlrun")
+        .version(VERSION)
         .arg(plain)?
         .arg(turn)?
         .arg(workers)?;

@@ -5,6 +5,7 @@ ghost use Rattle.command_lines.specs.CommandLine.{IsNumberArg, between, number_i
 ghost use Rattle.command_lines.specs.CommandLine.{option, serve_refusals, serve_text, wanted};
 
 use crate::number::{number, wanted_number};
+use crate::version::VERSION;
 use clap::{Arg, Command, Error, value_parser};
 use std::alloc::Global;
 use std::convert::AsStr;
@@ -20,14 +21,17 @@ pub struct ServeOptions {
     pub clients: u32,
     /// After how many connections it ends, at most 1,000,000; never where that is not said.
     pub serve: Option<u32>,
+    /// After how many seconds a silent connection is closed, 1 to 86,400; never where that is not
+    /// said.
+    pub idle: Option<u32>,
 }
 
-/// Reads the words of `cqld`, of which the first is the program's own name. Port, workers and
+/// Reads the words of `cqld`. The first of them is the program's own name. Port, workers and
 /// clients have to be there.
 ///
 /// # Errors
-/// A request for help, a wrong command line, or want of memory: `kind` tells which, and what is
-/// printed is clap's text.
+/// A request for help or for the version, a wrong command line, or out of memory: `kind` tells
+/// which, and what is printed is clap's text.
 pub fn serve_options<'a, S: AsStr>(alloc: Global, words: &'a [S]) -> Result<ServeOptions, Error>
     ensures refusals { FailsBy (serve_refusals (map S.text words.entry.now)) result }
     ensures port { IfOk result (λ o.
@@ -38,8 +42,11 @@ pub fn serve_options<'a, S: AsStr>(alloc: Global, words: &'a [S]) -> Result<Serv
         o.clients ≡ number_or 1 (serve_text (codes "clients") (map S.text words.entry.now))) }
     ensures serve { IfOk result (λ o.
         o.serve ≡ option_map number_in (serve_text (codes "serve") (map S.text words.entry.now))) }
+    ensures idle { IfOk result (λ o.
+        o.idle ≡ option_map number_in (serve_text (codes "idle") (map S.text words.entry.now))) }
     ensures range { IfOk result (λ o. (o.port ≤ 65535) × (1 ≤ o.workers) × (o.workers ≤ 64)
-        × (1 ≤ o.clients) × (o.clients ≤ 64) × IfSome o.serve (λ k. k ≤ 1000000)) }
+        × (1 ≤ o.clients) × (o.clients ≤ 64) × IfSome o.serve (λ k. k ≤ 1000000)
+        × IfSome o.idle (λ s. (1 ≤ s) × (s ≤ 86400))) }
 {
     let workers = threads(
         alloc,
@@ -54,10 +61,12 @@ pub fn serve_options<'a, S: AsStr>(alloc: Global, words: &'a [S]) -> Result<Serv
         "Answer so many connections at once, 1 to 64",
     );
     let command = Command::new(alloc, "cqld")
+        .version(VERSION)
         .arg(port(alloc))?
         .arg(workers)?
         .arg(clients)?
-        .arg(connections(alloc))?;
+        .arg(connections(alloc))?
+        .arg(idle(alloc))?;
     match command.try_get_matches_from(words) {
         // what is required is there, so no default is taken
         Ok(matches) => Ok(ServeOptions {
@@ -65,6 +74,7 @@ pub fn serve_options<'a, S: AsStr>(alloc: Global, words: &'a [S]) -> Result<Serv
             workers: matches.get_one("workers").unwrap_or(1),
             clients: matches.get_one("clients").unwrap_or(1),
             serve: matches.get_one("serve"),
+            idle: matches.get_one("idle"),
         }),
         Err(error) => Err(error),
     }
@@ -102,5 +112,19 @@ fn connections<'a>(alloc: Global) -> Arg<'a>
         "K",
         value_parser!(u32).range(0..=1_000_000),
         "End after so many connections, 0 to 1000000",
+    )
+}
+
+// The option `--idle S`.
+fn idle<'a>(alloc: Global) -> Arg<'a>
+    ensures { IsNumberArg (option (codes "idle") (between 1 86400)) (codes "idle")
+        (between 1 86400) result }
+{
+    number(
+        alloc,
+        "idle",
+        "S",
+        value_parser!(u32).range(1..=86_400),
+        "Close a connection that is silent for so many seconds, 1 to 86400",
     )
 }

@@ -12,7 +12,7 @@ use Rattle.reference.specs.Replies.{Reply}
 use Rattle.reference.specs.declared.fault.Fault.{Fault}
 use Rattle.reference.specs.declared.fault.Fault.TheVariants.{BadLimit, OutOfMemory, TooManyLeases}
 use Rattle.reference.specs.declared.limits.TheConstants.{MAX_TURN}
-use Rattle.wire.specs.Calls.{Call, declare, register, append, heartbeat, drain, take_rows, discard, forget, show_plan, call_of}
+use Rattle.wire.specs.Calls.{Call, declare, register, append, heartbeat, drain, take_rows, drop_query, forget, show_plan, call_of}
 use Rattle.wire.specs.Printed.{Answer, done, refused, unread}
 use Rattle.wire.specs.Requests.{Reads}
 use Rattle.wire.specs.Script.{done_of}
@@ -134,7 +134,7 @@ keeps_served R seat (heartbeat stream at) answer seat' s = keeps_named FindsStre
 keeps_served R seat drain answer seat' s = keeps_same seat seat' s.1
 keeps_served R seat (take_rows query limit) answer seat' s = keeps_named FindsQuery query _ _ seat answer seat' s
 keeps_served R seat forget answer seat' s = keeps_same seat seat' s.1
-keeps_served R seat (discard query) answer seat' s = keeps_named FindsQuery query _ _ seat answer seat' s
+keeps_served R seat (drop_query query) answer seat' s = keeps_named FindsQuery query _ _ seat answer seat' s
 keeps_served R seat (show_plan query) answer seat' s = keeps_same seat seat' s.1
 
 pub keeps_replied : (R : Answer → Type 0) (seat : PlainSeat) (request : Result Call WireFault) (answer : Answer) (seat' : PlainSeat) → Replies R seat request answer seat' → Keeps seat seat'

@@ -12,7 +12,7 @@ use Rattle.reference.specs.Replies as replies
 use Rattle.reference.specs.Replies.{Reply}
 use Rattle.reference.specs.declared.fault.Fault.{Fault}
 use Rattle.reference.specs.declared.fault.Fault.TheVariants.{BadLimit, OutOfMemory, TooManyLeases, UnknownQuery, UnknownStream}
-use Rattle.wire.specs.Calls.{Call, declare, register, append, heartbeat, drain, take_rows, discard, forget, show_plan}
+use Rattle.wire.specs.Calls.{Call, declare, register, append, heartbeat, drain, take_rows, drop_query, forget, show_plan}
 use Rattle.wire.specs.Printed.{Answer, done, rows, operators, refused, unread, line_of}
 use Rattle.wire.specs.declared.request.Request.{Request}
 use Rattle.wire.specs.declared.request.Request.TheVariants as request
@@ -122,7 +122,7 @@ Serves drains seat (heartbeat stream at) answer seat' = CarriesNamed FindsStream
 Serves drains seat drain answer seat' = drains answer × (seat' ≡ seat)
 Serves drains seat (take_rows query limit) answer seat' = CarriesNamed FindsQuery query UnknownQuery (λ n. Take n limit) seat answer seat'
 Serves drains seat forget answer seat' = Forgets answer × (seat' ≡ seat)
-Serves drains seat (discard query) answer seat' = CarriesNamed FindsQuery query UnknownQuery Drop seat answer seat'
+Serves drains seat (drop_query query) answer seat' = CarriesNamed FindsQuery query UnknownQuery Drop seat answer seat'
 Serves drains seat (show_plan query) answer seat' = LooksNamed query answer × (seat' ≡ seat)
 
 -- what was asked for was answered; a line that is no request is told so, and calls nothing

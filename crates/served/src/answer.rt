@@ -193,13 +193,17 @@ fn drain<R: Threads + Wait + Sync>(
     }
 }
 
-// Runs turns until nothing is ready. A turn of a query that was dropped meanwhile is gone.
+// Runs turns in place, under the lock, and then those that are ready by now, until nothing is. A
+// turn of a query that was dropped meanwhile is gone.
 fn run_turns<R: Wait>(rt: &R, alloc: Global, hub: &Hub, rows: u32) -> Result<(), Fault>
     requires { IsTurnSize rows }
     ensures ok { OnOk result (WasIdle rows) }
     ensures full { IfErr result (λ f. f ≡ TooManyLeases → WasFull rows) }
     ensures err { IfErr result (λ f. (f ≡ TooManyLeases) ⊎ (f ≡ OutOfMemory)) }
 {
+    if let Err(Fault::OutOfMemory) = hub.drain(rt, rows) {
+        return Err(Fault::OutOfMemory);
+    }
     for _ in rt.forever() {
         let turn = match hub.lease(rt, rows) {
             Ok(Leased::Idle) => return Ok(()),

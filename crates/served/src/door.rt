@@ -11,6 +11,8 @@ pub(crate) struct Door {
     pub(crate) listener: TcpListener,
     /// How many are still to serve, without end where that is not said.
     pub(crate) left: Option<u64>,
+    /// After how many seconds a silent connection is closed, if it is at all.
+    pub(crate) idle: Option<u32>,
     /// A connection could not be accepted.
     pub(crate) accept_failed: bool,
     /// A thread could not be started.
@@ -18,11 +20,12 @@ pub(crate) struct Door {
 }
 
 impl Door {
-    /// A door that lets so many in.
-    pub(crate) fn new(listener: TcpListener, left: Option<u64>) -> Door
+    /// Makes a door that lets so many in.
+    pub(crate) fn new(listener: TcpListener, left: Option<u64>, idle: Option<u32>) -> Door
         ensures { result ≡ record {
           listener = listener;
           left = left;
+          idle = idle;
           accept_failed = false;
           thread_failed = false;
         } }
@@ -30,6 +33,7 @@ impl Door {
         Door {
             listener,
             left,
+            idle,
             accept_failed: false,
             thread_failed: false,
         }

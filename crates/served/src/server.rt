@@ -10,10 +10,11 @@ use crate::lines::serve_connection;
 use command_lines::ServeOptions;
 use hub::{Hub, MAX_HISTORY, Seat};
 use std::alloc::{AllocError, Global};
-use std::net::TcpListener;
+use std::net::{TcpListener, TcpStream};
 use std::sync::{Mutex, Wait};
-use std::thread;
 use std::thread::{JoinHandle, Threads};
+use std::time::Duration;
+use std::{io, thread};
 use wire::{ReaderSource, Sink, WriterSink, put};
 use workers::{NoGate, work};
 
@@ -51,7 +52,7 @@ pub fn serve<R: Threads + Wait + Sync, O: Sink, E: Sink>(
         return lack_memory(errors);
     }
     let left = options.serve.map(|connections| connections as u64);
-    let door = Mutex::new(Door::new(listener, left));
+    let door = Mutex::new(Door::new(listener, left, options.idle));
     let Some(seats) = run_threads(rt, alloc, &door, &hub, seats, options.workers) else {
         return lack_memory(errors);
     };
@@ -141,8 +142,8 @@ fn run_threads<R: Threads + Wait + Sync>(
     })
 }
 
-// Serves connections until there are no more, and gives the seat back. A device that fails ends its
-// connection alone.
+// Serves connections until there are no more, and gives the seat back. A device that fails, or a
+// connection that cannot be set up, ends that connection alone.
 fn client<R: Threads + Wait + Sync>(
     rt: &R,
     alloc: Global,
@@ -153,14 +154,29 @@ fn client<R: Threads + Wait + Sync>(
     ensures { Keeps seat result }
 {
     for _ in rt.forever() {
-        let Some(stream) = door.lock(rt).accept() else {
+        let mut held = door.lock(rt);
+        let accepted = held.accept();
+        let idle = held.idle;
+        drop(held);
+        let Some(stream) = accepted else {
             break;
         };
+        if prepare(&stream, idle).is_err() {
+            continue;
+        }
         let mut source = ReaderSource::new(&stream);
         let mut sink = WriterSink::new(&stream);
         let _ = serve_connection(rt, alloc, &mut source, &mut sink, hub, &mut seat, ROWS);
     }
     seat
+}
+
+// Lets replies leave at once, and lets reads and writes fail that wait for so many seconds.
+fn prepare(stream: &TcpStream, idle: Option<u32>) -> io::Result<()> {
+    stream.set_nodelay(true)?;
+    let limit = idle.map(|seconds| Duration::from_secs(seconds as u64));
+    stream.set_read_timeout(limit)?;
+    stream.set_write_timeout(limit)
 }
 
 // A failed write of a text is ignored: the status says the rest.

@@ -108,7 +108,8 @@ fn a_server_has_a_port_workers_and_clients(rt: HostRuntime) {
                 port: 0,
                 workers: 1,
                 clients: 64,
-                serve: Some(7)
+                serve: Some(7),
+                idle: None
             })
         )
     );

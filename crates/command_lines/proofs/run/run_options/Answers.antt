@@ -1,9 +1,10 @@
 use Rattle.std.proofs.Common.{◌≡◌, rules, ap, ap₂, refl, subst, sym, ◌∙◌, true, map, codes, List, [], ◌∷◌, Some, arith}
 use Rattle.std.specs.Str.Parse.{ParsesUnsigned, ExplainsUnsignedError, HasUnsignedDigitsIfOk}
+use Rattle.clap.specs.Simple.{app_of_fields, on_top}
 use Rattle.clap.specs.Words.{App, HasKind, app_of, rule_of, with_rule, is_simple, is_simple_and_free, fault_of, matches_of}
 use Rattle.clap.specs.declared.builder.arg.Arg.{Arg}
 use Rattle.clap.proofs.OnLiterals.{clap_on_literals}
-use Rattle.command_lines.specs.CommandLine.{plain, option, between, cqlrun, refusals, run_text}
+use Rattle.command_lines.specs.CommandLine.{plain, option, between, cqlrun, refusals, run_text, versioned}
 use Rattle.command_lines.specs.declared.run.RunOptions.{RunOptions}
 use Rattle.command_lines.proofs.Numbers.{IsNumber, or_default, default_within}
 use Rattle.command_lines.proofs.Passing.{FitsElse}
@@ -20,13 +21,17 @@ is_plain_app : is_simple cqlrun ≡ true
 unfolding clap_on_literals
 is_plain_app = refl
 
+-- the command tells its version
+versioned_is : (g : Over) (c : Joined-matches g) → app_of c.version.result ≡ versioned (codes "cqlrun")
+versioned_is g c = ap app_of_fields c.version.ensures ∙ ap (on_top (λ s. record s { has_version = true })) c.new-4.ensures.app
+
 -- the command that the code builds is the one of the definitions
 command_is : (g : Over) (c : Joined-matches g) → app_of c.in_ok-command.command ≡ cqlrun
 command_is g c =
-    let plain_is : rule_of c.help-plain.result ≡ plain = search rules in
+    let plain_is : rule_of c.help-plain.result ≡ plain = search (rules, c.new.ensures, c.long.ensures, c.action.ensures, c.help-plain.ensures) in
     let turn_is : rule_of c.number-turn.result ≡ option (codes "turn") (between 1 1024) = search rules in
     let workers_is : rule_of c.number-workers.result ≡ option (codes "workers") (between 1 64) = search rules in
-    c.in_ok-command.ensures.shape (search rules) ∙ ap₂ with_rule (c.in_ok-arg-2.ensures.shape (search rules) ∙ ap₂ with_rule (c.in_ok-arg.ensures.shape (search rules) ∙ ap₂ with_rule c.new-4.ensures.app plain_is) turn_is) workers_is
+    c.in_ok-command.ensures.shape (search rules) ∙ ap₂ with_rule (c.in_ok-arg-2.ensures.shape (search rules) ∙ ap₂ with_rule (c.in_ok-arg.ensures.shape (search (rules, c.new.ensures, c.long.ensures, c.action.ensures, c.help-plain.ensures)) ∙ ap₂ with_rule (versioned_is g c) plain_is) turn_is) workers_is
 
 abbrev args_are : (g : Over) (c : Joined-matches g) → List Arg
 args_are g c = c.help-plain.result ∷ c.number-turn.result ∷ c.number-workers.result ∷ []
@@ -39,16 +44,16 @@ parsed g c =
     let turn_id : c.number-turn.result.id.now ≡ codes "turn" = search rules in
     let workers_id : c.number-workers.result.id.now ≡ codes "workers" = search rules in
     record {
-      start = c.new-4.result;
+      start = c.version.result;
       added = (c.in_ok-arg.field-0, c.in_ok-arg.ensures, (c.in_ok-arg-2.field-0, c.in_ok-arg-2.ensures, (c.in_ok-command.command, c.in_ok-command.ensures, refl)));
-      args = search rules;
-      groups = search rules;
-      globals = search rules;
+      args = ap (λ f. f.args.items) c.version.ensures ∙ c.new-4.ensures.empty.0;
+      groups = ap (λ f. f.groups.items) c.version.ensures ∙ c.new-4.ensures.empty.1;
+      globals = ap (λ f. f.has_globals) c.version.ensures ∙ c.new-4.ensures.local;
       ids = codes "plain" ∷ codes "turn" ∷ codes "workers" ∷ [];
       named = rw (plain_id, turn_id, workers_id) refl;
       distinct_ids = refl;
       ordinary_ids = refl;
-      each = three FitsElse c.help-plain.result c.number-turn.result c.number-workers.result (search rules) (c.number-turn.ensures.plain, c.number-turn.ensures.local) (c.number-workers.ensures.plain, c.number-workers.ensures.local);
+      each = three FitsElse c.help-plain.result c.number-turn.result c.number-workers.result (search (rules, c.new.ensures, c.long.ensures, c.action.ensures, c.help-plain.ensures)) (c.number-turn.ensures.plain, c.number-turn.ensures.local) (c.number-workers.ensures.plain, c.number-workers.ensures.local);
       parsed = c.in-Ok.ensures.parsed;
       rows = (c.in-Ok.ensures.matches (ap is_simple is ∙ is_plain_app)).0 ∙ ap (λ a. matches_of a words) is;
     }
@@ -85,10 +90,11 @@ asked g c =
 pub returns-in-Err-clause-refused : goal.returns-in-Err-clause-refused
 unfolding refusals
 returns-in-Err-clause-refused g c =
-    let plain_is : rule_of c.help-plain.result ≡ plain = search rules in
+    let plain_is : rule_of c.help-plain.result ≡ plain = search (rules, c.new.ensures, c.long.ensures, c.action.ensures, c.help-plain.ensures) in
     let turn_is : rule_of c.number-turn.result ≡ option (codes "turn") (between 1 1024) = search rules in
     let workers_is : rule_of c.number-workers.result ≡ option (codes "workers") (between 1 64) = search rules in
-    let is : app_of c.in_ok-command.command ≡ cqlrun = c.in_ok-command.ensures.shape (search rules) ∙ ap₂ with_rule (c.in_ok-arg-2.ensures.shape (search rules) ∙ ap₂ with_rule (c.in_ok-arg.ensures.shape (search rules) ∙ ap₂ with_rule c.new-4.ensures.app plain_is) turn_is) workers_is in
+    let versioned_is : app_of c.version.result ≡ versioned (codes "cqlrun") = ap app_of_fields c.version.ensures ∙ ap (on_top (λ s. record s { has_version = true })) c.new-4.ensures.app in
+    let is : app_of c.in_ok-command.command ≡ cqlrun = c.in_ok-command.ensures.shape (search rules) ∙ ap₂ with_rule (c.in_ok-arg-2.ensures.shape (search rules) ∙ ap₂ with_rule (c.in_ok-arg.ensures.shape (search (rules, c.new.ensures, c.long.ensures, c.action.ensures, c.help-plain.ensures)) ∙ ap₂ with_rule versioned_is plain_is) turn_is) workers_is in
     subst (λ (a : App). HasKind (fault_of a (map g.S.AsStr.text c.args.words.now)) c.in-Err.error) is (c.in-Err.ensures.kinds (ap is_simple_and_free is ∙ is_free))
 
 pub returns-in-Ok-clause-asked : goal.returns-in-Ok-clause-asked

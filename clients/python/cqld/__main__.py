@@ -1,0 +1,3 @@
+from cqld.shell import main
+
+raise SystemExit(main())

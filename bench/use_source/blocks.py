@@ -10,6 +10,8 @@ from pathlib import Path
 
 program, server = sys.argv[1:3]
 failures = []
+# the client's shell, where it is in the repository
+SHELL = Path("clients/python/cqld/__main__.py")
 
 
 def check(what, found, wanted):
@@ -32,7 +34,7 @@ def run_blocks(page, folder):
     tried = 0
     for (kind, line, code), (next_kind, _, wanted) in zip(blocks, blocks[1:]):
         words = {"sh": ["bash", "-euo", "pipefail", "-c"], "python": ["python3", "-c"]}.get(kind)
-        if not words:
+        if not words or (re.search(r"^cql\b", code, re.M) and not SHELL.is_file()):
             continue
         told = subprocess.run(words + [code], cwd=folder, env=environment, capture_output=True,
                               text=True, timeout=60)
@@ -42,34 +44,16 @@ def run_blocks(page, folder):
 
 
 def first_query():
-    """README's first query, asked by README's own lines of Python, and its script."""
-    readme = Path("README.md").read_text()
-    code = re.search(r"^    from json import.*?(?=^\S)", readme, re.M | re.S).group()
-    code = re.sub("^    ", "", code, flags=re.M).replace("crates/cqlrun/out/cqlrun", program)
-    names = {}
-    exec(code, names)
-    shown = re.search(r'^    \{"op":"stream".*?\n\n', readme, re.M | re.S).group()
-    text = re.search(r"^    (Select Rstream.*?)\n\n", readme, re.M | re.S).group(1)
-    text = json.dumps(" ".join(text.split()))
-    requests = Path("examples/trades.jsonl").read_text().split("\n")[:-1]
-    replies = []
-    for line in shown.strip().split("\n"):
-        if line.strip().startswith("→"):
-            replies[-1] = json.loads(line.strip()[1:])
-        else:
-            line = re.sub(r'"Select Rstream\(symbol, \.\. as above .*?"', text, line.strip())
-            check("a request of README's first query", line, requests[len(replies)])
-            replies.append({"ok": True})
-    check("requests of README's first query", len(replies), len(requests))
-    found = [names["ask"](json.loads(line)) for line in requests]
-    check("README's first query", found, replies)
-    names["engine"].communicate()
-    print("README.md: its first query asked")
+    """The requests of README's first query are those of examples/trades.jsonl."""
+    shown = re.search(r"^cqlrun <<'END'\n(.*?)^END$", Path("README.md").read_text(), re.M | re.S)
+    check("README's first query", shown.group(1), Path("examples/trades.jsonl").read_text())
 
 
 def conversation(page):
     """The requests of a page are answered by the lines behind the arrows."""
-    shown = re.search(r'^    \{"op".*?\n\n', Path(page).read_text(), re.M | re.S).group()
+    text = Path(page).read_text()
+    text = text[text.index("## A conversation"):]
+    shown = re.search(r'^    \{"op".*?\n\n', text, re.M | re.S).group()
     lines = [line.strip() for line in shown.strip().split("\n")]
     requests, replies = lines[0::2], [line.removeprefix("→ ") for line in lines[1::2]]
     told = subprocess.run([program], input="\n".join(requests), capture_output=True, text=True,
@@ -79,11 +63,13 @@ def conversation(page):
 
 
 def tables(page):
-    """Each query of a table stands in the example that its line names."""
-    rows = re.findall(r"^\| [^|]* \| `(Select [^`]*)` \| `(\w+)` \|$", Path(page).read_text(), re.M)
+    """Each query of a table stands in the example that its line names, or else in some example."""
+    every = "".join(path.read_text() for path in sorted(Path("examples").glob("*.jsonl")))
+    rows = re.findall(r"^\|.*`(Select [^`]*)` (?:\| `(\w+)` )?\|$", Path(page).read_text(), re.M)
     for text, name in rows:
-        texts = re.findall(r'"text":"([^"]*)"', Path(f"examples/{name}.jsonl").read_text())
-        check(f"{page}: `{text}` in examples/{name}.jsonl", text in texts, True)
+        scripts = Path(f"examples/{name}.jsonl").read_text() if name else every
+        texts = re.findall(r'"text":"([^"]*)"', scripts)
+        check(f"{page}: `{text}` in {name or 'the examples'}", text in texts, True)
     print(f"{page}: {len(rows)} queries sought in the examples")
 
 
@@ -96,36 +82,6 @@ def stored_run():
     check("crates/tests_examples/stdout", (crate / "stdout").read_bytes(),
           5 * b"".join(Path(f"{script}.stdout").read_bytes() for script in scripts))
     print(f"tests_examples: its input is that of {len(scripts)} examples")
-
-
-def promises():
-    """What docs/headline.md quotes of the promises stands so in the definitions."""
-    stated = "\n".join(path.read_text() for path in Path("crates/laws_engine/specs").glob("*.antt"))
-    stated = " ".join(re.sub(r"\bpub | : Type 0\b", "", stated).split())
-    page = Path("docs/headline.md").read_text()
-    page = page[page.index("## As it is stated"):page.index("## Where it stands")]
-    quoted = re.findall(r"(?:^    .*\n)+", page, re.M)
-    for block in quoted:
-        words = " ".join(block.split())
-        check(f"docs/headline.md: {words[:60]}..", words in stated, True)
-    print(f"docs/headline.md: {len(quoted)} definitions sought")
-
-
-def paths():
-    """The files that the documents link to or name are there."""
-    found = 0
-    for page in [Path("README.md"), *sorted(Path("docs").glob("*.md"))]:
-        text = page.read_text()
-        linked = [page.parent / link for link in re.findall(r"\]\(([^):#]+)\)", text)]
-        below, pattern = Path(), r"`((?:bench|crates|examples|docs)/[\w/.]+)`"
-        if page.name == "proofs.md":
-            below, pattern = Path("crates"), r"`(\w+/(?:src|specs|proofs)/[\w/.]*)`"
-        named = [below / name for name in re.findall(pattern, text)]
-        named = [path for path in named if "NAME" not in path.parts and "out" not in path.parts]
-        for path in linked + named:
-            check(f"{page}: {path} is there", path.exists(), True)
-        found += len(linked + named)
-    print(f"documents: {found} paths sought")
 
 
 def pictures():
@@ -217,14 +173,17 @@ with tempfile.TemporaryDirectory() as folder:
     os.mkdir(f"{folder}/bin")
     os.symlink(program, f"{folder}/bin/cqlrun")
     os.symlink(server, f"{folder}/bin/cqld")
+    shell = Path(folder) / "bin" / "cql"
+    shell.write_text(f"#!/bin/sh\nPYTHONPATH={Path('clients/python').resolve()} CQLRUN={program} "
+                     'exec python3 -B -m cqld "$@"\n')
+    shell.chmod(0o755)
+    run_blocks(Path("README.md"), folder)
     run_blocks(Path("docs/use.md"), folder)
 first_query()
 conversation("docs/wire.md")
 tables("README.md")
 tables("docs/use.md")
 stored_run()
-promises()
-paths()
 pictures()
 sys.path.insert(0, "docs")
 windows()

@@ -2,7 +2,7 @@
 """Draws headline.svg: the chain of the theorem, from a text to the engine, and what says each step.
 
 Run it as `python3 docs/headline.py`. It writes the picture beside itself,
-from the lists below alone.
+from the lists below.
 """
 import sys
 
@@ -34,7 +34,7 @@ STEPS = [
     ("each call does what the machine's step says", "does, run_script, run",
      "reference, wire, programs"),
 ]
-# what says at a level that the answers given are a beginning of CQL's
+# what says at a level that the answers given are a prefix of CQL's
 GIVEN = {
     3: "good_queries_give_their_answers",
     4: "running_queries_give_their_answers",
@@ -57,7 +57,7 @@ def main():
     drawing.text(RIGHT + 100, y(1) + 80, "for the closed instants", color=GREY)
     drawing.code(RIGHT + 100, y(1) + 104, "closed_answers")
     drawing.text(RIGHT + 100, y(1) + 128, "of the meaning and the rows", color=GREY, size=12)
-    drawing.text(RIGHT + 100, y(1) + 145, "alone: no plan, no queue", color=GREY, size=12)
+    drawing.text(RIGHT + 100, y(1) + 145, "only: no plan, no queue", color=GREY, size=12)
     begin, between = LEFT + WIDTH, (LEFT + WIDTH + RIGHT) / 2
     middle = y(1) + HEIGHT / 2
     drawing.line([(begin, middle), (RIGHT - 2, middle)], ORANGE, 2, head=True)
@@ -70,7 +70,7 @@ def main():
         if level in GIVEN:
             middle = y(level) + HEIGHT / 2
             drawing.line([(begin, middle), (RIGHT - 2, middle)], GREEN, 2, head=True)
-            words = "has given a beginning, and all when idle"
+            words = "has given a prefix, and all once idle"
             drawing.text(between, middle - 8, words, color=GREEN)
             drawing.code(between, middle + 16, GIVEN[level], color=GREEN, size=11)
     for level, (says, law, crates) in enumerate(STEPS):

@@ -2,7 +2,7 @@
 """Draws heartbeats.svg: calls one below the other, what each closes, a query's base, a late row.
 
 Run it as `python3 docs/heartbeats.py`. It writes the picture beside itself,
-from the calls below alone.
+from the calls below.
 """
 import sys
 
@@ -28,7 +28,7 @@ def main():
     right = LEFT + STEP * (LAST + 1)
     bottom = TOP + HEIGHT * len(CALLS)
     drawing = Drawing(right + 250, bottom + 66,
-                      "Heartbeats close instants, a query begins at its base, "
+                      "Heartbeats close instants, a query starts at its base, "
                       "and a late row is refused")
 
     def x(instant):
@@ -78,7 +78,7 @@ def main():
     drawing.text(at, bottom + 24, words, color=GREEN)
     y = bottom + 52
     drawing.box(LEFT, y - 12, 22, 14, PALE, PALE, 0, 0)
-    drawing.text(LEFT + 30, y, "closed behind the call", "start")
+    drawing.text(LEFT + 30, y, "closed after the call", "start")
     keys = [("a row that counts for q", GREEN), ("one that does not", GREY)]
     for place, (words, color) in enumerate(keys):
         drawing.dot(LEFT + 206 + place * 180, y - 4, 7, color, color)

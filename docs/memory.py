@@ -2,7 +2,7 @@
 """Draws memory.svg: the rows of a stream on a time line, what two queries need of them, and what is kept.
 
 Run it as `python3 docs/memory.py`. It writes the picture beside itself,
-from the rows, windows and marks below alone.
+from the rows, windows and marks below.
 """
 import sys
 

@@ -1,7 +1,7 @@
 #!/usr/bin/env python3
 """Draws scheduling.svg: one chart, its lower envelope, and each operator's slope.
 
-Run it as `python3 docs/scheduling.py`. It writes the picture beside itself, from the numbers below alone.
+Run it as `python3 docs/scheduling.py`. It writes the picture beside itself, from the numbers below.
 """
 from fractions import Fraction
 from pathlib import Path

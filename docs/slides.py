@@ -2,7 +2,7 @@
 """Draws slides.svg: the rows of a stream on a time line, and what two windows that slide hold.
 
 Run it as `python3 docs/slides.py`. It writes the picture beside itself,
-from the rows and windows below alone.
+from the rows and windows below.
 """
 import sys
 

@@ -2,7 +2,7 @@
 """Draws windows.svg: the rows of a stream on a time line, and which of them five windows hold.
 
 Run it as `python3 docs/windows.py`. It writes the picture beside itself,
-from the rows and windows below alone.
+from the rows and windows below.
 """
 import sys
 

@@ -1,5 +1,6 @@
 -- Bits in words of 64, and the truths that a list of words holds.
-use Rattle.std.specs.Prelude.{ℕ, Bool, false, List, [], ◌∷◌, map, filter, ◌≡◌, ◌≤◌, ◌+◌, ◌*◌, ◌/◌, ◌%◌, cond, ◌==◌, length, get_or}
+use Rattle.std.specs.Prelude.{ℕ, Bool, false, List, [], ◌∷◌, map, filter, ◌≡◌, ◌≤◌, ◌+◌, ◌*◌, ◌/◌}
+use Rattle.std.specs.Prelude.{◌%◌, cond, ◌==◌, length, get_or}
 use Rattle.std.specs.List.{range_with_len}
 use Rattle.std.specs.Int.{bit_at}
 

@@ -1,5 +1,6 @@
 -- The definitions at worked examples.
-use Rattle.std.specs.Prelude.{◌≡◌, ℕ, ℤ, pos, Bool, true, false, Option, Some, None, List, [], ◌∷◌, refl}
+use Rattle.std.specs.Prelude.{◌≡◌, ℕ, ℤ, pos, Bool, true, false, Option, Some, None, List, [], ◌∷◌}
+use Rattle.std.specs.Prelude.{refl}
 use Rattle.values.specs.Row.{Row}
 use Rattle.column.specs.Bits.{at_places, bits, chosen, place, true_places, word_count}
 use Rattle.column.specs.Columns.{numbers_of, values_of}
@@ -45,7 +46,8 @@ a_null_lies_as_nought = refl
 abbrev rows : List (Bool × Row)
 rows = (true, Some (pos 1) ∷ ten ∷ []) ∷ (false, Some (pos 2) ∷ None ∷ []) ∷ []
 
-columns_of_rows : signed_rows ((Some (pos 1) ∷ Some (pos 2) ∷ []) ∷ (ten ∷ None ∷ []) ∷ []) (false ∷ true ∷ []) ≡ rows
+columns_of_rows : signed_rows ((Some (pos 1) ∷ Some (pos 2) ∷ []) ∷ (ten ∷ None ∷ []) ∷ [])
+    (false ∷ true ∷ []) ≡ rows
 columns_of_rows = refl
 
 second_column : column_of rows 1 ≡ ten ∷ None ∷ []
@@ -55,8 +57,10 @@ two_columns : width rows ≡ 2
 two_columns = refl
 
 -- a row beside another has the sign of one of the two
-sign_of_the_left : beside Left ((true, ten ∷ []) ∷ []) ((false, None ∷ []) ∷ []) ≡ (true, ten ∷ None ∷ []) ∷ []
+sign_of_the_left : beside Left ((true, ten ∷ []) ∷ []) ((false, None ∷ []) ∷ [])
+    ≡ (true, ten ∷ None ∷ []) ∷ []
 sign_of_the_left = refl
 
-sign_of_the_right : beside Right ((true, ten ∷ []) ∷ []) ((false, None ∷ []) ∷ []) ≡ (false, ten ∷ None ∷ []) ∷ []
+sign_of_the_right : beside Right ((true, ten ∷ []) ∷ []) ((false, None ∷ []) ∷ [])
+    ≡ (false, ten ∷ None ∷ []) ∷ []
 sign_of_the_right = refl

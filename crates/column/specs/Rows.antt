@@ -1,5 +1,6 @@
 -- Batches: signed rows laid out in columns.
-use Rattle.std.specs.Prelude.{ℕ, ℤ, Bool, false, not, Option, None, List, [], ◌∷◌, ◌++◌, ◌≡◌, ◌≤◌, map, length, get_or, take, drop, All}
+use Rattle.std.specs.Prelude.{ℕ, ℤ, Bool, false, not, Option, None, List, [], ◌∷◌, ◌++◌, ◌≡◌, ◌≤◌}
+use Rattle.std.specs.Prelude.{map, length, get_or, take, drop, All}
 use Rattle.std.specs.List.{range_with_len}
 use Rattle.values.specs.declared.TheConstants.{MAX_COLUMNS}
 use Rattle.values.specs.Row.{Row, value_at}
@@ -17,7 +18,8 @@ row_at columns i = map (λ c. get_or c i None) columns
 
 -- the signed rows of some columns, and of the truths that say which rows leave
 abbrev pub signed_rows : List (List (Option ℤ)) → List Bool → List (Bool × Row)
-signed_rows columns leaving = map (λ i. (not (get_or leaving i false), row_at columns i)) (range_with_len 0 (length leaving))
+signed_rows columns leaving = map (λ i. (not (get_or leaving i false), row_at columns i))
+    (range_with_len 0 (length leaving))
 
 -- how many columns the rows have
 abbrev pub width : List (Bool × Row) → ℕ
@@ -32,7 +34,8 @@ column_of rows k = map (λ r. value_at r.1 k) rows
 abbrev pub IsTable : ℕ → List (Bool × Row) → Type 0
 IsTable n rows = All (λ r. length r.1 ≡ n) rows
 
--- rows whose values stand one behind the other: each takes the next w of them, and leaves where its truth says so
+-- rows whose values stand one behind the other: each takes
+-- the next w of them, and leaves where its truth says so
 abbrev pub flat_rows : ℕ → List Bool → List (Option ℤ) → List (Bool × Row)
 flat_rows w [] values = []
 flat_rows w (l ∷ ls) values = (not l, take w values) ∷ flat_rows w ls (drop w values)

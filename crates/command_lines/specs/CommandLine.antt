@@ -2,7 +2,8 @@
 use Rattle.std.specs.Prelude.{◌≡◌, ◌≢◌, ℕ, pos, List, Option, Some, None, codes, false, true}
 use Rattle.std.specs.Str.Parse.{digits_value, without_leading_plus}
 use Rattle.clap.specs.Simple.{on_top}
-use Rattle.clap.specs.Words.{App, Rule, Text, Kinds, new_app, new_rule, with_rule, fault_of, matches_of, one_of, rule_of, IsPlainArg}
+use Rattle.clap.specs.Words.{App, Rule, Text, Kinds, new_app, new_rule, with_rule, fault_of}
+use Rattle.clap.specs.Words.{matches_of, one_of, rule_of, IsPlainArg}
 use Rattle.clap.specs.declared.builder.action.ArgAction.TheVariants.{SetTrue}
 use Rattle.clap.specs.declared.builder.arg.Arg.{Arg}
 use Rattle.clap.specs.declared.builder.value_parser.ValueParser.{ValueParser}
@@ -14,7 +15,8 @@ plain = record (new_rule (codes "plain")) { long = Some (codes "plain"); action 
 
 -- an option `--NAME VALUE` whose value is what the parser takes
 abbrev pub option : List ℕ → ValueParser → Rule
-option name parser = record (new_rule name) { long = Some name; value_names = 1; parser = Some parser }
+option name parser = record (new_rule name) { long = Some name; value_names = 1;
+    parser = Some parser }
 
 -- an argument of this rule, name and parser, which excludes nothing
 pub record IsNumberArg (rule : Rule) (name : List ℕ) (parser : ValueParser) (a : Arg) : Type 0 where
@@ -34,7 +36,8 @@ versioned name = on_top (λ s. record s { has_version = true }) (new_app name)
 
 -- `cqlrun [--plain] [--turn R] [--workers N]`
 abbrev pub cqlrun : App
-cqlrun = with_rule (with_rule (with_rule (versioned (codes "cqlrun")) plain) (option (codes "turn") (between 1 1024))) (option (codes "workers") (between 1 64))
+cqlrun = with_rule (with_rule (with_rule (versioned (codes "cqlrun")) plain)
+    (option (codes "turn") (between 1 1024))) (option (codes "workers") (between 1 64))
 
 -- an option that has to be there
 abbrev pub wanted : Rule → Rule
@@ -42,10 +45,15 @@ wanted rule = record rule { required = true }
 
 -- `cqld --port P --workers N --clients C [--serve K] [--idle S]`
 abbrev pub cqld : App
-cqld = with_rule (with_rule (with_rule (with_rule (with_rule (versioned (codes "cqld")) (wanted (option (codes "port") (between 0 65535)))) (wanted (option (codes "workers") (between 1 64))))
-    (wanted (option (codes "clients") (between 1 64)))) (option (codes "serve") (between 0 1000000))) (option (codes "idle") (between 1 86400))
+cqld = with_rule (with_rule (with_rule
+    (with_rule (with_rule (versioned (codes "cqld"))
+    (wanted (option (codes "port") (between 0 65535))))
+    (wanted (option (codes "workers") (between 1 64))))
+    (wanted (option (codes "clients") (between 1 64))))
+    (option (codes "serve") (between 0 1000000))) (option (codes "idle") (between 1 86400))
 
--- why the words of `cqlrun` are refused, the program's own name first; nothing where they ask for a run
+-- why the words of `cqlrun` are refused, the program's
+-- own name first; nothing where they ask for a run
 unfoldable pub refusals : List Text → Kinds
 refusals words = fault_of cqlrun words
 
@@ -53,8 +61,8 @@ refusals words = fault_of cqlrun words
 unfoldable pub serve_refusals : List Text → Kinds
 serve_refusals words = fault_of cqld words
 
--- the text that the words of `cqlrun` give an option, where it stands among them; of the flag `--plain` it is `true` where it
--- stands there, else `false`
+-- the text that the words of `cqlrun` give an option, where it stands among
+-- them; of the flag `--plain` it is `true` where it stands there, else `false`
 unfoldable pub run_text : List ℕ → List Text → Option Text
 run_text name words = one_of name (matches_of cqlrun words)
 

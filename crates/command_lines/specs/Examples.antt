@@ -1,27 +1,36 @@
 -- Worked command lines.
 use Rattle.std.specs.Prelude.{◌≡◌, List, [], ◌∷◌, Some, None, codes, refl}
 use Rattle.clap.specs.Words.{Text}
-use Rattle.clap.specs.declared.error.kind.ErrorKind.TheVariants.{DisplayHelp, DisplayVersion, UnknownArgument, ValueValidation, InvalidValue, ArgumentConflict, MissingRequiredArgument}
+use Rattle.clap.specs.declared.error.kind.ErrorKind.TheVariants.{DisplayHelp, DisplayVersion}
+use Rattle.clap.specs.declared.error.kind.ErrorKind.TheVariants.{UnknownArgument, ValueValidation}
+use Rattle.clap.specs.declared.error.kind.ErrorKind.TheVariants.{InvalidValue, ArgumentConflict}
+use Rattle.clap.specs.declared.error.kind.ErrorKind.TheVariants.{MissingRequiredArgument}
 use Rattle.clap.proofs.OnLiterals.{clap_on_literals}
-use Rattle.command_lines.specs.CommandLine.{refusals, run_text, serve_refusals, serve_text, number_or}
+use Rattle.command_lines.specs.CommandLine.{refusals, run_text, serve_refusals, serve_text}
+use Rattle.command_lines.specs.CommandLine.{number_or}
 
 -- `cqlrun` and these words
 abbrev said : List Text → List Text
 said words = codes "cqlrun" ∷ words
 
-plain : (refusals (said (codes "--plain" ∷ [])) ≡ []) × (run_text (codes "plain") (said (codes "--plain" ∷ [])) ≡ Some (codes "true"))
+plain : (refusals (said (codes "--plain" ∷ [])) ≡ [])
+    × (run_text (codes "plain") (said (codes "--plain" ∷ [])) ≡ Some (codes "true"))
 unfolding refusals run_text clap_on_literals
 plain = (refl, refl)
 
-bare : (refusals (said []) ≡ []) × (run_text (codes "plain") (said []) ≡ Some (codes "false")) × (run_text (codes "turn") (said []) ≡ None) × (run_text (codes "workers") (said []) ≡ None)
+bare : (refusals (said []) ≡ []) × (run_text (codes "plain") (said []) ≡ Some (codes "false"))
+    × (run_text (codes "turn") (said []) ≡ None) × (run_text (codes "workers") (said []) ≡ None)
 unfolding refusals run_text clap_on_literals
 bare = (refl, refl, refl, refl)
 
-least : (refusals (said (codes "--turn" ∷ codes "1" ∷ [])) ≡ []) × (number_or 256 (run_text (codes "turn") (said (codes "--turn" ∷ codes "1" ∷ []))) ≡ 1)
+least : (refusals (said (codes "--turn" ∷ codes "1" ∷ [])) ≡ [])
+    × (number_or 256 (run_text (codes "turn") (said (codes "--turn" ∷ codes "1" ∷ []))) ≡ 1)
 unfolding refusals run_text clap_on_literals
 least = (refl, refl)
 
-most : (refusals (said (codes "--turn=1024" ∷ codes "--plain" ∷ [])) ≡ []) × (number_or 256 (run_text (codes "turn") (said (codes "--turn=1024" ∷ codes "--plain" ∷ []))) ≡ 1024)
+most : (refusals (said (codes "--turn=1024" ∷ codes "--plain" ∷ [])) ≡ [])
+    × (number_or 256 (run_text (codes "turn")
+    (said (codes "--turn=1024" ∷ codes "--plain" ∷ []))) ≡ 1024)
 unfolding refusals run_text clap_on_literals
 most = (refl, refl)
 
@@ -45,7 +54,8 @@ twice : refusals (said (codes "--turn=7" ∷ codes "--turn=7" ∷ [])) ≡ Argum
 unfolding refusals clap_on_literals
 twice = refl
 
-threads : (refusals (said (codes "--workers=64" ∷ [])) ≡ []) × (run_text (codes "workers") (said (codes "--workers=64" ∷ [])) ≡ Some (codes "64"))
+threads : (refusals (said (codes "--workers=64" ∷ [])) ≡ [])
+    × (run_text (codes "workers") (said (codes "--workers=64" ∷ [])) ≡ Some (codes "64"))
 unfolding refusals run_text clap_on_literals
 threads = (refl, refl)
 
@@ -73,21 +83,28 @@ wrong = refl
 abbrev asked : List Text → List Text
 asked words = codes "cqld" ∷ words
 
-served : (serve_refusals (asked (codes "--port=0" ∷ codes "--workers=1" ∷ codes "--clients=64" ∷ [])) ≡ [])
-    × (number_or 1 (serve_text (codes "clients") (asked (codes "--port=0" ∷ codes "--workers=1" ∷ codes "--clients=64" ∷ []))) ≡ 64)
-    × (serve_text (codes "serve") (asked (codes "--port=0" ∷ codes "--workers=1" ∷ codes "--clients=64" ∷ [])) ≡ None)
+served : (serve_refusals (asked
+    (codes "--port=0" ∷ codes "--workers=1" ∷ codes "--clients=64" ∷ [])) ≡ [])
+    × (number_or 1 (serve_text (codes "clients")
+    (asked (codes "--port=0" ∷ codes "--workers=1" ∷ codes "--clients=64" ∷ []))) ≡ 64)
+    × (serve_text (codes "serve")
+    (asked (codes "--port=0" ∷ codes "--workers=1" ∷ codes "--clients=64" ∷ [])) ≡ None)
 unfolding serve_refusals serve_text clap_on_literals
 served = (refl, refl, refl)
 
-portless : serve_refusals (asked (codes "--workers=1" ∷ codes "--clients=1" ∷ [])) ≡ MissingRequiredArgument ∷ []
+portless : serve_refusals (asked (codes "--workers=1" ∷ codes "--clients=1" ∷ []))
+    ≡ MissingRequiredArgument ∷ []
 unfolding serve_refusals clap_on_literals
 portless = refl
 
-far_port : serve_refusals (asked (codes "--port=65536" ∷ codes "--workers=1" ∷ codes "--clients=1" ∷ [])) ≡ ValueValidation ∷ []
+far_port : serve_refusals (asked
+    (codes "--port=65536" ∷ codes "--workers=1" ∷ codes "--clients=1" ∷ [])) ≡ ValueValidation ∷ []
 unfolding serve_refusals clap_on_literals
 far_port = refl
 
-too_long : serve_refusals (asked (codes "--port=1" ∷ codes "--workers=1" ∷ codes "--clients=1" ∷ codes "--serve=1000001" ∷ [])) ≡ ValueValidation ∷ []
+too_long : serve_refusals (asked
+    (codes "--port=1" ∷ codes "--workers=1" ∷ codes "--clients=1" ∷ codes "--serve=1000001" ∷ []))
+    ≡ ValueValidation ∷ []
 unfolding serve_refusals clap_on_literals
 too_long = refl
 
@@ -95,15 +112,22 @@ served_version : serve_refusals (asked (codes "--version" ∷ [])) ≡ DisplayVe
 unfolding serve_refusals clap_on_literals
 served_version = refl
 
-idle : (serve_refusals (asked (codes "--port=0" ∷ codes "--workers=1" ∷ codes "--clients=1" ∷ codes "--idle=86400" ∷ [])) ≡ [])
-    × (serve_text (codes "idle") (asked (codes "--port=0" ∷ codes "--workers=1" ∷ codes "--clients=1" ∷ codes "--idle=86400" ∷ [])) ≡ Some (codes "86400"))
+idle : (serve_refusals (asked (codes "--port=0" ∷ codes "--workers=1" ∷ codes "--clients=1"
+    ∷ codes "--idle=86400" ∷ [])) ≡ [])
+    × (serve_text (codes "idle") (asked
+    (codes "--port=0" ∷ codes "--workers=1" ∷ codes "--clients=1" ∷ codes "--idle=86400" ∷ []))
+    ≡ Some (codes "86400"))
 unfolding serve_refusals serve_text clap_on_literals
 idle = (refl, refl)
 
-never_idle : serve_refusals (asked (codes "--port=0" ∷ codes "--workers=1" ∷ codes "--clients=1" ∷ codes "--idle=0" ∷ [])) ≡ ValueValidation ∷ []
+never_idle : serve_refusals (asked
+    (codes "--port=0" ∷ codes "--workers=1" ∷ codes "--clients=1" ∷ codes "--idle=0" ∷ []))
+    ≡ ValueValidation ∷ []
 unfolding serve_refusals clap_on_literals
 never_idle = refl
 
-idle_for_long : serve_refusals (asked (codes "--port=0" ∷ codes "--workers=1" ∷ codes "--clients=1" ∷ codes "--idle=86401" ∷ [])) ≡ ValueValidation ∷ []
+idle_for_long : serve_refusals
+    (asked (codes "--port=0" ∷ codes "--workers=1" ∷ codes "--clients=1" ∷ codes "--idle=86401"
+    ∷ [])) ≡ ValueValidation ∷ []
 unfolding serve_refusals clap_on_literals
 idle_for_long = refl

@@ -7,7 +7,8 @@ use Rattle.command_lines.specs.declared.run.RunOptions.{RunOptions}
 use Rattle.command_lines.specs.declared.fault.WordsFault.{WordsFault}
 use Rattle.command_lines.specs.declared.fault.WordsFault.TheVariants.{Words, PlainWithWorkers}
 
--- the words of `cqlrun` are refused so: as clap's definition of a parse says, or for what it takes and we do not
+-- the words of `cqlrun` are refused so: as clap's definition
+-- of a parse says, or for what it takes and we do not
 abbrev pub RefusesRun : List Text → WordsFault → Type 0
 RefusesRun words (Words error) = HasKind (refusals words) error
 RefusesRun words PlainWithWorkers = (refusals words ≡ []) × AsksBoth words

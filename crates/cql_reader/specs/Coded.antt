@@ -1,5 +1,6 @@
 -- What the values of the program say.
-use Rattle.std.specs.Prelude.{◌≡◌, ℕ, ◌+◌, ◌<◌, ◌≤◌, true, false, map, reverse, length, slice_range, List, Option, Some, None, Result, Ok, Err}
+use Rattle.std.specs.Prelude.{◌≡◌, ℕ, ◌+◌, ◌<◌, ◌≤◌, true, false, map, reverse, length, slice_range}
+use Rattle.std.specs.Prelude.{List, Option, Some, None, Result, Ok, Err}
 use Rattle.cql_reader.specs.declared.tokens.Kind.TheVariants as k
 use Rattle.cql_reader.specs.declared.tokens.Token.{Token as CodedToken}
 use Rattle.cql_reader.specs.declared.symbols.Role.{Role}
@@ -11,10 +12,12 @@ use Rattle.cql_reader.specs.Lexis.{number_of}
 use Rattle.cql_reader.specs.Tokens.{Token, Scan, End, Bad, Then, scan_from}
 use Rattle.values.specs.Resolved.{operator_of}
 use Rattle.cql_reader.specs.Query.{Condition}
-use Rattle.cql_reader.specs.Views.{reference_of, references_of, entry_of, source_of, sources_of, operand_of, condition_of}
+use Rattle.cql_reader.specs.Views.{reference_of, references_of, entry_of, source_of, sources_of}
+use Rattle.cql_reader.specs.Views.{operand_of, condition_of}
 use Rattle.cql_reader.specs.declared.query.Condition.{Condition as CodedCondition}
 use Rattle.cql_reader.specs.Grammar.{Draft, Terms, kind_of, in_range, may_open}
-use Rattle.cql_reader.specs.Fault.{Fault, TextTooLong, NotAscii, BadToken, Unexpected, NumberRange, TooDeep}
+use Rattle.cql_reader.specs.Fault.{Fault, TextTooLong, NotAscii, BadToken, Unexpected, NumberRange}
+use Rattle.cql_reader.specs.Fault.{TooDeep}
 
 abbrev pub token_of : List ℕ → CodedToken → Token
 token_of text t = record { kind = t.kind; bytes = slice_range text t.«from» t.to; place = t.«from» }
@@ -24,7 +27,8 @@ abbrev pub standing_of : List CodedCondition → List Condition
 standing_of conditions = reverse (map condition_of conditions)
 
 abbrev pub terms_of : CodedTerms → Terms
-terms_of t = record { left = operand_of t.left; right = operand_of t.right; how = t.how; standing = standing_of t.standing.items }
+terms_of t = record { left = operand_of t.left; right = operand_of t.right; how = t.how;
+    standing = standing_of t.standing.items }
 
 abbrev pub draft_of : CodedDraft → Draft
 draft_of d = record {
@@ -92,11 +96,15 @@ IsNext text rest (Err (faults.TooDeep place)) = ⊥
 -- what is told where the next token is asked to be of a role, and so many ( and Not are open
 abbrev pub IsRead : List ℕ → Option CodedToken → Role → ℕ → Result CodedToken ReadFault → Type 0
 IsRead text next role depth (Ok t) =
-    (next ≡ Some t) × (t.kind ≡ kind_of role) × (in_range role (number_of (token_of text t).bytes) ≡ true) × (may_open role depth ≡ true)
+    (next ≡ Some t) × (t.kind ≡ kind_of role)
+    × (in_range role (number_of (token_of text t).bytes) ≡ true) × (may_open role depth ≡ true)
 IsRead text None role depth (Err (faults.Unexpected place)) = place ≡ length text
-IsRead text (Some t) role depth (Err (faults.Unexpected place)) = (place ≡ t.«from») × (t.kind ≡ kind_of role → ⊥)
+IsRead text (Some t) role depth (Err (faults.Unexpected place)) =
+    (place ≡ t.«from») × (t.kind ≡ kind_of role → ⊥)
 IsRead text (Some t) role depth (Err (faults.NumberRange place)) =
-    (place ≡ t.«from») × (t.kind ≡ kind_of role) × (in_range role (number_of (token_of text t).bytes) ≡ false)
+    (place ≡ t.«from») × (t.kind ≡ kind_of role)
+    × (in_range role (number_of (token_of text t).bytes) ≡ false)
 IsRead text (Some t) role depth (Err (faults.TooDeep place)) =
-    (place ≡ t.«from») × (t.kind ≡ kind_of role) × (in_range role (number_of (token_of text t).bytes) ≡ true) × (may_open role depth ≡ false)
+    (place ≡ t.«from») × (t.kind ≡ kind_of role)
+    × (in_range role (number_of (token_of text t).bytes) ≡ true) × (may_open role depth ≡ false)
 IsRead text next role depth (Err fault) = ⊥

@@ -1,7 +1,9 @@
 -- The texts of faults.
 use Rattle.std.specs.Prelude.{ℕ, List, ◌++◌, codes, decimal}
 use Rattle.cql_reader.specs.declared.ReadFault.{ReadFault}
-use Rattle.cql_reader.specs.declared.ReadFault.TheVariants.{OutOfMemory, TextTooLong, NotAscii, BadToken, Unexpected, NumberRange, TooDeep}
+use Rattle.cql_reader.specs.declared.ReadFault.TheVariants.{OutOfMemory, TextTooLong, NotAscii}
+use Rattle.cql_reader.specs.declared.ReadFault.TheVariants.{BadToken, Unexpected, NumberRange}
+use Rattle.cql_reader.specs.declared.ReadFault.TheVariants.{TooDeep}
 
 -- a fault's number and name, and the place of the token that is at fault
 abbrev pub fault_text : ReadFault → List ℕ

@@ -1,5 +1,7 @@
 -- The grammar of query texts, and the query that a derivation builds.
-use Rattle.std.specs.Prelude.{◌≡◌, ℕ, ◌+◌, ◌-◌, Bool, true, false, ◌&&◌, not, ◌⊎◌, List, [], ◌∷◌, ◌++◌, Option, Some, None, cond, nat_lt, ℤ, pos, negsuc, int_lt, nat_abs}
+use Rattle.std.specs.Prelude.{◌≡◌, ℕ, ◌+◌, ◌-◌, Bool, true, false, ◌&&◌, not, ◌⊎◌, List, [], ◌∷◌}
+use Rattle.std.specs.Prelude.{◌++◌, Option, Some, None, cond, nat_lt, ℤ, pos, negsuc, int_lt}
+use Rattle.std.specs.Prelude.{nat_abs}
 use Rattle.values.specs.Answers.{StreamOperator, Istream}
 use Rattle.values.specs.declared.resolved.Compare.{Compare}
 use Rattle.values.specs.Resolved.{operator_of}
@@ -17,7 +19,10 @@ use Rattle.cql_reader.specs.declared.symbols.Symbol.{Symbol}
 use Rattle.cql_reader.specs.declared.symbols.Symbol.TheVariants.{Read, Rule, Emit}
 use Rattle.cql_reader.specs.Lexis.{number_of}
 use Rattle.cql_reader.specs.Tokens.{Token}
-use Rattle.cql_reader.specs.Query.{Query, Source, Entry, Column, CountAll, Count, Sum, Min, Max, Entries, All, Each, Reference, Window, Now, Range, RangeSlide, Unbounded, Rows, Partition, Operand, Named, Number, Condition, Compared, Not, And, Or}
+use Rattle.cql_reader.specs.Query.{Query, Source, Entry, Column, CountAll, Count, Sum, Min, Max}
+use Rattle.cql_reader.specs.Query.{Entries, All, Each, Reference, Window, Now, Range, RangeSlide}
+use Rattle.cql_reader.specs.Query.{Unbounded, Rows, Partition, Operand, Named, Number, Condition}
+use Rattle.cql_reader.specs.Query.{Compared, Not, And, Or}
 
 -- a token of this kind, which says nothing more
 abbrev pub token : Kind → Symbol
@@ -26,43 +31,62 @@ token kind = Read (r.Fixed kind)
 -- the alternatives of each part of a query
 unfoldable pub alternatives : Part → List (List Symbol)
 alternatives p.Query = (Rule p.Form ∷ Rule p.End ∷ []) ∷ []
-alternatives p.Form = (token k.Select ∷ Rule p.Op ∷ token k.Open ∷ Rule p.Body ∷ token k.Close ∷ Rule p.Rest ∷ []) ∷ (Rule p.Op ∷ token k.Open ∷ token k.Select ∷ Rule p.Body ∷ Rule p.Rest ∷ token k.Close ∷ []) ∷ []
-alternatives p.Op = (Read (r.Operator o.Istream) ∷ []) ∷ (Read (r.Operator o.Dstream) ∷ []) ∷ (Read (r.Operator o.Rstream) ∷ []) ∷ []
+alternatives p.Form = (token k.Select ∷ Rule p.Op ∷ token k.Open ∷ Rule p.Body ∷ token k.Close
+    ∷ Rule p.Rest ∷ []) ∷ (Rule p.Op ∷ token k.Open ∷ token k.Select ∷ Rule p.Body ∷ Rule p.Rest
+    ∷ token k.Close ∷ []) ∷ []
+alternatives p.Op = (Read (r.Operator o.Istream) ∷ []) ∷ (Read (r.Operator o.Dstream) ∷ [])
+    ∷ (Read (r.Operator o.Rstream) ∷ []) ∷ []
 alternatives p.Body = (Rule p.OptDistinct ∷ Rule p.List ∷ []) ∷ []
 alternatives p.OptDistinct = (Read r.Distinct ∷ []) ∷ ([]) ∷ []
 alternatives p.List = (token k.Star ∷ []) ∷ (Rule p.Item ∷ Rule p.ItemTail ∷ []) ∷ []
 alternatives p.ItemTail = (token k.Comma ∷ Rule p.Item ∷ Rule p.ItemTail ∷ []) ∷ ([]) ∷ []
 alternatives p.Item = (Rule p.Value ∷ Rule p.OptAs ∷ []) ∷ []
-alternatives p.Value = (Rule p.Column ∷ Emit m.Column ∷ []) ∷ (token k.Count ∷ token k.Open ∷ Rule p.Counted ∷ token k.Close ∷ []) ∷ (token k.Sum ∷ token k.Open ∷ Rule p.Column ∷ token k.Close ∷ Emit m.Sum ∷ []) ∷ (token k.Min ∷ token k.Open ∷ Rule p.Column ∷ token k.Close ∷ Emit m.Min ∷ []) ∷ (token k.Max ∷ token k.Open ∷ Rule p.Column ∷ token k.Close ∷ Emit m.Max ∷ []) ∷ []
-alternatives p.Counted = (token k.Star ∷ Emit m.CountAll ∷ []) ∷ (Rule p.Column ∷ Emit m.Count ∷ []) ∷ []
+alternatives p.Value = (Rule p.Column ∷ Emit m.Column ∷ [])
+    ∷ (token k.Count ∷ token k.Open ∷ Rule p.Counted ∷ token k.Close ∷ [])
+    ∷ (token k.Sum ∷ token k.Open ∷ Rule p.Column ∷ token k.Close ∷ Emit m.Sum ∷ [])
+    ∷ (token k.Min ∷ token k.Open ∷ Rule p.Column ∷ token k.Close ∷ Emit m.Min ∷ [])
+    ∷ (token k.Max ∷ token k.Open ∷ Rule p.Column ∷ token k.Close ∷ Emit m.Max ∷ []) ∷ []
+alternatives p.Counted = (token k.Star ∷ Emit m.CountAll ∷ [])
+    ∷ (Rule p.Column ∷ Emit m.Count ∷ []) ∷ []
 alternatives p.OptAs = (token k.As ∷ token k.Name ∷ []) ∷ ([]) ∷ []
 alternatives p.Column = (Read r.Column ∷ Rule p.ColumnTail ∷ []) ∷ []
 alternatives p.ColumnTail = (token k.Dot ∷ Read r.Qualified ∷ []) ∷ ([]) ∷ []
-alternatives p.Rest = (token k.From ∷ Rule p.Source ∷ Rule p.OptSource ∷ Rule p.OptWhere ∷ Rule p.OptGroup ∷ []) ∷ []
+alternatives p.Rest = (token k.From ∷ Rule p.Source ∷ Rule p.OptSource ∷ Rule p.OptWhere
+    ∷ Rule p.OptGroup ∷ []) ∷ []
 alternatives p.OptSource = (token k.Comma ∷ Rule p.Source ∷ Rule p.OptThird ∷ []) ∷ ([]) ∷ []
 alternatives p.OptThird = (token k.Comma ∷ Rule p.Source ∷ Rule p.OptFourth ∷ []) ∷ ([]) ∷ []
 alternatives p.OptFourth = (token k.Comma ∷ Rule p.Source ∷ []) ∷ ([]) ∷ []
 alternatives p.Source = (Read r.Stream ∷ Rule p.SourceTail ∷ Emit m.Source ∷ []) ∷ []
-alternatives p.SourceTail = (Rule p.Window ∷ Rule p.OptAlias ∷ []) ∷ (Rule p.Alias ∷ Rule p.OptWindow ∷ []) ∷ ([]) ∷ []
+alternatives p.SourceTail = (Rule p.Window ∷ Rule p.OptAlias ∷ [])
+    ∷ (Rule p.Alias ∷ Rule p.OptWindow ∷ []) ∷ ([]) ∷ []
 alternatives p.OptAlias = (Rule p.Alias ∷ []) ∷ ([]) ∷ []
 alternatives p.Alias = (token k.As ∷ Read r.Alias ∷ []) ∷ (Read r.Alias ∷ []) ∷ []
 alternatives p.OptWindow = (Rule p.Window ∷ []) ∷ ([]) ∷ []
 alternatives p.Window = (token k.Left ∷ Rule p.Frame ∷ token k.Right ∷ []) ∷ []
-alternatives p.Frame = (Read r.Now ∷ []) ∷ (token k.Range ∷ Rule p.Span ∷ []) ∷ (token k.Rows ∷ Rule p.Last ∷ []) ∷ (token k.Partition ∷ token k.By ∷ Rule p.Columns ∷ token k.Rows ∷ Read r.Partition ∷ []) ∷ []
+alternatives p.Frame = (Read r.Now ∷ []) ∷ (token k.Range ∷ Rule p.Span ∷ [])
+    ∷ (token k.Rows ∷ Rule p.Last ∷ [])
+    ∷ (token k.Partition ∷ token k.By ∷ Rule p.Columns ∷ token k.Rows ∷ Read r.Partition ∷ []) ∷ []
 alternatives p.Span = (Read r.Range ∷ Rule p.OptSlide ∷ []) ∷ (Read r.Unbounded ∷ []) ∷ []
 alternatives p.OptSlide = (token k.Slide ∷ Read r.Slide ∷ []) ∷ ([]) ∷ []
 alternatives p.Last = (Read r.Rows ∷ []) ∷ (Read r.Unbounded ∷ []) ∷ []
 alternatives p.Columns = (Rule p.Column ∷ Emit m.Listed ∷ Rule p.ColumnsTail ∷ []) ∷ []
-alternatives p.ColumnsTail = (token k.Comma ∷ Rule p.Column ∷ Emit m.Listed ∷ Rule p.ColumnsTail ∷ []) ∷ ([]) ∷ []
+alternatives p.ColumnsTail = (token k.Comma ∷ Rule p.Column ∷ Emit m.Listed ∷ Rule p.ColumnsTail
+    ∷ []) ∷ ([]) ∷ []
 alternatives p.OptWhere = (token k.Where ∷ Rule p.Or ∷ []) ∷ ([]) ∷ []
 alternatives p.Or = (Rule p.And ∷ Rule p.OrTail ∷ []) ∷ []
 alternatives p.OrTail = (token k.Or ∷ Rule p.And ∷ Emit m.Disjoin ∷ Rule p.OrTail ∷ []) ∷ ([]) ∷ []
 alternatives p.And = (Rule p.Not ∷ Rule p.AndTail ∷ []) ∷ []
-alternatives p.AndTail = (token k.And ∷ Rule p.Not ∷ Emit m.Conjoin ∷ Rule p.AndTail ∷ []) ∷ ([]) ∷ []
-alternatives p.Not = (Read (r.Deeper k.Not) ∷ Rule p.Not ∷ Emit m.Negate ∷ Emit m.Leave ∷ []) ∷ (Read (r.Deeper k.Open) ∷ Rule p.Or ∷ token k.Close ∷ Emit m.Leave ∷ []) ∷ (Rule p.Operand ∷ Rule p.Compare ∷ Rule p.Operand ∷ Emit m.Compared ∷ []) ∷ []
+alternatives p.AndTail = (token k.And ∷ Rule p.Not ∷ Emit m.Conjoin ∷ Rule p.AndTail
+    ∷ []) ∷ ([]) ∷ []
+alternatives p.Not = (Read (r.Deeper k.Not) ∷ Rule p.Not ∷ Emit m.Negate ∷ Emit m.Leave ∷ [])
+    ∷ (Read (r.Deeper k.Open) ∷ Rule p.Or ∷ token k.Close ∷ Emit m.Leave ∷ [])
+    ∷ (Rule p.Operand ∷ Rule p.Compare ∷ Rule p.Operand ∷ Emit m.Compared ∷ []) ∷ []
 alternatives p.Operand = (Rule p.Column ∷ Emit m.Named ∷ []) ∷ (Read r.Number ∷ []) ∷ []
-alternatives p.Compare = (Read (r.Compare c.Equals) ∷ []) ∷ (Read (r.Compare c.Differs) ∷ []) ∷ (Read (r.Compare c.Below) ∷ []) ∷ (Read (r.Compare c.AtMost) ∷ []) ∷ (Read (r.Compare c.Above) ∷ []) ∷ (Read (r.Compare c.AtLeast) ∷ []) ∷ []
-alternatives p.OptGroup = (token k.Group ∷ token k.By ∷ Rule p.Columns ∷ Emit m.Grouped ∷ []) ∷ ([]) ∷ []
+alternatives p.Compare = (Read (r.Compare c.Equals) ∷ []) ∷ (Read (r.Compare c.Differs) ∷ [])
+    ∷ (Read (r.Compare c.Below) ∷ []) ∷ (Read (r.Compare c.AtMost) ∷ [])
+    ∷ (Read (r.Compare c.Above) ∷ []) ∷ (Read (r.Compare c.AtLeast) ∷ []) ∷ []
+alternatives p.OptGroup = (token k.Group ∷ token k.By ∷ Rule p.Columns ∷ Emit m.Grouped
+    ∷ []) ∷ ([]) ∷ []
 alternatives p.End = (token k.Semicolon ∷ []) ∷ ([]) ∷ []
 
 -- the kind that a token of this role has
@@ -91,7 +115,8 @@ kind_of (r.Compare c.Above) = k.Greater
 kind_of (r.Compare c.AtLeast) = k.AtLeast
 kind_of (r.Deeper kind) = kind
 
--- the condition as far as it is read: the last two operands, the last comparison, and the conditions that stand, the last first
+-- the condition as far as it is read: the last two operands, the
+-- last comparison, and the conditions that stand, the last first
 pub record Terms : Type 0 where
   pub left : Operand
   pub right : Operand
@@ -181,7 +206,8 @@ sided operand t = record { left = t.right; right = operand; how = t.how; standin
 
 -- the last two operands stand compared
 abbrev pub compared : Terms → Terms
-compared t = record { left = t.left; right = t.right; how = t.how; standing = Compared t.left t.how t.right ∷ t.standing }
+compared t = record { left = t.left; right = t.right; how = t.how;
+    standing = Compared t.left t.how t.right ∷ t.standing }
 
 abbrev pub negated : List Condition → List Condition
 negated [] = []
@@ -202,7 +228,8 @@ standing_by f t = record { left = t.left; right = t.right; how = t.how; standing
 
 -- the columns are those of the source's window
 abbrev pub parted : ℕ → Draft → Draft
-parted rows d = record d { source = windowed (partitioned d.columns rows d.source.window) d.source; columns = [] }
+parted rows d = record d { source = windowed (partitioned d.columns rows d.source.window) d.source;
+    columns = [] }
 
 -- the source's window slides
 abbrev pub slid : ℕ → Draft → Draft
@@ -214,9 +241,12 @@ took (r.Fixed kind) bytes d = d
 took (r.Operator operator) bytes d = record d { operator = operator_of operator }
 took r.Distinct bytes d = record d { is_distinct = true }
 took r.Column bytes d = record d { reference = record { qualifier = None; name = bytes } }
-took r.Qualified bytes d = record d { reference = record { qualifier = Some d.reference.name; name = bytes } }
-took r.Stream bytes d = record d { source = record { stream = bytes; window = Unbounded; alias = None } }
-took r.Alias bytes d = record d { source = record { stream = d.source.stream; window = d.source.window; alias = Some bytes } }
+took r.Qualified bytes d = record d { reference =
+    record { qualifier = Some d.reference.name; name = bytes } }
+took r.Stream bytes d = record d { source =
+    record { stream = bytes; window = Unbounded; alias = None } }
+took r.Alias bytes d = record d { source =
+    record { stream = d.source.stream; window = d.source.window; alias = Some bytes } }
 took r.Now bytes d = record d { source = windowed Now d.source }
 took r.Range bytes d = record d { source = windowed (Range (nat_abs (number_of bytes))) d.source }
 took r.Slide bytes d = slid (nat_abs (number_of bytes)) d
@@ -225,7 +255,8 @@ took r.Rows bytes d = record d { source = windowed (Rows (nat_abs (number_of byt
 took r.Partition bytes d = parted (nat_abs (number_of bytes)) d
 took r.Number bytes d = record d { terms = sided (Number (number_of bytes)) d.terms }
 took (r.Compare how) bytes d =
-    record d { terms = record { left = d.terms.left; right = d.terms.right; how = how; standing = d.terms.standing } }
+    record d { terms = record { left = d.terms.left; right = d.terms.right; how = how;
+        standing = d.terms.standing } }
 took (r.Deeper kind) bytes d = record d { depth = d.depth + 1 }
 
 -- the list with one more item
@@ -327,9 +358,14 @@ Among a (b ∷ bs) = (a ≡ b) ⊎ Among a bs
 -- the symbols stand for the tokens, which lead from the draft d to d'
 pub data Derives (level : Level) : List Symbol → Draft → List Token → Draft → Type 0 where
   nothing : {d : Draft} → Derives level [] d [] d
-  read : {role : Role} {xs : List Symbol} {d : Draft} {t : Token} {ts : List Token} {d' : Draft} → t.kind ≡ kind_of role → allowed level role d t ≡ true → Derives level xs (took role t.bytes d) ts d' → Derives level (Read role ∷ xs) d (t ∷ ts) d'
-  emit : {mark : Mark} {xs : List Symbol} {d : Draft} {ts : List Token} {d' : Draft} → Derives level xs (did mark d) ts d' → Derives level (Emit mark ∷ xs) d ts d'
-  rule : {part : Part} {xs : List Symbol} {d : Draft} {ts : List Token} {d' : Draft} (ys : List Symbol) → Among ys (alternatives part) → Derives level (ys ++ xs) d ts d' → Derives level (Rule part ∷ xs) d ts d'
+  read : {role : Role} {xs : List Symbol} {d : Draft} {t : Token} {ts : List Token} {d' : Draft}
+      → t.kind ≡ kind_of role → allowed level role d t ≡ true
+      → Derives level xs (took role t.bytes d) ts d' → Derives level (Read role ∷ xs) d (t ∷ ts) d'
+  emit : {mark : Mark} {xs : List Symbol} {d : Draft} {ts : List Token} {d' : Draft}
+      → Derives level xs (did mark d) ts d' → Derives level (Emit mark ∷ xs) d ts d'
+  rule : {part : Part} {xs : List Symbol} {d : Draft} {ts : List Token} {d' : Draft}
+      (ys : List Symbol) → Among ys (alternatives part) → Derives level (ys ++ xs) d ts d'
+      → Derives level (Rule part ∷ xs) d ts d'
 
 abbrev pub whole : List Symbol
 whole = Rule p.Query ∷ []

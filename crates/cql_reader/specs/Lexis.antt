@@ -1,5 +1,7 @@
 -- The kinds of bytes and of words.
-use Rattle.std.specs.Prelude.{ℕ, ◌+◌, ◌-◌, ◌*◌, Bool, true, false, not, ◌&&◌, ◌||◌, List, [], ◌∷◌, Option, Some, None, cond, is_some, nat_le, nat_lt, nat_eq, map, length, min, codes, take, drop, ℤ, pos, negsuc, neg_ℤ}
+use Rattle.std.specs.Prelude.{ℕ, ◌+◌, ◌-◌, ◌*◌, Bool, true, false, not, ◌&&◌, ◌||◌, List, [], ◌∷◌}
+use Rattle.std.specs.Prelude.{Option, Some, None, cond, is_some, nat_le, nat_lt, nat_eq, map}
+use Rattle.std.specs.Prelude.{length, min, codes, take, drop, ℤ, pos, negsuc, neg_ℤ}
 use Rattle.std.specs.List.{prefix_len}
 use Rattle.std.specs.Char.{to_ascii_lowercase}
 use Rattle.cql_reader.specs.declared.tokens.Kind.{Kind}
@@ -22,11 +24,16 @@ is_word b = is_letter b || is_digit b
 -- the reserved words
 unfoldable pub reserved : List (List ℕ × Kind)
 reserved =
-    (codes "select", k.Select) ∷ (codes "distinct", k.Distinct) ∷ (codes "istream", k.Istream) ∷ (codes "dstream", k.Dstream)
-    ∷ (codes "rstream", k.Rstream) ∷ (codes "from", k.From) ∷ (codes "as", k.As) ∷ (codes "where", k.Where)
-    ∷ (codes "group", k.Group) ∷ (codes "by", k.By) ∷ (codes "and", k.And) ∷ (codes "or", k.Or) ∷ (codes "not", k.Not)
-    ∷ (codes "range", k.Range) ∷ (codes "rows", k.Rows) ∷ (codes "partition", k.Partition) ∷ (codes "now", k.Now)
-    ∷ (codes "unbounded", k.Unbounded) ∷ (codes "slide", k.Slide) ∷ (codes "count", k.Count) ∷ (codes "sum", k.Sum)
+    (codes "select", k.Select) ∷ (codes "distinct", k.Distinct) ∷ (codes "istream", k.Istream)
+    ∷ (codes "dstream", k.Dstream)
+    ∷ (codes "rstream", k.Rstream) ∷ (codes "from", k.From) ∷ (codes "as", k.As)
+    ∷ (codes "where", k.Where)
+    ∷ (codes "group", k.Group) ∷ (codes "by", k.By) ∷ (codes "and", k.And) ∷ (codes "or", k.Or)
+    ∷ (codes "not", k.Not)
+    ∷ (codes "range", k.Range) ∷ (codes "rows", k.Rows) ∷ (codes "partition", k.Partition)
+    ∷ (codes "now", k.Now)
+    ∷ (codes "unbounded", k.Unbounded) ∷ (codes "slide", k.Slide) ∷ (codes "count", k.Count)
+    ∷ (codes "sum", k.Sum)
     ∷ (codes "min", k.Min) ∷ (codes "max", k.Max) ∷ []
 
 unfoldable pub same_bytes : List ℕ → List ℕ → Bool
@@ -42,7 +49,8 @@ same_letters a b = same_bytes (map to_ascii_lowercase a) (map to_ascii_lowercase
 -- the kind that a list of words gives a word
 unfoldable pub kind_in : List (List ℕ × Kind) → List ℕ → Option Kind
 kind_in [] word = None
-kind_in (entry ∷ entries) word = cond (same_letters entry.0 word) (Some entry.1) (kind_in entries word)
+kind_in (entry ∷ entries) word =
+    cond (same_letters entry.0 word) (Some entry.1) (kind_in entries word)
 
 -- a reserved word, in any case of letters
 abbrev pub is_reserved : List ℕ → Bool
@@ -72,16 +80,19 @@ unfoldable pub all_word : List ℕ → Bool
 all_word [] = true
 all_word (b ∷ bs) = is_word b && all_word bs
 
--- a letter or an underscore, then letters, digits and underscores, 32 in all at most, and no reserved word
+-- a letter or an underscore, then letters, digits and
+-- underscores, 32 in all at most, and no reserved word
 unfoldable pub is_name : List ℕ → Bool
 is_name bytes =
-    is_letter (first_byte bytes) && all_word bytes && nat_le (length bytes) 32 && not (is_reserved bytes)
+    is_letter (first_byte bytes) && all_word bytes && nat_le (length bytes) 32
+    && not (is_reserved bytes)
 
 -- a symbol that compares, by its first two bytes, and how many bytes it takes
 abbrev pub comparison : ℕ → ℕ → Option (Kind × ℕ)
 comparison a b =
     cond (nat_eq a 61) (Some (k.Equal, 1)) (
-    cond (nat_eq a 60) (cond (nat_eq b 61) (Some (k.AtMost, 2)) (cond (nat_eq b 62) (Some (k.Unequal, 2)) (Some (k.Less, 1)))) (
+    cond (nat_eq a 60) (cond (nat_eq b 61) (Some (k.AtMost, 2))
+    (cond (nat_eq b 62) (Some (k.Unequal, 2)) (Some (k.Less, 1)))) (
     cond (nat_eq a 62) (cond (nat_eq b 61) (Some (k.AtLeast, 2)) (Some (k.Greater, 1))) (
     cond (nat_eq a 33) (cond (nat_eq b 61) (Some (k.Unequal, 2)) None) None)))
 
@@ -97,12 +108,16 @@ symbol a b =
     cond (nat_eq a 59) (Some (k.Semicolon, 1)) (
     cond (nat_eq a 42) (Some (k.Star, 1)) (comparison a b))))))))
 
--- the token that begins the bytes, and how many bytes it takes: the longest word, the longest number, or a symbol
+-- the token that begins the bytes, and how many bytes it
+-- takes: the longest word, the longest number, or a symbol
 unfoldable pub token_at : List ℕ → Option (Kind × ℕ)
 token_at bytes =
-    cond (is_letter (first_byte bytes)) (Some (word_kind (take (prefix_len is_word bytes) bytes), prefix_len is_word bytes)) (
+    cond (is_letter (first_byte bytes))
+    (Some (word_kind (take (prefix_len is_word bytes) bytes), prefix_len is_word bytes)) (
     cond (is_digit (first_byte bytes)) (Some (k.Number, prefix_len is_digit bytes)) (
-    cond (nat_eq (first_byte bytes) 45) (cond (nat_eq (prefix_len is_digit (drop 1 bytes)) 0) None (Some (k.Number, 1 + prefix_len is_digit (drop 1 bytes)))) (
+    cond (nat_eq (first_byte bytes) 45)
+    (cond (nat_eq (prefix_len is_digit (drop 1 bytes)) 0) None
+    (Some (k.Number, 1 + prefix_len is_digit (drop 1 bytes)))) (
     symbol (first_byte bytes) (second_byte bytes))))
 
 -- the number that digits write behind the number n
@@ -112,7 +127,8 @@ decimal n (d ∷ ds) = decimal (10 * n + (d - 48)) ds
 
 -- the number that digits write, which may stand behind a minus
 unfoldable pub number_of : List ℕ → ℤ
-number_of bytes = cond (nat_eq (first_byte bytes) 45) (neg_ℤ (pos (decimal 0 (drop 1 bytes)))) (pos (decimal 0 bytes))
+number_of bytes = cond (nat_eq (first_byte bytes) 45) (neg_ℤ (pos (decimal 0 (drop 1 bytes))))
+    (pos (decimal 0 bytes))
 
 -- the number, cut off where it is outside each range
 unfoldable pub capped : ℤ → ℤ

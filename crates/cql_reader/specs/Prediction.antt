@@ -1,5 +1,6 @@
 -- The tables by which the next token chooses an alternative, and the query that they find.
-use Rattle.std.specs.Prelude.{ℕ, zero, suc, ◌+◌, ◌*◌, Bool, true, false, ◌&&◌, ◌||◌, List, [], ◌∷◌, ◌++◌, cond, Option, Some, None, Result, Ok, Err}
+use Rattle.std.specs.Prelude.{ℕ, zero, suc, ◌+◌, ◌*◌, Bool, true, false, ◌&&◌, ◌||◌, List, [], ◌∷◌}
+use Rattle.std.specs.Prelude.{◌++◌, cond, Option, Some, None, Result, Ok, Err}
 use denote.Enum.Bare.{sameb}
 use Rattle.cql_reader.specs.contracts.tokens.Kind.{the_type}
 use Rattle.cql_reader.specs.declared.tokens.Kind.{Kind}
@@ -10,7 +11,8 @@ use Rattle.cql_reader.specs.declared.symbols.Symbol.{Symbol}
 use Rattle.cql_reader.specs.declared.symbols.Symbol.TheVariants.{Read, Rule, Emit}
 use Rattle.cql_reader.specs.Lexis.{number_of}
 use Rattle.cql_reader.specs.Tokens.{Scan, End, Bad, Then}
-use Rattle.cql_reader.specs.Grammar.{alternatives, kind_of, in_range, may_open, Draft, took, did, start, whole}
+use Rattle.cql_reader.specs.Grammar.{alternatives, kind_of, in_range, may_open, Draft, took, did}
+use Rattle.cql_reader.specs.Grammar.{start, whole}
 use Rattle.cql_reader.specs.Fault.{Fault, BadToken, Unexpected, NumberRange, TooDeep}
 
 abbrev pub same_kind : Kind → Kind → Bool
@@ -130,7 +132,8 @@ or_else (Some a) b = Some a
 -- the alternative that a part has at this next kind of token, or at the end of the text
 unfoldable pub chosen : Part → Option Kind → Option (List Symbol)
 chosen part None = pick ends (alternatives part)
-chosen part (Some kind) = or_else (pick (λ ys. firsts ys kind) (alternatives part)) (pick ends (alternatives part))
+chosen part (Some kind) = or_else (pick (λ ys. firsts ys kind) (alternatives part))
+    (pick ends (alternatives part))
 
 -- the kind of the next token
 abbrev pub ahead : Scan → Option Kind
@@ -158,11 +161,13 @@ taken true true false place after = Err (TooDeep place)
 taken true true true place after = after
 
 -- goes on by the alternative, where there is one
-abbrev pub along : Option (List Symbol) → Scan → (List Symbol → Result Draft Fault) → Result Draft Fault
+abbrev pub along : Option (List Symbol) → Scan → (List Symbol → Result Draft Fault)
+    → Result Draft Fault
 along None rest go = Err (stopped rest)
 along (Some ys) rest go = go ys
 
--- the draft that the symbols leave of the tokens, in so many steps: each part by the alternative that the next token chooses
+-- the draft that the symbols leave of the tokens, in so many
+-- steps: each part by the alternative that the next token chooses
 unfoldable pub run : ℕ → List Symbol → Draft → Scan → Result Draft Fault
 run zero xs d rest = Err (stopped rest)
 run (suc n) [] d rest = closed d rest
@@ -170,8 +175,10 @@ run (suc n) (Emit mark ∷ xs) d rest = run n xs (did mark d) rest
 run (suc n) (Read role ∷ xs) d (End place) = Err (Unexpected place)
 run (suc n) (Read role ∷ xs) d (Bad place) = Err (BadToken place)
 run (suc n) (Read role ∷ xs) d (Then t more) =
-    taken (same_kind t.kind (kind_of role)) (in_range role (number_of t.bytes)) (may_open role d.depth) t.place (run n xs (took role t.bytes d) more)
-run (suc n) (Rule part ∷ xs) d rest = along (chosen part (ahead rest)) rest (λ ys. run n (ys ++ xs) d rest)
+    taken (same_kind t.kind (kind_of role)) (in_range role (number_of t.bytes))
+    (may_open role d.depth) t.place (run n xs (took role t.bytes d) more)
+run (suc n) (Rule part ∷ xs) d rest =
+    along (chosen part (ahead rest)) rest (λ ys. run n (ys ++ xs) d rest)
 
 -- a bound on the steps that a symbol takes without reading a token
 unfoldable pub weight : Part → ℕ

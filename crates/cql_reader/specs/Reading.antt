@@ -1,5 +1,6 @@
 -- What the reader answers: the query that a text names, or the first fault from the left.
-use Rattle.std.specs.Prelude.{◌≡◌, ℕ, ◌<◌, ◌≤◌, ◌⊎◌, List, [], ◌∷◌, ◌++◌, length, cond, nat_lt, Result, Ok, Err}
+use Rattle.std.specs.Prelude.{◌≡◌, ℕ, ◌<◌, ◌≤◌, ◌⊎◌, List, [], ◌∷◌, ◌++◌, length, cond, nat_lt}
+use Rattle.std.specs.Prelude.{Result, Ok, Err}
 use Rattle.std.specs.Str.{IsAscii, IsNotAscii}
 use Rattle.cql_reader.specs.Lexis.{all_ascii}
 use Rattle.cql_reader.specs.Tokens.{Token, Tokens, NoToken, end_of, scan_from}
@@ -8,8 +9,10 @@ use Rattle.cql_reader.specs.Views.{query_of}
 use Rattle.cql_reader.specs.Coded.{Tells}
 use Rattle.cql_reader.specs.declared.query.Query.{Query as CodedQuery}
 use Rattle.cql_reader.specs.declared.ReadFault.{ReadFault}
-use Rattle.cql_reader.specs.Grammar.{Draft, Level, Shape, Ranged, Strict, IsQuery, Begins, Fails, finished}
-use Rattle.cql_reader.specs.Fault.{Fault, TextTooLong, NotAscii, BadToken, Unexpected, NumberRange, TooDeep}
+use Rattle.cql_reader.specs.Grammar.{Draft, Level, Shape, Ranged, Strict, IsQuery, Begins, Fails}
+use Rattle.cql_reader.specs.Grammar.{finished}
+use Rattle.cql_reader.specs.Fault.{Fault, TextTooLong, NotAscii, BadToken, Unexpected, NumberRange}
+use Rattle.cql_reader.specs.Fault.{TooDeep}
 use Rattle.cql_reader.specs.Prediction.{parsed}
 
 -- a text that is judged token by token
@@ -53,7 +56,8 @@ pub record TooShort (text : List ℕ) (place : ℕ) : Type 0 where
   pub before : Begins Strict tokens
   pub fault : (d : Draft) → IsQuery Shape tokens d → ⊥
 
--- the tokens before the one at this place begin a query, and with it they still begin one by `fine`, and none by `bad`
+-- the tokens before the one at this place begin a query, and
+-- with it they still begin one by `fine`, and none by `bad`
 pub record Outside (fine bad : Level) (text : List ℕ) (place : ℕ) : Type 0 where
   pub tokens : List Token
   pub t : Token

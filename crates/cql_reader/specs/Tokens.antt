@@ -1,5 +1,6 @@
 -- The tokens of a text.
-use Rattle.std.specs.Prelude.{◌≡◌, ℕ, zero, suc, ◌+◌, ◌-◌, ◌<◌, ◌≤◌, Bool, true, false, List, [], ◌∷◌, Option, Some, None, length, take, drop, slice_index}
+use Rattle.std.specs.Prelude.{◌≡◌, ℕ, zero, suc, ◌+◌, ◌-◌, ◌<◌, ◌≤◌, Bool, true, false, List, []}
+use Rattle.std.specs.Prelude.{◌∷◌, Option, Some, None, length, take, drop, slice_index}
 use Rattle.cql_reader.specs.declared.tokens.Kind.{Kind}
 use Rattle.cql_reader.specs.Lexis.{is_blank, token_at}
 
@@ -52,7 +53,8 @@ width false (Some found) = found.1
 abbrev pub scanned : Bool → Option (Kind × ℕ) → ℕ → List ℕ → Scan → Scan
 scanned true found place bytes rest = rest
 scanned false None place bytes rest = Bad place
-scanned false (Some found) place bytes rest = Then (record { kind = found.0; bytes = take found.1 bytes; place = place }) rest
+scanned false (Some found) place bytes rest =
+    Then (record { kind = found.0; bytes = take found.1 bytes; place = place }) rest
 
 -- the tokens of the bytes from a place on, of which the first `passed` belong to the token before
 unfoldable pub scan : ℕ → ℕ → List ℕ → Scan

@@ -1,7 +1,9 @@
 -- What holds for each query that is read.
 use Rattle.std.specs.Prelude.{ℕ, ◌<◌, ◌≤◌, Option, Some, None, length, All as Each'}
 use Rattle.values.specs.Value.{IsStreamNumber}
-use Rattle.cql_reader.specs.Query.{Query, Entries, All, Each, Window, Now, Range, RangeSlide, Unbounded, Rows, Partition, Operand, Named, Number, Condition, Compared, Not, And, Or}
+use Rattle.cql_reader.specs.Query.{Query, Entries, All, Each, Window, Now, Range, RangeSlide}
+use Rattle.cql_reader.specs.Query.{Unbounded, Rows, Partition, Operand, Named, Number, Condition}
+use Rattle.cql_reader.specs.Query.{Compared, Not, And, Or}
 use Rattle.cql_reader.specs.declared.TheConstants.{MAX_SOURCES}
 
 -- a list that is given item by item has one
@@ -16,7 +18,8 @@ IsRowCount rows = (1 ≤ rows) × (rows ≤ 65536)
 abbrev pub IsGoodWindow : Window → Type 0
 IsGoodWindow Now = Unit {0}
 IsGoodWindow (Range instants) = instants ≤ 1099511627776
-IsGoodWindow (RangeSlide instants step) = (instants ≤ 1099511627776) × ((1 ≤ step) × (step ≤ 1099511627776))
+IsGoodWindow (RangeSlide instants step) =
+    (instants ≤ 1099511627776) × ((1 ≤ step) × (step ≤ 1099511627776))
 IsGoodWindow Unbounded = Unit {0}
 IsGoodWindow (Rows rows) = IsRowCount rows
 IsGoodWindow (Partition by rows) = (0 < length by) × IsRowCount rows

@@ -1,5 +1,6 @@
 -- A batch of rows of one group, column by column.
-use Rattle.std.specs.Prelude.{ℕ, ◌<◌, ℤ, pos, ◌+ℤ◌, Bool, not, Option, List, [], ◌∷◌, map, length, get_or, slice_index_or, true, All, fold}
+use Rattle.std.specs.Prelude.{ℕ, ◌<◌, ℤ, pos, ◌+ℤ◌, Bool, not, Option, List, [], ◌∷◌, map, length}
+use Rattle.std.specs.Prelude.{get_or, slice_index_or, true, All, fold}
 use Rattle.values.specs.Row.{Row}
 use Rattle.values.specs.Value.{IsAnswerValue}
 use Rattle.values.specs.Condition.{field}
@@ -8,7 +9,8 @@ use Rattle.values.specs.declared.resolved.Column.{Column}
 use Rattle.values.specs.declared.resolved.ListItem.{ListItem}
 use Rattle.values.specs.declared.resolved.ListItem.TheVariants.{Key}
 use Rattle.lane_kernels.specs.Truth.{signed_count, signed_total}
-use Rattle.group.specs.Cells.{Held, TallyState, number_of, signed_by, tally_by, tally_after, CellState, cell_zero, cell_after}
+use Rattle.group.specs.Cells.{Held, TallyState, number_of, signed_by, tally_by, tally_after}
+use Rattle.group.specs.Cells.{CellState, cell_zero, cell_after}
 use Rattle.group.specs.Turns.{cell_of, with_cell}
 
 -- the row at a place of a batch
@@ -40,7 +42,11 @@ tally_values kept (m ∷ ms) (v ∷ vs) t = tally_values kept ms vs (tally_by (n
 
 -- the same where no value is kept: counted and summed at once
 abbrev pub tally_sums : List Bool → List (Option ℤ) → TallyState → TallyState
-tally_sums ms vs t = record { numbers = t.numbers +ℤ signed_count ms vs; total = t.total +ℤ signed_total ms vs; values = t.values }
+tally_sums ms vs t = record {
+  numbers = t.numbers +ℤ signed_count ms vs;
+  total = t.total +ℤ signed_total ms vs;
+  values = t.values;
+}
 
 -- a tally after the rows
 abbrev pub tally_rows : List (Bool × Row) → ListItem → TallyState → TallyState
@@ -49,8 +55,11 @@ tally_rows (s ∷ rs) i t = tally_rows rs i (tally_after s i t)
 
 -- the numbers that the items read in the rows are of the answer range
 abbrev pub AllInRange : List ListItem → List (Bool × Row) → Type 0
-AllInRange is rs = (k : ℕ) → k < length is → All IsAnswerValue (numbers_read (get_or is k (Key 0)) rs)
+AllInRange is rs = (k : ℕ) → k < length is
+    → All IsAnswerValue (numbers_read (get_or is k (Key 0)) rs)
 
 -- the groups after a batch of rows of the group k
-abbrev pub batch_in : List ListItem → Held → List (Bool × Row) → List (Held × CellState) → List (Held × CellState)
-batch_in is k rs es = with_cell k (fold (cell_after is) (cell_of (length is) k es) rs) (fold (cell_after is) (cell_zero (length is)) rs) es
+abbrev pub batch_in : List ListItem → Held → List (Bool × Row) → List (Held × CellState)
+    → List (Held × CellState)
+batch_in is k rs es = with_cell k (fold (cell_after is) (cell_of (length is) k es) rs)
+    (fold (cell_after is) (cell_zero (length is)) rs) es

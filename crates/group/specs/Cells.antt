@@ -1,5 +1,8 @@
--- What is kept of a group: its rows counted, and of each item of the list the numbers that it reads.
-use Rattle.std.specs.Prelude.{ℕ, zero, suc, ◌+◌, ◌-◌, ◌*◌, ◌^◌, ◌<◌, ◌≤◌, ◌≡◌, ℤ, pos, neg_ℤ, ◌+ℤ◌, Option, Some, None, unwrap_or, List, [], ◌∷◌, ◌++◌, length, replicate, get_or, nat_lt, Bool, true, false, cond}
+-- What is kept of a group: its rows counted, and of
+-- each item of the list the numbers that it reads.
+use Rattle.std.specs.Prelude.{ℕ, zero, suc, ◌+◌, ◌-◌, ◌*◌, ◌^◌, ◌<◌, ◌≤◌, ◌≡◌, ℤ, pos, neg_ℤ, ◌+ℤ◌}
+use Rattle.std.specs.Prelude.{Option, Some, None, unwrap_or, List, [], ◌∷◌, ◌++◌, length, replicate}
+use Rattle.std.specs.Prelude.{get_or, nat_lt, Bool, true, false, cond}
 use Rattle.std.specs.List.{All, slice_get}
 use Rattle.std.specs.Map.{lookup, set_value, remove_entry, values_of}
 use Rattle.std.specs.BTreeMap.{is_at, insert_entry}
@@ -36,12 +39,14 @@ abbrev pub one_more : Option ℤ → Values → Values
 one_more v es = insert_entry value_cmp es v (count_of v es + 1)
 
 abbrev pub one_less : Option ℤ → Values → Values
-one_less v es = cond (nat_lt 1 (count_of v es)) (set_value (is_at (value_cmp v)) es (count_of v es - 1)) (remove_entry (is_at (value_cmp v)) es)
+one_less v es = cond (nat_lt 1 (count_of v es))
+    (set_value (is_at (value_cmp v)) es (count_of v es - 1)) (remove_entry (is_at (value_cmp v)) es)
 
 abbrev pub values_by : Bool → Option ℤ → Values → Values
 values_by enters v es = cond enters (one_more v es) (one_less v es)
 
--- of the numbers that an item reads: how many, their sum, and each of them where a least or greatest is asked for
+-- of the numbers that an item reads: how many, their sum,
+-- and each of them where a least or greatest is asked for
 pub record TallyState : Type 0 where
   pub numbers : ℤ
   pub total : ℤ
@@ -96,13 +101,15 @@ abbrev pub tally_after : Bool × Row → ListItem → TallyState → TallyState
 tally_after s i t = tally_by s.0 (keeps i) (number_of i s.1) t
 
 -- the first p tallies are changed, each by its item
-abbrev pub partly : (ListItem → TallyState → TallyState) → ℕ → List ListItem → List TallyState → List TallyState
+abbrev pub partly : (ListItem → TallyState → TallyState) → ℕ → List ListItem → List TallyState
+    → List TallyState
 partly f zero is ts = ts
 partly f (suc p) [] ts = ts
 partly f (suc p) (i ∷ is) [] = []
 partly f (suc p) (i ∷ is) (t ∷ ts) = f i t ∷ partly f p is ts
 
-abbrev pub each : (ListItem → TallyState → TallyState) → List ListItem → List TallyState → List TallyState
+abbrev pub each : (ListItem → TallyState → TallyState) → List ListItem → List TallyState
+    → List TallyState
 each f is ts = partly f (length is) is ts
 
 abbrev pub tallies_after : Bool × Row → List ListItem → List TallyState → List TallyState
@@ -113,7 +120,8 @@ abbrev pub all_tallies : ℕ → List TallyState → List TallyState
 all_tallies zero ts = ts
 all_tallies (suc n) ts = ts ++ replicate (suc n) tally_zero
 
--- how many rows the group has, a tally for each item of the list, and the row that was shown of it last
+-- how many rows the group has, a tally for each item
+-- of the list, and the row that was shown of it last
 pub record CellState : Type 0 where
   pub rows : ℤ
   pub tallies : List TallyState
@@ -124,7 +132,11 @@ abbrev pub cell_zero : ℕ → CellState
 cell_zero n = record { rows = pos 0; tallies = replicate n tally_zero; shown = None }
 
 abbrev pub cell_after : List ListItem → CellState → Bool × Row → CellState
-cell_after is c s = record { rows = c.rows +ℤ signed_by s.0 (pos 1); tallies = tallies_after s is c.tallies; shown = c.shown }
+cell_after is c s = record {
+  rows = c.rows +ℤ signed_by s.0 (pos 1);
+  tallies = tallies_after s is c.tallies;
+  shown = c.shown;
+}
 
 abbrev pub showing : CellState → Option Held → CellState
 showing c r = record { rows = c.rows; tallies = c.tallies; shown = r }

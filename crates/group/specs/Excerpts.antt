@@ -1,5 +1,6 @@
 -- Touched groups, and what groups show from a tick on, kept in lists side by side.
-use Rattle.std.specs.Prelude.{◌≡◌, ℤ, pos, Option, Some, None, List, [], ◌∷◌, map, get_or, Bool, cond, ℕ}
+use Rattle.std.specs.Prelude.{◌≡◌, ℤ, pos, Option, Some, None, List, [], ◌∷◌, map, get_or, Bool}
+use Rattle.std.specs.Prelude.{cond, ℕ}
 use Rattle.std.specs.Option.{is_some}
 use Rattle.values.specs.Row.{Row}
 use Rattle.group.specs.Cells.{Held, held}
@@ -25,15 +26,18 @@ pub record AreRows (bs : List Bool) (rs : List Row) (os : List (Option Held)) : 
 
 -- TOUCHED GROUPS
 -- the groups with these keys, rows shown, counts of rows and figures
-abbrev pub touched_of : List Row → List (Option Held) → List ℤ → List (List Figure) → List TouchedState
+abbrev pub touched_of : List Row → List (Option Held) → List ℤ → List (List Figure)
+    → List TouchedState
 touched_of [] ss rs fs = []
 touched_of (k ∷ ks) [] rs fs = []
 touched_of (k ∷ ks) (s ∷ ss) [] fs = []
 touched_of (k ∷ ks) (s ∷ ss) (r ∷ rs) [] = []
-touched_of (k ∷ ks) (s ∷ ss) (r ∷ rs) (f ∷ fs) = record { key = held k; shown = s; rows = r; figures = f } ∷ touched_of ks ss rs fs
+touched_of (k ∷ ks) (s ∷ ss) (r ∷ rs) (f ∷ fs) =
+    record { key = held k; shown = s; rows = r; figures = f } ∷ touched_of ks ss rs fs
 
 -- the keys, rows shown, counts of rows and figures of these groups
-pub record ListTouched (ks : List Row) (ss : List (Option Held)) (rs : List ℤ) (fs : List (List Figure)) (ts : List TouchedState) : Type 0 where
+pub record ListTouched (ks : List Row) (ss : List (Option Held)) (rs : List ℤ)
+    (fs : List (List Figure)) (ts : List TouchedState) : Type 0 where
   pub keys : ks ≡ map (λ t. t.key.items) ts
   pub shown : ss ≡ map (λ t. t.shown) ts
   pub rows : rs ≡ map (λ t. t.rows) ts

@@ -1,4 +1,5 @@
--- Group By with its list, over the rows that go between operators: each counts as the one row of a combination.
+-- Group By with its list, over the rows that go between
+-- operators: each counts as the one row of a combination.
 use Rattle.std.specs.Prelude.{ℕ, Bool, true, false, List, [], ◌∷◌, map}
 use Rattle.std.specs.List.{range_with_len}
 use Rattle.values.specs.Row.{Row}
@@ -31,4 +32,7 @@ column_at k = record { source = 0; column = k }
 
 -- the groups of all columns, which list their keys: each row once
 abbrev pub once_each : ℕ → GroupBy
-once_each width = record { by = map column_at (range_with_len 0 width); items = map Key (range_with_len 0 width) }
+once_each width = record {
+  by = map column_at (range_with_len 0 width);
+  items = map Key (range_with_len 0 width);
+}

@@ -1,5 +1,7 @@
--- What a state of groups stands for: the bag of rows that it has taken in, and the bag of rows that it has put out.
-use Rattle.std.specs.Prelude.{ℕ, zero, suc, ◌<◌, ◌≤◌, ◌≡◌, ◌^◌, ℤ, pos, negsuc, ◌-ℤ◌, Option, Some, None, List, [], ◌∷◌, map, filter, length, Bool, true, cond}
+-- What a state of groups stands for: the bag of rows that
+-- it has taken in, and the bag of rows that it has put out.
+use Rattle.std.specs.Prelude.{ℕ, zero, suc, ◌<◌, ◌≤◌, ◌≡◌, ◌^◌, ℤ, pos, negsuc, ◌-ℤ◌, Option, Some}
+use Rattle.std.specs.Prelude.{None, List, [], ◌∷◌, map, filter, length, Bool, true, cond}
 use Rattle.std.specs.List.{All, list_any, flat_map}
 use Rattle.std.specs.List.Sorted.{IsStrictlySortedBy}
 use Rattle.std.specs.Map.{lookup, keys_of}
@@ -65,13 +67,15 @@ some_count (suc n) = Some (suc n)
 
 -- the values have each number of the column as often as the rows do
 pub record HoldsNumbers (i : ListItem) (es : Values) (xs : List Row) : Type 0 where
-  pub counts : (v : Option ℤ) → lookup (is_at (value_cmp v)) es ≡ some_count (weigh (λ x. copy_by v (number_of i x)) xs)
+  pub counts : (v : Option ℤ) → lookup (is_at (value_cmp v)) es
+      ≡ some_count (weigh (λ x. copy_by v (number_of i x)) xs)
   pub sorted : IsStrictlySortedBy value_cmp (keys_of es)
 
 -- the tally of an item counts the rows xs
 pub record Tallies (i : ListItem) (t : TallyState) (xs : List Row) : Type 0 where
   pub numbers : t.numbers ≡ pos (weigh (λ x. some_by (number_of i x)) xs)
-  pub total : t.total ≡ pos (weigh (λ x. over_by (number_of i x)) xs) -ℤ pos (weigh (λ x. under_by (number_of i x)) xs)
+  pub total : t.total ≡ pos (weigh (λ x. over_by (number_of i x)) xs) -ℤ pos
+      (weigh (λ x. under_by (number_of i x)) xs)
   pub values : keeps i ≡ true → HoldsNumbers i t.values xs
 
 abbrev pub AllTally : List ListItem → List TallyState → List Row → Type 0
@@ -107,9 +111,11 @@ pub record Stands (s : GroupState) (o b : List Row) : Type 0 where
   pub once : (k : Row) → count k keys ≤ 1
   pub was : Same o (flat_map (shown_rows s) keys)
   pub others : (k : Row) → count k keys ≡ 0 → shown_rows s k ≡ []
-  pub wide : (k : Row) → IsWide (length s.group.items) (cell_of (length s.group.items) (held k) s.cells).shown
+  pub wide : (k : Row) → IsWide (length s.group.items)
+      (cell_of (length s.group.items) (held k) s.cells).shown
   -- each group counts its rows of b
-  pub counts : (k : Row) → Counts s.group.items (cell_of (length s.group.items) (held k) s.cells) (members s.group k b)
+  pub counts : (k : Row) → Counts s.group.items (cell_of (length s.group.items) (held k) s.cells)
+      (members s.group k b)
   -- a group that is not touched shows its row of b
   pub quiet : (k : Row) → count k (touched_keys s) ≡ 0 → shown_rows s k ≡ row_of s.group b k
   pub touched : (k : Row) → count k (touched_keys s) ≤ 1
@@ -120,16 +126,20 @@ pub record Stands (s : GroupState) (o b : List Row) : Type 0 where
 -- THE LAW OF ONE STEP
 -- rows put out nothing: the state has taken them in too
 abbrev pub RowsLaw : GroupState → Type 0
-RowsLaw s = (o b d : List Row) (t : ℕ) (batch : List (Bool × Row)) → Stands s o b → Legal b batch → Adds b batch d → Stands (next s (Rows t batch) []) o d
+RowsLaw s = (o b d : List Row) (t : ℕ) (batch : List (Bool × Row)) → Stands s o b → Legal b batch
+    → Adds b batch d → Stands (next s (Rows t batch) []) o d
 
--- a tick's outputs turn what was put out into the groups of the bag, and may be cut anywhere; the state has put them out
+-- a tick's outputs turn what was put out into the groups of
+-- the bag, and may be cut anywhere; the state has put them out
 abbrev pub TickLaw : GroupState → ℕ → Type 0
 TickLaw s t = (o b : List Row) → Stands s o b → weigh (λ x. 1) b ≤ 2 ^ 62
-    → Turns o (outputs s.group (near s (Tick t))) (grouped s.group b) × Stands (next s (Tick t) (change s.group (Tick t) (near s (Tick t)))) (grouped s.group b) b
+    → Turns o (outputs s.group (near s (Tick t))) (grouped s.group b)
+    × Stands (next s (Tick t) (change s.group (Tick t) (near s (Tick t)))) (grouped s.group b) b
 
 -- each row once
 abbrev pub DistinctLaw : ℕ → Type 0
-DistinctLaw width = (b : List Row) → 0 < width → All (λ r. length r ≡ width) b → grouped (once_each width) b ≡ distinct row_cmp b
+DistinctLaw width = (b : List Row) → 0 < width → All (λ r. length r ≡ width) b
+    → grouped (once_each width) b ≡ distinct row_cmp b
 
 pub record Laws : Type 0 where
   pub beginning : (g : GroupBy) → Stands (beginning g) [] []

@@ -1,5 +1,6 @@
 -- Lists that stand one behind the other in one list.
-use Rattle.std.specs.Prelude.{◌≡◌, ◌≤◌, ◌+◌, ◌-◌, ℕ, zero, suc, List, [], ◌∷◌, ◌++◌, length, take, drop}
+use Rattle.std.specs.Prelude.{◌≡◌, ◌≤◌, ◌+◌, ◌-◌, ℕ, zero, suc, List, [], ◌∷◌, ◌++◌, length, take}
+use Rattle.std.specs.Prelude.{drop}
 use Rattle.std.specs.List.{All}
 use Rattle.values.specs.declared.TheConstants.{MAX_COLUMNS}
 
@@ -24,7 +25,8 @@ begin n es zero = n
 begin n [] (suc k) = n
 begin n (e ∷ es) (suc k) = begin e es k
 
--- one list is these lists one behind the other, which end at these places; each is as long as a row may be
+-- one list is these lists one behind the other, which
+-- end at these places; each is as long as a row may be
 pub record IsJoined {X : Type 0} (es : List ℕ) (xs : List X) (ls : List (List X)) : Type 0 where
   pub ends : es ≡ ends_of 0 ls
   pub all : xs ≡ joined ls

@@ -1,7 +1,9 @@
 -- What keys and figures are compared by.
 use Rattle.std.specs.Prelude.{◌≡◌, ℤ, Bool, Option, Some, None, refl}
-use Rattle.std.specs.Cmp.{IsEquivalence, IsTotalOrder, int_cmp_total, int_eq_equiv, on_equiv, on_total}
-use Rattle.std.specs.Cmp.Lexicographic.{lists_equiv, lists_ties, lists_total, options_equiv, options_total, pointwise}
+use Rattle.std.specs.Cmp.{IsEquivalence, IsTotalOrder, int_cmp_total, int_eq_equiv, on_equiv}
+use Rattle.std.specs.Cmp.{on_total}
+use Rattle.std.specs.Cmp.Lexicographic.{lists_equiv, lists_ties, lists_total, options_equiv}
+use Rattle.std.specs.Cmp.Lexicographic.{options_total, pointwise}
 use Rattle.std.specs.Option.{option_eq}
 use Rattle.std.specs.Ordering.{eq_by_cmp, eq_of_both, int_eq, on}
 use Rattle.values.specs.Row.{value_cmp}

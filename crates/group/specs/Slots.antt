@@ -31,7 +31,8 @@ abbrev pub held_at : (ℕ → Option (Held × CellState)) → List (Held × ℕ)
 held_at f ps = map (λ e. (e.0, cell_at (f e.1))) ps
 
 -- by keys in order, of at most n values, each group has its place, and each place its group
-pub record IsPlaced (n : ℕ) (ps : List (Held × ℕ)) (f : ℕ → Option (Held × CellState)) : Type 0 where
+pub record IsPlaced (n : ℕ) (ps : List (Held × ℕ))
+    (f : ℕ → Option (Held × CellState)) : Type 0 where
   pub room : n ≤ MAX_COLUMNS
   pub sorted : IsStrictlySortedBy held_cmp (keys_of ps)
   pub short : All (IsShort n) (keys_of ps)
@@ -47,14 +48,18 @@ pub record Writes (f g : ℕ → Option (Held × CellState)) (p : ℕ) (c : Cell
   pub cell : cell_at (g p) ≡ c
   pub others : (q : ℕ) → q ≢ p → g q ≡ f q
 
--- the group k, of which c was kept and d is, put out what it has to and shows its row, or none; some says whether there is one
-pub record SwapsIn (g : GroupBy) (k : Held) (c d : CellState) (o q : FlatState) (some : Bool) : Type 0 where
+-- the group k, of which c was kept and d is, put out what it has
+-- to and shows its row, or none; some says whether there is one
+pub record SwapsIn (g : GroupBy) (k : Held) (c d : CellState) (o q : FlatState)
+    (some : Bool) : Type 0 where
   pub row : some ≡ is_some (row_at_tick g k c)
   pub cell : d ≡ showing c (row_at_tick g k c)
   pub rows : q ≡ put_out g k c o
 
--- the group k at the place p put out what it has to and shows its row, or none; some says whether there is one
-pub record Swaps (g : GroupBy) (k : Held) (f h : ℕ → Option (Held × CellState)) (p : ℕ) (o q : FlatState) (some : Bool) : Type 0 where
+-- the group k at the place p put out what it has to and
+-- shows its row, or none; some says whether there is one
+pub record Swaps (g : GroupBy) (k : Held) (f h : ℕ → Option (Held × CellState)) (p : ℕ)
+    (o q : FlatState) (some : Bool) : Type 0 where
   pub row : some ≡ is_some (row_at_tick g k (cell_at (f p)))
   pub cell : Writes f h p (showing (cell_at (f p)) (row_at_tick g k (cell_at (f p))))
   pub rows : q ≡ put_out g k (cell_at (f p)) o

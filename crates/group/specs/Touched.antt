@@ -18,4 +18,5 @@ pub record TouchedMore (g h : Touched) (t : TouchedState) : Type 0 where
 
 -- the lists are the same
 abbrev pub SameTouched : Touched → Touched → Type 0
-SameTouched g h = (g.keys ≡ h.keys) × ((g.shown ≡ h.shown) × ((g.rows.items ≡ h.rows.items) × (g.figures ≡ h.figures)))
+SameTouched g h = (g.keys ≡ h.keys)
+    × ((g.shown ≡ h.shown) × ((g.rows.items ≡ h.rows.items) × (g.figures ≡ h.figures)))

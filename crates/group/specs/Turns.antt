@@ -1,5 +1,6 @@
 -- The turns of a group on plain states: its excerpt, outputs, change and next state.
-use Rattle.std.specs.Prelude.{ℕ, ◌+◌, ◌^◌, ℤ, pos, Option, Some, None, unwrap_or, List, [], ◌∷◌, ◌++◌, map, length, fold, Bool, true, false, cond, ◌||◌}
+use Rattle.std.specs.Prelude.{ℕ, ◌+◌, ◌^◌, ℤ, pos, Option, Some, None, unwrap_or, List, [], ◌∷◌}
+use Rattle.std.specs.Prelude.{◌++◌, map, length, fold, Bool, true, false, cond, ◌||◌}
 use Rattle.std.specs.Option.{is_some}
 use Rattle.std.specs.Ordering.{int_cmp, is_lt}
 use Rattle.std.specs.Map.{lookup, set_value, remove_entry, values_of}
@@ -14,7 +15,8 @@ use Rattle.op_queue.specs.declared.item.Item as queue
 use Rattle.op_queue.specs.declared.item.Item.TheVariants.{Rows, Tick}
 use Rattle.group.specs.declared.cells.Figure.{Figure}
 use Rattle.group.specs.Groups.{GroupBy, key_in, no_columns}
-use Rattle.group.specs.Cells.{Held, held, held_cmp, CellState, cell_zero, cell_after, showing, figures, shown_figure, CellRoom}
+use Rattle.group.specs.Cells.{Held, held, held_cmp, CellState, cell_zero, cell_after, showing}
+use Rattle.group.specs.Cells.{figures, shown_figure, CellRoom}
 
 -- the groups by key, and the keys of the groups that rows touched since the last tick
 pub record GroupState : Type 0 where
@@ -30,16 +32,21 @@ abbrev pub cell_of : ℕ → Held → List (Held × CellState) → CellState
 cell_of n k es = unwrap_or (lookup (is_at (held_cmp k)) es) (cell_zero n)
 
 -- the group k with c kept of it
-abbrev pub with_cell : Held → CellState → CellState → List (Held × CellState) → List (Held × CellState)
-with_cell k there fresh es = cond (has_key k es) (set_value (is_at (held_cmp k)) es there) (insert_entry held_cmp es k fresh)
+abbrev pub with_cell : Held → CellState → CellState → List (Held × CellState)
+    → List (Held × CellState)
+with_cell k there fresh es = cond (has_key k es) (set_value (is_at (held_cmp k)) es there)
+    (insert_entry held_cmp es k fresh)
 
 -- after a row of the group k
-abbrev pub taken_in : List ListItem → Held → Bool × Row → List (Held × CellState) → List (Held × CellState)
-taken_in is k r es = with_cell k (cell_after is (cell_of (length is) k es) r) (cell_after is (cell_zero (length is)) r) es
+abbrev pub taken_in : List ListItem → Held → Bool × Row → List (Held × CellState)
+    → List (Held × CellState)
+taken_in is k r es = with_cell k (cell_after is (cell_of (length is) k es) r)
+    (cell_after is (cell_zero (length is)) r) es
 
 -- after the row r of the group k was shown
 abbrev pub shown_in : ℕ → Held → Held → List (Held × CellState) → List (Held × CellState)
-shown_in n k r es = with_cell k (showing (cell_of n k es) (Some r)) (showing (cell_zero n) (Some r)) es
+shown_in n k r es = with_cell k (showing (cell_of n k es) (Some r))
+    (showing (cell_zero n) (Some r)) es
 
 -- without Group By the one group is touched from the start: it is shown at its first tick
 abbrev pub first_touched : List Column → List Held
@@ -63,7 +70,8 @@ row_after s r = record {
 abbrev pub rows_after : GroupState → List (Bool × Row) → GroupState
 rows_after s rs = fold row_after s rs
 
--- THE EXCERPT: of each touched group its key, the row that was shown, how many rows it has, and its exact figures
+-- THE EXCERPT: of each touched group its key, the row that
+-- was shown, how many rows it has, and its exact figures
 pub record TouchedState : Type 0 where
   pub key : Held
   pub shown : Option Held
@@ -71,7 +79,12 @@ pub record TouchedState : Type 0 where
   pub figures : List Figure
 
 abbrev pub excerpt : List ListItem → Held → CellState → TouchedState
-excerpt is k c = record { key = k; shown = c.shown; rows = c.rows; figures = figures k.items c.rows is c.tallies }
+excerpt is k c = record {
+  key = k;
+  shown = c.shown;
+  rows = c.rows;
+  figures = figures k.items c.rows is c.tallies;
+}
 
 abbrev pub near_at : List ListItem → List (Held × CellState) → List Held → List TouchedState
 near_at is es ks = map (λ k. excerpt is k (cell_of (length is) k es)) ks
@@ -82,9 +95,11 @@ near s (Tick t) = near_at s.group.items s.cells s.touched
 
 -- THE OUTPUTS
 
--- the row that is shown from this tick on: none where the group has no rows, but without Group By always one
+-- the row that is shown from this tick on: none where
+-- the group has no rows, but without Group By always one
 abbrev pub row_now : GroupBy → TouchedState → Option Held
-row_now g t = cond (no_columns g.by || is_lt (int_cmp (pos 0) t.rows)) (Some (held (map shown_figure t.figures))) None
+row_now g t = cond (no_columns g.by || is_lt (int_cmp (pos 0) t.rows))
+    (Some (held (map shown_figure t.figures))) None
 
 -- a row of this many columns
 abbrev pub fitted : ℕ → Held → Row
@@ -137,7 +152,11 @@ shown_after n es c = shown_at n c.key c.row es
 
 -- the groups show these rows, and none is touched
 abbrev pub closed_state : GroupState → List ShownState → GroupState
-closed_state s cs = record { group = s.group; cells = fold (shown_after (length s.group.items)) s.cells cs; touched = [] }
+closed_state s cs = record {
+  group = s.group;
+  cells = fold (shown_after (length s.group.items)) s.cells cs;
+  touched = [];
+}
 
 abbrev pub next : GroupState → queue.Item → List ShownState → GroupState
 next s (Rows t b) cs = rows_after s b

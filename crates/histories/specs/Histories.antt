@@ -11,12 +11,15 @@ pub record Entry : Type 0 where
   pub command : Command
   pub reply : Reply
 
--- A REPLAY: the machine accepts the entries in turn, each with its reply, and so goes from the first state to the last
+-- A REPLAY: the machine accepts the entries in turn, each with
+-- its reply, and so goes from the first state to the last
 abbrev pub Replays : Machine → List Entry → Machine → Type 0
 Replays first [] last = last ≡ first
-Replays first (e ∷ es) last = (next : Machine) × (IsStep first e.command e.reply next × Replays next es last)
+Replays first (e ∷ es) last = (next : Machine)
+    × (IsStep first e.command e.reply next × Replays next es last)
 
--- A LEGAL HISTORY replays from the machine that it begins with: the one that was told nothing, or an opening
+-- A LEGAL HISTORY replays from the machine that it begins
+-- with: the one that was told nothing, or an opening
 abbrev pub IsLegal : Machine → List Entry → Type 0
 IsLegal first es = (last : Machine) × Replays first es last
 
@@ -28,4 +31,5 @@ pub record Told : Type 0 where
 -- THE RECEIPTS OF A SEAT: those of its entries, where the first entry of the list has the number n
 abbrev pub own : ℕ → ℕ → List Entry → List Told
 own seat n [] = []
-own seat n (e ∷ es) = if e.seat == seat then (record { number = n; entry = e } ∷ own seat (n + 1) es) else own seat (n + 1) es
+own seat n (e ∷ es) = if e.seat
+    == seat then (record { number = n; entry = e } ∷ own seat (n + 1) es) else own seat (n + 1) es

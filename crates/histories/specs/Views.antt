@@ -10,8 +10,10 @@ use Rattle.histories.specs.declared.reply.ReplyKind.{ReplyKind}
 use Rattle.histories.specs.declared.reply.ReplyKind.TheVariants as reply
 
 abbrev pub command_of : CommandKind → machine.Command
-command_of (command.Declare name columns start) = machine.Declare (string_bytes name) (texts_of columns.items) start
-command_of (command.Register name text chart) = machine.Register (string_bytes name) (string_bytes text) (given_by chart)
+command_of (command.Declare name columns start) =
+    machine.Declare (string_bytes name) (texts_of columns.items) start
+command_of (command.Register name text chart) =
+    machine.Register (string_bytes name) (string_bytes text) (given_by chart)
 command_of (command.Append stream rows) = machine.Append stream rows
 command_of (command.Heartbeat stream at) = machine.Heartbeat stream at
 command_of (command.Take query limit) = machine.Take query limit

@@ -1,6 +1,7 @@
 -- What an accepted command makes of an engine, and why one is refused.
 use Rattle.std.specs.Prelude.{◌≡◌, ⊤, Option, None, Some, [], Ok, slice_get}
-use Rattle.reference.specs.Commands.{Command, Declare, Register, Append, Heartbeat, Take, Drop, first_fault}
+use Rattle.reference.specs.Commands.{Command, Declare, Register, Append, Heartbeat, Take, Drop}
+use Rattle.reference.specs.Commands.{first_fault}
 use Rattle.reference.specs.Replies.{Reply, Rows}
 use Rattle.reference.specs.Steps.{IsStep}
 use Rattle.reference.specs.declared.fault.Fault.{Fault}
@@ -17,7 +18,9 @@ abbrev pub IsCall : PlainEngine → Command → Reply → PlainEngine → Type 0
 IsCall old (Declare name columns start) r new = new ≡ declared old name columns start
 IsCall old (Register name text chart) r new = Registers old name text chart new
 IsCall old (Append s rows) r new = (new ≡ appended old s rows) × LeavesQueues old new
-IsCall old (Heartbeat s at) r new = (new ≡ heartbeat_taken old s at) × QueuesGain (slice_get old.machine.streams s) at × LengthensQueues s at old new
+IsCall old (Heartbeat s at) r new =
+    (new ≡ heartbeat_taken old s at) × QueuesGain (slice_get old.machine.streams s) at
+    × LengthensQueues s at old new
 IsCall old (Take n limit) (Rows rows) new = Takes (λ handed. handed) old n limit (Ok rows) new
 IsCall old (Take n limit) r new = ⊥
 IsCall old (Drop n) r new = new ≡ dropped old n
@@ -29,10 +32,12 @@ pub record Answered (old : PlainEngine) (c : Command) (r : Reply) (new : PlainEn
 
 -- nothing waits of a broken query
 abbrev pub IsSpent : PlainEngine → Command → Type 0
-IsSpent e (Take n limit) = (first_fault e.machine (Take n limit) ≡ None) × (remains_at e n ≡ Broken [])
+IsSpent e (Take n limit) = (first_fault e.machine (Take n limit) ≡ None)
+    × (remains_at e n ≡ Broken [])
 IsSpent e c = ⊥
 
--- the first test that fails, or want of memory, which may stand in place of any, or that nothing waits; but none of a hub's own faults
+-- the first test that fails, or want of memory, which may stand in
+-- place of any, or that nothing waits; but none of a hub's own faults
 abbrev pub IsFirst : Option Fault → Type 0 → Fault → Type 0
 IsFirst first spent fault.OutOfMemory = ⊤
 IsFirst first spent fault.HistoryFull = ⊥

@@ -1,8 +1,10 @@
 -- Seats and their receipts.
-use Rattle.std.specs.Prelude.{◌≡◌, ℕ, ◌+◌, ◌≤◌, ◌<◌, nat_le, List, [], ◌∷◌, length, All, count_by, ◌==◌, if◌then◌else◌, max, ⊤}
+use Rattle.std.specs.Prelude.{◌≡◌, ℕ, ◌+◌, ◌≤◌, ◌<◌, nat_le, List, [], ◌∷◌, length, All, count_by}
+use Rattle.std.specs.Prelude.{◌==◌, if◌then◌else◌, max, ⊤}
 use Rattle.histories.specs.Histories.{Entry, Told, own}
 
--- a seat: its number, its own receipts, and one more than the greatest number that it was told of other seats' receipts, 0 where it was told of none
+-- a seat: its number, its own receipts, and one more than the greatest number
+-- that it was told of other seats' receipts, 0 where it was told of none
 pub record PlainSeat : Type 0 where
   pub number : ℕ
   pub receipts : List Told
@@ -40,13 +42,16 @@ abbrev pub times_told : ℕ → List PlainSeat → ℕ
 times_told n [] = 0
 times_told n (s ∷ ss) = told_at n s.receipts + times_told n ss
 
--- WHAT A HISTORY AND THE SEATS TELL ALIKE, where the history begins with the entry of the number `first`. Each number of a seat is there once, and every
--- entry is of one of them. From the first entry on the receipts of each are just those of its entries. The numbers of all receipts together are those
--- of all entries, also of those before the first, each once
-pub record IsAudited (seats : List PlainSeat) (count first : ℕ) (entries : List Entry) : Type 0 where
+-- WHAT A HISTORY AND THE SEATS TELL ALIKE, where the history begins with the entry of the number
+-- `first`. Each number of a seat is there once, and every entry is of one of them. From the first
+-- entry on the receipts of each are just those of its entries. The numbers of all receipts together
+-- are those of all entries, also of those before the first, each once
+pub record IsAudited (seats : List PlainSeat) (count first : ℕ)
+    (entries : List Entry) : Type 0 where
   pub many : length seats ≡ count
   pub each : (k : ℕ) → k < count → count_by (λ (s : PlainSeat). s.number == k) seats ≡ 1
   pub known : All (λ (e : Entry). e.seat < count) entries
-  pub told : All (λ (s : PlainSeat). own s.number first entries ≡ receipts_from first s.receipts) seats
+  pub told : All (λ (s : PlainSeat). own s.number first entries
+      ≡ receipts_from first s.receipts) seats
   pub once : (n : ℕ) → n < first + length entries → times_told n seats ≡ 1
   pub others : (n : ℕ) → first + length entries ≤ n → times_told n seats ≡ 0

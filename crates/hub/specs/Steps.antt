@@ -1,5 +1,6 @@
 -- What lies under the lock, and its steps: each is one call on the engine, or none.
-use Rattle.std.specs.Prelude.{◌≡◌, ℕ, ◌+◌, ◌<◌, ◌≤◌, ◌^◌, ◌⊎◌, List, [], ◌∷◌, ◌++◌, length, Bool, false, true, Option, None, Result, Ok, Err, ⊤, IfErr, OnErr, OnOk}
+use Rattle.std.specs.Prelude.{◌≡◌, ℕ, ◌+◌, ◌<◌, ◌≤◌, ◌^◌, ◌⊎◌, List, [], ◌∷◌, ◌++◌, length, Bool}
+use Rattle.std.specs.Prelude.{false, true, Option, None, Result, Ok, Err, ⊤, IfErr, OnErr, OnOk}
 use Rattle.envelope.specs.Fraction.{Fraction}
 use Rattle.plan.specs.declared.node.Kind.{Kind}
 use Rattle.reference.specs.Commands.{Command}
@@ -27,8 +28,9 @@ use Rattle.histories.specs.Histories.{Entry, Replays, Told}
 use Rattle.hub.specs.Seats.{PlainSeat, reach}
 use Rattle.hub.specs.Calls.{Answered, Refused}
 
--- the engine as it is kept, the opening that the history begins with and how many entries it stands for, the entries of the history, how many it may
--- have, how many seats there are, and whether the end was called
+-- the engine as it is kept, the opening that the history begins with and how many entries it stands
+-- for, the entries of the history, how many it may have, how many seats there are, and whether the
+-- end was called
 pub record PlainLocked : Type 0 where
   pub engine : State
   pub opening : Opening
@@ -38,7 +40,8 @@ pub record PlainLocked : Type 0 where
   pub seats : ℕ
   pub has_ended : Bool
 
--- the engine as a plain value; not unfolded, so that what is said of it stays short where the lock is taken
+-- the engine as a plain value; not unfolded, so that
+-- what is said of it stays short where the lock is taken
 unfoldable pub engine_at : PlainLocked → PlainEngine
 engine_at l = engine_in l.engine
 
@@ -69,8 +72,10 @@ HasRoom l = (length l.history < l.limit) × (next_number l < 2 ^ 63)
 abbrev pub IsFull : PlainLocked → Type 0
 IsFull l = (l.limit ≤ length l.history) ⊎ (2 ^ 63 ≤ next_number l)
 
--- AN ACCEPTED COMMAND of a seat: one call on the engine, one entry, one receipt, whose number is above all that the seat holds or has learnt
-pub record Accepted (old : PlainLocked) (seat : PlainSeat) (c : Command) (r : Told) (new : PlainLocked) (seat' : PlainSeat) : Type 0 where
+-- AN ACCEPTED COMMAND of a seat: one call on the engine, one entry, one
+-- receipt, whose number is above all that the seat holds or has learnt
+pub record Accepted (old : PlainLocked) (seat : PlainSeat) (c : Command) (r : Told)
+    (new : PlainLocked) (seat' : PlainSeat) : Type 0 where
   pub legal : IsReplayed old
   pub engine : Answered (engine_at old) c r.entry.reply (engine_at new)
   pub history : new ≡ record (with_engine old new.engine) { history = old.history ++ r.entry ∷ [] }
@@ -81,14 +86,16 @@ pub record Accepted (old : PlainLocked) (seat : PlainSeat) (c : Command) (r : To
   pub above : reach seat ≤ r.number
   pub told : seat' ≡ record seat { receipts = seat.receipts ++ r ∷ [] }
 
--- why a command is refused: the hub's own faults come before all others. The history is full; the seat knows a number that no entry has
+-- why a command is refused: the hub's own faults come before all others.
+-- The history is full; the seat knows a number that no entry has
 abbrev pub Declines : PlainLocked → PlainSeat → Command → Fault → Type 0
 Declines l s c HistoryFull = IsFull l
 Declines l s c (Foreign n) = HasRoom l × (n ≡ next_number l) × (n < reach s)
 Declines l s c f = HasRoom l × (reach s ≤ next_number l) × Refused (engine_at l) c f
 
 -- A REFUSED COMMAND changes nothing
-pub record Declined (old : PlainLocked) (seat : PlainSeat) (c : Command) (f : Fault) (new : PlainLocked) (seat' : PlainSeat) : Type 0 where
+pub record Declined (old : PlainLocked) (seat : PlainSeat) (c : Command) (f : Fault)
+    (new : PlainLocked) (seat' : PlainSeat) : Type 0 where
   pub legal : IsReplayed old
   pub same : IsSame old new
   pub kept : seat' ≡ seat
@@ -110,11 +117,13 @@ pub record IsFresh (l : PlainLocked) (seats limit : ℕ) : Type 0 where
   pub seated : l.seats ≡ seats
   pub going : l.has_ended ≡ false
 
--- WHERE IT FORGETS the engine does, and the history begins anew with the machine that is left: no entry is in it, and numbers go on. Where memory is
--- refused nothing is changed
+-- WHERE IT FORGETS the engine does, and the history begins anew with the machine that is
+-- left: no entry is in it, and numbers go on. Where memory is refused nothing is changed
 abbrev pub HasForgotten : PlainLocked → PlainLocked → Type 0
-HasForgotten old new = (engine_at new ≡ forgotten (engine_at old)) × (opening_in new.opening ≡ (forgotten (engine_at old)).machine)
-    × (new ≡ record (with_engine old new.engine) { opening = new.opening; first = next_number old; history = [] })
+HasForgotten old new = (engine_at new ≡ forgotten (engine_at old))
+    × (opening_in new.opening ≡ (forgotten (engine_at old)).machine)
+    × (new ≡ record (with_engine old new.engine) { opening = new.opening; first = next_number old;
+    history = [] })
 
 pub record Forgets (old : PlainLocked) (result : Result ⊤ Fault) (new : PlainLocked) : Type 0 where
   pub legal : IsReplayed old
@@ -126,23 +135,29 @@ pub record Forgets (old : PlainLocked) (result : Result ⊤ Fault) (new : PlainL
 abbrev pub ended : PlainLocked → PlainLocked
 ended l = record l { has_ended = true }
 
--- WHAT WORKERS CALL, as of the engine. Each says that the history before it was legal, so it is legal whenever the lock is free
-pub record Hands (old : PlainLocked) (rows : ℕ) (result : Result Leased Fault) (new : PlainLocked) : Type 0 where
+-- WHAT WORKERS CALL, as of the engine. Each says that the history
+-- before it was legal, so it is legal whenever the lock is free
+pub record Hands (old : PlainLocked) (rows : ℕ) (result : Result Leased Fault)
+    (new : PlainLocked) : Type 0 where
   pub legal : IsReplayed old
   pub leases : Leases (engine_at old) rows result (engine_at new)
   pub idle : result ≡ Ok leased.Idle → HasAllWaiting (engine_at new)
 
-pub record Ends (old : PlainLocked) (done : Parts) (result : Result ⊤ Fault) (new : PlainLocked) : Type 0 where
+pub record Ends (old : PlainLocked) (done : Parts) (result : Result ⊤ Fault)
+    (new : PlainLocked) : Type 0 where
   pub legal : IsReplayed old
   pub finishes : Finishes (engine_at old) done result (engine_at new)
 
-pub record GivesUp (old : PlainLocked) (lease : ℕ) (result : Result ⊤ Fault) (new : PlainLocked) : Type 0 where
+pub record GivesUp (old : PlainLocked) (lease : ℕ) (result : Result ⊤ Fault)
+    (new : PlainLocked) : Type 0 where
   pub legal : IsReplayed old
   pub abandons : Abandons (engine_at old) lease result (engine_at new)
 
--- A DRAIN IN PLACE: turns of at most so many rows run under the lock, one after the other, and leave those that are out. Where it is done nothing is ready,
--- and of each query that runs and of which no turn is out all its closed answers wait that were not taken
-pub record Drains (old : PlainLocked) (rows : ℕ) (result : Result ⊤ Fault) (new : PlainLocked) : Type 0 where
+-- A DRAIN IN PLACE: turns of at most so many rows run under the lock, one after the other, and
+-- leave those that are out. Where it is done nothing is ready, and of each query that runs and of
+-- which no turn is out all its closed answers wait that were not taken
+pub record Drains (old : PlainLocked) (rows : ℕ) (result : Result ⊤ Fault)
+    (new : PlainLocked) : Type 0 where
   pub legal : IsReplayed old
   pub runs : RunsTurns (engine_at old) rows result (engine_at new)
   pub others : LeavesOthers (engine_at old) result (engine_at new)
@@ -160,7 +175,8 @@ pub record Withholds (old : PlainLocked) (rows : ℕ) (f : Fault) (new : PlainLo
   pub legal : IsReplayed old
   pub refuses : Leases (engine_at old) rows (Err f) (engine_at new)
 
--- nothing is ready: of each query that runs and of which no turn is out, all its closed answers wait that were not taken
+-- nothing is ready: of each query that runs and of which no
+-- turn is out, all its closed answers wait that were not taken
 pub record IsIdle (old : PlainLocked) (rows : ℕ) (new : PlainLocked) : Type 0 where
   pub legal : IsReplayed old
   pub idle : Leases (engine_at old) rows (Ok leased.Idle) (engine_at new)
@@ -191,15 +207,18 @@ pub record SeesWaiting (l : PlainLocked) (query : ℕ) (result : Result ℕ Faul
   pub legal : IsReplayed l
   pub is : WaitsAt (engine_at l) query result
 
-pub record SeesPending {A : Type 0} (view : A → List ℕ) (l : PlainLocked) (query : ℕ) (result : Result A Fault) : Type 0 where
+pub record SeesPending {A : Type 0} (view : A → List ℕ) (l : PlainLocked) (query : ℕ)
+    (result : Result A Fault) : Type 0 where
   pub legal : IsReplayed l
   pub is : IsPending view (engine_at l) query result
 
-pub record SeesSlopes {A : Type 0} (view : A → List (Kind × Fraction)) (l : PlainLocked) (query : ℕ) (result : Result A Fault) : Type 0 where
+pub record SeesSlopes {A : Type 0} (view : A → List (Kind × Fraction)) (l : PlainLocked) (query : ℕ)
+    (result : Result A Fault) : Type 0 where
   pub legal : IsReplayed l
   pub is : Looks view (slopes_at (world_of (engine_at l)) query) result
 
--- WHAT A SEAT KNOWS of its call: what lay under the lock had a legal history, and took the command just so, or refused it
+-- WHAT A SEAT KNOWS of its call: what lay under the lock had a
+-- legal history, and took the command just so, or refused it
 abbrev pub Took : PlainSeat → Command → Told → PlainSeat → Type 0
 Took seat c r seat' = (old : PlainLocked) × (new : PlainLocked) × Accepted old seat c r new seat'
 

@@ -1,5 +1,6 @@
 -- The definitions at worked examples: nine values 1 to 9, and the same with the last one null.
-use Rattle.std.specs.Prelude.{◌≡◌, ℕ, ℤ, pos, Bool, true, false, Option, Some, None, List, [], ◌∷◌, ◌++◌, map, count_by, refl}
+use Rattle.std.specs.Prelude.{◌≡◌, ℕ, ℤ, pos, Bool, true, false, Option, Some, None, List, [], ◌∷◌}
+use Rattle.std.specs.Prelude.{◌++◌, map, count_by, refl}
 use Rattle.values.specs.Row.{Row}
 use Rattle.values.specs.Condition.{compared, not3}
 use Rattle.values.specs.declared.resolved.Compare.TheVariants.{Above, Below}
@@ -7,7 +8,8 @@ use Rattle.column.specs.Bits.{bits}
 use Rattle.lane_kernels.specs.Steps.{steps_truth}
 use Rattle.lane_kernels.specs.Truth.{signed_total, truths}
 use Rattle.lane_kernels.specs.declared.condition.Step.{Step}
-use Rattle.lane_kernels.specs.declared.condition.Step.TheVariants.{Number, Columns, Known, And, Or, Not}
+use Rattle.lane_kernels.specs.declared.condition.Step.TheVariants.{Number, Columns, Known, And, Or}
+use Rattle.lane_kernels.specs.declared.condition.Step.TheVariants.{Not}
 
 abbrev number : ℕ → Option ℤ
 number n = Some (pos n)
@@ -71,5 +73,6 @@ none = Number 0 Above (pos 9) ∷ Number 1 Below (pos 6) ∷ And ∷ []
 none_at_nine : map (steps_truth none) rows ≡ truths 9 (0 ∷ []) (511 ∷ [])
 none_at_nine = refl
 
-columns_compared : steps_truth (Columns 0 Below 1 ∷ Known false ∷ Or ∷ []) (number 4 ∷ number 5 ∷ []) ≡ Some true
+columns_compared : steps_truth (Columns 0 Below 1 ∷ Known false ∷ Or ∷ [])
+    (number 4 ∷ number 5 ∷ []) ≡ Some true
 columns_compared = refl

@@ -1,5 +1,6 @@
 -- Words for the steps of the kernels: eight lanes, single tests, signs as bits.
-use Rattle.std.specs.Prelude.{ℕ, ℤ, pos, ◌+ℤ◌, neg_ℤ, ◌≤ℤ◌, Bool, List, [], ◌∷◌, map, ◌≡◌, ◌^◌, cond, ◌==◌, length, Option, Some, None, get_or}
+use Rattle.std.specs.Prelude.{ℕ, ℤ, pos, ◌+ℤ◌, neg_ℤ, ◌≤ℤ◌, Bool, List, [], ◌∷◌, map, ◌≡◌, ◌^◌}
+use Rattle.std.specs.Prelude.{cond, ◌==◌, length, Option, Some, None, get_or}
 use Rattle.std.specs.List.{range_with_len}
 use Rattle.std.specs.Ordering.{int_cmp}
 use Rattle.values.specs.Condition.{passes}
@@ -51,4 +52,5 @@ bits_of byte = map (λ k. bit_at byte k == 1) (range_with_len 0 8)
 abbrev pub signed_truths : List Bool → List Bool → ℤ
 signed_truths [] vs = pos 0
 signed_truths (m ∷ ms) [] = pos 0
-signed_truths (m ∷ ms) (v ∷ vs) = cond v (cond m (neg_ℤ (pos 1)) (pos 1)) (pos 0) +ℤ signed_truths ms vs
+signed_truths (m ∷ ms) (v ∷ vs) =
+    cond v (cond m (neg_ℤ (pos 1)) (pos 1)) (pos 0) +ℤ signed_truths ms vs

@@ -1,10 +1,12 @@
 -- Conditions as steps in postfix order, over a stack of truths.
-use Rattle.std.specs.Prelude.{ℕ, ◌+◌, ◌-◌, ◌<◌, ◌≤◌, ◌≡◌, Bool, true, false, Option, Some, None, List, [], ◌∷◌}
+use Rattle.std.specs.Prelude.{ℕ, ◌+◌, ◌-◌, ◌<◌, ◌≤◌, ◌≡◌, Bool, true, false, Option, Some, None}
+use Rattle.std.specs.Prelude.{List, [], ◌∷◌}
 use Rattle.std.specs.Int.{bit_at}
 use Rattle.values.specs.Row.{Row, value_at}
 use Rattle.values.specs.Condition.{compared, not3, and3, or3}
 use Rattle.lane_kernels.specs.declared.condition.Step.{Step}
-use Rattle.lane_kernels.specs.declared.condition.Step.TheVariants.{Number, Columns, Known, And, Or, Not}
+use Rattle.lane_kernels.specs.declared.condition.Step.TheVariants.{Number, Columns, Known, And, Or}
+use Rattle.lane_kernels.specs.declared.condition.Step.TheVariants.{Not}
 use Rattle.lane_kernels.specs.declared.condition.Word.{Word}
 
 -- the truths that a row has after a step, the last one first

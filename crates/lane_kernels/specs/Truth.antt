@@ -1,5 +1,6 @@
 -- Truths of many places, as two lists of words.
-use Rattle.std.specs.Prelude.{ℕ, ℤ, pos, neg_ℤ, ◌+ℤ◌, Bool, List, [], ◌∷◌, map, ◌≡◌, ◌≤◌, cond, ◌==◌, Option, Some, None}
+use Rattle.std.specs.Prelude.{ℕ, ℤ, pos, neg_ℤ, ◌+ℤ◌, Bool, List, [], ◌∷◌, map, ◌≡◌, ◌≤◌, cond}
+use Rattle.std.specs.Prelude.{◌==◌, Option, Some, None}
 use Rattle.std.specs.List.{range_with_len}
 use Rattle.column.specs.Bits.{place}
 

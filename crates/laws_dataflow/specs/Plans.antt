@@ -1,10 +1,13 @@
--- A registered query's plan as a net: the consumer of each operator, the values of all, and what the machine knows of its streams.
-use Rattle.std.specs.Prelude.{◌≡◌, ℕ, suc, ◌-◌, ◌<◌, cond, max, min, List, [], ◌∷◌, ◌++◌, map, length, get_or}
+-- A registered query's plan as a net: the consumer of each operator,
+-- the values of all, and what the machine knows of its streams.
+use Rattle.std.specs.Prelude.{◌≡◌, ℕ, suc, ◌-◌, ◌<◌, cond, max, min, List, [], ◌∷◌, ◌++◌, map}
+use Rattle.std.specs.Prelude.{length, get_or}
 use Rattle.values.specs.Row.{Row}
 use Rattle.values.specs.Window.{Element, Window, Unbounded}
 use Rattle.values.specs.Answers.{Resolved, shown_at}
 use Rattle.plan.specs.Nodes as plan
-use Rattle.plan.specs.Nodes.{Window as WindowNode, Select, Join, Project, Group, Distinct, ToStream, values_of}
+use Rattle.plan.specs.Nodes.{Window as WindowNode, Select, Join, Project, Group, Distinct, ToStream}
+use Rattle.plan.specs.Nodes.{values_of}
 use Rattle.plan.specs.Build.{plan_of}
 use Rattle.plan.specs.Paths.{takes}
 use Rattle.plan.specs.Scope.{Scoped, Tables}
@@ -14,7 +17,8 @@ use Rattle.reference.specs.Machine.{Machine, Place, Registered, Stream, opens, i
 use Rattle.laws_dataflow.specs.Nets.{World}
 
 -- CONSUMERS
--- the number of the first operator that takes from the operator i, among operators of which the first has the number n
+-- the number of the first operator that takes from the operator
+-- i, among operators of which the first has the number n
 abbrev pub consumer : ℕ → ℕ → List plan.Node → ℕ
 consumer i n [] = n
 consumer i n (x ∷ xs) = cond (takes i x) n (consumer i (suc n) xs)
@@ -48,9 +52,12 @@ leasts_of closed done (n ∷ ns) = leasts_of closed (done ++ least_by closed don
 abbrev pub least_in : List plan.Node → (ℕ → ℕ) → ℕ → ℕ
 least_in ns closed k = get_or (leasts_of closed [] ns) k 0
 
--- the world of sources with these windows, inputs and open instants; instants below the first count as closed
+-- the world of sources with these windows, inputs and
+-- open instants; instants below the first count as closed
 abbrev pub world_by : ℕ → List Window → List (List Element) → List ℕ → List ℕ → World
-world_by first ws inputs open_at came = record { first = first; windows = λ k. get_or ws k Unbounded; inputs = λ k. get_or inputs k []; closed = λ k. max first (get_or open_at k 0); came = λ k. get_or came k 0 }
+world_by first ws inputs open_at came =
+    record { first = first; windows = λ k. get_or ws k Unbounded; inputs = λ k. get_or inputs k [];
+    closed = λ k. max first (get_or open_at k 0); came = λ k. get_or came k 0 }
 
 -- A REGISTERED QUERY OF THE MACHINE
 abbrev pub inputs_of : Machine → Registered → List (List Element)
@@ -65,7 +72,8 @@ abbrev pub comes : List Stream → List Place → List ℕ
 comes streams places = map (λ p. arrivals_at streams p - p.arrivals) places
 
 abbrev pub world_of : Machine → Registered → World
-world_of m q = world_by q.first q.meaning.windows (inputs_of m q) (opens m.streams q.places) (comes m.streams q.places)
+world_of m q = world_by q.first q.meaning.windows (inputs_of m q) (opens m.streams q.places)
+    (comes m.streams q.places)
 
 abbrev pub bags_of : Machine → Registered → ℕ → List (List Row)
 bags_of m q t = shown_at q.first q.meaning.windows t (inputs_of m q)
@@ -76,7 +84,8 @@ value_of m q = value_in q.nodes (bags_of m q)
 abbrev pub least_of : Machine → Registered → ℕ → ℕ
 least_of m q = least_in q.nodes (world_of m q).closed
 
--- the operators are the plan of what the query means, over sources so wide; their streams' rows are so wide
+-- the operators are the plan of what the query means,
+-- over sources so wide; their streams' rows are so wide
 pub record IsPlanOf (vs : List ℕ) (meaning : Resolved) (ns : List plan.Node) : Type 0 where
   pub some : 0 < length vs
   pub scoped : Scoped vs meaning

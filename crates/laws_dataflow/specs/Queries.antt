@@ -25,16 +25,18 @@ given_at op first v t = map (λ r. (t, r)) (in_order row_cmp (streamed op (befor
 
 -- the answers at the instants from `start` to below `until`
 abbrev pub given_from : StreamOperator → ℕ → (ℕ → List Row) → ℕ → ℕ → List (ℕ × Row)
-given_from op first v start until = flat_map (given_at op first v) (range_with_len start (until - start))
+given_from op first v start until =
+    flat_map (given_at op first v) (range_with_len start (until - start))
 
 -- the first instant that is open behind the last tick
 abbrev pub behind : ℕ → Option ℕ → ℕ
 behind first None = first
 behind first (Some t) = t + 1
 
--- THE ROOT: its state and queue, over an operator that has put out the bag `below` and stands at the open instant m. It has given `earlier`, and
--- behind it the answers from the instant `start` on
-pub record GoodRoot (first start : ℕ) (earlier : List (ℕ × Row)) (v : ℕ → List Row) (s : State) (q : List (Entry Row)) (below : List Row) (m : ℕ) (given : List (ℕ × Row)) : Type 0 where
+-- THE ROOT: its state and queue, over an operator that has put out the bag `below` and stands at
+-- the open instant m. It has given `earlier`, and behind it the answers from the instant `start` on
+pub record GoodRoot (first start : ℕ) (earlier : List (ℕ × Row)) (v : ℕ → List Row) (s : State)
+    (q : List (Entry Row)) (below : List Row) (m : ℕ) (given : List (ℕ × Row)) : Type 0 where
   -- the relation that it has taken, the one at its last tick, and its open instant
   pub whole : List Row
   pub last : List Row
@@ -48,9 +50,12 @@ pub record GoodRoot (first start : ℕ) (earlier : List (ℕ × Row)) (v : ℕ �
   pub given_is : given ≡ earlier ++ given_from (operator_of s.operator) first v start opens
 
 -- A QUERY: the operators below the root, by their numbers, and the root over the last of them
-pub record GoodQuery (w : World) (nodes : ℕ → Node) (count : ℕ) (v : ℕ → ℕ → List Row) (start : ℕ) (earlier : List (ℕ × Row)) (cells : ℕ → Cell) (s : State) (q : List (Entry Row)) (given : List (ℕ × Row)) : Type 0 where
+pub record GoodQuery (w : World) (nodes : ℕ → Node) (count : ℕ) (v : ℕ → ℕ → List Row) (start : ℕ)
+    (earlier : List (ℕ × Row)) (cells : ℕ → Cell) (s : State) (q : List (Entry Row))
+    (given : List (ℕ × Row)) : Type 0 where
   pub good : (k : ℕ) → k < count → GoodAt w nodes v cells k
-  pub root : GoodRoot w.first start earlier (v (count - 1)) s q (cell_shown (cells (count - 1))) (cell_next (cells (count - 1))) given
+  pub root : GoodRoot w.first start earlier (v (count - 1)) s q (cell_shown (cells (count - 1)))
+      (cell_next (cells (count - 1))) given
 
 -- nothing in it is ready
 pub record Idle (count : ℕ) (cells : ℕ → Cell) (q : List (Entry Row)) : Type 0 where

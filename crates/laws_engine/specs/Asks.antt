@@ -19,16 +19,26 @@ pub record IsOperator (e : PlainEngine) (n k : ℕ) (q : Registered) (p : PlainQ
 -- OF SUCH AN OPERATOR
 pub record MayAsk (e : PlainEngine) : Type 0 where
   -- the query has it, and the stream that it reads is there
-  pub operators : (n k : ℕ) (q : Registered) (p : PlainQuery) → IsOperator e n k q p → HasOperator e.machine.streams p k
-  pub logs : (n k : ℕ) (q : Registered) (p : PlainQuery) → IsOperator e n k q p → log_of e.machine.streams p k ≡ log_at e.machine q k
+  pub operators : (n k : ℕ) (q : Registered) (p : PlainQuery) → IsOperator e n k q p
+      → HasOperator e.machine.streams p k
+  pub logs : (n k : ℕ) (q : Registered) (p : PlainQuery) → IsOperator e n k q p
+      → log_of e.machine.streams p k ≡ log_at e.machine q k
   -- where it is ready, it may be leased
-  pub leases : (n k : ℕ) (q : Registered) (p : PlainQuery) (side : Side) (at rows : ℕ) → IsOperator e n k q p → ready (operator_at p.operators k) (log_of e.machine.streams p k) ≡ Some (side, at) → 0 < rows
+  pub leases : (n k : ℕ) (q : Registered) (p : PlainQuery) (side : Side) (at rows : ℕ)
+      → IsOperator e n k q p → ready (operator_at p.operators k) (log_of e.machine.streams p k)
+      ≡ Some (side, at) → 0 < rows
       → CanLease (operator_at p.operators k) (log_of e.machine.streams p k) side rows
   -- or run its turn in place
-  pub in_place : (n k : ℕ) (q : Registered) (p : PlainQuery) (side : Side) (at rows : ℕ) → IsOperator e n k q p → ready (operator_at p.operators k) (log_of e.machine.streams p k) ≡ Some (side, at) → 0 < rows
+  pub in_place : (n k : ℕ) (q : Registered) (p : PlainQuery) (side : Side) (at rows : ℕ)
+      → IsOperator e n k q p → ready (operator_at p.operators k) (log_of e.machine.streams p k)
+      ≡ Some (side, at) → 0 < rows
       → CanRun e.machine.streams p k side rows
   -- a turn of it that is out may come back, and what that puts out may go on
   pub finishes : (l : Lease) (q : Registered) (p : PlainQuery) → IsIn e.leases l → IsOf e l q p
-      → CanFinish (operator_at p.operators l.operator) (log_of e.machine.streams p l.operator) l.side l.item (change_at_first (operator_at p.operators l.operator) l.side l.item)
+      → CanFinish (operator_at p.operators l.operator)
+      (log_of e.machine.streams p l.operator) l.side l.item
+      (change_at_first (operator_at p.operators l.operator) l.side l.item)
   pub puts : (l : Lease) (q : Registered) (p : PlainQuery) → IsIn e.leases l → IsOf e l q p
-      → CanPut e.machine.streams p l.operator l.side l.item (change_at_first (operator_at p.operators l.operator) l.side l.item) (outs_at_first (operator_at p.operators l.operator) l.side l.item)
+      → CanPut e.machine.streams p l.operator l.side l.item
+      (change_at_first (operator_at p.operators l.operator) l.side l.item)
+      (outs_at_first (operator_at p.operators l.operator) l.side l.item)

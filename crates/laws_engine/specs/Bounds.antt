@@ -1,4 +1,5 @@
--- What bounds the answers of a query: its streams have closed few instants, and what was answered before its start was few rows.
+-- What bounds the answers of a query: its streams have closed few
+-- instants, and what was answered before its start was few rows.
 use Rattle.std.specs.Prelude.{ℕ, ◌≡◌, ◌+◌, ◌-◌, ◌*◌, ◌<◌, ◌≤◌, ◌^◌, None, length}
 use Rattle.std.specs.List.{AllByRecursion}
 use Rattle.values.specs.Row.{Row}
@@ -14,7 +15,8 @@ instants = all_instants
 pub record HasFewClosed (s : Stream) : Type 0 where
   pub few : s.first_open ≤ instants
 
--- the earlier answers of a query are of instants that there are, and with 2 ^ 60 rows at each instant from its start on they are no more than 2 ^ 60 rows at each instant
+-- the earlier answers of a query are of instants that there are, and with 2 ^ 60 rows
+-- at each instant from its start on they are no more than 2 ^ 60 rows at each instant
 pub record HasFewEarlier (q : Registered) : Type 0 where
   pub early : AllByRecursion (λ (a : ℕ × Row). a.0 < instants) q.earlier
   pub few : length q.earlier + (instants - q.start) * 2 ^ 60 ≤ instants * 2 ^ 60
@@ -26,4 +28,5 @@ pub record HaveFewClosed (m : Machine) : Type 0 where
 -- IT IS SO at first, and after each command that the machine accepts
 pub record FewClosedStand : Type 0 where
   pub start : HaveFewClosed empty
-  pub goes_on : (m : Machine) (c : Command) (count : ℕ) → first_fault m c ≡ None → HaveFewClosed m → HaveFewClosed (after m c count)
+  pub goes_on : (m : Machine) (c : Command) (count : ℕ) → first_fault m c ≡ None → HaveFewClosed m
+      → HaveFewClosed (after m c count)

@@ -1,5 +1,6 @@
 -- An engine of many queries, as a plain value.
-use Rattle.std.specs.Prelude.{ℕ, Bool, false, ◌≡◌, ◌<◌, ◌==◌, ◌&&◌, ◌⊎◌, nat_lt, cond, Option, Some, None, List, [], ◌∷◌, ◌++◌, length, map, get_or, slice_get}
+use Rattle.std.specs.Prelude.{ℕ, Bool, false, ◌≡◌, ◌<◌, ◌==◌, ◌&&◌, ◌⊎◌, nat_lt, cond, Option, Some}
+use Rattle.std.specs.Prelude.{None, List, [], ◌∷◌, ◌++◌, length, map, get_or, slice_get}
 use Rattle.std.specs.List.{list_any}
 use Rattle.std.specs.List.Sorted.{IsStrictlySortedBy}
 use Rattle.values.specs.Row.{Row}
@@ -24,7 +25,8 @@ abbrev pub IsIn : {X : Type 0} → List X → X → Type 0
 IsIn [] x = ⊥
 IsIn (y ∷ ys) x = (y ≡ x) ⊎ IsIn ys x
 
--- what is left of a registered query: it runs, or was broken by a growth that was refused, or was dropped
+-- what is left of a registered query: it runs, or was
+-- broken by a growth that was refused, or was dropped
 pub data PlainRemains : Type 0 where
   Running : PlainQuery → PlainRemains
   Broken : List (ℕ × Row) → PlainRemains
@@ -36,7 +38,8 @@ answers_in (Running p) = p.answers
 answers_in (Broken answers) = answers
 answers_in Dropped = []
 
--- a turn that is out: its number, the operator of a query that it is of, and the item of a side with the excerpt
+-- a turn that is out: its number, the operator of a query
+-- that it is of, and the item of a side with the excerpt
 pub record Lease : Type 0 where
   pub number : ℕ
   pub query : ℕ
@@ -45,7 +48,8 @@ pub record Lease : Type 0 where
   pub item : Item
   pub excerpt : Near
 
--- the streams and queries, what is left of each query by its number, the turns that are out, the number of the next, and the slots of all operators
+-- the streams and queries, what is left of each query by its number, the
+-- turns that are out, the number of the next, and the slots of all operators
 pub record PlainEngine : Type 0 where
   pub machine : Machine
   pub queries : List PlainRemains
@@ -87,7 +91,8 @@ slot_at e n q p k = slot (slope_at q k) (next_at e n q p k) n k
 -- the slot of the operator k of the query n, if that runs and has such an operator
 abbrev pub slot_in : PlainEngine → ℕ → ℕ → Option Registered → PlainRemains → Option Slot
 slot_in e n k None remains = None
-slot_in e n k (Some q) (Running p) = cond (nat_lt k (length q.nodes)) (Some (slot_at e n q p k)) None
+slot_in e n k (Some q) (Running p) =
+    cond (nat_lt k (length q.nodes)) (Some (slot_at e n q p k)) None
 slot_in e n k (Some q) (Broken answers) = None
 slot_in e n k (Some q) Dropped = None
 
@@ -101,7 +106,8 @@ pub record HasSlots (table : ℕ → ℕ → Option Slot) (slots : List Slot) : 
   pub only : (s : Slot) → IsIn slots s → table s.query s.operator ≡ Some s
 
 -- THE QUERIES
--- the answers that were taken and those that wait are a beginning of the query's answers for the instants that are closed
+-- the answers that were taken and those that wait are a beginning
+-- of the query's answers for the instants that are closed
 pub record HasGiven (m : Machine) (q : Registered) (waiting : List (ℕ × Row)) : Type 0 where
   pub taken : List (ℕ × Row)
   pub counted : length taken ≡ q.taken
@@ -123,7 +129,8 @@ AreRemains m q (Broken answers) = HasGiven m q answers
 AreRemains m q Dropped = HasGiven m q []
 
 -- THE TURNS THAT ARE OUT
--- the item stands first on its side of an operator of a running query, and the excerpt is what it needs of that operator's state
+-- the item stands first on its side of an operator of a running
+-- query, and the excerpt is what it needs of that operator's state
 pub record IsLease (e : PlainEngine) (l : Lease) : Type 0 where
   pub numbered : l.number < e.next
   pub query : Registered
@@ -131,12 +138,14 @@ pub record IsLease (e : PlainEngine) (l : Lease) : Type 0 where
   pub plain : PlainQuery
   pub running : remains_at e l.query ≡ Running plain
   pub within : l.operator < length query.nodes
-  pub first : IsFirst (operator_at plain.operators l.operator) (log_at e.machine query l.operator) l.side l.item
+  pub first : IsFirst (operator_at plain.operators l.operator)
+      (log_at e.machine query l.operator) l.side l.item
   pub near : l.excerpt ≡ near_of (operator_at plain.operators l.operator).state l.side l.item
 
 -- no two are of one operator or of one number
 pub record AreApart (ls : List Lease) : Type 0 where
-  pub operators : (a b : Lease) → IsIn ls a → IsIn ls b → a.query ≡ b.query → a.operator ≡ b.operator → a ≡ b
+  pub operators : (a b : Lease) → IsIn ls a → IsIn ls b → a.query ≡ b.query
+      → a.operator ≡ b.operator → a ≡ b
   pub numbers : (a b : Lease) → IsIn ls a → IsIn ls b → a.number ≡ b.number → a ≡ b
 
 -- A GOOD ENGINE
@@ -144,7 +153,8 @@ pub record GoodEngine (e : PlainEngine) : Type 0 where
   pub machine : IsMachine e.machine
   pub rows : HaveRows e.machine
   pub many : length e.queries ≡ length e.machine.queries
-  pub queries : (n : ℕ) (q : Registered) → query_at e n ≡ Some q → AreRemains e.machine q (remains_at e n)
+  pub queries : (n : ℕ) (q : Registered) → query_at e n ≡ Some q
+      → AreRemains e.machine q (remains_at e n)
   pub leases : (l : Lease) → IsIn e.leases l → IsLease e l
   pub apart : AreApart e.leases
   pub slots : HasSlots (slot_of e) e.slots

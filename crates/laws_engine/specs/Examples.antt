@@ -1,11 +1,14 @@
--- The definitions at worked texts: how many truths a condition needs that has as many brackets open as it may.
+-- The definitions at worked texts: how many truths a
+-- condition needs that has as many brackets open as it may.
 use Rattle.std.specs.Prelude.{◌≡◌, ℕ, [], Option, Some, None, Result, Ok, Err, codes, refl}
-use Rattle.cql_reader.specs.Lexis.{all_ascii, decimal, kind_in, number_of, reserved, same_bytes, same_letters, token_at, word_kind}
+use Rattle.cql_reader.specs.Lexis.{all_ascii, decimal, kind_in, number_of, reserved, same_bytes}
+use Rattle.cql_reader.specs.Lexis.{same_letters, token_at, word_kind}
 use Rattle.cql_reader.specs.Tokens.{scan}
 use Rattle.cql_reader.specs.Query.{Query, Condition}
 use Rattle.cql_reader.specs.Grammar.{alternatives, deepens, did, in_range, kind_of, took}
 use Rattle.cql_reader.specs.Fault.{Fault, TooDeep}
-use Rattle.cql_reader.specs.Prediction.{chosen, count, ends, first, firsts, has, nullable, parsed, pick, run}
+use Rattle.cql_reader.specs.Prediction.{chosen, count, ends, first, firsts, has, nullable, parsed}
+use Rattle.cql_reader.specs.Prediction.{pick, run}
 use Rattle.cql_reader.specs.Reading.{reading}
 use Rattle.names.specs.Resolved.{condition_of}
 use Rattle.row_nodes.specs.Steps.{truths_needed}
@@ -19,23 +22,35 @@ truths_read (Ok q) = truths_in q.condition
 truths_read (Err fault) = 0
 
 no_bracket : truths_read (reading (codes "Select Istream(*) From S Where a=1 Or a=1 And a=1")) ≡ 3
-unfolding reading all_ascii parsed scan token_at word_kind kind_in reserved same_letters same_bytes run count chosen pick firsts ends has first nullable alternatives kind_of in_range deepens took did decimal number_of
+unfolding reading all_ascii parsed scan token_at word_kind kind_in reserved same_letters same_bytes
+    run count chosen pick firsts ends has first nullable alternatives kind_of in_range deepens took
+    did decimal number_of
 no_bracket = refl
 
-one_bracket : truths_read (reading (codes "Select Istream(*) From S Where a=1 Or a=1 And (a=1 Or a=1 And a=1)")) ≡ 5
-unfolding reading all_ascii parsed scan token_at word_kind kind_in reserved same_letters same_bytes run count chosen pick firsts ends has first nullable alternatives kind_of in_range deepens took did decimal number_of
+one_bracket : truths_read (reading
+    (codes "Select Istream(*) From S Where a=1 Or a=1 And (a=1 Or a=1 And a=1)")) ≡ 5
+unfolding reading all_ascii parsed scan token_at word_kind kind_in reserved same_letters same_bytes
+    run count chosen pick firsts ends has first nullable alternatives kind_of in_range deepens took
+    did decimal number_of
 one_bracket = refl
 
 -- chains need no more, however long
-a_chain : truths_read (reading (codes "Select Istream(*) From S Where a=1 Or a=1 Or a=1 Or a=1 And a=1 And a=1 And a=1")) ≡ 3
-unfolding reading all_ascii parsed scan token_at word_kind kind_in reserved same_letters same_bytes run count chosen pick firsts ends has first nullable alternatives kind_of in_range deepens took did decimal number_of
+a_chain : truths_read (reading
+    (codes "Select Istream(*) From S Where a=1 Or a=1 Or a=1 Or a=1 And a=1 And a=1 And a=1")) ≡ 3
+unfolding reading all_ascii parsed scan token_at word_kind kind_in reserved same_letters same_bytes
+    run count chosen pick firsts ends has first nullable alternatives kind_of in_range deepens took
+    did decimal number_of
 a_chain = refl
 
 -- the most that a text can need
 most_brackets : truths_read (reading (codes "Select Istream(*) From S Where a=1 Or a=1 And (a=1 Or a=1 And (a=1 Or a=1 And (a=1 Or a=1 And (a=1 Or a=1 And (a=1 Or a=1 And (a=1 Or a=1 And (a=1 Or a=1 And (a=1 Or a=1 And (a=1 Or a=1 And (a=1 Or a=1 And (a=1 Or a=1 And (a=1 Or a=1 And (a=1 Or a=1 And (a=1 Or a=1 And (a=1 Or a=1 And (a=1 Or a=1 And (a=1 Or a=1 And (a=1 Or a=1 And (a=1 Or a=1 And (a=1 Or a=1 And (a=1 Or a=1 And (a=1 Or a=1 And (a=1 Or a=1 And (a=1 Or a=1 And (a=1 Or a=1 And (a=1 Or a=1 And (a=1 Or a=1 And (a=1 Or a=1 And (a=1 Or a=1 And (a=1 Or a=1 And (a=1 Or a=1 And (a=1 Or a=1 And a=1))))))))))))))))))))))))))))))))")) ≡ 67
-unfolding reading all_ascii parsed scan token_at word_kind kind_in reserved same_letters same_bytes run count chosen pick firsts ends has first nullable alternatives kind_of in_range deepens took did decimal number_of
+unfolding reading all_ascii parsed scan token_at word_kind kind_in reserved same_letters same_bytes
+    run count chosen pick firsts ends has first nullable alternatives kind_of in_range deepens took
+    did decimal number_of
 most_brackets = refl
 
 one_too_many : reading (codes "Select Istream(*) From S Where (((((((((((((((((((((((((((((((((a=1)))))))))))))))))))))))))))))))))") ≡ Err (TooDeep 63)
-unfolding reading all_ascii parsed scan token_at word_kind kind_in reserved same_letters same_bytes run count chosen pick firsts ends has first nullable alternatives kind_of in_range deepens took did decimal number_of
+unfolding reading all_ascii parsed scan token_at word_kind kind_in reserved same_letters same_bytes
+    run count chosen pick firsts ends has first nullable alternatives kind_of in_range deepens took
+    did decimal number_of
 one_too_many = refl

@@ -8,11 +8,14 @@ use Rattle.reference.specs.Machine.{Registered, closed_answers}
 use Rattle.laws_queries.specs.Queries.{PlainQuery}
 use Rattle.run_queue.specs.Slots.{first_of, slot_cmp}
 use Rattle.run_queue.specs.declared.slots.Slot.{Slot}
-use Rattle.laws_engine.specs.Engines.{HasGiven, PlainEngine, Running, answers_in, is_leased, next_at, query_at, remains_at, slope_at, slot_at}
+use Rattle.laws_engine.specs.Engines.{HasGiven, PlainEngine, Running, answers_in, is_leased}
+use Rattle.laws_engine.specs.Engines.{next_at, query_at, remains_at, slope_at, slot_at}
 
--- OF EACH QUERY the answers that were taken, and those that wait, are a beginning of CQL's answers for the instants that are closed
+-- OF EACH QUERY the answers that were taken, and those that wait,
+-- are a beginning of CQL's answers for the instants that are closed
 abbrev pub GivesBeginnings : PlainEngine → Type 0
-GivesBeginnings e = (n : ℕ) (q : Registered) → query_at e n ≡ Some q → HasGiven e.machine q (answers_in (remains_at e n))
+GivesBeginnings e = (n : ℕ) (q : Registered) → query_at e n ≡ Some q
+    → HasGiven e.machine q (answers_in (remains_at e n))
 
 -- they are all of them
 pub record HasGivenAll (e : PlainEngine) (q : Registered) (p : PlainQuery) : Type 0 where
@@ -21,16 +24,19 @@ pub record HasGivenAll (e : PlainEngine) (q : Registered) (p : PlainQuery) : Typ
   pub all : taken ++ p.answers ≡ closed_answers e.machine q
 
 -- none of the query's operators may be leased, and none is
-pub record HasNothingToRun (e : PlainEngine) (n : ℕ) (q : Registered) (p : PlainQuery) : Type 0 where
+pub record HasNothingToRun (e : PlainEngine) (n : ℕ) (q : Registered)
+    (p : PlainQuery) : Type 0 where
   pub unready : (k : ℕ) → k < length q.nodes → next_at e n q p k ≡ None
   pub returned : (k : ℕ) → is_leased e n k ≡ false
 
 -- so of each query that runs of which nothing is left to run, whatever others have
 abbrev pub GivesAll : PlainEngine → Type 0
-GivesAll e = (n : ℕ) (q : Registered) (p : PlainQuery) → query_at e n ≡ Some q → remains_at e n ≡ Running p → HasNothingToRun e n q p → HasGivenAll e q p
+GivesAll e = (n : ℕ) (q : Registered) (p : PlainQuery) → query_at e n ≡ Some q
+    → remains_at e n ≡ Running p → HasNothingToRun e n q p → HasGivenAll e q p
 
--- THE FIRST SLOT is of an operator that may be leased; no operator that may be leased has a greater slope, and each other one stands behind it in the order of
--- slots: by slope, then by the earlier instant, then by the lower number of the query, then by that of the operator
+-- THE FIRST SLOT is of an operator that may be leased; no operator that may be leased has a greater
+-- slope, and each other one stands behind it in the order of slots: by slope, then by the earlier
+-- instant, then by the lower number of the query, then by that of the operator
 pub record IsOfSteepest (e : PlainEngine) (s : Slot) : Type 0 where
   pub query : Registered
   pub registered : query_at e s.query ≡ Some query
@@ -38,9 +44,11 @@ pub record IsOfSteepest (e : PlainEngine) (s : Slot) : Type 0 where
   pub running : remains_at e s.query ≡ Running plain
   pub within : s.operator < length query.nodes
   pub next : next_at e s.query query plain s.operator ≡ Some (s.side, s.instant)
-  pub steepest : (n k : ℕ) (q : Registered) (p : PlainQuery) (t : Side × ℕ) → query_at e n ≡ Some q → remains_at e n ≡ Running p → k < length q.nodes → next_at e n q p k ≡ Some t
+  pub steepest : (n k : ℕ) (q : Registered) (p : PlainQuery) (t : Side × ℕ) → query_at e n ≡ Some q
+      → remains_at e n ≡ Running p → k < length q.nodes → next_at e n q p k ≡ Some t
       → NoGreater (slope_at q k) (slope_at query s.operator)
-  pub first : (n k : ℕ) (q : Registered) (p : PlainQuery) (t : Side × ℕ) → query_at e n ≡ Some q → remains_at e n ≡ Running p → k < length q.nodes → next_at e n q p k ≡ Some t
+  pub first : (n k : ℕ) (q : Registered) (p : PlainQuery) (t : Side × ℕ) → query_at e n ≡ Some q
+      → remains_at e n ≡ Running p → k < length q.nodes → next_at e n q p k ≡ Some t
       → (slot_at e n q p k ≡ s) ⊎ (slot_cmp s (slot_at e n q p k) ≡ Less)
 
 abbrev pub LeasesSteepest : PlainEngine → Type 0
@@ -48,7 +56,9 @@ LeasesSteepest e = (s : Slot) → first_of e.slots ≡ Some s → IsOfSteepest e
 
 -- WHERE THERE IS NO FIRST SLOT no operator may be leased
 abbrev pub TellsIdleness : PlainEngine → Type 0
-TellsIdleness e = first_of e.slots ≡ None → (n k : ℕ) (q : Registered) (p : PlainQuery) → query_at e n ≡ Some q → remains_at e n ≡ Running p → k < length q.nodes → next_at e n q p k ≡ None
+TellsIdleness e = first_of e.slots ≡ None → (n k : ℕ) (q : Registered) (p : PlainQuery)
+    → query_at e n ≡ Some q → remains_at e n ≡ Running p → k < length q.nodes
+    → next_at e n q p k ≡ None
 
 -- ALL FOUR
 pub record KeepsItsPromises (e : PlainEngine) : Type 0 where
@@ -57,6 +67,9 @@ pub record KeepsItsPromises (e : PlainEngine) : Type 0 where
   pub steepest : LeasesSteepest e
   pub idle : TellsIdleness e
 
--- THERE WAIT, of each query that runs and of which no turn is out, just those of its answers that are closed and not yet taken
+-- THERE WAIT, of each query that runs and of which no turn is out,
+-- just those of its answers that are closed and not yet taken
 abbrev pub HasAllWaiting : PlainEngine → Type 0
-HasAllWaiting e = (n : ℕ) (q : Registered) (p : PlainQuery) → query_at e n ≡ Some q → remains_at e n ≡ Running p → ((k : ℕ) → is_leased e n k ≡ false) → p.answers ≡ drop q.taken (closed_answers e.machine q)
+HasAllWaiting e = (n : ℕ) (q : Registered) (p : PlainQuery) → query_at e n ≡ Some q
+    → remains_at e n ≡ Running p → ((k : ℕ) → is_leased e n k ≡ false)
+    → p.answers ≡ drop q.taken (closed_answers e.machine q)

@@ -1,5 +1,6 @@
 -- How many rows the bags have that operators of a query have taken and put out, at any moment.
-use Rattle.std.specs.Prelude.{ℕ, suc, ◌≡◌, ◌+◌, ◌*◌, ◌-◌, ◌≤◌, ◌^◌, ◌++◌, true, false, List, [], ◌∷◌, length, max, get_or}
+use Rattle.std.specs.Prelude.{ℕ, suc, ◌≡◌, ◌+◌, ◌*◌, ◌-◌, ◌≤◌, ◌^◌, ◌++◌, true, false, List, []}
+use Rattle.std.specs.Prelude.{◌∷◌, length, max, get_or}
 use Rattle.values.specs.Row.{Row}
 use Rattle.values.specs.Window.{Element}
 use Rattle.op_queue.specs.Entries.{Entry, RowAt, TickAt}
@@ -7,7 +8,8 @@ use Rattle.op_queue.specs.Signed.{weigh}
 use Rattle.plan.specs.Nodes as plan
 use Rattle.reference.specs.Commands.{rows_of_each}
 use Rattle.laws_dataflow.specs.Windows.{opened}
-use Rattle.laws_dataflow.specs.Nets.{World, Cell, Input, at_window, at_unary, at_join, left_of, right_of}
+use Rattle.laws_dataflow.specs.Nets.{World, Cell, Input, at_window, at_unary, at_join, left_of}
+use Rattle.laws_dataflow.specs.Nets.{right_of}
 use Rattle.laws_dataflow.specs.Operators.{node_of}
 
 abbrev pub count : List Row → ℕ
@@ -35,8 +37,8 @@ sources_of (plan.ToStream i op ∷ ns) = sources_of ns
 abbrev pub source_rows : List plan.Node → ℕ
 source_rows ns = rows_of_each (sources_of ns)
 
--- AT TICKS an operator has put out at most so many rows, by those of its inputs, where `most` rows of each source count; without Group By there is one group of
--- no rows
+-- AT TICKS an operator has put out at most so many rows, by those of its inputs, where
+-- `most` rows of each source count; without Group By there is one group of no rows
 abbrev pub tick_rows_by : ℕ → (ℕ → ℕ) → plan.Node → ℕ
 tick_rows_by most f (plan.Window s) = most
 tick_rows_by most f (plan.Select i cs) = f i
@@ -72,9 +74,11 @@ pub record AreWindowRowsFew (most c came : ℕ) (input held waiting : List Eleme
   pub few : length held + (length waiting + length (opened c input)) ≤ came
   pub stream : came ≤ most
 
--- the operator k, of a node below the root: what it has taken, and takes on the way through its queue
+-- the operator k, of a node below the root: what it
+-- has taken, and takes on the way through its queue
 abbrev pub AreFew : World → List plan.Node → plan.Node → Cell → Type 0
-AreFew w ns (plan.Window s) (at_window h e b q n) = AreWindowRowsFew (source_rows ns) (w.closed s) (w.came s) (w.inputs s) h e
+AreFew w ns (plan.Window s) (at_window h e b q n) =
+    AreWindowRowsFew (source_rows ns) (w.closed s) (w.came s) (w.inputs s) h e
 AreFew w ns (plan.Window s) (at_unary q i b n) = ⊥
 AreFew w ns (plan.Window s) (at_join q r l m b n x y) = ⊥
 AreFew w ns (plan.Select i cs) (at_window h e b q n) = ⊥
@@ -82,15 +86,18 @@ AreFew w ns (plan.Select i cs) (at_unary q t b n) = StaysWithin (most_rows ns i)
 AreFew w ns (plan.Select i cs) (at_join q r l m b n x y) = ⊥
 AreFew w ns (plan.Join i j ks) (at_window h e b q n) = ⊥
 AreFew w ns (plan.Join i j ks) (at_unary q t b n) = ⊥
-AreFew w ns (plan.Join i j ks) (at_join q r l m b n x y) = StaysWithin (most_rows ns i) (count l) q × StaysWithin (most_rows ns j) (count m) r
+AreFew w ns (plan.Join i j ks) (at_join q r l m b n x y) =
+    StaysWithin (most_rows ns i) (count l) q × StaysWithin (most_rows ns j) (count m) r
 AreFew w ns (plan.Project i columns) (at_window h e b q n) = ⊥
 AreFew w ns (plan.Project i columns) (at_unary q t b n) = StaysWithin (most_rows ns i) (count t) q
 AreFew w ns (plan.Project i columns) (at_join q r l m b n x y) = ⊥
 AreFew w ns (plan.Group i by items) (at_window h e b q n) = ⊥
-AreFew w ns (plan.Group i by items) (at_unary q t b n) = StaysWithin (most_rows ns i) (count t) q × (count b ≤ max 1 (tick_rows ns i))
+AreFew w ns (plan.Group i by items) (at_unary q t b n) =
+    StaysWithin (most_rows ns i) (count t) q × (count b ≤ max 1 (tick_rows ns i))
 AreFew w ns (plan.Group i by items) (at_join q r l m b n x y) = ⊥
 AreFew w ns (plan.Distinct i) (at_window h e b q n) = ⊥
-AreFew w ns (plan.Distinct i) (at_unary q t b n) = StaysWithin (most_rows ns i) (count t) q × (count b ≤ tick_rows ns i)
+AreFew w ns (plan.Distinct i) (at_unary q t b n) =
+    StaysWithin (most_rows ns i) (count t) q × (count b ≤ tick_rows ns i)
 AreFew w ns (plan.Distinct i) (at_join q r l m b n x y) = ⊥
 AreFew w ns (plan.ToStream i op) c = ⊥
 

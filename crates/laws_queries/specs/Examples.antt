@@ -24,7 +24,8 @@ once_always = refl
 
 -- THREE AND FOUR SOURCES have as many combinations at most: fewer rows of each count
 abbrev three : List Node
-three = Window 0 ∷ Window 1 ∷ Window 2 ∷ Join 0 1 [] ∷ Join 3 2 [] ∷ Project 4 [] ∷ ToStream 5 Istream ∷ []
+three = Window 0 ∷ Window 1 ∷ Window 2 ∷ Join 0 1 [] ∷ Join 3 2 [] ∷ Project 4 []
+    ∷ ToStream 5 Istream ∷ []
 
 each_of_three : tick_rows three 0 ≡ 2 ^ 20
 each_of_three = refl
@@ -33,7 +34,8 @@ joined_of_three : tick_rows three 4 ≡ 2 ^ 60
 joined_of_three = refl
 
 abbrev four : List Node
-four = Window 0 ∷ Window 1 ∷ Window 2 ∷ Window 3 ∷ Join 0 1 [] ∷ Join 4 2 [] ∷ Join 5 3 [] ∷ Project 6 [] ∷ ToStream 7 Istream ∷ []
+four = Window 0 ∷ Window 1 ∷ Window 2 ∷ Window 3 ∷ Join 0 1 [] ∷ Join 4 2 [] ∷ Join 5 3 []
+    ∷ Project 6 [] ∷ ToStream 7 Istream ∷ []
 
 each_of_four : tick_rows four 1 ≡ 2 ^ 15
 each_of_four = refl

@@ -15,9 +15,15 @@ pub record IsReady (o : PlainOperator) (log : Closed) (side : Side) : Type 0 whe
   pub can : usable o.state side ≡ true
   pub waits : 0 < length (waiting o log side)
 
--- THE SIDE that an operator names as ready is so; what is cut from its front stands first, and goes on to where more comes behind it
+-- THE SIDE that an operator names as ready is so; what is cut from
+-- its front stands first, and goes on to where more comes behind it
 pub record LeasesStandFirst : Type 0 where
-  pub named : (o : PlainOperator) (log : Closed) (side : Side) (t : ℕ) → ready o log ≡ Some (side, t) → IsReady o log side
-  pub cut : (o : PlainOperator) (log : Closed) (side : Side) (rows : ℕ) (i : Item) → IsReady o log side → rows ≤ 1024 → IsFrontPart rows (waiting o log side) i → IsFirst o log side i
-  pub stays : (o o2 : PlainOperator) (log log2 : Closed) (side : Side) (i : Item) (more : List (Entry Row)) → o2.state ≡ o.state → waiting o2 log2 side ≡ waiting o log side ++ more
+  pub named : (o : PlainOperator) (log : Closed) (side : Side) (t : ℕ)
+      → ready o log ≡ Some (side, t) → IsReady o log side
+  pub cut : (o : PlainOperator) (log : Closed) (side : Side) (rows : ℕ) (i : Item)
+      → IsReady o log side → rows ≤ 1024 → IsFrontPart rows (waiting o log side) i
+      → IsFirst o log side i
+  pub stays : (o o2 : PlainOperator) (log log2 : Closed) (side : Side) (i : Item)
+      (more : List (Entry Row)) → o2.state ≡ o.state
+      → waiting o2 log2 side ≡ waiting o log side ++ more
       → IsFirst o log side i → IsFirst o2 log2 side i

@@ -1,5 +1,6 @@
--- What is true of the machine at all times: its streams have few rows, each as wide as their columns, and its queries run plans over streams so wide, to which
--- no more rows came since than may count for them.
+-- What is true of the machine at all times: its streams have few rows, each as wide as their
+-- columns, and its queries run plans over streams so wide, to which no more rows came since than
+-- may count for them.
 use Rattle.std.specs.Prelude.{ℕ, ◌≡◌, ◌≤◌, ◌<◌, false, None, List, length, map, get_or, slice_get}
 use Rattle.std.specs.List.{AllByRecursion}
 use Rattle.std.specs.Option.{option_map_or}
@@ -43,7 +44,8 @@ pub record IsMachine (m : Machine) : Type 0 where
 -- IT IS SO at first, and after each command that the machine accepts
 pub record MachinesStand : Type 0 where
   pub start : IsMachine empty
-  pub goes_on : (m : Machine) (c : Command) (count : ℕ) → first_fault m c ≡ None → IsMachine m → IsMachine (after m c count)
+  pub goes_on : (m : Machine) (c : Command) (count : ℕ) → first_fault m c ≡ None → IsMachine m
+      → IsMachine (after m c count)
 
 -- a command changes the widths of no query's sources
 pub record CommandsKeep (m m2 : Machine) (q : Registered) : Type 0 where
@@ -52,8 +54,12 @@ pub record CommandsKeep (m m2 : Machine) (q : Registered) : Type 0 where
 
 -- ITS QUERIES stand over its streams, and are bounded while they keep their limit
 pub record QueriesStand (m : Machine) : Type 0 where
-  pub each : (k : ℕ) (d : Registered) → k < length m.queries → IsQuery m.streams (get_or m.queries k d)
-  pub keep_limits : (k : ℕ) (d : Registered) → k < length m.queries → KeepsItsLimit m.streams (get_or m.queries k d)
+  pub each : (k : ℕ) (d : Registered) → k < length m.queries
+      → IsQuery m.streams (get_or m.queries k d)
+  pub keep_limits : (k : ℕ) (d : Registered) → k < length m.queries
+      → KeepsItsLimit m.streams (get_or m.queries k d)
   pub stands : (q : Registered) → IsQuery m.streams q → Stands (widths_of m.streams q) m q
-  pub bounded : (q : Registered) → IsQuery m.streams q → HasFewSince m.streams q → IsBounded (widths_of m.streams q) m q
-  pub keeps : (c : Command) (count : ℕ) (q : Registered) → IsQuery m.streams q → CommandsKeep m (after m c count) q
+  pub bounded : (q : Registered) → IsQuery m.streams q → HasFewSince m.streams q
+      → IsBounded (widths_of m.streams q) m q
+  pub keeps : (c : Command) (count : ℕ) (q : Registered) → IsQuery m.streams q
+      → CommandsKeep m (after m c count) q

@@ -1,5 +1,7 @@
--- A running query: its operators, of which each stands for a cell of a net, and what it has given of its answers.
-use Rattle.std.specs.Prelude.{ℕ, ◌≡◌, ◌≢◌, ◌-◌, ◌<◌, ◌≤◌, ◌++◌, true, max, None, List, [], length, map, get_or, slice_get}
+-- A running query: its operators, of which each stands for
+-- a cell of a net, and what it has given of its answers.
+use Rattle.std.specs.Prelude.{ℕ, ◌≡◌, ◌≢◌, ◌-◌, ◌<◌, ◌≤◌, ◌++◌, true, max, None, List, [], length}
+use Rattle.std.specs.Prelude.{map, get_or, slice_get}
 use Rattle.std.specs.List.{AllByRecursion}
 use Rattle.std.specs.Option.{option_map_or}
 use Rattle.values.specs.Row.{Row}
@@ -15,7 +17,8 @@ use Rattle.turn.specs.Turns.{change_at}
 use Rattle.turn.specs.declared.kinds.Kind.TheVariants as kind
 use Rattle.turn.specs.declared.outcomes.Change.{Change}
 use Rattle.operators.specs.Inboxes.{IsInboxWithin, is_fed, queued}
-use Rattle.operators.specs.Operators.{Belongs, IsFed, IsFinished, PlainOperator, inbox_of, ready, waiting}
+use Rattle.operators.specs.Operators.{Belongs, IsFed, IsFinished, PlainOperator, inbox_of, ready}
+use Rattle.operators.specs.Operators.{waiting}
 use Rattle.operators.specs.States.{near_of}
 use Rattle.operators.specs.declared.inboxes.Inbox.{Inbox}
 use Rattle.operators.specs.declared.inboxes.Inbox.TheVariants.{First, Between}
@@ -42,7 +45,8 @@ abbrev pub node_at : Registered → ℕ → plan.Node
 node_at q k = get_or q.nodes k (plan.Window 0)
 
 abbrev pub no_operator : PlainOperator
-no_operator = record { kind = kind.ToStream; state = state.Nothing; left = nothing_waits; right = nothing_waits }
+no_operator = record { kind = kind.ToStream; state = state.Nothing; left = nothing_waits;
+    right = nothing_waits }
 
 abbrev pub operator_at : List PlainOperator → ℕ → PlainOperator
 operator_at os k = get_or os k no_operator
@@ -73,14 +77,16 @@ abbrev pub log_at : Machine → Registered → ℕ → Closed
 log_at m q k = stream_log m.streams (source_of q (node_at q k))
 
 -- WHAT WAITS FOR THEM
--- a first queue, of a query of this place and first instant: it goes on where its log ends, or at that instant
+-- a first queue, of a query of this place and first instant:
+-- it goes on where its log ends, or at that instant
 abbrev pub Reads : ℕ → ℕ → Closed → Inbox → Type 0
 Reads place first log (First c) = (c.place ≡ place) × (max c.at log.until ≡ max first log.until)
 Reads place first log (Between w) = ⊥
 
 -- a window reads its source, from the one place on; other operators are fed
 abbrev pub IsLeftInbox : Registered → Closed → plan.Node → Inbox → Type 0
-IsLeftInbox q log (plan.Window s) i = (s < length q.places) × Reads (place_of q s).arrivals q.first log i × IsInboxWithin i log
+IsLeftInbox q log (plan.Window s) i =
+    (s < length q.places) × Reads (place_of q s).arrivals q.first log i × IsInboxWithin i log
 IsLeftInbox q log (plan.Select j cs) i = is_fed i ≡ true
 IsLeftInbox q log (plan.Join j k ks) i = is_fed i ≡ true
 IsLeftInbox q log (plan.Project j columns) i = is_fed i ≡ true
@@ -88,19 +94,22 @@ IsLeftInbox q log (plan.Group j by items) i = is_fed i ≡ true
 IsLeftInbox q log (plan.Distinct j) i = is_fed i ≡ true
 IsLeftInbox q log (plan.ToStream j op) i = is_fed i ≡ true
 
-pub record HasInboxes (q : Registered) (log : Closed) (node : plan.Node) (o : PlainOperator) : Type 0 where
+pub record HasInboxes (q : Registered) (log : Closed) (node : plan.Node)
+    (o : PlainOperator) : Type 0 where
   pub left : IsLeftInbox q log node o.left
   pub right : is_fed o.right ≡ true
 
 -- an operator below the root
-pub record RunsAt (ws : List ℕ) (m : Machine) (q : Registered) (k : ℕ) (o : PlainOperator) (c : Cell) : Type 0 where
+pub record RunsAt (ws : List ℕ) (m : Machine) (q : Registered) (k : ℕ) (o : PlainOperator)
+    (c : Cell) : Type 0 where
   pub runs : Runs (world_of m q) (width_at ws k) (node_at q k) o (log_at m q k) c
   pub wide : IsWide ws k (node_at q k) o c
   pub few : AreFew (world_of m q) q.nodes (node_at q k) c
   pub inboxes : HasInboxes q (log_at m q k) (node_at q k) o
 
 -- the root, which has taken a bag; the rows that it takes are those of the operator below it
-pub record RunsAtRoot (ws : List ℕ) (m : Machine) (q : Registered) (o : PlainOperator) (s : root.State) (queue : List (Entry Row)) (whole : List Row) : Type 0 where
+pub record RunsAtRoot (ws : List ℕ) (m : Machine) (q : Registered) (o : PlainOperator)
+    (s : root.State) (queue : List (Entry Row)) (whole : List Row) : Type 0 where
   pub runs : RunsRoot o (log_at m q (below_root q.nodes)) s queue
   pub operator : operator_of s.operator ≡ q.meaning.operator
   pub wide : AreEntries (width_at ws (below_root q.nodes - 1)) queue
@@ -108,7 +117,8 @@ pub record RunsAtRoot (ws : List ℕ) (m : Machine) (q : Registered) (o : PlainO
   pub inboxes : HasInboxes q (log_at m q (below_root q.nodes)) (node_at q (below_root q.nodes)) o
 
 -- A RUNNING QUERY, which has given these answers
-pub record IsRunning (vs ws : List ℕ) (m : Machine) (q : Registered) (os : List PlainOperator) (given : List (ℕ × Row)) : Type 0 where
+pub record IsRunning (vs ws : List ℕ) (m : Machine) (q : Registered) (os : List PlainOperator)
+    (given : List (ℕ × Row)) : Type 0 where
   pub stands : nets.Stands vs m q
   pub many : length os ≡ length q.nodes
   pub cells : ℕ → Cell
@@ -118,7 +128,8 @@ pub record IsRunning (vs ws : List ℕ) (m : Machine) (q : Registered) (os : Lis
   pub inner : (k : ℕ) → k < below_root q.nodes → RunsAt ws m q k (operator_at os k) (cells k)
   pub last : RunsAtRoot ws m q (operator_at os (below_root q.nodes)) held queue good.root.whole
 
--- as a plain value: its operators, by the number of each where its outputs go and which stream it reads, and the answers that wait
+-- as a plain value: its operators, by the number of each where its
+-- outputs go and which stream it reads, and the answers that wait
 pub record PlainQuery : Type 0 where
   pub operators : List PlainOperator
   pub wires : List Wire
@@ -126,7 +137,8 @@ pub record PlainQuery : Type 0 where
   pub answers : List (ℕ × Row)
 
 -- it runs; of what it has given these were taken, and the others wait
-pub record IsPlainQuery (vs ws : List ℕ) (m : Machine) (q : Registered) (taken : List (ℕ × Row)) (p : PlainQuery) : Type 0 where
+pub record IsPlainQuery (vs ws : List ℕ) (m : Machine) (q : Registered) (taken : List (ℕ × Row))
+    (p : PlainQuery) : Type 0 where
   pub wires : p.wires ≡ wires_of q.nodes
   pub sources : p.sources ≡ map (source_of q) q.nodes
   pub runs : IsRunning vs ws m q p.operators (taken ++ p.answers)
@@ -135,17 +147,26 @@ pub record IsPlainQuery (vs ws : List ℕ) (m : Machine) (q : Registered) (taken
 abbrev pub change_at_first : PlainOperator → Side → Item → Change
 change_at_first o side i = change_at o.kind i (near_of o.state side i)
 
--- of the operator k with an item of its side: what it puts out goes to another operator, and all else is as it was
-pub record IsTurned (m : Machine) (q : Registered) (k : ℕ) (side : Side) (i : Item) (outs : List (Entry Row)) (os os2 : List PlainOperator) : Type 0 where
+-- of the operator k with an item of its side: what it puts
+-- out goes to another operator, and all else is as it was
+pub record IsTurned (m : Machine) (q : Registered) (k : ℕ) (side : Side) (i : Item)
+    (outs : List (Entry Row)) (os os2 : List PlainOperator) : Type 0 where
   pub many : length os2 ≡ length os
-  pub finished : IsFinished (operator_at os k) (log_at m q k) side i (change_at_first (operator_at os k) side i) (operator_at os2 k)
-  pub fed : IsFed (operator_at os (wire_from 0 q.nodes k).to) (wire_from 0 q.nodes k).side outs (operator_at os2 (wire_from 0 q.nodes k).to)
-  pub others : (j : ℕ) → j ≢ k → j ≢ (wire_from 0 q.nodes k).to → operator_at os2 j ≡ operator_at os j
+  pub finished : IsFinished (operator_at os k) (log_at m q k) side i
+      (change_at_first (operator_at os k) side i) (operator_at os2 k)
+  pub fed : IsFed (operator_at os (wire_from 0 q.nodes k).to) (wire_from 0 q.nodes k).side outs
+      (operator_at os2 (wire_from 0 q.nodes k).to)
+  pub others : (j : ℕ) → j ≢ k → j ≢ (wire_from 0 q.nodes k).to
+      → operator_at os2 j ≡ operator_at os j
 
 -- of the root
-pub record IsAnswered (m : Machine) (q : Registered) (side : Side) (i : Item) (os os2 : List PlainOperator) : Type 0 where
+pub record IsAnswered (m : Machine) (q : Registered) (side : Side) (i : Item)
+    (os os2 : List PlainOperator) : Type 0 where
   pub many : length os2 ≡ length os
-  pub finished : IsFinished (operator_at os (below_root q.nodes)) (log_at m q (below_root q.nodes)) side i (change_at_first (operator_at os (below_root q.nodes)) side i) (operator_at os2 (below_root q.nodes))
+  pub finished : IsFinished (operator_at os (below_root q.nodes))
+      (log_at m q (below_root q.nodes)) side i
+      (change_at_first (operator_at os (below_root q.nodes)) side i)
+      (operator_at os2 (below_root q.nodes))
   pub others : (j : ℕ) → j ≢ below_root q.nodes → operator_at os2 j ≡ operator_at os j
 
 -- THE CALLER'S CONDITIONS of a turn with the item that stands first at a side, and of feeding
@@ -167,7 +188,10 @@ NoneReady m q os = (k : ℕ) → k < length q.nodes → ready (operator_at os k)
 abbrev pub elements_at : List Stream → ℕ → List Element
 elements_at streams n = option_map_or (λ s. s.elements) (slice_get streams n) []
 
--- the rows of a window's stream have as many columns as those that it puts out, and values of their range
+-- the rows of a window's stream have as many columns
+-- as those that it puts out, and values of their range
 pub record ReadsRows (ws : List ℕ) (m : Machine) (q : Registered) : Type 0 where
   pub arrival : (n : ℕ) → IsByArrival (elements_at m.streams n)
-  pub wide : (k s : ℕ) → k < below_root q.nodes → node_at q k ≡ plan.Window s → AllByRecursion (λ e. IsRow (width_at ws k) e.row) (elements_at m.streams (place_of q s).stream)
+  pub wide : (k s : ℕ) → k < below_root q.nodes → node_at q k ≡ plan.Window s
+      → AllByRecursion (λ e. IsRow (width_at ws k) e.row)
+      (elements_at m.streams (place_of q s).stream)

@@ -1,5 +1,7 @@
--- A query at its registration: what its text and the machine's streams make sure of, so that the operators of its plan can be made, and run.
-use Rattle.std.specs.Prelude.{ℕ, ◌≡◌, ◌<◌, ◌≤◌, None, Ok, Option, Some, List, [], ℤ, length, map, sum, get_or}
+-- A query at its registration: what its text and the machine's streams
+-- make sure of, so that the operators of its plan can be made, and run.
+use Rattle.std.specs.Prelude.{ℕ, ◌≡◌, ◌<◌, ◌≤◌, None, Ok, Option, Some, List, [], ℤ, length, map}
+use Rattle.std.specs.Prelude.{sum, get_or}
 use Rattle.std.specs.List.{All, AllByRecursion}
 use Rattle.values.specs.declared.TheConstants.{MAX_COLUMNS}
 use Rattle.values.specs.Answers.{Resolved}
@@ -14,7 +16,8 @@ use Rattle.plan.specs.Views.{nodes_of}
 use Rattle.plan.specs.declared.node.Node.{Node}
 use Rattle.physical_plans.specs.Beginnings.{AreMade, HaveNarrowRows, IsMakeable}
 use Rattle.physical_plans.specs.Beginnings as made
-use Rattle.reference.specs.Commands.{Command, Found, Register, after, first_fault, found, registered_as}
+use Rattle.reference.specs.Commands.{Command, Found, Register, after, first_fault, found}
+use Rattle.reference.specs.Commands.{registered_as}
 use Rattle.reference.specs.Machine.{Machine, Registered, Stream, empty, opens}
 use Rattle.laws_dataflow.specs.Plans.{inputs_of, world_of}
 use Rattle.laws_queries.specs.Machines.{IsMachine, IsQuery, widths_of}
@@ -63,7 +66,8 @@ pub record MayMake (windows : List Window) (vs : List ℕ) (nodes : List Node) :
   pub narrow : HaveNarrowRows vs [] nodes
   pub makeable : All (IsMakeable windows (made.widths_of vs nodes)) nodes
 
--- no element counts for the query yet, no row came since its registration, and its first instant lies above all that is closed
+-- no element counts for the query yet, no row came since its
+-- registration, and its first instant lies above all that is closed
 pub record IsFresh (m : Machine) (q : Registered) : Type 0 where
   pub inputs : (k : ℕ) → get_or (inputs_of m q) k [] ≡ []
   pub opens : (k : ℕ) → get_or (opens m.streams q.places) k 0 ≤ q.first
@@ -75,13 +79,17 @@ pub record IsFresh (m : Machine) (q : Registered) : Type 0 where
 abbrev pub lengths_of : Registered → List ℕ
 lengths_of q = map (λ p. p.arrivals) q.places
 
--- A QUERY OVER SOURCES SO WIDE, of a meaning that fits: its operators may be made; as they are made, they run, and have given nothing; and its windows
--- put out rows as wide as their streams'
+-- A QUERY OVER SOURCES SO WIDE, of a meaning that fits: its operators may be made; as they are
+-- made, they run, and have given nothing; and its windows put out rows as wide as their streams'
 pub record Starts (vs : List ℕ) (m : Machine) (q : Registered) : Type 0 where
-  pub may : (windows : List Window) (nodes : List Node) → IsCoded windows nodes q → MayMake windows vs nodes
-  pub runs : (windows : List Window) (nodes : List Node) (os : List PlainOperator) → IsCoded windows nodes q → IsFresh m q
-      → AreMade windows vs (made.widths_of vs nodes) (lengths_of q) q.first nodes os → IsRunning vs (made.widths_of vs nodes) m q os []
-  pub reads : (windows : List Window) (nodes : List Node) → IsCoded windows nodes q → vs ≡ widths_of m.streams q → AreSourceWidths (made.widths_of vs nodes) m q
+  pub may : (windows : List Window) (nodes : List Node) → IsCoded windows nodes q
+      → MayMake windows vs nodes
+  pub runs : (windows : List Window) (nodes : List Node) (os : List PlainOperator)
+      → IsCoded windows nodes q → IsFresh m q
+      → AreMade windows vs (made.widths_of vs nodes) (lengths_of q) q.first nodes os
+      → IsRunning vs (made.widths_of vs nodes) m q os []
+  pub reads : (windows : List Window) (nodes : List Node) → IsCoded windows nodes q
+      → vs ≡ widths_of m.streams q → AreSourceWidths (made.widths_of vs nodes) m q
 
 -- THE STREAMS have 1 to 8 columns
 pub record HasColumnNames (s : Stream) : Type 0 where
@@ -92,17 +100,24 @@ abbrev pub HaveColumnNames : Machine → Type 0
 HaveColumnNames m = AllByRecursion HasColumnNames m.streams
 
 -- THE NEWEST QUERY, of a text that the machine accepts
-pub record IsNewest (m : Machine) (name source : List ℕ) (given : Option (List (ℤ × ℤ))) : Type 0 where
+pub record IsNewest (m : Machine) (name source : List ℕ)
+    (given : Option (List (ℤ × ℤ))) : Type 0 where
   pub found_as : Found
   pub is : found m source given ≡ Ok found_as
   pub query : IsQuery m.streams (registered_as m name found_as)
   pub fresh : IsFresh m (registered_as m name found_as)
 
--- IT IS SO of each accepted registration; and streams are named at first, and after each command that the machine accepts
+-- IT IS SO of each accepted registration; and streams are named
+-- at first, and after each command that the machine accepts
 pub record RegistrationsStand : Type 0 where
-  pub newest : (m : Machine) (name source : List ℕ) (given : Option (List (ℤ × ℤ))) → first_fault m (Register name source given) ≡ None → IsMachine m → HaveRows m → IsNewest m name source given
+  pub newest : (m : Machine) (name source : List ℕ) (given : Option (List (ℤ × ℤ)))
+      → first_fault m (Register name source given) ≡ None → IsMachine m → HaveRows m
+      → IsNewest m name source given
   pub start : HaveColumnNames empty
-  pub goes_on : (m : Machine) (c : Command) (count : ℕ) → first_fault m c ≡ None → HaveColumnNames m → HaveColumnNames (after m c count)
+  pub goes_on : (m : Machine) (c : Command) (count : ℕ) → first_fault m c ≡ None → HaveColumnNames m
+      → HaveColumnNames (after m c count)
   -- so the sources of a query have a column or more each, and at most MAX_COLUMNS together
-  pub some : (m : Machine) (q : Registered) → HaveColumnNames m → IsQuery m.streams q → AllByRecursion (λ v. 0 < v) (widths_of m.streams q)
-  pub together : (m : Machine) (q : Registered) → HaveColumnNames m → IsQuery m.streams q → sum (widths_of m.streams q) ≤ MAX_COLUMNS
+  pub some : (m : Machine) (q : Registered) → HaveColumnNames m → IsQuery m.streams q
+      → AllByRecursion (λ v. 0 < v) (widths_of m.streams q)
+  pub together : (m : Machine) (q : Registered) → HaveColumnNames m → IsQuery m.streams q
+      → sum (widths_of m.streams q) ≤ MAX_COLUMNS

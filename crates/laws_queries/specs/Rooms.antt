@@ -1,4 +1,5 @@
--- What bounds the rows of a query's operators: it has one to four sources, and of each at most so many rows count, by how many they are.
+-- What bounds the rows of a query's operators: it has one to four
+-- sources, and of each at most so many rows count, by how many they are.
 use Rattle.std.specs.Prelude.{ℕ, ◌≡◌, ◌-◌, ◌≤◌, ◌<◌, nat_le, List, length, get_or}
 use Rattle.std.specs.List.{AllByRecursion, filter}
 use Rattle.plan.specs.Nodes.{Window}
@@ -12,11 +13,13 @@ use Rattle.laws_queries.specs.Roots.{HasRootRoom}
 
 -- of the elements of a stream at most as many came behind the first ones as rows came since
 pub record CountsArrivals (s : Stream) : Type 0 where
-  pub since : (place : ℕ) → length (filter (λ e. nat_le place e.arrival) s.elements) ≤ s.arrivals - place
+  pub since : (place : ℕ) → length (filter (λ e. nat_le place e.arrival) s.elements)
+      ≤ s.arrivals - place
 
 -- to the stream of each source no more rows came since the registration than may count
 abbrev pub HasFewSince : List Stream → Registered → Type 0
-HasFewSince streams q = AllByRecursion (λ p. arrivals_at streams p - p.arrivals ≤ rows_of_each (length q.places)) q.places
+HasFewSince streams q = AllByRecursion
+    (λ p. arrivals_at streams p - p.arrivals ≤ rows_of_each (length q.places)) q.places
 
 -- the query over sources so wide
 pub record IsBounded (vs : List ℕ) (m : Machine) (q : Registered) : Type 0 where
@@ -30,11 +33,15 @@ pub record IsBounded (vs : List ℕ) (m : Machine) (q : Registered) : Type 0 whe
 abbrev pub PlanHasRoom : Machine → Registered → Type 0
 PlanHasRoom m q =
     (cells : ℕ → Cell) (k : ℕ) → k < below_root q.nodes
-    → HasRoom q.nodes k (get_or q.nodes k (Window 0)) (input_of (value_of m q) cells (left_of (net_of q.nodes k))) (input_of (value_of m q) cells (right_of (net_of q.nodes k)))
+    → HasRoom q.nodes k (get_or q.nodes k (Window 0))
+    (input_of (value_of m q) cells (left_of (net_of q.nodes k)))
+    (input_of (value_of m q) cells (right_of (net_of q.nodes k)))
 
 -- AND ITS ROOT has
 abbrev pub RootHasRoom : Machine → Registered → Type 0
-RootHasRoom m q = (cells : ℕ → Cell) → HasRootRoom (most_rows q.nodes (below_root q.nodes - 1)) (input_of (value_of m q) cells (below_root q.nodes - 1))
+RootHasRoom m q = (cells : ℕ → Cell)
+    → HasRootRoom (most_rows q.nodes (below_root q.nodes - 1))
+    (input_of (value_of m q) cells (below_root q.nodes - 1))
 
 -- AND WHAT COUNTS OF ITS SOURCES is within the bound
 abbrev pub HasShortInputs : Machine → Registered → Type 0

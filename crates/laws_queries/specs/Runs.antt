@@ -1,4 +1,5 @@
--- What the operators of a running query stand for: the cells of a net, which also have the bags that no code holds.
+-- What the operators of a running query stand for: the cells
+-- of a net, which also have the bags that no code holds.
 use Rattle.std.specs.Prelude.{ℕ, ◌≡◌, ◌<◌, Bool, false, List, [], ◌∷◌, length}
 use Rattle.values.specs.Row.{Row}
 use Rattle.values.specs.Condition.{Column, Condition}
@@ -10,7 +11,8 @@ use Rattle.column.specs.declared.batch.Side.TheVariants.{Left, Right}
 use Rattle.lane_kernels.specs.declared.condition.Step.{Step}
 use Rattle.op_queue.specs.Entries.{Entry}
 use Rattle.op_queue.specs.Logs.{Closed}
-use Rattle.windows.specs.Laws.{RangeStands, SlideStands, LatestStands, range_of, rows_in_order, slide_shows}
+use Rattle.windows.specs.Laws.{RangeStands, SlideStands, LatestStands, range_of, rows_in_order}
+use Rattle.windows.specs.Laws.{slide_shows}
 use Rattle.windows.specs.Latest.{held_in}
 use Rattle.group.specs.Cells.{TallyState, held, keeps}
 use Rattle.group.specs.Groups.{once_each}
@@ -33,8 +35,11 @@ use Rattle.laws_dataflow.specs.Operators.{Tell}
 -- at the open instant n the state stands for the elements that the window holds
 abbrev pub WindowStands : ℕ → Window → ℕ → State → List Element → Type 0
 WindowStands first w n (state.Range s) held = (w ≡ range_of s.span) × RangeStands n s.held held
-WindowStands first w n (state.Slide s) held = (w ≡ RangeSlide s.span s.step) × SlideStands first n s held
-WindowStands first w n (state.Latest s) held = (w ≡ LastRows s.columns s.count) × LatestStands first s.columns s.count n (held_in s.entries) held
+WindowStands first w n (state.Slide s) held =
+    (w ≡ RangeSlide s.span s.step) × SlideStands first n s held
+WindowStands first w n (state.Latest s) held =
+    (w ≡ LastRows s.columns s.count)
+    × LatestStands first s.columns s.count n (held_in s.entries) held
 WindowStands first w n state.Nothing held = ⊥
 WindowStands first w n (state.Join s) held = ⊥
 WindowStands first w n (state.Groups s) held = ⊥
@@ -50,38 +55,44 @@ shown_by (state.Join s) held = []
 shown_by (state.Groups s) held = []
 shown_by (state.Root s) held = []
 
-pub record RunsWindow (first : ℕ) (w : Window) (o : PlainOperator) (log : Closed) (held : List Element) (shown : List Row) (q : List (Entry Row)) (n : ℕ) : Type 0 where
+pub record RunsWindow (first : ℕ) (w : Window) (o : PlainOperator) (log : Closed)
+    (held : List Element) (shown : List Row) (q : List (Entry Row)) (n : ℕ) : Type 0 where
   pub kind : Belongs o.kind o.state
   pub stands : WindowStands first w n o.state held
   pub shows : shown ≡ shown_by o.state held
   pub queue : q ≡ waiting o log Left
 
 -- SELECT and PROJECT hold nothing
-pub record RunsSelect (cs : List Condition) (o : PlainOperator) (log : Closed) (q : List (Entry Row)) : Type 0 where
+pub record RunsSelect (cs : List Condition) (o : PlainOperator) (log : Closed)
+    (q : List (Entry Row)) : Type 0 where
   pub steps : List Step
   pub kind : o.kind ≡ kind.Select steps
   pub state : o.state ≡ state.Nothing
   pub tell : Tell steps cs
   pub queue : q ≡ waiting o log Left
 
-pub record RunsProject (columns : List Column) (o : PlainOperator) (log : Closed) (q : List (Entry Row)) : Type 0 where
+pub record RunsProject (columns : List Column) (o : PlainOperator) (log : Closed)
+    (q : List (Entry Row)) : Type 0 where
   pub places : List ℕ
   pub kind : o.kind ≡ kind.Project places
   pub state : o.state ≡ state.Nothing
   pub listed : columns ≡ columns_at places
   pub queue : q ≡ waiting o log Left
 
--- GROUPS keep the numbers of a column one by one where an item asks for the least or greatest of them, and of no other item
+-- GROUPS keep the numbers of a column one by one where an item
+-- asks for the least or greatest of them, and of no other item
 abbrev pub AreLean : List listed.ListItem → List TallyState → Type 0
 AreLean [] ts = Unit {0}
 AreLean (i ∷ is) [] = Unit {0}
 AreLean (i ∷ is) (t ∷ ts) = (keeps i ≡ false → t.values ≡ []) × AreLean is ts
 
 abbrev pub KeepsFew : GroupState → Type 0
-KeepsFew s = (k : Row) → AreLean s.group.items (cell_of (length s.group.items) (held k) s.cells).tallies
+KeepsFew s = (k : Row) → AreLean s.group.items
+    (cell_of (length s.group.items) (held k) s.cells).tallies
 
 -- GROUP: the state has taken the one bag and put out the other
-pub record RunsGroup (by : List Column) (items : List ListItem) (o : PlainOperator) (log : Closed) (q : List (Entry Row)) (taken shown : List Row) : Type 0 where
+pub record RunsGroup (by : List Column) (items : List ListItem) (o : PlainOperator) (log : Closed)
+    (q : List (Entry Row)) (taken shown : List Row) : Type 0 where
   pub held : GroupState
   pub kind : o.kind ≡ kind.Group held.group
   pub state : o.state ≡ state.Groups held
@@ -92,7 +103,8 @@ pub record RunsGroup (by : List Column) (items : List ListItem) (o : PlainOperat
   pub queue : q ≡ waiting o log Left
 
 -- DISTINCT over rows of this many columns
-pub record RunsDistinct (width : ℕ) (o : PlainOperator) (log : Closed) (q : List (Entry Row)) (taken shown : List Row) : Type 0 where
+pub record RunsDistinct (width : ℕ) (o : PlainOperator) (log : Closed) (q : List (Entry Row))
+    (taken shown : List Row) : Type 0 where
   pub held : GroupState
   pub kind : o.kind ≡ kind.Group held.group
   pub state : o.state ≡ state.Groups held
@@ -103,7 +115,8 @@ pub record RunsDistinct (width : ℕ) (o : PlainOperator) (log : Closed) (q : Li
   pub queue : q ≡ waiting o log Left
 
 -- JOIN: its sides have taken the bags l and m, and those that ticked are marked
-pub record RunsJoin (keys : List plan.Key) (o : PlainOperator) (log : Closed) (q r : List (Entry Row)) (l m : List Row) (a b : Bool) : Type 0 where
+pub record RunsJoin (keys : List plan.Key) (o : PlainOperator) (log : Closed)
+    (q r : List (Entry Row)) (l m : List Row) (a b : Bool) : Type 0 where
   pub held : JoinState
   pub kind : o.kind ≡ kind.Join
   pub state : o.state ≡ state.Join held
@@ -114,9 +127,11 @@ pub record RunsJoin (keys : List plan.Key) (o : PlainOperator) (log : Closed) (q
   pub left_queue : q ≡ waiting o log Left
   pub right_queue : r ≡ waiting o log Right
 
--- AN OPERATOR of a plan below the root stands for the cell; the rows that it puts out have so many columns
+-- AN OPERATOR of a plan below the root stands for the
+-- cell; the rows that it puts out have so many columns
 abbrev pub Runs : World → ℕ → plan.Node → PlainOperator → Closed → Cell → Type 0
-Runs w width (plan.Window s) o log (at_window h e b q n) = RunsWindow w.first (w.windows s) o log h b q n
+Runs w width (plan.Window s) o log (at_window h e b q n) =
+    RunsWindow w.first (w.windows s) o log h b q n
 Runs w width (plan.Window s) o log (at_unary q i b n) = ⊥
 Runs w width (plan.Window s) o log (at_join q r l m b n x y) = ⊥
 Runs w width (plan.Select i cs) o log (at_window h e b q n) = ⊥
@@ -137,7 +152,8 @@ Runs w width (plan.Distinct i) o log (at_join q r l m b n x y) = ⊥
 Runs w width (plan.ToStream i op) o log c = ⊥
 
 -- THE ROOT, with its state and its queue
-pub record RunsRoot (o : PlainOperator) (log : Closed) (s : root.State) (q : List (Entry Row)) : Type 0 where
+pub record RunsRoot (o : PlainOperator) (log : Closed) (s : root.State)
+    (q : List (Entry Row)) : Type 0 where
   pub kind : o.kind ≡ kind.ToStream
   pub state : o.state ≡ state.Root s
   pub queue : q ≡ waiting o log Left

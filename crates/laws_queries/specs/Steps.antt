@@ -35,7 +35,8 @@ pub record MayTake (o : PlainOperator) (side : Side) (i : Item) : Type 0 where
   pub takes : Takes o.state side i (change_at o.kind i (near_of o.state side i))
 
 -- AFTER IT the operator k stands for another cell, which a turn of the net makes
-pub record StepMade (w : World) (ws : List ℕ) (ns : List plan.Node) (k : ℕ) (node : plan.Node) (c : Cell) (outs : List (Entry Row)) (o2 : PlainOperator) (log : Closed) : Type 0 where
+pub record StepMade (w : World) (ws : List ℕ) (ns : List plan.Node) (k : ℕ) (node : plan.Node)
+    (c : Cell) (outs : List (Entry Row)) (o2 : PlainOperator) (log : Closed) : Type 0 where
   pub cell : Cell
   pub turn : Turn w (node_of node) c outs cell
   pub runs : Runs w (width_at ws k) node o2 log cell
@@ -45,7 +46,8 @@ pub record StepMade (w : World) (ws : List ℕ) (ns : List plan.Node) (k : ℕ) 
   pub outs_few : StaysWithin (most_rows ns k) (count (cell_shown c)) outs
 
 -- THE OPERATOR k BEFORE A TURN: it stands for a good cell, over inputs d and e
-pub record Stands (w : World) (ws : List ℕ) (ns : List plan.Node) (k : ℕ) (node : plan.Node) (o : PlainOperator) (log : Closed) (c : Cell) (d e : Input) : Type 0 where
+pub record Stands (w : World) (ws : List ℕ) (ns : List plan.Node) (k : ℕ) (node : plan.Node)
+    (o : PlainOperator) (log : Closed) (c : Cell) (d e : Input) : Type 0 where
   pub runs : Runs w (width_at ws k) node o log c
   pub wide : IsWide ws k node o c
   pub few : AreFew w ns node c
@@ -54,11 +56,14 @@ pub record Stands (w : World) (ws : List ℕ) (ns : List plan.Node) (k : ℕ) (n
 
 -- the item at its front may be taken
 abbrev pub MayLaw : plan.Node → Type 0
-MayLaw node = (w : World) (ws : List ℕ) (ns : List plan.Node) (k : ℕ) (o : PlainOperator) (log : Closed) (c : Cell) (d e : Input) (side : Side) (i : Item)
+MayLaw node = (w : World) (ws : List ℕ) (ns : List plan.Node) (k : ℕ) (o : PlainOperator)
+    (log : Closed) (c : Cell) (d e : Input) (side : Side) (i : Item)
     → Stands w ws ns k node o log c d e → IsFirst o log side i → MayTake o side i
 
 -- and a turn with it keeps that the operator stands for a cell, which a turn of the net makes
 abbrev pub StepLaw : plan.Node → Type 0
-StepLaw node = (w : World) (ws : List ℕ) (ns : List plan.Node) (k : ℕ) (o o2 : PlainOperator) (log : Closed) (c : Cell) (d e : Input) (side : Side) (i : Item) (outs : List (Entry Row))
+StepLaw node = (w : World) (ws : List ℕ) (ns : List plan.Node) (k : ℕ) (o o2 : PlainOperator)
+    (log : Closed) (c : Cell) (d e : Input) (side : Side) (i : Item) (outs : List (Entry Row))
     → Stands w ws ns k node o log c d e → IsFirst o log side i → outs_at_first o side i ≡ Put outs
-    → IsFinished o log side i (change_at o.kind i (near_of o.state side i)) o2 → StepMade w ws ns k node c outs o2 log
+    → IsFinished o log side i (change_at o.kind i (near_of o.state side i)) o2
+    → StepMade w ws ns k node c outs o2 log

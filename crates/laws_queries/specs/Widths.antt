@@ -1,4 +1,5 @@
--- How many columns the rows have that operators of a query hold and queue, and what their values are.
+-- How many columns the rows have that operators of a
+-- query hold and queue, and what their values are.
 use Rattle.std.specs.Prelude.{ℕ, ◌≡◌, ◌+◌, ◌<◌, ◌≤◌, List, [], ◌∷◌, length, get_or}
 use Rattle.std.specs.List.{All}
 use Rattle.values.specs.declared.TheConstants.{MAX_COLUMNS}
@@ -44,7 +45,8 @@ IsStateWide w (state.Join s) = ⊥
 IsStateWide w (state.Groups s) = ⊥
 IsStateWide w (state.Root s) = ⊥
 
-pub record IsWindowWide (w : ℕ) (o : PlainOperator) (held : List Element) (q : List (Entry Row)) : Type 0 where
+pub record IsWindowWide (w : ℕ) (o : PlainOperator) (held : List Element)
+    (q : List (Entry Row)) : Type 0 where
   pub state : IsStateWide w o.state
   pub some : 0 < w
   pub side : IsSideWide w (rows_in_order held) q
@@ -59,7 +61,8 @@ IsJoinWide l r (state.Join s) = (s.left.width ≡ l) × (s.right.width ≡ r)
 IsJoinWide l r (state.Groups s) = ⊥
 IsJoinWide l r (state.Root s) = ⊥
 
--- rows of w columns have all that Select's steps or Project's list speak of, and rows of `out` columns come of them
+-- rows of w columns have all that Select's steps or Project's
+-- list speak of, and rows of `out` columns come of them
 abbrev pub IsKindWide : ℕ → ℕ → Kind → Type 0
 IsKindWide w out kind.RangeWindow = out ≡ w
 IsKindWide w out kind.SlideWindow = out ≡ w
@@ -70,22 +73,26 @@ IsKindWide w out kind.Join = ⊥
 IsKindWide w out (kind.Group g) = out ≡ length g.items
 IsKindWide w out kind.ToStream = Unit {0}
 
-pub record IsOneWide (w out : ℕ) (o : PlainOperator) (taken : List Row) (q : List (Entry Row)) : Type 0 where
+pub record IsOneWide (w out : ℕ) (o : PlainOperator) (taken : List Row)
+    (q : List (Entry Row)) : Type 0 where
   pub kind : IsKindWide w out o.kind
   pub narrow : w ≤ MAX_COLUMNS
   pub side : IsSideWide w taken q
 
 -- what groups have put out
-pub record IsGroupWide (w out : ℕ) (o : PlainOperator) (taken shown : List Row) (q : List (Entry Row)) : Type 0 where
+pub record IsGroupWide (w out : ℕ) (o : PlainOperator) (taken shown : List Row)
+    (q : List (Entry Row)) : Type 0 where
   pub one : IsOneWide w out o taken q
   pub puts : AreRows out shown
 
 -- rows are put out as they are taken, each once
-pub record IsOnceWide (w out : ℕ) (o : PlainOperator) (taken shown : List Row) (q : List (Entry Row)) : Type 0 where
+pub record IsOnceWide (w out : ℕ) (o : PlainOperator) (taken shown : List Row)
+    (q : List (Entry Row)) : Type 0 where
   pub group : IsGroupWide w out o taken shown q
   pub same : w ≡ out
 
-pub record IsBothWide (l r out : ℕ) (o : PlainOperator) (ls rs : List Row) (q s : List (Entry Row)) : Type 0 where
+pub record IsBothWide (l r out : ℕ) (o : PlainOperator) (ls rs : List Row)
+    (q s : List (Entry Row)) : Type 0 where
   pub state : IsJoinWide l r o.state
   pub sum : out ≡ l + r
   pub narrow : out ≤ MAX_COLUMNS
@@ -102,18 +109,23 @@ IsWide ws k (plan.Window s) o (at_window h e b q n) = IsWindowWide (width_at ws 
 IsWide ws k (plan.Window s) o (at_unary q i b n) = ⊥
 IsWide ws k (plan.Window s) o (at_join q r l m b n x y) = ⊥
 IsWide ws k (plan.Select i cs) o (at_window h e b q n) = ⊥
-IsWide ws k (plan.Select i cs) o (at_unary q t b n) = IsOneWide (width_at ws i) (width_at ws k) o t q
+IsWide ws k (plan.Select i cs) o (at_unary q t b n) =
+    IsOneWide (width_at ws i) (width_at ws k) o t q
 IsWide ws k (plan.Select i cs) o (at_join q r l m b n x y) = ⊥
 IsWide ws k (plan.Join i j ks) o (at_window h e b q n) = ⊥
 IsWide ws k (plan.Join i j ks) o (at_unary q t b n) = ⊥
-IsWide ws k (plan.Join i j ks) o (at_join q r l m b n x y) = IsBothWide (width_at ws i) (width_at ws j) (width_at ws k) o l m q r
+IsWide ws k (plan.Join i j ks) o (at_join q r l m b n x y) =
+    IsBothWide (width_at ws i) (width_at ws j) (width_at ws k) o l m q r
 IsWide ws k (plan.Project i columns) o (at_window h e b q n) = ⊥
-IsWide ws k (plan.Project i columns) o (at_unary q t b n) = IsOneWide (width_at ws i) (width_at ws k) o t q
+IsWide ws k (plan.Project i columns) o (at_unary q t b n) =
+    IsOneWide (width_at ws i) (width_at ws k) o t q
 IsWide ws k (plan.Project i columns) o (at_join q r l m b n x y) = ⊥
 IsWide ws k (plan.Group i by items) o (at_window h e b q n) = ⊥
-IsWide ws k (plan.Group i by items) o (at_unary q t b n) = IsGroupWide (width_at ws i) (width_at ws k) o t b q
+IsWide ws k (plan.Group i by items) o (at_unary q t b n) =
+    IsGroupWide (width_at ws i) (width_at ws k) o t b q
 IsWide ws k (plan.Group i by items) o (at_join q r l m b n x y) = ⊥
 IsWide ws k (plan.Distinct i) o (at_window h e b q n) = ⊥
-IsWide ws k (plan.Distinct i) o (at_unary q t b n) = IsOnceWide (width_at ws i) (width_at ws k) o t b q
+IsWide ws k (plan.Distinct i) o (at_unary q t b n) =
+    IsOnceWide (width_at ws i) (width_at ws k) o t b q
 IsWide ws k (plan.Distinct i) o (at_join q r l m b n x y) = ⊥
 IsWide ws k (plan.ToStream i op) o c = ⊥

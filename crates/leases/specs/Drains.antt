@@ -1,5 +1,6 @@
 -- What a drain does: turns go out and come back.
-use Rattle.std.specs.Prelude.{ℕ, Bool, true, false, ⊤, ◌≡◌, ◌⊎◌, None, Some, List, [], ◌∷◌, Result, Ok, Err}
+use Rattle.std.specs.Prelude.{ℕ, Bool, true, false, ⊤, ◌≡◌, ◌⊎◌, None, Some, List, [], ◌∷◌, Result}
+use Rattle.std.specs.Prelude.{Ok, Err}
 use Rattle.values.specs.Row.{Row}
 use Rattle.turn.specs.declared.turns.Turn.{Turn}
 use Rattle.reference.specs.World.{drain_fault}
@@ -12,10 +13,14 @@ use Rattle.laws_engine.specs.Histories.{Breaks, Finishes, IsCallStep}
 use Rattle.leases.specs.Turns.{HasReady, IsFull, IsTurnOf, lease_fault}
 use Rattle.leases.specs.Views.{lease_of}
 
--- TURNS of at most so many rows went out and came back, one after the other: each of an operator of greatest slope, with the next number
+-- TURNS of at most so many rows went out and came back, one after the
+-- other: each of an operator of greatest slope, with the next number
 abbrev pub HaveRun : ℕ → PlainEngine → List Turn → PlainEngine → Type 0
 HaveRun rows old [] new = new ≡ old
-HaveRun rows old (t ∷ turns) new = (out : PlainEngine) × ((home : PlainEngine) × (IsTurnOf old rows t out × (IsCallStep out (Finishes (lease_of t)) home × HaveRun rows home turns new)))
+HaveRun rows old (t ∷ turns) new =
+    (out : PlainEngine) × ((home : PlainEngine)
+    × (IsTurnOf old rows t out × (IsCallStep out (Finishes (lease_of t)) home
+    × HaveRun rows home turns new)))
 
 -- some did, and nothing else was done
 abbrev pub SomeHaveRun : ℕ → PlainEngine → PlainEngine → Type 0
@@ -23,26 +28,33 @@ SomeHaveRun rows old new = (turns : List Turn) × HaveRun rows old turns new
 
 -- one went out, and memory was wanted when it came back: its query is broken
 abbrev pub OneHasFailed : ℕ → PlainEngine → PlainEngine → Type 0
-OneHasFailed rows old new = (t : Turn) × ((out : PlainEngine) × (IsTurnOf old rows t out × IsCallStep out (Breaks (lease_of t)) new))
+OneHasFailed rows old new = (t : Turn)
+    × ((out : PlainEngine) × (IsTurnOf old rows t out × IsCallStep out (Breaks (lease_of t)) new))
 
--- memory was wanted for a turn that might go out: nothing was done, or it had gone out and broke its query
+-- memory was wanted for a turn that might go out: nothing
+-- was done, or it had gone out and broke its query
 abbrev pub HasWanted : ℕ → PlainEngine → PlainEngine → Type 0
-HasWanted rows old new = ((lease_fault old rows ≡ None) × HasReady old × (new ≡ old)) ⊎ OneHasFailed rows old new
+HasWanted rows old new = ((lease_fault old rows ≡ None) × HasReady old × (new ≡ old))
+    ⊎ OneHasFailed rows old new
 
 -- memory was wanted behind turns that ran, of which there may be none
 abbrev pub HasWantedBehind : ℕ → PlainEngine → PlainEngine → Type 0
-HasWantedBehind rows old new = (last : PlainEngine) × (SomeHaveRun rows old last × HasWanted rows last new)
+HasWantedBehind rows old new =
+    (last : PlainEngine) × (SomeHaveRun rows old last × HasWanted rows last new)
 
 -- one went out and came back
 abbrev pub OneHasRun : ℕ → PlainEngine → PlainEngine → Type 0
-OneHasRun rows old new = (t : Turn) × ((out : PlainEngine) × (IsTurnOf old rows t out × IsCallStep out (Finishes (lease_of t)) new))
+OneHasRun rows old new = (t : Turn)
+    × ((out : PlainEngine) × (IsTurnOf old rows t out × IsCallStep out (Finishes (lease_of t)) new))
 
 -- ONE STEP: at least one did: some, and then one more
 abbrev pub OneOrMoreHaveRun : ℕ → PlainEngine → PlainEngine → Type 0
-OneOrMoreHaveRun rows old new = (last : PlainEngine) × (SomeHaveRun rows old last × OneHasRun rows last new)
+OneOrMoreHaveRun rows old new =
+    (last : PlainEngine) × (SomeHaveRun rows old last × OneHasRun rows last new)
 
--- or no operator may take anything; a refused step did nothing where an operator may be leased and as many turns are out as may be, or all numbers were given;
--- or memory was wanted, behind turns that ran
+-- or no operator may take anything; a refused step did nothing where an operator may be leased and
+-- as many turns are out as may be, or all numbers were given; or memory was wanted, behind turns
+-- that ran
 abbrev pub RunsFirst : PlainEngine → ℕ → Result Bool Fault → PlainEngine → Type 0
 RunsFirst old rows (Ok true) new = OneOrMoreHaveRun rows old new
 RunsFirst old rows (Ok false) new = (first_of old.slots ≡ None) × (new ≡ old)
@@ -50,13 +62,17 @@ RunsFirst old rows (Err TooManyLeases) new = (new ≡ old) × IsFull old × HasR
 RunsFirst old rows (Err OutOfMemory) new = HasWantedBehind rows old new
 RunsFirst old rows (Err fault) new = ⊥
 
--- A DRAIN by turns of at most so many rows: some have run; a refused one did nothing where that number is out of range, or ended where an operator may be
--- leased and as many turns are out as may be, or all numbers were given, or memory was wanted for a turn
+-- A DRAIN by turns of at most so many rows: some have run; a refused one did nothing where that
+-- number is out of range, or ended where an operator may be leased and as many turns are out as may
+-- be, or all numbers were given, or memory was wanted for a turn
 abbrev pub RunsTurns : PlainEngine → ℕ → Result ⊤ Fault → PlainEngine → Type 0
 RunsTurns old rows (Ok u) new = (drain_fault rows ≡ None) × SomeHaveRun rows old new
 RunsTurns old rows (Err BadLimit) new = (drain_fault rows ≡ Some BadLimit) × (new ≡ old)
-RunsTurns old rows (Err TooManyLeases) new = (drain_fault rows ≡ None) × (SomeHaveRun rows old new × IsFull new × HasReady new)
-RunsTurns old rows (Err OutOfMemory) new = (drain_fault rows ≡ None) × ((last : PlainEngine) × (SomeHaveRun rows old last × HasWanted rows last new))
+RunsTurns old rows (Err TooManyLeases) new =
+    (drain_fault rows ≡ None) × (SomeHaveRun rows old new × IsFull new × HasReady new)
+RunsTurns old rows (Err OutOfMemory) new =
+    (drain_fault rows ≡ None) × ((last : PlainEngine)
+    × (SomeHaveRun rows old last × HasWanted rows last new))
 RunsTurns old rows (Err fault) new = ⊥
 
 -- THE TURNS OF OTHERS, that were out before

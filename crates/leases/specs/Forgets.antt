@@ -1,5 +1,6 @@
 -- What is kept of a stream, and how the rows that stay are found.
-use Rattle.std.specs.Prelude.{ℕ, ◌≡◌, ◌-◌, ◌<◌, ◌≤◌, Bool, Option, None, Some, Result, Ok, Err, List, [], length, map, max, slice_get, ⊤}
+use Rattle.std.specs.Prelude.{ℕ, ◌≡◌, ◌-◌, ◌<◌, ◌≤◌, Bool, Option, None, Some, Result, Ok, Err}
+use Rattle.std.specs.Prelude.{List, [], length, map, max, slice_get, ⊤}
 use Rattle.std.specs.Option.{option_map_or}
 use Rattle.values.specs.Row.{Row}
 use Rattle.values.specs.Window.{Element}
@@ -12,7 +13,8 @@ use Rattle.stream_store.specs.Closing.{closed_of}
 use Rattle.stream_store.specs.declared.starts.Start.{Start}
 use Rattle.needed_rows.specs.Columns.{IsRegular}
 use Rattle.laws_dataflow.specs.Plans.{below_root}
-use Rattle.laws_engine.specs.Engines.{Broken, Dropped, PlainEngine, PlainRemains, Running, answers_in}
+use Rattle.laws_engine.specs.Engines.{Broken, Dropped, PlainEngine, PlainRemains, Running}
+use Rattle.laws_engine.specs.Engines.{answers_in}
 use Rattle.laws_engine.specs.Openings.{marks_by, next_of}
 use Rattle.leases.specs.Keeping.{AllSay, going_over}
 use Rattle.leases.specs.Views.{query_of, remains_of}
@@ -23,7 +25,8 @@ use Rattle.leases.specs.declared.state.forget.KeptRows.{KeptRows}
 
 -- how many elements the stream of a number has
 abbrev pub kept_at : Machine → ℕ → Result ℕ Fault
-kept_at m n = option_map_or (λ (s : Stream). Ok (length s.elements)) (slice_get m.streams n) (Err UnknownStream)
+kept_at m n = option_map_or (λ (s : Stream). Ok (length s.elements)) (slice_get m.streams n)
+    (Err UnknownStream)
 
 -- which elements of the stream of a number some running query needs
 abbrev pub needs_in : PlainEngine → ℕ → Element → Bool
@@ -34,7 +37,8 @@ abbrev pub said_in : KeptRows → List Bool × List Start
 said_in k = (k.marks.items, k.starts.items)
 
 -- it says of all streams, one by one, what is to be kept
-pub record Says (keep : ℕ → Element → Bool) (kept : List KeptRows) (streams : List Stream) : Type 0 where
+pub record Says (keep : ℕ → Element → Bool) (kept : List KeptRows)
+    (streams : List Stream) : Type 0 where
   pub many : length kept ≡ length streams
   pub all : AllSay keep (map said_in kept) streams
 
@@ -54,22 +58,27 @@ AreReadIn streams n = IsReadIn (slice_get streams n)
 abbrev pub IsReadLog : Closed → Type 0
 IsReadLog log = (s : Stream) × (IsRegular s × (log ≡ closed_of s))
 
--- A QUERY HAS ITS MARK: its root is its last operator, and the instant after the mark is no greater than its first one or than all instants are many
+-- A QUERY HAS ITS MARK: its root is its last operator, and the instant after
+-- the mark is no greater than its first one or than all instants are many
 abbrev pub IsMarkable : Registered → PlainRemains → Type 0
-IsMarkable q (Running p) = (0 < length p.operators) × ((below_root q.nodes ≡ length p.operators - 1) × (next_of q p ≤ max q.first all_instants))
+IsMarkable q (Running p) = (0 < length p.operators)
+    × ((below_root q.nodes ≡ length p.operators - 1) × (next_of q p ≤ max q.first all_instants))
 IsMarkable q (Broken answers) = ⊤
 IsMarkable q Dropped = ⊤
 
 abbrev pub AreMarkable : List Registration → List Remains → Type 0
 AreMarkable registered remains = (length remains ≡ length registered)
-    × ((n : ℕ) (q : Registration) (k : Remains) → slice_get registered n ≡ Some q → slice_get remains n ≡ Some k → IsMarkable (query_of q) (remains_of k))
+    × ((n : ℕ) (q : Registration) (k : Remains) → slice_get registered n ≡ Some q
+    → slice_get remains n ≡ Some k → IsMarkable (query_of q) (remains_of k))
 
 -- THE QUERIES that run, each with the instant after its mark
 abbrev pub going_of : Going → Registered × ℕ
 going_of g = (query_of g.query.now, g.next)
 
 abbrev pub going_in : List Going → List Registration → List Remains → Type 0
-going_in gs registered remains = map going_of gs ≡ going_over (map query_of registered) (marks_by (map query_of registered) (map remains_of remains))
+going_in gs registered remains =
+    map going_of gs ≡ going_over (map query_of registered)
+    (marks_by (map query_of registered) (map remains_of remains))
 
 -- the answers that wait
 abbrev pub earlier_in : List Remains → List (List (ℕ × Row))
@@ -77,7 +86,9 @@ earlier_in remains = map answers_in (map remains_of remains)
 
 -- the queries as they go on
 abbrev pub restarted_by : List Registration → List Remains → List (List (ℕ × Row)) → List Registered
-restarted_by registered remains waiting = all_restarted (map query_of registered) (marks_by (map query_of registered) (map remains_of remains)) waiting
+restarted_by registered remains waiting =
+    all_restarted (map query_of registered)
+    (marks_by (map query_of registered) (map remains_of remains)) waiting
 
 -- a query before any answer that waited
 abbrev pub without_earlier : Registered → Registered

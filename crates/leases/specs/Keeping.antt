@@ -1,5 +1,6 @@
 -- How the rows that stay are found and kept, stream by stream and query by query.
-use Rattle.std.specs.Prelude.{ℕ, zero, suc, ◌<◌, Bool, Option, Some, None, List, [], ◌∷◌, get_or, length, slice_get}
+use Rattle.std.specs.Prelude.{ℕ, zero, suc, ◌<◌, Bool, Option, Some, None, List, [], ◌∷◌, get_or}
+use Rattle.std.specs.Prelude.{length, slice_get}
 use Rattle.values.specs.Row.{Row}
 use Rattle.values.specs.Window.{Element}
 use Rattle.reference.specs.Machine.{Registered, Stream}
@@ -11,7 +12,8 @@ use Rattle.stream_store.specs.declared.starts.Start.{Start}
 
 -- THE STREAMS: the marks and starts of each
 abbrev pub AllSay : (ℕ → Element → Bool) → List (List Bool × List Start) → List Stream → Type 0
-AllSay keep kept streams = (i : ℕ) (d : List Bool × List Start) → i < length kept → SaysKeptOf (get_or kept i d).0 (get_or kept i d).1 (keep i) (slice_get streams i)
+AllSay keep kept streams = (i : ℕ) (d : List Bool × List Start) → i < length kept
+    → SaysKeptOf (get_or kept i d).0 (get_or kept i d).1 (keep i) (slice_get streams i)
 
 -- THE QUERIES that run, each with the instant after its mark
 abbrev pub going_over : List Registered → List (Option ℕ) → List (Registered × ℕ)
@@ -29,9 +31,11 @@ abbrev pub start_of : PlainReader → Start
 start_of r = record { place = r.place; first = r.first }
 
 -- the first `count` are restarted
-abbrev pub restarted_first : List Registered → List (Option ℕ) → List (List (ℕ × Row)) → ℕ → List Registered
+abbrev pub restarted_first : List Registered → List (Option ℕ) → List (List (ℕ × Row)) → ℕ
+    → List Registered
 restarted_first [] marks waiting count = []
 restarted_first (q ∷ qs) marks waiting zero = q ∷ qs
 restarted_first (q ∷ qs) [] waiting (suc count) = q ∷ qs
 restarted_first (q ∷ qs) (m ∷ marks) [] (suc count) = q ∷ qs
-restarted_first (q ∷ qs) (m ∷ marks) (w ∷ waiting) (suc count) = restart q m w ∷ restarted_first qs marks waiting count
+restarted_first (q ∷ qs) (m ∷ marks) (w ∷ waiting) (suc count) =
+    restart q m w ∷ restarted_first qs marks waiting count

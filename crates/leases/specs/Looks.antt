@@ -9,21 +9,26 @@ use Rattle.reference.specs.Machine.{Machine, Registered}
 use Rattle.reference.specs.declared.fault.Fault.{Fault}
 use Rattle.reference.specs.declared.fault.Fault.TheVariants as fault
 use Rattle.laws_queries.specs.Queries.{PlainQuery, log_at, operator_at}
-use Rattle.laws_engine.specs.Engines.{Broken, Dropped, PlainEngine, PlainRemains, Running, answers_in, query_at, remains_at}
+use Rattle.laws_engine.specs.Engines.{Broken, Dropped, PlainEngine, PlainRemains, Running}
+use Rattle.laws_engine.specs.Engines.{answers_in, query_at, remains_at}
 
 -- HOW MANY ANSWERS WAIT
 abbrev pub WaitsAt : PlainEngine → ℕ → Result ℕ Fault → Type 0
-WaitsAt e n (Ok count) = (first_fault e.machine (Drop n) ≡ None) × (count ≡ length (answers_in (remains_at e n)))
+WaitsAt e n (Ok count) = (first_fault e.machine (Drop n) ≡ None)
+    × (count ≡ length (answers_in (remains_at e n)))
 WaitsAt e n (Err f) = first_fault e.machine (Drop n) ≡ Some f
 
--- HOW MUCH WAITS in the queues of an operator, by what waits on its two sides: a join has two queues
+-- HOW MUCH WAITS in the queues of an operator, by
+-- what waits on its two sides: a join has two queues
 abbrev pub queues_of : plan.Node → ℕ → ℕ → List ℕ
 queues_of (plan.Join i j ks) left right = left ∷ right ∷ []
 queues_of node left right = left ∷ []
 
 -- of the operator k, where the logs are those of the streams that the operators read
 abbrev pub lengths_at : (ℕ → Closed) → PlainQuery → ℕ → plan.Node → List ℕ
-lengths_at logs p k node = queues_of node (length (waiting (operator_at p.operators k) (logs k) Left)) (length (waiting (operator_at p.operators k) (logs k) Right))
+lengths_at logs p k node = queues_of node
+    (length (waiting (operator_at p.operators k) (logs k) Left))
+    (length (waiting (operator_at p.operators k) (logs k) Right))
 
 -- of those from the operator k on
 abbrev pub lengths_from : (ℕ → Closed) → PlainQuery → ℕ → List plan.Node → List ℕ
@@ -42,6 +47,9 @@ lengths_in m q Dropped = []
 
 -- what a look at them answers
 abbrev pub IsPending : {A : Type 0} → (A → List ℕ) → PlainEngine → ℕ → Result A Fault → Type 0
-IsPending view e n (Ok found) = (first_fault e.machine (Drop n) ≡ None) × ((q : Registered) → query_at e n ≡ Some q → view found ≡ lengths_in e.machine q (remains_at e n))
+IsPending view e n (Ok found) =
+    (first_fault e.machine (Drop n) ≡ None)
+    × ((q : Registered) → query_at e n ≡ Some q
+    → view found ≡ lengths_in e.machine q (remains_at e n))
 IsPending view e n (Err fault.OutOfMemory) = first_fault e.machine (Drop n) ≡ None
 IsPending view e n (Err f) = first_fault e.machine (Drop n) ≡ Some f

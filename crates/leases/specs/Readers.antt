@@ -1,5 +1,6 @@
 -- The windows of running queries that read a stream, and what they are told.
-use Rattle.std.specs.Prelude.{ℕ, suc, ◌<◌, ◌==◌, ◌&&◌, ⊤, Bool, true, false, cond, nat_lt, is_none, Option, Some, None, List, [], ◌∷◌, ◌++◌, length, map}
+use Rattle.std.specs.Prelude.{ℕ, suc, ◌<◌, ◌==◌, ◌&&◌, ⊤, Bool, true, false, cond, nat_lt, is_none}
+use Rattle.std.specs.Prelude.{Option, Some, None, List, [], ◌∷◌, ◌++◌, length, map}
 use Rattle.std.specs.Option.{option_to_list}
 use Rattle.column.specs.declared.batch.Side.{Side}
 use Rattle.plan.specs.Nodes as plan
@@ -9,7 +10,8 @@ use Rattle.laws_queries.specs.Queries.{operator_at, place_of}
 use Rattle.query_runtime.specs.Turns.{log_of}
 use Rattle.run_queue.specs.Slots.{changed}
 use Rattle.run_queue.specs.declared.slots.Slot.{Slot}
-use Rattle.laws_engine.specs.Engines.{Broken, Dropped, PlainEngine, PlainRemains, Running, next_at, query_at, remains_at, slot_of}
+use Rattle.laws_engine.specs.Engines.{Broken, Dropped, PlainEngine, PlainRemains, Running, next_at}
+use Rattle.laws_engine.specs.Engines.{query_at, remains_at, slot_of}
 use Rattle.leases.specs.declared.reader.Reader.{Reader}
 use Rattle.leases.specs.declared.state.State.{State}
 
@@ -40,7 +42,8 @@ reader_in q n k (plan.ToStream i op) = None
 -- the windows among the nodes of the query n, of which the first is its operator k
 abbrev pub windows_from : Registered → ℕ → ℕ → List plan.Node → List Reader
 windows_from q n k [] = []
-windows_from q n k (node ∷ nodes) = option_to_list (reader_in q n k node) ++ windows_from q n (suc k) nodes
+windows_from q n k (node ∷ nodes) =
+    option_to_list (reader_in q n k node) ++ windows_from q n (suc k) nodes
 
 -- whether a query runs
 abbrev pub runs : PlainRemains → Bool
@@ -48,18 +51,22 @@ runs (Running p) = true
 runs (Broken answers) = false
 runs Dropped = false
 
--- THE LIST OF READERS: just the windows of the queries that run, each once; the first query has the number n, and each stands beside whether it runs
+-- THE LIST OF READERS: just the windows of the queries that run, each once;
+-- the first query has the number n, and each stands beside whether it runs
 abbrev pub readers_from : ℕ → List Registered → List Bool → List Reader
 readers_from n [] bs = []
 readers_from n (q ∷ qs) [] = []
-readers_from n (q ∷ qs) (b ∷ bs) = cond b (windows_from q n 0 q.nodes) [] ++ readers_from (suc n) qs bs
+readers_from n (q ∷ qs) (b ∷ bs) =
+    cond b (windows_from q n 0 q.nodes) [] ++ readers_from (suc n) qs bs
 
 abbrev pub readers_of : PlainEngine → List Reader
 readers_of e = readers_from 0 e.machine.queries (map runs e.queries)
 
 -- THE SLOTS of the readers of the stream s that have nothing to take
 abbrev pub is_idle_in : List Stream → ℕ → PlainRemains → Bool
-is_idle_in streams k (Running p) = nat_lt k (length p.operators) && is_none (ready (operator_at p.operators k) (log_of streams p k))
+is_idle_in streams k (Running p) =
+    nat_lt k (length p.operators)
+    && is_none (ready (operator_at p.operators k) (log_of streams p k))
 is_idle_in streams k (Broken answers) = false
 is_idle_in streams k Dropped = false
 
@@ -71,7 +78,8 @@ idle_slot e n k = cond (is_idle_at e n k) (option_to_list (slot_of e n k)) []
 
 abbrev pub idle_slots : PlainEngine → ℕ → List Reader → List Slot
 idle_slots e s [] = []
-idle_slots e s (r ∷ rs) = cond (r.stream == s) (idle_slot e r.query r.operator) [] ++ idle_slots e s rs
+idle_slots e s (r ∷ rs) = cond (r.stream == s) (idle_slot e r.query r.operator) []
+    ++ idle_slots e s rs
 
 -- WHAT AN OPERATOR MAY TAKE, by its number
 abbrev pub next_in : PlainEngine → ℕ → ℕ → Option Registered → PlainRemains → Option (Side × ℕ)

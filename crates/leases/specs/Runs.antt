@@ -16,7 +16,8 @@ pub record MayRunOn (streams : List Stream) (p : PlainQuery) (s : Slot) (rows : 
   pub may : CanRun streams p s.operator s.side rows
 
 abbrev pub MayRunIn : PlainEngine → Slot → ℕ → Type 0
-MayRunIn e s rows = (p : PlainQuery) × ((remains_at e s.query ≡ Running p) × MayRunOn e.machine.streams p s rows)
+MayRunIn e s rows = (p : PlainQuery)
+    × ((remains_at e s.query ≡ Running p) × MayRunOn e.machine.streams p s rows)
 
 -- IT HAS RUN
 abbrev pub HasRunOn : List Stream → PlainQuery → Slot → ℕ → PlainQuery → Type 0
@@ -24,11 +25,16 @@ HasRunOn streams p s rows p2 = HasRun streams p s.operator s.side rows p2
 
 abbrev pub HasRunIn : PlainEngine → Slot → ℕ → PlainEngine → Type 0
 HasRunIn old s rows new =
-    (p : PlainQuery) → remains_at old s.query ≡ Running p → (p2 : PlainQuery) × (HasRunOn old.machine.streams p s rows p2 × (new ≡ with_remains old s.query (Running p2)))
+    (p : PlainQuery) → remains_at old s.query ≡ Running p
+    → (p2 : PlainQuery) × (HasRunOn old.machine.streams p s rows p2
+    × (new ≡ with_remains old s.query (Running p2)))
 
--- IT WAS REFUSED MEMORY: the query is as it was, or had an item in hand, and only its answers are as they were
-pub record HasItemOn (streams : List Stream) (p : PlainQuery) (s : Slot) (rows : ℕ) (p2 : PlainQuery) : Type 0 where
-  pub held : HasRunItem (operator_at p.operators s.operator) (log_of streams p s.operator) s.side rows
+-- IT WAS REFUSED MEMORY: the query is as it was, or had
+-- an item in hand, and only its answers are as they were
+pub record HasItemOn (streams : List Stream) (p : PlainQuery) (s : Slot) (rows : ℕ)
+    (p2 : PlainQuery) : Type 0 where
+  pub held : HasRunItem (operator_at p.operators s.operator)
+      (log_of streams p s.operator) s.side rows
   pub answers : p2.answers ≡ p.answers
 
 abbrev pub HasStoppedOn : Refused → List Stream → PlainQuery → Slot → ℕ → PlainQuery → Type 0
@@ -36,4 +42,6 @@ HasStoppedOn r streams p s rows p2 = Stops r (p2 ≡ p) (HasItemOn streams p s r
 
 abbrev pub HasStoppedIn : Refused → PlainEngine → Slot → ℕ → PlainEngine → Type 0
 HasStoppedIn r old s rows new =
-    (p : PlainQuery) → remains_at old s.query ≡ Running p → (p2 : PlainQuery) × (HasStoppedOn r old.machine.streams p s rows p2 × (new ≡ with_remains old s.query (Running p2)))
+    (p : PlainQuery) → remains_at old s.query ≡ Running p
+    → (p2 : PlainQuery) × (HasStoppedOn r old.machine.streams p s rows p2
+    × (new ≡ with_remains old s.query (Running p2)))

@@ -17,15 +17,17 @@ is_gone (Running p) = false
 is_gone (Broken answers) = false
 is_gone Dropped = true
 
--- it is a good engine, whose turns do what their operators do; few are out, and no number above the last was given; it keeps the names of the queries
--- that were not dropped, and just their row limits, and lists just the windows of those that run
+-- it is a good engine, whose turns do what their operators do; few are out, and no number above the
+-- last was given; it keeps the names of the queries that were not dropped, and just their row
+-- limits, and lists just the windows of those that run
 pub record IsSound (s : State) : Type 0 where
   pub good : GoodEngine (engine_in s)
   pub kinds : (t : Turn) → IsIn s.leases.items t → HasKind (engine_in s) t
   pub few : length s.leases.items ≤ MAX_LEASES
   pub numbers : s.next ≤ LEASE_NUMBERS
   pub named : s.undropped ≡ undropped_of (engine_in s).machine.queries
-  pub gone : map (λ q. q.is_dropped) (engine_in s).machine.queries ≡ map is_gone (engine_in s).queries
+  pub gone : map (λ q. q.is_dropped) (engine_in s).machine.queries
+      ≡ map is_gone (engine_in s).queries
   pub columns : HaveColumnNames (engine_in s).machine
   pub closed : HaveFewClosed (engine_in s).machine
   pub readers : s.readers.items ≡ readers_of (engine_in s)

@@ -1,5 +1,6 @@
 -- What a take answers, and makes of an engine.
-use Rattle.std.specs.Prelude.{ℕ, ℤ, ◌≡◌, ◌≢◌, None, Some, List, [], length, min, nat_abs, take, Result, Ok, Err}
+use Rattle.std.specs.Prelude.{ℕ, ℤ, ◌≡◌, ◌≢◌, None, Some, List, [], length, min, nat_abs, take}
+use Rattle.std.specs.Prelude.{Result, Ok, Err}
 use Rattle.values.specs.Row.{Row}
 use Rattle.reference.specs.Commands.{Take, first_fault}
 use Rattle.reference.specs.World.{handed}
@@ -12,20 +13,29 @@ use Rattle.laws_engine.specs.Engines.{Broken, PlainEngine, PlainRemains, answers
 abbrev pub count_of : PlainEngine → ℕ → ℤ → ℕ
 count_of e n limit = min (nat_abs limit) (length (answers_in (remains_at e n)))
 
--- the first that wait, unless a test fails; of a broken query of which nothing waits that is said, and never want of memory
-abbrev pub Takes : {A : Type 0} → (A → List (ℤ × Row)) → PlainEngine → ℕ → ℤ → Result A Fault → PlainEngine → Type 0
+-- the first that wait, unless a test fails; of a broken query
+-- of which nothing waits that is said, and never want of memory
+abbrev pub Takes : {A : Type 0} → (A → List (ℤ × Row)) → PlainEngine → ℕ → ℤ → Result A Fault
+    → PlainEngine → Type 0
 Takes view old n limit (Ok rows) new =
-    (first_fault old.machine (Take n limit) ≡ None) × (view rows ≡ handed (take (count_of old n limit) (answers_in (remains_at old n)))) × (new ≡ taken old n limit (count_of old n limit)) × (remains_at old n ≢ Broken [])
-Takes view old n limit (Err fault.OutOfMemory) new = (first_fault old.machine (Take n limit) ≡ None) × (new ≡ old) × (remains_at old n ≢ Broken [])
-Takes view old n limit (Err fault.Broken) new = (first_fault old.machine (Take n limit) ≡ None) × (remains_at old n ≡ Broken []) × (new ≡ old)
+    (first_fault old.machine (Take n limit) ≡ None)
+    × (view rows ≡ handed (take (count_of old n limit) (answers_in (remains_at old n))))
+    × (new ≡ taken old n limit (count_of old n limit)) × (remains_at old n ≢ Broken [])
+Takes view old n limit (Err fault.OutOfMemory) new =
+    (first_fault old.machine (Take n limit) ≡ None) × (new ≡ old) × (remains_at old n ≢ Broken [])
+Takes view old n limit (Err fault.Broken) new =
+    (first_fault old.machine (Take n limit) ≡ None) × (remains_at old n ≡ Broken []) × (new ≡ old)
 Takes view old n limit (Err f) new = (first_fault old.machine (Take n limit) ≡ Some f) × (new ≡ old)
 
 -- OF WHAT IS LEFT OF A QUERY
 abbrev pub count_in : PlainRemains → ℕ → ℕ
 count_in remains limit = min limit (length (answers_in remains))
 
-abbrev pub HandsOut : {A : Type 0} → (A → List (ℤ × Row)) → PlainRemains → ℕ → Result A Fault → PlainRemains → Type 0
-HandsOut view old limit (Ok rows) new = (view rows ≡ handed (take (count_in old limit) (answers_in old))) × (new ≡ remains_after (count_in old limit) old) × (old ≢ Broken [])
+abbrev pub HandsOut : {A : Type 0} → (A → List (ℤ × Row)) → PlainRemains → ℕ → Result A Fault
+    → PlainRemains → Type 0
+HandsOut view old limit (Ok rows) new =
+    (view rows ≡ handed (take (count_in old limit) (answers_in old)))
+    × (new ≡ remains_after (count_in old limit) old) × (old ≢ Broken [])
 HandsOut view old limit (Err fault.OutOfMemory) new = (new ≡ old) × (old ≢ Broken [])
 HandsOut view old limit (Err fault.Broken) new = (old ≡ Broken []) × (new ≡ old)
 HandsOut view old limit (Err f) new = ⊥

@@ -21,7 +21,8 @@ told_slot e s = with_next s (next_for e s.query s.operator)
 abbrev pub told_above : PlainEngine → Option Slot → Option Slot
 told_above e above = option_map (told_slot e) above
 
--- THE ENGINE AS IT IS TOLD: the slot of an operator that ran, as it stands, gets what that may take next, and then the one above does, if there is one
+-- THE ENGINE AS IT IS TOLD: the slot of an operator that ran, as it stands,
+-- gets what that may take next, and then the one above does, if there is one
 abbrev pub told_slots : PlainEngine → Slot → Option Slot → List Slot
 told_slots e s above = with_updates e (s ∷ option_to_list above) e.slots
 
@@ -41,7 +42,8 @@ pub record MayTellBoth (m : State) (s : Slot) (above : Option Slot) : Type 0 whe
 abbrev pub IsNoSteeper : Option Slot → Slot → Type 0
 IsNoSteeper above s = MatchOption above ⊤ (λ a. is_gt (fraction_cmp a.slope.0 s.slope.0) ≡ false)
 
--- one that has none goes on with what it may take next: there is something of the same instant, and a number for a turn
+-- one that has none goes on with what it may take next: there
+-- is something of the same instant, and a number for a turn
 pub record GoesOn (m : State) (s : Slot) (next : Option (Side × ℕ)) (stays : Bool) : Type 0 where
   pub first : stays ≡ true
   pub numbers : m.next < LEASE_NUMBERS

@@ -1,5 +1,7 @@
--- What an engine keeps of the queries that were not dropped: their names, and the row limits of those of three and four sources.
-use Rattle.std.specs.Prelude.{ℕ, suc, ◌+◌, ◌==◌, ◌&&◌, not, cond, fold, min, nat_lt, Option, List, [], ◌∷◌, ◌++◌, length, map}
+-- What an engine keeps of the queries that were not dropped: their
+-- names, and the row limits of those of three and four sources.
+use Rattle.std.specs.Prelude.{ℕ, suc, ◌+◌, ◌==◌, ◌&&◌, not, cond, fold, min, nat_lt, Option, List}
+use Rattle.std.specs.Prelude.{[], ◌∷◌, ◌++◌, length, map}
 use Rattle.reference.specs.Commands.{rows_of_each}
 use Rattle.reference.specs.Machine.{Place, Registered}
 use Rattle.reference.specs.Named.{name_of_registered}
@@ -11,13 +13,19 @@ pub record UndroppedQueries : Type 0 where
   pub names : List (Option (List ℕ))
   pub limits : List RowLimit
 
--- THE LIMIT of a source of the query n, which may count so many rows of each: to its stream so many may come in all
+-- THE LIMIT of a source of the query n, which may count so
+-- many rows of each: to its stream so many may come in all
 abbrev pub limit_at : ℕ → ℕ → Place → RowLimit
-limit_at n rows p = record { stream = p.stream; query = n; most = min (p.arrivals + rows) MAX_STREAM_ROWS }
+limit_at n rows p = record {
+  stream = p.stream;
+  query = n;
+  most = min (p.arrivals + rows) MAX_STREAM_ROWS;
+}
 
 -- those of the query n, if it was not dropped and has three or four sources
 abbrev pub limits_in : ℕ → Registered → List RowLimit
-limits_in n q = cond (not q.is_dropped && nat_lt 2 (length q.places)) (map (limit_at n (rows_of_each (length q.places))) q.places) []
+limits_in n q = cond (not q.is_dropped && nat_lt 2 (length q.places))
+    (map (limit_at n (rows_of_each (length q.places))) q.places) []
 
 -- those of all queries, of which the first has the number n
 abbrev pub limits_from : ℕ → List Registered → List RowLimit

@@ -8,7 +8,8 @@ use Rattle.reference.specs.Machine as machine
 use Rattle.reference.specs.Machine.{Registered, Stream, empty}
 use Rattle.laws_queries.specs.Queries.{PlainQuery, operator_at}
 use Rattle.run_queue.specs.declared.slots.Slot.{Slot}
-use Rattle.laws_engine.specs.Engines.{Broken, Dropped, Lease, PlainEngine, PlainRemains, Running, remains_at}
+use Rattle.laws_engine.specs.Engines.{Broken, Dropped, Lease, PlainEngine, PlainRemains, Running}
+use Rattle.laws_engine.specs.Engines.{remains_at}
 use Rattle.leases.specs.declared.remains.Remains.{Remains}
 use Rattle.leases.specs.declared.remains.Remains.TheVariants as code
 use Rattle.leases.specs.declared.registered.Place.{Place}
@@ -35,7 +36,14 @@ query_of r = record {
 
 -- a turn that is out; what its operator does is known of the operator
 abbrev pub lease_of : Turn → Lease
-lease_of t = record { number = t.lease; query = t.node.query; operator = t.node.operator; side = t.node.side; item = t.item; excerpt = t.near }
+lease_of t = record {
+  number = t.lease;
+  query = t.node.query;
+  operator = t.node.operator;
+  side = t.node.side;
+  item = t.item;
+  excerpt = t.near;
+}
 
 -- what is left of a query
 abbrev pub remains_of : Remains → PlainRemains
@@ -43,7 +51,8 @@ remains_of (code.Running p) = Running p
 remains_of (code.Broken answers) = Broken answers
 remains_of code.Dropped = Dropped
 
-abbrev pub engine_of : List Stream → List Registration → List Remains → List Turn → ℕ → List Slot → PlainEngine
+abbrev pub engine_of : List Stream → List Registration → List Remains → List Turn → ℕ → List Slot
+    → PlainEngine
 engine_of streams registered remains leases next slots = record {
   machine = record { streams = streams; queries = map query_of registered };
   queries = map remains_of remains;
@@ -54,7 +63,8 @@ engine_of streams registered remains leases next slots = record {
 
 -- a turn that is out does what its operator does
 abbrev pub HasKind : PlainEngine → Turn → Type 0
-HasKind e t = (p : PlainQuery) → remains_at e t.node.query ≡ Running p → t.node.kind ≡ (operator_at p.operators t.node.operator).kind
+HasKind e t = (p : PlainQuery) → remains_at e t.node.query ≡ Running p
+    → t.node.kind ≡ (operator_at p.operators t.node.operator).kind
 
 -- before any call
 abbrev pub empty_engine : PlainEngine

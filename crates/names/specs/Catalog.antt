@@ -14,4 +14,5 @@ number_in catalog name = position (λ s. bytes_eq s.name name) catalog
 
 -- the columns of the stream of a name; none where no stream has it
 abbrev pub columns_in : List Stream → List ℕ → List (List ℕ)
-columns_in catalog name = option_map_or (λ s. s.columns) (option_and_then (slice_get catalog) (number_in catalog name)) []
+columns_in catalog name = option_map_or (λ s. s.columns)
+    (option_and_then (slice_get catalog) (number_in catalog name)) []

@@ -1,5 +1,6 @@
 -- The faults of a query's names, and the first of them.
-use Rattle.std.specs.Prelude.{ℕ, ◌-◌, ◌==◌, Bool, true, false, not, ◌&&◌, ◌||◌, nat_lt, Option, Some, None, List, [], ◌∷◌, ◌++◌, map, length}
+use Rattle.std.specs.Prelude.{ℕ, ◌-◌, ◌==◌, Bool, true, false, not, ◌&&◌, ◌||◌, nat_lt, Option}
+use Rattle.std.specs.Prelude.{Some, None, List, [], ◌∷◌, ◌++◌, map, length}
 use Rattle.std.specs.List.{list_any, flat_map, range_with_len}
 use Rattle.std.specs.Option.{is_none}
 use Rattle.std.specs.Str.{bytes_eq}
@@ -11,7 +12,9 @@ use Rattle.names.specs.Matches.{Table, name_of, table_of, tables, matches_in, ma
 use Rattle.names.specs.Split.{all_conjuncts, is_key}
 use Rattle.names.specs.Resolved.{same_column, named_by, entry_list, is_grouped, resolved}
 use Rattle.names.specs.declared.fault.ResolveFault.{ResolveFault}
-use Rattle.names.specs.declared.fault.ResolveFault.TheVariants.{UnknownStream, UnknownColumn, AmbiguousColumn, DuplicateAlias, NoJoinKey, NotGrouped, TooWide}
+use Rattle.names.specs.declared.fault.ResolveFault.TheVariants.{UnknownStream, UnknownColumn}
+use Rattle.names.specs.declared.fault.ResolveFault.TheVariants.{AmbiguousColumn, DuplicateAlias}
+use Rattle.names.specs.declared.fault.ResolveFault.TheVariants.{NoJoinKey, NotGrouped, TooWide}
 
 -- the references of a condition
 abbrev pub references_of_operand : syntax.Operand → List syntax.Reference
@@ -19,7 +22,8 @@ references_of_operand (syntax.Named r) = r ∷ []
 references_of_operand (syntax.Number z) = []
 
 abbrev pub references_of_condition : syntax.Condition → List syntax.Reference
-references_of_condition (syntax.Compared a how b) = references_of_operand a ++ references_of_operand b
+references_of_condition (syntax.Compared a how b) =
+    references_of_operand a ++ references_of_operand b
 references_of_condition (syntax.Not c) = references_of_condition c
 references_of_condition (syntax.And c d) = references_of_condition c ++ references_of_condition d
 references_of_condition (syntax.Or c d) = references_of_condition c ++ references_of_condition d
@@ -37,14 +41,17 @@ partition_of syntax.Unbounded = []
 partition_of (syntax.Rows rows) = []
 partition_of (syntax.Partition by rows) = by
 
--- what each reference of the query matches; in Partition By only the columns of its own source count
+-- what each reference of the query matches; in
+-- Partition By only the columns of its own source count
 abbrev pub partition_matches : syntax.Query → List Stream → List (List Column)
-partition_matches q catalog = flat_map (λ s. map (λ r. matches_in 0 r (table_of catalog s)) (partition_of s.window)) q.sources
+partition_matches q catalog = flat_map
+    (λ s. map (λ r. matches_in 0 r (table_of catalog s)) (partition_of s.window)) q.sources
 
 abbrev pub all_matches : syntax.Query → List Stream → List (List Column)
 all_matches q catalog =
     partition_matches q catalog
-    ++ map (matches 0 (tables catalog q.sources)) (flat_map named_by (entry_list q.entries) ++ (references_of_where q.condition ++ q.group))
+    ++ map (matches 0 (tables catalog q.sources))
+    (flat_map named_by (entry_list q.entries) ++ (references_of_where q.condition ++ q.group))
 
 abbrev pub is_missing : List Column → Bool
 is_missing found = length found == 0
@@ -58,7 +65,8 @@ has_repeat (x ∷ xs) = list_any (bytes_eq x) xs || has_repeat xs
 
 -- a source after the first that no conjunct ties to one before it
 abbrev pub lacks_key : ℕ → List Condition → Bool
-lacks_key sources conjuncts = list_any (λ s. not (list_any (is_key s) conjuncts)) (range_with_len 1 (sources - 1))
+lacks_key sources conjuncts = list_any (λ s. not (list_any (is_key s) conjuncts))
+    (range_with_len 1 (sources - 1))
 
 abbrev pub is_all : syntax.Entries → Bool
 is_all syntax.All = true
@@ -85,7 +93,8 @@ is_ungrouped ts q = is_grouped q && has_outside ts (map (column_of ts) q.group) 
 abbrev pub is_wide : syntax.Query → Bool
 is_wide q =
     nat_lt MAX_COLUMNS (length (entry_list q.entries))
-    || (nat_lt MAX_COLUMNS (length q.group) || list_any (λ s. nat_lt MAX_COLUMNS (length (partition_of s.window))) q.sources)
+    || (nat_lt MAX_COLUMNS (length q.group)
+    || list_any (λ s. nat_lt MAX_COLUMNS (length (partition_of s.window))) q.sources)
 
 -- the tests, in their order
 abbrev pub fault_tests : syntax.Query → List Stream → List (Bool × ResolveFault)

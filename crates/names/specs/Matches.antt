@@ -1,5 +1,6 @@
 -- What a reference names: the columns that it matches in the sources of a query.
-use Rattle.std.specs.Prelude.{ℕ, suc, Bool, true, cond, Option, Some, None, List, [], ◌∷◌, ◌++◌, map, unwrap_or}
+use Rattle.std.specs.Prelude.{ℕ, suc, Bool, true, cond, Option, Some, None, List, [], ◌∷◌, ◌++◌}
+use Rattle.std.specs.Prelude.{map, unwrap_or}
 use Rattle.std.specs.Str.{bytes_eq}
 use Rattle.values.specs.Condition.{Column}
 use Rattle.cql_reader.specs.Query.{Reference, Source}
@@ -23,7 +24,8 @@ tables catalog sources = map (table_of catalog) sources
 -- the places of a name among names, of which the first has the place n
 abbrev pub places : ℕ → List ℕ → List (List ℕ) → List ℕ
 places n name [] = []
-places n name (x ∷ xs) = cond (bytes_eq x name) (n ∷ places (suc n) name xs) (places (suc n) name xs)
+places n name (x ∷ xs) = cond (bytes_eq x name) (n ∷ places (suc n) name xs)
+    (places (suc n) name xs)
 
 -- a qualifier, where there is one, is the name of the source
 abbrev pub allows : Option (List ℕ) → List ℕ → Bool
@@ -36,7 +38,8 @@ columns_at source places = map (λ k. record { source = source; column = k }) pl
 
 -- the columns that a reference matches in a source
 abbrev pub matches_in : ℕ → Reference → Table → List Column
-matches_in source r t = cond (allows r.qualifier t.name) (columns_at source (places 0 r.name t.columns)) []
+matches_in source r t = cond (allows r.qualifier t.name)
+    (columns_at source (places 0 r.name t.columns)) []
 
 -- the columns that a reference matches in sources, of which the first has the number s
 abbrev pub matches : ℕ → List Table → Reference → List Column

@@ -1,10 +1,13 @@
 -- The query that a text means over declared streams, for texts without a fault.
-use Rattle.std.specs.Prelude.{ℕ, suc, Bool, true, false, cond, ◌&&◌, ◌||◌, ◌==◌, List, [], ◌∷◌, ◌++◌, map, length, position, unwrap_or}
+use Rattle.std.specs.Prelude.{ℕ, suc, Bool, true, false, cond, ◌&&◌, ◌||◌, ◌==◌, List, [], ◌∷◌}
+use Rattle.std.specs.Prelude.{◌++◌, map, length, position, unwrap_or}
 use Rattle.std.specs.List.{list_any, flat_map, range_with_len}
 use Rattle.std.specs.Option.{option_map}
 use Rattle.values.specs.Window.{Window, Range, RangeSlide, Unbounded, LastRows}
-use Rattle.values.specs.Condition.{Column, Operand, Field, Number, Condition, Compared, Not, And, Or}
-use Rattle.values.specs.Relation.{Shape, ListItem, Listed, Grouped, Key, CountAll, Count, Sum, Min, Max}
+use Rattle.values.specs.Condition.{Column, Operand, Field, Number, Condition, Compared, Not, And}
+use Rattle.values.specs.Condition.{Or}
+use Rattle.values.specs.Relation.{Shape, ListItem, Listed, Grouped, Key, CountAll, Count, Sum, Min}
+use Rattle.values.specs.Relation.{Max}
 use Rattle.values.specs.Answers.{Resolved}
 use Rattle.cql_reader.specs.Query as syntax
 use Rattle.names.specs.Catalog.{Stream, number_in}
@@ -65,10 +68,12 @@ is_aggregate (syntax.Sum r) = true
 is_aggregate (syntax.Min r) = true
 is_aggregate (syntax.Max r) = true
 
--- `*` is all columns of the first source, then those of the next; the first of these sources has the number s
+-- `*` is all columns of the first source, then those of
+-- the next; the first of these sources has the number s
 abbrev pub all_columns : ℕ → List Table → List Column
 all_columns s [] = []
-all_columns s (t ∷ ts) = map (λ k. record { source = s; column = k }) (range_with_len 0 (length t.columns)) ++ all_columns (suc s) ts
+all_columns s (t ∷ ts) = map (λ k. record { source = s; column = k })
+    (range_with_len 0 (length t.columns)) ++ all_columns (suc s) ts
 
 -- the items of a list; `*` has none of its own
 abbrev pub entry_list : syntax.Entries → List syntax.Entry
@@ -90,12 +95,15 @@ listed_columns ts (syntax.Each entries) = map (column_of ts) (flat_map named_by 
 abbrev pub shape_of : List Table → syntax.Query → Shape
 shape_of ts q =
     let by : List Column = map (column_of ts) q.group in
-    cond (is_grouped q) (Grouped by (map (item_of ts by) (entry_list q.entries))) (Listed (listed_columns ts q.entries))
+    cond (is_grouped q) (Grouped by (map (item_of ts by) (entry_list q.entries)))
+    (Listed (listed_columns ts q.entries))
 
 abbrev pub resolved : syntax.Query → List Stream → Resolved
 resolved q catalog =
     let ts : List Table = tables catalog q.sources in
-    record { windows = windows_of catalog q.sources; condition = option_map (condition_of ts) q.condition; shape = shape_of ts q; is_distinct = q.is_distinct; operator = q.operator }
+    record { windows = windows_of catalog q.sources;
+        condition = option_map (condition_of ts) q.condition; shape = shape_of ts q; is_distinct =
+        q.is_distinct; operator = q.operator }
 
 -- the number of each source's stream
 abbrev pub streams : syntax.Query → List Stream → List ℕ

@@ -5,12 +5,14 @@ use Rattle.values.specs.declared.TheConstants.{MAX_COLUMNS}
 use Rattle.values.specs.declared.resolved.Shape.{Shape}
 use Rattle.values.specs.declared.resolved.Shape.TheVariants.{Listed, Grouped}
 use Rattle.values.specs.declared.resolved.Window.{Window}
-use Rattle.values.specs.declared.resolved.Window.TheVariants.{Range, RangeSlide, Unbounded, LastRows}
+use Rattle.values.specs.declared.resolved.Window.TheVariants.{Range, RangeSlide, Unbounded}
+use Rattle.values.specs.declared.resolved.Window.TheVariants.{LastRows}
 
 -- the rows of its list and of Group By have at most MAX_COLUMNS values
 abbrev pub has_narrow_rows : Shape → Bool
 has_narrow_rows (Listed columns) = nat_le (length columns.items) MAX_COLUMNS
-has_narrow_rows (Grouped by items) = nat_le (length by.items) MAX_COLUMNS && nat_le (length items.items) MAX_COLUMNS
+has_narrow_rows (Grouped by items) =
+    nat_le (length by.items) MAX_COLUMNS && nat_le (length items.items) MAX_COLUMNS
 
 -- a window slides by one instant or more
 abbrev pub can_slide : Window → Bool
@@ -27,7 +29,8 @@ abbrev pub is_within : Window → ℕ → Bool
 is_within (Range n) width = true
 is_within (RangeSlide n l) width = true
 is_within Unbounded width = true
-is_within (LastRows columns n) width = list_all (λ k. nat_lt k width) columns.items && nat_le (length columns.items) MAX_COLUMNS
+is_within (LastRows columns n) width =
+    list_all (λ k. nat_lt k width) columns.items && nat_le (length columns.items) MAX_COLUMNS
 
 abbrev pub all_within : List Window → List ℕ → Bool
 all_within [] widths = true

@@ -3,7 +3,9 @@ use Rattle.std.specs.Prelude.{◌≡◌, Bool, Option, Some, None, Result, Ok, E
 use Rattle.names.specs.declared.fault.ResolveError.{ResolveError}
 use Rattle.names.specs.declared.fault.ResolveError.TheVariants.{OutOfMemory, Fault}
 use Rattle.names.specs.declared.fault.ResolveFault.{ResolveFault}
-use Rattle.names.specs.declared.fault.ResolveFault.TheVariants.{UnknownStream, UnknownColumn, AmbiguousColumn, DuplicateAlias, NoJoinKey, NotGrouped, TooWide}
+use Rattle.names.specs.declared.fault.ResolveFault.TheVariants.{UnknownStream, UnknownColumn}
+use Rattle.names.specs.declared.fault.ResolveFault.TheVariants.{AmbiguousColumn, DuplicateAlias}
+use Rattle.names.specs.declared.fault.ResolveFault.TheVariants.{NoJoinKey, NotGrouped, TooWide}
 use Rattle.names.specs.declared.fault.Tests.{Tests}
 
 -- The fault that is told is the first one. That a growth was refused says nothing of the query.
@@ -19,5 +21,7 @@ Refuses (Err fault) first = first ≡ Some fault
 -- the tests in their order, each with its fault
 abbrev pub tests_of : Tests → List (Bool × ResolveFault)
 tests_of t =
-    (t.unknown_stream, UnknownStream) ∷ (t.unknown_column, UnknownColumn) ∷ (t.ambiguous_column, AmbiguousColumn)
-    ∷ (t.duplicate_alias, DuplicateAlias) ∷ (t.no_join_key, NoJoinKey) ∷ (t.not_grouped, NotGrouped) ∷ (t.too_wide, TooWide) ∷ []
+    (t.unknown_stream, UnknownStream) ∷ (t.unknown_column, UnknownColumn)
+    ∷ (t.ambiguous_column, AmbiguousColumn)
+    ∷ (t.duplicate_alias, DuplicateAlias) ∷ (t.no_join_key, NoJoinKey) ∷ (t.not_grouped, NotGrouped)
+    ∷ (t.too_wide, TooWide) ∷ []

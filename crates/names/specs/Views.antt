@@ -1,5 +1,6 @@
 -- What the definitions see of the values of the code.
-use Rattle.std.specs.Prelude.{ℕ, Bool, true, false, ◌==◌, ◌||◌, Option, Some, None, List, [], ◌∷◌, ◌++◌, map, Vec}
+use Rattle.std.specs.Prelude.{ℕ, Bool, true, false, ◌==◌, ◌||◌, Option, Some, None, List, [], ◌∷◌}
+use Rattle.std.specs.Prelude.{◌++◌, map, Vec}
 use Rattle.std.specs.List.{list_all, list_any}
 use Rattle.std.specs.declared.alloc.Global.{Global}
 use Rattle.values.specs.Condition as conditions
@@ -63,13 +64,15 @@ first_found (Many c) = column_of c
 
 -- what the two tests on matches say of them
 abbrev pub verdict_of : List (List conditions.Column) → Verdict
-verdict_of found = record { is_missing = list_any faults.is_missing found; is_many = list_any faults.is_many found }
+verdict_of found = record { is_missing = list_any faults.is_missing found;
+    is_many = list_any faults.is_many found }
 
 abbrev pub verdict_on : List spec.Table → List syntax.Reference → Verdict
 verdict_on ts rs = verdict_of (map (spec.matches 0 ts) rs)
 
 abbrev pub both_verdicts : Verdict → Verdict → Verdict
-both_verdicts a b = record { is_missing = a.is_missing || b.is_missing; is_many = a.is_many || b.is_many }
+both_verdicts a b = record { is_missing = a.is_missing || b.is_missing;
+    is_many = a.is_many || b.is_many }
 
 abbrev pub judged : Found → Verdict
 judged Missing = record { is_missing = true; is_many = false }
@@ -85,7 +88,8 @@ windows_in (t ∷ ts) (s ∷ ss) = meaning.window_of t s.window ∷ windows_in t
 abbrev pub partitions_in : List spec.Table → List syntax.Source → List (List conditions.Column)
 partitions_in [] ss = []
 partitions_in (t ∷ ts) [] = []
-partitions_in (t ∷ ts) (s ∷ ss) = map (λ r. spec.matches_in 0 r t) (faults.partition_of s.window) ++ partitions_in ts ss
+partitions_in (t ∷ ts) (s ∷ ss) =
+    map (λ r. spec.matches_in 0 r t) (faults.partition_of s.window) ++ partitions_in ts ss
 
 abbrev pub conditions_of : List Condition → List conditions.Condition
 conditions_of cs = map condition_of cs

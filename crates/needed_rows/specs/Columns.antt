@@ -18,7 +18,8 @@ pub record IsRegular (s : Stream) : Type 0 where
 pub record AreColumns (width : ℕ) (es : List Element) (rows : ClosedRows) : Type 0 where
   pub instants : rows.instants.now ≡ map (λ e. e.instant) es
   pub numbers : rows.numbers.now ≡ map (λ e. e.arrival) es
-  pub columns : lists rows.columns.now ≡ map (λ k. map (λ e. value_at e.row k) es) (range_with_len 0 width)
+  pub columns : lists rows.columns.now
+      ≡ map (λ k. map (λ e. value_at e.row k) es) (range_with_len 0 width)
 
 -- such rows stand in order, and are what the stream has closed
 pub record StandFor (s : Stream) (rows : ClosedRows) : Type 0 where

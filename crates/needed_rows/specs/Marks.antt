@@ -1,5 +1,6 @@
 -- Marks of rows, and the tests by place that set them.
-use Rattle.std.specs.Prelude.{◌≡◌, ℕ, zero, suc, ◌+◌, ◌-◌, ◌<◌, Bool, false, cond, ◌&&◌, ◌||◌, nat_le, nat_lt, List, length, get_or}
+use Rattle.std.specs.Prelude.{◌≡◌, ℕ, zero, suc, ◌+◌, ◌-◌, ◌<◌, Bool, false, cond, ◌&&◌, ◌||◌}
+use Rattle.std.specs.Prelude.{nat_le, nat_lt, List, length, get_or}
 
 -- the marks of the places that pass are set, and the others are as they were
 pub record Sets (passes : ℕ → Bool) (old new : List Bool) : Type 0 where
@@ -12,22 +13,28 @@ has_arrived numbers place i = nat_le place (get_or numbers i 0)
 
 -- between two places
 abbrev pub is_in_run : List ℕ → ℕ → ℕ → ℕ → ℕ → Bool
-is_in_run numbers place start end i = has_arrived numbers place i && (nat_le start i && nat_lt i end)
+is_in_run numbers place start end i =
+    has_arrived numbers place i && (nat_le start i && nat_lt i end)
 
 -- of the least instant or a later one
 abbrev pub is_from : List ℕ → List ℕ → ℕ → ℕ → ℕ → Bool
-is_from instants numbers place least i = has_arrived numbers place i && nat_le least (get_or instants i 0)
+is_from instants numbers place least i =
+    has_arrived numbers place i && nat_le least (get_or instants i 0)
 
 -- and of an instant below `end`
 abbrev pub is_between : List ℕ → List ℕ → ℕ → ℕ → ℕ → ℕ → Bool
-is_between instants numbers place least end i = has_arrived numbers place i && (nat_le least (get_or instants i 0) && nat_lt (get_or instants i 0) end)
+is_between instants numbers place least end i =
+    has_arrived numbers place i && (nat_le least (get_or instants i 0)
+    && nat_lt (get_or instants i 0) end)
 
 -- how many of so many places from `start` on pass
 abbrev pub count_places : (ℕ → Bool) → ℕ → ℕ → ℕ
 count_places p start zero = 0
-count_places p start (suc n) = cond (p start) (suc (count_places p (start + 1) n)) (count_places p (start + 1) n)
+count_places p start (suc n) =
+    cond (p start) (suc (count_places p (start + 1) n)) (count_places p (start + 1) n)
 
 -- of the places from `start` to below `end` that pass, fewer than n later ones are alike
 abbrev pub is_among_last : (ℕ → Bool) → (ℕ → ℕ → Bool) → ℕ → ℕ → ℕ → ℕ → Bool
 is_among_last passes alike n start end i =
-    (nat_le start i && nat_lt i end) && (passes i && nat_lt (count_places (λ j. passes j && alike i j) (i + 1) (end - (i + 1))) n)
+    (nat_le start i && nat_lt i end)
+    && (passes i && nat_lt (count_places (λ j. passes j && alike i j) (i + 1) (end - (i + 1))) n)

@@ -9,8 +9,8 @@ use Rattle.op_queue.specs.Tables.{IsRising, element_at, elements_in}
 use Rattle.needed_rows.specs.declared.reader.Reader.{Reader}
 use Rattle.needed_rows.specs.declared.reader.ClosedRows.{ClosedRows}
 
--- a source of a running query: the number in the order of arrival from which on elements are in its input, the first instant of that, the instant
--- after the query's mark, and its window
+-- a source of a running query: the number in the order of arrival from which on elements are
+-- in its input, the first instant of that, the instant after the query's mark, and its window
 pub record PlainReader : Type 0 where
   pub place : ℕ
   pub first : ℕ
@@ -23,7 +23,8 @@ is_in_input r e = nat_le r.place e.arrival && nat_le r.first e.instant
 
 -- THE RULE: of the elements es of the stream, e is in its input, and above the mark or still shown
 abbrev pub is_needed_by : List Element → PlainReader → Element → Bool
-is_needed_by es r e = is_in_input r e && is_needed r.first r.window r.next (input_of r.place r.first es) e
+is_needed_by es r e = is_in_input r e
+    && is_needed r.first r.window r.next (input_of r.place r.first es) e
 
 -- some source needs it
 abbrev pub is_needed_by_some : List Element → List PlainReader → Element → Bool
@@ -31,7 +32,8 @@ is_needed_by_some es readers e = list_any (λ r. is_needed_by es r e) readers
 
 -- WHAT THE CODE HAS
 abbrev pub reader_in : Reader → PlainReader
-reader_in r = record { place = r.place; first = r.first; next = r.next; window = window_of r.window.now }
+reader_in r = record { place = r.place; first = r.first; next = r.next;
+    window = window_of r.window.now }
 
 abbrev pub readers_in : List Reader → List PlainReader
 readers_in readers = map reader_in readers
@@ -48,7 +50,8 @@ abbrev pub element_in : ClosedRows → ℕ → Element
 element_in rows i = element_at rows.instants.now rows.numbers.now (lists rows.columns.now) i
 
 abbrev pub elements_of : ClosedRows → List Element
-elements_of rows = elements_in (length rows.instants.now) rows.instants.now rows.numbers.now (lists rows.columns.now)
+elements_of rows = elements_in (length rows.instants.now) rows.instants.now rows.numbers.now
+    (lists rows.columns.now)
 
 -- the reader needs the element at the place
 abbrev pub needs_at : ClosedRows → PlainReader → ℕ → Bool
@@ -58,5 +61,6 @@ needs_at rows r i = is_needed_by (elements_of rows) r (element_in rows i)
 pub record AreInOrder (rows : ClosedRows) : Type 0 where
   pub numbers : length rows.numbers.now ≡ length rows.instants.now
   pub rising : IsRising rows.instants.now 0 (length rows.instants.now)
-  pub apart : (i j : ℕ) → i < j → j < length rows.instants.now → get_or rows.instants.now i 0 ≡ get_or rows.instants.now j 0
+  pub apart : (i j : ℕ) → i < j → j < length rows.instants.now
+      → get_or rows.instants.now i 0 ≡ get_or rows.instants.now j 0
       → get_or rows.numbers.now i 0 < get_or rows.numbers.now j 0

@@ -1,5 +1,6 @@
 -- The queue that a cursor stands for over its log.
-use Rattle.std.specs.Prelude.{◌≡◌, ℕ, ◌+◌, ◌≤◌, cond, max, nat_lt, List, [], ◌∷◌, ◌++◌, drop, length}
+use Rattle.std.specs.Prelude.{◌≡◌, ℕ, ◌+◌, ◌≤◌, cond, max, nat_lt, List, [], ◌∷◌, ◌++◌, drop}
+use Rattle.std.specs.Prelude.{length}
 use Rattle.values.specs.Row.{Row}
 use Rattle.values.specs.Window.{Element}
 use Rattle.op_queue.specs.Entries.{Entry, TickAt}
@@ -9,18 +10,23 @@ use Rattle.op_queue.specs.declared.cursor.Cursor.{Cursor}
 -- what is left of the cursor's instant, and then the later instants
 abbrev pub cursor_entries : Cursor → Closed → List (Entry Row)
 cursor_entries c log =
-    cond (nat_lt c.at log.until) (row_entries c.at (drop c.passed (shown c.place c.at log.elements)) ++ TickAt c.at ∷ log_entries c.place (c.at + 1) log) []
+    cond (nat_lt c.at log.until) (row_entries c.at (drop c.passed (shown c.place c.at log.elements))
+    ++ TickAt c.at ∷ log_entries c.place (c.at + 1) log) []
 
 -- the cursor has passed no more rows of its instant than the log has
 abbrev pub IsWithin : Cursor → Closed → Type 0
 IsWithin c log = c.passed ≤ length (shown c.place c.at log.elements)
 
--- the cursor reads the same rows as before, and goes on where the log ends if it has not passed that
+-- the cursor reads the same rows as before, and goes
+-- on where the log ends if it has not passed that
 pub record GoesOn (log : Closed) (old new : Cursor) : Type 0 where
   pub place : new.place ≡ old.place
   pub next : max new.at log.until ≡ max old.at log.until
 
--- the queue of every cursor gains the rows and ticks of the instants that the log closed, and nothing else
+-- the queue of every cursor gains the rows and ticks of
+-- the instants that the log closed, and nothing else
 pub record GainsClosed (old : Closed) (es : List Element) (until : ℕ) (new : Closed) : Type 0 where
-  pub gains : (c : Cursor) → IsWithin c old → cursor_entries c new ≡ cursor_entries c old ++ span_entries c.place es (max c.at old.until) until
+  pub gains : (c : Cursor) → IsWithin c old
+      → cursor_entries c new ≡ cursor_entries c old
+      ++ span_entries c.place es (max c.at old.until) until
   pub within : (c : Cursor) → IsWithin c old → IsWithin c new

@@ -1,5 +1,6 @@
 -- The entries that an item stands for, and what stands at the front of a queue.
-use Rattle.std.specs.Prelude.{◌≡◌, ℕ, ◌+◌, ◌-◌, ◌<◌, ◌≤◌, Option, None, Some, List, ◌∷◌, [], length, map, take}
+use Rattle.std.specs.Prelude.{◌≡◌, ℕ, ◌+◌, ◌-◌, ◌<◌, ◌≤◌, Option, None, Some, List, ◌∷◌, [], length}
+use Rattle.std.specs.Prelude.{map, take}
 use Rattle.std.specs.List.{range_with_len}
 use Rattle.values.specs.Row.{Row}
 use Rattle.op_queue.specs.Entries.{Entry, RowAt, TickAt, instant_of}

@@ -1,5 +1,6 @@
 -- What a stream has closed, and the entries that it is for a query.
-use Rattle.std.specs.Prelude.{◌≡◌, ℕ, ◌-◌, ◌<◌, ◌≤◌, ◌&&◌, ◌==◌, nat_le, Bool, true, List, [], ◌∷◌, ◌++◌, length, map, get_or}
+use Rattle.std.specs.Prelude.{◌≡◌, ℕ, ◌-◌, ◌<◌, ◌≤◌, ◌&&◌, ◌==◌, nat_le, Bool, true, List, [], ◌∷◌}
+use Rattle.std.specs.Prelude.{◌++◌, length, map, get_or}
 use Rattle.std.specs.List.{All, filter, flat_map, range_with_len}
 use Rattle.std.specs.List.Sorted.{IsNonDecreasingBy}
 use Rattle.values.specs.Row.{Row}
@@ -15,7 +16,9 @@ pub record Closed : Type 0 where
 -- by instant, then arrival
 pub record IsInOrder (es : List Element) : Type 0 where
   pub instants : IsNonDecreasingBy (λ e. e.instant) es
-  pub arrivals : (i j : ℕ) (d : Element) → i ≤ j → j < length es → (get_or es i d).instant ≡ (get_or es j d).instant → (get_or es i d).arrival ≤ (get_or es j d).arrival
+  pub arrivals : (i j : ℕ) (d : Element) → i ≤ j → j < length es
+      → (get_or es i d).instant ≡ (get_or es j d).instant
+      → (get_or es i d).arrival ≤ (get_or es j d).arrival
 
 -- elements of the stream's width and of instants from the open one to below `until`, in order
 pub record IsClosing (log : Closed) (es : List Element) (until : ℕ) : Type 0 where
@@ -49,7 +52,8 @@ instant_entries place es t = row_entries t (shown place t es) ++ TickAt t ∷ []
 
 -- the instants from `start` to below `until`
 abbrev pub span_entries : ℕ → List Element → ℕ → ℕ → List (Entry Row)
-span_entries place es start until = flat_map (instant_entries place es) (range_with_len start (until - start))
+span_entries place es start until =
+    flat_map (instant_entries place es) (range_with_len start (until - start))
 
 -- the queue of a query that was registered at this place, from the instant `start` on
 abbrev pub log_entries : ℕ → ℕ → Closed → List (Entry Row)

@@ -1,5 +1,6 @@
 -- How a queue is kept: pieces, of the first of which some rows or ticks have left.
-use Rattle.std.specs.Prelude.{◌≡◌, ℕ, Bool, Option, None, Some, ◌+◌, ◌-◌, ◌^◌, ◌<◌, ◌≤◌, List, [], ◌∷◌, ◌++◌, map, length, drop}
+use Rattle.std.specs.Prelude.{◌≡◌, ℕ, Bool, Option, None, Some, ◌+◌, ◌-◌, ◌^◌, ◌<◌, ◌≤◌, List, []}
+use Rattle.std.specs.Prelude.{◌∷◌, ◌++◌, map, length, drop}
 use Rattle.std.specs.List.{flat_map, last_or, All}
 use Rattle.values.specs.Row.{Row}
 use Rattle.column.specs.Rows.{IsBatch}
@@ -31,7 +32,11 @@ abbrev pub queue_begins : ℕ → List Piece → List Bool
 queue_begins taken ps = drop taken (flat_map piece_begins ps)
 
 abbrev pub waiting_in : ℕ → List Piece → Waiting
-waiting_in taken ps = record { entries = queue_entries taken ps; begins = queue_begins taken ps; pieces = length ps }
+waiting_in taken ps = record {
+  entries = queue_entries taken ps;
+  begins = queue_begins taken ps;
+  pieces = length ps;
+}
 
 -- a piece has something, and no more than there are instants
 abbrev pub IsPiece : Piece → Type 0
@@ -73,7 +78,8 @@ pub record IsQueue (taken waiting : ℕ) (ps : List Piece) : Type 0 where
 -- the last piece is a run that ends just before `first`, and then ends at `last`
 abbrev pub IsLongerRun : ℕ → ℕ → List Piece → List Piece → Type 0
 IsLongerRun first last ps qs =
-    (init : List Piece) × (start : ℕ) × (end : ℕ) × (ps ≡ init ++ Ticks start end ∷ []) × (qs ≡ init ++ Ticks start last ∷ []) × (end + 1 ≡ first)
+    (init : List Piece) × (start : ℕ) × (end : ℕ) × (ps ≡ init ++ Ticks start end ∷ [])
+    × (qs ≡ init ++ Ticks start last ∷ []) × (end + 1 ≡ first)
 
 -- the item is the batch of the first piece, of at most `count` rows, and the other pieces stay
 abbrev pub IsTakenWhole : ℕ → List Piece → List Piece → Item → Type 0

@@ -1,5 +1,6 @@
 -- A queue as its callers see it.
-use Rattle.std.specs.Prelude.{◌≡◌, ℕ, ◌+◌, ◌≤◌, ◌==◌, Bool, true, false, cond, Option, None, Some, List, [], ◌∷◌, ◌++◌, map, take, drop, min, length}
+use Rattle.std.specs.Prelude.{◌≡◌, ℕ, ◌+◌, ◌≤◌, ◌==◌, Bool, true, false, cond, Option, None, Some}
+use Rattle.std.specs.Prelude.{List, [], ◌∷◌, ◌++◌, map, take, drop, min, length}
 use Rattle.std.specs.List.{flat_map, last_or}
 use Rattle.values.specs.Row.{Row}
 use Rattle.op_queue.specs.Entries.{Entry, RowAt, TickAt}
@@ -7,7 +8,8 @@ use Rattle.op_queue.specs.Items.{IsFrontPart, entries_of}
 use Rattle.op_queue.specs.declared.item.Item.{Item}
 use Rattle.op_queue.specs.declared.item.Item.TheVariants as item
 
--- what waits, which entries begin an item that comes out at once, and in how many pieces all is kept
+-- what waits, which entries begin an item that comes
+-- out at once, and in how many pieces all is kept
 pub record Waiting : Type 0 where
   pub entries : List (Entry Row)
   pub begins : List Bool
@@ -37,7 +39,8 @@ at_once (b ∷ bs) = 1 + before_next bs
 abbrev pub last_entry : {X : Type 0} → List (Entry X) → Option (Entry X)
 last_entry es = last_or None es
 
--- how many pieces more a run of ticks from `first` on takes behind the last entry: none where that is the tick of the instant before
+-- how many pieces more a run of ticks from `first` on takes behind
+-- the last entry: none where that is the tick of the instant before
 abbrev pub run_pieces : {X : Type 0} → Option (Entry X) → ℕ → ℕ
 run_pieces None first = 1
 run_pieces (Some (RowAt t s)) first = 1
@@ -48,7 +51,8 @@ abbrev pub item_pieces : Option (Entry Row) → Item → ℕ
 item_pieces last (item.Rows t b) = 1
 item_pieces last (item.Tick t) = run_pieces last t
 
--- how many pieces more an entry takes behind another: a row one where it begins a batch, and the first of all one
+-- how many pieces more an entry takes behind another: a row
+-- one where it begins a batch, and the first of all one
 abbrev pub entry_pieces : {X : Type 0} → Entry X → Bool → Option (Entry X) → ℕ
 entry_pieces (TickAt t) b last = run_pieces last t
 entry_pieces (RowAt t s) b None = 1
@@ -60,7 +64,8 @@ pieces_behind last [] bs = 0
 pieces_behind last (e ∷ es) [] = 0
 pieces_behind last (e ∷ es) (b ∷ bs) = entry_pieces e b last + pieces_behind (Some e) es bs
 
--- in how many pieces entries are kept: one for each batch, and one for each run of ticks of instants that follow one another
+-- in how many pieces entries are kept: one for each batch, and
+-- one for each run of ticks of instants that follow one another
 abbrev pub pieces_of : {X : Type 0} → List (Entry X) → List Bool → ℕ
 pieces_of es bs = pieces_behind None es bs
 
@@ -71,7 +76,8 @@ pub record HasLeft (count : ℕ) (old new : Waiting) (i : Item) : Type 0 where
   pub entries : new.entries ≡ drop (length (entries_of i)) old.entries
   pub begins : new.begins ≡ drop (length (entries_of i)) old.begins
   pub pieces : new.pieces ≤ old.pieces
-  pub counted : new.pieces ≡ pieces_of (drop (length (entries_of i)) old.entries) (drop (length (entries_of i)) old.begins)
+  pub counted : new.pieces ≡ pieces_of (drop (length (entries_of i)) old.entries)
+      (drop (length (entries_of i)) old.begins)
 
 -- items that stand for these entries were pushed, and each comes out at once
 pub record HasGained (es : List (Entry Row)) (old new : Waiting) : Type 0 where

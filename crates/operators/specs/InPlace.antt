@@ -22,12 +22,14 @@ use Rattle.windows.specs.Widths.{IsItemWide}
 use Rattle.turn.specs.Turns.{Answered, Outs, Put}
 use Rattle.turn.specs.declared.kinds.Kind.{Kind}
 use Rattle.turn.specs.declared.kinds.Kind.TheVariants as kind
-use Rattle.operators.specs.Inboxes.{IsDropped, all_begins, all_entries, begins_in, cut_of, is_fed, queued}
+use Rattle.operators.specs.Inboxes.{IsDropped, all_begins, all_entries, begins_in, cut_of, is_fed}
+use Rattle.operators.specs.Inboxes.{queued}
 use Rattle.operators.specs.Operators.{HasNamedColumns, PlainOperator, inbox_of, other, waiting}
 use Rattle.operators.specs.States.{IsLatestAfter, TakesSlide, range_after}
 use Rattle.operators.specs.declared.inboxes.Inbox.{Inbox}
 use Rattle.operators.specs.declared.states.State.{State}
-use Rattle.operators.specs.declared.states.State.TheVariants.{Range, Slide, Latest, Nothing, Join, Groups, Root}
+use Rattle.operators.specs.declared.states.State.TheVariants.{Range, Slide, Latest, Nothing, Join}
+use Rattle.operators.specs.declared.states.State.TheVariants.{Groups, Root}
 
 -- WHAT A TURN OF A STATE IS; the kind says no more than what Select and Project do
 abbrev pub IsRowNode : Kind → Type 0
@@ -86,7 +88,8 @@ IsAfterItem (Slide s) side i new = new ≡ Slide (slide.next s i)
 IsAfterItem (Latest s) side i new = IsLatestAfter s i new
 IsAfterItem Nothing side i new = new ≡ Nothing
 IsAfterItem (Join s) side i new = new ≡ Join (join.next s side i)
-IsAfterItem (Groups s) side i new = new ≡ Groups (groups.next s i (groups.change s.group i (groups.near s i)))
+IsAfterItem (Groups s) side i new =
+    new ≡ Groups (groups.next s i (groups.change s.group i (groups.near s i)))
 IsAfterItem (Root s) side i new = new ≡ Root (root.next s i)
 
 -- of a root: it takes the item, what it answers, and the state after it
@@ -147,7 +150,8 @@ HaveCome (Put es) old new = HasCome es old new
 HaveCome (Answered given) old new = ⊥
 
 -- THE FRONT HAS LEFT: the item came out at once of the side, and all else is as it was
-pub record HasTaken (o : PlainOperator) (log : Closed) (side : Side) (rows : ℕ) (i : Item) (new : PlainOperator) : Type 0 where
+pub record HasTaken (o : PlainOperator) (log : Closed) (side : Side) (rows : ℕ) (i : Item)
+    (new : PlainOperator) : Type 0 where
   pub part : IsFrontPart rows (waiting o log side) i
   pub cut : entries_of i ≡ cut_of rows (inbox_of o side) log
   pub kind : new.kind ≡ o.kind

@@ -1,4 +1,5 @@
--- What waits for an operator: rows and ticks of a stream's log, or of a queue that another operator fills.
+-- What waits for an operator: rows and ticks of a stream's
+-- log, or of a queue that another operator fills.
 use Rattle.std.specs.Prelude.{ℕ, ◌≡◌, Bool, true, false, min, List, [], take, drop}
 use Rattle.std.specs.List.{flat_map}
 use Rattle.values.specs.Row.{Row}
@@ -11,7 +12,8 @@ use Rattle.op_queue.specs.declared.item.Item.{Item}
 use Rattle.operators.specs.declared.inboxes.Inbox.{Inbox}
 use Rattle.operators.specs.declared.inboxes.Inbox.TheVariants.{First, Between}
 
--- the rows and ticks that wait, where the log is that of the stream that a first queue reads; a queue between operators reads none
+-- the rows and ticks that wait, where the log is that of the stream
+-- that a first queue reads; a queue between operators reads none
 abbrev pub entries_in : Inbox → Closed → List (Entry Row)
 entries_in (First c) log = cursor_entries c log
 entries_in (Between q) log = q.entries
@@ -36,7 +38,8 @@ abbrev pub begins_in : Inbox → List Bool
 begins_in (First c) = []
 begins_in (Between q) = q.begins
 
--- the front that comes out at once: a tick, or at most so many of the rows that came as one batch, or that a log has of one instant
+-- the front that comes out at once: a tick, or at most so many of
+-- the rows that came as one batch, or that a log has of one instant
 abbrev pub cut_of : ℕ → Inbox → Closed → List (Entry Row)
 cut_of rows (First c) log = front_part (min rows 1024) (cursor_entries c log)
 cut_of rows (Between q) log = take (min rows (at_once q.begins)) q.entries
@@ -48,14 +51,16 @@ all_entries items = flat_map entries_of items
 abbrev pub all_begins : List Item → List Bool
 all_begins items = flat_map (λ i. first_begins (entries_of i)) items
 
--- a first queue reads the same rows as before, and goes on where its log ends if it has not passed that
+-- a first queue reads the same rows as before, and
+-- goes on where its log ends if it has not passed that
 abbrev pub ReadsOn : Closed → Inbox → Inbox → Type 0
 ReadsOn log (First c) (First d) = GoesOn log c d
 ReadsOn log (First c) (Between w) = ⊥
 ReadsOn log (Between u) (First d) = ⊥
 ReadsOn log (Between u) (Between w) = Unit {0}
 
--- the first n rows and ticks have left; the batches behind them are as they came, and so is what is left of a batch of which some have left
+-- the first n rows and ticks have left; the batches behind them are as
+-- they came, and so is what is left of a batch of which some have left
 pub record IsDropped (n : ℕ) (log : Closed) (old new : Inbox) : Type 0 where
   pub entries : entries_in new log ≡ drop n (entries_in old log)
   pub begins : begins_in new ≡ drop n (begins_in old)

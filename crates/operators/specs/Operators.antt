@@ -27,9 +27,11 @@ use Rattle.operators.specs.Inboxes.{IsDropped, all_begins, begins_in, entries_in
 use Rattle.operators.specs.States.{IsNext, usable}
 use Rattle.operators.specs.declared.inboxes.Inbox.{Inbox}
 use Rattle.operators.specs.declared.states.State.{State}
-use Rattle.operators.specs.declared.states.State.TheVariants.{Range, Slide, Latest, Nothing, Join, Groups, Root}
+use Rattle.operators.specs.declared.states.State.TheVariants.{Range, Slide, Latest, Nothing, Join}
+use Rattle.operators.specs.declared.states.State.TheVariants.{Groups, Root}
 
--- what it does, what it holds, and what waits on its sides; an operator with one input has it on the left
+-- what it does, what it holds, and what waits on its
+-- sides; an operator with one input has it on the left
 pub record PlainOperator : Type 0 where
   pub kind : Kind
   pub state : State
@@ -43,7 +45,8 @@ abbrev pub other : Side → Side
 other Left = Right
 other Right = Left
 
--- the rows and ticks that wait on a side, where the log is that of the stream that a first queue reads
+-- the rows and ticks that wait on a side, where the
+-- log is that of the stream that a first queue reads
 abbrev pub waiting : PlainOperator → Closed → Side → List (Entry Row)
 waiting o log side = entries_in (inbox_of o side) log
 
@@ -94,7 +97,8 @@ front_instant (front.Tick t) = t
 
 -- the instant at the front of the side, where the side can be used
 abbrev pub ready_at : PlainOperator → Closed → Side → Option ℕ
-ready_at o log side = cond (usable o.state side) (option_map front_instant (front_of (waiting o log side))) None
+ready_at o log side = cond (usable o.state side)
+    (option_map front_instant (front_of (waiting o log side))) None
 
 -- the left side where both can be used
 abbrev pub first_ready : Option ℕ → Option ℕ → Option (Side × ℕ)
@@ -105,15 +109,18 @@ first_ready None None = None
 abbrev pub ready : PlainOperator → Closed → Option (Side × ℕ)
 ready o log = first_ready (ready_at o log Left) (ready_at o log Right)
 
--- AFTER A TURN with an item of the side: the item has left its queue, the other queue is as it was, and the state is the next one
-pub record IsFinished (o : PlainOperator) (log : Closed) (side : Side) (i : Item) (c : Change) (new : PlainOperator) : Type 0 where
+-- AFTER A TURN with an item of the side: the item has left its
+-- queue, the other queue is as it was, and the state is the next one
+pub record IsFinished (o : PlainOperator) (log : Closed) (side : Side) (i : Item) (c : Change)
+    (new : PlainOperator) : Type 0 where
   pub kind : new.kind ≡ o.kind
   pub state : IsNext o.state side i c new.state
   pub dropped : IsDropped (length (entries_of i)) log (inbox_of o side) (inbox_of new side)
   pub other : inbox_of new (other side) ≡ inbox_of o (other side)
 
 -- AFTER IT WAS FED: these wait too, at the back of the side's queue, and all else is as it was
-pub record IsFed (o : PlainOperator) (side : Side) (es : List (Entry Row)) (new : PlainOperator) : Type 0 where
+pub record IsFed (o : PlainOperator) (side : Side) (es : List (Entry Row))
+    (new : PlainOperator) : Type 0 where
   pub kind : new.kind ≡ o.kind
   pub state : new.state ≡ o.state
   pub queued : queued (inbox_of new side) ≡ queued (inbox_of o side) ++ es
@@ -121,5 +128,6 @@ pub record IsFed (o : PlainOperator) (side : Side) (es : List (Entry Row)) (new 
   pub other : inbox_of new (other side) ≡ inbox_of o (other side)
 
 -- and each of these items came as a batch or a tick of its own, behind the batches that waited
-pub record KeepsBatches (o : PlainOperator) (side : Side) (items : List Item) (new : PlainOperator) : Type 0 where
+pub record KeepsBatches (o : PlainOperator) (side : Side) (items : List Item)
+    (new : PlainOperator) : Type 0 where
   pub begins : begins_in (inbox_of new side) ≡ begins_in (inbox_of o side) ++ all_begins items

@@ -13,7 +13,8 @@ use Rattle.turn.specs.declared.kinds.Kind.TheVariants as kind
 use Rattle.turn.specs.declared.outcomes.Change.{Change}
 use Rattle.turn.specs.declared.parts.Parts.{Parts}
 use Rattle.operators.specs.Inboxes.{IsInboxWithin, all_entries, cut_of, is_fed, queued}
-use Rattle.operators.specs.Operators.{Belongs, HasNamedColumns, IsFed, IsFinished, KeepsBatches, PlainOperator, inbox_of, waiting}
+use Rattle.operators.specs.Operators.{Belongs, HasNamedColumns, IsFed, IsFinished, KeepsBatches}
+use Rattle.operators.specs.Operators.{PlainOperator, inbox_of, waiting}
 use Rattle.operators.specs.States.{HasColumns, Takes, near_of}
 use Rattle.operators.specs.declared.runs.Refused.{Refused}
 use Rattle.operators.specs.declared.runs.Refused.TheVariants.{Before, Within}
@@ -36,7 +37,8 @@ outs_with o side i = outs_at o.kind side i (near_of o.state side i)
 abbrev pub change_with : PlainOperator → Side → Item → Change
 change_with o side i = change_at o.kind i (near_of o.state side i)
 
--- THE CALLER'S CONDITIONS of the operator: something waits there, and it takes whatever stands first
+-- THE CALLER'S CONDITIONS of the operator: something
+-- waits there, and it takes whatever stands first
 pub record TakesItem (o : PlainOperator) (side : Side) (i : Item) : Type 0 where
   pub belongs : Belongs o.kind o.state
   pub columns : HasColumns o.state side i
@@ -49,7 +51,8 @@ pub record MayRun (o : PlainOperator) (log : Closed) (side : Side) (rows : ℕ) 
   pub within : IsInboxWithin (inbox_of o side) log
   pub takes : (i : Item) → IsFrontPart rows (waiting o log side) i → TakesItem o side i
 
--- of the operator above: once the item has left, what a turn with it puts out may come to the back of its queue
+-- of the operator above: once the item has left, what a
+-- turn with it puts out may come to the back of its queue
 pub record MayGain (to : PlainOperator) (side : Side) (es : List (Entry Row)) : Type 0 where
   pub fed : is_fed (inbox_of to side) ≡ true
   pub forward : IsForward (queued (inbox_of to side) ++ es)
@@ -59,10 +62,13 @@ MayPut (Put es) to side = MayGain to side es
 MayPut (Answered given) to side = ⊥
 
 abbrev pub MayPutAfter : PlainOperator → Closed → Side → Item → PlainOperator → Side → Type 0
-MayPutAfter o log side i to to_side = (new : PlainOperator) → IsFinished o log side i (change_with o side i) new → MayPut (outs_with o side i) to to_side
+MayPutAfter o log side i to to_side =
+    (new : PlainOperator) → IsFinished o log side i (change_with o side i) new
+    → MayPut (outs_with o side i) to to_side
 
 abbrev pub MayPutFirst : PlainOperator → Closed → Side → ℕ → PlainOperator → Side → Type 0
-MayPutFirst o log side rows to to_side = (i : Item) → IsFrontPart rows (waiting o log side) i → MayPutAfter o log side i to to_side
+MayPutFirst o log side rows to to_side =
+    (i : Item) → IsFrontPart rows (waiting o log side) i → MayPutAfter o log side i to to_side
 
 -- of a root: it gives answers
 abbrev pub IsGiven : Outs → Type 0
@@ -70,10 +76,13 @@ IsGiven (Put es) = ⊥
 IsGiven (Answered given) = Unit {0}
 
 abbrev pub GivesFirst : PlainOperator → Closed → Side → ℕ → Type 0
-GivesFirst o log side rows = (i : Item) → IsFrontPart rows (waiting o log side) i → IsGiven (outs_with o side i)
+GivesFirst o log side rows = (i : Item) → IsFrontPart rows (waiting o log side) i
+    → IsGiven (outs_with o side i)
 
--- THE ITEM that is run: what comes out at once of the side's front, of which a turn with the excerpt may be run
-pub record IsInHand (o : PlainOperator) (log : Closed) (side : Side) (rows : ℕ) (i : Item) : Type 0 where
+-- THE ITEM that is run: what comes out at once of the
+-- side's front, of which a turn with the excerpt may be run
+pub record IsInHand (o : PlainOperator) (log : Closed) (side : Side) (rows : ℕ)
+    (i : Item) : Type 0 where
   pub part : IsFrontPart rows (waiting o log side) i
   pub cut : entries_of i ≡ cut_of rows (inbox_of o side) log
   pub fits : FitsKind o.kind side i (near_of o.state side i)
@@ -88,7 +97,8 @@ pub record IsMade (k : Kind) (side : Side) (i : Item) (n : Near) (d : Parts) : T
   pub change : d.change ≡ change_at k i n
 
 -- WHAT WAS PUT OUT stands at the back of the queue above, each item as a batch or a tick of its own
-pub record HasGained (to : PlainOperator) (side : Side) (es : List (Entry Row)) (new : PlainOperator) : Type 0 where
+pub record HasGained (to : PlainOperator) (side : Side) (es : List (Entry Row))
+    (new : PlainOperator) : Type 0 where
   pub fed : IsFed to side es new
   pub items : List Item
   pub stand : all_entries items ≡ es
@@ -104,13 +114,15 @@ HasGiven (Put es) old new = ⊥
 HasGiven (Answered given) old new = new ≡ old ++ given
 
 -- AFTER A RUN: the item has left, the state is the next one, and what the turn puts out has gone on
-pub record HasRunBelow (o : PlainOperator) (log : Closed) (side : Side) (rows : ℕ) (to : PlainOperator) (to_side : Side) (new new_to : PlainOperator) : Type 0 where
+pub record HasRunBelow (o : PlainOperator) (log : Closed) (side : Side) (rows : ℕ)
+    (to : PlainOperator) (to_side : Side) (new new_to : PlainOperator) : Type 0 where
   pub item : Item
   pub held : IsInHand o log side rows item
   pub finished : IsFinished o log side item (change_with o side item) new
   pub put : HasPutTo (outs_with o side item) to to_side new_to
 
-pub record HasRunRoot (o : PlainOperator) (log : Closed) (side : Side) (rows : ℕ) (answers : List (ℕ × Row)) (new : PlainOperator) (new_answers : List (ℕ × Row)) : Type 0 where
+pub record HasRunRoot (o : PlainOperator) (log : Closed) (side : Side) (rows : ℕ)
+    (answers : List (ℕ × Row)) (new : PlainOperator) (new_answers : List (ℕ × Row)) : Type 0 where
   pub item : Item
   pub held : IsInHand o log side rows item
   pub finished : IsFinished o log side item (change_with o side item) new

@@ -1,4 +1,5 @@
--- What operators hold, as plain values: the excerpt that an item needs of it, and what is held after a turn.
+-- What operators hold, as plain values: the excerpt that
+-- an item needs of it, and what is held after a turn.
 use Rattle.std.specs.Prelude.{ℕ, ◌≡◌, Bool, true, false, not, List, [], Option, None}
 use Rattle.values.specs.Row.{Row}
 use Rattle.column.specs.declared.batch.Side.{Side}
@@ -23,7 +24,8 @@ use Rattle.turn.specs.declared.excerpts.Near.TheVariants as near
 use Rattle.turn.specs.declared.outcomes.Change.{Change}
 use Rattle.turn.specs.declared.outcomes.Change.TheVariants as change
 use Rattle.operators.specs.declared.states.State.{State}
-use Rattle.operators.specs.declared.states.State.TheVariants.{Range, Slide, Latest, Nothing, Join, Groups, Root}
+use Rattle.operators.specs.declared.states.State.TheVariants.{Range, Slide, Latest, Nothing, Join}
+use Rattle.operators.specs.declared.states.State.TheVariants.{Groups, Root}
 
 -- the instant of the last tick that a root took
 abbrev pub last_in : State → Option ℕ
@@ -36,7 +38,8 @@ last_in (Groups s) = None
 last_in (Root s) = s.last
 
 -- WHICH SIDE CAN BE USED
--- an operator with one input uses the left side, a join any side that has not ticked in its current instant
+-- an operator with one input uses the left side, a join
+-- any side that has not ticked in its current instant
 abbrev pub is_left : Side → Bool
 is_left Left = true
 is_left Right = false
@@ -106,8 +109,8 @@ IsLatestAfter s i (Join new) = ⊥
 IsLatestAfter s i (Groups new) = ⊥
 IsLatestAfter s i (Root new) = ⊥
 
--- the state after a turn with the item and the change. The last rows of partitions are kept by key, in a list that may stand in any way
--- that has the same rows at each key; all else is a function
+-- the state after a turn with the item and the change. The last rows of partitions are kept by key,
+-- in a list that may stand in any way that has the same rows at each key; all else is a function
 abbrev pub IsNext : State → Side → Item → Change → State → Type 0
 IsNext (Range s) side i c new = new ≡ Range (range_after s i)
 IsNext (Slide s) side i c new = new ≡ Slide (slide.next s i)
@@ -117,8 +120,8 @@ IsNext (Join s) side i c new = new ≡ Join (join.next s side i)
 IsNext (Groups s) side i c new = new ≡ Groups (groups.next s i (shown_in c))
 IsNext (Root s) side i c new = new ≡ Root (root.next s i)
 
--- THE CALLER'S CONDITIONS of the next state: instants come one after the other, the item has the columns, counts are within bounds, and the
--- change is one of this state's turns with the item
+-- THE CALLER'S CONDITIONS of the next state: instants come one after the other, the item has the
+-- columns, counts are within bounds, and the change is one of this state's turns with the item
 pub record RangeTakes (s : RangeState) (i : Item) (leave : ℕ) : Type 0 where
   pub after : IsAfter (item_instant i) s.held
   pub wide : IsItemWide s.width i

@@ -1,5 +1,6 @@
 -- The operators of a plan at their beginning.
-use Rattle.std.specs.Prelude.{ℕ, ◌+◌, ◌≡◌, ◌<◌, ◌≤◌, Option, Some, None, false, List, [], ◌∷◌, ◌++◌, map, length, get_or}
+use Rattle.std.specs.Prelude.{ℕ, ◌+◌, ◌≡◌, ◌<◌, ◌≤◌, Option, Some, None, false, List, [], ◌∷◌, ◌++◌}
+use Rattle.std.specs.Prelude.{map, length, get_or}
 use Rattle.std.specs.List.{AllByRecursion}
 use Rattle.values.specs.declared.TheConstants.{MAX_COLUMNS}
 use Rattle.values.specs.Row.{Row}
@@ -24,10 +25,12 @@ use Rattle.operators.specs.declared.states.State.{State}
 use Rattle.operators.specs.declared.states.State.TheVariants as state
 use Rattle.plan.specs.declared.node.Key.{Key}
 use Rattle.plan.specs.declared.node.Node.{Node}
-use Rattle.plan.specs.declared.node.Node.TheVariants.{Window as Source, Select, Join, Project, Group, Distinct, ToStream}
+use Rattle.plan.specs.declared.node.Node.TheVariants.{Window as Source, Select, Join, Project}
+use Rattle.plan.specs.declared.node.Node.TheVariants.{Group, Distinct, ToStream}
 use Rattle.physical_plans.specs.Conjuncts.{all_steps}
 
--- HOW MANY COLUMNS the rows of an operator have, from those of the sources and of the operators before it
+-- HOW MANY COLUMNS the rows of an operator have, from
+-- those of the sources and of the operators before it
 abbrev pub width_made : List ℕ → List ℕ → Node → ℕ
 width_made vs done (Source s) = get_or vs s 0
 width_made vs done (Select i cs) = get_or done i 0
@@ -71,7 +74,8 @@ abbrev pub range_made : Option ℕ → ℕ → State
 range_made span w = state.Range (record { span = span; width = w; held = [] })
 
 abbrev pub slide_made : ℕ → ℕ → ℕ → State
-slide_made span step w = state.Slide (record { span = span; step = step; width = w; held = []; shown = 0 })
+slide_made span step w = state.Slide
+    (record { span = span; step = step; width = w; held = []; shown = 0 })
 
 pub record IsLatestMade (by : List ℕ) (n w : ℕ) (s : LatestState) : Type 0 where
   pub columns : s.columns ≡ by
@@ -80,7 +84,8 @@ pub record IsLatestMade (by : List ℕ) (n w : ℕ) (s : LatestState) : Type 0 w
   pub held : (k : Row) → held_in s.entries k ≡ []
 
 abbrev pub LatestStarts : List ℕ → ℕ → ℕ → State → Type 0
-LatestStarts columns n w s = (held : LatestState) × (s ≡ state.Latest held) × IsLatestMade columns n w held
+LatestStarts columns n w s = (held : LatestState) × (s ≡ state.Latest held)
+    × IsLatestMade columns n w held
 
 abbrev pub WindowStarts : Window → ℕ → State → Type 0
 WindowStarts (window.Range n) w s = s ≡ range_made (Some n) w
@@ -94,11 +99,17 @@ key_pair k = (k.left, k.right)
 abbrev pub StateStarts : List Window → List ℕ → List ℕ → Node → State → Type 0
 StateStarts ws vs widths (Source i) s = WindowStarts (window_at ws i) (get_or vs i 0) s
 StateStarts ws vs widths (Select i cs) s = s ≡ state.Nothing
-StateStarts ws vs widths (Join i j keys) s = s ≡ state.Join (join.beginning (map key_pair keys.items) (get_or widths i 0) (get_or widths j 0))
+StateStarts ws vs widths (Join i j keys) s =
+    s ≡ state.Join (join.beginning (map key_pair keys.items) (get_or widths i 0)
+    (get_or widths j 0))
 StateStarts ws vs widths (Project i places) s = s ≡ state.Nothing
-StateStarts ws vs widths (Group i by items) s = s ≡ state.Groups (groups.beginning (grouping by.items items.items))
-StateStarts ws vs widths (Distinct i) s = s ≡ state.Groups (groups.beginning (once_each (get_or widths i 0)))
-StateStarts ws vs widths (ToStream i op) s = s ≡ state.Root (record { operator = op; delta = record { entered = []; left = [] }; whole = []; last = None })
+StateStarts ws vs widths (Group i by items) s =
+    s ≡ state.Groups (groups.beginning (grouping by.items items.items))
+StateStarts ws vs widths (Distinct i) s =
+    s ≡ state.Groups (groups.beginning (once_each (get_or widths i 0)))
+StateStarts ws vs widths (ToStream i op) s =
+    s ≡ state.Root (record { operator = op; delta = record { entered = []; left = [] }; whole = [];
+    last = None })
 
 -- WHAT WAITS FOR IT: at a window what its source's log has of the query's input, else nothing
 abbrev pub nothing_waits : Inbox
@@ -118,16 +129,18 @@ InboxStarts places start (Group j by items) i = i ≡ nothing_waits
 InboxStarts places start (Distinct j) i = i ≡ nothing_waits
 InboxStarts places start (ToStream j op) i = i ≡ nothing_waits
 
--- an operator of a plan at its beginning, for a query whose first instant is `start` and whose sources' streams were so long when it was
--- registered
-pub record IsMade (ws : List Window) (vs widths places : List ℕ) (start : ℕ) (node : Node) (o : PlainOperator) : Type 0 where
+-- an operator of a plan at its beginning, for a query whose first instant
+-- is `start` and whose sources' streams were so long when it was registered
+pub record IsMade (ws : List Window) (vs widths places : List ℕ) (start : ℕ) (node : Node)
+    (o : PlainOperator) : Type 0 where
   pub kind : o.kind ≡ kind_made ws widths node
   pub state : StateStarts ws vs widths node o.state
   pub left : InboxStarts places start node o.left
   pub right : o.right ≡ nothing_waits
 
--- THE CALLER'S CONDITIONS, which the plan of a query that a row has room for meets: lists of columns are of at most MAX_COLUMNS, a window moves at
--- the multiples of one or more, and conditions speak of the one row that goes between operators
+-- THE CALLER'S CONDITIONS, which the plan of a query that a row has room for meets: lists of
+-- columns are of at most MAX_COLUMNS, a window moves at the multiples of one or more, and
+-- conditions speak of the one row that goes between operators
 abbrev pub IsMakeableWindow : Window → Type 0
 IsMakeableWindow (window.Range n) = Unit {0}
 IsMakeableWindow (window.RangeSlide n l) = 0 < l
@@ -139,18 +152,23 @@ IsMakeable ws widths (Source s) = IsMakeableWindow (window_at ws s)
 IsMakeable ws widths (Select i cs) = AllByRecursion (λ c. IsOfOneSource (condition_of c)) cs.items
 IsMakeable ws widths (Join i j keys) = get_or widths i 0 + get_or widths j 0 ≤ MAX_COLUMNS
 IsMakeable ws widths (Project i places) = length places.items ≤ MAX_COLUMNS
-IsMakeable ws widths (Group i by items) = (length by.items ≤ MAX_COLUMNS) × (length items.items ≤ MAX_COLUMNS)
+IsMakeable ws widths (Group i by items) =
+    (length by.items ≤ MAX_COLUMNS) × (length items.items ≤ MAX_COLUMNS)
 IsMakeable ws widths (Distinct i) = get_or widths i 0 ≤ MAX_COLUMNS
 IsMakeable ws widths (ToStream i op) = Unit {0}
 
 -- each operator of the plan in its place
-abbrev pub AreMade : List Window → List ℕ → List ℕ → List ℕ → ℕ → List Node → List PlainOperator → Type 0
+abbrev pub AreMade : List Window → List ℕ → List ℕ → List ℕ → ℕ → List Node
+    → List PlainOperator → Type 0
 AreMade ws vs widths places start [] [] = Unit {0}
 AreMade ws vs widths places start [] (o ∷ os) = ⊥
 AreMade ws vs widths places start (n ∷ nodes) [] = ⊥
-AreMade ws vs widths places start (n ∷ nodes) (o ∷ os) = IsMade ws vs widths places start n o × AreMade ws vs widths places start nodes os
+AreMade ws vs widths places start (n ∷ nodes) (o ∷ os) =
+    IsMade ws vs widths places start n o × AreMade ws vs widths places start nodes os
 
 -- the rows of each operator have at most MAX_COLUMNS
 abbrev pub HaveNarrowRows : List ℕ → List ℕ → List Node → Type 0
 HaveNarrowRows vs done [] = Unit {0}
-HaveNarrowRows vs done (n ∷ nodes) = (width_made vs done n ≤ MAX_COLUMNS) × HaveNarrowRows vs (done ++ width_made vs done n ∷ []) nodes
+HaveNarrowRows vs done (n ∷ nodes) =
+    (width_made vs done n ≤ MAX_COLUMNS)
+    × HaveNarrowRows vs (done ++ width_made vs done n ∷ []) nodes

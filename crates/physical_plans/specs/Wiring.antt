@@ -13,13 +13,15 @@ on_left input i = cond (input == i) (Some Left) None
 abbrev pub takes_on : ℕ → Node → Option Side
 takes_on i (Window s) = None
 takes_on i (Select input cs) = on_left input i
-takes_on i (Join left right keys) = cond (left == i) (Some Left) (cond (right == i) (Some Right) None)
+takes_on i (Join left right keys) =
+    cond (left == i) (Some Left) (cond (right == i) (Some Right) None)
 takes_on i (Project input columns) = on_left input i
 takes_on i (Group input by items) = on_left input i
 takes_on i (Distinct input) = on_left input i
 takes_on i (ToStream input op) = on_left input i
 
--- of the nodes from the number n on the first that takes the rows of the one with the number i; behind the last where none does
+-- of the nodes from the number n on the first that takes the rows
+-- of the one with the number i; behind the last where none does
 abbrev pub wire_or : ℕ → Wire → Option Side → Wire
 wire_or n later None = later
 wire_or n later (Some side) = record { to = n; side = side }

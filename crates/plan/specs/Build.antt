@@ -1,6 +1,8 @@
 -- The plan of a query.
-use Rattle.std.specs.Prelude.{ℕ, zero, suc, ◌+◌, Bool, true, false, List, [], ◌∷◌, ◌++◌, map, length}
-use Rattle.values.specs.Condition.{Column, Operand, Field, Number, Condition, Compared, Not, And, Or}
+use Rattle.std.specs.Prelude.{ℕ, zero, suc, ◌+◌, Bool, true, false, List, [], ◌∷◌, ◌++◌, map}
+use Rattle.std.specs.Prelude.{length}
+use Rattle.values.specs.Condition.{Column, Operand, Field, Number, Condition, Compared, Not, And}
+use Rattle.values.specs.Condition.{Or}
 use Rattle.values.specs.Relation.{Shape, Listed, Grouped, ListItem, CountAll, Count, Sum, Min, Max}
 use Rattle.values.specs.Answers.{Resolved, StreamOperator}
 use Rattle.names.specs.Split.{all_conjuncts, JoinKey, own_of, join_keys_of, remaining}
@@ -50,11 +52,13 @@ key_placed vs k = record { left = offset vs k.earlier.source k.earlier.column; r
 abbrev pub all_alone : List (List Condition) → List (List Condition)
 all_alone each = map (map (moved alone)) each
 
--- the windows of the sources from s on, each with a Select where conditions are its own; n is the number of the first
+-- the windows of the sources from s on, each with a Select
+-- where conditions are its own; n is the number of the first
 abbrev pub source_nodes : ℕ → ℕ → List (List Condition) → List Node
 source_nodes n s [] = []
 source_nodes n s ([] ∷ each) = Window s ∷ source_nodes (suc n) (suc s) each
-source_nodes n s ((c ∷ cs) ∷ each) = Window s ∷ Select n (c ∷ cs) ∷ source_nodes (suc (suc n)) (suc s) each
+source_nodes n s ((c ∷ cs) ∷ each) =
+    Window s ∷ Select n (c ∷ cs) ∷ source_nodes (suc (suc n)) (suc s) each
 
 -- the number of the last operator of each of these sources
 abbrev pub tops : ℕ → List (List Condition) → List ℕ
@@ -101,18 +105,22 @@ end_nodes true shape op n = shape ∷ Distinct n ∷ ToStream (suc n) op ∷ []
 end_nodes false shape op n = shape ∷ ToStream n op ∷ []
 
 -- the nodes of the sources, of the joins, and of what follows, after these
-abbrev pub nodes_over : List (List Condition) → List (List Key) → List Condition → Bool → (ℕ → Node) → StreamOperator → List Node
+abbrev pub nodes_over : List (List Condition) → List (List Key) → List Condition → Bool → (ℕ → Node)
+    → StreamOperator → List Node
 nodes_over own keys rest is_distinct shape op =
     let sources : List Node = source_nodes 0 0 own in
     let joins : List Node = joins_of (length sources) (tops 0 own) keys in
     let top : ℕ = top_of (length sources) (tops 0 own) keys in
     let selects : List Node = rest_nodes top rest in
-    sources ++ (joins ++ (selects ++ end_nodes is_distinct (shape (rest_top (length (sources ++ joins)) top rest)) op (length (sources ++ (joins ++ selects)))))
+    sources ++ (joins ++ (selects
+    ++ end_nodes is_distinct (shape (rest_top (length (sources ++ joins)) top rest)) op
+    (length (sources ++ (joins ++ selects)))))
 
 -- the plan of a query whose sources have so many columns
 abbrev pub plan_of : List ℕ → Resolved → List Node
 plan_of vs q =
     let n : ℕ = length q.windows in
     let cs : List Condition = all_conjuncts q.condition in
-    nodes_over (all_alone (own_of n cs)) (map (map (key_placed vs)) (join_keys_of n cs)) (map (moved (placed vs)) (remaining n cs)) q.is_distinct
+    nodes_over (all_alone (own_of n cs)) (map (map (key_placed vs)) (join_keys_of n cs))
+    (map (moved (placed vs)) (remaining n cs)) q.is_distinct
     (λ top. shape_node (placed vs) top q.shape) q.operator

@@ -22,14 +22,16 @@ simple_plan : planned simple ≡ Window 0 ∷ Project 0 (at 0 ∷ []) ∷ ToStre
 simple_plan = refl
 
 three_plan : planned three
-    ≡ Window 0 ∷ Window 1 ∷ Window 2 ∷ Join 0 1 (record { left = 0; right = 0 } ∷ []) ∷ Join 3 2 (record { left = 2; right = 0 } ∷ [])
+    ≡ Window 0 ∷ Window 1 ∷ Window 2 ∷ Join 0 1 (record { left = 0; right = 0 } ∷ [])
+    ∷ Join 3 2 (record { left = 2; right = 0 } ∷ [])
     ∷ Project 4 (at 0 ∷ at 3 ∷ []) ∷ ToStream 5 Istream ∷ []
 three_plan = refl
 
 -- what remains is a Select after the Join
 partly_plan : planned partly
     ≡ Window 0 ∷ Window 1 ∷ Join 0 1 (record { left = 0; right = 0 } ∷ [])
-    ∷ Select 2 (Or (Compared (Field (at 2)) Above (Number (pos 5))) (Compared (Field (at 0)) Equals (Number (pos 2))) ∷ [])
+    ∷ Select 2 (Or (Compared (Field (at 2)) Above (Number (pos 5)))
+    (Compared (Field (at 0)) Equals (Number (pos 2))) ∷ [])
     ∷ Project 3 (at 0 ∷ at 1 ∷ at 2 ∷ []) ∷ ToStream 4 Istream ∷ []
 partly_plan = refl
 
@@ -38,16 +40,21 @@ num n = Some (pos n)
 
 -- null keys join nothing
 partly_value : plan_value (planned partly)
-    (((num 1 ∷ []) ∷ (num 2 ∷ []) ∷ (None ∷ []) ∷ []) ∷ ((num 1 ∷ num 4 ∷ []) ∷ (num 1 ∷ num 9 ∷ []) ∷ (num 2 ∷ num 3 ∷ []) ∷ (None ∷ num 9 ∷ []) ∷ []) ∷ [])
+    (((num 1 ∷ []) ∷ (num 2 ∷ []) ∷ (None ∷ []) ∷ [])
+    ∷ ((num 1 ∷ num 4 ∷ []) ∷ (num 1 ∷ num 9 ∷ []) ∷ (num 2 ∷ num 3 ∷ [])
+    ∷ (None ∷ num 9 ∷ []) ∷ []) ∷ [])
     ≡ (num 1 ∷ num 1 ∷ num 9 ∷ []) ∷ (num 2 ∷ num 2 ∷ num 3 ∷ []) ∷ []
 partly_value = refl
 
 -- a chart of another length than the plan, and a root that leaves a size
-short_chart : first_fault simple declared (Some ((pos 1, pos 0) ∷ (pos 1, pos 0) ∷ [])) ≡ Some BadChart
+short_chart : first_fault simple declared (Some ((pos 1, pos 0) ∷ (pos 1, pos 0) ∷ []))
+    ≡ Some BadChart
 short_chart = refl
 
-size_at_the_root : first_fault simple declared (Some ((pos 1, pos 0) ∷ (pos 1, pos 0) ∷ (pos 1, pos 1) ∷ [])) ≡ Some BadChart
+size_at_the_root : first_fault simple declared
+    (Some ((pos 1, pos 0) ∷ (pos 1, pos 0) ∷ (pos 1, pos 1) ∷ [])) ≡ Some BadChart
 size_at_the_root = refl
 
-right_chart : first_fault simple declared (Some ((pos 1, pos 900000) ∷ (pos 1, pos 100000) ∷ (pos 1, pos 0) ∷ [])) ≡ None
+right_chart : first_fault simple declared
+    (Some ((pos 1, pos 900000) ∷ (pos 1, pos 100000) ∷ (pos 1, pos 0) ∷ [])) ≡ None
 right_chart = refl

@@ -19,4 +19,5 @@ after_names None false = None
 -- the first fault of a query over a catalog, with what its chart gives
 abbrev pub first_fault : syntax.Query → List Stream → Option (List (ℤ × ℤ)) → Option PlanFault
 first_fault q catalog given =
-    after_names (names.first_fault q catalog) (is_bad_chart (length (plan_of (widths q catalog) (resolved q catalog))) given)
+    after_names (names.first_fault q catalog)
+    (is_bad_chart (length (plan_of (widths q catalog) (resolved q catalog))) given)

@@ -2,7 +2,8 @@
 use Rattle.std.specs.Prelude.{ℕ, List, codes}
 use Rattle.plan.specs.Nodes as nodes
 use Rattle.plan.specs.declared.node.Kind.{Kind}
-use Rattle.plan.specs.declared.node.Kind.TheVariants.{Window, Select, Join, Project, Group, Distinct, ToStream}
+use Rattle.plan.specs.declared.node.Kind.TheVariants.{Window, Select, Join, Project, Group}
+use Rattle.plan.specs.declared.node.Kind.TheVariants.{Distinct, ToStream}
 
 abbrev pub kind_of : nodes.Node → Kind
 kind_of (nodes.Window source) = Window

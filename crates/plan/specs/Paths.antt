@@ -1,5 +1,7 @@
--- The paths of a plan, and the slopes of its operators (Chain: Babcock, Babu, Datar and Motwani, SIGMOD 2003).
-use Rattle.std.specs.Prelude.{ℕ, suc, ◌+◌, ◌<◌, ◌==◌, Bool, true, false, cond, ◌||◌, List, [], ◌∷◌, map, fold, length, slice_index_or}
+-- The paths of a plan, and the slopes of its operators
+-- (Chain: Babcock, Babu, Datar and Motwani, SIGMOD 2003).
+use Rattle.std.specs.Prelude.{ℕ, suc, ◌+◌, ◌<◌, ◌==◌, Bool, true, false, cond, ◌||◌, List, [], ◌∷◌}
+use Rattle.std.specs.Prelude.{map, fold, length, slice_index_or}
 use Rattle.std.specs.List.{range_with_len}
 use Rattle.envelope.specs.declared.chart.Point.{Point}
 use Rattle.envelope.specs.Chart.{full_size, IsChart}
@@ -28,7 +30,8 @@ is_window (Group input by items) = false
 is_window (Distinct input) = false
 is_window (ToStream input op) = false
 
--- the operators to which the rows of the operator i come, one after the other, among operators of which the first has the number n
+-- the operators to which the rows of the operator i come, one after
+-- the other, among operators of which the first has the number n
 abbrev pub onward : ℕ → ℕ → List Node → List ℕ
 onward i n [] = []
 onward i n (x ∷ xs) = cond (takes i x) (n ∷ onward n (suc n) xs) (onward i (suc n) xs)
@@ -52,28 +55,33 @@ measures_on measures path = map (λ i. slice_index_or measures i (measure 0 0)) 
 
 -- the points of a path, from the time 0 and the full size on
 abbrev pub points_of : List Measure → List ℕ → List Point
-points_of measures path = record { t = 0; s = full_size } ∷ points_after 0 (measures_on measures path)
+points_of measures path = record { t = 0; s = full_size }
+    ∷ points_after 0 (measures_on measures path)
 
 -- the path of each source, from its window to the root, has a chart
 abbrev pub HaveCharts : List Node → List Measure → Type 0
 HaveCharts nodes measures =
-    (k : ℕ) → k < length (windows 0 nodes) → IsChart (points_of measures (path_from nodes (slice_index_or (windows 0 nodes) k 0)))
+    (k : ℕ) → k < length (windows 0 nodes)
+    → IsChart (points_of measures (path_from nodes (slice_index_or (windows 0 nodes) k 0)))
 
 abbrev pub nought : Fraction
 nought = fraction 0 1
 
--- the slope of the operator k on a path of these slopes; nought where the path does not lead through it
+-- the slope of the operator k on a path of these slopes;
+-- nought where the path does not lead through it
 abbrev pub slope_on : ℕ → List ℕ → List Fraction → Fraction
 slope_on k [] slopes = nought
 slope_on k (i ∷ path) [] = nought
 slope_on k (i ∷ path) (s ∷ slopes) = cond (i == k) s (slope_on k path slopes)
 
 abbrev pub slope_from : List Node → List Measure → ℕ → ℕ → Fraction
-slope_from nodes measures k w = slope_on k (path_from nodes w) (slopes_of (points_of measures (path_from nodes w)))
+slope_from nodes measures k w =
+    slope_on k (path_from nodes w) (slopes_of (points_of measures (path_from nodes w)))
 
 -- an operator's slope is the greatest of its slopes on the paths of the sources
 abbrev pub slope_of : List Node → List Measure → ℕ → Fraction
-slope_of nodes measures k = fold greater nought (map (slope_from nodes measures k) (windows 0 nodes))
+slope_of nodes measures k = fold greater nought
+    (map (slope_from nodes measures k) (windows 0 nodes))
 
 abbrev pub plan_slopes : List Node → List Measure → List Fraction
 plan_slopes nodes measures = map (slope_of nodes measures) (range_with_len 0 (length nodes))

@@ -2,8 +2,10 @@
 use Rattle.std.specs.Prelude.{◌≡◌, ℕ, ◌<◌, Option, Some, None, List, [], ◌∷◌, length, get_or}
 use Rattle.std.specs.List.{AllByRecursion}
 use Rattle.values.specs.Row.{Row}
-use Rattle.values.specs.Condition.{Column, Operand, Field, Number, Condition, Compared, Not, And, Or}
-use Rattle.values.specs.Relation.{Shape, Listed, Grouped, ListItem, Key, CountAll, Count, Sum, Min, Max}
+use Rattle.values.specs.Condition.{Column, Operand, Field, Number, Condition, Compared, Not, And}
+use Rattle.values.specs.Condition.{Or}
+use Rattle.values.specs.Relation.{Shape, Listed, Grouped, ListItem, Key, CountAll, Count, Sum, Min}
+use Rattle.values.specs.Relation.{Max}
 use Rattle.values.specs.Answers.{Resolved}
 use Rattle.names.specs.Split.{columns_of}
 
@@ -33,7 +35,8 @@ ItemInScope vs (Max c) = InScope vs c
 
 abbrev pub ShapeInScope : List ℕ → Shape → Type 0
 ShapeInScope vs (Listed columns) = AllByRecursion (InScope vs) columns
-ShapeInScope vs (Grouped by items) = AllByRecursion (InScope vs) by × AllByRecursion (ItemInScope vs) items
+ShapeInScope vs (Grouped by items) =
+    AllByRecursion (InScope vs) by × AllByRecursion (ItemInScope vs) items
 
 abbrev pub ConditionInScope : List ℕ → Option Condition → Type 0
 ConditionInScope vs None = Unit {0}

@@ -7,7 +7,8 @@ use Rattle.plan.specs.Nodes as nodes
 use Rattle.plan.specs.Build.{at}
 use Rattle.plan.specs.declared.node.Key.{Key}
 use Rattle.plan.specs.declared.node.Node.{Node}
-use Rattle.plan.specs.declared.node.Node.TheVariants.{Window, Select, Join, Project, Group, Distinct, ToStream}
+use Rattle.plan.specs.declared.node.Node.TheVariants.{Window, Select, Join, Project, Group}
+use Rattle.plan.specs.declared.node.Node.TheVariants.{Distinct, ToStream}
 
 abbrev pub key_of : Key → nodes.Key
 key_of k = record { left = k.left; right = k.right }

@@ -1,5 +1,6 @@
 -- What the programs do.
-use Rattle.std.specs.Prelude.{◌≡◌, ◌≢◌, ℕ, Bool, true, false, List, [], ◌∷◌, Option, None, ◌⊎◌, codes}
+use Rattle.std.specs.Prelude.{◌≡◌, ◌≢◌, ℕ, Bool, true, false, List, [], ◌∷◌, Option, None, ◌⊎◌}
+use Rattle.std.specs.Prelude.{codes}
 use Rattle.clap.specs.Words.{Kinds, IsAmong, Text}
 use Rattle.clap.specs.declared.error.kind.ErrorKind.TheVariants.{DisplayHelp, DisplayVersion}
 use Rattle.reference.specs.Machine.{Machine, empty}
@@ -14,50 +15,65 @@ use Rattle.command_lines.specs.CommandLine.{number_or, run_text}
 use Rattle.histories.specs.Histories.{Entry, IsLegal}
 use Rattle.hub.specs.Seats.{IsAudited, PlainSeat, opened}
 use Rattle.hub.specs.Steps.{OpensAt}
-use Rattle.served.specs.Errors.{IsTold, accept_line, bind_line, close_line, memory_line, thread_line}
+use Rattle.served.specs.Errors.{IsTold, accept_line, bind_line, close_line, memory_line}
+use Rattle.served.specs.Errors.{thread_line}
 use Rattle.served.specs.Serving as of_seat
 
--- At the status 0 the sink took the script's text of what the source gave, and else a beginning of it; a reply that says want
--- of numbers for turns rests on `wanted`. The most rows of a turn, which the words may say, stand nowhere in it: they change
--- no reply.
-abbrev pub Answers : Type 0 → World → ℕ → Option (List ℕ) → Option (List ℕ) → Option (List ℕ) → Type 0
+-- At the status 0 the sink took the script's text of what the source gave, and else a beginning of
+-- it; a reply that says want of numbers for turns rests on `wanted`. The most rows of a turn, which
+-- the words may say, stand nowhere in it: they change no reply.
+abbrev pub Answers : Type 0 → World → ℕ → Option (List ℕ) → Option (List ℕ)
+    → Option (List ℕ) → Type 0
 Answers wanted world status source old new =
-    (status ≡ 0 → Scripts (λ text written. Says wanted (requests_of text) (script world text) written) source old new)
-    × Scripts (λ text written. Begins wanted (requests_of text) (script world text) written) source old new
+    (status ≡ 0 → Scripts (λ text written. Says wanted (requests_of text)
+    (script world text) written) source old new)
+    × Scripts (λ text written. Begins wanted (requests_of text) (script world text) written)
+    source old new
 
--- Some engine of this type has no numbers for turns left: whether the one that ran had any is not said. Of a type whose
--- engines always have numbers it never holds.
+-- Some engine of this type has no numbers for turns left: whether the one that ran
+-- had any is not said. Of a type whose engines always have numbers it never holds.
 abbrev pub MayRunOut : {E : Type 0} → (E → Type 0) → Type 0
 MayRunOut {E = E} has_numbers = (last : E) × (¬ has_numbers last)
 
--- The requests lead from the world `first` to the world `now`: at the status 0 all of them, and else those carried out.
-abbrev pub Leads : Type 0 → World → World → ℕ → Option (List ℕ) → Option (List ℕ) → Option (List ℕ) → Type 0
+-- The requests lead from the world `first` to the world `now`:
+-- at the status 0 all of them, and else those carried out.
+abbrev pub Leads : Type 0 → World → World → ℕ → Option (List ℕ) → Option (List ℕ)
+    → Option (List ℕ) → Type 0
 Leads wanted first now status source old new =
-    (status ≡ 0 → Scripts (λ text written. Runs wanted first (requests_of text) written now) source old new)
+    (status ≡ 0 → Scripts (λ text written. Runs wanted first (requests_of text) written now)
+    source old new)
     × Scripts (λ text written. Stands wanted first (requests_of text) written now) source old new
 
--- All receipts of the only seat are the entries of a legal history, each once and in order, from a machine that was told nothing.
+-- All receipts of the only seat are the entries of a legal history,
+-- each once and in order, from a machine that was told nothing.
 abbrev pub IsWhole : PlainSeat → Type 0
 IsWhole seat = (entries : List Entry) × IsLegal empty entries × IsAudited (seat ∷ []) 1 0 entries
 
--- Those from an opening on are the entries of a legal history, each once and in order; of those that the opening stands for the numbers are there.
--- Where it stands for none it is of a machine that was told nothing.
+-- Those from an opening on are the entries of a legal history, each once and in order; of those
+-- that the opening stands for the numbers are there. Where it stands for none it is of a machine
+-- that was told nothing.
 abbrev pub IsSince : PlainSeat → Type 0
 IsSince seat =
-    (opening : Machine) × (first : ℕ) × (entries : List Entry) × IsLegal opening entries × OpensAt first opening × IsAudited (seat ∷ []) 1 first entries
+    (opening : Machine) × (first : ℕ) × (entries : List Entry) × IsLegal opening entries
+    × OpensAt first opening × IsAudited (seat ∷ []) 1 first entries
 
 -- What the receipts of the only seat are, by whether a request to forget was answered `done`.
 abbrev pub IsAlone : Bool → PlainSeat → Type 0
 IsAlone false seat = IsWhole seat
 IsAlone true seat = IsSince seat
 
--- At the status 0 the sink took what the only seat of a hub is answered by steps of it, one line a request, and where none of
--- them forgot, all its receipts are then a legal history, and else those from an opening on; at another status it took a
--- beginning of such answers. `drains` says what a drain may be answered.
-abbrev pub Shares : (Answer → Type 0) → ℕ → Option (List ℕ) → Option (List ℕ) → Option (List ℕ) → Type 0
+-- At the status 0 the sink took what the only seat of a hub is answered by steps of it, one line a
+-- request, and where none of them forgot, all its receipts are then a legal history, and else those
+-- from an opening on; at another status it took a beginning of such answers. `drains` says what a
+-- drain may be answered.
+abbrev pub Shares : (Answer → Type 0) → ℕ → Option (List ℕ) → Option (List ℕ)
+    → Option (List ℕ) → Type 0
 Shares drains status source old new =
-    (status ≡ 0 → Scripts (λ text written. (seat : PlainSeat) × (forgot : Bool) × of_seat.Runs drains (opened 0) (requests_of text) written forgot seat × IsAlone forgot seat) source old new)
-    × Scripts (λ text written. (seat : PlainSeat) × of_seat.Stands drains (opened 0) (requests_of text) written seat) source old new
+    (status ≡ 0 → Scripts (λ text written. (seat : PlainSeat) × (forgot : Bool)
+    × of_seat.Runs drains (opened 0) (requests_of text) written forgot seat × IsAlone forgot seat)
+    source old new)
+    × Scripts (λ text written. (seat : PlainSeat)
+    × of_seat.Stands drains (opened 0) (requests_of text) written seat) source old new
 
 -- the words ask for workers
 abbrev pub AsksWorkers : List Text → Type 0
@@ -103,11 +119,13 @@ ToldSome taken failures old new = (text : List ℕ) × (text ≢ []) × IsTold t
 abbrev pub Failed : {I O : Type 0} → (I → ℕ) → I → I → (O → ℕ) → O → O → (List ℕ → Type 0) → Type 0
 Failed reads source source' writes sink sink' told =
     (Rises (reads source) (reads source') × (writes sink' ≡ writes sink) × told (fault_line Read))
-    ⊎ (Rises (writes sink) (writes sink') × (reads source' ≡ reads source) × told (fault_line Write))
+    ⊎ (Rises (writes sink) (writes sink') × (reads source' ≡ reads source)
+    × told (fault_line Write))
 
 -- No device failed, and it is told that the history and the seat differ.
 abbrev pub Differs : {I O : Type 0} → (I → ℕ) → I → I → (O → ℕ) → O → O → (List ℕ → Type 0) → Type 0
-Differs reads source source' writes sink sink' told = (reads source' ≡ reads source) × (writes sink' ≡ writes sink) × told differs_line
+Differs reads source source' writes sink sink' told =
+    (reads source' ≡ reads source) × (writes sink' ≡ writes sink) × told differs_line
 
 -- what is told where a server ends with the status 1
 abbrev pub IsServerFailure : (List ℕ → Type 0) → Type 0

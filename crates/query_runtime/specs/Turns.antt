@@ -1,5 +1,7 @@
--- A running query as its code has it, over the streams of a machine: what may be leased of it, and what it is after a turn has come back.
-use Rattle.std.specs.Prelude.{ℕ, ◌≡◌, ◌≢◌, ◌<◌, ◌≤◌, ◌++◌, true, min, List, [], take, drop, length, map, get_or}
+-- A running query as its code has it, over the streams of a machine:
+-- what may be leased of it, and what it is after a turn has come back.
+use Rattle.std.specs.Prelude.{ℕ, ◌≡◌, ◌≢◌, ◌<◌, ◌≤◌, ◌++◌, true, min, List, [], take, drop, length}
+use Rattle.std.specs.Prelude.{map, get_or}
 use Rattle.values.specs.Row.{Row}
 use Rattle.values.specs.declared.resolved.Window.{Window}
 use Rattle.column.specs.declared.batch.Side.{Side}
@@ -14,7 +16,8 @@ use Rattle.turn.specs.declared.outcomes.Change.{Change}
 use Rattle.turn.specs.declared.outcomes.Outputs.{Outputs}
 use Rattle.turn.specs.declared.outcomes.Outputs.TheVariants.{Answers, Items}
 use Rattle.operators.specs.Inboxes.{IsInboxWithin, cut_of}
-use Rattle.operators.specs.Operators.{IsFed, IsFinished, KeepsBatches, PlainOperator, inbox_of, waiting}
+use Rattle.operators.specs.Operators.{IsFed, IsFinished, KeepsBatches, PlainOperator, inbox_of}
+use Rattle.operators.specs.Operators.{waiting}
 use Rattle.operators.specs.States.{Takes, near_of, usable}
 use Rattle.plan.specs.Nodes as plan
 use Rattle.plan.specs.Views.{nodes_of}
@@ -57,22 +60,26 @@ source_among streams (plan.Distinct i) = get_or streams 0 0
 source_among streams (plan.ToStream i op) = get_or streams 0 0
 
 -- of the plan with these nodes, windows and numbers of the sources' columns, where nothing has come
-pub record IsBeginning (ws : List Window) (widths streams places : List ℕ) (start : ℕ) (nodes : List Node) (p : PlainQuery) : Type 0 where
+pub record IsBeginning (ws : List Window) (widths streams places : List ℕ) (start : ℕ)
+    (nodes : List Node) (p : PlainQuery) : Type 0 where
   pub operators : AreMade ws widths (widths_of widths nodes) places start nodes p.operators
   pub wires : p.wires ≡ wires_of (nodes_of nodes)
   pub sources : p.sources ≡ map (source_among streams) (nodes_of nodes)
   pub answers : p.answers ≡ []
 
 -- LEASES
--- the caller's conditions: something waits, on a side that can be used, and a turn with whatever stands first there may come back
+-- the caller's conditions: something waits, on a side that can be
+-- used, and a turn with whatever stands first there may come back
 pub record CanLease (o : PlainOperator) (log : Closed) (side : Side) (rows : ℕ) : Type 0 where
   pub usable : usable o.state side ≡ true
   pub waits : 0 < length (waiting o log side)
   pub some : 0 < rows
   pub may : (i : Item) → IsFirst o log side i → MayFinish o log side i
 
--- what is handed out: the front that comes out at once, of at most a batch, and the excerpt that a turn with it needs
-pub record IsLeased (o : PlainOperator) (log : Closed) (side : Side) (rows : ℕ) (i : Item) (n : Near) : Type 0 where
+-- what is handed out: the front that comes out at once, of
+-- at most a batch, and the excerpt that a turn with it needs
+pub record IsLeased (o : PlainOperator) (log : Closed) (side : Side) (rows : ℕ) (i : Item)
+    (n : Near) : Type 0 where
   pub first : IsFirst o log side i
   pub cut : entries_of i ≡ cut_of (min rows 1024) (inbox_of o side) log
   pub near : n ≡ near_of o.state side i
@@ -80,36 +87,45 @@ pub record IsLeased (o : PlainOperator) (log : Closed) (side : Side) (rows : ℕ
 
 -- A TURN THAT COMES BACK
 -- the caller's conditions: the item waits, and the state takes it with the change
-pub record CanFinish (o : PlainOperator) (log : Closed) (side : Side) (i : Item) (c : Change) : Type 0 where
+pub record CanFinish (o : PlainOperator) (log : Closed) (side : Side) (i : Item)
+    (c : Change) : Type 0 where
   pub waits : length (entries_of i) ≤ length (waiting o log side)
   pub within : IsInboxWithin (inbox_of o side) log
   pub takes : Takes o.state side i c
 
 -- what it puts out may be fed to another operator, to which the wire leads
-pub record CanFeed (streams : List Stream) (p : PlainQuery) (k : ℕ) (side : Side) (i : Item) (c : Change) (es : List (Entry Row)) : Type 0 where
+pub record CanFeed (streams : List Stream) (p : PlainQuery) (k : ℕ) (side : Side) (i : Item)
+    (c : Change) (es : List (Entry Row)) : Type 0 where
   pub here : (wire_at p k).to < length p.operators
   pub another : (wire_at p k).to ≢ k
-  pub may : (o : PlainOperator) → IsFinished (operator_at p.operators k) (log_of streams p k) side i c o → MayFeed (operator_at p.operators (wire_at p k).to) (wire_at p k).side es
+  pub may : (o : PlainOperator) → IsFinished (operator_at p.operators k)
+      (log_of streams p k) side i c o
+      → MayFeed (operator_at p.operators (wire_at p k).to) (wire_at p k).side es
 
 abbrev pub CanPut : List Stream → PlainQuery → ℕ → Side → Item → Change → Outs → Type 0
 CanPut streams p k side i c (Put es) = CanFeed streams p k side i c es
 CanPut streams p k side i c (Answered answers) = Unit {0}
 
 -- the operator has taken the item, and wires and sources are as they were
-pub record HasFinished (streams : List Stream) (p : PlainQuery) (k : ℕ) (side : Side) (i : Item) (c : Change) (p2 : PlainQuery) : Type 0 where
+pub record HasFinished (streams : List Stream) (p : PlainQuery) (k : ℕ) (side : Side) (i : Item)
+    (c : Change) (p2 : PlainQuery) : Type 0 where
   pub many : length p2.operators ≡ length p.operators
   pub wires : p2.wires ≡ p.wires
   pub sources : p2.sources ≡ p.sources
-  pub finished : IsFinished (operator_at p.operators k) (log_of streams p k) side i c (operator_at p2.operators k)
+  pub finished : IsFinished (operator_at p.operators k) (log_of streams p k) side i c
+      (operator_at p2.operators k)
 
 -- what it put out was fed to the operator to which the wire leads
 pub record HasFed (p : PlainQuery) (k : ℕ) (es : List (Entry Row)) (p2 : PlainQuery) : Type 0 where
-  pub fed : IsFed (operator_at p.operators (wire_at p k).to) (wire_at p k).side es (operator_at p2.operators (wire_at p k).to)
-  pub others : (j : ℕ) → j ≢ k → j ≢ (wire_at p k).to → operator_at p2.operators j ≡ operator_at p.operators j
+  pub fed : IsFed (operator_at p.operators (wire_at p k).to) (wire_at p k).side es
+      (operator_at p2.operators (wire_at p k).to)
+  pub others : (j : ℕ) → j ≢ k → j ≢ (wire_at p k).to
+      → operator_at p2.operators j ≡ operator_at p.operators j
   pub answers : p2.answers ≡ p.answers
 
 -- it gave answers, which wait behind the others
-pub record HasAnswered (p : PlainQuery) (k : ℕ) (given : List (ℕ × Row)) (p2 : PlainQuery) : Type 0 where
+pub record HasAnswered (p : PlainQuery) (k : ℕ) (given : List (ℕ × Row))
+    (p2 : PlainQuery) : Type 0 where
   pub others : (j : ℕ) → j ≢ k → operator_at p2.operators j ≡ operator_at p.operators j
   pub answers : p2.answers ≡ p.answers ++ given
 
@@ -119,7 +135,9 @@ HasPut p k (Answered answers) p2 = HasAnswered p k answers p2
 
 -- items that it put out wait there in the batches in which they came
 abbrev pub HasBatches : PlainQuery → ℕ → Outputs → PlainQuery → Type 0
-HasBatches p k (Items items) p2 = KeepsBatches (operator_at p.operators (wire_at p k).to) (wire_at p k).side items.items (operator_at p2.operators (wire_at p k).to)
+HasBatches p k (Items items) p2 =
+    KeepsBatches (operator_at p.operators (wire_at p k).to) (wire_at p k).side items.items
+    (operator_at p2.operators (wire_at p k).to)
 HasBatches p k (Answers answers) p2 = Unit {0}
 
 -- only the operator of this number is another
@@ -135,4 +153,5 @@ abbrev pub left_behind : ℕ → List (ℕ × Row) → List (ℕ × Row)
 left_behind limit answers = drop (min limit (length answers)) answers
 
 abbrev pub handed_out : ℕ → PlainQuery → PlainQuery
-handed_out limit p = record { operators = p.operators; wires = p.wires; sources = p.sources; answers = left_behind limit p.answers }
+handed_out limit p = record { operators = p.operators; wires = p.wires; sources = p.sources;
+    answers = left_behind limit p.answers }

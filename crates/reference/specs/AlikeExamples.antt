@@ -16,20 +16,50 @@ num n = Some (pos n)
 
 -- Select Istream(*) From S [Range 1], of a stream S(a)
 abbrev lists_a : Resolved
-lists_a = record { windows = Range 1 ∷ []; condition = None; shape = Listed (record { source = 0; column = 0 } ∷ []); is_distinct = false; operator = Istream }
+lists_a = record {
+  windows = Range 1 ∷ [];
+  condition = None;
+  shape = Listed (record { source = 0; column = 0 } ∷ []);
+  is_distinct =
+      false;
+  operator = Istream;
+}
 
 abbrev place : Place
 place = record { stream = 0; arrivals = 0 }
 
 abbrev query : Registered
-query = record { name = 113 ∷ []; meaning = lists_a; nodes = []; measures = []; places = place ∷ []; first = 0; start = 0; earlier = []; taken = 0; is_dropped = false }
+query = record {
+  name = 113 ∷ [];
+  meaning = lists_a;
+  nodes = [];
+  measures = [];
+  places = place ∷ [];
+  first = 0;
+  start = 0;
+  earlier = [];
+  taken = 0;
+  is_dropped = false;
+}
 
 abbrev asked : Machine
-asked = record { streams = record { name = 83 ∷ []; columns = (97 ∷ []) ∷ []; elements = []; arrivals = 0; first_open = 0 } ∷ []; queries = query ∷ [] }
+asked = record {
+  streams = record {
+    name = 83 ∷ [];
+    columns = (97 ∷ []) ∷ [];
+    elements = [];
+    arrivals = 0;
+    first_open = 0;
+  } ∷ [];
+  queries = query ∷ [];
+}
 
--- three rows came, at the instants 0 to 2, which are closed; the first answer was taken, and two wait
+-- three rows came, at the instants 0 to 2, which are
+-- closed; the first answer was taken, and two wait
 abbrev full : Machine
-full = after (after (after asked (Append 0 ((pos 0, num 5 ∷ []) ∷ (pos 1, num 6 ∷ []) ∷ (pos 2, num 7 ∷ []) ∷ [])) 0) (Heartbeat 0 (pos 2)) 0) (Take 0 (pos 1)) 1
+full = after (after (after asked
+    (Append 0 ((pos 0, num 5 ∷ []) ∷ (pos 1, num 6 ∷ []) ∷ (pos 2, num 7 ∷ []) ∷ [])) 0)
+    (Heartbeat 0 (pos 2)) 0) (Take 0 (pos 1)) 1
 
 abbrev waits : List (ℕ × Row)
 waits = (1, num 6 ∷ []) ∷ (2, num 7 ∷ []) ∷ []
@@ -38,7 +68,8 @@ abbrev opened : Machine
 opened = opening full (Some 3 ∷ []) (waits ∷ [])
 
 -- the first row is gone
-two_are_kept : map (λ (s : Stream). map (λ (e : Element). e.arrival) s.elements) opened.streams ≡ (1 ∷ 2 ∷ []) ∷ []
+two_are_kept : map (λ (s : Stream). map (λ (e : Element). e.arrival) s.elements) opened.streams
+    ≡ (1 ∷ 2 ∷ []) ∷ []
 two_are_kept = refl
 
 -- the machines differ in rows and in answers so far alone
@@ -55,7 +86,8 @@ answers_of_all = refl
 answers_of_the_opening : map (untaken opened) opened.queries ≡ waits ∷ []
 answers_of_the_opening = refl
 
-same_take : (take_step (record { machine = full; waiting = waits ∷ [] }) 0 (pos 1)).0 ≡ (take_step (record { machine = opened; waiting = waits ∷ [] }) 0 (pos 1)).0
+same_take : (take_step (record { machine = full; waiting = waits ∷ [] }) 0 (pos 1)).0
+    ≡ (take_step (record { machine = opened; waiting = waits ∷ [] }) 0 (pos 1)).0
 unfolding take_step
 same_take = refl
 
@@ -63,10 +95,12 @@ same_take = refl
 abbrev later : Machine → Machine
 later m = after (after m (Append 0 ((pos 3, num 8 ∷ []) ∷ [])) 0) (Heartbeat 0 (pos 3)) 0
 
-more_of_all : map (untaken (later full)) (later full).queries ≡ ((1, num 6 ∷ []) ∷ (2, num 7 ∷ []) ∷ (3, num 8 ∷ []) ∷ []) ∷ []
+more_of_all : map (untaken (later full)) (later full).queries
+    ≡ ((1, num 6 ∷ []) ∷ (2, num 7 ∷ []) ∷ (3, num 8 ∷ []) ∷ []) ∷ []
 more_of_all = refl
 
-more_of_the_opening : map (untaken (later opened)) (later opened).queries ≡ ((1, num 6 ∷ []) ∷ (2, num 7 ∷ []) ∷ (3, num 8 ∷ []) ∷ []) ∷ []
+more_of_the_opening : map (untaken (later opened)) (later opened).queries
+    ≡ ((1, num 6 ∷ []) ∷ (2, num 7 ∷ []) ∷ (3, num 8 ∷ []) ∷ []) ∷ []
 more_of_the_opening = refl
 
 -- both refuse what comes late
@@ -78,10 +112,14 @@ late_of_the_opening = refl
 
 -- a row limit counts rows by their arrival, so those that were forgotten count on
 abbrev crowded : Machine → Machine
-crowded m = record { streams = map (λ (s : Stream). record s { arrivals = 1048576 }) m.streams; queries = map (λ (q : Registered). record q { places = place ∷ place ∷ place ∷ [] }) m.queries }
+crowded m = record {
+  streams = map (λ (s : Stream). record s { arrivals = 1048576 }) m.streams;
+  queries = map (λ (q : Registered). record q { places = place ∷ place ∷ place ∷ [] }) m.queries;
+}
 
 full_of_all : first_fault (crowded full) (Append 0 ((pos 3, num 8 ∷ []) ∷ [])) ≡ Some StreamFull
 full_of_all = refl
 
-full_of_the_opening : first_fault (crowded opened) (Append 0 ((pos 3, num 8 ∷ []) ∷ [])) ≡ Some StreamFull
+full_of_the_opening : first_fault (crowded opened) (Append 0 ((pos 3, num 8 ∷ []) ∷ []))
+    ≡ Some StreamFull
 full_of_the_opening = refl

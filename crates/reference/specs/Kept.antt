@@ -4,4 +4,5 @@ use Rattle.values.specs.Row.{Row}
 
 abbrev pub kept_in : ℕ → List ℕ → List (Option ℤ) → List (ℕ × Row)
 kept_in width [] values = []
-kept_in width (at ∷ instants) values = (at, take width values) ∷ kept_in width instants (drop width values)
+kept_in width (at ∷ instants) values =
+    (at, take width values) ∷ kept_in width instants (drop width values)

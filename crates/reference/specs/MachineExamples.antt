@@ -6,11 +6,14 @@ use Rattle.values.specs.Window.{Range}
 use Rattle.values.specs.Condition.{Column}
 use Rattle.values.specs.Relation.{Listed}
 use Rattle.values.specs.Answers.{Resolved, Istream}
-use Rattle.reference.specs.declared.fault.Fault.TheVariants.{UnknownStream, UnknownQuery, BadWidth, ValueRange, Late, Backward, Leap, StreamFull, BadLimit}
+use Rattle.reference.specs.declared.fault.Fault.TheVariants.{UnknownStream, UnknownQuery, BadWidth}
+use Rattle.reference.specs.declared.fault.Fault.TheVariants.{ValueRange, Late, Backward, Leap}
+use Rattle.reference.specs.declared.fault.Fault.TheVariants.{StreamFull, BadLimit}
 use Rattle.plan.specs.Build.{plan_of}
 use Rattle.plan.specs.Chart.{measures_of}
 use Rattle.reference.specs.Machine.{Machine, Place, Stream, Registered}
-use Rattle.reference.specs.Commands.{Declare, Append, Heartbeat, Take, Drop, first_fault, after, is_crowded}
+use Rattle.reference.specs.Commands.{Declare, Append, Heartbeat, Take, Drop, first_fault, after}
+use Rattle.reference.specs.Commands.{is_crowded}
 use Rattle.reference.specs.Replies.{Number, Done, Rows}
 use Rattle.reference.specs.Steps.{AreNext, IsStep}
 use Rattle.reference.specs.World.{World, take_step, drain_step}
@@ -24,7 +27,13 @@ a = record { source = 0; column = 0 }
 
 -- a stream S(a) with all open
 abbrev fresh : Stream
-fresh = record { name = 83 ∷ []; columns = (97 ∷ []) ∷ []; elements = []; arrivals = 0; first_open = 0 }
+fresh = record {
+  name = 83 ∷ [];
+  columns = (97 ∷ []) ∷ [];
+  elements = [];
+  arrivals = 0;
+  first_open = 0;
+}
 
 abbrev told : Machine
 told = record { streams = fresh ∷ []; queries = [] }
@@ -36,36 +45,60 @@ widest_leap = refl
 leap_of_one_more : first_fault told (Heartbeat 0 (pos 65536)) ≡ Some Leap
 leap_of_one_more = refl
 
-heartbeat_below : first_fault (after told (Heartbeat 0 (pos 3)) 0) (Heartbeat 0 (pos 3)) ≡ Some Backward
+heartbeat_below : first_fault (after told (Heartbeat 0 (pos 3)) 0) (Heartbeat 0 (pos 3))
+    ≡ Some Backward
 heartbeat_below = refl
 
 heartbeat_of_none : first_fault told (Heartbeat 1 (pos 0)) ≡ Some UnknownStream
 heartbeat_of_none = refl
 
 -- a row at a closed instant comes late
-late_row : first_fault (after told (Heartbeat 0 (pos 3)) 0) (Append 0 ((pos 3, num 1 ∷ []) ∷ [])) ≡ Some Late
+late_row : first_fault (after told (Heartbeat 0 (pos 3)) 0)
+    (Append 0 ((pos 3, num 1 ∷ []) ∷ [])) ≡ Some Late
 late_row = refl
 
-row_in_time : first_fault (after told (Heartbeat 0 (pos 3)) 0) (Append 0 ((pos 4, num 1 ∷ []) ∷ [])) ≡ None
+row_in_time : first_fault (after told (Heartbeat 0 (pos 3)) 0)
+    (Append 0 ((pos 4, num 1 ∷ []) ∷ [])) ≡ None
 row_in_time = refl
 
 -- the width is tested before the values, and all rows' widths before all rows' values
-wide_row_first : first_fault told (Append 0 ((pos 0, num 1099511627776 ∷ []) ∷ (pos 0, []) ∷ [])) ≡ Some BadWidth
+wide_row_first : first_fault told (Append 0 ((pos 0, num 1099511627776 ∷ []) ∷ (pos 0, []) ∷ []))
+    ≡ Some BadWidth
 wide_row_first = refl
 
-value_before_instant : first_fault told (Append 0 ((pos 1099511627777, num 1099511627776 ∷ []) ∷ [])) ≡ Some ValueRange
+value_before_instant : first_fault told
+    (Append 0 ((pos 1099511627777, num 1099511627776 ∷ []) ∷ [])) ≡ Some ValueRange
 value_before_instant = refl
 
 -- what Select Istream(*) From S [Now] means
 abbrev lists_a : Resolved
-lists_a = record { windows = Range 0 ∷ []; condition = None; shape = Listed (a ∷ []); is_distinct = false; operator = Istream }
+lists_a = record {
+  windows = Range 0 ∷ [];
+  condition = None;
+  shape = Listed (a ∷ []);
+  is_distinct = false;
+  operator = Istream;
+}
 
--- THE ROW LIMIT, of a query of four sources, three of them of this stream, one registered before a row came
+-- THE ROW LIMIT, of a query of four sources, three of
+-- them of this stream, one registered before a row came
 abbrev place : ℕ → Place
 place n = record { stream = 0; arrivals = n }
 
 abbrev four : Registered
-four = record { name = 113 ∷ []; meaning = lists_a; nodes = []; measures = []; places = place 1 ∷ place 1 ∷ place 0 ∷ record { stream = 1; arrivals = 0 } ∷ []; first = 0; start = 0; earlier = []; taken = 0; is_dropped = false }
+four = record {
+  name = 113 ∷ [];
+  meaning = lists_a;
+  nodes = [];
+  measures = [];
+  places = place 1 ∷ place 1 ∷ place 0 ∷ record { stream = 1; arrivals = 0 } ∷ [];
+  first =
+      0;
+  start = 0;
+  earlier = [];
+  taken = 0;
+  is_dropped = false;
+}
 
 as_many_as_count : is_crowded 0 32768 four ≡ false
 as_many_as_count = refl
@@ -79,10 +112,12 @@ of_another_stream = refl
 of_a_dropped_query : is_crowded 0 32769 (record four { is_dropped = true }) ≡ false
 of_a_dropped_query = refl
 
-of_three_sources : is_crowded 0 1048577 (record four { places = place 1 ∷ place 1 ∷ place 1 ∷ [] }) ≡ false
+of_three_sources : is_crowded 0 1048577
+    (record four { places = place 1 ∷ place 1 ∷ place 1 ∷ [] }) ≡ false
 of_three_sources = refl
 
-one_row_more_of_three : is_crowded 0 1048578 (record four { places = place 2 ∷ place 2 ∷ place 1 ∷ [] }) ≡ true
+one_row_more_of_three : is_crowded 0 1048578
+    (record four { places = place 2 ∷ place 2 ∷ place 1 ∷ [] }) ≡ true
 one_row_more_of_three = refl
 
 of_two_sources : is_crowded 0 1048578 (record four { places = place 1 ∷ place 0 ∷ [] }) ≡ false
@@ -95,7 +130,8 @@ full = record { streams = record fresh { arrivals = 32768 } ∷ []; queries = fo
 full_stream : first_fault full (Append 0 ((pos 3, num 1 ∷ []) ∷ [])) ≡ Some StreamFull
 full_stream = refl
 
-full_stream_of_late_rows : first_fault (after full (Heartbeat 0 (pos 3)) 0) (Append 0 ((pos 3, num 1 ∷ []) ∷ [])) ≡ Some Late
+full_stream_of_late_rows : first_fault (after full (Heartbeat 0 (pos 3)) 0)
+    (Append 0 ((pos 3, num 1 ∷ []) ∷ [])) ≡ Some Late
 full_stream_of_late_rows = refl
 
 no_rows : first_fault full (Append 0 []) ≡ None
@@ -106,10 +142,26 @@ after_the_drop = refl
 
 -- a query on S
 abbrev query : Registered
-query = record { name = 113 ∷ []; meaning = lists_a; nodes = plan_of (1 ∷ []) lists_a; measures = measures_of (plan_of (1 ∷ []) lists_a) None; places = record { stream = 0; arrivals = 0 } ∷ []; first = 0; start = 0; earlier = []; taken = 0; is_dropped = false }
+query = record {
+  name = 113 ∷ [];
+  meaning = lists_a;
+  nodes = plan_of (1 ∷ []) lists_a;
+  measures = measures_of (plan_of (1 ∷ []) lists_a) None;
+  places =
+      record { stream = 0; arrivals = 0 } ∷ [];
+  first = 0;
+  start = 0;
+  earlier = [];
+  taken =
+      0;
+  is_dropped = false;
+}
 
 abbrev asked : World
-asked = record { machine = record { streams = fresh ∷ []; queries = query ∷ [] }; waiting = [] ∷ [] }
+asked = record {
+  machine = record { streams = fresh ∷ []; queries = query ∷ [] };
+  waiting = [] ∷ [];
+}
 
 limit_of_none : first_fault asked.machine (Take 0 (pos 0)) ≡ Some BadLimit
 limit_of_none = refl
@@ -122,10 +174,15 @@ dropped_query = refl
 
 -- rows of instants 3, 1 and 3 come, all up to 3 is closed, and a drain makes the answers wait
 abbrev came : Machine
-came = after (after asked.machine (Append 0 ((pos 3, num 7 ∷ []) ∷ (pos 1, num 5 ∷ []) ∷ (pos 3, num 6 ∷ []) ∷ [])) 0) (Heartbeat 0 (pos 3)) 0
+came = after (after asked.machine
+    (Append 0 ((pos 3, num 7 ∷ []) ∷ (pos 1, num 5 ∷ []) ∷ (pos 3, num 6 ∷ []) ∷ [])) 0)
+    (Heartbeat 0 (pos 3)) 0
 
 abbrev waits : World
-waits = record { machine = came; waiting = ((1, num 5 ∷ []) ∷ (3, num 6 ∷ []) ∷ (3, num 7 ∷ []) ∷ []) ∷ [] }
+waits = record {
+  machine = came;
+  waiting = ((1, num 5 ∷ []) ∷ (3, num 6 ∷ []) ∷ (3, num 7 ∷ []) ∷ []) ∷ [];
+}
 
 drained : drain_step (record { machine = came; waiting = [] ∷ [] }) 1 ≡ (Ok tt, waits)
 unfolding drain_step
@@ -150,25 +207,31 @@ unfolding drain_step take_step
 drained_again = refl
 
 -- STEPS OF THE MACHINE
-declaration : IsStep told (Declare (84 ∷ []) ((98 ∷ []) ∷ []) (pos 5)) (Number 1) (after told (Declare (84 ∷ []) ((98 ∷ []) ∷ []) (pos 5)) 0)
-unfolding words.is_name words.all_word words.kind_in words.reserved words.same_letters words.same_bytes
+declaration : IsStep told (Declare (84 ∷ []) ((98 ∷ []) ∷ []) (pos 5)) (Number 1)
+    (after told (Declare (84 ∷ []) ((98 ∷ []) ∷ []) (pos 5)) 0)
+unfolding words.is_name words.all_word words.kind_in words.reserved words.same_letters
+    words.same_bytes
 declaration = record { accepted = refl; gives = refl; after = refl }
 
-rows_come : IsStep told (Append 0 ((pos 3, num 7 ∷ []) ∷ [])) Done (after told (Append 0 ((pos 3, num 7 ∷ []) ∷ [])) 0)
+rows_come : IsStep told (Append 0 ((pos 3, num 7 ∷ []) ∷ [])) Done
+    (after told (Append 0 ((pos 3, num 7 ∷ []) ∷ [])) 0)
 rows_come = record { accepted = refl; gives = tt; after = refl }
 
-heartbeat_closes : IsStep told (Heartbeat 0 (pos 3)) Done (record { streams = record fresh { first_open = 4 } ∷ []; queries = [] })
+heartbeat_closes : IsStep told (Heartbeat 0 (pos 3)) Done
+    (record { streams = record fresh { first_open = 4 } ∷ []; queries = [] })
 heartbeat_closes = record { accepted = refl; gives = tt; after = refl }
 
 -- a take of at most 2 may hand out the next 2, or fewer of them
 two_are_next : AreNext came 0 (pos 2) ((pos 1, num 5 ∷ []) ∷ (pos 3, num 6 ∷ []) ∷ [])
 two_are_next = record { query = query; registered = refl; few = omega arith; next = refl }
 
-two_are_taken : IsStep came (Take 0 (pos 2)) (Rows ((pos 1, num 5 ∷ []) ∷ (pos 3, num 6 ∷ []) ∷ [])) (record came { queries = record query { taken = 2 } ∷ [] })
+two_are_taken : IsStep came (Take 0 (pos 2)) (Rows ((pos 1, num 5 ∷ []) ∷ (pos 3, num 6 ∷ []) ∷ []))
+    (record came { queries = record query { taken = 2 } ∷ [] })
 two_are_taken = record { accepted = refl; gives = two_are_next; after = refl }
 
 one_is_next : AreNext came 0 (pos 2) ((pos 1, num 5 ∷ []) ∷ [])
 one_is_next = record { query = query; registered = refl; few = omega arith; next = refl }
 
-one_is_taken : IsStep came (Take 0 (pos 2)) (Rows ((pos 1, num 5 ∷ []) ∷ [])) (record came { queries = record query { taken = 1 } ∷ [] })
+one_is_taken : IsStep came (Take 0 (pos 2)) (Rows ((pos 1, num 5 ∷ []) ∷ []))
+    (record came { queries = record query { taken = 1 } ∷ [] })
 one_is_taken = record { accepted = refl; gives = one_is_next; after = refl }

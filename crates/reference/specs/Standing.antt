@@ -33,4 +33,9 @@ abbrev pub fresh_of : StandingQuery → List (ℕ × Row)
 fresh_of q = pairs_of q.fresh.items
 
 abbrev pub found_of : Plan → commands.Found
-found_of p = record { streams = p.streams.items; meaning = resolved_of p.meaning; nodes = nodes_of p.nodes.items; measures = p.measures.items }
+found_of p = record {
+  streams = p.streams.items;
+  meaning = resolved_of p.meaning;
+  nodes = nodes_of p.nodes.items;
+  measures = p.measures.items;
+}

@@ -2,7 +2,8 @@
 use Rattle.std.specs.Prelude.{ℕ, ℤ, ◌≡◌, ◌≤◌, ⊤, Some, None, List, length, take, drop, nat_abs}
 use Rattle.values.specs.Row.{Row}
 use Rattle.reference.specs.Machine.{Machine, Registered, query_at, closed_answers}
-use Rattle.reference.specs.Commands.{Command, Declare, Register, Append, Heartbeat, Take, Drop, first_fault, after}
+use Rattle.reference.specs.Commands.{Command, Declare, Register, Append, Heartbeat, Take, Drop}
+use Rattle.reference.specs.Commands.{first_fault, after}
 use Rattle.reference.specs.World.{handed}
 use Rattle.reference.specs.Replies.{Reply, Number, Done, Rows, count_in}
 

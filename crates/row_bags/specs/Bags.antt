@@ -1,5 +1,6 @@
 -- Bags as lists of rows in order, and what signed rows make of them.
-use Rattle.std.specs.Prelude.{ℕ, ℤ, Bool, true, false, cond, ◌&&◌, Option, List, [], ◌∷◌, map, replicate, fold, unwrap_or, nat_lt, ◌+◌, ◌-◌}
+use Rattle.std.specs.Prelude.{ℕ, ℤ, Bool, true, false, cond, ◌&&◌, Option, List, [], ◌∷◌, map}
+use Rattle.std.specs.Prelude.{replicate, fold, unwrap_or, nat_lt, ◌+◌, ◌-◌}
 use Rattle.std.specs.declared.cmp.Ordering.{Ordering}
 use Rattle.std.specs.List.{flat_map, list_any}
 use Rattle.std.specs.Map.{lookup, remove_entry}
@@ -25,11 +26,14 @@ abbrev pub count_of : List (ArrayVec (Option ℤ) × ℕ) → ArrayVec (Option �
 count_of es r = unwrap_or (lookup (is_at (array_cmp r)) es) 0
 
 -- the counts with one more of a row, and with one less of it, where they have it
-abbrev pub one_more : ArrayVec (Option ℤ) → List (ArrayVec (Option ℤ) × ℕ) → List (ArrayVec (Option ℤ) × ℕ)
+abbrev pub one_more : ArrayVec (Option ℤ) → List (ArrayVec (Option ℤ) × ℕ)
+    → List (ArrayVec (Option ℤ) × ℕ)
 one_more r es = insert_entry array_cmp es r (count_of es r + 1)
 
-abbrev pub one_less : ArrayVec (Option ℤ) → List (ArrayVec (Option ℤ) × ℕ) → List (ArrayVec (Option ℤ) × ℕ)
-one_less r es = cond (nat_lt 1 (count_of es r)) (insert_entry array_cmp es r (count_of es r - 1)) (remove_entry (is_at (array_cmp r)) es)
+abbrev pub one_less : ArrayVec (Option ℤ) → List (ArrayVec (Option ℤ) × ℕ)
+    → List (ArrayVec (Option ℤ) × ℕ)
+one_less r es = cond (nat_lt 1 (count_of es r)) (insert_entry array_cmp es r (count_of es r - 1))
+    (remove_entry (is_at (array_cmp r)) es)
 
 -- the bag that counts stand for
 abbrev pub bag_of : List (ArrayVec (Option ℤ) × ℕ) → List Row

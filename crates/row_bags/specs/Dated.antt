@@ -12,7 +12,8 @@ dated_by (h ∷ hs) values = (h.instant, take h.width values) ∷ dated_by hs (d
 -- each row has its values, and no more than a row may have; none are left over
 abbrev pub AreHeaded : List Head → List (Option ℤ) → Type 0
 AreHeaded [] values = values ≡ []
-AreHeaded (h ∷ hs) values = (h.width ≤ MAX_COLUMNS) × (h.width ≤ length values) × AreHeaded hs (drop h.width values)
+AreHeaded (h ∷ hs) values = (h.width ≤ MAX_COLUMNS) × (h.width ≤ length values)
+    × AreHeaded hs (drop h.width values)
 
 -- how many values the rows have together
 abbrev pub count_values : List Head → ℕ

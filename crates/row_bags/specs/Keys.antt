@@ -7,4 +7,5 @@ use Rattle.row_bags.specs.Bags.{array_cmp}
 
 -- rows are in one order
 pub array_total : IsTotalOrder array_cmp
-array_total = on_total (λ (r : ArrayVec (Option ℤ)). r.items) (lists_total (options_total int_cmp_total))
+array_total = on_total (λ (r : ArrayVec (Option ℤ)). r.items)
+    (lists_total (options_total int_cmp_total))

@@ -1,5 +1,6 @@
 -- Rows in a list, and what it becomes when rows leave and enter.
-use Rattle.std.specs.Prelude.{◌≡◌, ℕ, ℤ, ◌≤◌, Bool, false, cond, Option, List, [], ◌∷◌, ◌++◌, length, take, drop}
+use Rattle.std.specs.Prelude.{◌≡◌, ℕ, ℤ, ◌≤◌, Bool, false, cond, Option, List, [], ◌∷◌, ◌++◌}
+use Rattle.std.specs.Prelude.{length, take, drop}
 use Rattle.values.specs.declared.TheConstants.{MAX_COLUMNS}
 use Rattle.values.specs.Row.{Row, row_cmp}
 use Rattle.values.specs.Bag.{is_same, is_above}
@@ -51,7 +52,8 @@ not_below x (y ∷ ys) = cond (is_above row_cmp x y) (not_below x ys) (y ∷ ys)
 -- of two lists in order, the rows of the first beyond those of the second
 abbrev pub beyond : List Row → List Row → List Row
 beyond [] ys = []
-beyond (x ∷ xs) ys = cond (is_first x (not_below x ys)) (beyond xs (drop 1 (not_below x ys))) (x ∷ beyond xs (not_below x ys))
+beyond (x ∷ xs) ys = cond (is_first x (not_below x ys)) (beyond xs (drop 1 (not_below x ys)))
+    (x ∷ beyond xs (not_below x ys))
 
 -- the same, where the walk stands at a row of the first that is beyond
 abbrev pub beyond_at : List Row → List Row → List Row

@@ -25,10 +25,12 @@ abbrev five_below : Condition
 five_below = Compared (Number (pos 5)) Below (Field (at 0))
 
 abbrev either : Condition
-either = Or (Compared (Field (at 1)) Equals (Field (at 0))) (Not (Compared (Field (at 1)) Above (Number (pos 3))))
+either = Or (Compared (Field (at 1)) Equals (Field (at 0)))
+    (Not (Compared (Field (at 1)) Above (Number (pos 3))))
 
 in_postfix_order : steps_of (And five_below either)
-    ≡ step.Number 0 Above (pos 5) ∷ step.Columns 1 Equals 0 ∷ step.Number 1 Above (pos 3) ∷ step.Not ∷ step.Or ∷ step.And ∷ []
+    ≡ step.Number 0 Above (pos 5) ∷ step.Columns 1 Equals 0 ∷ step.Number 1 Above (pos 3) ∷ step.Not
+    ∷ step.Or ∷ step.And ∷ []
 in_postfix_order = refl
 
 -- three truths wait, with one Not inside one bracket
@@ -38,12 +40,16 @@ three_wait = refl
 two_open : open_at_once Whole (And five_below either) ≡ 2
 two_open = refl
 
--- the rows (7, 7), which enters, (null, 1), at which a comparison is unknown, and (9, 1), which leaves
-the_unknown_is_left_out : selected (steps_of (And five_below either)) (Rows 4 ((true, two (num 7) (num 7)) ∷ (true, two None (num 1)) ∷ (false, two (num 9) (num 1)) ∷ []))
+-- the rows (7, 7), which enters, (null, 1), at which
+-- a comparison is unknown, and (9, 1), which leaves
+the_unknown_is_left_out : selected (steps_of (And five_below either))
+    (Rows 4 ((true, two (num 7) (num 7)) ∷ (true, two None (num 1))
+    ∷ (false, two (num 9) (num 1)) ∷ []))
     ≡ RowAt 4 (true, two (num 7) (num 7)) ∷ RowAt 4 (false, two (num 9) (num 1)) ∷ []
 the_unknown_is_left_out = refl
 
-columns_go_by_the_list : projected (1 ∷ 0 ∷ 1 ∷ []) (Rows 4 ((false, two (num 7) None) ∷ [])) ≡ RowAt 4 (false, None ∷ num 7 ∷ None ∷ []) ∷ []
+columns_go_by_the_list : projected (1 ∷ 0 ∷ 1 ∷ []) (Rows 4 ((false, two (num 7) None) ∷ []))
+    ≡ RowAt 4 (false, None ∷ num 7 ∷ None ∷ []) ∷ []
 columns_go_by_the_list = refl
 
 ticks_go_on : projected [] (Tick 4) ≡ TickAt 4 ∷ []

@@ -7,9 +7,10 @@ use Rattle.lane_kernels.specs.declared.condition.Step.{Step}
 use Rattle.op_queue.specs.Signed.{Adds, Legal, Same, Turns}
 use Rattle.row_nodes.specs.Project.{columns_in}
 
--- of an operator that puts out at once, with this value: it has taken the bag i and put out the bag o; it takes the signed rows xs
--- and puts out ys; then it has taken the bag i2 and put out o2
-pub record RowsLaw {X : Type 0} (value : List X → List X) (i : List X) (xs : List (Bool × X)) (o : List X) (ys : List (Bool × X)) (i2 o2 : List X) : Type 0 where
+-- of an operator that puts out at once, with this value: it has taken the bag i and put out the
+-- bag o; it takes the signed rows xs and puts out ys; then it has taken the bag i2 and put out o2
+pub record RowsLaw {X : Type 0} (value : List X → List X) (i : List X) (xs : List (Bool × X))
+    (o : List X) (ys : List (Bool × X)) (i2 o2 : List X) : Type 0 where
   pub took : Legal i xs → Adds i xs i2
   pub puts : Legal i xs → Same o (value i) → Turns o ys o2
   pub shows : Legal i xs → Same o (value i) → Same o2 (value i2)

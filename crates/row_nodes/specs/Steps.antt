@@ -1,9 +1,11 @@
 -- A condition over the rows of one source, as steps in postfix order.
 use Rattle.std.specs.Prelude.{ℕ, suc, ◌+◌, ◌<◌, ◌≡◌, max, List, [], ◌∷◌, ◌++◌}
 use Rattle.std.specs.Ordering.{int_cmp}
-use Rattle.values.specs.Condition.{Condition, Compared, Not, And, Or, Operand, Field, Number, passes}
+use Rattle.values.specs.Condition.{Condition, Compared, Not, And, Or, Operand, Field, Number}
+use Rattle.values.specs.Condition.{passes}
 use Rattle.values.specs.declared.resolved.Compare.{Compare}
-use Rattle.values.specs.declared.resolved.Compare.TheVariants.{Equals, Differs, Below, AtMost, Above, AtLeast}
+use Rattle.values.specs.declared.resolved.Compare.TheVariants.{Equals, Differs, Below, AtMost}
+use Rattle.values.specs.declared.resolved.Compare.TheVariants.{Above, AtLeast}
 use Rattle.lane_kernels.specs.declared.condition.Step.{Step}
 use Rattle.lane_kernels.specs.declared.condition.Step.TheVariants as step
 
@@ -57,14 +59,15 @@ IsOfOneSource (Not c) = IsOfOneSource c
 IsOfOneSource (And c d) = IsOfOneSource c × IsOfOneSource d
 IsOfOneSource (Or c d) = IsOfOneSource c × IsOfOneSource d
 
--- where a part of a condition is written: as a whole, as an alternative of an Or, or as an item of an And or under a Not
+-- where a part of a condition is written: as a whole, as an
+-- alternative of an Or, or as an item of an And or under a Not
 pub data Place : Type 0 where
   Whole : Place
   InOr : Place
   InAnd : Place
 
--- how many brackets and Nots are open at once in the text of a condition that has no more brackets than it needs; chains of And
--- and of Or need none, their first item standing deepest
+-- how many brackets and Nots are open at once in the text of a condition that has no more
+-- brackets than it needs; chains of And and of Or need none, their first item standing deepest
 abbrev pub open_at_once : Place → Condition → ℕ
 open_at_once place (Compared a how b) = 0
 open_at_once place (Not c) = suc (open_at_once InAnd c)

@@ -7,7 +7,8 @@ abbrev pub fewer : Option ℕ → Option ℕ
 fewer None = None
 fewer (Some n) = Some (n - 1)
 
--- IT LET ONE IN, or nobody: shut, it stays as it is, and else it is shut where none could be accepted
+-- IT LET ONE IN, or nobody: shut, it stays as it is,
+-- and else it is shut where none could be accepted
 abbrev pub Admits : {C : Type 0} → Door → Option C → Door → Type 0
 Admits old (Some c) new = (old.left ≢ Some 0) × (new ≡ record old { left = fewer old.left })
 Admits old None new =

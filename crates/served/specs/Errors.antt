@@ -4,8 +4,8 @@ use Rattle.std.specs.Fmt.{decimal}
 use Rattle.std.specs.Io.KnownBytes.{Appends}
 use Rattle.wire.specs.Devices.{AppendsFront, Rises}
 
--- A sink was given this text: it took all of it and did not fail, or it failed and took a front of it. `taken` says what a
--- sink tells that it took, and `failures` how often it failed.
+-- A sink was given this text: it took all of it and did not fail, or it failed and took a front
+-- of it. `taken` says what a sink tells that it took, and `failures` how often it failed.
 abbrev pub IsTold : {E : Type 0} → (E → Option (List ℕ)) → (E → ℕ) → E → E → List ℕ → Type 0
 IsTold taken failures old new text =
     (Appends (taken old) (taken new) text × (failures new ≡ failures old))
@@ -18,7 +18,8 @@ listening_line port = codes "cqld: listening on 127.0.0.1:" ++ decimal port ++ c
 -- a sink was told where a server listens, or nothing
 abbrev pub IsToldAddress : {E : Type 0} → (E → Option (List ℕ)) → (E → ℕ) → E → E → Type 0
 IsToldAddress taken failures old new =
-    (new ≡ old) ⊎ ((port : ℕ) × (port ≤ 65535) × IsTold taken failures old new (listening_line port))
+    (new ≡ old) ⊎ ((port : ℕ) × (port ≤ 65535)
+    × IsTold taken failures old new (listening_line port))
 
 abbrev pub memory_line : List ℕ
 memory_line = codes "cqld: out of memory\n"

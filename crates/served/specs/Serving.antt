@@ -1,18 +1,22 @@
 -- What a seat of a hub answers the requests of a script, while other seats call as well.
-use Rattle.std.specs.Prelude.{◌≡◌, ◌≢◌, ◌≤◌, ℕ, ℤ, pos, Bool, true, false, ◌&&◌, ◌||◌, List, [], ◌∷◌, ◌++◌, Option, Some, None, Result, Ok, Err, ◌⊎◌, ⊤}
+use Rattle.std.specs.Prelude.{◌≡◌, ◌≢◌, ◌≤◌, ℕ, ℤ, pos, Bool, true, false, ◌&&◌, ◌||◌, List, []}
+use Rattle.std.specs.Prelude.{◌∷◌, ◌++◌, Option, Some, None, Result, Ok, Err, ◌⊎◌, ⊤}
 use Rattle.envelope.specs.Fraction.{Fraction}
 use Rattle.histories.specs.Histories.{Told}
 use Rattle.hub.specs.Seats.{PlainSeat}
 use Rattle.hub.specs.Steps as hub
-use Rattle.hub.specs.Steps.{PlainLocked, FindsQuery, FindsStream, Hands, Rests, SeesSlopes, Spurned, Took}
+use Rattle.hub.specs.Steps.{PlainLocked, FindsQuery, FindsStream, Hands, Rests, SeesSlopes, Spurned}
+use Rattle.hub.specs.Steps.{Took}
 use Rattle.leases.specs.declared.leased.Leased.TheVariants.{Idle}
 use Rattle.plan.specs.declared.node.Kind.{Kind}
 use Rattle.reference.specs.Commands.{Command, Declare, Register, Append, Heartbeat, Take, Drop}
 use Rattle.reference.specs.Replies as replies
 use Rattle.reference.specs.Replies.{Reply}
 use Rattle.reference.specs.declared.fault.Fault.{Fault}
-use Rattle.reference.specs.declared.fault.Fault.TheVariants.{BadLimit, OutOfMemory, TooManyLeases, UnknownQuery, UnknownStream}
-use Rattle.wire.specs.Calls.{Call, declare, register, append, heartbeat, drain, take_rows, drop_query, forget, show_plan}
+use Rattle.reference.specs.declared.fault.Fault.TheVariants.{BadLimit, OutOfMemory, TooManyLeases}
+use Rattle.reference.specs.declared.fault.Fault.TheVariants.{UnknownQuery, UnknownStream}
+use Rattle.wire.specs.Calls.{Call, declare, register, append, heartbeat, drain, take_rows}
+use Rattle.wire.specs.Calls.{drop_query, forget, show_plan}
 use Rattle.wire.specs.Printed.{Answer, done, rows, operators, refused, unread, line_of}
 use Rattle.wire.specs.declared.request.Request.{Request}
 use Rattle.wire.specs.declared.request.Request.TheVariants as request
@@ -38,20 +42,26 @@ shown (replies.Number n) = done
 shown replies.Done = done
 shown (replies.Rows taken) = rows taken
 
--- ACCEPTED: one step of the hub, one entry of its history, and one receipt, whose reply is what is answered
+-- ACCEPTED: one step of the hub, one entry of its history,
+-- and one receipt, whose reply is what is answered
 abbrev pub IsAccepted : PlainSeat → Command → Answer → PlainSeat → Type 0
-IsAccepted seat command answer seat' = (told : Told) × (answer ≡ shown told.entry.reply) × Took seat command told seat'
+IsAccepted seat command answer seat' =
+    (told : Told) × (answer ≡ shown told.entry.reply) × Took seat command told seat'
 
 -- REFUSED: one step of the hub that changes nothing
 abbrev pub IsRefused : PlainSeat → Command → Answer → PlainSeat → Type 0
-IsRefused seat command answer seat' = (fault : Fault) × (answer ≡ refused fault) × Spurned seat command fault seat'
+IsRefused seat command answer seat' =
+    (fault : Fault) × (answer ≡ refused fault) × Spurned seat command fault seat'
 
 -- a command of the seat was answered so
 abbrev pub Carries : PlainSeat → Command → Answer → PlainSeat → Type 0
-Carries seat command answer seat' = IsAccepted seat command answer seat' ⊎ IsRefused seat command answer seat'
+Carries seat command answer seat' =
+    IsAccepted seat command answer seat' ⊎ IsRefused seat command answer seat'
 
--- the same of a stream or a query by its name, whose number is looked up first, in a step of its own
-abbrev pub CarriesNamed : (PlainLocked → List ℕ → Option ℕ → Type 0) → List ℕ → Fault → (ℕ → Command) → PlainSeat → Answer → PlainSeat → Type 0
+-- the same of a stream or a query by its name, whose
+-- number is looked up first, in a step of its own
+abbrev pub CarriesNamed : (PlainLocked → List ℕ → Option ℕ → Type 0) → List ℕ → Fault
+    → (ℕ → Command) → PlainSeat → Answer → PlainSeat → Type 0
 CarriesNamed Finds name fault command seat answer seat' =
     ((n : ℕ) × ((l : PlainLocked) × Finds l name (Some n)) × Carries seat (command n) answer seat')
     ⊎ (((l : PlainLocked) × Finds l name None) × (answer ≡ refused fault) × (seat' ≡ seat))
@@ -59,7 +69,8 @@ CarriesNamed Finds name fault command seat answer seat' =
 -- what a look at the slopes of a query's operators is answered
 abbrev pub Looks : ℕ → Answer → Type 0
 Looks n (operators found) = (l : PlainLocked) × SeesSlopes (λ seen. seen) l n (Ok found)
-Looks n (refused fault) = (l : PlainLocked) × SeesSlopes (λ (seen : List (Kind × Fraction)). seen) l n (Err fault)
+Looks n (refused fault) = (l : PlainLocked)
+    × SeesSlopes (λ (seen : List (Kind × Fraction)). seen) l n (Err fault)
 Looks n answer = ⊥
 
 abbrev pub LooksNamed : List ℕ → Answer → Type 0
@@ -72,7 +83,8 @@ LooksNamed name answer =
 -- THE HUB FORGOT in one step, or memory was refused and nothing was changed
 abbrev pub Forgets : Answer → Type 0
 Forgets done = (old : PlainLocked) × (new : PlainLocked) × hub.Forgets old (Ok tt) new
-Forgets (refused fault) = (old : PlainLocked) × (new : PlainLocked) × hub.Forgets old (Err fault) new
+Forgets (refused fault) = (old : PlainLocked) × (new : PlainLocked)
+    × hub.Forgets old (Err fault) new
 Forgets answer = ⊥
 
 -- ---- drains
@@ -89,8 +101,9 @@ WasAtRest most = (old : PlainLocked) × (new : PlainLocked) × Rests old most ne
 abbrev pub IsPool : ℕ → Type 0
 IsPool workers = (1 ≤ workers) × (workers ≤ MAX_WORKERS)
 
--- THE DRAIN OF A POOL was answered so: `done` behind a moment of rest, `BadLimit` just where these are no pool's workers, want
--- of turns behind a moment when none went out to an operator that was ready, or else want of memory
+-- THE DRAIN OF A POOL was answered so: `done` behind a moment of rest, `BadLimit` just where these
+-- are no pool's workers, want of turns behind a moment when none went out to an operator that was
+-- ready, or else want of memory
 abbrev pub PoolDrains : ℕ → ℕ → Answer → Type 0
 PoolDrains workers most done = IsPool workers × WasAtRest most
 PoolDrains workers most (refused BadLimit) = ¬ IsPool workers
@@ -98,8 +111,8 @@ PoolDrains workers most (refused OutOfMemory) = IsPool workers
 PoolDrains workers most (refused TooManyLeases) = IsPool workers × WasFull most
 PoolDrains workers most answer = ⊥
 
--- THE DRAIN OF A CLIENT'S OWN THREAD was answered so: `done` behind an idle moment, want of turns behind such a moment, or else
--- want of memory
+-- THE DRAIN OF A CLIENT'S OWN THREAD was answered so: `done` behind an
+-- idle moment, want of turns behind such a moment, or else want of memory
 abbrev pub ClientDrains : ℕ → Answer → Type 0
 ClientDrains most done = WasIdle most
 ClientDrains most (refused OutOfMemory) = ⊤
@@ -113,30 +126,41 @@ DrainsBy Client most = ClientDrains most
 
 -- ---- requests
 
--- THE CALL of a request was answered so, and left this seat; `drains` says what a drain may be answered
+-- THE CALL of a request was answered so, and left this
+-- seat; `drains` says what a drain may be answered
 abbrev pub Serves : (Answer → Type 0) → PlainSeat → Call → Answer → PlainSeat → Type 0
-Serves drains seat (declare name columns start) answer seat' = Carries seat (Declare name columns start) answer seat'
-Serves drains seat (register name text chart) answer seat' = Carries seat (Register name text chart) answer seat'
-Serves drains seat (append stream more) answer seat' = CarriesNamed FindsStream stream UnknownStream (λ n. Append n more) seat answer seat'
-Serves drains seat (heartbeat stream at) answer seat' = CarriesNamed FindsStream stream UnknownStream (λ n. Heartbeat n at) seat answer seat'
+Serves drains seat (declare name columns start) answer seat' =
+    Carries seat (Declare name columns start) answer seat'
+Serves drains seat (register name text chart) answer seat' =
+    Carries seat (Register name text chart) answer seat'
+Serves drains seat (append stream more) answer seat' =
+    CarriesNamed FindsStream stream UnknownStream (λ n. Append n more) seat answer seat'
+Serves drains seat (heartbeat stream at) answer seat' =
+    CarriesNamed FindsStream stream UnknownStream (λ n. Heartbeat n at) seat answer seat'
 Serves drains seat drain answer seat' = drains answer × (seat' ≡ seat)
-Serves drains seat (take_rows query limit) answer seat' = CarriesNamed FindsQuery query UnknownQuery (λ n. Take n limit) seat answer seat'
+Serves drains seat (take_rows query limit) answer seat' =
+    CarriesNamed FindsQuery query UnknownQuery (λ n. Take n limit) seat answer seat'
 Serves drains seat forget answer seat' = Forgets answer × (seat' ≡ seat)
-Serves drains seat (drop_query query) answer seat' = CarriesNamed FindsQuery query UnknownQuery Drop seat answer seat'
+Serves drains seat (drop_query query) answer seat' =
+    CarriesNamed FindsQuery query UnknownQuery Drop seat answer seat'
 Serves drains seat (show_plan query) answer seat' = LooksNamed query answer × (seat' ≡ seat)
 
 -- what was asked for was answered; a line that is no request is told so, and calls nothing
-abbrev pub IsServed : (Answer → Type 0) → PlainSeat → Result Call WireFault → Answer → PlainSeat → Type 0
+abbrev pub IsServed : (Answer → Type 0) → PlainSeat → Result Call WireFault → Answer
+    → PlainSeat → Type 0
 IsServed drains seat (Ok call) answer seat' = Serves drains seat call answer seat'
 IsServed drains seat (Err fault) answer seat' = (answer ≡ unread fault) × (seat' ≡ seat)
 
 -- or memory was wanted where the line was read, which no line meets that is too long
 abbrev pub LacksMemory : PlainSeat → Result Call WireFault → Answer → PlainSeat → Type 0
-LacksMemory seat request answer seat' = (request ≢ Err in_line.LineTooLong) × (answer ≡ unread in_line.OutOfMemory) × (seat' ≡ seat)
+LacksMemory seat request answer seat' =
+    (request ≢ Err in_line.LineTooLong) × (answer ≡ unread in_line.OutOfMemory) × (seat' ≡ seat)
 
 -- A REQUEST WAS ANSWERED SO
-abbrev pub Replies : (Answer → Type 0) → PlainSeat → Result Call WireFault → Answer → PlainSeat → Type 0
-Replies drains seat request answer seat' = IsServed drains seat request answer seat' ⊎ LacksMemory seat request answer seat'
+abbrev pub Replies : (Answer → Type 0) → PlainSeat → Result Call WireFault → Answer
+    → PlainSeat → Type 0
+Replies drains seat request answer seat' =
+    IsServed drains seat request answer seat' ⊎ LacksMemory seat request answer seat'
 
 -- ---- whether the hub forgot
 
@@ -156,18 +180,24 @@ forgets request answer = asks_forget request && is_done answer
 
 -- ---- all requests
 
--- THE REQUESTS were answered by this text, one line a request, and left this seat; `forgot` is true just where one of them was to forget, and was
--- answered `done`
-abbrev pub Runs : (Answer → Type 0) → PlainSeat → List (Result Call WireFault) → List ℕ → Bool → PlainSeat → Type 0
+-- THE REQUESTS were answered by this text, one line a request, and left this seat;
+-- `forgot` is true just where one of them was to forget, and was answered `done`
+abbrev pub Runs : (Answer → Type 0) → PlainSeat → List (Result Call WireFault) → List ℕ → Bool
+    → PlainSeat → Type 0
 Runs drains seat [] written forgot seat' = (written ≡ []) × (forgot ≡ false) × (seat' ≡ seat)
 Runs drains seat (request ∷ more) written forgot seat' =
-    (answer : Answer) × (mid : PlainSeat) × (rest : List ℕ) × (later : Bool) × (written ≡ line_of answer ++ rest)
-    × (forgot ≡ (forgets request answer || later)) × Replies drains seat request answer mid × Runs drains mid more rest later seat'
+    (answer : Answer) × (mid : PlainSeat) × (rest : List ℕ) × (later : Bool)
+    × (written ≡ line_of answer ++ rest)
+    × (forgot ≡ (forgets request answer || later)) × Replies drains seat request answer mid
+    × Runs drains mid more rest later seat'
 
--- the first of these requests were carried out, and stand: the written text begins what they are answered
-abbrev pub Stands : (Answer → Type 0) → PlainSeat → List (Result Call WireFault) → List ℕ → PlainSeat → Type 0
+-- the first of these requests were carried out, and
+-- stand: the written text begins what they are answered
+abbrev pub Stands : (Answer → Type 0) → PlainSeat → List (Result Call WireFault) → List ℕ
+    → PlainSeat → Type 0
 Stands drains seat requests written seat' =
-    (carried : List (Result Call WireFault)) × (rest : List (Result Call WireFault)) × (more : List ℕ) × (forgot : Bool)
+    (carried : List (Result Call WireFault)) × (rest : List (Result Call WireFault))
+    × (more : List ℕ) × (forgot : Bool)
     × (requests ≡ carried ++ rest) × Runs drains seat carried (written ++ more) forgot seat'
 
 -- only more receipts are in the seat

@@ -9,9 +9,11 @@ pub record Arrived : Type 0 where
   pub elements : List Element
 
 abbrev pub arrivals_in : ℕ → List ℕ → List ℕ → List (Option ℤ) → Arrived
-arrivals_in width instants numbers values = record { width = width; elements = arrived width instants numbers values }
+arrivals_in width instants numbers values =
+    record { width = width; elements = arrived width instants numbers values }
 
 -- as many numbers and values as there are rows
-pub record IsArrived (width : ℕ) (instants numbers : List ℕ) (values : List (Option ℤ)) : Type 0 where
+pub record IsArrived (width : ℕ) (instants numbers : List ℕ)
+    (values : List (Option ℤ)) : Type 0 where
   pub counted : length numbers ≡ length instants
   pub full : length values ≡ length instants * width

@@ -1,5 +1,6 @@
 -- What a stream of the machine has closed, and what a heartbeat closes of it.
-use Rattle.std.specs.Prelude.{ℕ, suc, nat_abs, ◌-◌, ◌==◌, List, [], length, ℤ, Option, Some, None, Result, Ok, Err, slice_get, ⊤}
+use Rattle.std.specs.Prelude.{ℕ, suc, nat_abs, ◌-◌, ◌==◌, List, [], length, ℤ, Option, Some, None}
+use Rattle.std.specs.Prelude.{Result, Ok, Err, slice_get, ⊤}
 use Rattle.std.specs.Option.{option_map_or}
 use Rattle.op_queue.specs.Cursors.{GainsClosed}
 use Rattle.reference.specs.declared.fault.Fault.{Fault}
@@ -10,17 +11,20 @@ use Rattle.op_queue.specs.Logs.{Closed}
 use Rattle.reference.specs.Machine.{Stream}
 use Rattle.reference.specs.Commands.{first_fault, closed_to, Heartbeat}
 
--- the elements whose key is one of so many numbers from `start` on, by key, and those of one key in the order of the list
+-- the elements whose key is one of so many numbers from `start`
+-- on, by key, and those of one key in the order of the list
 abbrev pub by_key : (Element → ℕ) → ℕ → ℕ → List Element → List Element
 by_key f start count es = flat_map (λ k. filter (λ e. f e == k) es) (range_with_len start count)
 
--- the elements of the instants from `start` to below `until`, by instant, then arrival, where the list goes by arrival
+-- the elements of the instants from `start` to below `until`,
+-- by instant, then arrival, where the list goes by arrival
 abbrev pub by_instant : ℕ → ℕ → List Element → List Element
 by_instant start until es = by_key (λ e. e.instant) start (until - start) es
 
 -- what the stream has closed
 abbrev pub closed_of : Stream → Closed
-closed_of s = record { width = length s.columns; elements = by_instant 0 s.first_open s.elements; until = s.first_open }
+closed_of s = record { width = length s.columns; elements = by_instant 0 s.first_open s.elements;
+    until = s.first_open }
 
 -- what a heartbeat at this instant closes
 abbrev pub closing_of : ℤ → Stream → List Element
@@ -36,9 +40,12 @@ unless_faulty (Some fault) es = Err fault
 
 -- what a heartbeat closes, or the fault of its first test that fails
 unfoldable pub closing_in : List Stream → ℕ → ℤ → Result (List Element) Fault
-closing_in streams n at = unless_faulty (first_fault (machine_of streams) (Heartbeat n at)) (closing_at streams n at)
+closing_in streams n at = unless_faulty (first_fault (machine_of streams) (Heartbeat n at))
+    (closing_at streams n at)
 
--- by the heartbeat the queue of every cursor over the stream gains the rows and the ticks of the instants that it closes
+-- by the heartbeat the queue of every cursor over the stream
+-- gains the rows and the ticks of the instants that it closes
 abbrev pub QueuesGain : Option Stream → ℤ → Type 0
 QueuesGain None at = ⊤
-QueuesGain (Some s) at = GainsClosed (closed_of s) (closing_of at s) (suc (nat_abs at)) (closed_of (closed_to at s))
+QueuesGain (Some s) at = GainsClosed (closed_of s) (closing_of at s) (suc (nat_abs at))
+    (closed_of (closed_to at s))

@@ -1,10 +1,12 @@
 -- How open rows are kept: their heads, and their values one row after another.
-use Rattle.std.specs.Prelude.{◌≡◌, ℕ, suc, ℤ, ◌*◌, ◌≤◌, ◌++◌, Option, Bool, nat_abs, nat_lt, List, [], ◌∷◌, length, map, take, drop}
+use Rattle.std.specs.Prelude.{◌≡◌, ℕ, suc, ℤ, ◌*◌, ◌≤◌, ◌++◌, Option, Bool, nat_abs, nat_lt, List}
+use Rattle.std.specs.Prelude.{[], ◌∷◌, length, map, take, drop}
 use Rattle.std.specs.List.{filter}
 use Rattle.values.specs.declared.TheConstants.{MAX_COLUMNS}
 use Rattle.values.specs.Row.{Row}
 
--- the open rows of an instant: how many columns they have, and each with its number in the order of arrival
+-- the open rows of an instant: how many columns they
+-- have, and each with its number in the order of arrival
 pub record RowsAt : Type 0 where
   pub width : ℕ
   pub rows : List (ℕ × Row)
@@ -12,14 +14,16 @@ pub record RowsAt : Type 0 where
 -- each head, be it a number or more, with the values of its row
 abbrev pub rows_in : {K : Type 0} → ℕ → List K → List (Option ℤ) → List (K × Row)
 rows_in width [] values = []
-rows_in width (head ∷ heads) values = (head, take width values) ∷ rows_in width heads (drop width values)
+rows_in width (head ∷ heads) values =
+    (head, take width values) ∷ rows_in width heads (drop width values)
 
 -- rows that are lent: their instants, none below 0, and their values, one row's behind another's
 abbrev pub lent_rows : ℕ → List ℤ → List (Option ℤ) → List (ℕ × Row)
 lent_rows width instants values = rows_in width (map nat_abs instants) values
 
 -- as many values as the rows have
-pub record IsFlat {K : Type 0} (width : ℕ) (heads : List K) (values : List (Option ℤ)) : Type 0 where
+pub record IsFlat {K : Type 0} (width : ℕ) (heads : List K)
+    (values : List (Option ℤ)) : Type 0 where
   pub few : width ≤ MAX_COLUMNS
   pub full : length values ≡ length heads * width
 
@@ -34,11 +38,13 @@ numbered_rows n (r ∷ rows) = (n, r.1) ∷ numbered_rows (suc n) rows
 
 -- more rows behind the others, with numbers from n on
 abbrev pub with_rows : ℕ → List (ℕ × Row) → RowsAt → RowsAt
-with_rows n rows late_rows = record { width = late_rows.width; rows = late_rows.rows ++ numbered_rows n rows }
+with_rows n rows late_rows = record { width = late_rows.width;
+    rows = late_rows.rows ++ numbered_rows n rows }
 
 -- the first rows, as many as have numbers below n
 abbrev pub first_below : ℕ → RowsAt → RowsAt
-first_below n late_rows = record { width = late_rows.width; rows = take (length (filter (λ r. nat_lt r.0 n) late_rows.rows)) late_rows.rows }
+first_below n late_rows = record { width = late_rows.width;
+    rows = take (length (filter (λ r. nat_lt r.0 n) late_rows.rows)) late_rows.rows }
 
 abbrev pub has_rows : RowsAt → Bool
 has_rows late_rows = nat_lt 0 (length late_rows.rows)

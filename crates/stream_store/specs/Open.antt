@@ -26,7 +26,8 @@ AreWide columns entries = AllByRecursion (λ (e : Entry). e.1.width ≡ columns)
 abbrev pub put_rows : ℕ → ℕ → ℕ → List (ℕ × Row) → List Entry → List Entry
 put_rows width instant n rows [] = (instant, with_rows n rows (none_at width)) ∷ []
 put_rows width instant n rows (e ∷ es) =
-    match_ordering (nat_cmp instant e.0) ((instant, with_rows n rows (none_at width)) ∷ e ∷ es) ((e.0, with_rows n rows e.1) ∷ es) (e ∷ put_rows width instant n rows es)
+    match_ordering (nat_cmp instant e.0) ((instant, with_rows n rows (none_at width)) ∷ e ∷ es)
+    ((e.0, with_rows n rows e.1) ∷ es) (e ∷ put_rows width instant n rows es)
 
 -- the rows have this instant
 abbrev pub AreAt : ℕ → List (ℕ × Row) → Type 0
@@ -40,9 +41,11 @@ placed last (e ∷ es) = if nat_lt last.instant e.instant then last ∷ e ∷ es
 -- rows that came one after another, with numbers from n on
 abbrev pub after_put : ℕ → List (ℕ × Row) → List Element → List Element
 after_put n [] es = es
-after_put n (r ∷ rows) es = after_put (suc n) rows (placed (record { arrival = n; instant = r.0; row = r.1 }) es)
+after_put n (r ∷ rows) es = after_put (suc n) rows
+    (placed (record { arrival = n; instant = r.0; row = r.1 }) es)
 
--- without the rows of the numbers from n on, which are the last ones of their instants, and without instants that have no row
+-- without the rows of the numbers from n on, which are the last
+-- ones of their instants, and without instants that have no row
 abbrev pub below : ℕ → List Entry → List Entry
 below n entries = filter (λ e. has_rows e.1) (map (λ e. (e.0, first_below n e.1)) entries)
 

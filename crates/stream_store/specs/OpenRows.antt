@@ -1,5 +1,7 @@
--- The open rows of a stream in two parts: those that came in the order of their instants, and those that came late.
-use Rattle.std.specs.Prelude.{◌≡◌, ℕ, ℤ, ◌<◌, ◌≤◌, ◌+◌, ◌*◌, ◌++◌, Option, List, [], ◌∷◌, length, map, take}
+-- The open rows of a stream in two parts: those that came
+-- in the order of their instants, and those that came late.
+use Rattle.std.specs.Prelude.{◌≡◌, ℕ, ℤ, ◌<◌, ◌≤◌, ◌+◌, ◌*◌, ◌++◌, Option, List, [], ◌∷◌, length}
+use Rattle.std.specs.Prelude.{map, take}
 use Rattle.std.specs.List.{AllByRecursion, range_with_len}
 use Rattle.values.specs.Row.{Row}
 use Rattle.values.specs.Window.{Element}
@@ -44,11 +46,14 @@ pub record IsRisen (width reached : ℕ) (heads : List Head) (values : List (Opt
 
 -- more rows of one instant, with numbers from n on
 abbrev pub with_risen : ℕ → ℕ → List (ℕ × Row) → RisenRows → RisenRows
-with_risen instant n rows risen = record { width = risen.width; reached = instant; rows = risen.rows ++ elements_at instant (numbered_rows n rows) }
+with_risen instant n rows risen =
+    record { width = risen.width; reached = instant;
+    rows = risen.rows ++ elements_at instant (numbered_rows n rows) }
 
 -- the first rows, and the instant that they had reached
 abbrev pub first_risen : ℕ → ℕ → RisenRows → RisenRows
-first_risen count reached risen = record { width = risen.width; reached = reached; rows = take count risen.rows }
+first_risen count reached risen =
+    record { width = risen.width; reached = reached; rows = take count risen.rows }
 
 -- ---- both parts
 -- how many columns the open rows have, and the rows by instant, then arrival
@@ -70,8 +75,10 @@ pub record IsOpen (risen : RisenRows) (late : List Entry) : Type 0 where
   pub below : AllByRecursion (λ (e : Element). e.instant < risen.reached) (open_of late)
 
 -- more rows came, with numbers from n on: what stands then, and what of it stood before
-pub record IsMore (n : ℕ) (rows : List (ℕ × Row)) (risen : RisenRows) (late : List Entry) (new_risen : RisenRows) (new_late : List Entry) : Type 0 where
-  pub put : with_late (open_of new_late) new_risen.rows ≡ after_put n rows (with_late (open_of late) risen.rows)
+pub record IsMore (n : ℕ) (rows : List (ℕ × Row)) (risen : RisenRows) (late : List Entry)
+    (new_risen : RisenRows) (new_late : List Entry) : Type 0 where
+  pub put : with_late (open_of new_late) new_risen.rows
+      ≡ after_put n rows (with_late (open_of late) risen.rows)
   pub parts : IsOpen new_risen new_late
   pub width : new_risen.width ≡ risen.width
   pub longer : length risen.rows ≤ length new_risen.rows

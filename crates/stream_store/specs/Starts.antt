@@ -25,11 +25,13 @@ row_read starts instant r = is_read starts r.0 instant
 
 -- of the open rows of an instant those that have a reader
 abbrev pub rows_read : List Start → ℕ → RowsAt → RowsAt
-rows_read starts instant late_rows = record { width = late_rows.width; rows = filter (row_read starts instant) late_rows.rows }
+rows_read starts instant late_rows =
+    record { width = late_rows.width; rows = filter (row_read starts instant) late_rows.rows }
 
 -- of all instants those rows, without instants that have none
 abbrev pub entries_read : List Start → List Entry → List Entry
-entries_read starts entries = filter (λ e. has_rows e.1) (map (λ e. (e.0, rows_read starts e.0 e.1)) entries)
+entries_read starts entries = filter (λ e. has_rows e.1)
+    (map (λ e. (e.0, rows_read starts e.0 e.1)) entries)
 
 -- the first element behind the others, if it passes; else it leaves
 abbrev pub turned : (Element → Bool) → List Element → List Element

@@ -23,9 +23,13 @@ pub record Stands (s : State) (before now : List Row) : Type 0 where
   pub delta : s.delta ≡ delta_between before now
   pub whole : s.whole ≡ whole_of s.operator before
 
--- after rows the state stands for the relation with them; at a tick the answers are those of the definition, and the relation now is that of the instant before
+-- after rows the state stands for the relation with them; at a tick the answers
+-- are those of the definition, and the relation now is that of the instant before
 abbrev pub StepLaw : State → Item → State → Type 0
-StepLaw s (Rows t b) new = (before now after : List Row) → Stands s before now → Legal now b → Adds now b after → Stands new before after
+StepLaw s (Rows t b) new = (before now after : List Row) → Stands s before now → Legal now b
+    → Adds now b after → Stands new before after
 StepLaw s (Tick t) new =
     (before now : List Row) → Stands s before now
-    → (out (Tick t) (near s (Tick t)) ≡ map (λ r. (t, r)) (in_order row_cmp (streamed (operator_of s.operator) before now))) × Stands new now now
+    → (out (Tick t) (near s (Tick t))
+    ≡ map (λ r. (t, r)) (in_order row_cmp (streamed (operator_of s.operator) before now)))
+    × Stands new now now

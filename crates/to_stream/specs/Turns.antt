@@ -8,7 +8,8 @@ use Rattle.op_queue.specs.declared.item.Item.TheVariants.{Rows, Tick}
 use Rattle.row_bags.specs.Deltas.{PlainDelta, deltas_after}
 use Rattle.row_bags.specs.Lists.{renewed}
 
--- what entered and left since the last tick, and the instant of that tick, if one was taken; of Rstream also the relation of the last tick, in order, which stays empty where it is not asked for
+-- what entered and left since the last tick, and the instant of that tick, if one was taken; of
+-- Rstream also the relation of the last tick, in order, which stays empty where it is not asked for
 pub record State : Type 0 where
   pub operator : StreamOperator
   pub delta : PlainDelta
@@ -33,7 +34,12 @@ out (Tick t) rows = map (λ r. (t, r)) rows
 
 -- the state after signed rows
 abbrev pub taken : State → List (Bool × Row) → State
-taken s b = record { operator = s.operator; delta = deltas_after s.delta b; whole = s.whole; last = s.last }
+taken s b = record {
+  operator = s.operator;
+  delta = deltas_after s.delta b;
+  whole = s.whole;
+  last = s.last;
+}
 
 -- the relation that is kept from one tick to the next
 abbrev pub kept : StreamOperator → State → List Row
@@ -43,7 +49,12 @@ kept Rstream s = renewed s.whole s.delta
 
 -- the state after a tick, from which on nothing has entered or left
 abbrev pub ticked : State → ℕ → State
-ticked s t = record { operator = s.operator; delta = record { entered = []; left = [] }; whole = kept s.operator s; last = Some t }
+ticked s t = record {
+  operator = s.operator;
+  delta = record { entered = []; left = [] };
+  whole = kept s.operator s;
+  last = Some t;
+}
 
 -- the state after an item
 abbrev pub next : State → Item → State

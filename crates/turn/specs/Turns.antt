@@ -21,7 +21,8 @@ use Rattle.turn.specs.Nodes.{PlainNode}
 use Rattle.turn.specs.declared.excerpts.Near.{Near}
 use Rattle.turn.specs.declared.excerpts.Near.TheVariants as near
 use Rattle.turn.specs.declared.kinds.Kind.{Kind}
-use Rattle.turn.specs.declared.kinds.Kind.TheVariants.{RangeWindow, SlideWindow, LatestWindow, Select, Project, Join, Group, ToStream}
+use Rattle.turn.specs.declared.kinds.Kind.TheVariants.{RangeWindow, SlideWindow, LatestWindow}
+use Rattle.turn.specs.declared.kinds.Kind.TheVariants.{Select, Project, Join, Group, ToStream}
 use Rattle.turn.specs.declared.outcomes.Change.{Change}
 use Rattle.turn.specs.declared.outcomes.Change.TheVariants as change
 use Rattle.turn.specs.declared.outcomes.Outputs.{Outputs}

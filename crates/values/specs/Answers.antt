@@ -1,5 +1,6 @@
 -- A query with its names resolved, its relation at an instant, and its answers.
-use Rattle.std.specs.Prelude.{ℕ, zero, suc, ◌-◌, Bool, cond, nat_le, Option, List, [], ◌∷◌, map, filter}
+use Rattle.std.specs.Prelude.{ℕ, zero, suc, ◌-◌, Bool, cond, nat_le, Option, List, [], ◌∷◌, map}
+use Rattle.std.specs.Prelude.{filter}
 use Rattle.std.specs.List.{flat_map, range_with_len}
 use Rattle.values.specs.Row.{Row, row_cmp}
 use Rattle.values.specs.Bag.{bag_minus, distinct, in_order}
@@ -23,7 +24,8 @@ pub record Resolved : Type 0 where
 -- the relation of a query, from what the windows of its sources show
 abbrev pub body : Resolved → List (List Row) → List Row
 body q shown =
-    let rows = shaped q.shape (filter (keeps q.condition) (combinations shown)) in cond q.is_distinct (distinct row_cmp rows) rows
+    let rows = shaped q.shape (filter (keeps q.condition) (combinations shown)) in cond
+    q.is_distinct (distinct row_cmp rows) rows
 
 -- what the windows show at the instant t
 abbrev pub shown_at : ℕ → List Window → ℕ → List (List Element) → List (List Row)
@@ -48,8 +50,10 @@ streamed Rstream before now = now
 
 abbrev pub answers_at : Resolved → ℕ → List (List Element) → ℕ → List (ℕ × Row)
 answers_at q from inputs t =
-    map (λ r. (t, r)) (in_order row_cmp (streamed q.operator (relation_before q from inputs t) (relation q from inputs t)))
+    map (λ r. (t, r)) (in_order row_cmp
+    (streamed q.operator (relation_before q from inputs t) (relation q from inputs t)))
 
 -- the answers at the instants from `from` to below `until`
 abbrev pub answers : Resolved → ℕ → ℕ → List (List Element) → List (ℕ × Row)
-answers q from until inputs = flat_map (answers_at q from inputs) (range_with_len from (until - from))
+answers q from until inputs = flat_map (answers_at q from inputs)
+    (range_with_len from (until - from))

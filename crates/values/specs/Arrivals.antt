@@ -14,13 +14,15 @@ abbrev pub Longer : ℕ → List (List Element) → List (List Element) → Type
 Longer until [] [] = Unit {0}
 Longer until [] (g ∷ gs) = ⊥
 Longer until (e ∷ es) [] = ⊥
-Longer until (e ∷ es) (g ∷ gs) = ((more : List Element) × ((g ≡ e ++ more) × AllFrom until more)) × Longer until es gs
+Longer until (e ∷ es) (g ∷ gs) =
+    ((more : List Element) × ((g ≡ e ++ more) × AllFrom until more)) × Longer until es gs
 
 -- the elements of each instant came in the same order
 abbrev pub SameAtInstants : List (ℕ × Row) → List (ℕ × Row) → Type 0
 SameAtInstants xs ys = (t : ℕ) → filter (λ e. e.0 == t) xs ≡ filter (λ e. e.0 == t) ys
 
--- the same elements came to a window: where it is one of last rows, those of each instant in the same order; else in any order
+-- the same elements came to a window: where it is one of last
+-- rows, those of each instant in the same order; else in any order
 abbrev pub CameAlike : Window → List (ℕ × Row) → List (ℕ × Row) → Type 0
 CameAlike (Range n) xs ys = Perm xs ys
 CameAlike (RangeSlide n l) xs ys = Perm xs ys
@@ -33,4 +35,5 @@ AllCameAlike [] inputs others = Unit {0}
 AllCameAlike (w ∷ ws) [] [] = Unit {0}
 AllCameAlike (w ∷ ws) [] (ys ∷ others) = ⊥
 AllCameAlike (w ∷ ws) (xs ∷ inputs) [] = ⊥
-AllCameAlike (w ∷ ws) (xs ∷ inputs) (ys ∷ others) = CameAlike w xs ys × AllCameAlike ws inputs others
+AllCameAlike (w ∷ ws) (xs ∷ inputs) (ys ∷ others) =
+    CameAlike w xs ys × AllCameAlike ws inputs others

@@ -1,8 +1,9 @@
-//! Values and rows: null or a number, and rows of them compared column by column from the left.
+//! Defines values and rows: null or a number, and rows of them compared column by column from the
+//! left.
 //!
-//! Here too stand the definitions that the other crates cite: bags, windows, conditions, relations
-//! and the answers of a query (Arasu, Babu and Widom, "The CQL continuous query language", 2006),
-//! and the theory of them.
+//! The specifications here are those that the other crates cite: bags, windows, conditions and
+//! relations, the answers of a query, and their theory. The source is Arasu, Babu and Widom, "The
+//! CQL continuous query language" (2006).
 #![tactic(auto)]
 
 ghost use Rattle.std.specs.Prelude.{◌≡◌, None, IfSome, SomeIff, refl};
@@ -26,21 +27,21 @@ use std::cmp::Ordering;
 use std::fmt;
 use std::marker::Model;
 
-/// The greatest number of a stream or a condition; the least is its opposite.
+/// Is the greatest number of a stream or a condition; its opposite is the least.
 pub const STREAM_MAX: i64 = 1_099_511_627_775;
 
-/// The greatest number of an answer; the least is its opposite.
+/// Is the greatest number of an answer; its opposite is the least.
 pub const ANSWER_MAX: i64 = i64::MAX;
 
-/// The most columns that a row has.
+/// Limits the columns of a row.
 pub const MAX_COLUMNS: usize = 32;
 
-/// Null or a number of the answer range, in one word of 8 bytes.
+/// Holds null or a number of the answer range, in one word of 8 bytes.
 ///
 /// Null is below every number, and equal to null.
 #[derive(Clone, Copy, Drop)]
 pub struct Value {
-    /// The number, or the one word below the answer range for null.
+    /// Holds the number, or for null the one word below the answer range.
     word: i64,
 }
 
@@ -64,12 +65,12 @@ impl Model for Value {
         → Inside = λ w. record { word = w } in ap f (word_back a.word) };
 }
 
-/// A row: at most `MAX_COLUMNS` values.
+/// Holds the values of a row, at most `MAX_COLUMNS` of them, from column 0 on.
 pub type Row = ArrayVec<Value, MAX_COLUMNS>;
 
 impl Value {
-    /// A number of a stream or a condition; None exactly where it lies outside `-STREAM_MAX ..=
-    /// STREAM_MAX`.
+    /// Returns a number of a stream or a condition as a value, or None exactly where it lies
+    /// outside `-STREAM_MAX ..= STREAM_MAX`.
     pub fn new(number: i64) -> Option<Value>
         ensures { SomeIff result (IsStreamNumber number) (Some number) }
     {
@@ -80,14 +81,14 @@ impl Value {
         }
     }
 
-    /// Null.
+    /// Returns null.
     pub fn null() -> Value
         ensures { result ≡ None }
     {
         Value { word: i64::MIN }
     }
 
-    /// A number of the answer range.
+    /// Returns a number of the answer range as a value.
     pub fn answer(number: i64) -> Value
         requires { IsAnswerNumber number }
         ensures { result ≡ Some number }
@@ -95,8 +96,8 @@ impl Value {
         Value { word: number }
     }
 
-    /// The number of the answer range that is nearest to this one: a sum that has left the range
-    /// shows its end.
+    /// Returns the number of the answer range that is nearest to this one. A sum that leaves the
+    /// range thus shows the end where it left.
     pub fn clamped(number: i128) -> Value
         ensures { result ≡ Some (clamp_answer number) }
     {
@@ -111,7 +112,7 @@ impl Value {
         }
     }
 
-    /// The number, or None at null.
+    /// Returns the number, or None at null.
     pub fn number(self) -> Option<i64>
         ensures value { result ≡ self }
         ensures range { IfSome result IsAnswerNumber }
@@ -197,21 +198,21 @@ impl fmt::Debug for Value {
     }
 }
 
-/// Which row is first, column by column from the left.
+/// Compares two rows column by column from the left; null is below every number.
 pub fn compare_rows(a: &Row, b: &Row) -> Ordering
     ensures { result ≡ row_cmp a.now.items b.now.items }
 {
     a.cmp(b)
 }
 
-/// Whether the rows are equal, nulls being equal to each other.
+/// Returns whether the rows are equal, nulls being equal to each other.
 pub fn same_rows(a: &Row, b: &Row) -> bool
     ensures { result ≡ same_row a.now.items b.now.items }
 {
     compare_rows(a, b).is_eq()
 }
 
-/// The same row again, without memory.
+/// Copies the row; takes no memory.
 pub fn copy_row(row: &Row) -> Row
     ensures { result ≡ row.now }
 {
@@ -222,7 +223,7 @@ pub fn copy_row(row: &Row) -> Row
     copy
 }
 
-/// The value in a column, or null past the row's end.
+/// Returns the value in a column counted from 0, or null past the row's end.
 pub fn value_at(row: &Row, column: usize) -> Value
     ensures { result ≡ value_at row.now.items column }
 {

@@ -1,24 +1,24 @@
-//! A query with its names resolved: sources and columns go by their places, both counted from 0 in
-//! the order of From and of the stream's declaration.
+//! Holds queries with their names resolved. Sources and columns go by their places, both counted
+//! from 0 in the order of From and of the stream's declaration.
 
-/// A column of a source of the query, both counted from 0 in the order of From and of the stream's
-/// declaration.
+/// Names a column of a source of the query. Both are counted from 0, in the order of From and of
+/// the stream's declaration.
 #[derive(Clone, Copy, Debug, PartialEq, Eq)]
 pub struct Column {
-    /// The number of the source, from 0.
+    /// Holds the number of the source, from 0.
     pub source: usize,
-    /// The place of the column in the source's rows.
+    /// Holds the place of the column in the source's rows.
     pub column: usize,
 }
 
-/// A side of a comparison.
+/// Is one side of a comparison: a column or a number.
 #[derive(Clone, Copy)]
 pub enum Operand {
     Field(Column),
     Number(i64),
 }
 
-/// How a comparison asks its left side to stand to its right one.
+/// Says which relation a comparison asks for between its left side and its right side.
 #[derive(Clone, Copy, Debug, PartialEq, Eq)]
 pub enum Compare {
     Equals,
@@ -29,8 +29,8 @@ pub enum Compare {
     AtLeast,
 }
 
-/// What Where says. It keeps the combinations at which it is true, and not those at which it is
-/// unknown.
+/// Holds what Where says. It keeps the combinations at which it is true, and not those at which it
+/// is unknown.
 #[derive(Drop)]
 pub enum Condition {
     Compared(Operand, Compare, Operand),
@@ -39,71 +39,74 @@ pub enum Condition {
     Or(Box<Condition>, Box<Condition>),
 }
 
-/// A window of a source.
+/// Says which rows of a source the query sees at an instant.
 #[derive(Drop)]
 pub enum Window {
-    /// The rows of this instant and of as many before it as the number says: 0 is Now.
+    /// Shows the rows of this instant and of as many instants before it as the number says: 0 is
+    /// Now.
     Range(u64),
-    /// The same at the greatest multiple of the second number, which is not 0, that is not above
-    /// the instant; no rows where that multiple is not above the query's base.
+    /// Shows what Range of the first number shows at an earlier instant: the greatest multiple of
+    /// the second number that is at most this instant. The second number is not 0. It shows no rows
+    /// where that multiple is not above the query's base.
     RangeSlide(u64, u64),
-    /// All rows so far.
+    /// Shows all rows so far.
     Unbounded,
-    /// The last rows, as many as the number says, of each partition: of the rows that are equal in
-    /// the columns, nulls being equal to each other. With no column all rows are one partition. Of
-    /// two rows of an instant the later arrival is last.
+    /// Shows the last rows of each partition, as many as the number says. A partition is the rows
+    /// that are equal in the columns, nulls being equal to each other. With no column all rows are
+    /// one partition. Of two rows of an instant the later arrival is last.
     LastRows(Vec<usize>, u64),
 }
 
-/// An item of the list of a grouped query.
+/// Is an item of the list of a grouped query.
 #[derive(Clone, Copy, PartialEq, Eq)]
 pub enum ListItem {
-    /// A column of Group By, by its place there.
+    /// Lists a column of Group By, by its place there.
     Key(usize),
-    /// How many combinations the group has.
+    /// Counts the combinations of the group.
     CountAll,
-    /// How many of them have a number in the column.
+    /// Counts the combinations of the group that have a number in the column.
     Count(Column),
-    /// The exact sum of the column's numbers, clamped to the answer range; null where there is
+    /// Adds up the column's numbers exactly, clamped to the answer range; null where there are
     /// none.
     Sum(Column),
-    /// The least number of the column; null where there is none.
+    /// Lists the least number of the column; null where there is none.
     Min(Column),
-    /// The greatest number of the column; null where there is none.
+    /// Lists the greatest number of the column; null where there is none.
     Max(Column),
 }
 
-/// What is listed. Each list has at most `MAX_COLUMNS` items.
+/// Says what is listed. Each list has at most `MAX_COLUMNS` items.
 #[derive(Drop)]
 pub enum Shape {
-    /// The columns, of each combination.
+    /// Lists the columns for each combination.
     Listed(Vec<Column>),
-    /// Group By's columns, none where it is missing, and the list, of each group.
+    /// Lists the items for each group. Holds Group By's columns, none where Group By is missing,
+    /// then the items.
     Grouped(Vec<Column>, Vec<ListItem>),
 }
 
-/// The relation-to-stream operators of CQL.
+/// Names a relation-to-stream operator of CQL.
 #[derive(Clone, Copy, Debug, PartialEq, Eq)]
 pub enum StreamOperator {
-    /// What the relation has beyond that of the instant before.
+    /// Passes on what the relation has beyond that of the instant before.
     Istream,
-    /// What the relation of the instant before has beyond it.
+    /// Passes on what the relation of the instant before has beyond this one.
     Dstream,
-    /// The relation.
+    /// Passes on the whole relation.
     Rstream,
 }
 
-/// A query with its names resolved.
+/// Holds a query with its names resolved.
 #[derive(Drop)]
 pub struct Resolved {
-    /// The window of each source, in the order of From.
+    /// Holds the window of each source, in the order of From.
     pub windows: Vec<Window>,
-    /// Where, if the query has it.
+    /// Holds the condition of Where, if the query has it.
     pub condition: Option<Condition>,
-    /// What the query's rows are made of.
+    /// Says what the query's rows are made of.
     pub shape: Shape,
-    /// Whether each row of the list is taken once.
+    /// Says whether equal rows of the list count once.
     pub is_distinct: bool,
-    /// How the query's relation becomes a stream.
+    /// Says how the query's relation becomes a stream.
     pub operator: StreamOperator,
 }

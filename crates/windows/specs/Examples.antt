@@ -1,5 +1,6 @@
 -- The definitions at worked rows.
-use Rattle.std.specs.Prelude.{◌≡◌, ℕ, ℤ, Bool, true, false, Option, None, Some, pos, List, [], ◌∷◌, refl}
+use Rattle.std.specs.Prelude.{◌≡◌, ℕ, ℤ, Bool, true, false, Option, None, Some, pos, List, [], ◌∷◌}
+use Rattle.std.specs.Prelude.{refl}
 use Rattle.values.specs.Row.{Row}
 use Rattle.op_queue.specs.Entries.{RowAt, TickAt}
 use Rattle.op_queue.specs.declared.item.Item.TheVariants.{Rows, Tick}
@@ -25,37 +26,46 @@ leaves r = (false, r)
 abbrev window : range.RangeState
 window = record { span = Some 2; width = 1; held = (1, one 7) ∷ (2, one 8) ∷ (4, one 9) ∷ [] }
 
-older_leave : range.out (Tick 4) (range.near window (Tick 4)) ≡ RowAt 4 (leaves (one 7)) ∷ TickAt 4 ∷ []
+older_leave : range.out (Tick 4) (range.near window (Tick 4))
+    ≡ RowAt 4 (leaves (one 7)) ∷ TickAt 4 ∷ []
 older_leave = refl
 
 newer_stay : range.next window (Tick 4) ≡ (2, one 8) ∷ (4, one 9) ∷ []
 newer_stay = refl
 
-rows_are_held : range.next window (Rows 4 (enters (one 5) ∷ [])) ≡ (1, one 7) ∷ (2, one 8) ∷ (4, one 9) ∷ (4, one 5) ∷ []
+rows_are_held : range.next window (Rows 4 (enters (one 5) ∷ []))
+    ≡ (1, one 7) ∷ (2, one 8) ∷ (4, one 9) ∷ (4, one 5) ∷ []
 rows_are_held = refl
 
--- Range 1 at the multiples of 2, which shows the row of the instant 1 and holds those of 2 and 3: at the tick of 4 the first leaves, the second
--- goes unshown, and the third is shown
+-- Range 1 at the multiples of 2, which shows the row of the instant 1 and holds those of 2
+-- and 3: at the tick of 4 the first leaves, the second goes unshown, and the third is shown
 abbrev sliding : slide.SlideState
-sliding = record { span = 1; step = 2; width = 1; held = (1, one 7) ∷ (2, one 8) ∷ (3, one 9) ∷ []; shown = 1 }
+sliding = record { span = 1; step = 2; width = 1;
+    held = (1, one 7) ∷ (2, one 8) ∷ (3, one 9) ∷ []; shown = 1 }
 
-moves_at_multiples : slide.out (Tick 4) (slide.near sliding (Tick 4)) ≡ RowAt 4 (leaves (one 7)) ∷ RowAt 4 (enters (one 9)) ∷ TickAt 4 ∷ []
+moves_at_multiples : slide.out (Tick 4) (slide.near sliding (Tick 4))
+    ≡ RowAt 4 (leaves (one 7)) ∷ RowAt 4 (enters (one 9)) ∷ TickAt 4 ∷ []
 moves_at_multiples = refl
 
-shows_the_rest : slide.next sliding (Tick 4) ≡ record { span = 1; step = 2; width = 1; held = (3, one 9) ∷ []; shown = 1 }
+shows_the_rest : slide.next sliding (Tick 4)
+    ≡ record { span = 1; step = 2; width = 1; held = (3, one 9) ∷ []; shown = 1 }
 shows_the_rest = refl
 
 waits_between : slide.out (Tick 5) (slide.near sliding (Tick 5)) ≡ TickAt 5 ∷ []
 waits_between = refl
 
-holds_unshown : slide.next sliding (Rows 4 (enters (one 5) ∷ [])) ≡ record { span = 1; step = 2; width = 1; held = (1, one 7) ∷ (2, one 8) ∷ (3, one 9) ∷ (4, one 5) ∷ []; shown = 1 }
+holds_unshown : slide.next sliding (Rows 4 (enters (one 5) ∷ []))
+    ≡ record { span = 1; step = 2; width = 1;
+    held = (1, one 7) ∷ (2, one 8) ∷ (3, one 9) ∷ (4, one 5) ∷ []; shown = 1 }
 holds_unshown = refl
 
 -- Now holds the rows of the instant alone
-now_forgets : range.near (record { span = Some 0; width = 1; held = (1, one 7) ∷ (2, one 8) ∷ [] }) (Tick 2) ≡ one 7 ∷ []
+now_forgets : range.near (record { span = Some 0; width = 1; held = (1, one 7) ∷ (2, one 8) ∷ [] })
+    (Tick 2) ≡ one 7 ∷ []
 now_forgets = refl
 
-all_stay : range.near (record { span = None; width = 1; held = (1, one 7) ∷ (2, one 8) ∷ [] }) (Tick 9) ≡ []
+all_stay : range.near (record { span = None; width = 1; held = (1, one 7) ∷ (2, one 8) ∷ [] })
+    (Tick 9) ≡ []
 all_stay = refl
 
 -- three rows of two columns as they are kept: one of the instant 1, and two of the instant 4
@@ -66,25 +76,36 @@ abbrev runs : List Run
 runs = record { instant = 1; count = 1 } ∷ record { instant = 4; count = 2 } ∷ []
 
 values_and_runs : held_in (record { width = 2; rows = cut_rows 2 3 six }) runs
-    ≡ record { width = 2; held = (1, two 7 8) ∷ (4, Some (pos 9) ∷ None ∷ []) ∷ (4, None ∷ Some (pos 5) ∷ []) ∷ [] }
+    ≡ record { width = 2; held = (1, two 7 8) ∷ (4, Some (pos 9) ∷ None ∷ [])
+    ∷ (4, None ∷ Some (pos 5) ∷ []) ∷ [] }
 values_and_runs = refl
 
 -- rows of no column have no values
-no_columns : held_in (record { width = 0; rows = cut_rows 0 3 [] }) runs ≡ record { width = 0; held = (1, []) ∷ (4, []) ∷ (4, []) ∷ [] }
+no_columns : held_in (record { width = 0; rows = cut_rows 0 3 [] }) runs
+    ≡ record { width = 0; held = (1, []) ∷ (4, []) ∷ (4, []) ∷ [] }
 no_columns = refl
 
--- Rows 2, with no partition, from nothing: the third row makes the first fall out, and the fourth the second
+-- Rows 2, with no partition, from nothing: the third row
+-- makes the first fall out, and the fourth the second
 abbrev nothing : Row → List Row
 nothing k = []
 
-third_and_fourth : latest.interleaved (enters (one 1) ∷ enters (one 2) ∷ enters (one 3) ∷ enters (one 4) ∷ []) (latest.all_fallen [] 2 nothing (enters (one 1) ∷ enters (one 2) ∷ enters (one 3) ∷ enters (one 4) ∷ []))
-    ≡ enters (one 1) ∷ enters (one 2) ∷ enters (one 3) ∷ leaves (one 1) ∷ enters (one 4) ∷ leaves (one 2) ∷ []
+third_and_fourth : latest.interleaved
+    (enters (one 1) ∷ enters (one 2) ∷ enters (one 3) ∷ enters (one 4) ∷ [])
+    (latest.all_fallen [] 2 nothing
+    (enters (one 1) ∷ enters (one 2) ∷ enters (one 3) ∷ enters (one 4) ∷ []))
+    ≡ enters (one 1) ∷ enters (one 2) ∷ enters (one 3) ∷ leaves (one 1) ∷ enters (one 4)
+    ∷ leaves (one 2) ∷ []
 third_and_fourth = refl
 
-last_two : latest.all_after [] 2 nothing (enters (one 1) ∷ enters (one 2) ∷ enters (one 3) ∷ []) [] ≡ one 2 ∷ one 3 ∷ []
+last_two : latest.all_after [] 2 nothing (enters (one 1) ∷ enters (one 2) ∷ enters (one 3) ∷ []) []
+    ≡ one 2 ∷ one 3 ∷ []
 last_two = refl
 
--- Partition By the first column Rows 1: a row makes the one before it fall out that has the same first value; nulls are one partition
-partitioned : latest.all_fallen (0 ∷ []) 1 nothing (enters (two 1 10) ∷ enters (two 2 20) ∷ enters (two 1 11) ∷ enters (None ∷ Some (pos 1) ∷ []) ∷ enters (None ∷ Some (pos 2) ∷ []) ∷ [])
+-- Partition By the first column Rows 1: a row makes the one before
+-- it fall out that has the same first value; nulls are one partition
+partitioned : latest.all_fallen (0 ∷ []) 1 nothing
+    (enters (two 1 10) ∷ enters (two 2 20) ∷ enters (two 1 11) ∷ enters (None ∷ Some (pos 1) ∷ [])
+    ∷ enters (None ∷ Some (pos 2) ∷ []) ∷ [])
     ≡ None ∷ None ∷ Some (two 1 10) ∷ None ∷ Some (None ∷ Some (pos 1) ∷ []) ∷ []
 partitioned = refl

@@ -1,5 +1,7 @@
--- How the rows that fall out are kept: a truth for each row of an item, and those that fall one behind the other.
-use Rattle.std.specs.Prelude.{ℕ, suc, ◌≡◌, Bool, true, false, Option, Some, None, List, [], ◌∷◌, length, take}
+-- How the rows that fall out are kept: a truth for each row
+-- of an item, and those that fall one behind the other.
+use Rattle.std.specs.Prelude.{ℕ, suc, ◌≡◌, Bool, true, false, Option, Some, None, List, [], ◌∷◌}
+use Rattle.std.specs.Prelude.{length, take}
 use Rattle.values.specs.Row.{Row}
 use Rattle.windows.specs.Widths.{AreWide}
 

@@ -1,5 +1,7 @@
--- How a window keeps what it holds: the values of its rows one behind the other, and their instants as runs.
-use Rattle.std.specs.Prelude.{ℕ, zero, suc, ◌*◌, ◌<◌, ◌≤◌, ◌≡◌, ℤ, Option, List, [], ◌∷◌, length, take, drop, replicate}
+-- How a window keeps what it holds: the values of its
+-- rows one behind the other, and their instants as runs.
+use Rattle.std.specs.Prelude.{ℕ, zero, suc, ◌*◌, ◌<◌, ◌≤◌, ◌≡◌, ℤ, Option, List, [], ◌∷◌, length}
+use Rattle.std.specs.Prelude.{take, drop, replicate}
 use Rattle.std.specs.List.{All, flat_map, zip}
 use Rattle.values.specs.declared.TheConstants.{MAX_COLUMNS}
 use Rattle.values.specs.Row.{Row}

@@ -1,5 +1,6 @@
 -- The turns of a window of the last rows of each partition.
-use Rattle.std.specs.Prelude.{ℕ, suc, ◌-◌, ◌≡◌, ◌≤◌, Bool, false, cond, nat_lt, Option, Some, None, List, [], ◌∷◌, ◌++◌, map, length, drop, get_or, unwrap_or}
+use Rattle.std.specs.Prelude.{ℕ, suc, ◌-◌, ◌≡◌, ◌≤◌, Bool, false, cond, nat_lt, Option, Some, None}
+use Rattle.std.specs.Prelude.{List, [], ◌∷◌, ◌++◌, map, length, drop, get_or, unwrap_or}
 use Rattle.std.specs.Map.{lookup}
 use Rattle.std.specs.BTreeMap.{is_at}
 use Rattle.std.specs.declared.cmp.Ordering.{Ordering}
@@ -20,8 +21,8 @@ part k es = unwrap_or (lookup (is_at (key_cmp k)) es) []
 abbrev pub held_in : List (OneRow × List Row) → Row → List Row
 held_in es k = part (record { items = k }) es
 
--- the columns of a partition, none where all rows are one; how many rows it shows of each; how many columns its rows have; and what it holds
--- of the partition of each key
+-- the columns of a partition, none where all rows are one; how many rows it shows of
+-- each; how many columns its rows have; and what it holds of the partition of each key
 pub record LatestState : Type 0 where
   pub columns : List ℕ
   pub count : ℕ
@@ -42,7 +43,8 @@ fallen_of n rows = cond (nat_lt n (length rows)) (Some (get_or rows 0 [])) None
 
 -- what is held after a row
 abbrev pub held_after : List ℕ → ℕ → (Row → List Row) → Row → Row → List Row
-held_after columns n held row k = cond (same_row (key_in columns row) k) (last_of n (held k ++ row ∷ [])) (held k)
+held_after columns n held row k =
+    cond (same_row (key_in columns row) k) (last_of n (held k ++ row ∷ [])) (held k)
 
 abbrev pub all_after : List ℕ → ℕ → (Row → List Row) → List (Bool × Row) → Row → List Row
 all_after columns n held [] = held
@@ -52,7 +54,8 @@ all_after columns n held (x ∷ xs) = all_after columns n (held_after columns n 
 abbrev pub all_fallen : List ℕ → ℕ → (Row → List Row) → List (Bool × Row) → List (Option Row)
 all_fallen columns n held [] = []
 all_fallen columns n held (x ∷ xs) =
-    fallen_of n (held (key_in columns x.1) ++ x.1 ∷ []) ∷ all_fallen columns n (held_after columns n held x.1) xs
+    fallen_of n (held (key_in columns x.1) ++ x.1 ∷ [])
+    ∷ all_fallen columns n (held_after columns n held x.1) xs
 
 abbrev pub near : LatestState → Item → List (Option Row)
 near s (Rows t b) = all_fallen s.columns s.count (held_in s.entries) b

@@ -1,5 +1,6 @@
 -- The turns of a window of the last instants.
-use Rattle.std.specs.Prelude.{ℕ, ◌≡◌, ◌-◌, ◌≤◌, Bool, false, not, nat_lt, Option, Some, None, List, [], ◌∷◌, ◌++◌, map, length}
+use Rattle.std.specs.Prelude.{ℕ, ◌≡◌, ◌-◌, ◌≤◌, Bool, false, not, nat_lt, Option, Some, None, List}
+use Rattle.std.specs.Prelude.{[], ◌∷◌, ◌++◌, map, length}
 use Rattle.std.specs.List.{filter, All}
 use Rattle.std.specs.List.Sorted.{IsNonDecreasingBy}
 use Rattle.values.specs.Row.{Row}
@@ -7,7 +8,8 @@ use Rattle.op_queue.specs.Entries.{Entry, RowAt, TickAt}
 use Rattle.op_queue.specs.declared.item.Item.{Item}
 use Rattle.op_queue.specs.declared.item.Item.TheVariants.{Rows, Tick}
 
--- how many instants before the current one it shows, if not all; how many columns its rows have; and its rows with their instants, in order
+-- how many instants before the current one it shows, if not all; how
+-- many columns its rows have; and its rows with their instants, in order
 pub record RangeState : Type 0 where
   pub span : Option ℕ
   pub width : ℕ

@@ -1,5 +1,6 @@
 -- The turns of a window of the last instants that moves at the multiples of a number alone.
-use Rattle.std.specs.Prelude.{ℕ, ◌-◌, ◌*◌, ◌/◌, ◌==◌, ◌<◌, ◌≤◌, Bool, true, cond, not, nat_lt, List, [], ◌∷◌, ◌++◌, map, length, take, drop}
+use Rattle.std.specs.Prelude.{ℕ, ◌-◌, ◌*◌, ◌/◌, ◌==◌, ◌<◌, ◌≤◌, Bool, true, cond, not, nat_lt, List}
+use Rattle.std.specs.Prelude.{[], ◌∷◌, ◌++◌, map, length, take, drop}
 use Rattle.std.specs.List.{filter}
 use Rattle.values.specs.Row.{Row}
 use Rattle.op_queue.specs.Entries.{Entry, RowAt, TickAt}
@@ -8,8 +9,9 @@ use Rattle.op_queue.specs.declared.item.Item.TheVariants.{Rows, Tick}
 use Rattle.windows.specs.Range.{IsRange, held_at, leaving}
 use Rattle.windows.specs.Widths.{AreWide}
 
--- how many instants before the one at which it moved last it shows; at the multiples of which number it moves; how many columns its rows have; its
--- rows with their instants, in order; and how many of them, from the first on, it shows
+-- how many instants before the one at which it moved last it shows; at the multiples of which
+-- number it moves; how many columns its rows have; its rows with their instants, in order; and how
+-- many of them, from the first on, it shows
 pub record SlideState : Type 0 where
   pub span : ℕ
   pub step : ℕ
@@ -25,7 +27,8 @@ moves step t = t / step * step == t
 abbrev pub is_past : ℕ → ℕ → ℕ × Row → Bool
 is_past span t h = nat_lt h.0 (t - span)
 
--- what a turn needs: the shown rows that leave, the other rows that go without being shown, and those that are shown from now on
+-- what a turn needs: the shown rows that leave, the other rows that
+-- go without being shown, and those that are shown from now on
 pub record SlideNear : Type 0 where
   pub leave : List Row
   pub pass : List Row
@@ -34,7 +37,8 @@ pub record SlideNear : Type 0 where
 abbrev pub nothing : SlideNear
 nothing = record { leave = []; pass = []; enter = [] }
 
--- the rows of a sliding window stand by instant, those that it shows in front, and it moves at the multiples of one or more
+-- the rows of a sliding window stand by instant, those that it
+-- shows in front, and it moves at the multiples of one or more
 pub record IsSlide (step w : ℕ) (held : List (ℕ × Row)) (shown : ℕ) : Type 0 where
   pub range : IsRange w held
   pub some : 0 < step
@@ -86,5 +90,6 @@ moved s t =
     record { span = s.span; step = s.step; width = s.width; held = held; shown = length held }
 
 abbrev pub next : SlideState → Item → SlideState
-next s (Rows t b) = record { span = s.span; step = s.step; width = s.width; held = s.held ++ map (held_at t) b; shown = s.shown }
+next s (Rows t b) = record { span = s.span; step = s.step; width = s.width;
+    held = s.held ++ map (held_at t) b; shown = s.shown }
 next s (Tick t) = cond (moves s.step t) (moved s t) s

@@ -1,8 +1,11 @@
 -- Which call a JSON value asks for, and none where it asks for none.
-use Rattle.std.specs.Prelude.{ℕ, ℤ, List, [], ◌∷◌, Option, Some, None, option_map, option_and_then, codes, if◌then◌else◌, bytes_eq}
-use Rattle.serde_json.specs.Data.{Data, null, boolean, number, string, array, object, Items, no_items, item}
+use Rattle.std.specs.Prelude.{ℕ, ℤ, List, [], ◌∷◌, Option, Some, None, option_map, option_and_then}
+use Rattle.std.specs.Prelude.{codes, if◌then◌else◌, bytes_eq}
+use Rattle.serde_json.specs.Data.{Data, null, boolean, number, string, array, object, Items}
+use Rattle.serde_json.specs.Data.{no_items, item}
 use Rattle.serde_json.specs.Find.{get, as_str, as_number, as_array, as_i64}
-use Rattle.wire.specs.Calls.{NewRow, Call, declare, register, append, heartbeat, drain, take_rows, drop_query, forget, show_plan}
+use Rattle.wire.specs.Calls.{NewRow, Call, declare, register, append, heartbeat, drain, take_rows}
+use Rattle.wire.specs.Calls.{drop_query, forget, show_plan}
 
 -- ---- the kinds of value
 
@@ -26,14 +29,16 @@ each f (item d ds) = option_and_then (λ a. option_map (λ rest. a ∷ rest) (ea
 -- a row of an append: its instant, then its values
 abbrev pub row_from : Items → Option NewRow
 row_from no_items = None
-row_from (item d ds) = option_and_then (λ at. option_map (λ values. (at, values)) (each value_of ds)) (integer_of d)
+row_from (item d ds) = option_and_then
+    (λ at. option_map (λ values. (at, values)) (each value_of ds)) (integer_of d)
 
 abbrev pub row_in : Data → Option NewRow
 row_in d = option_and_then row_from (as_array d)
 
 -- a cost and a size
 abbrev pub pair_from : Items → Option (ℤ × ℤ)
-pair_from (item d (item e no_items)) = option_and_then (λ cost. option_map (λ size. (cost, size)) (integer_of e)) (integer_of d)
+pair_from (item d (item e no_items)) =
+    option_and_then (λ cost. option_map (λ size. (cost, size)) (integer_of e)) (integer_of d)
 pair_from _ = None
 
 abbrev pub pair_in : Data → Option (ℤ × ℤ)
@@ -61,11 +66,13 @@ each_at f key d = option_and_then (each f) (list_at key d)
 -- ---- the requests, each with the keys of its own operation; other keys are ignored
 
 unfoldable pub declare_in : Data → Option Call
-declare_in d = option_and_then (λ name. option_and_then (λ columns. option_map (λ start. declare name columns start)
+declare_in d = option_and_then
+    (λ name. option_and_then (λ columns. option_map (λ start. declare name columns start)
     (integer_at (codes "from") d)) (each_at as_str (codes "columns") d)) (text_at (codes "name") d)
 
 unfoldable pub register_in : Data → Option Call
-register_in d = option_and_then (λ name. option_and_then (λ text. option_map (λ chart. register name text chart)
+register_in d = option_and_then
+    (λ name. option_and_then (λ text. option_map (λ chart. register name text chart)
     (chart_from (get (codes "chart") d))) (text_at (codes "text") d)) (text_at (codes "name") d)
 
 unfoldable pub append_in : Data → Option Call

@@ -3,7 +3,8 @@ use Rattle.std.specs.Prelude.{ℕ, ℤ, List, Option, string_bytes}
 use Rattle.plan.specs.Chart.{given_by}
 use Rattle.reference.specs.CallViews.{texts_of}
 use Rattle.wire.specs.declared.request.Request.{Request}
-use Rattle.wire.specs.declared.request.Request.TheVariants.{Stream, Query, Append, Heartbeat, Drain, Take, Drop, Forget, Plan}
+use Rattle.wire.specs.declared.request.Request.TheVariants.{Stream, Query, Append, Heartbeat, Drain}
+use Rattle.wire.specs.declared.request.Request.TheVariants.{Take, Drop, Forget, Plan}
 
 -- a row of an append: its instant, then its values
 abbrev pub NewRow : Type 0

@@ -10,7 +10,8 @@ use Rattle.reference.specs.declared.fault.Fault.TheVariants.{Query, Late}
 use Rattle.reference.specs.declared.fault.QueryFault.TheVariants.{Unexpected, Planned}
 use Rattle.wire.specs.Lines.{lines_of}
 use Rattle.wire.specs.Requests.{is_blank}
-use Rattle.wire.specs.Printed.{rows, operators, refused, line_of, rows_text, row_text, value_text, operators_text, operator_text}
+use Rattle.wire.specs.Printed.{rows, operators, refused, line_of, rows_text, row_text, value_text}
+use Rattle.wire.specs.Printed.{operators_text, operator_text}
 
 -- a text of two lines and the beginning of a third, the second of which is blank
 lines : lines_of (codes "[]\n\t\r\n{") ≡ codes "[]" ∷ codes "\t\r" ∷ codes "{" ∷ []
@@ -20,7 +21,8 @@ blank : is_blank (codes "\t\r ") ≡ true
 blank = refl
 
 -- two answers, the second of which has a null
-take : line_of (rows ((pos 1, Some (pos 5) ∷ Some (negsuc 6) ∷ []) ∷ (pos 30, None ∷ []) ∷ [])) ≡ codes "{\"ok\":true,\"rows\":[[1,5,-7],[30,null]]}\n"
+take : line_of (rows ((pos 1, Some (pos 5) ∷ Some (negsuc 6) ∷ []) ∷ (pos 30, None ∷ []) ∷ []))
+    ≡ codes "{\"ok\":true,\"rows\":[[1,5,-7],[30,null]]}\n"
 unfolding line_of rows_text row_text value_text digits
 take = refl
 
@@ -42,6 +44,7 @@ unfolding line_of fault_text digits
 misread = refl
 
 -- a fault of the names, which plans and engines hand on
-ungrouped : line_of (refused (Query (Planned (Unresolved NotGrouped)))) ≡ codes "{\"error\":\"Q12 NotGrouped\"}\n"
+ungrouped : line_of (refused (Query (Planned (Unresolved NotGrouped))))
+    ≡ codes "{\"error\":\"Q12 NotGrouped\"}\n"
 unfolding line_of fault_text
 ungrouped = refl

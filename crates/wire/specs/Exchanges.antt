@@ -4,20 +4,31 @@ use Rattle.wire.specs.Calls.{Call}
 use Rattle.wire.specs.Printed.{Answer, line_of}
 use Rattle.wire.specs.declared.request.WireFault.{WireFault}
 
--- THE REQUESTS were answered by this text, one line a request, and led from the state `first` to the state `last`. `R` says what a
--- request may be answered, `notes` which answers are noted, and `noted` whether one of these was.
-abbrev pub Runs : {T : Type 0} → (T → Result Call WireFault → Answer → T → Type 0) → (Result Call WireFault → Answer → Bool) → T → List (Result Call WireFault) → List ℕ → Bool → T → Type 0
+-- THE REQUESTS were answered by this text, one line a request, and led from the state `first` to
+-- the state `last`. `R` says what a request may be answered, `notes` which answers are noted, and
+-- `noted` whether one of these was.
+abbrev pub Runs : {T : Type 0} → (T → Result Call WireFault → Answer → T → Type 0)
+    → (Result Call WireFault → Answer → Bool) → T → List (Result Call WireFault) → List ℕ → Bool
+    → T → Type 0
 Runs R notes first [] written noted last = (written ≡ []) × (noted ≡ false) × (last ≡ first)
 Runs {T = T} R notes first (request ∷ more) written noted last =
-    (answer : Answer) × (mid : T) × (rest : List ℕ) × (later : Bool) × (written ≡ line_of answer ++ rest)
-    × (noted ≡ (notes request answer || later)) × R first request answer mid × Runs R notes mid more rest later last
+    (answer : Answer) × (mid : T) × (rest : List ℕ) × (later : Bool)
+    × (written ≡ line_of answer ++ rest)
+    × (noted ≡ (notes request answer || later)) × R first request answer mid
+    × Runs R notes mid more rest later last
 
--- The first of these requests were carried out: the written text is a prefix of what they are answered.
-abbrev pub Stands : {T : Type 0} → (T → Result Call WireFault → Answer → T → Type 0) → (Result Call WireFault → Answer → Bool) → T → List (Result Call WireFault) → List ℕ → T → Type 0
+-- The first of these requests were carried out: the
+-- written text is a prefix of what they are answered.
+abbrev pub Stands : {T : Type 0} → (T → Result Call WireFault → Answer → T → Type 0)
+    → (Result Call WireFault → Answer → Bool) → T → List (Result Call WireFault) → List ℕ
+    → T → Type 0
 Stands R notes first requests written last =
-    (carried : List (Result Call WireFault)) × (rest : List (Result Call WireFault)) × (more : List ℕ) × (noted : Bool)
+    (carried : List (Result Call WireFault)) × (rest : List (Result Call WireFault))
+    × (more : List ℕ) × (noted : Bool)
     × (requests ≡ carried ++ rest) × Runs R notes first carried (written ++ more) noted last
 
 -- Some requests lead from the one state to the other.
-abbrev pub Leads : {T : Type 0} → (T → Result Call WireFault → Answer → T → Type 0) → (Result Call WireFault → Answer → Bool) → T → T → Type 0
-Leads R notes first last = (requests : List (Result Call WireFault)) × (written : List ℕ) × (noted : Bool) × Runs R notes first requests written noted last
+abbrev pub Leads : {T : Type 0} → (T → Result Call WireFault → Answer → T → Type 0)
+    → (Result Call WireFault → Answer → Bool) → T → T → Type 0
+Leads R notes first last = (requests : List (Result Call WireFault)) × (written : List ℕ)
+    × (noted : Bool) × Runs R notes first requests written noted last

@@ -4,15 +4,19 @@ use Rattle.std.specs.Io.KnownBytes.{Appends}
 use Rattle.wire.specs.Devices.{AppendsFront, Rises}
 use Rattle.wire.specs.declared.page.Page.{Page}
 
--- Since the sink told `start` and had failed `before` times it was to get the text: it took a front, and the rest is held;
--- or a write failed, and it took some front.
+-- Since the sink told `start` and had failed `before` times it was to get the text:
+-- it took a front, and the rest is held; or a write failed, and it took some front.
 abbrev pub Stands : Option (List ℕ) → ℕ → Option (List ℕ) → ℕ → Bool → List ℕ → List ℕ → Type 0
-Stands start before now after true held text = (front : List ℕ) × (text ≡ front ++ held) × Appends start now front × (after ≡ before)
+Stands start before now after true held text =
+    (front : List ℕ) × (text ≡ front ++ held) × Appends start now front × (after ≡ before)
 Stands start before now after false held text = AppendsFront start now text × Rises before after
 
 abbrev pub Wrote : Option (List ℕ) → ℕ → Option (List ℕ) → ℕ → Page → List ℕ → Type 0
-Wrote start before now after page text = Stands start before now after page.is_sound page.bytes.items text
+Wrote start before now after page text =
+    Stands start before now after page.is_sound page.bytes.items text
 
 -- along a call that was to write these bytes
-pub record Writes (old : Option (List ℕ)) (fails : ℕ) (page : Page) (new : Option (List ℕ)) (fails' : ℕ) (page' : Page) (bytes : List ℕ) : Type 0 where
-  pub along : (start : Option (List ℕ)) (before : ℕ) (text : List ℕ) → Wrote start before old fails page text → Wrote start before new fails' page' (text ++ bytes)
+pub record Writes (old : Option (List ℕ)) (fails : ℕ) (page : Page) (new : Option (List ℕ))
+    (fails' : ℕ) (page' : Page) (bytes : List ℕ) : Type 0 where
+  pub along : (start : Option (List ℕ)) (before : ℕ) (text : List ℕ)
+      → Wrote start before old fails page text → Wrote start before new fails' page' (text ++ bytes)

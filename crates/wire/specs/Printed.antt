@@ -52,7 +52,8 @@ rows_text (row ∷ more) = row_text row ++ after_commas row_text more
 
 -- what the operator does, then its slope
 unfoldable pub operator_text : Kind × Fraction → List ℕ
-operator_text operator = codes "[\"" ++ kind_name operator.0 ++ codes "\",\"" ++ shown operator.1 ++ codes "\"]"
+operator_text operator = codes "[\"" ++ kind_name operator.0 ++ codes "\",\"" ++ shown operator.1
+    ++ codes "\"]"
 
 -- commas between the operators
 unfoldable pub operators_text : List (Kind × Fraction) → List ℕ
@@ -72,6 +73,7 @@ error_line text = codes "{\"error\":\"" ++ text ++ codes "\"}\n"
 unfoldable pub line_of : Answer → List ℕ
 line_of done = codes "{\"ok\":true}\n"
 line_of (rows taken) = codes "{\"ok\":true,\"rows\":[" ++ rows_text taken ++ codes "]}\n"
-line_of (operators found) = codes "{\"ok\":true,\"operators\":[" ++ operators_text found ++ codes "]}\n"
+line_of (operators found) = codes "{\"ok\":true,\"operators\":[" ++ operators_text found
+    ++ codes "]}\n"
 line_of (refused fault) = error_line (fault_text fault)
 line_of (unread fault) = error_line (wire_fault_text fault)

@@ -1,5 +1,7 @@
 -- The requests of a text.
-use Rattle.std.specs.Prelude.{◌≡◌, ◌≢◌, ℕ, Bool, List, ◌∷◌, [], length, Option, Some, None, Result, Ok, Err, ok_or, if◌then◌else◌, nat_lt, ◌==◌, ◌||◌, ◌&&◌, not, filter_map, ⊤}
+use Rattle.std.specs.Prelude.{◌≡◌, ◌≢◌, ℕ, Bool, List, ◌∷◌, [], length, Option, Some, None, Result}
+use Rattle.std.specs.Prelude.{Ok, Err, ok_or, if◌then◌else◌, nat_lt, ◌==◌, ◌||◌, ◌&&◌, not}
+use Rattle.std.specs.Prelude.{filter_map, ⊤}
 use Rattle.std.specs.List.{list_all}
 use Rattle.std.specs.Str.{is_utf8}
 use Rattle.serde_json.specs.Data.{Data}
@@ -9,7 +11,8 @@ use Rattle.wire.specs.Asked.{asked}
 use Rattle.wire.specs.Calls.{Call, call_of}
 use Rattle.wire.specs.declared.request.Request.{Request}
 use Rattle.wire.specs.declared.request.WireFault.{WireFault}
-use Rattle.wire.specs.declared.request.WireFault.TheVariants.{NotJson, BadRequest, LineTooLong, OutOfMemory}
+use Rattle.wire.specs.declared.request.WireFault.TheVariants.{NotJson, BadRequest, LineTooLong}
+use Rattle.wire.specs.declared.request.WireFault.TheVariants.{OutOfMemory}
 
 abbrev pub is_blank_byte : ℕ → Bool
 is_blank_byte b = (b == 32) || (b == 9) || (b == 13)
@@ -28,7 +31,8 @@ call_in (Some d) = ok_or (asked d) BadRequest
 
 -- what a line that is not blank asks for, or its fault
 abbrev pub asked_in : List ℕ → Result Call WireFault
-asked_in line = if nat_lt longest_line (length line) then Err LineTooLong else call_in (json_of line)
+asked_in line = if nat_lt longest_line (length line) then Err LineTooLong else call_in
+    (json_of line)
 
 abbrev pub request_in : List ℕ → Option (Result Call WireFault)
 request_in line = if is_blank line then None else Some (asked_in line)
@@ -48,7 +52,8 @@ Reads defined (Err OutOfMemory) = defined ≢ Err LineTooLong
 -- a line that asks for this was read so; nothing is read of one that is blank
 abbrev pub ReadsLine : Option (Result Call WireFault) → Option (Result Request WireFault) → Type 0
 ReadsLine asks None = asks ≡ None
-ReadsLine asks (Some read) = (defined : Result Call WireFault) × (asks ≡ Some defined) × Reads defined read
+ReadsLine asks (Some read) = (defined : Result Call WireFault) × (asks ≡ Some defined)
+    × Reads defined read
 
 -- The known text has the same requests as the rest.
 abbrev pub SameRequests : Option (List ℕ) → Option (List ℕ) → Type 0
@@ -61,7 +66,8 @@ abbrev pub BeginsWithRequest : Option (List ℕ) → Option (List ℕ) → Resul
 BeginsWithRequest None rest read = ⊤
 BeginsWithRequest (Some text) None read = ⊥
 BeginsWithRequest (Some text) (Some rest) read =
-    (defined : Result Call WireFault) × (requests_of text ≡ defined ∷ requests_of rest) × Reads defined read
+    (defined : Result Call WireFault) × (requests_of text ≡ defined ∷ requests_of rest)
+    × Reads defined read
 
 abbrev pub HasNoRequest : Option (List ℕ) → Type 0
 HasNoRequest None = ⊤

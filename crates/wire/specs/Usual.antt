@@ -1,5 +1,6 @@
 -- The lines of the usual requests.
-use Rattle.std.specs.Prelude.{◌≢◌, ◌<◌, ◌≤◌, ◌^◌, ℕ, ℤ, nat_abs, List, ◌++◌, Option, Some, None, ⊤, codes, flat_map}
+use Rattle.std.specs.Prelude.{◌≢◌, ◌<◌, ◌≤◌, ◌^◌, ℕ, ℤ, nat_abs, List, ◌++◌, Option, Some, None, ⊤}
+use Rattle.std.specs.Prelude.{codes, flat_map}
 use Rattle.std.specs.Fmt.{signed_decimal}
 use Rattle.std.specs.List.{AllByRecursion}
 use Rattle.wire.specs.Calls.{NewRow}
@@ -22,7 +23,8 @@ IsPlain b = (b ≢ 34) × (b ≢ 92) × (32 ≤ b)
 
 -- an append of rows to the stream of a name, without blanks
 abbrev pub append_line : List ℕ → List NewRow → List ℕ
-append_line name rows = codes "{\"op\":\"append\",\"stream\":\"" ++ name ++ codes "\",\"rows\":[" ++ rows_text rows ++ codes "]}"
+append_line name rows = codes "{\"op\":\"append\",\"stream\":\"" ++ name ++ codes "\",\"rows\":["
+    ++ rows_text rows ++ codes "]}"
 
 -- each text before a comma
 abbrev pub before_commas : {A : Type 0} → (A → List ℕ) → List A → List ℕ
@@ -30,8 +32,10 @@ before_commas f xs = flat_map (λ x. f x ++ codes ",") xs
 
 -- a stream of a name is closed up to an instant
 abbrev pub heartbeat_line : List ℕ → ℤ → List ℕ
-heartbeat_line name at = codes "{\"op\":\"heartbeat\",\"stream\":\"" ++ name ++ codes "\",\"at\":" ++ signed_decimal at ++ codes "}"
+heartbeat_line name at = codes "{\"op\":\"heartbeat\",\"stream\":\"" ++ name ++ codes "\",\"at\":"
+    ++ signed_decimal at ++ codes "}"
 
 -- a take of at most so many answers of the query of a name
 abbrev pub take_line : List ℕ → ℤ → List ℕ
-take_line name limit = codes "{\"op\":\"take\",\"query\":\"" ++ name ++ codes "\",\"limit\":" ++ signed_decimal limit ++ codes "}"
+take_line name limit = codes "{\"op\":\"take\",\"query\":\"" ++ name ++ codes "\",\"limit\":"
+    ++ signed_decimal limit ++ codes "}"

@@ -6,11 +6,13 @@ use Rattle.hub.specs.Steps.{PlainLocked, Withholds}
 use Rattle.workers.specs.declared.want.Lack.{Lack}
 use Rattle.workers.specs.declared.want.Lack.TheVariants as lack
 
--- there was a moment when an operator might take something, and no turn of at most so many rows went out: as many were out as may be, or all numbers were given
+-- there was a moment when an operator might take something, and no turn of at most
+-- so many rows went out: as many were out as may be, or all numbers were given
 abbrev pub WasFull : ℕ → Type 0
 WasFull rows = (old : PlainLocked) × (new : PlainLocked) × Withholds old rows TooManyLeases new
 
--- of turns: there was such a moment, for turns of any size; of memory: no clause says when it is refused
+-- of turns: there was such a moment, for turns of any
+-- size; of memory: no clause says when it is refused
 abbrev pub Lacks : Lack → Type 0
 Lacks lack.Turns = (rows : ℕ) → 1 ≤ rows → rows ≤ MAX_TURN → WasFull rows
 Lacks lack.Memory = ⊤

@@ -54,6 +54,8 @@ CSV = (
     "second,symbol,price,amount\n5,ACME,10.00,60\n20,ACME,11.00,50\n30,BOND,7.50,90\n"
     "130,BOND,8,1\n"
 )
+PASTE = "\x1b[?2004h"  # what a terminal is sent at each prompt: text may be pasted
+CONTROL = re.compile(r"\x1b\[[0-?]*[ -/]*[@-~]")
 
 
 class ShellCase(Case):
@@ -879,6 +881,11 @@ class Programs(ShellCase):
         self.assertIn("close T to 2;", history)
 
 
+def _kept(sequence: re.Match[str]) -> str:
+    """Returns what is kept of a control sequence."""
+    return PASTE if sequence[0] == PASTE else ""
+
+
 class _Terminal:
     """A program on a pseudo-terminal."""
 
@@ -888,7 +895,7 @@ class _Terminal:
             signal.signal(signal.SIGINT, signal.SIG_DFL)  # a shell in the background ignores it
             os.chdir(folder)
             os.execve(words[0], list(words), dict(environment))
-        self.text = ""
+        self.text = ""  # without control sequences, except PASTE
         self.shown = ""
         self._has_paste = environment["TERM"] != "dumb"  # it is switched on at each prompt
         self._status: int | None = None
@@ -910,7 +917,7 @@ class _Terminal:
     def expect_prompt(self) -> None:
         """Waits until the program asks for a statement. A line that was typed is no prompt."""
         if self._has_paste:
-            self.expect("\x1b[?2004h")
+            self.expect(PASTE)
         self.expect("cql>")
 
     def _read(self, seconds: float) -> bool:
@@ -921,7 +928,8 @@ class _Terminal:
             data = os.read(self._end, 65_536)
         except OSError:
             return False
-        self.text += data.decode("utf-8", "replace")
+        # a busy terminal parts a word with sequences: each part of it is drawn by itself
+        self.text = CONTROL.sub(_kept, self.text + data.decode("utf-8", "replace"))
         return bool(data)
 
     def status(self) -> int:

@@ -1,4 +1,4 @@
-//! Columns of values.
+//! Keeps columns of values.
 
 ghost use Rattle.std.specs.Prelude.{◌≡◌, ◌<◌, ◌≤◌, ◌+◌, ◌++◌, ◌∷◌, ◌==◌, [], ℕ, ℤ, pos, List};
 ghost use Rattle.std.specs.Prelude.{Option, None, Some, IfOk, IfSome, OnOk, OnErr, IsTrue, All};
@@ -14,12 +14,12 @@ use std::alloc::{AllocError, Global};
 use std::marker::Model;
 use values::{STREAM_MAX, Value};
 
-/// At most `MAX_ROWS` values: their numbers, 0 at a null, and which of them are no nulls.
+/// Holds at most `MAX_ROWS` values: their numbers, 0 at a null, and which of them are no nulls.
 #[derive(Drop)]
 pub struct Column {
-    /// By its place each number; 0 at a null.
+    /// Holds the number at each place; 0 at a null.
     numbers: Vec<i64>,
-    /// For each place whether a number stands there, and no null.
+    /// Marks the places that have a number, and no null.
     valid: Mask,
 }
 
@@ -35,7 +35,11 @@ impl Model for Column {
 }
 
 impl Column {
-    /// No values, with room for this many. An error says that memory was refused.
+    /// Makes a column of no values, with room for `count`.
+    ///
+    /// # Errors
+    ///
+    /// `AllocError` when out of memory.
     pub fn with_capacity(alloc: Global, count: usize) -> Result<Column, AllocError>
         ensures { IfOk result (λ c. c ≡ []) }
     {
@@ -44,7 +48,7 @@ impl Column {
         Ok(Column { numbers, valid })
     }
 
-    /// No values, and no room. Takes no memory.
+    /// Makes a column of no values, and no room. Takes no memory.
     pub(crate) fn new(alloc: Global) -> Column
         ensures { result ≡ [] }
     {
@@ -54,7 +58,11 @@ impl Column {
         }
     }
 
-    /// A column of these values. An error says that memory was refused; nothing is changed.
+    /// Makes a column of these values.
+    ///
+    /// # Errors
+    ///
+    /// `AllocError` when out of memory; then nothing has changed.
     pub fn from_values(alloc: Global, values: &[Value]) -> Result<Column, AllocError>
         requires { length values.now ≤ MAX_ROWS }
         ensures { IfOk result (λ c. c ≡ values.now) }
@@ -63,8 +71,12 @@ impl Column {
         Ok(column)
     }
 
-    /// A column of every `stride`-th of these values, from the place `start` on, `count` of them.
-    /// An error says that memory was refused.
+    /// Makes a column of every `stride`-th of these values, from the place `start` on, `count` of
+    /// them.
+    ///
+    /// # Errors
+    ///
+    /// `AllocError` when out of memory.
     pub fn strided(
         alloc: Global,
         values: &[Value],
@@ -89,7 +101,11 @@ impl Column {
         Ok(Column { numbers, valid })
     }
 
-    /// One value more. An error says that memory was refused; nothing is changed.
+    /// Appends a value.
+    ///
+    /// # Errors
+    ///
+    /// `AllocError` when out of memory; then nothing has changed.
     pub fn push(&mut self, value: Value) -> Result<(), AllocError>
         requires { length self.old < MAX_ROWS }
         ensures ok { OnOk result (self.new ≡ self.old ++ value ∷ []) }
@@ -102,7 +118,7 @@ impl Column {
         Ok(())
     }
 
-    /// How many values.
+    /// Returns the number of values.
     pub fn len(&self) -> usize
         ensures value { result ≡ length self.now }
         ensures few { result ≤ MAX_ROWS }
@@ -110,14 +126,14 @@ impl Column {
         self.valid.len()
     }
 
-    /// Whether there is none.
+    /// Returns whether there are no values.
     pub fn is_empty(&self) -> bool
         ensures { result ≡ (length self.now == 0) }
     {
         self.valid.is_empty()
     }
 
-    /// The value at a place.
+    /// Returns the value at a place.
     pub fn get(&self, i: usize) -> Value
         requires { i < length self.now }
         ensures { result ≡ slice_index_or self.now i None }
@@ -129,8 +145,11 @@ impl Column {
         }
     }
 
-    /// A copy of the values from the place `from` to below the place `to`, as far as there are any.
-    /// An error says that memory was refused; nothing is changed.
+    /// Copies the values from the place `from` to below the place `to`, as far as there are any.
+    ///
+    /// # Errors
+    ///
+    /// `AllocError` when out of memory; then nothing has changed.
     pub fn part(&self, alloc: Global, from: usize, to: usize) -> Result<Column, AllocError>
         ensures { IfOk result (λ c. c ≡ slice_range self.now from to) }
     {
@@ -141,8 +160,11 @@ impl Column {
         Ok(Column { numbers, valid })
     }
 
-    /// The values at these places, in their order. An error says that memory was refused; nothing
-    /// is changed.
+    /// Copies the values at these places, in their order.
+    ///
+    /// # Errors
+    ///
+    /// `AllocError` when out of memory; then nothing has changed.
     pub fn picked(&self, alloc: Global, places: &[usize]) -> Result<Column, AllocError>
         requires few { length places.now ≤ MAX_ROWS }
         requires within { All (λ i. i < length self.now) places.now }
@@ -153,7 +175,7 @@ impl Column {
         Ok(Column { numbers, valid })
     }
 
-    /// The values stay at whose places a mask is true. Takes no memory.
+    /// Keeps the values at the places where a mask is true. Takes no memory.
     pub fn keep(&mut self, mask: &Mask)
         requires { length mask.now ≡ length self.old }
         ensures { self.new ≡ chosen mask.now self.old }
@@ -162,7 +184,7 @@ impl Column {
         self.valid.keep(mask);
     }
 
-    /// The numbers, for the lanes: 0 at a null.
+    /// Lends the numbers, for the lanes: 0 at a null.
     pub fn numbers(&self) -> &[i64]
         ensures value { result.now ≡ numbers_of self.now }
         ensures range { All IsAnswerNumber result.now }
@@ -170,7 +192,7 @@ impl Column {
         self.numbers.as_slice()
     }
 
-    /// The validity words, for the lanes: a bit is 1 where the value is a number.
+    /// Lends the validity words, for the lanes: a bit is 1 where the value is a number.
     pub fn valid_words(&self) -> &[u64]
         ensures value { bits (length self.now) result.now ≡ map is_some self.now }
         ensures clear { IsClear (length self.now) result.now }
@@ -178,7 +200,7 @@ impl Column {
         self.valid.words()
     }
 
-    /// Whether every number lies in the range of a stream.
+    /// Returns whether every number lies in the range of a stream.
     pub fn is_in_stream_range(&self) -> bool
         ensures { IsTrue result ↔ All IsStreamValue self.now }
     {
@@ -186,6 +208,7 @@ impl Column {
     }
 }
 
+/// Returns whether all the numbers lie within `-STREAM_MAX ..= STREAM_MAX`.
 fn all_in_stream_range(numbers: &[i64]) -> bool
     ensures { IsTrue result ↔ All IsStreamNumber numbers.now }
 {
@@ -194,7 +217,7 @@ fn all_in_stream_range(numbers: &[i64]) -> bool
         .all(|number| -STREAM_MAX <= *number && *number <= STREAM_MAX)
 }
 
-/// The numbers at these places, in their order.
+/// Copies the numbers at these places, in their order.
 fn numbers_at(alloc: Global, numbers: &[i64], places: &[usize]) -> Result<Vec<i64>, AllocError>
     requires { All (λ i. i < length numbers.now) places.now }
     ensures { IfOk result (λ ns. ns.items ≡ at_places (pos 0) places.now numbers.now) }
@@ -206,7 +229,7 @@ fn numbers_at(alloc: Global, numbers: &[i64], places: &[usize]) -> Result<Vec<i6
     Ok(picked)
 }
 
-/// Pushes the numbers of at most 64 values, and gives the bits that say which are no nulls.
+/// Pushes the numbers of at most 64 values, and returns the bits that say which are no nulls.
 fn push_cells(
     numbers: &mut Vec<i64>,
     values: &[Value],
@@ -239,7 +262,7 @@ fn push_cells(
     word
 }
 
-/// The numbers stay at whose places a mask is true.
+/// Keeps the numbers at the places where a mask is true.
 fn keep_numbers(numbers: &mut Vec<i64>, mask: &Mask)
     requires { length mask.now ≡ length numbers.old.items }
     ensures { numbers.new.items ≡ chosen mask.now numbers.old.items }
@@ -248,7 +271,7 @@ fn keep_numbers(numbers: &mut Vec<i64>, mask: &Mask)
     numbers.truncate(kept);
 }
 
-/// Moves the numbers at whose places a mask is true to the front, and counts them.
+/// Moves the numbers at the places where a mask is true to the front, and counts them.
 fn move_kept(numbers: &mut [i64], mask: &Mask) -> usize
     requires { length mask.now ≡ length numbers.old }
     ensures { take result numbers.new ≡ chosen mask.now numbers.old }

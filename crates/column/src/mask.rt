@@ -1,4 +1,4 @@
-//! Lists of truths, 64 in a word.
+//! Keeps lists of truths, 64 in a word.
 
 ghost use Rattle.std.specs.Prelude.{◌≡◌, ◌≢◌, ◌<◌, ◌≤◌, ◌+◌, ◌++◌, ◌∷◌, ◌==◌, ◌/◌, ◌%◌, [], ℕ};
 ghost use Rattle.std.specs.Prelude.{List, IfOk, OnOk, OnErr, IfErr, length, slice_index_or};
@@ -11,13 +11,13 @@ use super::words::Words;
 use std::alloc::{AllocError, Global};
 use std::marker::Model;
 
-/// At most `MAX_ROWS` truths, a bit each; the bits past the last are 0. Up to 64 of them lie in the
-/// mask itself, and take no memory.
+/// Holds at most `MAX_ROWS` truths, a bit each; the bits past the last are 0. Up to 64 of them lie
+/// in the mask itself, and take no memory.
 #[derive(Drop)]
 pub struct Mask {
-    /// The truths, 64 to a word, the first one in the lowest bit.
+    /// Holds the truths, 64 to a word, the first one in the lowest bit.
     words: Words,
-    /// How many truths there are.
+    /// Counts the truths.
     len: usize,
 }
 
@@ -33,7 +33,7 @@ impl Model for Mask {
 }
 
 impl Mask {
-    /// No truths. Takes no memory.
+    /// Makes a mask of no truths. Takes no memory.
     pub(crate) fn new(alloc: Global) -> Mask
         ensures { result ≡ [] }
     {
@@ -43,7 +43,11 @@ impl Mask {
         }
     }
 
-    /// No truths, with room for this many. An error says that memory was refused.
+    /// Makes a mask of no truths, with room for `count`.
+    ///
+    /// # Errors
+    ///
+    /// `AllocError` when out of memory.
     pub fn with_capacity(alloc: Global, count: usize) -> Result<Mask, AllocError>
         ensures { IfOk result (λ m. m ≡ []) }
     {
@@ -51,8 +55,11 @@ impl Mask {
         Ok(Mask { words, len: 0 })
     }
 
-    /// The first `len` bits of these words. An error says that memory was refused; nothing is
-    /// changed.
+    /// Makes a mask of the first `len` bits of these words.
+    ///
+    /// # Errors
+    ///
+    /// `AllocError` when out of memory; then nothing has changed.
     pub fn from_words(alloc: Global, words: &[u64], len: usize) -> Result<Mask, AllocError>
         requires few { len ≤ MAX_ROWS }
         requires clear { IsClear len words.now }
@@ -62,7 +69,11 @@ impl Mask {
         Ok(Mask { words, len })
     }
 
-    /// So many truths, all of them this one. An error says that memory was refused.
+    /// Makes a mask of `count` truths, all of them this one.
+    ///
+    /// # Errors
+    ///
+    /// `AllocError` when out of memory.
     pub fn filled(alloc: Global, truth: bool, count: usize) -> Result<Mask, AllocError>
         requires { count ≤ MAX_ROWS }
         ensures { IfOk result (λ m. m ≡ replicate count truth) }
@@ -77,8 +88,11 @@ impl Mask {
         Ok(mask)
     }
 
-    /// The first bits of a word more, where those that are there fill whole words.
-    /// An error says that memory was refused; nothing is changed.
+    /// Appends the first `count` bits of a word, where the bits so far fill whole words.
+    ///
+    /// # Errors
+    ///
+    /// `AllocError` when out of memory; then nothing has changed.
     pub(crate) fn push_word(&mut self, word: u64, count: usize) -> Result<(), AllocError>
         requires whole { length self.old % 64 ≡ 0 }
         requires few { length self.old + count ≤ MAX_ROWS }
@@ -91,7 +105,11 @@ impl Mask {
         Ok(())
     }
 
-    /// One truth more. An error says that memory was refused; nothing is changed.
+    /// Appends a truth.
+    ///
+    /// # Errors
+    ///
+    /// `AllocError` when out of memory; then nothing has changed.
     pub fn push(&mut self, truth: bool) -> Result<(), AllocError>
         requires { length self.old < MAX_ROWS }
         ensures ok { OnOk result (self.new ≡ self.old ++ truth ∷ []) }
@@ -102,7 +120,7 @@ impl Mask {
         Ok(())
     }
 
-    /// How many truths.
+    /// Returns the number of truths.
     pub fn len(&self) -> usize
         ensures value { result ≡ length self.now }
         ensures few { result ≤ MAX_ROWS }
@@ -110,14 +128,14 @@ impl Mask {
         self.len
     }
 
-    /// Whether there is none.
+    /// Returns whether there are no truths.
     pub fn is_empty(&self) -> bool
         ensures { result ≡ (length self.now == 0) }
     {
         self.len == 0
     }
 
-    /// The truth at a place.
+    /// Returns the truth at a place.
     pub fn get(&self, i: usize) -> bool
         requires { i < length self.now }
         ensures { result ≡ slice_index_or self.now i false }
@@ -125,8 +143,11 @@ impl Mask {
         self.words.as_slice()[i / 64] >> (i % 64) & 1 == 1
     }
 
-    /// A copy of the truths from the place `from` to below the place `to`, as far as there are any.
-    /// An error says that memory was refused; nothing is changed.
+    /// Copies the truths from the place `from` to below the place `to`, as far as there are any.
+    ///
+    /// # Errors
+    ///
+    /// `AllocError` when out of memory; then nothing has changed.
     pub fn part(&self, alloc: Global, from: usize, to: usize) -> Result<Mask, AllocError>
         ensures { IfOk result (λ m. m ≡ slice_range self.now from to) }
     {
@@ -137,7 +158,7 @@ impl Mask {
         }
     }
 
-    /// `part` where it begins with a word.
+    /// Does what `part` does where the part starts with a word.
     fn part_by_words(&self, alloc: Global, from: usize, to: usize) -> Result<Mask, AllocError>
         requires { from % 64 ≡ 0 }
         ensures { IfOk result (λ m. m ≡ slice_range self.now from to) }
@@ -155,7 +176,7 @@ impl Mask {
         })
     }
 
-    /// `part` where it begins within a word.
+    /// Does what `part` does where the part starts within a word.
     fn part_by_bits(&self, alloc: Global, from: usize, to: usize) -> Result<Mask, AllocError>
         ensures { IfOk result (λ m. m ≡ slice_range self.now from to) }
     {
@@ -167,8 +188,11 @@ impl Mask {
         Ok(mask)
     }
 
-    /// The truths at these places, in their order. An error says that memory was refused; nothing
-    /// is changed.
+    /// Copies the truths at these places, in their order.
+    ///
+    /// # Errors
+    ///
+    /// `AllocError` when out of memory; then nothing has changed.
     pub fn picked(&self, alloc: Global, places: &[usize]) -> Result<Mask, AllocError>
         requires few { length places.now ≤ MAX_ROWS }
         requires within { All (λ i. i < length self.now) places.now }
@@ -181,7 +205,7 @@ impl Mask {
         Ok(mask)
     }
 
-    /// The truths stay at whose places another mask is true. Takes no memory.
+    /// Keeps the truths at the places where `mask` is true. Takes no memory.
     pub fn keep(&mut self, mask: &Mask)
         requires { length mask.now ≡ length self.old }
         ensures { self.new ≡ chosen mask.now self.old }
@@ -196,7 +220,7 @@ impl Mask {
         self.keep_each(mask);
     }
 
-    /// `keep` in any number of words, truth by truth.
+    /// Does what `keep` does in any number of words, truth by truth.
     fn keep_each(&mut self, mask: &Mask)
         requires { length mask.now ≡ length self.old }
         ensures { self.new ≡ chosen mask.now self.old }
@@ -222,7 +246,7 @@ impl Mask {
         }
     }
 
-    /// The first `count` truths stay.
+    /// Keeps the first `count` truths.
     fn truncate(&mut self, count: usize)
         requires { count ≤ length self.old }
         ensures { self.new ≡ take count self.old }
@@ -232,8 +256,11 @@ impl Mask {
         self.len = count;
     }
 
-    /// The places that are true, in order. An error says that memory was refused; nothing is
-    /// changed.
+    /// Returns the places that are true, in order.
+    ///
+    /// # Errors
+    ///
+    /// `AllocError` when out of memory; then nothing has changed.
     pub fn places(&self, alloc: Global) -> Result<Vec<usize>, AllocError>
         ensures value { IfOk result (λ ps. ps.items ≡ true_places self.now) }
         ensures few { IfOk result (λ ps. length ps.items ≤ MAX_ROWS) }
@@ -248,7 +275,7 @@ impl Mask {
         Ok(places)
     }
 
-    /// The words, for the lanes.
+    /// Lends the words, for the lanes.
     pub fn words(&self) -> &[u64]
         ensures value { bits (length self.now) result.now ≡ self.now }
         ensures clear { IsClear (length self.now) result.now }
@@ -257,8 +284,8 @@ impl Mask {
     }
 }
 
-/// The first bits of a word stay, moved together, at whose places another word has a bit.
-/// Gives them in a word, and how many there are.
+/// Keeps those of the first `len` bits of a word where `choice` has a bit set, and moves them
+/// together. Returns them in a word, and how many there are.
 fn kept_bits(word: u64, choice: u64, len: usize) -> (u64, usize)
     requires { len ≤ 64 }
     ensures kept { bits result.1 (result.0 ∷ [])
@@ -277,7 +304,7 @@ fn kept_bits(word: u64, choice: u64, len: usize) -> (u64, usize)
     (kept, count)
 }
 
-/// A word of `at` bits and one truth more.
+/// Returns a word of `at` bits and one truth more.
 fn with_truth(word: u64, at: usize, truth: bool) -> u64
     requires few { at < 64 }
     requires clear { (i : ℕ) → at ≤ i → place (word ∷ []) i ≡ 0 }
@@ -288,6 +315,10 @@ fn with_truth(word: u64, at: usize, truth: bool) -> u64
 }
 
 /// Appends a bit to the first `at`.
+///
+/// # Errors
+///
+/// `AllocError` when out of memory; then the words are unchanged.
 fn push_bit(words: &mut Words, at: usize, truth: bool) -> Result<(), AllocError>
     requires few { at < MAX_ROWS }
     requires clear { IsClear at words.old }
@@ -303,7 +334,11 @@ fn push_bit(words: &mut Words, at: usize, truth: bool) -> Result<(), AllocError>
     Ok(())
 }
 
-/// A word for the bit `at`, where it has none.
+/// Adds a word for the bit `at`, where it has none.
+///
+/// # Errors
+///
+/// `AllocError` when out of memory; then the words are unchanged.
 fn make_room(words: &mut Words, at: usize) -> Result<(), AllocError>
     requires { length words.old ≡ word_count at }
     ensures room { OnOk result (length words.new ≡ word_count (at + 1)) }
@@ -316,6 +351,7 @@ fn make_room(words: &mut Words, at: usize) -> Result<(), AllocError>
     Ok(())
 }
 
+/// Sets the bit `at`.
 fn set_bit(words: &mut Words, at: usize)
     requires { at / 64 < length words.old }
     ensures set { place words.new at ≡ 1 }
@@ -326,6 +362,7 @@ fn set_bit(words: &mut Words, at: usize)
     words.set(at / 64, word | 1 << (at % 64));
 }
 
+/// Flips the bit `at`.
 fn flip_bit(words: &mut Words, at: usize)
     requires { at / 64 < length words.old }
     ensures flipped { place words.new at + place words.old at ≡ 1 }
@@ -336,7 +373,7 @@ fn flip_bit(words: &mut Words, at: usize)
     words.set(at / 64, word ^ 1 << (at % 64));
 }
 
-/// A word with the bit `at`.
+/// Returns the word with the bit `at` set as well.
 pub(crate) fn with_bit(word: u64, at: usize) -> u64
     requires { at < 64 }
     ensures set { place (result ∷ []) at ≡ 1 }
@@ -345,7 +382,7 @@ pub(crate) fn with_bit(word: u64, at: usize) -> u64
     word | 1 << at
 }
 
-/// A word whose first bits are all set, or none.
+/// Returns a word whose first `count` bits are all set, or none.
 fn all_bits(truth: bool, count: usize) -> u64
     requires some { 1 ≤ count }
     requires few { count ≤ 64 }

@@ -1,4 +1,4 @@
-//! The words of a mask: one lies in it, more take memory.
+//! Keeps the words of a mask: one lies in the mask itself, more take memory.
 
 ghost use Rattle.std.specs.Prelude.{◌≡◌, ◌<◌, ◌++◌, ◌∷◌, [], IfOk, IfSome, OnOk, OnErr, length};
 ghost use Rattle.std.specs.Prelude.{slice_set, take};
@@ -6,14 +6,14 @@ ghost use Rattle.std.specs.Prelude.{slice_set, take};
 use std::alloc::{AllocError, Global};
 use std::marker::Model;
 
-/// Words of 64 bits. One alone lies in the struct itself, and takes no memory.
+/// Holds words of 64 bits. A single one lies in the struct itself, and takes no memory.
 #[derive(Drop)]
 pub(crate) struct Words {
-    /// Whether there is just one word, and it lies here.
+    /// Says whether there is exactly one word, and it lies here.
     is_one: bool,
-    /// That word.
+    /// Holds that word.
     one: [u64; 1],
-    /// All words, where there is not just one here.
+    /// Holds all words, where there is not exactly one here.
     more: Vec<u64>,
 }
 
@@ -26,7 +26,7 @@ impl Model for Words {
 }
 
 impl Words {
-    /// No words. Takes no memory.
+    /// Makes a list of no words. Takes no memory.
     pub(crate) fn new(alloc: Global) -> Words
         ensures { result ≡ [] }
     {
@@ -37,7 +37,11 @@ impl Words {
         }
     }
 
-    /// No words, with room for this many. An error says that memory was refused.
+    /// Makes a list of no words, with room for `count`.
+    ///
+    /// # Errors
+    ///
+    /// `AllocError` when out of memory.
     pub(crate) fn with_capacity(alloc: Global, count: usize) -> Result<Words, AllocError>
         ensures { IfOk result (λ w. w ≡ []) }
     {
@@ -52,7 +56,11 @@ impl Words {
         })
     }
 
-    /// These words. An error says that memory was refused.
+    /// Copies these words.
+    ///
+    /// # Errors
+    ///
+    /// `AllocError` when out of memory.
     pub(crate) fn from_slice(alloc: Global, words: &[u64]) -> Result<Words, AllocError>
         ensures { IfOk result (λ w. w ≡ words.now) }
     {
@@ -71,7 +79,7 @@ impl Words {
         })
     }
 
-    /// The words.
+    /// Lends the words.
     pub(crate) fn as_slice(&self) -> &[u64]
         ensures { result.now ≡ self.now }
     {
@@ -82,7 +90,7 @@ impl Words {
         }
     }
 
-    /// The word, where there is just one.
+    /// Returns the word, where there is exactly one.
     pub(crate) fn only(&self) -> Option<u64>
         ensures { IfSome result (λ word. self.now ≡ word ∷ []) }
     {
@@ -92,7 +100,11 @@ impl Words {
         }
     }
 
-    /// One word more. An error says that memory was refused; nothing is changed.
+    /// Appends a word.
+    ///
+    /// # Errors
+    ///
+    /// `AllocError` when out of memory; then nothing has changed.
     pub(crate) fn push(&mut self, word: u64) -> Result<(), AllocError>
         ensures ok { OnOk result (self.new ≡ self.old ++ word ∷ []) }
         ensures err { OnErr result (self.new ≡ self.old) }
@@ -124,7 +136,7 @@ impl Words {
         }
     }
 
-    /// The first `count` words stay.
+    /// Keeps the first `count` words.
     pub(crate) fn truncate(&mut self, count: usize)
         ensures { self.new ≡ take count self.old }
     {

@@ -1,4 +1,4 @@
-//! The slopes of the operators on a path, read off the lower envelope of its chart.
+//! Reads the slopes of a path's operators off the lower envelope of its chart.
 ghost use Rattle.std.specs.Prelude.{◌≡◌, ◌+◌, ◌-◌, ◌*◌, ◌<◌, ◌≤◌, length, IfOk};
 ghost use Rattle.envelope.specs.Chart.{at, IsChart, descent as descent_between};
 ghost use Rattle.envelope.specs.LowerEnvelope.{IsLowerEnvelope, slopes_along, AreSlopes};
@@ -13,10 +13,14 @@ use std::alloc::{AllocError, Global};
 use std::marker::Brand;
 use std::sync::ledger::{Blank, Ledger};
 
-/// Each operator's slope, in the order of the path: the descent of the segment above its step, in
-/// every lower envelope of the chart. An error only where memory was refused.
+/// Returns each operator's slope, in the order of the path: the descent of the segment above its
+/// step, in every lower envelope of the chart.
 ///
 /// An operator on several paths has a slope on each; Chain goes by the greatest, `max`.
+///
+/// # Errors
+///
+/// `AllocError` when out of memory, and only then.
 pub fn slopes(alloc: Global, points: &[Point]) -> Result<Vec<Slope>, AllocError>
     requires { IsChart points.now }
     ensures slopes { IfOk result (λ found. AreSlopes points.now found.items) }
@@ -25,8 +29,12 @@ pub fn slopes(alloc: Global, points: &[Point]) -> Result<Vec<Slope>, AllocError>
     uncounted::<Brand>(alloc, points, Blank::new(1))
 }
 
-/// As `slopes`, and raises `steps` by one for each comparison of descents: at most two for each
-/// operator, also where memory was refused.
+/// Returns the slopes as `slopes` does, and raises `steps` by one for each comparison of descents.
+/// There are at most two for each operator, also when out of memory.
+///
+/// # Errors
+///
+/// `AllocError` when out of memory, and only then; `steps` has then risen by the comparisons made.
 pub fn slopes_counted<L: Ledger>(
     alloc: Global,
     points: &[Point],
@@ -41,7 +49,7 @@ pub fn slopes_counted<L: Ledger>(
     read_off(alloc, points, envelope.as_slice())
 }
 
-/// As `slopes_counted`, with a counter that nobody reads.
+/// Returns the slopes as `slopes_counted` does, with a counter that nobody reads.
 fn uncounted<L: Ledger>(
     alloc: Global,
     points: &[Point],
@@ -58,7 +66,11 @@ fn uncounted<L: Ledger>(
     slopes_counted(alloc, points, &mut steps)
 }
 
-/// The descents of the segments above the steps, in one pass over points and segments.
+/// Returns the descents of the segments above the steps, in one pass over points and segments.
+///
+/// # Errors
+///
+/// `AllocError` when out of memory.
 fn read_off(alloc: Global, points: &[Point], envelope: &[Point]) -> Result<Vec<Slope>, AllocError>
     requires chart { IsChart points.now }
     requires envelope { IsLowerEnvelope points.now envelope.now }
@@ -73,8 +85,8 @@ fn read_off(alloc: Global, points: &[Point], envelope: &[Point]) -> Result<Vec<S
     Ok(slopes)
 }
 
-/// The place of the segment above the step that ends at the point `next`, from the place `start`
-/// on.
+/// Returns the place of the segment above the step that ends at the point `next`, searching from
+/// the place `start` on.
 fn segment_over(points: &[Point], envelope: &[Point], next: usize, start: usize) -> usize
     requires chart { IsChart points.now }
     requires envelope { IsLowerEnvelope points.now envelope.now }
@@ -92,7 +104,7 @@ fn segment_over(points: &[Point], envelope: &[Point], next: usize, start: usize)
     place
 }
 
-/// The descent from a point to a later one that is no larger.
+/// Returns the descent from a point to a later one that is no larger.
 fn descent(a: Point, b: Point) -> Slope
     requires later { a.t < b.t }
     requires falls { b.s ≤ a.s }

@@ -1,4 +1,4 @@
-//! The lower envelope of a chart, in one pass over its points with a stack.
+//! Finds the lower envelope of a chart, in one pass over its points with a stack.
 ghost use Rattle.std.specs.Prelude.{◌≡◌, ◌+◌, ◌-◌, ◌*◌, ◌<◌, ◌≤◌, length, IfOk, MatchBool};
 ghost use Rattle.envelope.specs.Chart.{at, greatest_time, full_size, IsChart, NoSteeper, NotBelow};
 ghost use Rattle.envelope.specs.LowerEnvelope.{IsLowerEnvelope};
@@ -9,11 +9,15 @@ use crate::steps::Steps;
 use std::alloc::{AllocError, Global};
 use std::sync::ledger::Ledger;
 
-/// The lower envelope that leaves out every point that it can: of points on one segment only the
-/// ends stay.
+/// Returns the lower envelope that leaves out every point that it can: of points on one segment
+/// only the ends stay.
 ///
 /// Each comparison takes a point off the stack for good or ends an operator's turn, so two for each
-/// operator do.
+/// operator are enough.
+///
+/// # Errors
+///
+/// `AllocError` when out of memory.
 pub fn lower_envelope<L: Ledger>(
     alloc: Global,
     points: &[Point],
@@ -32,8 +36,8 @@ pub fn lower_envelope<L: Ledger>(
     Ok(stack)
 }
 
-/// Takes off the last points, as long as they do not lie below the segment that leads past them to
-/// the point `next`.
+/// Drops the last points of the stack, as long as they do not lie below the segment that leads past
+/// them to the point `next`.
 fn pop_needless<L: Ledger>(
     points: &[Point],
     next: usize,
@@ -54,8 +58,8 @@ fn pop_needless<L: Ledger>(
     }
 }
 
-/// Whether the last point of the stack does not lie below the segment from the one before it to the
-/// point `next`.
+/// Returns whether the last point of the stack is needless. It is where it does not lie below the
+/// segment from the point before it to the point `next`.
 fn top_is_needless<L: Ledger>(
     points: &[Point],
     next: usize,
@@ -81,8 +85,8 @@ fn top_is_needless<L: Ledger>(
     )
 }
 
-/// Whether the descent from b to c is at least as steep as the one from a to b, so that b is not
-/// needed: the one comparison of descents, which counts itself.
+/// Returns whether the descent from `b` to `c` is at least as steep as the one from `a` to `b`. If
+/// so, `b` is not needed. This is the one comparison of descents, and it counts itself.
 fn steepens<L: Ledger>(a: Point, b: Point, c: Point, steps: &mut Steps<L>) -> bool
     requires order { (a.t < b.t) × (b.t < c.t) }
     requires times { c.t ≤ greatest_time }

@@ -1,4 +1,5 @@
-//! What is kept of a group.
+//! What a state keeps of each group: its count of rows, a tally for each item, and the row shown
+//! last.
 
 ghost use Rattle.std.specs.Prelude.{◌≡◌, ◌+◌, ◌^◌, ◌<◌, ◌≤◌, length, map};
 ghost use Rattle.std.specs.Prelude.{IfOk, OnOk, IsSome, pos, Some, None};
@@ -43,7 +44,7 @@ use std::collections::BTreeMap;
 use std::marker::Model;
 use values::{Column, ListItem, Row, Value};
 
-/// The number that an item reads in a row of a batch; null where it reads none.
+/// Returns the number that an item reads in a row of a batch; null if it reads none.
 fn number_at(item: ListItem, batch: &Batch, place: usize) -> Value
     requires { place < length batch.now }
     ensures { result ≡ number_of item (row_in batch.now place).1 }
@@ -58,7 +59,7 @@ fn number_at(item: ListItem, batch: &Batch, place: usize) -> Value
     }
 }
 
-/// Whether an item reads numbers at all.
+/// Returns whether an item reads numbers at all.
 fn reads(item: ListItem) -> bool
     ensures { result ≡ reads item }
 {
@@ -69,14 +70,15 @@ fn reads(item: ListItem) -> bool
     }
 }
 
-/// Whether any item reads numbers.
+/// Returns whether any item reads numbers.
 fn reads_any(items: &[ListItem]) -> bool
     ensures { result ≡ list_any reads items.now }
 {
     items.iter().any(|item| reads(*item))
 }
 
-/// Whether each number is kept: a least or greatest one may leave.
+/// Returns whether an item keeps each number. Min and Max do, since the least or greatest may
+/// leave.
 fn keeps(item: ListItem) -> bool
     ensures { result ≡ keeps item }
 {
@@ -87,7 +89,7 @@ fn keeps(item: ListItem) -> bool
     }
 }
 
-/// One more of a value.
+/// Adds one to the count of a value.
 fn add_value(values: &mut BTreeMap<Value, u64>, value: Value) -> Result<(), AllocError>
     requires { count_of value values.old.entries ≤ 2 ^ 62 + 1024 }
     ensures { OnOk result (values.new.entries ≡ one_more value values.old.entries) }
@@ -107,7 +109,7 @@ fn set_count(values: &mut BTreeMap<Value, u64>, value: Value, count: u64)
     }
 }
 
-/// One less of a value.
+/// Takes one from the count of a value.
 fn remove_value(values: &mut BTreeMap<Value, u64>, value: Value)
     ensures { values.new.entries ≡ one_less value values.old.entries }
 {
@@ -119,7 +121,7 @@ fn remove_value(values: &mut BTreeMap<Value, u64>, value: Value)
     values.remove(&value);
 }
 
-/// A value enters or leaves, where values are kept.
+/// Lets a value enter or leave if `keeps` is set, else does nothing.
 fn keep_value(
     values: &mut BTreeMap<Value, u64>,
     keeps: bool,
@@ -141,7 +143,7 @@ fn keep_value(
     Ok(())
 }
 
-/// The count after one more or one less.
+/// Returns the count with one more if `enters` is set, else with one less.
 fn counted(count: i64, enters: bool) -> i64
     requires { IsWithin (2 ^ 62 + 1024) count }
     ensures { result ≡ count +ℤ signed_by enters (pos 1) }
@@ -149,7 +151,7 @@ fn counted(count: i64, enters: bool) -> i64
     if enters { count + 1 } else { count - 1 }
 }
 
-/// The sum after a number entered or left.
+/// Returns the sum with the number added if it enters, else with the number taken away.
 fn summed(total: i128, enters: bool, number: i64) -> i128
     requires { IsWithin ((2 ^ 62 + 1024) * 2 ^ 63) total }
     ensures { result ≡ total +ℤ signed_by enters number }
@@ -161,7 +163,7 @@ fn summed(total: i128, enters: bool, number: i64) -> i128
     }
 }
 
-/// The count after a batch.
+/// Returns the count after a batch.
 fn count_added(count: i64, more: i64) -> i64
     requires count { IsWithin (2 ^ 62) count }
     requires more { IsWithin 1024 more }
@@ -170,7 +172,7 @@ fn count_added(count: i64, more: i64) -> i64
     count + more
 }
 
-/// The sum after a batch.
+/// Returns the sum after a batch.
 fn sum_added(total: i128, more: i64) -> i128
     requires { IsWithin (2 ^ 62 * 2 ^ 63) total }
     ensures { result ≡ total +ℤ more }
@@ -178,16 +180,15 @@ fn sum_added(total: i128, more: i64) -> i128
     total + more as i128
 }
 
-/// Of the numbers that an item reads in the rows of a group: how many there are, their exact sum,
-/// and where a least or a greatest is asked for, how often each stands there.
+/// Keeps what an item needs of the numbers that it reads in a group's rows: how many, and their
+/// exact sum. For Min and Max it also keeps how often each number is there.
 #[derive(Drop)]
 pub(crate) struct Tally {
-    /// How many numbers entered, less those that left; nulls do not count.
+    /// Counts the numbers that entered, less those that left. Nulls do not count.
     numbers: i64,
-    /// Their exact sum.
+    /// Holds the exact sum of these numbers.
     total: i128,
-    /// Where a least or a greatest is asked for, by the number how often it stands there; else
-    /// empty.
+    /// Holds for each number how often it is there, for Min and Max. It is empty for other items.
     values: BTreeMap<Value, u64>,
 }
 
@@ -201,7 +202,7 @@ impl Model for Tally {
 }
 
 impl Tally {
-    /// Of no rows.
+    /// Makes the tally of no rows.
     fn new(alloc: Global) -> Tally
         ensures { result ≡ tally_zero }
     {
@@ -212,7 +213,7 @@ impl Tally {
         }
     }
 
-    /// A number enters or leaves: it is counted and summed.
+    /// Counts and sums a number that enters or leaves.
     fn count(&mut self, enters: bool, number: i64)
         requires { TallyRoom (2 ^ 62 + 1024) self.old }
         ensures { self.new ≡ tally_by enters false (Some number) self.old }
@@ -221,7 +222,7 @@ impl Tally {
         self.total = summed(self.total, enters, number);
     }
 
-    /// A value enters or leaves, where values are kept.
+    /// Lets a value enter or leave the kept ones if `keeps` is set.
     fn keep(&mut self, keeps: bool, enters: bool, value: Value) -> Result<(), AllocError>
         requires { All (λ m. m ≤ 2 ^ 62 + 1024) (values_of self.old.values) }
         ensures { OnOk result (self.new
@@ -232,7 +233,7 @@ impl Tally {
         Ok(())
     }
 
-    /// A row with this value enters or leaves.
+    /// Lets a row with this value enter or leave. A null changes nothing.
     fn take(&mut self, enters: bool, keeps: bool, value: Value) -> Result<(), AllocError>
         requires { TallyRoom (2 ^ 62 + 1024) self.old }
         ensures tally { OnOk result (self.new ≡ tally_by enters keeps value self.old) }
@@ -248,20 +249,21 @@ impl Tally {
         }
     }
 
-    /// The values of a column enter, those with a set bit in `minus` leave. None of them is kept:
-    /// they are counted and summed by lanes.
+    /// Lets the values of a column enter, or leave if their bit in `minus` is set. It keeps none of
+    /// them: it counts and sums them by lanes.
     fn take_sums(&mut self, lane: &Lane, minus: &[u64])
         requires small { All IsStreamValue lane.now }
         requires words { length minus.now ≡ word_count (length lane.now) }
         requires room { TallyRoom (2 ^ 62) self.old }
         ensures { self.new ≡ tally_sums (bits (length lane.now) minus.now) lane.now self.old }
     {
-        let _ = lane.len();
+        let _ = lane.len(); // for the proof
         self.numbers = count_added(self.numbers, count_signed(lane, minus));
         self.total = sum_added(self.total, sum_signed(lane, minus));
     }
 
-    /// The values of a column enter, those with a set bit in `minus` leave, one after the other.
+    /// Lets the values of a column enter, or leave if their bit in `minus` is set, one after the
+    /// other.
     fn take_values(&mut self, lane: &Lane, keeps: bool, minus: &[u64]) -> Result<(), AllocError>
         requires words { length minus.now ≡ word_count (length lane.now) }
         requires room { TallyRoom (2 ^ 62) self.old }
@@ -275,7 +277,7 @@ impl Tally {
         Ok(())
     }
 
-    /// The values of a column enter, those with a set bit in `minus` leave.
+    /// Lets the values of a column enter, or leave if their bit in `minus` is set.
     fn take_lane(&mut self, lane: &Lane, keeps: bool, minus: &[u64]) -> Result<(), AllocError>
         requires words { length minus.now ≡ word_count (length lane.now) }
         requires room { TallyRoom (2 ^ 62) self.old }
@@ -295,14 +297,14 @@ impl Tally {
         Ok(())
     }
 
-    /// The values that the rows of a batch have in a column enter and leave.
+    /// Takes in the values that the rows of a batch have in a column, each with its row's sign.
     fn take_fields(&mut self, column: Column, keeps: bool, batch: &Batch) -> Result<(), AllocError>
         requires { TallyRoom (2 ^ 62) self.old }
         ensures tally { OnOk result (self.new
             ≡ tally_values keeps (leaving batch.now) (fields column batch.now) self.old) }
         ensures range { OnOk result (All IsAnswerValue (fields column batch.now)) }
     {
-        let _ = batch.len();
+        let _ = batch.len(); // for the proof
         if column.source != 0 {
             return Ok(());
         }
@@ -313,7 +315,7 @@ impl Tally {
         Ok(())
     }
 
-    /// The rows of a batch enter and leave.
+    /// Takes in the rows of a batch, which enter and leave.
     fn take_batch(&mut self, item: ListItem, batch: &Batch) -> Result<(), AllocError>
         requires { TallyRoom (2 ^ 62) self.old }
         ensures tally { OnOk result (self.new ≡ tally_rows batch.now item self.old) }
@@ -329,7 +331,7 @@ impl Tally {
         }
     }
 
-    /// The exact figure of an item of the list, in a group with this key and so many rows.
+    /// Returns the exact figure of an item of the list, for a group with this key and `rows` rows.
     fn figure(&self, item: ListItem, key: &[Value], rows: i64) -> Figure
         ensures { result ≡ figure key.now rows item self.now }
     {
@@ -344,18 +346,18 @@ impl Tally {
     }
 }
 
-/// The exact figure of an item of the list: a number that counts or sums, or else a value that
-/// stands in a row.
+/// Holds the exact figure of an item of the list: a count or a sum, or else a value from a row.
 #[derive(Clone, Copy, PartialEq, Eq, Drop)]
 pub(crate) struct Figure {
-    /// The count or the exact sum; `None` where the figure is a value.
+    /// Holds the count or the exact sum; `None` if the figure is a value.
     pub(crate) number: Option<i128>,
-    /// The value; null where the figure is a number.
+    /// Holds the value; null if the figure is a number.
     pub(crate) value: Value,
 }
 
 impl Figure {
-    /// A number is shown as the nearest one of the answer range.
+    /// Returns the value that shows the figure. A number is shown as the nearest one of the answer
+    /// range.
     pub(crate) fn shown(self) -> Value
         ensures { result ≡ clamped_or self.value self.number }
     {
@@ -384,7 +386,7 @@ fn value_figure(value: Value) -> Figure
     }
 }
 
-/// A sum of no numbers is null.
+/// Returns the figure of a sum: null if there are no numbers.
 fn sum_figure(numbers: i64, total: i128) -> Figure
     ensures { result ≡ sum_figure numbers total }
 {
@@ -413,17 +415,17 @@ fn greatest(values: &BTreeMap<Value, u64>) -> Value
     }
 }
 
-/// What is kept of a group: how many rows it has, a tally for each item of the list, and the row
-/// that was shown of it last, if there is one.
+/// Keeps what is known of a group: its count of rows, a tally for each item of the list, and the
+/// row shown last.
 #[derive(Drop)]
 pub(crate) struct Cell {
-    /// How many rows entered, less those that left.
+    /// Counts the rows that entered, less those that left.
     rows: i64,
-    /// For each item of the list, in order, its tally. Of the last ones there may be none yet.
+    /// Holds the tallies of the list's items, in order. The last items may have none yet.
     tallies: Vec<Tally>,
-    /// How many last items have no tally: they took no number.
+    /// Counts the last items that have no tally, because they took no number.
     more: usize,
-    /// The row that was shown last; `None` where none was yet.
+    /// Holds the row that was shown last, or no row if none was shown yet.
     shown: ShownRow,
 }
 
@@ -444,7 +446,7 @@ impl Model for Cell {
     ghost invariant = { λ c. IfSome c.shown (λ values. length values.items ≤ MAX_COLUMNS) };
 }
 
-/// A row of a batch enters or leaves: each tally takes it.
+/// Lets a row of a batch enter or leave each tally.
 fn take_tallies(
     tallies: &mut Vec<Tally>,
     items: &[ListItem],
@@ -466,7 +468,7 @@ fn take_tallies(
     Ok(())
 }
 
-/// So many tallies of no numbers more.
+/// Appends `more` tallies of no numbers.
 fn add_tallies(alloc: Global, tallies: &mut Vec<Tally>, more: usize) -> Result<(), AllocError>
     ensures { OnOk result (tallies.new.items ≡ all_tallies more tallies.old.items) }
 {
@@ -477,7 +479,7 @@ fn add_tallies(alloc: Global, tallies: &mut Vec<Tally>, more: usize) -> Result<(
     Ok(())
 }
 
-/// A row of a batch enters or leaves: each tally takes it, also so many of no numbers more.
+/// Appends `more` tallies of no numbers, then lets a row of a batch enter or leave each tally.
 fn take_row(
     alloc: Global,
     tallies: &mut Vec<Tally>,
@@ -498,7 +500,7 @@ fn take_row(
     Ok(())
 }
 
-/// The bit at a place.
+/// Returns whether the bit at a place is set.
 fn is_set(words: &[u64], place: usize) -> bool
     requires { place / 64 < length words.now }
     ensures { result ≡ (place_of words.now place == 1) }
@@ -506,7 +508,7 @@ fn is_set(words: &[u64], place: usize) -> bool
     words[place / 64] >> (place % 64) & 1 == 1
 }
 
-/// All less twice those gone: how many stay, those gone taken away.
+/// Returns `all` less twice `gone`: how many stay, less how many go.
 fn less_twice(all: usize, gone: u32) -> i64
     requires { all ≤ 1024 }
     ensures { result ≡ pos all -ℤ pos (2 * gone) }
@@ -514,7 +516,7 @@ fn less_twice(all: usize, gone: u32) -> i64
     all as i64 - 2 * gone as i64
 }
 
-/// How many rows of a batch enter, those that leave taken away.
+/// Returns how many rows of a batch enter, less how many leave.
 fn rows_counted(batch: &Batch) -> i64
     ensures value { result ≡ rows_counted batch.now }
     ensures few { IsWithin 1024 result }
@@ -522,7 +524,7 @@ fn rows_counted(batch: &Batch) -> i64
     less_twice(batch.len(), count_set(batch.leaving_words()))
 }
 
-/// The rows of a batch enter and leave: each tally takes them.
+/// Lets the rows of a batch enter and leave each tally.
 fn take_batches(
     tallies: &mut Vec<Tally>,
     items: &[ListItem],
@@ -540,7 +542,7 @@ fn take_batches(
     Ok(())
 }
 
-/// The rows of a batch enter and leave: each tally takes them, also so many of no numbers more.
+/// Appends `more` tallies of no numbers, then lets the rows of a batch enter and leave each tally.
 fn take_rows(
     alloc: Global,
     tallies: &mut Vec<Tally>,
@@ -559,7 +561,7 @@ fn take_rows(
     Ok(())
 }
 
-/// The exact figure of an item that took no number.
+/// Returns the exact figure of an item that took no number.
 fn empty_figure(item: ListItem, key: &[Value], rows: i64) -> Figure
     ensures { result ≡ figure key.now rows item tally_zero }
 {
@@ -571,7 +573,7 @@ fn empty_figure(item: ListItem, key: &[Value], rows: i64) -> Figure
     }
 }
 
-/// The exact figure of the item at a place, which took no number where it has no tally.
+/// Returns the exact figure of the item at a place. An item without a tally took no number.
 fn figure_at(tallies: &[Tally], place: usize, item: ListItem, key: &[Value], rows: i64) -> Figure
     ensures { result ≡ figure key.now rows item (get_or tallies.now place tally_zero) }
 {
@@ -602,8 +604,8 @@ fn write_figures(
     Ok(())
 }
 
-/// Writes the row that the figures of a group are shown as, in just as much room as it needs
-/// where there was less.
+/// Writes the row that shows the figures of a group. If the room is too small, it grows to exactly
+/// what the row needs.
 fn write_row(
     row: &mut Vec<Value>,
     tallies: &[Tally],
@@ -624,7 +626,7 @@ fn write_row(
     Ok(())
 }
 
-/// Whether the row with these values is the one that was shown.
+/// Returns whether the row with these values is the one that was shown.
 fn is_shown(shown: &ShownRow, row: &[Value]) -> bool
     ensures { result ≡ same_shown shown.now (Some (held row.now)) }
 {
@@ -634,14 +636,14 @@ fn is_shown(shown: &ShownRow, row: &[Value]) -> bool
     }
 }
 
-/// Whether the values are the same.
+/// Returns whether the values are the same.
 pub(crate) fn has_values(values: &[Value], row: &[Value]) -> bool
     ensures { result ≡ same_row values.now row.now }
 {
     values == row
 }
 
-/// The row that was shown leaves, if there is one.
+/// Emits the row that was shown as one that leaves, if there is one.
 fn put_shown(shown: &ShownRow, rows: &mut SignedRows) -> Result<(), AllocError>
     ensures { OnOk result (rows.new
         ≡ with_signed rows.old (signed_row false rows.old.width shown.now)) }
@@ -653,7 +655,7 @@ fn put_shown(shown: &ShownRow, rows: &mut SignedRows) -> Result<(), AllocError>
 }
 
 impl Cell {
-    /// A group of no rows. Takes no memory.
+    /// Makes a group of no rows. Takes no memory.
     pub(crate) fn new(alloc: Global, count: usize) -> Cell
         ensures { result ≡ cell_zero count }
     {
@@ -665,8 +667,8 @@ impl Cell {
         }
     }
 
-    /// A row of a batch, which is of the group, enters or leaves. Only a number that an item reads
-    /// takes memory.
+    /// Lets a row of a batch, which is of this group, enter or leave. It takes memory only for a
+    /// number that an item reads.
     #[inline(always)]
     pub(crate) fn take(
         &mut self,
@@ -688,7 +690,7 @@ impl Cell {
         Ok(())
     }
 
-    /// `take` where items read numbers.
+    /// Does what `take` does, for a list whose items read numbers.
     #[inline(never)]
     fn take_read(
         &mut self,
@@ -709,7 +711,7 @@ impl Cell {
         Ok(())
     }
 
-    /// The rows of a batch enter and leave, all of this group.
+    /// Takes in the rows of a batch, which are all of this group.
     pub(crate) fn take_batch(
         &mut self,
         alloc: Global,
@@ -726,7 +728,7 @@ impl Cell {
         Ok(())
     }
 
-    /// This row is the one that was shown last. It takes no memory where one of as many values was.
+    /// Sets the row that was shown last. It takes no memory if the one before had as many values.
     pub(crate) fn show(&mut self, alloc: Global, row: &Row) -> Result<(), AllocError>
         ensures { OnOk result (self.new ≡ showing self.old (Some row.now)) }
     {
@@ -749,14 +751,14 @@ impl Cell {
         Ok(())
     }
 
-    /// How many rows.
+    /// Returns the number of rows.
     pub(crate) fn rows(&self) -> i64
         ensures { result ≡ self.now.rows }
     {
         self.rows
     }
 
-    /// The row that was shown last.
+    /// Returns the row that was shown last.
     pub(crate) fn shown(&self) -> Option<&[Value]>
         ensures value { option_map (λ values. held values.now) result ≡ self.now.shown }
         ensures few { IfSome result (λ values. length values.now ≤ MAX_COLUMNS) }
@@ -764,7 +766,7 @@ impl Cell {
         self.shown.values()
     }
 
-    /// The row that was shown leaves and none enters.
+    /// Emits the row that was shown as one that leaves, and shows none.
     fn show_none(&mut self, rows: &mut SignedRows) -> Result<(), AllocError>
         ensures cell { OnOk result (self.new ≡ showing self.old None) }
         ensures rows { OnOk result (rows.new ≡ with_signed rows.old
@@ -775,8 +777,8 @@ impl Cell {
         Ok(())
     }
 
-    /// The row that was shown leaves and the other enters; it is the one that was shown last. Where
-    /// both have memory, its room and that of the one before change places.
+    /// Emits the row that was shown as one that leaves and the other as one that enters. The other
+    /// becomes the one that was shown last. If both have memory, the two swap their room.
     fn show_other(
         &mut self,
         alloc: Global,
@@ -795,8 +797,8 @@ impl Cell {
         Ok(())
     }
 
-    /// The row with these values is the one that is shown: where it was not, the one that was
-    /// leaves and it enters.
+    /// Shows the row with these values. If another was shown, emits that one as leaving and this
+    /// one as entering.
     fn show_now(
         &mut self,
         alloc: Global,
@@ -815,14 +817,14 @@ impl Cell {
         Ok(())
     }
 
-    /// Whether it has rows.
+    /// Returns whether the group has rows.
     fn has_rows(&self) -> bool
         ensures { result ≡ is_lt (int_cmp (pos 0) self.now.rows) }
     {
         0 < self.rows
     }
 
-    /// Whether it has so many tallies.
+    /// Returns whether there are `count` tallies.
     fn has_tallies(&self, count: usize) -> bool
         ensures { IsTrue result → length self.now.tallies ≡ count }
     {
@@ -833,15 +835,15 @@ impl Cell {
         self.more == count - given
     }
 
-    /// Whether the row that was shown has these values.
+    /// Returns whether the row that was shown has these values.
     fn shows(&self, values: &[Value]) -> bool
         ensures { IsTrue result → self.now.shown ≡ Some (held values.now) }
     {
         is_shown(&self.shown, values)
     }
 
-    /// Whether it shows its key, has rows, and has as many tallies as the key has values. Where the
-    /// list is the key, so in Distinct, that is the row that it has to show.
+    /// Returns whether the group shows its key, has rows, and has as many tallies as the key has
+    /// values. If the list is the key, as in Distinct, the key is the row that it has to show.
     #[inline(always)]
     pub(crate) fn is_quiet(&self, key: &[Value]) -> bool
         ensures { IsTrue result → IsQuietCell (held key.now) self.now }
@@ -855,7 +857,7 @@ impl Cell {
         self.has_tallies(key.len())
     }
 
-    /// Whether it shows its key, and that is the row that it has to show.
+    /// Returns whether the group shows its key, and that is the row that it has to show.
     fn shows_key(&self, group: &GroupBy, key: &[Value]) -> bool
         ensures { IsTrue result → ShowsKey group.now (held key.now) self.now }
     {
@@ -865,16 +867,16 @@ impl Cell {
         group.lists_key(key.len())
     }
 
-    /// Whether the group has a row to show.
+    /// Returns whether the group has a row to show.
     fn has_row(&self, group: &GroupBy) -> bool
         ensures { result ≡ (no_columns group.now.by || is_lt (int_cmp (pos 0) self.now.rows)) }
     {
         group.is_whole() || 0 < self.rows
     }
 
-    /// A tick: where the row that the group shows from now on is not the one that was shown, that
-    /// one leaves and the other enters. Says whether there is one. `spare` lends room for the row,
-    /// whatever it has.
+    /// Takes a tick. If the row to show differs from the one that was shown, emits that one as
+    /// leaving and the other as entering. Returns whether there is a row to show. `spare` lends
+    /// room for the row; what it holds does not matter.
     pub(crate) fn swap(
         &mut self,
         alloc: Global,

@@ -20,7 +20,7 @@ use op_queue::SignedRows;
 use std::alloc::{AllocError, Global};
 use values::{ListItem, MAX_COLUMNS, Row};
 
-/// What is kept of the groups, by how many values a key may have.
+/// Keeps the groups, with room in each key for at most 1, 2, 4, 8, 16 or `MAX_COLUMNS` values.
 #[derive(Drop)]
 pub(crate) enum HeldCells {
     One(Keyed<1>),
@@ -32,7 +32,7 @@ pub(crate) enum HeldCells {
 }
 
 impl HeldCells {
-    /// No groups, with room for keys of `width` values.
+    /// Makes a state of no groups, with room for keys of `width` values.
     pub(crate) fn new(alloc: Global, width: usize) -> HeldCells
         requires { width ≤ MAX_COLUMNS }
         ensures kept { kept_in result ≡ record { cells = []; touched = [] } }
@@ -48,7 +48,7 @@ impl HeldCells {
         }
     }
 
-    /// How many values a key may have.
+    /// Returns how many values a key may have.
     fn room(&self) -> usize
         ensures { result ≡ room_of self.now }
     {
@@ -62,8 +62,10 @@ impl HeldCells {
         }
     }
 
-    /// All groups, and which are touched, with keys of the greatest room. After an error some may
-    /// be lost.
+    /// Moves all groups, and which are touched, to keys of the greatest room.
+    ///
+    /// # Errors
+    /// `AllocError` when out of memory; then some groups may be lost.
     fn widened(&mut self, alloc: Global) -> Result<Keyed<MAX_COLUMNS>, AllocError>
         ensures { IfOk result (λ wider. wider ≡ kept_in self.old) }
     {
@@ -77,8 +79,11 @@ impl HeldCells {
         }
     }
 
-    /// Room for keys of `width` values; the groups stay, and which are touched. Where the room is
-    /// there, this takes no memory. After an error some may be lost.
+    /// Makes room for keys of `width` values. The groups stay, and so do the touched ones. It takes
+    /// no memory if the room is there.
+    ///
+    /// # Errors
+    /// `AllocError` when out of memory; then some groups may be lost.
     fn make_room(&mut self, alloc: Global, width: usize) -> Result<(), AllocError>
         requires { width ≤ MAX_COLUMNS }
         ensures kept { OnOk result (kept_in self.new ≡ kept_in self.old) }
@@ -90,7 +95,7 @@ impl HeldCells {
         Ok(())
     }
 
-    /// The group is touched.
+    /// Touches the group with this key.
     pub(crate) fn touch(&mut self, alloc: Global, key: &Row) -> Result<(), AllocError>
         ensures cells { OnOk result (cells_in self.new ≡ cells_in self.old) }
         ensures touched { OnOk result
@@ -107,7 +112,7 @@ impl HeldCells {
         }
     }
 
-    /// Rows enter and leave, one after the other: their groups are touched.
+    /// Lets rows enter and leave, one after the other, and touches their groups.
     pub(crate) fn take_each(
         &mut self,
         alloc: Global,
@@ -131,7 +136,8 @@ impl HeldCells {
         }
     }
 
-    /// A batch of rows of a group that may be kept: the group is touched.
+    /// Takes in a batch of rows of one group, and touches it. The group may be one that is not kept
+    /// yet.
     pub(crate) fn take_batch_in(
         &mut self,
         alloc: Global,
@@ -158,7 +164,7 @@ impl HeldCells {
         }
     }
 
-    /// A group that may be kept shows the row.
+    /// Sets the row that a group shows. The group may be one that is not kept yet.
     pub(crate) fn show_in(
         &mut self,
         alloc: Global,
@@ -180,7 +186,7 @@ impl HeldCells {
         }
     }
 
-    /// The group is no longer kept. It takes no memory.
+    /// Drops the group with this key. Takes no memory.
     pub(crate) fn remove(&mut self, key: &Row)
         ensures { cells_in self.new ≡ remove_entry (is_at (held_cmp key.now)) (cells_in self.old) }
     {
@@ -194,8 +200,8 @@ impl HeldCells {
         }
     }
 
-    /// A tick of the touched groups, in the order of their keys: each puts out what it has to and
-    /// shows its row. One that has no row to show is no longer kept. None is touched from then on.
+    /// Takes a tick of the touched groups, in the order of their keys. Each emits what it has to
+    /// and shows its row. One without a row to show is dropped. Then none is touched.
     pub(crate) fn swap_touched(
         &mut self,
         alloc: Global,
@@ -221,7 +227,7 @@ impl HeldCells {
         }
     }
 
-    /// No group is touched.
+    /// Marks every group as not touched.
     pub(crate) fn forget_touched(&mut self, alloc: Global)
         ensures cells { cells_in self.new ≡ cells_in self.old }
         ensures touched { touched_in self.new ≡ [] }
@@ -236,7 +242,7 @@ impl HeldCells {
         }
     }
 
-    /// What the touched groups have to show, in the order of their keys.
+    /// Returns what the touched groups have to show, in the order of their keys.
     pub(crate) fn excerpts(&self, alloc: Global, items: &[ListItem]) -> Result<Near, AllocError>
         requires { length items.now ≤ MAX_COLUMNS }
         ensures { IfOk result (λ near. near

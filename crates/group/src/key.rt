@@ -17,14 +17,14 @@ use std::cmp::Ordering;
 use std::marker::Model;
 use values::{Column, MAX_COLUMNS, Row, Value};
 
-/// A key of a group, of at most `N` values.
+/// Holds a key of a group, of at most `N` values.
 ///
 /// Most keys differ in the first value, so that one is compared before all others.
 #[derive(Drop)]
 pub(crate) struct Key<const N: usize> {
-    /// The first value; null where there is none.
+    /// Holds the first value; null if there is none.
     first: Value,
-    /// The values of Group By's columns, in order.
+    /// Holds the values of Group By's columns, in order.
     values: ArrayVec<Value, N>,
 }
 
@@ -89,7 +89,7 @@ impl<const N: usize> Ord for Key<N> {
     }
 }
 
-/// Which values are first, column by column from the left.
+/// Compares values column by column from the left.
 fn compare(a: &[Value], b: &[Value]) -> Ordering
     ensures { result ≡ row_cmp a.now b.now }
 {
@@ -107,7 +107,7 @@ fn compare(a: &[Value], b: &[Value]) -> Ordering
 }
 
 impl<const N: usize> Key<N> {
-    /// The key with these values.
+    /// Makes the key with these values.
     fn with(values: ArrayVec<Value, N>) -> Key<N>
         ensures { result ≡ values.entry }
     {
@@ -117,7 +117,7 @@ impl<const N: usize> Key<N> {
         }
     }
 
-    /// The key with these values.
+    /// Makes the key with the values of a row.
     pub(crate) fn of(row: &Row) -> Key<N>
         requires { length row.now.items ≤ N }
         ensures { result ≡ row.now }
@@ -125,7 +125,7 @@ impl<const N: usize> Key<N> {
         Key::with(copied(row))
     }
 
-    /// The key with these values; `None` where they are more than `N`.
+    /// Makes the key with the values of a row; `None` if there are more than `N`.
     pub(crate) fn fitted(row: &Row) -> Option<Key<N>>
         requires { N ≤ MAX_COLUMNS }
         ensures some { IfSome result (λ key. (key ≡ row.now) × (length row.now.items ≤ N)) }
@@ -137,7 +137,7 @@ impl<const N: usize> Key<N> {
         }
     }
 
-    /// The key of the group of a row of a batch.
+    /// Returns the key of the group that a row of a batch belongs to.
     pub(crate) fn at(by: &[Column], batch: &Batch, place: usize) -> Key<N>
         requires fits { length by.now ≤ N }
         requires within { place < length batch.now }
@@ -151,16 +151,16 @@ impl<const N: usize> Key<N> {
         Key::with(values)
     }
 
-    /// The same key again, in room for `M` values.
+    /// Returns the same key, in room for `M` values.
     pub(crate) fn copied<const M: usize>(&self) -> Key<M>
         requires { N ≤ M }
         ensures { result ≡ self.now }
     {
-        let _ = self.values.as_slice();
+        let _ = self.values.as_slice(); // for the proof
         Key::with(copied(&self.values))
     }
 
-    /// Its values.
+    /// Returns the key's values.
     pub(crate) fn values(&self) -> &[Value]
         ensures value { result.now ≡ self.now.items }
         ensures few { length result.now ≤ N }

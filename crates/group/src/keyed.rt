@@ -1,4 +1,4 @@
-//! Groups by keys of few values.
+//! Groups by keys of few values, and the keys that rows touched.
 
 ghost use Rattle.std.specs.Prelude.{◌≡◌, ◌≤◌, ◌<◌, ◌+◌, ◌^◌, ◌++◌, [], cond, length, fold};
 ghost use Rattle.std.specs.Prelude.{IfOk, IsTrue, OnOk};
@@ -31,22 +31,22 @@ use std::alloc::{AllocError, Global};
 use std::marker::Model;
 use values::{ListItem, MAX_COLUMNS, Row, Value};
 
-/// The most keys whose room each of the two lists keeps for the next instant.
+/// Is the most keys whose room each of the two lists keeps for the next instant.
 const KEPT: usize = 1024;
 
-/// What is kept of each group, by keys of at most `N` values: a key takes some `8 * N` bytes.
+/// Keeps the groups, by keys of at most `N` values. A key takes some `8 * N` bytes.
 #[derive(Drop)]
 pub(crate) struct Keyed<const N: usize> {
-    /// By the key, what is kept of each group.
+    /// Keeps what is known of each group, by key.
     cells: Slots<N>,
-    /// The keys that were touched since the last tick, in any order; some may stand there more than
-    /// once. Without those that are in `quiet` alone.
+    /// Holds the keys that were touched since the last tick, in any order; some may be there more
+    /// than once. Keys that are only in `quiet` are not here.
     touched: Vec<Touch<N>>,
-    /// Further keys that were touched, likewise: when the row came, the group showed just what it
-    /// has to show. A key may stand in both lists.
+    /// Holds further touched keys, in the same way. Their groups showed exactly what they had to
+    /// show when the row came. A key may be in both lists.
     quiet: Vec<Touch<N>>,
-    /// Whether each key in `quiet` is also in `touched`, or its group still shows just what it has
-    /// to show. Only then may a tick pass over them.
+    /// Says whether each key in `quiet` is also in `touched`, or its group still shows exactly what
+    /// it has to show. Only then may a tick pass over them.
     are_quiet: bool,
 }
 
@@ -68,7 +68,7 @@ impl<const N: usize> Model for Keyed<N> {
 }
 
 impl<const N: usize> Keyed<N> {
-    /// No groups, none touched.
+    /// Makes a state of no groups, none touched.
     pub(crate) fn new(alloc: Global) -> Keyed<N>
         requires { N ≤ MAX_COLUMNS }
         ensures { result ≡ record { cells = []; touched = [] } }
@@ -81,7 +81,7 @@ impl<const N: usize> Keyed<N> {
         }
     }
 
-    /// The group is touched.
+    /// Touches the group with this key.
     pub(crate) fn touch(&mut self, key: &Row) -> Result<(), AllocError>
         requires { length key.now.items ≤ N }
         ensures cells { OnOk result (self.new.cells ≡ self.old.cells) }
@@ -93,7 +93,7 @@ impl<const N: usize> Keyed<N> {
         Ok(())
     }
 
-    /// Rows enter and leave, one after the other: their groups are touched.
+    /// Lets rows enter and leave, one after the other, and touches their groups.
     pub(crate) fn take_each(
         &mut self,
         alloc: Global,
@@ -115,8 +115,8 @@ impl<const N: usize> Keyed<N> {
         Ok(())
     }
 
-    /// A row of a group that the map may have: the group is touched. `asks` says whether to ask if
-    /// it is quiet.
+    /// Lets a row of a batch enter or leave its group, which the map may not have, and touches it.
+    /// If `asks` is set, it asks whether the group is quiet.
     fn take_in(
         &mut self,
         alloc: Global,
@@ -143,7 +143,7 @@ impl<const N: usize> Keyed<N> {
         Ok(())
     }
 
-    /// The same of the group with this key.
+    /// Does the same for the group with this key.
     fn take_key(
         &mut self,
         alloc: Global,
@@ -177,7 +177,7 @@ impl<const N: usize> Keyed<N> {
         Ok(())
     }
 
-    /// A batch of rows of a group that the map may have: the group is touched.
+    /// Takes in a batch of rows of one group, and touches it. The map may not have the group.
     pub(crate) fn take_batch_in(
         &mut self,
         alloc: Global,
@@ -201,7 +201,7 @@ impl<const N: usize> Keyed<N> {
         Ok(())
     }
 
-    /// A group that the map may have shows the row.
+    /// Sets the row that a group shows. The map may not have the group.
     pub(crate) fn show_in(
         &mut self,
         alloc: Global,
@@ -220,7 +220,7 @@ impl<const N: usize> Keyed<N> {
         Ok(())
     }
 
-    /// Without the group, where the map has it. It takes no memory.
+    /// Drops the group, if the map has it. Takes no memory.
     pub(crate) fn remove(&mut self, key: &Row)
         ensures cells { self.new.cells
             ≡ remove_entry (is_at (held_cmp key.now)) self.old.cells }
@@ -230,10 +230,10 @@ impl<const N: usize> Keyed<N> {
         self.cells.remove_row(key);
     }
 
-    /// A tick of the touched groups, in the order of their keys: each puts out what it has to and
-    /// shows its row. One that has no row to show is no longer kept. None is touched from then on.
+    /// Takes a tick of the touched groups, in the order of their keys. Each emits what it has to
+    /// and shows its row. One without a row to show is dropped. Then none is touched.
     ///
-    /// There is room at once for the two rows that each of the first 512 may put out.
+    /// It reserves room at once for the two rows that each of the first 512 groups may emit.
     pub(crate) fn swap_touched(
         &mut self,
         alloc: Global,
@@ -257,7 +257,7 @@ impl<const N: usize> Keyed<N> {
         Ok(())
     }
 
-    /// No group is touched.
+    /// Marks every group as not touched.
     pub(crate) fn forget_touched(&mut self, alloc: Global)
         ensures cells { self.new.cells ≡ self.old.cells }
         ensures touched { self.new.touched ≡ [] }
@@ -267,7 +267,7 @@ impl<const N: usize> Keyed<N> {
         self.are_quiet = true;
     }
 
-    /// What a touched group has to show comes behind the others; the map may not have the group.
+    /// Appends what a touched group has to show. The map may not have the group.
     fn add_excerpt(
         &self,
         alloc: Global,
@@ -280,7 +280,7 @@ impl<const N: usize> Keyed<N> {
         ensures { OnOk result (TouchedMore groups.old groups.new
             (excerpt items.now key.now (cell_of (length items.now) key.now self.now.cells))) }
     {
-        let _ = &self.cells;
+        let _ = &self.cells; // for the proof
         match self.cells.get(key) {
             Some(cell) => add_excerpt_of(items, key, cell, spare, groups),
             None => {
@@ -290,7 +290,7 @@ impl<const N: usize> Keyed<N> {
         }
     }
 
-    /// What the groups with these keys have to show.
+    /// Returns what the groups with these keys have to show.
     fn excerpts_at(
         &self,
         alloc: Global,
@@ -308,7 +308,7 @@ impl<const N: usize> Keyed<N> {
         Ok(Near::new(groups))
     }
 
-    /// What the touched groups have to show, in the order of their keys.
+    /// Returns what the touched groups have to show, in the order of their keys.
     pub(crate) fn excerpts(&self, alloc: Global, items: &[ListItem]) -> Result<Near, AllocError>
         requires { length items.now ≤ MAX_COLUMNS }
         ensures { IfOk result (λ near. near
@@ -322,7 +322,10 @@ impl<const N: usize> Keyed<N> {
         Ok(near)
     }
 
-    /// Moves all to keys of more values. After an error some may be lost.
+    /// Moves all groups to keys of more values.
+    ///
+    /// # Errors
+    /// `AllocError` when out of memory; then some groups may be lost.
     pub(crate) fn widened(&mut self, alloc: Global) -> Result<Keyed<MAX_COLUMNS>, AllocError>
         ensures { IfOk result (λ wider. wider ≡ self.old) }
     {
@@ -340,7 +343,7 @@ impl<const N: usize> Keyed<N> {
     }
 }
 
-/// The same keys again, in room for `M` values each, behind the others.
+/// Appends copies of the keys, in room for `M` values each.
 fn push_copies<const N: usize, const M: usize>(
     copies: &mut Vec<Touch<M>>,
     keys: &[Touch<N>],
@@ -354,7 +357,7 @@ fn push_copies<const N: usize, const M: usize>(
     Ok(())
 }
 
-/// Whether all the keys have so many values.
+/// Returns whether each key has `width` values.
 fn are_of_width<const N: usize>(keys: &[Touch<N>], width: usize) -> bool
     ensures { IsTrue result → All (λ k. length k.items ≡ width) keys.now }
 {
@@ -366,8 +369,8 @@ fn are_of_width<const N: usize>(keys: &[Touch<N>], width: usize) -> bool
     true
 }
 
-/// Whether a tick may pass over these keys: their groups are quiet, and the list of each is its
-/// key.
+/// Returns whether a tick may pass over these keys: their groups are quiet, and the list is the key
+/// of each.
 fn may_pass_over<const N: usize>(are_quiet: bool, group: &GroupBy, keys: &[Touch<N>]) -> bool
     ensures quiet { IsTrue result → IsTrue are_quiet }
     ensures lists { IsTrue result → ListsKeys group.now keys.now }
@@ -382,8 +385,8 @@ fn may_pass_over<const N: usize>(are_quiet: bool, group: &GroupBy, keys: &[Touch
     are_of_width(keys, width)
 }
 
-/// The keys that a tick has to look at, each once, in order: those of the first list, and those of
-/// the second unless it may pass them over.
+/// Gathers in `touched` the keys that a tick has to look at, each once, in order. These are the
+/// keys of the first list, and those of the second unless `pass_over` is set.
 fn gather<const N: usize>(
     touched: &mut Vec<Touch<N>>,
     quiet: &mut Vec<Touch<N>>,
@@ -399,7 +402,7 @@ fn gather<const N: usize>(
     Ok(())
 }
 
-/// One key more, of a group that is at the place.
+/// Appends the key of a group, which is at the place.
 fn touch<const N: usize>(
     touched: &mut Vec<Touch<N>>,
     key: Key<N>,
@@ -413,7 +416,7 @@ fn touch<const N: usize>(
     Ok(())
 }
 
-/// One key more in the second list, where its group is quiet, else in the first.
+/// Appends a key to the second list if its group is quiet, else to the first.
 fn touch_either<const N: usize>(
     touched: &mut Vec<Touch<N>>,
     quiet: &mut Vec<Touch<N>>,
@@ -435,8 +438,8 @@ fn touch_either<const N: usize>(
     Ok(())
 }
 
-/// Room for a key more. Before the list grows, keys that stand in it more than once leave it. So
-/// what it grows to is room for at most some four times the keys that differ.
+/// Makes room for one key more. Before the list grows, keys that are in it more than once leave it.
+/// So its room is at most some four times the keys that differ.
 fn make_room<const N: usize>(touched: &mut Vec<Touch<N>>) -> Result<(), AllocError>
     ensures { OnOk result (in_set touched.new.items ≡ in_set touched.old.items) }
 {
@@ -452,7 +455,7 @@ fn make_room<const N: usize>(touched: &mut Vec<Touch<N>>) -> Result<(), AllocErr
     Ok(())
 }
 
-/// Each key stands there once, in order. It takes no memory.
+/// Sorts the keys and keeps each once. Takes no memory.
 fn settle<const N: usize>(touched: &mut Vec<Touch<N>>)
     ensures { touched.new.items ≡ in_set touched.old.items }
 {
@@ -460,7 +463,7 @@ fn settle<const N: usize>(touched: &mut Vec<Touch<N>>)
     touched.dedup();
 }
 
-/// No keys. Where there was room for many, it is given back.
+/// Drops all keys. If there was room for many, gives it back.
 fn forget<const N: usize>(touched: &mut Vec<Touch<N>>, alloc: Global)
     ensures { touched.new.items ≡ [] }
 {
@@ -471,7 +474,7 @@ fn forget<const N: usize>(touched: &mut Vec<Touch<N>>, alloc: Global)
     }
 }
 
-/// A tick of the groups with these keys, in their order.
+/// Takes a tick of the groups with these keys, in their order.
 fn swap_all<const N: usize>(
     cells: &mut Slots<N>,
     alloc: Global,
@@ -495,8 +498,8 @@ fn swap_all<const N: usize>(
     Ok(())
 }
 
-/// A tick of a group that may be there: it puts out what it has to and shows its row. One that has
-/// no row to show is no longer kept.
+/// Takes a tick of a group, which may not be there. It emits what it has to and shows its row. One
+/// without a row to show is dropped.
 fn swap_in<const N: usize>(
     cells: &mut Slots<N>,
     alloc: Global,
@@ -522,7 +525,7 @@ fn swap_in<const N: usize>(
     }
 }
 
-/// A tick of a group that is not there.
+/// Takes a tick of a group that is not there.
 fn swap_new<const N: usize>(
     cells: &mut Slots<N>,
     alloc: Global,
@@ -546,7 +549,7 @@ fn swap_new<const N: usize>(
     Ok(())
 }
 
-/// What a touched group has to show comes behind the others. `spare` lends room for its figures.
+/// Appends what a touched group has to show. `spare` lends room for its figures.
 fn add_excerpt_of<const N: usize>(
     items: &[ListItem],
     key: &Key<N>,

@@ -1,9 +1,11 @@
 //! Groups and their aggregates, and Distinct, which is the groups of all columns.
 //!
-//! A `Group` is what an operator keeps: of each group of the rows taken in its count, its exact
-//! sums and the values that a least or a greatest is chosen from, with the row that was shown of it
-//! last. A tick's turn is `near`, the excerpt of the touched groups, then `work`, which makes the
-//! outputs and the change of it and needs no state, and `apply`; rows put out nothing.
+//! A `Group` is what an operator keeps of the rows taken in. For each group it holds the count, the
+//! exact sums, the values for Min and Max, and the row shown last.
+//!
+//! A tick's turn has three steps. `near` returns the excerpt of the touched groups. `work` makes
+//! the outputs and the change from it and needs no state. `apply` takes the change in. Rows emit
+//! nothing.
 #![tactic(auto)]
 
 mod cells;

@@ -1,4 +1,4 @@
-//! Lists that stand one behind the other in one list.
+//! Many short lists, joined end to end in one.
 
 ghost use Rattle.std.specs.Prelude.{◌≡◌, ◌↔◌, ◌≤◌, ◌<◌, ◌++◌, ◌∷◌, [], IsTrue, length, get_or};
 ghost use Rattle.std.specs.Prelude.{◌-◌, IfSome, None, OnErr, OnOk, take, drop};
@@ -13,12 +13,12 @@ use std::alloc::{AllocError, Global};
 use std::marker::Model;
 use values::Value;
 
-/// Rows of values, one behind the other.
+/// Holds rows of values, joined end to end.
 #[derive(Drop)]
 pub(crate) struct ValueLists {
-    /// For each row the place behind its last value.
+    /// Holds for each row the place after its last value.
     ends: Vec<usize>,
-    /// The rows' values.
+    /// Holds the values of the rows.
     values: Vec<Value>,
 }
 
@@ -35,7 +35,7 @@ impl Model for ValueLists {
 }
 
 impl ValueLists {
-    /// No rows. It takes no memory.
+    /// Makes a list of no rows. Takes no memory.
     pub(crate) fn new(alloc: Global) -> ValueLists
         ensures { result ≡ [] }
     {
@@ -45,14 +45,17 @@ impl ValueLists {
         }
     }
 
-    /// How many rows.
+    /// Returns the number of rows.
     pub(crate) fn len(&self) -> usize
         ensures { result ≡ length self.now }
     {
         self.ends.len()
     }
 
-    /// A row more. An error says that memory was refused; the rows stay.
+    /// Appends a row.
+    ///
+    /// # Errors
+    /// `AllocError` when out of memory; then the rows stay as they were.
     pub(crate) fn push(&mut self, row: &[Value]) -> Result<(), AllocError>
         requires { length row.now ≤ MAX_COLUMNS }
         ensures pushed { OnOk result (self.new ≡ self.old ++ row.now ∷ []) }
@@ -64,18 +67,18 @@ impl ValueLists {
         Ok(())
     }
 
-    /// The row at a place.
+    /// Returns the row at a place.
     pub(crate) fn get(&self, place: usize) -> &[Value]
         requires { place < length self.now }
         ensures value { result.now ≡ get_or self.now place [] }
         ensures few { length result.now ≤ MAX_COLUMNS }
     {
-        let _ = self.len();
+        let _ = self.len(); // for the proof
         let begin = begin_of(&self.ends, place);
         part(&self.values, begin, self.ends[place])
     }
 
-    /// Whether the rows are the same, in the same order.
+    /// Returns whether the rows are the same, in the same order.
     pub(crate) fn is_same(&self, other: &ValueLists) -> bool
         ensures { IsTrue result ↔ (self.now ≡ other.now) }
     {
@@ -83,12 +86,12 @@ impl ValueLists {
     }
 }
 
-/// Lists of figures, one behind the other.
+/// Holds lists of figures, joined end to end.
 #[derive(Drop)]
 pub(crate) struct FigureLists {
-    /// For each list the place behind its last figure.
+    /// Holds for each list the place after its last figure.
     ends: Vec<usize>,
-    /// The lists' figures.
+    /// Holds the figures of the lists.
     figures: Vec<Figure>,
 }
 
@@ -106,7 +109,7 @@ impl Model for FigureLists {
 }
 
 impl FigureLists {
-    /// No lists. It takes no memory.
+    /// Makes a list of no lists. Takes no memory.
     pub(crate) fn new(alloc: Global) -> FigureLists
         ensures { result ≡ [] }
     {
@@ -116,14 +119,17 @@ impl FigureLists {
         }
     }
 
-    /// How many lists.
+    /// Returns the number of lists.
     fn len(&self) -> usize
         ensures { result ≡ length self.now }
     {
         self.ends.len()
     }
 
-    /// A list more. An error says that memory was refused; the lists stay.
+    /// Appends a list.
+    ///
+    /// # Errors
+    /// `AllocError` when out of memory; then the lists stay as they were.
     pub(crate) fn push(&mut self, list: &[Figure]) -> Result<(), AllocError>
         requires { length list.now ≤ MAX_COLUMNS }
         ensures pushed { OnOk result (self.new ≡ self.old ++ list.now ∷ []) }
@@ -135,18 +141,18 @@ impl FigureLists {
         Ok(())
     }
 
-    /// The list at a place.
+    /// Returns the list at a place.
     pub(crate) fn get(&self, place: usize) -> &[Figure]
         requires { place < length self.now }
         ensures value { result.now ≡ get_or self.now place [] }
         ensures few { length result.now ≤ MAX_COLUMNS }
     {
-        let _ = self.len();
+        let _ = self.len(); // for the proof
         let begin = begin_of(&self.ends, place);
         part(&self.figures, begin, self.ends[place])
     }
 
-    /// Whether the lists are the same, in the same order.
+    /// Returns whether the lists are the same, in the same order.
     pub(crate) fn is_same(&self, other: &FigureLists) -> bool
         ensures { IsTrue result ↔ (self.now ≡ other.now) }
     {
@@ -154,12 +160,12 @@ impl FigureLists {
     }
 }
 
-/// Rows some of which are missing, one behind the other.
+/// Holds rows joined end to end, some of them missing.
 #[derive(Drop)]
 pub(crate) struct ShownLists {
-    /// For each row whether it is there.
+    /// Says for each row whether it is there.
     there: Vec<bool>,
-    /// The rows, without values where they are missing.
+    /// Holds the rows, without values for those that are missing.
     rows: ValueLists,
 }
 
@@ -176,7 +182,7 @@ impl Model for ShownLists {
 }
 
 impl ShownLists {
-    /// No rows. It takes no memory.
+    /// Makes a list of no rows. Takes no memory.
     pub(crate) fn new(alloc: Global) -> ShownLists
         ensures { result ≡ [] }
     {
@@ -186,7 +192,10 @@ impl ShownLists {
         }
     }
 
-    /// A row more, or a missing one. An error says that memory was refused; the rows stay.
+    /// Appends a row, or a missing one.
+    ///
+    /// # Errors
+    /// `AllocError` when out of memory; then the rows stay as they were.
     pub(crate) fn push(&mut self, row: Option<&[Value]>) -> Result<(), AllocError>
         requires { IfSome row (λ values. length values.now ≤ MAX_COLUMNS) }
         ensures { OnOk result
@@ -198,21 +207,21 @@ impl ShownLists {
         Ok(())
     }
 
-    /// The row at a place, if it is there.
+    /// Returns the row at a place, if it is there.
     pub(crate) fn get(&self, place: usize) -> Option<&[Value]>
         requires { place < length self.now }
         ensures value { option_map (λ values. held values.now) result
             ≡ get_or self.now place None }
         ensures few { IfSome result (λ values. length values.now ≤ MAX_COLUMNS) }
     {
-        let _ = self.rows.len();
+        let _ = self.rows.len(); // for the proof
         if self.there[place] {
             return Some(self.rows.get(place));
         }
         None
     }
 
-    /// Whether the rows are the same, in the same order.
+    /// Returns whether the rows are the same, in the same order.
     pub(crate) fn is_same(&self, other: &ShownLists) -> bool
         ensures { IsTrue result ↔ (self.now ≡ other.now) }
     {
@@ -220,7 +229,7 @@ impl ShownLists {
     }
 }
 
-/// The values of a row, none where it is missing.
+/// Returns the values of a row; none if it is missing.
 fn values_of(row: Option<&[Value]>) -> &[Value]
     ensures { result.now ≡ values_of (option_map (λ values. held values.now) row.entry) }
 {
@@ -230,7 +239,7 @@ fn values_of(row: Option<&[Value]>) -> &[Value]
     }
 }
 
-/// Where the list at a place begins: where the one before ends.
+/// Returns the place where a list starts, which is where the one before ends.
 fn begin_of(ends: &[usize], place: usize) -> usize
     requires { place < length ends.now }
     ensures { result ≡ begin 0 ends.now place }
@@ -241,7 +250,7 @@ fn begin_of(ends: &[usize], place: usize) -> usize
     ends[place - 1]
 }
 
-/// What stands in a list from one place to another.
+/// Returns the part of a list from one place to another.
 fn part<T>(list: &[T], begin: usize, end: usize) -> &[T]
     requires forward { begin ≤ end }
     requires within { end ≤ length list.now }

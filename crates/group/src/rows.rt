@@ -10,12 +10,12 @@ ghost use Rattle.group.specs.Cells.{held};
 use column::Batch;
 use values::{Column, MAX_COLUMNS, Row, Value};
 
-/// The value in a column of a row of a batch, which is a combination by itself.
+/// Returns the value in a column of a row of a batch. The row is read as a combination of one row.
 pub(crate) fn field_at(batch: &Batch, place: usize, column: Column) -> Value
     requires { place < length batch.now }
     ensures { result ≡ field ((row_in batch.now place).1 ∷ []) (column_of column) }
 {
-    let _ = batch.len();
+    let _ = batch.len(); // for the proof
     if column.source != 0 {
         return Value::null();
     }
@@ -25,7 +25,7 @@ pub(crate) fn field_at(batch: &Batch, place: usize, column: Column) -> Value
     batch.column(column.column).get(place)
 }
 
-/// Whether the row at a place of a batch enters.
+/// Returns whether the row at a place of a batch enters.
 pub(crate) fn enters(batch: &Batch, place: usize) -> bool
     requires { place < length batch.now }
     ensures { result ≡ (row_in batch.now place).0 }
@@ -33,7 +33,7 @@ pub(crate) fn enters(batch: &Batch, place: usize) -> bool
     !batch.leaves(place)
 }
 
-/// The value in a column, or null past the row's end.
+/// Returns the value in a column; null past the row's end.
 pub(crate) fn value_in(row: &[Value], column: usize) -> Value
     ensures { result ≡ value_at row.now column }
 {
@@ -43,7 +43,7 @@ pub(crate) fn value_in(row: &[Value], column: usize) -> Value
     }
 }
 
-/// The row with these values.
+/// Makes the row with these values.
 pub(crate) fn row_with(values: &[Value]) -> Row
     requires { length values.now ≤ MAX_COLUMNS }
     ensures { result ≡ held values.now }

@@ -1,4 +1,4 @@
-//! What is grouped by, and what is listed of each group.
+//! What a query groups by, and what it lists of each group.
 
 ghost use Rattle.std.specs.Prelude.{◌≡◌, ◌↔◌, ◌≤◌, IsTrue, length, map, IfOk};
 ghost use Rattle.std.specs.List.{range_with_len};
@@ -9,13 +9,15 @@ use std::alloc::{AllocError, Global};
 use std::marker::Model;
 use values::{Column, ListItem, MAX_COLUMNS};
 
-/// Group By's columns, none where it is missing, and the list of a grouped query. A row that goes
-/// between operators counts as the one row of a combination: its columns are those of source 0.
+/// Holds Group By's columns and the list of a grouped query. Without Group By there are no columns.
+///
+/// A row between operators counts as the one row of a combination. Its columns are those of source
+/// 0.
 #[derive(Drop)]
 pub struct GroupBy {
-    /// Group By's columns; none where it is missing.
+    /// Holds Group By's columns; none without Group By.
     by: Vec<Column>,
-    /// The items of the list, in order.
+    /// Holds the items of the list, in order.
     items: Vec<ListItem>,
 }
 
@@ -42,8 +44,11 @@ impl GroupBy {
         Self { by, items }
     }
 
-    /// Distinct over rows of this many columns: the groups of all columns, which list their key.
-    /// An error says that memory was refused.
+    /// Makes Distinct over rows of this many columns: the groups of all columns, which list their
+    /// key.
+    ///
+    /// # Errors
+    /// `AllocError` when out of memory.
     pub fn distinct(alloc: Global, width: usize) -> Result<GroupBy, AllocError>
         requires { width ≤ MAX_COLUMNS }
         ensures { IfOk result (λ g. g ≡ once_each width) }
@@ -57,7 +62,7 @@ impl GroupBy {
         Ok(GroupBy { by, items })
     }
 
-    /// Group By's columns.
+    /// Returns Group By's columns.
     pub(crate) fn by(&self) -> &[Column]
         ensures value { result.now ≡ self.now.by }
         ensures few { length result.now ≤ MAX_COLUMNS }
@@ -65,7 +70,7 @@ impl GroupBy {
         &self.by
     }
 
-    /// The list.
+    /// Returns the items of the list.
     pub(crate) fn items(&self) -> &[ListItem]
         ensures value { result.now ≡ self.now.items }
         ensures few { length result.now ≤ MAX_COLUMNS }
@@ -73,22 +78,22 @@ impl GroupBy {
         &self.items
     }
 
-    /// Whether Group By's columns are the same, and the lists.
+    /// Returns whether both Group By's columns and the lists are the same.
     pub fn is_same(&self, other: &GroupBy) -> bool
         ensures { IsTrue result ↔ (self.now ≡ other.now) }
     {
         self.by == other.by && self.items == other.items
     }
 
-    /// Whether the list is a key of so many values, one after the other.
+    /// Returns whether the list is a key of `width` values, in order.
     pub(crate) fn lists_key(&self, width: usize) -> bool
         ensures { IsTrue result → self.now.items ≡ map Key (range_with_len 0 width) }
     {
-        let _ = &self.items;
+        let _ = &self.items; // for the proof
         lists_key(&self.items, width)
     }
 
-    /// Whether there is no column of Group By: then there is one group, also over no rows.
+    /// Returns whether there is no column of Group By. Then there is one group, even of no rows.
     pub(crate) fn is_whole(&self) -> bool
         ensures { result ≡ no_columns self.now.by }
     {
@@ -96,7 +101,7 @@ impl GroupBy {
     }
 }
 
-/// Whether the item is this value of the key.
+/// Returns whether the item is the key's value at this place.
 fn is_key(item: ListItem, place: usize) -> bool
     ensures { IsTrue result → item ≡ Key place }
 {
@@ -106,7 +111,7 @@ fn is_key(item: ListItem, place: usize) -> bool
     }
 }
 
-/// Whether the items are the values of a key of so many, one after the other.
+/// Returns whether the items are the values of a key of `width` values, in order.
 fn lists_key(items: &[ListItem], width: usize) -> bool
     ensures { IsTrue result → items.now ≡ map Key (range_with_len 0 width) }
 {

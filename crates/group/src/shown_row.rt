@@ -9,21 +9,21 @@ use std::marker::Model;
 use std::{mem, slice};
 use values::Value;
 
-/// Where a row stands: one of a single value in place, any other in memory of its own.
+/// Holds a row of a single value in place, and any other in memory of its own.
 #[derive(Drop)]
 enum RowPlace {
-    /// There is no row.
+    /// Says that there is no row.
     None,
-    /// The value of the row.
+    /// Holds the value of the row.
     One(Value),
-    /// The values of the row.
+    /// Holds the values of the row.
     Many(Vec<Value>),
 }
 
-/// A row that was shown, or none. One of a single value takes no memory.
+/// Holds a row that was shown, or none. A row of a single value takes no memory.
 #[derive(Drop)]
 pub(crate) struct ShownRow {
-    /// Where the row stands.
+    /// Holds the row, in place or in memory of its own.
     place: RowPlace,
 }
 
@@ -38,7 +38,7 @@ impl Model for ShownRow {
 }
 
 impl ShownRow {
-    /// No row.
+    /// Makes a shown row of no row.
     pub(crate) fn none() -> ShownRow
         ensures { result ≡ None }
     {
@@ -47,7 +47,7 @@ impl ShownRow {
         }
     }
 
-    /// The values of the row.
+    /// Returns the values of the row.
     pub(crate) fn values(&self) -> Option<&[Value]>
         ensures { option_map (λ values. held values.now) result ≡ self.now }
     {
@@ -58,7 +58,7 @@ impl ShownRow {
         }
     }
 
-    /// The room of the row, where it has memory; there is no row any more.
+    /// Takes out the row's memory, if it has any. Then there is no row.
     fn take_room(&mut self, alloc: Global) -> Vec<Value>
         ensures { self.new ≡ None }
     {
@@ -68,8 +68,11 @@ impl ShownRow {
         }
     }
 
-    /// Takes these values as the row, without memory for a single value or where the room is
-    /// enough. An error says that memory was refused; then there is no row.
+    /// Sets the row to these values. It takes no memory for a single value, or if the room is large
+    /// enough.
+    ///
+    /// # Errors
+    /// `AllocError` when out of memory; then there is no row.
     pub(crate) fn set(&mut self, alloc: Global, values: &[Value]) -> Result<(), AllocError>
         ensures ok { OnOk result (self.new ≡ Some (held values.now)) }
         ensures err { OnErr result (self.new ≡ None) }
@@ -82,7 +85,7 @@ impl ShownRow {
         Ok(())
     }
 
-    /// The row has these values. Where it has memory, that and their room change places.
+    /// Sets the row to these values. If it has memory, the two lists swap their room.
     pub(crate) fn put(&mut self, alloc: Global, row: &mut Vec<Value>)
         ensures { self.new ≡ Some (held row.old.items) }
     {
@@ -98,7 +101,8 @@ impl ShownRow {
     }
 }
 
-/// The values, in the room of others where it is enough, else in just as much as they need.
+/// Writes the values into the room of others. If that is too small, it grows to exactly what they
+/// need.
 fn written(others: Vec<Value>, row: &[Value]) -> Result<Vec<Value>, AllocError>
     ensures { IfOk result (λ values. values.items ≡ row.now) }
 {

@@ -1,4 +1,4 @@
-//! Groups at the places of a list, some of which are free.
+//! Groups at the places of a list, some of them free.
 
 ghost use Rattle.std.specs.Prelude.{◌≡◌, ◌≢◌, ◌≤◌, ◌<◌, ◌+◌, ◌^◌, ℕ, [], length, fold};
 ghost use Rattle.std.specs.Prelude.{None, Some, IfOk, IsSome, IsTrue, OnOk};
@@ -19,12 +19,12 @@ use std::marker::Model;
 use std::mem;
 use values::{ListItem, MAX_COLUMNS, Row, Value};
 
-/// A group at its place: its key, and what is kept of it.
+/// Holds a group at its place: its key, and what is kept of it.
 #[derive(Drop)]
 pub(crate) struct Slot<const N: usize> {
-    /// The group's key.
+    /// Holds the group's key.
     key: Key<N>,
-    /// What is kept of the group.
+    /// Holds what is kept of the group.
     cell: Cell,
 }
 
@@ -37,28 +37,28 @@ impl<const N: usize> Model for Slot<N> {
 }
 
 impl<const N: usize> Slot<N> {
-    /// A group with this key.
+    /// Makes a group with this key.
     pub(crate) fn new(key: Key<N>, cell: Cell) -> Slot<N>
         ensures { result ≡ (key.entry, cell) }
     {
         Slot { key, cell }
     }
 
-    /// Whether its key is this one.
+    /// Returns whether the group has this key.
     pub(crate) fn has_key(&self, key: &Key<N>) -> bool
         ensures { result ≡ held_eq self.now.0 key.now }
     {
         self.key == *key
     }
 
-    /// What is kept of it.
+    /// Returns what is kept of the group.
     fn cell(&self) -> &Cell
         ensures { result.now ≡ self.now.1 }
     {
         &self.cell
     }
 
-    /// What is kept of it, by itself.
+    /// Returns what is kept of the group, without its key.
     pub(crate) fn into_cell(self) -> Cell
         ensures { result ≡ self.entry.1 }
     {
@@ -66,17 +66,18 @@ impl<const N: usize> Slot<N> {
     }
 }
 
-/// A place of the list.
+/// Is a place of the list.
 #[derive(Drop)]
 pub(crate) enum Place<const N: usize> {
-    /// A group is there.
+    /// Holds the group at this place.
     Taken(Slot<N>),
-    /// None is; and the place to try for the next group after the one that comes here.
+    /// Says that no group is here. Names the place to try for the next group after the one that
+    /// comes here.
     Free(usize),
 }
 
 impl<const N: usize> Place<N> {
-    /// The group here, if there is one.
+    /// Returns the group here, if there is one.
     fn slot(&self) -> Option<&Slot<N>>
         ensures { option_copied result ≡ slot_of self.now }
     {
@@ -86,7 +87,7 @@ impl<const N: usize> Place<N> {
         }
     }
 
-    /// What is kept of the group here.
+    /// Returns what is kept of the group here.
     fn cell(&self) -> &Cell
         requires { IsSome (slot_of self.now) }
         ensures { result.now ≡ cell_at (slot_of self.now) }
@@ -97,7 +98,7 @@ impl<const N: usize> Place<N> {
         }
     }
 
-    /// A row of the group here.
+    /// Lets a row of the group here enter or leave.
     fn take(
         &mut self,
         alloc: Global,
@@ -119,7 +120,7 @@ impl<const N: usize> Place<N> {
         }
     }
 
-    /// A batch of rows of the group here.
+    /// Takes in a batch of rows of the group here.
     fn take_batch(
         &mut self,
         alloc: Global,
@@ -139,7 +140,7 @@ impl<const N: usize> Place<N> {
         }
     }
 
-    /// The group here shows the row.
+    /// Sets the row that the group here shows.
     fn show(&mut self, alloc: Global, row: &Row) -> Result<(), AllocError>
         requires { IsSome (slot_of self.old) }
         ensures key { key_at (slot_of self.new) ≡ key_at (slot_of self.old) }
@@ -152,7 +153,7 @@ impl<const N: usize> Place<N> {
         }
     }
 
-    /// A tick of the group here: whether it has a row to show.
+    /// Takes a tick of the group here. Returns whether it has a row to show.
     fn swap(
         &mut self,
         alloc: Global,
@@ -173,13 +174,13 @@ impl<const N: usize> Place<N> {
     }
 }
 
-/// Groups at places, some of which are free. It keeps the places of the most groups that there were
-/// at one time.
+/// Keeps groups at places, some of them free. It keeps as many places as the most groups that there
+/// were at one time.
 #[derive(Drop)]
 pub(crate) struct SlotList<const N: usize> {
-    /// The places.
+    /// Holds the places.
     places: Vec<Place<N>>,
-    /// The place to try for the next group that comes.
+    /// Names the place to try for the next group that comes.
     next: usize,
 }
 
@@ -196,7 +197,7 @@ impl<const N: usize> Model for SlotList<N> {
 }
 
 impl<const N: usize> SlotList<N> {
-    /// No places. Takes no memory.
+    /// Makes a list of no places. Takes no memory.
     pub(crate) fn new(alloc: Global) -> SlotList<N>
         requires { N ≤ MAX_COLUMNS }
         ensures { result ≡ [] }
@@ -207,7 +208,7 @@ impl<const N: usize> SlotList<N> {
         }
     }
 
-    /// The group at a place, if there is one.
+    /// Returns the group at a place, if there is one.
     pub(crate) fn slot(&self, place: usize) -> Option<&Slot<N>>
         ensures { option_copied result ≡ at_place self.now place }
     {
@@ -217,7 +218,7 @@ impl<const N: usize> SlotList<N> {
         }
     }
 
-    /// A place within the list where no group is.
+    /// Returns a place within the list that has no group.
     pub(crate) fn vacant(&mut self) -> Result<usize, AllocError>
         ensures same { (q : ℕ) → at_place self.new q ≡ at_place self.old q }
         ensures within { IfOk result (λ place. place < length self.new) }
@@ -232,7 +233,7 @@ impl<const N: usize> SlotList<N> {
         Ok(place)
     }
 
-    /// Whether a place is within the list, and no group is there.
+    /// Returns whether a place is within the list and has no group.
     fn is_free(&self, place: usize) -> bool
         ensures within { IsTrue result → place < length self.now }
         ensures vacant { IsTrue result → at_place self.now place ≡ None }
@@ -243,7 +244,7 @@ impl<const N: usize> SlotList<N> {
         }
     }
 
-    /// A group comes to a place.
+    /// Puts a group at a place.
     pub(crate) fn put(&mut self, place: usize, slot: Slot<N>)
         requires { place < length self.old }
         ensures now { at_place self.new place ≡ Some slot.entry }
@@ -255,7 +256,7 @@ impl<const N: usize> SlotList<N> {
         }
     }
 
-    /// The group at a place goes, and is given out. It takes no memory.
+    /// Takes the group at a place out and returns it. Takes no memory.
     pub(crate) fn remove(&mut self, place: usize) -> Slot<N>
         requires { IsSome (at_place self.old place) }
         ensures slot { at_place self.old place ≡ Some result }
@@ -270,7 +271,7 @@ impl<const N: usize> SlotList<N> {
         }
     }
 
-    /// The group at a place goes, with what is kept of it. It takes no memory.
+    /// Drops the group at a place, with what is kept of it. Takes no memory.
     pub(crate) fn free(&mut self, place: usize)
         requires { IsSome (at_place self.old place) }
         ensures gone { at_place self.new place ≡ None }
@@ -280,7 +281,7 @@ impl<const N: usize> SlotList<N> {
         self.next = place;
     }
 
-    /// What is kept at a place.
+    /// Returns what is kept at a place.
     pub(crate) fn cell(&self, place: usize) -> &Cell
         requires { IsSome (at_place self.now place) }
         ensures { result.now ≡ cell_at (at_place self.now place) }
@@ -288,7 +289,7 @@ impl<const N: usize> SlotList<N> {
         self.places[place].cell()
     }
 
-    /// A row of the group at a place.
+    /// Lets a row of the group at a place enter or leave.
     pub(crate) fn take(
         &mut self,
         alloc: Global,
@@ -308,7 +309,7 @@ impl<const N: usize> SlotList<N> {
         self.places[place].take(alloc, items, batch, row)
     }
 
-    /// A batch of rows of the group at a place.
+    /// Takes in a batch of rows of the group at a place.
     pub(crate) fn take_batch(
         &mut self,
         alloc: Global,
@@ -326,7 +327,7 @@ impl<const N: usize> SlotList<N> {
         self.places[place].take_batch(alloc, items, batch)
     }
 
-    /// The group at a place shows the row.
+    /// Sets the row that the group at a place shows.
     pub(crate) fn show(&mut self, alloc: Global, place: usize, row: &Row) -> Result<(), AllocError>
         requires { IsSome (at_place self.old place) }
         ensures keys { KeepsKeys (at_place self.old) (at_place self.new) }
@@ -336,7 +337,7 @@ impl<const N: usize> SlotList<N> {
         self.places[place].show(alloc, row)
     }
 
-    /// A tick of the group at a place: whether it has a row to show.
+    /// Takes a tick of the group at a place. Returns whether it has a row to show.
     pub(crate) fn swap(
         &mut self,
         alloc: Global,

@@ -1,8 +1,16 @@
-//! The groups in a list, and by the key the place of each.
+//! The groups in a list, and a map from key to place.
 
 ghost use Rattle.std.specs.Prelude.{◌≡◌, ◌≤◌, ◌<◌, ◌+◌, ◌^◌, [], ◌++◌};
 ghost use Rattle.std.specs.Prelude.{false, length, None, Some};
-ghost use Rattle.std.specs.Prelude.{IfNone, IfOk, IsSome, IsTrue, OnOk, MatchOption, option_to_list};
+ghost use Rattle.std.specs.Prelude.{
+  IfNone,
+  IfOk,
+  IsSome,
+  IsTrue,
+  OnOk,
+  MatchOption,
+  option_to_list,
+};
 ghost use Rattle.std.specs.BTreeMap.{is_at, insert_entry};
 ghost use Rattle.std.specs.Map.{keys_of, lookup, remove_entry};
 ghost use Rattle.std.specs.List.Sorted.{IsStrictlySortedBy};
@@ -27,22 +35,22 @@ use std::collections::BTreeMap;
 use std::marker::Model;
 use values::{ListItem, MAX_COLUMNS, Row, Value};
 
-/// Where a group is that took a row, and whether it is quiet.
+/// Says where a group is that took a row, and whether it is quiet.
 #[derive(Drop)]
 pub(crate) struct Taken {
-    /// The place of the group.
+    /// Names the place of the group.
     pub(crate) place: usize,
-    /// Whether the group surely shows just what it has to show.
+    /// Says whether the group is known to show exactly what it has to show.
     pub(crate) is_quiet: bool,
 }
 
-/// What is kept of each group, by keys of at most `N` values. A look-up gives the place of a group;
-/// who knows that needs none.
+/// Keeps the groups, by keys of at most `N` values. A look-up gives the place of a group. Whoever
+/// knows the place needs no look-up.
 #[derive(Drop)]
 pub(crate) struct Slots<const N: usize> {
-    /// By the key, the place of the group.
+    /// Maps each key to the place of its group.
     places: BTreeMap<Key<N>, usize>,
-    /// At each place the key of its group, and what is kept of it.
+    /// Holds at each place the key of its group, and what is kept of it.
     slots: SlotList<N>,
 }
 
@@ -58,7 +66,7 @@ impl<const N: usize> Model for Slots<N> {
 }
 
 impl<const N: usize> Slots<N> {
-    /// No groups.
+    /// Makes a state of no groups.
     pub(crate) fn new(alloc: Global) -> Slots<N>
         requires { N ≤ MAX_COLUMNS }
         ensures { result.entries ≡ [] }
@@ -69,7 +77,7 @@ impl<const N: usize> Slots<N> {
         }
     }
 
-    /// What is kept of a group that may be there.
+    /// Returns what is kept of a group, if it is there.
     pub(crate) fn get(&self, key: &Key<N>) -> Option<&Cell>
         ensures { option_copied result ≡ lookup (is_at (held_cmp key.now)) self.now.entries }
     {
@@ -79,8 +87,8 @@ impl<const N: usize> Slots<N> {
         }
     }
 
-    /// A row of a group that may be there. Says where the group is and, where that is asked,
-    /// whether it is quiet.
+    /// Lets a row of a group enter or leave; the group need not be there. Returns where the group
+    /// is and, if `asks` is set, whether it is quiet.
     pub(crate) fn take(
         &mut self,
         alloc: Global,
@@ -114,7 +122,7 @@ impl<const N: usize> Slots<N> {
         })
     }
 
-    /// A batch of rows of a group that may be there. Says where the group is.
+    /// Takes in a batch of rows of a group, which need not be there. Returns where the group is.
     pub(crate) fn take_batch(
         &mut self,
         alloc: Global,
@@ -139,7 +147,7 @@ impl<const N: usize> Slots<N> {
         Ok(place)
     }
 
-    /// A group that may be there shows the row.
+    /// Sets the row that a group shows. The group need not be there.
     pub(crate) fn show(
         &mut self,
         alloc: Global,
@@ -161,8 +169,8 @@ impl<const N: usize> Slots<N> {
         Ok(())
     }
 
-    /// A tick of the group with this key, which stays: whether it has a row to show; None where
-    /// there is no such group. It takes no look-up where the group is at the place that is guessed.
+    /// Takes a tick of the group with this key, which stays. Returns whether it has a row to show;
+    /// `None` if there is no such group. It takes no look-up if the group is at the guessed place.
     pub(crate) fn swap(
         &mut self,
         alloc: Global,
@@ -186,7 +194,7 @@ impl<const N: usize> Slots<N> {
         }
     }
 
-    /// The group comes, which is not there. Says where it is.
+    /// Inserts a group that is not there. Returns where it is.
     pub(crate) fn insert(&mut self, key: &Key<N>, cell: Cell) -> Result<usize, AllocError>
         requires fits { length key.now.items ≤ N }
         requires new { has_key key.now self.old.entries ≡ false }
@@ -199,7 +207,7 @@ impl<const N: usize> Slots<N> {
         Ok(place)
     }
 
-    /// The group goes, where it is there. It takes no memory.
+    /// Drops the group, if it is there. Takes no memory.
     pub(crate) fn remove(&mut self, key: &Key<N>)
         ensures { self.new.entries ≡ remove_entry (is_at (held_cmp key.now)) self.old.entries }
     {
@@ -208,17 +216,17 @@ impl<const N: usize> Slots<N> {
         }
     }
 
-    /// The group goes, where it is there, whatever the length of its key. It takes no memory.
+    /// Drops the group, if it is there, whatever the length of its key. Takes no memory.
     pub(crate) fn remove_row(&mut self, key: &Row)
         ensures { self.new.entries ≡ remove_entry (is_at (held_cmp key.now)) self.old.entries }
     {
-        let _ = &self.places;
+        let _ = &self.places; // for the proof
         if let Some(key) = Key::fitted(key) {
             self.remove(&key);
         }
     }
 
-    /// The group with the last key goes.
+    /// Takes out the group with the last key.
     pub(crate) fn pop_last(&mut self) -> Option<(Key<N>, Cell)>
         ensures last { self.old.entries ≡ self.new.entries ++ option_to_list result }
         ensures none { IfNone result (self.old.entries ≡ []) }
@@ -228,20 +236,23 @@ impl<const N: usize> Slots<N> {
         Some((key, slot.into_cell()))
     }
 
-    /// The keys are in order, each once.
+    /// Says, for the proof, that the keys are in order, each once.
     fn ordered(&self)
         ensures sorted { IsStrictlySortedBy held_cmp (keys_of self.now.entries) }
         ensures short { Short N self.now.entries }
         ensures room { N ≤ MAX_COLUMNS }
     {
-        let _ = &self.places;
+        let _ = &self.places; // for the proof
     }
 
-    /// Moves all to keys of more values. After an error some may be lost.
+    /// Moves all groups to keys of more values.
+    ///
+    /// # Errors
+    /// `AllocError` when out of memory; then some groups may be lost.
     pub(crate) fn widened(&mut self, alloc: Global) -> Result<Slots<MAX_COLUMNS>, AllocError>
         ensures { IfOk result (λ wider. wider ≡ self.old) }
     {
-        self.ordered();
+        self.ordered(); // for the proof
         let mut wider = Slots::new(alloc);
         while let Some((key, cell)) = self.pop_last() {
             wider.insert(&key.copied(), cell)?;
@@ -250,14 +261,15 @@ impl<const N: usize> Slots<N> {
     }
 }
 
-/// The place of a group that the map may have.
+/// Returns the place of a group, if the map has it.
 fn place_of<const N: usize>(places: &BTreeMap<Key<N>, usize>, key: &Key<N>) -> Option<usize>
     ensures { result ≡ lookup (is_at (held_cmp key.now)) places.now.entries }
 {
     places.get(key).copied()
 }
 
-/// Whether the group at the place, which has this key, is quiet. Where that is not asked, no.
+/// Returns whether the group at the place, which has this key, is quiet; `false` unless `asks` is
+/// set.
 fn is_quiet_at<const N: usize>(slots: &SlotList<N>, place: usize, key: &Key<N>, asks: bool) -> bool
     requires { IsSome (at_place slots.now place) }
     ensures { IsTrue result → IsQuietCell key.now (cell_at (at_place slots.now place)) }
@@ -268,7 +280,7 @@ fn is_quiet_at<const N: usize>(slots: &SlotList<N>, place: usize, key: &Key<N>, 
     slots.cell(place).is_quiet(key.values())
 }
 
-/// Whether the group with this key is at the place.
+/// Returns whether the group with this key is at the place.
 fn has_key_at<const N: usize>(slots: &SlotList<N>, key: &Key<N>, place: usize) -> bool
     requires { N ≤ MAX_COLUMNS }
     ensures { IsTrue result → key_at (at_place slots.now place) ≡ Some key.now }
@@ -279,7 +291,7 @@ fn has_key_at<const N: usize>(slots: &SlotList<N>, key: &Key<N>, place: usize) -
     }
 }
 
-/// The place of a group that the map may have: the one that is guessed, or else by a look-up.
+/// Returns the place of a group, if the map has it. It tries the guess, then a look-up.
 fn found<const N: usize>(
     places: &BTreeMap<Key<N>, usize>,
     slots: &SlotList<N>,

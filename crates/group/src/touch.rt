@@ -1,4 +1,4 @@
-//! Keys that were touched.
+//! Keys that rows touched.
 
 ghost use Rattle.std.specs.Prelude.{◌≡◌, ◌≤◌, length, refl};
 ghost use Rattle.std.specs.Cmp.{partial_order_from_agreeing_total, partial_equiv_from_equiv};
@@ -10,13 +10,13 @@ use crate::key::Key;
 use std::cmp::Ordering;
 use std::marker::Model;
 
-/// The key of a group that was touched, and where the group was then. The place is a guess: no
-/// answer depends on it.
+/// Holds the key of a group that was touched, and where the group was then. The place is a guess:
+/// no answer depends on it.
 #[derive(Drop)]
 pub(crate) struct Touch<const N: usize> {
-    /// The group's key.
+    /// Holds the group's key.
     key: Key<N>,
-    /// Where the group was.
+    /// Names the place where the group was.
     place: usize,
 }
 
@@ -67,14 +67,14 @@ impl<const N: usize> Ord for Touch<N> {
 }
 
 impl<const N: usize> Touch<N> {
-    /// The key, of a group that was at the place.
+    /// Makes a touch of the group with this key, which is at the place.
     pub(crate) fn new(key: Key<N>, place: usize) -> Touch<N>
         ensures { result ≡ key.entry }
     {
         Touch { key, place }
     }
 
-    /// The same key again, in room for `M` values, and nothing of the place.
+    /// Returns the same key, in room for `M` values, with place 0 as the guess.
     pub(crate) fn copied<const M: usize>(&self) -> Touch<M>
         requires { N ≤ M }
         ensures { result ≡ self.now }
@@ -83,21 +83,21 @@ impl<const N: usize> Touch<N> {
         Touch::new(key.copied(), 0)
     }
 
-    /// The group's key.
+    /// Returns the group's key.
     pub(crate) fn key(&self) -> &Key<N>
         ensures { result.now ≡ self.now }
     {
         &self.key
     }
 
-    /// How many values the key has.
+    /// Returns how many values the key has.
     pub(crate) fn len(&self) -> usize
         ensures { result ≡ length self.now.items }
     {
         self.key.values().len()
     }
 
-    /// Where the group was.
+    /// Returns the place where the group was.
     pub(crate) fn place(&self) -> usize {
         self.place
     }

@@ -1,4 +1,4 @@
-//! What a turn of a group reads, puts out and changes.
+//! What a group's turn reads, emits and changes.
 
 ghost use Rattle.std.specs.Prelude.{◌≡◌, ◌↔◌, ◌≤◌, ◌<◌, ◌++◌, [], ◌∷◌, ◌||◌, IsTrue, List};
 ghost use Rattle.std.specs.Prelude.{length, map, cond, pos, Some, None, IfOk, IfSome, OnOk};
@@ -25,21 +25,21 @@ use std::alloc::{AllocError, Global};
 use std::marker::Model;
 use values::Value;
 
-/// Groups that rows touched since the last tick, in lists side by side.
+/// Holds the groups that rows touched since the last tick, in lists side by side.
 #[derive(Drop)]
 pub(crate) struct Touched {
-    /// The groups' keys.
+    /// Holds the groups' keys.
     keys: ValueLists,
-    /// The row that was shown of each last; it is missing where none was yet.
+    /// Holds the row that each group showed last; missing if it showed none yet.
     shown: ShownLists,
-    /// How many rows each has.
+    /// Counts the rows of each group.
     rows: Vec<i64>,
-    /// For each item of the list, in order, the exact figure of each.
+    /// Holds each group's exact figures, one for each item of the list, in order.
     figures: FigureLists,
 }
 
 impl Touched {
-    /// No groups. It takes no memory.
+    /// Makes lists of no groups. Takes no memory.
     pub(crate) fn new(alloc: Global) -> Touched
         ensures { HasTouched result [] }
     {
@@ -51,7 +51,10 @@ impl Touched {
         }
     }
 
-    /// A group more. After an error the lists are to be dropped.
+    /// Appends a group.
+    ///
+    /// # Errors
+    /// `AllocError` when out of memory; then you can only drop the lists.
     pub(crate) fn push(
         &mut self,
         key: &[Value],
@@ -76,7 +79,7 @@ impl Touched {
         Ok(())
     }
 
-    /// Whether the lists are the same.
+    /// Returns whether the lists are the same.
     fn is_same(&self, other: &Touched) -> bool
         ensures { IsTrue result ↔ SameTouched self.now other.now }
     {
@@ -94,10 +97,10 @@ impl Touched {
     }
 }
 
-/// The excerpt of a turn: each touched group where the item is a tick, else none.
+/// Is the excerpt of a turn: each touched group if the item is a tick, else none.
 #[derive(Drop)]
 pub struct Near {
-    /// The groups, by key.
+    /// Holds the groups, by key.
     groups: Touched,
 }
 
@@ -121,14 +124,14 @@ impl Near {
         Near { groups }
     }
 
-    /// How many groups.
+    /// Returns the number of groups.
     fn len(&self) -> usize
         ensures { result ≡ length self.now }
     {
         self.groups.rows.len()
     }
 
-    /// The key of the group at a place.
+    /// Returns the key of the group at a place.
     fn key(&self, place: usize) -> &[Value]
         requires { place < length self.now }
         ensures value { result.now ≡ (touched_at self.now place).key.items }
@@ -137,7 +140,7 @@ impl Near {
         self.groups.keys.get(place)
     }
 
-    /// The row that was shown last of the group at a place.
+    /// Returns the row that the group at a place showed last.
     fn shown(&self, place: usize) -> Option<&[Value]>
         requires { place < length self.now }
         ensures { option_map (λ values. held values.now) result
@@ -146,7 +149,7 @@ impl Near {
         self.groups.shown.get(place)
     }
 
-    /// How many rows the group at a place has.
+    /// Returns how many rows the group at a place has.
     fn rows(&self, place: usize) -> i64
         requires { place < length self.now }
         ensures { result ≡ (touched_at self.now place).rows }
@@ -154,7 +157,7 @@ impl Near {
         self.groups.rows[place]
     }
 
-    /// The exact figures of the group at a place.
+    /// Returns the exact figures of the group at a place.
     fn figures(&self, place: usize) -> &[Figure]
         requires { place < length self.now }
         ensures value { result.now ≡ (touched_at self.now place).figures }
@@ -163,8 +166,8 @@ impl Near {
         self.groups.figures.get(place)
     }
 
-    /// Whether the excerpts are equal: the same groups with the same rows shown and the same
-    /// figures, in the same order.
+    /// Returns whether the excerpts are equal: the same groups in the same order, with the same
+    /// rows shown and the same figures.
     pub fn is_same(&self, other: &Near) -> bool
         ensures { IsTrue result ↔ (self.now ≡ other.now) }
     {
@@ -172,12 +175,12 @@ impl Near {
     }
 }
 
-/// The change of a turn: what each touched group shows from the tick on; at rows nothing.
+/// Is the change of a turn: what each touched group shows from the tick on. It is empty for rows.
 #[derive(Drop)]
 pub struct Change {
-    /// The groups' keys, in order.
+    /// Holds the groups' keys, in order.
     keys: ValueLists,
-    /// The row of each; it is missing where the group shows none and is no longer kept.
+    /// Holds the row of each group; missing if the group shows none and is dropped.
     rows: ShownLists,
 }
 
@@ -201,14 +204,14 @@ impl Change {
         Change { keys, rows }
     }
 
-    /// How many groups.
+    /// Returns the number of groups.
     pub(crate) fn len(&self) -> usize
         ensures { result ≡ length self.now }
     {
         self.keys.len()
     }
 
-    /// The key of the group at a place.
+    /// Returns the key of the group at a place.
     pub(crate) fn key(&self, place: usize) -> &[Value]
         requires { place < length self.now }
         ensures value { result.now ≡ (shown_at_place self.now place).key.items }
@@ -217,7 +220,7 @@ impl Change {
         self.keys.get(place)
     }
 
-    /// The row that the group at a place shows.
+    /// Returns the row that the group at a place shows.
     pub(crate) fn row(&self, place: usize) -> Option<&[Value]>
         requires { place < length self.now }
         ensures value { option_map (λ values. held values.now) result
@@ -228,7 +231,7 @@ impl Change {
     }
 }
 
-/// Writes the row that the figures are shown as.
+/// Writes the row that shows the figures.
 fn write_row(row: &mut Vec<Value>, figures: &[Figure]) -> Result<(), AllocError>
     ensures { OnOk result (row.new.items ≡ map shown_figure figures.now) }
 {
@@ -239,7 +242,7 @@ fn write_row(row: &mut Vec<Value>, figures: &[Figure]) -> Result<(), AllocError>
     Ok(())
 }
 
-/// Writes the row that a group with so many rows and these figures shows from this tick on. Says
+/// Writes the row that a group with `rows` rows and these figures shows from this tick on. Returns
 /// whether there is one.
 fn write_now(
     row: &mut Vec<Value>,
@@ -260,7 +263,7 @@ fn write_now(
     Ok(false)
 }
 
-/// The row with these values, if there is one.
+/// Returns the values if `some` is set.
 fn row_if(some: bool, values: &[Value]) -> Option<&[Value]>
     requires { IsTrue some → length values.now ≤ MAX_COLUMNS }
     ensures value { option_map (λ values. held values.now) result
@@ -270,7 +273,7 @@ fn row_if(some: bool, values: &[Value]) -> Option<&[Value]>
     if some { Some(values) } else { None }
 }
 
-/// Whether the row is the one that was shown, also where both are missing.
+/// Returns whether the row is the one that was shown. Two missing rows are the same.
 fn is_shown(old: Option<&[Value]>, now: Option<&[Value]>) -> bool
     ensures { result ≡ same_shown (option_map (λ values. held values.now) old.entry)
         (option_map (λ values. held values.now) now.entry) }
@@ -284,7 +287,7 @@ fn is_shown(old: Option<&[Value]>, now: Option<&[Value]>) -> bool
     }
 }
 
-/// Puts the row out with its sign, if there is one.
+/// Emits the row with its sign, if there is one.
 fn put_row(rows: &mut SignedRows, enters: bool, row: Option<&[Value]>) -> Result<(), AllocError>
     ensures { OnOk result (rows.new ≡ with_signed rows.old
         (signed_row enters rows.old.width (option_map (λ values. held values.now) row.entry))) }
@@ -295,8 +298,8 @@ fn put_row(rows: &mut SignedRows, enters: bool, row: Option<&[Value]>) -> Result
     }
 }
 
-/// Puts the row that was shown out as one that leaves, then the other as one that enters, unless
-/// they are equal.
+/// Emits the row that was shown as one that leaves, then the other as one that enters. If they are
+/// equal, emits nothing.
 fn put_swap(
     rows: &mut SignedRows,
     old: Option<&[Value]>,
@@ -314,8 +317,8 @@ fn put_swap(
     Ok(())
 }
 
-/// A tick of the touched group at a place: it puts out what it has to, and its key and its row
-/// come to what groups show from then on. `spare` lends room for the row.
+/// Takes a tick of the touched group at a place. It emits what it has to; then its key and the row
+/// that it shows are appended. `spare` lends room for the row.
 fn change_at(
     group: &GroupBy,
     near: &Near,
@@ -341,7 +344,8 @@ fn change_at(
     Ok(())
 }
 
-/// A tick of the touched groups: they put out what they have to. Says what they show from then on.
+/// Takes a tick of the touched groups, which emit what they have to. Returns what they show from
+/// this tick on.
 fn changes(
     alloc: Global,
     group: &GroupBy,
@@ -378,7 +382,7 @@ fn work_at(
     Ok((items, change))
 }
 
-/// No outputs, and no change of what is shown.
+/// Returns no outputs, and no change of what is shown.
 fn nothing(alloc: Global) -> (Vec<Item>, Change)
     ensures outputs { result.0.items ≡ [] }
     ensures change { result.1 ≡ [] }
@@ -387,12 +391,14 @@ fn nothing(alloc: Global) -> (Vec<Item>, Change)
     (Vec::new(alloc), change)
 }
 
-/// The outputs and the change of a turn, from its item and excerpt alone.
+/// Returns the outputs and the change of a turn, from only its item and excerpt.
 ///
-/// At a tick each touched group whose row differs from the one that was shown puts that one out
-/// with minus and its own with plus; then follows the tick. Rows put out nothing and change nothing
-/// that is shown. It costs the excerpt and the outputs. An error says that memory was refused;
-/// nothing is changed.
+/// At a tick, a touched group whose row differs emits the row that was shown with minus, then its
+/// own with plus. Then follows the tick. Rows emit nothing and change nothing that is shown. It
+/// costs the excerpt and the outputs.
+///
+/// # Errors
+/// `AllocError` when out of memory; nothing has changed.
 pub fn work(
     alloc: Global,
     group: &GroupBy,

@@ -1,4 +1,4 @@
-//! A client's command.
+//! Keeps a client's command.
 ghost use Rattle.std.specs.Prelude.{◌≡◌, ◌↔◌, IsTrue};
 ghost use Rattle.plan.specs.Chart.{given_by};
 ghost use Rattle.reference.specs.CallViews.{texts_of};
@@ -8,16 +8,16 @@ use plan::Chart;
 use reference::NewRows;
 use std::marker::Model;
 
-/// What a client asks for, with streams and queries by number.
+/// Says what a client asks for, with streams and queries by number.
 #[derive(Drop)]
 pub enum CommandKind {
-    /// Declares a stream, whose first open instant is `from`.
+    /// Declares a stream whose first open instant is `from`.
     Declare {
         name: String,
         columns: Vec<String>,
         from: i64,
     },
-    /// Registers a query, with a chart of its operators' costs and sizes where one is given.
+    /// Registers a query, with a chart of its operators' costs and sizes if one is given.
     Register {
         name: String,
         text: String,
@@ -44,11 +44,11 @@ pub enum CommandKind {
     },
 }
 
-/// A client's command. Contracts see it as the machine does, its texts as bytes and its rows as a
-/// list.
+/// Holds a client's command. Contracts see it as the machine does, its texts as bytes and its rows
+/// as a list.
 #[derive(Drop)]
 pub struct Command {
-    /// Which call it is, with its arguments.
+    /// Says which call it is, with its arguments.
     kind: CommandKind,
 }
 
@@ -62,21 +62,21 @@ impl Model for Command {
 }
 
 impl Command {
-    /// A command of this kind.
+    /// Returns a command of this kind.
     pub fn new(kind: CommandKind) -> Command
         ensures { result ≡ command_of kind }
     {
         Command { kind }
     }
 
-    /// What it asks for.
+    /// Returns what it asks for.
     pub fn kind(&self) -> &CommandKind
         ensures { command_of result.now ≡ self.now }
     {
         &self.kind
     }
 
-    /// Whether the commands are equal by value. Takes no memory.
+    /// Returns whether the commands are equal by value. Takes no memory.
     pub fn is_same(&self, other: &Command) -> bool
         ensures { IsTrue result ↔ (self.now ≡ other.now) }
     {

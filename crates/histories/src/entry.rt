@@ -1,4 +1,4 @@
-//! What a history keeps of an accepted command.
+//! Keeps what a history has of an accepted command.
 ghost use Rattle.std.specs.Prelude.{◌≡◌, ◌↔◌, IsTrue};
 ghost use Rattle.std.specs.Arc.{arc_value};
 
@@ -8,17 +8,17 @@ use std::marker::Model;
 use std::ops::Deref;
 use std::sync::Arc;
 
-/// An accepted command, with its seat and its reply.
+/// Holds an accepted command, with its seat and its reply.
 ///
-/// The command has several owners, so an append's rows are kept once for the history and all
-/// receipts of it.
+/// The command has several owners, so an append's rows are kept once for the history and all its
+/// receipts.
 #[derive(Drop)]
 pub struct Entry {
-    /// The number of the seat that called.
+    /// Holds the number of the seat that called.
     seat: u64,
-    /// What it asked for.
+    /// Says what it asked for.
     command: Arc<Command>,
-    /// What it was answered.
+    /// Holds the reply that it got.
     reply: Reply,
 }
 
@@ -36,7 +36,7 @@ impl Model for Entry {
 }
 
 impl Entry {
-    /// An entry of a seat.
+    /// Returns an entry of a seat.
     pub fn new(seat: u64, command: Arc<Command>, reply: Reply) -> Entry
         ensures { result
             ≡ record { seat = seat; command = arc_value command; reply = reply } }
@@ -48,28 +48,28 @@ impl Entry {
         }
     }
 
-    /// The number of the seat that called.
+    /// Returns the number of the seat that called.
     pub fn seat(&self) -> u64
         ensures { result ≡ self.now.seat }
     {
         self.seat
     }
 
-    /// What it asked for.
+    /// Returns what it asked for.
     pub fn command(&self) -> &Command
         ensures { result.now ≡ self.now.command }
     {
         self.command.deref()
     }
 
-    /// What it was answered.
+    /// Returns the reply that it got.
     pub fn reply(&self) -> &Reply
         ensures { result.now ≡ self.now.reply }
     {
         &self.reply
     }
 
-    /// Whether the entries are equal by value. Takes no memory.
+    /// Returns whether the entries are equal by value. Takes no memory.
     pub fn is_same(&self, other: &Entry) -> bool
         ensures { IsTrue result ↔ (self.now ≡ other.now) }
     {

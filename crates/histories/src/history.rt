@@ -1,12 +1,12 @@
-//! A history beside the receipts of a seat.
+//! Compares a history with the receipts of a seat.
 ghost use Rattle.std.specs.Prelude.{◌≡◌, ◌↔◌, ◌<◌, ◌+◌, ◌^◌, IsTrue, length};
 ghost use Rattle.histories.specs.Histories.{own};
 
 use crate::entry::Entry;
 use crate::receipt::Receipt;
 
-/// Whether the receipts are those of the seat's entries in the history, each with its number, and
-/// no others, where the first entry has the number `first`. Takes no memory.
+/// Returns whether the receipts are exactly those of the seat's entries in the history, each with
+/// its number. The first entry has the number `first`. Takes no memory.
 pub fn agrees(history: &[Entry], seat: u64, first: u64, receipts: &[Receipt]) -> bool
     requires { first + length history.now < 2 ^ 64 }
     ensures { IsTrue result ↔ (own seat first history.now ≡ receipts.now) }

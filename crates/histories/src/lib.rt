@@ -1,4 +1,4 @@
-//! Histories: the commands that a machine accepted, each with its seat and its reply, and the
+//! Keeps histories: the commands that a machine accepted, each with its seat and its reply, and the
 //! receipts that seats hold of them.
 #![tactic(auto)]
 

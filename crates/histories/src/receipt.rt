@@ -1,15 +1,15 @@
-//! What a seat is told of an accepted command.
+//! Keeps what a seat learns of an accepted command.
 ghost use Rattle.std.specs.Prelude.{◌≡◌, ◌↔◌, ◌<◌, ◌^◌, IsTrue};
 
 use crate::entry::Entry;
 use std::marker::Model;
 
-/// What a seat is told of its accepted command: the number of its entry, and the entry.
+/// Holds what a seat learns of its accepted command: the number of its entry, and the entry.
 #[derive(Drop)]
 pub struct Receipt {
-    /// How many entries stand before it.
+    /// Counts the entries before it.
     number: u64,
-    /// What the history keeps at that number.
+    /// Holds what the history keeps at that number.
     entry: Entry,
 }
 
@@ -25,7 +25,7 @@ impl Model for Receipt {
 }
 
 impl Receipt {
-    /// The receipt of an entry of this number.
+    /// Returns the receipt of an entry of this number.
     pub fn new(number: u64, entry: Entry) -> Receipt
         requires { number < 2 ^ 63 }
         ensures { result ≡ record { number = number; entry = entry } }
@@ -33,7 +33,7 @@ impl Receipt {
         Receipt { number, entry }
     }
 
-    /// The number of the entry.
+    /// Returns the number of the entry.
     pub fn number(&self) -> u64
         ensures value { result ≡ self.now.number }
         ensures small { result < 2 ^ 63 }
@@ -41,14 +41,14 @@ impl Receipt {
         self.number
     }
 
-    /// The entry.
+    /// Returns the entry.
     pub fn entry(&self) -> &Entry
         ensures { result.now ≡ self.now.entry }
     {
         &self.entry
     }
 
-    /// Whether it is the receipt of this entry, which has this number. Takes no memory.
+    /// Returns whether it is the receipt of this entry, which has this number. Takes no memory.
     pub fn is_of(&self, number: u64, entry: &Entry) -> bool
         ensures { IsTrue result ↔ (record { number = number; entry = entry.now } ≡ self.now) }
     {

@@ -1,4 +1,4 @@
-//! What an accepted command is answered.
+//! Keeps the reply to an accepted command.
 ghost use Rattle.std.specs.Prelude.{◌≡◌, ◌↔◌, ◌≤◌, IsTrue, [], length, vec_capacity};
 ghost use Rattle.reference.specs.CallViews.{handed_of};
 ghost use Rattle.reference.specs.Replies.{count_in};
@@ -7,21 +7,21 @@ ghost use Rattle.histories.specs.Views.{reply_of};
 use std::marker::Model;
 use values::{Row, copy_row};
 
-/// What an accepted command is answered.
+/// Says what the reply to an accepted command is.
 #[derive(Drop)]
 pub enum ReplyKind {
-    /// The number of the stream that was declared, or of the query that was registered.
+    /// Returns the number of the stream that was declared, or of the query that was registered.
     Number(u64),
-    /// It was done.
+    /// Says that it was done.
     Done,
-    /// The answers that are handed out, each with its instant.
+    /// Returns the answers that were taken, each with its instant.
     Rows(Vec<(i64, Row)>),
 }
 
-/// What an accepted command is answered. Contracts see it as the machine's reply.
+/// Holds the reply to an accepted command. Contracts see it as the machine's reply.
 #[derive(Drop)]
 pub struct Reply {
-    /// What it says.
+    /// Holds what it says.
     kind: ReplyKind,
 }
 
@@ -35,28 +35,28 @@ impl Model for Reply {
 }
 
 impl Reply {
-    /// A reply of this kind.
+    /// Returns a reply of this kind.
     pub fn new(kind: ReplyKind) -> Reply
         ensures { result ≡ reply_of kind }
     {
         Reply { kind }
     }
 
-    /// What it says.
+    /// Returns what it says.
     pub fn kind(&self) -> &ReplyKind
         ensures { reply_of result.now ≡ self.now }
     {
         &self.kind
     }
 
-    /// What it says.
+    /// Gives up the reply, and returns what it says.
     pub fn into_kind(self) -> ReplyKind
         ensures { reply_of result ≡ self }
     {
         self.kind
     }
 
-    /// A copy of the reply, in room that was reserved for its answers. Takes no memory.
+    /// Copies the reply, in room that was reserved for its answers. Takes no memory.
     pub fn copy_into(&self, room: Vec<(i64, Row)>) -> Reply
         requires empty { room.items ≡ [] }
         requires fits { count_in self.now ≤ vec_capacity room }
@@ -69,7 +69,7 @@ impl Reply {
         }
     }
 
-    /// Whether the replies are equal by value. Takes no memory.
+    /// Returns whether the replies are equal by value. Takes no memory.
     pub fn is_same(&self, other: &Reply) -> bool
         ensures { IsTrue result ↔ (self.now ≡ other.now) }
     {

@@ -1,4 +1,4 @@
-//! Comparisons of a column with a number, and of two columns.
+//! Compares a column with a number, and two columns.
 
 ghost use Rattle.std.specs.Prelude.{◌≡◌, ◌<◌, ◌≤◌, ◌+◌, ℕ, length, Bool, List, map, cond, ℤ};
 ghost use Rattle.std.specs.Prelude.{FitsSigned, Some, ◌^◌, ◌*◌, neg_ℤ, ◌==◌};
@@ -69,7 +69,7 @@ pub fn compare_columns(
     }
 }
 
-/// One bit for each number of at most 64, whether it passes the test with `c`.
+/// Returns one bit for each number of at most 64: whether it passes the test with `c`.
 pub fn word_const<T: Test>(numbers: &[i64], c: i64) -> u64
     requires short { length numbers.now ≤ 64 }
     requires fit { Each1 (FitsSigned w64) numbers.now }
@@ -89,7 +89,7 @@ pub fn word_const<T: Test>(numbers: &[i64], c: i64) -> u64
     word
 }
 
-/// One bit for each pair of at most 64, whether it passes the test.
+/// Returns one bit for each pair of at most 64: whether it passes the test.
 pub fn word_columns<T: Test>(xs: &[i64], ys: &[i64]) -> u64
     requires short { length xs.now ≤ 64 }
     requires same { length ys.now ≡ length xs.now }
@@ -111,7 +111,7 @@ pub fn word_columns<T: Test>(xs: &[i64], ys: &[i64]) -> u64
     word
 }
 
-/// The comparison of lent numbers with one number.
+/// Compares lent numbers with one number.
 fn compare_by<T: Test>(numbers: &[i64], valid: &[u64], c: i64, truth: &mut [u64], known: &mut [u64])
     requires fit { Each1 (FitsSigned w64) numbers.now }
     requires words { length valid.now ≡ word_count (length numbers.now) }
@@ -131,7 +131,7 @@ fn compare_by<T: Test>(numbers: &[i64], valid: &[u64], c: i64, truth: &mut [u64]
     }
 }
 
-/// The comparison of a column with a number.
+/// Compares a column with a number.
 fn const_by<T: Test>(column: &Column, number: i64, truth: &mut [u64], known: &mut [u64])
     requires truth_fits { length truth.old ≡ word_count (length column.now) }
     requires known_fits { length known.old ≡ word_count (length column.now) }
@@ -142,7 +142,7 @@ fn const_by<T: Test>(column: &Column, number: i64, truth: &mut [u64], known: &mu
     compare_by::<T>(column.numbers(), column.valid_words(), number, truth, known)
 }
 
-/// The comparison of lent numbers with others, pair by pair.
+/// Compares lent numbers with others, pair by pair.
 fn pair_by<T: Test>(
     xs: &[i64],
     xs_valid: &[u64],
@@ -173,7 +173,7 @@ fn pair_by<T: Test>(
     }
 }
 
-/// The comparison of two columns.
+/// Compares two columns.
 fn columns_by<T: Test>(left: &Column, right: &Column, truth: &mut [u64], known: &mut [u64])
     requires same { length right.now ≡ length left.now }
     requires truth_fits { length truth.old ≡ word_count (length left.now) }

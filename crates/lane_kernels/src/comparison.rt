@@ -1,4 +1,4 @@
-//! The six comparisons, of one pair of numbers or of eight.
+//! Defines the six comparisons, of one pair of numbers or of eight.
 
 ghost use Rattle.std.specs.Prelude.{◌≡◌};
 ghost use Rattle.std.specs.Simd.Lanes.{mask_l, zip2};
@@ -8,19 +8,22 @@ ghost use Rattle.lane_kernels.specs.Lanes.{IsEight, test_of};
 
 use std::simd::prelude::*;
 
-/// A comparison of numbers, one pair or eight at a time.
+/// Compares numbers, one pair or eight pairs at a time.
 pub trait Test {
     ghost how: { Compare };
 
+    /// Returns whether a pair passes.
     fn one(x: i64, y: i64) -> bool
         ensures { result ≡ test_of how x y };
 
+    /// Returns a bit for each of eight pairs that says whether it passes, the first in the lowest
+    /// bit.
     fn eight(xs: i64x8, ys: i64x8) -> u64
         requires { IsEight xs × IsEight ys }
         ensures { result ≡ mask_l (zip2 (test_of how) xs ys) };
 }
 
-/// `=`: the numbers are equal.
+/// Tests for `=`: the numbers are equal.
 pub struct Equals;
 
 impl Test for Equals {
@@ -35,7 +38,7 @@ impl Test for Equals {
     }
 }
 
-/// `<>`: the numbers differ.
+/// Tests for `<>`: the numbers differ.
 pub struct Differs;
 
 impl Test for Differs {
@@ -50,7 +53,7 @@ impl Test for Differs {
     }
 }
 
-/// `<`: the first number is below the second.
+/// Tests for `<`: the first number is below the second.
 pub struct Below;
 
 impl Test for Below {
@@ -65,7 +68,7 @@ impl Test for Below {
     }
 }
 
-/// `<=`: the first number is at most the second.
+/// Tests for `<=`: the first number is at most the second.
 pub struct AtMost;
 
 impl Test for AtMost {
@@ -80,7 +83,7 @@ impl Test for AtMost {
     }
 }
 
-/// `>`: the first number is above the second.
+/// Tests for `>`: the first number is above the second.
 pub struct Above;
 
 impl Test for Above {
@@ -95,7 +98,7 @@ impl Test for Above {
     }
 }
 
-/// `>=`: the first number is at least the second.
+/// Tests for `>=`: the first number is at least the second.
 pub struct AtLeast;
 
 impl Test for AtLeast {

@@ -1,5 +1,5 @@
-//! Whole conditions in one pass: each word of 64 rows goes through all steps, eight numbers at a
-//! time.
+//! Runs whole conditions in one pass: each word of 64 rows goes through all steps, eight numbers at
+//! a time.
 
 ghost use Rattle.std.specs.Prelude.{◌≡◌, ◌<◌, ◌≤◌, ◌+◌, ◌*◌, ◌∷◌, [], ℕ, Bool, List, Option, None};
 ghost use Rattle.std.specs.Prelude.{Some, length, map, reverse, true, get_or};
@@ -18,35 +18,41 @@ use arrayvec::ArrayVec;
 use column::{Batch, Column};
 use values::Compare;
 
-/// A step of a condition in postfix order.
+/// Is a step of a condition in postfix order.
 #[derive(Clone, Copy, PartialEq, Eq, Drop)]
 pub enum Step {
-    /// A comparison of a column with a number.
+    /// Compares a column with a number.
     Number(usize, Compare, i64),
-    /// A comparison of two columns.
+    /// Compares two columns.
     Columns(usize, Compare, usize),
-    /// A truth that is known.
+    /// Adds a truth that is known.
     Known(bool),
-    /// Whether both of the two last truths hold: unknown where neither is false and one is unknown.
+    /// Says whether both of the last two truths hold: unknown where neither is false and one is
+    /// unknown.
     And,
-    /// Whether one of the two last truths holds: unknown where neither is true and one is unknown.
+    /// Says whether one of the last two truths holds: unknown where neither is true and one is
+    /// unknown.
     Or,
-    /// Whether the last truth does not hold: unknown where it is.
+    /// Says whether the last truth does not hold: unknown where that truth is.
     Not,
 }
 
-/// The most truths that wait at a time.
+/// Limits the truths that wait at a time.
 pub const MAX_TRUTHS: usize = 67;
 
-/// 64 truths: where it is true, and where it is false.
+/// Holds 64 truths, a bit each: where they are true, and where they are false.
 #[derive(Clone, Copy, Drop, Default)]
 struct Word {
+    /// Marks the places that are true.
     yes: u64,
+    /// Marks the places that are false.
     no: u64,
 }
 
+/// Holds the truths that wait, the last one at the end.
 type Stack = ArrayVec<Word, MAX_TRUTHS>;
 
+/// Computes whether both hold, place by place.
 fn and_word(a: Word, b: Word) -> Word
     ensures { (k : ℕ) → (x : Option Bool) → (y : Option Bool) → IsHeld k a x → IsHeld k b y
         → IsHeld k result (and3 x y) }
@@ -57,6 +63,7 @@ fn and_word(a: Word, b: Word) -> Word
     }
 }
 
+/// Computes whether one of two holds, place by place.
 fn or_word(a: Word, b: Word) -> Word
     ensures { (k : ℕ) → (x : Option Bool) → (y : Option Bool) → IsHeld k a x → IsHeld k b y
         → IsHeld k result (or3 x y) }
@@ -67,6 +74,7 @@ fn or_word(a: Word, b: Word) -> Word
     }
 }
 
+/// Computes whether the truth does not hold, place by place.
 fn not_word(a: Word) -> Word
     ensures { (k : ℕ) → (x : Option Bool) → IsHeld k a x → IsHeld k result (not3 x) }
 {
@@ -76,6 +84,7 @@ fn not_word(a: Word) -> Word
     }
 }
 
+/// Returns a word with the same truth at all 64 places.
 fn known_word(truth: bool) -> Word
     ensures { (k : ℕ) → k < 64 → IsHeld k result (Some truth) }
 {
@@ -92,7 +101,7 @@ fn known_word(truth: bool) -> Word
     }
 }
 
-/// The rows 64 `w` to 64 `w` + 63 of a column, compared with a number.
+/// Compares the rows 64 `w` to 64 `w` + 63 of a column with a number.
 fn const_word<T: Test>(column: &Column, number: i64, w: usize) -> Word
     requires { w * 64 < length column.now }
     ensures { (k : ℕ) → k < 64 → 64 * w + k < length column.now
@@ -109,7 +118,7 @@ fn const_word<T: Test>(column: &Column, number: i64, w: usize) -> Word
     }
 }
 
-/// The same of two columns.
+/// Compares the rows 64 `w` to 64 `w` + 63 of two columns.
 fn columns_word<T: Test>(left: &Column, right: &Column, w: usize) -> Word
     requires within { w * 64 < length left.now }
     requires same { length right.now ≡ length left.now }
@@ -128,6 +137,7 @@ fn columns_word<T: Test>(left: &Column, right: &Column, w: usize) -> Word
     }
 }
 
+/// Compares as `how` says the rows 64 `w` to 64 `w` + 63 of a column with a number.
 fn compared_number(column: &Column, how: Compare, number: i64, w: usize) -> Word
     requires { w * 64 < length column.now }
     ensures { (k : ℕ) → k < 64 → 64 * w + k < length column.now
@@ -143,6 +153,7 @@ fn compared_number(column: &Column, how: Compare, number: i64, w: usize) -> Word
     }
 }
 
+/// Compares as `how` says the rows 64 `w` to 64 `w` + 63 of two columns.
 fn compared_columns(left: &Column, how: Compare, right: &Column, w: usize) -> Word
     requires within { w * 64 < length left.now }
     requires same { length right.now ≡ length left.now }
@@ -160,6 +171,7 @@ fn compared_columns(left: &Column, how: Compare, right: &Column, w: usize) -> Wo
     }
 }
 
+/// Takes the last truths off the stack.
 fn pop(stack: &mut Stack) -> Word
     requires { 0 < length stack.old.items }
     ensures items { reverse stack.old.items ≡ result ∷ reverse stack.new.items }
@@ -168,6 +180,7 @@ fn pop(stack: &mut Stack) -> Word
     stack.pop().unwrap()
 }
 
+/// Puts truths on the stack.
 fn push(stack: &mut Stack, word: Word)
     requires { length stack.old.items < MAX_TRUTHS }
     ensures items { reverse stack.new.items ≡ word ∷ reverse stack.old.items }
@@ -176,7 +189,7 @@ fn push(stack: &mut Stack, word: Word)
     stack.push(word);
 }
 
-/// One step for the rows 64 `w` to 64 `w` + 63.
+/// Runs one step for the rows 64 `w` to 64 `w` + 63.
 fn run_step(step: Step, batch: &Batch, w: usize, stack: &mut Stack)
     requires within { w * 64 < length batch.now }
     requires fits { StepFits (width batch.now) (length stack.old.items) step }
@@ -188,7 +201,7 @@ fn run_step(step: Step, batch: &Batch, w: usize, stack: &mut Stack)
         → AreHeld k (reverse stack.new.items)
         (after step (get_or batch.now (64 * w + k) (true, [])).1 vs) }
 {
-    let _ = batch.len();
+    let _ = batch.len(); // for the proof
     match step {
         Step::Number(column, how, number) => {
             push(stack, compared_number(batch.column(column), how, number, w));
@@ -217,7 +230,7 @@ fn run_step(step: Step, batch: &Batch, w: usize, stack: &mut Stack)
     }
 }
 
-/// All steps for the rows 64 `w` to 64 `w` + 63.
+/// Runs all steps for the rows 64 `w` to 64 `w` + 63.
 fn run_word(steps: &[Step], batch: &Batch, w: usize, stack: &mut Stack) -> Word
     requires within { w * 64 < length batch.now }
     requires fits { StepsFit (width batch.now) 0 steps.now }
@@ -231,7 +244,7 @@ fn run_word(steps: &[Step], batch: &Batch, w: usize, stack: &mut Stack) -> Word
     pop(stack)
 }
 
-/// The ones of the first `count` places.
+/// Returns a word with the bits of the first `count` places set.
 fn first_places(count: usize) -> u64
     requires some { 1 ≤ count }
     requires few { count ≤ 64 }
@@ -241,9 +254,9 @@ fn first_places(count: usize) -> u64
     u64::MAX >> (64 - count)
 }
 
-/// The truth of a condition at each row of a batch.
+/// Computes the truth of a condition at each row of a batch.
 ///
-/// The steps are in postfix order and end with one truth; the lent words are as many as the rows
+/// The steps are in postfix order and end with one truth. The lent words are as many as the rows
 /// need.
 pub fn run_condition(steps: &[Step], batch: &Batch, truth: &mut [u64], known: &mut [u64])
     requires fits { StepsFit (width batch.now) 0 steps.now }

@@ -1,4 +1,4 @@
-//! Counts of set bits.
+//! Counts set bits.
 
 ghost use Rattle.std.specs.Prelude.{◌≡◌, ◌≤◌, ◌*◌, ◌-ℤ◌, pos, length, count_by, bit_and};
 ghost use Rattle.std.specs.Int.RustNames.{count_ones};
@@ -8,7 +8,7 @@ ghost use Rattle.lane_kernels.specs.Truth.{signed_count};
 
 use column::Column;
 
-/// How many bits of at most 16 words are set.
+/// Counts the set bits of at most 16 words.
 pub fn count_set(words: &[u64]) -> u32
     requires { length words.now ≤ 16 }
     ensures { result ≡ count_by (λ b. b) (bits (64 * length words.now) words.now) }
@@ -20,23 +20,24 @@ pub fn count_set(words: &[u64]) -> u32
     total
 }
 
-/// How many values are no nulls; those with a set bit in `minus` are taken away.
+/// Counts the values that are no nulls; those with a set bit in `minus` are subtracted.
 pub fn count_signed(column: &Column, minus: &[u64]) -> i64
     requires words { length minus.now ≡ word_count (length column.now) }
     ensures { result ≡ signed_count (bits (length column.now) minus.now) column.now }
 {
-    let _ = column.len();
+    let _ = column.len(); // for the proof
     count_truths(column.valid_words(), minus)
 }
 
-/// How many bits of a word are set, each with its sign.
+/// Counts the set bits of a word, each with its sign: those that are set in `minus` too are
+/// subtracted.
 fn count_word(valid: u64, minus: u64) -> i64
     ensures { result ≡ pos (count_ones valid) -ℤ pos (2 * count_ones (bit_and valid minus)) }
 {
     valid.count_ones() as i64 - 2 * (valid & minus).count_ones() as i64
 }
 
-/// How many bits are set, each with its sign.
+/// Counts the set bits of all words, each with its sign.
 fn count_truths(valid: &[u64], minus: &[u64]) -> i64
     requires few { length valid.now ≤ 16 }
     requires same { length minus.now ≡ length valid.now }

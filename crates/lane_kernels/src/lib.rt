@@ -1,8 +1,9 @@
-//! Comparisons, logic of three truths, sums and counts over columns, eight numbers at a time.
+//! Computes comparisons, logic of three truths, sums and counts over columns, eight numbers at a
+//! time.
 //!
-//! A truth of many places is two lists of words: a `truth` bit is 1 where it is true, a `known` bit
-//! where it is not unknown; bits past the length are 0. The kernels write into lent words and take
-//! no memory; each is, place by place, its plain definition.
+//! A truth of many places is two lists of words. A `truth` bit is 1 where the place is true, a
+//! `known` bit where it is not unknown; bits past the length are 0. The kernels write into lent
+//! words and take no memory. Each of them is, place by place, its plain definition.
 #![tactic(auto)]
 
 mod compare;

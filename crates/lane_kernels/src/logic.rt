@@ -1,12 +1,13 @@
-//! Not, And and Or of three truths.
+//! Computes Not, And and Or of three truths.
 
 ghost use Rattle.std.specs.Prelude.{◌≡◌, ◌≤◌, ℕ, length};
 ghost use Rattle.values.specs.Condition.{not3, and3, or3};
 ghost use Rattle.lane_kernels.specs.Truth.{IsClearFrom, IsKnownTruth, truth_at};
 
-/// The negation of a truth, place by place.
+/// Negates a truth, place by place.
 ///
-/// All words lent are as many; bits from a place on that are 0 in the one are 0 in the other.
+/// All lent lists have the same number of words. Where the bits from a place on are 0 in what is
+/// read, they are 0 in what is written.
 pub fn not3(a_truth: &[u64], a_known: &[u64], truth: &mut [u64], known: &mut [u64])
     requires same_a { length a_known.now ≡ length a_truth.now }
     requires same_truth { length truth.old ≡ length a_truth.now }
@@ -24,7 +25,7 @@ pub fn not3(a_truth: &[u64], a_known: &[u64], truth: &mut [u64], known: &mut [u6
     }
 }
 
-/// Whether both hold, place by place, as `not3` does.
+/// Computes whether both truths hold, place by place; its words are as for `not3`.
 pub fn and3(
     a_truth: &[u64],
     a_known: &[u64],
@@ -54,7 +55,7 @@ pub fn and3(
     }
 }
 
-/// Whether one of two holds, place by place, as `not3` does.
+/// Computes whether one of two truths holds, place by place; its words are as for `not3`.
 pub fn or3(
     a_truth: &[u64],
     a_known: &[u64],

@@ -1,4 +1,4 @@
-//! Sums with signs.
+//! Adds up numbers with signs.
 
 ghost use Rattle.std.specs.Prelude.{◌≡◌, ◌<◌, ◌≤◌, ◌+◌, ℕ, length, Bool, List, map, cond, ℤ};
 ghost use Rattle.std.specs.Prelude.{FitsSigned, Some, ◌^◌, ◌*◌, neg_ℤ, ◌==◌};
@@ -13,16 +13,17 @@ ghost use Rattle.lane_kernels.specs.Lanes.{IsSmallEight, IsWithin, bits_of, sign
 use column::Column;
 use std::simd::prelude::*;
 
-/// The sum of the values that are no nulls; those with a set bit in `minus` are taken away.
+/// Adds up the values that are no nulls; those with a set bit in `minus` are subtracted.
 pub fn sum_signed(column: &Column, minus: &[u64]) -> i64
     requires in_range { All IsStreamValue column.now }
     requires words { length minus.now ≡ word_count (length column.now) }
     ensures { result ≡ signed_total (bits (length column.now) minus.now) column.now }
 {
-    let _ = column.len();
+    let _ = column.len(); // for the proof
     sum_numbers(column.numbers(), minus)
 }
 
+/// Adds up eight numbers; those with a set bit among the lowest eight of `minus` are subtracted.
 fn signed_eight(xs: i64x8, minus: u64) -> i64
     requires { IsSmallEight xs }
     ensures { result ≡ signed_sum (bits_of minus) xs }
@@ -33,6 +34,7 @@ fn signed_eight(xs: i64x8, minus: u64) -> i64
         .strict_reduce_sum()
 }
 
+/// Returns the number with its sign: negated where the bit `k` of the word is set.
 fn signed_one(x: i64, word: u64, k: usize) -> i64
     requires within { IsWithin (2 ^ 40) x }
     requires in_word { k < 64 }
@@ -41,7 +43,7 @@ fn signed_one(x: i64, word: u64, k: usize) -> i64
     if word >> k & 1 == 1 { -x } else { x }
 }
 
-/// The sum of the numbers, each with its sign.
+/// Adds up the numbers, each with its sign.
 fn sum_numbers(numbers: &[i64], minus: &[u64]) -> i64
     requires few { length numbers.now ≤ 1024 }
     requires small { Each1 (IsWithin (2 ^ 40)) numbers.now }

@@ -1,4 +1,4 @@
-//! What holds of an engine of many queries: functions that do nothing, each with a law.
+//! States what holds of an engine of many queries: functions that do nothing, each with a law.
 ghost use Rattle.std.specs.Prelude.{◌≡◌, ℕ, List, Some, false, slice_get};
 ghost use Rattle.values.specs.Row.{Row};
 ghost use Rattle.reference.specs.Machine as machine;
@@ -14,55 +14,59 @@ ghost use Rattle.laws_engine.specs.Histories.{Call, LeadTo, empty};
 ghost use Rattle.laws_engine.specs.Openings.{IsUnbroken, forgotten, goes_on, marks_by};
 ghost use Rattle.laws_engine.specs.Remembered.{GivesAsRemembered, LeadBoth};
 
-/// Says that of each query of a good engine the answers that were taken, and those that wait, are a
-/// beginning of CQL's answers for the instants that its streams' heartbeats have closed, and all of
-/// them where none of its operators may be leased or is; and that no operator that may be leased
-/// has a greater slope than that of the first slot.
+/// Says what a good engine gives. For each query, the answers taken followed by those that wait are
+/// a prefix of CQL's answers for the instants that its streams have closed. They are all of them
+/// once no operator of the query may be leased or is. No operator that may be leased has a greater
+/// slope than that of the first slot.
 pub fn good_engines_keep_their_promises()
     ensures { (e : PlainEngine) → GoodEngine e → KeepsItsPromises e }
 {}
 
-/// Says that after any list of calls on the empty engine, whatever was declared, registered,
-/// appended, closed, taken, dropped and forgotten, and whatever turns went out and came back, the
-/// answers of each query that were taken, and those that wait, are a beginning of CQL's answers for
-/// the instants that are closed, all of them where none of its operators may be leased or is, and
-/// that the first slot is steepest.
+/// Says that an engine keeps its promises after any list of calls on the empty engine. It does so
+/// whatever was declared, registered, appended, closed, taken, dropped or forgotten, and whatever
+/// turns went out and came back.
+///
+/// For each query, the answers taken followed by those that wait are a prefix of CQL's answers for
+/// the closed instants. They are all of them once no operator of the query may be leased or is. The
+/// first slot is the steepest.
 pub fn engines_keep_their_promises()
     ensures { (calls : List Call) (e : PlainEngine) → LeadTo empty calls e → KeepsItsPromises e }
 {}
 
-/// Says that a good engine stays good where what no window shows again is forgotten: queues, turns
-/// that are out, slots and answers that wait are as they were, and each running query goes on from
-/// the instant after the last tick that its root has taken.
+/// Says that a good engine stays good when it forgets what no window shows again. Queues, turns
+/// that are out, slots and answers that wait are as they were. Each running query goes on from the
+/// instant after the last tick that its root has taken.
 pub fn forgotten_engines_are_good()
     ensures { (e : PlainEngine) → GoodEngine e → GoodEngine (forgotten e) }
 {}
 
-/// Says that no call tells a good engine from the one that has forgotten: the machines are alike,
-/// and the same answers wait. No query may be broken, since of such a query nothing is kept but the
-/// answers that wait.
+/// Says that no call can distinguish a good engine from the one that has forgotten: the machines
+/// are alike, and the same answers wait. No query may be broken, since nothing is kept for a broken
+/// query except the answers that wait.
 pub fn forgotten_engines_are_alike()
     ensures { (e : PlainEngine) → GoodEngine e → IsUnbroken e
         → Alike (world_of e) (world_of (forgotten e)) }
 {}
 
-/// Says that forgetting changes no later answer of a query that runs or is registered later, and no
-/// command's fault, whatever other queries were broken: the machines are partly alike, and stay so.
+/// Says that forgetting changes no command's fault, and no later answer of a query that runs or is
+/// registered later, whatever other queries broke. The machines are partly alike, and stay so.
 pub fn forgotten_engines_answer_alike()
     ensures { (e : PlainEngine) → GoodEngine e
         → PartlyAlike (goes_on e) e.machine (forgotten e).machine }
 {}
 
-/// Says that after any list of calls on the empty engine, whatever was forgotten and whatever
-/// broke, what waits of a query that runs begins those answers over all that ever came which were
-/// not taken yet, and is all of them where none of its operators may be leased or is. It is as if
-/// nothing had been forgotten: the machine that was told the same accepts the same commands.
+/// Says that after any list of calls on the empty engine, forgetting loses no answer, whatever was
+/// forgotten and whatever broke. What waits at a running query is a prefix of its untaken answers
+/// over all that ever came. It is all of them once no operator of the query may be leased or is.
+///
+/// It is as if nothing had been forgotten: the machine that receives the same accepts the same
+/// commands.
 pub fn engines_forget_no_answer()
     ensures { (calls : List Call) (e : PlainEngine) (m : Machine)
         → LeadBoth empty machine.empty calls e m → GivesAsRemembered e m }
 {}
 
-/// Says that no running query's mark lies above what its streams have closed.
+/// Says that no running query's mark is above what its streams have closed.
 pub fn marks_are_caught_up()
     ensures { (e : PlainEngine) → GoodEngine e → (n : ℕ) (s : Stream)
         → slice_get e.machine.streams n ≡ Some s
@@ -71,7 +75,7 @@ pub fn marks_are_caught_up()
 {}
 
 /// Says that what bounds the answers of a good engine's queries bounds those of the engine that has
-/// forgotten. Nothing is left of just those queries that were dropped.
+/// forgotten. It assumes that exactly the dropped queries have nothing left.
 pub fn forgotten_engines_close_few()
     ensures { (e : PlainEngine) → GoodEngine e → HaveFewClosed e.machine
         → ((n : ℕ) (q : Registered) (answers : List (ℕ × Row)) → query_at e n ≡ Some q

@@ -1,5 +1,5 @@
-//! An engine of many queries as a plain value: turns of their operators go out and come back, and
-//! CQL's answers are given. What holds of it, as functions that do nothing, each with a law.
+//! Models an engine of many queries as a plain value: turns of their operators go out and come
+//! back, and CQL's answers are given. Its laws are functions that do nothing.
 #![tactic(auto)]
 
 mod laws;

@@ -1,5 +1,5 @@
-//! What forgetting leaves: machines and worlds that no command tells apart, and openings, which are
-//! such. Functions that do nothing, each with a law.
+//! States what forgetting leaves: machines and worlds that no command can distinguish, and
+//! openings, which are such machines. Its functions do nothing; each has a law.
 #![tactic(auto)]
 
 mod laws;

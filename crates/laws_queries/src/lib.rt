@@ -1,5 +1,5 @@
-//! The operators of a running query as the cells of a net: what their states and queues stand for,
-//! and that a finished turn keeps it.
+//! Reads the operators of a running query as the cells of a net. It says what their states and
+//! queues represent, and that a finished turn keeps this so.
 #![tactic(auto)]
 
 mod laws;

@@ -1,5 +1,5 @@
-//! Look-ups by name: a table gives numbers to names, in the order in which they come, and finds the
-//! number of a name in logarithmic time.
+//! Looks numbers up by name. A table gives numbers to names, in the order in which they come, and
+//! finds the number of a name in logarithmic time.
 #![tactic(auto)]
 
 mod table;

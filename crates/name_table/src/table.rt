@@ -1,4 +1,4 @@
-//! Tables of names.
+//! Keeps tables of names.
 ghost use Rattle.std.specs.Prelude.{◌≡◌, ℕ, ◌<◌, ◌^◌, ◌++◌, [], ◌∷◌, None, Some, OnOk, OnErr};
 ghost use Rattle.std.specs.Prelude.{count_by, is_some, length, position, slice_get, slice_set};
 ghost use Rattle.name_table.specs.Names.{bears};
@@ -7,15 +7,15 @@ use std::alloc::{AllocError, Global};
 use std::collections::BTreeMap;
 use std::marker::Model;
 
-/// Names by number, from 0 on. No two numbers bear one name; a number whose name was freed bears
-/// none.
+/// Holds names by number, from 0 on. No two numbers bear one name; a number whose name was freed
+/// bears none.
 #[derive(Drop)]
 pub struct NameTable {
-    /// Where memory is taken from.
+    /// Names the allocator that memory comes from.
     alloc: Global,
-    /// By the name the number that bears it.
+    /// Holds, for each name that is taken, the number that bears it.
     numbers: BTreeMap<String, usize>,
-    /// How many numbers were given, also those whose names were freed.
+    /// Counts the numbers that were given, also those whose names were freed.
     count: usize,
 }
 
@@ -32,7 +32,7 @@ impl Model for NameTable {
 }
 
 impl NameTable {
-    /// A table without names. Takes no memory.
+    /// Makes a table without names. Takes no memory.
     pub fn new(alloc: Global) -> NameTable
         ensures { result ≡ [] }
     {
@@ -43,22 +43,23 @@ impl NameTable {
         }
     }
 
-    /// How many numbers were given.
+    /// Returns how many numbers were given.
     pub fn len(&self) -> usize
         ensures { result ≡ length self.now }
     {
         self.count
     }
 
-    /// How many numbers bear a name: those that were given, without those whose names were freed.
+    /// Returns how many numbers bear a name: those that were given, without those whose names were
+    /// freed.
     pub fn count_names(&self) -> usize
         ensures { result ≡ count_by is_some self.now }
     {
         self.numbers.len()
     }
 
-    /// The number that bears the name. Takes no memory; its time grows with the logarithm of how
-    /// many names there are.
+    /// Returns the number that bears the name. Takes no memory; its time grows with the logarithm
+    /// of the number of names.
     pub fn number(&self, name: &str) -> Option<usize>
         ensures first { result ≡ position (bears name.now) self.now }
         ensures once { (number : ℕ) → slice_get self.now number ≡ Some (Some name.now)
@@ -67,7 +68,11 @@ impl NameTable {
         self.numbers.get(name).copied()
     }
 
-    /// Gives the next number to the name. On Err all is as it was.
+    /// Gives the next number to the name.
+    ///
+    /// # Errors
+    ///
+    /// `AllocError` when out of memory; then nothing has changed.
     pub fn push(&mut self, name: &str) -> Result<(), AllocError>
         requires fresh { position (bears name.now) self.old ≡ None }
         requires room { length self.old < 2 ^ 63 }
@@ -80,7 +85,8 @@ impl NameTable {
         Ok(())
     }
 
-    /// No number bears the name any longer, so that it may be given again. Takes no memory.
+    /// Takes the name from the number that bears it, so that it may be given again. Takes no
+    /// memory.
     pub fn free(&mut self, name: &str)
         ensures freed { (number : ℕ) → slice_get self.old number ≡ Some (Some name.now)
             → self.new ≡ slice_set self.old number None }

@@ -1,4 +1,4 @@
-//! How often keys came.
+//! Counts how often keys came.
 ghost use Rattle.std.specs.Prelude.{◌≡◌, ◌≤◌, ◌+◌, ◌&&◌, cond, length, nat_lt, IfOk, OnOk};
 ghost use Rattle.std.specs.Ordering.{is_eq};
 ghost use Rattle.column.specs.Rows.{row_at};
@@ -11,7 +11,7 @@ use std::alloc::AllocError;
 use std::collections::BTreeMap;
 use values::Value;
 
-/// The values of a row in some columns, which the partition of the row goes by.
+/// Returns the values of a row in some columns, by which rows are partitioned.
 pub(crate) fn key_at<const N: usize>(
     columns: &[&[Value]],
     chosen: &[usize],
@@ -27,7 +27,7 @@ pub(crate) fn key_at<const N: usize>(
     key
 }
 
-/// The value of a row in a column, or null past the columns or the rows.
+/// Returns the value of a row in a column, or null past the columns or the rows.
 pub(crate) fn value_in(columns: &[&[Value]], column: usize, row: usize) -> Value
     ensures { result ≡ value_at (row_at (lists columns.now) row) column }
 {
@@ -37,7 +37,7 @@ pub(crate) fn value_in(columns: &[&[Value]], column: usize, row: usize) -> Value
     }
 }
 
-/// The value of a row, or null past the rows.
+/// Returns the value of a row, or null past the rows.
 fn value_of(values: &[Value], row: usize) -> Value
     ensures { result ≡ value_at values.now row }
 {
@@ -47,7 +47,10 @@ fn value_of(values: &[Value], row: usize) -> Value
     }
 }
 
-/// Counts a key that was counted fewer than `most` times, and says whether it was.
+/// Counts a key if it was counted fewer than `most` times. Returns whether it was.
+///
+/// # Errors
+/// `AllocError` when out of memory.
 pub(crate) fn count_key<const N: usize>(
     counts: &mut BTreeMap<ArrayVec<Value, N>, u64>,
     key: ArrayVec<Value, N>,

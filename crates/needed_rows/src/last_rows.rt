@@ -1,4 +1,4 @@
-//! Marks of the last rows of each partition.
+//! Marks the last rows of each partition.
 ghost use Rattle.std.specs.Prelude.{◌≡◌, ◌≤◌, ◌<◌, ◌+◌, ◌-◌, ◌&&◌, length, true, OnOk};
 ghost use Rattle.needed_rows.specs.Keys.{are_alike};
 ghost use Rattle.needed_rows.specs.Marks.{Sets, count_places, has_arrived, is_among_last};
@@ -10,11 +10,14 @@ use std::alloc::{AllocError, Global};
 use std::collections::BTreeMap;
 use values::{MAX_COLUMNS, Value};
 
-/// Of the rows from a place to below another that arrived at `place` or later, marks the last ones,
-/// as many as the count says, of each partition: of those that are equal in the columns.
+/// Marks the last `count` rows of each partition: of the rows that are equal in the columns. It
+/// looks only at the rows from the place `start` to below `end` that arrived at `place` or later.
 ///
-/// It goes back from the end: with no column until all of them are found, else through all of the
-/// rows, with a look-up for each. An error says that memory was refused.
+/// It goes back from the end. Without columns it stops when it has found all of them; else it goes
+/// through all the rows, with a look-up for each.
+///
+/// # Errors
+/// `AllocError` when out of memory.
 pub(crate) fn mark_last(
     alloc: Global,
     rows: &ClosedRows,
@@ -45,7 +48,7 @@ pub(crate) fn mark_last(
     }
 }
 
-/// Where all rows are one partition.
+/// Marks the last rows if all rows are one partition.
 fn mark_last_of_all(
     numbers: &[u64],
     place: u64,
@@ -72,7 +75,10 @@ fn mark_last_of_all(
     }
 }
 
-/// Where the partitions go by keys of at most `N` values.
+/// Marks the last rows of partitions with keys of at most `N` values.
+///
+/// # Errors
+/// `AllocError` when out of memory.
 fn mark_last_of_each<const N: usize>(
     alloc: Global,
     rows: &ClosedRows,
@@ -103,8 +109,8 @@ fn mark_last_of_each<const N: usize>(
     Ok(())
 }
 
-/// Where they go by more columns than a row may have, which no query asks: each row costs a look at
-/// those behind it.
+/// Marks the last rows of partitions with more columns than a row may have, which no query asks
+/// for. Each row costs a look at those after it.
 fn mark_last_by_looks(
     rows: &ClosedRows,
     columns: &[usize],
@@ -128,7 +134,7 @@ fn mark_last_by_looks(
     }
 }
 
-/// How many of the rows behind a row, of those that arrived at `place` or later, are alike to it.
+/// Counts the rows after a row that arrived at `place` or later and are alike to it.
 fn count_alike(rows: &ClosedRows, columns: &[usize], place: u64, row: usize, end: usize) -> usize
     requires row { row < end }
     requires within { end ≤ length rows.now.numbers.now }
@@ -146,7 +152,7 @@ fn count_alike(rows: &ClosedRows, columns: &[usize], place: u64, row: usize, end
     count
 }
 
-/// Whether two rows are equal in the columns, nulls being equal to each other.
+/// Returns whether two rows are equal in the columns, nulls being equal to each other.
 fn are_alike(columns: &[&[Value]], chosen: &[usize], row: usize, other: usize) -> bool
     ensures { result ≡ are_alike chosen.now (lists columns.now) row other }
 {

@@ -1,9 +1,11 @@
-//! Which closed rows of a stream running queries still need.
+//! Finds which closed rows of a stream running queries still need.
 //!
-//! A query needs a row of its input that is above its mark, the instant of the last tick whose turn
-//! at its root was finished, or that a window of it shows at the mark or later when nothing more is
-//! appended. A `Reader` is a source of a running query; `needed` marks the rows that some reader
-//! needs, exactly.
+//! A query's mark is the instant of the last tick whose turn at its root was finished. A query
+//! needs the rows of its input that are above its mark. It also needs those that a window of it
+//! shows at the mark or later when nothing more is appended.
+//!
+//! A `Reader` is a source of a running query. `needed` marks exactly the rows that some reader
+//! needs.
 #![tactic(auto)]
 
 mod keys;

@@ -1,4 +1,4 @@
-//! The rows that the sources of running queries need.
+//! Marks the rows that the sources of running queries need.
 ghost use Rattle.std.specs.Prelude.{◌≡◌, ◌≤◌, ◌<◌, ◌+◌, ◌-◌, ◌*◌, ◌/◌, length, map, min};
 ghost use Rattle.std.specs.Prelude.{IfOk, OnOk};
 ghost use Rattle.values.specs.Window.{LastRows, Range, RangeSlide, Unbounded};
@@ -12,11 +12,13 @@ use crate::runs::{first_place, mark_between, mark_from};
 use std::alloc::{AllocError, Global};
 use values::Window;
 
-/// For each closed row whether some reader needs it.
+/// Returns for each closed row whether some reader needs it.
 ///
-/// It costs one list of marks, and for each reader the rows that it marks; of a window of last rows
-/// the rows of its input, with a look-up each where it has columns. An error says that memory was
-/// refused.
+/// It costs one list of marks, and for each reader the rows that it marks. A window of last rows
+/// costs the rows of its input, with a look-up each if it has columns.
+///
+/// # Errors
+/// `AllocError` when out of memory.
 pub fn needed(alloc: Global, rows: &ClosedRows, readers: &[Reader]) -> Result<Vec<bool>, AllocError>
     requires { AreInOrder rows.now }
     ensures { IfOk result (λ marks. marks.items
@@ -32,7 +34,8 @@ pub fn needed(alloc: Global, rows: &ClosedRows, readers: &[Reader]) -> Result<Ve
 
 /// Sets the mark of each closed row that the reader needs, and leaves the others.
 ///
-/// An error says that memory was refused; some of the marks may be set then.
+/// # Errors
+/// `AllocError` when out of memory; then some of the marks may be set.
 pub fn mark_needed(
     alloc: Global,
     rows: &ClosedRows,
@@ -54,7 +57,7 @@ pub fn mark_needed(
     Ok(())
 }
 
-/// A window of all rows needs its whole input.
+/// Marks what a window of all rows needs: its whole input.
 fn mark_all(rows: &ClosedRows, reader: &Reader, kept: &mut [bool])
     requires order { AreInOrder rows.now }
     requires marks { length kept.old ≡ length rows.now.instants.now }
@@ -69,7 +72,8 @@ fn mark_all(rows: &ClosedRows, reader: &Reader, kept: &mut [bool])
     );
 }
 
-/// A window of the last instants needs what it shows at the mark, and all that is later.
+/// Marks what a window of the last instants needs: what it shows at the mark, and all that is
+/// later.
 fn mark_range(rows: &ClosedRows, reader: &Reader, span: u64, kept: &mut [bool])
     requires order { AreInOrder rows.now }
     requires marks { length kept.old ≡ length rows.now.instants.now }
@@ -85,9 +89,9 @@ fn mark_range(rows: &ClosedRows, reader: &Reader, span: u64, kept: &mut [bool])
     );
 }
 
-/// One that moves at multiples alone needs what it shows at the one up to the mark, and what it
-/// will show at the next one: of later ones that is the most. Where the step is longer than the
-/// span, these are no front part of its input.
+/// Marks what a window needs that moves only at multiples of its step. It needs what it shows at
+/// the multiple up to the mark, and what it will show at the next one. The next one shows the most
+/// of all later ones. If the step is longer than the span, there is a gap between the two.
 fn mark_slide(rows: &ClosedRows, reader: &Reader, span: u64, step: u64, kept: &mut [bool])
     requires order { AreInOrder rows.now }
     requires marks { length kept.old ≡ length rows.now.instants.now }
@@ -127,7 +131,7 @@ fn mark_slide(rows: &ClosedRows, reader: &Reader, span: u64, step: u64, kept: &m
     }
 }
 
-/// The greatest multiple of the step that is not above the instant.
+/// Returns the greatest multiple of the step that is not above the instant.
 fn multiple_up_to(at: u64, step: u64) -> u64
     requires { 0 < step }
     ensures value { result ≡ at / step * step }
@@ -136,8 +140,8 @@ fn multiple_up_to(at: u64, step: u64) -> u64
     at / step * step
 }
 
-/// The least instant that a window shows at the multiple after this one, or the greatest number
-/// where it is above that.
+/// Returns the least instant that a window shows at the multiple after this one. Returns the
+/// greatest number if the instant is above that.
 fn least_at_next(multiple: u64, span: u64, step: u64) -> u64
     ensures { result ≡ min (multiple + step - span) 18446744073709551615 }
 {
@@ -148,8 +152,11 @@ fn least_at_next(multiple: u64, span: u64, step: u64) -> u64
     }
 }
 
-/// One of the last rows of each partition needs those of the rows up to the mark, and all that is
-/// later.
+/// Marks what a window of the last rows of each partition needs: those of the rows up to the mark,
+/// and all that is later.
+///
+/// # Errors
+/// `AllocError` when out of memory.
 fn mark_last_rows(
     alloc: Global,
     rows: &ClosedRows,

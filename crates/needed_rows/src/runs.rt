@@ -1,9 +1,9 @@
-//! Marks of rows between instants.
+//! Marks the rows between two instants.
 ghost use Rattle.std.specs.Prelude.{◌≡◌, ◌≤◌, ◌<◌, ℕ, length, get_or};
 ghost use Rattle.op_queue.specs.Tables.{IsRising};
 ghost use Rattle.needed_rows.specs.Marks.{Sets, is_between, is_from, is_in_run};
 
-/// The first place whose instant is not below the least.
+/// Returns the first place whose instant is not below the least.
 pub(crate) fn first_place(instants: &[u64], least: u64) -> usize
     requires { IsRising instants.now 0 (length instants.now) }
     ensures within { result ≤ length instants.now }
@@ -14,7 +14,7 @@ pub(crate) fn first_place(instants: &[u64], least: u64) -> usize
     instants.partition_point(|instant| *instant < least)
 }
 
-/// Marks the rows from a place to below another that arrived at `place` or later.
+/// Marks the rows from the place `start` to below `end` that arrived at `place` or later.
 fn mark_run(numbers: &[u64], place: u64, start: usize, end: usize, kept: &mut [bool])
     requires within { end ≤ length numbers.now }
     requires same { length kept.old ≡ length numbers.now }
@@ -27,7 +27,7 @@ fn mark_run(numbers: &[u64], place: u64, start: usize, end: usize, kept: &mut [b
     }
 }
 
-/// Marks the rows of the least instant and of later ones that arrived at `place` or later.
+/// Marks the rows of the instant `least` and later ones that arrived at `place` or later.
 pub(crate) fn mark_from(
     instants: &[u64],
     numbers: &[u64],
@@ -44,7 +44,7 @@ pub(crate) fn mark_from(
     mark_run(numbers, place, start, instants.len(), kept);
 }
 
-/// Marks the rows from the least instant to below another that arrived at `place` or later.
+/// Marks the rows of the instants from `least` to below `end` that arrived at `place` or later.
 pub(crate) fn mark_between(
     instants: &[u64],
     numbers: &[u64],

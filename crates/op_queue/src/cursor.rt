@@ -1,4 +1,4 @@
-//! Cursors.
+//! Keeps cursors: the queues that queries read of a stream's log.
 ghost use Rattle.std.specs.Prelude.{◌≡◌, ◌<◌, ◌≤◌, length, drop, min, slice_range, IfOk, OnErr};
 ghost use Rattle.op_queue.specs.Cursors.{GoesOn, IsWithin, cursor_entries};
 ghost use Rattle.op_queue.specs.Items.{IsFrontPart, entries_of, first_instant, front_of};
@@ -11,25 +11,26 @@ use crate::queue::Front;
 use column::MAX_ROWS;
 use std::alloc::{AllocError, Global};
 
-/// A query's queue of what a stream has closed: numbers alone, over the stream's log.
+/// Is a query's queue of what a stream has closed: only numbers, over the stream's log.
 ///
 /// It shows the rows that arrived at its place or later, of the instants from its first one on, and
 /// each closed instant's tick.
 #[derive(Clone, Copy, Debug)]
 pub struct Cursor {
-    /// The number in the order of arrival from which on rows are shown.
+    /// Holds the number in the order of arrival from which on rows are shown.
     place: u64,
-    /// The instant at the front.
+    /// Holds the instant at the front.
     at: u64,
-    /// How many of that instant's shown rows have left.
+    /// Counts that instant's shown rows that have left.
     passed: u64,
-    /// Where that instant's rows may begin in the log. A search tests it and begins there.
+    /// Holds the place in the log where that instant's rows may start. A search tests it and starts
+    /// there.
     hint: usize,
 }
 
 impl Cursor {
-    /// The queue of a query that was registered when the stream was `place` long, and whose first
-    /// instant is `start`: one above its base.
+    /// Makes the queue of a query that was registered when the stream was `place` long. Its first
+    /// instant is `start`, one above the query's base.
     pub fn new(place: u64, start: u64) -> Cursor
         ensures entries { (log : Closed) → cursor_entries result log ≡ log_entries place start log }
         ensures within { (log : Closed) → IsWithin result log }
@@ -42,7 +43,7 @@ impl Cursor {
         }
     }
 
-    /// What stands at the front, if anything waits.
+    /// Returns what is at the front, if anything waits.
     pub fn front(&self, log: &Log) -> Option<Front>
         ensures { result ≡ front_of (cursor_entries self.now log.now) }
     {
@@ -57,7 +58,7 @@ impl Cursor {
         }
     }
 
-    /// The instant at the front, if anything waits. It does not look at the log's rows.
+    /// Returns the instant at the front, if anything waits. It does not look at the log's rows.
     pub fn front_instant(&self, log: &Log) -> Option<u64>
         ensures { result ≡ first_instant (cursor_entries self.now log.now) }
     {
@@ -67,8 +68,12 @@ impl Cursor {
         Some(self.at)
     }
 
-    /// A copy of the front: a tick, or the rows that are left of its instant, at most `count` of
-    /// them and at most `MAX_ROWS`. An error says that memory was refused; nothing is changed.
+    /// Copies the front: a tick, or the rows that are left of its instant, at most `count` of them
+    /// and at most `MAX_ROWS`.
+    ///
+    /// # Errors
+    ///
+    /// `AllocError` when out of memory; then nothing has changed.
     pub fn front_cut(&self, alloc: Global, log: &Log, count: usize) -> Result<Item, AllocError>
         requires waits { 0 < length (cursor_entries self.now log.now) }
         requires some { 0 < count }
@@ -76,7 +81,7 @@ impl Cursor {
         ensures value { IfOk result (λ item. entries_of item
             ≡ front_part (min count MAX_ROWS) (cursor_entries self.now log.now)) }
     {
-        let _until = log.until();
+        let _until = log.until(); // for the proof
         let (from, to) = self.left(log);
         if from == to {
             return Ok(Item::Tick(self.at));
@@ -86,8 +91,12 @@ impl Cursor {
         Ok(Item::Rows(self.at, batch))
     }
 
-    /// The front leaves: a tick, or the rows that are left of its instant, at most `count` of them
-    /// and at most `MAX_ROWS`. An error says that memory was refused; nothing is changed.
+    /// Takes the front: a tick, or the rows that are left of its instant, at most `count` of them
+    /// and at most `MAX_ROWS`.
+    ///
+    /// # Errors
+    ///
+    /// `AllocError` when out of memory; then nothing has changed.
     pub fn take(&mut self, alloc: Global, log: &Log, count: usize) -> Result<Item, AllocError>
         requires waits { 0 < length (cursor_entries self.old log.now) }
         requires some { 0 < count }
@@ -106,7 +115,7 @@ impl Cursor {
         Ok(item)
     }
 
-    /// The first `count` rows and ticks leave.
+    /// Drops the first `count` rows and ticks.
     pub fn drop_front(&mut self, log: &Log, count: usize)
         requires waits { count ≤ length (cursor_entries self.old log.now) }
         requires within { IsWithin self.old log.now }
@@ -115,8 +124,8 @@ impl Cursor {
         ensures within { IsWithin self.new log.now }
         ensures goes_on { GoesOn log.now self.old self.new }
     {
-        let _until = log.until();
-        let _len = log.len();
+        let _until = log.until(); // for the proof
+        let _len = log.len(); // for the proof
         let mut left = count;
         while left > 0 {
             let (from, to) = self.left(log);
@@ -132,7 +141,7 @@ impl Cursor {
         }
     }
 
-    /// How many rows and ticks wait; it costs the rows that wait.
+    /// Counts the rows and ticks that wait. It costs the log's rows of later instants.
     pub fn len(&self, log: &Log) -> u128
         ensures { result ≡ length (cursor_entries self.now log.now) }
     {
@@ -145,7 +154,8 @@ impl Cursor {
         (to - from) as u128 + later as u128 + (until - self.at) as u128
     }
 
-    /// Between which places of the log the rows stand that are left of the instant at the front.
+    /// Returns the places of the log between which the rows lie that are left of the instant at the
+    /// front.
     fn left(&self, log: &Log) -> (usize, usize)
         requires { self.now.at < log.now.until }
         ensures some { result.0 ≤ result.1 }

@@ -1,14 +1,14 @@
-//! Queues between the operators of a query.
+//! Keeps the queues between the operators of a query.
 //!
-//! A `Queue` is a list of entries, one a signed row of an instant and one a tick that closes an
-//! instant, whose instants never go back. A `Log` is what a stream has closed, and a `Cursor` with
-//! its log is again such a list: the queue that a query reads of the stream, of which it keeps
-//! four numbers alone.
+//! A `Queue` is a list of entries whose instants never go back. An entry is a signed row of an
+//! instant, or a tick that closes an instant. A `Log` holds what a stream has closed. A `Cursor`
+//! with its log is again such a list: the queue that a query reads of the stream. It keeps only
+//! four numbers of its own.
 //!
-//! `SignedRows` are the rows that a turn puts out, until they leave as batches of a queue.
+//! `SignedRows` are the rows that a turn emits, until they leave as batches of a queue.
 //!
-//! The paths of `specs/Paths.antt` say what a queue means to its two ends: it leads from the bag
-//! that its consumer has taken to the bag that its producer has put out.
+//! The paths of `specs/Paths.antt` say what a queue means to its two ends. It leads from the bag
+//! that its consumer has taken to the bag that its producer has emitted.
 #![tactic(auto)]
 
 mod cursor;

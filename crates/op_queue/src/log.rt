@@ -1,4 +1,4 @@
-//! Logs.
+//! Keeps logs: the closed rows of streams.
 ghost use Rattle.std.specs.Prelude.{◌≡◌, ℕ, ◌+◌, ◌*◌, ◌<◌, ◌≤◌, ◌++◌, [], All, false};
 ghost use Rattle.std.specs.Prelude.{replicate, length, take, map, slice_range, get_or, nat_le};
 ghost use Rattle.std.specs.Prelude.{IfOk, OnOk, OnErr};
@@ -15,25 +15,25 @@ use std::alloc::{AllocError, Global};
 use std::marker::Model;
 use values::{MAX_COLUMNS, Value};
 
-/// How many places are looked at one by one before a search by halves.
+/// Limits the places that a search looks at one by one before it goes by halves.
 const NEAR_PLACES: usize = 16;
 
-/// The closed rows of a stream by instant, then arrival, and the stream's first open instant.
+/// Holds the closed rows of a stream by instant, then arrival, and the stream's first open instant.
 ///
-/// Rows are kept in columns, eight bytes a value. Queries keep a `Cursor` each, so that closing
+/// Rows are kept in columns, eight bytes a value. Each query keeps a `Cursor`, so that closing
 /// costs the rows that are closed and nothing for a query.
 #[derive(Drop)]
 pub struct Log {
-    /// The instants of the closed rows, by instant, then arrival. Of each list the first `len`
-    /// count; what a refused growth left behind them goes before more comes.
+    /// Holds the instants of the closed rows, by instant, then arrival. Only the first `len` places
+    /// of each list count. What a failed growth left after them is dropped before more comes.
     instants: Vec<u64>,
-    /// By the same places, the number of each row in the order of arrival.
+    /// Holds the number of each row in the order of arrival, by the same places.
     numbers: Vec<u64>,
-    /// For each column of the stream its values, by the same places.
+    /// Holds the values of each column of the stream, by the same places.
     columns: Vec<Vec<Value>>,
-    /// How many rows are closed.
+    /// Counts the rows that are closed.
     len: usize,
-    /// The stream's first open instant.
+    /// Holds the stream's first open instant.
     until: u64,
 }
 
@@ -52,8 +52,11 @@ impl Model for Log {
 }
 
 impl Log {
-    /// A log of a stream with so many columns, whose instants from `until` on are open.
-    /// An error says that memory was refused.
+    /// Makes a log of a stream with `width` columns, whose instants from `until` on are open.
+    ///
+    /// # Errors
+    ///
+    /// `AllocError` when out of memory.
     pub fn new(alloc: Global, width: usize, until: u64) -> Result<Log, AllocError>
         requires { width ≤ MAX_COLUMNS }
         ensures width { IfOk result (λ log. log.width ≡ width) }
@@ -73,9 +76,12 @@ impl Log {
         })
     }
 
-    /// Closes the instants below `until`, which have these rows: the instant of each, its number in
-    /// the order of arrival, and the rows' values, one row's behind another's.
-    /// An error says that memory was refused; nothing is changed.
+    /// Closes the instants below `until`, which have these rows. Takes the instant of each row, its
+    /// number in the order of arrival, and the rows' values, row after row.
+    ///
+    /// # Errors
+    ///
+    /// `AllocError` when out of memory; then nothing has changed.
     pub fn close(
         &mut self,
         instants: &[u64],
@@ -109,7 +115,7 @@ impl Log {
         Ok(())
     }
 
-    /// The first open instant.
+    /// Returns the first open instant.
     pub fn until(&self) -> u64
         ensures value { result ≡ self.now.until }
         ensures closed { All (λ e. e.instant < self.now.until) self.now.elements }
@@ -118,35 +124,35 @@ impl Log {
         self.until
     }
 
-    /// How many rows are closed.
+    /// Returns the number of closed rows.
     pub fn len(&self) -> usize
         ensures { result ≡ length self.now.elements }
     {
         self.len
     }
 
-    /// How many columns the rows have. Takes no memory.
+    /// Returns the number of columns that the rows have. Takes no memory.
     pub fn width(&self) -> usize
         ensures { result ≡ self.now.width }
     {
         self.columns.len()
     }
 
-    /// The instant of each closed row. Takes no memory.
+    /// Lends the instant of each closed row. Takes no memory.
     pub fn instants(&self) -> &[u64]
         ensures { result.now ≡ map (λ e. e.instant) self.now.elements }
     {
         &self.instants[..self.len]
     }
 
-    /// The number of each closed row in the order of arrival. Takes no memory.
+    /// Lends the number of each closed row in the order of arrival. Takes no memory.
     pub fn numbers(&self) -> &[u64]
         ensures { result.now ≡ map (λ e. e.arrival) self.now.elements }
     {
         &self.numbers[..self.len]
     }
 
-    /// The values of the closed rows in a column. Takes no memory.
+    /// Lends the values of the closed rows in a column. Takes no memory.
     pub fn column(&self, index: usize) -> &[Value]
         requires { index < self.now.width }
         ensures { result.now ≡ map (λ e. value_at e.row index) self.now.elements }
@@ -154,7 +160,7 @@ impl Log {
         &self.columns[index][..self.len]
     }
 
-    /// The closed rows stay at whose places a mark is true; the others leave. Takes no memory.
+    /// Keeps the closed rows at the places where a mark is true; the others leave. Takes no memory.
     ///
     /// It costs the rows that are closed. The first open instant stays.
     pub fn keep(&mut self, kept: &[bool])
@@ -169,8 +175,8 @@ impl Log {
         self.len = self.numbers.len();
     }
 
-    /// Between which places the rows of a closed instant stand that arrived at `place` or later.
-    /// The search begins at the hint where the rows before that are of earlier instants.
+    /// Returns the places between which the rows of a closed instant lie that arrived at `place` or
+    /// later. The search starts at the hint where the rows before that are of earlier instants.
     pub(crate) fn places(&self, hint: usize, place: u64, at: u64) -> (usize, usize)
         requires { at < self.now.until }
         ensures some { result.0 ≤ result.1 }
@@ -178,7 +184,7 @@ impl Log {
         ensures shown { shown place at self.now.elements
             ≡ slice_range self.now.elements result.0 result.1 }
     {
-        let _until = self.until;
+        let _until = self.until; // for the proof
         let start = tested_start(&self.instants, self.len, hint, at);
         let first = near_bound(&self.instants, start, self.len, at);
         let end = near_bound(&self.instants, first, self.len, at + 1);
@@ -186,17 +192,17 @@ impl Log {
         (from, end)
     }
 
-    /// How many rows of later instants arrived at `place` or later.
+    /// Counts the rows of later instants that arrived at `place` or later.
     pub(crate) fn count_later(&self, place: u64, at: u64) -> usize
         requires { at < self.now.until }
         ensures { result ≡ length (filter (is_waiting place (at + 1)) self.now.elements) }
     {
-        let _until = self.until;
+        let _until = self.until; // for the proof
         let first = lower_bound(&self.instants, 0, self.len, at + 1);
         count_from(&self.numbers[first..self.len], place)
     }
 
-    /// A copy of the rows from the place `from` to below the place `to`.
+    /// Copies the rows from the place `from` to below the place `to`.
     pub(crate) fn batch(&self, alloc: Global, from: usize, to: usize) -> Result<Batch, AllocError>
         requires some { from < to }
         requires few { to ≤ from + MAX_ROWS }
@@ -209,7 +215,7 @@ impl Log {
     }
 }
 
-/// The hint, where the numbers before it are below the least; else the first place.
+/// Returns the hint, where the numbers before it are below the least; else the first place.
 fn tested_start(numbers: &[u64], to: usize, hint: usize, least: u64) -> usize
     requires within { to ≤ length numbers.now }
     requires rising { IsRising numbers.now 0 to }
@@ -228,7 +234,7 @@ fn tested_start(numbers: &[u64], to: usize, hint: usize, least: u64) -> usize
     hint
 }
 
-/// The same as `lower_bound`, quick where the place stands near the first one.
+/// Does what `lower_bound` does, and is quick where the place lies near the first one.
 fn near_bound(numbers: &[u64], from: usize, to: usize, least: u64) -> usize
     requires some { from ≤ to }
     requires within { to ≤ length numbers.now }
@@ -247,7 +253,7 @@ fn near_bound(numbers: &[u64], from: usize, to: usize, least: u64) -> usize
     lower_bound(numbers, near, to, least)
 }
 
-/// The first place of a rising part of a list whose number is not below the least.
+/// Returns the first place of a rising part of a list whose number is not below the least.
 fn lower_bound(numbers: &[u64], from: usize, to: usize, least: u64) -> usize
     requires some { from ≤ to }
     requires within { to ≤ length numbers.now }
@@ -261,14 +267,14 @@ fn lower_bound(numbers: &[u64], from: usize, to: usize, least: u64) -> usize
     from + part.partition_point(|number| *number < least)
 }
 
-/// How many of the numbers are not below the least.
+/// Counts the numbers that are not below the least.
 fn count_from(numbers: &[u64], least: u64) -> usize
     ensures { result ≡ length (filter (λ number. nat_le least number) numbers.now) }
 {
     numbers.iter().filter(|number| least <= **number).count()
 }
 
-/// The values of each column stay at whose places a mark is true.
+/// Keeps the values of each column at the places where a mark is true.
 fn keep_columns(columns: &mut Vec<Vec<Value>>, kept: &[bool])
     requires { All (λ c. length kept.now ≤ length c) (lists columns.old.items) }
     ensures { lists columns.new.items ≡ map (chosen kept.now) (lists columns.old.items) }
@@ -278,7 +284,7 @@ fn keep_columns(columns: &mut Vec<Vec<Value>>, kept: &[bool])
     }
 }
 
-/// Of the first numbers those stay at whose places a mark is true; the others leave.
+/// Keeps those of the first numbers at whose places a mark is true; the others leave.
 fn keep_numbers(numbers: &mut Vec<u64>, kept: &[bool])
     requires { length kept.now ≤ length numbers.old.items }
     ensures { numbers.new.items ≡ chosen kept.now numbers.old.items }
@@ -288,7 +294,7 @@ fn keep_numbers(numbers: &mut Vec<u64>, kept: &[bool])
     numbers.truncate(count);
 }
 
-/// Of the first values those stay at whose places a mark is true; the others leave.
+/// Keeps those of the first values at whose places a mark is true; the others leave.
 fn keep_values(values: &mut Vec<Value>, kept: &[bool])
     requires { length kept.now ≤ length values.old.items }
     ensures { values.new.items ≡ chosen kept.now values.old.items }
@@ -298,7 +304,7 @@ fn keep_values(values: &mut Vec<Value>, kept: &[bool])
     values.truncate(count);
 }
 
-/// Moves the items at whose places a mark is true to the front, and counts them.
+/// Moves the items at the places where a mark is true to the front, and counts them.
 fn move_kept<T>(items: &mut [T], kept: &[bool]) -> usize
     requires { length kept.now ≡ length items.old }
     ensures len { length items.new ≡ length items.old }
@@ -314,7 +320,7 @@ fn move_kept<T>(items: &mut [T], kept: &[bool]) -> usize
     count
 }
 
-/// Writes the rows behind the first `len` of each list.
+/// Writes the rows after the first `len` of each list.
 fn append(
     instants: &mut Vec<u64>,
     numbers: &mut Vec<u64>,
@@ -347,7 +353,7 @@ fn append(
     Ok(())
 }
 
-/// Writes numbers behind the first `len`.
+/// Writes numbers after the first `len`.
 fn append_numbers(numbers: &mut Vec<u64>, len: usize, more: &[u64]) -> Result<(), AllocError>
     requires { len ≤ length numbers.old.items }
     ensures same { take len numbers.new.items ≡ take len numbers.old.items }
@@ -357,7 +363,7 @@ fn append_numbers(numbers: &mut Vec<u64>, len: usize, more: &[u64]) -> Result<()
     numbers.extend_from_slice(more)
 }
 
-/// Writes the values of so many rows behind the first `len` of each column.
+/// Writes the values of `count` rows after the first `len` of each column.
 fn append_values(
     columns: &mut Vec<Vec<Value>>,
     len: usize,
@@ -378,7 +384,7 @@ fn append_values(
     Ok(())
 }
 
-/// Writes the values of so many rows of column `k` behind the first `len`.
+/// Writes the values of `count` rows of column `k` after the first `len`.
 fn append_column(
     column: &mut Vec<Value>,
     len: usize,
@@ -402,7 +408,7 @@ fn append_column(
     Ok(())
 }
 
-/// The values of each column from the place `from` to below the place `to`.
+/// Copies the values of each column from the place `from` to below the place `to`.
 fn parts(
     alloc: Global,
     columns: &[Vec<Value>],
@@ -422,6 +428,7 @@ fn parts(
     Ok(parts)
 }
 
+/// Copies the values from the place `from` to below the place `to` into a column.
 fn part(alloc: Global, values: &[Value], from: usize, to: usize) -> Result<Column, AllocError>
     requires some { from < to }
     requires few { to ≤ from + MAX_ROWS }
@@ -432,7 +439,7 @@ fn part(alloc: Global, values: &[Value], from: usize, to: usize) -> Result<Colum
     Ok(part)
 }
 
-/// So many rows of which none leaves.
+/// Makes a mask that says of `count` rows that none leaves.
 fn none_leave(alloc: Global, count: usize) -> Result<Mask, AllocError>
     requires { count ≤ MAX_ROWS }
     ensures { IfOk result (λ mask. mask ≡ replicate count false) }

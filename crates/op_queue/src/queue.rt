@@ -1,4 +1,4 @@
-//! Queues.
+//! Keeps queues: signed rows and ticks between two operators.
 ghost use Rattle.std.specs.Prelude.{◌≡◌, ◌↔◌, IsTrue, Some, ◌+◌, ◌^◌, ◌<◌, ◌≤◌, ◌++◌, []};
 ghost use Rattle.std.specs.Prelude.{length, take, drop, IfOk, OnOk, OnErr, MatchOption, min};
 ghost use Rattle.std.specs.Bool.{OnTrue, OnFalse};
@@ -16,7 +16,7 @@ use std::alloc::{AllocError, Global};
 use std::collections::VecDeque;
 use std::marker::Model;
 
-/// What a queue keeps together: a batch of one instant, or a run of ticks from the first to the
+/// Is what a queue keeps together: a batch of one instant, or a run of ticks from the first to the
 /// last.
 #[derive(Drop)]
 pub(crate) enum Piece {
@@ -24,27 +24,27 @@ pub(crate) enum Piece {
     Ticks(u64, u64),
 }
 
-/// What stands at the front of a queue, with its instant.
+/// Is what is at the front of a queue, with its instant.
 #[derive(Clone, Copy, PartialEq, Eq, Debug)]
 pub enum Front {
-    /// A row of this instant.
+    /// Says that a row of this instant is at the front.
     Row(u64),
-    /// The tick of this instant.
+    /// Says that the tick of this instant is at the front.
     Tick(u64),
 }
 
-/// Signed rows and ticks that wait for an operator.
+/// Holds signed rows and ticks that wait for an operator.
 ///
-/// Rows stand in the batches in which they came, ticks of instants that follow one another as one
+/// Rows stay in the batches in which they came, ticks of instants that follow one another as one
 /// run. Dropping rows of a batch moves an offset and copies nothing.
 #[derive(Drop)]
 pub struct Queue {
-    /// The batches and the runs of ticks that wait, in the order in which they came.
+    /// Holds the batches and the runs of ticks that wait, in the order in which they came.
     pieces: VecDeque<Piece>,
-    /// How many rows or ticks of the front piece have left: less than it has, 0 where no piece
-    /// waits.
+    /// Counts the rows or ticks of the front piece that have left: fewer than it has, 0 where no
+    /// piece waits.
     taken: u64,
-    /// How many rows and ticks wait, without those that have left.
+    /// Counts the rows and ticks that wait, without those that have left.
     waiting: u128,
 }
 
@@ -61,7 +61,7 @@ impl Model for Queue {
 }
 
 impl Queue {
-    /// The empty queue.
+    /// Makes an empty queue.
     pub fn new(alloc: Global) -> Queue
         ensures entries { result.entries ≡ [] }
         ensures begins { result.begins ≡ [] }
@@ -74,7 +74,7 @@ impl Queue {
         }
     }
 
-    /// How many rows and ticks wait.
+    /// Returns the number of rows and ticks that wait.
     pub fn len(&self) -> u128
         ensures value { result ≡ length self.now.entries }
         ensures forward { IsForward self.now.entries }
@@ -83,14 +83,15 @@ impl Queue {
         self.waiting
     }
 
-    /// Whether nothing waits.
+    /// Returns whether nothing waits.
     pub fn is_empty(&self) -> bool
         ensures { IsTrue result ↔ (self.now.entries ≡ []) }
     {
         self.waiting == 0
     }
 
-    /// In how many pieces rows and ticks are kept: one for each batch and each run of ticks.
+    /// Returns the number of pieces that rows and ticks are kept in: one for each batch and each
+    /// run of ticks.
     pub fn pieces(&self) -> usize
         ensures value { result ≡ self.now.pieces }
         ensures counted { result ≡ pieces_of self.now.entries self.now.begins }
@@ -99,8 +100,11 @@ impl Queue {
         self.pieces.len()
     }
 
-    /// Adds an item at the back. An error says that memory was refused; the queue is as it was, and
-    /// the item is dropped.
+    /// Adds an item at the back.
+    ///
+    /// # Errors
+    ///
+    /// `AllocError` when out of memory; then the queue is as it was, and the item is dropped.
     pub fn push(&mut self, item: Item) -> Result<(), AllocError>
         requires { IsForward (self.old.entries ++ entries_of item) }
         ensures entries { OnOk result (self.new.entries ≡ self.old.entries ++ entries_of item) }
@@ -112,7 +116,7 @@ impl Queue {
     {
         match item {
             Item::Rows(at, batch) => {
-                let _count = batch.len();
+                let _count = batch.len(); // for the proof
                 self.push_piece(Piece::Rows(at, batch))
             }
             Item::Tick(at) => self.push_ticks(at, at),
@@ -120,7 +124,10 @@ impl Queue {
     }
 
     /// Adds the ticks from the first to the last at the back, as a part of one piece.
-    /// An error says that memory was refused; nothing is changed.
+    ///
+    /// # Errors
+    ///
+    /// `AllocError` when out of memory; then nothing has changed.
     pub fn push_ticks(&mut self, first: u64, last: u64) -> Result<(), AllocError>
         requires some { first ≤ last }
         requires forward { IsForward (self.old.entries ++ ticks first last) }
@@ -133,7 +140,7 @@ impl Queue {
     {
         let size = last as u128 + 1 - first as u128;
         if extend_run(&mut self.pieces, first, last) {
-            let _count = self.pieces.len();
+            let _count = self.pieces.len(); // for the proof
             self.waiting += size;
             Ok(())
         } else {
@@ -141,7 +148,7 @@ impl Queue {
         }
     }
 
-    /// What stands at the front, if anything waits; found in constant time.
+    /// Returns what is at the front, if anything waits; takes constant time.
     pub fn front(&self) -> Option<Front>
         ensures { result ≡ front_of self.now.entries }
     {
@@ -149,7 +156,7 @@ impl Queue {
         Some(piece.front(self.taken))
     }
 
-    /// The instant at the front, if anything waits; found in constant time.
+    /// Returns the instant at the front, if anything waits; takes constant time.
     pub fn front_instant(&self) -> Option<u64>
         ensures { result ≡ first_instant self.now.entries }
     {
@@ -157,8 +164,11 @@ impl Queue {
         Some(piece.instant(self.taken))
     }
 
-    /// A copy of the front: a tick, or what is left of a batch, at most `count` rows of it.
-    /// An error says that memory was refused; nothing is changed.
+    /// Copies the front: a tick, or what is left of a batch, at most `count` rows of it.
+    ///
+    /// # Errors
+    ///
+    /// `AllocError` when out of memory; then nothing has changed.
     pub fn front_cut(&self, alloc: Global, count: usize) -> Result<Item, AllocError>
         requires waits { 0 < length self.now.entries }
         requires some { 0 < count }
@@ -171,8 +181,12 @@ impl Queue {
         Ok(item)
     }
 
-    /// The front leaves: a tick, or what is left of a batch, at most `count` rows of it. A batch
-    /// that leaves whole is moved. An error says that memory was refused; the queue is as it was.
+    /// Takes the front: a tick, or what is left of a batch, at most `count` rows of it. A batch
+    /// that leaves whole is moved.
+    ///
+    /// # Errors
+    ///
+    /// `AllocError` when out of memory; then the queue is as it was.
     pub fn take(&mut self, alloc: Global, count: usize) -> Result<Item, AllocError>
         requires waits { 0 < length self.old.entries }
         requires some { 0 < count }
@@ -185,7 +199,7 @@ impl Queue {
         }
     }
 
-    /// `take` by a copy of what leaves.
+    /// Does what `take` does, by a copy of what leaves.
     fn take_cut(&mut self, alloc: Global, count: usize) -> Result<Item, AllocError>
         requires waits { 0 < length self.old.entries }
         requires some { 0 < count }
@@ -197,7 +211,7 @@ impl Queue {
         Ok(item)
     }
 
-    /// The batch at the front leaves, where nothing of it has left and it has at most `count` rows.
+    /// Takes the batch at the front, where nothing of it has left and it has at most `count` rows.
     fn take_whole(&mut self, count: usize) -> Option<Item>
         requires { 0 < count }
         ensures { MatchOption result (self.new ≡ self.old) (HasLeft count self.old self.new) }
@@ -210,7 +224,7 @@ impl Queue {
         Some(item)
     }
 
-    /// The first `count` rows and ticks leave.
+    /// Drops the first `count` rows and ticks.
     pub fn drop_front(&mut self, count: usize)
         requires { count ≤ length self.old.entries }
         ensures entries { self.new.entries ≡ drop count self.old.entries }
@@ -236,6 +250,11 @@ impl Queue {
         self.waiting -= count as u128;
     }
 
+    /// Adds a piece at the back.
+    ///
+    /// # Errors
+    ///
+    /// `AllocError` when out of memory; then the queue is as it was, and the piece is dropped.
     fn push_piece(&mut self, piece: Piece) -> Result<(), AllocError>
         requires forward { IsForward (self.old.entries ++ piece_entries piece) }
         requires shaped { IsPiece piece }
@@ -247,14 +266,14 @@ impl Queue {
     {
         let size = piece.size();
         self.pieces.push_back(piece)?;
-        let _count = self.pieces.len();
+        let _count = self.pieces.len(); // for the proof
         self.waiting += size;
         Ok(())
     }
 }
 
 impl Piece {
-    /// How many rows or ticks.
+    /// Returns the number of rows or ticks.
     fn size(&self) -> u128
         requires { IsPiece self.now }
         ensures value { result ≡ piece_size self.now }
@@ -267,7 +286,7 @@ impl Piece {
         }
     }
 
-    /// What stands first after `taken` of its rows or ticks.
+    /// Returns what comes first after `taken` of its rows or ticks.
     fn front(&self, taken: u64) -> Front
         requires shaped { IsPiece self.now }
         requires part { taken < piece_size self.now }
@@ -279,7 +298,7 @@ impl Piece {
         }
     }
 
-    /// The instant of what stands first after `taken` of its rows or ticks.
+    /// Returns the instant of what comes first after `taken` of its rows or ticks.
     fn instant(&self, taken: u64) -> u64
         requires shaped { IsPiece self.now }
         requires part { taken < piece_size self.now }
@@ -291,7 +310,7 @@ impl Piece {
         }
     }
 
-    /// A copy of what stands first after `taken` of its rows or ticks, of at most `count` rows.
+    /// Copies what comes first after `taken` of its rows or ticks, at most `count` rows.
     fn cut(&self, alloc: Global, taken: u64, count: usize) -> Result<Item, AllocError>
         requires shaped { IsPiece self.now }
         requires part { taken < piece_size self.now }
@@ -314,7 +333,7 @@ impl Piece {
     }
 }
 
-/// The piece at the front leaves where it is a batch of at most `count` rows.
+/// Takes the piece at the front where it is a batch of at most `count` rows.
 fn take_batch(pieces: &mut VecDeque<Piece>, count: usize) -> Option<Item>
     ensures { MatchOption result (pieces.new.items ≡ pieces.old.items)
         (IsTakenWhole count pieces.old.items pieces.new.items) }
@@ -329,7 +348,8 @@ fn take_batch(pieces: &mut VecDeque<Piece>, count: usize) -> Option<Item>
     }
 }
 
-/// Lengthens a run of ticks at the back that ends just before `first`, if there is one.
+/// Lengthens a run of ticks at the back that ends one instant before `first`. Returns whether there
+/// is one.
 fn extend_run(pieces: &mut VecDeque<Piece>, first: u64, last: u64) -> bool
     ensures longer { OnTrue result (IsLongerRun first last pieces.old.items pieces.new.items) }
     ensures same { OnFalse result (pieces.new.items ≡ pieces.old.items) }

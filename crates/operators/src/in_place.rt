@@ -27,8 +27,10 @@ use turn::Kind;
 use windows::{LatestWindow, RangeWindow, SlideWindow};
 
 impl State {
-    /// Takes an item, which has left its queue. What the turn puts out comes to the back of the
-    /// inbox. Where memory is refused both can only be dropped.
+    /// Takes an item that has left its queue, and appends the turn's outputs to the inbox.
+    ///
+    /// # Errors
+    /// `AllocError` when out of memory; then you can only drop the state and the inbox.
     pub(crate) fn run_into(
         &mut self,
         alloc: Global,
@@ -50,7 +52,7 @@ impl State {
         }
     }
 
-    /// The same with the queue of the inbox.
+    /// Does the same with the queue of the inbox.
     fn run(
         &mut self,
         alloc: Global,
@@ -77,8 +79,11 @@ impl State {
         }
     }
 
-    /// Takes an item at a root. What the turn answers goes behind the answers that wait; these are
-    /// as they were after an error, and the state can only be dropped then.
+    /// Takes an item at a root, and appends the turn's answers to those that wait.
+    ///
+    /// # Errors
+    /// `AllocError` when out of memory. The answers are as they were, but you can only drop the
+    /// state.
     pub(crate) fn answer(&mut self, item: &Item, answers: &mut DatedRows) -> Result<(), AllocError>
         requires { MayAnswer self.old item.now }
         ensures next { OnOk result (self.new ≡ after_answers self.old item.now) }
@@ -154,7 +159,7 @@ fn run_latest(
     window.run(alloc, item, queue)
 }
 
-/// Select or Project, which hold nothing.
+/// Runs Select or Project, which have no state.
 fn run_rows(alloc: Global, kind: &Kind, item: Item, queue: &mut Queue) -> Result<(), AllocError>
     requires may { MayTakeRows kind.now item }
     requires forward { IsForward (queue.old.entries ++ row_outs kind.now item) }

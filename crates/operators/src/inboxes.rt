@@ -10,20 +10,20 @@ ghost use Rattle.operators.specs.Inboxes.{queued};
 use op_queue::{Cursor, Front, Item, Log, Queue};
 use std::alloc::{AllocError, Global};
 
-/// What waits for an operator at one of its sides.
+/// Holds what waits for an operator at one of its sides.
 ///
-/// Each call is lent the log of a stream: for a first queue that of the stream which it reads; a
-/// queue between operators reads none, so there any log will do.
+/// Each call borrows the log of a stream. An input that reads a stream needs that stream's log. A
+/// queue between operators reads none, so any log will do.
 #[derive(Drop)]
 pub enum Inbox {
-    /// What a stream has closed.
+    /// Reads what a stream has closed.
     First(Cursor),
-    /// What the operator below has put out.
+    /// Holds what the operator below has emitted.
     Between(Queue),
 }
 
 impl Inbox {
-    /// What stands at the front, if anything waits.
+    /// Returns what is at the front, if anything waits.
     pub fn front(&self, log: &Log) -> Option<Front>
         ensures { result ≡ front_of (entries_in self.now log.now) }
     {
@@ -33,7 +33,7 @@ impl Inbox {
         }
     }
 
-    /// The instant at the front, if anything waits; found in constant time.
+    /// Returns the instant at the front, if anything waits, in constant time.
     pub fn front_instant(&self, log: &Log) -> Option<u64>
         ensures { result ≡ first_instant (entries_in self.now log.now) }
     {
@@ -43,8 +43,10 @@ impl Inbox {
         }
     }
 
-    /// A copy of the front: a tick, or at most `rows` of the rows that stand there together.
-    /// An error says that memory was refused; nothing is changed.
+    /// Returns a copy of the front: a tick, or at most `rows` of the rows that are there together.
+    ///
+    /// # Errors
+    /// `AllocError` when out of memory; nothing has changed.
     pub fn front_cut(&self, alloc: Global, log: &Log, rows: usize) -> Result<Item, AllocError>
         requires waits { 0 < length (entries_in self.now log.now) }
         requires some { 0 < rows }
@@ -57,9 +59,11 @@ impl Inbox {
         }
     }
 
-    /// The front leaves: a tick, or at most `rows` of the rows that stand there together. A batch
-    /// that leaves a queue whole is moved. An error says that memory was refused; nothing is
-    /// changed.
+    /// Takes the front out: a tick, or at most `rows` of the rows that are there together. It moves
+    /// a batch that leaves a queue whole.
+    ///
+    /// # Errors
+    /// `AllocError` when out of memory; nothing has changed.
     pub fn take(&mut self, alloc: Global, log: &Log, rows: usize) -> Result<Item, AllocError>
         requires waits { 0 < length (entries_in self.old log.now) }
         requires some { 0 < rows }
@@ -76,7 +80,7 @@ impl Inbox {
         }
     }
 
-    /// The first `count` rows and ticks leave.
+    /// Drops the first `count` rows and ticks.
     pub fn drop_front(&mut self, log: &Log, count: usize)
         requires waits { count ≤ length (entries_in self.old log.now) }
         requires within { IsInboxWithin self.old log.now }
@@ -92,8 +96,11 @@ impl Inbox {
         }
     }
 
-    /// Items come to the back of a queue between operators. Where memory is refused some of them
-    /// may have come, and it can only be dropped.
+    /// Appends items to a queue between operators.
+    ///
+    /// # Errors
+    /// `AllocError` when out of memory. Some items may have been appended, and you can only drop
+    /// the queue.
     pub fn push(&mut self, items: Vec<Item>) -> Result<(), AllocError>
         requires fed { is_fed self.old ≡ true }
         requires forward { IsForward (queued self.old ++ all_entries items.items) }
@@ -109,7 +116,8 @@ impl Inbox {
         }
     }
 
-    /// How many rows and ticks wait. At a first queue it costs the rows that wait, else nothing.
+    /// Returns how many rows and ticks wait. Over a stream it costs the rows that wait, else
+    /// nothing.
     pub fn len(&self, log: &Log) -> u128
         ensures { result ≡ length (entries_in self.now log.now) }
     {

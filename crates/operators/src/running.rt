@@ -27,19 +27,19 @@ use std::marker::Model;
 use std::sync::Arc;
 use turn::{Change, Kind, Near};
 
-/// An operator of a running query: what it does, what it holds, and what waits for it.
+/// Is an operator of a running query: what it does, what it holds, and what waits for it.
 ///
-/// An operator with one input has it on the left. Where a call is lent a log, it is that of the
-/// stream that a window reads; other operators read none, and any log will do.
+/// An operator with one input has it on the left. A call that borrows a log needs the log of the
+/// stream that a window reads. Other operators read none, so any log will do.
 #[derive(Drop)]
 pub struct Operator {
-    /// What it does, shared with the turns of it that are out.
+    /// Says what the operator does, shared with its turns that are out.
     kind: Arc<Kind>,
-    /// What it holds between turns.
+    /// Holds what the operator keeps between turns.
     state: State,
-    /// What waits on the left side, or for the one input.
+    /// Holds what waits on the left side, or for the one input.
     left: Inbox,
-    /// What waits on the right side of a join.
+    /// Holds what waits on the right side of a join.
     right: Inbox,
 }
 
@@ -54,8 +54,8 @@ impl Model for Operator {
 }
 
 impl Operator {
-    /// An operator of this kind with this state, and with this input on the left; nothing waits on
-    /// the right.
+    /// Makes an operator of this kind with this state, and with this input on the left. Nothing
+    /// waits on the right.
     pub fn new(alloc: Global, kind: Arc<Kind>, state: State, left: Inbox) -> Operator
         ensures { result
             ≡ record {
@@ -73,38 +73,40 @@ impl Operator {
         }
     }
 
-    /// What it does, shared with its turns. It takes no memory; an error says that no more owners
-    /// can be counted, and nothing is changed.
+    /// Returns what the operator does, shared with its turns. Takes no memory.
+    ///
+    /// # Errors
+    /// `AllocError` when no more owners can be counted; nothing has changed.
     pub fn kind(&self) -> Result<Arc<Kind>, AllocError>
         ensures { IfOk result (λ kind. arc_value kind ≡ self.now.kind) }
     {
         Arc::try_clone(&self.kind)
     }
 
-    /// Whether it is the root of its query, which gives answers.
+    /// Returns whether the operator is the root of its query, which gives answers.
     pub fn is_root(&self) -> bool
         ensures { result ≡ is_root self.now.kind }
     {
         matches!(&*self.kind, Kind::ToStream)
     }
 
-    /// The instant of the last tick that it took as a root; `None` before the first, and of any
-    /// other operator.
+    /// Returns the instant of the last tick that the operator took as a root. It is `None` before
+    /// the first, and for any other operator.
     pub fn last_tick(&self) -> Option<u64>
         ensures { result ≡ last_in self.now.state }
     {
         self.state.last_tick()
     }
 
-    /// Whether the side can be used now, if anything waits there.
+    /// Returns whether the side can be used now, if anything waits there.
     pub fn usable(&self, side: Side) -> bool
         ensures { result ≡ usable self.now.state side }
     {
         self.state.usable(side)
     }
 
-    /// The side that a lease takes, the left one where both can be used, and the instant at its
-    /// front; None where no side can be used or nothing waits there.
+    /// Returns the side that a lease takes and the instant at its front. If both sides can be used,
+    /// it is the left one. It is `None` if no side can be used or nothing waits there.
     pub fn ready(&self, log: &Log) -> Option<(Side, u64)>
         ensures { result ≡ ready self.now log.now }
     {
@@ -117,8 +119,11 @@ impl Operator {
         }
     }
 
-    /// A copy of the front of a side: a tick, or at most `rows` of the rows that stand there
-    /// together. An error says that memory was refused; nothing is changed.
+    /// Returns a copy of the front of a side: a tick, or at most `rows` of the rows that are there
+    /// together.
+    ///
+    /// # Errors
+    /// `AllocError` when out of memory; nothing has changed.
     pub fn cut(&self, alloc: Global, log: &Log, side: Side, rows: usize) -> Result<Item, AllocError>
         requires waits { 0 < length (waiting self.now log.now side) }
         requires some { 0 < rows }
@@ -129,8 +134,11 @@ impl Operator {
         self.inbox(side).front_cut(alloc, log, rows)
     }
 
-    /// The excerpt that a turn with the item needs of the state, which is one of the operator's
-    /// kind. An error says that memory was refused; nothing is changed.
+    /// Returns the excerpt that a turn with the item needs of the state, which is one of the
+    /// operator's kind.
+    ///
+    /// # Errors
+    /// `AllocError` when out of memory; nothing has changed.
     pub fn near(&self, alloc: Global, side: Side, item: &Item) -> Result<Near, AllocError>
         requires belongs { Belongs self.now.kind self.now.state }
         requires columns { HasColumns self.now.state side item.now }
@@ -142,8 +150,10 @@ impl Operator {
         Ok(near)
     }
 
-    /// The operator after a turn with an item of the side's front: the item leaves, and the state
-    /// changes. Where memory is refused the operator can only be dropped.
+    /// Takes in the turn of an item at the side's front: the item leaves, and the state changes.
+    ///
+    /// # Errors
+    /// `AllocError` when out of memory; then you can only drop the operator.
     pub fn finish_item(
         &mut self,
         log: &Log,
@@ -161,8 +171,11 @@ impl Operator {
         Ok(())
     }
 
-    /// Items come from the operator below, to the back of the side's queue. Where memory is refused
-    /// some of them may have come, and the operator can only be dropped.
+    /// Appends items from the operator below to the side's queue.
+    ///
+    /// # Errors
+    /// `AllocError` when out of memory. Some items may have been appended, and you can only drop
+    /// the operator.
     pub fn feed(&mut self, side: Side, items: Vec<Item>) -> Result<(), AllocError>
         requires fed { is_fed (inbox_of self.old side) ≡ true }
         requires forward { IsForward (queued (inbox_of self.old side) ++ all_entries items.items) }
@@ -175,14 +188,17 @@ impl Operator {
         }
     }
 
-    /// How many rows and ticks wait on a side.
+    /// Returns how many rows and ticks wait on a side.
     pub fn pending(&self, log: &Log, side: Side) -> u128
         ensures { result ≡ length (waiting self.now log.now side) }
     {
         self.inbox(side).len(log)
     }
 
-    /// The front of a side leaves. An error says that memory was refused; nothing is changed.
+    /// Takes the front of a side out.
+    ///
+    /// # Errors
+    /// `AllocError` when out of memory; nothing has changed.
     pub(crate) fn take(
         &mut self,
         alloc: Global,
@@ -202,8 +218,11 @@ impl Operator {
         }
     }
 
-    /// Takes an item that has left its queue. What the turn puts out comes to the back of the side
-    /// of the operator above. Where memory is refused both can only be dropped.
+    /// Takes an item that has left its queue, and appends the turn's outputs to a side of the
+    /// operator above.
+    ///
+    /// # Errors
+    /// `AllocError` when out of memory; then you can only drop both operators.
     pub(crate) fn run_item(
         &mut self,
         alloc: Global,
@@ -230,9 +249,12 @@ impl Operator {
         }
     }
 
-    /// Takes an item that has left its queue, at a root. What the turn answers goes behind the
-    /// answers that wait; these are as they were after an error, and the operator can only be
-    /// dropped then.
+    /// Takes an item that has left its queue, at a root, and appends the turn's answers to those
+    /// that wait.
+    ///
+    /// # Errors
+    /// `AllocError` when out of memory. The answers are as they were, but you can only drop the
+    /// operator.
     pub(crate) fn answer_item(
         &mut self,
         item: &Item,
@@ -257,7 +279,7 @@ impl Operator {
         }
     }
 
-    /// The instant at the front of a side that can be used.
+    /// Returns the instant at the front of a side that can be used.
     #[tactic(auto, using(crate::proofs::InboxLemmas::instant_in_front))]
     fn ready_at(&self, log: &Log, side: Side) -> Option<u64>
         ensures { result ≡ ready_at self.now log.now side }
@@ -296,7 +318,7 @@ impl Operator {
     }
 }
 
-/// How many rows or ticks an item is.
+/// Returns how many rows or ticks an item has.
 fn size_of(item: &Item) -> usize
     ensures { result ≡ length (entries_of item.now) }
 {

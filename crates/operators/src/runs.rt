@@ -9,20 +9,23 @@ use op_queue::Log;
 use row_bags::DatedRows;
 use std::alloc::Global;
 
-/// Where a run was when memory was refused.
+/// Says where a run was when it ran out of memory.
 #[derive(Clone, Copy, PartialEq, Eq, Debug)]
 pub enum Refused {
-    /// It had taken nothing, and all is as it was.
+    /// Says that the run had taken nothing, and all is as it was.
     Before,
-    /// It had an item in hand, and what it ran on can only be dropped.
+    /// Says that the run had an item in hand. You can only drop what it ran on.
     Within,
 }
 
 impl Operator {
-    /// Runs a turn of an operator below the root: what stands first on the side leaves, a tick or
-    /// at most `rows` rows, and what the turn puts out goes to the side of the operator above.
+    /// Runs a turn of an operator below the root. It takes the first item on the side, a tick or at
+    /// most `rows` rows. The outputs go to the side of the operator above.
     ///
     /// It costs the item, what the state looks up for it, and the outputs.
+    ///
+    /// # Errors
+    /// `Before` or `Within` when out of memory.
     pub fn run_below(
         &mut self,
         alloc: Global,
@@ -48,8 +51,11 @@ impl Operator {
         }
     }
 
-    /// Runs a turn of a root: what stands first on the side leaves, and what the turn answers goes
-    /// behind the answers that wait. These are as they were after an error.
+    /// Runs a turn of a root. It takes the first item on the side, and appends the answers to those
+    /// that wait.
+    ///
+    /// # Errors
+    /// `Before` or `Within` when out of memory; then the answers are as they were.
     pub fn run_root(
         &mut self,
         alloc: Global,

@@ -12,7 +12,7 @@ use row_nodes::steps;
 use std::alloc::{AllocError, Global};
 use values::Condition;
 
-/// The steps of all conditions, joined from the left by And.
+/// Returns the steps of all conditions, joined from the left by And.
 pub(crate) fn all_steps(alloc: Global, conditions: &[Condition]) -> Result<Vec<Step>, AllocError>
     requires { AllByRecursion (λ c. IsOfOneSource (condition_of c)) conditions.now }
     ensures { IfOk result (λ ss. ss.items ≡ all_steps (conditions_of conditions.now)) }
@@ -47,7 +47,7 @@ fn known_true(alloc: Global) -> Result<Vec<Step>, AllocError>
     Ok(all)
 }
 
-/// Behind the steps of some conditions those of further ones.
+/// Appends the steps of further conditions, each followed by And.
 fn add_further(
     alloc: Global,
     all: &mut Vec<Step>,

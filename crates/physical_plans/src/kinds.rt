@@ -17,8 +17,8 @@ use std::alloc::{AllocError, Global};
 use turn::{ColumnList, Kind, StepList};
 use values::{Column, Condition, ListItem, MAX_COLUMNS, Window};
 
-/// What an operator does, from the windows of the sources and how many columns the rows of each
-/// operator have.
+/// Makes what an operator does. It reads the sources' windows, and how many columns each operator's
+/// rows have.
 pub(crate) fn kind_made(
     alloc: Global,
     windows: &[Window],
@@ -65,7 +65,8 @@ fn project_kind(alloc: Global, places: &[usize]) -> Result<Kind, AllocError>
     Ok(Kind::Project(ColumnList::new(columns)))
 }
 
-/// Group By's columns as those of the one row that goes between operators, and the list.
+/// Makes the grouping of these columns and this list. The columns are those of the one row between
+/// operators.
 pub(crate) fn grouping(
     alloc: Global,
     by: &[usize],
@@ -93,7 +94,7 @@ fn columns_at(alloc: Global, places: &[usize]) -> Result<Vec<Column>, AllocError
     Ok(columns)
 }
 
-/// Distinct over the rows of an operator.
+/// Makes Distinct over the rows of an operator.
 pub(crate) fn once_each(
     alloc: Global,
     widths: &[usize],
@@ -106,7 +107,7 @@ pub(crate) fn once_each(
     Ok(group)
 }
 
-/// How many columns the rows of an operator have, none where there is no such operator.
+/// Returns how many columns the rows of an operator have; 0 if there is no such operator.
 pub(crate) fn width_at(widths: &[usize], operator: usize) -> usize
     ensures { result ≡ get_or widths.now operator 0 }
 {

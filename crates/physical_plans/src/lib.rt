@@ -1,4 +1,4 @@
-//! Plans as running operators: each at its beginning, and which operator it feeds.
+//! Plans as running operators: each at its start, and the operator that it feeds.
 #![tactic(auto)]
 
 mod conjuncts;

@@ -16,9 +16,12 @@ use std::sync::Arc;
 use turn::Kind;
 use values::MAX_COLUMNS;
 
-/// The operators of a plan at their beginning, by their numbers. `places` says how long the stream
-/// of each source was when the query was registered, and `start` is the query's first instant, one
-/// above its base. An error says that memory was refused; nothing is changed.
+/// Makes the operators of a plan at their start, by their numbers. `places` holds the length of
+/// each source's stream when the query was registered. `start` is the query's first instant, one
+/// above its base.
+///
+/// # Errors
+/// `AllocError` when out of memory; nothing has changed.
 pub fn operators_of(
     alloc: Global,
     plan: &Plan,
@@ -87,7 +90,7 @@ fn shared(alloc: Global, kind: Kind) -> Result<Arc<Kind>, AllocError>
     Ok(shared)
 }
 
-/// What waits for an operator: at a window what its source's stream closes.
+/// Makes what waits for an operator. At a window that is what its source's stream closes.
 fn inbox_made(alloc: Global, places: &[u64], start: u64, node: &Node) -> Inbox
     ensures { InboxStarts places.now start node.now result }
 {
@@ -118,7 +121,7 @@ fn place_at(places: &[u64], source: usize) -> u64
     }
 }
 
-/// Adds how many columns the rows of each operator have.
+/// Appends how many columns the rows of each operator have.
 fn add_widths(done: &mut Vec<usize>, sources: &[usize], nodes: &[Node]) -> Result<(), AllocError>
     requires { HaveNarrowRows sources.now done.old.items nodes.now }
     ensures { OnOk result (done.new.items ≡ widths_from sources.now done.old.items nodes.now) }
@@ -133,7 +136,7 @@ fn add_widths(done: &mut Vec<usize>, sources: &[usize], nodes: &[Node]) -> Resul
     }
 }
 
-/// How many columns the rows of an operator have.
+/// Returns how many columns the rows of an operator have.
 fn width_made(sources: &[usize], done: &[usize], node: &Node) -> usize
     requires { width_made sources.now done.now node.now ≤ MAX_COLUMNS }
     ensures { result ≡ width_made sources.now done.now node.now }

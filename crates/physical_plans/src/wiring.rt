@@ -1,4 +1,4 @@
-//! Which operator takes what another puts out.
+//! Which operator takes another's outputs.
 ghost use Rattle.std.specs.Prelude.{◌≡◌, ◌<◌, ◌+◌, ◌^◌, length, IfOk};
 ghost use Rattle.plan.specs.Views.{node_of, nodes_of};
 ghost use Rattle.physical_plans.specs.Wiring.{on_left, takes_on, wire_from, wires_of};
@@ -7,18 +7,20 @@ use column::Side;
 use plan::Node;
 use std::alloc::{AllocError, Global};
 
-/// Where the outputs of an operator go: to a side of the operator with this number. Those of a
-/// root, which are answers, go to no operator: there the number is how many operators the plan has.
+/// Says where the outputs of an operator go: to a side of the operator with this number. A root's
+/// outputs are answers and go to no operator; its number is how many operators the plan has.
 #[derive(Clone, Copy, Drop)]
 pub struct Wire {
-    /// The operator's number.
+    /// Holds the number of the operator that takes the outputs.
     pub to: usize,
-    /// The operator's side; the left one where it has one input, and of a root.
+    /// Names the operator's side. It is the left one if the operator has one input, and for a root.
     pub side: Side,
 }
 
-/// Where the outputs of each operator of a plan go. An error says that memory was refused; nothing
-/// is changed.
+/// Returns where the outputs of each operator of a plan go.
+///
+/// # Errors
+/// `AllocError` when out of memory; nothing has changed.
 pub fn wires(alloc: Global, nodes: &[Node]) -> Result<Vec<Wire>, AllocError>
     ensures { IfOk result (λ wires. wires.items ≡ wires_of (nodes_of nodes.now)) }
 {
@@ -29,7 +31,7 @@ pub fn wires(alloc: Global, nodes: &[Node]) -> Result<Vec<Wire>, AllocError>
     Ok(all)
 }
 
-/// Of the operators from this number on, the first that takes the rows of another.
+/// Finds, among the operators from this number on, the first that takes the rows of another.
 fn wire_from(nodes: &[Node], number: usize, operator: usize) -> Wire
     requires { number + length nodes.now < 2 ^ 64 }
     ensures { result ≡ wire_from number (nodes_of nodes.now) operator }
@@ -46,7 +48,7 @@ fn wire_from(nodes: &[Node], number: usize, operator: usize) -> Wire
     }
 }
 
-/// On which side an operator takes the rows of another, if it does.
+/// Returns the side on which an operator takes the rows of another, if it does.
 fn takes_on(node: &Node, operator: usize) -> Option<Side>
     ensures { result ≡ takes_on operator (node_of node.now) }
 {

@@ -1,4 +1,4 @@
-//! What changes at one operator.
+//! Makes the changes at one operator.
 ghost use Rattle.std.specs.Prelude.{◌≡◌, ◌<◌, length, min, IfErr, IfOk, OnErr, OnOk};
 ghost use Rattle.operators.specs.Inboxes.{all_entries};
 ghost use Rattle.operators.specs.Operators.{IsFed, IsFinished, KeepsBatches};
@@ -17,7 +17,7 @@ use std::alloc::{AllocError, Global};
 use stream_store::Streams;
 use turn::{Change, Near};
 
-/// What the stream of a number has closed.
+/// Returns what the stream of a number has closed.
 pub(crate) fn log_at(streams: &Streams, stream: u64) -> &Log
     requires { stream < length streams.now }
     ensures { result.now ≡ stream_log streams.now stream }
@@ -28,7 +28,7 @@ pub(crate) fn log_at(streams: &Streams, stream: u64) -> &Log
     }
 }
 
-/// What stands first on a side of an operator, and the excerpt that a turn with it needs.
+/// Returns what is first on a side of an operator, and the excerpt that a turn with it needs.
 pub(crate) fn leased(
     alloc: Global,
     operator: &Operator,
@@ -50,7 +50,7 @@ pub(crate) fn within_a_batch(rows: usize) -> usize
     rows.min(MAX_ROWS)
 }
 
-/// The operator of a number after a turn with an item.
+/// Changes the operator of a number after a turn with an item.
 pub(crate) fn finish_at(
     operators: &mut Vec<Operator>,
     log: &Log,
@@ -70,7 +70,7 @@ pub(crate) fn finish_at(
     operators[number].finish_item(log, side, item, change)
 }
 
-/// The operator of a number after items came to one of its sides.
+/// Feeds items to one side of the operator of a number.
 pub(crate) fn feed_at(
     operators: &mut Vec<Operator>,
     number: usize,
@@ -90,8 +90,8 @@ pub(crate) fn feed_at(
     operators[number].feed(side, items)
 }
 
-/// The operator of a number runs a turn, and what that puts out goes where the wire leads, to an
-/// operator that stands later.
+/// Runs a turn of the operator of a number. Its outputs go where the wire leads, to an operator
+/// with a higher number.
 pub(crate) fn run_below_at(
     operators: &mut Vec<Operator>,
     alloc: Global,
@@ -119,7 +119,7 @@ pub(crate) fn run_below_at(
     below[number].run_below(alloc, log, side, rows, &mut above[0], wire.side)
 }
 
-/// The operator of a number, a root, runs a turn, and what that answers goes behind the answers.
+/// Runs a turn of the operator of a number, a root. What it answers follows the answers.
 pub(crate) fn run_root_at(
     operators: &mut Vec<Operator>,
     alloc: Global,

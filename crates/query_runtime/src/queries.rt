@@ -1,4 +1,4 @@
-//! Running queries.
+//! Keeps running queries.
 ghost use Rattle.std.specs.Prelude.{◌≡◌, ◌<◌, ◌-◌, [], false, true, length, All, IfErr, IfOk};
 ghost use Rattle.std.specs.Prelude.{OnErr, OnOk};
 ghost use Rattle.std.specs.Arc.{arc_value};
@@ -35,17 +35,17 @@ use stream_store::Streams;
 use turn::{Change, Kind, Near, Outputs};
 use values::Row;
 
-/// A running query.
+/// Is a running query.
 #[derive(Drop)]
 pub struct RunningQuery {
-    /// The operators with their queues, by number: each stands behind those that feed it, the root
+    /// Holds the operators with their queues, by number: each after those that feed it, the root
     /// last.
     operators: Vec<Operator>,
-    /// By the operators' numbers, where the outputs of each go.
+    /// Says where the outputs of each operator go, by the operators' numbers.
     wires: Vec<Wire>,
-    /// By the operators' numbers, the number of the stream that each reads.
+    /// Holds the number of the stream that each operator reads, by the operators' numbers.
     sources: Vec<u64>,
-    /// The answers of the root that wait to be taken.
+    /// Holds the answers of the root that wait to be taken.
     answers: WaitingAnswers,
 }
 
@@ -64,9 +64,12 @@ impl Model for RunningQuery {
 }
 
 impl RunningQuery {
-    /// The query of a plan before anything has come. `streams` has the number of each source's
-    /// stream and `places` how many rows that stream had when the query was registered; `start` is
-    /// the query's first instant. An error says that memory was refused; nothing is changed.
+    /// Returns the query of a plan before anything has come. `streams` has the number of each
+    /// source's stream. `places` says how many rows that stream had when the query was registered.
+    /// `start` is the query's first instant.
+    ///
+    /// # Errors
+    /// `AllocError` when out of memory; then nothing has changed.
     pub fn new(
         alloc: Global,
         plan: &Plan,
@@ -90,14 +93,14 @@ impl RunningQuery {
         })
     }
 
-    /// How many operators it has.
+    /// Returns the number of its operators.
     pub fn len(&self) -> usize
         ensures { result ≡ length self.now.operators }
     {
         self.operators.len()
     }
 
-    /// The instant of the last tick that its root took; `None` before the first.
+    /// Returns the instant of the last tick that its root took, or `None` before the first.
     pub fn last_tick(&self) -> Option<u64>
         requires { 0 < length self.now.operators }
         ensures { result
@@ -106,15 +109,15 @@ impl RunningQuery {
         self.operator(self.operators.len() - 1).last_tick()
     }
 
-    /// How many answers wait to be taken.
+    /// Returns the number of answers that wait to be taken.
     pub fn waiting(&self) -> usize
         ensures { result ≡ length self.now.answers }
     {
         self.answers.len()
     }
 
-    /// The side of an operator that a lease takes, and the instant at its front; None where it has
-    /// nothing to take.
+    /// Returns the side of an operator that a lease takes, and the instant at its front. None if
+    /// there is nothing to take.
     #[inline(always)]
     pub fn ready(&self, streams: &Streams, operator: usize) -> Option<(Side, u64)>
         requires { HasOperator streams.now self.now operator }
@@ -126,8 +129,8 @@ impl RunningQuery {
         self.operator(operator).ready(log)
     }
 
-    /// How many rows and ticks wait on the sides of an operator. At a window it costs the rows that
-    /// wait, else nothing.
+    /// Returns how many rows and ticks wait on the sides of an operator, left and right. At a
+    /// window it costs the rows that wait, else nothing.
     pub fn pending(&self, streams: &Streams, operator: usize) -> (u128, u128)
         requires { HasOperator streams.now self.now operator }
         ensures left { result.0
@@ -145,8 +148,10 @@ impl RunningQuery {
         )
     }
 
-    /// What an operator does, shared with its turns. It takes no memory; an error says that no more
-    /// owners can be counted, and nothing is changed.
+    /// Returns what an operator does, shared with its turns. Takes no memory.
+    ///
+    /// # Errors
+    /// `AllocError` when no more owners can be counted; then nothing has changed.
     pub fn kind(&self, operator: usize) -> Result<Arc<Kind>, AllocError>
         requires { operator < length self.now.operators }
         ensures { IfOk result (λ kind. arc_value kind
@@ -155,9 +160,12 @@ impl RunningQuery {
         self.operator(operator).kind()
     }
 
-    /// A copy of what stands first on a side of an operator, at most `rows` rows and no more than a
-    /// batch has, or a tick, and the excerpt that a turn with it needs. It costs these two, and
-    /// look-ups. An error says that memory was refused; nothing is changed.
+    /// Copies what is first on a side of an operator: a tick, or rows. These are at most `rows`, and
+    /// at most as many as a batch has. Returns it with the excerpt that a turn with it needs. It
+    /// costs these two, and look-ups.
+    ///
+    /// # Errors
+    /// `AllocError` when out of memory; then nothing has changed.
     pub fn lease(
         &self,
         alloc: Global,
@@ -177,9 +185,12 @@ impl RunningQuery {
         leased(alloc, self.operator(operator), log, side, rows)
     }
 
-    /// A turn of an operator has come back: its item leaves the side's queue, the state changes,
-    /// and what it put out goes on. It costs the item, the change and the outputs. Where memory is
-    /// refused only its answers are as they were, and it can only be given up.
+    /// Finishes a turn of an operator that has come back. Its item leaves the side's queue, the
+    /// state changes, and its outputs go on. It costs the item, the change and the outputs.
+    ///
+    /// # Errors
+    /// `AllocError` when out of memory. Then only the answers are as they were, and the query can
+    /// only be given up.
     pub fn finish(
         &mut self,
         streams: &Streams,
@@ -210,12 +221,14 @@ impl RunningQuery {
         }
     }
 
-    /// Runs a turn of an operator in place: what stands first on the side leaves, at most `rows`
-    /// rows and no more than a batch has, or a tick, and what the turn puts out goes on. It costs
-    /// the item, what the operator looks up for it, and the outputs.
+    /// Runs a turn of an operator in place. What is first on the side leaves: a tick, or at most
+    /// `rows` rows and at most as many as a batch has. The turn's outputs go on. It costs the item,
+    /// what the operator looks up for it, and the outputs.
     ///
-    /// Memory may be refused before anything was taken: then all is as it was. Where it is refused
-    /// within, only the answers are, and the query can only be given up.
+    /// # Errors
+    /// `Refused::Before` when out of memory before anything was taken; then nothing has changed.
+    /// `Refused::Within` when out of memory later. Then only the answers are as they were, and the
+    /// query can only be given up.
     pub fn run(
         &mut self,
         alloc: Global,
@@ -238,8 +251,10 @@ impl RunningQuery {
         self.run_below(alloc, streams, operator, side, rows)
     }
 
-    /// Hands out the first answers that wait, at most `limit`, at the cost of these. Where memory
-    /// is refused it is as it was.
+    /// Returns the first answers that wait, at most `limit`, which no longer wait. It costs these.
+    ///
+    /// # Errors
+    /// `AllocError` when out of memory; then nothing has changed.
     pub fn take(&mut self, alloc: Global, limit: usize) -> Result<Vec<(i64, Row)>, AllocError>
         requires { are_signed self.old.answers ≡ true }
         ensures handed { IfOk result (λ rows. handed_of rows.items
@@ -250,14 +265,17 @@ impl RunningQuery {
         self.answers.take(alloc, limit)
     }
 
-    /// Copies the answers that wait, at the cost of these. An error says that memory was refused.
+    /// Copies the answers that wait, at the cost of these.
+    ///
+    /// # Errors
+    /// `AllocError` when out of memory.
     pub fn copy_answers(&self, alloc: Global) -> Result<WaitingAnswers, AllocError>
         ensures { IfOk result (λ copy. copy ≡ self.now.answers) }
     {
         self.answers.copy(alloc)
     }
 
-    /// Gives up its operators with what waits for them: the answers are left. Takes no memory.
+    /// Gives up its operators with what waits for them, and returns its answers. Takes no memory.
     pub fn into_answers(self) -> WaitingAnswers
         ensures { result ≡ self.answers }
     {
@@ -271,7 +289,7 @@ impl RunningQuery {
         &self.operators[operator]
     }
 
-    /// Where what an operator puts out goes; from the root it goes nowhere.
+    /// Says where the outputs of an operator go; those of the root go nowhere.
     pub fn wire(&self, operator: usize) -> Wire
         requires { operator < length self.now.wires }
         ensures { result ≡ wire_at self.now operator }
@@ -286,7 +304,7 @@ impl RunningQuery {
         self.sources[operator]
     }
 
-    /// What the stream has closed that an operator reads.
+    /// Returns what the stream that an operator reads has closed.
     fn log<'a>(&self, streams: &'a Streams, operator: usize) -> &'a Log
         requires { HasOperator streams.now self.now operator }
         ensures { result.now ≡ log_of streams.now self.now operator }

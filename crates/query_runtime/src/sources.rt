@@ -1,4 +1,4 @@
-//! Which streams the operators of a plan read.
+//! Finds which streams the operators of a plan read.
 ghost use Rattle.std.specs.Prelude.{◌≡◌, get_or, map, IfOk};
 ghost use Rattle.plan.specs.Views.{node_of, nodes_of};
 ghost use Rattle.query_runtime.specs.Turns.{source_among};
@@ -6,8 +6,8 @@ ghost use Rattle.query_runtime.specs.Turns.{source_among};
 use plan::Node;
 use std::alloc::{AllocError, Global};
 
-/// By the operators' numbers the number of the stream that each reads, from those of the sources'
-/// streams.
+/// Returns the number of the stream that each operator reads, by the operators' numbers. `streams`
+/// has those of the sources' streams.
 pub(crate) fn sources_of(
     alloc: Global,
     streams: &[u64],
@@ -23,8 +23,8 @@ pub(crate) fn sources_of(
     Ok(sources)
 }
 
-/// The number of the stream that a window reads; other operators read none, and the first one will
-/// do.
+/// Returns the number of the stream that a window reads. Other operators read none; they get the
+/// first one.
 fn source_among(streams: &[u64], node: &Node) -> u64
     ensures { result ≡ source_among streams.now (node_of node.now) }
 {

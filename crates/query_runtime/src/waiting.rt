@@ -1,4 +1,4 @@
-//! Answers that wait to be taken.
+//! Keeps answers that wait to be taken.
 ghost use Rattle.std.specs.Prelude.{◌≡◌, ◌≤◌, ◌+◌, ◌++◌, [], true, length, take, drop};
 ghost use Rattle.std.specs.Prelude.{IfErr, IfOk, OnErr, OnOk, vec_len, vec_capacity};
 ghost use Rattle.operators.specs.Runs.{GivesFirst, HasItem, HasRunRoot, MayRun, Stops};
@@ -15,10 +15,10 @@ use std::alloc::{AllocError, Global};
 use std::marker::Model;
 use values::Row;
 
-/// Answers of a query that wait to be taken, in their order.
+/// Holds answers of a query that wait to be taken, in their order.
 #[derive(Drop)]
 pub struct WaitingAnswers {
-    /// The answers, each with its instant; the first to be taken stands in front.
+    /// Holds the answers, each with its instant; the first to be taken is in front.
     answers: DatedRows,
 }
 
@@ -32,7 +32,7 @@ impl Model for WaitingAnswers {
 }
 
 impl WaitingAnswers {
-    /// Makes a queue of no answers. Takes no memory.
+    /// Returns a queue of no answers. Takes no memory.
     pub fn new(alloc: Global) -> WaitingAnswers
         ensures { result ≡ [] }
     {
@@ -41,7 +41,10 @@ impl WaitingAnswers {
         }
     }
 
-    /// Copies the answers, at the cost of these. An error says that memory was refused.
+    /// Copies the answers, at the cost of these.
+    ///
+    /// # Errors
+    /// `AllocError` when out of memory.
     pub fn copy(&self, alloc: Global) -> Result<WaitingAnswers, AllocError>
         ensures { IfOk result (λ copy. copy ≡ self.now) }
     {
@@ -50,14 +53,17 @@ impl WaitingAnswers {
         })
     }
 
-    /// Counts the answers.
+    /// Returns the number of answers.
     pub fn len(&self) -> usize
         ensures { result ≡ length self.now }
     {
         self.answers.len()
     }
 
-    /// Adds answers behind the others. Where memory is refused it is as it was.
+    /// Adds answers after the others.
+    ///
+    /// # Errors
+    /// `AllocError` when out of memory; then nothing has changed.
     pub(crate) fn add(&mut self, answers: DatedRows) -> Result<(), AllocError>
         ensures ok { OnOk result (self.new ≡ self.old ++ answers) }
         ensures err { OnErr result (self.new ≡ self.old) }
@@ -65,8 +71,10 @@ impl WaitingAnswers {
         self.answers.append(answers)
     }
 
-    /// A root runs a turn, and what that answers goes behind the others. These are as they were
-    /// after an error.
+    /// Runs a turn of a root. What it answers follows the others.
+    ///
+    /// # Errors
+    /// `Refused` when out of memory; then the answers are as they were.
     pub(crate) fn run_root(
         &mut self,
         alloc: Global,
@@ -86,8 +94,10 @@ impl WaitingAnswers {
         root.run_root(alloc, log, side, rows, &mut self.answers)
     }
 
-    /// Hands out the first answers, at most `limit`, at the cost of these. Where memory is refused
-    /// it is as it was.
+    /// Returns the first answers, at most `limit`, which no longer wait. It costs these.
+    ///
+    /// # Errors
+    /// `AllocError` when out of memory; then nothing has changed.
     pub fn take(&mut self, alloc: Global, limit: usize) -> Result<Vec<(i64, Row)>, AllocError>
         requires { are_signed self.old ≡ true }
         ensures handed { IfOk result (λ rows. handed_of rows.items
@@ -102,7 +112,7 @@ impl WaitingAnswers {
     }
 }
 
-/// Moves the first `count` answers behind the rows, which have room for them.
+/// Moves the first `count` answers to the end of the rows, which have room for them.
 fn move_front(answers: &mut DatedRows, rows: &mut Vec<(i64, Row)>, count: usize)
     requires enough { count ≤ length answers.old }
     requires room { vec_len rows.old + count ≤ vec_capacity rows.old }

@@ -1,4 +1,4 @@
-//! The answers of a query over declared streams.
+//! Answers a query over declared streams.
 ghost use Rattle.std.specs.Prelude.{◌≡◌, ◌≤◌, ◌+ℤ◌, IfOk, None, length, nat_abs, pos, sum};
 ghost use Rattle.values.specs.Answers as cql;
 ghost use Rattle.values.specs.declared.TheConstants.{MAX_COLUMNS};
@@ -15,17 +15,17 @@ use names::{Catalog, ResolveError, resolve};
 use std::alloc::{AllocError, Global};
 use values::Row;
 
-/// The answers of a query over the declared streams at the instants above `base` up to `upto`, by
-/// instant, and within one instant in order, as CQL defines them.
+/// Returns the query's answers over the declared streams, as CQL defines them, at the instants
+/// above `base` up to `upto`. They come by instant, and within one instant in order.
 ///
-/// Its caller sees to it that the query is one that is read from a text and that its names resolve,
-/// and gives one list for each source, in the order of From: the rows of its stream, each with its
-/// instant, in the order in which they came. `base` and `upto` are -1 or an instant; nothing is
-/// answered where `upto` is not above `base`. The time is that of evaluating the query twice at
-/// each instant.
+/// The caller makes sure that the query was read from a text and that its names resolve. `inputs`
+/// has one list for each source, in the order of From. It holds the rows of the source's stream,
+/// each with its instant, in the order in which they came. `base` and `upto` are -1 or an instant.
+/// If `upto` is not above `base`, there are no answers. The time is that of evaluating the query
+/// twice at each instant.
 ///
 /// # Errors
-/// `AllocError` where memory is refused.
+/// `AllocError` when out of memory.
 pub fn answers(
     alloc: Global,
     query: &Query,
@@ -54,7 +54,7 @@ pub fn answers(
     evaluate(alloc, &named.meaning, first, until, inputs)
 }
 
-/// The first instant that is open where all up to this one are closed.
+/// Returns the first open instant, if all instants up to this one are closed.
 fn first_open(closed: i64) -> u64
     requires { IsClosed closed }
     ensures { result ≡ nat_abs (closed +ℤ pos 1) }

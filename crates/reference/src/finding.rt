@@ -1,4 +1,4 @@
-//! What the text of a query means.
+//! Finds what the text of a query means.
 ghost use Rattle.std.specs.Prelude.{◌≡◌, ◌≤◌, ℤ, IfOk, Ok, length, true, Option, Result, List};
 ghost use Rattle.std.specs.List.{AllByRecursion};
 ghost use Rattle.std.specs.Option.{option_copied};
@@ -23,11 +23,11 @@ use names::Catalog;
 use plan::{Chart, Plan, PlanError, plan};
 use std::alloc::Global;
 
-/// The plan of the text of a query over the declared streams, of which each has at most 8 columns.
+/// Returns the plan of a query's text over the declared streams, each with at most 8 columns.
 ///
 /// # Errors
-/// The first fault of the text, or of what it names and its chart gives; `OutOfMemory`, which may
-/// stand in place of one.
+/// The first fault of the text, then of what it names and its chart gives. `OutOfMemory` may
+/// replace it.
 pub fn find_plan(
     alloc: Global,
     catalog: &Catalog,
@@ -49,7 +49,7 @@ pub fn find_plan(
     }
 }
 
-/// The plan of the query over the declared streams.
+/// Returns the plan of the query over the declared streams.
 fn plan_over(
     alloc: Global,
     catalog: &Catalog,
@@ -71,7 +71,7 @@ fn plan_over(
     }
 }
 
-/// A text that was not read is refused for this.
+/// Returns the fault for which a text is refused that was not read.
 fn text_fault(fault: ReadFault) -> Fault
     ensures { (catalog : List catalogs.Stream) (given : Option (List (ℤ × ℤ)))
         (defined : Result syntax.Query text.Fault) → Tells defined fault
@@ -88,7 +88,7 @@ fn text_fault(fault: ReadFault) -> Fault
     }
 }
 
-/// A query that was not planned is refused for this.
+/// Returns the fault for which a query is refused that was not planned.
 #[tactic(auto, unfolding(crate::specs::Commands::found_by))]
 fn plan_fault(error: PlanError) -> Fault
     ensures { (catalog : List catalogs.Stream) (given : Option (List (ℤ × ℤ))) (q : syntax.Query)

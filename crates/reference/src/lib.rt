@@ -1,6 +1,8 @@
-//! The plain engine: it keeps what it was told and evaluates the definition of CQL's answers
-//! (Arasu, Babu and Widom, "The CQL continuous query language", 2006), instant by instant. Slow,
-//! and the measure of every engine above it: each is an `Answering` over the same machine.
+//! Defines what every engine answers, and the plain engine.
+//!
+//! The plain engine keeps what it receives. It evaluates the definition of CQL's answers instant
+//! by instant (Arasu, Babu and Widom, "The CQL continuous query language", 2006). It is slow. Every
+//! engine above it is an `Answering` over the same machine, and is held to the same definitions.
 #![tactic(auto)]
 
 mod answering;

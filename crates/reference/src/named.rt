@@ -1,4 +1,4 @@
-//! What the tables of names know of an engine's streams and queries.
+//! Finds an engine's streams and queries in its tables of names.
 ghost use Rattle.std.specs.Prelude.{◌≡◌, List, count_by, map, not, position};
 ghost use Rattle.std.specs.Str.{bytes_eq};
 ghost use Rattle.name_table.specs.Names.{bears};
@@ -7,8 +7,8 @@ ghost use Rattle.reference.specs.Named.{name_of_registered, stream_name};
 
 use name_table::NameTable;
 
-/// The number of the stream of a name, where the table has the names of all streams. Takes no
-/// memory; its time grows with the logarithm of how many there are.
+/// Returns the number of the stream of this name, if the table has the names of all streams. Takes
+/// no memory; the time grows with the logarithm of the number of streams.
 pub fn stream_place(names: &NameTable, name: &str) -> Option<u64>
     ensures { (streams : List Stream) → names.now ≡ map stream_name streams
         → result ≡ position (λ s. bytes_eq s.name name.now) streams }
@@ -16,8 +16,8 @@ pub fn stream_place(names: &NameTable, name: &str) -> Option<u64>
     number_of(names, name)
 }
 
-/// The number of the undropped query of a name, where the table has the names of all that were not
-/// dropped. Takes no memory; its time grows with the logarithm of how many there are.
+/// Returns the number of the undropped query of this name, if the table has the names of all
+/// undropped queries. Takes no memory; the time grows with the logarithm of their number.
 pub fn query_place(names: &NameTable, name: &str) -> Option<u64>
     ensures { (queries : List Registered) → names.now ≡ map name_of_registered queries
         → result ≡ position (is_called name.now) queries }
@@ -25,7 +25,7 @@ pub fn query_place(names: &NameTable, name: &str) -> Option<u64>
     number_of(names, name)
 }
 
-/// How many queries were not dropped, where the table has the names of all of them. No scan.
+/// Counts the undropped queries, if the table has the names of all of them. Scans nothing.
 pub fn count_undropped(names: &NameTable) -> usize
     ensures { (queries : List Registered) → names.now ≡ map name_of_registered queries
         → result ≡ count_by (λ q. not q.is_dropped) queries }
@@ -33,7 +33,7 @@ pub fn count_undropped(names: &NameTable) -> usize
     names.count_names()
 }
 
-/// The number that bears the name.
+/// Returns the number that has this name in the table.
 fn number_of(names: &NameTable, name: &str) -> Option<u64>
     ensures { result ≡ position (bears name.now) names.now }
 {

@@ -1,4 +1,4 @@
-//! Rows on their way into a stream.
+//! Keeps rows on their way into a stream.
 ghost use Rattle.std.specs.Prelude.{◌≡◌, ◌↔◌, ◌+◌, ◌≤◌, ◌++◌, ◌∷◌, [], IsTrue, IfOk, OnOk, OnErr};
 ghost use Rattle.std.specs.Prelude.{length, map, nat_abs, pos, true, false, sum, not, ◌==◌, int_lt};
 ghost use Rattle.std.specs.Prelude.{vec_len, vec_capacity};
@@ -12,16 +12,16 @@ use std::alloc::{AllocError, Global};
 use std::marker::Model;
 use values::{STREAM_MAX, Value};
 
-/// Rows that are to be appended, each an instant and its values, of any number of values.
+/// Holds rows to append, each an instant and its values, of any number of values.
 ///
 /// They are kept flat, so a row takes no allocation of its own. Contracts see them as a list.
 #[derive(Drop)]
 pub struct NewRows {
-    /// The instant of each row as it was given, of any range.
+    /// Holds the instant of each row as it was given, of any range.
     instants: Vec<i64>,
-    /// How many values each row has.
+    /// Counts the values of each row.
     widths: Vec<usize>,
-    /// The rows' values, one row behind the other; `None` is null.
+    /// Holds the rows' values, one row after the other; `None` is null.
     values: Vec<Option<i64>>,
 }
 
@@ -38,7 +38,7 @@ impl Model for NewRows {
 }
 
 impl NewRows {
-    /// No rows yet. Takes no memory.
+    /// Returns an empty list. Takes no memory.
     pub fn new(alloc: Global) -> NewRows
         ensures { result ≡ [] }
     {
@@ -49,9 +49,11 @@ impl NewRows {
         }
     }
 
-    /// No rows yet, with room for as many rows of one value each, so that they come without another
-    /// growth. How much room there is saves time alone: no clause says it. `AllocError` where it
-    /// was refused.
+    /// Returns an empty list with room for this many rows of one value each, so that they come
+    /// without another growth. The room only saves time: no clause says how much there is.
+    ///
+    /// # Errors
+    /// `AllocError` when out of memory.
     pub fn with_capacity(alloc: Global, rows: usize) -> Result<NewRows, AllocError>
         ensures { IfOk result (λ made. made ≡ []) }
     {
@@ -62,21 +64,24 @@ impl NewRows {
         })
     }
 
-    /// How many rows there are.
+    /// Returns the number of rows.
     pub fn len(&self) -> usize
         ensures { result ≡ length self.now }
     {
         self.instants.len()
     }
 
-    /// Whether there are no rows.
+    /// Returns whether there are no rows.
     pub fn is_empty(&self) -> bool
         ensures { IsTrue result ↔ (self.now ≡ []) }
     {
         self.len() == 0
     }
 
-    /// Puts a row behind the others. On Err they are as they were.
+    /// Adds a row after the others.
+    ///
+    /// # Errors
+    /// `AllocError` when out of memory; then nothing has changed.
     pub fn push_row(&mut self, instant: i64, values: &[Option<i64>]) -> Result<(), AllocError>
         ensures ok { OnOk result (self.new ≡ self.old ++ (instant, values.now) ∷ []) }
         ensures err { OnErr result (self.new ≡ self.old) }
@@ -89,35 +94,35 @@ impl NewRows {
         Ok(())
     }
 
-    /// Whether a row has another number of values.
+    /// Returns whether a row has another number of values than `width`.
     pub fn has_other_width(&self, width: usize) -> bool
         ensures { result ≡ list_any (λ r. not (length r.1 == width)) self.now }
     {
         any_differs(&self.widths, width)
     }
 
-    /// Whether a value lies outside the range of streams.
+    /// Returns whether a value is outside the range of streams.
     pub fn has_other_value(&self) -> bool
         ensures { result ≡ list_any (λ r. not (list_all is_stream_value r.1)) self.now }
     {
         !all_stream_values(&self.values)
     }
 
-    /// Whether an instant lies outside the range of instants.
+    /// Returns whether an instant is outside the range of instants.
     pub fn has_other_instant(&self) -> bool
         ensures { result ≡ list_any (λ r. not (is_instant r.0)) self.now }
     {
         any_no_instant(&self.instants)
     }
 
-    /// Whether a row is below the first open instant.
+    /// Returns whether a row is below the first open instant.
     pub fn has_late_row(&self, first_open: i64) -> bool
         ensures { result ≡ list_any (λ r. int_lt r.0 first_open) self.now }
     {
         any_below(&self.instants, first_open)
     }
 
-    /// Whether they are the same rows, by value. Takes no memory.
+    /// Returns whether the rows are the same, by value. Takes no memory.
     pub fn is_same(&self, other: &NewRows) -> bool
         ensures { IsTrue result ↔ (self.now ≡ other.now) }
     {
@@ -131,28 +136,28 @@ impl NewRows {
         )
     }
 
-    /// The instants of the rows, one behind another. Takes no memory.
+    /// Returns the instants of the rows, one after another. Takes no memory.
     pub fn instants(&self) -> &[i64]
         ensures { result.now ≡ map (λ r. r.0) self.now }
     {
         &self.instants
     }
 
-    /// The values of the rows, one row's behind another's. Takes no memory.
+    /// Returns the values of the rows, one row after another. Takes no memory.
     pub fn values(&self) -> &[Option<i64>]
         ensures { result.now ≡ values_of self.now }
     {
         &self.values
     }
 
-    /// How many values all rows have together.
+    /// Returns the number of values of all rows together.
     pub(crate) fn count_values(&self) -> usize
         ensures { result ≡ length (values_of self.now) }
     {
         self.values.len()
     }
 
-    /// Puts the instants and the values of the rows behind those of others, which have room for
+    /// Adds the instants and the values of the rows after those of others, which have room for
     /// them.
     pub(crate) fn copy_flat_to(&self, instants: &mut Vec<u64>, values: &mut Vec<Value>)
         requires good_instants { list_any (λ r. not (is_instant r.0)) self.now ≡ false }
@@ -244,7 +249,7 @@ fn all_stream_values(values: &[Option<i64>]) -> bool
     values.iter().all(|value| is_stream_value(*value))
 }
 
-/// A value of a stream, as it is kept.
+/// Returns a value of a stream as it is kept.
 pub fn value_of(value: Option<i64>) -> Value
     requires { is_stream_value value ≡ true }
     ensures { result ≡ value }

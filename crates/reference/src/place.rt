@@ -1,4 +1,4 @@
-//! The sources of a registered query.
+//! Keeps the sources of a registered query.
 ghost use Rattle.std.specs.Prelude.{◌≡◌, ◌≤◌, IfOk, length, map, max, slice_get, unwrap_or};
 ghost use Rattle.std.specs.List.{list_any, reduce};
 ghost use Rattle.std.specs.Option.{option_map_or};
@@ -12,19 +12,19 @@ use crate::stream::Stream;
 use std::alloc::{AllocError, Global};
 use values::Row;
 
-/// A source of a registered query: the stream's number, and how many rows had come to it before the
-/// registration.
+/// Holds a source of a registered query: the stream's number, and how many rows had come to it
+/// before the registration.
 #[derive(Clone, Copy)]
 pub(crate) struct Place {
-    /// The stream's number.
+    /// Holds the stream's number.
     stream: usize,
-    /// How many rows had come to the stream before the registration.
+    /// Counts the rows that had come to the stream before the registration.
     arrivals: u64,
 }
 
 impl Place {
-    /// Whether it is of the stream of a number, and more rows than `most` came to that since, if so
-    /// many came in all.
+    /// Returns whether this is a place of the stream of a number to which more than `most` rows
+    /// came since, if `arrivals` came in all.
     fn is_past(self, stream: u64, arrivals: u64, most: u64) -> bool
         ensures { result ≡ is_past stream arrivals most (place_of self) }
     {
@@ -32,8 +32,8 @@ impl Place {
     }
 }
 
-/// Whether one of the places is of the stream of a number, and more rows than `most` came to that
-/// since, if so many came in all.
+/// Returns whether one of the places is of the stream of a number, with more than `most` rows since
+/// then, if `arrivals` came in all.
 pub(crate) fn has_past(places: &[Place], stream: u64, arrivals: u64, most: u64) -> bool
     ensures { result ≡ list_any (is_past stream arrivals most) (map place_of places.now) }
 {
@@ -56,15 +56,15 @@ fn first_open_at(streams: &[Stream], place: Place) -> u64
     }
 }
 
-/// The first instant of a query that is registered now, by the first open instants of its sources:
-/// the greatest of them. Takes no memory.
+/// Returns the first instant of a query at its registration: the greatest of its sources' first
+/// open instants, or 0 if there are none. Takes no memory.
 pub fn first_instant(opens: &[u64]) -> u64
     ensures { result ≡ unwrap_or (reduce max opens.now) 0 }
 {
     opens.iter().copied().max().unwrap_or(0)
 }
 
-/// The first open instants of the sources.
+/// Returns the first open instants of the sources.
 pub(crate) fn opens_of(
     alloc: Global,
     streams: &[Stream],
@@ -79,7 +79,7 @@ pub(crate) fn opens_of(
     Ok(opens)
 }
 
-/// The least of the sources' first open instants.
+/// Returns the least of the sources' first open instants, or 0 if there are none.
 pub(crate) fn until_for(streams: &[Stream], places: &[Place]) -> u64
     ensures least { result ≡ until_for streams.now (map place_of places.now) }
     ensures range { result ≤ 1099511627777 }
@@ -110,7 +110,7 @@ fn input_at(
     }
 }
 
-/// What counts of each source's stream.
+/// Returns, for each source, what counts of its stream's rows.
 pub(crate) fn inputs_at(
     alloc: Global,
     streams: &[Stream],
@@ -129,7 +129,7 @@ pub(crate) fn inputs_at(
     Ok(inputs)
 }
 
-/// A source that is registered now.
+/// Returns the place of a source at its registration.
 fn place_at(streams: &[Stream], number: usize) -> Place
     ensures { place_of result ≡ place_at (machine_of streams.now) number }
 {
@@ -143,7 +143,7 @@ fn place_at(streams: &[Stream], number: usize) -> Place
     }
 }
 
-/// The sources that are registered now.
+/// Returns the places of the sources at their registration.
 pub(crate) fn places_of(
     alloc: Global,
     streams: &[Stream],

@@ -1,4 +1,4 @@
-//! The plain engine.
+//! Is the plain engine.
 ghost use Rattle.std.specs.Prelude.{◌≡◌, ◌≤◌, All, length, map};
 ghost use Rattle.reference.specs.Commands.{catalog_of};
 ghost use Rattle.reference.specs.Named.{stream_name, query_name};
@@ -18,20 +18,20 @@ use name_table::NameTable;
 use names::Catalog;
 use std::alloc::Global;
 
-/// An engine that keeps what it was told, and evaluates each query anew at each drain.
+/// Keeps what it receives, and evaluates each query again at each drain.
 #[derive(Drop)]
 pub struct Plain {
-    /// Where memory is taken from.
+    /// Says where memory is taken from.
     alloc: Global,
-    /// The declared streams by number, with all rows that came.
+    /// Holds the declared streams by number, with all rows that came.
     streams: Vec<Stream>,
-    /// By the streams' numbers, what each is called, and its columns, for queries to name.
+    /// Holds the names of the streams and of their columns by number, for queries to name.
     catalog: Catalog,
-    /// By the streams' numbers, the name of each.
+    /// Holds the names of the streams by number.
     stream_names: NameTable,
-    /// The registered queries by number, the dropped ones among them.
+    /// Holds the registered queries by number, including the dropped ones.
     queries: Vec<StandingQuery>,
-    /// By the queries' numbers, the name of each that was not dropped.
+    /// Holds the names of the undropped queries by number.
     query_names: NameTable,
     ghost declared: { catalog ≡ catalog_of streams.items },
     ghost few: { All (λ s. length s.columns ≤ 8) catalog },

@@ -1,5 +1,5 @@
-//! The tests of the calls, which every engine makes in the order of the definitions: each answers
-//! the fault of the first one that fails, and nothing where none does.
+//! Makes the tests of the calls, as every engine does, in the order of the definitions. Each
+//! returns the fault of the first test that fails, or nothing if none does.
 ghost use Rattle.std.specs.Prelude.{◌≡◌, ◌≤◌, IfSome};
 ghost use Rattle.std.specs.List.{list_any, list_all};
 ghost use Rattle.std.specs.Str.{bytes_eq};
@@ -21,8 +21,8 @@ use crate::limits::{
 use crate::new_rows::NewRows;
 use cql_reader::is_name;
 
-/// The first test that a declaration fails, where a stream has the name or none has, and there are
-/// so many streams.
+/// Returns the first fault of a declaration. `is_taken` says whether a stream has the name, and
+/// `streams` how many streams there are.
 pub fn declare_fault(
     name: &str,
     columns: &[String],
@@ -52,8 +52,9 @@ pub fn declare_fault(
     None
 }
 
-/// The first test that a registration fails before that of its text, where an undropped query has
-/// the name or none has, there are so many undropped queries, and so many were ever registered.
+/// Returns the first fault of a registration that is tested before its text. `is_taken` says
+/// whether an undropped query has the name. `undropped` and `registrations` count the undropped
+/// queries, and all that were ever registered.
 pub fn register_fault(
     name: &str,
     is_taken: bool,
@@ -76,8 +77,8 @@ pub fn register_fault(
     None
 }
 
-/// The first test that rows fail for a stream of so many columns, to which so many rows came, and
-/// of which the instants from `first_open` on are open.
+/// Returns the first fault of rows for a stream of `width` columns to which `arrivals` rows came.
+/// Its instants from `first_open` on are open.
 pub fn append_fault(rows: &NewRows, width: usize, arrivals: u64, first_open: u64) -> Option<Fault>
     requires { first_open ≤ 1099511627777 }
     ensures first { result ≡ first_of (new_rows_tests width arrivals first_open rows.now) }
@@ -105,8 +106,8 @@ pub fn append_fault(rows: &NewRows, width: usize, arrivals: u64, first_open: u64
     None
 }
 
-/// The first test that a heartbeat fails for a stream of which the instants from `first_open` on
-/// are open.
+/// Returns the first fault of a heartbeat for a stream whose instants from `first_open` on are
+/// open.
 pub fn heartbeat_fault(at: i64, first_open: u64) -> Option<Fault>
     requires { first_open ≤ 1099511627777 }
     ensures first { result ≡ first_of (closing_tests first_open at) }
@@ -125,7 +126,7 @@ pub fn heartbeat_fault(at: i64, first_open: u64) -> Option<Fault>
     None
 }
 
-/// The first test that a take fails of a query that there is.
+/// Returns the first fault of a take of a query that exists.
 pub fn take_fault(limit: i64) -> Option<Fault>
     ensures first { result ≡ first_of (take_tests limit) }
     ensures told { IfSome result IsTold }
@@ -136,7 +137,7 @@ pub fn take_fault(limit: i64) -> Option<Fault>
     None
 }
 
-/// The first test that a drain, or a turn, of at most so many rows fails.
+/// Returns the first fault of a drain, or a turn, of at most this many rows.
 pub fn turn_fault(rows: u32) -> Option<Fault>
     ensures first { result ≡ drain_fault rows }
     ensures told { IfSome result IsTold }
@@ -147,7 +148,7 @@ pub fn turn_fault(rows: u32) -> Option<Fault>
     None
 }
 
-/// 1 to 8 names, all good and none twice.
+/// Returns whether these are 1 to 8 names, all of them good, and none of them twice.
 pub fn are_columns(names: &[String]) -> bool
     ensures { result ≡ commands.are_columns (texts_of names.now) }
 {
@@ -168,7 +169,7 @@ fn are_names(names: &[String]) -> bool
     true
 }
 
-/// Whether a name stands twice among them.
+/// Returns whether a name occurs twice.
 fn has_repeat(names: &[String]) -> bool
     ensures { result ≡ naming.has_repeat (texts_of names.now) }
 {

@@ -1,4 +1,4 @@
-//! A registered query and the answers that wait at it.
+//! Keeps a registered query and the answers that wait at it.
 ghost use Rattle.std.specs.Prelude.{◌≡◌, ◌<◌, ◌+◌, ◌^◌, length, true};
 ghost use Rattle.std.specs.VecDeque.{deque_len};
 ghost use Rattle.names.specs.Sound.{has_narrow_rows, all_slide};
@@ -16,25 +16,25 @@ use plan::Plan;
 use std::collections::VecDeque;
 use values::Row;
 
-/// A registered query, and those of its answers that were found and not taken.
+/// Holds a registered query, and those of its answers that were found and not taken.
 #[derive(Drop)]
 pub(crate) struct StandingQuery {
-    /// Its name.
+    /// Holds its name.
     name: String,
-    /// What its text means, and the operators of its plan.
+    /// Holds what its text means, and the operators of its plan.
     plan: Plan,
-    /// Its sources, in the order of From.
+    /// Holds its sources, in the order of From.
     places: Vec<Place>,
-    /// The first instant above its base: rows of earlier ones do not count.
+    /// Holds the first instant above its base: rows of earlier ones do not count.
     first: u64,
-    /// How many answers were taken.
+    /// Counts the answers that were taken.
     taken: u64,
-    /// Whether it was dropped.
+    /// Says whether it was dropped.
     is_dropped: bool,
-    /// The answers that wait for a take, each an instant and a row, the next one in front.
+    /// Holds the answers that wait for a take, each an instant and a row, the next one in front.
     waiting: VecDeque<(u64, Row)>,
-    /// The answers that a drain under way found, which take the place of those that wait once it
-    /// has found them of every query.
+    /// Holds the answers that a running drain has found. They replace those that wait once the
+    /// drain has found the answers of every query.
     fresh: VecDeque<(u64, Row)>,
     ghost fits: { has_narrow_rows plan.meaning.shape ≡ true },
     ghost sources: { length plan.meaning.windows.items ≡ length places.items },

@@ -1,4 +1,4 @@
-//! A declared stream and what came to it.
+//! Keeps a declared stream and what came to it.
 ghost use Rattle.std.specs.Prelude.{◌≡◌, ◌≤◌, ◌*◌, [], None, OnOk, OnErr, IfOk, IfSome, length};
 ghost use Rattle.std.specs.Prelude.{◌+◌, ◌∷◌, ◌++◌, ◌&&◌, nat_le};
 ghost use Rattle.values.specs.Window.{input_of, plain, numbered};
@@ -21,21 +21,22 @@ use std::alloc::{AllocError, Global};
 use std::marker::Model;
 use values::{Row, Value};
 
-/// A declared stream, and the elements that came to it.
+/// Holds a declared stream, and the elements that came to it.
 ///
-/// The elements are kept flat, an instant each and as many values as there are columns: 8 bytes
+/// The elements are kept flat: each is an instant and as many values as there are columns, 8 bytes
 /// each.
 #[derive(Drop)]
 pub(crate) struct Stream {
-    /// Its name.
+    /// Holds its name.
     name: Name,
-    /// The names of its columns, at most 8.
+    /// Holds the names of its columns, at most 8.
     columns: Vec<Name>,
-    /// The instant of each row that came, in the order of arrival.
+    /// Holds the instant of each row that came, in the order of arrival.
     instants: Vec<u64>,
-    /// The rows' values in the same order, one row behind the other: one for each column.
+    /// Holds the rows' values in the same order, one row after the other, one value for each
+    /// column.
     values: Vec<Value>,
-    /// The first instant that no heartbeat has closed.
+    /// Holds the first instant that no heartbeat has closed.
     first_open: u64,
 }
 
@@ -65,7 +66,7 @@ impl Model for Stream {
 }
 
 impl Stream {
-    /// A stream to which nothing came.
+    /// Returns a stream to which nothing came.
     pub(crate) fn new(alloc: Global, name: Name, columns: Vec<Name>, first_open: u64) -> Stream
         requires few { length columns.items ≤ 8 }
         requires instant { first_open ≤ 1099511627776 }
@@ -97,14 +98,14 @@ impl Stream {
         catalog.declare(self.name, columns)
     }
 
-    /// How many rows came.
+    /// Returns the number of rows that came.
     pub(crate) fn arrivals(&self) -> u64
         ensures { result ≡ self.now.arrivals }
     {
         self.instants.len() as u64
     }
 
-    /// The first open instant.
+    /// Returns the first open instant.
     pub(crate) fn first_open(&self) -> u64
         ensures open { result ≡ self.now.first_open }
         ensures range { result ≤ 1099511627777 }
@@ -112,7 +113,7 @@ impl Stream {
         self.first_open
     }
 
-    /// The first test of the rows that fails.
+    /// Returns the first fault of the rows.
     pub(crate) fn append_fault(&self, rows: &NewRows) -> Option<Fault>
         ensures first { result ≡ first_of (append_tests self.now rows.now) }
         ensures told { IfSome result IsTold }
@@ -120,7 +121,7 @@ impl Stream {
         append_fault(rows, self.columns.len(), self.arrivals(), self.first_open)
     }
 
-    /// How many rows there are with those that come.
+    /// Returns how many rows there are once these have come.
     pub(crate) fn with_rows(&self, rows: &NewRows) -> u64
         requires { first_of (append_tests self.now rows.now) ≡ None }
         ensures { result ≡ self.now.arrivals + length rows.now }
@@ -129,7 +130,7 @@ impl Stream {
         came + rows.len() as u64
     }
 
-    /// The first test of a heartbeat that fails.
+    /// Returns the first fault of a heartbeat.
     pub(crate) fn heartbeat_fault(&self, at: i64) -> Option<Fault>
         ensures first { result ≡ first_of (heartbeat_tests self.now at) }
         ensures told { IfSome result IsTold }
@@ -137,7 +138,10 @@ impl Stream {
         heartbeat_fault(at, self.first_open)
     }
 
-    /// Appends the rows. On Err it is as it was.
+    /// Appends the rows.
+    ///
+    /// # Errors
+    /// `AllocError` when out of memory; then nothing has changed.
     pub(crate) fn append(&mut self, rows: &NewRows) -> Result<(), AllocError>
         requires { first_of (append_tests self.old rows.now) ≡ None }
         ensures ok { OnOk result (self.new ≡ appended rows.now self.old) }
@@ -157,8 +161,8 @@ impl Stream {
         self.first_open = at as u64 + 1;
     }
 
-    /// What counts of it for a query: what came after the first `arrivals` rows, at instants from
-    /// `first` on.
+    /// Returns the rows that count for a query: those that came after the first `arrivals` rows, at
+    /// instants from `first` on.
     pub(crate) fn input(
         &self,
         alloc: Global,
@@ -204,7 +208,8 @@ fn copy_input(
     Ok(input)
 }
 
-/// Whether an element counts: it came after the first `arrivals`, at an instant from `first` on.
+/// Returns whether an element counts: it came after the first `arrivals`, at an instant from
+/// `first` on.
 fn counts(arrivals: u64, first: u64, arrival: u64, instant: u64) -> bool
     ensures { result ≡ (nat_le arrivals arrival && nat_le first instant) }
 {

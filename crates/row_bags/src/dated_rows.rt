@@ -1,4 +1,4 @@
-//! Rows with their instants, in as little room as they need.
+//! Keeps rows with their instants, in as little room as they need.
 ghost use Rattle.std.specs.Prelude.{◌≡◌, ◌≤◌, ◌+◌, ◌++◌, ◌∷◌, [], length, take, drop};
 ghost use Rattle.std.specs.Prelude.{IfNone, IfOk, IfSome, OnErr, OnOk};
 ghost use Rattle.std.specs.VecDeque.{deque_len, deque_capacity};
@@ -8,23 +8,23 @@ use std::collections::VecDeque;
 use std::marker::Model;
 use values::{MAX_COLUMNS, Row, Value};
 
-/// The instant of a row, and how many values the row has.
+/// Holds the instant of a row, and how many values the row has.
 #[derive(Clone, Copy)]
 pub(crate) struct Head {
-    /// The row's instant.
+    /// Holds the row's instant.
     instant: u64,
-    /// How many values the row has.
+    /// Counts the values that the row has.
     width: usize,
 }
 
-/// Rows with their instants, as answers wait: they come behind the others and leave in front.
+/// Holds rows with their instants, as answers wait: they enter at the back and leave at the front.
 ///
-/// They are kept flat, sixteen bytes a row and eight more for each of its values.
+/// They are kept flat: sixteen bytes for each row, and eight more for each of its values.
 #[derive(Drop)]
 pub struct DatedRows {
-    /// The instant and the width of each row, the first in front.
+    /// Holds the instant and the width of each row, the first in front.
     heads: VecDeque<Head>,
-    /// The rows' values in the same order, one row behind the other.
+    /// Holds the rows' values in the same order, one row after the other.
     values: VecDeque<Value>,
 }
 
@@ -41,7 +41,7 @@ impl Model for DatedRows {
 }
 
 impl DatedRows {
-    /// No rows. It takes no memory.
+    /// Returns a queue without rows. Takes no memory.
     pub fn new(alloc: Global) -> DatedRows
         ensures { result ≡ [] }
     {
@@ -51,15 +51,17 @@ impl DatedRows {
         }
     }
 
-    /// How many rows there are.
+    /// Returns the number of rows.
     pub fn len(&self) -> usize
         ensures { result ≡ length self.now }
     {
         self.heads.len()
     }
 
-    /// A row with these values comes behind the others. An error says that memory was refused; the
-    /// rows are as they were.
+    /// Appends a row with these values and this instant.
+    ///
+    /// # Errors
+    /// `AllocError` when out of memory; then the rows are as they were.
     pub fn push(&mut self, instant: u64, row: &[Value]) -> Result<(), AllocError>
         requires { length row.now ≤ MAX_COLUMNS }
         ensures ok { OnOk result (self.new ≡ self.old ++ (instant, row.now) ∷ []) }
@@ -73,7 +75,10 @@ impl DatedRows {
         Ok(())
     }
 
-    /// Other rows come behind these. An error says that memory was refused; these are as they were.
+    /// Appends the rows of the other.
+    ///
+    /// # Errors
+    /// `AllocError` when out of memory; then these rows are as they were.
     pub fn append(&mut self, other: DatedRows) -> Result<(), AllocError>
         ensures ok { OnOk result (self.new ≡ self.old ++ other) }
         ensures err { OnErr result (self.new ≡ self.old) }
@@ -87,7 +92,7 @@ impl DatedRows {
         self.values.append(&mut values)
     }
 
-    /// The first row leaves, in the full width of a row.
+    /// Removes the first row and returns it with its instant, in the full width of a row.
     pub fn pop_front(&mut self) -> Option<(u64, Row)>
         ensures some { IfSome result (λ e. self.old ≡ (e.0, e.1.items) ∷ self.new) }
         ensures none { IfNone result (self.old ≡ []) }
@@ -98,12 +103,12 @@ impl DatedRows {
         Some((head.instant, row))
     }
 
-    /// The rows behind the first `count` leave.
+    /// Keeps the first `count` rows, and drops those after them.
     pub(crate) fn keep_first(&mut self, count: usize)
         requires { count ≤ length self.old }
         ensures { self.new ≡ take count self.old }
     {
-        let _all = self.values.len();
+        let _all = self.values.len(); // for the proof
         let mut values = 0;
         for place in 0..count {
             values += self.heads[place].width;
@@ -112,7 +117,10 @@ impl DatedRows {
         self.values.truncate(values);
     }
 
-    /// The same rows once more. It costs as much as these.
+    /// Returns a copy of the rows. It costs as much as these.
+    ///
+    /// # Errors
+    /// `AllocError` when out of memory.
     pub fn copy(&self, alloc: Global) -> Result<DatedRows, AllocError>
         ensures { IfOk result (λ copy. copy ≡ self.now) }
     {
@@ -122,7 +130,7 @@ impl DatedRows {
     }
 }
 
-/// Puts values behind others, which have room for them.
+/// Appends values for which there is room.
 fn push_values(values: &mut VecDeque<Value>, more: &[Value])
     requires { deque_len values.old + length more.now ≤ deque_capacity values.old }
     ensures { values.new.items ≡ values.old.items ++ more.now }
@@ -132,7 +140,7 @@ fn push_values(values: &mut VecDeque<Value>, more: &[Value])
     }
 }
 
-/// The first `width` values leave, as a row.
+/// Removes the first `width` values and returns them as a row.
 fn pop_row(values: &mut VecDeque<Value>, width: usize) -> Row
     requires few { width ≤ MAX_COLUMNS }
     requires enough { width ≤ deque_len values.old }
@@ -149,7 +157,7 @@ fn pop_row(values: &mut VecDeque<Value>, width: usize) -> Row
     row
 }
 
-/// The same items once more.
+/// Returns a copy of the items.
 fn copy_of<T: Copy>(alloc: Global, items: &VecDeque<T>) -> Result<VecDeque<T>, AllocError>
     ensures { IfOk result (λ copy. copy.items ≡ items.now.items) }
 {

@@ -1,4 +1,4 @@
-//! What entered and what left.
+//! Keeps what entered and what left.
 ghost use Rattle.std.specs.Prelude.{◌≡◌, ◌+◌, ◌^◌, ◌<◌, ◌++◌, ◌∷◌, [], length, map};
 ghost use Rattle.std.specs.Prelude.{slice_index_or, true, IfOk, IsTrue, OnOk, OnErr};
 ghost use Rattle.column.specs.Rows.{signed};
@@ -17,17 +17,17 @@ use std::alloc::{AllocError, Global};
 use std::marker::Model;
 use values::Row;
 
-/// What entered and what left, each cut by the other: a row that entered and left again is in
+/// Holds what entered and what left, each cut by the other. A row that entered and left again is in
 /// neither.
 ///
-/// It keeps the rows as they came. What is asked of it sorts them, and cuts them by one walk.
+/// It keeps the rows as they came. A call that asks for them sorts them, and cuts them by one walk.
 #[derive(Drop)]
 pub struct Delta {
-    /// The rows that entered, with those that left again.
+    /// Holds the rows that entered, with those that left again.
     entered: Pile,
-    /// The rows that left, with those that entered again.
+    /// Holds the rows that left, with those that entered again.
     left: Pile,
-    /// Where memory is taken from.
+    /// Says where memory is taken from.
     alloc: Global,
 }
 
@@ -41,7 +41,7 @@ impl Model for Delta {
 }
 
 impl Delta {
-    /// Nothing entered or left.
+    /// Returns a delta in which nothing entered or left.
     pub fn new(alloc: Global) -> Delta
         ensures { result ≡ record { entered = []; left = [] } }
     {
@@ -52,7 +52,10 @@ impl Delta {
         }
     }
 
-    /// What entered, in order. An error says that memory was refused; nothing is changed.
+    /// Returns what entered, in order.
+    ///
+    /// # Errors
+    /// `AllocError` when out of memory; then nothing has changed.
     pub fn entered(&self, alloc: Global) -> Result<RowList, AllocError>
         ensures { IfOk result (λ rows. rows ≡ self.now.entered) }
     {
@@ -60,7 +63,10 @@ impl Delta {
         Ok(rows)
     }
 
-    /// What left, in order. An error says that memory was refused; nothing is changed.
+    /// Returns what left, in order.
+    ///
+    /// # Errors
+    /// `AllocError` when out of memory; then nothing has changed.
     pub fn left(&self, alloc: Global) -> Result<RowList, AllocError>
         ensures { IfOk result (λ rows. rows ≡ self.now.left) }
     {
@@ -68,15 +74,17 @@ impl Delta {
         Ok(rows)
     }
 
-    /// Whether no row came.
+    /// Returns whether no row came.
     pub(crate) fn is_empty(&self) -> bool
         ensures { IsTrue result → (self.now ≡ record { entered = []; left = [] }) }
     {
         self.entered.len() == 0 && self.left.len() == 0
     }
 
-    /// What a list of rows becomes after what left and entered. An error says that memory was
-    /// refused; nothing is changed.
+    /// Returns what a list of rows becomes after what left and entered.
+    ///
+    /// # Errors
+    /// `AllocError` when out of memory; then nothing has changed.
     pub(crate) fn renewed(&self, alloc: Global, whole: &RowList) -> Result<RowList, AllocError>
         ensures { IfOk result (λ list. list ≡ renewed whole.now self.now) }
     {
@@ -86,7 +94,8 @@ impl Delta {
         Ok(list)
     }
 
-    /// The same; what left and entered comes in order by it, and takes no memory for that.
+    /// Returns what a list of rows becomes after what left and entered. Sorts both piles in place,
+    /// which takes no memory.
     pub(crate) fn renewed_list(
         &mut self,
         alloc: Global,
@@ -101,8 +110,10 @@ impl Delta {
         Ok(list)
     }
 
-    /// Pushes what entered behind the answers, in order, each row with the instant. An error says
-    /// that memory was refused; the answers are as they were.
+    /// Pushes what entered to the end of the answers, in order, each row with the instant.
+    ///
+    /// # Errors
+    /// `AllocError` when out of memory; then the answers are as they were.
     pub fn push_entered(&mut self, at: u64, answers: &mut DatedRows) -> Result<(), AllocError>
         ensures ok { OnOk result (answers.new
             ≡ answers.old ++ map (λ r. (at, r)) self.old.entered) }
@@ -112,8 +123,10 @@ impl Delta {
         push_difference(answers, at, &mut self.entered, &mut self.left)
     }
 
-    /// Pushes what left behind the answers, in order, each row with the instant. An error says that
-    /// memory was refused; the answers are as they were.
+    /// Pushes what left to the end of the answers, in order, each row with the instant.
+    ///
+    /// # Errors
+    /// `AllocError` when out of memory; then the answers are as they were.
     pub fn push_left(&mut self, at: u64, answers: &mut DatedRows) -> Result<(), AllocError>
         ensures ok { OnOk result (answers.new
             ≡ answers.old ++ map (λ r. (at, r)) self.old.left) }
@@ -123,7 +136,7 @@ impl Delta {
         push_difference(answers, at, &mut self.left, &mut self.entered)
     }
 
-    /// From here on nothing entered or left. The memory stays for the rows to come.
+    /// Drops all rows, so that nothing has entered or left. Keeps the memory for the rows to come.
     pub fn clear(&mut self)
         ensures { self.new ≡ record { entered = []; left = [] } }
     {
@@ -131,8 +144,10 @@ impl Delta {
         self.left.clear();
     }
 
-    /// What entered and left after one signed row more. An error says that memory was refused;
-    /// nothing is changed.
+    /// Takes in one signed row.
+    ///
+    /// # Errors
+    /// `AllocError` when out of memory; then nothing has changed.
     pub fn apply_one(&mut self, signed_row: SignedRow) -> Result<(), AllocError>
         requires entered { length self.old.entered < 2 ^ 62 }
         requires left { length self.old.left < 2 ^ 62 }
@@ -147,8 +162,10 @@ impl Delta {
         Ok(())
     }
 
-    /// What entered and left after the signed rows. Where memory is refused, only some of them may
-    /// have been taken in.
+    /// Takes in the signed rows of a batch.
+    ///
+    /// # Errors
+    /// `AllocError` when out of memory; then some of the rows may have been taken in.
     pub fn apply(&mut self, batch: &Batch) -> Result<(), AllocError>
         requires { length self.old.entered + length self.old.left + length batch.now < 2 ^ 62 }
         ensures { OnOk result (self.new ≡ deltas_after self.old batch.now) }
@@ -159,7 +176,7 @@ impl Delta {
         Ok(())
     }
 
-    /// After the signed row at a place of a batch.
+    /// Takes in the signed row at a place of a batch.
     fn apply_at(&mut self, batch: &Batch, place: usize) -> Result<(), AllocError>
         requires { place < length batch.now }
         ensures { OnOk result (self.new
@@ -174,7 +191,7 @@ impl Delta {
     }
 }
 
-/// The row comes to the pile.
+/// Adds the row to the pile.
 fn add(alloc: Global, pile: &mut Pile, row: &Row) -> Result<(), AllocError>
     ensures ok { OnOk result (pile_in pile.new ≡ pile_in pile.old ++ row.now.items ∷ []) }
     ensures err { OnErr result (pile_in pile.new ≡ pile_in pile.old) }
@@ -183,18 +200,18 @@ fn add(alloc: Global, pile: &mut Pile, row: &Row) -> Result<(), AllocError>
     pile.push(row)
 }
 
-/// The row at a place of a batch comes to the pile.
+/// Adds the row at a place of a batch to the pile.
 fn add_at(alloc: Global, pile: &mut Pile, batch: &Batch, place: usize) -> Result<(), AllocError>
     requires { place < length batch.now }
     ensures { OnOk result (pile_in pile.new
         ≡ pile_in pile.old ++ (slice_index_or batch.now place (true, [])).1 ∷ []) }
 {
-    let _count = batch.len();
+    let _count = batch.len(); // for the proof
     pile.make_room(alloc, batch.width())?;
     pile.push_at(batch, place)
 }
 
-/// The rows of the first bag without those of the second, in order.
+/// Returns the rows of the first bag without those of the second, in order.
 fn difference(alloc: Global, rows: &Pile, others: &Pile) -> Result<RowList, AllocError>
     ensures { IfOk result (λ result. result
         ≡ in_order row_cmp (bag_minus row_cmp (pile_in rows.now) (pile_in others.now))) }
@@ -205,8 +222,8 @@ fn difference(alloc: Global, rows: &Pile, others: &Pile) -> Result<RowList, Allo
     Ok(result)
 }
 
-/// Pushes the rows of the first bag without those of the second behind the answers, in order. Both
-/// come in order by it.
+/// Pushes the rows of the first bag without those of the second to the end of the answers, in
+/// order. Sorts both piles.
 fn push_difference(
     answers: &mut DatedRows,
     at: u64,

@@ -1,4 +1,4 @@
-//! The difference of two piles in order, by one walk over both.
+//! Finds the difference of two sorted piles, by one walk over both.
 ghost use Rattle.std.specs.Prelude.{◌≡◌, ◌≤◌, ◌<◌, ◌++◌, length, drop, map, take, IfOk, IsTrue};
 ghost use Rattle.std.specs.Prelude.{OnErr, OnOk};
 ghost use Rattle.row_bags.specs.Lists.{AreWithin, is_first, not_below, beyond, beyond_from};
@@ -10,7 +10,7 @@ use crate::row_list::RowList;
 use std::alloc::{AllocError, Global};
 use values::Value;
 
-/// The rows of the first pile beyond those of the second, both in order.
+/// Returns the rows of the first pile beyond those of the second. Both are in order.
 pub(crate) fn rows_beyond(alloc: Global, rows: &Pile, others: &Pile) -> Result<RowList, AllocError>
     ensures { IfOk result (λ list. list ≡ beyond (pile_in rows.now) (pile_in others.now)) }
 {
@@ -28,8 +28,11 @@ pub(crate) fn rows_beyond(alloc: Global, rows: &Pile, others: &Pile) -> Result<R
     Ok(list)
 }
 
-/// Pushes the rows of the first pile beyond those of the second, both in order, behind the answers.
-/// After an error some may stand there.
+/// Pushes the rows of the first pile beyond those of the second to the end of the answers. Both are
+/// in order.
+///
+/// # Errors
+/// `AllocError` when out of memory; then some of the rows may have been pushed.
 pub(crate) fn push_beyond(
     answers: &mut DatedRows,
     at: u64,
@@ -53,8 +56,8 @@ pub(crate) fn push_beyond(
     Ok(())
 }
 
-/// The place of the first of the rows from `start` on that stands beyond the others from `other`
-/// on, and the place of the other with which the next one is compared.
+/// Returns the place of the first row from `start` on that is beyond the others from `other` on.
+/// The second place is that of the other row with which the next one is compared.
 pub(crate) fn next_beyond(rows: &Pile, start: usize, others: &Pile, other: usize) -> (usize, usize)
     requires start { start ≤ length (pile_in rows.now) }
     requires other { other ≤ length (pile_in others.now) }
@@ -76,7 +79,7 @@ pub(crate) fn next_beyond(rows: &Pile, start: usize, others: &Pile, other: usize
     (rows.len(), next)
 }
 
-/// The place of the first of the rows from `start` on that is not below the values.
+/// Returns the place of the first row from `start` on that is not below the values.
 fn first_not_below(values: &[Value], others: &Pile, start: usize) -> usize
     requires { start ≤ length (pile_in others.now) }
     ensures rows { drop result (pile_in others.now)
@@ -91,7 +94,7 @@ fn first_not_below(values: &[Value], others: &Pile, start: usize) -> usize
     others.len()
 }
 
-/// Whether the row with these values stands at a place.
+/// Returns whether the row at a place has these values.
 pub(crate) fn stands_at(values: &[Value], others: &Pile, place: usize) -> bool
     ensures is { result ≡ is_first values.now (drop place (pile_in others.now)) }
     ensures within { IsTrue result → place < length (pile_in others.now) }

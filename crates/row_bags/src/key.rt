@@ -1,4 +1,4 @@
-//! Rows as keys of a map, with a short comparison.
+//! Holds rows as keys of a map, with a short comparison.
 ghost use Rattle.std.specs.Prelude.{◌≡◌, ◌≤◌, ◌<◌, length, refl, IfSome, IsNone};
 ghost use Rattle.std.specs.Cmp.{partial_equiv_from_equiv, partial_order_from_total};
 ghost use Rattle.std.specs.Cmp.{eq_by_cmp_equiv};
@@ -12,15 +12,15 @@ use std::cmp::Ordering;
 use std::marker::Model;
 use values::{Row, Value, value_at};
 
-/// A row of at most `N` values, seen as the array of these values.
+/// Holds a row of at most `N` values, seen as the array of these values.
 ///
-/// Null stands in the places of those that it lacks. Null is below every number, so two keys
-/// compare value by value, whatever they lack, and by how many they have only where all are equal.
+/// Null fills the places that the row lacks. Null is below every number, so two keys compare value
+/// by value, whatever they lack. How many values they have counts only if all are equal.
 #[derive(Drop)]
 pub(crate) struct Key<const N: usize> {
-    /// The row's values, and null behind them.
+    /// Holds the row's values, then null.
     values: [Value; N],
-    /// How many values the row has.
+    /// Counts the values that the row has.
     len: usize,
 }
 
@@ -39,7 +39,7 @@ impl<const N: usize> Model for Key<N> {
 }
 
 impl<const N: usize> Key<N> {
-    /// The row as a key.
+    /// Returns the row as a key.
     pub(crate) fn of(row: &Row) -> Key<N>
         requires fits { length row.now.items ≤ N }
         requires few { N ≤ MAX_COLUMNS }
@@ -55,7 +55,7 @@ impl<const N: usize> Key<N> {
         }
     }
 
-    /// The row as a key, None where it has more than `N` values.
+    /// Returns the row as a key, or `None` if it has more than `N` values.
     pub(crate) fn fitted(row: &Row) -> Option<Key<N>>
         requires { N ≤ MAX_COLUMNS }
         ensures some { IfSome result (λ key. (key.items ≡ row.now.items)
@@ -68,7 +68,7 @@ impl<const N: usize> Key<N> {
         Some(Key::of(row))
     }
 
-    /// The row's values.
+    /// Returns the row's values.
     pub(crate) fn values(&self) -> &[Value]
         ensures value { result.now ≡ self.now.items }
         ensures fits { length result.now ≤ N }
@@ -76,7 +76,7 @@ impl<const N: usize> Key<N> {
         &self.values[..self.len]
     }
 
-    /// The value in a column, or null past the row's end.
+    /// Returns the value in a column, or null past the row's end.
     pub(crate) fn value(&self, column: usize) -> Value
         ensures { result ≡ value_at self.now.items column }
     {
@@ -87,7 +87,7 @@ impl<const N: usize> Key<N> {
         }
     }
 
-    /// The key as a row.
+    /// Returns the key as a row.
     pub(crate) fn row(&self) -> Row
         ensures value { result ≡ self.now }
         ensures fits { length self.now.items ≤ N }
@@ -99,7 +99,7 @@ impl<const N: usize> Key<N> {
         row
     }
 
-    /// The same row in room for `M` values.
+    /// Returns the same row in room for `M` values.
     pub(crate) fn widened<const M: usize>(&self) -> Key<M>
         requires { (N ≤ M) × (M ≤ MAX_COLUMNS) }
         ensures { result ≡ self.now }
@@ -107,7 +107,8 @@ impl<const N: usize> Key<N> {
         Key::of(&self.row())
     }
 
-    /// Whether the row begins with the values of the other; the empty row begins each.
+    /// Returns whether the row starts with the values of `front`. The empty row is a prefix of
+    /// every row.
     pub(crate) fn begins_with(&self, front: &Row) -> bool
         ensures { result ≡ is_front front.now.items self.now.items }
     {

@@ -1,11 +1,11 @@
-//! Rows as keys in as little room as they need.
+//! Puts rows into as little room as they need, as keys.
 ghost use Rattle.std.specs.Prelude.{◌≡◌, ◌≤◌, ◌<◌, length, IfSome, IsNone};
 ghost use Rattle.row_bags.specs.Bags.{is_front};
 
 use arrayvec::ArrayVec;
 use values::{MAX_COLUMNS, Row, Value};
 
-/// The row as a key with room for `N` values, None where it has more. Takes no memory.
+/// Returns the row as a key with room for `N` values, or `None` if it has more. Takes no memory.
 pub fn fitted<const N: usize>(row: &Row) -> Option<ArrayVec<Value, N>>
     requires { N ≤ MAX_COLUMNS }
     ensures some { IfSome result (λ key. (key.items ≡ row.now.items) × (length row.now.items ≤ N)) }
@@ -17,7 +17,7 @@ pub fn fitted<const N: usize>(row: &Row) -> Option<ArrayVec<Value, N>>
     Some(copied(row))
 }
 
-/// The same values again, in room for `M` of them. Takes no memory.
+/// Returns the same values in room for `M` of them. Takes no memory.
 pub fn copied<const N: usize, const M: usize>(row: &ArrayVec<Value, N>) -> ArrayVec<Value, M>
     requires { length row.now.items ≤ M }
     ensures { result ≡ row.now }
@@ -29,7 +29,8 @@ pub fn copied<const N: usize, const M: usize>(row: &ArrayVec<Value, N>) -> Array
     copy
 }
 
-/// Whether the row begins with the values of the other; the empty row begins each.
+/// Returns whether the row starts with the values of `front`. The empty row is a prefix of every
+/// row.
 pub fn begins_with<const N: usize>(row: &ArrayVec<Value, N>, front: &Row) -> bool
     ensures { result ≡ is_front front.now.items row.now.items }
 {

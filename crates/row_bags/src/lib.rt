@@ -1,14 +1,17 @@
-//! Bags of rows.
+//! Keeps bags of rows for the states of operators.
 //!
-//! A `RowBag` is seen as the list of its rows in order, with their repeats, and is kept by the
-//! count of each row: what enters, leaves or is looked up costs a logarithm of the number of rows
-//! that differ. A `Delta` is what entered and what left since it was new, each cut by the other. It
-//! keeps the rows as they came, and sorts them where it is asked. A row that is held takes the room
-//! of the widest that came, rounded up to 2, 4, 8 or `MAX_COLUMNS` values. `DatedRows` are rows
-//! with their instants, as answers wait.
+//! Contracts see a `RowBag` as the list of its rows in order, with their repeats. It keeps each
+//! distinct row once, with a count. So a row that enters, leaves or is looked up costs a logarithm
+//! of the number of distinct rows.
 //!
-//! The theory of `proofs/BagLaws.antt` and `proofs/DeltaLaws.antt` says what these lists are of the
-//! bags that signed rows turn into one another.
+//! A `Delta` is what entered and what left since it was empty, each cut by the other. It keeps the
+//! rows as they came, and sorts them when asked.
+//!
+//! A row that is held takes the room of the widest that came, rounded up to 2, 4, 8, 16 or
+//! `MAX_COLUMNS` values. `DatedRows` holds rows with their instants, as answers wait.
+//!
+//! `proofs/BagLaws.antt` and `proofs/DeltaLaws.antt` say how these lists relate to the bags that
+//! signed rows turn into one another.
 #![tactic(auto)]
 
 mod counts;

@@ -1,4 +1,4 @@
-//! Rows one behind the other, in as little room as they need.
+//! Keeps rows one after the other, in as little room as they need.
 ghost use Rattle.std.specs.Prelude.{◌≡◌, ◌≤◌, ◌<◌, ◌++◌, ◌∷◌, [], length, IfOk, OnOk, OnErr};
 ghost use Rattle.std.specs.Prelude.{slice_index_or, true};
 ghost use Rattle.column.specs.Rows.{width};
@@ -13,7 +13,7 @@ use column::Batch;
 use std::alloc::{AllocError, Global};
 use values::{MAX_COLUMNS, Row, Value};
 
-/// Rows in the order in which they came, by how many values each may have.
+/// Keeps rows in the order in which they came, by how many values each may have.
 #[derive(Drop)]
 pub(crate) enum Pile {
     Two(Vec<ArrayVec<Value, 2>>),
@@ -24,14 +24,14 @@ pub(crate) enum Pile {
 }
 
 impl Pile {
-    /// No rows.
+    /// Returns a pile without rows.
     pub(crate) fn new(alloc: Global) -> Pile
         ensures { pile_in result ≡ [] }
     {
         Pile::Two(Vec::new(alloc))
     }
 
-    /// How many values its rows may have.
+    /// Returns how many values its rows may have.
     fn room(&self) -> usize
         ensures { result ≡ pile_room self.now }
     {
@@ -44,7 +44,7 @@ impl Pile {
         }
     }
 
-    /// The same rows with the next greater room.
+    /// Returns the same rows with the next greater room.
     fn wider(&self, alloc: Global) -> Result<Pile, AllocError>
         ensures rows { IfOk result (λ wider. pile_in wider ≡ pile_in self.now) }
         ensures room { IfOk result (λ wider. IsWiderPile self.now wider) }
@@ -58,8 +58,7 @@ impl Pile {
         }
     }
 
-    /// Room for rows of `width` values; the rows stay. Where the room is there, this takes no
-    /// memory.
+    /// Makes room for rows of `width` values; the rows stay. Takes no memory if the room is there.
     pub(crate) fn make_room(&mut self, alloc: Global, width: usize) -> Result<(), AllocError>
         requires { width ≤ MAX_COLUMNS }
         ensures rows { pile_in self.new ≡ pile_in self.old }
@@ -71,7 +70,7 @@ impl Pile {
         Ok(())
     }
 
-    /// One row more behind the others.
+    /// Appends a row.
     pub(crate) fn push(&mut self, row: &Row) -> Result<(), AllocError>
         requires { length row.now.items ≤ pile_room self.old }
         ensures ok { OnOk result (pile_in self.new ≡ pile_in self.old ++ row.now.items ∷ []) }
@@ -86,7 +85,7 @@ impl Pile {
         }
     }
 
-    /// The row at a place of a batch more behind the others.
+    /// Appends the row at a place of a batch.
     pub(crate) fn push_at(&mut self, batch: &Batch, place: usize) -> Result<(), AllocError>
         requires within { place < length batch.now }
         requires room { width batch.now ≤ pile_room self.old }
@@ -102,7 +101,7 @@ impl Pile {
         }
     }
 
-    /// A copy whose rows are in order.
+    /// Returns a copy whose rows are in order.
     pub(crate) fn in_order(&self, alloc: Global) -> Result<Pile, AllocError>
         ensures { IfOk result (λ copy. pile_in copy ≡ in_order row_cmp (pile_in self.now)) }
     {
@@ -111,7 +110,7 @@ impl Pile {
         Ok(copy)
     }
 
-    /// A copy.
+    /// Returns a copy.
     fn copy(&self, alloc: Global) -> Result<Pile, AllocError>
         ensures { IfOk result (λ copy. pile_in copy ≡ pile_in self.now) }
     {
@@ -124,7 +123,7 @@ impl Pile {
         }
     }
 
-    /// The rows come in order. It takes no memory.
+    /// Sorts the rows. Takes no memory.
     pub(crate) fn sort(&mut self)
         ensures { pile_in self.new ≡ in_order row_cmp (pile_in self.old) }
     {
@@ -137,7 +136,7 @@ impl Pile {
         }
     }
 
-    /// The rows leave; their memory stays for those to come.
+    /// Drops the rows, and keeps their memory for those to come.
     pub(crate) fn clear(&mut self)
         ensures { pile_in self.new ≡ [] }
     {
@@ -150,7 +149,7 @@ impl Pile {
         }
     }
 
-    /// How many rows there are.
+    /// Returns the number of rows.
     pub(crate) fn len(&self) -> usize
         ensures { result ≡ length (pile_in self.now) }
     {
@@ -163,12 +162,12 @@ impl Pile {
         }
     }
 
-    /// At least as many values as its rows have together.
+    /// Returns at least as many values as its rows have together.
     pub(crate) fn most_values(&self) -> usize {
         self.len().saturating_mul(self.room())
     }
 
-    /// The values of the row at a place.
+    /// Returns the values of the row at a place.
     pub(crate) fn values(&self, place: usize) -> &[Value]
         requires { place < length (pile_in self.now) }
         ensures value { result.now ≡ slice_index_or (pile_in self.now) place [] }
@@ -184,7 +183,7 @@ impl Pile {
     }
 }
 
-/// A copy of the rows with room for `M` values in each.
+/// Returns a copy of the rows with room for `M` values in each.
 fn widened<const N: usize, const M: usize>(
     alloc: Global,
     rows: &[ArrayVec<Value, N>],
@@ -194,7 +193,7 @@ fn widened<const N: usize, const M: usize>(
 {
     let mut wider = Vec::with_capacity(alloc, rows.len())?;
     for row in rows {
-        let _few = row.len();
+        let _few = row.len(); // for the proof
         wider.push(copied(row))?;
     }
     Ok(wider)
@@ -227,13 +226,13 @@ fn push_row_at<const N: usize>(
     Ok(())
 }
 
-/// The values of the row at a place of a batch.
+/// Returns the values of the row at a place of a batch.
 fn values_at<const N: usize>(batch: &Batch, place: usize) -> ArrayVec<Value, N>
     requires within { place < length batch.now }
     requires room { width batch.now ≤ N }
     ensures { result.items ≡ (slice_index_or batch.now place (true, [])).1 }
 {
-    let _count = batch.len();
+    let _count = batch.len(); // for the proof
     let mut row = ArrayVec::new();
     for column in 0..batch.width() {
         row.push(batch.column(column).get(place));

@@ -1,4 +1,4 @@
-//! Rows in a list.
+//! Keeps rows in a list.
 ghost use Rattle.std.specs.Prelude.{◌≡◌, ◌≤◌, ◌↔◌, ◌++◌, ◌∷◌, [], length, map, take};
 ghost use Rattle.std.specs.Prelude.{IfOk, IsTrue, OnErr, OnOk};
 ghost use Rattle.row_bags.specs.Lists.{AreWithin, beyond, beyond_from, staying, up_to};
@@ -13,15 +13,15 @@ use std::alloc::{AllocError, Global};
 use std::marker::Model;
 use values::{MAX_COLUMNS, Value};
 
-/// Rows one after the other, in as little room as they need: eight bytes for each value, and one
-/// more for each row.
+/// Holds rows one after the other, in as little room as they need: eight bytes for each value, and
+/// one more for each row.
 ///
 /// It is made for lists in order, which change seldom and then by a walk over all of it.
 #[derive(Drop)]
 pub struct RowList {
-    /// How many values each row has.
+    /// Counts the values of each row.
     widths: Vec<u8>,
-    /// The rows' values, one row behind the other.
+    /// Holds the rows' values, one row after the other.
     values: Vec<Value>,
 }
 
@@ -38,7 +38,7 @@ impl Model for RowList {
 }
 
 impl RowList {
-    /// No rows.
+    /// Returns a list without rows.
     pub fn new(alloc: Global) -> RowList
         ensures { result ≡ [] }
     {
@@ -48,15 +48,18 @@ impl RowList {
         }
     }
 
-    /// Whether the lists have the same rows.
+    /// Returns whether the lists have the same rows.
     pub fn is_same(&self, other: &RowList) -> bool
         ensures { IsTrue result ↔ (self.now ≡ other.now) }
     {
         self.widths == other.widths && self.values == other.values
     }
 
-    /// The rows after what left and entered. A row that left and does not stand where it comes in
-    /// order is not found. An error says that memory was refused; nothing is changed.
+    /// Returns the rows after what left and entered. It finds a row that left only at its place in
+    /// order.
+    ///
+    /// # Errors
+    /// `AllocError` when out of memory; then nothing has changed.
     pub fn renewed(&self, alloc: Global, delta: &Delta) -> Result<RowList, AllocError>
         ensures { IfOk result (λ rows. rows ≡ renewed self.now delta.now) }
     {
@@ -64,8 +67,11 @@ impl RowList {
         Ok(list)
     }
 
-    /// Becomes the rows after what left and entered. Where nothing came, this is all that it looks
-    /// at. An error says that memory was refused; the list is as it was.
+    /// Replaces the list by the rows after what left and entered. If nothing came, this is all that
+    /// it looks at.
+    ///
+    /// # Errors
+    /// `AllocError` when out of memory; then the list is as it was.
     pub fn renew(&mut self, alloc: Global, delta: &Delta) -> Result<(), AllocError>
         ensures ok { OnOk result (self.new ≡ renewed self.old delta.now) }
         ensures err { OnErr result (self.new ≡ self.old) }
@@ -77,9 +83,11 @@ impl RowList {
         Ok(())
     }
 
-    /// Becomes the rows after what left and entered, and pushes a copy of them behind the answers,
-    /// each row with the instant. An error says that memory was refused; list and answers are as
-    /// they were.
+    /// Replaces the list by the rows after what left and entered. Pushes a copy of them to the end
+    /// of the answers, each row with the instant.
+    ///
+    /// # Errors
+    /// `AllocError` when out of memory; then the list and the answers are as they were.
     pub fn renew_to(
         &mut self,
         alloc: Global,
@@ -100,8 +108,8 @@ impl RowList {
         Ok(())
     }
 
-    /// The rows without those of the one pile beyond those of the other, and with those of the
-    /// other beyond those of the one, all in order: one walk over the three.
+    /// Returns the rows without those of `left` beyond `entered`, and with those of `entered`
+    /// beyond `left`. All are in order; it takes one walk over the three.
     pub(crate) fn walked(
         &self,
         alloc: Global,
@@ -135,7 +143,7 @@ impl RowList {
         Ok(list)
     }
 
-    /// No rows, with room for so many of so many values together.
+    /// Returns a list without rows, with room for so many rows that have so many values together.
     pub(crate) fn with_capacity(
         alloc: Global,
         rows: usize,
@@ -148,7 +156,10 @@ impl RowList {
         Ok(RowList { widths, values })
     }
 
-    /// A row more behind the others.
+    /// Appends a row.
+    ///
+    /// # Errors
+    /// `AllocError` when out of memory.
     pub fn push(&mut self, row: &[Value]) -> Result<(), AllocError>
         requires { length row.now ≤ MAX_COLUMNS }
         ensures { OnOk result (self.new ≡ self.old ++ row.now ∷ []) }
@@ -159,8 +170,8 @@ impl RowList {
         Ok(())
     }
 
-    /// Writes of the rows of a pile beyond another, from these places on, those up to the last one
-    /// behind the others; the places from which the rest goes on.
+    /// Appends the rows of a pile beyond another, from these places on, up to and including `last`.
+    /// Returns the places from which the rest goes on.
     fn push_up_to(
         &mut self,
         last: &[Value],
@@ -187,7 +198,7 @@ impl RowList {
         Ok(on)
     }
 
-    /// Writes the rows of a pile beyond another, from these places on, behind the others.
+    /// Appends the rows of a pile beyond another, from these places on.
     fn push_rest(
         &mut self,
         rows: &Pile,
@@ -206,8 +217,10 @@ impl RowList {
         Ok(())
     }
 
-    /// Pushes a copy of the rows behind the answers, each with the instant. An error says that
-    /// memory was refused; the answers are as they were.
+    /// Pushes a copy of the rows to the end of the answers, each with the instant.
+    ///
+    /// # Errors
+    /// `AllocError` when out of memory; then the answers are as they were.
     pub fn push_to(&self, answers: &mut DatedRows, at: u64) -> Result<(), AllocError>
         ensures ok { OnOk result (answers.new
             ≡ answers.old ++ map (λ r. (at, r)) self.now) }
@@ -223,7 +236,10 @@ impl RowList {
         }
     }
 
-    /// The same; after an error some of the rows may stand behind the answers.
+    /// Pushes a copy of the rows to the end of the answers, each with the instant.
+    ///
+    /// # Errors
+    /// `AllocError` when out of memory; then some of the rows may have been pushed.
     fn push_each(&self, answers: &mut DatedRows, at: u64) -> Result<(), AllocError>
         ensures ok { OnOk result (answers.new
             ≡ answers.old ++ map (λ r. (at, r)) self.now) }

@@ -1,4 +1,5 @@
-//! What holds of every turn of Select and Project: functions that do nothing, each with one law.
+//! States what holds for every turn of Select and Project, by functions that do nothing. Each has
+//! one law.
 ghost use Rattle.std.specs.Prelude.{ℕ, Bool, List};
 ghost use Rattle.values.specs.Row.{Row};
 ghost use Rattle.values.specs.Condition.{Condition};
@@ -10,8 +11,8 @@ ghost use Rattle.row_nodes.specs.Laws.{IsLawful, Mean, RowsLaw, project_value, s
 ghost use Rattle.row_nodes.specs.Project.{projected};
 ghost use Rattle.row_nodes.specs.Select.{selected};
 
-/// A turn of Select turns the rows at which its condition was true of what it had taken into those
-/// of what it has taken now, wherever its outputs are cut.
+/// States the law of Select: what a turn emits, cut anywhere, turns one selection into the next. A
+/// selection is the rows at which the condition is true, among all rows taken so far.
 pub fn select_keeps_its_value()
     ensures law { (c : Condition) (steps : List Step) (t : ℕ) (xs : List (Bool × Row))
         (i : List Row) (i2 : List Row) (o : List Row)
@@ -21,7 +22,7 @@ pub fn select_keeps_its_value()
     ensures lawful { (c : Condition) → IsLawful (select_value c) }
 {}
 
-/// The same of Project and the rows' columns.
+/// States the same law of Project, for the chosen columns of the rows taken so far.
 pub fn project_keeps_its_value()
     ensures law { (columns : List ℕ) (t : ℕ) (xs : List (Bool × Row)) (i : List Row) (i2 : List Row)
         (o : List Row)

@@ -1,6 +1,6 @@
-//! The operators of a plan that look at one row at a time: Select keeps the rows at which a
-//! condition is true, Project keeps some columns. Neither has a state, and each puts out what it
-//! makes of an item at once.
+//! Holds the operators of a plan that look at one row at a time. Select keeps the rows at which a
+//! condition is true; Project keeps some columns. Neither has a state, and each emits what it makes
+//! of an item at once.
 #![tactic(auto)]
 
 mod laws;

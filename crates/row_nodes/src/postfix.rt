@@ -1,4 +1,4 @@
-//! A condition over the rows of one source, as steps in postfix order.
+//! Turns a condition over the rows of one source into steps in postfix order.
 ghost use Rattle.std.specs.Prelude.{◌≡◌, ◌≤◌, ◌++◌, ◌∷◌, [], ℕ, IfOk, OnOk};
 ghost use Rattle.std.specs.Ordering.{int_cmp};
 ghost use Rattle.values.specs.Condition as conditions;
@@ -13,13 +13,13 @@ use lane_kernels::{MAX_TRUTHS, Step};
 use std::alloc::{AllocError, Global};
 use values::{Compare, Condition, Operand};
 
-/// The steps of a condition, which `select` runs: what stands left before what stands right, and
-/// then their And or Or.
+/// Returns the steps of a condition, which `select` runs. The steps of the left side come before
+/// those of the right side, then their And or Or.
 ///
-/// Its columns are of the source 0: rows between the operators of a plan are combinations of one
-/// row.
+/// Its columns are of source 0: rows between the operators of a plan are combinations of one row.
 ///
-/// An error says that memory was refused; nothing is changed.
+/// # Errors
+/// `AllocError` when out of memory; then nothing has changed.
 pub fn steps(alloc: Global, condition: &Condition) -> Result<Vec<Step>, AllocError>
     requires { IsOfOneSource (resolved.condition_of condition.now) }
     ensures value { IfOk result (λ ss. ss.items ≡ steps_of (resolved.condition_of condition.now)) }
@@ -34,7 +34,7 @@ pub fn steps(alloc: Global, condition: &Condition) -> Result<Vec<Step>, AllocErr
     Ok(steps)
 }
 
-/// The steps of a condition behind others.
+/// Appends the steps of a condition.
 fn add(steps: &mut Vec<Step>, condition: &Condition) -> Result<(), AllocError>
     ensures { OnOk result (steps.new.items
         ≡ steps.old.items ++ steps_of (resolved.condition_of condition.now)) }
@@ -72,7 +72,7 @@ fn comparison_step(left: Operand, how: Compare, right: Operand) -> Step
     }
 }
 
-/// The comparison with its sides changed about.
+/// Returns the comparison with its sides swapped.
 fn turned(how: Compare) -> Compare
     ensures { result ≡ turned how }
 {
@@ -86,7 +86,7 @@ fn turned(how: Compare) -> Compare
     }
 }
 
-/// Whether two numbers stand as the comparison asks.
+/// Returns whether two numbers compare as asked.
 fn passes(a: i64, how: Compare, b: i64) -> bool
     ensures { result ≡ conditions.passes how (int_cmp a b) }
 {

@@ -1,4 +1,4 @@
-//! Some columns of each row.
+//! Keeps some columns of each row.
 ghost use Rattle.std.specs.Prelude.{◌≡◌, ◌≤◌, ◌++◌, IfOk, OnErr, OnOk, length};
 ghost use Rattle.std.specs.List.{flat_map};
 ghost use Rattle.op_queue.specs.Entries.{IsForward};
@@ -11,10 +11,13 @@ use op_queue::{Item, Queue};
 use std::alloc::{AllocError, Global};
 use values::MAX_COLUMNS;
 
-/// What Project puts out at an item: each row with these columns alone, in this order, and ticks as
-/// they are.
+/// Returns what Project emits at an item: each row with only these columns, in this order, and
+/// ticks as they are.
 ///
-/// Columns are copied whole. An error says that memory was refused; nothing is changed.
+/// Columns are copied whole.
+///
+/// # Errors
+/// `AllocError` when out of memory; then nothing has changed.
 pub fn project(alloc: Global, columns: &[usize], item: &Item) -> Result<Vec<Item>, AllocError>
     requires narrow { length columns.now ≤ MAX_COLUMNS }
     requires within { AreColumns columns.now item.now }
@@ -35,10 +38,11 @@ pub fn project(alloc: Global, columns: &[usize], item: &Item) -> Result<Vec<Item
     }
 }
 
-/// Puts what Project puts out at an item at the back of the queue. Columns are moved; one that is
+/// Pushes what Project emits at an item to the back of the queue. Columns are moved; one that is
 /// named again is copied.
 ///
-/// An error says that memory was refused; the queue is as it was, and the item is dropped.
+/// # Errors
+/// `AllocError` when out of memory; then the queue is as it was, and the item is dropped.
 pub fn run_project(
     alloc: Global,
     columns: &[usize],

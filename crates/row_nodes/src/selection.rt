@@ -1,4 +1,4 @@
-//! The rows at which a condition is true.
+//! Keeps the rows at which a condition is true.
 ghost use Rattle.std.specs.Prelude.{◌≡◌, ◌++◌, IfOk, OnErr, OnOk, length, map};
 ghost use Rattle.std.specs.List.{flat_map};
 ghost use Rattle.column.specs.Bits.{word_count};
@@ -18,12 +18,14 @@ use std::alloc::{AllocError, Global};
 // as many words of 64 bits as a batch of `MAX_ROWS` rows needs
 const MAX_WORDS: usize = 16;
 
-/// What Select puts out at an item: the rows at which the condition of these steps is true, in
-/// order and with their signs, and ticks as they are. Rows at which it is false or unknown are left
-/// out; where all are, nothing is put out.
+/// Returns what Select emits at an item. That is the rows at which the condition of these steps is
+/// true, in order and with their signs, and ticks as they are. Rows at which it is false or unknown
+/// are left out; if all are, nothing is emitted.
 ///
-/// The whole condition goes over the batch in one pass, 64 rows at a time. An error says that
-/// memory was refused; nothing is changed.
+/// The whole condition goes over the batch in one pass, 64 rows at a time.
+///
+/// # Errors
+/// `AllocError` when out of memory; then nothing has changed.
 pub fn select(alloc: Global, steps: &[Step], item: &Item) -> Result<Vec<Item>, AllocError>
     requires fits { FitItem steps.now item.now }
     ensures { IfOk result (λ outs. flat_map entries_of outs.items ≡ selected steps.now item.now) }
@@ -47,10 +49,11 @@ pub fn select(alloc: Global, steps: &[Step], item: &Item) -> Result<Vec<Item>, A
     }
 }
 
-/// Puts what Select puts out at an item at the back of the queue. The rows that are kept move to
-/// the front of their columns.
+/// Pushes what Select emits at an item to the back of the queue. The rows that are kept move to the
+/// front of their columns.
 ///
-/// An error says that memory was refused; the queue is as it was, and the item is dropped.
+/// # Errors
+/// `AllocError` when out of memory; then the queue is as it was, and the item is dropped.
 pub fn run_select(
     alloc: Global,
     steps: &[Step],
@@ -74,7 +77,7 @@ pub fn run_select(
     }
 }
 
-/// Which rows are kept.
+/// Returns which rows are kept.
 fn kept(alloc: Global, steps: &[Step], batch: &Batch) -> Result<Mask, AllocError>
     requires { StepsFit (width batch.now) 0 steps.now }
     ensures { IfOk result (λ m. m ≡ map (is_kept steps.now) batch.now) }
@@ -92,7 +95,7 @@ fn kept(alloc: Global, steps: &[Step], batch: &Batch) -> Result<Mask, AllocError
     Ok(mask)
 }
 
-/// The same, by words that are lent.
+/// Returns which rows are kept, using words that the caller lends.
 fn kept_by(
     alloc: Global,
     steps: &[Step],

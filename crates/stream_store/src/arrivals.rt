@@ -1,4 +1,4 @@
-//! Rows on their way into a log.
+//! Carries rows on their way into a log.
 ghost use Rattle.std.specs.Prelude.{◌≡◌, ◌≤◌, ◌+◌, ◌*◌, ◌++◌, ◌∷◌, [], OnOk, OnErr};
 ghost use Rattle.std.specs.Prelude.{length, map, replicate, take, drop, vec_len, vec_capacity};
 ghost use Rattle.std.specs.Prelude.{◌<◌, slice_index_or};
@@ -12,19 +12,19 @@ use std::collections::VecDeque;
 use std::marker::Model;
 use values::{MAX_COLUMNS, Value};
 
-/// Rows that a heartbeat closes, by instant, then arrival.
+/// Holds rows that a heartbeat closes, by instant, then arrival.
 ///
 /// They are kept flat, so a row takes no allocation of its own. Contracts see them as a list of
 /// elements.
 #[derive(Drop)]
 pub struct Arrivals {
-    /// How many values each row has.
+    /// Counts the values of each row.
     width: usize,
-    /// The instant of each row.
+    /// Holds the instant of each row.
     instants: Vec<u64>,
-    /// The number of each row in the order of arrival.
+    /// Holds the number of each row in the order of arrival.
     numbers: Vec<u64>,
-    /// The rows' values, one row behind the other: `width` for each.
+    /// Holds the rows' values, one row after the other, `width` values for each.
     values: Vec<Value>,
 }
 
@@ -41,7 +41,7 @@ impl Model for Arrivals {
 }
 
 impl Arrivals {
-    /// No rows of so many columns. Takes no memory.
+    /// Returns an empty list for rows of so many columns. Takes no memory.
     pub(crate) fn new(alloc: Global, width: usize) -> Arrivals
         requires { width ≤ MAX_COLUMNS }
         ensures width { result.width ≡ width }
@@ -55,21 +55,21 @@ impl Arrivals {
         }
     }
 
-    /// The instant of each row. Takes no memory.
+    /// Returns the instant of each row. Takes no memory.
     pub fn instants(&self) -> &[u64]
         ensures { result.now ≡ map (λ e. e.instant) self.now.elements }
     {
         &self.instants
     }
 
-    /// The number of each row in the order of arrival. Takes no memory.
+    /// Returns the number of each row in the order of arrival. Takes no memory.
     pub fn numbers(&self) -> &[u64]
         ensures { result.now ≡ map (λ e. e.arrival) self.now.elements }
     {
         &self.numbers
     }
 
-    /// The values of the rows, one row's behind another's. Takes no memory.
+    /// Returns the values of the rows, one row after another. Takes no memory.
     pub fn values(&self) -> &[Value]
         ensures { result.now ≡ flat_map (λ e. e.row) self.now.elements }
     {
@@ -85,8 +85,10 @@ impl Arrivals {
         self.values.reserve(rows.saturating_mul(self.width))
     }
 
-    /// Puts a row behind the others, whose values stand in a list from `start` on. On Err they are
-    /// as they were.
+    /// Adds a row after the others. Its values are in a list from the place `start` on.
+    ///
+    /// # Errors
+    /// `AllocError` when out of memory; then nothing has changed.
     pub(crate) fn push(
         &mut self,
         instant: u64,
@@ -114,7 +116,10 @@ impl Arrivals {
         Ok(())
     }
 
-    /// Puts a copy of the row at a place of a log behind the others. On Err they are as they were.
+    /// Adds a copy of the row at a place of a log after the others.
+    ///
+    /// # Errors
+    /// `AllocError` when out of memory; then nothing has changed.
     pub(crate) fn push_closed(&mut self, log: &Log, place: usize) -> Result<(), AllocError>
         requires width { log.now.width ≡ self.old.width }
         requires wide { All (λ e. length e.row ≡ self.old.width) log.now.elements }
@@ -133,8 +138,11 @@ impl Arrivals {
         Ok(())
     }
 
-    /// Puts rows of one instant behind the others: their numbers, and their values, one row's
-    /// behind another's. On Err they are as they were.
+    /// Adds rows of one instant after the others: their numbers, and their values, one row after
+    /// another.
+    ///
+    /// # Errors
+    /// `AllocError` when out of memory; then nothing has changed.
     pub(crate) fn push_all(
         &mut self,
         instant: u64,
@@ -158,7 +166,7 @@ impl Arrivals {
     }
 }
 
-/// Puts an instant so many times behind others, which have room for it.
+/// Adds an instant so many times after others, which have room for it.
 fn push_instants(instants: &mut Vec<u64>, instant: u64, count: usize)
     requires { vec_len instants.old + count ≤ vec_capacity instants.old }
     ensures { instants.new.items ≡ instants.old.items ++ replicate count instant }
@@ -168,7 +176,7 @@ fn push_instants(instants: &mut Vec<u64>, instant: u64, count: usize)
     }
 }
 
-/// Puts numbers behind others, which have room for them.
+/// Adds numbers after others, which have room for them.
 fn push_numbers(numbers: &mut Vec<u64>, more: &[u64])
     requires { vec_len numbers.old + length more.now ≤ vec_capacity numbers.old }
     ensures { numbers.new.items ≡ numbers.old.items ++ more.now }
@@ -178,7 +186,7 @@ fn push_numbers(numbers: &mut Vec<u64>, more: &[u64])
     }
 }
 
-/// Puts values behind others, which have room for them.
+/// Adds values after others, which have room for them.
 fn push_values(values: &mut Vec<Value>, more: &[Value])
     requires { vec_len values.old + length more.now ≤ vec_capacity values.old }
     ensures { values.new.items ≡ values.old.items ++ more.now }
@@ -188,8 +196,8 @@ fn push_values(values: &mut Vec<Value>, more: &[Value])
     }
 }
 
-/// Puts the values of the row at a place of a log, as many as its columns, behind others, which
-/// have room for them.
+/// Adds the values of the row at a place of a log, as many as its columns, after others, which have
+/// room for them.
 fn push_row(values: &mut Vec<Value>, log: &Log, place: usize, width: usize)
     requires room { vec_len values.old + width ≤ vec_capacity values.old }
     requires width { log.now.width ≡ width }
@@ -203,12 +211,13 @@ fn push_row(values: &mut Vec<Value>, log: &Log, place: usize, width: usize)
     }
 }
 
-/// Puts so many values of a list from `start` on behind others, which have room for them.
+/// Adds so many values of a list from `start` on after others, which have room for them.
 fn push_from(values: &mut Vec<Value>, list: &VecDeque<Value>, start: usize, count: usize)
     requires room { vec_len values.old + count ≤ vec_capacity values.old }
     requires within { start + count ≤ length list.now.items }
     ensures { values.new.items ≡ values.old.items ++ take count (drop start list.now.items) }
 {
+    // for the proof
     let _len = list.len();
     for place in start..start + count {
         values.push_reserved(list[place]);

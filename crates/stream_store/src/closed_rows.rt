@@ -1,4 +1,4 @@
-//! Copies of closed rows.
+//! Copies closed rows.
 ghost use Rattle.std.specs.Prelude.{◌≡◌, ◌≤◌, IfOk, length};
 ghost use Rattle.std.specs.List.{All};
 ghost use Rattle.column.specs.Bits.{chosen};
@@ -8,8 +8,10 @@ use op_queue::Log;
 use std::alloc::{AllocError, Global};
 use values::MAX_COLUMNS;
 
-/// Copies a log with the rows at whose places a mark is true. It costs the rows. An error says that
-/// memory was refused.
+/// Copies a log with the rows at whose places a mark is true. It costs the rows.
+///
+/// # Errors
+/// `AllocError` when out of memory.
 pub(crate) fn copy_marked(alloc: Global, log: &Log, kept: &[bool]) -> Result<Log, AllocError>
     requires few { log.now.width ≤ MAX_COLUMNS }
     requires wide { All (λ e. length e.row ≡ log.now.width) log.now.elements }
@@ -25,7 +27,7 @@ pub(crate) fn copy_marked(alloc: Global, log: &Log, kept: &[bool]) -> Result<Log
     Ok(copy)
 }
 
-/// Copies of the rows of a log at whose places a mark is true.
+/// Copies the rows of a log at whose places a mark is true.
 fn marked_rows(alloc: Global, log: &Log, kept: &[bool]) -> Result<Arrivals, AllocError>
     requires few { log.now.width ≤ MAX_COLUMNS }
     requires wide { All (λ e. length e.row ≡ log.now.width) log.now.elements }

@@ -1,4 +1,4 @@
-//! The late rows of a stream: open rows by instant, and then in the order of arrival.
+//! Works on the late rows of a stream: open rows by instant, and then in the order of arrival.
 ghost use Rattle.std.specs.Prelude.{◌≡◌, ◌<◌, ◌≤◌, ◌+◌, ◌*◌, ◌^◌, [], IsTrue, OnOk, OnErr};
 ghost use Rattle.std.specs.Prelude.{IfOk, length, true};
 ghost use Rattle.std.specs.List.{list_all};
@@ -16,8 +16,10 @@ use std::alloc::{AllocError, Global};
 use std::collections::BTreeMap;
 use values::MAX_COLUMNS;
 
-/// Puts rows behind the others of their instant, numbered from `first` on, by one look-up. On Err
-/// all are as they were.
+/// Adds rows after the others of their instant, numbered from `first` on, by one look-up.
+///
+/// # Errors
+/// `AllocError` when out of memory; then nothing has changed.
 pub(crate) fn put(
     alloc: Global,
     late: &mut BTreeMap<u64, LateRows>,
@@ -47,22 +49,25 @@ pub(crate) fn put(
     Ok(())
 }
 
-/// Takes out the rows from the number `first` on, which are the last ones of their instants.
+/// Drops the rows from the number `first` on, which are the last ones of their instants.
 pub(crate) fn forget_from(late: &mut BTreeMap<u64, LateRows>, first: u64)
     ensures { late.new.entries ≡ below first late.old.entries }
 {
     late.retain(|_, open| open.keep_below(first));
 }
 
-/// The rows stay that one of the readers has in its input; the others leave, and with its last row
-/// an instant. Takes no memory.
+/// Keeps the rows that one of the readers has in its input, and drops the others. An instant
+/// without rows leaves the map. Takes no memory.
 pub(crate) fn keep_read(late: &mut BTreeMap<u64, LateRows>, starts: &[Start])
     ensures { late.new.entries ≡ entries_read starts.now late.old.entries }
 {
     late.retain(|instant, open| open.keep(*instant, starts));
 }
 
-/// Copies the rows of all instants. An error says that memory was refused.
+/// Copies the rows of all instants.
+///
+/// # Errors
+/// `AllocError` when out of memory.
 pub(crate) fn copy(
     alloc: Global,
     late: &BTreeMap<u64, LateRows>,
@@ -77,7 +82,7 @@ pub(crate) fn copy(
     Ok(copy)
 }
 
-/// How many rows there are. It costs the instants.
+/// Returns the number of rows. It costs the instants.
 pub(crate) fn count(late: &BTreeMap<u64, LateRows>) -> usize
     requires { length (open_of late.now.entries) < 2 ^ 32 }
     ensures { result ≡ length (open_of late.now.entries) }
@@ -89,9 +94,9 @@ pub(crate) fn count(late: &BTreeMap<u64, LateRows>) -> usize
     count
 }
 
-/// For how many rows to make room that copies those up to the instant, so that a list of them does
-/// not grow again and again. It costs their instants. Room saves time alone: no clause says how
-/// much it is.
+/// Returns for how many rows to make room before the rows up to the instant are copied. Their list
+/// then does not grow again and again. It costs their instants. Room only saves time: no clause
+/// says how much it is.
 pub(crate) fn room_up_to(late: &BTreeMap<u64, LateRows>, at: u64) -> usize {
     let mut count: usize = 0;
     for (instant, open) in late.iter() {
@@ -103,7 +108,7 @@ pub(crate) fn room_up_to(late: &BTreeMap<u64, LateRows>, at: u64) -> usize {
     count
 }
 
-/// Takes out the rows up to the instant.
+/// Drops the rows up to the instant.
 pub(crate) fn drop_up_to(late: &mut BTreeMap<u64, LateRows>, at: u64)
     ensures { late.new.entries ≡ instants_past at late.old.entries }
 {
@@ -118,7 +123,7 @@ pub(crate) fn drop_up_to(late: &mut BTreeMap<u64, LateRows>, at: u64)
     }
 }
 
-/// Whether no row lies past the instant.
+/// Returns whether no row is past the instant.
 fn are_all_up_to(late: &BTreeMap<u64, LateRows>, at: u64) -> bool
     ensures { IsTrue result → instants_past at late.now.entries ≡ [] }
 {

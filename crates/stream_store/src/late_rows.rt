@@ -1,4 +1,4 @@
-//! The open rows of one instant.
+//! Keeps the open rows of one instant.
 ghost use Rattle.std.specs.Prelude.{◌≡◌, ◌+◌, ◌*◌, ◌^◌, ◌<◌, ◌≤◌, ◌++◌, OnOk, OnErr, length};
 ghost use Rattle.std.specs.Prelude.{IfOk, nat_lt, take, true, vec_len, vec_capacity};
 ghost use Rattle.std.specs.Prelude.{slice_index_or, slice_set};
@@ -16,20 +16,19 @@ use std::alloc::{AllocError, Global};
 use std::marker::Model;
 use values::{MAX_COLUMNS, Value};
 
-/// For how many rows there is room where the first come.
+/// Says for how many rows there is room when the first ones come.
 const FIRST_ROWS: usize = 8;
 
-/// The open rows of one instant in the order of arrival, all with the same number of columns.
+/// Holds the open rows of one instant in the order of arrival, all with the same number of columns.
 ///
-/// They are kept flat, eight bytes a value and eight a number, so a row takes no allocation of its
-/// own.
+/// They are kept flat, 8 bytes a value and 8 a number, so a row takes no allocation of its own.
 #[derive(Drop)]
 pub(crate) struct LateRows {
-    /// How many values each row has.
+    /// Counts the values of each row.
     width: usize,
-    /// The number of each row in the order of arrival, the first one in front.
+    /// Holds the number of each row in the order of arrival, the first one in front.
     numbers: Vec<u64>,
-    /// The rows' values in the same order, one row behind the other: `width` for each.
+    /// Holds the rows' values in the same order, one row after the other, `width` values for each.
     values: Vec<Value>,
 }
 
@@ -47,7 +46,7 @@ impl Model for LateRows {
 }
 
 impl LateRows {
-    /// No rows of so many columns. Takes no memory.
+    /// Returns an empty list for rows of so many columns. Takes no memory.
     pub(crate) fn new(alloc: Global, width: usize) -> LateRows
         requires { width ≤ MAX_COLUMNS }
         ensures { result ≡ none_at width }
@@ -59,7 +58,10 @@ impl LateRows {
         }
     }
 
-    /// Puts rows behind the others, numbered from `first` on. On Err they are as they were.
+    /// Adds rows after the others, numbered from `first` on.
+    ///
+    /// # Errors
+    /// `AllocError` when out of memory; then nothing has changed.
     #[inline(always)]
     pub(crate) fn push_all(
         &mut self,
@@ -82,7 +84,7 @@ impl LateRows {
         Ok(())
     }
 
-    /// Keeps the first rows, as many as have numbers below `first`; whether any are left.
+    /// Keeps the first rows, those with numbers below `first`. Returns whether any are left.
     pub(crate) fn keep_below(&mut self, first: u64) -> bool
         ensures rows { self.new ≡ first_below first self.old }
         ensures left { result ≡ has_rows self.new }
@@ -93,15 +95,15 @@ impl LateRows {
         kept > 0
     }
 
-    /// How many rows there are.
+    /// Returns the number of rows.
     pub(crate) fn len(&self) -> usize
         ensures { result ≡ length self.now.rows }
     {
         self.numbers.len()
     }
 
-    /// The rows, which are of this instant, stay that one of the readers has in its input; the
-    /// others leave. Whether any are left. Takes no memory.
+    /// Keeps the rows, which are of this instant, that one of the readers has in its input. Drops
+    /// the others, and returns whether any are left. Takes no memory.
     pub(crate) fn keep(&mut self, instant: u64, starts: &[Start]) -> bool
         ensures rows { self.new ≡ rows_read starts.now instant self.old }
         ensures left { result ≡ has_rows self.new }
@@ -113,7 +115,10 @@ impl LateRows {
         count > 0
     }
 
-    /// Copies the rows. It costs as many as there are. An error says that memory was refused.
+    /// Copies the rows. It costs as many as there are.
+    ///
+    /// # Errors
+    /// `AllocError` when out of memory.
     pub(crate) fn copy(&self, alloc: Global) -> Result<LateRows, AllocError>
         ensures { IfOk result (λ copy. copy ≡ self.now) }
     {
@@ -128,7 +133,7 @@ impl LateRows {
         })
     }
 
-    /// Puts copies of the rows, with their instant, behind others.
+    /// Adds copies of the rows, with their instant, after others.
     pub(crate) fn copy_to(&self, instant: u64, rows: &mut Arrivals) -> Result<(), AllocError>
         requires { rows.old.width ≡ self.now.width }
         ensures width { rows.new.width ≡ rows.old.width }
@@ -166,7 +171,7 @@ fn move_kept(
     count
 }
 
-/// Writes a row over the one at a place before it.
+/// Writes a row over the one at an earlier place, or at its own.
 fn move_row(numbers: &mut Vec<u64>, values: &mut Vec<Value>, width: usize, from: usize, to: usize)
     requires before { to ≤ from }
     requires within { from < length numbers.old.items }
@@ -182,15 +187,15 @@ fn move_row(numbers: &mut Vec<u64>, values: &mut Vec<Value>, width: usize, from:
     values.as_mut_slice().copy_within(start..end, to * width);
 }
 
-/// How many of the numbers are below `first`.
+/// Counts the numbers that are below `first`.
 fn count_below(numbers: &[u64], first: u64) -> usize
     ensures { result ≡ length (filter (λ number. nat_lt number first) numbers.now) }
 {
     numbers.iter().filter(|number| **number < first).count()
 }
 
-/// Makes room for so many more, and where there are none yet, for at least so many as are given for
-/// the first: an instant mostly has several rows, and growing by doubling would copy them often.
+/// Makes room for so many more, and in an empty list for at least `first`. An instant mostly has
+/// several rows, and growing by doubling would copy them often.
 fn make_room<T>(list: &mut Vec<T>, count: usize, first: usize) -> Result<(), AllocError>
     ensures items { list.new.items ≡ list.old.items }
     ensures room { OnOk result (vec_len list.new + count ≤ vec_capacity list.new) }
@@ -202,8 +207,7 @@ fn make_room<T>(list: &mut Vec<T>, count: usize, first: usize) -> Result<(), All
     }
 }
 
-/// Puts so many numbers, one after another from `first` on, behind others, which have room for
-/// them.
+/// Adds so many numbers, one after another from `first` on, after others, which have room for them.
 fn push_numbers(numbers: &mut Vec<u64>, first: u64, count: usize)
     requires range { first + count < 2 ^ 32 }
     requires room { vec_len numbers.old + count ≤ vec_capacity numbers.old }
@@ -214,7 +218,7 @@ fn push_numbers(numbers: &mut Vec<u64>, first: u64, count: usize)
     }
 }
 
-/// Puts values behind others, which have room for them.
+/// Adds values after others, which have room for them.
 fn push_values(values: &mut Vec<Value>, more: &[Option<i64>])
     requires good { list_all is_stream_value more.now ≡ true }
     requires room { vec_len values.old + length more.now ≤ vec_capacity values.old }

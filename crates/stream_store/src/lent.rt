@@ -1,10 +1,11 @@
-//! Rows as they are lent to a stream: their instants, and their values, one row's behind another's.
+//! Reads rows as they are lent to a stream: their instants, and their values, one row after
+//! another.
 ghost use Rattle.std.specs.Prelude.{◌≡◌, ◌≤◌, length, replicate, take, true};
 ghost use Rattle.reference.specs.Commands.{is_stream_value};
 
 use values::Value;
 
-/// How many of the first instants are this one.
+/// Counts how many of the first instants are this one.
 pub(crate) fn count_at(instants: &[i64], instant: i64) -> usize
     ensures within { result ≤ length instants.now }
     ensures same { take result instants.now ≡ replicate result instant }
@@ -19,7 +20,7 @@ pub(crate) fn count_at(instants: &[i64], instant: i64) -> usize
     count
 }
 
-/// A value of a stream, as it is kept. What was tested before is not tested again.
+/// Returns a value of a stream as it is kept. What was tested before is not tested again.
 pub(crate) fn kept_value(value: Option<i64>) -> Value
     requires { is_stream_value value ≡ true }
     ensures { result ≡ value }

@@ -1,6 +1,8 @@
-//! Declared streams and what came to them: the rows that heartbeats have closed as a `Log` for each
-//! stream, which queries read by cursors, and the open rows by instant. Each call does to the
-//! streams what the machine of `reference` says.
+//! Stores declared streams and what came to them.
+//!
+//! The rows that heartbeats have closed are in a `Log` for each stream, which queries read by
+//! cursors. The open rows are kept by instant. Each call does to the streams what the machine of
+//! `reference` says.
 #![tactic(auto)]
 
 mod arrivals;

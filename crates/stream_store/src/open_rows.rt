@@ -1,4 +1,4 @@
-//! The open rows of a stream.
+//! Keeps the open rows of a stream.
 ghost use Rattle.std.specs.Prelude.{◌≡◌, ◌≤◌, ◌<◌, ◌+◌, ◌*◌, ◌^◌, ◌++◌, [], IfOk, OnOk, OnErr};
 ghost use Rattle.std.specs.Prelude.{length, take, drop, true};
 ghost use Rattle.std.specs.List.{AllByRecursion, filter, list_all};
@@ -19,18 +19,19 @@ use std::collections::BTreeMap;
 use std::marker::Model;
 use values::MAX_COLUMNS;
 
-/// The open rows of a stream, by instant, then arrival.
+/// Holds the open rows of a stream, by instant, then arrival.
 ///
-/// Rows whose instants never fall stand flat, one behind the other. A row that comes below the
-/// instant that they have reached is late: it stands in a map by instants, behind the others of its
-/// instant. What is late is therefore earlier than what comes next.
+/// Rows whose instants never fall are kept flat, one after the other. A row that comes below the
+/// instant that they have reached is late. It goes into a map by instants, after the others of its
+/// instant. So what is late is earlier than what comes next.
 #[derive(Drop)]
 pub(crate) struct OpenRows {
-    /// Where memory is taken from.
+    /// Says where memory is taken from.
     alloc: Global,
-    /// The rows that came with instants that never fall, and the instant that they have reached.
+    /// Holds the rows that came with instants that never fall, and the instant that they have
+    /// reached.
     rising: OrderedRows,
-    /// By instant the rows that came late, all below the instant that `rising` has reached.
+    /// Holds, by instant, the rows that came late, all below the instant that `rising` has reached.
     late: BTreeMap<u64, LateRows>,
 }
 
@@ -47,7 +48,7 @@ impl Model for OpenRows {
 }
 
 impl OpenRows {
-    /// No rows of so many columns. Takes no memory.
+    /// Returns an empty list for rows of so many columns. Takes no memory.
     pub(crate) fn new(alloc: Global, width: usize) -> OpenRows
         requires { width ≤ MAX_COLUMNS }
         ensures width { result.width ≡ width }
@@ -60,10 +61,12 @@ impl OpenRows {
         }
     }
 
-    /// Adds rows, numbered from `first` on, which is above the numbers of all others. On Err they
-    /// are as they were.
+    /// Adds rows, numbered from `first` on, which is above the numbers of all others.
     ///
-    /// Rows that follow one another with one instant are put together.
+    /// Consecutive rows of one instant are added together.
+    ///
+    /// # Errors
+    /// `AllocError` when out of memory; then nothing has changed.
     pub(crate) fn put_all(
         &mut self,
         first: u64,
@@ -100,7 +103,7 @@ impl OpenRows {
         }
     }
 
-    /// Copies of the rows up to the instant, by instant, then arrival.
+    /// Copies the rows up to the instant, by instant, then arrival.
     pub(crate) fn rows_up_to(&self, at: u64) -> Result<Arrivals, AllocError>
         ensures { IfOk result (λ v. v.elements ≡ up_to at self.now.rows) }
     {
@@ -111,7 +114,7 @@ impl OpenRows {
         Ok(rows)
     }
 
-    /// How many rows there are. It costs the instants that have late ones.
+    /// Returns the number of rows. It costs the instants that have late ones.
     pub(crate) fn len(&self) -> usize
         requires { length self.now.rows < 2 ^ 32 }
         ensures { result ≡ length self.now.rows }
@@ -119,7 +122,8 @@ impl OpenRows {
         self.rising.len() + count(&self.late)
     }
 
-    /// The rows stay that one of the readers has in its input; the others leave. Takes no memory.
+    /// Keeps the rows that one of the readers has in its input, and drops the others. Takes no
+    /// memory.
     pub(crate) fn keep(&mut self, starts: &[Start])
         ensures width { self.new.width ≡ self.old.width }
         ensures rows { self.new.rows ≡ filter (has_reader starts.now) self.old.rows }
@@ -128,7 +132,10 @@ impl OpenRows {
         keep_read(&mut self.late, starts);
     }
 
-    /// Copies the rows. It costs as many as there are. An error says that memory was refused.
+    /// Copies the rows. It costs as many as there are.
+    ///
+    /// # Errors
+    /// `AllocError` when out of memory.
     pub(crate) fn copy(&self, alloc: Global) -> Result<OpenRows, AllocError>
         ensures { IfOk result (λ copy. copy ≡ self.now) }
     {
@@ -141,7 +148,7 @@ impl OpenRows {
         })
     }
 
-    /// Takes out the rows up to the instant.
+    /// Drops the rows up to the instant.
     pub(crate) fn drop_up_to(&mut self, at: u64)
         ensures width { self.new.width ≡ self.old.width }
         ensures rows { self.new.rows ≡ past at self.old.rows }
@@ -151,8 +158,11 @@ impl OpenRows {
     }
 }
 
-/// Puts rows of one instant behind the others of their instant and of earlier ones, numbered from
+/// Adds rows of one instant after the others of their instant and of earlier ones, numbered from
 /// `first` on.
+///
+/// # Errors
+/// `AllocError` when out of memory; then nothing has changed.
 fn put_run(
     alloc: Global,
     rising: &mut OrderedRows,
@@ -187,8 +197,10 @@ fn put_run(
     )
 }
 
-/// Adds rows, numbered from `first` on. On Err only more rows, of these numbers, stand behind those
-/// that were there.
+/// Adds rows, numbered from `first` on.
+///
+/// # Errors
+/// `AllocError` when out of memory. Then some of these rows may follow those that were there.
 fn put_runs(
     alloc: Global,
     rising: &mut OrderedRows,
@@ -235,8 +247,8 @@ fn put_runs(
     Ok(())
 }
 
-/// Puts copies of the late rows up to the instant, and of those that stand before them, behind
-/// others. The place of the next row that is not late.
+/// Copies the late rows up to the instant, and the ordered rows before them, after others. Returns
+/// the place of the next row that is not late.
 fn copy_late(
     rising: &OrderedRows,
     late: &BTreeMap<u64, LateRows>,

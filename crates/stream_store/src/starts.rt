@@ -1,18 +1,18 @@
-//! Where readers of a stream begin.
+//! Says where readers of a stream start.
 ghost use Rattle.std.specs.Prelude.{◌≡◌};
 ghost use Rattle.stream_store.specs.Starts.{is_read};
 
-/// Where a reader of a stream begins: it has in its input the rows that arrived at its place or
+/// Says where a reader of a stream starts. Its input has the rows that arrived at its place or
 /// later, of its first instant or later ones.
 #[derive(Clone, Copy, Debug)]
 pub struct Start {
-    /// The number in the order of arrival from which on it has rows.
+    /// Holds the number in the order of arrival from which on it has rows.
     pub place: u64,
-    /// The first instant of which it has rows.
+    /// Holds the first instant whose rows it has.
     pub first: u64,
 }
 
-/// Whether one of the readers has the row of a number and an instant in its input.
+/// Returns whether one of the readers has the row of a number and an instant in its input.
 pub(crate) fn is_read(starts: &[Start], number: u64, instant: u64) -> bool
     ensures { result ≡ is_read starts.now number instant }
 {

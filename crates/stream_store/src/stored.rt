@@ -1,4 +1,4 @@
-//! One declared stream.
+//! Keeps one declared stream.
 ghost use Rattle.std.specs.Prelude.{◌≡◌, ◌≤◌, ◌++◌, ◌∷◌, [], suc, nat_abs, None, OnOk, OnErr, IfOk};
 ghost use Rattle.std.specs.Prelude.{◌+◌, Bool, IfSome, length, nat_lt};
 ghost use Rattle.values.specs.Window.{Element};
@@ -25,23 +25,23 @@ use reference::{Fault, NewRows, append_fault, heartbeat_fault};
 use std::alloc::{AllocError, Global};
 use std::marker::Model;
 
-/// A declared stream, and the rows that came to it.
+/// Holds a declared stream, and the rows that came to it.
 ///
-/// Contracts see it as the machine's stream. `Streams` holds one for each stream; a copy with the
-/// rows that stay (`Streams::copy_kept`) stands for itself.
+/// Contracts see it as the machine's stream. `Streams` holds one for each stream. A copy with the
+/// rows that stay (`Streams::copy_kept`) belongs to no `Streams`.
 #[derive(Drop)]
 pub struct Stored {
-    /// Where memory is taken from.
+    /// Says where memory is taken from.
     alloc: Global,
-    /// The stream's name.
+    /// Holds the stream's name.
     name: Name,
-    /// The names of its columns, at most 8.
+    /// Holds the names of its columns, at most 8.
     columns: Vec<Name>,
-    /// The closed rows, and the first open instant.
+    /// Holds the closed rows, and the first open instant.
     log: Log,
-    /// The rows of open instants.
+    /// Holds the rows of open instants.
     open_rows: OpenRows,
-    /// How many rows came: the number of the next one.
+    /// Counts the rows that came: the number of the next one.
     arrivals: u64,
 }
 
@@ -63,7 +63,7 @@ impl Model for Stored {
 }
 
 impl Stored {
-    /// A stream to which nothing came.
+    /// Returns a stream to which nothing came.
     pub(crate) fn new(
         alloc: Global,
         name: Name,
@@ -103,14 +103,14 @@ impl Stored {
         catalog.declare(self.name, columns)
     }
 
-    /// Gives the stream's name. Takes no memory.
+    /// Returns the stream's name. Takes no memory.
     pub fn name(&self) -> &Name
         ensures { name_of result.now ≡ self.now.name }
     {
         &self.name
     }
 
-    /// Gives the names of its columns. Takes no memory.
+    /// Returns the names of its columns. Takes no memory.
     pub fn columns(&self) -> &[Name]
         ensures names { names_of result.now ≡ self.now.columns }
         ensures few { length result.now ≤ 8 }
@@ -118,14 +118,14 @@ impl Stored {
         &self.columns
     }
 
-    /// Says how many rows came. Takes no memory.
+    /// Returns the number of rows that came. Takes no memory.
     pub fn arrivals(&self) -> u64
         ensures { result ≡ self.now.arrivals }
     {
         self.arrivals
     }
 
-    /// Gives the first open instant. Takes no memory.
+    /// Returns the first open instant. Takes no memory.
     pub fn first_open(&self) -> u64
         ensures open { result ≡ self.now.first_open }
         ensures range { result ≤ 1099511627777 }
@@ -133,15 +133,16 @@ impl Stored {
         self.log.until()
     }
 
-    /// Gives what is closed. Takes no memory.
+    /// Returns what is closed. Takes no memory.
     pub fn log(&self) -> &Log
         ensures { result.now ≡ closed_of self.now }
     {
+        // for the proof
         let _until = self.log.until();
         &self.log
     }
 
-    /// The first test that fails of the rows alone.
+    /// Returns the first fault of the rows by themselves.
     fn rows_fault(&self, rows: &NewRows) -> Option<Fault>
         ensures first { result ≡ first_of (append_tests self.now rows.now) }
         ensures told { IfSome result IsTold }
@@ -149,7 +150,7 @@ impl Stored {
         append_fault(rows, self.columns.len(), self.arrivals, self.first_open())
     }
 
-    /// How many rows there are with those that come.
+    /// Returns how many rows there are once these have come.
     fn with_rows(&self, rows: &NewRows) -> u64
         requires { first_of (append_tests self.now rows.now) ≡ None }
         ensures { result ≡ self.now.arrivals + length rows.now }
@@ -157,7 +158,7 @@ impl Stored {
         self.arrivals + rows.len() as u64
     }
 
-    /// The first test of the rows that fails, where at most `most` may come in all.
+    /// Returns the first fault of the rows, if at most `most` may come in all.
     pub(crate) fn append_fault(&self, rows: &NewRows, most: u64) -> Option<Fault>
         ensures first { result ≡ first_of (limited_tests most rows.now self.now) }
         ensures told { IfSome result IsTold }
@@ -168,7 +169,7 @@ impl Stored {
         }
     }
 
-    /// The first test of a heartbeat that fails.
+    /// Returns the first fault of a heartbeat.
     pub(crate) fn heartbeat_fault(&self, at: i64) -> Option<Fault>
         ensures first { result ≡ first_of (heartbeat_tests self.now at) }
         ensures told { IfSome result IsTold }
@@ -176,7 +177,10 @@ impl Stored {
         heartbeat_fault(at, self.first_open())
     }
 
-    /// Appends the rows. On Err it is as it was.
+    /// Appends the rows.
+    ///
+    /// # Errors
+    /// `AllocError` when out of memory; then nothing has changed.
     pub(crate) fn append(&mut self, rows: &NewRows) -> Result<(), AllocError>
         requires { first_of (append_tests self.old rows.now) ≡ None }
         ensures ok { OnOk result (self.new ≡ appended rows.now self.old) }
@@ -188,7 +192,7 @@ impl Stored {
         Ok(())
     }
 
-    /// The last instant that an accepted heartbeat closes.
+    /// Returns the last instant that an accepted heartbeat closes.
     fn last_closed(&self, at: i64) -> u64
         requires { first_of (heartbeat_tests self.now at) ≡ None }
         ensures value { result ≡ nat_abs at }
@@ -198,17 +202,21 @@ impl Stored {
         at as u64
     }
 
-    /// The rows that a heartbeat at this instant closes, by instant, then arrival.
+    /// Returns the rows that a heartbeat at this instant closes, by instant, then arrival.
     pub(crate) fn closing(&self, at: i64) -> Result<Arrivals, AllocError>
         requires { first_of (heartbeat_tests self.now at) ≡ None }
         ensures { IfOk result (λ v. v.elements ≡ closing_of at self.now) }
     {
         let last = self.last_closed(at);
+        // for the proof
         let _until = self.log.until();
         self.open_rows.rows_up_to(last)
     }
 
-    /// Closes all instants up to `at`, which have these rows. On Err it is as it was.
+    /// Closes all instants up to `at`, which have these rows.
+    ///
+    /// # Errors
+    /// `AllocError` when out of memory; then nothing has changed.
     pub(crate) fn close(&mut self, at: i64, rows: &Arrivals) -> Result<(), AllocError>
         requires accepted { first_of (heartbeat_tests self.old at) ≡ None }
         requires closing { rows.now.elements ≡ closing_of at self.old }
@@ -219,15 +227,17 @@ impl Stored {
         ensures err { OnErr result (self.new ≡ self.old) }
     {
         let last = self.last_closed(at);
+        // for the proof
         let _until = self.log.until();
         self.log
             .close(rows.instants(), rows.numbers(), rows.values(), last + 1)?;
+        // for the proof
         let _closed = self.log.until();
         self.open_rows.drop_up_to(last);
         Ok(())
     }
 
-    /// Says how many rows are closed and kept. Takes no memory.
+    /// Returns the number of rows that are closed and kept. Takes no memory.
     pub fn closed(&self) -> usize
         ensures { result ≡ count_closed self.now }
     {
@@ -237,16 +247,17 @@ impl Stored {
     /// Copies the open rows up to an instant, by instant, then arrival.
     ///
     /// # Errors
-    /// `AllocError` where memory is refused.
+    /// `AllocError` when out of memory.
     pub fn open_rows_up_to(&self, at: u64) -> Result<Arrivals, AllocError>
         ensures { IfOk result (λ rows. rows.elements
             ≡ by_instant self.now.first_open (suc at) self.now.elements) }
     {
+        // for the proof
         let _until = self.log.until();
         self.open_rows.rows_up_to(at)
     }
 
-    /// Says how many of the rows that came are kept, closed and open. It costs the instants that
+    /// Returns how many of the rows that came are kept, closed and open. It costs the instants that
     /// have late open rows. Takes no memory.
     pub fn kept(&self) -> usize
         ensures { result ≡ length self.now.elements }
@@ -254,23 +265,25 @@ impl Stored {
         self.log.len() + self.open_rows.len()
     }
 
-    /// Of the closed rows those stay at whose places a mark is true, of the open ones those that
-    /// one of the readers has in its input; the others leave. Takes no memory.
+    /// Keeps the closed rows at whose places a mark is true, and the open rows that one of the
+    /// readers has in its input. Drops the others. Takes no memory.
     pub(crate) fn keep(&mut self, kept: &[bool], starts: &[Start])
         requires { length kept.now ≡ count_closed self.old }
         ensures elements { (keep : Element → Bool) → SaysKept kept.now starts.now keep self.old
             → self.new ≡ kept_stream keep self.old }
         ensures rest { HasRest self.old self.new }
     {
+        // for the proof
         let _until = self.log.until();
         self.log.keep(kept);
         self.open_rows.keep(starts);
     }
 
-    /// Copies the stream with the rows that stay: of the closed ones those at whose places a mark
-    /// is true, of the open ones those that one of the readers has in its input. It costs the
-    /// stream's rows, of the open ones each times the readers. An error says that memory was
-    /// refused.
+    /// Copies the stream with only the rows that `keep` would leave: closed rows by their mark,
+    /// open rows by the readers. It costs the stream's rows, the open ones times the readers.
+    ///
+    /// # Errors
+    /// `AllocError` when out of memory.
     pub(crate) fn copy_kept(
         &self,
         alloc: Global,
@@ -281,6 +294,7 @@ impl Stored {
         ensures elements { IfOk result (λ copy. (keep : Element → Bool)
             → SaysKept kept.now starts.now keep self.now → copy ≡ kept_stream keep self.now) }
     {
+        // for the proof
         let _until = self.log.until();
         let mut columns = Vec::new(alloc);
         columns.extend_from_slice(&self.columns)?;
@@ -298,7 +312,7 @@ impl Stored {
     }
 }
 
-/// The fault of so many rows in all where at most `most` may come.
+/// Returns the fault of so many rows in all, if at most `most` may come.
 fn limit_fault(most: u64, arrivals: u64) -> Option<Fault>
     ensures first { result ≡ first_of ((nat_lt most arrivals, StreamFull) ∷ []) }
     ensures told { IfSome result IsTold }

@@ -1,4 +1,4 @@
-//! The declared streams.
+//! Keeps the declared streams.
 ghost use Rattle.std.specs.Prelude.{◌≡◌, [], ℕ, ◌≤◌, None, Some, IfOk, IfSome, OnOk};
 ghost use Rattle.std.specs.Prelude.{Bool};
 ghost use Rattle.values.specs.Window.{Element};
@@ -28,17 +28,17 @@ use reference::{Fault, NewRows, declare_fault, names_of, stream_place};
 use std::alloc::{AllocError, Global};
 use std::marker::Model;
 
-/// The declared streams, by number, as the machine of `reference` knows them.
+/// Holds the declared streams, by number, as the machine of `reference` knows them.
 ///
-/// Closed rows stand in a `Log` a stream, which queries read by cursors; open rows by instant,
-/// until a heartbeat closes them.
+/// Closed rows are in a `Log` for each stream, which queries read by cursors. Open rows are kept by
+/// instant until a heartbeat closes them.
 #[derive(Drop)]
 pub struct Streams {
-    /// Where memory is taken from.
+    /// Says where memory is taken from.
     alloc: Global,
-    /// The declared streams by number, in the order of declaration.
+    /// Holds the declared streams by number, in the order of declaration.
     streams: Vec<Stored>,
-    /// By the streams' numbers, the name of each.
+    /// Holds the names of the streams by number.
     names: NameTable,
 }
 
@@ -54,7 +54,7 @@ impl Model for Streams {
 }
 
 impl Streams {
-    /// No streams. Takes no memory.
+    /// Returns an empty list. Takes no memory.
     pub fn new(alloc: Global) -> Streams
         ensures { result ≡ [] }
     {
@@ -65,15 +65,15 @@ impl Streams {
         }
     }
 
-    /// The number of the stream of a name. Takes no memory; its time grows with the logarithm of
-    /// how many streams there are.
+    /// Returns the number of the stream of this name. Takes no memory; the time grows with the
+    /// logarithm of the number of streams.
     pub fn named(&self, name: &str) -> Option<u64>
         ensures { result ≡ position (λ s. bytes_eq s.name name.now) self.now }
     {
         stream_place(&self.names, name)
     }
 
-    /// How many streams were declared.
+    /// Returns the number of declared streams.
     pub fn len(&self) -> usize
         ensures { result ≡ length self.now }
     {
@@ -87,7 +87,7 @@ impl Streams {
         self.streams.get(number as usize)
     }
 
-    /// What the stream of a number has closed, for the cursors of queries.
+    /// Returns what the stream of a number has closed, for the cursors of queries.
     pub fn log(&self, stream: u64) -> Option<&Log>
         ensures { MatchOption result (slice_get self.now stream ≡ None) (λ log.
             option_map closed_of (slice_get self.now stream) ≡ Some log.now) }
@@ -98,7 +98,7 @@ impl Streams {
         }
     }
 
-    /// How many rows came to the stream of a number; 0 where there is none.
+    /// Returns how many rows came to the stream of a number, or 0 if there is no such stream.
     pub fn arrivals(&self, stream: u64) -> u64
         ensures { result ≡ option_map_or (λ s. s.arrivals) (slice_get self.now stream) 0 }
     {
@@ -108,8 +108,8 @@ impl Streams {
         }
     }
 
-    /// The first instant of the stream of a number that no heartbeat has closed; 0 where there is
-    /// none.
+    /// Returns the first instant of the stream of a number that no heartbeat has closed, or 0 if
+    /// there is no such stream.
     pub fn first_open(&self, stream: u64) -> u64
         ensures instant { result ≡ option_map_or (λ s. s.first_open) (slice_get self.now stream) 0 }
         ensures range { result ≤ 1099511627777 }
@@ -120,10 +120,10 @@ impl Streams {
         }
     }
 
-    /// The names that a query may use.
+    /// Returns the names that a query may use.
     ///
     /// # Errors
-    /// `AllocError` where memory is refused.
+    /// `AllocError` when out of memory.
     pub fn catalog(&self) -> Result<Catalog, AllocError>
         ensures catalog { IfOk result (λ c. c ≡ catalog_of self.now) }
         ensures few { IfOk result (λ c. AllByRecursion (λ s. length s.columns ≤ 8) c) }
@@ -161,7 +161,10 @@ impl Streams {
         }
     }
 
-    /// Adds a stream. On Err all is as it was.
+    /// Adds a stream and returns its number.
+    ///
+    /// # Errors
+    /// `AllocError` when out of memory; then nothing has changed.
     fn add(&mut self, name: &str, columns: &[String], from: i64) -> Result<u64, AllocError>
         requires { first_fault (machine_of self.old) (Declare name.now (texts_of columns.now) from)
             ≡ None }
@@ -179,7 +182,10 @@ impl Streams {
         Ok(number)
     }
 
-    /// Appends the rows. On Err all is as it was.
+    /// Appends the rows.
+    ///
+    /// # Errors
+    /// `AllocError` when out of memory; then nothing has changed.
     fn put(&mut self, stream: u64, rows: &NewRows) -> Result<(), AllocError>
         requires { of_stream (λ s. append_tests s rows.now) (slice_get self.old stream) ≡ None }
         ensures ok { OnOk result (self.new ≡ change stream (appended rows.now) self.old) }
@@ -195,14 +201,13 @@ impl Streams {
         self.streams[stream as usize].closing(at)
     }
 
-    /// Closes all instants of the stream up to `at`, which have the rows that `closing` gave. On
-    /// Err all is as it was.
+    /// Closes all instants of the stream up to `at`, which have the rows that `closing` returned.
     ///
-    /// Whatever the number of cursors, it costs the rows; each cursor's queue gains just them and
-    /// the ticks of the instants.
+    /// It costs the rows, whatever the number of cursors. Each cursor's queue gains exactly these
+    /// rows and the ticks of the instants.
     ///
     /// # Errors
-    /// `AllocError` where memory is refused.
+    /// `AllocError` when out of memory; then nothing has changed.
     pub fn close(&mut self, stream: u64, at: i64, rows: &Arrivals) -> Result<(), AllocError>
         requires accepted { first_fault (machine_of self.old) (Heartbeat stream at) ≡ None }
         requires closing { rows.now.elements ≡ closing_at self.old stream at }
@@ -213,8 +218,8 @@ impl Streams {
         self.streams[stream as usize].close(at, rows)
     }
 
-    /// How many rows of the stream of a number are closed and kept: those of its log. `None` where
-    /// there is no such stream.
+    /// Returns how many rows of the stream of a number are closed and kept: those of its log.
+    /// `None` if there is no such stream.
     pub fn closed(&self, stream: u64) -> Option<usize>
         ensures { result ≡ option_map count_closed (slice_get self.now stream) }
     {
@@ -224,8 +229,8 @@ impl Streams {
         }
     }
 
-    /// How many rows of the stream of a number are kept, closed and open; `None` where there is no
-    /// such stream. Takes no memory; it costs the instants that have late open rows.
+    /// Returns how many rows of the stream of a number are kept, closed and open. `None` if there
+    /// is no such stream. Takes no memory; it costs the instants that have late open rows.
     pub fn kept(&self, stream: u64) -> Option<usize>
         ensures { result ≡ option_map (λ s. length s.elements) (slice_get self.now stream) }
     {
@@ -235,12 +240,12 @@ impl Streams {
         }
     }
 
-    /// Of the closed rows of the stream of a number, as many as there are marks, those stay at
-    /// whose places in its log the mark is true; of its open rows those that one of the readers has
-    /// in its input. The others leave.
+    /// Keeps some rows of the stream of a number, and drops the others. A closed row stays if the
+    /// mark at its place in the log is true; there are as many marks as closed rows. An open row
+    /// stays if one of the readers has it in its input.
     ///
-    /// How many rows came, the numbers of those that stay and the first open instant go on. Takes
-    /// no memory; it costs the stream's rows, of the open ones each times the readers.
+    /// The count of rows that came, the numbers of those that stay and the first open instant do
+    /// not change. Takes no memory; it costs the stream's rows, the open ones times the readers.
     pub fn keep(&mut self, stream: u64, kept: &[bool], starts: &[Start])
         requires { option_map count_closed (slice_get self.old stream) ≡ Some (length kept.now) }
         ensures { (keep : Element → Bool)
@@ -250,13 +255,14 @@ impl Streams {
         self.streams[stream as usize].keep(kept, starts);
     }
 
-    /// Copies the stream of a number with the rows that stay: of the closed ones, as many as there
-    /// are marks, those at whose places in its log the mark is true, of the open ones those that
-    /// one of the readers has in its input. It costs the stream's rows, of the open ones each times
-    /// the readers.
+    /// Copies the stream of a number with only the rows that `keep` would leave. A closed row stays
+    /// if the mark at its place in the log is true; there are as many marks as closed rows. An open
+    /// row stays if one of the readers has it in its input.
+    ///
+    /// It costs the stream's rows, the open ones times the readers.
     ///
     /// # Errors
-    /// `AllocError` where memory is refused.
+    /// `AllocError` when out of memory.
     pub fn copy_kept(
         &self,
         alloc: Global,
@@ -272,11 +278,11 @@ impl Streams {
         self.streams[stream as usize].copy_kept(alloc, kept, starts)
     }
 
-    /// Declares a stream, whose first open instant is `from`, and answers its number, from 0 on.
+    /// Declares a stream whose first open instant is `from`. Returns its number, counted from 0.
     ///
     /// # Errors
-    /// `BadName`, `NameTaken`, `BadColumns`, `InstantRange`, `TooMany`: the first test that fails;
-    /// `OutOfMemory` where none does and memory is refused. Then all is as it was.
+    /// `BadName`, `NameTaken`, `BadColumns`, `InstantRange`, `TooMany`: the first test that fails.
+    /// `OutOfMemory` if none fails and memory runs out. Then nothing has changed.
     pub fn declare(&mut self, name: &str, columns: &[String], from: i64) -> Result<u64, Fault>
         ensures { DoesBeside (λ (n : ℕ). n) (λ w.
             declare_step w name.now (texts_of columns.now) from) self.old result self.new }
@@ -287,19 +293,19 @@ impl Streams {
         }
     }
 
-    /// Appends rows to the stream of a number, to which at most `most` rows may come in all; where
-    /// one row is refused, none is appended.
+    /// Appends rows to the stream of a number, to which at most `most` rows may come in all. If one
+    /// row is refused, none is appended.
     ///
-    /// It does what the machine does of which `most` is the row limit: that of its queries of three
-    /// and four sources.
+    /// It does what a machine does in which `most` is the row limit that queries of three and four
+    /// sources set.
     ///
-    /// It costs its rows, and for all that follow one another with one instant one look-up among
-    /// the instants that are open.
+    /// It costs its rows, and for consecutive late rows of one instant one look-up among the
+    /// instants that have late rows.
     ///
     /// # Errors
     /// `UnknownStream`, `TooMany`, `BadWidth`, `ValueRange`, `InstantRange`, `Late`, `StreamFull`:
-    /// the first test that fails; `OutOfMemory` where none does and memory is refused. Then all is
-    /// as it was.
+    /// the first test that fails. `OutOfMemory` if none fails and memory runs out. Then nothing has
+    /// changed.
     pub fn append(&mut self, stream: u64, rows: &NewRows, most: u64) -> Result<(), Fault>
         ensures { DoesBesideSuch (IsLimit stream most) (λ u. u) (λ w.
             append_step w stream rows.now) self.old result self.new }
@@ -310,12 +316,12 @@ impl Streams {
         }
     }
 
-    /// The rows that a heartbeat at this instant closes, by instant, then arrival; with them
-    /// `close` does what the heartbeat does.
+    /// Returns the rows that a heartbeat at this instant closes, by instant, then arrival. With
+    /// them `close` does what the heartbeat does.
     ///
     /// # Errors
-    /// `UnknownStream`, `InstantRange`, `Backward`, `Leap`: the first test that fails;
-    /// `OutOfMemory` where none does and memory is refused.
+    /// `UnknownStream`, `InstantRange`, `Backward`, `Leap`: the first test that fails.
+    /// `OutOfMemory` if none fails and memory runs out.
     pub fn closing(&self, stream: u64, at: i64) -> Result<Arrivals, Fault>
         ensures looks { Looks (λ v. v.elements) (closing_in self.now stream at) result }
         ensures accepted { OnOk result (first_fault (machine_of self.now) (Heartbeat stream at)
@@ -329,7 +335,7 @@ impl Streams {
     }
 }
 
-/// The names of the streams.
+/// Returns the names of the streams.
 fn catalog_of(alloc: Global, streams: &[Stored]) -> Result<Catalog, AllocError>
     ensures catalog { IfOk result (λ c. c ≡ catalog_of streams.now) }
     ensures few { IfOk result (λ c. AllByRecursion (λ s. length s.columns ≤ 8) c) }

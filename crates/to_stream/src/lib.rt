@@ -1,13 +1,14 @@
-//! The roots of queries: the operators Istream, Dstream and Rstream, which make a stream of a
+//! Holds the roots of queries: the operators Istream, Dstream and Rstream, which make a stream of a
 //! relation.
 //!
-//! A root takes the signed rows of its relation, and at the tick of an instant answers with rows in
-//! order, each with the instant: with what the relation has beyond that of the instant before
-//! (Istream), with what it has lost of it (Dstream), or with the whole (Rstream). What a turn needs
-//! of the state is `near`, what it puts out is `work`, and `apply` is the change.
+//! A root takes the signed rows of its relation. At the tick of an instant it answers with rows in
+//! order, each with the instant. Istream answers with what the relation has beyond that of the
+//! instant before, Dstream with what it has lost of it. Rstream answers with the whole relation.
 //!
-//! Between ticks all three keep what entered and left alone. The whole of Rstream, which answers
-//! with all of it, stands in a list that becomes the next one at a tick, so a row costs the same
+//! `near` is what a turn needs of the state, `work` is what it emits, and `apply` is the change.
+//!
+//! Between ticks all three keep only what entered and left. Rstream also keeps the whole relation,
+//! with which it answers, in a list. A tick makes this list the next one, so a row costs the same
 //! however many are held.
 #![tactic(auto)]
 
@@ -22,19 +23,19 @@ use std::alloc::{AllocError, Global};
 use std::marker::Model;
 use values::StreamOperator;
 
-/// The state of a root: what entered and left since the last tick, that tick's instant, and of
-/// Rstream the whole relation at that tick.
+/// Holds the state of a root: what entered and left since the last tick, and that tick's instant.
+/// An Rstream also holds the whole relation at that tick.
 #[derive(Drop)]
 pub struct ToStream {
-    /// Whether it is Istream, Dstream or Rstream.
+    /// Says whether it is Istream, Dstream or Rstream.
     operator: StreamOperator,
-    /// What entered and left since the last tick.
+    /// Holds what entered and left since the last tick.
     delta: Delta,
-    /// Of Rstream the relation at the last tick, in order; else no rows.
+    /// Holds the relation at the last tick, in order, for Rstream. Else it has no rows.
     whole: RowList,
-    /// The instant of the last tick; `None` before the first.
+    /// Holds the instant of the last tick; `None` before the first.
     last: Option<u64>,
-    /// Where memory is taken from.
+    /// Says where memory is taken from.
     alloc: Global,
 }
 
@@ -48,7 +49,7 @@ impl Model for ToStream {
 }
 
 impl ToStream {
-    /// A root that has taken nothing.
+    /// Returns a root that has taken nothing.
     pub fn new(alloc: Global, operator: StreamOperator) -> ToStream
         ensures state { result
             ≡ record {
@@ -68,15 +69,20 @@ impl ToStream {
         }
     }
 
-    /// The instant of the last tick, if there was one.
+    /// Returns the instant of the last tick, if there was one.
     pub fn last_tick(&self) -> Option<u64>
         ensures { result ≡ self.now.last }
     {
         self.last
     }
 
-    /// What a turn needs of the state: at a tick the rows that answer, in order. It costs as much
-    /// as these. An error says that memory was refused; nothing is changed.
+    /// Returns what a turn needs of the state: at a tick the rows that answer, in order.
+    ///
+    /// At a tick it costs a copy and a sort of the rows since the last tick, and the rows that
+    /// answer.
+    ///
+    /// # Errors
+    /// `AllocError` when out of memory; then nothing has changed.
     pub fn near(&self, alloc: Global, item: &Item) -> Result<RowList, AllocError>
         ensures { IfOk result (λ rows. rows ≡ near self.now item.now) }
     {
@@ -89,8 +95,11 @@ impl ToStream {
         }
     }
 
-    /// The state after the item. Where memory is refused it can only be dropped: some of the rows
-    /// may have been taken in.
+    /// Takes the item into the state.
+    ///
+    /// # Errors
+    /// `AllocError` when out of memory; then some of the rows may have been taken in. You can only
+    /// drop the state.
     pub fn apply(&mut self, item: &Item) -> Result<(), AllocError>
         requires { HasRoom self.old item.now }
         ensures state { OnOk result (self.new ≡ next self.old item.now) }
@@ -100,9 +109,12 @@ impl ToStream {
         Ok(())
     }
 
-    /// The whole turn in place: the answers stand behind those that wait, and the state is that
-    /// after the item. An error says that memory was refused; the answers are then as they were,
-    /// and the state can only be dropped.
+    /// Runs the whole turn in place. Pushes the answers after those that wait, and takes the item
+    /// into the state.
+    ///
+    /// # Errors
+    /// `AllocError` when out of memory; then the answers are as they were. You can only drop the
+    /// state.
     pub fn run(&mut self, item: &Item, answers: &mut DatedRows) -> Result<(), AllocError>
         requires { HasRoom self.old item.now }
         ensures answers { OnOk result (answers.new
@@ -129,7 +141,10 @@ impl ToStream {
         Ok(())
     }
 
-    /// The tick in place. Where memory is refused the answers are as they were.
+    /// Runs a tick in place.
+    ///
+    /// # Errors
+    /// `AllocError` when out of memory; then the answers are as they were.
     fn answer(&mut self, at: u64, answers: &mut DatedRows) -> Result<(), AllocError>
         ensures answers { OnOk result (answers.new
             ≡ answers.old ++ map (λ r. (at, r)) (shown self.old.operator self.old)) }
@@ -141,7 +156,8 @@ impl ToStream {
         Ok(())
     }
 
-    /// The answers of a tick. Of Rstream the relation now becomes that of the last tick.
+    /// Pushes the answers of a tick. For Rstream the current relation becomes that of the last
+    /// tick.
     fn put(&mut self, at: u64, answers: &mut DatedRows) -> Result<(), AllocError>
         ensures answers { OnOk result (answers.new
             ≡ answers.old ++ map (λ r. (at, r)) (shown self.old.operator self.old)) }
@@ -159,7 +175,7 @@ impl ToStream {
         }
     }
 
-    /// Nothing has entered or left since the tick of this instant.
+    /// Forgets what entered and left, and notes the instant as that of the last tick.
     fn end(&mut self, at: u64)
         ensures { self.new
             ≡ record {
@@ -173,7 +189,7 @@ impl ToStream {
         self.last = Some(at);
     }
 
-    /// The rows that answer at a tick, in order.
+    /// Returns the rows that answer at a tick, in order.
     fn shown(&self, alloc: Global) -> Result<RowList, AllocError>
         ensures { IfOk result (λ rows. rows ≡ shown self.now.operator self.now) }
     {
@@ -204,7 +220,7 @@ impl ToStream {
         Ok(())
     }
 
-    /// The relation now is that of the last tick.
+    /// Makes the current relation that of the last tick.
     fn tick(&mut self, at: u64) -> Result<(), AllocError>
         ensures { OnOk result (self.new ≡ ticked self.old at) }
     {
@@ -216,10 +232,11 @@ impl ToStream {
     }
 }
 
-/// The answers of a turn, each a row with the item's instant; they wait from then on. Rows alone
-/// answer nothing.
+/// Returns the answers of a turn, which then wait: rows, each with the item's instant. An item of
+/// rows has no answers.
 ///
-/// An error says that memory was refused; nothing is changed.
+/// # Errors
+/// `AllocError` when out of memory; then nothing has changed.
 pub fn work(alloc: Global, item: &Item, near: &RowList) -> Result<DatedRows, AllocError>
     ensures { IfOk result (λ answers. answers ≡ out item.now near.now) }
 {

@@ -5,10 +5,11 @@ use row_bags::RowList;
 use std::marker::Model;
 use windows::{FallenRows, RowTable, SlideNear};
 
-/// Of rows the rows of the other side that each meets, of a tick whether the other side has ticked.
+/// Holds for each row the rows of the other side that it meets; for a tick, whether the other side
+/// has ticked.
 #[derive(Drop)]
 pub struct MetRows {
-    /// The join's own excerpt.
+    /// Holds the join's own excerpt.
     pub near: join::Near,
 }
 
@@ -20,28 +21,29 @@ impl Model for MetRows {
     ghost view = { λ m. excerpt_of m.near };
 }
 
-/// The excerpt of an operator's state that a turn needs.
+/// Is the excerpt of an operator's state that a turn needs.
 #[derive(Drop)]
 pub enum Near {
-    /// Of operators without a state.
+    /// Is the excerpt of operators without a state.
     Nothing,
-    /// The rows that leave a window of the last instants; none where the item is rows.
+    /// Holds the rows that leave a window of the last instants; none if the item is rows.
     Leaving(RowTable),
-    /// The rows that leave, pass and enter a window that moves at multiples alone; none but at a
-    /// tick at which it moves.
+    /// Holds the rows that leave, pass and enter a window that moves only at multiples. It has none
+    /// unless the item is a tick at which the window moves.
     Sliding(SlideNear),
-    /// The rows that fall out of the last rows of each partition; none where the item is a tick.
+    /// Holds the rows that fall out of the last rows of each partition; none if the item is a tick.
     Fallen(FallenRows),
-    /// What the item meets on the other side of a join.
+    /// Holds what the item meets on the other side of a join.
     Met(MetRows),
-    /// The touched groups; none where the item is rows.
+    /// Holds the touched groups; none if the item is rows.
     Groups(group::Near),
-    /// The rows that answer, in order; none where the item is rows.
+    /// Holds the rows that answer, in order; none if the item is rows.
     Sorted(RowList),
 }
 
 impl Near {
-    /// Whether the excerpts are equal: of one kind, with the same rows or groups in the same order.
+    /// Returns whether the excerpts are equal: of one kind, with the same rows or groups in the
+    /// same order.
     pub fn is_same(&self, other: &Near) -> bool
         ensures { IsTrue result ↔ (self.now ≡ other.now) }
     {

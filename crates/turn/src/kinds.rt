@@ -6,10 +6,10 @@ use lane_kernels::Step;
 use std::marker::Model;
 use values::MAX_COLUMNS;
 
-/// The steps of a condition in postfix order.
+/// Holds the steps of a condition in postfix order.
 #[derive(Drop)]
 pub struct StepList {
-    /// The steps, in the order in which they are run.
+    /// Holds the steps, in the order in which they run.
     pub steps: Vec<Step>,
 }
 
@@ -23,7 +23,7 @@ impl Model for StepList {
 }
 
 impl StepList {
-    /// Whether the steps are the same, in the same order.
+    /// Returns whether the steps are the same, in the same order.
     fn is_same(&self, other: &StepList) -> bool
         ensures { IsTrue result ↔ (self.now ≡ other.now) }
     {
@@ -31,10 +31,10 @@ impl StepList {
     }
 }
 
-/// At most `MAX_COLUMNS` places of columns.
+/// Holds at most `MAX_COLUMNS` places of columns.
 #[derive(Drop)]
 pub struct ColumnList {
-    /// The places, counted from 0.
+    /// Holds the places, counted from 0.
     columns: Vec<usize>,
 }
 
@@ -50,7 +50,7 @@ impl Model for ColumnList {
 }
 
 impl ColumnList {
-    /// These columns.
+    /// Makes the list of these columns.
     pub fn new(columns: Vec<usize>) -> ColumnList
         requires { length columns.items ≤ MAX_COLUMNS }
         ensures { result ≡ columns.items }
@@ -58,14 +58,14 @@ impl ColumnList {
         ColumnList { columns }
     }
 
-    /// Whether the columns are the same, in the same order.
+    /// Returns whether the columns are the same, in the same order.
     fn is_same(&self, other: &ColumnList) -> bool
         ensures { IsTrue result ↔ (self.now ≡ other.now) }
     {
         self.columns == other.columns
     }
 
-    /// The columns, lent.
+    /// Returns the columns.
     pub fn columns(&self) -> &[usize]
         ensures value { result.now ≡ self.now }
         ensures few { length result.now ≤ MAX_COLUMNS }
@@ -74,29 +74,29 @@ impl ColumnList {
     }
 }
 
-/// What an operator does, with all that a turn of it needs of the plan.
+/// Says what an operator does, with all that its turns need of the plan.
 #[derive(Drop)]
 pub enum Kind {
-    /// A window of the last instants, or of all.
+    /// Is a window of the last instants, or of all.
     RangeWindow,
-    /// A window of the last instants that moves at the multiples of a number alone.
+    /// Is a window of the last instants that moves only at the multiples of a number.
     SlideWindow,
-    /// A window of the last rows of each partition.
+    /// Is a window of the last rows of each partition.
     LatestWindow,
-    /// The rows at which a condition is true.
+    /// Passes on the rows for which a condition is true.
     Select(StepList),
-    /// Some columns of each row.
+    /// Passes on some columns of each row.
     Project(ColumnList),
-    /// The pairs of rows of two sides that are equal in the keys.
+    /// Pairs rows of two sides that are equal in the keys.
     Join,
-    /// Group By with its list; Distinct is the groups of all columns.
+    /// Is Group By with its list. Distinct is the groups of all columns.
     Group(GroupBy),
-    /// The root of a query.
+    /// Is the root of a query.
     ToStream,
 }
 
 impl Kind {
-    /// Whether the kinds are the same, with the same steps, columns or groups.
+    /// Returns whether the kinds are the same, with the same steps, columns or groups.
     pub(crate) fn is_same(&self, other: &Kind) -> bool
         ensures { IsTrue result ↔ (self.now ≡ other.now) }
     {

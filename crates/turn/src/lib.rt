@@ -1,8 +1,8 @@
 //! Turns: what a worker runs of an operator, outside every lock.
 //!
-//! A `Turn` is an item of an operator's queue with the excerpt of the operator's state that it
-//! needs. `Turn::run` makes the outputs and the change of these alone, so that it may run on any
-//! thread; what it made is a `Done`, which no other call makes.
+//! A `Turn` is an item of an operator's queue, with the excerpt of the operator's state that it
+//! needs. `Turn::run` makes the outputs and the change from only these, so it may run on any
+//! thread. It returns a `Done`, which no other call makes.
 #![tactic(auto)]
 
 mod excerpts;

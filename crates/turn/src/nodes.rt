@@ -7,18 +7,18 @@ use std::alloc::AllocError;
 use std::marker::Model;
 use std::sync::Arc;
 
-/// An operator of a query's plan, and at a join the side that the item is of.
+/// Names an operator of a query's plan, and at a join the side that the item is of.
 ///
-/// What the operator does is shared with the plan, so a node costs no copy of it.
+/// What the operator does is shared with the plan, so a node copies nothing of it.
 #[derive(Drop)]
 pub struct Node {
-    /// The number of the query.
+    /// Holds the number of the query.
     pub query: u64,
-    /// The number of the operator in the query's plan.
+    /// Holds the number of the operator in the query's plan.
     pub operator: usize,
-    /// The side of a join; an operator with one input takes the left one.
+    /// Names the side of a join. An operator with one input takes the left one.
     pub side: Side,
-    /// What the operator does.
+    /// Says what the operator does.
     pub kind: Arc<Kind>,
 }
 
@@ -33,8 +33,10 @@ impl Model for Node {
 }
 
 impl Node {
-    /// The same node once more. It takes no memory; an error says that no more owners can be
-    /// counted, and nothing is changed.
+    /// Returns the same node once more. Takes no memory.
+    ///
+    /// # Errors
+    /// `AllocError` when no more owners can be counted; nothing has changed.
     pub(crate) fn share(&self) -> Result<Node, AllocError>
         ensures { IfOk result (λ node. node ≡ self.now) }
     {
@@ -46,8 +48,8 @@ impl Node {
         })
     }
 
-    /// Whether the nodes are equal: the same operator of the same query, the same side, and the
-    /// same kind with all that it carries.
+    /// Returns whether the nodes are equal: the same operator of the same query, the same side, and
+    /// the same kind with all that it carries.
     pub fn is_same(&self, other: &Node) -> bool
         ensures { IsTrue result ↔ (self.now ≡ other.now) }
     {

@@ -1,24 +1,24 @@
-//! What a turn makes.
+//! What a turn makes: its outputs and its change.
 
 use op_queue::Item;
 use row_bags::DatedRows;
 
-/// What a turn puts out.
+/// Holds what a turn emits.
 #[derive(Drop)]
 pub enum Outputs {
-    /// Items for the operator above.
+    /// Holds items for the operator above.
     Items(Vec<Item>),
-    /// Of a root: answers in order, each with its instant.
+    /// Holds the answers of a root in order, each with its instant.
     Answers(DatedRows),
 }
 
-/// What a turn changes of its operator's state beyond what the item itself says.
+/// Says what a turn changes of its operator's state, apart from what the item itself says.
 #[derive(Drop)]
 pub enum Change {
-    /// Nothing more.
+    /// Changes nothing more.
     Nothing,
-    /// How many rows leave the front of a window of the last instants.
+    /// Counts the rows that leave the front of a window of the last instants.
     Leave(usize),
-    /// What the touched groups show.
+    /// Holds what the touched groups show.
     Groups(group::Change),
 }

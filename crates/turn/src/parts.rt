@@ -4,19 +4,19 @@ use crate::nodes::Node;
 use crate::outcomes::{Change, Outputs};
 use crate::shared::{SharedItem, SharedNear};
 
-/// The four parts of a turn, and what was made of them.
+/// Holds the four parts of a turn, its outputs and its change.
 #[derive(Drop)]
 pub struct Parts {
-    /// The number of the lease.
+    /// Holds the number of the lease.
     pub lease: u64,
-    /// The operator, and at a join the side that the item is of.
+    /// Names the operator, and at a join the side that the item is of.
     pub node: Node,
-    /// The item of the operator's queue.
+    /// Holds the item of the operator's queue.
     pub item: SharedItem,
-    /// The excerpt of the operator's state.
+    /// Holds the excerpt of the operator's state.
     pub near: SharedNear,
-    /// What the turn puts out.
+    /// Holds what the turn emits.
     pub outputs: Outputs,
-    /// What it changes of the operator's state.
+    /// Holds what the turn changes of the operator's state.
     pub change: Change,
 }

@@ -32,7 +32,7 @@ fn have_same_columns(a: &Batch, b: &Batch) -> bool
     true
 }
 
-/// Whether the row at a place leaves.
+/// Returns whether the row at a place leaves.
 fn leaves(batch: &Batch, place: usize) -> bool
     requires { place < length batch.now }
     ensures { result ≡ get_or (leaving batch.now) place false }
@@ -68,8 +68,8 @@ fn same_batch(a: &Batch, b: &Batch) -> bool
     have_same_columns(a, b)
 }
 
-/// Whether the items are equal: of one instant, both ticks or both the same signed rows in the same
-/// order.
+/// Returns whether the items are equal: of one instant, and both ticks or both the same signed rows
+/// in the same order.
 pub fn same_item(a: &Item, b: &Item) -> bool
     ensures { IsTrue result ↔ (a.now ≡ b.now) }
 {

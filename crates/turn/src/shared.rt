@@ -7,10 +7,10 @@ use std::alloc::{AllocError, Global};
 use std::marker::Model;
 use std::sync::Arc;
 
-/// An item of an operator's queue, shared by the copies of a turn.
+/// Holds an item of an operator's queue, which the copies of a turn share.
 #[derive(Drop)]
 pub struct SharedItem {
-    /// The item, with how many share it.
+    /// Holds the item, with the count of its owners.
     item: Arc<Item>,
 }
 
@@ -24,7 +24,10 @@ impl Model for SharedItem {
 }
 
 impl SharedItem {
-    /// An item that one turn has. An error says that memory was refused; the item is dropped.
+    /// Makes an item that one turn has.
+    ///
+    /// # Errors
+    /// `AllocError` when out of memory; then the item is dropped.
     pub fn new(alloc: Global, item: Item) -> Result<SharedItem, AllocError>
         ensures { IfOk result (λ shared. shared ≡ item) }
     {
@@ -32,8 +35,10 @@ impl SharedItem {
         Ok(SharedItem { item })
     }
 
-    /// The same item once more. It takes no memory; an error says that no more owners can be
-    /// counted, and nothing is changed.
+    /// Returns the same item once more. Takes no memory.
+    ///
+    /// # Errors
+    /// `AllocError` when no more owners can be counted; nothing has changed.
     pub(crate) fn share(&self) -> Result<SharedItem, AllocError>
         ensures { IfOk result (λ shared. shared ≡ self.now) }
     {
@@ -41,7 +46,7 @@ impl SharedItem {
         Ok(SharedItem { item })
     }
 
-    /// The item, lent.
+    /// Returns the item.
     pub fn item(&self) -> &Item
         ensures { result.now ≡ self.now }
     {
@@ -49,10 +54,10 @@ impl SharedItem {
     }
 }
 
-/// An excerpt of an operator's state, shared by the copies of a turn.
+/// Holds an excerpt of an operator's state, which the copies of a turn share.
 #[derive(Drop)]
 pub struct SharedNear {
-    /// The excerpt, with how many share it.
+    /// Holds the excerpt, with the count of its owners.
     near: Arc<Near>,
 }
 
@@ -66,7 +71,10 @@ impl Model for SharedNear {
 }
 
 impl SharedNear {
-    /// An excerpt that one turn has. An error says that memory was refused; the excerpt is dropped.
+    /// Makes an excerpt that one turn has.
+    ///
+    /// # Errors
+    /// `AllocError` when out of memory; then the excerpt is dropped.
     pub fn new(alloc: Global, near: Near) -> Result<SharedNear, AllocError>
         ensures { IfOk result (λ shared. shared ≡ near) }
     {
@@ -74,8 +82,10 @@ impl SharedNear {
         Ok(SharedNear { near })
     }
 
-    /// The same excerpt once more. It takes no memory; an error says that no more owners can be
-    /// counted, and nothing is changed.
+    /// Returns the same excerpt once more. Takes no memory.
+    ///
+    /// # Errors
+    /// `AllocError` when no more owners can be counted; nothing has changed.
     pub(crate) fn share(&self) -> Result<SharedNear, AllocError>
         ensures { IfOk result (λ shared. shared ≡ self.now) }
     {
@@ -83,7 +93,7 @@ impl SharedNear {
         Ok(SharedNear { near })
     }
 
-    /// The excerpt, lent.
+    /// Returns the excerpt.
     pub fn near(&self) -> &Near
         ensures { result.now ≡ self.now }
     {

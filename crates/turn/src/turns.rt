@@ -1,4 +1,4 @@
-//! Turns before they were run, and after.
+//! Turns before they run, and after.
 ghost use Rattle.std.specs.Prelude.{◌≡◌, IfOk, IfErr};
 ghost use Rattle.turn.specs.Turns.{Fits};
 ghost use Rattle.turn.specs.Finished.{IsDone, IsOf};
@@ -10,25 +10,25 @@ use crate::works::work;
 use std::alloc::{AllocError, Global};
 use std::marker::Model;
 
-/// What a lease hands out: an item of an operator's queue, and the excerpt of the operator's state
-/// that it needs.
+/// Holds what a lease hands out: an item of an operator's queue, and the excerpt of the operator's
+/// state that it needs.
 #[derive(Drop)]
 pub struct Turn {
-    /// The number of the lease.
+    /// Holds the number of the lease.
     pub lease: u64,
-    /// The operator, and at a join the side that the item is of.
+    /// Names the operator, and at a join the side that the item is of.
     pub node: Node,
-    /// The item of the operator's queue.
+    /// Holds the item of the operator's queue.
     pub item: SharedItem,
-    /// The excerpt of the operator's state.
+    /// Holds the excerpt of the operator's state.
     pub near: SharedNear,
 }
 
-/// A turn that was run: its outputs and its change are those of its node, item and excerpt. Only
-/// `Turn::run` makes one.
+/// Holds a turn that was run. Its outputs and its change are those of its node, item and excerpt.
+/// Only `Turn::run` makes one.
 #[derive(Drop)]
 pub struct Done {
-    /// The turn, its outputs and its change.
+    /// Holds the turn, its outputs and its change.
     parts: Parts,
 }
 
@@ -44,8 +44,10 @@ impl Model for Done {
 }
 
 impl Turn {
-    /// The same turn once more: item and excerpt are shared. It takes no memory; an error says that
-    /// no more owners can be counted, and nothing is changed.
+    /// Returns the same turn once more, with the item and the excerpt shared. Takes no memory.
+    ///
+    /// # Errors
+    /// `AllocError` when no more owners can be counted; nothing has changed.
     pub fn share(&self) -> Result<Turn, AllocError>
         ensures { IfOk result (λ turn. turn ≡ self.now) }
     {
@@ -57,9 +59,11 @@ impl Turn {
         })
     }
 
-    /// Makes the outputs and the change. Where memory is refused the turn comes back as it was.
+    /// Makes the outputs and the change. It costs the item, the excerpt and the outputs, and knows
+    /// neither the engine nor its lock.
     ///
-    /// It costs the item, the excerpt and the outputs, and knows neither the engine nor its lock.
+    /// # Errors
+    /// The turn as it was, when out of memory.
     pub fn run(self, alloc: Global) -> Result<Done, Turn>
         requires { Fits self.node self.item self.near }
         ensures turn { IfOk result (λ d. IsOf self d) }
@@ -91,7 +95,7 @@ impl Turn {
 }
 
 impl Done {
-    /// The turn, its outputs and its change, lent.
+    /// Returns the turn, its outputs and its change by reference.
     pub fn parts(&self) -> &Parts
         ensures value { result.now ≡ self.now }
         ensures done { IsDone result.now }
@@ -99,7 +103,7 @@ impl Done {
         &self.parts
     }
 
-    /// The turn, its outputs and its change, handed out.
+    /// Returns the turn, its outputs and its change.
     pub fn into_parts(self) -> Parts
         ensures value { result ≡ self }
         ensures done { IsDone result }

@@ -1,4 +1,4 @@
-//! The rows that fall out of their partitions.
+//! Holds the rows that fall out of their partitions.
 ghost use Rattle.std.specs.Prelude.{◌≡◌, ◌<◌, ◌++◌, ◌∷◌, ◌↔◌, [], IsTrue, None, Some};
 ghost use Rattle.std.specs.Prelude.{get_or, length, IfOk, OnOk};
 ghost use Rattle.std.specs.Option.{is_some, option_map};
@@ -10,13 +10,13 @@ use std::alloc::{AllocError, Global};
 use std::marker::Model;
 use values::{Row, Value};
 
-/// For each row of an item the row that falls out of its partition after it, if one does: a byte
-/// for each row of the item, and eight for each value of those that fall.
+/// Holds for each row of an item the row that falls out of its partition after it, if one does. It
+/// takes a byte for each row of the item, and eight for each value of those that fall.
 #[derive(Drop)]
 pub struct FallenRows {
-    /// For each row of the item, in order, whether a row falls out after it.
+    /// Says for each row of the item, in order, whether a row falls out after it.
     falls: Vec<bool>,
-    /// The rows that fall out, in order.
+    /// Holds the rows that fall out, in order.
     rows: RowTable,
 }
 
@@ -33,7 +33,7 @@ impl Model for FallenRows {
 }
 
 impl FallenRows {
-    /// Of an item without rows. It takes no memory.
+    /// Returns the list of an item without rows. Takes no memory.
     pub fn new(alloc: Global) -> FallenRows
         ensures { result ≡ [] }
     {
@@ -43,7 +43,7 @@ impl FallenRows {
         }
     }
 
-    /// The same, with room for an item of so many rows.
+    /// Returns the list of an item without rows, with room for `count` rows.
     pub(crate) fn with_capacity(alloc: Global, count: usize) -> Result<FallenRows, AllocError>
         ensures { IfOk result (λ f. f ≡ []) }
     {
@@ -52,21 +52,21 @@ impl FallenRows {
         Ok(FallenRows { falls, rows })
     }
 
-    /// How many rows the item has.
+    /// Returns how many rows the item has.
     pub fn len(&self) -> usize
         ensures { result ≡ length self.now }
     {
         self.falls.len()
     }
 
-    /// Whether the lists have the same rows at the same places.
+    /// Returns whether the lists have the same rows at the same places.
     pub fn is_same(&self, other: &FallenRows) -> bool
         ensures { IsTrue result ↔ (self.now ≡ other.now) }
     {
         self.falls == other.falls && self.rows.is_same(&other.rows)
     }
 
-    /// What falls out after one row of the item more, if something does.
+    /// Adds a row of the item, with what falls out after it, if something does.
     pub(crate) fn push(&mut self, fallen: &Option<Row>) -> Result<(), AllocError>
         requires { IsBeside (option_map (λ r. r.items) fallen.now) (those_fallen self.old) }
         ensures { OnOk result (self.new
@@ -78,7 +78,7 @@ impl FallenRows {
         }
     }
 
-    /// A row falls out after one row of the item more.
+    /// Adds a row of the item after which a row falls out.
     fn push_row(&mut self, row: &Row) -> Result<(), AllocError>
         requires { AreWide (length row.now.items) (those_fallen self.old) }
         ensures { OnOk result (self.new ≡ self.old ++ Some row.now.items ∷ []) }
@@ -89,7 +89,7 @@ impl FallenRows {
         Ok(())
     }
 
-    /// Nothing falls out after one row of the item more.
+    /// Adds a row of the item after which nothing falls out.
     fn push_none(&mut self) -> Result<(), AllocError>
         ensures { OnOk result (self.new ≡ self.old ++ None ∷ []) }
     {
@@ -97,7 +97,7 @@ impl FallenRows {
         Ok(())
     }
 
-    /// Whether a row falls out after the row at a place.
+    /// Returns whether a row falls out after the row at a place.
     pub(crate) fn falls(&self, place: usize) -> bool
         requires { place < length self.now }
         ensures { result ≡ is_some (get_or self.now place None) }
@@ -105,7 +105,7 @@ impl FallenRows {
         self.falls[place]
     }
 
-    /// Of the rows that fall out the one at a place.
+    /// Returns the row at a place among those that fall out.
     pub(crate) fn row(&self, place: usize) -> &[Value]
         requires { place < length (those_fallen self.now) }
         ensures { result.now ≡ get_or (those_fallen self.now) place [] }

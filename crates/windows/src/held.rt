@@ -1,4 +1,4 @@
-//! Rows that are held, with their instants.
+//! Keeps the rows that are held, with their instants.
 ghost use Rattle.std.specs.Prelude.{◌≡◌, ◌<◌, ◌≤◌, ◌+◌, ◌-◌, ◌++◌, [], length, map, drop, take};
 ghost use Rattle.std.specs.Prelude.{IfOk, OnOk, OnErr, nat_lt};
 ghost use Rattle.std.specs.List.{filter};
@@ -14,14 +14,14 @@ use std::alloc::{AllocError, Global};
 use std::collections::VecDeque;
 use std::marker::Model;
 
-/// Rows of one width with their instants, the oldest first.
+/// Holds rows of one width with their instants, the oldest first.
 ///
-/// A row costs eight bytes a column, and rows of one instant that stand together cost one run more.
+/// A row costs eight bytes a column. Successive rows of one instant cost one run more.
 #[derive(Drop)]
 pub(crate) struct HeldRows {
-    /// The rows, the oldest first.
+    /// Holds the rows, the oldest first.
     rows: FlatRows,
-    /// The rows' instants in the same order, each with how many rows in succession have it.
+    /// Holds the rows' instants in the same order, each with how many rows in succession have it.
     runs: VecDeque<Run>,
 }
 
@@ -52,30 +52,30 @@ impl HeldRows {
         self.rows.len()
     }
 
-    /// A copy of the rows of instants below `first`. It costs these rows.
+    /// Returns a copy of the rows of instants below `first`. It costs these rows.
     pub(crate) fn older(&self, alloc: Global, first: u64) -> Result<RowTable, AllocError>
         requires { IsNonDecreasingBy (λ h. h.0) self.now.held }
         ensures { IfOk result (λ rows. rows
             ≡ map (λ h. h.1) (filter (λ h. nat_lt h.0 first) self.now.held)) }
     {
-        let _len = self.rows.len();
+        let _len = self.rows.len(); // for the proof
         let count = count_below(&self.runs, first);
         let rows = self.rows.part(alloc, 0, count)?;
         Ok(rows)
     }
 
-    /// How many rows of instants below `first` are held; they stand in front.
+    /// Returns how many rows of instants below `first` are held. They are in front.
     pub(crate) fn count_older(&self, first: u64) -> usize
         requires { IsNonDecreasingBy (λ h. h.0) self.now.held }
         ensures few { result ≤ length self.now.held }
         ensures older { take result (map (λ h. h.1) self.now.held)
             ≡ map (λ h. h.1) (filter (λ h. nat_lt h.0 first) self.now.held) }
     {
-        let _len = self.rows.len();
+        let _len = self.rows.len(); // for the proof
         count_below(&self.runs, first)
     }
 
-    /// A copy of the rows from one place on to another.
+    /// Returns a copy of the rows from one place on to another.
     pub(crate) fn part(&self, alloc: Global, from: usize, to: usize) -> Result<RowTable, AllocError>
         requires ordered { from ≤ to }
         requires within { to ≤ length self.now.held }
@@ -86,7 +86,7 @@ impl HeldRows {
         Ok(rows)
     }
 
-    /// A copy of `count` rows from the place `from` on, as rows that enter or leave.
+    /// Returns a copy of `count` rows from the place `from` on, as rows that enter or leave.
     pub(crate) fn signed(
         &self,
         alloc: Global,
@@ -104,7 +104,7 @@ impl HeldRows {
         Ok(batch)
     }
 
-    /// The rows of a batch enter, with this instant.
+    /// Adds the rows of a batch, with this instant.
     pub(crate) fn enter(&mut self, at: u64, batch: &Batch) -> Result<(), AllocError>
         requires { width batch.now ≡ self.old.width }
         ensures width { self.new.width ≡ self.old.width }
@@ -115,12 +115,12 @@ impl HeldRows {
         let count = batch.len();
         self.runs.reserve(1)?;
         self.rows.enter(batch)?;
-        let _len = self.rows.len();
+        let _len = self.rows.len(); // for the proof
         lengthen(&mut self.runs, at, count);
         Ok(())
     }
 
-    /// The first `count` rows leave.
+    /// Drops the first `count` rows.
     pub(crate) fn leave(&mut self, count: usize)
         requires { count ≤ length self.old.held }
         ensures width { self.new.width ≡ self.old.width }

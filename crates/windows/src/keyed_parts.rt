@@ -1,4 +1,4 @@
-//! The last rows of each partition, for keys of at most `N` values.
+//! Keeps the last rows of each partition, for keys of at most `N` values.
 ghost use Rattle.std.specs.Prelude.{◌≡◌, ◌≤◌, ◌++◌, ◌∷◌, [], cond, length, IfOk, OnOk, OnErr};
 ghost use Rattle.std.specs.Prelude.{IsSome};
 ghost use Rattle.std.specs.Option.{option_map};
@@ -21,11 +21,11 @@ use std::collections::BTreeMap;
 use std::marker::Model;
 use values::{MAX_COLUMNS, Row, Value, copy_row, value_at};
 
-/// The rows of each partition by its key, which has at most `N` values and takes some `8 * N`
+/// Holds the rows of each partition by its key, which has at most `N` values and takes some `8 * N`
 /// bytes.
 #[derive(Drop)]
 pub(crate) struct KeyedParts<const N: usize> {
-    /// By a partition's key its last rows, the oldest first.
+    /// Holds the last rows of each partition by its key, the oldest first.
     parts: BTreeMap<ArrayVec<Value, N>, Last>,
 }
 
@@ -43,7 +43,7 @@ impl<const N: usize> Model for KeyedParts<N> {
 }
 
 impl<const N: usize> KeyedParts<N> {
-    /// No rows.
+    /// Returns partitions without rows.
     pub(crate) fn new(alloc: Global) -> KeyedParts<N>
         requires { N ≤ MAX_COLUMNS }
         ensures { result ≡ [] }
@@ -53,7 +53,7 @@ impl<const N: usize> KeyedParts<N> {
         }
     }
 
-    /// A row enters the partition of its key, and the oldest falls out where there are more than
+    /// Adds a row to the partition of its key, and drops the oldest if there are then more than
     /// `count`.
     fn enter(
         &mut self,
@@ -80,7 +80,7 @@ impl<const N: usize> KeyedParts<N> {
         Ok(())
     }
 
-    /// How many rows the partition of a key has, none where there is no such partition.
+    /// Returns how many rows the partition of a key has: none if there is no such partition.
     fn len_at(&self, key: &ArrayVec<Value, N>) -> usize
         ensures { result ≡ length (part key.now self.now) }
     {
@@ -90,7 +90,7 @@ impl<const N: usize> KeyedParts<N> {
         }
     }
 
-    /// A copy of the row at a place of the partition of a key, if there is one.
+    /// Returns a copy of the row at a place of the partition of a key, if there is one.
     fn row_at(&self, key: &ArrayVec<Value, N>, place: u128) -> Option<Row>
         ensures { option_map (λ r. r.items) result ≡ row_in (part key.now self.now) place }
     {
@@ -100,7 +100,7 @@ impl<const N: usize> KeyedParts<N> {
         }
     }
 
-    /// The rows that fall out of the last `count` at the rows of a batch.
+    /// Returns the rows that fall out of the last `count` at the rows of a batch.
     pub(crate) fn fallen_rows(
         &self,
         alloc: Global,
@@ -114,7 +114,7 @@ impl<const N: usize> KeyedParts<N> {
             ≡ all_fallen columns.now count (held_in self.now) batch.now) }
         ensures table { IsTable (width batch.now) batch.now }
     {
-        let _ = &self.parts;
+        let _ = &self.parts; // for the proof
         let mut rows = FallenRows::with_capacity(alloc, batch.len())?;
         let mut came = KeyedParts::<N>::new(alloc);
         for place in 0..batch.len() {
@@ -126,7 +126,7 @@ impl<const N: usize> KeyedParts<N> {
         Ok(rows)
     }
 
-    /// The rows of a batch enter their partitions, and the oldest fall out where there are more
+    /// Adds the rows of a batch to their partitions, and drops the oldest if there are then more
     /// than `count`.
     pub(crate) fn enter_all(
         &mut self,
@@ -141,7 +141,7 @@ impl<const N: usize> KeyedParts<N> {
             → held_in self.new k ≡ all_after columns.now count (held_in self.old) batch.now k) }
         ensures parts { AreParts count (width batch.now) (held_in self.new) }
     {
-        let _ = &self.parts;
+        let _ = &self.parts; // for the proof
         for place in 0..batch.len() {
             let row = batch.row(place).row;
             let key = key_in(columns, &row);
@@ -151,7 +151,7 @@ impl<const N: usize> KeyedParts<N> {
     }
 }
 
-/// The key of the partition that a row is in.
+/// Returns the key of the partition that a row is in.
 fn key_in<const N: usize>(columns: &[usize], row: &Row) -> ArrayVec<Value, N>
     requires { length columns.now ≤ N }
     ensures { result.items ≡ key_in columns.now row.now.items }
@@ -163,7 +163,7 @@ fn key_in<const N: usize>(columns: &[usize], row: &Row) -> ArrayVec<Value, N>
     key
 }
 
-/// A row enters a partition that the map has.
+/// Adds a row to a partition that the map has.
 fn enter_at<const N: usize>(
     parts: &mut BTreeMap<ArrayVec<Value, N>, Last>,
     count: u64,
@@ -187,8 +187,8 @@ fn enter_at<const N: usize>(
     }
 }
 
-/// The row that a new row of this key makes fall out of the last `count`: of those held, those that
-/// came before it, and itself.
+/// Returns the row that a new row of this key makes fall out of the last `count`. It is one of
+/// those held, one that came before the new row, or the new row itself.
 fn fallen<const N: usize>(
     held: &KeyedParts<N>,
     came: &KeyedParts<N>,

@@ -1,4 +1,4 @@
-//! The last rows of a partition.
+//! Keeps the last rows of a partition.
 ghost use Rattle.std.specs.Prelude.{◌≡◌, ◌≤◌, ◌++◌, ◌∷◌, [], length, OnOk, OnErr};
 ghost use Rattle.std.specs.Option.{option_map};
 ghost use Rattle.windows.specs.Latest.{last_of, row_in};
@@ -9,10 +9,10 @@ use std::alloc::{AllocError, Global};
 use std::marker::Model;
 use values::Row;
 
-/// The rows of a partition, the oldest first, with eight bytes for each value.
+/// Holds the rows of a partition, the oldest first, with eight bytes for each value.
 #[derive(Drop)]
 pub(crate) struct Last {
-    /// The rows, the oldest first.
+    /// Holds the rows, the oldest first.
     rows: FlatRows,
 }
 
@@ -29,7 +29,7 @@ impl Last {
     pub(crate) fn new(alloc: Global) -> Last
         ensures { result ≡ [] }
     {
-        // the first row that enters says the width
+        // the first row that enters sets the width
         Last {
             rows: FlatRows::new(alloc, 0),
         }
@@ -41,7 +41,7 @@ impl Last {
         self.rows.len()
     }
 
-    /// A copy of the row at a place, if there is one.
+    /// Returns a copy of the row at a place, if there is one.
     pub(crate) fn row(&self, place: u128) -> Option<Row>
         ensures { option_map (λ r. r.items) result ≡ row_in self.now place }
     {
@@ -52,8 +52,7 @@ impl Last {
         }
     }
 
-    /// A row as wide as the others enters, and the oldest falls out where there are more than
-    /// `count`.
+    /// Adds a row as wide as the others, and drops the oldest if there are then more than `count`.
     pub(crate) fn enter(&mut self, count: u64, row: &Row) -> Result<(), AllocError>
         requires few { length self.old ≤ count }
         requires wide { AreWide (length row.now.items) self.old }

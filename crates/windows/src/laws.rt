@@ -1,4 +1,4 @@
-//! What holds of every turn of a window: functions that do nothing, each with one law.
+//! States what holds for every turn of a window, by functions that do nothing. Each has one law.
 ghost use Rattle.std.specs.Prelude.{◌≡◌, ◌+◌, ◌++◌, ℕ, List};
 ghost use Rattle.values.specs.Window.{Element, LastRows, RangeSlide};
 ghost use Rattle.op_queue.specs.Paths.{rows_in};
@@ -10,7 +10,7 @@ ghost use Rattle.windows.specs.Laws.{WindowTick, coming, range_of, rows_in_order
 ghost use Rattle.windows.specs.Range as range;
 ghost use Rattle.windows.specs.Slide as slide;
 
-/// Rows of the instant t at a window of the last instants.
+/// States the law of rows of the instant t, at a window of the last instants.
 pub fn range_takes_rows()
     ensures { (from : ℕ) (s : range.RangeState) (t : ℕ) (held : List Element) (es : List Element)
         → RangeStands t s.held held → Each (λ e. e.instant ≡ t) es
@@ -20,7 +20,7 @@ pub fn range_takes_rows()
         × RangeStands t (range.next s (Rows t (coming es))) (held ++ es) }
 {}
 
-/// The tick of the instant t there.
+/// States the law of the tick of the instant t, at a window of the last instants.
 pub fn range_takes_ticks()
     ensures { (from : ℕ) (s : range.RangeState) (t : ℕ) (held : List Element)
         → RangeStands t s.held held
@@ -30,8 +30,8 @@ pub fn range_takes_ticks()
         × RangeStands (t + 1) (range.next s (Tick t)) held2) }
 {}
 
-/// Rows of the instant t at a window of the last rows of each partition: then it holds what it
-/// shows.
+/// States the law of rows of the instant t, at a window of the last rows of each partition. The
+/// window then holds what it shows.
 pub fn latest_takes_rows()
     ensures { (from : ℕ) (s : latest.LatestState) (t : ℕ) (held : List Element) (es : List Element)
         → LatestStands from s.columns s.count t (latest.held_in s.entries) held
@@ -44,7 +44,7 @@ pub fn latest_takes_rows()
         (shown_of from (LastRows s.columns s.count) t (held ++ es)) }
 {}
 
-/// The tick of the instant t there.
+/// States the law of the tick of the instant t, at a window of the last rows of each partition.
 pub fn latest_takes_ticks()
     ensures { (from : ℕ) (s : latest.LatestState) (t : ℕ) (held : List Element)
         → LatestStands from s.columns s.count t (latest.held_in s.entries) held
@@ -53,7 +53,8 @@ pub fn latest_takes_ticks()
         × LatestStands from s.columns s.count (t + 1) (latest.next s (Tick t)) held }
 {}
 
-/// Rows of the instant t at a window that moves at multiples alone: it puts out nothing.
+/// States the law of rows of the instant t, at a window that moves only at multiples. It emits
+/// nothing.
 pub fn slide_takes_rows()
     ensures { (from : ℕ) (s : slide.SlideState) (t : ℕ) (held : List Element) (es : List Element)
         → SlideStands from t s held → Each (λ e. e.instant ≡ t) es
@@ -63,7 +64,7 @@ pub fn slide_takes_rows()
         × SlideStands from t (slide.next s (Rows t (coming es))) (held ++ es) }
 {}
 
-/// The tick of the instant t there.
+/// States the law of the tick of the instant t, at a window that moves only at multiples.
 pub fn slide_takes_ticks()
     ensures { (from : ℕ) (s : slide.SlideState) (t : ℕ) (held : List Element)
         → SlideStands from t s held

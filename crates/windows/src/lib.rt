@@ -1,8 +1,8 @@
-//! The states of windows: what a window holds of its stream, and what its turns put out.
+//! Holds the states of windows: what a window holds of its stream, and what its turns emit.
 //!
-//! `RangeWindow` holds the rows of the last instants, or all; `SlideWindow` those of the last
-//! instants, of which it shows others at the multiples of a number alone; `LatestWindow` the last
-//! rows of each partition.
+//! `RangeWindow` holds the rows of the last instants, or all. `SlideWindow` holds those of the last
+//! instants too, but changes what it shows only at the multiples of a number. `LatestWindow` holds
+//! the last rows of each partition.
 #![tactic(auto)]
 
 mod fallen_rows;

@@ -1,4 +1,4 @@
-//! The last rows of each partition, with keys in as little room as they need.
+//! Keeps the last rows of each partition, with keys in as little room as they need.
 ghost use Rattle.std.specs.Prelude.{◌≡◌, ◌≤◌, [], length, IfOk, OnOk};
 ghost use Rattle.column.specs.Rows.{IsTable, width};
 ghost use Rattle.values.specs.Row.{Row as PlainRow};
@@ -11,7 +11,7 @@ use column::Batch;
 use std::alloc::{AllocError, Global};
 use values::MAX_COLUMNS;
 
-/// The rows of each partition, by how many values the keys may have.
+/// Holds the rows of each partition, by how many values the keys may have.
 #[derive(Drop)]
 pub(crate) enum Parts {
     Two(KeyedParts<2>),
@@ -22,7 +22,7 @@ pub(crate) enum Parts {
 }
 
 impl Parts {
-    /// No rows, with the least room for keys of so many columns.
+    /// Returns partitions without rows, with the least room for keys of `columns` columns.
     pub(crate) fn new(alloc: Global, columns: usize) -> Parts
         requires { columns ≤ MAX_COLUMNS }
         ensures entries { entries_in result ≡ [] }
@@ -41,7 +41,7 @@ impl Parts {
         }
     }
 
-    /// The rows that fall out of the last `count` at the rows of a batch.
+    /// Returns the rows that fall out of the last `count` at the rows of a batch.
     pub(crate) fn fallen_rows(
         &self,
         alloc: Global,
@@ -64,7 +64,7 @@ impl Parts {
         }
     }
 
-    /// The rows of a batch enter their partitions, and the oldest fall out where there are more
+    /// Adds the rows of a batch to their partitions, and drops the oldest if there are then more
     /// than `count`.
     pub(crate) fn enter_all(
         &mut self,

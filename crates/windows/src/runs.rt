@@ -1,4 +1,4 @@
-//! Instants in order, those that are equal as one run.
+//! Keeps instants in order, equal ones as one run.
 ghost use Rattle.std.specs.Prelude.{◌≡◌, ◌≤◌, ◌<◌, ◌+◌, ◌^◌, ◌++◌, nat_lt, length, drop, replicate};
 ghost use Rattle.std.specs.VecDeque.{deque_len, deque_capacity};
 ghost use Rattle.std.specs.List.{prefix_len};
@@ -6,16 +6,16 @@ ghost use Rattle.windows.specs.Held.{AreRuns, instants_in};
 
 use std::collections::VecDeque;
 
-/// An instant that stands `count` times behind itself.
+/// Holds an instant that comes `count` times in succession.
 #[derive(Clone, Copy)]
 pub(crate) struct Run {
-    /// The instant.
+    /// Holds the instant.
     instant: u64,
-    /// How many rows in succession have it.
+    /// Counts the rows in succession that have it.
     count: usize,
 }
 
-/// The instant `count` times more at the back; there is room for one run.
+/// Appends the instant `count` times. There is room for one run.
 pub(crate) fn lengthen(runs: &mut VecDeque<Run>, at: u64, count: usize)
     requires counted { AreRuns runs.old.items }
     requires room { deque_len runs.old < deque_capacity runs.old }
@@ -32,7 +32,7 @@ pub(crate) fn lengthen(runs: &mut VecDeque<Run>, at: u64, count: usize)
     });
 }
 
-/// Takes the last run away if it is one of this instant, and says what it counted.
+/// Removes the last run if it is one of this instant, and returns its count; else returns 0.
 fn take_last(runs: &mut VecDeque<Run>, at: u64) -> usize
     ensures instants { instants_in runs.old.items
         ≡ instants_in runs.new.items ++ replicate result at }
@@ -54,7 +54,7 @@ fn take_last(runs: &mut VecDeque<Run>, at: u64) -> usize
     }
 }
 
-/// The first `count` instants leave.
+/// Drops the first `count` instants.
 pub(crate) fn leave(runs: &mut VecDeque<Run>, count: usize)
     requires { AreRuns runs.old.items }
     ensures counted { AreRuns runs.new.items }
@@ -78,7 +78,7 @@ pub(crate) fn leave(runs: &mut VecDeque<Run>, count: usize)
     }
 }
 
-/// How many instants stand in front of the first that is not below `first`.
+/// Returns how many instants are in front of the first that is not below `first`.
 pub(crate) fn count_below(runs: &VecDeque<Run>, first: u64) -> usize
     requires counted { AreRuns runs.now.items }
     requires few { length (instants_in runs.now.items) < 2 ^ 64 }

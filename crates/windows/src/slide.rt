@@ -1,4 +1,5 @@
-//! The rows of the last instants, at the multiples of a number alone.
+//! Keeps the rows of the last instants, and changes what it shows only at the multiples of a
+//! number.
 ghost use Rattle.std.specs.Prelude.{◌≡◌, ◌<◌, ◌++◌, ◌↔◌, [], IsTrue, length, IfOk, OnOk, OnErr};
 ghost use Rattle.std.specs.List.{flat_map};
 ghost use Rattle.op_queue.specs.Entries.{IsForward};
@@ -16,20 +17,20 @@ use op_queue::{Item, Queue};
 use std::alloc::{AllocError, Global};
 use std::marker::Model;
 
-/// A window of the last `span` instants that moves at the multiples of `step` alone: between them
-/// it shows what it showed at the last of them.
+/// Holds a window of the last `span` instants that moves only at the multiples of `step`. Between
+/// them it shows what it showed at the last of them.
 ///
-/// Rows that come are held unshown until it moves. Rows stand by instant, so those that are shown
-/// stand in front of all others, and those that go in front of all that stay.
+/// Rows that come are held unshown until it moves. Rows are in order of instant. So the shown rows
+/// are in front of all others, and the rows that go are in front of all that stay.
 #[derive(Drop)]
 pub struct SlideWindow {
-    /// How many instants before the multiple are shown beside it.
+    /// Says how many instants before the multiple are shown beside it.
     span: u64,
-    /// The number at whose multiples it moves.
+    /// Holds the number at whose multiples it moves.
     step: u64,
-    /// The rows that are held, shown or not, with their instants, by instant.
+    /// Holds the rows, shown or not, with their instants, in order of instant.
     held: HeldRows,
-    /// How many of the held rows, from the first on, are shown.
+    /// Counts the held rows, from the first on, that are shown.
     shown: usize,
 }
 
@@ -52,15 +53,16 @@ impl Model for SlideWindow {
     ghost invariant = { λ w. IsSlide w.step w.held.width w.held.held w.shown };
 }
 
-/// What a turn needs of a sliding window: at the tick at which it moves all its rows but those that
-/// it shows before and after, each list in the order of the rows; else nothing.
+/// Holds what a turn needs of a sliding window. At the tick at which the window moves, that is all
+/// its rows except those that it shows before and after. Each list is in the order of the rows.
+/// At any other item there are none.
 #[derive(Drop)]
 pub struct SlideNear {
-    /// The rows that were shown and leave.
+    /// Holds the rows that were shown and leave.
     pub leave: RowTable,
-    /// The rows that go and were never shown.
+    /// Holds the rows that go and were never shown.
     pub pass: RowTable,
-    /// The rows that are shown from this tick on.
+    /// Holds the rows that are shown from this tick on.
     pub enter: RowTable,
 }
 
@@ -78,7 +80,7 @@ impl Model for SlideNear {
 }
 
 impl SlideNear {
-    /// Whether the excerpts have the same rows in each list.
+    /// Returns whether the excerpts have the same rows in each list.
     pub fn is_same(&self, other: &SlideNear) -> bool
         ensures { IsTrue result ↔ (self.now ≡ other.now) }
     {
@@ -89,7 +91,7 @@ impl SlideNear {
 }
 
 impl SlideWindow {
-    /// A window that holds nothing, of a stream with this many columns.
+    /// Returns a window that holds nothing, of a stream with `width` columns.
     pub fn new(alloc: Global, span: u64, step: u64, width: usize) -> SlideWindow
         requires { 0 < step }
         ensures span { result.span ≡ span }
@@ -106,19 +108,20 @@ impl SlideWindow {
         }
     }
 
-    /// How many rows it holds, shown or not.
+    /// Returns how many rows it holds, shown or not.
     pub fn len(&self) -> usize
         ensures { result ≡ length self.now.held }
     {
         self.held.len()
     }
 
-    /// Takes an item. What it puts out comes to the back of the queue: of rows nothing; of a tick
-    /// at which it moves the rows that leave, those that enter and then the tick; of any other tick
-    /// the tick.
+    /// Takes an item, and pushes what it emits to the back of the queue. Rows emit nothing. A tick
+    /// at which it moves emits the rows that leave, those that enter, and then the tick. Any other
+    /// tick emits only itself.
     ///
-    /// An error says that memory was refused, or that there would be more rows than a `usize`
-    /// counts. Nothing is then said of the rows that are held, nor of the queue.
+    /// # Errors
+    /// `AllocError` when out of memory, or if there would be more rows than a `usize` counts. Then
+    /// nothing is said of the rows that are held, nor of the queue.
     pub fn run(&mut self, alloc: Global, item: Item, queue: &mut Queue) -> Result<(), AllocError>
         requires after { IsAfter (item_instant item) self.old.held }
         requires wide { IsItemWide self.old.width item }
@@ -134,14 +137,14 @@ impl SlideWindow {
         Ok(())
     }
 
-    /// Changes nothing: the rows of an excerpt have one width.
+    /// Changes nothing. Shows that the rows of an excerpt have one width.
     fn excerpt_fits(&self, item: &Item)
         ensures { HaveOneWidthIn (near self.now item.now) }
     {
-        let _count = self.held.len();
+        let _count = self.held.len(); // for the proof
     }
 
-    /// What is put out at the item comes to the back of the queue.
+    /// Pushes to the back of the queue what the window emits at the item.
     fn put_out(&self, alloc: Global, item: &Item, queue: &mut Queue) -> Result<(), AllocError>
         requires { IsForward (queue.old.entries ++ out item.now (near self.now item.now)) }
         ensures { OnOk result
@@ -153,7 +156,7 @@ impl SlideWindow {
         }
     }
 
-    /// The same at the tick of an instant.
+    /// Pushes to the back of the queue what the window emits at the tick of an instant.
     fn put_tick(&self, alloc: Global, at: u64, queue: &mut Queue) -> Result<(), AllocError>
         requires { IsForward (queue.old.entries ++ spec.tick_out self.now at) }
         ensures { OnOk result (HasGained (spec.tick_out self.now at) queue.old queue.new) }
@@ -165,7 +168,7 @@ impl SlideWindow {
         Ok(())
     }
 
-    /// The same where it moves.
+    /// Pushes to the back of the queue what the window emits at a tick at which it moves.
     fn put_moved(&self, alloc: Global, at: u64, queue: &mut Queue) -> Result<(), AllocError>
         requires { IsForward (queue.old.entries ++ spec.moved_out self.now at) }
         ensures { OnOk result (HasGained (spec.moved_out self.now at) queue.old queue.new) }
@@ -194,10 +197,13 @@ impl SlideWindow {
         Ok(())
     }
 
-    /// The excerpt that a turn with the item needs; nothing but at a tick at which it moves.
+    /// Returns the excerpt that a turn with the item needs. It has rows only at a tick at which the
+    /// window moves.
     ///
-    /// It costs the rows of the excerpt, whatever the window holds. An error says that memory was
-    /// refused; nothing is changed.
+    /// It costs the rows of the excerpt, whatever the window holds.
+    ///
+    /// # Errors
+    /// `AllocError` when out of memory; then nothing has changed.
     pub fn near(&self, alloc: Global, item: &Item) -> Result<SlideNear, AllocError>
         ensures value { IfOk result (λ n. n ≡ near self.now item.now) }
         ensures wide { IfOk result HaveOneWidthIn }
@@ -214,14 +220,14 @@ impl SlideWindow {
         }
     }
 
-    /// Whether it moves at the tick of an instant.
+    /// Returns whether it moves at the tick of an instant.
     fn moves(&self, at: u64) -> bool
         ensures { result ≡ spec.moves self.now.step at }
     {
         moves(self.step, at)
     }
 
-    /// The excerpt of a tick at which it moves.
+    /// Returns the excerpt of a tick at which it moves.
     fn near_at(&self, alloc: Global, at: u64) -> Result<SlideNear, AllocError>
         ensures value { IfOk result (λ n. n ≡ near_at self.now at) }
         ensures wide { IfOk result HaveOneWidthIn }
@@ -234,10 +240,11 @@ impl SlideWindow {
         Ok(SlideNear { leave, pass, enter })
     }
 
-    /// The state after the item. The item says all, so there is no change beside it.
+    /// Takes the item into the state. The item says all, so there is no change beside it.
     ///
-    /// An error says that memory was refused, or that there would be more rows than a `usize`
-    /// counts; the window is as it was.
+    /// # Errors
+    /// `AllocError` when out of memory, or if there would be more rows than a `usize` counts; then
+    /// the window is as it was.
     pub fn apply(&mut self, item: &Item) -> Result<(), AllocError>
         requires after { IsAfter (item_instant item.now) self.old.held }
         requires wide { IsItemWide self.old.width item.now }
@@ -258,7 +265,7 @@ impl SlideWindow {
     }
 }
 
-/// Whether the instant is a multiple of the step.
+/// Returns whether the instant is a multiple of the step.
 fn moves(step: u64, at: u64) -> bool
     requires { 0 < step }
     ensures { result ≡ spec.moves step at }
@@ -266,7 +273,7 @@ fn moves(step: u64, at: u64) -> bool
     at / step * step == at
 }
 
-/// The excerpt with no row.
+/// Returns the excerpt with no row.
 fn no_rows(alloc: Global) -> SlideNear
     ensures value { result ≡ nothing }
     ensures wide { HaveOneWidthIn result }
@@ -278,9 +285,10 @@ fn no_rows(alloc: Global) -> SlideNear
     }
 }
 
-/// What a turn puts out; `near` is the excerpt of the state for this item.
+/// Returns what a turn emits. `near` is the excerpt of the state for this item.
 ///
-/// An error says that memory was refused; nothing is changed.
+/// # Errors
+/// `AllocError` when out of memory; then nothing has changed.
 pub fn slide_work(alloc: Global, item: &Item, near: &SlideNear) -> Result<Vec<Item>, AllocError>
     ensures { IfOk result (λ outs. flat_map entries_of outs.items ≡ out item.now near.now) }
 {

@@ -1,4 +1,4 @@
-//! Bags of rows: their difference, each row once, and their order.
+//! Works on bags of rows: their difference, each row once, and their order.
 ghost use Rattle.std.specs.Prelude.{◌≡◌, IfOk};
 ghost use Rattle.std.specs.List.{list_any};
 ghost use Rattle.values.specs.Row.{row_cmp};
@@ -8,7 +8,7 @@ ghost use Rattle.reference.specs.Views.{rows_of};
 use std::alloc::{AllocError, Global};
 use values::{Row, copy_row, same_rows};
 
-/// Takes one copy of the row out, where there is one.
+/// Removes one copy of the row, if there is one.
 pub(crate) fn remove_one(rows: &mut Vec<Row>, row: &Row)
     ensures { rows_of rows.new.items ≡ bags.without row_cmp row.now.items (rows_of rows.old.items) }
 {
@@ -20,7 +20,7 @@ pub(crate) fn remove_one(rows: &mut Vec<Row>, row: &Row)
     }
 }
 
-/// The first bag without the second, cut at nought.
+/// Returns the first bag without the second: no row's count falls below zero.
 pub(crate) fn difference(mut rows: Vec<Row>, taken: &[Row]) -> Vec<Row>
     ensures { rows_of result.items
         ≡ bags.bag_minus row_cmp (rows_of rows.items) (rows_of taken.now) }
@@ -31,7 +31,7 @@ pub(crate) fn difference(mut rows: Vec<Row>, taken: &[Row]) -> Vec<Row>
     rows
 }
 
-/// The rows in order, with their repeats.
+/// Returns the rows in order, with their repeats.
 pub(crate) fn sort_rows(mut rows: Vec<Row>) -> Vec<Row>
     ensures { rows_of result.items ≡ bags.in_order row_cmp (rows_of rows.items) }
 {
@@ -39,7 +39,7 @@ pub(crate) fn sort_rows(mut rows: Vec<Row>) -> Vec<Row>
     rows
 }
 
-/// Whether the row is among the others, nulls being equal to each other.
+/// Returns whether the row is among the others, nulls being equal to each other.
 pub(crate) fn is_among(row: &Row, others: &[Row]) -> bool
     ensures { result ≡ list_any (bags.is_same row_cmp row.now.items) (rows_of others.now) }
 {
@@ -51,7 +51,7 @@ pub(crate) fn is_among(row: &Row, others: &[Row]) -> bool
     false
 }
 
-/// Each row once.
+/// Returns each row once.
 pub(crate) fn distinct(alloc: Global, rows: &[Row]) -> Result<Vec<Row>, AllocError>
     ensures { IfOk result (λ v. rows_of v.items ≡ bags.distinct row_cmp (rows_of rows.now)) }
 {

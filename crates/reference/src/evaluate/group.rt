@@ -1,5 +1,5 @@
-//! Groups and their aggregates: nulls are one group, aggregates skip them, and without Group By all
-//! is one group.
+//! Makes groups and their aggregates. Nulls are one group, aggregates skip them, and without Group
+//! By all combinations are one group.
 ghost use Rattle.std.specs.Prelude.{◌≡◌, ℕ, ◌+◌, ◌≤◌, ◌<◌, ◌^◌, IfOk, length, map, ◌+ℤ◌};
 ghost use Rattle.std.specs.List.{filter, reduce};
 ghost use Rattle.std.specs.Option.{option_map};
@@ -18,7 +18,7 @@ use crate::evaluate::condition::field;
 use std::alloc::{AllocError, Global};
 use values::{Column, ListItem, MAX_COLUMNS, Row, Value, same_rows, value_at};
 
-/// Whether the combination has the key.
+/// Returns whether the combination has the key.
 pub(crate) fn has_key(by: &[Column], key: &Row, rows: &[&Row]) -> bool
     requires { length by.now ≤ MAX_COLUMNS }
     ensures { result
@@ -27,7 +27,7 @@ pub(crate) fn has_key(by: &[Column], key: &Row, rows: &[&Row]) -> bool
     same_rows(key, &listed_row(by, rows))
 }
 
-/// The combinations of a group.
+/// Returns the combinations of a group.
 pub(crate) fn members<'a>(
     alloc: Global,
     by: &[Column],
@@ -49,8 +49,8 @@ pub(crate) fn members<'a>(
     Ok(chosen)
 }
 
-/// A running sum with one more value, exact in 128 bits; null is passed over, and before the first
-/// number there is none.
+/// Adds one value to a running sum, exact in 128 bits. Skips null; before the first number there is
+/// no sum.
 pub(crate) fn add(total: Option<i128>, value: Value) -> Option<i128>
     requires { IsWithin (2 ^ 126) total }
     ensures sum { result ≡ joined ◌+ℤ◌ total value }
@@ -65,7 +65,8 @@ pub(crate) fn add(total: Option<i128>, value: Value) -> Option<i128>
     }
 }
 
-/// What a sum shows: its nearest number of the answer range, and null where there was no number.
+/// Returns what a sum shows: its nearest number of the answer range, or null if there was no
+/// number.
 pub(crate) fn shown_sum(total: Option<i128>) -> Value
     ensures { result ≡ option_map clamp_answer total }
 {
@@ -75,7 +76,7 @@ pub(crate) fn shown_sum(total: Option<i128>) -> Value
     }
 }
 
-/// The sum of the numbers in the column, null where there is none.
+/// Returns the sum of the numbers in the column, or null if there are none.
 pub(crate) fn sum_of(column: Column, group: &[Vec<&Row>]) -> Value
     requires { length group.now < 2 ^ 63 }
     ensures { result
@@ -89,7 +90,7 @@ pub(crate) fn sum_of(column: Column, group: &[Vec<&Row>]) -> Value
     shown_sum(total)
 }
 
-/// The lesser of two values, passing over null.
+/// Returns the lesser of two values, skipping null.
 pub(crate) fn lesser(least: Value, value: Value) -> Value
     ensures { result ≡ joined int_min least value }
 {
@@ -100,7 +101,7 @@ pub(crate) fn lesser(least: Value, value: Value) -> Value
     }
 }
 
-/// The greater of two values, passing over null.
+/// Returns the greater of two values, skipping null.
 pub(crate) fn greater(greatest: Value, value: Value) -> Value
     ensures { result ≡ joined int_max greatest value }
 {
@@ -111,7 +112,7 @@ pub(crate) fn greater(greatest: Value, value: Value) -> Value
     }
 }
 
-/// The least number of the column, null where there is none.
+/// Returns the least number of the column, or null if there is none.
 pub(crate) fn min_of(column: Column, group: &[Vec<&Row>]) -> Value
     ensures { result ≡ reduce int_min (relations.numbers (column_of column) (tables_of group.now)) }
 {
@@ -122,7 +123,7 @@ pub(crate) fn min_of(column: Column, group: &[Vec<&Row>]) -> Value
     least
 }
 
-/// The greatest number of the column, null where there is none.
+/// Returns the greatest number of the column, or null if there is none.
 pub(crate) fn max_of(column: Column, group: &[Vec<&Row>]) -> Value
     ensures { result ≡ reduce int_max (relations.numbers (column_of column) (tables_of group.now)) }
 {
@@ -133,7 +134,7 @@ pub(crate) fn max_of(column: Column, group: &[Vec<&Row>]) -> Value
     greatest
 }
 
-/// How many numbers the column has.
+/// Counts the numbers in the column.
 pub(crate) fn count_of(column: Column, group: &[Vec<&Row>]) -> usize
     ensures value { result ≡ length (relations.numbers (column_of column) (tables_of group.now)) }
     ensures bound { result ≤ length group.now }
@@ -147,7 +148,7 @@ pub(crate) fn count_of(column: Column, group: &[Vec<&Row>]) -> usize
     count
 }
 
-/// The value of an item of the list for a group.
+/// Returns the value of an item of the list for a group.
 pub(crate) fn item_value(item: ListItem, key: &Row, group: &[Vec<&Row>]) -> Value
     requires { length group.now < 2 ^ 63 }
     ensures { result ≡ relations.item_value key.now.items (tables_of group.now) (item_of item) }
@@ -162,7 +163,7 @@ pub(crate) fn item_value(item: ListItem, key: &Row, group: &[Vec<&Row>]) -> Valu
     }
 }
 
-/// The row of the list for a group.
+/// Returns the row of the list for a group.
 pub(crate) fn group_row(items: &[ListItem], key: &Row, group: &[Vec<&Row>]) -> Row
     requires few { length items.now ≤ MAX_COLUMNS }
     requires fits { length group.now < 2 ^ 63 }
@@ -176,7 +177,7 @@ pub(crate) fn group_row(items: &[ListItem], key: &Row, group: &[Vec<&Row>]) -> R
     row
 }
 
-/// One key for each group: without Group By the one key of no values, also where there is no
+/// Returns one key for each group. Without Group By it is the key of no values, even if there is no
 /// combination.
 pub(crate) fn keys_of(
     alloc: Global,
@@ -197,7 +198,7 @@ pub(crate) fn keys_of(
     }
 }
 
-/// The row of the list for the group of each key.
+/// Returns the row of the list for the group of each key.
 pub(crate) fn group_rows(
     alloc: Global,
     by: &[Column],
@@ -220,7 +221,7 @@ pub(crate) fn group_rows(
     Ok(rows)
 }
 
-/// The rows of a grouped query.
+/// Returns the rows of a grouped query.
 pub(crate) fn grouped(
     alloc: Global,
     by: &[Column],

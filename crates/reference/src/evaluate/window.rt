@@ -1,4 +1,4 @@
-//! What a window shows of its input at an instant.
+//! Decides what a window shows of its input at an instant.
 ghost use Rattle.std.specs.Prelude.{◌≡◌, ◌<◌, IfOk, length, get_or, count_by, ◌&&◌, nat_le};
 ghost use Rattle.values.specs.Window as windows;
 ghost use Rattle.values.specs.Resolved.{window_of, CanSlide};
@@ -7,7 +7,7 @@ ghost use Rattle.reference.specs.Views.{elements_of, element_at, lent_of};
 use std::alloc::{AllocError, Global};
 use values::{Row, Window, value_at};
 
-/// Whether the element at `j` came later than the one at `i`: by instant, then by arrival.
+/// Returns whether the element at `j` came later than the one at `i`: by instant, then by arrival.
 pub(crate) fn is_later(input: &[(u64, Row)], i: usize, j: usize) -> bool
     requires i_in { i < length input.now }
     requires j_in { j < length input.now }
@@ -16,15 +16,15 @@ pub(crate) fn is_later(input: &[(u64, Row)], i: usize, j: usize) -> bool
     input[i].0 < input[j].0 || (input[i].0 == input[j].0 && i < j)
 }
 
-/// Whether the rows are equal in the columns, nulls being equal to each other.
+/// Returns whether the rows are equal in the columns, nulls being equal to each other.
 pub(crate) fn same_partition(columns: &[usize], a: &Row, b: &Row) -> bool
     ensures { result ≡ windows.same_in columns.now a.now.items b.now.items }
 {
     columns.iter().all(|column| value_at(a, *column).cmp(&value_at(b, *column)).is_eq())
 }
 
-/// Whether the element at `j`, not above `at` and in the partition of the element at `i`, came
-/// later than that.
+/// Returns whether the element at `j` came later than the one at `i`, is in its partition, and is
+/// not above the instant `at`.
 pub(crate) fn counts(columns: &[usize], at: u64, input: &[(u64, Row)], i: usize, j: usize) -> bool
     requires i_in { i < length input.now }
     requires j_in { j < length input.now }
@@ -34,7 +34,8 @@ pub(crate) fn counts(columns: &[usize], at: u64, input: &[(u64, Row)], i: usize,
     input[j].0 <= at && is_later(input, i, j) && same_partition(columns, &input[i].1, &input[j].1)
 }
 
-/// How many elements up to `at` of the partition of the element at `i` came later.
+/// Counts the elements up to the instant `at` that are in the partition of the element at `i` and
+/// came later.
 pub(crate) fn count_later(columns: &[usize], at: u64, input: &[(u64, Row)], i: usize) -> usize
     requires { i < length input.now }
     ensures { result
@@ -49,7 +50,7 @@ pub(crate) fn count_later(columns: &[usize], at: u64, input: &[(u64, Row)], i: u
     count
 }
 
-/// Whether the window shows the element at `i` at the instant.
+/// Returns whether the window shows the element at `i` at the instant.
 pub(crate) fn shows(from: u64, window: &Window, at: u64, input: &[(u64, Row)], i: usize) -> bool
     requires i_in { i < length input.now }
     requires slides { CanSlide window.now }
@@ -71,7 +72,7 @@ pub(crate) fn shows(from: u64, window: &Window, at: u64, input: &[(u64, Row)], i
     }
 }
 
-/// The rows that the window shows at the instant, by arrival. They are lent.
+/// Returns the rows that the window shows at the instant, in the order of arrival. They are lent.
 pub(crate) fn window_rows<'a>(
     alloc: Global,
     from: u64,

@@ -1,4 +1,4 @@
-//! What the plain engine answers.
+//! Implements the calls of an engine for the plain engine.
 ghost use Rattle.std.specs.Prelude.{⊤};
 ghost use Rattle.reference.specs.World.{Does, drain_step};
 ghost use Rattle.reference.specs.PlainViews.{world_of};
@@ -83,7 +83,7 @@ impl Answering for Plain {
         Ok(())
     }
 
-    /// Keeps everything, since any answer may be evaluated anew.
+    /// Keeps everything, since any answer may be evaluated again.
     fn forget(&mut self) -> Result<(), Fault> {
         Ok(())
     }

@@ -1,4 +1,4 @@
-//! What the declared streams are called, and their columns.
+//! Lists the names of the declared streams and of their columns.
 ghost use Rattle.std.specs.Prelude.{◌≡◌, ◌≤◌, ◌++◌, ◌∷◌, [], IfOk, length};
 ghost use Rattle.std.specs.List.{AllByRecursion};
 ghost use Rattle.reference.specs.Commands.{catalog_of};
@@ -7,7 +7,7 @@ use crate::stream::Stream;
 use names::Catalog;
 use std::alloc::{AllocError, Global};
 
-/// The names of the streams.
+/// Returns the names of the streams and of their columns.
 fn catalog_of(alloc: Global, streams: &[Stream]) -> Result<Catalog, AllocError>
     ensures catalog { IfOk result (λ c. c ≡ catalog_of streams.now) }
     ensures few { IfOk result (λ c. AllByRecursion (λ s. length s.columns ≤ 8) c) }
@@ -19,7 +19,7 @@ fn catalog_of(alloc: Global, streams: &[Stream]) -> Result<Catalog, AllocError>
     Ok(catalog)
 }
 
-/// The names of the streams and of one more.
+/// Returns the names of the streams and of one more.
 pub(crate) fn catalog_with(
     alloc: Global,
     streams: &[Stream],

@@ -1,4 +1,4 @@
-//! What an accepted call changes.
+//! Makes the changes of an accepted call.
 ghost use Rattle.std.specs.List.{list_all};
 ghost use Rattle.std.specs.Prelude.{◌≡◌, IfOk, OnOk, OnErr, None, length, min, true, [], ◌∷◌, ◌++◌};
 ghost use Rattle.std.specs.Prelude.{nat_abs, drop, take, map};
@@ -24,7 +24,10 @@ use plan::Plan;
 use std::alloc::{AllocError, Global};
 use values::Row;
 
-/// The names of these texts.
+/// Returns the texts as names.
+///
+/// # Errors
+/// `AllocError` when out of memory.
 pub fn names_of(alloc: Global, texts: &[String]) -> Result<Vec<Name>, AllocError>
     requires { list_all is_name (texts_of texts.now) ≡ true }
     ensures names { IfOk result (λ v. names_of v.items ≡ texts_of texts.now) }
@@ -38,7 +41,10 @@ pub fn names_of(alloc: Global, texts: &[String]) -> Result<Vec<Name>, AllocError
 }
 
 impl Plain {
-    /// Adds a stream and answers its number. On Err all is as it was.
+    /// Adds a stream and returns its number.
+    ///
+    /// # Errors
+    /// `AllocError` when out of memory; then nothing has changed.
     pub(crate) fn declare(
         &mut self,
         name: &str,
@@ -57,7 +63,7 @@ impl Plain {
     {
         let columns = names_of(self.alloc, columns)?;
         let stream = Stream::new(self.alloc, Name::new(name.as_bytes()), columns, from as u64);
-        // all growth comes first, so the catalog is made anew; there are at most 64 streams
+        // all growth comes first, so the catalog is made again; there are at most 64 streams
         let catalog = catalog_with(self.alloc, &self.streams, &stream)?;
         self.streams.reserve(1)?;
         self.stream_names.push(name)?;
@@ -67,7 +73,10 @@ impl Plain {
         Ok(number)
     }
 
-    /// Adds a query and answers its number. On Err all is as it was.
+    /// Adds a query and returns its number.
+    ///
+    /// # Errors
+    /// `AllocError` when out of memory; then nothing has changed.
     pub(crate) fn register(&mut self, name: &str, plan: Plan) -> Result<u64, AllocError>
         requires fresh { first_of (register_tests (machine_in self.old) name.now) ≡ None }
         requires fits { has_narrow_rows plan.meaning.shape ≡ true }
@@ -94,7 +103,10 @@ impl Plain {
         Ok(number)
     }
 
-    /// Appends the rows. On Err all is as it was.
+    /// Appends the rows.
+    ///
+    /// # Errors
+    /// `AllocError` when out of memory; then nothing has changed.
     pub(crate) fn append_rows(&mut self, stream: u64, rows: &NewRows) -> Result<(), AllocError>
         requires { first_fault (machine_in self.old) (Append stream rows.now) ≡ None }
         ensures ok { OnOk result (world_of self.new
@@ -119,7 +131,10 @@ impl Plain {
         self.streams[stream as usize].close(at);
     }
 
-    /// Hands out the first answers that wait. On Err all is as it was.
+    /// Returns the first answers that wait, at most `limit`, which no longer wait.
+    ///
+    /// # Errors
+    /// `AllocError` when out of memory; then nothing has changed.
     pub(crate) fn hand_out(&mut self, query: u64, limit: i64) -> Result<Vec<(i64, Row)>, AllocError>
         requires { first_fault (machine_in self.old) (Take query limit) ≡ None }
         ensures rows { IfOk result (λ v. handed_of v.items
@@ -137,7 +152,10 @@ impl Plain {
         self.queries[query as usize].take(self.alloc, limit as usize)
     }
 
-    /// Makes the untaken answers of each query wait. On Err all is as it was.
+    /// Makes the untaken answers of each query wait.
+    ///
+    /// # Errors
+    /// `AllocError` when out of memory; then nothing has changed.
     pub(crate) fn evaluate_all(&mut self) -> Result<(), AllocError>
         ensures ok { OnOk result (world_of self.new
             ≡ record (world_of self.old) {
@@ -188,7 +206,7 @@ fn refresh_each(queries: &mut [StandingQuery], alloc: Global)
     }
 }
 
-/// Gives up the fresh answers of each query. Takes no memory.
+/// Drops the fresh answers of each query. Takes no memory.
 fn forget_each(queries: &mut [StandingQuery], alloc: Global)
     ensures queries { map query_of queries.new ≡ map query_of queries.old }
     ensures waiting { map waiting_of queries.new ≡ map waiting_of queries.old }
@@ -198,7 +216,10 @@ fn forget_each(queries: &mut [StandingQuery], alloc: Global)
     }
 }
 
-/// Makes the untaken answers of each query wait. On Err the same answers wait as before.
+/// Makes the untaken answers of each query wait.
+///
+/// # Errors
+/// `AllocError` when out of memory; then the same answers wait as before.
 fn refresh_all(
     queries: &mut [StandingQuery],
     alloc: Global,

@@ -1,4 +1,4 @@
-//! The plain engine before any call.
+//! Makes the plain engine before any call.
 ghost use Rattle.std.specs.Prelude.{◌≡◌, IfOk, IsOk};
 ghost use Rattle.reference.specs.World as world;
 ghost use Rattle.reference.specs.PlainViews.{world_of};
@@ -10,7 +10,7 @@ use names::Catalog;
 use std::alloc::Global;
 
 impl Plain {
-    /// An engine with no stream and no query. Takes no memory.
+    /// Returns an engine with no stream and no query. Takes no memory, and never fails.
     pub fn new(alloc: Global) -> Result<Plain, Fault>
         ensures empty { IfOk result (λ p. world_of p ≡ world.empty) }
         ensures succeeds { IsOk result }

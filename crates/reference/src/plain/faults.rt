@@ -1,4 +1,4 @@
-//! The first test that a call fails.
+//! Finds the first test that a call fails.
 ghost use Rattle.std.specs.Prelude.{◌≡◌, ◌∷◌, [], IfSome, MatchOption, None, Some, map, slice_get};
 ghost use Rattle.std.specs.List.{list_any};
 ghost use Rattle.reference.specs.Commands as commands;
@@ -21,21 +21,21 @@ use crate::standing::StandingQuery;
 use crate::stream::Stream;
 
 impl Plain {
-    /// The number of the stream of a name.
+    /// Returns the number of the stream of this name.
     pub(crate) fn stream_number(&self, name: &str) -> Option<u64>
         ensures { result ≡ stream_named (machine_in self.now) name.now }
     {
         stream_place(&self.stream_names, name)
     }
 
-    /// The number of the query of a name that was not dropped.
+    /// Returns the number of the undropped query of this name.
     pub(crate) fn query_number(&self, name: &str) -> Option<u64>
         ensures { result ≡ query_named (machine_in self.now) name.now }
     {
         query_place(&self.query_names, name)
     }
 
-    /// How many queries were not dropped.
+    /// Counts the undropped queries.
     fn undropped(&self) -> usize
         ensures { result ≡ commands.count_undropped (machine_in self.now) }
     {
@@ -51,7 +51,7 @@ impl Plain {
         declare_fault(name, columns, from, is_taken, self.streams.len())
     }
 
-    /// The first test before that of the text.
+    /// Returns the first fault that is tested before the text.
     pub(crate) fn register_fault(&self, name: &str) -> Option<Fault>
         ensures first { result ≡ first_of (register_tests (machine_in self.now) name.now) }
         ensures told { IfSome result IsTold }
@@ -97,7 +97,7 @@ impl Plain {
         take_fault(limit)
     }
 
-    /// The query of a number, if it was not dropped.
+    /// Returns the query of a number, if it was not dropped.
     pub(crate) fn query_at(&self, number: u64) -> Option<&StandingQuery>
         ensures { MatchOption result (query_at (machine_in self.now) number ≡ None)
             (λ q. query_at (machine_in self.now) number ≡ Some (query_of q.now)) }
@@ -119,7 +119,7 @@ impl Plain {
     }
 }
 
-/// The first test that fails of rows for the stream of a number, beside these queries.
+/// Returns the first fault of rows for the stream of a number, if these are the queries.
 fn rows_fault(
     queries: &[StandingQuery],
     number: u64,
@@ -136,7 +136,7 @@ fn rows_fault(
     }
 }
 
-/// The fault of rows that crowd a query.
+/// Returns the fault of rows that crowd a query.
 fn crowd_fault(is_crowded: bool) -> Option<Fault>
     ensures first { result ≡ first_of ((is_crowded, StreamFull) ∷ []) }
     ensures told { IfSome result IsTold }
@@ -147,8 +147,8 @@ fn crowd_fault(is_crowded: bool) -> Option<Fault>
     None
 }
 
-/// Whether more rows of the stream of a number would have come than may count for one of the
-/// queries, if so many came in all.
+/// Returns whether one of the queries is crowded if `arrivals` rows came to the stream of a number
+/// in all. Then more came since its registration than may count for it.
 fn is_crowded(queries: &[StandingQuery], stream: u64, arrivals: u64) -> bool
     ensures { result ≡ list_any (commands.is_crowded stream arrivals) (map query_of queries.now) }
 {

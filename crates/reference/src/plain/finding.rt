@@ -1,4 +1,4 @@
-//! What the text of a query means to the plain engine.
+//! Finds what the text of a query means to the plain engine.
 ghost use Rattle.std.specs.Prelude.{◌≡◌, IfOk, length, true};
 ghost use Rattle.std.specs.Option.{option_copied};
 ghost use Rattle.names.specs.Sound.{has_narrow_rows, all_slide};
@@ -13,7 +13,7 @@ use crate::plain::Plain;
 use plan::{Chart, Plan};
 
 impl Plain {
-    /// The plan of the text over the declared streams.
+    /// Returns the plan of the text over the declared streams.
     pub(crate) fn find(&self, text: &str, chart: Option<&Chart>) -> Result<Plan, Fault>
         ensures finds { Finds
             (found (machine_in self.now) text.now (given_by (option_copied chart.entry))) result }

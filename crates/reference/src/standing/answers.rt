@@ -1,4 +1,4 @@
-//! The answers of a registered query.
+//! Finds the answers of a registered query.
 ghost use Rattle.std.specs.Prelude.{◌≡◌, ◌<◌, ◌+◌, ◌^◌, IfOk, OnOk, drop, true};
 ghost use Rattle.reference.specs.Inputs.{are_signed};
 ghost use Rattle.std.specs.VecDeque.{deque_len};
@@ -18,7 +18,7 @@ use std::mem::replace;
 use values::Row;
 
 impl StandingQuery {
-    /// All its answers for the instants that are closed.
+    /// Returns all its answers for the instants that are closed.
     fn closed_answers(
         &self,
         alloc: Global,
@@ -33,7 +33,7 @@ impl StandingQuery {
         evaluate(alloc, &self.plan.meaning, self.first, until, &inputs)
     }
 
-    /// Its answers that are closed and not yet taken.
+    /// Returns its closed answers that were not yet taken.
     pub(crate) fn untaken(
         &self,
         alloc: Global,
@@ -70,7 +70,7 @@ impl StandingQuery {
         self.waiting = replace(&mut self.fresh, VecDeque::new(alloc));
     }
 
-    /// Gives up the fresh answers. Takes no memory.
+    /// Drops the fresh answers. Takes no memory.
     pub(crate) fn forget_fresh(&mut self, alloc: Global)
         ensures query { query_of self.new ≡ query_of self.old }
         ensures waiting { waiting_of self.new ≡ waiting_of self.old }
@@ -79,7 +79,7 @@ impl StandingQuery {
     }
 }
 
-/// The answers without the first `count`.
+/// Returns the answers without the first `count`.
 fn without_front(answers: Vec<(u64, Row)>, count: u64) -> VecDeque<(u64, Row)>
     requires { are_signed (pairs_of answers.items) ≡ true }
     ensures items { pairs_of result.items ≡ drop count (pairs_of answers.items) }

@@ -1,4 +1,4 @@
-//! What is done with a registered query.
+//! Makes and changes a registered query.
 ghost use Rattle.std.specs.Prelude.{◌≡◌, ◌≤◌, ◌<◌, ◌+◌, ◌^◌, ◌++◌, [], IfOk, OnOk, OnErr, length};
 ghost use Rattle.std.specs.Prelude.{min, take, drop, vec_len, vec_capacity, string_bytes, true};
 ghost use Rattle.reference.specs.Inputs.{are_signed};
@@ -22,7 +22,7 @@ use std::collections::VecDeque;
 use values::Row;
 
 impl StandingQuery {
-    /// A query that is registered now.
+    /// Returns a query at its registration.
     pub(crate) fn new(
         alloc: Global,
         streams: &[Stream],
@@ -51,22 +51,23 @@ impl StandingQuery {
         })
     }
 
-    /// Its name.
+    /// Returns its name.
     pub(crate) fn name(&self) -> &str
         ensures { result.now ≡ (query_of self.now).name }
     {
         self.name.as_str()
     }
 
-    /// Whether it was dropped.
+    /// Returns whether it was dropped.
     pub(crate) fn is_dropped(&self) -> bool
         ensures { result ≡ (query_of self.now).is_dropped }
     {
         self.is_dropped
     }
 
-    /// Whether more rows of the stream of a number would have come since its registration than may
-    /// count for it, if so many came in all. Of queries of one or two sources none would.
+    /// Returns whether it is crowded if `arrivals` rows came to the stream of a number in all. Then
+    /// more came since its registration than may count for it. A query of one or two sources is
+    /// never crowded.
     pub(crate) fn is_crowded(&self, stream: u64, arrivals: u64) -> bool
         ensures { result ≡ is_crowded stream arrivals (query_of self.now) }
     {
@@ -81,7 +82,10 @@ impl StandingQuery {
         )
     }
 
-    /// Hands out the first answers that wait, at most `limit`. On Err it is as it was.
+    /// Returns the first answers that wait, at most `limit`, which no longer wait.
+    ///
+    /// # Errors
+    /// `AllocError` when out of memory; then nothing has changed.
     pub(crate) fn take(
         &mut self,
         alloc: Global,
@@ -114,7 +118,7 @@ impl StandingQuery {
     }
 }
 
-/// Moves the first `count` answers behind the rows, which have room for them.
+/// Moves the first `count` answers to the end of the rows, which have room for them.
 pub fn move_front(waiting: &mut VecDeque<(u64, Row)>, rows: &mut Vec<(i64, Row)>, count: usize)
     requires enough { count ≤ deque_len waiting.old }
     requires room { vec_len rows.old + count ≤ vec_capacity rows.old }

@@ -1,4 +1,4 @@
-//! The operators of a registered query.
+//! Reads the operators of a registered query.
 ghost use Rattle.std.specs.Prelude.{◌≡◌, IfOk, map};
 ghost use Rattle.std.specs.List.{zip};
 ghost use Rattle.plan.specs.Kinds.{kind_of};
@@ -12,7 +12,7 @@ use plan::{Kind, Node, slopes};
 use std::alloc::{AllocError, Global};
 
 impl StandingQuery {
-    /// What each of its operators does, and its slope.
+    /// Returns what each of its operators does, and its slope.
     #[tactic(auto, unfolding(crate::specs::World::operators_of))]
     pub(crate) fn operators(&self, alloc: Global) -> Result<Vec<(Kind, Slope)>, AllocError>
         ensures { IfOk result (λ v. v.items ≡ operators_of (query_of self.now)) }
@@ -22,7 +22,10 @@ impl StandingQuery {
     }
 }
 
-/// What each operator does, beside its slope.
+/// Returns what each operator does, with its slope.
+///
+/// # Errors
+/// `AllocError` when out of memory.
 pub fn paired(
     alloc: Global,
     nodes: &[Node],

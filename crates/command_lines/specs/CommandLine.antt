@@ -15,8 +15,11 @@ plain = record (new_rule (codes "plain")) { long = Some (codes "plain"); action 
 
 -- an option `--NAME VALUE` whose value is what the parser takes
 abbrev pub option : List ℕ → ValueParser → Rule
-option name parser = record (new_rule name) { long = Some name; value_names = 1;
-    parser = Some parser }
+option name parser = record (new_rule name) {
+  long = Some name;
+  value_names = 1;
+  parser = Some parser;
+}
 
 -- an argument of this rule, name and parser, which excludes nothing
 pub record IsNumberArg (rule : Rule) (name : List ℕ) (parser : ValueParser) (a : Arg) : Type 0 where

@@ -1,15 +1,16 @@
-//! Why the words of a command line are refused.
+//! Says why the words of a command line are refused.
 
 use clap::Error;
 use std::alloc::AllocError;
 
-/// Why the words of `cqlrun` ask for no run.
+/// Says why the words of `cqlrun` ask for no run.
 #[derive(Debug, Drop)]
 pub enum WordsFault {
-    /// A request for help or for the version, a wrong command line, or out of memory: `kind` tells
-    /// which, and what is printed is clap's text.
+    /// Holds clap's error: a request for help or for the version, a wrong command line, or out of
+    /// memory. Its `kind` says which, and what is printed is clap's text.
     Words(Error),
-    /// The plain engine is asked for, and threads to run its turns, which it has not.
+    /// Says that the words ask for the plain engine, and also for threads to run its turns. It has
+    /// none.
     PlainWithWorkers,
 }
 

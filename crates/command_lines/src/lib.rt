@@ -1,4 +1,4 @@
-//! The command lines of the programs.
+//! Reads the command lines of the programs.
 #![tactic(auto)]
 
 mod fault;

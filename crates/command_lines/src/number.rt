@@ -1,11 +1,11 @@
-//! Options that take a number.
+//! Makes options that take a number.
 ghost use Rattle.command_lines.specs.CommandLine.{IsNumberArg, option, wanted};
 
 use clap::Arg;
 use clap::builder::ValueParser;
 use std::alloc::Global;
 
-/// The option `--NAME VALUE`, whose value is what the parser takes.
+/// Makes the option `--NAME VALUE`, whose value is what the parser takes.
 pub(crate) fn number<'a>(
     alloc: Global,
     name: &'a str,
@@ -22,7 +22,7 @@ pub(crate) fn number<'a>(
         .help(help)
 }
 
-/// The same option, which has to be there.
+/// Makes the same option as one that is required.
 pub(crate) fn wanted_number<'a>(
     alloc: Global,
     name: &'a str,

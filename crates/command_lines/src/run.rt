@@ -1,4 +1,4 @@
-//! The command line of `cqlrun`.
+//! Reads the command line of `cqlrun`.
 ghost use Rattle.std.specs.Prelude.{◌≡◌, ◌≤◌, ◌↔◌, [], IfOk, IfErr, IfSome, IsTrue, codes, map};
 ghost use Rattle.std.specs.Prelude.{MatchResult, option_map};
 ghost use Rattle.command_lines.specs.CommandLine.{AsksBoth, IsPlain, number_in, number_or};
@@ -12,27 +12,27 @@ use clap::{Arg, ArgAction, Command, value_parser};
 use std::alloc::Global;
 use std::convert::AsStr;
 
-/// The most rows of a drain's turns, where the command line does not say.
+/// Limits the rows of a drain's turns, if the command line does not say.
 const TURN: u32 = 256;
 
-/// What the words of `cqlrun` ask for.
+/// Holds what the words of `cqlrun` ask for.
 #[derive(Clone, Copy, Debug, PartialEq, Eq)]
 pub struct RunOptions {
-    /// Whether the plain engine is to run.
+    /// Says whether the plain engine is to run.
     pub is_plain: bool,
-    /// The most rows of a drain's turns, 1 to 1,024.
+    /// Limits the rows of a drain's turns, 1 to 1,024.
     pub turn: u32,
-    /// How many threads are to run a drain's turns, 1 to 64; none but the caller's where that is
-    /// not said.
+    /// Counts the threads that are to run a drain's turns, 1 to 64. If the words do not say, only
+    /// the caller's thread runs them.
     pub workers: Option<u32>,
 }
 
 /// Reads the words of `cqlrun`. The first of them is the program's own name.
 ///
 /// # Errors
-/// `Words` is a request for help or for the version, a wrong command line, or out of memory. A turn
-/// or workers that are no number, or out of range, are a wrong command line. `PlainWithWorkers` if
-/// the words ask for both.
+/// `Words` for a request for help or for the version, a wrong command line, or out of memory. A
+/// turn or workers that are no number, or out of range, are a wrong command line.
+/// `PlainWithWorkers` if the words ask for both.
 pub fn run_options<'a, S: AsStr>(alloc: Global, words: &'a [S]) -> Result<RunOptions, WordsFault>
     ensures asked { IfOk result (λ o. (refusals (map S.text words.entry.now) ≡ [])
         × (¬ AsksBoth (map S.text words.entry.now))) }
@@ -81,7 +81,7 @@ pub fn run_options<'a, S: AsStr>(alloc: Global, words: &'a [S]) -> Result<RunOpt
     }
 }
 
-// The options, unless they ask for the plain engine and for threads.
+// Returns the options, unless they ask for the plain engine and for threads.
 fn refuse_both(options: RunOptions) -> Result<RunOptions, WordsFault>
     ensures { MatchResult result (λ o. (o ≡ options) × (¬ ChoosesBoth options))
         (λ fault. (fault ≡ WordsFault.PlainWithWorkers) × ChoosesBoth options) }

@@ -1,4 +1,4 @@
-//! The command line of `cqld`.
+//! Reads the command line of `cqld`.
 ghost use Rattle.std.specs.Prelude.{◌≡◌, ◌≤◌, IfOk, IfSome, codes, map, option_map};
 ghost use Rattle.clap.specs.Words.{FailsBy};
 ghost use Rattle.command_lines.specs.CommandLine.{IsNumberArg, between, number_in, number_or};
@@ -10,28 +10,29 @@ use clap::{Arg, Command, Error, value_parser};
 use std::alloc::Global;
 use std::convert::AsStr;
 
-/// What the words of `cqld` ask for.
+/// Holds what the words of `cqld` ask for.
 #[derive(Clone, Copy, Debug, PartialEq, Eq)]
 pub struct ServeOptions {
-    /// The port to listen on, at most 65,535; 0 where the system is to choose one.
+    /// Names the port to listen on, at most 65,535; at 0 the system chooses one.
     pub port: u32,
-    /// How many threads run turns, 1 to 64.
+    /// Counts the threads that run turns, 1 to 64.
     pub workers: u32,
-    /// How many threads answer connections, 1 to 64, each with a seat.
+    /// Counts the threads that answer connections, 1 to 64, each with a seat.
     pub clients: u32,
-    /// After how many connections it ends, at most 1,000,000; never where that is not said.
+    /// Says after how many connections it ends, at most 1,000,000. If the words do not say, it
+    /// never ends.
     pub serve: Option<u32>,
-    /// After how many seconds a silent connection is closed, 1 to 86,400; never where that is not
-    /// said.
+    /// Says after how many seconds a silent connection is closed, 1 to 86,400. If the words do not
+    /// say, it never is.
     pub idle: Option<u32>,
 }
 
 /// Reads the words of `cqld`. The first of them is the program's own name. Port, workers and
-/// clients have to be there.
+/// clients are required.
 ///
 /// # Errors
-/// A request for help or for the version, a wrong command line, or out of memory: `kind` tells
-/// which, and what is printed is clap's text.
+/// Clap's error for a request for help or for the version, a wrong command line, or out of memory.
+/// Its `kind` says which, and what is printed is clap's text.
 pub fn serve_options<'a, S: AsStr>(alloc: Global, words: &'a [S]) -> Result<ServeOptions, Error>
     ensures refusals { FailsBy (serve_refusals (map S.text words.entry.now)) result }
     ensures port { IfOk result (λ o.
@@ -80,7 +81,7 @@ pub fn serve_options<'a, S: AsStr>(alloc: Global, words: &'a [S]) -> Result<Serv
     }
 }
 
-// The option `--port P`.
+// Makes the option `--port P`.
 fn port<'a>(alloc: Global) -> Arg<'a>
     ensures { IsNumberArg (wanted (option (codes "port") (between 0 65535))) (codes "port")
         (between 0 65535) result }
@@ -94,14 +95,14 @@ fn port<'a>(alloc: Global) -> Arg<'a>
     )
 }
 
-// An option of this name that takes a number of threads.
+// Makes an option of this name that takes a number of threads.
 fn threads<'a>(alloc: Global, name: &'a str, value: &'a str, help: &'a str) -> Arg<'a>
     ensures { IsNumberArg (wanted (option name.now (between 1 64))) name.now (between 1 64) result }
 {
     wanted_number(alloc, name, value, value_parser!(u32).range(1..=64), help)
 }
 
-// The option `--serve K`.
+// Makes the option `--serve K`.
 fn connections<'a>(alloc: Global) -> Arg<'a>
     ensures { IsNumberArg (option (codes "serve") (between 0 1000000)) (codes "serve")
         (between 0 1000000) result }
@@ -115,7 +116,7 @@ fn connections<'a>(alloc: Global) -> Arg<'a>
     )
 }
 
-// The option `--idle S`.
+// Makes the option `--idle S`.
 fn idle<'a>(alloc: Global) -> Arg<'a>
     ensures { IsNumberArg (option (codes "idle") (between 1 86400)) (codes "idle")
         (between 1 86400) result }

@@ -1,4 +1,4 @@
-//! The version of the programs.
+//! Names the version of the programs.
 
-/// What `--version` prints after a program's name.
+/// Holds what `--version` prints after a program's name.
 pub const VERSION: &str = "0.9.0";

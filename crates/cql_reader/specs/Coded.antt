@@ -27,8 +27,12 @@ abbrev pub standing_of : List CodedCondition → List Condition
 standing_of conditions = reverse (map condition_of conditions)
 
 abbrev pub terms_of : CodedTerms → Terms
-terms_of t = record { left = operand_of t.left; right = operand_of t.right; how = t.how;
-    standing = standing_of t.standing.items }
+terms_of t = record {
+  left = operand_of t.left;
+  right = operand_of t.right;
+  how = t.how;
+  standing = standing_of t.standing.items;
+}
 
 abbrev pub draft_of : CodedDraft → Draft
 draft_of d = record {

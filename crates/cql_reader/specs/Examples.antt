@@ -20,8 +20,14 @@ use Rattle.cql_reader.specs.Reading.{reading}
 -- a query of `*`
 abbrev all : StreamOperator → List Source → Option Condition → Query
 all operator sources condition =
-    record { operator = operator; is_distinct = false; entries = All; sources = sources;
-        condition = condition; group = [] }
+    record {
+      operator = operator;
+      is_distinct = false;
+      entries = All;
+      sources = sources;
+      condition = condition;
+      group = [];
+    }
 
 -- a source of the stream S
 abbrev from_S : Window → Option (List ℕ) → Source
@@ -94,13 +100,14 @@ partitioned_by = refl
 
 a_list : reading (codes "Select Istream(Distinct k As j, Count(*), Sum(S.v)) From S Group By k, v")
     ≡ Ok (record {
-  operator = Istream;
-  is_distinct = true;
-  entries = Each (Column (named (codes "k")) ∷ CountAll ∷ Sum (of (codes "S") (codes "v")) ∷ []);
-  sources = from_S Unbounded None ∷ [];
-  condition = None;
-  group = named (codes "k") ∷ named (codes "v") ∷ [];
-})
+      operator = Istream;
+      is_distinct = true;
+      entries = Each (Column (named (codes "k")) ∷ CountAll
+          ∷ Sum (of (codes "S") (codes "v")) ∷ []);
+      sources = from_S Unbounded None ∷ [];
+      condition = None;
+      group = named (codes "k") ∷ named (codes "v") ∷ [];
+    })
 unfolding reading all_ascii parsed scan token_at word_kind kind_in reserved same_letters same_bytes
     run count chosen pick firsts ends has first nullable alternatives kind_of in_range deepens took
     did decimal number_of

@@ -206,8 +206,12 @@ sided operand t = record { left = t.right; right = operand; how = t.how; standin
 
 -- the last two operands stand compared
 abbrev pub compared : Terms → Terms
-compared t = record { left = t.left; right = t.right; how = t.how;
-    standing = Compared t.left t.how t.right ∷ t.standing }
+compared t = record {
+  left = t.left;
+  right = t.right;
+  how = t.how;
+  standing = Compared t.left t.how t.right ∷ t.standing;
+}
 
 abbrev pub negated : List Condition → List Condition
 negated [] = []
@@ -228,8 +232,10 @@ standing_by f t = record { left = t.left; right = t.right; how = t.how; standing
 
 -- the columns are those of the source's window
 abbrev pub parted : ℕ → Draft → Draft
-parted rows d = record d { source = windowed (partitioned d.columns rows d.source.window) d.source;
-    columns = [] }
+parted rows d = record d {
+  source = windowed (partitioned d.columns rows d.source.window) d.source;
+  columns = [];
+}
 
 -- the source's window slides
 abbrev pub slid : ℕ → Draft → Draft
@@ -241,12 +247,15 @@ took (r.Fixed kind) bytes d = d
 took (r.Operator operator) bytes d = record d { operator = operator_of operator }
 took r.Distinct bytes d = record d { is_distinct = true }
 took r.Column bytes d = record d { reference = record { qualifier = None; name = bytes } }
-took r.Qualified bytes d = record d { reference =
-    record { qualifier = Some d.reference.name; name = bytes } }
-took r.Stream bytes d = record d { source =
-    record { stream = bytes; window = Unbounded; alias = None } }
-took r.Alias bytes d = record d { source =
-    record { stream = d.source.stream; window = d.source.window; alias = Some bytes } }
+took r.Qualified bytes d = record d {
+  reference = record { qualifier = Some d.reference.name; name = bytes };
+}
+took r.Stream bytes d = record d {
+  source = record { stream = bytes; window = Unbounded; alias = None };
+}
+took r.Alias bytes d = record d {
+  source = record { stream = d.source.stream; window = d.source.window; alias = Some bytes };
+}
 took r.Now bytes d = record d { source = windowed Now d.source }
 took r.Range bytes d = record d { source = windowed (Range (nat_abs (number_of bytes))) d.source }
 took r.Slide bytes d = slid (nat_abs (number_of bytes)) d
@@ -255,8 +264,14 @@ took r.Rows bytes d = record d { source = windowed (Rows (nat_abs (number_of byt
 took r.Partition bytes d = parted (nat_abs (number_of bytes)) d
 took r.Number bytes d = record d { terms = sided (Number (number_of bytes)) d.terms }
 took (r.Compare how) bytes d =
-    record d { terms = record { left = d.terms.left; right = d.terms.right; how = how;
-        standing = d.terms.standing } }
+    record d {
+      terms = record {
+        left = d.terms.left;
+        right = d.terms.right;
+        how = how;
+        standing = d.terms.standing;
+      };
+    }
 took (r.Deeper kind) bytes d = record d { depth = d.depth + 1 }
 
 -- the list with one more item

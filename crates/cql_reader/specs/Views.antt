@@ -50,8 +50,11 @@ window_of (windows.Rows rows) = syntax.Rows rows
 window_of (windows.Partition by rows) = syntax.Partition (references_of by.items) rows
 
 abbrev pub source_of : Source → syntax.Source
-source_of s = record { stream = name_of s.stream; window = window_of s.window;
-    alias = alias_of s.alias }
+source_of s = record {
+  stream = name_of s.stream;
+  window = window_of s.window;
+  alias = alias_of s.alias;
+}
 
 abbrev pub sources_of : List Source → List syntax.Source
 sources_of ss = map source_of ss

@@ -1,4 +1,4 @@
-// The query as far as it is read.
+//! Builds the query as far as it is read.
 
 ghost use Rattle.std.specs.Prelude.{◌≡◌, ◌≤◌, true, length, map, OnOk};
 ghost use Rattle.cql_reader.specs.Lexis.{number_of};
@@ -18,33 +18,33 @@ use std::alloc::{AllocError, Global};
 use std::mem;
 use values::StreamOperator;
 
-/// What is complete of a query, and what is at work.
+/// Holds what is complete of a query, and what is being read.
 #[derive(Drop)]
 pub struct Draft {
-    /// How the query's relation becomes a stream.
+    /// Says how the query's relation becomes a stream.
     pub operator: StreamOperator,
-    /// Whether `Distinct` was read.
+    /// Says whether `Distinct` was read.
     pub is_distinct: bool,
-    /// The entries of the list that are complete.
+    /// Holds the entries of the list that are complete.
     pub entries: Vec<Entry>,
-    /// The column that is read.
+    /// Holds the column that is being read.
     pub reference: Reference,
-    /// The columns of the list that is read.
+    /// Holds the columns of the list that is being read.
     pub columns: Vec<Reference>,
-    /// The source that is read.
+    /// Holds the source that is being read.
     pub source: Source,
-    /// The sources that are complete.
+    /// Holds the sources that are complete.
     pub sources: Vec<Source>,
-    /// What is known of the condition.
+    /// Holds what is known of the condition.
     pub terms: Terms,
-    /// The columns of `Group By` that are complete.
+    /// Holds the columns of `Group By` that are complete.
     pub group: Vec<Reference>,
-    /// How many `(` and `Not` of the condition are open.
+    /// Counts the `(` and `Not` of the condition that are open.
     pub depth: usize,
 }
 
 impl Draft {
-    /// Before the first token.
+    /// Makes the draft that holds before the first token.
     pub fn new(alloc: Global) -> Draft
         ensures { draft_of result ≡ start }
     {
@@ -65,7 +65,7 @@ impl Draft {
         }
     }
 
-    /// Takes a token of this role, of which these are the bytes.
+    /// Takes a token of this role with these bytes.
     #[tactic(auto, unfolding(crate::specs::Grammar::took, crate::specs::Grammar::kind_of, crate::specs::Grammar::in_range))]
     pub fn take(&mut self, alloc: Global, role: Role, bytes: &[u8])
         requires name { kind_of role ≡ kinds.Name → length bytes.now ≤ 32 }
@@ -109,7 +109,7 @@ impl Draft {
         }
     }
 
-    // The window of instants on the source moves at multiples of the step alone.
+    /// Lets the window of instants on the source move only at multiples of the step.
     fn slide(&mut self, step: u64)
         ensures { draft_of self.new ≡ slid step (draft_of self.old) }
     {
@@ -118,7 +118,7 @@ impl Draft {
         }
     }
 
-    // The window on the source is the last rows for each value of the columns.
+    /// Makes the window on the source the last rows for each value of the columns.
     fn partition(&mut self, alloc: Global, rows: u64)
         ensures { draft_of self.new ≡ parted rows (draft_of self.old) }
     {
@@ -129,7 +129,11 @@ impl Draft {
         self.source.window = Window::Partition(columns, rows);
     }
 
-    /// Does what stands between tokens.
+    /// Does what the mark says, between two tokens.
+    ///
+    /// # Errors
+    ///
+    /// `AllocError` when out of memory.
     #[tactic(auto, unfolding(crate::specs::Grammar::did))]
     pub fn finish(&mut self, alloc: Global, mark: Mark) -> Result<(), AllocError>
         ensures { OnOk result (draft_of self.new ≡ did mark (draft_of self.old)) }
@@ -163,7 +167,7 @@ impl Draft {
         }
     }
 
-    // One more item.
+    /// Adds an item.
     fn enter(&mut self, entry: Entry) -> Result<(), AllocError>
         ensures { OnOk result (draft_of self.new ≡ entered (entry_of entry) (draft_of self.old)) }
     {
@@ -171,7 +175,7 @@ impl Draft {
         Ok(())
     }
 
-    // The column is one of the list.
+    /// Adds the column to the list.
     #[tactic(auto, unfolding(crate::specs::Grammar::did))]
     fn list(&mut self) -> Result<(), AllocError>
         ensures { OnOk result (draft_of self.new ≡ did marks.Listed (draft_of self.old)) }
@@ -180,7 +184,7 @@ impl Draft {
         Ok(())
     }
 
-    // Adds the source at work to those that are complete.
+    /// Adds the source that is being read to those that are complete.
     #[tactic(auto, unfolding(crate::specs::Grammar::did))]
     fn add_source(&mut self) -> Result<(), AllocError>
         ensures { OnOk result (draft_of self.new ≡ did marks.Source (draft_of self.old)) }
@@ -190,7 +194,7 @@ impl Draft {
         Ok(())
     }
 
-    /// The query that is complete.
+    /// Returns the query that is complete.
     pub fn into_query(self) -> Query
         ensures { query_of result ≡ finished (draft_of self) }
     {
@@ -206,7 +210,7 @@ impl Draft {
     }
 }
 
-// The list of these items, which is `*` where there is none.
+/// Returns the list of these items, which is `*` where there is none.
 fn list_of(items: Vec<Entry>) -> Entries
     ensures { entries_of result ≡ listed (map entry_of items.items) }
 {
@@ -217,7 +221,7 @@ fn list_of(items: Vec<Entry>) -> Entries
     }
 }
 
-// A source of which nothing is read.
+/// Returns a source where nothing is read yet.
 fn empty_source() -> Source
     ensures { source_of result ≡ no_source }
 {

@@ -1,4 +1,4 @@
-// Which alternative of a part the next token chooses.
+//! Chooses an alternative of a part by the next token.
 
 ghost use Rattle.std.specs.Prelude.{◌≡◌, MatchOption, map};
 ghost use Rattle.cql_reader.specs.Grammar.{kind_of};
@@ -9,7 +9,7 @@ use crate::tables::{alternatives_of, first_of};
 use crate::tokens::Kind;
 use values::{Compare, StreamOperator};
 
-/// The alternative that a part has before this kind of token, or at the end of the text.
+/// Returns the alternative that a part has before this kind of token, or at the end of the text.
 pub fn choose(part: Part, next: Option<Kind>) -> Option<&'static [Symbol]>
     ensures { MatchOption result (chosen part next ≡ None) (λ symbols. chosen part next
         ≡ Some symbols.now) }
@@ -24,7 +24,7 @@ pub fn choose(part: Part, next: Option<Kind>) -> Option<&'static [Symbol]>
     }
 }
 
-// The alternative that can begin with this kind.
+/// Returns the alternative that can start with this kind.
 fn beginning(alternatives: &'static [&'static [Symbol]], kind: Kind) -> Option<&'static [Symbol]>
     ensures { let found = pick (λ ys. firsts ys kind)
         (map (λ symbols. symbols.now) alternatives.now) in
@@ -38,7 +38,7 @@ fn beginning(alternatives: &'static [&'static [Symbol]], kind: Kind) -> Option<&
     None
 }
 
-// The alternative that can be empty.
+/// Returns the alternative that can be empty.
 fn ending(alternatives: &'static [&'static [Symbol]]) -> Option<&'static [Symbol]>
     ensures { let found = pick ends (map (λ symbols. symbols.now) alternatives.now) in
         MatchOption result (found ≡ None) (λ symbols. found ≡ Some symbols.now) }
@@ -51,7 +51,7 @@ fn ending(alternatives: &'static [&'static [Symbol]]) -> Option<&'static [Symbol
     None
 }
 
-// Whether the symbols can begin with this kind.
+/// Returns whether the symbols can start with this kind.
 fn begins(symbols: &[Symbol], kind: Kind) -> bool
     ensures { result ≡ firsts symbols.now kind }
 {
@@ -72,6 +72,7 @@ fn begins(symbols: &[Symbol], kind: Kind) -> bool
     false
 }
 
+/// Returns whether this kind is among the kinds.
 fn has_kind(kinds: &[Kind], kind: Kind) -> bool
     ensures { result ≡ has kinds.now kind }
 {
@@ -83,7 +84,7 @@ fn has_kind(kinds: &[Kind], kind: Kind) -> bool
     false
 }
 
-// Whether the symbols can stand for nothing.
+/// Returns whether the symbols can match no token at all.
 fn may_be_empty(symbols: &[Symbol]) -> bool
     ensures { result ≡ ends symbols.now }
 {
@@ -101,6 +102,7 @@ fn may_be_empty(symbols: &[Symbol]) -> bool
     true
 }
 
+/// Returns whether the part can match no token at all.
 #[tactic(auto, unfolding(crate::specs::Prediction::nullable))]
 fn may_be_missing(part: Part) -> bool
     ensures { result ≡ nullable part }
@@ -148,7 +150,7 @@ fn may_be_missing(part: Part) -> bool
     }
 }
 
-/// The kind that a token of this role has.
+/// Returns the kind that a token of this role has.
 #[tactic(auto, unfolding(crate::specs::Grammar::kind_of))]
 pub fn kind_of_role(role: Role) -> Kind
     ensures { result ≡ kind_of role }

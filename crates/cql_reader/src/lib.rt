@@ -1,11 +1,12 @@
-//! The query reader: from the text of a continuous query to the query that it names.
+//! Reads queries: from the text of a continuous query to the query that it names.
 //!
-//! `read` answers with a query exactly for the texts of the grammar, and otherwise with the first
-//! fault from the left and the byte at which it stands. The language is that of CQL (Arasu, Babu
-//! and Widom, "The CQL continuous query language", 2006): `Select Istream(k, Count(*)) From S
-//! [Range 10] Where v > 3 Group By k`. The grammar is a table, `specs/Grammar.antt`; a stack
-//! machine is driven by that table, and one theory shows, for any table that one token of lookahead
-//! decides, that the machine is right.
+//! `read` answers with a query exactly for the texts of the grammar. Otherwise it answers with the
+//! first fault from the left, and the byte where the fault is. The language is that of CQL (Arasu,
+//! Babu and Widom, "The CQL continuous query language", 2006), as in
+//! `Select Istream(k, Count(*)) From S [Range 10] Where v > 3 Group By k`.
+//!
+//! The grammar is a table, `specs/Grammar.antt`, and it drives a stack machine. One theory shows
+//! that the machine is right, for any table that one token of lookahead decides.
 #![tactic(auto)]
 
 ghost use Rattle.std.specs.Prelude.{◌≡◌};
@@ -34,32 +35,33 @@ pub use name::{MAX_NAME, Name};
 pub use query::{Condition, Entries, Entry, Operand, Query, Reference, Source, Window};
 pub use words::is_name;
 
-/// The most bytes that a query text has.
+/// Limits the bytes of a query text.
 pub const MAX_TEXT: usize = 4096;
 
-/// The most `(` and `Not` of a condition that are open at once.
+/// Limits the `(` and `Not` of a condition that are open at once.
 pub const MAX_DEPTH: usize = 32;
 
-/// The most sources that a query has.
+/// Limits the sources of a query.
 pub const MAX_SOURCES: usize = 4;
 
-/// Why a text is no query. A place is the count of bytes before the token at fault, or of the text
-/// where it ends too early.
+/// Says why a text is no query. A place counts the bytes before the token at fault, or the bytes of
+/// the text where it ends too early.
 #[derive(Clone, Copy, Debug, PartialEq, Eq)]
 pub enum ReadFault {
-    /// Memory was refused; nothing is said of the text.
+    /// Says that memory ran out, and nothing of the text.
     OutOfMemory,
-    /// The text is over `MAX_TEXT` bytes.
+    /// Says that the text is over `MAX_TEXT` bytes.
     TextTooLong,
-    /// A byte is above 127.
+    /// Says that a byte is above 127.
     NotAscii,
-    /// No token begins at that byte.
+    /// Says that no token starts at that byte.
     BadToken(usize),
-    /// No query goes on so.
+    /// Says that no query goes on as the text does from that byte on.
     Unexpected(usize),
-    /// The number is outside the range of its place.
+    /// Says that the number at that byte is outside the range of its place.
     NumberRange(usize),
-    /// The `(` or `Not` of the condition is one more than `MAX_DEPTH` that are open.
+    /// Says that the `(` or `Not` at that byte is one too many: `MAX_DEPTH` of the condition are
+    /// open.
     TooDeep(usize),
 }
 

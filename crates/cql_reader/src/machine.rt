@@ -1,4 +1,4 @@
-// The machine: a stack of symbols, of which the top tells what to do with the next token.
+//! Runs the machine: a stack of symbols, whose top says what to do with the next token.
 
 ghost use Rattle.std.specs.Prelude.{◌≡◌, ◌<◌, ◌++◌, ◌↔◌, true, reverse, IfOk, IsTrue, OnOk};
 ghost use Rattle.cql_reader.specs.Lexis.{number_of};
@@ -22,7 +22,7 @@ use crate::tokens::{Kind, Token};
 use crate::{MAX_DEPTH, MAX_TEXT, ReadFault};
 use std::alloc::{AllocError, Global};
 
-// Whether the number of a token is one of a range's.
+/// Returns whether the number of a token may be that of a range: 0 to 1,099,511,627,776 instants.
 fn is_span(bytes: &[u8]) -> bool
     ensures { result ≡ in_span (number_of bytes.now) }
 {
@@ -30,7 +30,7 @@ fn is_span(bytes: &[u8]) -> bool
     !(number < 0) && number < 1_099_511_627_777
 }
 
-// Whether it is one of a slide's.
+/// Returns whether the number of a token may be that of a slide: 1 to 1,099,511,627,776 instants.
 fn is_step(bytes: &[u8]) -> bool
     ensures { result ≡ in_step (number_of bytes.now) }
 {
@@ -38,7 +38,7 @@ fn is_step(bytes: &[u8]) -> bool
     !(number < 1) && number < 1_099_511_627_777
 }
 
-// Whether it is one of rows'.
+/// Returns whether the number of a token may be that of rows: 1 to 65,536.
 fn is_rows(bytes: &[u8]) -> bool
     ensures { result ≡ in_rows (number_of bytes.now) }
 {
@@ -46,7 +46,8 @@ fn is_rows(bytes: &[u8]) -> bool
     !(number < 1) && number < 65_537
 }
 
-// Whether it is one of a stream.
+/// Returns whether the number of a token may be one of a stream: at most 1,099,511,627,775, and at
+/// least its opposite.
 fn is_stream(bytes: &[u8]) -> bool
     ensures { result ≡ in_stream (number_of bytes.now) }
 {
@@ -54,7 +55,7 @@ fn is_stream(bytes: &[u8]) -> bool
     !(number < -1_099_511_627_775) && number < 1_099_511_627_776
 }
 
-// Whether the number of a token is in the range of its place.
+/// Returns whether the number of a token is in the range of its place.
 #[tactic(auto, unfolding(crate::specs::Grammar::in_range))]
 fn is_in_range(role: Role, bytes: &[u8]) -> bool
     ensures { result ≡ in_range role (number_of bytes.now) }
@@ -69,7 +70,7 @@ fn is_in_range(role: Role, bytes: &[u8]) -> bool
     }
 }
 
-// Whether one more `(` or `Not` may be open, where the role is that of one.
+/// Returns whether one more `(` or `Not` may be open, where the role is that of one.
 #[tactic(auto, unfolding(crate::specs::Grammar::deepens))]
 fn is_shallow(role: Role, depth: usize) -> bool
     ensures { result ≡ may_open role depth }
@@ -80,7 +81,7 @@ fn is_shallow(role: Role, depth: usize) -> bool
     }
 }
 
-// The symbols go onto the stack, the first on top.
+/// Pushes the symbols onto the stack, so that the first is on top.
 fn push_all(stack: &mut Vec<Symbol>, symbols: &[Symbol]) -> Result<(), AllocError>
     ensures { OnOk result (reverse stack.new.items ≡ symbols.now ++ reverse stack.old.items) }
 {
@@ -90,6 +91,7 @@ fn push_all(stack: &mut Vec<Symbol>, symbols: &[Symbol]) -> Result<(), AllocErro
     Ok(())
 }
 
+/// Returns the kind of the next token, or None at the end of the text.
 fn kind_ahead(text: &[u8], next: Option<Token>) -> Option<Kind>
     ensures { result ≡ ahead (rest_of text.now next) }
 {
@@ -99,7 +101,7 @@ fn kind_ahead(text: &[u8], next: Option<Token>) -> Option<Kind>
     }
 }
 
-// The fault where no query goes on with the next token.
+/// Returns the fault where no query goes on with the next token.
 fn unexpected(text: &[u8], next: Option<Token>) -> ReadFault
     ensures { result ≡ told (stopped (rest_of text.now next)) }
 {
@@ -109,14 +111,19 @@ fn unexpected(text: &[u8], next: Option<Token>) -> ReadFault
     }
 }
 
-// Whether a token of this kind may have the role.
+/// Returns whether a token of this kind may have the role.
 fn is_of(kind: Kind, role: Role) -> bool
     ensures { IsTrue result ↔ kind ≡ kind_of role }
 {
     kind == kind_of_role(role)
 }
 
-// The next token, which is to be of this role where so many `(` and `Not` are open.
+/// Returns the next token, which has to be of this role where `depth` of `(` and `Not` are open.
+///
+/// # Errors
+///
+/// `Unexpected` where the text ends or the token is of another kind. `NumberRange` where its number
+/// is outside the range. `TooDeep` where it opens one too many.
 fn expected(text: &[u8], next: Option<Token>, role: Role, depth: usize) -> Result<Token, ReadFault>
     requires { IsInside text.now next }
     ensures { IsRead text.now next role depth result }
@@ -138,7 +145,11 @@ fn expected(text: &[u8], next: Option<Token>, role: Role, depth: usize) -> Resul
     }
 }
 
-// The draft of the query that a text names, or the first fault.
+/// Returns the draft of the query that a text names.
+///
+/// # Errors
+///
+/// The first fault of the text, or `OutOfMemory`.
 fn parse(alloc: Global, text: &[u8]) -> Result<Draft, ReadFault>
     ensures { ReadsDraft (parsed (scan_from text.now 0)) result }
 {
@@ -166,11 +177,13 @@ fn parse(alloc: Global, text: &[u8]) -> Result<Draft, ReadFault>
     }
 }
 
-/// Reads the text of a query.
+/// Reads the text of a query. Returns the query that the text names, or the first fault. The cost
+/// is linear in the text.
 ///
-/// The answer is the query that the text names, or the first fault: a text over `MAX_TEXT` bytes is
-/// `TextTooLong`, one with a byte above 127 is `NotAscii`, and else the text is judged token by
-/// token from the left. The cost is linear in the text. `OutOfMemory` may stand in place of any
+/// # Errors
+///
+/// `TextTooLong` for a text over `MAX_TEXT` bytes, and `NotAscii` for one with a byte above 127.
+/// Any other text is judged token by token from the left. `OutOfMemory` may come in place of any
 /// answer.
 pub fn read(alloc: Global, text: &[u8]) -> Result<Query, ReadFault>
     ensures reading { Reads (reading text.now) result }

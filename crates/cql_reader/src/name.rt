@@ -1,15 +1,15 @@
-//! Names: of streams, sources and columns.
+//! Keeps names: of streams, sources and columns.
 ghost use Rattle.std.specs.Prelude.{◌≡◌, ◌≤◌, length};
 
-/// The most letters, digits and underscores that a name has.
+/// Limits the letters, digits and underscores of a name.
 pub const MAX_NAME: usize = 32;
 
-/// The name of a stream, of a source or of a column.
+/// Holds the name of a stream, of a source or of a column.
 #[derive(Clone, Copy, Debug)]
 pub struct Name {
-    /// The bytes, and then what is left of the room.
+    /// Holds the bytes, and then what is left of the room.
     pub bytes: [u8; MAX_NAME],
-    /// How many bytes the name has.
+    /// Counts the bytes of the name.
     pub len: usize,
     ghost fits: { len ≤ 32 },
 }
@@ -17,7 +17,7 @@ pub struct Name {
 impl Name {
     ghost use Rattle.cql_reader.specs.Views.{name_of};
 
-    /// The name of these bytes.
+    /// Makes the name of these bytes.
     pub fn new(bytes: &[u8]) -> Name
         requires { length bytes.now ≤ 32 }
         ensures { name_of result ≡ bytes.now }
@@ -30,7 +30,7 @@ impl Name {
         }
     }
 
-    /// The bytes of the name.
+    /// Lends the bytes of the name.
     pub fn as_bytes(&self) -> &[u8]
         ensures { result.now ≡ name_of self.now }
     {

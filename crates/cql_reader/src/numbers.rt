@@ -1,12 +1,12 @@
-// Numbers.
+//! Reads numbers.
 
 ghost use Rattle.std.specs.Prelude.{◌≡◌, ◌<◌, length, min, nat_abs, nat_eq, IsTrue};
 ghost use Rattle.cql_reader.specs.Lexis.{decimal, first_byte, number_of, capped};
 
-// Outside the range of each place.
+/// Cuts numbers off; it is outside the range of each place.
 const LIMIT: u64 = 2_199_023_255_552;
 
-/// The number that digits write, at most the limit.
+/// Returns the number that digits write, at most `LIMIT`.
 fn magnitude_of(digits: &[u8]) -> u64
     ensures { result ≡ min (decimal 0 digits.now) 2199023255552 }
 {
@@ -17,7 +17,7 @@ fn magnitude_of(digits: &[u8]) -> u64
     value
 }
 
-// Whether the bytes begin with a minus.
+/// Returns whether the bytes start with a minus.
 fn is_signed(bytes: &[u8]) -> bool
     ensures sign { result ≡ nat_eq (first_byte bytes.now) 45 }
     ensures some { IsTrue result → 0 < length bytes.now }
@@ -29,7 +29,7 @@ fn is_signed(bytes: &[u8]) -> bool
     }
 }
 
-/// The number that the bytes of a token write, cut off at the limit.
+/// Returns the number that the bytes of a token write, cut off at `LIMIT` and its opposite.
 pub fn number_in(bytes: &[u8]) -> i64
     ensures { result ≡ capped (number_of bytes.now) }
 {
@@ -40,7 +40,7 @@ pub fn number_in(bytes: &[u8]) -> i64
     }
 }
 
-/// The number that the bytes of a token write without their minus, cut off at the limit.
+/// Returns the number that the bytes of a token write without their minus, cut off at `LIMIT`.
 pub fn natural_in(bytes: &[u8]) -> u64
     ensures { result ≡ min (nat_abs (number_of bytes.now)) 2199023255552 }
 {

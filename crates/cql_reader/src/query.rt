@@ -1,76 +1,81 @@
-//! The syntax tree of a query: what its text says, before its names are looked up.
+//! Holds the syntax tree of a query: what its text says, before its names are looked up.
 use crate::name::Name;
 use values::{Compare, StreamOperator};
 
-/// A column as a text names it: by its name alone, or with the name of its source in front.
+/// Names a column as a text does: by its name only, or with the name of its source in front.
 #[derive(Clone, Copy, Debug)]
 pub struct Reference {
-    /// The name of the source in front, if the text has one.
+    /// Holds the name of the source in front, if the text has one.
     pub qualifier: Option<Name>,
-    /// The name of the column.
+    /// Holds the name of the column.
     pub name: Name,
 }
 
-/// An item of the list of a query.
+/// Is an item of the list of a query.
 #[derive(Clone, Copy, Debug)]
 pub enum Entry {
-    /// A column.
+    /// Lists a column.
     Column(Reference),
-    /// `Count(*)`.
+    /// Lists `Count(*)`.
     CountAll,
+    /// Lists `Count` of a column.
     Count(Reference),
+    /// Lists `Sum` of a column.
     Sum(Reference),
+    /// Lists `Min` of a column.
     Min(Reference),
+    /// Lists `Max` of a column.
     Max(Reference),
 }
 
-/// The list of a query.
+/// Is the list of a query.
 #[derive(Debug, Drop)]
 pub enum Entries {
-    /// `*`.
+    /// Lists all columns: `*`.
     All,
-    /// The items, one or more.
+    /// Lists the items, one or more.
     Each(Vec<Entry>),
 }
 
-/// The window on a stream.
+/// Is the window on a stream.
 #[derive(Debug, Drop)]
 pub enum Window {
-    /// The rows of the instant itself.
+    /// Shows the rows of the instant itself.
     Now,
-    /// The rows of the instant and of as many instants before it, at most 1,099,511,627,776.
+    /// Shows the rows of the instant and of as many instants before it as the number says, at most
+    /// 1,099,511,627,776.
     Range(u64),
-    /// The same at the last multiple of the second number, the step, up to the instant; both are at
-    /// most 1,099,511,627,776, and the step is 1 at least.
+    /// Shows what `Range` shows at the last multiple of the second number, the step, up to the
+    /// instant. Both are at most 1,099,511,627,776, and the step is at least 1.
     RangeSlide(u64, u64),
-    /// All rows so far: `[Range Unbounded]`, `[Rows Unbounded]`, or no window.
+    /// Shows all rows so far: `[Range Unbounded]`, `[Rows Unbounded]`, or no window.
     Unbounded,
-    /// The last rows, 1 to 65,536 of them.
+    /// Shows the last rows, 1 to 65,536 of them.
     Rows(u64),
-    /// The last rows, 1 to 65,536 of them, of those that are equal in the columns.
+    /// Shows the last rows, 1 to 65,536 of them, of those that are equal in the columns.
     Partition(Vec<Reference>, u64),
 }
 
-/// One source of a query: a stream, the window on it, and its name in the query where it has one of
-/// its own.
+/// Holds one source of a query: a stream, the window on it, and its name in the query where it has
+/// one of its own.
 #[derive(Debug, Drop)]
 pub struct Source {
-    /// The name of the stream.
+    /// Holds the name of the stream.
     pub stream: Name,
-    /// The window over the stream.
+    /// Holds the window over the stream.
     pub window: Window,
-    /// The name that the text gives the source, if it gives one.
+    /// Holds the name that the text gives the source, if it gives one.
     pub alias: Option<Name>,
 }
 
-/// A side of a comparison. A number is one of the stream range.
+/// Is a side of a comparison. A number is one of the stream range.
 #[derive(Clone, Copy, Debug)]
 pub enum Operand {
     Column(Reference),
     Number(i64),
 }
 
-/// What Where says.
+/// Holds what Where says.
 #[derive(Debug, Drop)]
 pub enum Condition {
     Compared(Operand, Compare, Operand),
@@ -79,19 +84,19 @@ pub enum Condition {
     Or(Box<Condition>, Box<Condition>),
 }
 
-/// A query as it is written, before its names are looked up.
+/// Holds a query as it is written, before its names are looked up.
 #[derive(Debug, Drop)]
 pub struct Query {
-    /// How the query's relation becomes a stream.
+    /// Says how the query's relation becomes a stream.
     pub operator: StreamOperator,
-    /// Whether each row is taken once.
+    /// Says whether equal rows count once.
     pub is_distinct: bool,
-    /// The list: all columns, or entries.
+    /// Holds the list: all columns, or entries.
     pub entries: Entries,
-    /// The sources of the `From`, in order: one to four.
+    /// Holds the sources of the `From`, in order: one to four.
     pub sources: Vec<Source>,
-    /// What stands behind `Where`, if the query has it.
+    /// Holds the condition after `Where`, if the query has it.
     pub condition: Option<Condition>,
-    /// The columns of `Group By`; none where it is missing.
+    /// Holds the columns of `Group By`; none where it is missing.
     pub group: Vec<Reference>,
 }

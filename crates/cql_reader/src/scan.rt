@@ -1,4 +1,4 @@
-// The next token of a text.
+//! Finds the next token of a text.
 
 ghost use Rattle.std.specs.Prelude.{◌≡◌, ◌+◌, ◌<◌, ◌≤◌, length, IfSome};
 ghost use Rattle.cql_reader.specs.Lexis.{token_at, symbol, comparison};
@@ -11,7 +11,7 @@ use crate::bytes::{blanks, digit, digits, first_of, letter, second_of, word_len}
 use crate::tokens::{Kind, Token};
 use crate::words::kind_of_word;
 
-// The symbol that compares which two bytes begin, and how many bytes it takes.
+/// Returns the comparison symbol that two bytes start with, and how many bytes it takes.
 fn comparison_of(first: u8, second: u8) -> Option<(Kind, usize)>
     ensures symbol { result ≡ comparison first second }
     ensures forward { IfSome result (λ found. 0 < found.1) }
@@ -46,7 +46,7 @@ fn comparison_of(first: u8, second: u8) -> Option<(Kind, usize)>
     }
 }
 
-// The symbol that two bytes begin, and how many bytes it takes.
+/// Returns the symbol that two bytes start with, and how many bytes it takes.
 fn symbol_of(first: u8, second: u8) -> Option<(Kind, usize)>
     ensures symbol { result ≡ symbol first second }
     ensures forward { IfSome result (λ found. 0 < found.1) }
@@ -75,7 +75,7 @@ fn symbol_of(first: u8, second: u8) -> Option<(Kind, usize)>
     }
 }
 
-// The token that begins the bytes, and how many bytes it takes.
+/// Returns the token that the bytes start with, and how many bytes it takes.
 #[tactic(auto, unfolding(crate::specs::Lexis::token_at))]
 fn token_of(bytes: &[u8]) -> Option<(Kind, usize)>
     requires { 0 < length bytes.now }
@@ -102,7 +102,11 @@ fn token_of(bytes: &[u8]) -> Option<(Kind, usize)>
     }
 }
 
-/// The next token of a text from a place on, or none at its end.
+/// Returns the next token of a text from a place on, or none at its end.
+///
+/// # Errors
+///
+/// `BadToken` where no token starts at the next byte that is no blank.
 pub fn next_token(text: &[u8], place: usize) -> Result<Option<Token>, ReadFault>
     requires { place ≤ length text.now }
     ensures { IsNext text.now (scan_from text.now place) result }

@@ -1,4 +1,4 @@
-// The condition as far as it is read.
+//! Keeps the condition as far as it is read.
 
 ghost use Rattle.std.specs.Prelude.{◌≡◌, OnOk};
 ghost use Rattle.cql_reader.specs.Views.{operand_of};
@@ -10,21 +10,22 @@ use crate::query::{Condition, Operand};
 use std::alloc::{AllocError, Global};
 use values::Compare;
 
-/// The last two operands, the last comparison, and the conditions that stand, the last on top.
+/// Holds the last two operands, the last comparison, and the conditions that are complete, the last
+/// on top.
 #[derive(Drop)]
 pub struct Terms {
-    /// The operand before the last.
+    /// Holds the operand before the last.
     pub left: Operand,
-    /// The last operand.
+    /// Holds the last operand.
     pub right: Operand,
-    /// The last comparison.
+    /// Holds the last comparison.
     pub how: Compare,
-    /// The conditions that stand, the last on top.
+    /// Holds the conditions that are complete, the last on top.
     pub standing: Vec<Condition>,
 }
 
 impl Terms {
-    /// Before the first term.
+    /// Makes the terms that hold before the first term.
     pub fn new(alloc: Global) -> Terms
         ensures { terms_of result ≡ no_terms }
     {
@@ -36,7 +37,7 @@ impl Terms {
         }
     }
 
-    /// One more operand.
+    /// Adds an operand.
     pub fn push(&mut self, operand: Operand)
         ensures { terms_of self.new ≡ sided (operand_of operand) (terms_of self.old) }
     {
@@ -44,7 +45,11 @@ impl Terms {
         self.right = operand;
     }
 
-    /// The last two operands stand compared.
+    /// Compares the last two operands.
+    ///
+    /// # Errors
+    ///
+    /// `AllocError` when out of memory.
     pub fn compare(&mut self) -> Result<(), AllocError>
         ensures { OnOk result (terms_of self.new ≡ compared (terms_of self.old)) }
     {
@@ -53,21 +58,33 @@ impl Terms {
         Ok(())
     }
 
-    /// The last condition is negated.
+    /// Negates the last condition.
+    ///
+    /// # Errors
+    ///
+    /// `AllocError` when out of memory.
     pub fn negate(&mut self, alloc: Global) -> Result<(), AllocError>
         ensures { OnOk result (terms_of self.new ≡ standing_by negated (terms_of self.old)) }
     {
         negate(alloc, &mut self.standing)
     }
 
-    /// The last two conditions are joined: both are asked for.
+    /// Joins the last two conditions: both have to hold.
+    ///
+    /// # Errors
+    ///
+    /// `AllocError` when out of memory.
     pub fn conjoin(&mut self, alloc: Global) -> Result<(), AllocError>
         ensures { OnOk result (terms_of self.new ≡ standing_by conjoined (terms_of self.old)) }
     {
         conjoin(alloc, &mut self.standing)
     }
 
-    /// The last two conditions are joined: one of them is asked for.
+    /// Joins the last two conditions: one of them has to hold.
+    ///
+    /// # Errors
+    ///
+    /// `AllocError` when out of memory.
     pub fn disjoin(&mut self, alloc: Global) -> Result<(), AllocError>
         ensures { OnOk result (terms_of self.new ≡ standing_by disjoined (terms_of self.old)) }
     {
@@ -75,6 +92,7 @@ impl Terms {
     }
 }
 
+/// Negates the last condition, if there is one.
 fn negate(alloc: Global, standing: &mut Vec<Condition>) -> Result<(), AllocError>
     ensures { OnOk result (standing_of standing.new.items
         ≡ negated (standing_of standing.old.items)) }
@@ -89,7 +107,7 @@ fn negate(alloc: Global, standing: &mut Vec<Condition>) -> Result<(), AllocError
     }
 }
 
-// The last two conditions, in order, or what there is.
+/// Joins the last two conditions, in order, by And; fewer than two stay as they are.
 fn conjoin(alloc: Global, standing: &mut Vec<Condition>) -> Result<(), AllocError>
     ensures { OnOk result (standing_of standing.new.items
         ≡ conjoined (standing_of standing.old.items)) }
@@ -111,6 +129,7 @@ fn conjoin(alloc: Global, standing: &mut Vec<Condition>) -> Result<(), AllocErro
     }
 }
 
+/// Joins the last two conditions, in order, by Or; fewer than two stay as they are.
 fn disjoin(alloc: Global, standing: &mut Vec<Condition>) -> Result<(), AllocError>
     ensures { OnOk result (standing_of standing.new.items
         ≡ disjoined (standing_of standing.old.items)) }

@@ -1,9 +1,9 @@
-// The symbols of the grammar.
+//! Defines the symbols of the grammar.
 
 use crate::tokens::Kind;
 use values::{Compare, StreamOperator};
 
-/// The parts of a query.
+/// Names a part of a query.
 #[derive(Clone, Copy)]
 pub enum Part {
     Query,
@@ -47,78 +47,85 @@ pub enum Part {
     End,
 }
 
-/// What a token is asked to be, and what it then says of the query.
+/// Says what a token has to be, and what it then says of the query.
 #[derive(Clone, Copy)]
 pub enum Role {
-    /// A token of this kind, which says nothing more.
+    /// Is a token of this kind, which says nothing more.
     Fixed(Kind),
-    /// The word of an operator.
+    /// Is the word of an operator.
     Operator(StreamOperator),
-    /// The word that wants each row once.
+    /// Is the word that asks for each row once.
     Distinct,
-    /// The name of a column, or of the source of one: a reference begins.
+    /// Names a column, or the source of one: a reference starts.
     Column,
-    /// The name of the column, behind that of its source.
+    /// Names the column, after the name of its source.
     Qualified,
-    /// The name of a stream: a source begins.
+    /// Names a stream: a source starts.
     Stream,
-    /// The name of the source in the query.
+    /// Names the source in the query.
     Alias,
-    /// The word of the window of the instant itself.
+    /// Is the word of the window of the instant itself.
     Now,
-    /// The number of instants of a window.
+    /// Counts the instants of a window.
     Range,
-    /// The number at whose multiples a window moves.
+    /// Is the number at whose multiples a window moves.
     Slide,
-    /// The word of a window that all rows are in.
+    /// Is the word of a window that all rows are in.
     Unbounded,
-    /// The number of rows of a window.
+    /// Counts the rows of a window.
     Rows,
-    /// The number of rows of each partition of a window.
+    /// Counts the rows of each partition of a window.
     Partition,
-    /// The number that is a side of a comparison.
+    /// Is the number that is a side of a comparison.
     Number,
-    /// How two sides are compared.
+    /// Says how two sides are compared.
     Compare(Compare),
-    /// A `(` or `Not` of the condition, which makes one more that is open.
+    /// Is a `(` or `Not` of the condition, which makes one more that is open.
     Deeper(Kind),
 }
 
-/// What is done between tokens.
+/// Says what is done between tokens.
 #[derive(Clone, Copy)]
 pub enum Mark {
-    /// The item is the column.
+    /// Makes the column an item.
     Column,
-    /// The item is `Count(*)`.
+    /// Makes `Count(*)` an item.
     CountAll,
-    /// The item is an aggregate of the column.
+    /// Makes `Count` of the column an item.
     Count,
+    /// Makes `Sum` of the column an item.
     Sum,
+    /// Makes `Min` of the column an item.
     Min,
+    /// Makes `Max` of the column an item.
     Max,
-    /// The column is one of a list of columns.
+    /// Adds the column to a list of columns.
     Listed,
-    /// The list of columns is that of `Group By`.
+    /// Makes the list of columns that of `Group By`.
     Grouped,
-    /// The source is complete.
+    /// Completes the source.
     Source,
-    /// The column is a side of a comparison.
+    /// Makes the column a side of a comparison.
     Named,
-    /// The comparison is complete.
+    /// Completes the comparison.
     Compared,
-    /// The last condition is negated.
+    /// Negates the last condition.
     Negate,
-    /// The last two conditions are joined.
+    /// Joins the last two conditions by And.
     Conjoin,
+    /// Joins the last two conditions by Or.
     Disjoin,
-    /// What a `(` or `Not` opened is complete.
+    /// Completes what a `(` or `Not` opened.
     Leave,
 }
 
-/// A symbol of the grammar.
+/// Is a symbol of the grammar.
 #[derive(Clone, Copy)]
 pub enum Symbol {
+    /// Reads a token of this role.
     Read(Role),
+    /// Goes on with an alternative of this part.
     Rule(Part),
+    /// Does what the mark says.
     Emit(Mark),
 }

@@ -1,4 +1,4 @@
-// The grammar's tables.
+//! Holds the grammar's tables.
 
 ghost use Rattle.std.specs.Prelude.{◌≡◌, map};
 ghost use Rattle.cql_reader.specs.Grammar.{alternatives};
@@ -8,7 +8,7 @@ use crate::symbols::{Mark, Part, Role, Symbol};
 use crate::tokens::Kind;
 use values::{Compare, StreamOperator};
 
-/// The alternatives of a part.
+/// Returns the alternatives of a part.
 #[tactic(auto, unfolding(crate::specs::Grammar::alternatives))]
 pub fn alternatives_of(part: Part) -> &'static [&'static [Symbol]]
     ensures { map (λ symbols. symbols.now) result.now ≡ alternatives part }
@@ -278,7 +278,7 @@ pub fn alternatives_of(part: Part) -> &'static [&'static [Symbol]]
     }
 }
 
-/// The kinds that a part can begin with.
+/// Returns the kinds that a part can start with.
 #[tactic(auto, unfolding(crate::specs::Prediction::first))]
 pub fn first_of(part: Part) -> &'static [Kind]
     ensures { result.now ≡ first part }

@@ -1,6 +1,6 @@
-// Tokens.
+//! Defines tokens.
 
-/// The kinds of tokens.
+/// Names a kind of token.
 #[derive(Clone, Copy, PartialEq, Eq)]
 pub enum Kind {
     Select,
@@ -27,7 +27,7 @@ pub enum Kind {
     Min,
     Max,
     Name,
-    // a word that is too long for a name
+    /// Is a word that is too long for a name.
     Word,
     Number,
     Open,
@@ -46,13 +46,13 @@ pub enum Kind {
     AtLeast,
 }
 
-/// A token, and from where to where it stands in the text.
+/// Holds a token, and where it starts and ends in the text.
 #[derive(Clone, Copy)]
 pub struct Token {
-    /// What it is.
+    /// Says what the token is.
     pub kind: Kind,
-    /// The place of its first byte in the text.
+    /// Holds the place of its first byte in the text.
     pub from: usize,
-    /// The place behind its last byte.
+    /// Holds the place after its last byte.
     pub to: usize,
 }

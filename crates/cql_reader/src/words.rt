@@ -1,4 +1,4 @@
-// Words: reserved ones, and names.
+//! Sorts words into reserved ones and names.
 
 ghost use Rattle.std.specs.Prelude.{◌≡◌, ◌≤◌, map, length};
 ghost use Rattle.cql_reader.specs.Lexis.{reserved, kind_in, word_kind, is_name as names};
@@ -9,7 +9,7 @@ use crate::MAX_NAME;
 use crate::bytes::{first_of, is_one_word, letter};
 use crate::tokens::Kind;
 
-/// The reserved words.
+/// Returns the reserved words, each with its kind.
 #[tactic(auto, unfolding(crate::specs::Lexis::reserved))]
 fn reserved_words() -> &'static [(&'static [u8], Kind)]
     ensures { map (λ entry. (entry.0.now, entry.1)) result.now ≡ reserved }
@@ -41,7 +41,7 @@ fn reserved_words() -> &'static [(&'static [u8], Kind)]
     ]
 }
 
-// The kind that a list of words gives a word, in any case of letters.
+/// Returns the kind that a list of words gives a word, in any case of letters.
 fn find(entries: &[(&'static [u8], Kind)], word: &[u8]) -> Option<Kind>
     ensures { result ≡ kind_in (map (λ entry. (entry.0.now, entry.1)) entries.now) word.now }
 {
@@ -53,14 +53,14 @@ fn find(entries: &[(&'static [u8], Kind)], word: &[u8]) -> Option<Kind>
     None
 }
 
-// Whether a word is reserved.
+/// Returns whether a word is reserved.
 fn is_reserved(word: &[u8]) -> bool
     ensures { result ≡ reserves word.now }
 {
     find(reserved_words(), word).is_some()
 }
 
-/// The kind of a word.
+/// Returns the kind of a word.
 pub fn kind_of_word(word: &[u8]) -> Kind
     ensures kind { result ≡ word_kind word.now }
     ensures short { result ≡ kinds.Name → length word.now ≤ 32 }
@@ -77,8 +77,9 @@ pub fn kind_of_word(word: &[u8]) -> Kind
     }
 }
 
-/// Whether a text is a name: a letter or an underscore, then letters, digits and underscores,
-/// `MAX_NAME` in all at most, and no reserved word in any case of letters.
+/// Returns whether a text is a name: a letter or an underscore, then letters, digits and
+/// underscores. A name has at most `MAX_NAME` of them in all. It is no reserved word in any case of
+/// letters.
 ///
 /// Streams, their columns, and queries are named so.
 #[tactic(auto, unfolding(crate::specs::Lexis::is_name))]

@@ -10,11 +10,11 @@ use values::{Row, copy_row};
 /// Says what the reply to an accepted command is.
 #[derive(Drop)]
 pub enum ReplyKind {
-    /// Returns the number of the stream that was declared, or of the query that was registered.
+    /// Holds the number of the stream that was declared, or of the query that was registered.
     Number(u64),
     /// Says that it was done.
     Done,
-    /// Returns the answers that were taken, each with its instant.
+    /// Holds the answers that were taken, each with its instant.
     Rows(Vec<(i64, Row)>),
 }
 

@@ -122,8 +122,11 @@ pub record IsFresh (l : PlainLocked) (seats limit : ℕ) : Type 0 where
 abbrev pub HasForgotten : PlainLocked → PlainLocked → Type 0
 HasForgotten old new = (engine_at new ≡ forgotten (engine_at old))
     × (opening_in new.opening ≡ (forgotten (engine_at old)).machine)
-    × (new ≡ record (with_engine old new.engine) { opening = new.opening; first = next_number old;
-    history = [] })
+    × (new ≡ record (with_engine old new.engine) {
+      opening = new.opening;
+      first = next_number old;
+      history = [];
+    })
 
 pub record Forgets (old : PlainLocked) (result : Result ⊤ Fault) (new : PlainLocked) : Type 0 where
   pub legal : IsReplayed old

@@ -1,4 +1,4 @@
-//! The comparison of the seats' receipts with the history.
+//! Compares the seats' receipts with the history.
 ghost use Rattle.std.specs.Prelude.{◌≡◌, ◌<◌, ◌≤◌, ◌+◌, ◌^◌, ◌↔◌, ℕ, IsTrue, All, count_by};
 ghost use Rattle.std.specs.Prelude.{◌==◌, length, replicate};
 ghost use Rattle.histories.specs.Histories as histories;
@@ -9,7 +9,7 @@ ghost use Rattle.hub.specs.Seats.{PlainSeat, IsAudited, receipts_from, times_tol
 use crate::seat::Seat;
 use histories::{Entry, agrees};
 
-// The most seats of a hub.
+// As many as a hub has seats at most.
 const PLACES: usize = 64;
 
 fn is_once(seats: &[Seat], number: u64) -> bool
@@ -46,8 +46,8 @@ fn all_known(history: &[Entry], count: u64) -> bool
     history.iter().all(|entry| entry.seat() < count)
 }
 
-// Passes over the receipts of this number, and answers how many there are. The places say where the
-// receipts of no lower number begin at each seat.
+// Passes over the receipts of this number, and returns how many there are. The places say where the
+// receipts of no lower number start at each seat.
 fn pass(seats: &[Seat], places: &mut [usize], number: u64) -> usize
     requires { places.old ≡ places_at number seats.now }
     ensures places { places.new ≡ places_at (number + 1) seats.now }
@@ -75,8 +75,8 @@ fn is_each_told_by(seats: &[Seat], first: u64, places: &mut [usize]) -> bool
     true
 }
 
-// Whether each number below `first` is on one receipt of all seats together. Each seat's receipts
-// are passed over once.
+// Returns whether each number below `first` is on one receipt of all seats together. Passes over
+// each seat's receipts once.
 fn is_each_told(seats: &[Seat], first: u64) -> bool
     requires { length seats.now ≤ 64 }
     ensures { IsTrue result ↔ ((n : ℕ) → n < first → times_told n seats.now ≡ 1) }
@@ -85,11 +85,11 @@ fn is_each_told(seats: &[Seat], first: u64) -> bool
     is_each_told_by(seats, first, &mut places[..seats.len()])
 }
 
-/// Whether the seats' receipts and the history tell the same, where there are so many seats and the
+/// Returns whether the seats' receipts agree with the history, and there are `count` seats. The
 /// first entry has the number `first`. Takes no memory.
 ///
-/// Of the numbers below `first` each has to be on one receipt; from there on that follows from what
-/// each seat was told.
+/// Each number below `first` has to be on one receipt. From `first` on, that follows from the
+/// receipts that each seat holds.
 pub(crate) fn is_audited(history: &[Entry], first: u64, seats: &[Seat], count: u64) -> bool
     requires seats { count ≤ 64 }
     requires entries { first + length history.now < 2 ^ 64 }

@@ -1,4 +1,4 @@
-//! One command on the engine.
+//! Carries one command out on the engine.
 ghost use Rattle.std.specs.Prelude.{◌≡◌, ◌≤◌, IfOk, IfErr, OnErr};
 ghost use Rattle.std.specs.Option.{option_copied};
 ghost use Rattle.plan.specs.Chart.{given_by};
@@ -96,6 +96,9 @@ fn discard(engine: &mut Engine, query: u64) -> Result<Reply, Fault>
 }
 
 /// Carries a command out: one call on the engine.
+///
+/// # Errors
+/// Those of the call; then nothing has changed.
 pub(crate) fn carry_out(engine: &mut Engine, command: &Command) -> Result<Reply, Fault>
     ensures ok { IfOk result (λ r. Answered (engine_in engine.old) command.now r
         (engine_in engine.new)) }
@@ -118,8 +121,8 @@ pub(crate) fn carry_out(engine: &mut Engine, command: &Command) -> Result<Reply,
     }
 }
 
-/// How many answers a reply to the command has at most: none where the engine refuses it for its
-/// limit.
+/// Returns how many answers a reply to the command has at most: none if the engine refuses it for
+/// its limit.
 #[tactic(auto, using(crate::proofs::AnsweredLemmas::answers_few))]
 pub(crate) fn room_for(engine: &Engine, command: &Command) -> usize
     ensures { (r : replies.Reply) (new : PlainEngine)

@@ -1,4 +1,4 @@
-//! The hub: what lies under one lock, for threads.
+//! Puts the engine and its history under one lock, for threads.
 ghost use Rattle.std.specs.Prelude.{◌≡◌, ◌↔◌, ◌≤◌, ◌<◌, ◌⊎◌, IfOk, IfErr, IsErrOf, map};
 ghost use Rattle.std.specs.List.{range_with_len};
 ghost use Rattle.histories.specs.Histories.{IsLegal};
@@ -20,17 +20,19 @@ use std::marker::Model;
 use std::sync::{Condvar, Mutex};
 use turn::Turn;
 
-/// An engine that many threads may call, each client with a seat. Contracts see how many seats it
-/// was opened with.
+/// Shares an engine among many threads; each client has a seat. Contracts see how many seats it was
+/// opened with.
 ///
-/// Each call but `open` and `close` waits for the one lock, and runs one step of `Locked` under it.
+/// Each call except `open` and `close` waits for the one lock, and runs one step of `Locked` under
+/// it. The two calls that wait for a turn run one step for each try.
 #[derive(Drop)]
 pub struct Hub {
-    /// The engine with its history.
+    /// Holds the engine with its history.
     locked: Mutex<Locked>,
-    /// Told of each step that may make an operator ready, or bring back the last turn.
+    /// Wakes the threads that wait, after each step that may make an operator ready or bring back
+    /// the last turn, and after the end.
     moved: Condvar,
-    /// How many seats were opened.
+    /// Counts the seats that were opened.
     seats: u64,
 }
 
@@ -42,29 +44,30 @@ impl Model for Hub {
     ghost view = { λ h. h.seats };
 }
 
-/// What `lease_wait` answers.
+/// Is what `lease_wait` answers.
 #[derive(Drop)]
 pub enum LeaseWait {
-    /// A turn, to be run and brought back.
+    /// Holds a turn, to be run and brought back.
     Turn(Turn),
-    /// The end was called.
+    /// Says that the end was called.
     Ended,
 }
 
-/// What `lease_or_rest` answers.
+/// Is what `lease_or_rest` answers.
 #[derive(Drop)]
 pub enum LeaseRest {
-    /// A turn, to be run and brought back.
+    /// Holds a turn, to be run and brought back.
     Turn(Turn),
-    /// No operator may take anything, and no turn is out.
+    /// Says that no operator may take anything, and no turn is out.
     Rest,
 }
 
 impl Hub {
-    /// A hub with so many seats, whose history may have so many entries.
+    /// Opens a hub with this many seats and a history of at most this many entries.
     ///
     /// # Errors
-    /// `BadLimit` where seats are not 1 to 64, or entries not 1 to 16,777,216; `OutOfMemory`.
+    /// `BadLimit` if seats are not 1 to 64, or entries not 1 to 16,777,216; `OutOfMemory` when out
+    /// of memory.
     pub fn open(alloc: Global, seats: u64, history_limit: u64) -> Result<(Hub, Vec<Seat>), Fault>
         ensures ok { IfOk result (λ p.
             (p.0 ≡ seats) × (p.1.items ≡ map opened (range_with_len 0 seats))) }
@@ -81,11 +84,11 @@ impl Hub {
         Ok((hub, places))
     }
 
-    /// Compares the seats' receipts with the history, and gives it. Takes no memory.
+    /// Compares the seats' receipts with the history, and returns the history. Takes no memory.
     ///
     /// # Errors
-    /// Hub and seats come back where the seats' numbers are not those of `open`, each once, or
-    /// where their receipts differ from the history.
+    /// Hub and seats come back if the seats' numbers are not those of `open`, each once, or if
+    /// their receipts differ from the history.
     pub fn close(self, seats: Vec<Seat>) -> Result<Closed, (Hub, Vec<Seat>)>
         ensures legal { IfOk result (λ c. IsLegal (opening_in c.opening) c.entries.items) }
         ensures opens { IfOk result (λ c. OpensAt c.first (opening_in c.opening)) }

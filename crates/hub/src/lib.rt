@@ -1,5 +1,5 @@
-//! A hub: one engine behind one lock, one history of all commands that it accepted, and seats that
-//! hold the receipts of their own.
+//! Shares one engine among threads. One lock guards the engine and the history of all commands that
+//! it accepted. Seats hold the receipts of their own calls.
 #![tactic(auto)]
 
 mod audit;

@@ -1,4 +1,4 @@
-//! What lies under the lock.
+//! Keeps what lies under the lock.
 ghost use Rattle.std.specs.Prelude.{◌≡◌, ◌<◌, ◌≤◌, ◌⊎◌, ◌↔◌, IfOk, IfErr, IsErrOf, map};
 ghost use Rattle.std.specs.List.{range_with_len};
 ghost use Rattle.histories.specs.Histories.{IsLegal};
@@ -22,70 +22,70 @@ use std::alloc::{AllocError, Global};
 use std::marker::Model;
 use turn::Turn;
 
-/// The most entries of a history.
+/// Limits the entries of a history.
 pub const MAX_HISTORY: u64 = 16_777_216;
 
-/// How many entries are ever accepted, also where some were forgotten.
+/// Limits the entries that are ever accepted, including those that were forgotten.
 pub const MAX_ENTRIES: u64 = 9_223_372_036_854_775_808;
 
-/// The most seats of a hub.
+/// Limits the seats of a hub.
 pub const MAX_SEATS: u64 = 64;
 
-/// The history of a hub that was closed.
+/// Holds the history of a hub that was closed.
 #[derive(Drop)]
 pub struct Closed {
-    /// What the history begins with: of a hub that never forgot, no stream and no query.
+    /// Holds what the history starts with: no stream and no query, if the hub never forgot.
     pub opening: Opening,
-    /// How many entries the opening stands for: the number of the first entry.
+    /// Counts the entries that the opening replaces. It is the number of the first entry.
     pub first: u64,
-    /// Its entries, by their numbers.
+    /// Holds its entries, by their numbers.
     pub entries: Vec<Entry>,
 }
 
-/// What one try of `lease_wait` answers.
+/// Is what one try of `lease_wait` answers.
 #[derive(Drop)]
 pub enum Waited {
-    /// A turn, to be run and brought back.
+    /// Holds a turn, to be run and brought back.
     Turn(Turn),
-    /// No operator may take anything.
+    /// Says that no operator may take anything.
     Idle,
-    /// The end was called.
+    /// Says that the end was called.
     Ended,
 }
 
-/// What one try of `lease_or_rest` answers.
+/// Is what one try of `lease_or_rest` answers.
 #[derive(Drop)]
 pub enum Rested {
-    /// A turn, to be run and brought back.
+    /// Holds a turn, to be run and brought back.
     Turn(Turn),
-    /// No operator may take anything, and a turn is out.
+    /// Says that no operator may take anything, and a turn is out.
     Idle,
-    /// No operator may take anything, and no turn is out.
+    /// Says that no operator may take anything, and no turn is out.
     Rest,
 }
 
-/// What lies under the lock of a hub: the engine, the history of what it accepted, and whether the
-/// end was called. Each step of a hub is one of its methods.
+/// Holds what lies under the lock of a hub: the engine, the history of what it accepted, and
+/// whether the end was called. Each step of a hub is one of its methods.
 ///
 /// Its history leads from its opening to the engine's machine.
 #[derive(Drop)]
 pub struct Locked {
-    /// What grows under the lock takes its memory here.
+    /// Provides the memory for what grows under the lock.
     alloc: Global,
-    /// The engine of all clients and workers.
+    /// Holds the engine of all clients and workers.
     engine: Engine,
-    /// What was left of the machine when rows were forgotten last; before that, what was told
-    /// nothing.
+    /// Holds what was left of the machine when rows were last forgotten; before that, no stream and
+    /// no query.
     opening: Opening,
-    /// How many entries the opening stands for, at most 2^63.
+    /// Counts the entries that the opening replaces, at most 2^63.
     first: u64,
-    /// What the engine accepted since then, in order.
+    /// Holds what the engine accepted since then, in order.
     history: Vec<Entry>,
-    /// The most entries that the history may have.
+    /// Limits the entries of the history.
     limit: usize,
-    /// How many seats were opened.
+    /// Counts the seats that were opened.
     seats: u64,
-    /// Whether the end was called.
+    /// Says whether the end was called.
     has_ended: bool,
 }
 
@@ -119,10 +119,11 @@ impl Model for Locked {
 }
 
 impl Locked {
-    /// What lies under the lock of a new hub, with its seats.
+    /// Makes what lies under the lock of an empty hub, and its seats.
     ///
     /// # Errors
-    /// `BadLimit` where seats are not 1 to 64, or entries not 1 to 16,777,216; `OutOfMemory`.
+    /// `BadLimit` if seats are not 1 to 64, or entries not 1 to 16,777,216; `OutOfMemory` when out
+    /// of memory.
     #[tactic(auto, unfolding(crate::specs::Steps::engine_at))]
     pub fn new(alloc: Global, seats: u64, history_limit: u64) -> Result<(Locked, Vec<Seat>), Fault>
         ensures ok { IfOk result (λ p.
@@ -148,21 +149,21 @@ impl Locked {
         Ok((locked, places))
     }
 
-    /// The history leads from its opening to the engine's machine, and the engine keeps its
-    /// promises: of what waits, of what may be leased, and of idleness.
+    /// States that the history leads from its opening to the engine's machine. States also that the
+    /// engine keeps its promises: of what waits, of what may be leased, and of idleness.
     #[tactic(auto, unfolding(crate::specs::Steps::engine_at))]
     pub fn keeps_its_promises(&self)
         ensures replayed { IsReplayed self.now }
         ensures promises { KeepsItsPromises (engine_at self.now) }
     {
-        let _ = self.engine.waiting(0);
+        let _ = self.engine.waiting(0); // for the proof
     }
 
-    /// Gives up the rows that no query needs, and all entries: the history begins anew with what is
-    /// left. It needs no seat and makes no entry; numbers go on.
+    /// Gives up the rows that no query needs, and all entries: the history starts again with what
+    /// is left. It needs no seat and makes no entry; numbers go on.
     ///
     /// # Errors
-    /// `OutOfMemory`; then nothing is changed.
+    /// `OutOfMemory` when out of memory; then nothing has changed.
     #[tactic(auto, unfolding(crate::specs::Steps::engine_at))]
     pub fn forget(&mut self) -> Result<(), Fault>
         ensures { Forgets self.old result self.new }
@@ -175,14 +176,13 @@ impl Locked {
         Ok(())
     }
 
-    /// Compares the seats' receipts with the history, and gives it. Takes no memory.
+    /// Compares the seats' receipts with the history, and returns the history. Takes no memory.
     ///
-    /// The entries that an opening stands for are gone: of these the receipts' numbers alone are
-    /// compared.
+    /// The entries that an opening replaces are gone: only their receipts' numbers are compared.
     ///
     /// # Errors
-    /// All comes back as it was where the seats' numbers are not those of `new`, each once, or
-    /// where their receipts differ from the history.
+    /// Everything comes back as it was if the seats' numbers are not those of `new`, each once, or
+    /// if their receipts differ from the history.
     #[tactic(auto, unfolding(crate::specs::Steps::engine_at))]
     pub fn close(self, seats: Vec<Seat>) -> Result<Closed, (Locked, Vec<Seat>)>
         ensures legal { IfOk result (λ c. IsLegal (opening_in c.opening) c.entries.items) }

@@ -1,4 +1,4 @@
-//! Seats.
+//! Keeps what a client's seat holds and knows.
 ghost use Rattle.std.specs.Prelude.{ℕ, All, ◌⊎◌, ◌≤◌, ◌<◌, ◌+◌, ◌≡◌, max, slice_get, Some};
 ghost use Rattle.histories.specs.Histories.{Told};
 ghost use Rattle.hub.specs.Seats.{IsRisingFrom, PlainSeat, reach, receipts_from};
@@ -7,17 +7,17 @@ use histories::Receipt;
 use std::alloc::Global;
 use std::marker::Model;
 
-/// A client's place at a hub. It holds the receipts of its own calls, and knows of those of other
-/// seats that it was told of.
+/// Is a client's place at a hub. It holds the receipts of its own calls, and how far it has learnt
+/// of those of other seats.
 #[derive(Drop)]
 pub struct Seat {
-    /// Its number at the hub.
+    /// Holds its number at the hub.
     pub(crate) number: u64,
-    /// The receipts of its accepted calls, in their order.
+    /// Holds the receipts of its accepted calls, in their order.
     pub(crate) receipts: Vec<Receipt>,
-    /// One more than the greatest number of these.
+    /// Is one more than the greatest number of these.
     pub(crate) own_reach: u64,
-    /// One more than the greatest number that it was told of.
+    /// Is one more than the greatest number that it has learnt of.
     learnt: u64,
 }
 
@@ -42,7 +42,7 @@ impl Seat {
     ghost use Rattle.hub.specs.Seats.{IsRisingFrom, PlainSeat, held, reach, opened};
     ghost use Rattle.hub.specs.Seats.{receipts_from, told_at};
 
-    /// A seat of this number, with no receipt. Takes no memory.
+    /// Makes a seat with this number and no receipt. Takes no memory.
     pub(crate) fn new(alloc: Global, number: u64) -> Seat
         ensures { result ≡ opened number }
     {
@@ -54,14 +54,14 @@ impl Seat {
         }
     }
 
-    /// Its number at the hub.
+    /// Returns its number at the hub.
     pub fn number(&self) -> u64
         ensures { result ≡ self.now.number }
     {
         self.number
     }
 
-    /// The receipts of its accepted calls, in the order of their numbers.
+    /// Returns the receipts of its accepted calls, in the order of their numbers.
     pub fn receipts(&self) -> &[Receipt]
         ensures receipts { result.now ≡ self.now.receipts }
         ensures rising { IsRisingFrom 0 self.now.receipts }
@@ -69,15 +69,15 @@ impl Seat {
         self.receipts.as_slice()
     }
 
-    // The receipts of numbers from `first` on.
+    // Returns the receipts of numbers from `first` on.
     pub(crate) fn receipts_from(&self, first: u64) -> &[Receipt]
         ensures { result.now ≡ receipts_from first self.now.receipts }
     {
         rest_from(self.receipts(), first)
     }
 
-    // Where the receipts of greater numbers begin, if those of no lower number than this one begin
-    // at `place`: there, or behind the one that has it.
+    // Returns where the receipts of greater numbers start. Those of no lower number start at
+    // `place`; so this is there, or after the receipt that has the number.
     pub(crate) fn place_behind(&self, place: usize, number: u64) -> usize
         requires { place ≡ told_below number self.now.receipts }
         ensures behind { result ≡ place + told_at number self.now.receipts }
@@ -92,15 +92,15 @@ impl Seat {
         place + 1
     }
 
-    /// One more than the greatest number that it holds or has learnt.
+    /// Returns one more than the greatest number that it holds or has learnt.
     pub fn reach(&self) -> u64
         ensures { result ≡ reach self.now }
     {
         self.own_reach.max(self.learnt)
     }
 
-    /// Notes a receipt of another seat: each later call of this one stands behind it in the
-    /// history. Takes neither memory nor a lock.
+    /// Notes a receipt of another seat: each later call of this one comes after it in the history.
+    /// Takes neither memory nor a lock.
     pub fn learn(&mut self, receipt: &Receipt)
         ensures { self.new
             ≡ record self.old { learnt = max self.old.learnt (receipt.now.number + 1) } }
@@ -123,8 +123,8 @@ fn rest_from(receipts: &[Receipt], first: u64) -> &[Receipt]
     rest
 }
 
-/// Each number that a seat holds or has learnt is below its reach, and each number below its reach
-/// is at or below one that it holds or has learnt.
+/// States that each number that a seat holds or has learnt is below its reach. Each number below
+/// its reach is at or below one that it holds or has learnt.
 pub fn reach_is_above_what_a_seat_knows()
     ensures above { (s : PlainSeat)
         → All (λ (r : Told). r.number < reach s) s.receipts × (s.learnt ≤ reach s) }

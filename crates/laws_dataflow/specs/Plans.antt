@@ -56,8 +56,13 @@ least_in ns closed k = get_or (leasts_of closed [] ns) k 0
 -- open instants; instants below the first count as closed
 abbrev pub world_by : ℕ → List Window → List (List Element) → List ℕ → List ℕ → World
 world_by first ws inputs open_at came =
-    record { first = first; windows = λ k. get_or ws k Unbounded; inputs = λ k. get_or inputs k [];
-    closed = λ k. max first (get_or open_at k 0); came = λ k. get_or came k 0 }
+    record {
+      first = first;
+      windows = λ k. get_or ws k Unbounded;
+      inputs = λ k. get_or inputs k [];
+      closed = λ k. max first (get_or open_at k 0);
+      came = λ k. get_or came k 0;
+    }
 
 -- A REGISTERED QUERY OF THE MACHINE
 abbrev pub inputs_of : Machine → Registered → List (List Element)

@@ -13,8 +13,12 @@ fresh_cell n (unary f x) = at_unary [] [] [] n
 fresh_cell n (join f x y) = at_join [] [] [] [] [] n false false
 
 abbrev pub fresh_root : StreamOperator → State
-fresh_root op = record { operator = op; delta = record { entered = []; left = [] }; whole = [];
-    last = None }
+fresh_root op = record {
+  operator = op;
+  delta = record { entered = []; left = [] };
+  whole = [];
+  last = None;
+}
 
 -- what puts out at once has put out what it makes of nothing
 abbrev pub StartsEmpty : Node → Type 0

@@ -15,8 +15,13 @@ use Rattle.laws_dataflow.specs.Nets.{at_unary, at_join}
 
 -- the world with other closed instants
 abbrev pub heartbeat_taken : World → (ℕ → ℕ) → World
-heartbeat_taken w closed2 = record { first = w.first; windows = w.windows; inputs = w.inputs;
-    closed = closed2; came = w.came }
+heartbeat_taken w closed2 = record {
+  first = w.first;
+  windows = w.windows;
+  inputs = w.inputs;
+  closed = closed2;
+  came = w.came;
+}
 
 -- of each source the instants from closed to closed2 are closed, and these
 -- entries, which bring these elements, go to the end of its window's queue
@@ -48,13 +53,23 @@ pub record Change (w u : World) (lo : ℕ) : Type 0 where
 
 -- the elements es k come to the input of each source k
 abbrev pub appended : World → (ℕ → List Element) → World
-appended w es = record { first = w.first; windows = w.windows; inputs = λ k. w.inputs k ++ es k;
-    closed = w.closed; came = w.came }
+appended w es = record {
+  first = w.first;
+  windows = w.windows;
+  inputs = λ k. w.inputs k ++ es k;
+  closed = w.closed;
+  came = w.came;
+}
 
 -- the inputs are replaced by what is kept of them
 abbrev pub forgotten : World → (ℕ → List Element) → World
-forgotten w kept = record { first = w.first; windows = w.windows; inputs = kept; closed = w.closed;
-    came = w.came }
+forgotten w kept = record {
+  first = w.first;
+  windows = w.windows;
+  inputs = kept;
+  closed = w.closed;
+  came = w.came;
+}
 
 -- what is kept shows the same from the mark on, whatever comes later
 pub record Keeps (w : World) (kept : ℕ → List Element) (mark : ℕ) : Type 0 where

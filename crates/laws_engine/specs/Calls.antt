@@ -38,8 +38,11 @@ abbrev pub given_out : PlainEngine → Lease → PlainEngine
 given_out e l = record e { leases = e.leases ++ l ∷ []; next = e.next + 1 }
 
 abbrev pub leased : PlainEngine → Lease → Registered → PlainQuery → PlainEngine
-leased e l q p = record e { leases = e.leases ++ l ∷ []; next = e.next + 1;
-    slots = slot_updated e (given_out e l) l.query q p p l.operator e.slots }
+leased e l q p = record e {
+  leases = e.leases ++ l ∷ [];
+  next = e.next + 1;
+  slots = slot_updated e (given_out e l) l.query q p p l.operator e.slots;
+}
 
 -- it is of the operator of the first slot, with what stands
 -- first on one of its sides and the excerpt for that
@@ -59,14 +62,18 @@ abbrev pub others : ℕ → List Lease → List Lease
 others n ls = filter (λ l. not (l.number == n)) ls
 
 abbrev pub given_back : PlainEngine → Lease → PlainQuery → PlainEngine
-given_back e l p2 = record e { queries = set e.queries l.query (Running p2);
-    leases = others l.number e.leases }
+given_back e l p2 = record e {
+  queries = set e.queries l.query (Running p2);
+  leases = others l.number e.leases;
+}
 
 -- AN ABANDONED TURN changes nothing of its query
 abbrev pub abandoned : PlainEngine → Lease → Registered → PlainQuery → PlainEngine
-abandoned e l q p = record e { leases = others l.number e.leases;
-    slots = slot_updated e (record e { leases = others l.number e.leases }) l.query q p p
-    l.operator e.slots }
+abandoned e l q p = record e {
+  leases = others l.number e.leases;
+  slots = slot_updated e (record e { leases = others l.number e.leases }) l.query q p p
+      l.operator e.slots;
+}
 
 -- A FINISHED TURN below the root feeds the operator at the end of the wire
 abbrev pub finished : PlainEngine → Lease → Registered → PlainQuery → PlainQuery → PlainEngine
@@ -88,8 +95,9 @@ pub record IsFinishedTurn (e : PlainEngine) (l : Lease) (q : Registered)
 
 -- A FINISHED TURN of the root lengthens what waits
 abbrev pub answered : PlainEngine → Lease → Registered → PlainQuery → PlainQuery → PlainEngine
-answered e l q p p2 = record (given_back e l p2) { slots =
-    slot_updated e (given_back e l p2) l.query q p p2 l.operator e.slots }
+answered e l q p p2 = record (given_back e l p2) {
+  slots = slot_updated e (given_back e l p2) l.query q p p2 l.operator e.slots;
+}
 
 pub record IsAnsweredTurn (e : PlainEngine) (l : Lease) (q : Registered)
     (p p2 : PlainQuery) : Type 0 where
@@ -108,8 +116,11 @@ abbrev pub of_others : ℕ → List Lease → List Lease
 of_others n ls = filter (λ l. not (l.query == n)) ls
 
 abbrev pub broken : PlainEngine → ℕ → PlainQuery → PlainEngine
-broken e n p = record e { queries = set e.queries n (Broken p.answers);
-    leases = of_others n e.leases; slots = without_query n e.slots }
+broken e n p = record e {
+  queries = set e.queries n (Broken p.answers);
+  leases = of_others n e.leases;
+  slots = without_query n e.slots;
+}
 
 -- A TAKE changes how many answers of a query were taken, and so the machine's queries
 abbrev pub with_taken : Registered → ℕ → Registered
@@ -125,8 +136,10 @@ remains_after count (Broken answers) = Broken (drop count answers)
 remains_after count Dropped = Dropped
 
 abbrev pub taken : PlainEngine → ℕ → ℤ → ℕ → PlainEngine
-taken e n limit count = record e { machine = after e.machine (Take n limit) count;
-    queries = change n (remains_after count) e.queries }
+taken e n limit count = record e {
+  machine = after e.machine (Take n limit) count;
+  queries = change n (remains_after count) e.queries;
+}
 
 -- as many as wait, and no more than the limit
 pub record IsTake (e : PlainEngine) (n : ℕ) (limit : ℤ) (count : ℕ) : Type 0 where
@@ -135,9 +148,12 @@ pub record IsTake (e : PlainEngine) (n : ℕ) (limit : ℤ) (count : ℕ) : Type
 
 -- A DROP: the query's turns end, its slots leave, and nothing of it waits
 abbrev pub dropped : PlainEngine → ℕ → PlainEngine
-dropped e n = record e { machine = after e.machine (Drop n) 0;
-    queries = change n (λ remains. Dropped) e.queries; leases = of_others n e.leases; slots =
-    without_query n e.slots }
+dropped e n = record e {
+  machine = after e.machine (Drop n) 0;
+  queries = change n (λ remains. Dropped) e.queries;
+  leases = of_others n e.leases;
+  slots = without_query n e.slots;
+}
 
 -- AN APPEND changes the machine's stream, and nothing of a query
 abbrev pub appended : PlainEngine → ℕ → List (ℤ × List (Option ℤ)) → PlainEngine
@@ -179,8 +195,9 @@ abbrev pub closed_over : PlainEngine → ℕ → ℤ → PlainEngine
 closed_over e s at = record e { machine = after e.machine (Heartbeat s at) 0 }
 
 abbrev pub heartbeat_taken : PlainEngine → ℕ → ℤ → PlainEngine
-heartbeat_taken e s at = record (closed_over e s at) { slots =
-    queries_updated e (closed_over e s at) s 0 e.machine.queries e.slots }
+heartbeat_taken e s at = record (closed_over e s at) {
+  slots = queries_updated e (closed_over e s at) s 0 e.machine.queries e.slots;
+}
 
 -- the queues of all cursors over the stream gain what it closes
 pub record IsHeartbeat (e : PlainEngine) (s : ℕ) (at : ℤ) : Type 0 where
@@ -194,8 +211,10 @@ declared e name columns start =
 
 -- A REGISTRATION adds a query that runs, and the slots of its operators
 abbrev pub with_query : PlainEngine → Registered → PlainQuery → PlainEngine
-with_query e q p = record e { machine = with_queries e.machine (e.machine.queries ++ q ∷ []);
-    queries = e.queries ++ Running p ∷ [] }
+with_query e q p = record e {
+  machine = with_queries e.machine (e.machine.queries ++ q ∷ []);
+  queries = e.queries ++ Running p ∷ [];
+}
 
 -- those from the operator k on
 abbrev pub with_slots : PlainEngine → ℕ → Registered → PlainQuery → ℕ → List plan.Node
@@ -205,8 +224,9 @@ with_slots e n q p k (node ∷ nodes) slots =
     with_slots e n q p (suc k) nodes (put slots (slot_at e n q p k))
 
 abbrev pub registered : PlainEngine → Registered → PlainQuery → PlainEngine
-registered e q p = record (with_query e q p) { slots =
-    with_slots (with_query e q p) (length e.machine.queries) q p 0 q.nodes e.slots }
+registered e q p = record (with_query e q p) {
+  slots = with_slots (with_query e q p) (length e.machine.queries) q p 0 q.nodes e.slots;
+}
 
 -- the query is the one that the machine registers, and runs
 pub record IsRegistration (e : PlainEngine) (name text : List ℕ) (chart : Option (List (ℤ × ℤ)))

@@ -45,8 +45,12 @@ abbrev pub node_at : Registered → ℕ → plan.Node
 node_at q k = get_or q.nodes k (plan.Window 0)
 
 abbrev pub no_operator : PlainOperator
-no_operator = record { kind = kind.ToStream; state = state.Nothing; left = nothing_waits;
-    right = nothing_waits }
+no_operator = record {
+  kind = kind.ToStream;
+  state = state.Nothing;
+  left = nothing_waits;
+  right = nothing_waits;
+}
 
 abbrev pub operator_at : List PlainOperator → ℕ → PlainOperator
 operator_at os k = get_or os k no_operator

@@ -1,4 +1,4 @@
-//! The engine.
+//! Wraps the state in an engine that is always sound.
 
 mod answering;
 mod forgets;
@@ -8,11 +8,11 @@ mod turns;
 use crate::state::State;
 use std::marker::Model;
 
-/// An engine of many queries: its streams, its registered queries and what is left of each, the
+/// Runs many queries. It holds the streams, the registered queries and what is left of each, the
 /// turns that are out, and the slots of all operators.
 #[derive(Drop)]
 pub struct Engine {
-    /// All of it, by its parts.
+    /// Holds all of it, part by part.
     state: State,
 }
 

@@ -1,12 +1,12 @@
-//! What a lease answers.
+//! Names what a lease answers.
 
 use turn::Turn;
 
-/// What a lease answers.
+/// Is what a lease answers.
 #[derive(Drop)]
 pub enum Leased {
-    /// A turn, to be run and brought back.
+    /// Holds a turn, to be run and brought back.
     Turn(Turn),
-    /// No operator may take anything.
+    /// Says that no operator may take anything.
     Idle,
 }

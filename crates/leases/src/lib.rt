@@ -1,4 +1,4 @@
-//! An engine of many queries: turns of their operators that go out and come back.
+//! Runs an engine of many queries: turns of their operators go out and come back.
 #![tactic(auto)]
 
 mod engine;

@@ -1,4 +1,4 @@
-//! What is left of a machine when rows are forgotten.
+//! Keeps what is left of a machine when rows are forgotten.
 ghost use Rattle.std.specs.Prelude.{◌≡◌, MatchOption, None, Some, length, map, slice_get};
 ghost use Rattle.std.specs.Option.{option_map};
 ghost use Rattle.reference.specs.Machine.{empty};
@@ -10,18 +10,19 @@ use query_runtime::WaitingAnswers;
 use std::alloc::Global;
 use stream_store::Stored;
 
-/// What an engine knows behind a forgetting: its streams with the rows that queries need, and its
-/// queries, each with the answers that waited. The word `opening_in` tells which machine it is.
+/// Holds what an engine knows after a forgetting: its streams with the rows that queries need, and
+/// its queries, each with its waiting answers. The definition `opening_in` says which machine it
+/// is.
 #[derive(Drop)]
 pub struct Opening {
-    /// The declared streams by number, with the rows that are needed.
+    /// Holds the declared streams by number, with the rows that are needed.
     streams: Vec<Stored>,
-    /// By the queries' numbers, each as it was registered, and from which instant on it goes on.
+    /// Holds each query as it was registered, by number, with the instant from which it goes on.
     registered: Vec<Registration>,
 }
 
 impl Opening {
-    /// What an engine knows that was told nothing. Takes no memory.
+    /// Makes the opening of an engine without any stream or query. Takes no memory.
     #[tactic(auto, unfolding(crate::specs::Openings::opening_in))]
     pub fn new(alloc: Global) -> Opening
         ensures { opening_in result ≡ empty }
@@ -32,7 +33,7 @@ impl Opening {
         }
     }
 
-    /// The opening of these streams and queries. Takes no memory.
+    /// Makes an opening of these streams and queries. Takes no memory.
     #[tactic(auto, unfolding(crate::specs::Openings::opening_in))]
     pub(crate) fn of(streams: Vec<Stored>, registered: Vec<Registration>) -> Opening
         ensures streams { (opening_in result).streams ≡ streams.items }
@@ -44,7 +45,7 @@ impl Opening {
         }
     }
 
-    /// Gives the streams by number, each with the rows that are needed. Takes no memory.
+    /// Returns the streams by number, each with the rows that are needed. Takes no memory.
     #[tactic(auto, unfolding(crate::specs::Openings::opening_in))]
     pub fn streams(&self) -> &[Stored]
         ensures { result.now ≡ (opening_in self.now).streams }
@@ -52,7 +53,7 @@ impl Opening {
         &self.streams
     }
 
-    /// Says how many queries were registered. Takes no memory.
+    /// Returns how many queries were registered. Takes no memory.
     #[tactic(auto, unfolding(crate::specs::Openings::opening_in))]
     pub fn queries(&self) -> usize
         ensures { result ≡ length (opening_in self.now).queries }
@@ -60,9 +61,9 @@ impl Opening {
         self.registered.len()
     }
 
-    /// Says from which instant on the query of a number goes on: behind its mark, or behind all
-    /// instants where it was broken or dropped. `None` where there is no such query. Takes no
-    /// memory.
+    /// Returns the instant from which the query with this number goes on. That is the one after its
+    /// mark, or the one after all instants if it was broken or dropped. Returns `None` if there is
+    /// no such query. Takes no memory.
     #[tactic(auto, unfolding(crate::specs::Openings::opening_in))]
     pub fn next(&self, query: u64) -> Option<u64>
         ensures { result
@@ -74,8 +75,8 @@ impl Opening {
         }
     }
 
-    /// Gives the answers of the query of a number that waited. `None` where there is no such query.
-    /// Takes no memory.
+    /// Returns the answers of the query with this number that waited, or `None` if there is no such
+    /// query. Takes no memory.
     #[tactic(auto, unfolding(crate::specs::Openings::opening_in))]
     pub fn waiting(&self, query: u64) -> Option<&WaitingAnswers>
         ensures { MatchOption result (slice_get (opening_in self.now).queries query ≡ None)

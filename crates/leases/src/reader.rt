@@ -1,19 +1,19 @@
-//! Windows as readers of streams.
+//! Lists windows as readers of streams.
 ghost use Rattle.std.specs.Prelude.{◌≡◌, ◌==◌, filter, not};
 
-/// A window of a registered query.
+/// Is a window of a registered query, as a reader of a stream.
 #[derive(Clone, Copy)]
 pub(crate) struct Reader {
-    /// The number of the stream that it reads.
+    /// Holds the number of the stream that it reads.
     pub(crate) stream: u64,
-    /// The number of the query.
+    /// Holds the number of the query.
     pub(crate) query: u64,
-    /// The number of the window among the query's operators.
+    /// Holds the number of the window among the query's operators.
     pub(crate) operator: usize,
 }
 
 impl Reader {
-    /// Tells whether it reads the stream of this number.
+    /// Says whether it reads the stream with this number.
     pub(crate) fn reads(&self, stream: u64) -> bool
         ensures { result ≡ (self.now.stream == stream) }
     {

@@ -1,4 +1,4 @@
-//! What is left of a registered query.
+//! Keeps what is left of a registered query.
 ghost use Rattle.std.specs.Prelude.{◌≡◌, IfOk};
 ghost use Rattle.laws_engine.specs.Engines.{Broken, Running, answers_in};
 ghost use Rattle.laws_queries.specs.Queries.{PlainQuery};
@@ -8,19 +8,20 @@ use query_runtime::{RunningQuery, WaitingAnswers};
 use std::alloc::{AllocError, Global};
 use std::mem::replace;
 
-/// What is left of a registered query.
+/// Is what is left of a registered query.
 #[derive(Drop)]
 pub(crate) enum Remains {
-    /// It runs.
+    /// Holds a query that runs.
     Running(RunningQuery),
-    /// A growth that was refused broke it: of all that it had, only the answers that wait are left.
+    /// Holds the waiting answers of a query that broke when it ran out of memory. Nothing else of
+    /// it is left.
     Broken(WaitingAnswers),
-    /// It was dropped.
+    /// Marks a query that was dropped.
     Dropped,
 }
 
 impl Remains {
-    /// Counts the answers that wait, if it was not dropped.
+    /// Counts the waiting answers; `None` if the query was dropped.
     pub(crate) fn waiting(&self) -> Option<usize>
         ensures { result ≡ waiting_in (remains_of self.now) }
     {
@@ -31,7 +32,10 @@ impl Remains {
         }
     }
 
-    /// Copies the answers that wait, at the cost of these. An error says that memory was refused.
+    /// Copies the waiting answers. Its cost is in proportion to them.
+    ///
+    /// # Errors
+    /// `AllocError` when out of memory.
     pub(crate) fn waiting_copy(&self, alloc: Global) -> Result<WaitingAnswers, AllocError>
         ensures { IfOk result (λ copy. copy ≡ answers_in (remains_of self.now)) }
     {

@@ -1,4 +1,4 @@
-//! What an engine keeps.
+//! Keeps the fields of an engine, without an invariant.
 
 mod backs;
 mod drain;
@@ -20,32 +20,35 @@ use std::alloc::Global;
 use stream_store::Streams;
 use turn::Turn;
 
-/// What an engine keeps. It has no invariant, so that small methods may stand between two changes;
-/// `Engine` holds one that is sound.
+/// Keeps everything that an engine holds. It has no invariant, so that small methods may leave it
+/// between two changes; `Engine` holds a state that is sound.
 #[derive(Drop)]
 pub(crate) struct State {
-    /// Where memory is taken from.
+    /// Provides the memory.
     alloc: Global,
-    /// The declared streams, by number, with their open rows and with those that are closed.
+    /// Holds the declared streams, by number, with their open and their closed rows.
     pub(crate) streams: Streams,
-    /// What is kept of the queries that were not dropped: their names and row limits.
+    /// Holds the names and row limits of the queries that were not dropped.
     pub(crate) undropped: Undropped,
-    /// By the queries' numbers, each as it was registered.
+    /// Holds each query as it was registered, by number.
     registered: Vec<Registration>,
-    /// By the queries' numbers, what is left of each: as many as were registered.
+    /// Holds what is left of each query, by number: as many as were registered.
     remains: Vec<Remains>,
-    /// The windows of the queries that run, each once, by the queries' numbers and then by the
+    /// Lists the windows of the running queries, each once, by the queries' numbers and then by the
     /// operators'.
     readers: Vec<Reader>,
-    /// Copies of the turns that are out, at most `MAX_LEASES`, in the order in which they went.
+    /// Holds copies of the turns that are out, at most `MAX_LEASES`, in the order in which they
+    /// went.
     pub(crate) leases: Vec<Turn>,
-    /// The number of the next turn, at most `LEASE_NUMBERS`.
+    /// Holds the number of the next turn, at most `LEASE_NUMBERS`.
     next: u64,
-    /// The slots of all operators of the queries that run, in the order in which they are leased.
+    /// Holds the slots of all operators of the running queries, in the order in which they are
+    /// leased.
     slots: RunQueue,
-    /// How many rows are stored of all streams, with what was walked over when rows were forgotten
-    /// last: answers that waited, which were copied, and registered queries.
+    /// Counts the stored rows of all streams, and what the last forgetting walked over: the waiting
+    /// answers that it copied, and the registered queries.
     stored: u64,
-    /// How many of these the last forgetting left; where memory was refused, how many it met.
+    /// Holds `stored` as the last forgetting left it, or as a later `tidy` met it that ran out of
+    /// memory.
     left: u64,
 }

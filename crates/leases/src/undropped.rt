@@ -1,4 +1,4 @@
-//! What an engine keeps of the queries that were not dropped, the broken ones among them.
+//! Keeps names and row limits of the queries that were not dropped, including broken ones.
 ghost use Rattle.std.specs.Prelude.{◌≡◌, ◌<◌, ◌≤◌, ◌^◌, ◌+◌, ◌++◌, ◌∷◌, ◌==◌, [], None, OnErr};
 ghost use Rattle.std.specs.Prelude.{OnOk, Some, filter, length, map, not, position, set, slice_get};
 ghost use Rattle.std.specs.Vec.{vec_capacity, vec_len};
@@ -12,25 +12,25 @@ use reference::{MAX_STREAM_ROWS, rows_of_each};
 use std::alloc::{AllocError, Global};
 use std::marker::Model;
 
-/// How many rows may come to a stream for the sake of one source of a query.
+/// Limits how many rows may come to a stream for the sake of one source of a query.
 #[derive(Clone, Copy)]
 pub(crate) struct RowLimit {
-    /// The number of the stream.
+    /// Holds the number of the stream.
     stream: u64,
-    /// The number of the query.
+    /// Holds the number of the query.
     query: u64,
-    /// The most rows that may come to the stream in all.
+    /// Holds how many rows may come to the stream in all.
     most: u64,
 }
 
-/// The queries that were not dropped: their names, and the row limits of those of three and four
-/// sources.
+/// Keeps the names of the queries that were not dropped, and the row limits of those with three or
+/// four sources.
 #[derive(Drop)]
 pub(crate) struct Undropped {
-    /// By the queries' numbers, the name of each that was not dropped.
+    /// Holds the name of each query that was not dropped, by number.
     names: NameTable,
-    /// The limit of each source of those of three and four sources, by the queries' numbers and
-    /// then in the order of the text.
+    /// Holds the limit of each source of the queries with three or four sources. They are ordered
+    /// by the queries' numbers, then as in the text.
     limits: Vec<RowLimit>,
 }
 
@@ -43,7 +43,7 @@ impl Model for Undropped {
 }
 
 impl Undropped {
-    /// No queries. Takes no memory.
+    /// Makes a table of no queries. Takes no memory.
     pub(crate) fn new(alloc: Global) -> Undropped
         ensures { result ≡ record { names = []; limits = [] } }
     {
@@ -53,14 +53,17 @@ impl Undropped {
         }
     }
 
-    /// By the queries' numbers, the name of each.
+    /// Returns the name of each query, by number.
     pub(crate) fn names(&self) -> &NameTable
         ensures { result.now ≡ self.now.names }
     {
         &self.names
     }
 
-    /// Adds the query of the next number. On Err all is as it was.
+    /// Adds the query of the next number.
+    ///
+    /// # Errors
+    /// `AllocError` when out of memory; then nothing has changed.
     pub(crate) fn add(
         &mut self,
         name: &str,
@@ -82,7 +85,7 @@ impl Undropped {
         Ok(())
     }
 
-    /// The query of a number leaves, which has the name. Takes no memory.
+    /// Removes the query with this name and number. Takes no memory.
     pub(crate) fn free(&mut self, name: &str, number: u64)
         ensures { slice_get self.old.names number ≡ Some (Some name.now)
             → self.new ≡ record {
@@ -94,8 +97,8 @@ impl Undropped {
         forget_limits(&mut self.limits, number);
     }
 
-    /// The most rows that may come in all to the stream of a number. It costs a look at each limit,
-    /// and there are none but of queries of three and four sources.
+    /// Returns how many rows may come in all to the stream with this number. It costs a look at
+    /// each limit; only queries with three or four sources have limits.
     pub(crate) fn most_rows(&self, stream: u64) -> u64
         ensures { result ≡ least stream self.now.limits }
     {
@@ -103,7 +106,7 @@ impl Undropped {
     }
 }
 
-/// The limit of a source of a query, which may count so many rows of each.
+/// Makes the limit of a source of a query that may count this many rows of each source.
 fn limit_of(place: Place, query: u64, rows: u64) -> RowLimit
     ensures { result ≡ limit_at query rows (place_of place) }
 {
@@ -115,7 +118,7 @@ fn limit_of(place: Place, query: u64, rows: u64) -> RowLimit
     }
 }
 
-/// The limits of a query behind the others. There is room for them.
+/// Appends the limits of a query. There is room for them.
 fn put_limits(limits: &mut Vec<RowLimit>, query: &Registration, number: u64)
     requires { vec_len limits.old + length query.now.places.items ≤ vec_capacity limits.old }
     ensures { limits.new.items ≡ limits.old.items ++ limits_in number (query_of query.now) }
@@ -127,7 +130,7 @@ fn put_limits(limits: &mut Vec<RowLimit>, query: &Registration, number: u64)
     put_each(limits, &query.places, number, rows);
 }
 
-/// The limits of these sources behind the others. There is room for them.
+/// Appends the limits of these sources. There is room for them.
 fn put_each(limits: &mut Vec<RowLimit>, places: &[Place], query: u64, rows: u64)
     requires { vec_len limits.old + length places.now ≤ vec_capacity limits.old }
     ensures { limits.new.items
@@ -145,7 +148,7 @@ fn forget_limits(limits: &mut Vec<RowLimit>, query: u64)
     limits.retain(|limit| limit.query != query);
 }
 
-/// The least limit of the stream of a number, and no more than any stream may have.
+/// Returns the least limit of the stream with this number, at most what any stream may have.
 fn least(limits: &[RowLimit], stream: u64) -> u64
     ensures { result ≡ least stream limits.now }
 {
@@ -156,7 +159,7 @@ fn least(limits: &[RowLimit], stream: u64) -> u64
     most
 }
 
-/// The lesser of the two where the limit is of the stream of a number.
+/// Returns the lesser of `most` and the limit, if that is of this stream; otherwise `most`.
 fn tightened(most: u64, limit: RowLimit, stream: u64) -> u64
     ensures { result ≡ tightened stream most limit }
 {

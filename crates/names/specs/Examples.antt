@@ -35,8 +35,14 @@ abbrev pub called : ℕ → ℕ → Source
 called n a = record { stream = name n; window = Now; alias = Some (name a) }
 
 abbrev pub query : Entries → List Source → Option Condition → List Reference → Query
-query es ss c g = record { operator = Istream; is_distinct = false; entries = es; sources = ss;
-    condition = c; group = g }
+query es ss c g = record {
+  operator = Istream;
+  is_distinct = false;
+  entries = es;
+  sources = ss;
+  condition = c;
+  group = g;
+}
 
 abbrev pub equal : Reference → Reference → Condition
 equal a b = Compared (Named a) Equals (Named b)

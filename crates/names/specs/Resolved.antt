@@ -101,9 +101,13 @@ shape_of ts q =
 abbrev pub resolved : syntax.Query → List Stream → Resolved
 resolved q catalog =
     let ts : List Table = tables catalog q.sources in
-    record { windows = windows_of catalog q.sources;
-        condition = option_map (condition_of ts) q.condition; shape = shape_of ts q; is_distinct =
-        q.is_distinct; operator = q.operator }
+    record {
+      windows = windows_of catalog q.sources;
+      condition = option_map (condition_of ts) q.condition;
+      shape = shape_of ts q;
+      is_distinct = q.is_distinct;
+      operator = q.operator;
+    }
 
 -- the number of each source's stream
 abbrev pub streams : syntax.Query → List Stream → List ℕ

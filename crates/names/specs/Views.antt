@@ -64,15 +64,19 @@ first_found (Many c) = column_of c
 
 -- what the two tests on matches say of them
 abbrev pub verdict_of : List (List conditions.Column) → Verdict
-verdict_of found = record { is_missing = list_any faults.is_missing found;
-    is_many = list_any faults.is_many found }
+verdict_of found = record {
+  is_missing = list_any faults.is_missing found;
+  is_many = list_any faults.is_many found;
+}
 
 abbrev pub verdict_on : List spec.Table → List syntax.Reference → Verdict
 verdict_on ts rs = verdict_of (map (spec.matches 0 ts) rs)
 
 abbrev pub both_verdicts : Verdict → Verdict → Verdict
-both_verdicts a b = record { is_missing = a.is_missing || b.is_missing;
-    is_many = a.is_many || b.is_many }
+both_verdicts a b = record {
+  is_missing = a.is_missing || b.is_missing;
+  is_many = a.is_many || b.is_many;
+}
 
 abbrev pub judged : Found → Verdict
 judged Missing = record { is_missing = true; is_many = false }

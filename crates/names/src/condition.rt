@@ -1,4 +1,4 @@
-//! Conditions with their names resolved.
+//! Resolves the names of conditions.
 ghost use Rattle.std.specs.Prelude.{◌≡◌, IfOk};
 ghost use Rattle.std.specs.Option.{option_map};
 ghost use Rattle.values.specs.Resolved.{operand_of, condition_of, where_of};
@@ -10,6 +10,7 @@ use crate::matching::{Table, named_column};
 use std::alloc::{AllocError, Global};
 use values::{Condition, Operand};
 
+/// Resolves the name of a side of a comparison, if it has one.
 fn resolve_operand(tables: &[Table], operand: &cql_reader::Operand) -> Operand
     ensures { operand_of result
         ≡ spec.operand_of (tables_of tables.now) (syntax.operand_of operand.now) }
@@ -20,7 +21,7 @@ fn resolve_operand(tables: &[Table], operand: &cql_reader::Operand) -> Operand
     }
 }
 
-/// The condition with its names resolved.
+/// Returns the condition with its names resolved.
 fn resolve_condition(
     alloc: Global,
     tables: &[Table],
@@ -52,7 +53,7 @@ fn resolve_condition(
     }
 }
 
-/// Where with its names resolved.
+/// Returns Where with its names resolved.
 pub(crate) fn resolve_where(
     alloc: Global,
     tables: &[Table],
@@ -67,7 +68,7 @@ pub(crate) fn resolve_where(
     }
 }
 
-/// A second one of the condition.
+/// Copies the condition.
 pub(crate) fn copy_condition(alloc: Global, condition: &Condition) -> Result<Condition, AllocError>
     ensures { IfOk result (λ c. condition_of c ≡ condition_of condition.now) }
 {

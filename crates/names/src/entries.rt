@@ -1,4 +1,4 @@
-//! The list of a query and its Group By.
+//! Resolves the list of a query and its Group By.
 ghost use Rattle.std.specs.Prelude.{◌≡◌, ◌++◌, ◌||◌, IfOk, OnOk, length, map, nat_lt, position};
 ghost use Rattle.std.specs.List.{list_any, flat_map, range_with_len};
 ghost use Rattle.values.specs.Resolved.{column_of, columns_of, item_of, items_of, shape_of};
@@ -13,7 +13,7 @@ use cql_reader::{Entries, Entry, Query, Reference, Source, Window};
 use std::alloc::{AllocError, Global};
 use values::{Column, ListItem, MAX_COLUMNS, Shape};
 
-/// The columns that the references name.
+/// Returns the columns that the references name.
 pub(crate) fn columns_of(
     alloc: Global,
     tables: &[Table],
@@ -41,7 +41,7 @@ fn add_columns(columns: &mut Vec<Column>, source: usize, width: usize) -> Result
     Ok(())
 }
 
-/// All columns of the sources.
+/// Returns all columns of the sources.
 fn all_columns(alloc: Global, tables: &[Table]) -> Result<Vec<Column>, AllocError>
     ensures { IfOk result (λ v. columns_of v.items ≡ spec.all_columns 0 (tables_of tables.now)) }
 {
@@ -70,7 +70,7 @@ fn add_entry(columns: &mut Vec<Column>, tables: &[Table], entry: &Entry) -> Resu
     Ok(())
 }
 
-/// The columns of items.
+/// Returns the columns of items.
 fn entry_columns(
     alloc: Global,
     tables: &[Table],
@@ -87,7 +87,7 @@ fn entry_columns(
     Ok(columns)
 }
 
-/// The columns of a list without groups.
+/// Returns the columns of a list without groups.
 fn listed_columns(
     alloc: Global,
     tables: &[Table],
@@ -102,7 +102,7 @@ fn listed_columns(
     }
 }
 
-/// The first place of a column among columns.
+/// Returns the first place of a column among columns.
 fn place_among(column: Column, columns: &[Column]) -> Option<usize>
     ensures { result
         ≡ position (λ k. spec.same_column (column_of k) (column_of column)) columns.now }
@@ -110,7 +110,7 @@ fn place_among(column: Column, columns: &[Column]) -> Option<usize>
     columns.iter().position(|key| *key == column)
 }
 
-/// Whether a column is among columns.
+/// Returns whether a column is among columns.
 fn is_among(column: Column, columns: &[Column]) -> bool
     ensures { result
         ≡ list_any (λ k. spec.same_column (column_of k) (column_of column)) columns.now }
@@ -118,14 +118,14 @@ fn is_among(column: Column, columns: &[Column]) -> bool
     columns.iter().any(|key| *key == column)
 }
 
-/// The place of a column in Group By; 0 where it is none of them.
+/// Returns the place of a column in Group By; 0 where it is none of them.
 fn key_place(column: Column, by: &[Column]) -> usize
     ensures { result ≡ spec.key_place (column_of column) (columns_of by.now) }
 {
     place_among(column, by).unwrap_or(0)
 }
 
-/// An item of the list of a grouped query.
+/// Returns an item of the list of a grouped query.
 fn item_of(tables: &[Table], by: &[Column], entry: &Entry) -> ListItem
     ensures { item_of result
         ≡ spec.item_of (tables_of tables.now) (columns_of by.now) (syntax.entry_of entry.now) }
@@ -140,7 +140,7 @@ fn item_of(tables: &[Table], by: &[Column], entry: &Entry) -> ListItem
     }
 }
 
-/// The items of the list of a grouped query.
+/// Returns the items of the list of a grouped query.
 fn items_of(
     alloc: Global,
     tables: &[Table],
@@ -158,7 +158,7 @@ fn items_of(
     Ok(items)
 }
 
-/// The items of a list; `*` has none of its own.
+/// Lends the items of a list; `*` has none of its own.
 fn entry_list(entries: &Entries) -> &[Entry]
     ensures { map syntax.entry_of result.now ≡ spec.entry_list (syntax.entries_of entries.now) }
 {
@@ -168,6 +168,7 @@ fn entry_list(entries: &Entries) -> &[Entry]
     }
 }
 
+/// Returns whether the item is an aggregate.
 fn is_aggregate(entry: &Entry) -> bool
     ensures { result ≡ spec.is_aggregate (syntax.entry_of entry.now) }
 {
@@ -177,14 +178,14 @@ fn is_aggregate(entry: &Entry) -> bool
     }
 }
 
-/// Whether an item is an aggregate.
+/// Returns whether one of the items is an aggregate.
 fn has_aggregate(entries: &[Entry]) -> bool
     ensures { result ≡ list_any (λ e. spec.is_aggregate (syntax.entry_of e)) entries.now }
 {
     entries.iter().any(|entry| is_aggregate(entry))
 }
 
-/// Whether there is a reference.
+/// Returns whether there is a reference.
 fn is_some_reference(references: &[Reference]) -> bool
     ensures { result ≡ spec.is_some_reference (syntax.references_of references.now) }
 {
@@ -194,14 +195,14 @@ fn is_some_reference(references: &[Reference]) -> bool
     }
 }
 
-/// Whether the query has Group By or an aggregate.
+/// Returns whether the query has Group By or an aggregate.
 fn is_grouped(query: &Query) -> bool
     ensures { result ≡ spec.is_grouped (syntax.query_of query.now) }
 {
     is_some_reference(&query.group) || has_aggregate(entry_list(&query.entries))
 }
 
-/// What is listed, where Group By's columns are these.
+/// Returns what is listed, where Group By's columns are these.
 pub(crate) fn shape_of(
     alloc: Global,
     tables: &[Table],
@@ -221,7 +222,7 @@ pub(crate) fn shape_of(
     }
 }
 
-/// Whether an item is a column that Group By does not have.
+/// Returns whether an item is a column that Group By does not have.
 fn is_outside(tables: &[Table], by: &[Column], entry: &Entry) -> bool
     ensures { result
         ≡ faults.is_outside (tables_of tables.now) (columns_of by.now) (syntax.entry_of entry.now) }
@@ -232,7 +233,7 @@ fn is_outside(tables: &[Table], by: &[Column], entry: &Entry) -> bool
     }
 }
 
-/// Whether some item is a column that Group By does not have.
+/// Returns whether some item is a column that Group By does not have.
 fn is_some_outside(tables: &[Table], by: &[Column], entries: &[Entry]) -> bool
     ensures { result
         ≡ list_any (λ e.
@@ -242,7 +243,7 @@ fn is_some_outside(tables: &[Table], by: &[Column], entries: &[Entry]) -> bool
     entries.iter().any(|entry| is_outside(tables, by, entry))
 }
 
-/// Whether a list is `*`, or has a column that Group By does not have.
+/// Returns whether a list is `*`, or has a column that Group By does not have.
 fn has_outside(tables: &[Table], by: &[Column], entries: &Entries) -> bool
     ensures { result
         ≡ faults.has_outside (tables_of tables.now) (columns_of by.now)
@@ -254,8 +255,8 @@ fn has_outside(tables: &[Table], by: &[Column], entries: &Entries) -> bool
     }
 }
 
-/// Whether a grouped query lists `*`, or a column that Group By, whose columns are these, does not
-/// have.
+/// Returns whether a grouped query lists `*`, or a column that Group By does not have. Group By's
+/// columns are these.
 pub(crate) fn is_ungrouped(tables: &[Table], by: &[Column], query: &Query) -> bool
     requires { columns_of by.now
         ≡ map (matches.column_of (tables_of tables.now)) (syntax.query_of query.now).group }
@@ -264,7 +265,7 @@ pub(crate) fn is_ungrouped(tables: &[Table], by: &[Column], query: &Query) -> bo
     is_grouped(query) && has_outside(tables, by, &query.entries)
 }
 
-/// Whether a source's Partition By has more than `MAX_COLUMNS`.
+/// Returns whether a source's Partition By has more than `MAX_COLUMNS`.
 fn is_wide_source(source: &Source) -> bool
     ensures { result
         ≡ nat_lt MAX_COLUMNS (length (faults.partition_of (syntax.source_of source.now).window)) }
@@ -275,7 +276,7 @@ fn is_wide_source(source: &Source) -> bool
     }
 }
 
-/// Whether a Partition By has more than `MAX_COLUMNS`.
+/// Returns whether a Partition By has more than `MAX_COLUMNS`.
 fn has_wide_source(sources: &[Source]) -> bool
     ensures { result
         ≡ list_any (λ s.
@@ -284,14 +285,15 @@ fn has_wide_source(sources: &[Source]) -> bool
     sources.iter().any(|source| is_wide_source(source))
 }
 
-/// How many items a list has; `*` has none of its own.
+/// Returns the number of items of a list; `*` has none of its own.
 fn item_count(entries: &Entries) -> usize
     ensures { result ≡ length (spec.entry_list (syntax.entries_of entries.now)) }
 {
     entry_list(entries).len()
 }
 
-/// Whether there are more than `MAX_COLUMNS` items, Group By columns or Partition By columns.
+/// Returns whether there are more than `MAX_COLUMNS` items, Group By columns or Partition By
+/// columns.
 pub(crate) fn is_wide(query: &Query) -> bool
     ensures { result ≡ faults.is_wide (syntax.query_of query.now) }
 {

@@ -1,4 +1,4 @@
-//! The faults of names, in the order of their tests.
+//! Lists the faults of names, in the order of their tests.
 ghost use Rattle.std.specs.Prelude.{◌≡◌};
 ghost use Rattle.names.specs.Faults as spec;
 ghost use Rattle.names.specs.Told.{Refuses, tests_of};
@@ -6,39 +6,39 @@ ghost use Rattle.names.specs.Told.{Refuses, tests_of};
 use std::alloc::AllocError;
 use std::fmt;
 
-/// What is wrong with the names of a query. That memory was refused is none of these: it says
-/// nothing of the query, and stands beside them in `ResolveError`.
+/// Says what is wrong with the names of a query. Running out of memory is none of these, since it
+/// says nothing of the query; it is beside them in `ResolveError`.
 #[derive(Clone, Copy, Debug, PartialEq, Eq)]
 pub enum ResolveFault {
-    /// A source names no declared stream.
+    /// Says that a source names no declared stream.
     UnknownStream,
-    /// A reference matches no column.
+    /// Says that a reference matches no column.
     UnknownColumn,
-    /// A reference matches more than one column.
+    /// Says that a reference matches more than one column.
     AmbiguousColumn,
-    /// Two sources have the same name.
+    /// Says that two sources have the same name.
     DuplicateAlias,
-    /// A source after the first has no join key.
+    /// Says that a source after the first has no join key.
     NoJoinKey,
-    /// In a grouped query the list is `*`, or has a column that Group By does not have.
+    /// Says that in a grouped query the list is `*`, or has a column that Group By does not have.
     NotGrouped,
-    /// More than `MAX_COLUMNS` items, Group By columns or Partition By columns.
+    /// Says that there are more than `MAX_COLUMNS` items, Group By columns or Partition By columns.
     TooWide,
 }
 
-/// Why the names of a query were not resolved.
+/// Says why the names of a query were not resolved.
 #[derive(Clone, Copy, Debug, PartialEq, Eq)]
 pub enum ResolveError {
-    /// A growth was refused. It says nothing of the query.
+    /// Says that memory ran out, and nothing of the query.
     OutOfMemory,
-    /// The query is at fault.
+    /// Says that the query is at fault.
     Fault(ResolveFault),
 }
 
 impl ResolveFault {
     ghost use Rattle.names.specs.FaultTexts.{fault_text};
 
-    /// Its number and name.
+    /// Returns the fault's number and name.
     pub fn name(&self) -> &'static str
         ensures { result.now ≡ fault_text self.now }
     {
@@ -85,7 +85,7 @@ impl From<ResolveFault> for ResolveError {
     }
 }
 
-/// Which tests are met.
+/// Says which tests are met.
 #[derive(Clone, Copy)]
 pub(crate) struct Tests {
     pub(crate) unknown_stream: bool,
@@ -98,6 +98,10 @@ pub(crate) struct Tests {
 }
 
 /// Refuses by the first test that is met.
+///
+/// # Errors
+///
+/// The fault of that test.
 pub(crate) fn refuse(tests: Tests) -> Result<(), ResolveFault>
     ensures { Refuses result (spec.first_of (tests_of tests)) }
 {

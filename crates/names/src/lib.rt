@@ -1,6 +1,8 @@
-//! What the names of a query stand for: its sources' streams, each reference's source and column,
-//! and the conjuncts of its condition by the source or the join that they belong to (Arasu, Babu
-//! and Widom, "The CQL continuous query language", 2006).
+//! Finds what the names of a query mean (Arasu, Babu and Widom, "The CQL continuous query
+//! language", 2006).
+//!
+//! These are its sources' streams, and each reference's source and column. The conjuncts of its
+//! condition are sorted by the source or the join that they belong to.
 #![tactic(auto)]
 
 mod condition;

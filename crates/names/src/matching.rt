@@ -1,4 +1,4 @@
-//! The columns that references match.
+//! Finds the columns that references match.
 ghost use Rattle.std.specs.Prelude.{◌≡◌, [], ◌∷◌, map};
 ghost use Rattle.values.specs.Resolved.{column_of};
 ghost use Rattle.cql_reader.specs.Views as syntax;
@@ -8,24 +8,28 @@ ghost use Rattle.names.specs.Views.{first_found, found_of, table_of, tables_of, 
 use cql_reader::{Name, Reference};
 use values::Column;
 
-/// A source with its name in the query and the columns of its stream.
+/// Is a source with its name in the query and the columns of its stream.
 #[derive(Clone, Copy)]
 pub(crate) struct Table<'a> {
+    /// Holds the name of the source in the query.
     pub(crate) name: Name,
+    /// Holds the names of the columns of its stream, in order.
     pub(crate) columns: &'a [Name],
 }
 
-/// What a reference matches.
+/// Says what a reference matches.
 #[derive(Clone, Copy)]
 pub(crate) enum Found {
+    /// Says that no column matches.
     Missing,
+    /// Holds the only column that matches.
     One(Column),
-    /// The first of them.
+    /// Holds the first of the columns that match.
     Many(Column),
 }
 
 impl Found {
-    /// What is found by two parts of a search.
+    /// Joins what two parts of a search found.
     fn merge(self, other: Found) -> Found
         ensures { result ≡ merged self other }
     {
@@ -37,7 +41,7 @@ impl Found {
         }
     }
 
-    /// The first column that was found.
+    /// Returns the first column that was found.
     fn column(self) -> Column
         ensures { column_of result ≡ first_found self }
     {
@@ -52,7 +56,7 @@ impl Found {
     }
 }
 
-/// What a name matches at one column of a source.
+/// Returns what a name matches at one column of a source.
 fn find_there(source: usize, place: usize, name: &Name, column: &Name) -> Found
     ensures { result
         ≡ found_of (spec.columns_at source
@@ -68,7 +72,7 @@ fn find_there(source: usize, place: usize, name: &Name, column: &Name) -> Found
     }
 }
 
-/// What a name matches in the columns of a source.
+/// Returns what a name matches in the columns of a source.
 fn find_in(source: usize, name: &Name, columns: &[Name]) -> Found
     ensures { result
         ≡ found_of (spec.columns_at source
@@ -81,7 +85,7 @@ fn find_in(source: usize, name: &Name, columns: &[Name]) -> Found
     found
 }
 
-/// Whether the qualifier, where there is one, is the name of the source.
+/// Returns whether the qualifier, where there is one, is the name of the source.
 fn allows(qualifier: &Option<Name>, name: &Name) -> bool
     ensures { result ≡ spec.allows (syntax.alias_of qualifier.now) (syntax.name_of name.now) }
 {
@@ -91,7 +95,7 @@ fn allows(qualifier: &Option<Name>, name: &Name) -> bool
     }
 }
 
-/// What the reference matches in one source.
+/// Returns what the reference matches in one source.
 pub(crate) fn find_at(source: usize, table: &Table, reference: &Reference) -> Found
     ensures { result
         ≡ found_of (spec.matches_in source (syntax.reference_of reference.now)
@@ -104,7 +108,7 @@ pub(crate) fn find_at(source: usize, table: &Table, reference: &Reference) -> Fo
     }
 }
 
-/// What the reference matches in the sources.
+/// Returns what the reference matches in the sources.
 pub(crate) fn find(tables: &[Table], reference: &Reference) -> Found
     ensures { result
         ≡ found_of (spec.matches 0 (tables_of tables.now) (syntax.reference_of reference.now)) }
@@ -116,7 +120,7 @@ pub(crate) fn find(tables: &[Table], reference: &Reference) -> Found
     found
 }
 
-/// The column that the reference names.
+/// Returns the column that the reference names.
 pub(crate) fn named_column(tables: &[Table], reference: &Reference) -> Column
     ensures { column_of result
         ≡ spec.column_of (tables_of tables.now) (syntax.reference_of reference.now) }
@@ -124,7 +128,7 @@ pub(crate) fn named_column(tables: &[Table], reference: &Reference) -> Column
     find(tables, reference).column()
 }
 
-/// The place of the column that the reference names in one source.
+/// Returns the place of the column that the reference names in one source.
 pub(crate) fn place_in(table: &Table, reference: &Reference) -> usize
     ensures { result ≡ spec.place_in (table_of table.now) (syntax.reference_of reference.now) }
 {

@@ -1,4 +1,4 @@
-//! What a query means over the declared streams.
+//! Finds what a query means over the declared streams.
 ghost use Rattle.std.specs.Prelude.{◌≡◌, ◌≤◌, ◌<◌, ◌*◌, ℕ, IfOk, IfErr, None, length, map, sum};
 ghost use Rattle.std.specs.Prelude.{true};
 ghost use Rattle.std.specs.List.{AllByRecursion};
@@ -30,21 +30,21 @@ use cql_reader::Query;
 use std::alloc::{AllocError, Global};
 use values::{Column, Condition, Resolved};
 
-/// A query with its names resolved. The sources count from 0 in the order of From.
+/// Holds a query with its names resolved. The sources count from 0 in the order of From.
 #[derive(Drop)]
 pub struct Named {
-    /// What the query means.
+    /// Says what the query means.
     pub meaning: Resolved,
-    /// The number in the catalog of each source's stream.
+    /// Holds the number in the catalog of each source's stream.
     pub streams: Vec<usize>,
-    /// How many columns each source has.
+    /// Counts the columns of each source.
     pub widths: Vec<usize>,
-    /// The conjuncts of the condition that belong to each source: with one source all do, else
-    /// those whose columns are all of it, and that have one.
+    /// Holds the conjuncts of the condition that belong to each source. With one source all do;
+    /// else those do that have a column, and all of whose columns are of the source.
     pub own: Vec<Vec<Condition>>,
-    /// The keys of the second source, and of each later one, with those before it.
+    /// Holds the keys of the second source, and of each later one, with those before it.
     pub keys: Vec<Vec<Key>>,
-    /// The conjuncts that belong to no source and are no key.
+    /// Holds the conjuncts that belong to no source and are no key.
     pub rest: Vec<Condition>,
 }
 
@@ -52,8 +52,9 @@ pub struct Named {
 /// the query times the columns of its sources, and with the streams times the sources.
 ///
 /// # Errors
-/// The first fault of the query, in the order of `ResolveFault`, each test being over the whole
-/// query. `OutOfMemory` where a growth is refused, which says nothing of the query.
+///
+/// The first fault of the query, in the order of `ResolveFault`; each test is over the whole query.
+/// `OutOfMemory` when out of memory, which says nothing of the query.
 pub fn resolve(alloc: Global, query: &Query, catalog: &Catalog) -> Result<Named, ResolveError>
     ensures accepted { IfOk result (λ n. first_fault (query_of query.now) catalog.now ≡ None) }
     ensures meaning { IfOk result (λ n. resolved_of n.meaning
@@ -96,8 +97,12 @@ pub fn resolve(alloc: Global, query: &Query, catalog: &Catalog) -> Result<Named,
     Ok(named_of(alloc, query, catalog, &tables, by, condition)?)
 }
 
-/// Refuses a query by its first fault. The tables are its sources, and the columns of Group By and
-/// the condition are its own.
+/// Refuses a query by its first fault. The tables are its sources; the columns of Group By and the
+/// condition are its own.
+///
+/// # Errors
+///
+/// The first fault of the query.
 fn test(
     query: &Query,
     catalog: &Catalog,
@@ -126,7 +131,7 @@ fn test(
     })
 }
 
-/// What a query means, where the tables are its sources, and the columns of Group By and the
+/// Returns what a query means. The tables are its sources; the columns of Group By and the
 /// condition are its own.
 fn meaning_of(
     alloc: Global,
@@ -155,7 +160,7 @@ fn meaning_of(
     })
 }
 
-/// The query with its names resolved, where the tables are its sources, and the columns of Group By
+/// Returns the query with its names resolved. The tables are its sources; the columns of Group By
 /// and the condition are its own.
 fn named_of(
     alloc: Global,

@@ -1,4 +1,4 @@
-//! The sources of a query: their streams, and their windows.
+//! Resolves the sources of a query: their streams, and their windows.
 ghost use Rattle.std.specs.Prelude.{◌≡◌, IfOk, length, map, unwrap_or};
 ghost use Rattle.std.specs.List.{list_any};
 ghost use Rattle.std.specs.Option.{is_none};
@@ -17,7 +17,7 @@ use cql_reader::{Name, Reference, Source};
 use std::alloc::{AllocError, Global};
 use values::Window;
 
-/// The name of a source: its alias, otherwise its stream.
+/// Returns the name of a source: its alias, otherwise its stream.
 pub(crate) fn name_of(source: &Source) -> Name
     ensures { syntax.name_of result ≡ spec.name_of (syntax.source_of source.now) }
 {
@@ -27,7 +27,7 @@ pub(crate) fn name_of(source: &Source) -> Name
     }
 }
 
-/// The sources with their streams' columns.
+/// Returns the sources with their streams' columns.
 pub(crate) fn tables_of<'a>(
     alloc: Global,
     catalog: &'a Catalog,
@@ -46,7 +46,7 @@ pub(crate) fn tables_of<'a>(
     Ok(tables)
 }
 
-/// The number of each source's stream.
+/// Returns the number of each source's stream.
 pub(crate) fn streams_of(
     alloc: Global,
     catalog: &Catalog,
@@ -62,7 +62,7 @@ pub(crate) fn streams_of(
     Ok(streams)
 }
 
-/// How many columns each source has.
+/// Returns the number of columns of each source.
 pub(crate) fn widths_of(alloc: Global, tables: &[Table]) -> Result<Vec<usize>, AllocError>
     ensures { IfOk result (λ v. v.items ≡ map (λ t. length t.columns) (tables_of tables.now)) }
 {
@@ -73,7 +73,7 @@ pub(crate) fn widths_of(alloc: Global, tables: &[Table]) -> Result<Vec<usize>, A
     Ok(widths)
 }
 
-/// Whether a source names no declared stream.
+/// Returns whether a source names no declared stream.
 pub(crate) fn has_unknown_stream(catalog: &Catalog, sources: &[Source]) -> bool
     ensures { result
         ≡ list_any (λ s. is_none (number_in catalog.now (syntax.source_of s).stream)) sources.now }
@@ -81,7 +81,7 @@ pub(crate) fn has_unknown_stream(catalog: &Catalog, sources: &[Source]) -> bool
     sources.iter().any(|source| catalog.number_of(source.stream.as_bytes()).is_none())
 }
 
-/// The places of a source's columns that references name.
+/// Returns the places of a source's columns that references name.
 fn places_of(
     alloc: Global,
     table: &Table,
@@ -97,7 +97,7 @@ fn places_of(
     Ok(places)
 }
 
-/// The window of a source.
+/// Returns the window of a source.
 fn window_of(
     alloc: Global,
     table: &Table,
@@ -121,7 +121,7 @@ fn window_of(
     }
 }
 
-/// The window of each source, of which there are as many as tables.
+/// Returns the window of each source; there are as many sources as tables.
 pub(crate) fn windows_of(
     alloc: Global,
     tables: &[Table],
@@ -138,7 +138,7 @@ pub(crate) fn windows_of(
     Ok(windows)
 }
 
-/// Whether two sources have the same name.
+/// Returns whether two sources have the same name.
 pub(crate) fn has_repeat(sources: &[Source]) -> bool
     ensures { result ≡ faults.has_repeat (map spec.name_of (syntax.sources_of sources.now)) }
 {
@@ -148,7 +148,7 @@ pub(crate) fn has_repeat(sources: &[Source]) -> bool
     }
 }
 
-/// Whether a source has the name.
+/// Returns whether a source has the name.
 fn is_name_among(name: &[u8], sources: &[Source]) -> bool
     ensures { result
         ≡ list_any (λ s. bytes_eq name.now (spec.name_of (syntax.source_of s))) sources.now }
@@ -158,7 +158,7 @@ fn is_name_among(name: &[u8], sources: &[Source]) -> bool
         .any(|source| name == name_of(source).as_bytes())
 }
 
-/// Whether one of the others has the name of the source.
+/// Returns whether one of the others has the name of the source.
 fn has_namesake(source: &Source, others: &[Source]) -> bool
     ensures { result
         ≡ list_any (bytes_eq (spec.name_of (syntax.source_of source.now)))

@@ -1,4 +1,4 @@
-//! The declared streams that a query may name.
+//! Keeps the declared streams that a query may name.
 ghost use Rattle.std.specs.Prelude.{◌≡◌, [], ◌∷◌, ◌++◌, OnOk, OnErr, map, position};
 ghost use Rattle.std.specs.Str.{bytes_eq};
 ghost use Rattle.cql_reader.specs.Views.{name_of};
@@ -8,21 +8,22 @@ use cql_reader::Name;
 use std::alloc::{AllocError, Global};
 use std::marker::Model;
 
-/// A declared stream: its name, and its columns' names.
+/// Is a declared stream: its name, and its columns' names.
 #[derive(Drop)]
 pub(crate) struct Declared {
-    /// Its name.
+    /// Holds its name.
     name: Name,
-    /// The names of its columns, in the order of its declaration.
+    /// Holds the names of its columns, in the order of its declaration.
     columns: Vec<Name>,
 }
 
-/// The declared streams by their numbers, which count from 0 in the order of declaration: their
-/// names and their columns' names, as `resolve` looks them up. An engine keeps one beside its
-/// streams and adds to it at each declaration.
+/// Holds the declared streams by their numbers, which count from 0 in the order of declaration.
+///
+/// It holds their names and their columns' names, as `resolve` looks them up. An engine keeps one
+/// beside its streams and adds to it at each declaration.
 #[derive(Drop)]
 pub struct Catalog {
-    /// The streams by their numbers.
+    /// Holds the streams by their numbers.
     streams: Vec<Declared>,
 }
 
@@ -36,7 +37,7 @@ impl Model for Catalog {
     ghost view = { λ c. streams_of c.streams.items };
 }
 
-/// The number of the stream of a name.
+/// Returns the number of the stream of a name.
 fn number_among(streams: &[Declared], name: &[u8]) -> Option<usize>
     ensures { result ≡ position (λ d. bytes_eq (name_of d.name) name.now) streams.now }
 {
@@ -46,7 +47,7 @@ fn number_among(streams: &[Declared], name: &[u8]) -> Option<usize>
 }
 
 impl Catalog {
-    /// A catalog without streams.
+    /// Makes a catalog without streams.
     pub fn new(alloc: Global) -> Catalog
         ensures { result ≡ [] }
     {
@@ -58,7 +59,8 @@ impl Catalog {
     /// Adds a stream, whose number is how many there were before.
     ///
     /// # Errors
-    /// `AllocError` where a growth is refused: nothing has changed.
+    ///
+    /// `AllocError` when out of memory; then nothing has changed.
     pub fn declare(&mut self, name: Name, columns: Vec<Name>) -> Result<(), AllocError>
         ensures ok { OnOk result (self.new
             ≡ self.old ++ record { name = name_of name; columns = map name_of columns.items }
@@ -69,14 +71,14 @@ impl Catalog {
         Ok(())
     }
 
-    /// The number of the stream of a name; None where no stream has it.
+    /// Returns the number of the stream of a name; None where no stream has it.
     pub fn number_of(&self, name: &[u8]) -> Option<usize>
         ensures { result ≡ number_in self.now name.now }
     {
         number_among(&self.streams, name)
     }
 
-    /// The columns' names of the stream of a name; none where no stream has it.
+    /// Lends the columns' names of the stream of a name; none where no stream has it.
     pub fn columns_of(&self, name: &[u8]) -> &[Name]
         ensures { map name_of result.now ≡ columns_in self.now name.now }
     {

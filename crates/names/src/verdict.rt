@@ -1,4 +1,4 @@
-//! Whether each reference matches one column.
+//! Judges whether each reference matches one column.
 ghost use Rattle.std.specs.Prelude.{◌≡◌, [], ◌∷◌, ◌++◌, map, length};
 ghost use Rattle.std.specs.List.{flat_map};
 ghost use Rattle.cql_reader.specs.Views as syntax;
@@ -12,15 +12,17 @@ ghost use Rattle.names.specs.Views.{judged, partitions_in};
 use crate::matching::{Found, Table, find, find_at};
 use cql_reader::{Condition, Entries, Entry, Operand, Query, Reference, Source, Window};
 
-/// Whether some reference matches no column, and whether some matches more than one.
+/// Says whether some reference matches no column, and whether some matches more than one.
 #[derive(Clone, Copy)]
 pub(crate) struct Verdict {
+    /// Says whether some reference matches no column.
     pub(crate) is_missing: bool,
+    /// Says whether some reference matches more than one column.
     pub(crate) is_many: bool,
 }
 
 impl Verdict {
-    /// The verdict on no reference.
+    /// Returns the verdict on no reference.
     fn good() -> Verdict
         ensures { result ≡ verdict_of [] }
     {
@@ -30,7 +32,7 @@ impl Verdict {
         }
     }
 
-    /// The verdict on the references of both.
+    /// Joins the verdicts on the references of both.
     fn and(self, other: Verdict) -> Verdict
         ensures { result ≡ both_verdicts self other }
     {
@@ -41,7 +43,7 @@ impl Verdict {
     }
 }
 
-/// The verdict on a reference that matches so.
+/// Returns the verdict on a reference that matches so.
 fn verdict_of(found: Found) -> Verdict
     ensures { result ≡ judged found }
 {
@@ -58,14 +60,14 @@ fn verdict_of(found: Found) -> Verdict
     }
 }
 
-/// The verdict on a reference.
+/// Judges a reference.
 fn judge(tables: &[Table], reference: &Reference) -> Verdict
     ensures { result ≡ verdict_on (tables_of tables.now) (syntax.reference_of reference.now ∷ []) }
 {
     verdict_of(find(tables, reference))
 }
 
-/// The verdict on references.
+/// Judges all references.
 fn judge_all(tables: &[Table], references: &[Reference]) -> Verdict
     ensures { result ≡ verdict_on (tables_of tables.now) (syntax.references_of references.now) }
 {
@@ -76,7 +78,7 @@ fn judge_all(tables: &[Table], references: &[Reference]) -> Verdict
     verdict
 }
 
-/// The verdict on the reference of an item.
+/// Judges the reference of an item.
 fn judge_entry(tables: &[Table], entry: &Entry) -> Verdict
     ensures { result ≡ verdict_on (tables_of tables.now) (named_by (syntax.entry_of entry.now)) }
 {
@@ -90,7 +92,7 @@ fn judge_entry(tables: &[Table], entry: &Entry) -> Verdict
     }
 }
 
-/// The verdict on the references of items.
+/// Judges the references of items.
 fn judge_entries(tables: &[Table], entries: &[Entry]) -> Verdict
     ensures { result
         ≡ verdict_on (tables_of tables.now) (flat_map named_by (map syntax.entry_of entries.now)) }
@@ -102,7 +104,7 @@ fn judge_entries(tables: &[Table], entries: &[Entry]) -> Verdict
     verdict
 }
 
-/// The verdict on the references of a list.
+/// Judges the references of a list.
 fn judge_list(tables: &[Table], entries: &Entries) -> Verdict
     ensures { result
         ≡ verdict_on (tables_of tables.now)
@@ -114,7 +116,7 @@ fn judge_list(tables: &[Table], entries: &Entries) -> Verdict
     }
 }
 
-/// The verdict on a side of a comparison.
+/// Judges a side of a comparison.
 fn judge_operand(tables: &[Table], operand: &Operand) -> Verdict
     ensures { result
         ≡ verdict_on (tables_of tables.now)
@@ -126,7 +128,7 @@ fn judge_operand(tables: &[Table], operand: &Operand) -> Verdict
     }
 }
 
-/// The verdict on the references of a condition.
+/// Judges the references of a condition.
 fn judge_condition(tables: &[Table], condition: &Condition) -> Verdict
     ensures { result
         ≡ verdict_on (tables_of tables.now)
@@ -140,7 +142,7 @@ fn judge_condition(tables: &[Table], condition: &Condition) -> Verdict
     }
 }
 
-/// The verdict on the references of Where.
+/// Judges the references of Where.
 fn judge_where(tables: &[Table], condition: &Option<Condition>) -> Verdict
     ensures { result
         ≡ verdict_on (tables_of tables.now) (references_of_where (syntax.where_of condition.now)) }
@@ -151,7 +153,7 @@ fn judge_where(tables: &[Table], condition: &Option<Condition>) -> Verdict
     }
 }
 
-/// The verdict on references to columns of one source.
+/// Judges references to columns of one source.
 fn judge_within(table: &Table, references: &[Reference]) -> Verdict
     ensures { result
         ≡ verdict_of
@@ -165,7 +167,7 @@ fn judge_within(table: &Table, references: &[Reference]) -> Verdict
     verdict
 }
 
-/// The verdict on the columns of Partition By.
+/// Judges the columns of Partition By.
 fn judge_window(table: &Table, window: &Window) -> Verdict
     ensures { result
         ≡ verdict_of
@@ -182,8 +184,7 @@ fn judge_window(table: &Table, window: &Window) -> Verdict
     }
 }
 
-/// The verdict on the columns of each Partition By, of sources of which there are as many as
-/// tables.
+/// Judges the columns of each Partition By; there are as many sources as tables.
 fn judge_windows(tables: &[Table], sources: &[Source]) -> Verdict
     requires { length tables.now ≡ length sources.now }
     ensures { result
@@ -196,7 +197,7 @@ fn judge_windows(tables: &[Table], sources: &[Source]) -> Verdict
     verdict
 }
 
-/// The verdict on all references of a query, whose sources are the tables.
+/// Judges all references of a query, whose sources are the tables.
 pub(crate) fn judge_query(tables: &[Table], query: &Query) -> Verdict
     requires { length tables.now ≡ length query.now.sources.items }
     ensures { result

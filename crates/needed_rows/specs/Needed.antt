@@ -32,8 +32,12 @@ is_needed_by_some es readers e = list_any (λ r. is_needed_by es r e) readers
 
 -- WHAT THE CODE HAS
 abbrev pub reader_in : Reader → PlainReader
-reader_in r = record { place = r.place; first = r.first; next = r.next;
-    window = window_of r.window.now }
+reader_in r = record {
+  place = r.place;
+  first = r.first;
+  next = r.next;
+  window = window_of r.window.now;
+}
 
 abbrev pub readers_in : List Reader → List PlainReader
 readers_in readers = map reader_in readers

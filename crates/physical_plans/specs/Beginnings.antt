@@ -108,8 +108,12 @@ StateStarts ws vs widths (Group i by items) s =
 StateStarts ws vs widths (Distinct i) s =
     s ≡ state.Groups (groups.beginning (once_each (get_or widths i 0)))
 StateStarts ws vs widths (ToStream i op) s =
-    s ≡ state.Root (record { operator = op; delta = record { entered = []; left = [] }; whole = [];
-    last = None })
+    s ≡ state.Root (record {
+      operator = op;
+      delta = record { entered = []; left = [] };
+      whole = [];
+      last = None;
+    })
 
 -- WHAT WAITS FOR IT: at a window what its source's log has of the query's input, else nothing
 abbrev pub nothing_waits : Inbox

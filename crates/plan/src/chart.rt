@@ -1,4 +1,4 @@
-//! Charts: what each operator costs, and what it leaves.
+//! Holds charts: what each operator costs, and the size that it leaves.
 ghost use Rattle.std.specs.Prelude.{◌≡◌};
 ghost use Rattle.std.specs.List.{list_all};
 ghost use Rattle.plan.specs.Chart.{is_measure};
@@ -6,26 +6,27 @@ ghost use Rattle.plan.specs.Chart.{is_measure};
 use crate::node::Node;
 use std::alloc::{AllocError, Global};
 
-/// The greatest cost of an operator; the least is 1.
+/// Limits the cost of an operator. The least cost is 1.
 pub const MAX_COST: i64 = 1_000_000;
 
-/// The greatest size that an operator leaves, in millionths of what enters a path; the least is 0.
+/// Limits the size that an operator leaves, in millionths of what enters a path. The least size is
+/// 0.
 pub const MAX_SIZE: i64 = 1_000_000;
 
-/// What an operator costs, and the size that it leaves.
+/// Says what an operator costs, and the size that it leaves.
 #[derive(Clone, Copy, Debug, PartialEq, Eq)]
 pub struct Measure {
-    /// In units of time, from 1 to `MAX_COST`.
+    /// Holds the cost in units of time, from 1 to `MAX_COST`.
     pub cost: u64,
-    /// In millionths of what enters the path, from 0 to `MAX_SIZE`; 0 at the root.
+    /// Holds the size in millionths of what enters the path, from 0 to `MAX_SIZE`; 0 at the root.
     pub size: u64,
 }
 
-/// A chart as it is given with a query: a cost and a size for each operator by its number, right or
-/// not.
+/// Holds a chart as it is given with a query, right or not: a cost and a size for each operator by
+/// its number.
 #[derive(Debug, Drop)]
 pub struct Chart {
-    /// By each operator's number its cost, and the size that it leaves, in millionths.
+    /// Holds by each operator's number its cost, and the size that it leaves, in millionths.
     pub operators: Vec<(i64, i64)>,
 }
 
@@ -34,7 +35,7 @@ impl Measure {
     ghost use Rattle.plan.specs.Chart.{default_of, is_measure, measure, measure_of};
     ghost use Rattle.plan.specs.Views.{node_of};
 
-    /// What an operator costs and leaves where no chart is given.
+    /// Returns what an operator costs and leaves if no chart is given.
     pub(crate) fn default_of(node: &Node) -> Measure
         ensures { result ≡ default_of (node_of node.now) }
     {
@@ -55,7 +56,7 @@ impl Measure {
         Measure { cost, size }
     }
 
-    /// Whether a cost and a size are in range.
+    /// Returns whether a cost and a size are in range.
     fn is_in_range(given: (i64, i64)) -> bool
         ensures { result ≡ is_measure given }
     {
@@ -71,7 +72,7 @@ impl Measure {
         given.1 <= MAX_SIZE
     }
 
-    /// A cost and a size that are in range.
+    /// Returns the measure with a cost and a size that are in range.
     fn of(given: (i64, i64)) -> Measure
         requires { is_measure given ≡ true }
         ensures { result ≡ measure_of given }
@@ -85,8 +86,8 @@ impl Chart {
     ghost use Rattle.std.specs.List.{list_all};
     ghost use Rattle.plan.specs.Chart.{is_bad_chart, is_measure, root_size, measure_of};
 
-    /// Whether the chart is of another length than the plan of so many operators, has a cost or a
-    /// size out of range, or leaves a size at the root.
+    /// Returns whether the chart is wrong for a plan of `count` operators. It is if it has another
+    /// length, a cost or a size out of range, or a size at the root.
     pub(crate) fn is_bad(&self, count: usize) -> bool
         ensures { result ≡ is_bad_chart count (Some self.now.operators.items) }
     {
@@ -99,7 +100,7 @@ impl Chart {
         !are_measures(&self.operators)
     }
 
-    /// The size that is given for the root.
+    /// Returns the size that is given for the root.
     fn root_size(&self) -> i64
         ensures { result ≡ root_size self.now.operators.items }
     {
@@ -109,7 +110,7 @@ impl Chart {
         self.operators[self.operators.len() - 1].1
     }
 
-    /// What is given for each operator.
+    /// Returns what is given for each operator.
     pub(crate) fn measures(&self, alloc: Global) -> Result<Vec<Measure>, AllocError>
         requires { list_all is_measure self.now.operators.items ≡ true }
         ensures { IfOk result (λ measures. measures.items
@@ -123,7 +124,7 @@ impl Chart {
     }
 }
 
-/// Whether each cost and each size is in range.
+/// Returns whether each cost and each size is in range.
 fn are_measures(given: &[(i64, i64)]) -> bool
     ensures { result ≡ list_all is_measure given.now }
 {

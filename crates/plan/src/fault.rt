@@ -1,25 +1,25 @@
-//! The faults of plans, in the order of their tests.
+//! Names the faults of plans, in the order of their tests.
 use names::{ResolveError, ResolveFault};
 use std::alloc::AllocError;
 use std::fmt;
 
-/// What is wrong with the names of a query, or with its chart. That memory was refused is none of
-/// these: it says nothing of the query, and stands beside them in `PlanError`.
+/// Says what is wrong with the names of a query, or with its chart. Running out of memory is none
+/// of these: it says nothing of the query, and is beside them in `PlanError`.
 #[derive(Clone, Copy, Debug, PartialEq, Eq)]
 pub enum PlanFault {
-    /// The names of the query.
+    /// Says that the names of the query are at fault.
     Unresolved(ResolveFault),
-    /// A chart of another length than the plan, a cost or size out of range, or a root size that is
-    /// not 0.
+    /// Says that the chart has another length than the plan, a cost or size out of range, or a root
+    /// size that is not 0.
     BadChart,
 }
 
-/// Why a query was not planned.
+/// Says why a query was not planned.
 #[derive(Clone, Copy, Debug, PartialEq, Eq)]
 pub enum PlanError {
-    /// A growth was refused. It says nothing of the query.
+    /// Says that memory ran out. This says nothing of the query.
     OutOfMemory,
-    /// The query or its chart is at fault.
+    /// Says that the query or its chart is at fault.
     Fault(PlanFault),
 }
 
@@ -27,7 +27,7 @@ impl PlanFault {
     ghost use Rattle.std.specs.Prelude.{◌≡◌};
     ghost use Rattle.plan.specs.FaultTexts.{fault_text};
 
-    /// Its number and name.
+    /// Returns its number and name.
     pub fn name(&self) -> &'static str
         ensures { result.now ≡ fault_text self.now }
     {

@@ -1,4 +1,4 @@
-//! Whether a query may be planned.
+//! Tests whether a query may be planned.
 ghost use Rattle.std.specs.Prelude.{◌≤◌, length, sum, MatchBool};
 ghost use Rattle.values.specs.declared.TheConstants.{MAX_COLUMNS};
 ghost use Rattle.cql_reader.specs.Views.{query_of};
@@ -8,9 +8,11 @@ use cql_reader::Query;
 use names::Catalog;
 use values::MAX_COLUMNS;
 
-/// Whether the query has no more sources, and these no more columns together, than a row has
-/// values: what `plan` asks of its caller. Unknown streams count as without columns. The time goes
-/// with the sources times the streams.
+/// Returns whether the query has at most as many sources as a row has values, and these at most as
+/// many columns together. This is what `plan` asks of its caller.
+///
+/// Unknown streams count as streams without columns. The time grows with the sources times the
+/// streams.
 pub fn fits_a_row(query: &Query, catalog: &Catalog) -> bool
     ensures { MatchBool result
         ((length query.now.sources.items ≤ MAX_COLUMNS)

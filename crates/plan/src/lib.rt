@@ -1,11 +1,16 @@
-//! Plans: the operators that evaluate a query, how each is fed, and what each costs.
+//! Makes plans: the operators that evaluate a query, how each is fed, and what each costs.
 //!
-//! `plan` looks up the names of a query, and answers its operators by their numbers: for each
-//! source its window, and a Select where conjuncts of the condition belong to it; a join for each
-//! source after the first; a Select where conjuncts remain; Group or Project; Distinct where it is
-//! said; and ToStream, the root. The law `plans_are_right` says that the value of the plan on any
-//! bags of the windows is the relation that the query's text means (CQL: Arasu, Babu and Widom,
-//! 2006).
+//! `plan` looks up the names of a query, and returns its operators by their numbers, in this order:
+//!
+//! - for each source its window, and a Select if conjuncts of the condition belong to it
+//! - a join for each source after the first
+//! - a Select if conjuncts remain
+//! - Group or Project
+//! - Distinct if the query says so
+//! - ToStream, the root
+//!
+//! The law `plans_are_right` says that the value of the plan is the relation that the query's text
+//! means, on any bags of the windows. The rules are CQL's (Arasu, Babu and Widom, 2006).
 #![tactic(auto)]
 
 mod build;

@@ -1,4 +1,4 @@
-//! The cost and the size of each operator of a plan.
+//! Finds the cost and the size of each operator of a plan.
 ghost use Rattle.std.specs.Prelude.{◌≡◌, IfOk, IfErr, None, map, length, false};
 ghost use Rattle.std.specs.Option.{option_copied};
 ghost use Rattle.plan.specs.Chart.{default_of, given_by, is_bad_chart, measures_of};
@@ -11,7 +11,11 @@ use crate::fault::{PlanError, PlanFault};
 use crate::node::Node;
 use std::alloc::{AllocError, Global};
 
-/// The cost and the size of each operator: as a chart gives them, or by default.
+/// Returns the cost and the size of each operator: as a chart gives them, or by default.
+///
+/// # Errors
+/// `BadChart` if the chart does not fit the plan. `OutOfMemory` when out of memory, which says
+/// nothing of the query.
 pub fn measures(
     alloc: Global,
     nodes: &[Node],

@@ -1,4 +1,4 @@
-//! The operators of a plan.
+//! Holds the operators of a plan.
 ghost use Rattle.std.specs.Prelude.{◌≡◌, Some};
 ghost use Rattle.plan.specs.Kinds.{kind_of, kind_name};
 ghost use Rattle.plan.specs.Paths.{is_window, takes};
@@ -7,39 +7,40 @@ ghost use Rattle.plan.specs.Views.{node_of};
 use std::fmt;
 use values::{Condition, ListItem, StreamOperator};
 
-/// A key of a join: a place in the left row, and one in the right.
+/// Is a key of a join: a place in the left row, and one in the right.
 #[derive(Clone, Copy, Debug, PartialEq, Eq)]
 pub struct Key {
-    /// The place in the left row.
+    /// Holds the place in the left row.
     pub left: usize,
-    /// The place in the right row.
+    /// Holds the place in the right row.
     pub right: usize,
 }
 
-/// An operator. Its inputs are the numbers of operators before it, and its columns are places in
+/// Is an operator. Its inputs are the numbers of operators before it, and its columns are places in
 /// the rows of its input.
 ///
-/// In conditions and items the one row of the input stands as the source 0.
+/// In conditions and items the one row of the input is source 0.
 #[derive(Drop)]
 pub enum Node {
-    /// The window of a source, by the source's number in the order of From.
+    /// Is the window of a source, by the source's number in the order of From.
     Window(usize),
-    /// The rows of the input at which all conditions are true.
+    /// Keeps the rows of the input at which all conditions are true.
     Select(usize, Vec<Condition>),
-    /// The rows of the left input beside those of the right one with equal keys, left columns
+    /// Puts the rows of the left input beside those of the right one with equal keys, left columns
     /// first. Null equals nothing.
     Join(usize, usize, Vec<Key>),
-    /// The listed columns.
+    /// Keeps the listed columns.
     Project(usize, Vec<usize>),
-    /// Group By's columns, none where it is missing, and the list, of each group.
+    /// Groups the rows by Group By's columns, none if it is missing, and makes the list of each
+    /// group.
     Group(usize, Vec<usize>, Vec<ListItem>),
-    /// Each row once.
+    /// Keeps each row once.
     Distinct(usize),
-    /// The stream of the input's relation: the root.
+    /// Makes the stream of the input's relation. It is the root.
     ToStream(usize, StreamOperator),
 }
 
-/// What an operator does. It is shown by its name, as `Window`.
+/// Says what an operator does. It is shown by its name, as `Window`.
 #[derive(Clone, Copy, Debug, PartialEq, Eq)]
 pub enum Kind {
     Window,
@@ -52,7 +53,7 @@ pub enum Kind {
 }
 
 impl Node {
-    /// What the operator does.
+    /// Returns what the operator does.
     pub fn kind(&self) -> Kind
         ensures { result ≡ kind_of (node_of self.now) }
     {
@@ -67,14 +68,14 @@ impl Node {
         }
     }
 
-    /// Whether the operator is a window.
+    /// Returns whether the operator is a window.
     pub fn is_window(&self) -> bool
         ensures { result ≡ is_window (node_of self.now) }
     {
         matches!(self, Node::Window(_))
     }
 
-    /// Whether the operator takes the rows of the one with this number.
+    /// Returns whether the operator takes the rows of the one with this number.
     pub fn takes(&self, operator: usize) -> bool
         ensures { result ≡ takes operator (node_of self.now) }
     {

@@ -1,4 +1,4 @@
-//! The operators of a query, and what each costs.
+//! Holds the operators of a query, and what each costs.
 ghost use Rattle.plan.specs.Paths.{HaveCharts};
 ghost use Rattle.plan.specs.Views.{nodes_of};
 
@@ -6,18 +6,18 @@ use crate::chart::Measure;
 use crate::node::Node;
 use values::Resolved;
 
-/// The plan of a query: its operators, what each costs, and what the query means.
+/// Holds the plan of a query: its operators, what each costs, and what the query means.
 #[derive(Drop)]
 pub struct Plan {
-    /// The operators by their numbers. The root is the last.
+    /// Holds the operators by their numbers. The root is the last.
     pub nodes: Vec<Node>,
-    /// The cost and the size of each operator.
+    /// Holds the cost and the size of each operator.
     pub measures: Vec<Measure>,
-    /// The number in the catalog of each source's stream.
+    /// Holds the number in the catalog of each source's stream.
     pub streams: Vec<usize>,
-    /// How many columns each source has.
+    /// Counts the columns of each source.
     pub widths: Vec<usize>,
-    /// What the query means.
+    /// Says what the query means.
     pub meaning: Resolved,
     ghost charted: { HaveCharts (nodes_of nodes.items) measures.items },
 }

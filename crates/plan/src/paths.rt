@@ -1,5 +1,5 @@
-//! The slopes of a plan's operators, over the paths from its windows to its root (Chain: Babcock,
-//! Babu, Datar and Motwani, SIGMOD 2003).
+//! Computes the slopes of a plan's operators, over the paths from its windows to its root (Chain:
+//! Babcock, Babu, Datar and Motwani, SIGMOD 2003).
 ghost use Rattle.std.specs.Prelude.{◌≡◌, ◌<◌, ◌++◌, ℕ, [], ◌∷◌, IfOk, cond, fold, map, length};
 ghost use Rattle.std.specs.Prelude.{slice_index_or};
 ghost use Rattle.std.specs.List.{range_with_len};
@@ -16,11 +16,11 @@ use crate::operators::Plan;
 use envelope::{FULL_SIZE, Point, Slope};
 use std::alloc::{AllocError, Global};
 
-/// The slope of each operator, by its number: the greatest of its slopes on the paths that lead
-/// through it. There is a path for each source, from its window to the root.
+/// Returns the slope of each operator, by its number: the greatest of its slopes on the paths that
+/// lead through it. There is a path for each source, from its window to the root.
 ///
 /// # Errors
-/// `AllocError` where a growth is refused.
+/// `AllocError` when out of memory; then nothing has changed.
 pub fn slopes(alloc: Global, plan: &Plan) -> Result<Vec<Slope>, AllocError>
     ensures { IfOk result (λ slopes. slopes.items
         ≡ spec.plan_slopes (nodes_of plan.now.nodes.items) plan.now.measures.items) }
@@ -29,7 +29,7 @@ pub fn slopes(alloc: Global, plan: &Plan) -> Result<Vec<Slope>, AllocError>
     greatest_slopes(alloc, &plan.nodes, &plan.measures, &windows)
 }
 
-/// The greatest slope of each operator on the paths of the windows.
+/// Returns the greatest slope of each operator on the paths of the windows.
 fn greatest_slopes(
     alloc: Global,
     nodes: &[Node],
@@ -51,7 +51,7 @@ fn greatest_slopes(
     Ok(greatest)
 }
 
-/// The greater of each operator's slope so far and of that on the path of a window.
+/// Returns for each operator the greater of its slope so far and that on the path of a window.
 fn raised(
     alloc: Global,
     slopes: &[Slope],
@@ -71,7 +71,7 @@ fn raised(
     raised_along(alloc, slopes, &path, &along)
 }
 
-/// The greater of each operator's slope so far and of that on a path of these slopes.
+/// Returns for each operator the greater of its slope so far and that on a path of these slopes.
 fn raised_along(
     alloc: Global,
     slopes: &[Slope],
@@ -89,14 +89,14 @@ fn raised_along(
     Ok(raised)
 }
 
-/// The slope 0.
+/// Returns the slope 0.
 fn nought() -> Slope
     ensures { result ≡ nought }
 {
     Slope::new(0, 1)
 }
 
-/// The slope 0 for each of so many operators.
+/// Returns the slope 0 for each of `count` operators.
 fn noughts(alloc: Global, count: usize) -> Result<Vec<Slope>, AllocError>
     ensures { IfOk result (λ slopes. slopes.items ≡ map (λ k. nought) (range_with_len 0 count)) }
 {
@@ -107,7 +107,7 @@ fn noughts(alloc: Global, count: usize) -> Result<Vec<Slope>, AllocError>
     Ok(slopes)
 }
 
-/// The slope at a place, nought past the end.
+/// Returns the slope at a place, or 0 past the end.
 fn slope_at(slopes: &[Slope], place: usize) -> Slope
     ensures { result ≡ slice_index_or slopes.now place nought }
 {
@@ -117,15 +117,15 @@ fn slope_at(slopes: &[Slope], place: usize) -> Slope
     }
 }
 
-/// The greater of two slopes.
+/// Returns the greater of two slopes.
 fn greater(a: Slope, b: Slope) -> Slope
     ensures { result ≡ greater a b }
 {
     if b <= a { a } else { b }
 }
 
-/// The slope of an operator on a path of these slopes; nought where the path does not lead through
-/// it.
+/// Returns the slope of an operator on a path of these slopes, or 0 if the path does not lead
+/// through it.
 fn slope_on(operator: usize, path: &[usize], slopes: &[Slope]) -> Slope
     ensures { result ≡ spec.slope_on operator path.now slopes.now }
 {
@@ -143,7 +143,7 @@ fn slope_on(operator: usize, path: &[usize], slopes: &[Slope]) -> Slope
     }
 }
 
-/// The windows, by their numbers.
+/// Returns the numbers of the windows.
 fn windows(alloc: Global, nodes: &[Node]) -> Result<Vec<usize>, AllocError>
     ensures { IfOk result (λ windows. windows.items ≡ spec.windows 0 (nodes_of nodes.now)) }
 {
@@ -164,7 +164,7 @@ fn push_if(numbers: &mut Vec<usize>, number: usize, is_one: bool) -> Result<(), 
     Ok(())
 }
 
-/// The path of an operator: the numbers of the operators from it to the root.
+/// Returns the path of an operator: the numbers of the operators from it to the root.
 fn path_from(alloc: Global, nodes: &[Node], first: usize) -> Result<Vec<usize>, AllocError>
     ensures { IfOk result (λ path. path.items ≡ spec.path_from (nodes_of nodes.now) first) }
 {
@@ -176,7 +176,8 @@ fn path_from(alloc: Global, nodes: &[Node], first: usize) -> Result<Vec<usize>, 
     Ok(path)
 }
 
-/// Goes on to an operator where it takes the rows of the path's last one, and answers the last one.
+/// Appends an operator to the path if it takes the rows of the path's last one. Returns the last
+/// one after that.
 fn step(
     path: &mut Vec<usize>,
     last: usize,
@@ -194,7 +195,7 @@ fn step(
     Ok(last)
 }
 
-/// The points of a path.
+/// Returns the points of a path.
 fn points_of(alloc: Global, measures: &[Measure], path: &[usize]) -> Result<Vec<Point>, AllocError>
     requires { IsChart (spec.points_of measures.now path.now) }
     ensures { IfOk result (λ points. points.items ≡ spec.points_of measures.now path.now) }
@@ -209,7 +210,7 @@ fn points_of(alloc: Global, measures: &[Measure], path: &[usize]) -> Result<Vec<
     Ok(points)
 }
 
-/// The cost and the size of an operator; 0 and 0 where there is no such operator.
+/// Returns the cost and the size of an operator; 0 and 0 if there is no such operator.
 fn measure_at(measures: &[Measure], operator: usize) -> Measure
     ensures { result ≡ slice_index_or measures.now operator (measure 0 0) }
 {

@@ -1,4 +1,4 @@
-//! Columns as places in the rows that go between operators.
+//! Turns columns into places in the rows that go between operators.
 ghost use Rattle.std.specs.Prelude.{◌≡◌, ◌<◌, ◌^◌, IfOk, sum, map};
 ghost use Rattle.std.specs.List.{AllByRecursion};
 ghost use Rattle.values.specs.Resolved.{column_of, columns_of, operand_of, condition_of, item_of};
@@ -12,7 +12,7 @@ use crate::node::Key;
 use std::alloc::{AllocError, Global};
 use values::{Column, Condition, ListItem, Operand};
 
-/// The place of a column in the joined row of sources so wide.
+/// Returns the place of a column in the joined row of sources with these widths.
 pub fn offset(widths: &[usize], column: Column) -> usize
     requires room { sum widths.now < 2 ^ 64 }
     requires scope { InScope widths.now (column_of column) }
@@ -25,7 +25,7 @@ pub fn offset(widths: &[usize], column: Column) -> usize
     before + column.column
 }
 
-/// The column at a place of a row.
+/// Returns the column at a place of a row.
 fn at(place: usize) -> Column
     ensures { column_of result ≡ spec.at place }
 {
@@ -35,7 +35,7 @@ fn at(place: usize) -> Column
     }
 }
 
-/// Takes the columns of conditions for those of their own source's row.
+/// Replaces the columns of conditions by those of their own source's row.
 pub fn set_all_alone(conditions: &mut [Condition])
     ensures { names.conditions_of conditions.new
         ≡ map (spec.moved spec.alone) (names.conditions_of conditions.old) }
@@ -73,7 +73,7 @@ fn set_operand_alone(operand: &mut Operand)
     }
 }
 
-/// Takes the columns of conditions for their places in the joined row.
+/// Replaces the columns of conditions by their places in the joined row.
 pub fn set_all_places(conditions: &mut [Condition], widths: &[usize])
     requires room { sum widths.now < 2 ^ 64 }
     requires scope { AllByRecursion (λ c.
@@ -120,7 +120,7 @@ fn set_operand_place(operand: &mut Operand, widths: &[usize])
     }
 }
 
-/// The places of columns in the joined row.
+/// Returns the places of columns in the joined row.
 pub fn places(alloc: Global, columns: &[Column], widths: &[usize]) -> Result<Vec<usize>, AllocError>
     requires room { sum widths.now < 2 ^ 64 }
     requires scope { AllByRecursion (λ c. InScope widths.now (column_of c)) columns.now }
@@ -134,7 +134,7 @@ pub fn places(alloc: Global, columns: &[Column], widths: &[usize]) -> Result<Vec
     Ok(places)
 }
 
-/// The keys of a join, by places in the row of what is joined and in that of the source.
+/// Returns the keys of a join, by places in the row of what is joined and in that of the source.
 pub fn placed_keys(
     alloc: Global,
     keys: &[names::Key],
@@ -155,7 +155,7 @@ pub fn placed_keys(
     Ok(placed)
 }
 
-/// The items of a list, by places in the joined row.
+/// Returns the items of a list, by places in the joined row.
 pub fn placed_items(
     alloc: Global,
     items: &[ListItem],

@@ -1,4 +1,4 @@
-//! The plan of a query.
+//! Plans a query.
 ghost use Rattle.std.specs.Prelude.{◌≡◌, ◌≤◌, ◌<◌, IfOk, IfErr, None, length, sum, true};
 ghost use Rattle.std.specs.List.{AllByRecursion};
 ghost use Rattle.std.specs.Option.{option_copied};
@@ -23,15 +23,15 @@ use cql_reader::Query;
 use names::{Catalog, Named, resolve};
 use std::alloc::Global;
 
-/// Plans a query over the declared streams, with a chart where one is given. The time goes with
-/// that of `resolve`, and with the operators.
+/// Plans a query over the declared streams, with a chart if one is given. The time grows with that
+/// of `resolve`, and with the number of operators.
 ///
-/// Its caller sees to it that the query has no more sources, and these no more columns together,
-/// than a row has values.
+/// The caller makes sure that the query has at most as many sources as a row has values. These
+/// sources must have at most as many columns together.
 ///
 /// # Errors
-/// The first fault of the query in the order of `PlanFault`: that of its names, otherwise
-/// `BadChart`. `OutOfMemory` where a growth is refused, which says nothing of the query.
+/// Returns the first fault of the query in the order of `PlanFault`: that of its names, otherwise
+/// `BadChart`. `OutOfMemory` when out of memory, which says nothing of the query.
 pub fn plan(
     alloc: Global,
     query: &Query,

@@ -1,4 +1,4 @@
-//! The body of `cqlrun`.
+//! Runs `cqlrun`, except its `main`.
 ghost use Rattle.std.specs.Prelude.{◌≡◌, ◌≢◌, ◌⊎◌, ◌∷◌, [], None, Some, codes, map};
 ghost use Rattle.clap.specs.Words.{Text, kind_of};
 ghost use Rattle.reference.specs.World as world;
@@ -27,7 +27,8 @@ use std::sync::Wait;
 use std::thread::Threads;
 use wire::{ScriptFault, Sink, Source, put, run_script};
 
-// Says clap's text of a wrong command line, or where memory is refused for it, a line of our own.
+// Writes clap's text of a wrong command line. Writes a line of its own if there is no memory for
+// that text, or it is empty.
 fn correct<E: Sink>(alloc: Global, error: &Error, errors: &mut E) -> u8
     ensures status { result ≡ 2 }
     ensures told { ToldSome E.taken E.failures errors.old errors.new }
@@ -73,15 +74,16 @@ fn refuse<O: Sink, E: Sink>(alloc: Global, error: &Error, sink: &mut O, errors: 
     0
 }
 
-/// Answers the request lines of the source over an engine that is whole, each drain by turns of at
-/// most `turn` rows, 1 to 1,024, and gives the program's status. `run` is this, over an engine of
-/// its own.
+/// Answers the request lines of the source over an engine that is whole, and returns the program's
+/// status. Each drain runs turns of at most `turn` rows, 1 to 1,024. `run` is this, over an engine
+/// of its own.
 ///
-/// 0 at the end of the input, also where requests were refused; 1 where the source or the sink
-/// failed; 3 where memory was refused at the start: then source, sink and engine are as they were.
-/// What is not 0 is said on `errors`, in one line, and failures of that sink change nothing.
-/// Afterwards the engine is in the world that the requests lead to. Want of numbers for turns is
-/// told only where it has none.
+/// The status is 0 at the end of the input, also if requests were refused. It is 1 if the source or
+/// the sink failed. It is 3 if memory ran out at the start; then source, sink and engine are as
+/// they were. If it is not 0, one line on `errors` says why; failures of that sink change nothing.
+///
+/// Afterwards the engine is in the world that the requests lead to. A drain answers that numbers
+/// for turns ran out only if the engine has none.
 pub fn run_over<N: Answering, I: Source, O: Sink, E: Sink>(
     alloc: Global,
     turn: u32,
@@ -118,7 +120,8 @@ pub fn run_over<N: Answering, I: Source, O: Sink, E: Sink>(
     }
 }
 
-// Answers the lines of the source over an engine that has been told nothing and is gone afterwards.
+// Answers the lines of the source over an engine without streams or queries, which is gone
+// afterwards.
 fn run_made<N: Answering + Drop, I: Source, O: Sink, E: Sink>(
     alloc: Global,
     turn: u32,
@@ -154,20 +157,25 @@ fn refuse_both<E: Sink>(errors: &mut E) -> u8
     WRONG_WORDS
 }
 
-/// The body of `cqlrun`: `run_over` an engine that has been told nothing, which is the plain engine
-/// where the words ask for it, by turns of at most as many rows as they say. Where they ask for
-/// workers, a hub with one seat answers, and a pool of so many threads runs its drains. The first
-/// of the words is the program's own name.
+/// Runs `cqlrun`, and returns its status. The first of the words is the program's own name.
 ///
-/// The status is that of `run_over`, and 0, 1 or 3 after help, which goes to the sink; it is 2 for
-/// a wrong command line, of which `errors` are told some text. Nothing is read where the words ask
-/// for no run. With `--plain` no drain is answered want of numbers for turns. Without it the text
-/// is promised up to the first drain that is answered so: whether there were none is said by
-/// `run_over`, where the engine can be seen. With workers the text is that of the steps of a hub's
-/// seat: each reply is that of one step, and what lies between two steps is not said. At the
-/// status 0 the seat's receipts are the entries of a legal history, all of them unless a request to
-/// forget was answered `ok`; else those from an opening on, and of the others the numbers alone.
-/// Where they differ it is 1.
+/// It does `run_over` an engine without streams or queries, by turns of at most as many rows as the
+/// words say. The engine is the plain one if the words ask for it. If they ask for workers, a hub
+/// with one seat answers, and a pool of that many threads runs its drains.
+///
+/// The status is that of `run_over`. It is 0, 1 or 3 after help, which goes to the sink. It is 2
+/// for a wrong command line, and then `errors` get some text. If the words ask for no run, nothing
+/// is read.
+///
+/// With `--plain`, no drain answers that numbers for turns ran out. Without it, the text is
+/// promised up to the first drain that answers so. `run_over` says whether there were none, since
+/// its caller can see the engine.
+///
+/// With workers, the text is that of the steps of a hub's seat. Each reply is that of one step;
+/// what lies between two steps is not said. At the status 0, the seat's receipts are the entries of
+/// a legal history. They are all of them, unless a request to forget was answered `ok`. Then they
+/// are those from an opening on, and only the numbers of the others. If they differ, the status is
+/// 1.
 pub fn run<'a, R: Threads + Wait + Sync, S: AsStr, I: Source, O: Sink, E: Sink>(
     rt: &R,
     alloc: Global,

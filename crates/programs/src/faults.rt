@@ -1,4 +1,4 @@
-//! What the program says of a fault, and its status then.
+//! Says what a program writes of a fault, and its status then.
 ghost use Rattle.std.specs.Prelude.{◌≡◌, ◌≢◌};
 ghost use Rattle.std.specs.IoError.{error_kind};
 ghost use Rattle.served.specs.Errors.{IsTold, memory_line};
@@ -8,10 +8,10 @@ ghost use Rattle.programs.specs.Run.{status_of};
 use std::io::{Error, ErrorKind};
 use wire::{ScriptFault, Sink, put};
 
-/// The status after a wrong command line.
+/// Is the status after a wrong command line.
 pub(crate) const WRONG_WORDS: u8 = 2;
 
-/// Gives a sink of errors this text. One that fails is left alone.
+/// Gives a sink of errors this text. Does nothing about a sink that fails.
 pub(crate) fn tell<E: Sink>(errors: &mut E, text: &str)
     ensures { IsTold E.taken E.failures errors.old errors.new text.now }
 {
@@ -37,7 +37,7 @@ fn status_of(fault: &ScriptFault) -> u8
     }
 }
 
-/// Says a fault behind the program's name, and gives the program's status.
+/// Writes a fault after the program's name, and returns the program's status.
 pub(crate) fn fail<E: Sink>(errors: &mut E, fault: &ScriptFault) -> u8
     ensures status { result ≡ status_of fault.now }
     ensures told { IsTold E.taken E.failures errors.old errors.new (fault_line fault.now) }
@@ -46,7 +46,7 @@ pub(crate) fn fail<E: Sink>(errors: &mut E, fault: &ScriptFault) -> u8
     status_of(fault)
 }
 
-/// Says that the history and the seat differ, and gives the program's status.
+/// Writes that the history and the seat differ, and returns the program's status.
 pub(crate) fn differ<E: Sink>(errors: &mut E) -> u8
     ensures status { result ≡ 1 }
     ensures told { IsTold E.taken E.failures errors.old errors.new differs_line }
@@ -55,7 +55,7 @@ pub(crate) fn differ<E: Sink>(errors: &mut E) -> u8
     1
 }
 
-/// Says that memory was refused at the start, and gives the program's status.
+/// Writes that memory ran out at the start, and returns the program's status.
 pub fn lack_memory<E: Sink>(errors: &mut E) -> u8
     ensures status { result ≡ 3 }
     ensures told { IsTold E.taken E.failures errors.old errors.new (fault_line ScriptFault.Memory) }
@@ -63,9 +63,9 @@ pub fn lack_memory<E: Sink>(errors: &mut E) -> u8
     fail(errors, &ScriptFault::Memory)
 }
 
-/// Says why the program's words could not be read, and gives the program's status: 3 where memory
-/// was refused, and else 2, since a word that is not UTF-8 is a wrong command line. The error is
-/// that of `std::env::args`.
+/// Writes why the program's words could not be read, and returns the program's status. That is 3
+/// when out of memory; otherwise 2, since a word that is not UTF-8 is a wrong command line. The
+/// error is that of `std::env::args`.
 pub fn lack_words<E: Sink>(errors: &mut E, error: &Error) -> u8
     ensures memory { error_kind error.now ≡ ErrorKind.OutOfMemory → result ≡ 3 }
     ensures lacks { result ≡ 3
@@ -81,7 +81,7 @@ pub fn lack_words<E: Sink>(errors: &mut E, error: &Error) -> u8
     WRONG_WORDS
 }
 
-/// Says the same of `cqld`.
+/// Writes that memory ran out at the start of `cqld`, and returns its status.
 pub fn lack_server_memory<E: Sink>(errors: &mut E) -> u8
     ensures status { result ≡ 3 }
     ensures told { IsTold E.taken E.failures errors.old errors.new memory_line }
@@ -90,7 +90,7 @@ pub fn lack_server_memory<E: Sink>(errors: &mut E) -> u8
     3
 }
 
-/// Says of `cqld` why its words could not be read, as `lack_words` does.
+/// Writes why the words of `cqld` could not be read, as `lack_words` does.
 pub fn lack_server_words<E: Sink>(errors: &mut E, error: &Error) -> u8
     ensures memory { error_kind error.now ≡ ErrorKind.OutOfMemory → result ≡ 3 }
     ensures lacks { result ≡ 3 → IsTold E.taken E.failures errors.old errors.new memory_line }

@@ -1,4 +1,4 @@
-//! The programs, but for their `main`: the bodies of `cqlrun` and of `cqld`.
+//! Runs the programs, except their `main`: the bodies of `cqlrun` and of `cqld`.
 #![tactic(auto)]
 
 mod body;

@@ -1,4 +1,4 @@
-//! The body of `cqld`.
+//! Runs `cqld`, except its `main`.
 ghost use Rattle.std.specs.Prelude.{◌≡◌, ◌≢◌, ◌≤◌, ◌∷◌, [], map};
 ghost use Rattle.clap.specs.Words.{kind_of};
 ghost use Rattle.command_lines.specs.CommandLine.{serve_refusals};
@@ -20,11 +20,11 @@ use std::sync::Wait;
 use std::thread::Threads;
 use wire::{Sink, put};
 
-/// The body of `cqld`: listens on the port of 127.0.0.1 that the words ask for, and serves. The
-/// first of the words is the program's own name.
+/// Runs `cqld`, and returns its status. It listens on the port of 127.0.0.1 that the words ask for,
+/// and serves. The first of the words is the program's own name.
 ///
-/// The status is that of `serve`, and 1 where the port cannot be bound; 0, 1 or 3 after help, which
-/// goes to the sink; 2 for a wrong command line, of which `errors` are told some text.
+/// The status is that of `serve`, or 1 if the port cannot be bound. It is 0, 1 or 3 after help,
+/// which goes to the sink. It is 2 for a wrong command line, and then `errors` get some text.
 pub fn run_server<
     'a,
     R: Net<Listener = TcpListener, Stream = TcpStream> + Threads + Wait + Sync,
@@ -115,7 +115,8 @@ fn refuse<O: Sink, E: Sink>(alloc: Global, error: &Error, sink: &mut O, errors: 
     0
 }
 
-// Says clap's text of a wrong command line, or where memory is refused for it, a line of our own.
+// Writes clap's text of a wrong command line. Writes a line of its own if there is no memory for
+// that text, or it is empty.
 fn correct<E: Sink>(alloc: Global, error: &Error, errors: &mut E) -> u8
     ensures status { result ≡ 2 }
     ensures told { ToldSome E.taken E.failures errors.old errors.new }

@@ -1,4 +1,4 @@
-//! Scripts over a hub of one seat.
+//! Runs scripts over a hub of one seat.
 ghost use Rattle.std.specs.Prelude.{◌≡◌, ◌≢◌, ◌⊎◌, false, true};
 ghost use Rattle.reference.specs.World.{IsTurnSize};
 ghost use Rattle.served.specs.Errors.{IsTold};
@@ -13,9 +13,10 @@ use std::sync::Wait;
 use std::thread::Threads;
 use wire::{ScriptFault, Sink, Source};
 
-/// Answers the lines of the source over a hub that has been told nothing. A pool of so many workers
-/// runs each drain, by turns of at most `turn` rows. At the end the hub is closed, which compares
-/// the seat's receipts with the history: all of them, unless a request to forget was answered `ok`.
+/// Answers the lines of the source over a hub without streams or queries. A pool of `workers`
+/// threads runs each drain, by turns of at most `turn` rows. At the end the hub is closed, which
+/// compares the seat's receipts with the history. It compares all of them, unless a request to
+/// forget was answered `ok`.
 pub(crate) fn run_shared<R: Threads + Wait + Sync, I: Source, O: Sink, E: Sink>(
     rt: &R,
     alloc: Global,
@@ -73,7 +74,7 @@ pub(crate) fn run_shared<R: Threads + Wait + Sync, I: Source, O: Sink, E: Sink>(
     }
 }
 
-// Whether no entry is lost that no request to forget gave up.
+// Returns whether every entry that is lost was given up by a request to forget.
 fn is_whole(forgot: bool, first: u64) -> bool
     ensures { result ≡ true → forgot ≡ false → first ≡ 0 }
 {

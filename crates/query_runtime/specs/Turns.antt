@@ -153,5 +153,9 @@ abbrev pub left_behind : ℕ → List (ℕ × Row) → List (ℕ × Row)
 left_behind limit answers = drop (min limit (length answers)) answers
 
 abbrev pub handed_out : ℕ → PlainQuery → PlainQuery
-handed_out limit p = record { operators = p.operators; wires = p.wires; sources = p.sources;
-    answers = left_behind limit p.answers }
+handed_out limit p = record {
+  operators = p.operators;
+  wires = p.wires;
+  sources = p.sources;
+  answers = left_behind limit p.answers;
+}

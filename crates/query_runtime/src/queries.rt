@@ -160,7 +160,7 @@ impl RunningQuery {
         self.operator(operator).kind()
     }
 
-    /// Copies what is first on a side of an operator: a tick, or rows. These are at most `rows`, and
+    /// Copies what is first on a side of an operator: a tick, or rows. These are at most `rows` and
     /// at most as many as a batch has. Returns it with the excerpt that a turn with it needs. It
     /// costs these two, and look-ups.
     ///

@@ -53,7 +53,7 @@ impl WaitingAnswers {
         })
     }
 
-    /// Returns the number of answers.
+    /// Counts the answers.
     pub fn len(&self) -> usize
         ensures { result ≡ length self.now }
     {

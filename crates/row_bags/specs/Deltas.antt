@@ -14,8 +14,10 @@ delta_of xs ys = record { entered = xs; left = ys }
 
 -- what entered and what left from the bag `before` to the bag `now`
 abbrev pub delta_between : List Row → List Row → PlainDelta
-delta_between before now = record { entered = in_order row_cmp (bag_minus row_cmp now before);
-    left = in_order row_cmp (bag_minus row_cmp before now) }
+delta_between before now = record {
+  entered = in_order row_cmp (bag_minus row_cmp now before);
+  left = in_order row_cmp (bag_minus row_cmp before now);
+}
 
 -- the row is taken from the first bag where it stands there, else it comes to the second
 abbrev pub cancelled : List Row → List Row → Row → List Row × List Row
@@ -25,10 +27,14 @@ cancelled xs ys r = cond (is_in row_cmp r xs) (without row_cmp r xs, ys)
 -- after one signed row more
 abbrev pub delta_after : PlainDelta → Bool × Row → PlainDelta
 delta_after n s =
-    cond s.0 (record { entered = (cancelled n.left n.entered s.1).1;
-    left = (cancelled n.left n.entered s.1).0 })
-    (record { entered = (cancelled n.entered n.left s.1).0;
-    left = (cancelled n.entered n.left s.1).1 })
+    cond s.0 (record {
+      entered = (cancelled n.left n.entered s.1).1;
+      left = (cancelled n.left n.entered s.1).0;
+    })
+    (record {
+      entered = (cancelled n.entered n.left s.1).0;
+      left = (cancelled n.entered n.left s.1).1;
+    })
 
 -- after signed rows
 abbrev pub deltas_after : PlainDelta → List (Bool × Row) → PlainDelta

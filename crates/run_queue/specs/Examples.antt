@@ -6,35 +6,44 @@ use Rattle.envelope.specs.Fraction.{fraction}
 use Rattle.run_queue.specs.Slots.{changed, first_of, put, slot, slot_cmp, without_query}
 use Rattle.run_queue.specs.declared.slots.Slot.{Slot}
 
--- the slope goes before the instant, the instant before the numbers, and what may take nothing stands last
-steeper_first : slot_cmp (slot (fraction 450000 1) (Some (Left, 9)) 1 2) (slot (fraction 100000 1) (Some (Left, 0)) 0 0) ≡ Less
+-- the slope goes before the instant, the instant before
+-- the numbers, and what may take nothing stands last
+steeper_first : slot_cmp (slot (fraction 450000 1) (Some (Left, 9)) 1 2)
+    (slot (fraction 100000 1) (Some (Left, 0)) 0 0) ≡ Less
 steeper_first = refl
 
-earlier_first : slot_cmp (slot (fraction 1 2) (Some (Left, 3)) 4 4) (slot (fraction 2 4) (Some (Left, 5)) 0 0) ≡ Less
+earlier_first : slot_cmp (slot (fraction 1 2) (Some (Left, 3)) 4 4)
+    (slot (fraction 2 4) (Some (Left, 5)) 0 0) ≡ Less
 earlier_first = refl
 
-lower_number_first : slot_cmp (slot (fraction 1 2) (Some (Left, 3)) 0 1) (slot (fraction 1 2) (Some (Left, 3)) 0 2) ≡ Less
+lower_number_first : slot_cmp (slot (fraction 1 2) (Some (Left, 3)) 0 1)
+    (slot (fraction 1 2) (Some (Left, 3)) 0 2) ≡ Less
 lower_number_first = refl
 
-idle_last : slot_cmp (slot (fraction 0 1) (Some (Left, 9)) 1 1) (slot (fraction 9 1) None 0 0) ≡ Less
+idle_last : slot_cmp (slot (fraction 0 1) (Some (Left, 9)) 1 1)
+    (slot (fraction 9 1) None 0 0) ≡ Less
 idle_last = refl
 
 -- the side decides nothing
-either_side : slot_cmp (slot (fraction 1 2) (Some (Left, 3)) 0 1) (slot (fraction 1 2) (Some (Right, 3)) 0 1) ≡ Equal
+either_side : slot_cmp (slot (fraction 1 2) (Some (Left, 3)) 0 1)
+    (slot (fraction 1 2) (Some (Right, 3)) 0 1) ≡ Equal
 either_side = refl
 
--- the default chart of three operators: where all slopes are one, the window with something to take comes first; after its turn the next
+-- the default chart of three operators: where all slopes are one, the
+-- window with something to take comes first; after its turn the next
 abbrev window : Slot
 window = slot (fraction 250000 1) None 0 0
 
 abbrev project : Slot
 project = slot (fraction 250000 1) None 0 1
 
-waits : first_of (changed window (Some (Left, 0)) (put (put [] project) window)) ≡ Some (slot (fraction 250000 1) (Some (Left, 0)) 0 0)
+waits : first_of (changed window (Some (Left, 0)) (put (put [] project) window))
+    ≡ Some (slot (fraction 250000 1) (Some (Left, 0)) 0 0)
 waits = refl
 
 nothing_waits : first_of (put (put [] project) window) ≡ None
 nothing_waits = refl
 
-dropped : without_query 0 (put (put [] project) (slot (fraction 1 1) None 3 0)) ≡ slot (fraction 1 1) None 3 0 ∷ []
+dropped : without_query 0 (put (put [] project) (slot (fraction 1 1) None 3 0))
+    ≡ slot (fraction 1 1) None 3 0 ∷ []
 dropped = refl

@@ -1,5 +1,6 @@
 -- The slots of operators, and the order in which they are leased.
-use Rattle.std.specs.Prelude.{◌≡◌, ℕ, true, false, not, ◌==◌, Bool, cond, Option, Some, None, unwrap_or, is_none, List, [], ◌∷◌, filter, length, ◌<◌, ◌≤◌, ◌+◌, ◌-◌}
+use Rattle.std.specs.Prelude.{◌≡◌, ℕ, true, false, not, ◌==◌, Bool, cond, Option, Some, None}
+use Rattle.std.specs.Prelude.{unwrap_or, is_none, List, [], ◌∷◌, filter, length, ◌<◌, ◌≤◌, ◌+◌, ◌-◌}
 use Rattle.std.specs.List.{AllByRecursion, AllWithin, HoldsAt, insert, list_any, remove}
 use Rattle.std.specs.Ordering.{bool_cmp, nat_cmp, is_eq, ordering_then}
 use Rattle.std.specs.BTreeSet.{insert_key}
@@ -10,7 +11,8 @@ use Rattle.column.specs.declared.batch.Side.TheVariants.{Left}
 use Rattle.envelope.specs.Fraction.{Fraction, NoGreater, fraction_cmp}
 use Rattle.run_queue.specs.declared.slots.Slot.{Slot}
 
--- an operator's slot, with the side and the instant of what it may take next, if it may take anything
+-- an operator's slot, with the side and the instant
+-- of what it may take next, if it may take anything
 abbrev pub slot : Fraction → Option (Side × ℕ) → ℕ → ℕ → Slot
 slot slope next query operator = record {
   is_idle = is_none next;
@@ -21,15 +23,18 @@ slot slope next query operator = record {
   side = (unwrap_or next (Left, 0)).0;
 }
 
--- those with something to take first, the greater slope first, then the earlier instant, then the lower number of a query, then the lower number of
--- an operator; the side decides nothing
+-- those with something to take first, the greater slope first, then the earlier instant, then
+-- the lower number of a query, then the lower number of an operator; the side decides nothing
 abbrev pub slot_cmp : Slot → Slot → Ordering
-slot_cmp a b = ordering_then (bool_cmp a.is_idle b.is_idle) (ordering_then (fraction_cmp b.slope.0 a.slope.0)
-    (ordering_then (nat_cmp a.instant b.instant) (ordering_then (nat_cmp a.query b.query) (nat_cmp a.operator b.operator))))
+slot_cmp a b = ordering_then (bool_cmp a.is_idle b.is_idle)
+    (ordering_then (fraction_cmp b.slope.0 a.slope.0)
+    (ordering_then (nat_cmp a.instant b.instant)
+    (ordering_then (nat_cmp a.query b.query) (nat_cmp a.operator b.operator))))
 
 -- the order of slots of one slope
 abbrev pub later_cmp : Slot → Slot → Ordering
-later_cmp a b = ordering_then (nat_cmp a.instant b.instant) (ordering_then (nat_cmp a.query b.query) (nat_cmp a.operator b.operator))
+later_cmp a b = ordering_then (nat_cmp a.instant b.instant)
+    (ordering_then (nat_cmp a.query b.query) (nat_cmp a.operator b.operator))
 
 -- the operator's slot with what it may take next
 abbrev pub with_next : Slot → Option (Side × ℕ) → Slot

@@ -23,8 +23,11 @@ by_instant start until es = by_key (λ e. e.instant) start (until - start) es
 
 -- what the stream has closed
 abbrev pub closed_of : Stream → Closed
-closed_of s = record { width = length s.columns; elements = by_instant 0 s.first_open s.elements;
-    until = s.first_open }
+closed_of s = record {
+  width = length s.columns;
+  elements = by_instant 0 s.first_open s.elements;
+  until = s.first_open;
+}
 
 -- what a heartbeat at this instant closes
 abbrev pub closing_of : ℤ → Stream → List Element

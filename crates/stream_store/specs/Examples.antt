@@ -17,8 +17,13 @@ element arrival instant n = record { arrival = arrival; instant = instant; row =
 
 -- three rows came, the last one at the earliest instant; the instants 0 and 1 are closed
 abbrev stream : Stream
-stream = record { name = codes "S"; columns = codes "a" ∷ [];
-    elements = element 0 3 7 ∷ element 1 1 5 ∷ element 2 1 6 ∷ []; arrivals = 3; first_open = 2 }
+stream = record {
+  name = codes "S";
+  columns = codes "a" ∷ [];
+  elements = element 0 3 7 ∷ element 1 1 5 ∷ element 2 1 6 ∷ [];
+  arrivals = 3;
+  first_open = 2;
+}
 
 closed_rows : (closed_of stream).elements ≡ element 1 1 5 ∷ element 2 1 6 ∷ []
 closed_rows = refl

@@ -38,13 +38,17 @@ numbered_rows n (r ∷ rows) = (n, r.1) ∷ numbered_rows (suc n) rows
 
 -- more rows behind the others, with numbers from n on
 abbrev pub with_rows : ℕ → List (ℕ × Row) → RowsAt → RowsAt
-with_rows n rows late_rows = record { width = late_rows.width;
-    rows = late_rows.rows ++ numbered_rows n rows }
+with_rows n rows late_rows = record {
+  width = late_rows.width;
+  rows = late_rows.rows ++ numbered_rows n rows;
+}
 
 -- the first rows, as many as have numbers below n
 abbrev pub first_below : ℕ → RowsAt → RowsAt
-first_below n late_rows = record { width = late_rows.width;
-    rows = take (length (filter (λ r. nat_lt r.0 n) late_rows.rows)) late_rows.rows }
+first_below n late_rows = record {
+  width = late_rows.width;
+  rows = take (length (filter (λ r. nat_lt r.0 n) late_rows.rows)) late_rows.rows;
+}
 
 abbrev pub has_rows : RowsAt → Bool
 has_rows late_rows = nat_lt 0 (length late_rows.rows)

@@ -47,8 +47,11 @@ pub record IsRisen (width reached : ℕ) (heads : List Head) (values : List (Opt
 -- more rows of one instant, with numbers from n on
 abbrev pub with_risen : ℕ → ℕ → List (ℕ × Row) → RisenRows → RisenRows
 with_risen instant n rows risen =
-    record { width = risen.width; reached = instant;
-    rows = risen.rows ++ elements_at instant (numbered_rows n rows) }
+    record {
+      width = risen.width;
+      reached = instant;
+      rows = risen.rows ++ elements_at instant (numbered_rows n rows);
+    }
 
 -- the first rows, and the instant that they had reached
 abbrev pub first_risen : ℕ → ℕ → RisenRows → RisenRows

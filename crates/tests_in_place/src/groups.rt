@@ -10,7 +10,7 @@ use std::alloc::{AllocError, Global};
 use std::test::Fail;
 use values::{Column, ListItem, Row};
 
-/// What a turn by excerpt, work and change puts out.
+/// Returns what a turn by excerpt, work and change emits.
 fn turned(
     alloc: Global,
     group: &mut Group,
@@ -26,7 +26,7 @@ fn turned(
     Ok(outputs)
 }
 
-/// What a turn in place puts out.
+/// Returns what a turn in place emits.
 fn placed(alloc: Global, group: &mut Group, item: Item) -> Result<Vec<Item>, AllocError>
     requires { RoomFor group.old item }
     ensures { OnOk result (KeepsRoom group.old group.new) }
@@ -37,7 +37,7 @@ fn placed(alloc: Global, group: &mut Group, item: Item) -> Result<Vec<Item>, All
     Ok(outputs)
 }
 
-/// The first items that wait.
+/// Takes out the first eight items that wait, or all if they are fewer.
 fn drained(alloc: Global, queue: Queue) -> Result<Vec<Item>, AllocError> {
     let mut queue = queue;
     let mut items = Vec::new(alloc);
@@ -49,7 +49,7 @@ fn drained(alloc: Global, queue: Queue) -> Result<Vec<Item>, AllocError> {
     Ok(items)
 }
 
-/// A row enters (1) or leaves (0), or a tick (2).
+/// Appends items as numbers, with 1 for a row that enters, 0 for one that leaves, and 2 for a tick.
 fn push_all(all: &mut Vec<i64>, items: &[Item]) -> Result<(), AllocError> {
     for item in items {
         push_item(all, item)?;
@@ -70,18 +70,18 @@ fn push_item(all: &mut Vec<i64>, item: &Item) -> Result<(), AllocError> {
     }
 }
 
-/// Which rows come and go.
+/// Says which rows come and go.
 #[derive(Clone, Copy)]
 enum Sample {
-    /// Those of two steps an instant, of 22 keys.
+    /// Has the rows of two steps an instant, with 22 keys.
     Few,
-    /// Those of 700 steps an instant, of 1,400 keys.
+    /// Has the rows of 700 steps an instant, with 1,400 keys.
     Many,
-    /// Those of `again_at`, three an instant.
+    /// Has the rows of `again_at`, three an instant.
     Again,
 }
 
-/// The rows of a step, each a sign, a key and a number; `None` where there is a tick.
+/// Returns the rows of a step, each a sign, a key and a number; `None` at a tick.
 fn again_at(step: usize) -> Option<[(bool, i64, i64); 3]> {
     match step {
         // Both groups are new.
@@ -94,13 +94,13 @@ fn again_at(step: usize) -> Option<[(bool, i64, i64); 3]> {
         6 => Some([(false, 2, 3), (true, 2, 3), (false, 2, 3)]),
         // The first is new again: it comes, goes and comes.
         8 => Some([(true, 1, 1), (false, 1, 1), (true, 1, 1)]),
-        // It stays. By their count it showed one row, so its key, and has two to show.
+        // It stays. By its count it showed 1, which is also its key, and has 2 to show.
         10 => Some([(true, 1, 1), (true, 1, 1), (false, 1, 1)]),
         _ => None,
     }
 }
 
-/// A batch of these rows.
+/// Makes a batch of these rows.
 fn three(alloc: Global, rows: &[(bool, i64, i64); 3]) -> Result<Batch, AllocError> {
     let [a, b, c] = rows;
     let rows = [
@@ -112,7 +112,7 @@ fn three(alloc: Global, rows: &[(bool, i64, i64); 3]) -> Result<Batch, AllocErro
     Ok(batch)
 }
 
-/// The item of a step of `again_at`.
+/// Makes the item of a step of `again_at`.
 fn again(alloc: Global, step: usize) -> Result<Item, AllocError> {
     match again_at(step) {
         Some(rows) => {
@@ -123,7 +123,7 @@ fn again(alloc: Global, step: usize) -> Result<Item, AllocError> {
     }
 }
 
-/// The item of a step: rows, or one of the two ticks behind those of an instant.
+/// Makes the item of a step: rows, or one of the two ticks after those of an instant.
 fn item_at(alloc: Global, sample: Sample, step: usize) -> Result<Item, AllocError>
     requires { step ≤ 3_000 }
 {
@@ -156,7 +156,7 @@ const NUMBER: Column = Column {
     column: 1,
 };
 
-/// `Select k, Count(*), Count(v), Sum(v), Min(v), Max(v) From S Group By k`.
+/// Makes `Select k, Count(*), Count(v), Sum(v), Min(v), Max(v) From S Group By k`.
 fn grouped(alloc: Global) -> Result<GroupBy, AllocError> {
     let by = Vec::from_slice(alloc, &[KEY])?;
     let items = [
@@ -171,14 +171,14 @@ fn grouped(alloc: Global) -> Result<GroupBy, AllocError> {
     Ok(GroupBy::new(by, items))
 }
 
-/// `Select Count(*) From S Group By k`.
+/// Makes `Select Count(*) From S Group By k`.
 fn counted(alloc: Global) -> Result<GroupBy, AllocError> {
     let by = Vec::from_slice(alloc, &[KEY])?;
     let items = Vec::from_slice(alloc, &[ListItem::CountAll])?;
     Ok(GroupBy::new(by, items))
 }
 
-/// `Select Count(*), Sum(v), Min(v), Max(v) From S`.
+/// Makes `Select Count(*), Sum(v), Min(v), Max(v) From S`.
 fn whole(alloc: Global) -> Result<GroupBy, AllocError> {
     let items = [
         ListItem::CountAll,
@@ -190,8 +190,8 @@ fn whole(alloc: Global) -> Result<GroupBy, AllocError> {
     Ok(GroupBy::new(Vec::new(alloc), items))
 }
 
-/// How many numbers stand for what these two groups of a shape put out, one by turns and one in
-/// place; `None` where it differs.
+/// Returns how many numbers say what these two groups of a shape emit, one by turns and one in
+/// place. It is `None` if they differ.
 fn put_out(
     alloc: Global,
     shape: &GroupBy,
@@ -216,8 +216,8 @@ fn put_out(
     Ok(count_of_same(&turns, &places))
 }
 
-/// How many numbers stand for what two groups of a shape put out, one by turns and one in place;
-/// `None` where it differs.
+/// Returns how many numbers say what two groups of a shape emit, one by turns and one in place. It
+/// is `None` if they differ.
 fn both(
     alloc: Global,
     shape: &GroupBy,
@@ -233,7 +233,7 @@ fn both(
     put_out(alloc, shape, sample, steps, &mut by_turns, &mut in_place)
 }
 
-/// The same for groups by a key.
+/// Does the same for groups by a key.
 fn both_grouped(alloc: Global, sample: Sample, steps: usize) -> Result<Option<usize>, AllocError>
     requires { steps ≤ 3_000 }
 {
@@ -243,7 +243,7 @@ fn both_grouped(alloc: Global, sample: Sample, steps: usize) -> Result<Option<us
     both(alloc, &shape, first, second, sample, steps)
 }
 
-/// The same for the one group.
+/// Does the same for the one group.
 fn both_whole(alloc: Global) -> Result<Option<usize>, AllocError> {
     let shape = whole(alloc)?;
     let first = whole(alloc)?;
@@ -251,7 +251,7 @@ fn both_whole(alloc: Global) -> Result<Option<usize>, AllocError> {
     both(alloc, &shape, first, second, Sample::Few, 240)
 }
 
-/// The same for rows once each.
+/// Does the same for rows once each.
 fn both_distinct(alloc: Global) -> Result<Option<usize>, AllocError> {
     let shape = GroupBy::distinct(alloc, 2)?;
     let first = GroupBy::distinct(alloc, 2)?;
@@ -259,7 +259,7 @@ fn both_distinct(alloc: Global) -> Result<Option<usize>, AllocError> {
     both(alloc, &shape, first, second, Sample::Few, 240)
 }
 
-/// The same for the first columns once each, by the groups that stay, go and come again.
+/// Does the same for the first columns once each, with the groups that stay, go and come again.
 fn both_again(alloc: Global, width: usize) -> Result<Option<usize>, AllocError>
     requires { width ≤ 2 }
 {
@@ -269,7 +269,7 @@ fn both_again(alloc: Global, width: usize) -> Result<Option<usize>, AllocError>
     both(alloc, &shape, first, second, Sample::Again, 14)
 }
 
-/// The same where their rows are counted, by the key.
+/// Does the same for a count of these rows by the key.
 fn both_counted(alloc: Global) -> Result<Option<usize>, AllocError> {
     let shape = counted(alloc)?;
     let first = counted(alloc)?;

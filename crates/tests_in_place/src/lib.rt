@@ -1,7 +1,7 @@
-//! Turns that operators run in place, beside turns by excerpt, work and change, as tests.
+//! Turns that operators run in place, compared with turns by excerpt, work and change, as tests.
 //!
-//! They stand in a crate of their own because a crate's tests are proved with all of the crate once
-//! more.
+//! These tests are a crate of their own because a crate's tests are proved with all of the crate
+//! once more.
 #![tactic(auto)]
 
 #[cfg(test)]

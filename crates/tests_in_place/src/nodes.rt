@@ -12,8 +12,8 @@ use std::alloc::{AllocError, Global};
 use std::test::Fail;
 use values::{Compare, MAX_COLUMNS};
 
-/// Whether Select puts out in place what it does else, at so many rows: those with more than a
-/// number in the first column, and there less than in the second.
+/// Returns whether Select emits the same in place as otherwise, for `count` rows. It passes on rows
+/// whose first column is above `number` and below the second.
 fn select_agrees(alloc: Global, number: i64, count: usize) -> Result<bool, AllocError>
     requires some { 1 ≤ count }
     requires few { count ≤ 1024 }
@@ -53,7 +53,7 @@ fn select_runs_in_place(rt: HostRuntime) -> Result<(), Fail> {
     Ok(())
 }
 
-/// The same of Project and these columns.
+/// Returns the same for Project and these columns.
 fn project_agrees(alloc: Global, columns: &[usize], count: usize) -> Result<bool, AllocError>
     requires some { 1 ≤ count }
     requires few { count ≤ 1024 }

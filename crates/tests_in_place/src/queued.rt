@@ -1,4 +1,4 @@
-//! What waits in a queue, beside what was to be put out.
+//! What waits in a queue, compared with what was to be emitted.
 use column::SignedRow;
 use op_queue::{Item, Queue};
 use std::alloc::{AllocError, Global};
@@ -13,7 +13,7 @@ fn taken(alloc: Global, queue: &mut Queue) -> Result<Option<Item>, AllocError> {
     Ok(Some(item))
 }
 
-/// Whether it is this row of an instant alone.
+/// Returns whether the item is only this row of this instant.
 fn is_row(item: &Option<Item>, instant: u64, row: &SignedRow) -> bool {
     match item {
         Some(Item::Rows(at, batch)) if batch.len() == 1 => {
@@ -24,7 +24,7 @@ fn is_row(item: &Option<Item>, instant: u64, row: &SignedRow) -> bool {
     }
 }
 
-/// Takes as much as an item is, and says whether it was just that.
+/// Takes as much as an item is, and returns whether it was exactly that item.
 fn takes(alloc: Global, queue: &mut Queue, item: &Item) -> Result<bool, AllocError> {
     match item {
         Item::Rows(at, batch) => {
@@ -43,7 +43,7 @@ fn takes(alloc: Global, queue: &mut Queue, item: &Item) -> Result<bool, AllocErr
     }
 }
 
-/// Whether just these items wait.
+/// Returns whether exactly these items wait.
 pub(crate) fn holds(alloc: Global, queue: Queue, items: &[Item]) -> Result<bool, AllocError> {
     let mut queue = queue;
     let mut are = true;

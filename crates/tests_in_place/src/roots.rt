@@ -11,7 +11,7 @@ use std::test::Fail;
 use to_stream::{ToStream, work};
 use values::StreamOperator;
 
-/// A turn by excerpt, work and change; its answers come behind the others.
+/// Runs a turn by excerpt, work and change, and appends its answers.
 fn turn(
     alloc: Global,
     root: &mut ToStream,
@@ -27,7 +27,7 @@ fn turn(
     Ok(())
 }
 
-/// Rows, their tick and that of the empty instant behind it, by turns.
+/// Runs turns for rows, for their tick and for the tick of the empty instant after it.
 fn turn_all(
     alloc: Global,
     root: &mut ToStream,
@@ -45,7 +45,7 @@ fn turn_all(
     Ok(())
 }
 
-/// The same in place.
+/// Runs the same in place.
 fn run_all(
     root: &mut ToStream,
     rows: &Item,
@@ -62,7 +62,7 @@ fn run_all(
     Ok(())
 }
 
-/// How many numbers stand for answers, if both are the same in the same order.
+/// Returns how many numbers say the answers, if both lists are the same in the same order.
 fn count(
     alloc: Global,
     answers: DatedRows,
@@ -73,7 +73,7 @@ fn count(
     Ok(count_of_same(&turns, &places))
 }
 
-/// The numbers that stand for these answers.
+/// Returns the numbers that say these answers.
 fn numbers(alloc: Global, mut answers: DatedRows) -> Result<Vec<i64>, AllocError> {
     let mut all = Vec::new(alloc);
     for _ in 0..answers.len() {
@@ -84,8 +84,8 @@ fn numbers(alloc: Global, mut answers: DatedRows) -> Result<Vec<i64>, AllocError
     Ok(all)
 }
 
-/// How many numbers stand for what two roots answer, one by turns and one in place behind the
-/// answers that wait; `None` where it differs.
+/// Returns how many numbers say what two roots answer. One runs by turns; the other runs in place,
+/// after the answers that wait. It is `None` if they differ.
 fn both(alloc: Global, operator: StreamOperator) -> Result<Option<usize>, AllocError> {
     let mut by_turns = ToStream::new(alloc, operator);
     let mut in_place = ToStream::new(alloc, operator);

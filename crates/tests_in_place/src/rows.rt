@@ -1,11 +1,11 @@
-//! Rows that come and go, and what is compared of those that are put out.
+//! Rows that come and go, and how what is emitted is compared.
 ghost use Rattle.std.specs.Prelude.{◌≡◌, ◌≤◌, IfOk, length};
 
 use column::{Batch, SignedRow};
 use std::alloc::{AllocError, Global};
 use values::{Row, Value};
 
-/// Stands for null.
+/// Is the number that means null.
 const NULL: i64 = 3;
 
 fn value(number: i64) -> Value {
@@ -16,7 +16,7 @@ fn value(number: i64) -> Value {
     }
 }
 
-/// A signed row of a key and a number.
+/// Makes a signed row of a key and a number.
 pub(crate) fn signed(enters: bool, key: i64, number: i64) -> SignedRow
     ensures { length result.row.items ≡ 2 }
 {
@@ -26,10 +26,11 @@ pub(crate) fn signed(enters: bool, key: i64, number: i64) -> SignedRow
     SignedRow { enters, row }
 }
 
-/// The rows of a step, of two keys. For `half` steps rows come, and in the next `half` they leave.
+/// Makes the rows of a step, of two keys. For `half` steps rows come, and in the next `half` they
+/// leave.
 ///
-/// Two of three steps have a row twice that leaves and comes again, the third one that has only
-/// come.
+/// Two of three steps have a row that is there twice, leaves and comes again. In the third step it
+/// has only come.
 pub(crate) fn batch_at(
     alloc: Global,
     step: usize,
@@ -56,12 +57,12 @@ pub(crate) fn batch_at(
         signed(enters, key + keys as i64, number),
     ];
     let batch = Batch::from_rows(alloc, &rows)?;
-    let _few = batch.len();
+    let _few = batch.len(); // for the proof
     Ok(batch)
 }
 
-/// What is put out, as numbers: the instant, what it is, and a row's values, null as the least
-/// number.
+/// Appends what is emitted as numbers: the instant, what it is, and a row's values, with null as
+/// the least number.
 pub(crate) fn push_numbers(
     all: &mut Vec<i64>,
     instant: u64,
@@ -76,7 +77,7 @@ pub(crate) fn push_numbers(
     Ok(())
 }
 
-/// How many numbers both are; `None` where they differ.
+/// Returns how many numbers both have; `None` if they differ.
 pub(crate) fn count_of_same(these: &[i64], those: &[i64]) -> Option<usize> {
     if these == those {
         Some(these.len())

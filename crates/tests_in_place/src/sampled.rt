@@ -1,11 +1,11 @@
-//! Rows of two columns, numbers and nulls, of which some leave.
+//! Rows of two columns, numbers and nulls, some of them leaving.
 ghost use Rattle.std.specs.Prelude.{◌≡◌, ◌≤◌, IfOk, length};
 
 use column::{Batch, Column, Mask};
 use std::alloc::{AllocError, Global};
 use values::Value;
 
-/// So many rows of two columns, of which each third leaves.
+/// Makes `count` rows of two columns. Each third row leaves.
 pub(crate) fn rows(alloc: Global, count: usize) -> Result<Batch, AllocError>
     requires some { 1 ≤ count }
     requires few { count ≤ 1024 }
@@ -26,7 +26,8 @@ fn each_third(alloc: Global, count: usize) -> Result<Mask, AllocError>
     Ok(leaving)
 }
 
-/// A number from -11 to 11, or null at one place in five; the samples of another factor differ.
+/// Returns a number from -11 to 11, or null at one place in five. Another factor gives other
+/// samples.
 fn sample(i: usize, factor: usize) -> Value {
     if i.wrapping_add(factor) % 5 == 0 {
         Value::null()
@@ -35,7 +36,7 @@ fn sample(i: usize, factor: usize) -> Value {
     }
 }
 
-/// The samples of a factor at the first `count` places.
+/// Makes the column of a factor's samples at the first `count` places.
 fn samples(alloc: Global, count: usize, factor: usize) -> Result<Column, AllocError>
     requires { count ≤ 1024 }
     ensures { IfOk result (λ c. length c ≡ count) }

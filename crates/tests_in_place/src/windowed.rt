@@ -12,10 +12,10 @@ use std::alloc::{AllocError, Global};
 use std::test::Fail;
 use windows::{LatestWindow, RangeWindow, SlideWindow, latest_work, range_work, slide_work};
 
-/// An instant, and how many rows of it come; where none does, its tick comes.
+/// Is an instant, and how many rows of it come. If none does, its tick comes.
 type Came = (u64, usize);
 
-/// The rows or the tick that come.
+/// Makes the rows or the tick that come.
 fn item(alloc: Global, came: Came) -> Result<Item, AllocError>
     requires { came.1 ≤ 1024 }
     ensures { IfOk result (λ i. item_instant i ≡ came.0) }
@@ -28,7 +28,7 @@ fn item(alloc: Global, came: Came) -> Result<Item, AllocError>
     Ok(Item::Rows(at, batch))
 }
 
-/// Whether the item's rows have two columns.
+/// Returns whether the item's rows have two columns.
 fn has_two_columns(item: &Item) -> bool
     ensures { IsTrue result → IsItemWide 2 item.now }
 {
@@ -38,7 +38,7 @@ fn has_two_columns(item: &Item) -> bool
     }
 }
 
-/// What the steps of a turn put out.
+/// Returns what the steps of a turn emit.
 fn range_steps(
     alloc: Global,
     window: &mut RangeWindow,
@@ -55,7 +55,7 @@ fn range_steps(
     Ok(items)
 }
 
-/// What a turn in place puts out.
+/// Returns what a turn in place emits.
 fn range_run(alloc: Global, window: &mut RangeWindow, item: Item) -> Result<Queue, AllocError>
     requires after { IsAfter (item_instant item) window.old.held }
     requires wide { IsItemWide window.old.width item }
@@ -67,7 +67,8 @@ fn range_run(alloc: Global, window: &mut RangeWindow, item: Item) -> Result<Queu
     Ok(queue)
 }
 
-/// Whether a window puts out in place what the other does by steps, and holds as many rows then.
+/// Returns whether a window emits in place what the other emits by steps, and then holds as many
+/// rows.
 fn range_agrees(
     alloc: Global,
     placed: &mut RangeWindow,
@@ -89,7 +90,7 @@ fn range_agrees(
     Ok(same && placed.len() == stepped.len())
 }
 
-/// Whether both do so item after item, up to windows of so many rows.
+/// Returns whether both do so item after item, up to windows of `rows` rows.
 fn ranges_agree(
     alloc: Global,
     span: Option<u64>,
@@ -109,7 +110,7 @@ fn ranges_agree(
     Ok(placed.len() == rows)
 }
 
-/// Full batches, cut ones, one row, instants with no rows, and ticks far behind one another.
+/// Holds full batches, cut ones, one row, instants with no rows, and ticks far apart.
 const CAME: [Came; 12] = [
     (0, 1024),
     (0, 1024),
@@ -134,7 +135,7 @@ fn range_windows_run_in_place(rt: HostRuntime) -> Result<(), Fail> {
     Ok(())
 }
 
-/// What the steps of a turn put out.
+/// Returns what the steps of a turn emit.
 fn slide_steps(
     alloc: Global,
     window: &mut SlideWindow,
@@ -150,7 +151,7 @@ fn slide_steps(
     Ok(items)
 }
 
-/// What a turn in place puts out.
+/// Returns what a turn in place emits.
 fn slide_run(alloc: Global, window: &mut SlideWindow, item: Item) -> Result<Queue, AllocError>
     requires after { IsAfter (item_instant item) window.old.held }
     requires wide { IsItemWide window.old.width item }
@@ -161,8 +162,8 @@ fn slide_run(alloc: Global, window: &mut SlideWindow, item: Item) -> Result<Queu
     Ok(queue)
 }
 
-/// Whether a window that moves at multiples puts out in place what the other does by steps, and
-/// holds as many rows then.
+/// Returns whether a window that moves at multiples emits in place what the other emits by steps,
+/// and then holds as many rows.
 fn slide_agrees(
     alloc: Global,
     placed: &mut SlideWindow,
@@ -184,7 +185,7 @@ fn slide_agrees(
     Ok(same && placed.len() == stepped.len())
 }
 
-/// Whether both do so item after item, up to windows of so many rows.
+/// Returns whether both do so item after item, up to windows of `rows` rows.
 fn slides_agree(
     alloc: Global,
     span: u64,
@@ -216,7 +217,7 @@ fn windows_that_move_at_multiples_run_in_place(rt: HostRuntime) -> Result<(), Fa
     Ok(())
 }
 
-/// What the steps of a turn put out.
+/// Returns what the steps of a turn emit.
 fn latest_steps(
     alloc: Global,
     window: &mut LatestWindow,
@@ -231,7 +232,7 @@ fn latest_steps(
     Ok(items)
 }
 
-/// What a turn in place puts out.
+/// Returns what a turn in place emits.
 fn latest_run(alloc: Global, window: &mut LatestWindow, item: Item) -> Result<Queue, AllocError>
     requires { IsItemWide window.old.width item }
     ensures { window.new.width ≡ window.old.width }
@@ -241,7 +242,7 @@ fn latest_run(alloc: Global, window: &mut LatestWindow, item: Item) -> Result<Qu
     Ok(queue)
 }
 
-/// The window of the last rows of the partitions by these columns.
+/// Makes the window of the last rows of the partitions by these columns.
 fn latest(alloc: Global, columns: &[usize], count: u64) -> Result<LatestWindow, AllocError>
     requires { length columns.now ≤ 2 }
     ensures { IfOk result (λ w. w.width ≡ 2) }
@@ -250,10 +251,10 @@ fn latest(alloc: Global, columns: &[usize], count: u64) -> Result<LatestWindow, 
     Ok(LatestWindow::new(alloc, columns, count, 2))
 }
 
-/// Rows of a full batch and of cut ones.
+/// Holds rows of a full batch and of cut ones.
 const FEWER: [Came; 5] = [(0, 200), (0, 65), (0, 0), (1, 1024), (1, 0)];
 
-/// Whether a window puts out in place what the other does by steps, item after item.
+/// Returns whether a window emits in place what the other emits by steps, item after item.
 fn latests_agree(alloc: Global, columns: &[usize], count: u64) -> Result<bool, AllocError>
     requires { length columns.now ≤ 2 }
 {

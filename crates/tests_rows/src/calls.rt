@@ -1,4 +1,4 @@
-//! Requests of clients, over any engine.
+//! Answers requests of clients, over any engine.
 
 use crate::turns::add_row;
 use reference::{Answering, Fault, Kind, Slope};
@@ -6,7 +6,7 @@ use std::alloc::{AllocError, Global};
 use values::Row;
 use wire::{Reply, Request, WireFault, answer, read_request};
 
-/// Answers, each with its instant.
+/// Shows answers, each with its instant.
 fn shown_answers(alloc: Global, answers: &[(i64, Row)]) -> Result<String, AllocError> {
     let mut text = format!(in alloc; "{} rows", answers.len())?;
     for (at, row) in answers {
@@ -16,7 +16,7 @@ fn shown_answers(alloc: Global, answers: &[(i64, Row)]) -> Result<String, AllocE
     Ok(text)
 }
 
-/// What operators do, each with its slope.
+/// Shows what operators do, each with its slope.
 fn shown_operators(alloc: Global, operators: &[(Kind, Slope)]) -> Result<String, AllocError> {
     let mut text = format!(in alloc; "{} operators", operators.len())?;
     for (kind, slope) in operators {
@@ -25,7 +25,7 @@ fn shown_operators(alloc: Global, operators: &[(Kind, Slope)]) -> Result<String,
     Ok(text)
 }
 
-/// A number by the name that has it, and where none has, the number that is written in its place.
+/// Returns the number of what has this name. If nothing has it, the name is read as the number.
 fn number_of(named: Option<u64>, name: &str) -> u64 {
     match named {
         Some(number) => number,
@@ -41,7 +41,7 @@ fn numbered(alloc: Global, number: u64) -> Result<String, Fault> {
     Ok(format!(in alloc; "number {number}")?)
 }
 
-/// What a request about a query is answered.
+/// Shows what a request about a query is answered.
 fn asked<E: Answering>(
     alloc: Global,
     engine: &mut E,
@@ -65,7 +65,7 @@ fn asked<E: Answering>(
     }
 }
 
-/// What a request is answered: the number of what is made, or what is shown.
+/// Shows what a request is answered: the number of what is made, or what it asks to see.
 fn served<E: Answering>(alloc: Global, engine: &mut E, request: &Request) -> Result<String, Fault> {
     match request {
         Request::Stream {
@@ -103,7 +103,7 @@ fn served<E: Answering>(alloc: Global, engine: &mut E, request: &Request) -> Res
     }
 }
 
-/// What the request of a line is answered.
+/// Shows what the request of a line is answered.
 pub(crate) fn requested<E: Answering>(
     alloc: Global,
     engine: &mut E,
@@ -116,10 +116,10 @@ pub(crate) fn requested<E: Answering>(
     }
 }
 
-/// The most rows of the turns of a script's drain.
+/// Limits the rows of the turns of a script's drain.
 const ROWS: u32 = 1_024;
 
-/// What a script answers to the request of a line.
+/// Shows what a script answers to the request of a line.
 pub(crate) fn asked_of_script<E: Answering>(
     alloc: Global,
     engine: &mut E,

@@ -1,10 +1,10 @@
-//! Charts and their slopes.
+//! Shows charts and their slopes.
 
 use envelope::{Point, Slope, is_chart, slopes};
 use std::alloc::{AllocError, Global};
 use std::cmp::Ordering;
 
-/// The numbers on both sides of a mark.
+/// Reads the numbers on both sides of a mark.
 pub(crate) fn pair(word: &str, mark: char) -> (u64, u64) {
     match word.split_once(mark) {
         Some((first, second)) => {
@@ -17,7 +17,7 @@ pub(crate) fn pair(word: &str, mark: char) -> (u64, u64) {
     }
 }
 
-/// Points of words `TIME:SIZE`.
+/// Reads points from words `TIME:SIZE`.
 pub(crate) fn points_in(alloc: Global, words: &[&str]) -> Result<Vec<Point>, AllocError> {
     let mut points = Vec::new(alloc);
     for word in words {
@@ -27,7 +27,7 @@ pub(crate) fn points_in(alloc: Global, words: &[&str]) -> Result<Vec<Point>, All
     Ok(points)
 }
 
-/// The slopes of the steps of a chart.
+/// Shows the slopes of the steps of a chart.
 pub(crate) fn sloped(alloc: Global, rest: &str) -> Result<String, AllocError> {
     let words: Vec<&str> = rest.split_whitespace().collect(alloc)?;
     let points = points_in(alloc, &words)?;
@@ -43,7 +43,7 @@ pub(crate) fn sloped(alloc: Global, rest: &str) -> Result<String, AllocError> {
     Ok(text)
 }
 
-/// The slope of a word `NUMERATOR/DENOMINATOR`.
+/// Reads the slope of a word `NUMERATOR/DENOMINATOR`.
 fn slope(word: &str) -> Slope {
     let (numerator, denominator) = pair(word, '/');
     if denominator == 0 {
@@ -52,7 +52,7 @@ fn slope(word: &str) -> Slope {
     Slope::new(numerator, denominator)
 }
 
-/// How two slopes stand to each other, and the greater of them.
+/// Shows how two slopes compare, and the greater of them.
 pub(crate) fn compared(alloc: Global, rest: &str) -> Result<String, AllocError> {
     let (first, second) = rest.split_once(' ').unwrap_or((rest, ""));
     let (first, second) = (slope(first), slope(second));

@@ -1,4 +1,4 @@
-//! Which slots of a list are the first.
+//! Shows which slots of a list are the first.
 
 use crate::charts::points_in;
 use column::Side;
@@ -10,8 +10,8 @@ fn number(word: &str) -> u64 {
     word.parse::<u64>().unwrap_or(0)
 }
 
-/// A side and an instant: the right one where an `r` stands behind the number, and none where there
-/// is no number.
+/// Reads a side and an instant. The side is the right one if an `r` follows the number. Returns
+/// `None` if there is no number.
 fn next(word: &str) -> Option<(Side, u64)> {
     let (side, at) = match word.strip_suffix('r') {
         Some(at) => (Side::Right, at),
@@ -23,18 +23,18 @@ fn next(word: &str) -> Option<(Side, u64)> {
     }
 }
 
-/// A slot of a slope that is a whole number.
+/// Makes a slot whose slope is a whole number.
 fn slot(slope: &str, at: &str, query: &str, operator: &str) -> Slot {
     let slope = Slope::new(number(slope), 1);
     Slot::new(slope, next(at), number(query), number(operator) as usize)
 }
 
-/// The query and the operator of a slot.
+/// Returns the query and the operator of a slot.
 fn named(slot: &Slot) -> (u64, usize) {
     (slot.query(), slot.operator())
 }
 
-/// The query, the operator and the instant of a slot, and the side where it is the right one.
+/// Shows the query, the operator and the instant of a slot, and the side if it is the right one.
 fn shown(alloc: Global, slot: &Slot) -> Result<String, AllocError> {
     let (query, operator) = named(slot);
     match (slot.instant(), slot.side()) {
@@ -44,7 +44,7 @@ fn shown(alloc: Global, slot: &Slot) -> Result<String, AllocError> {
     }
 }
 
-/// What the first slot shows.
+/// Shows the first slot.
 fn first(alloc: Global, list: &RunQueue) -> Result<String, AllocError> {
     match list.first() {
         Some(slot) => shown(alloc, &slot),
@@ -52,8 +52,8 @@ fn first(alloc: Global, list: &RunQueue) -> Result<String, AllocError> {
     }
 }
 
-/// The queries and operators of the first slots, one after the other, where each has nothing to
-/// take once it was.
+/// Shows the queries and operators of the first slots, one after the other. Each has nothing to
+/// take once it was first.
 fn in_turn(alloc: Global, list: &mut RunQueue) -> Result<String, AllocError> {
     let mut text = String::new(alloc);
     for _ in 0..100 {
@@ -70,7 +70,7 @@ fn in_turn(alloc: Global, list: &mut RunQueue) -> Result<String, AllocError> {
     Ok(text)
 }
 
-/// Each operator of a path comes, with something of the instant 0 to take.
+/// Puts each operator of a path, with something of the instant 0 to take.
 fn put_path(
     alloc: Global,
     list: &mut RunQueue,
@@ -87,7 +87,7 @@ fn put_path(
     Ok(())
 }
 
-/// The first slot of the list, behind what the words do to it.
+/// Shows the first slot of the list, after what the words do to it.
 pub(crate) fn listed(alloc: Global, list: &mut RunQueue, rest: &str) -> Result<String, AllocError> {
     let words: Vec<&str> = rest.split_whitespace().collect(alloc)?;
     match words.as_slice() {

@@ -1,5 +1,7 @@
-//! Answers each line of standard input by the calls that it names, and prints both: worked rows of
-//! the reader, the planner, the scheduler and the engine, of which the gate compares each byte.
+//! Answers each line of standard input by the calls that it names, and prints both.
+//!
+//! They are worked rows of the reader, the planner, the scheduler and the engine. The gate compares
+//! each byte of them.
 #![tactic(auto)]
 
 mod calls;
@@ -17,7 +19,7 @@ use std::alloc::{AllocError, Global};
 use std::io;
 use turn::Done;
 
-/// What an answer shows, or its fault.
+/// Returns what an answer shows, or shows its fault.
 fn told(alloc: Global, answer: Result<String, Fault>) -> Result<String, AllocError> {
     match answer {
         Ok(text) => Ok(text),
@@ -25,7 +27,7 @@ fn told(alloc: Global, answer: Result<String, Fault>) -> Result<String, AllocErr
     }
 }
 
-/// What a line is answered that needs an engine: the request of a client, or words of a worker.
+/// Answers a line that needs an engine: the request of a client, or words of a worker.
 fn engaged(
     alloc: Global,
     engine: &mut Engine,
@@ -45,7 +47,7 @@ fn engaged(
     }
 }
 
-/// What a line is answered that needs no engine, if it is such a one.
+/// Answers a line that needs no engine, if it is one.
 fn answered(
     alloc: Global,
     list: &mut RunQueue,

@@ -1,4 +1,4 @@
-//! What the names of queries stand for, and their plans, over the streams S(a), A(k) and B(k, v).
+//! Shows what the names of queries mean, and their plans, over the streams S(a), A(k) and B(k, v).
 ghost use Rattle.std.specs.Prelude.{◌≤◌, IfOk, length};
 ghost use Rattle.std.specs.List.{AllByRecursion};
 
@@ -9,7 +9,7 @@ use plan::{Key, Node, Plan};
 use reference::{Fault, are_columns, find_plan, names_of};
 use std::alloc::{AllocError, Global};
 
-/// The streams S(a), A(k) and B(k, v).
+/// Declares the streams S(a), A(k) and B(k, v).
 fn catalog(alloc: Global) -> Result<Catalog, AllocError>
     ensures { IfOk result (λ c. AllByRecursion (λ s. length s.columns ≤ 8) c) }
 {
@@ -30,7 +30,7 @@ fn add_numbers(text: &mut String, numbers: &[usize]) -> Result<(), AllocError> {
     Ok(())
 }
 
-/// The keys that join a source with those before it.
+/// Adds the keys that join a source with those before it.
 fn add_keys(text: &mut String, keys: &[NamedKey]) -> Result<(), AllocError> {
     for key in keys {
         let (source, column) = (key.earlier.source, key.earlier.column);
@@ -39,8 +39,8 @@ fn add_keys(text: &mut String, keys: &[NamedKey]) -> Result<(), AllocError> {
     Ok(())
 }
 
-/// The streams, their widths, the keys, and how many conditions are each source's own and how many
-/// remain.
+/// Shows the streams, their widths, the keys, and how many conditions each source has of its own.
+/// Shows also how many remain.
 fn named(alloc: Global, named: &Named) -> Result<String, AllocError> {
     let mut text = String::from_str(alloc, "streams")?;
     add_numbers(&mut text, &named.streams)?;
@@ -58,7 +58,7 @@ fn named(alloc: Global, named: &Named) -> Result<String, AllocError> {
     Ok(text)
 }
 
-/// What the names of a text stand for.
+/// Shows what the names of a text mean.
 pub(crate) fn resolved(alloc: Global, text: &str) -> Result<String, AllocError> {
     let query = match read(alloc, text.as_bytes()) {
         Ok(query) => query,
@@ -72,7 +72,7 @@ pub(crate) fn resolved(alloc: Global, text: &str) -> Result<String, AllocError> 
     }
 }
 
-/// The numbers of the operators that an operator takes rows of.
+/// Adds the numbers of the operators whose rows an operator takes.
 fn add_inputs(text: &mut String, nodes: &[Node], node: &Node) -> Result<(), AllocError> {
     for number in 0..nodes.len() {
         if node.takes(number) {
@@ -89,7 +89,7 @@ fn add_joined(text: &mut String, keys: &[Key]) -> Result<(), AllocError> {
     Ok(())
 }
 
-/// What an operator carries.
+/// Adds what an operator carries.
 fn add_carried(text: &mut String, node: &Node) -> Result<(), AllocError> {
     match node {
         Node::Window(source) => write!(text, " source {source}"),
@@ -100,7 +100,7 @@ fn add_carried(text: &mut String, node: &Node) -> Result<(), AllocError> {
     }
 }
 
-/// The operators: what each does, of which it takes rows, and its cost and size.
+/// Shows the operators: what each does, whose rows it takes, and its cost and size.
 fn shown(alloc: Global, plan: &Plan) -> Result<String, AllocError> {
     let mut text = format!(in alloc; "{} operators", plan.nodes.len())?;
     for (node, measure) in plan.nodes.iter().zip(plan.measures.iter()) {
@@ -113,14 +113,14 @@ fn shown(alloc: Global, plan: &Plan) -> Result<String, AllocError> {
     Ok(text)
 }
 
-/// The plan of a text.
+/// Shows the plan of a text.
 pub(crate) fn planned(alloc: Global, text: &str) -> Result<String, Fault> {
     let catalog = catalog(alloc)?;
     let plan = find_plan(alloc, &catalog, text, None)?;
     Ok(shown(alloc, &plan)?)
 }
 
-/// The number of the stream of a name, and how many columns it has.
+/// Shows the number of the stream with this name, and how many columns it has.
 pub(crate) fn found_stream(alloc: Global, name: &str) -> Result<String, AllocError> {
     let catalog = catalog(alloc)?;
     let width = catalog.columns_of(name.as_bytes()).len();
@@ -141,7 +141,7 @@ fn listed(alloc: Global, names: &[Name]) -> Result<String, AllocError> {
     Ok(text)
 }
 
-/// What is said of names in place of columns.
+/// Shows the names that words in place of columns give, or that they are no columns.
 pub(crate) fn named_columns(alloc: Global, rest: &str) -> Result<String, AllocError> {
     let mut columns = Vec::new(alloc);
     for word in rest.split_whitespace() {

@@ -1,4 +1,4 @@
-//! What the texts of queries say, written out in full.
+//! Shows what the texts of queries say, written out in full.
 
 use cql_reader::{
     Condition, Entries, Entry, Name, Operand, Query, Reference, Source, Window, is_name, read,
@@ -115,7 +115,7 @@ fn sign(compare: Compare) -> &'static str {
     }
 }
 
-/// A condition with parentheses round each part of it.
+/// Adds a condition with parentheses round each part of it.
 fn add_condition(text: &mut String, condition: &Condition) -> Result<(), AllocError> {
     text.push_str("(")?;
     match condition {
@@ -154,7 +154,7 @@ fn add_clauses(text: &mut String, query: &Query) -> Result<(), AllocError> {
     Ok(())
 }
 
-/// A query, each part of it in the one form that says all.
+/// Shows a query, each part of it in the one form that says all.
 fn written(alloc: Global, query: &Query) -> Result<String, AllocError> {
     let mut text = format!(in alloc; "{:?}(Select ", query.operator)?;
     if query.is_distinct {
@@ -168,7 +168,7 @@ fn written(alloc: Global, query: &Query) -> Result<String, AllocError> {
     Ok(text)
 }
 
-/// What is read of a text, in which `\r\n` stands for the end of a line.
+/// Shows what is read of a text, in which `\r\n` means the end of a line.
 pub(crate) fn read_query(alloc: Global, text: &str) -> Result<String, AllocError> {
     let text = text.replace(alloc, "\\r\\n", "\r\n")?;
     match read(alloc, text.as_bytes()) {
@@ -177,7 +177,7 @@ pub(crate) fn read_query(alloc: Global, text: &str) -> Result<String, AllocError
     }
 }
 
-/// Whether what stands between quotes is a name.
+/// Shows whether the word between quotes is a name.
 pub(crate) fn judged_name(alloc: Global, quoted: &str) -> Result<String, AllocError> {
     let word = quoted.trim_matches('"');
     String::from_str(alloc, if is_name(word) { "a name" } else { "no name" })

@@ -1,4 +1,4 @@
-//! What turns show that were run.
+//! Shows turns that were run.
 
 use column::{Batch, Side};
 use op_queue::Item;
@@ -7,7 +7,7 @@ use std::alloc::{AllocError, Global};
 use turn::{Change, Outputs, Parts};
 use values::Value;
 
-/// The values of a row.
+/// Adds the values of a row.
 pub(crate) fn add_row(text: &mut String, values: &[Value]) -> Result<(), AllocError> {
     let mut between = "";
     for value in values {
@@ -17,7 +17,7 @@ pub(crate) fn add_row(text: &mut String, values: &[Value]) -> Result<(), AllocEr
     Ok(())
 }
 
-/// Rows, each behind its sign.
+/// Adds rows, each after its sign.
 fn add_batch(text: &mut String, batch: &Batch) -> Result<(), AllocError> {
     for place in 0..batch.len() {
         let signed = batch.row(place);
@@ -56,7 +56,7 @@ fn add_answers(alloc: Global, text: &mut String, answers: &DatedRows) -> Result<
     Ok(())
 }
 
-/// How many rows leave the front of a window.
+/// Adds how many rows leave the front of a window.
 fn add_change(text: &mut String, change: &Change) -> Result<(), AllocError> {
     match change {
         Change::Leave(count) if *count > 0 => write!(text, "; {count} leave"),
@@ -64,8 +64,8 @@ fn add_change(text: &mut String, change: &Change) -> Result<(), AllocError> {
     }
 }
 
-/// A turn: its number, the numbers of its query and its operator, what it takes, and behind it what
-/// it puts out.
+/// Shows a turn: its number, the numbers of its query and its operator, what it takes, and then
+/// what it emits.
 pub(crate) fn shown(alloc: Global, parts: &Parts) -> Result<String, AllocError> {
     let (query, operator) = (parts.node.query, parts.node.operator);
     let mut text = format!(in alloc; "turn {} of {query}.{operator}", parts.lease)?;

@@ -1,4 +1,4 @@
-//! Calls of workers: turns that go out and come back.
+//! Makes calls of workers: turns that go out and come back.
 
 use crate::turns::shown;
 use leases::{Engine, Leased};
@@ -18,7 +18,7 @@ fn done(alloc: Global) -> Result<String, Fault> {
     Ok(String::from_str(alloc, "ok")?)
 }
 
-/// What waits in each queue.
+/// Shows how much waits in each queue.
 fn shown_lengths(alloc: Global, lengths: &[u128]) -> Result<String, AllocError> {
     let mut text = String::new(alloc);
     let mut between = "";
@@ -29,7 +29,7 @@ fn shown_lengths(alloc: Global, lengths: &[u128]) -> Result<String, AllocError> 
     Ok(text)
 }
 
-/// The next turn, run.
+/// Leases the next turn and runs it.
 fn next(alloc: Global, engine: &mut Engine, rows: u32) -> Result<Option<Done>, Fault> {
     match engine.lease(rows)? {
         Leased::Turn(turn) => match turn.run(alloc) {
@@ -40,7 +40,7 @@ fn next(alloc: Global, engine: &mut Engine, rows: u32) -> Result<Option<Done>, F
     }
 }
 
-/// The next turn, which is run and kept.
+/// Leases the next turn, runs it, keeps it and shows it.
 fn lease(
     alloc: Global,
     engine: &mut Engine,
@@ -56,7 +56,7 @@ fn lease(
     Ok(text)
 }
 
-/// The oldest turn that is kept comes back, or the one so many behind it.
+/// Brings back the turn at a place among those that are kept, the oldest being at 0.
 fn finish(engine: &mut Engine, kept: &mut Vec<Done>, place: u64) -> Result<(), Fault> {
     let place = place as usize;
     if place < kept.len() {
@@ -65,7 +65,7 @@ fn finish(engine: &mut Engine, kept: &mut Vec<Done>, place: u64) -> Result<(), F
     Ok(())
 }
 
-/// Runs and finishes so many turns: the query and the operator of each.
+/// Runs and finishes this many turns, and shows the query and the operator of each.
 fn run(alloc: Global, engine: &mut Engine, count: u64) -> Result<String, Fault> {
     let mut text = String::new(alloc);
     let mut between = "";
@@ -82,7 +82,7 @@ fn run(alloc: Global, engine: &mut Engine, count: u64) -> Result<String, Fault> 
     Ok(text)
 }
 
-/// What words of a worker are answered.
+/// Answers the words of a worker.
 pub(crate) fn worked(
     alloc: Global,
     engine: &mut Engine,

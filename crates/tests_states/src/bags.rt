@@ -6,7 +6,7 @@ use std::alloc::{AllocError, Global};
 use std::test::Fail;
 use values::{MAX_COLUMNS, Row, Value, same_rows};
 
-/// A batch of three rows of one number, of which the first leaves or enters and the others enter.
+/// Makes a batch of three rows of one number. The first enters or leaves, and the others enter.
 fn three(alloc: Global, enters: bool, numbers: (i64, i64, i64)) -> Result<Batch, AllocError> {
     let rows = [
         one(enters, numbers.0),
@@ -16,7 +16,7 @@ fn three(alloc: Global, enters: bool, numbers: (i64, i64, i64)) -> Result<Batch,
     Batch::from_rows(alloc, &rows)
 }
 
-/// The rows 7, 5 and 5.
+/// Makes a bag of the rows 7, 5 and 5.
 fn filled(alloc: Global) -> Result<RowBag, AllocError> {
     let mut bag = RowBag::new(alloc);
     bag.add(&row(7))?;
@@ -61,7 +61,7 @@ fn rows_come_in_order_with_their_repeats(rt: HostRuntime) -> Result<(), Fail> {
     Ok(())
 }
 
-/// How many rows of a number the filled bag has.
+/// Returns how many rows of a number the filled bag has.
 fn rows_with(alloc: Global, number: i64) -> Result<usize, AllocError> {
     let bag = filled(alloc)?;
     let mut rows = Vec::new(alloc);
@@ -83,7 +83,7 @@ fn four_is_added(alloc: Global) -> Result<bool, AllocError> {
     Ok(bag.has(&row(4)))
 }
 
-/// The rows 4 and 6 come, one after the other; then 4 leaves, and 9, which is not there.
+/// Lets the rows 4 and 6 come, one after the other. Then 4 leaves, and 9, which is not there.
 fn one_at_a_time(alloc: Global) -> Result<bool, AllocError> {
     let mut bag = RowBag::new(alloc);
     bag.apply_one(&one(true, 4))?;
@@ -100,7 +100,7 @@ fn one_row_more(rt: HostRuntime) -> Result<(), Fail> {
     Ok(())
 }
 
-/// A row that has the number 1 as often as that, at most 32 times.
+/// Makes a row that has the number 1 `count` times, at most 32 times.
 fn ones(count: usize) -> Row {
     let mut row = Row::new();
     for _ in 0..count {
@@ -109,7 +109,7 @@ fn ones(count: usize) -> Row {
     row
 }
 
-/// The row 7, then one of nine ones, then one of seventeen.
+/// Makes a bag of the row 7, then a row of nine ones, then one of seventeen.
 fn widened(alloc: Global) -> Result<RowBag, AllocError> {
     let mut bag = RowBag::new(alloc);
     bag.add(&row(7))?;
@@ -118,7 +118,7 @@ fn widened(alloc: Global) -> Result<RowBag, AllocError> {
     Ok(bag)
 }
 
-/// Whether the rows of the bag have that many values, one after the other.
+/// Returns whether the rows of the bag have these numbers of values, one after the other.
 fn widths_are(alloc: Global, bag: &RowBag, widths: &[usize]) -> Result<bool, AllocError> {
     let rows = bag.rows(alloc)?;
     Ok(
@@ -130,7 +130,7 @@ fn widths_are(alloc: Global, bag: &RowBag, widths: &[usize]) -> Result<bool, All
     )
 }
 
-/// The wide rows come first, and the others stay where one of them leaves.
+/// Returns whether the wide rows come first, and the others stay when one of them leaves.
 fn wide_rows_come(alloc: Global) -> Result<bool, AllocError> {
     let mut bag = widened(alloc)?;
     if !widths_are(alloc, &bag, &[9, 17, 1])? {
@@ -141,7 +141,7 @@ fn wide_rows_come(alloc: Global) -> Result<bool, AllocError> {
     widths_are(alloc, &bag, &[17, 1])
 }
 
-/// Whether a bag of rows of one value has none of 32.
+/// Returns whether a bag of rows of one value has none of 32.
 fn has_no_wide_row(alloc: Global) -> Result<bool, AllocError> {
     let mut bag = filled(alloc)?;
     let mut rows = Vec::new(alloc);
@@ -157,7 +157,8 @@ fn rows_of_other_widths_stand_side_by_side(rt: HostRuntime) -> Result<(), Fail> 
     Ok(())
 }
 
-/// Whether a row of so many ones gets a key with room for two values, which then has its values.
+/// Returns whether a row of `count` ones gets a key with room for two values, which then has its
+/// values.
 fn fits_two(count: usize) -> bool {
     let row = ones(count);
     match fitted::<2>(&row) {
@@ -166,7 +167,7 @@ fn fits_two(count: usize) -> bool {
     }
 }
 
-/// The row 7 in less room, and back.
+/// Copies the row 7 into less room, and back.
 fn seven_again() -> Row {
     let seven = row(7);
     let key = copied::<MAX_COLUMNS, 4>(&seven);
@@ -181,21 +182,21 @@ fn keys_have_the_values_of_their_rows(rt: HostRuntime) -> Result<(), Fail> {
     Ok(())
 }
 
-/// What entered and left with the first row, which leaves or enters, and the others, which enter.
+/// Makes what entered and left from three rows. The first leaves or enters, and the others enter.
 fn delta_from(alloc: Global, enters: bool, numbers: (i64, i64, i64)) -> Result<Delta, AllocError> {
     let batch = three(alloc, enters, numbers)?;
-    let _few = batch.len();
+    let _few = batch.len(); // for the proof
     let mut delta = Delta::new(alloc);
     delta.apply(&batch)?;
     Ok(delta)
 }
 
-/// The row 5 leaves, 6 and 5 come.
+/// Makes what entered and left when the row 5 leaves, and 6 and 5 come.
 fn delta(alloc: Global) -> Result<Delta, AllocError> {
     delta_from(alloc, false, (5, 6, 5))
 }
 
-/// The rows of a list.
+/// Returns the rows of a list.
 fn rows_in(alloc: Global, list: &RowList) -> Result<Vec<Row>, AllocError> {
     let mut dated = DatedRows::new(alloc);
     list.push_to(&mut dated, 0)?;
@@ -208,7 +209,7 @@ fn rows_in(alloc: Global, list: &RowList) -> Result<Vec<Row>, AllocError> {
     Ok(rows)
 }
 
-/// Whether the list has these rows of one number.
+/// Returns whether the list has these rows of one number.
 fn list_is(alloc: Global, list: &RowList, numbers: &[i64]) -> Result<bool, AllocError> {
     let rows = rows_in(alloc, list)?;
     Ok(are(&rows, numbers))
@@ -224,7 +225,7 @@ fn left_are(alloc: Global, delta: &Delta, numbers: &[i64]) -> Result<bool, Alloc
     list_is(alloc, &rows, numbers)
 }
 
-/// Whether a delta has these rows alone.
+/// Returns whether a delta has only these rows.
 fn shows_delta(
     alloc: Global,
     delta: &Delta,
@@ -260,7 +261,7 @@ fn what_leaves_is_kept(rt: HostRuntime) -> Result<(), Fail> {
     Ok(())
 }
 
-/// The rows 5, 5 and 7 in a list.
+/// Makes a list of the rows 5, 5 and 7.
 fn listed(alloc: Global) -> Result<RowList, AllocError> {
     let delta = delta_from(alloc, true, (7, 5, 5))?;
     let mut list = RowList::new(alloc);
@@ -268,7 +269,7 @@ fn listed(alloc: Global) -> Result<RowList, AllocError> {
     Ok(list)
 }
 
-/// Whether the list with what entered and left is these rows.
+/// Returns whether the list with what entered and left is these rows.
 fn list_shows(
     alloc: Global,
     list: &RowList,
@@ -286,18 +287,18 @@ fn nothing_changes(alloc: Global) -> Result<bool, AllocError> {
     list_shows(alloc, &list, &none, &[5, 5, 7])
 }
 
-/// One of the two rows 5 leaves, 6 and 9 come.
+/// Lets one of the two rows 5 leave, and 6 and 9 come.
 fn one_of_two_leaves(alloc: Global) -> Result<bool, AllocError> {
     let list = listed(alloc)?;
     let delta = delta_from(alloc, false, (5, 6, 9))?;
     list_shows(alloc, &list, &delta, &[5, 6, 7, 9])
 }
 
-/// All rows leave.
+/// Lets all rows leave.
 fn none_is_left(alloc: Global) -> Result<bool, AllocError> {
     let mut list = listed(alloc)?;
     let batch = Batch::from_rows(alloc, &[one(false, 7), one(false, 5), one(false, 5)])?;
-    let _few = batch.len();
+    let _few = batch.len(); // for the proof
     let mut delta = Delta::new(alloc);
     delta.apply(&batch)?;
     list.renew(alloc, &delta)?;
@@ -313,14 +314,14 @@ fn a_list_becomes_what_left_and_entered_make_of_it(rt: HostRuntime) -> Result<()
     Ok(())
 }
 
-/// The row comes to the list, or leaves it.
+/// Lets the row come to the list, or leave it.
 fn takes(alloc: Global, list: &mut RowList, signed_row: SignedRow) -> Result<(), AllocError> {
     let mut delta = Delta::new(alloc);
     delta.apply_one(signed_row)?;
     list.renew(alloc, &delta)
 }
 
-/// The rows of one, of nine, of seventeen and of no values, after each other; then the one of one
+/// Lists the rows of one, nine, seventeen and no values, one after the other. Then the row of one
 /// value leaves.
 fn wide_rows_are_listed(alloc: Global) -> Result<usize, AllocError> {
     let mut list = RowList::new(alloc);
@@ -335,7 +336,7 @@ fn wide_rows_are_listed(alloc: Global) -> Result<usize, AllocError> {
     Ok(place_value(&rows_in(alloc, &rows)?))
 }
 
-/// The numbers of values of the rows as two digits each of one number, the first row's last.
+/// Writes the rows' lengths as one number, two digits each. The first row has the lowest digits.
 fn place_value(rows: &[Row]) -> usize {
     let mut number = 0_usize;
     for row in rows.iter().rev() {

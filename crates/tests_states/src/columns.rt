@@ -9,7 +9,7 @@ use std::alloc::{AllocError, Global};
 use std::test::Fail;
 use values::{ANSWER_MAX, Value};
 
-/// The rows (1, 10), (2, null), (3, 30), of which the second leaves.
+/// Makes the rows (1, 10), (2, null) and (3, 30). The second leaves.
 fn three(alloc: Global) -> Result<Batch, AllocError>
     ensures long { IfOk result (λ b. length b ≡ 3) }
     ensures wide { IfOk result (λ b. width b ≡ 2) }
@@ -18,7 +18,7 @@ fn three(alloc: Global) -> Result<Batch, AllocError>
     Batch::from_rows(alloc, &rows)
 }
 
-/// A row of a batch, with null past its end.
+/// Is a row of a batch, with null past its end.
 type Shown = (bool, [Option<i64>; 3]);
 
 const FIRST: Shown = (true, [Some(1), Some(10), None]);
@@ -27,7 +27,7 @@ const SECOND: Shown = (false, [Some(2), None, None]);
 
 const THIRD: Shown = (true, [Some(3), Some(30), None]);
 
-/// How rows are copied.
+/// Says how rows are copied.
 #[derive(Clone, Copy, Drop)]
 enum Copying {
     Cut,
@@ -68,7 +68,7 @@ fn rows_cut_parted_picked_and_projected(rt: HostRuntime) -> Result<(), Fail> {
     Ok(())
 }
 
-/// The rows of a batch that leave.
+/// Returns the rows of a batch that leave.
 fn leaving(alloc: Global, batch: &Batch) -> Result<Option<Batch>, AllocError> {
     let mask = Mask::from_words(alloc, batch.leaving_words(), batch.len())?;
     batch.gather(alloc, &mask)
@@ -100,7 +100,7 @@ fn rows_that_leave_gathered(rt: HostRuntime) -> Result<(), Fail> {
     Ok(())
 }
 
-/// Each row beside its second value again, with the sign of the right.
+/// Puts each row beside its second value again, with the sign of the right.
 fn beside_itself(alloc: Global) -> Result<Option<Batch>, AllocError> {
     let left = three(alloc)?;
     let right = left.project(alloc, &[1])?;
@@ -129,8 +129,8 @@ fn rows_beside_rows(rt: HostRuntime) -> Result<(), Fail> {
     Ok(())
 }
 
-/// Whether the second column lends these numbers and these words of its nulls, and its numbers lie
-/// in the range of a stream.
+/// Returns whether the second column lends these numbers and these words of its nulls. Its numbers
+/// must be in the range of a stream.
 fn lends(batch: &Batch, numbers: &[i64], valid: &[u64]) -> bool
     requires { width batch.now ≡ 2 }
 {
@@ -162,13 +162,13 @@ fn values_in_a_column(alloc: Global) -> Result<bool, AllocError> {
     Ok(!column.is_in_stream_range() && column.get(1).number().is_none())
 }
 
-/// The numbers 70, null and 72 of a hundred.
+/// Returns the numbers 70, null and 72 of a hundred.
 fn part_of_a_column(alloc: Global) -> Result<Column, AllocError> {
     let column = counted(alloc, 100, 70)?;
     column.part(alloc, 69, 72)
 }
 
-/// The last and the first of a hundred numbers.
+/// Returns the last and the first of a hundred numbers.
 fn picks_of_a_column(alloc: Global) -> Result<Column, AllocError> {
     let column = counted(alloc, 100, 70)?;
     column.picked(alloc, &[99, 0])
@@ -192,7 +192,7 @@ fn values_in_columns(rt: HostRuntime) -> Result<(), Fail> {
     Ok(())
 }
 
-/// 70 truths, every third one true.
+/// Makes 70 truths, every third one true.
 fn thirds(alloc: Global) -> Result<Mask, AllocError>
     ensures { IfOk result (λ m. length m ≡ 70) }
 {
@@ -203,7 +203,7 @@ fn thirds(alloc: Global) -> Result<Mask, AllocError>
     Ok(mask)
 }
 
-/// The truths at the places 62 to 67: the second and the fifth are true.
+/// Tries the truths at the places 62 to 67: the second and the fifth are true.
 fn part_of_a_mask(alloc: Global) -> Result<bool, AllocError> {
     let thirds = thirds(alloc)?;
     let part = thirds.part(alloc, 62, 68)?;

@@ -11,7 +11,7 @@ use std::alloc::{AllocError, Global};
 use std::test::Fail;
 use values::{Compare, Value};
 
-/// So many rows of two columns, which all enter.
+/// Makes rows of two columns, which all enter.
 fn batch_of(alloc: Global, a: Column, b: Column) -> Result<Batch, AllocError>
     requires some { 1 ≤ length a }
     requires few { length a ≤ 1024 }
@@ -33,7 +33,7 @@ fn none_leaves(alloc: Global, count: usize) -> Result<Mask, AllocError>
     Ok(leaving)
 }
 
-/// 5 at the places 0 to 7, and null at 8.
+/// Makes a column of 5 at the places 0 to 7, and null at 8.
 fn fives(alloc: Global) -> Result<Column, AllocError>
     ensures { IfOk result (λ c. length c ≡ 9) }
 {
@@ -58,7 +58,7 @@ const ABOVE_FIVE: Step = Step::Number(0, Compare::Above, 5);
 
 const BELOW_SIX: Step = Step::Number(1, Compare::Below, 6);
 
-/// `Not (a > 5) Or b < 6`.
+/// Returns the words of `Not (a > 5) Or b < 6`.
 fn not_or(batch: &Batch) -> (u64, u64)
     requires rows { length batch.now ≡ 9 }
     requires wide { width batch.now ≡ 2 }
@@ -66,7 +66,7 @@ fn not_or(batch: &Batch) -> (u64, u64)
     first_word(&[ABOVE_FIVE, Step::Not, BELOW_SIX, Step::Or], batch)
 }
 
-/// `a > 5 And b < 6`, or `a > 9 And b < 6`.
+/// Returns the words of `a > 5 And b < 6`, or of `a > 9 And b < 6`.
 fn both(batch: &Batch, above: i64) -> (u64, u64)
     requires rows { length batch.now ≡ 9 }
     requires wide { width batch.now ≡ 2 }
@@ -75,14 +75,14 @@ fn both(batch: &Batch, above: i64) -> (u64, u64)
     first_word(&[above, BELOW_SIX, Step::And], batch)
 }
 
-/// The numbers 1 to 9 beside eight fives and null.
+/// Makes the numbers 1 to 9 beside eight fives and null.
 fn nine(alloc: Global) -> Result<Batch, AllocError> {
     let a = counted(alloc, 9, 9)?;
     let b = fives(alloc)?;
     batch_of(alloc, a, b)
 }
 
-/// The words of the three conditions, where the batch has nine rows of two columns.
+/// Returns the words of the three conditions, if the batch has nine rows of two columns.
 fn words(batch: &Batch) -> Option<[(u64, u64); 3]> {
     if batch.len() != 9 || batch.width() != 2 {
         return None;
@@ -104,7 +104,7 @@ fn conditions_over_nine_rows(rt: HostRuntime) -> Result<(), Fail> {
     Ok(())
 }
 
-/// `Not a > 3 And a < b Or b = 0 Or false`.
+/// Holds the steps of `Not a > 3 And a < b Or b = 0 Or false`.
 const STEPS: [Step; 8] = [
     Step::Number(0, Compare::Above, 3),
     Step::Not,
@@ -139,7 +139,7 @@ fn condition_agrees(batch: &Batch, count: usize) -> bool
     is_well_formed(&truth, &known, count)
 }
 
-/// So many samples of 7 beside those of 11.
+/// Makes `count` samples of 7 beside those of 11.
 fn samples_beside(alloc: Global, count: usize) -> Result<Batch, AllocError>
     requires some { 1 ≤ count }
     requires few { count ≤ 1024 }

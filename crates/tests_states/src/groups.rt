@@ -10,7 +10,7 @@ use std::alloc::{AllocError, Global};
 use std::test::Fail;
 use values::{Column, ListItem, Value};
 
-/// Three signed rows of an instant, each a sign, a key and a number, or the tick of the instant.
+/// Is three signed rows of an instant, each a sign, a key and a number; or the tick of the instant.
 type Plain = (u64, Option<[(bool, i64, i64); 3]>);
 
 fn queued(alloc: Global, plain: &Plain) -> Result<Queued, AllocError> {
@@ -25,7 +25,7 @@ fn queued(alloc: Global, plain: &Plain) -> Result<Queued, AllocError> {
     }
 }
 
-/// A turn, and its outputs.
+/// Runs a turn and returns its outputs.
 fn turn(
     alloc: Global,
     group: &mut Group,
@@ -41,7 +41,7 @@ fn turn(
     Ok(outputs)
 }
 
-/// The outputs of some turns.
+/// Returns the outputs of some turns.
 fn run(
     alloc: Global,
     shape: &GroupBy,
@@ -60,8 +60,8 @@ fn run(
     Ok(all)
 }
 
-/// The rows of some items: for each its instant, 1 where it enters and 0 where it leaves, and its
-/// values.
+/// Returns the rows of some items as numbers. Each has its instant, then 1 if it enters or 0 if it
+/// leaves, then its values.
 fn numbers(alloc: Global, items: &[Queued]) -> Result<Vec<i128>, AllocError> {
     let mut all = Vec::new(alloc);
     for item in items {
@@ -92,7 +92,7 @@ fn push_values(all: &mut Vec<i128>, values: &[Value]) -> Result<(), AllocError> 
     Ok(())
 }
 
-/// Whether some turns put out so many items, with these rows.
+/// Returns whether some turns emit `count` items, with these rows.
 fn puts_out(
     alloc: Global,
     shape: &GroupBy,
@@ -118,7 +118,7 @@ const NUMBER: Column = Column {
     column: 1,
 };
 
-/// `Select k, Min(v), Max(v) From S Group By k`.
+/// Makes `Select k, Min(v), Max(v) From S Group By k`.
 fn extremes(alloc: Global) -> Result<GroupBy, AllocError> {
     let by = Vec::from_slice(alloc, &[KEY])?;
     let items = [
@@ -143,7 +143,7 @@ fn extremes_put_out(
     puts_out(alloc, &shape, kept, items, count, rows)
 }
 
-/// `Select Count(*), Count(v), Sum(v) From S`.
+/// Makes `Select Count(*), Count(v), Sum(v) From S`.
 fn totals(alloc: Global) -> Result<GroupBy, AllocError> {
     let items = [
         ListItem::CountAll,
@@ -235,17 +235,17 @@ fn distinct_rows_stay_until_the_last_copy_leaves(rt: HostRuntime) -> Result<(), 
     Ok(())
 }
 
-/// The greatest number of a stream.
+/// Is the greatest number of a stream.
 const GREATEST: i64 = 1_099_511_627_775;
 
-/// A row of it.
+/// Makes a row of the greatest number.
 fn lone(alloc: Global, instant: u64, enters: bool) -> Result<Queued, AllocError> {
     let rows = [two(enters, 1, GREATEST)];
     let batch = Batch::from_rows(alloc, &rows)?;
     Ok(Queued::Rows(instant, batch))
 }
 
-/// As many rows of it that enter at the instant 0 as a batch may have.
+/// Makes as many rows of the greatest number as a batch may have. They enter at the instant 0.
 fn full(alloc: Global) -> Result<Queued, AllocError> {
     let rows = [two(true, 1, GREATEST)];
     let row = Batch::from_rows(alloc, &rows)?;
@@ -253,7 +253,7 @@ fn full(alloc: Global) -> Result<Queued, AllocError> {
     Ok(Queued::Rows(0, batch))
 }
 
-/// The outputs of turns: some of the same item, then one of each further item.
+/// Returns the outputs of turns: `times` turns of the same item, then one for each further item.
 fn outputs_after(
     alloc: Global,
     shape: &GroupBy,
@@ -278,7 +278,7 @@ fn outputs_after(
     Ok(all)
 }
 
-/// The totals of 8,388,609 rows of the greatest number, and of one row less.
+/// Returns the totals of 8,388,609 rows of the greatest number, and of one row less.
 fn totals_of_greatest(alloc: Global) -> Result<Vec<i128>, AllocError> {
     let shape = totals(alloc)?;
     let kept = totals(alloc)?;

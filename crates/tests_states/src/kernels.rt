@@ -20,8 +20,8 @@ const COMPARISONS: [Compare; 6] = [
     Compare::AtLeast,
 ];
 
-/// Whether these are the truths of a comparison of the samples of 7 with 3, or with the samples of
-/// 11.
+/// Returns whether these are the truths of comparing the samples of 7 with 3, or with the samples
+/// of 11.
 fn is_compared(truth: &[u64], known: &[u64], how: Compare, with_three: bool, count: usize) -> bool {
     for i in 0..count {
         let other = if with_three {
@@ -36,7 +36,7 @@ fn is_compared(truth: &[u64], known: &[u64], how: Compare, with_three: bool, cou
     is_well_formed(truth, known, count)
 }
 
-/// Whether the kernel compares the samples of 7 with 3 as the definition does.
+/// Returns whether the kernel compares the samples of 7 with 3 as the definition does.
 fn agrees_with_three(left: &Column, how: Compare, count: usize) -> bool
     requires few { count ≤ 1024 }
     requires long { length left.now ≡ count }
@@ -47,7 +47,7 @@ fn agrees_with_three(left: &Column, how: Compare, count: usize) -> bool
     is_compared(&truth, &known, how, true, count)
 }
 
-/// Whether the kernel compares the samples of 7 with those of 11 as the definition does.
+/// Returns whether the kernel compares the samples of 7 with those of 11 as the definition does.
 fn agrees_with_other(left: &Column, right: &Column, how: Compare, count: usize) -> bool
     requires few { count ≤ 1024 }
     requires long { length left.now ≡ count }
@@ -100,7 +100,7 @@ fn comparisons_of_any_length(rt: HostRuntime) -> Result<(), Fail> {
     Ok(())
 }
 
-/// Which of the three kernels of logic is tried.
+/// Names which of the three kernels of logic is tried.
 #[derive(Clone, Copy, Drop)]
 enum Logic {
     Not,
@@ -108,7 +108,7 @@ enum Logic {
     Or,
 }
 
-/// Writes the kernel of two truths, of which Not takes the first.
+/// Runs the kernel on two truths and writes what it makes. Not takes only the first.
 fn combine(
     a_truth: &[u64],
     a_known: &[u64],
@@ -133,14 +133,14 @@ fn combine(
     }
 }
 
-/// The truths of places, in words.
+/// Holds the truths of places, in words.
 #[derive(Clone, Copy)]
 struct Truth<'a> {
     truth: &'a [u64],
     known: &'a [u64],
 }
 
-/// Whether these are the truths of the kernel of the first two.
+/// Returns whether these are the truths that the kernel makes of the first two.
 fn is_combined(a: Truth, logic: Logic, b: Truth, found: Truth, count: usize) -> bool {
     for i in 0..count {
         let first = truth_at(a.truth, a.known, i);
@@ -157,7 +157,7 @@ fn is_combined(a: Truth, logic: Logic, b: Truth, found: Truth, count: usize) -> 
     is_well_formed(found.truth, found.known, count)
 }
 
-/// Whether the kernel combines two truths of `count` places as the definition does.
+/// Returns whether the kernel combines two truths of `count` places as the definition does.
 fn combination_agrees(
     a_truth: &[u64],
     a_known: &[u64],
@@ -189,8 +189,8 @@ fn combination_agrees(
     is_combined(a, logic, b, Truth { truth, known }, count)
 }
 
-/// Whether the kernel combines as the definition does whether the left is above 3 with whether it
-/// is below the right.
+/// Returns whether the kernel combines two comparisons as the definition does: whether the left is
+/// above 3, and whether it is below the right.
 fn logic_agrees(left: &Column, right: &Column, logic: Logic, count: usize) -> bool
     requires few { count ≤ 1024 }
     requires long { length left.now ≡ count }
@@ -225,7 +225,7 @@ fn logic_of_any_length(rt: HostRuntime) -> Result<(), Fail> {
     Ok(())
 }
 
-/// The words of whether the first is above a number, combined with whether the second is.
+/// Combines whether the first is above a number with whether the second is. Returns the words.
 fn with_unknown(one: &Column, nothing: &Column, logic: Logic, number: i64) -> (u64, u64)
     requires one { length one.now ≡ 1 }
     requires nothing { length nothing.now ≡ 1 }
@@ -241,7 +241,7 @@ fn with_unknown(one: &Column, nothing: &Column, logic: Logic, number: i64) -> (u
     (truth[0], known[0])
 }
 
-/// The words of whether 1 is above a number, combined with whether null is.
+/// Combines whether 1 is above a number with whether null is. Returns the words.
 fn one_with_unknown(alloc: Global, logic: Logic, number: i64) -> Result<(u64, u64), AllocError> {
     let one = counted(alloc, 1, 1)?;
     let nothing = counted(alloc, 1, 0)?;

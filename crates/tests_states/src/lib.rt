@@ -1,8 +1,8 @@
 //! Worked rows and vectors of values, columns, lane kernels, queues and logs, and of the operators
 //! over them, as tests.
 //!
-//! They stand in a crate of their own because a crate's tests are proved with all of the crate once
-//! more.
+//! These tests are a crate of their own because a crate's tests are proved with all of the crate
+//! once more.
 #![tactic(auto)]
 
 #[cfg(test)]

@@ -31,7 +31,7 @@ fn sums_past_the_answer_range_show_its_end(rt: HostRuntime) -> Result<(), Fail> 
     Ok(())
 }
 
-/// Whether the row of null stands before the row of null and 7.
+/// Returns whether the row of null comes before the row of null and 7.
 fn short_is_first() -> bool {
     let short = row(NULL);
     let long = two(true, NULL, 7).row;
@@ -40,12 +40,12 @@ fn short_is_first() -> bool {
         && !same_rows(&short, &long)
 }
 
-/// How a row of two numbers stands to another.
+/// Compares a row of two numbers with another.
 fn stands(a: (i64, i64), b: (i64, i64)) -> Ordering {
     compare_rows(&two(true, a.0, a.1).row, &two(true, b.0, b.1).row)
 }
 
-/// The second value of the row of null and 7, and the one past its end.
+/// Returns the second value of the row of null and 7, and the one past its end.
 fn last_values() -> (Option<Value>, Value) {
     let long = two(true, NULL, 7).row;
     (Some(value_at(&long, 1)), value_at(&long, 2))

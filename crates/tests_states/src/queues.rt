@@ -10,13 +10,13 @@ use std::alloc::{AllocError, Global};
 use std::test::Fail;
 use values::Value;
 
-/// The row 5 enters, and the row 6 leaves.
+/// Makes a batch where the row 5 enters and the row 6 leaves.
 fn pair(alloc: Global) -> Result<Batch, AllocError> {
     let rows = [one(true, 5), one(false, 6)];
     Batch::from_rows(alloc, &rows)
 }
 
-/// The ticks 0 and 1, the rows 5 and 6 of the instant 2, and its tick.
+/// Makes a queue of the ticks 0 and 1, the rows 5 and 6 of the instant 2, and its tick.
 fn filled(alloc: Global) -> Result<Queue, AllocError> {
     let batch = pair(alloc)?;
     let mut queue = Queue::new(alloc);
@@ -26,13 +26,14 @@ fn filled(alloc: Global) -> Result<Queue, AllocError> {
     Ok(queue)
 }
 
-/// Whether the filled queue has five rows and ticks in three pieces, with the tick 0 at its front.
+/// Returns whether the filled queue has five rows and ticks in three pieces, with the tick 0 at its
+/// front.
 fn five_wait(alloc: Global) -> Result<bool, AllocError> {
     let queue = filled(alloc)?;
     Ok(queue.len() == 5 && queue.pieces() == 3 && queue.front() == Some(Front::Tick(0)))
 }
 
-/// The first rows and ticks leave, if there are so many.
+/// Drops the first `count` rows and ticks, if there are so many. Returns whether there were.
 fn drop_some(queue: &mut Queue, count: usize) -> bool {
     let waits = count as u128 <= queue.len();
     if waits {
@@ -41,14 +42,15 @@ fn drop_some(queue: &mut Queue, count: usize) -> bool {
     waits
 }
 
-/// The filled queue without its first rows and ticks; as it was where there are not so many.
+/// Makes the filled queue without its first `count` rows and ticks. If there are not so many, it is
+/// whole.
 fn without_first(alloc: Global, count: usize) -> Result<Queue, AllocError> {
     let mut queue = filled(alloc)?;
     drop_some(&mut queue, count);
     Ok(queue)
 }
 
-/// A row of one number that enters or leaves.
+/// Is a row of one number that enters or leaves.
 type Shown = (bool, [Option<i64>; 3]);
 
 const FIVE: Shown = (true, [Some(5), None, None]);
@@ -59,8 +61,8 @@ const SIX_LEAVES: Shown = (false, [Some(6), None, None]);
 
 const SEVEN: Shown = (true, [Some(7), None, None]);
 
-/// Whether the item has just these rows of the instant; where there are none, whether it is the
-/// instant's tick.
+/// Returns whether the item has exactly these rows of the instant. With no rows, returns whether it
+/// is the instant's tick.
 fn is_item(item: &Item, instant: u64, rows: &[Shown]) -> bool {
     match item {
         Item::Rows(at, batch) => *at == instant && shows(batch, rows),
@@ -68,8 +70,8 @@ fn is_item(item: &Item, instant: u64, rows: &[Shown]) -> bool {
     }
 }
 
-/// Whether this comes out of the filled queue without its first rows and ticks, where at most
-/// `count` rows are asked for.
+/// Returns whether this comes out of the filled queue without its first `left` rows and ticks. At
+/// most `count` rows are asked for.
 fn comes_out(
     alloc: Global,
     left: usize,
@@ -87,13 +89,13 @@ fn comes_out(
     Ok(is_item(&item, instant, rows))
 }
 
-/// Whether two rows and ticks are left behind the first three, with a row at the front.
+/// Returns whether two rows and ticks are left after the first three, with a row at the front.
 fn two_are_left(alloc: Global) -> Result<bool, AllocError> {
     let queue = without_first(alloc, 3)?;
     Ok(queue.len() == 2 && queue.front() == Some(Front::Row(2)))
 }
 
-/// Whether three, then two, and then no more leave the filled queue.
+/// Returns whether three, then two, and then no more leave the filled queue.
 fn all_leave(alloc: Global) -> Result<bool, AllocError> {
     let mut queue = filled(alloc)?;
     let (three, two) = (drop_some(&mut queue, 3), drop_some(&mut queue, 2));
@@ -117,7 +119,7 @@ fn a_tick_or_the_first_rows_of_a_batch_come_out(rt: HostRuntime) -> Result<(), F
     Ok(())
 }
 
-/// The ticks 0 and 1, then 2 to 5, and then 7.
+/// Makes a queue of the ticks 0 and 1, then 2 to 5, and then 7.
 fn runs(alloc: Global) -> Result<Queue, AllocError> {
     let mut queue = Queue::new(alloc);
     queue.push_ticks(0, 1)?;
@@ -126,7 +128,7 @@ fn runs(alloc: Global) -> Result<Queue, AllocError> {
     Ok(queue)
 }
 
-/// In how many pieces the ticks are kept once so many have left.
+/// Returns in how many pieces the ticks are kept once `left` of them have left.
 fn pieces_left(alloc: Global, left: usize) -> Result<Option<usize>, AllocError> {
     let mut queue = runs(alloc)?;
     if drop_some(&mut queue, left) {
@@ -144,8 +146,8 @@ fn ticks_that_follow_one_another_are_one_piece(rt: HostRuntime) -> Result<(), Fa
     Ok(())
 }
 
-/// A log of one column whose instants 0 to 3 are closed: the row 5 came first and then 7, at a
-/// later instant than 6, which came last.
+/// Makes a log of one column whose instants 0 to 3 are closed. The row 5 came first, and 7 next.
+/// The row 6 came last, at an earlier instant than 7.
 fn closed(alloc: Global) -> Result<Log, AllocError> {
     let mut log = Log::new(alloc, 1, 0)?;
     let values = [Value::clamped(5), Value::clamped(6), Value::clamped(7)];
@@ -153,8 +155,8 @@ fn closed(alloc: Global) -> Result<Log, AllocError> {
     Ok(log)
 }
 
-/// Whether a cursor sees so many rows and ticks, and has this at its front once the first one has
-/// left.
+/// Returns whether a cursor sees `count` rows and ticks, and has this at its front once the first
+/// one has left.
 fn sees(cursor: Cursor, log: &Log, count: u128, front: Front) -> bool
     requires { IsWithin cursor log.now }
 {
@@ -166,13 +168,13 @@ fn sees(cursor: Cursor, log: &Log, count: u128, front: Front) -> bool
     cursor.front(log) == Some(front)
 }
 
-/// The first instant of the log that is open, and how many rows it has.
+/// Returns the first instant of the log that is open, and how many rows it has.
 fn log_size(alloc: Global) -> Result<(u64, usize), AllocError> {
     let log = closed(alloc)?;
     Ok((log.until(), log.len()))
 }
 
-/// Whether a query that was registered after so many rows sees so much of the log.
+/// Returns whether a query that was registered after `place` rows sees this much of the log.
 fn sees_after(alloc: Global, place: u64, count: u128, front: Front) -> Result<bool, AllocError> {
     let log = closed(alloc)?;
     Ok(sees(Cursor::new(place, 0), &log, count, front))
@@ -187,8 +189,8 @@ fn a_cursor_shows_its_own_rows_alone(rt: HostRuntime) -> Result<(), Fail> {
     Ok(())
 }
 
-/// Whether this comes out of the log for a cursor whose first rows and ticks have left, where at
-/// most `count` rows are asked for.
+/// Returns whether this comes out of the log for a cursor whose first `left` rows and ticks have
+/// left. At most `count` rows are asked for.
 fn gives(
     alloc: Global,
     cursor: Cursor,

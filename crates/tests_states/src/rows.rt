@@ -4,7 +4,7 @@ ghost use Rattle.std.specs.Prelude.{◌≡◌, length};
 use column::{Batch, SignedRow};
 use values::{Row, Value, same_rows, value_at};
 
-/// What stands for null in a list of numbers.
+/// Is the number that means null in a list of numbers.
 pub(crate) const NULL: i64 = -7;
 
 pub(crate) fn value(number: i64) -> Value {
@@ -15,7 +15,7 @@ pub(crate) fn value(number: i64) -> Value {
     }
 }
 
-/// A row of one number.
+/// Makes a row of one number.
 pub(crate) fn row(number: i64) -> Row
     ensures { length result.items ≡ 1 }
 {
@@ -24,7 +24,7 @@ pub(crate) fn row(number: i64) -> Row
     row
 }
 
-/// A signed row of one number.
+/// Makes a signed row of one number.
 pub(crate) fn one(enters: bool, number: i64) -> SignedRow
     ensures { length result.row.items ≡ 1 }
 {
@@ -32,7 +32,7 @@ pub(crate) fn one(enters: bool, number: i64) -> SignedRow
     SignedRow { enters, row }
 }
 
-/// A signed row of two numbers.
+/// Makes a signed row of two numbers.
 pub(crate) fn two(enters: bool, a: i64, b: i64) -> SignedRow
     ensures { length result.row.items ≡ 2 }
 {
@@ -42,7 +42,7 @@ pub(crate) fn two(enters: bool, a: i64, b: i64) -> SignedRow
     SignedRow { enters, row }
 }
 
-/// Whether these are rows of one number, in this order.
+/// Returns whether these are rows of one number, in this order.
 pub(crate) fn are(rows: &[Row], numbers: &[i64]) -> bool {
     for (one, number) in rows.iter().zip(numbers) {
         if !same_rows(one, &row(*number)) {
@@ -52,7 +52,7 @@ pub(crate) fn are(rows: &[Row], numbers: &[i64]) -> bool {
     rows.len() == numbers.len()
 }
 
-/// Whether a batch has just these rows; past a row's end is null.
+/// Returns whether a batch has exactly these rows; past a row's end is null.
 pub(crate) fn shows(batch: &Batch, rows: &[(bool, [Option<i64>; 3])]) -> bool {
     if batch.len() != rows.len() {
         return false;

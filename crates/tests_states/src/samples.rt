@@ -5,10 +5,11 @@ use column::Column;
 use std::alloc::{AllocError, Global};
 use values::Value;
 
-/// The lengths that a kernel is tried on.
+/// Holds the lengths that a kernel is tried on.
 pub const LENGTHS: [usize; 9] = [0, 1, 7, 8, 9, 63, 64, 65, 1024];
 
-/// A number from -11 to 11, or null at one place in five; the samples of another factor differ.
+/// Returns a number from -11 to 11, or null at one place in five. Another factor gives other
+/// samples.
 pub(crate) fn sample(i: usize, factor: usize) -> Value {
     if i.wrapping_add(factor) % 5 == 0 {
         Value::null()
@@ -17,7 +18,7 @@ pub(crate) fn sample(i: usize, factor: usize) -> Value {
     }
 }
 
-/// The samples of a factor at the first `count` places.
+/// Makes the column of a factor's samples at the first `count` places.
 pub(crate) fn samples(alloc: Global, count: usize, factor: usize) -> Result<Column, AllocError>
     requires { count ≤ 1024 }
     ensures { IfOk result (λ c. length c ≡ count) }
@@ -29,7 +30,7 @@ pub(crate) fn samples(alloc: Global, count: usize, factor: usize) -> Result<Colu
     Ok(column)
 }
 
-/// The numbers 1 to `count`, with a null at one place.
+/// Makes a column of the numbers 1 to `count`, with a null at one place.
 pub(crate) fn counted(alloc: Global, count: usize, null_at: usize) -> Result<Column, AllocError>
     requires { count ≤ 1024 }
     ensures { IfOk result (λ c. length c ≡ count) }
@@ -46,7 +47,7 @@ pub(crate) fn counted(alloc: Global, count: usize, null_at: usize) -> Result<Col
     Ok(column)
 }
 
-/// Whether the bit at a place is set.
+/// Returns whether the bit at a place is set.
 pub(crate) fn bit(words: &[u64], i: usize) -> bool {
     match words.get(i / 64) {
         Some(word) => *word >> (i % 64) & 1 == 1,
@@ -54,7 +55,7 @@ pub(crate) fn bit(words: &[u64], i: usize) -> bool {
     }
 }
 
-/// The truth at a place.
+/// Returns the truth at a place.
 pub(crate) fn truth_at(truth: &[u64], known: &[u64], i: usize) -> Option<bool> {
     if bit(known, i) {
         Some(bit(truth, i))
@@ -63,7 +64,7 @@ pub(crate) fn truth_at(truth: &[u64], known: &[u64], i: usize) -> Option<bool> {
     }
 }
 
-/// Whether a true place is a known one, and no place from `count` on is known.
+/// Returns whether each true place is a known one, and no place from `count` on is known.
 pub(crate) fn is_well_formed(truth: &[u64], known: &[u64], count: usize) -> bool {
     for i in 0..1100 {
         if bit(truth, i) && !bit(known, i) || i >= count && bit(known, i) {

@@ -11,7 +11,7 @@ use std::alloc::{AllocError, Global};
 use std::test::Fail;
 use values::{Column, Compare, Condition, Operand};
 
-/// The rows (7, 70), which enters, (null, 80), and (9, 90), which leaves.
+/// Makes the rows (7, 70) and (null, 80), which enter, and (9, 90), which leaves.
 fn three(alloc: Global) -> Result<Batch, AllocError>
     ensures { IfOk result (λ b. width b ≡ 2) }
 {
@@ -19,14 +19,14 @@ fn three(alloc: Global) -> Result<Batch, AllocError>
     Batch::from_rows(alloc, &rows)
 }
 
-/// What Select puts out for the three rows of the instant 4, where the first column is to be above
-/// a number.
+/// Returns what Select emits for the three rows of the instant 4, if the first column has to be
+/// above a number.
 fn rows_above(alloc: Global, number: i64) -> Result<Vec<Item>, AllocError> {
     let item = Item::Rows(4, three(alloc)?);
     select(alloc, &[Step::Number(0, Compare::Above, number)], &item)
 }
 
-/// Whether the first item has so many rows of an instant, with these words of their signs.
+/// Returns whether the first item has `count` rows of an instant, with these words of their signs.
 fn is_first(items: &[Item], instant: u64, count: usize, leaving: &[u64]) -> bool {
     match items.first() {
         Some(Item::Rows(at, batch)) => {
@@ -64,13 +64,13 @@ fn no_empty_batch_is_put_out_and_ticks_pass(rt: HostRuntime) -> Result<(), Fail>
     Ok(())
 }
 
-/// What Project puts out for the three rows, with their columns turned.
+/// Returns what Project emits for the three rows, with their columns swapped.
 fn turned_columns(alloc: Global) -> Result<Vec<Item>, AllocError> {
     let item = Item::Rows(4, three(alloc)?);
     project(alloc, &[1, 0], &item)
 }
 
-/// Whether the first item has two columns, of these numbers.
+/// Returns whether the first item has two columns, of these numbers.
 fn has_columns(items: &[Item], first: &[i64], second: &[i64]) -> bool {
     match items.first() {
         Some(Item::Rows(_, batch)) if batch.width() == 2 => {
@@ -91,7 +91,7 @@ fn columns_go_by_the_list(rt: HostRuntime) -> Result<(), Fail> {
     Ok(())
 }
 
-/// The steps of `Not (5 < a)`.
+/// Makes the steps of `Not (5 < a)`.
 fn turned_steps(alloc: Global) -> Result<Vec<Step>, AllocError> {
     let a = Operand::Field(Column {
         source: 0,

@@ -10,7 +10,7 @@ use std::alloc::{AllocError, Global};
 use std::test::Fail;
 use windows::{LatestWindow, RangeWindow, SlideWindow, latest_work, range_work, slide_work};
 
-/// The rows 7 and 8.
+/// Makes a batch of the rows 7 and 8.
 fn pair(alloc: Global) -> Result<Batch, AllocError>
     ensures { IfOk result (λ b. width b ≡ 1) }
 {
@@ -18,7 +18,7 @@ fn pair(alloc: Global) -> Result<Batch, AllocError>
     Batch::from_rows(alloc, &rows)
 }
 
-/// The window of the current instant that holds the two rows of the instant 1.
+/// Makes the window of the current instant that holds the two rows of the instant 1.
 fn range_window(alloc: Global) -> Result<RangeWindow, AllocError>
     ensures { IfOk result (λ w. w.width ≡ 1) }
 {
@@ -28,14 +28,15 @@ fn range_window(alloc: Global) -> Result<RangeWindow, AllocError>
     Ok(window)
 }
 
-/// What the window puts out at the tick 2, and how many rows it drops.
+/// Returns what the window emits at the tick 2, and how many rows it drops.
 fn ticked(alloc: Global, window: &RangeWindow) -> Result<(Vec<Item>, usize), AllocError> {
     let tick = Item::Tick(2);
     let near = window.near(alloc, &tick)?;
     range_work(alloc, &tick, &near)
 }
 
-/// Whether the first of two items has rows of an instant, with these words of their signs.
+/// Returns whether there are two items, and the first has rows of an instant, with these words of
+/// their signs.
 fn leave_first(items: &[Item], instant: u64, leaving: &[u64]) -> bool {
     match items.first() {
         Some(Item::Rows(at, batch)) => {
@@ -60,8 +61,8 @@ fn the_tick_drops_the_older_rows(rt: HostRuntime) -> Result<(), Fail> {
     Ok(())
 }
 
-/// The window of an instant and the one before it, at even instants alone, that holds the two rows
-/// of the instant 1.
+/// Makes the window of an instant and the one before it, only at even instants. It holds the two
+/// rows of the instant 1.
 fn slide_window(alloc: Global) -> Result<SlideWindow, AllocError> {
     let item = Item::Rows(1, pair(alloc)?);
     let mut window = SlideWindow::new(alloc, 1, 2, 1);
@@ -69,8 +70,8 @@ fn slide_window(alloc: Global) -> Result<SlideWindow, AllocError> {
     Ok(window)
 }
 
-/// Of the tick of an instant how many rows are put out there, and how many items; and how many rows
-/// go unshown.
+/// Returns how many rows the tick of an instant emits, how many items it emits, and how many rows
+/// pass unshown.
 fn slid(alloc: Global, at: u64) -> Result<(usize, usize, usize), AllocError> {
     let window = slide_window(alloc)?;
     let tick = Item::Tick(at);
@@ -92,7 +93,7 @@ fn rows_are_shown_at_multiples_alone(rt: HostRuntime) -> Result<(), Fail> {
     Ok(())
 }
 
-/// What the window of the last row puts out for an item.
+/// Returns what the window of the last row emits for an item.
 fn latest(alloc: Global, window: &LatestWindow, item: &Item) -> Result<Vec<Item>, AllocError>
     requires { IsItemWide window.now.width item.now }
 {
@@ -100,15 +101,16 @@ fn latest(alloc: Global, window: &LatestWindow, item: &Item) -> Result<Vec<Item>
     latest_work(alloc, item, &near)
 }
 
-/// What the window of the last row, that holds none, puts out for the two rows of the instant 1.
+/// Returns what the window of the last row, which holds none, emits for the two rows of the instant
+/// 1.
 fn shown_rows(alloc: Global) -> Result<Vec<Item>, AllocError> {
     let item = Item::Rows(1, pair(alloc)?);
     let window = LatestWindow::new(alloc, Vec::new(alloc), 1, 1);
     latest(alloc, &window, &item)
 }
 
-/// Whether the first item has one column of these numbers at the instant 1, with these words of
-/// their signs.
+/// Returns whether the first item has one column of these numbers at the instant 1, with these
+/// words of their signs.
 fn is_shown(items: &[Item], numbers: &[i64], leaving: &[u64]) -> bool {
     match items.first() {
         Some(Item::Rows(1, batch)) if batch.width() == 1 => {
@@ -123,7 +125,7 @@ fn the_first_falls_out(alloc: Global) -> Result<bool, AllocError> {
     Ok(is_shown(&items, &[7, 8, 7], &[4]))
 }
 
-/// The window of the last row that has taken the two rows of the instant 1.
+/// Makes the window of the last row that has taken the two rows of the instant 1.
 fn latest_window(alloc: Global) -> Result<LatestWindow, AllocError> {
     let item = Item::Rows(1, pair(alloc)?);
     let mut window = LatestWindow::new(alloc, Vec::new(alloc), 1, 1);
@@ -131,7 +133,7 @@ fn latest_window(alloc: Global) -> Result<LatestWindow, AllocError> {
     Ok(window)
 }
 
-/// Whether nothing falls out at the tick, which passes.
+/// Returns whether nothing falls out at the tick, which passes.
 fn tick_passes(alloc: Global) -> Result<bool, AllocError> {
     let window = latest_window(alloc)?;
     let tick = Item::Tick(1);

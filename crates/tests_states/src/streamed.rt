@@ -11,23 +11,23 @@ use std::test::Fail;
 use to_stream::{ToStream, work};
 use values::{StreamOperator, same_rows};
 
-/// The row 7, and the row 5 that enters or leaves.
+/// Makes the row 7, which enters, and the row 5, which enters or leaves.
 fn pair(alloc: Global, enters: bool) -> Result<Batch, AllocError> {
     let rows = [one(true, 7), one(enters, 5)];
     Batch::from_rows(alloc, &rows)
 }
 
-/// A root of this operator that has taken the pair.
+/// Makes a root of this operator that has taken the pair.
 fn taken(alloc: Global, operator: StreamOperator, enters: bool) -> Result<ToStream, AllocError> {
     let batch = pair(alloc, enters)?;
-    let _few = batch.len();
+    let _few = batch.len(); // for the proof
     let item = Item::Rows(3, batch);
     let mut root = ToStream::new(alloc, operator);
     root.apply(&item)?;
     Ok(root)
 }
 
-/// A root that has taken the pair and the tick of its instant.
+/// Makes a root that has taken the pair and the tick of its instant.
 fn ticked(alloc: Global, operator: StreamOperator, enters: bool) -> Result<ToStream, AllocError>
     ensures { IfOk result (λ root. root.delta ≡ delta_of [] []) }
 {
@@ -36,14 +36,14 @@ fn ticked(alloc: Global, operator: StreamOperator, enters: bool) -> Result<ToStr
     Ok(root)
 }
 
-/// What the root answers at the tick 3.
+/// Returns what the root answers at the tick 3.
 fn answers(alloc: Global, root: &ToStream) -> Result<DatedRows, AllocError> {
     let tick = Item::Tick(3);
     let near = root.near(alloc, &tick)?;
     work(alloc, &tick, &near)
 }
 
-/// Whether these are rows of one number at the instant 3.
+/// Returns whether these are rows of one number at the instant 3.
 fn are(mut answers: DatedRows, numbers: &[i64]) -> bool {
     for number in numbers {
         let Some((at, answer)) = answers.pop_front() else {
@@ -100,15 +100,16 @@ fn rstream_answers_the_whole(rt: HostRuntime) -> Result<(), Fail> {
     Ok(())
 }
 
-/// What Rstream answers once it has shown 5 and 7, and these rows have come or left.
+/// Returns whether Rstream answers these numbers, once it has shown 5 and 7, and the batch's rows
+/// have come or left.
 fn whole_shows(alloc: Global, batch: Batch, numbers: &[i64]) -> Result<bool, AllocError> {
     let mut root = ticked(alloc, StreamOperator::Rstream, true)?;
-    let _few = batch.len();
+    let _few = batch.len(); // for the proof
     root.apply(&Item::Rows(4, batch))?;
     shows(alloc, &root, numbers)
 }
 
-/// 5 leaves and comes again, and 6 comes twice.
+/// Lets 5 leave and come again, and 6 come twice.
 fn comes_again(alloc: Global) -> Result<bool, AllocError> {
     let rows = [one(false, 5), one(true, 6), one(true, 5), one(true, 6)];
     let batch = Batch::from_rows(alloc, &rows)?;

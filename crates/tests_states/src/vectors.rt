@@ -9,7 +9,7 @@ use std::alloc::{AllocError, Global};
 use std::test::Fail;
 use values::Compare;
 
-/// The truth words of nine values above 5, and of its negation.
+/// Returns the truth words of nine values above 5, and of its negation.
 fn above_five(column: &Column) -> (u64, u64, u64, u64)
     requires { length column.now ≡ 9 }
 {
@@ -20,7 +20,7 @@ fn above_five(column: &Column) -> (u64, u64, u64, u64)
     (truth[0], known[0], not_truth[0], not_known[0])
 }
 
-/// The words of the numbers 1 to 9, with a null at a place.
+/// Returns the words of the numbers 1 to 9, with a null at a place.
 fn nine_above_five(alloc: Global, null_at: usize) -> Result<(u64, u64, u64, u64), AllocError> {
     let column = counted(alloc, 9, null_at)?;
     Ok(above_five(&column))
@@ -33,7 +33,7 @@ fn nine_values_compared_and_negated(rt: HostRuntime) -> Result<(), Fail> {
     Ok(())
 }
 
-/// The sum of some numbers, those with a set bit taken away.
+/// Returns the sum of some numbers, with those that have a set bit taken away.
 fn plain_sum(column: &Column, minus: &[u64]) -> i64 {
     let mut sum = 0i64;
     for (i, number) in column.numbers().iter().enumerate() {
@@ -46,7 +46,7 @@ fn plain_sum(column: &Column, minus: &[u64]) -> i64 {
     sum
 }
 
-/// The signed sum, where the numbers lie in the range of a stream.
+/// Returns the signed sum, if the numbers are in the range of a stream.
 fn sum_in_range(column: &Column, minus: &[u64]) -> Option<i64>
     requires { length minus.now ≡ word_count (length column.now) }
 {
@@ -57,13 +57,14 @@ fn sum_in_range(column: &Column, minus: &[u64]) -> Option<i64>
     }
 }
 
-/// The sum of the numbers 1 to 9, with a null at a place and the first taken away.
+/// Returns the sum of the numbers 1 to 9, with a null at a place and the first taken away.
 fn nine_summed(alloc: Global, null_at: usize) -> Result<Option<i64>, AllocError> {
     let column = counted(alloc, 9, null_at)?;
     Ok(sum_in_range(&column, &[1]))
 }
 
-/// How many of the numbers 1 to 9 are no nulls, with a null at a place and the first taken away.
+/// Returns how many of the numbers 1 to 9 are not null, with a null at a place and the first taken
+/// away.
 fn nine_counted(alloc: Global, null_at: usize) -> Result<i64, AllocError> {
     let column = counted(alloc, 9, null_at)?;
     Ok(count_signed(&column, &[1]))
@@ -88,7 +89,7 @@ fn sum_agrees(column: &Column, count: usize) -> bool
     sum_in_range(column, minus) == Some(plain_sum(column, minus))
 }
 
-/// How many values are no nulls; those with a set bit are taken away.
+/// Counts the values that are not null: 1 for each without a set bit, -1 for each with one.
 fn plain_signed_count(valid: &[u64], minus: &[u64]) -> i64 {
     let mut total = 0i64;
     for i in 0..1024 {
@@ -107,7 +108,7 @@ fn signed_count_agrees(column: &Column, count: usize) -> bool
     count_signed(column, minus) == plain_signed_count(column.valid_words(), minus)
 }
 
-/// How many of the bits are set.
+/// Returns how many of the bits are set.
 fn plain_count(words: &[u64]) -> u32 {
     let mut total = 0u32;
     for i in 0..1024 {
@@ -118,8 +119,8 @@ fn plain_count(words: &[u64]) -> u32 {
     total
 }
 
-/// Whether the sum, then whether the count, and then whether the signed count of so many samples is
-/// that of a plain loop.
+/// Returns whether three results over `count` samples are those of a plain loop: the sum, the count
+/// and the signed count.
 fn sum_and_counts_agree(alloc: Global, count: usize) -> Result<(bool, bool, bool), AllocError>
     requires { count ≤ 1024 }
 {

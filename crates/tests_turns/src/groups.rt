@@ -1,4 +1,4 @@
-//! What tells groups and their excerpts apart.
+//! Groups and their excerpts, compared by value.
 
 use crate::turns::{node, two};
 use column::Side;
@@ -9,19 +9,19 @@ use std::test::Fail;
 use turn::{Kind, Near};
 use values::{Column, ListItem};
 
-/// `Select k, ITEM From S Group By k` of the column `k`.
+/// Makes `Select k, ITEM From S Group By k` for the column `k`.
 fn listed(alloc: Global, column: usize, item: ListItem) -> Result<GroupBy, AllocError> {
     let by = Vec::from_slice(alloc, &[Column { source: 0, column }])?;
     let items = Vec::from_slice(alloc, &[ListItem::Key(0), item])?;
     Ok(GroupBy::new(by, items))
 }
 
-/// `Select k, Count(*) From S Group By k` of the first column.
+/// Makes `Select k, Count(*) From S Group By k` for the first column.
 fn counted(alloc: Global) -> Result<GroupBy, AllocError> {
     listed(alloc, 0, ListItem::CountAll)
 }
 
-/// The groups that have taken the rows of 7 and of a number.
+/// Makes the groups that have taken the rows of 7 and of `number`.
 fn filled(alloc: Global, number: i64) -> Result<Group, AllocError> {
     let shape = counted(alloc)?;
     let mut group = Group::new(alloc, counted(alloc)?)?;
@@ -32,14 +32,14 @@ fn filled(alloc: Global, number: i64) -> Result<Group, AllocError> {
     Ok(group)
 }
 
-/// What their tick needs of them.
+/// Returns what a tick of these groups needs.
 fn touched(alloc: Global, number: i64) -> Result<Near, AllocError> {
     let group = filled(alloc, number)?;
     Ok(Near::Groups(group.near(alloc, &Queued::Tick(4))?))
 }
 
-/// Whether the node that counts by the first column is the same as one by this column with this
-/// item.
+/// Returns whether the node that counts by the first column is the same as one with this column and
+/// this item.
 fn is_same_group(alloc: Global, column: usize, item: ListItem) -> Result<bool, AllocError> {
     let counted = node(alloc, Side::Left, Kind::Group(counted(alloc)?))?;
     let other = node(alloc, Side::Left, Kind::Group(listed(alloc, column, item)?))?;
@@ -54,7 +54,7 @@ fn groups_are_told_apart_by_their_columns_and_lists(rt: HostRuntime) -> Result<(
     Ok(())
 }
 
-/// Whether what the tick needs of the row 7 twice is the same as what it needs of 7 and a number.
+/// Returns whether a tick needs the same after the row 7 twice as after 7 and `number`.
 fn needs_the_same(alloc: Global, number: i64) -> Result<bool, AllocError> {
     let sevens = touched(alloc, 7)?;
     let other = touched(alloc, number)?;

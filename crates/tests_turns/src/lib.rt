@@ -1,8 +1,8 @@
-//! A turn that crosses threads, and what tells turns apart, as tests. What turns put out is rows of
-//! `tests_rows`.
+//! A turn that crosses threads, and turns compared by value, as tests. Rows of `tests_rows` try
+//! what turns emit.
 //!
-//! They stand in a crate of their own because a crate's tests are proved with all of the crate once
-//! more.
+//! These tests are a crate of their own because a crate's tests are proved with all of the crate
+//! once more.
 #![tactic(auto)]
 
 #[cfg(test)]

@@ -1,4 +1,4 @@
-//! A turn that is run in another thread, and what tells turns apart.
+//! A turn that is run in another thread, and the parts of turns compared by value.
 ghost use Rattle.std.specs.Prelude.{◌≡◌, ◌≤◌, IfOk, length};
 ghost use Rattle.column.specs.Rows.{width};
 ghost use Rattle.turn.specs.Turns.{Fits};
@@ -30,18 +30,18 @@ fn entering(number: i64) -> SignedRow
     }
 }
 
-/// Two rows that enter.
+/// Makes a batch of two rows that enter.
 pub(crate) fn two(alloc: Global, first: i64, second: i64) -> Result<Batch, AllocError>
     ensures width { IfOk result (λ b. width b ≡ 1) }
     ensures few { IfOk result (λ b. length b ≤ 1024) }
 {
     let rows = [entering(first), entering(second)];
     let batch = Batch::from_rows(alloc, &rows)?;
-    let _few = batch.len();
+    let _few = batch.len(); // for the proof
     Ok(batch)
 }
 
-/// The operator 3 of the query 2.
+/// Makes the operator 3 of the query 2.
 pub(crate) fn node(alloc: Global, side: Side, kind: Kind) -> Result<Node, AllocError>
     ensures { IfOk result (λ n. n.kind ≡ kind) }
 {
@@ -54,14 +54,14 @@ pub(crate) fn node(alloc: Global, side: Side, kind: Kind) -> Result<Node, AllocE
     })
 }
 
-/// A value that crosses threads.
+/// Returns the value, which has to be one that may cross threads.
 fn sent<T: Send>(value: T) -> T
     ensures { result ≡ value }
 {
     value
 }
 
-/// The turn of the lease 9, run as if in another thread.
+/// Makes the turn of the lease 9 and runs it as if in another thread.
 fn run(alloc: Global, node: Node, item: Item, near: Near) -> Result<Done, AllocError>
     requires { Fits node item near }
 {
@@ -77,7 +77,7 @@ fn run(alloc: Global, node: Node, item: Item, near: Near) -> Result<Done, AllocE
     }
 }
 
-/// The only column of the rows 7 and 8, twice.
+/// Runs a turn that lists the only column of the rows 7 and 8 twice.
 fn listed(alloc: Global) -> Result<Done, AllocError> {
     let columns = Vec::from_slice(alloc, &[0usize, 0])?;
     let columns = ColumnList::new(columns);
@@ -86,7 +86,7 @@ fn listed(alloc: Global) -> Result<Done, AllocError> {
     run(alloc, node, Item::Rows(4, batch), Near::Nothing)
 }
 
-/// Whether the operator is Project with these columns.
+/// Returns whether the operator is Project with these columns.
 fn lists(kind: &Kind, wanted: &[usize]) -> bool {
     match kind {
         Kind::Project(columns) => columns.columns() == wanted,
@@ -94,8 +94,8 @@ fn lists(kind: &Kind, wanted: &[usize]) -> bool {
     }
 }
 
-/// The lease, the query and the operator that the parts of the turn have, and whether it lists its
-/// column twice.
+/// Returns the lease, the query and the operator from the parts of the turn, and whether it lists
+/// its column twice.
 fn parts_of_listed(alloc: Global) -> Result<(u64, u64, usize, bool), AllocError> {
     let parts = listed(alloc)?.into_parts();
     let lists_twice = lists(&parts.node.kind, &[0, 0]);
@@ -113,7 +113,7 @@ fn a_turn_is_run_in_another_thread_and_handed_out(rt: HostRuntime) -> Result<(),
     Ok(())
 }
 
-/// Whether the rows 7 and 8 are the same item as the rows 7 and another.
+/// Returns whether the rows 7 and 8 are the same item as the rows 7 and `number`.
 fn is_same_item(alloc: Global, number: i64) -> Result<bool, AllocError> {
     let rows = Item::Rows(4, two(alloc, 7, 8)?);
     let other = Item::Rows(4, two(alloc, 7, number)?);
@@ -127,7 +127,7 @@ fn items_are_told_apart_by_value(rt: HostRuntime) -> Result<(), Fail> {
     Ok(())
 }
 
-/// Whether the node of a root is the same as one of this kind.
+/// Returns whether the node of a root is the same as one of this kind.
 fn is_same_node(alloc: Global, kind: Kind) -> Result<bool, AllocError> {
     let other = node(alloc, Side::Left, kind)?;
     let root = node(alloc, Side::Left, Kind::ToStream)?;
@@ -142,7 +142,7 @@ fn nodes_are_told_apart_by_value(rt: HostRuntime) -> Result<(), Fail> {
     Ok(())
 }
 
-/// The excerpt of a window that moves at multiples, where one row goes unshown.
+/// Makes the excerpt of a window that moves at multiples, where one row passes without being shown.
 fn passing(alloc: Global, number: i64) -> Result<Near, AllocError> {
     let mut values = Vec::new(alloc);
     values.push(Value::clamped(number as i128))?;
@@ -153,7 +153,8 @@ fn passing(alloc: Global, number: i64) -> Result<Near, AllocError> {
     }))
 }
 
-/// Whether the excerpt in which the row 5 goes unshown is the same as that of another row.
+/// Returns whether the excerpt in which the row 5 passes unshown is the same as that of another
+/// row.
 fn is_same_passing(alloc: Global, number: i64) -> Result<bool, AllocError> {
     let five = passing(alloc, 5)?;
     let other = passing(alloc, number)?;
@@ -166,7 +167,7 @@ fn sorted(alloc: Global, number: i64) -> Result<Near, AllocError> {
     Ok(Near::Sorted(rows))
 }
 
-/// Whether the excerpt of the row 5 is the same as that of another row.
+/// Returns whether the excerpt of the row 5 is the same as that of another row.
 fn is_same_excerpt(alloc: Global, number: i64) -> Result<bool, AllocError> {
     let five = sorted(alloc, 5)?;
     let other = sorted(alloc, number)?;

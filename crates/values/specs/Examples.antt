@@ -60,8 +60,13 @@ at s k = record { source = s; column = k }
 
 -- a query of one source S(a) that lists a
 abbrev simple : StreamOperator → Window → Resolved
-simple op w = record { windows = w ∷ []; condition = None; shape = Listed (at 0 0 ∷ []);
-    is_distinct = false; operator = op }
+simple op w = record {
+  windows = w ∷ [];
+  condition = None;
+  shape = Listed (at 0 0 ∷ []);
+  is_distinct = false;
+  operator = op;
+}
 
 -- Select Istream(*) From S [Now]: rows of one instant, sorted
 now_sorted : answers (simple Istream (Range 0)) 0 4
@@ -87,16 +92,24 @@ two_instants : answers (simple Rstream (Range 1)) 0 4 (numbered 0 ((0, one 7) �
 two_instants = refl
 
 not_of_unknown : answers
-    (record { windows = Range 0 ∷ [];
-    condition = Some (Not (Compared (Field (at 0 0)) Above (Number (pos 3)))); shape =
-    Listed (at 0 0 ∷ []); is_distinct = false; operator = Istream })
+    (record {
+      windows = Range 0 ∷ [];
+      condition = Some (Not (Compared (Field (at 0 0)) Above (Number (pos 3))));
+      shape = Listed (at 0 0 ∷ []);
+      is_distinct = false;
+      operator = Istream;
+    })
     0 1 (numbered 0 ((0, one 5) ∷ (0, None ∷ []) ∷ (0, one 2) ∷ []) ∷ []) ≡ (0, one 2) ∷ []
 not_of_unknown = refl
 
 nulls_join_nothing : answers
-    (record { windows = Range 0 ∷ Range 0 ∷ [];
-    condition = Some (Compared (Field (at 0 0)) Equals (Field (at 1 0))); shape =
-    Listed (at 0 0 ∷ at 1 1 ∷ []); is_distinct = false; operator = Istream })
+    (record {
+      windows = Range 0 ∷ Range 0 ∷ [];
+      condition = Some (Compared (Field (at 0 0)) Equals (Field (at 1 0)));
+      shape = Listed (at 0 0 ∷ at 1 1 ∷ []);
+      is_distinct = false;
+      operator = Istream;
+    })
     0 1
     (numbered 0 ((0, one 1) ∷ (0, one 1) ∷ (0, None ∷ []) ∷ [])
     ∷ numbered 0 ((0, two 1 10) ∷ (0, two 1 10) ∷ (0, None ∷ num 20 ∷ []) ∷ []) ∷ [])
@@ -105,29 +118,48 @@ nulls_join_nothing = refl
 
 -- aggregates without Group By, over no rows: one row, shown once by Istream
 count_of_none : answers
-    (record { windows = Range 0 ∷ []; condition = None;
-    shape = Grouped [] (CountAll ∷ Sum (at 0 0) ∷ []); is_distinct = false; operator = Istream })
+    (record {
+      windows = Range 0 ∷ [];
+      condition = None;
+      shape = Grouped [] (CountAll ∷ Sum (at 0 0) ∷ []);
+      is_distinct = false;
+      operator = Istream;
+    })
     0 2 ([] ∷ []) ≡ (0, num 0 ∷ None ∷ []) ∷ []
 count_of_none = refl
 
 groups_with_nulls : answers
-    (record { windows = Range 0 ∷ []; condition = None;
-    shape = Grouped (at 0 0 ∷ []) (Key 0 ∷ CountAll ∷ Sum (at 0 1) ∷ []); is_distinct =
-    false; operator = Rstream })
+    (record {
+      windows = Range 0 ∷ [];
+      condition = None;
+      shape = Grouped (at 0 0 ∷ []) (Key 0 ∷ CountAll ∷ Sum (at 0 1) ∷ []);
+      is_distinct = false;
+      operator = Rstream;
+    })
     0 1 (numbered 0 ((0, None ∷ num 1 ∷ []) ∷ (0, None ∷ num 2 ∷ []) ∷ (0, two 1 3) ∷ []) ∷ [])
     ≡ (0, None ∷ num 2 ∷ num 3 ∷ []) ∷ (0, num 1 ∷ num 1 ∷ num 3 ∷ []) ∷ []
 groups_with_nulls = refl
 
 distinct_nulls : answers
-    (record { windows = Range 0 ∷ []; condition = None; shape = Listed (at 0 0 ∷ []);
-    is_distinct = true; operator = Rstream })
+    (record {
+      windows = Range 0 ∷ [];
+      condition = None;
+      shape = Listed (at 0 0 ∷ []);
+      is_distinct = true;
+      operator = Rstream;
+    })
     0 1 (numbered 0 ((0, one 2) ∷ (0, one 2) ∷ (0, None ∷ []) ∷ []) ∷ [])
     ≡ (0, None ∷ []) ∷ (0, one 2) ∷ []
 distinct_nulls = refl
 
 last_of_each : answers
-    (record { windows = LastRows (0 ∷ []) 1 ∷ []; condition = None;
-    shape = Listed (at 0 0 ∷ at 0 1 ∷ []); is_distinct = false; operator = Rstream })
+    (record {
+      windows = LastRows (0 ∷ []) 1 ∷ [];
+      condition = None;
+      shape = Listed (at 0 0 ∷ at 0 1 ∷ []);
+      is_distinct = false;
+      operator = Rstream;
+    })
     0 2 (numbered 0 ((0, two 1 10) ∷ (0, two 2 20) ∷ (1, two 1 11) ∷ []) ∷ [])
     ≡ (0, two 1 10) ∷ (0, two 2 20) ∷ (1, two 1 11) ∷ (1, two 2 20) ∷ []
 last_of_each = refl
@@ -145,10 +177,14 @@ slide_b = refl
 
 -- three sources
 three : answers
-    (record { windows = Range 0 ∷ Range 0 ∷ Range 0 ∷ [];
-    condition = Some (And (Compared (Field (at 0 0)) Equals (Field (at 1 0)))
-    (Compared (Field (at 1 1)) Equals (Field (at 2 0)))); shape = Listed (at 0 0 ∷ at 2 0 ∷ []);
-    is_distinct = false; operator = Istream })
+    (record {
+      windows = Range 0 ∷ Range 0 ∷ Range 0 ∷ [];
+      condition = Some (And (Compared (Field (at 0 0)) Equals (Field (at 1 0)))
+          (Compared (Field (at 1 1)) Equals (Field (at 2 0))));
+      shape = Listed (at 0 0 ∷ at 2 0 ∷ []);
+      is_distinct = false;
+      operator = Istream;
+    })
     0 1
     (numbered 0 ((0, one 1) ∷ []) ∷ numbered 0 ((0, two 1 5) ∷ (0, two 1 6) ∷ [])
     ∷ numbered 0 ((0, one 5) ∷ (0, one 5) ∷ []) ∷ [])

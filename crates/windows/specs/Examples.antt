@@ -40,8 +40,13 @@ rows_are_held = refl
 -- Range 1 at the multiples of 2, which shows the row of the instant 1 and holds those of 2
 -- and 3: at the tick of 4 the first leaves, the second goes unshown, and the third is shown
 abbrev sliding : slide.SlideState
-sliding = record { span = 1; step = 2; width = 1;
-    held = (1, one 7) ∷ (2, one 8) ∷ (3, one 9) ∷ []; shown = 1 }
+sliding = record {
+  span = 1;
+  step = 2;
+  width = 1;
+  held = (1, one 7) ∷ (2, one 8) ∷ (3, one 9) ∷ [];
+  shown = 1;
+}
 
 moves_at_multiples : slide.out (Tick 4) (slide.near sliding (Tick 4))
     ≡ RowAt 4 (leaves (one 7)) ∷ RowAt 4 (enters (one 9)) ∷ TickAt 4 ∷ []
@@ -55,8 +60,13 @@ waits_between : slide.out (Tick 5) (slide.near sliding (Tick 5)) ≡ TickAt 5 �
 waits_between = refl
 
 holds_unshown : slide.next sliding (Rows 4 (enters (one 5) ∷ []))
-    ≡ record { span = 1; step = 2; width = 1;
-    held = (1, one 7) ∷ (2, one 8) ∷ (3, one 9) ∷ (4, one 5) ∷ []; shown = 1 }
+    ≡ record {
+      span = 1;
+      step = 2;
+      width = 1;
+      held = (1, one 7) ∷ (2, one 8) ∷ (3, one 9) ∷ (4, one 5) ∷ [];
+      shown = 1;
+    }
 holds_unshown = refl
 
 -- Now holds the rows of the instant alone
@@ -76,8 +86,11 @@ abbrev runs : List Run
 runs = record { instant = 1; count = 1 } ∷ record { instant = 4; count = 2 } ∷ []
 
 values_and_runs : held_in (record { width = 2; rows = cut_rows 2 3 six }) runs
-    ≡ record { width = 2; held = (1, two 7 8) ∷ (4, Some (pos 9) ∷ None ∷ [])
-    ∷ (4, None ∷ Some (pos 5) ∷ []) ∷ [] }
+    ≡ record {
+      width = 2;
+      held = (1, two 7 8) ∷ (4, Some (pos 9) ∷ None ∷ [])
+          ∷ (4, None ∷ Some (pos 5) ∷ []) ∷ [];
+    }
 values_and_runs = refl
 
 -- rows of no column have no values

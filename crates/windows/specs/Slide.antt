@@ -90,6 +90,11 @@ moved s t =
     record { span = s.span; step = s.step; width = s.width; held = held; shown = length held }
 
 abbrev pub next : SlideState → Item → SlideState
-next s (Rows t b) = record { span = s.span; step = s.step; width = s.width;
-    held = s.held ++ map (held_at t) b; shown = s.shown }
+next s (Rows t b) = record {
+  span = s.span;
+  step = s.step;
+  width = s.width;
+  held = s.held ++ map (held_at t) b;
+  shown = s.shown;
+}
 next s (Tick t) = cond (moves s.step t) (moved s t) s

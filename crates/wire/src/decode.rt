@@ -1,4 +1,4 @@
-//! From a JSON value to the request that it is.
+//! Reads the request that a JSON value is.
 ghost use Rattle.std.specs.Prelude.{◌≡◌, IfOk, Some, None, cond, codes, option_map};
 ghost use Rattle.std.specs.Prelude.{map};
 ghost use Rattle.serde_json.specs.View.{view, items_view};
@@ -70,7 +70,7 @@ fn value_of(value: &Value) -> Option<Option<i64>>
     }
 }
 
-/// Reads values, in place of those that stood in the list.
+/// Reads values into the list, in place of those in it. Returns whether all could be read.
 fn values_of(items: &[Value], values: &mut Vec<Option<i64>>) -> Result<bool, AllocError>
     ensures { IfOk result (λ all. cond all (Some values.new.items) None
         ≡ each value_of (items_view items.now)) }
@@ -323,7 +323,10 @@ fn asked_by(alloc: Global, op: &str, value: &Value) -> Result<Option<Request>, A
     Ok(None)
 }
 
-/// The request that a value is, or none where it is no request.
+/// Returns the request that a value is, or none if it is no request.
+///
+/// # Errors
+/// `AllocError` when out of memory.
 #[tactic(auto, unfolding(crate::specs::Asked::asked))]
 pub fn request_of(alloc: Global, value: &Value) -> Result<Option<Request>, AllocError>
     ensures { IfOk result (λ o. option_map call_of o ≡ asked (view value.now)) }

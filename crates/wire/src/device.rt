@@ -1,4 +1,4 @@
-//! Where request bytes come from, and where reply bytes go.
+//! Says where request bytes come from, and where reply bytes go.
 ghost use Rattle.std.specs.Prelude.{◌≡◌, ◌<◌, ◌≤◌, [], ◌-◌, ◌^◌, ℕ, List, Option, Some};
 ghost use Rattle.std.specs.Prelude.{IfOk, OnOk, OnErr, length, take, if◌then◌else◌};
 ghost use Rattle.std.specs.Io.KnownBytes.{Appends, Consumes, IsAtEnd, Keeps};
@@ -7,28 +7,29 @@ ghost use Rattle.wire.specs.Devices.{Rises, Puts};
 use std::alloc::Global;
 use std::io::{ErrorKind, Read, Write};
 
-/// A read or a write failed, or a write took no byte.
+/// Says that a read or a write failed, or that a write took no byte.
 #[derive(Clone, Copy, Debug, PartialEq, Eq)]
 pub struct DeviceFailed;
 
-/// Where request bytes come from.
+/// Gives request bytes.
 ///
-/// A source may tell its bytes to contracts, as one over memory does. One over a reader tells them
-/// where the reader does, so not over standard input or a connection.
+/// A source may show its bytes to contracts, as one over memory does. One over a reader shows them
+/// if the reader does, so not over standard input or a connection.
 pub trait Source {
-    // The bytes that it gives up to its end, where it tells them.
+    // The bytes that it gives up to its end, if it shows them.
     ghost left: { Self → Option (List ℕ) };
 
-    // No more reads than these give bytes.
+    // At most so many reads give bytes.
     ghost turns: { Self → ℕ };
 
-    // How many reads have failed. The count stops where 64 bits are full.
+    // How many reads have failed. The count stops when 64 bits are full.
     ghost failures: { Self → ℕ };
 
-    /// Reads some bytes into the front of the buffer, and gives their number, which is 0 only at
-    /// the end.
+    /// Reads some bytes into the front of the buffer. Returns their number, which is 0 only at the
+    /// end.
     ///
-    /// `DeviceFailed` where the read failed.
+    /// # Errors
+    /// `DeviceFailed` if the read failed.
     fn read(&mut self, buffer: &mut [u8]) -> Result<usize, DeviceFailed>
         requires room { 0 < length buffer.old }
         ensures count { IfOk result (λ n. n ≤ length buffer.new) }
@@ -41,17 +42,18 @@ pub trait Source {
         ensures failed { OnErr result (Rises (failures self.old) (failures self.new)) };
 }
 
-/// Where reply bytes go. Like a source it may tell contracts the bytes that it took.
+/// Takes reply bytes. Like a source it may show contracts the bytes that it took.
 pub trait Sink {
-    // The bytes that it has taken, where it tells them.
+    // The bytes that it has taken, if it shows them.
     ghost taken: { Self → Option (List ℕ) };
 
-    // How many writes have failed. The count stops where 64 bits are full.
+    // How many writes have failed. The count stops when 64 bits are full.
     ghost failures: { Self → ℕ };
 
-    /// Takes some bytes from the front of these, at least one, and gives their number.
+    /// Takes some bytes from the front of these, at least one, and returns their number.
     ///
-    /// `DeviceFailed` where the write failed; then none was taken.
+    /// # Errors
+    /// `DeviceFailed` if the write failed; then it took none.
     fn write(&mut self, bytes: &[u8]) -> Result<usize, DeviceFailed>
         requires some { 0 < length bytes.now }
         ensures count { IfOk result (λ n. n ≤ length bytes.now) }
@@ -63,15 +65,15 @@ pub trait Sink {
         ensures kept { OnErr result (Keeps (taken self.old) (taken self.new)) };
 }
 
-/// Bytes in memory, as a source: those that are not yet read.
+/// Is a source over bytes in memory: those that are not yet read.
 #[derive(Drop)]
 pub struct MemorySource<'a> {
-    /// The bytes that are not yet read.
+    /// Holds the bytes that are not yet read.
     pub bytes: &'a [u8],
 }
 
 impl<'a> MemorySource<'a> {
-    /// A source of these bytes.
+    /// Returns a source of these bytes.
     pub fn new(bytes: &'a [u8]) -> MemorySource<'a>
         ensures { result.bytes.now ≡ bytes.now }
     {
@@ -95,17 +97,17 @@ impl Source for MemorySource<'_> {
     }
 }
 
-/// A list in memory, as a sink: the bytes that it took. Out of memory is a failure.
+/// Is a sink over a list in memory: the bytes that it took. Out of memory is a failure.
 #[derive(Drop)]
 pub struct MemorySink {
-    /// The bytes that it took, in order.
+    /// Holds the bytes that it took, in order.
     pub bytes: Vec<u8>,
-    /// How many writes have failed; the count stops where 64 bits are full.
+    /// Counts the writes that failed; the count stops when 64 bits are full.
     pub failures: u64,
 }
 
 impl MemorySink {
-    /// A sink that has taken nothing. Takes no memory yet.
+    /// Returns a sink that has taken nothing. Takes no memory yet.
     pub fn new(alloc: Global) -> MemorySink
         ensures empty { result.bytes.items ≡ [] }
         ensures sound { result.failures ≡ 0 }
@@ -131,20 +133,20 @@ impl Sink for MemorySink {
     }
 }
 
-/// A reader, as standard input or a `&TcpStream`, as a source. It tells its bytes where the reader
-/// does, which these two do not.
+/// Is a source over a reader, such as standard input or a `&TcpStream`. It shows its bytes if the
+/// reader does, which these two do not.
 #[derive(Drop)]
 pub struct ReaderSource<R> {
-    /// What is read.
+    /// Holds what is read.
     reader: R,
-    /// How often the reader may still be read.
+    /// Counts how often the reader may still be read.
     turns: u64,
-    /// How many reads have failed; the count stops where 64 bits are full.
+    /// Counts the reads that failed; the count stops when 64 bits are full.
     pub failures: u64,
 }
 
 impl<R: Read> ReaderSource<R> {
-    /// A source of what the reader reads.
+    /// Returns a source of what the reader reads.
     pub fn new(reader: R) -> ReaderSource<R>
         ensures reader { result.reader ≡ reader }
         ensures turns { result.turns ≡ 2 ^ 64 - 1 }
@@ -159,7 +161,7 @@ impl<R: Read> ReaderSource<R> {
 }
 
 impl<R> ReaderSource<R> {
-    // One read more failed.
+    // Counts one more failed read.
     fn fail(&mut self) -> DeviceFailed
         ensures counted { Rises self.old.failures self.new.failures }
     {
@@ -192,18 +194,18 @@ impl<R: Read> Source for ReaderSource<R> {
     }
 }
 
-/// A writer, as standard output or a `&TcpStream`, as a sink. It tells the bytes that it took where
-/// the writer does, which these two do not.
+/// Is a sink over a writer, such as standard output or a `&TcpStream`. It shows the bytes that it
+/// took if the writer does, which these two do not.
 #[derive(Drop)]
 pub struct WriterSink<W> {
-    /// What is written to.
+    /// Holds what is written to.
     writer: W,
-    /// How many writes have failed; the count stops where 64 bits are full.
+    /// Counts the writes that failed; the count stops when 64 bits are full.
     pub failures: u64,
 }
 
 impl<W: Write> WriterSink<W> {
-    /// A sink that hands its bytes to the writer.
+    /// Returns a sink that passes its bytes to the writer.
     pub fn new(writer: W) -> WriterSink<W>
         ensures writer { result.writer ≡ writer }
         ensures sound { result.failures ≡ 0 }
@@ -216,7 +218,7 @@ impl<W: Write> WriterSink<W> {
 }
 
 impl<W> WriterSink<W> {
-    // One write more failed.
+    // Counts one more failed write.
     fn fail(&mut self) -> DeviceFailed
         ensures counted { Rises self.old.failures self.new.failures }
         ensures kept { self.new.writer ≡ self.old.writer }
@@ -247,9 +249,10 @@ impl<W: Write> Sink for WriterSink<W> {
     }
 }
 
-/// Writes all of these bytes, in one write where the sink takes them so.
+/// Writes all of these bytes, in one write if the sink takes them so.
 ///
-/// `DeviceFailed` where a write failed: then the sink has taken a front of them.
+/// # Errors
+/// `DeviceFailed` if a write failed; then the sink has taken a prefix of them.
 pub fn put<K: Sink>(sink: &mut K, bytes: &[u8]) -> Result<(), DeviceFailed>
     ensures { Puts (K.taken sink.old) (K.taken sink.new) (K.failures sink.old) (K.failures sink.new)
         result bytes.now }

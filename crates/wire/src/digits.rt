@@ -1,12 +1,12 @@
-//! Numbers in decimal.
+//! Writes numbers in decimal.
 ghost use Rattle.std.specs.Prelude.{◌≡◌, ◌≤◌, ◌-◌, ◌∷◌, ◌++◌, codes, decimal, drop};
 ghost use Rattle.std.specs.Fmt.{signed_decimal};
 
-/// The most bytes of a number of 64 bits with a comma before it: 20 digits, or a sign and 19.
+/// Limits the bytes of a number of 64 bits with a comma before it: 20 digits, or a sign and 19.
 pub(crate) const MOST_BYTES: usize = 22;
 
-/// Puts the decimal digits of a number behind all else, and gives where they begin. Two bytes
-/// before them are free.
+/// Writes the decimal digits of a number at the end of the text, and returns where they start. The
+/// two bytes before them are free.
 pub(crate) fn put_digits(number: u64, text: &mut [u8; MOST_BYTES]) -> usize
     ensures room { 2 ≤ result }
     ensures within { result ≤ 22 }
@@ -24,7 +24,7 @@ pub(crate) fn put_digits(number: u64, text: &mut [u8; MOST_BYTES]) -> usize
     }
 }
 
-/// Puts a comma and a number in decimal at the end, and returns where they begin.
+/// Writes a comma and a number in decimal at the end of the text, and returns where they start.
 pub(crate) fn put_next_number(number: i64, text: &mut [u8; MOST_BYTES]) -> usize
     ensures within { result ≤ 22 }
     ensures text { drop result text.new ≡ codes "," ++ signed_decimal number }
@@ -37,7 +37,7 @@ pub(crate) fn put_next_number(number: i64, text: &mut [u8; MOST_BYTES]) -> usize
     put_before(text, digits, b',')
 }
 
-/// Puts a byte before what begins at a place, and gives the byte's place.
+/// Writes a byte before what starts at a place, and returns the byte's place.
 fn put_before(text: &mut [u8; MOST_BYTES], start: usize, byte: u8) -> usize
     requires some { 1 ≤ start }
     requires within { start ≤ 22 }

@@ -1,4 +1,4 @@
-//! Requests and replies in turn.
+//! Answers requests in turn, whoever makes the replies.
 ghost use Rattle.std.specs.Prelude.{◌≡◌, ◌≢◌, ◌<◌, [], ◌||◌, Bool, Result, OnOk, OnErr};
 ghost use Rattle.std.specs.Prelude.{IfOk, IfErr, IfSome, MatchOption, None, true, false};
 ghost use Rattle.wire.specs.Calls.{Call};
@@ -20,7 +20,7 @@ use crate::reply::{Reply, add_reply};
 use crate::request::{Request, WireFault};
 use std::alloc::Global;
 
-/// Answers requests over a state that they change, as an engine or a hub's seat.
+/// Answers requests over a state that they change, such as an engine or a hub's seat.
 pub trait Responder<T> {
     // What a request may be answered, and the state that it leaves.
     ghost replies: { Self → T → Result Call WireFault → Answer → T → Type 0 };
@@ -28,7 +28,7 @@ pub trait Responder<T> {
     // Whether a request that is answered so is noted.
     ghost notes: { Self → Result Call WireFault → Answer → Bool };
 
-    /// Answers what was read of a line, and tells whether the request is noted.
+    /// Answers what was read of a line. Returns the reply, and whether the request is noted.
     fn respond(&self, state: &mut T, read: Result<Request, WireFault>) -> (Reply, bool)
         ensures replies { (defined : Result Call WireFault) → Reads defined read
             → replies self.now state.old defined (answer_of result.0) state.new }
@@ -36,11 +36,11 @@ pub trait Responder<T> {
             → result.1 ≡ notes self.now defined (answer_of result.0) };
 }
 
-/// The next request, as `next_request` gives it. The sink is given what the page holds before
-/// anything is read, so that a client that waits for a reply has it.
+/// Returns the next request, as `next_request` does. Before anything is read, the sink gets what
+/// the page holds, so that a client that waits for a reply has it.
 ///
 /// # Errors
-/// `Read` where the source failed, `Write` where the sink did: then nothing is read.
+/// `Read` if the source failed. `Write` if the sink failed; then nothing was read.
 pub(crate) fn await_request<S: Source, K: Sink>(
     alloc: Global,
     lines: &mut Lines,
@@ -97,15 +97,15 @@ fn add_answer<K: Sink, T, A: Responder<T>>(
     is_noted
 }
 
-/// Answers each request of the source by one line, up to the end of the source, and tells whether
-/// one of them was noted.
+/// Answers each request of the source by one line, up to the end of the source. Returns whether one
+/// of them was noted.
 ///
-/// Replies gather on a page. The sink gets them when the page is full, and before anything is read:
-/// a burst of requests is answered by one write, and a client that waits has all its replies.
+/// Replies gather on a page. The sink gets them when the page is full, and before anything is read.
+/// So a burst of requests is answered by one write, and a client that waits has all its replies.
 ///
 /// # Errors
-/// `Read` and `Write` only where that device failed in this call, `Memory` only at the start. The
-/// requests that were carried out stand.
+/// `Read` or `Write` only if that device failed in this call. `Memory` only at the start; then
+/// nothing has changed. The requests that were carried out keep their effect.
 pub fn answer_requests<S: Source, K: Sink, T, A: Responder<T>>(
     alloc: Global,
     source: &mut S,

@@ -1,16 +1,16 @@
-//! Why a script ended early.
+//! Says why a script ended early.
 use thiserror::Error;
 
-/// Why a script ended early. The requests that were answered stand.
+/// Says why a script ended early. The requests that were answered keep their effect.
 #[derive(Debug, Drop, Error)]
 pub enum ScriptFault {
-    /// The source failed.
+    /// Says that the source failed.
     #[error("read failed")]
     Read,
-    /// The sink failed.
+    /// Says that the sink failed.
     #[error("write failed")]
     Write,
-    /// It ran out of memory for the line's buffers, before the first request.
+    /// Says that it ran out of memory for the line's buffers, before the first request.
     #[error("out of memory")]
     Memory,
 }

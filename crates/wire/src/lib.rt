@@ -1,9 +1,10 @@
-//! Requests and replies as lines of JSON.
+//! Reads requests and writes replies as lines of JSON.
 //!
 //! A script is a text of request lines. It is read from a [`Source`], each request is run on an
-//! engine, and its reply is written to a [`Sink`] as one line. What is written is a function of
-//! what was read: `script` of `specs/Script.antt`, over any source and sink that tell their bytes,
-//! however they cut them.
+//! engine, and its reply is written to a [`Sink`] as one line.
+//!
+//! What is written is a function of what was read: `script` of `specs/Script.antt`. This holds over
+//! any source and sink that show their bytes, however they cut them.
 #![tactic(auto)]
 
 mod decode;

@@ -1,4 +1,4 @@
-//! Lines out of a source that gives some bytes at a time.
+//! Reads lines from a source that gives some bytes at a time.
 ghost use Rattle.std.specs.Prelude.{◌≡◌, ◌<◌, ◌≤◌, ◌+◌, ◌-◌, ℕ, List, [], ◌++◌, IfOk};
 ghost use Rattle.std.specs.Prelude.{OnOk, OnErr, IfSome, MatchOption, true, false};
 ghost use Rattle.std.specs.Prelude.{length, take, slice_index, vec_len};
@@ -12,23 +12,23 @@ use std::alloc::{AllocError, Global};
 
 const CHUNK: usize = 65_536;
 
-/// The most bytes of a line, without its line feed.
+/// Limits the bytes of a line, without its line feed.
 pub(crate) const LONGEST_LINE: usize = 65_536;
 
 const GROUP: usize = 64;
 
-/// The buffers of a reader of lines: the bytes that it has read ahead, and the line that it read
-/// last.
+/// Holds the buffers of a reader of lines: the bytes that it has read ahead, and the line that it
+/// read last.
 #[derive(Drop)]
 pub struct Lines {
-    /// 65,536 bytes, into which the source is read.
+    /// Holds 65,536 bytes, into which the source is read.
     chunk: Vec<u8>,
-    /// The place in `chunk` of the first byte that is read ahead.
+    /// Holds the place in `chunk` of the first byte that is read ahead.
     start: usize,
-    /// The place after the last byte that is read ahead.
+    /// Holds the place after the last byte that is read ahead.
     end: usize,
-    /// The line that was read last, without its line feed; there is room for 65,536 bytes. Of a
-    /// longer line it has only a part.
+    /// Holds the line that was read last, without its line feed. There is room for 65,536 bytes. Of
+    /// a longer line it has only a part.
     line: Vec<u8>,
     ghost ordered: { start ≤ end },
     ghost within: { end ≤ vec_len chunk },
@@ -36,8 +36,8 @@ pub struct Lines {
     ghost room: { longest_line ≤ vec_capacity line },
 }
 
-/// How many bytes in front have no line feed among them, by whole groups of `GROUP` bytes, which
-/// lanes look at together.
+/// Returns how many bytes in front have no line feed among them. It goes by whole groups of `GROUP`
+/// bytes, which lanes look at together.
 fn clear_front(bytes: &[u8]) -> usize
     ensures clear { EachOther bytes.now result }
     ensures within { result ≤ length bytes.now }
@@ -49,7 +49,7 @@ fn clear_front(bytes: &[u8]) -> usize
     clear
 }
 
-/// The place of the first line feed.
+/// Returns the place of the first line feed.
 fn feed_at(bytes: &[u8]) -> Option<usize>
     ensures { MatchOption result (EachOther bytes.now (length bytes.now))
         (λ at. (at < length bytes.now) × (slice_index bytes.now at ≡ 10) × EachOther bytes.now at) }
@@ -62,7 +62,7 @@ fn feed_at(bytes: &[u8]) -> Option<usize>
     None
 }
 
-/// Adds a piece to what is kept of a line, and gives whether all of the line is kept.
+/// Adds a piece to what is kept of a line, and returns whether all of the line is kept.
 fn keep(line: &mut Vec<u8>, fits: bool, piece: &[u8]) -> bool
     requires { longest_line ≤ vec_capacity line.old }
     ensures room { longest_line ≤ vec_capacity line.new }
@@ -80,17 +80,19 @@ fn keep(line: &mut Vec<u8>, fits: bool, piece: &[u8]) -> bool
 
 #[derive(Drop)]
 struct Moved {
-    /// Whether a line feed ended the line.
+    /// Says whether a line feed ended the line.
     ended: bool,
-    /// Whether all bytes of the line are kept so far.
+    /// Says whether all bytes of the line are kept so far.
     fits: bool,
 }
 
 impl Lines {
     ghost use Rattle.wire.specs.Held.{pending, ahead, work, HoldsNothing, Moves, feed_len};
 
-    /// Takes the buffers, after which reading lines takes no memory. `AllocError` where they were
-    /// refused.
+    /// Allocates the buffers. After that, reading lines takes no memory.
+    ///
+    /// # Errors
+    /// `AllocError` when out of memory.
     pub fn new(alloc: Global) -> Result<Lines, AllocError>
         ensures { IfOk result (λ lines. pending lines ≡ []) }
     {
@@ -104,7 +106,7 @@ impl Lines {
         })
     }
 
-    /// The line that was read last, where it was no longer than 65,536 bytes.
+    /// Returns the line that was read last, if it has at most 65,536 bytes.
     pub(crate) fn line(&self) -> &[u8]
         ensures { result.now ≡ self.now.line.items }
     {
@@ -136,8 +138,8 @@ impl Lines {
         }
     }
 
-    /// Takes the next line out of the bytes that are read ahead, where they have its line feed:
-    /// whether it has no more than 65,536 bytes, which `line` then gives.
+    /// Takes the next line out of the bytes that are read ahead, if they have its line feed.
+    /// Returns whether it has at most 65,536 bytes, which `line` then returns.
     pub(crate) fn held_line(&mut self) -> Option<bool>
         ensures line { (left : Option (List ℕ)) → MatchOption result (self.new ≡ self.old)
             (λ fits. BeginsWithLine (ahead self.old left) (ahead self.new left) fits
@@ -153,7 +155,7 @@ impl Lines {
         Some(fits)
     }
 
-    // Reads more bytes, and gives whether there are any.
+    // Reads more bytes, and returns whether there are any.
     fn fill<S: Source>(&mut self, source: &mut S) -> Result<bool, DeviceFailed>
         requires { self.old.start ≡ self.old.end }
         ensures bytes { OnOk result
@@ -174,7 +176,7 @@ impl Lines {
         Ok(count != 0)
     }
 
-    // Sees that bytes are pending, and gives whether there are any.
+    // Reads if no bytes are pending, and returns whether there are any.
     fn ready<S: Source>(&mut self, source: &mut S) -> Result<bool, DeviceFailed>
         ensures same { OnOk result
             (Same (ahead self.old (S.left source.old)) (ahead self.new (S.left source.new))) }
@@ -195,8 +197,8 @@ impl Lines {
         Ok(more)
     }
 
-    /// Reads the next line of up to 65,536 bytes, whose bytes `line` then gives: whether it is no
-    /// longer, or none at the end.
+    /// Reads the next line. Returns whether it has at most 65,536 bytes, which `line` then returns,
+    /// or None at the end.
     pub(crate) fn next_line<S: Source>(
         &mut self,
         source: &mut S,

@@ -1,4 +1,4 @@
-//! Lines on their way to a sink.
+//! Gathers lines on their way to a sink.
 ghost use Rattle.std.specs.Prelude.{◌≡◌, ◌++◌, [], ◌∷◌, true, codes, decimal};
 ghost use Rattle.std.specs.Fmt.{signed_decimal};
 ghost use Rattle.wire.specs.Paged.{Writes};
@@ -7,18 +7,17 @@ use crate::device::{Sink, put};
 use crate::digits::{MOST_BYTES, put_digits, put_next_number};
 use arrayvec::ArrayVec;
 
-/// The most bytes that a page holds.
+/// Limits the bytes that a page holds.
 const PAGE: usize = 4096;
 
-/// The bytes of lines that the sink has not been given yet, and whether no write has failed.
+/// Holds the bytes of lines that the sink has not yet got, and whether no write has failed.
 ///
-/// It lies on the stack, so that a reply takes no memory. What fits in is given to the sink by one
-/// write.
+/// It is on the stack, so that a reply takes no memory. What fits in goes to the sink in one write.
 #[derive(Drop)]
 pub(crate) struct Page {
-    /// The bytes that wait for the next write, at most `PAGE`.
+    /// Holds the bytes that wait for the next write, at most `PAGE`.
     pub(crate) bytes: ArrayVec<u8, PAGE>,
-    /// Whether no write has failed.
+    /// Says whether no write has failed.
     pub(crate) is_sound: bool,
 }
 
@@ -33,7 +32,7 @@ impl Page {
         }
     }
 
-    /// Gives the sink what is held.
+    /// Writes what is held to the sink.
     pub(crate) fn flush<K: Sink>(&mut self, sink: &mut K)
         ensures writes { Writes (K.taken sink.old) (K.failures sink.old) self.old (K.taken sink.new)
             (K.failures sink.new) self.new [] }
@@ -62,7 +61,7 @@ impl Page {
         self.is_sound = put(sink, bytes).is_ok();
     }
 
-    /// Gives the sink what is held, and adds bytes that do not fit after it.
+    /// Writes what is held to the sink, and adds bytes that do not fit after it.
     #[inline(never)]
     fn add_anew<K: Sink>(&mut self, sink: &mut K, bytes: &[u8])
         ensures { Writes (K.taken sink.old) (K.failures sink.old) self.old (K.taken sink.new)

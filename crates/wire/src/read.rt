@@ -1,4 +1,4 @@
-//! From lines to requests.
+//! Reads requests from lines.
 ghost use Rattle.std.specs.Prelude.{◌≡◌, ◌<◌, ◌≤◌, IfOk, IfErr, IfSome, OnOk, OnErr, MatchOption};
 ghost use Rattle.std.specs.Prelude.{List, ℕ, Option};
 ghost use Rattle.std.specs.List.{list_all};
@@ -25,7 +25,7 @@ fn is_blank(line: &[u8]) -> bool
         .all(|b| *b == b' ' || *b == b'\t' || *b == b'\r')
 }
 
-/// The request that a line of at most 65,536 bytes is, by its JSON value.
+/// Returns the request that a line of at most 65,536 bytes is, by its JSON value.
 #[tactic(auto, using(crate::proofs::Reading::value_fits))]
 fn any_request(alloc: Global, line: &[u8]) -> Result<Request, WireFault>
     ensures { Reads (call_in (json_of line.now)) result }
@@ -46,7 +46,8 @@ fn any_request(alloc: Global, line: &[u8]) -> Result<Request, WireFault>
     }
 }
 
-/// The request that a line of at most 65,536 bytes is.
+/// Returns the request that a line of at most 65,536 bytes is, by a scan if the line is a usual
+/// one.
 #[tactic(auto, using(crate::proofs::Reading::value_fits))]
 fn short_request(alloc: Global, line: &[u8]) -> Result<Request, WireFault>
     ensures { Reads (call_in (json_of line.now)) result }
@@ -58,7 +59,7 @@ fn short_request(alloc: Global, line: &[u8]) -> Result<Request, WireFault>
     }
 }
 
-/// The request that a line is, without its line feed.
+/// Returns the request that a line is, without its line feed.
 ///
 /// # Errors
 /// `LineTooLong` if it has over 65,536 bytes, `NotJson` if it is no JSON text, `BadRequest` if its
@@ -72,8 +73,8 @@ pub fn read_request(alloc: Global, line: &[u8]) -> Result<Request, WireFault>
     short_request(alloc, line)
 }
 
-/// The request that a line is, of which this is kept, or what is wrong with it; none where it is
-/// blank.
+/// Returns the request that a line is, or what is wrong with it; none if it is blank. `line` is
+/// what is kept of it, and `fits` says whether that is all.
 fn request_of_line(alloc: Global, line: &[u8], fits: bool) -> Option<Result<Request, WireFault>>
     ensures { (whole : List ℕ) → Keeps fits line.now whole
         → ReadsLine (request_in whole) result }
@@ -87,9 +88,9 @@ fn request_of_line(alloc: Global, line: &[u8], fits: bool) -> Option<Result<Requ
     Some(read_request(alloc, line))
 }
 
-/// The next request that can be had without a read, or what is wrong with its line: of a line that
-/// is read ahead with its line feed. Blank lines in front of it are skipped, also where there is
-/// none.
+/// Returns the next request that can be had without a read, or what is wrong with its line. The
+/// line has to be read ahead with its line feed. Skips blank lines in front of it, also if there is
+/// no such line.
 pub(crate) fn held_request(alloc: Global, lines: &mut Lines) -> Option<Result<Request, WireFault>>
     ensures request { (left : Option (List ℕ)) → MatchOption result
         (SameRequests (ahead lines.old left) (ahead lines.new left))
@@ -107,15 +108,15 @@ pub(crate) fn held_request(alloc: Global, lines: &mut Lines) -> Option<Result<Re
     }
 }
 
-/// The next request of the source or what is wrong with its line, or none at the end. Blank lines
-/// are skipped.
+/// Returns the next request of the source or what is wrong with its line, or none at the end. Skips
+/// blank lines.
 ///
 /// A line that is no request is used up, as is one that ran out of memory: the next call goes on
 /// after it.
 ///
 /// # Errors
 /// `Read` if the source failed. What it had given of a line by then is lost, and the next call
-/// would take the rest for a line of its own: a caller has to stop there, as `run_script` does.
+/// would take the rest for a line of its own. So a caller has to stop there, as `run_script` does.
 pub fn next_request<S: Source>(
     alloc: Global,
     lines: &mut Lines,

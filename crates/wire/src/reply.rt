@@ -1,4 +1,4 @@
-//! Replies, and their lines.
+//! Writes replies as lines.
 ghost use Rattle.std.specs.Prelude.{◌≡◌, ◌++◌, true, codes, IfErr};
 ghost use Rattle.envelope.specs.LowestTerms.{shown};
 ghost use Rattle.plan.specs.Kinds.{kind_name};
@@ -18,18 +18,18 @@ use crate::request::WireFault;
 use reference::{Fault, Kind, Slope};
 use values::{Row, Value};
 
-/// What a request is answered.
+/// Says what a request is answered.
 #[derive(Drop)]
 pub enum Reply {
-    /// The call was accepted.
+    /// Says that the call was accepted.
     Done,
-    /// A take's answers, each with its instant.
+    /// Holds a take's answers, each with its instant.
     Rows(Vec<(i64, Row)>),
-    /// What each operator of a query does, and its slope.
+    /// Says what each operator of a query does, and its slope.
     Operators(Vec<(Kind, Slope)>),
-    /// The engine refused the call.
+    /// Says that the engine refused the call.
     Refused(Fault),
-    /// The line is no request.
+    /// Says that the line is no request.
     Unread(WireFault),
 }
 
@@ -148,7 +148,7 @@ fn add_operators<K: Sink>(sink: &mut K, page: &mut Page, operators: &[(Kind, Slo
     }
 }
 
-/// What a call is answered that hands out no rows.
+/// Returns the reply to a call that returns no rows.
 pub fn done<T: Drop>(answer: Result<T, Fault>) -> Reply
     ensures { answer_of result ≡ done_of answer }
 {
@@ -214,10 +214,11 @@ pub(crate) fn add_reply<K: Sink>(sink: &mut K, page: &mut Page, reply: &Reply)
     }
 }
 
-/// Writes a reply's line, in one write where it has at most 4,096 bytes and the sink takes it so.
+/// Writes a reply's line, in one write if it has at most 4,096 bytes and the sink takes it so.
 /// Takes no memory.
 ///
-/// `ScriptFault::Write` where the sink failed, which then has taken a front of the line.
+/// # Errors
+/// `ScriptFault::Write` if the sink failed; then it has taken a prefix of the line.
 pub fn write_reply<K: Sink>(sink: &mut K, reply: &Reply) -> Result<(), ScriptFault>
     ensures written { Puts (K.taken sink.old) (K.taken sink.new) (K.failures sink.old)
         (K.failures sink.new) result (line_of (answer_of reply.now)) }

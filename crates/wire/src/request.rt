@@ -1,16 +1,16 @@
-//! What a request line asks for.
+//! Says what a request line asks for.
 use reference::{Chart, NewRows};
 
-/// What a request line asks for, with streams and queries by name.
+/// Says what a request line asks for, with streams and queries by name.
 #[derive(Drop)]
 pub enum Request {
-    /// Declares a stream, whose first open instant is `from`.
+    /// Declares a stream whose first open instant is `from`.
     Stream {
         name: String,
         columns: Vec<String>,
         from: i64,
     },
-    /// Registers a query, with a chart of its operators' costs and sizes where one is given.
+    /// Registers a query, with a chart of its operators' costs and sizes if one is given.
     Query {
         name: String,
         text: String,
@@ -37,7 +37,7 @@ pub enum Request {
     Drop {
         query: String,
     },
-    /// Gives up the rows that no query needs any longer.
+    /// Forgets the rows that no query needs any longer.
     Forget,
     /// Shows the operators of a query and their slopes.
     Plan {
@@ -45,16 +45,16 @@ pub enum Request {
     },
 }
 
-/// Why a line is no request, or why it could not be read.
+/// Says why a line is no request, or why it could not be read.
 #[derive(Clone, Copy, Debug, PartialEq, Eq)]
 pub enum WireFault {
-    /// The line is no JSON text, or it nests lists and objects more than 127 deep.
+    /// Says that the line is no JSON text, or that it nests lists and objects more than 127 deep.
     NotJson,
-    /// The line is no object, its `op` is unknown, a key that it needs is missing, or a value is of
-    /// another kind.
+    /// Says that the line is no object, that its `op` is unknown, that a key is missing, or that a
+    /// value is of another kind.
     BadRequest,
-    /// The line has over 65,536 bytes.
+    /// Says that the line has over 65,536 bytes.
     LineTooLong,
-    /// It ran out of memory. This says nothing about the line.
+    /// Says that memory ran out. This says nothing about the line.
     OutOfMemory,
 }

@@ -1,4 +1,4 @@
-//! The lines of the usual requests, by a scan of their bytes.
+//! Reads the lines of the usual requests by a scan of their bytes.
 //!
 //! What is read is what the line's JSON value asks for, at a small part of its cost. A line that is
 //! written in any other way is left to JSON.
@@ -16,13 +16,13 @@ use reference::NewRows;
 use std::alloc::{AllocError, Global};
 use std::str::from_utf8;
 
-/// A number below this has room for one digit more, since it has at most 17.
+/// Bounds the numbers that have room for one more digit, since a number has at most 17.
 const ROOM: u64 = 10_000_000_000_000_000;
 
-/// The place of the first letter of the operation.
+/// Names the place of the first letter of the operation.
 const LETTER: usize = 7;
 
-/// Room is taken for a row in so many bytes of a line.
+/// Says for how many bytes of a line room is made for one row.
 const ROW: usize = 12;
 
 /// Returns what follows a word.
@@ -32,7 +32,7 @@ fn behind<'t>(text: &'t [u8], word: &[u8]) -> Option<&'t [u8]>
     text.strip_prefix(word)
 }
 
-/// The digit that a byte is.
+/// Returns the digit that a byte is.
 fn digit_of(byte: u8) -> Option<u64>
     ensures { IfSome result (λ d. (48 + d ≡ byte) × (d < 10)) }
 {
@@ -104,8 +104,7 @@ fn value(text: &[u8]) -> Option<(Option<i64>, &[u8])>
     }
 }
 
-/// Reads a row: puts its values into the list, in place of what is there, and returns its instant
-/// and what follows it.
+/// Reads a row. Its values replace those in the list. Returns its instant, and what follows it.
 fn row<'t>(
     text: &'t [u8],
     values: &mut Vec<Option<i64>>,
@@ -158,14 +157,14 @@ fn rows(alloc: Global, text: &[u8]) -> Result<Option<(NewRows, &[u8])>, AllocErr
     }
 }
 
-/// Whether a byte may stand in a name.
+/// Returns whether a byte may occur in a name.
 fn is_plain(byte: u8) -> bool
     ensures { IsTrue result → IsPlain byte }
 {
     byte.is_ascii_alphanumeric() || byte == b'_'
 }
 
-/// How many bytes in front may stand in a name.
+/// Returns how many bytes in front may occur in a name.
 fn plain_front(text: &[u8]) -> usize
     ensures within { result ≤ length text.now }
     ensures plain { AllByRecursion IsPlain (take result text.now) }
@@ -212,7 +211,8 @@ fn usual_append(alloc: Global, line: &[u8]) -> Result<Option<Request>, AllocErro
     Ok(Some(Request::Append { stream, rows }))
 }
 
-/// The name and the number of a line that is a word, a name, another word, a number and a brace.
+/// Reads a line that is a word, a name, another word, a number and a brace. Returns the name and
+/// the number.
 fn named_number<'t>(line: &'t [u8], front: &[u8], middle: &[u8]) -> Option<(&'t str, i64)>
     ensures text { IfSome result (λ r. line.now
         ≡ front.now ++ r.0.now ++ middle.now ++ signed_decimal r.1 ++ codes "}") }
@@ -271,9 +271,12 @@ fn usual_drain(line: &[u8]) -> Option<Request>
     }
 }
 
-/// The request that a line is, where it is an append, a heartbeat, a drain or a take as they are
-/// usually written: without blanks, the keys in the order of the documents, an append of at least
-/// one row, and numbers of at most 17 digits.
+/// Returns the request that a line is, if it is an append, a heartbeat, a drain or a take as
+/// usually written. That is without blanks, with its keys in the order of the documents, and with
+/// numbers of at most 17 digits. An append has at least one row.
+///
+/// # Errors
+/// `AllocError` when out of memory.
 pub(crate) fn usual_request(alloc: Global, line: &[u8]) -> Result<Option<Request>, AllocError>
     ensures { IfOk result (λ o. IfSome o
         (λ r. call_in (json_of line.now) ≡ Ok (call_of r))) }

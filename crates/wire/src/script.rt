@@ -1,4 +1,4 @@
-//! Scripts of requests.
+//! Runs scripts of requests on an engine.
 ghost use Rattle.std.specs.Prelude.{◌≡◌, ◌≢◌, ◌<◌, [], Result, Ok, IfOk, IfErr};
 ghost use Rattle.std.specs.Prelude.{OnOk, OnErr, IfSome, MatchOption, None, true, false, ◌⊎◌};
 ghost use Rattle.reference.specs.World.{IsTurnSize};
@@ -48,8 +48,7 @@ fn heartbeat<E: Answering>(engine: &mut E, stream: &str, at: i64) -> Reply
     }
 }
 
-// Drains by turns of at most so many rows. Then gives up the rows that no query needs, if that
-// pays.
+// Drains by turns of at most so many rows. Then forgets the rows that no query needs, if that pays.
 #[tactic(auto, using(crate::proofs::Turns::drain_rests, crate::proofs::Turns::drain_leaves_whole))]
 fn drain<E: Answering>(engine: &mut E, rows: u32) -> Reply
     requires rows { IsTurnSize rows }
@@ -123,13 +122,13 @@ fn show_plan<E: Answering>(engine: &E, query: &str) -> Reply
 
 /// Runs a request on an engine. A drain's turns have at most `rows` rows, 1 to 1,024.
 ///
-/// Answers as the machine does, or says what is scarce. Out of memory comes only in place of an
-/// acceptance or of a fault of a query's text, and never at a drop. Then all is as it was, except
-/// that a drain may have made some answers wait. Only a drain can be out of numbers for turns: then
-/// the engine has none left. A drain, a take and a `forget` need an engine that is whole.
+/// Answers as the machine does, or says what is scarce. Out of memory replaces only an acceptance
+/// or a fault of a query's text, and never the answer to a drop. Then nothing has changed, except
+/// that a drain may have made some answers wait. Only a drain can run out of numbers for turns:
+/// then the engine has none left. A drain, a take and a `forget` need an engine that is whole.
 ///
-/// Gives up rows that no later answer needs, at a `forget` and, if that pays, after a drain. No
-/// later call tells the world from the machine's.
+/// Forgets rows that no later answer needs, at a `forget` and, if that pays, after a drain. No
+/// later call can distinguish the world from the machine's.
 pub fn answer<E: Answering>(engine: &mut E, request: &Request, rows: u32) -> Reply
     requires rows { IsTurnSize rows }
     ensures answers { (NeedsWhole (call_of request.now) → E.is_whole engine.old)
@@ -206,16 +205,18 @@ fn respond<K: Sink, E: Answering>(
 /// have at most `rows` rows, 1 to 1,024, which changes no reply. At the start the engine has to be
 /// whole.
 ///
-/// Writes the script's text of what the source gave, up to the first reply that says out of memory,
-/// or, to a drain, out of numbers for turns. From there on it rests with the engine. A reply says
-/// out of numbers only if the engine has none, and then it has none afterwards. The text does not
-/// tell whether a call or the reading of its line ran out of memory; `answer` says which calls may.
-/// If no reply says so, the engine is whole at the end.
+/// Writes the script's text of what the source gave, up to the first reply of scarcity. That reply
+/// says out of memory or, to a drain, out of numbers for turns. From there on the text depends on
+/// the engine. A reply says out of numbers only if the engine has none, and then it has none
+/// afterwards. If there is no reply of scarcity, the engine is whole at the end.
+///
+/// The text does not show whether a call or the reading of its line ran out of memory; `answer`
+/// says which calls may.
 ///
 /// # Errors
-/// `Read` and `Write` if that device failed: then a prefix of that text is written, and the engine
+/// `Read` or `Write` if that device failed. Then a prefix of that text is written, and the engine
 /// is as the calls carried out left it. `Memory` if there was none for the line's buffers, before
-/// anything was read: all is as it was.
+/// anything was read; then nothing has changed.
 pub fn run_script<S: Source, K: Sink, E: Answering>(
     alloc: Global,
     source: &mut S,

@@ -1,15 +1,15 @@
-//! Gates.
+//! Defines gates, which hear of each turn.
 
-/// Is told of each turn, outside the lock.
+/// Hears of each turn, outside the lock.
 pub trait Gate {
-    /// The turn of this number went out, and is about to be run.
+    /// Hears that the turn with this number went out, and is about to be run.
     fn before(&self, lease: u64);
 
-    /// The turn of this number was run, and came back or was abandoned.
+    /// Hears that the turn with this number was run, and came back or was abandoned.
     fn after(&self, lease: u64);
 }
 
-/// A gate that does nothing.
+/// Is a gate that does nothing.
 pub struct NoGate;
 
 impl Gate for NoGate {

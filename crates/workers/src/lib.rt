@@ -1,4 +1,4 @@
-//! Workers: threads that run a hub's turns outside its lock.
+//! Runs a hub's turns outside its lock, in threads.
 #![tactic(auto)]
 
 mod gate;

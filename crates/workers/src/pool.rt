@@ -1,4 +1,4 @@
-//! A pool of workers.
+//! Runs a pool of workers.
 ghost use Rattle.std.specs.Prelude.{◌≡◌, ◌≤◌, ◌↔◌, ◌⊎◌, IfErr, IsErrOf, OnOk};
 ghost use Rattle.reference.specs.declared.fault.Fault.TheVariants.{BadLimit, OutOfMemory};
 ghost use Rattle.reference.specs.declared.fault.Fault.TheVariants.{TooManyLeases};
@@ -17,21 +17,21 @@ use std::sync::{Mutex, Wait};
 use std::thread;
 use std::thread::Threads;
 
-/// The most workers of a pool.
+/// Limits the workers of a pool.
 pub const MAX_WORKERS: u64 = 64;
 
-/// Workers that drain a hub.
+/// Is the pool of workers that drain a hub.
 pub struct Pool;
 
 impl Pool {
-    /// Runs turns of at most `rows` rows in so many threads, of which this is one, until no
-    /// operator may take anything and no turn is out. A thread that the system refuses is left out.
-    /// When it answers, each of its workers has ended.
+    /// Runs turns of at most `rows` rows until no operator may take anything and no turn is out. It
+    /// runs them in `workers` threads; the calling thread is one of them. A thread that the system
+    /// refuses is left out. When it returns, each of its workers has ended.
     ///
     /// # Errors
-    /// `BadLimit` where workers are not 1 to 64, or rows not 1 to 1,024; `TooManyLeases` where a
-    /// worker met it, so that an operator was ready and as many turns were out as may be, or all
-    /// numbers of turns were given; `OutOfMemory` where a worker met it.
+    /// `BadLimit` if workers are not 1 to 64, or rows not 1 to 1,024. `TooManyLeases` if a worker
+    /// met it. Then an operator was ready, and as many turns were out as may be or all numbers of
+    /// turns were given. `OutOfMemory` if a worker met it.
     pub fn drain<R: Threads + Wait + Sync, G: Gate + Sync>(
         rt: &R,
         alloc: Global,
@@ -81,7 +81,7 @@ impl Pool {
     }
 }
 
-// What a pool answers of what a worker was short of.
+// Returns the fault that a pool answers, from what a worker was short of.
 fn fault_of(want: &Want) -> Fault
     ensures fault { (result ≡ TooManyLeases) ⊎ (result ≡ OutOfMemory) }
     ensures turns { result ≡ TooManyLeases → Lacks Lack.Turns }
@@ -92,7 +92,7 @@ fn fault_of(want: &Want) -> Fault
     }
 }
 
-// Notes under the lock what a worker was short of. No clause can tell what a lock keeps.
+// Notes under the lock what a worker was short of. No clause can say what a lock keeps.
 fn note<R: Wait>(rt: &R, met: &Mutex<Option<Want>>, answer: Result<(), Want>) {
     let mut met = met.lock(rt);
     keep(&mut met, answer);

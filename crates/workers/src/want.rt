@@ -1,21 +1,21 @@
-//! What a worker may be short of.
+//! Says what a worker may be short of.
 
 use std::marker::Model;
 
-/// What a worker may be short of.
+/// Says what a worker may be short of.
 #[derive(Clone, Copy)]
 pub(crate) enum Lack {
-    /// Memory was refused.
+    /// Says that it ran out of memory.
     Memory,
-    /// As many turns are out as may be, or all numbers of turns were given.
+    /// Says that as many turns are out as may be, or all numbers of turns were given.
     Turns,
 }
 
-/// What a worker was short of. Where it was turns, none went out to it: so what one thread notes
-/// under a lock still says so to another.
+/// Holds what a worker was short of. If it was turns, none went out to it. The type keeps that
+/// fact, so a note that one thread makes under a lock still says so to another.
 #[derive(Drop)]
 pub(crate) struct Want {
-    /// What it was.
+    /// Says what it was.
     pub(crate) lack: Lack,
 }
 

@@ -1,4 +1,4 @@
-//! Workers.
+//! Runs turns in a worker.
 ghost use Rattle.std.specs.Prelude.{IfErr, OnOk};
 ghost use Rattle.turn.specs.Turns.{Fits};
 ghost use Rattle.reference.specs.World.{IsTurnSize};
@@ -14,7 +14,7 @@ use std::alloc::Global;
 use std::sync::Wait;
 use turn::Turn;
 
-/// Runs turns of at most `rows` rows, until the hub's end is called and it is seen. A turn that did
+/// Runs turns of at most `rows` rows, until it sees that the hub's end was called. A turn that did
 /// not come back is tried again, since its operator is ready again.
 pub fn work<R: Wait, G: Gate>(rt: &R, alloc: Global, hub: &Hub, gate: &G, rows: u32)
     requires { IsTurnSize rows }
@@ -32,8 +32,8 @@ pub fn work<R: Wait, G: Gate>(rt: &R, alloc: Global, hub: &Hub, gate: &G, rows: 
     unreachable!()
 }
 
-/// Runs turns of at most `rows` rows until no operator may take anything and none is out. What it
-/// is short of it answers, and then holds no turn.
+/// Runs turns of at most `rows` rows until no operator may take anything and none is out. Returns
+/// what it is short of, and then holds no turn.
 #[tactic(auto, using(hub::proofs::WithheldLemmas::withheld_for))]
 pub(crate) fn run_to_rest<R: Wait, G: Gate>(
     rt: &R,
@@ -79,12 +79,12 @@ fn run_turn<R: Wait, G: Gate>(
     answer
 }
 
-/// Runs a turn and brings it back; where memory is refused it is given up, and the turn is out no
-/// more.
+/// Runs a turn and brings it back. If it runs out of memory, it gives the turn up, and the turn is
+/// no longer out.
 ///
 /// # Errors
-/// `OutOfMemory` where memory was refused; `UnknownLease` where the turn is not out, as that of a
-/// query that was dropped meanwhile; `Stranger` where the hub gave out another by this number.
+/// `OutOfMemory` when out of memory. `UnknownLease` if the turn is not out, as one of a query that
+/// was dropped meanwhile. `Stranger` if the hub gave out another turn with this number.
 pub fn bring_back<R: Wait>(rt: &R, alloc: Global, hub: &Hub, turn: Turn) -> Result<(), Fault>
     requires { Fits turn.node turn.item turn.near }
     ensures { IsBroughtBack turn result }

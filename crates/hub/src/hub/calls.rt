@@ -1,4 +1,4 @@
-//! What clients call, each with its own seat. One step of `Locked` each.
+//! Answers what clients call, each with its own seat. Each call is one step of `Locked`.
 ghost use Rattle.std.specs.Prelude.{◌≡◌, IfOk, IfErr, string_bytes};
 ghost use Rattle.plan.specs.Chart.{given_by};
 ghost use Rattle.reference.specs.CallViews.{texts_of, handed_of};
@@ -16,10 +16,11 @@ use std::sync::Wait;
 use values::Row;
 
 impl Hub {
-    /// Declares a stream, and answers its number.
+    /// Declares a stream, and returns its number.
     ///
     /// # Errors
-    /// `HistoryFull`, `Foreign`, then those of `Answering::stream`.
+    /// `HistoryFull`, then `Foreign`, then those of `Answering::stream`. After any of them nothing
+    /// has changed.
     pub fn stream<R: Wait>(
         &self,
         rt: &R,
@@ -38,10 +39,11 @@ impl Hub {
         locked.stream(seat, name, columns, from)
     }
 
-    /// Registers a query, and answers its number.
+    /// Registers a query, and returns its number.
     ///
     /// # Errors
-    /// `HistoryFull`, `Foreign`, then those of `Answering::query`.
+    /// `HistoryFull`, then `Foreign`, then those of `Answering::query`. After any of them nothing
+    /// has changed.
     pub fn query<R: Wait>(
         &self,
         rt: &R,
@@ -60,10 +62,11 @@ impl Hub {
         locked.query(seat, name, text, chart)
     }
 
-    /// Appends rows to the stream of a number.
+    /// Appends rows to the stream with this number.
     ///
     /// # Errors
-    /// `HistoryFull`, `Foreign`, then those of `Answering::append`.
+    /// `HistoryFull`, then `Foreign`, then those of `Answering::append`. After any of them nothing
+    /// has changed.
     pub fn append<R: Wait>(
         &self,
         rt: &R,
@@ -79,10 +82,11 @@ impl Hub {
         locked.append(seat, stream, rows)
     }
 
-    /// Closes all instants of the stream of a number up to `at`.
+    /// Closes all instants of the stream with this number up to `at`.
     ///
     /// # Errors
-    /// `HistoryFull`, `Foreign`, then those of `Answering::heartbeat`.
+    /// `HistoryFull`, then `Foreign`, then those of `Answering::heartbeat`. After any of them
+    /// nothing has changed.
     pub fn heartbeat<R: Wait>(
         &self,
         rt: &R,
@@ -103,10 +107,11 @@ impl Hub {
         answer
     }
 
-    /// Hands out the first answers that wait at the query of a number, at most `limit`.
+    /// Hands out the first answers that wait at the query with this number, at most `limit`.
     ///
     /// # Errors
-    /// `HistoryFull`, `Foreign`, then those of `Answering::take`.
+    /// `HistoryFull`, then `Foreign`, then those of `Answering::take`. After any of them nothing
+    /// has changed.
     pub fn take<R: Wait>(
         &self,
         rt: &R,
@@ -122,10 +127,11 @@ impl Hub {
         locked.take(seat, query, limit)
     }
 
-    /// Drops the query of a number. Its turns end, so a pool may rest.
+    /// Drops the query with this number. Its turns end, so a pool may rest.
     ///
     /// # Errors
-    /// `HistoryFull`, `Foreign`, then `UnknownQuery`; `OutOfMemory` for the entry and the receipt.
+    /// `HistoryFull`, then `Foreign`, then `UnknownQuery`. `OutOfMemory` when out of memory for the
+    /// entry and the receipt. After any of them nothing has changed.
     pub fn drop_query<R: Wait>(&self, rt: &R, seat: &mut Seat, query: u64) -> Result<Receipt, Fault>
         ensures ok { IfOk result (λ r. (r.entry.reply ≡ replies.Done)
             × Took seat.old (Drop query) r seat.new) }

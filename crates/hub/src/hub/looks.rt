@@ -1,4 +1,4 @@
-//! What anyone may look at. No seat is needed, and nothing changes.
+//! Shows what anyone may look at. No seat is needed, and nothing changes.
 ghost use Rattle.hub.specs.Steps.{PlainLocked, FindsQuery, FindsStream, SeesPending, SeesSlopes};
 ghost use Rattle.hub.specs.Steps.{SeesWaiting};
 
@@ -9,44 +9,46 @@ use reference::Fault;
 use std::sync::Wait;
 
 impl Hub {
-    /// How many answers of the query of a number wait.
+    /// Returns how many answers of the query with this number wait.
     ///
     /// # Errors
-    /// `UnknownQuery`.
+    /// `UnknownQuery` if there is no such query, or it was dropped.
     pub fn waiting<R: Wait>(&self, rt: &R, query: u64) -> Result<usize, Fault>
         ensures { (l : PlainLocked) × SeesWaiting l query result }
     {
         self.locked.lock(rt).waiting(query)
     }
 
-    /// How much waits in each queue of the query of a number.
+    /// Returns how much waits in each queue of the query with this number.
     ///
     /// # Errors
-    /// `UnknownQuery`, `OutOfMemory`.
+    /// `UnknownQuery` if there is no such query, or it was dropped; `OutOfMemory` when out of
+    /// memory.
     pub fn pending<R: Wait>(&self, rt: &R, query: u64) -> Result<Vec<u128>, Fault>
         ensures { (l : PlainLocked) × SeesPending (λ v. v.items) l query result }
     {
         self.locked.lock(rt).pending(query)
     }
 
-    /// What each operator of the query of a number does, and its slope.
+    /// Returns what each operator of the query with this number does, and its slope.
     ///
     /// # Errors
-    /// `UnknownQuery`, `OutOfMemory`.
+    /// `UnknownQuery` if there is no such query, or it was dropped; `OutOfMemory` when out of
+    /// memory.
     pub fn slopes<R: Wait>(&self, rt: &R, query: u64) -> Result<Vec<(Kind, Slope)>, Fault>
         ensures { (l : PlainLocked) × SeesSlopes (λ v. v.items) l query result }
     {
         self.locked.lock(rt).slopes(query)
     }
 
-    /// The number of the stream of a name.
+    /// Returns the number of the stream with this name.
     pub fn stream_named<R: Wait>(&self, rt: &R, name: &str) -> Option<u64>
         ensures { (l : PlainLocked) × FindsStream l name.now result }
     {
         self.locked.lock(rt).stream_named(name)
     }
 
-    /// The number of the query of a name that was not dropped.
+    /// Returns the number of the query with this name that was not dropped.
     pub fn query_named<R: Wait>(&self, rt: &R, name: &str) -> Option<u64>
         ensures { (l : PlainLocked) × FindsQuery l name.now result }
     {

@@ -1,4 +1,4 @@
-//! What workers call. They need no seat.
+//! Answers what workers call. They need no seat.
 ghost use Rattle.std.specs.Prelude.{IfErr, IfOk};
 ghost use Rattle.hub.specs.Steps.{PlainLocked, Drains, Ends, Forgets, GivesUp, Hands};
 ghost use Rattle.hub.specs.Steps.{HasEnded, Lends, Rests, Withholds};
@@ -12,14 +12,14 @@ use std::sync::Wait;
 use turn::Done;
 
 impl Hub {
-    /// As `Engine::lease`: hands out a turn, of an operator of greatest slope.
+    /// Hands out a turn of an operator of greatest slope, as `Engine::lease` does.
     pub fn lease<R: Wait>(&self, rt: &R, rows: u32) -> Result<Leased, Fault>
         ensures { (old : PlainLocked) × (new : PlainLocked) × Hands old rows result new }
     {
         self.locked.lock(rt).lease(rows)
     }
 
-    /// As `Engine::finish`: a turn that was run comes back.
+    /// Takes back a turn that was run, as `Engine::finish` does.
     pub fn finish<R: Wait>(&self, rt: &R, done: Done) -> Result<(), Fault>
         ensures { (old : PlainLocked) × (new : PlainLocked) × Ends old done result new }
     {
@@ -30,7 +30,7 @@ impl Hub {
         answer
     }
 
-    /// As `Engine::abandon`: the turn of a number does not come back.
+    /// Gives up the turn with this number, as `Engine::abandon` does: it does not come back.
     pub fn abandon<R: Wait>(&self, rt: &R, lease: u64) -> Result<(), Fault>
         ensures { (old : PlainLocked) × (new : PlainLocked) × GivesUp old lease result new }
     {
@@ -41,13 +41,13 @@ impl Hub {
         answer
     }
 
-    /// Drains in place, under the lock: runs turns of at most `rows` rows, one after the other, until
-    /// no operator is ready. Turns that are out stay out. Other calls wait meanwhile.
+    /// Drains in place, under the lock: runs turns of at most `rows` rows, one after the other,
+    /// until no operator is ready. Turns that are out stay out. Other calls wait meanwhile.
     ///
     /// # Errors
-    /// `BadLimit` if `rows` is not 1 to 1,024; `TooManyLeases` if an operator is ready while 64
-    /// turns are out or no number of a turn is left; `OutOfMemory`. What ran before the fault
-    /// stays.
+    /// `BadLimit` if `rows` is not 1 to 1,024. `TooManyLeases` if an operator is ready while 64
+    /// turns are out or no number of a turn is left. `OutOfMemory` when out of memory. What ran
+    /// before the fault stays.
     pub fn drain<R: Wait>(&self, rt: &R, rows: u32) -> Result<(), Fault>
         ensures { (old : PlainLocked) × (new : PlainLocked) × Drains old rows result new }
     {
@@ -58,18 +58,18 @@ impl Hub {
         answer
     }
 
-    /// Gives up the rows that no query needs, and all entries: the history begins anew with what is
-    /// left. It needs no seat and makes no entry; numbers go on.
+    /// Gives up the rows that no query needs, and all entries: the history starts again with what
+    /// is left. It needs no seat and makes no entry; numbers go on.
     ///
     /// # Errors
-    /// `OutOfMemory`; then nothing is changed.
+    /// `OutOfMemory` when out of memory; then nothing has changed.
     pub fn forget<R: Wait>(&self, rt: &R) -> Result<(), Fault>
         ensures { (old : PlainLocked) × (new : PlainLocked) × Forgets old result new }
     {
         self.locked.lock(rt).forget()
     }
 
-    /// From now on `lease_wait` answers `Ended`, also where it waits.
+    /// Makes `lease_wait` answer `Ended` from here on, also where it waits already.
     pub fn end<R: Wait>(&self, rt: &R) {
         let mut locked = self.locked.lock(rt);
         locked.end();
@@ -77,10 +77,10 @@ impl Hub {
         self.moved.notify_all();
     }
 
-    /// Hands out a turn, or waits until there is one or the end was called.
+    /// Hands out a turn, or waits until there is one or the end is called.
     ///
     /// # Errors
-    /// Those of `Engine::lease`, and without a wait.
+    /// Those of `Engine::lease`, without a wait.
     pub fn lease_wait<R: Wait>(&self, rt: &R, rows: u32) -> Result<LeaseWait, Fault>
         ensures ok { IfOk result (λ l. MatchLeaseWait l
             (λ t. (old : PlainLocked) × (new : PlainLocked) × Lends old rows t new)
@@ -99,10 +99,10 @@ impl Hub {
         unreachable!()
     }
 
-    /// Hands out a turn, or waits until there is one or none is out. Takes no notice of the end.
+    /// Hands out a turn, or waits until there is one or none is out. It takes no notice of the end.
     ///
     /// # Errors
-    /// Those of `Engine::lease`, and without a wait.
+    /// Those of `Engine::lease`, without a wait.
     pub fn lease_or_rest<R: Wait>(&self, rt: &R, rows: u32) -> Result<LeaseRest, Fault>
         ensures ok { IfOk result (λ l. MatchLeaseRest l
             (λ t. (old : PlainLocked) × (new : PlainLocked) × Lends old rows t new)

@@ -1,5 +1,5 @@
-//! What clients call. An accepted call is one call on the engine, one entry and one receipt; a
-//! refused one changes nothing.
+//! Answers what clients call. An accepted call is one call on the engine, one entry and one
+//! receipt; a refused one changes nothing.
 ghost use Rattle.std.specs.Prelude.{◌≡◌, ◌≤◌, IfOk, IfErr, [], string_bytes};
 ghost use Rattle.std.specs.Prelude.{vec_capacity};
 ghost use Rattle.std.specs.Arc.{arc_value};
@@ -23,10 +23,11 @@ use std::sync::Arc;
 use values::Row;
 
 impl Locked {
-    /// Declares a stream, and answers its number.
+    /// Declares a stream, and returns its number.
     ///
     /// # Errors
-    /// `HistoryFull`, `Foreign`, then those of `Answering::stream`.
+    /// `HistoryFull`, then `Foreign`, then those of `Answering::stream`. After any of them nothing
+    /// has changed.
     pub fn stream(
         &mut self,
         seat: &mut Seat,
@@ -52,10 +53,11 @@ impl Locked {
         }
     }
 
-    /// Registers a query, and answers its number.
+    /// Registers a query, and returns its number.
     ///
     /// # Errors
-    /// `HistoryFull`, `Foreign`, then those of `Answering::query`.
+    /// `HistoryFull`, then `Foreign`, then those of `Answering::query`. After any of them nothing
+    /// has changed.
     pub fn query(
         &mut self,
         seat: &mut Seat,
@@ -79,10 +81,11 @@ impl Locked {
         }
     }
 
-    /// Appends rows to the stream of a number.
+    /// Appends rows to the stream with this number.
     ///
     /// # Errors
-    /// `HistoryFull`, `Foreign`, then those of `Answering::append`.
+    /// `HistoryFull`, then `Foreign`, then those of `Answering::append`. After any of them nothing
+    /// has changed.
     pub fn append(&mut self, seat: &mut Seat, stream: u64, rows: NewRows) -> Result<Receipt, Fault>
         ensures ok { IfOk result (λ r. (r.entry.reply ≡ replies.Done)
             × Accepted self.old seat.old (Append stream rows) r self.new seat.new) }
@@ -93,10 +96,11 @@ impl Locked {
         Ok(receipt)
     }
 
-    /// Closes all instants of the stream of a number up to `at`.
+    /// Closes all instants of the stream with this number up to `at`.
     ///
     /// # Errors
-    /// `HistoryFull`, `Foreign`, then those of `Answering::heartbeat`.
+    /// `HistoryFull`, then `Foreign`, then those of `Answering::heartbeat`. After any of them
+    /// nothing has changed.
     pub fn heartbeat(&mut self, seat: &mut Seat, stream: u64, at: i64) -> Result<Receipt, Fault>
         ensures ok { IfOk result (λ r. (r.entry.reply ≡ replies.Done)
             × Accepted self.old seat.old (Heartbeat stream at) r self.new seat.new) }
@@ -107,10 +111,11 @@ impl Locked {
         Ok(receipt)
     }
 
-    /// Hands out the first answers that wait at the query of a number, at most `limit`.
+    /// Hands out the first answers that wait at the query with this number, at most `limit`.
     ///
     /// # Errors
-    /// `HistoryFull`, `Foreign`, then those of `Answering::take`.
+    /// `HistoryFull`, then `Foreign`, then those of `Answering::take`. After any of them nothing
+    /// has changed.
     pub fn take(
         &mut self,
         seat: &mut Seat,
@@ -129,10 +134,11 @@ impl Locked {
         }
     }
 
-    /// Drops the query of a number.
+    /// Drops the query with this number.
     ///
     /// # Errors
-    /// `HistoryFull`, `Foreign`, then `UnknownQuery`; `OutOfMemory` for the entry and the receipt.
+    /// `HistoryFull`, then `Foreign`, then `UnknownQuery`. `OutOfMemory` when out of memory for the
+    /// entry and the receipt. After any of them nothing has changed.
     pub fn drop_query(&mut self, seat: &mut Seat, query: u64) -> Result<Receipt, Fault>
         ensures ok { IfOk result (λ r. (r.entry.reply ≡ replies.Done)
             × Accepted self.old seat.old (Drop query) r self.new seat.new) }
@@ -143,7 +149,7 @@ impl Locked {
         Ok(receipt)
     }
 
-    // Carries a client's command out. All that grows does so before the engine is changed.
+    // Carries a client's command out. Everything that grows does so before the engine is changed.
     #[tactic(auto, unfolding(crate::specs::Steps::engine_at), using(crate::proofs::DecliningLemmas::barred_declines, crate::proofs::DecliningLemmas::refused_declines, crate::proofs::DecliningLemmas::short_declines))]
     fn call(&mut self, seat: &mut Seat, command: Command) -> Result<(Reply, Receipt), Fault>
         ensures ok { IfOk result (λ r. (r.0 ≡ r.1.entry.reply)
@@ -169,7 +175,7 @@ impl Locked {
         Ok((reply, answer))
     }
 
-    // The tests that come before all others. Gives the number of the next entry.
+    // Makes the tests that come before all others. Returns the number of the next entry.
     fn admit(&self, seat: &Seat) -> Result<u64, Fault>
         ensures ok { IfOk result (λ n. (n ≡ next_number self.now) × HasRoom self.now
             × (reach seat.now ≤ n)) }
@@ -186,7 +192,7 @@ impl Locked {
     }
 }
 
-// The command, for the receipt that is answered, for the history and for the seat.
+// Shares the command among the receipt that is returned, the history and the seat.
 fn shared(
     alloc: Global,
     command: Command,
@@ -202,7 +208,7 @@ fn shared(
     Ok((first, second, third))
 }
 
-// Room for so many answers, for the same three.
+// Makes room for this many answers, for the same three.
 fn rooms(
     alloc: Global,
     count: usize,

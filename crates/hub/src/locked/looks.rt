@@ -1,4 +1,4 @@
-//! What anyone may look at. None of it changes anything.
+//! Shows what anyone may look at. None of it changes anything.
 ghost use Rattle.std.specs.Prelude.{◌≡◌, length};
 ghost use Rattle.hub.specs.Steps.{FindsQuery, FindsStream, SeesPending, SeesSlopes, SeesWaiting};
 ghost use Rattle.hub.specs.Steps.{engine_at};
@@ -9,14 +9,14 @@ use plan::Kind;
 use reference::{Answering, Fault};
 
 impl Locked {
-    /// How many seats were opened.
+    /// Returns how many seats were opened.
     pub fn seats(&self) -> u64
         ensures { result ≡ self.now.seats }
     {
         self.seats
     }
 
-    /// How many turns are out. Takes no memory.
+    /// Returns how many turns are out. Takes no memory.
     #[tactic(auto, unfolding(crate::specs::Steps::engine_at))]
     pub fn leases_out(&self) -> usize
         ensures { result ≡ length (engine_at self.now).leases }
@@ -24,10 +24,10 @@ impl Locked {
         self.engine.leases_out()
     }
 
-    /// How many answers of the query of a number wait. Takes no memory.
+    /// Returns how many answers of the query with this number wait. Takes no memory.
     ///
     /// # Errors
-    /// `UnknownQuery`.
+    /// `UnknownQuery` if there is no such query, or it was dropped.
     #[tactic(auto, unfolding(crate::specs::Steps::engine_at))]
     pub fn waiting(&self, query: u64) -> Result<usize, Fault>
         ensures { SeesWaiting self.now query result }
@@ -35,10 +35,11 @@ impl Locked {
         self.engine.waiting(query)
     }
 
-    /// How much waits in each queue of the query of a number.
+    /// Returns how much waits in each queue of the query with this number.
     ///
     /// # Errors
-    /// `UnknownQuery`, `OutOfMemory`.
+    /// `UnknownQuery` if there is no such query, or it was dropped; `OutOfMemory` when out of
+    /// memory.
     #[tactic(auto, unfolding(crate::specs::Steps::engine_at))]
     pub fn pending(&self, query: u64) -> Result<Vec<u128>, Fault>
         ensures { SeesPending (λ v. v.items) self.now query result }
@@ -46,10 +47,11 @@ impl Locked {
         self.engine.pending(query)
     }
 
-    /// What each operator of the query of a number does, and its slope.
+    /// Returns what each operator of the query with this number does, and its slope.
     ///
     /// # Errors
-    /// `UnknownQuery`, `OutOfMemory`.
+    /// `UnknownQuery` if there is no such query, or it was dropped; `OutOfMemory` when out of
+    /// memory.
     #[tactic(auto, unfolding(crate::specs::Steps::engine_at))]
     pub fn slopes(&self, query: u64) -> Result<Vec<(Kind, Slope)>, Fault>
         ensures { SeesSlopes (λ v. v.items) self.now query result }
@@ -57,7 +59,7 @@ impl Locked {
         self.engine.slopes(query)
     }
 
-    /// The number of the stream of a name. Takes no memory.
+    /// Returns the number of the stream with this name. Takes no memory.
     #[tactic(auto, unfolding(reference::specs::World::stream_named, crate::specs::Steps::engine_at))]
     pub fn stream_named(&self, name: &str) -> Option<u64>
         ensures { FindsStream self.now name.now result }
@@ -65,7 +67,7 @@ impl Locked {
         self.engine.stream_named(name)
     }
 
-    /// The number of the query of a name that was not dropped. Takes no memory.
+    /// Returns the number of the query with this name that was not dropped. Takes no memory.
     #[tactic(auto, unfolding(reference::specs::World::query_named, crate::specs::Steps::engine_at))]
     pub fn query_named(&self, name: &str) -> Option<u64>
         ensures { FindsQuery self.now name.now result }

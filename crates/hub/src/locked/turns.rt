@@ -1,4 +1,4 @@
-//! What workers call. None of it changes the history.
+//! Answers what workers call. None of it changes the history.
 ghost use Rattle.std.specs.Prelude.{◌≡◌, ◌<◌, IfOk, IfErr, length, false};
 ghost use Rattle.hub.specs.Steps.{Drains, Ends, GivesUp, Hands, HasEnded, IsIdle, Lends};
 ghost use Rattle.hub.specs.Steps.{Rests, Withholds, ended, engine_at, with_engine};
@@ -10,7 +10,7 @@ use reference::{Answering, Fault};
 use turn::Done;
 
 impl Locked {
-    /// As `Engine::lease`: hands out a turn, of an operator of greatest slope.
+    /// Hands out a turn of an operator of greatest slope, as `Engine::lease` does.
     #[tactic(auto, unfolding(crate::specs::Steps::engine_at))]
     pub fn lease(&mut self, rows: u32) -> Result<Leased, Fault>
         ensures step { self.new ≡ with_engine self.old self.new.engine }
@@ -19,7 +19,7 @@ impl Locked {
         self.engine.lease(rows)
     }
 
-    /// As `Engine::finish`: a turn that was run comes back.
+    /// Takes back a turn that was run, as `Engine::finish` does.
     #[tactic(auto, unfolding(crate::specs::Steps::engine_at))]
     pub fn finish(&mut self, done: Done) -> Result<(), Fault>
         ensures step { self.new ≡ with_engine self.old self.new.engine }
@@ -28,7 +28,7 @@ impl Locked {
         self.engine.finish(done)
     }
 
-    /// As `Engine::abandon`: the turn of a number does not come back.
+    /// Gives up the turn with this number, as `Engine::abandon` does: it does not come back.
     #[tactic(auto, unfolding(crate::specs::Steps::engine_at))]
     pub fn abandon(&mut self, lease: u64) -> Result<(), Fault>
         ensures step { self.new ≡ with_engine self.old self.new.engine }
@@ -37,13 +37,14 @@ impl Locked {
         self.engine.abandon(lease)
     }
 
-    /// Drains in place, as `Engine::drain`: runs turns of at most `rows` rows, one after the other,
-    /// until no operator is ready. Turns that are out stay out.
+    /// Drains in place, as `Engine::drain` does: runs turns of at most `rows` rows, one after the
+    /// other, until no operator is ready. Turns that are out stay out.
     ///
     /// # Errors
-    /// `BadLimit` if `rows` is not 1 to 1,024; `TooManyLeases` if an operator is ready while 64
-    /// turns are out or no number of a turn is left; `OutOfMemory`. What ran before the fault
-    /// stays. A query that ran out of memory while its turn was taken in is broken.
+    /// `BadLimit` if `rows` is not 1 to 1,024. `TooManyLeases` if an operator is ready while 64
+    /// turns are out or no number of a turn is left. `OutOfMemory` when out of memory. What ran
+    /// before the fault stays. A query that ran out of memory while its turn was taken in is
+    /// broken.
     #[tactic(auto, unfolding(crate::specs::Steps::engine_at))]
     pub fn drain(&mut self, rows: u32) -> Result<(), Fault>
         ensures step { self.new ≡ with_engine self.old self.new.engine }
@@ -52,14 +53,15 @@ impl Locked {
         self.engine.drain(rows)
     }
 
-    /// From now on `lease_wait` answers `Ended`.
+    /// Makes `lease_wait` answer `Ended` from here on.
     pub fn end(&mut self)
         ensures { self.new ≡ ended self.old }
     {
         self.has_ended = true;
     }
 
-    /// One try of a lease that waits for the end: `Ended` after it, and then nothing changes.
+    /// Tries once to lease for a caller that waits for the end. Answers `Ended` after the end, and
+    /// then nothing changes.
     #[tactic(auto, unfolding(crate::specs::Steps::engine_at))]
     pub fn lease_wait(&mut self, rows: u32) -> Result<Waited, Fault>
         ensures step { self.new ≡ with_engine self.old self.new.engine }
@@ -79,7 +81,8 @@ impl Locked {
         }
     }
 
-    /// One try of a lease that waits for turns that are out: `Rest` where none is.
+    /// Tries once to lease for a caller that waits for turns that are out. Answers `Rest` if none
+    /// is.
     #[tactic(auto, unfolding(crate::specs::Steps::engine_at))]
     pub fn lease_or_rest(&mut self, rows: u32) -> Result<Rested, Fault>
         ensures step { self.new ≡ with_engine self.old self.new.engine }

@@ -1,4 +1,4 @@
-//! What clients call.
+//! Answers what clients call.
 ghost use Rattle.std.specs.Prelude.{◌≡◌, ◌≢◌, ◌⊎◌, ℕ, Err, IfErr, IfOk, None, OnErr, OnOk};
 ghost use Rattle.std.specs.Prelude.{slice_get};
 ghost use Rattle.std.specs.Option.{option_copied};
@@ -145,9 +145,14 @@ impl Answering for Engine {
         self.state.drop_query(query)
     }
 
-    /// Gives up the rows that no query needs. Queues, turns that are out and what waits stay as
-    /// they are; a broken query keeps what waits, and nothing comes behind it. It costs the rows
-    /// that are held times the windows over their streams, the answers that wait, and the queries.
+    /// Gives up the rows that no query needs. Queues, turns that are out and waiting answers stay
+    /// as they are. A broken query keeps its waiting answers and gets no more.
+    ///
+    /// It costs the rows that are held times the windows over their streams, plus the waiting
+    /// answers, plus the queries.
+    ///
+    /// # Errors
+    /// `OutOfMemory` when out of memory; then nothing has changed.
     fn forget(&mut self) -> Result<(), Fault>
         ensures alike { IsWhole self.old
             → OnOk result (Alike (world_in self.old) (world_in self.new)) }

@@ -1,4 +1,4 @@
-//! Rows that no query needs any longer.
+//! Shows what is kept of streams, and copies what a forgetting would leave.
 ghost use Rattle.std.specs.Prelude.{◌≡◌, IfErr, IfOk};
 ghost use Rattle.reference.specs.declared.fault.Fault.TheVariants.{OutOfMemory};
 ghost use Rattle.laws_engine.specs.Openings.{forgotten};
@@ -11,9 +11,11 @@ use crate::opening::Opening;
 use reference::Fault;
 
 impl Engine {
-    /// How many rows of the stream of a number are kept, closed or open. Takes no memory.
+    /// Returns how many rows of the stream with this number are kept, closed or open. Takes no
+    /// memory.
     ///
-    /// `UnknownStream`.
+    /// # Errors
+    /// `UnknownStream` if there is no such stream.
     pub fn kept(&self, stream: u64) -> Result<u64, Fault>
         ensures { result ≡ kept_at (engine_in self.now).machine stream }
     {
@@ -23,10 +25,11 @@ impl Engine {
         }
     }
 
-    /// A copy of what `forget` leaves: the streams with the rows that queries need, and of each
-    /// query the answers that wait and the instant from which on it goes on.
+    /// Copies what `forget` leaves: the streams with the rows that queries need, and the queries.
+    /// Each query has its waiting answers and the instant from which it goes on.
     ///
-    /// `OutOfMemory`.
+    /// # Errors
+    /// `OutOfMemory` when out of memory.
     pub fn opening(&self) -> Result<Opening, Fault>
         ensures opening { IfOk result (λ o.
             opening_in o ≡ (forgotten (engine_in self.now)).machine) }

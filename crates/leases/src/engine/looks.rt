@@ -1,4 +1,4 @@
-//! The engine before any call, and what its clients may look at.
+//! Makes an empty engine, and shows its turns, answers and queues.
 ghost use Rattle.std.specs.Prelude.{◌≡◌, length};
 ghost use Rattle.laws_engine.specs.Promises.{KeepsItsPromises};
 ghost use Rattle.leases.specs.Looks.{IsPending, WaitsAt};
@@ -13,7 +13,7 @@ use reference::Fault;
 use std::alloc::Global;
 
 impl Engine {
-    /// An engine with no stream and no query. Takes no memory.
+    /// Makes an engine with no stream and no query. Takes no memory.
     pub fn new(alloc: Global) -> Engine
         ensures empty { engine_in result ≡ empty_engine }
         ensures world { world_in result ≡ world.empty }
@@ -25,18 +25,18 @@ impl Engine {
         }
     }
 
-    /// How many turns are out. Takes no memory.
+    /// Returns how many turns are out. Takes no memory.
     pub fn leases_out(&self) -> usize
         ensures { result ≡ length (engine_in self.now).leases }
     {
         self.state.leases.len()
     }
 
-    /// How many answers of the query of a number wait. They stand behind those that were taken, and
-    /// all together are a beginning of CQL's answers. Takes no memory.
+    /// Returns how many answers of the query with this number wait. The answers already taken,
+    /// followed by these, are a prefix of CQL's answers. Takes no memory.
     ///
     /// # Errors
-    /// `UnknownQuery` where there is none, or it was dropped.
+    /// `UnknownQuery` if there is no such query, or it was dropped.
     pub fn waiting(&self, query: u64) -> Result<usize, Fault>
         ensures waiting { WaitsAt (engine_in self.now) query result }
         ensures promises { KeepsItsPromises (engine_in self.now) }
@@ -44,11 +44,13 @@ impl Engine {
         self.state.waiting(query)
     }
 
-    /// How much waits in each queue of a query, a row and a tick each as one, by the operators'
-    /// numbers, a join's left queue first. Of a broken query nothing does.
+    /// Returns how much waits in each queue of a query; a row and a tick count as one each. The
+    /// queues come by the operators' numbers, a join's left queue first. Nothing waits in those of
+    /// a broken query.
     ///
     /// # Errors
-    /// `UnknownQuery` where there is none, or it was dropped; `OutOfMemory`.
+    /// `UnknownQuery` if there is no such query, or it was dropped; `OutOfMemory` when out of
+    /// memory.
     pub fn pending(&self, query: u64) -> Result<Vec<u128>, Fault>
         ensures { IsPending (λ v. v.items) (engine_in self.now) query result }
     {

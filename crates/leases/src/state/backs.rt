@@ -1,4 +1,4 @@
-//! Turns that do not come back, and queries that leave.
+//! Gives up turns that do not come back, and drops or stops queries.
 ghost use Rattle.std.specs.Prelude.{◌≡◌, OnErr, OnOk};
 ghost use Rattle.reference.specs.Commands as machine;
 ghost use Rattle.reference.specs.World.{drop_step};
@@ -16,7 +16,10 @@ use crate::state::State;
 use reference::Fault;
 
 impl State {
-    /// The turn of a number does not come back; its operator may be leased again. Takes no memory.
+    /// Gives up the turn with this number; its operator may be leased again. Takes no memory.
+    ///
+    /// # Errors
+    /// `UnknownLease` if no turn of the number is out; then nothing has changed.
     pub(crate) fn abandon(&mut self, lease: u64) -> Result<(), Fault>
         requires { IsSound self.old }
         ensures abandons { Abandons (engine_in self.old) lease result (engine_in self.new) }
@@ -30,7 +33,10 @@ impl State {
         Ok(())
     }
 
-    /// Drops the query of a number, with its turns and its slots. Takes no memory.
+    /// Drops the query with this number, with its turns and its slots. Takes no memory.
+    ///
+    /// # Errors
+    /// `UnknownQuery` if there is no such query, or it was dropped; then nothing has changed.
     pub(crate) fn drop_query(&mut self, query: u64) -> Result<(), Fault>
         requires { IsSound self.old }
         ensures does { result ≡ (drop_step (world_in self.old) query).0 }
@@ -50,7 +56,7 @@ impl State {
         Ok(())
     }
 
-    /// A query runs no more: its turns end, and its windows and slots leave. Takes no memory.
+    /// Stops a query: its turns end, and its windows and slots leave. Takes no memory.
     pub(crate) fn stop(&mut self, query: u64)
         ensures { Stops query self.old self.new }
     {
@@ -60,7 +66,7 @@ impl State {
     }
 }
 
-/// The query is dropped.
+/// Marks the query as dropped.
 fn leave(query: &mut Registration)
     ensures { query_of query.new ≡ machine.dropped (query_of query.old) }
 {

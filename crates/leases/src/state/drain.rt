@@ -1,4 +1,4 @@
-//! Turns that go out and come back until nothing is ready.
+//! Drains: runs turns in place until nothing is ready.
 ghost use Rattle.std.specs.Prelude.{◌≡◌, ◌≢◌, ◌↔◌, ◌<◌, Err, IfErr, IfOk, IsTrue, None, OnErr};
 ghost use Rattle.std.specs.Prelude.{OnOk, Some};
 ghost use Rattle.reference.specs.World.{drain_fault};
@@ -46,7 +46,7 @@ impl State {
         self.run_turns(rows)
     }
 
-    /// Turns go out and come back until no operator may take anything.
+    /// Runs one turn after the other until no operator may take anything.
     fn run_turns(&mut self, rows: u32) -> Result<(), Fault>
         requires sound { IsSound self.old }
         requires accepted { drain_fault rows ≡ None }
@@ -64,7 +64,7 @@ impl State {
     }
 
     /// Runs turns of at most `rows` rows of an operator of greatest slope, if any may take
-    /// something.
+    /// something. Returns whether any might.
     fn run_first(&mut self, rows: u32) -> Result<bool, Fault>
         requires sound { IsSound self.old }
         requires accepted { drain_fault rows ≡ None }
@@ -80,11 +80,12 @@ impl State {
         }
     }
 
-    /// Runs turns of the first slot in place, with the next numbers: nobody can see the turns
+    /// Runs turns of the first slot in place, with the next numbers. Nobody can see the turns
     /// meanwhile, so none is made.
     ///
-    /// Where memory is refused, the turns before stay, and the one for which it was wanted did
-    /// nothing or broke its query. The error does not say which: the query shows it.
+    /// # Errors
+    /// `AllocError` when out of memory. The turns before stay. The turn that needed the memory did
+    /// nothing, or it broke its query. The error does not say which: the query shows it.
     fn run_slot(&mut self, slot: &Slot, rows: usize) -> Result<(), AllocError>
         requires sound { IsSound self.old }
         requires first { first_of self.old.slots ≡ Some slot.now }
@@ -102,13 +103,16 @@ impl State {
         Ok(())
     }
 
-    /// Runs turns of the first slot, one after the other, and tells no slot meanwhile; gives what
-    /// its operator may take next. There is one turn, and there are more as long as the slot, with
-    /// what its operator may take next, would stand first again: that is of the same instant, and
-    /// the slope of the operator above is no greater. What a turn puts out is of its own instant.
+    /// Runs turns of the first slot, one after the other, and changes no slot meanwhile. Returns
+    /// what its operator may take next.
     ///
-    /// Where memory is refused before a turn took anything, that turn changes nothing; else the
-    /// query breaks. The error is the same, and the turns before stay.
+    /// There is at least one turn. More follow as long as the slot, with what its operator may take
+    /// next, would come first again. It would if that is of the same instant, and the slope of the
+    /// operator above is no greater. What a turn emits is of its own instant.
+    ///
+    /// # Errors
+    /// `AllocError` when out of memory; the turns before stay. If the last turn had taken nothing
+    /// yet, it changes nothing; otherwise the query breaks. The error is the same.
     fn run_while_first(
         &mut self,
         slot: &Slot,
@@ -158,8 +162,8 @@ impl State {
         }
     }
 
-    /// Whether the slot, with what its operator may take next, would stand first again, and a
-    /// number is left for one more turn. `stays` says whether the operator above has no greater
+    /// Returns whether the slot, with what its operator may take next, would come first again, and
+    /// a number is left for one more turn. `stays` says whether the operator above has no greater
     /// slope.
     fn goes_on(&self, slot: &Slot, next: Option<(Side, u64)>, stays: bool) -> bool
         ensures { IsTrue result ↔ GoesOn self.now slot.now next stays }
@@ -173,8 +177,8 @@ impl State {
         slot.goes_on(next)
     }
 
-    /// The slot of the operator that ran gets what that may take next, and then the one above does,
-    /// if there is one.
+    /// Gives the slot of the operator that ran what that operator may take next. Then does so for
+    /// the slot above, if there is one.
     #[inline(always)]
     pub(crate) fn update_slots(
         &mut self,
@@ -192,8 +196,8 @@ impl State {
         }
     }
 
-    /// Like `change_slot`, for a slot that is as it stands among the others. What its operator may
-    /// take next mostly is what it could take before, and then nothing is done.
+    /// Gives a slot what its operator may take next, as `change_slot` does, if the slot is in the
+    /// queue as it is given. Mostly that is what it could take before, and then nothing is done.
     fn update_standing_slot(&mut self, slot: &Slot)
         requires here { HasOperatorAt (engine_in self.old) slot.now.query slot.now.operator }
         requires stands { Stands slot.now self.old.slots }
@@ -204,7 +208,7 @@ impl State {
         self.slots.update(*slot, next);
     }
 
-    /// The slot's query runs a turn.
+    /// Runs a turn of the slot in its query.
     fn run_query(&mut self, slot: &Slot, rows: usize) -> Result<(), Refused>
         requires { MayRunIn (engine_in self.old) slot.now rows }
         ensures ok { OnOk result
@@ -223,8 +227,8 @@ impl State {
     }
 }
 
-/// Whether the slot goes before the one above wherever that has nothing of an earlier instant: the
-/// operator above, which has the greater number, has no greater slope.
+/// Returns whether the slot goes before the one above, wherever that has nothing of an earlier
+/// instant. It does if the operator above, which has the greater number, has no greater slope.
 fn goes_before(slot: &Slot, above: &Option<Slot>) -> bool
     ensures { IsTrue result ↔ IsNoSteeper above.now slot.now }
 {
@@ -234,7 +238,7 @@ fn goes_before(slot: &Slot, above: &Option<Slot>) -> bool
     }
 }
 
-/// The running query runs a turn of the slot's operator.
+/// Runs a turn of the slot's operator in the running query.
 fn run_in(
     remains: &mut Remains,
     alloc: Global,

@@ -1,4 +1,4 @@
-//! Turns that come back.
+//! Takes back turns that were run.
 ghost use Rattle.std.specs.Prelude.{◌≡◌, ◌↔◌, ◌==◌, Err, IsTrue, Ok, OnErr, OnOk};
 ghost use Rattle.std.specs.List.{find};
 ghost use Rattle.std.specs.Option.{option_map};
@@ -25,7 +25,11 @@ use stream_store::Streams;
 use turn::{Done, Parts, Turn, same_item};
 
 impl State {
-    /// A turn that was run comes back.
+    /// Takes back a turn that was run.
+    ///
+    /// # Errors
+    /// `UnknownLease` if no turn of its number is out; `Stranger` if that is another turn. Then
+    /// nothing has changed. `OutOfMemory` when out of memory; then the turn's query is broken.
     pub(crate) fn finish(&mut self, done: Done) -> Result<(), Fault>
         requires { IsSound self.old }
         ensures finishes { Finishes (engine_in self.old) done result (engine_in self.new) }
@@ -40,7 +44,7 @@ impl State {
         Ok(self.take_back(done.into_parts())?)
     }
 
-    /// The turn of a number, if it is out.
+    /// Returns the turn with this number, if it is out.
     pub(crate) fn turn_out(&self, number: u64) -> Option<&Turn>
         ensures { option_map (λ t. t.now) result
             ≡ find (λ t. t.lease == number) self.now.leases.items }
@@ -48,7 +52,10 @@ impl State {
         self.leases.iter().find(|turn| turn.lease == number)
     }
 
-    /// The turn is out, and comes back; a growth that is refused breaks its query.
+    /// Takes back a turn that is out.
+    ///
+    /// # Errors
+    /// `AllocError` when out of memory; then the turn's query is broken.
     fn take_back(&mut self, parts: Parts) -> Result<(), AllocError>
         requires sound { IsSound self.old }
         requires out { IsOutIn (engine_in self.old) parts }
@@ -69,8 +76,8 @@ impl State {
         Ok(())
     }
 
-    /// The slot of the operator that takes what this one puts out; none takes what the root does,
-    /// which is the last.
+    /// Returns the slot of the operator that takes the output of this one. The root is the last
+    /// operator and has none above it.
     pub(crate) fn above(&self, query: u64, operator: usize) -> Option<Slot>
         requires here { HasOperatorAt (engine_in self.now) query operator }
         requires wired { HasWiredOperators (engine_in self.now) query }
@@ -84,7 +91,10 @@ impl State {
         None
     }
 
-    /// The turn's query takes it; where memory is refused it breaks.
+    /// Passes the turn to its query.
+    ///
+    /// # Errors
+    /// `AllocError` when out of memory; then the query is broken.
     pub(crate) fn apply(&mut self, parts: Parts) -> Result<(), AllocError>
         requires { MayApplyIn (engine_in self.old) parts }
         ensures ok { OnOk result (HasApplied (engine_in self.old) parts (engine_in self.new)) }
@@ -103,8 +113,8 @@ impl State {
         }
     }
 
-    /// The turn of a number is out no more. The slot of its operator gets what that may take next,
-    /// and then the one above does, if the turn fed it.
+    /// Ends the turn with this number. The slot of its operator gets what that may take next. Then
+    /// so does the slot above, if the turn fed it.
     pub(crate) fn end_turn(&mut self, number: u64, slot: Slot, above: Option<Slot>)
         requires { MayTellBoth self.old slot above }
         ensures ended { HasEnded (engine_in self.old) number slot above (engine_in self.new) }
@@ -115,8 +125,8 @@ impl State {
         self.update_slots(&slot, next, &above);
     }
 
-    /// Breaks the query: its turns end, its slots and windows leave, and what waits can be taken
-    /// still. Takes no memory.
+    /// Breaks the query: its turns end, its slots and windows leave, and its waiting answers can
+    /// still be taken. Takes no memory.
     pub(crate) fn break_query(&mut self, query: u64)
         requires { IsRunningAt (engine_in self.old) query }
         ensures engine { IsBroken (engine_in self.old) query (engine_in self.new) }
@@ -127,7 +137,7 @@ impl State {
     }
 }
 
-/// Whether this turn is the one that was run.
+/// Returns whether this turn is the one that was run.
 fn is_turn(turn: &Turn, parts: &Parts) -> bool
     ensures { IsTrue result ↔ IsTurn turn.now parts.now }
 {
@@ -140,7 +150,10 @@ fn is_turn(turn: &Turn, parts: &Parts) -> bool
     turn.near.near().is_same(parts.near.near())
 }
 
-/// The running query takes the turn. After an error only its answers are as they were.
+/// Passes the turn to the running query.
+///
+/// # Errors
+/// `AllocError` when out of memory; then only the query's answers are as they were.
 fn take_turn(remains: &mut Remains, streams: &Streams, parts: Parts) -> Result<(), AllocError>
     requires { (p : PlainQuery) × ((remains_of remains.old ≡ Running p)
         × MayApply streams.now p parts) }

@@ -1,4 +1,4 @@
-//! Rows that no query needs any longer are given up.
+//! Gives up the rows that no query needs any longer.
 ghost use Rattle.std.specs.Prelude.{◌≡◌, ◌⊎◌, ◌++◌, ◌+◌, ◌≤◌, IfOk, OnErr, OnOk, Some, length};
 ghost use Rattle.std.specs.Prelude.{ℕ, Bool, map, max, slice_get};
 ghost use Rattle.std.specs.List.{range_with_len};
@@ -31,34 +31,38 @@ use std::ops::Deref;
 use stream_store::{Log, Start, Streams};
 use values::{Value, Window};
 
-/// How many more rows are stored than twice those that the last forgetting left, before a script's
-/// drain forgets again.
+/// Limits how many rows are stored, beyond twice those that the last forgetting left, before a
+/// script's drain forgets again.
 const ROWS_BEFORE_TIDY: u64 = 1_024;
 
-/// What stays of a stream.
+/// Says what stays of a stream.
 #[derive(Drop)]
 pub(crate) struct KeptRows {
-    /// For each closed row whether it stays.
+    /// Says for each closed row whether it stays.
     pub(crate) marks: Vec<bool>,
-    /// Where the sources of queries begin: the open rows stay that one of them has in its input.
+    /// Says where the sources of queries start. An open row stays if one of them has it in its
+    /// input.
     pub(crate) starts: Vec<Start>,
 }
 
-/// A query that runs, and the instant after its mark.
+/// Is a query that runs, with the instant after its mark.
 #[derive(Clone, Copy)]
 struct Going<'a> {
-    /// The query as it was registered.
+    /// Holds the query as it was registered.
     query: &'a Registration,
-    /// The instant after the last tick that its root took, or its first one.
+    /// Holds the instant after the last tick that its root took, or its first instant.
     next: u64,
 }
 
 impl State {
-    /// Gives up the rows that no query needs; each query goes on from the instant after its mark,
-    /// behind the answers that wait. On Err all is as it was.
+    /// Gives up the rows that no query needs. Each query goes on from the instant after its mark;
+    /// what it answers then follows the waiting answers.
     ///
-    /// It costs the rows that are held times the windows over their streams, the answers that wait,
-    /// and the queries that were registered.
+    /// It costs the rows that are held times the windows over their streams, plus the waiting
+    /// answers, plus the queries that were registered.
+    ///
+    /// # Errors
+    /// `AllocError` when out of memory; then nothing has changed.
     pub(crate) fn forget(&mut self) -> Result<(), AllocError>
         requires { IsSound self.old }
         ensures ok { OnOk result (engine_in self.new ≡ forgotten (engine_in self.old)) }
@@ -73,10 +77,10 @@ impl State {
         Ok(())
     }
 
-    /// Forgets where more rows are stored than twice those that the last time left, and 1,024. The
-    /// copies of answers that wait and the registered queries count too, so that what all
-    /// forgettings cost together is in proportion to what came and was given. Where memory is
-    /// refused, the next time is put off as if all had stayed.
+    /// Forgets if more is stored than twice what the last time left, and 1,024 rows. Copies of
+    /// waiting answers and registered queries count too. So the cost of all forgettings together is
+    /// in proportion to what came and was given. If it runs out of memory, it puts the next time
+    /// off as if all had stayed.
     pub(crate) fn tidy(&mut self)
         requires { IsSound self.old }
         ensures forgotten { (engine_in self.new ≡ engine_in self.old)
@@ -89,7 +93,7 @@ impl State {
         }
     }
 
-    /// Counts the rows that came to the stream of a number since so many had come.
+    /// Counts the rows that came to the stream with this number since `before` had come.
     pub(crate) fn count_stored(&mut self, stream: u64, before: u64)
         ensures { self.new ≡ record self.old { stored = self.new.stored } }
     {
@@ -114,7 +118,10 @@ impl State {
         self.left = left;
     }
 
-    /// What stays of each stream, by number. An error says that memory was refused.
+    /// Says what stays of each stream, by number.
+    ///
+    /// # Errors
+    /// `AllocError` when out of memory.
     pub(crate) fn kept_rows(&self) -> Result<Vec<KeptRows>, AllocError>
         requires { IsSound self.now }
         ensures { IfOk result (λ v.
@@ -129,7 +136,7 @@ impl State {
     }
 }
 
-/// The instant after the mark of a query that runs.
+/// Returns the instant after the query's mark, or `None` if it does not run.
 fn next_of(query: &Registration, remains: &Remains) -> Option<u64>
     requires { IsMarkable (query_of query.now) (remains_of remains.now) }
     ensures { result ≡ mark_in (query_of query.now) (remains_of remains.now) }
@@ -141,7 +148,7 @@ fn next_of(query: &Registration, remains: &Remains) -> Option<u64>
     }
 }
 
-/// The instant after a tick, or the first one where there was none.
+/// Returns the instant after the last tick, or the first instant if there was none.
 fn next_behind(first: u64, last: Option<u64>) -> u64
     requires { (at : ℕ) → last ≡ Some at → at + 1 ≤ max first all_instants }
     ensures { result ≡ behind first last }
@@ -152,7 +159,7 @@ fn next_behind(first: u64, last: Option<u64>) -> u64
     }
 }
 
-/// The queries that run, each with the instant after its mark.
+/// Lists the queries that run, each with the instant after its mark.
 fn going_of<'a>(
     alloc: Global,
     registered: &'a [Registration],
@@ -170,7 +177,7 @@ fn going_of<'a>(
     Ok(going)
 }
 
-/// What stays of the stream of a number.
+/// Says what stays of the stream with this number.
 fn kept_of(
     alloc: Global,
     streams: &Streams,
@@ -194,7 +201,7 @@ fn kept_of(
     Ok(KeptRows { marks, starts })
 }
 
-/// For each closed row whether a reader needs it.
+/// Says for each closed row whether a reader needs it.
 fn marks_of(alloc: Global, log: &Log, readers: &[Reader]) -> Result<Vec<bool>, AllocError>
     requires { IsReadLog log.now }
     ensures { IfOk result (λ v. v.items
@@ -209,7 +216,7 @@ fn marks_of(alloc: Global, log: &Log, readers: &[Reader]) -> Result<Vec<bool>, A
     needed(alloc, &rows, readers)
 }
 
-/// The columns of a log.
+/// Returns the columns of a log.
 fn columns_of(alloc: Global, log: &Log) -> Result<Vec<&[Value]>, AllocError>
     ensures { IfOk result (λ v. lists v.items
         ≡ map (λ k. map (λ e. value_at e.row k) log.now.elements)
@@ -222,8 +229,8 @@ fn columns_of(alloc: Global, log: &Log) -> Result<Vec<&[Value]>, AllocError>
     Ok(columns)
 }
 
-/// The sources of the queries over a stream, by the queries' numbers and then in the order of the
-/// text.
+/// Lists the sources that queries have over a stream, by the queries' numbers and then in the order
+/// of the text.
 fn readers_over<'a>(
     alloc: Global,
     stream: u64,
@@ -238,14 +245,14 @@ fn readers_over<'a>(
     Ok(readers)
 }
 
-/// The windows of a query.
+/// Returns the windows of a query.
 fn windows_of(query: &Registration) -> &[Window]
     ensures { result.now ≡ (arc_value query.now.plan).meaning.windows.items }
 {
     &query.plan.deref().meaning.windows
 }
 
-/// The sources of a query over a stream, behind the others.
+/// Appends the sources that a query has over a stream.
 fn push_readers<'a>(
     readers: &mut Vec<Reader<'a>>,
     stream: u64,
@@ -270,7 +277,7 @@ fn push_readers<'a>(
     Ok(())
 }
 
-/// Where the sources begin.
+/// Says where the sources start.
 fn starts_of(alloc: Global, readers: &[Reader]) -> Result<Vec<Start>, AllocError>
     ensures { IfOk result (λ v. v.items ≡ map start_of (readers_in readers.now)) }
 {
@@ -284,7 +291,7 @@ fn starts_of(alloc: Global, readers: &[Reader]) -> Result<Vec<Start>, AllocError
     Ok(starts)
 }
 
-/// Of each stream the rows stay that are kept. Takes no memory.
+/// Keeps in each stream only the rows that stay. Takes no memory.
 fn keep_rows(streams: &mut Streams, kept: &[KeptRows])
     requires { IsSaid kept.now streams.old }
     ensures { (keep : ℕ → Element → Bool) → Says keep kept.now streams.old
@@ -295,7 +302,7 @@ fn keep_rows(streams: &mut Streams, kept: &[KeptRows])
     }
 }
 
-/// By the queries' numbers, copies of the answers that wait.
+/// Copies the waiting answers, by the queries' numbers.
 pub(crate) fn waiting_of(
     alloc: Global,
     remains: &[Remains],
@@ -309,8 +316,8 @@ pub(crate) fn waiting_of(
     Ok(waiting)
 }
 
-/// Each query goes on from the instant after its mark, behind the answers that wait. Takes no
-/// memory.
+/// Makes each query go on from the instant after its mark; what it answers then follows the waiting
+/// answers. Takes no memory.
 pub(crate) fn restart(
     registered: &mut [Registration],
     remains: &[Remains],
@@ -327,8 +334,8 @@ pub(crate) fn restart(
     }
 }
 
-/// The query goes on from the instant after its mark, or behind all instants if it has none, behind
-/// the answers that wait.
+/// Makes the query go on from the instant after its mark, or after all instants if it has none.
+/// What it answers then follows the waiting answers.
 fn restart_one(query: &mut Registration, next: Option<u64>, earlier: WaitingAnswers)
     ensures { query_of query.new ≡ restart (query_of query.old) next earlier }
 {

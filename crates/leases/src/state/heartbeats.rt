@@ -1,4 +1,4 @@
-//! Heartbeats: what is closed is told to the windows that wait for it.
+//! Handles heartbeats: windows that had nothing to take get what is closed.
 ghost use Rattle.std.specs.Prelude.{◌≡◌, ◌<◌, ◌++◌, IfOk, OnErr, OnOk, length, slice_get};
 ghost use Rattle.std.specs.List.{AllByRecursion};
 ghost use Rattle.reference.specs.World.{Does, heartbeat_step};
@@ -26,8 +26,8 @@ use stream_store::Streams;
 impl State {
     /// Closes all instants of the stream up to `at`.
     ///
-    /// It costs the rows, a look at each window of the queries that run, and a change of the slots
-    /// of those over the stream that had nothing to take.
+    /// It costs the closed rows, and a look at each window of the running queries. It also changes
+    /// the slots of the windows over the stream that had nothing to take.
     pub(crate) fn heartbeat(&mut self, stream: u64, at: i64) -> Result<(), Fault>
         requires { IsSound self.old }
         ensures does { Does (λ u. u) (world_in self.old)
@@ -48,7 +48,7 @@ impl State {
         Ok(())
     }
 
-    /// Lists the slots of the readers of the stream that have nothing to take.
+    /// Lists the slots of the stream's readers that have nothing to take.
     fn idle_readers(&self, stream: u64) -> Result<Vec<Slot>, AllocError>
         requires { GoodEngine (engine_in self.now) }
         ensures { IfOk result (λ slots. slots.items
@@ -63,7 +63,7 @@ impl State {
         Ok(slots)
     }
 
-    /// Adds the reader's slot behind the others, if it has nothing to take.
+    /// Appends the reader's slot, if it has nothing to take.
     fn push_if_idle(&self, reader: &Reader, slots: &mut Vec<Slot>) -> Result<(), AllocError>
         requires { GoodEngine (engine_in self.now) }
         ensures { OnOk result (slots.new.items
@@ -77,7 +77,7 @@ impl State {
         Ok(())
     }
 
-    /// Tells whether an operator is one of a query that runs, and has nothing to take.
+    /// Returns whether the operator belongs to a running query and has nothing to take.
     fn is_idle(&self, query: u64, operator: usize) -> bool
         requires { GoodEngine (engine_in self.now) }
         ensures { result ≡ is_idle_at (engine_in self.now) query operator }
@@ -100,9 +100,9 @@ impl State {
         }
     }
 
-    /// Gives the slot what its operator may take next, or nothing. It asks nothing of the slot:
-    /// where that is not among the others, nothing changes. `update_standing_slot` is for one that
-    /// is known to stand there as it is.
+    /// Gives the slot what its operator may take next, or nothing. It assumes nothing of the slot:
+    /// if that is not in the queue, nothing changes. `update_standing_slot` is for a slot that is
+    /// known to be in the queue as it is given.
     fn change_slot(&mut self, slot: &Slot)
         requires { HasOperatorAt (engine_in self.old) slot.now.query slot.now.operator }
         ensures { self.new
@@ -113,7 +113,7 @@ impl State {
     }
 }
 
-/// Tells whether an operator is one of a query that runs, and has nothing to take.
+/// Returns whether the operator belongs to a running query and has nothing to take.
 fn is_idle_in(streams: &Streams, operator: usize, remains: &Remains) -> bool
     requires { (p : PlainQuery) → remains_of remains.now ≡ Running p → operator < length p.operators
         → HasOperator streams.now p operator }

@@ -1,4 +1,4 @@
-//! Turns that go out.
+//! Hands out turns.
 ghost use Rattle.std.specs.Prelude.{◌≡◌, ◌<◌, IfOk, OnErr, Some, length};
 ghost use Rattle.run_queue.specs.Slots.{first_of};
 ghost use Rattle.leases.specs.Leasing.{IsTurnOn, MayLeaseOn};
@@ -31,8 +31,11 @@ impl State {
         }
     }
 
-    /// The slot of which the next turn is, if any operator may take something; `TooManyLeases`
-    /// where one may, and as many turns are out as may be, or all numbers were given.
+    /// Returns the slot of the next turn, if any operator may take something.
+    ///
+    /// # Errors
+    /// `TooManyLeases` if an operator may take something, and as many turns are out as may be or
+    /// all numbers were given.
     pub(crate) fn next_slot(&self) -> Result<Option<Slot>, Fault>
         ensures { IsNext (engine_in self.now) result }
     {
@@ -46,6 +49,9 @@ impl State {
     }
 
     /// Hands out a turn of the first slot.
+    ///
+    /// # Errors
+    /// `AllocError` when out of memory; then nothing has changed.
     fn give_out(&mut self, slot: &Slot, rows: usize) -> Result<Turn, AllocError>
         requires sound { IsSound self.old }
         requires first { first_of self.old.slots ≡ Some slot.now }
@@ -67,7 +73,7 @@ impl State {
         Ok(turn)
     }
 
-    /// A turn of the slot's operator on the slot's side, with the next number.
+    /// Makes a turn of the slot's operator on the slot's side, with the next number.
     pub(crate) fn turn(&self, slot: &Slot, rows: usize) -> Result<Turn, AllocError>
         requires { MayLeaseOn (engine_in self.now) slot.now rows }
         ensures { IfOk result (IsTurnOn (engine_in self.now) slot.now rows) }

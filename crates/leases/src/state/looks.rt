@@ -1,4 +1,4 @@
-//! An engine's state before any call, and what its calls look up.
+//! Makes the state of an empty engine, and looks up what calls need.
 ghost use Rattle.std.specs.Prelude.{◌≡◌, ◌<◌, IfSome, Some, length, slice_get};
 ghost use Rattle.std.specs.Option.{option_map};
 ghost use Rattle.reference.specs.Commands.{Drop, first_fault};
@@ -28,7 +28,7 @@ impl State {
     ghost use Rattle.leases.specs.Sound.{IsSound};
     ghost use Rattle.leases.specs.Views.{empty_engine};
 
-    /// No stream and no query.
+    /// Makes a state with no stream and no query.
     pub(crate) fn new(alloc: Global) -> State
         ensures empty { engine_in result ≡ empty_engine }
         ensures sound { IsSound result }
@@ -48,7 +48,8 @@ impl State {
         }
     }
 
-    /// The first test that a call fails which asks for a query that was not dropped.
+    /// Returns the first fault of a call that needs a query that was not dropped: `UnknownQuery`,
+    /// or `None` if there is such a query.
     pub(crate) fn query_fault(&self, query: u64) -> Option<Fault>
         ensures first { result ≡ first_fault (engine_in self.now).machine (Drop query) }
         ensures told { IfSome result IsTold }
@@ -59,7 +60,7 @@ impl State {
         }
     }
 
-    /// The query of a number that was not dropped.
+    /// Returns the query with this number, if it was not dropped.
     pub(crate) fn query_at(&self, query: u64) -> Option<&Registration>
         ensures { option_map (λ q. query_of q.now) result
             ≡ machine.query_at (engine_in self.now).machine query }
@@ -70,7 +71,7 @@ impl State {
         }
     }
 
-    /// The running query of a number.
+    /// Returns the running query with this number.
     pub(crate) fn running(&self, query: u64) -> &RunningQuery
         requires { IsRunningAt (engine_in self.now) query }
         ensures { remains_at (engine_in self.now) query ≡ Running result.now }
@@ -81,15 +82,15 @@ impl State {
         }
     }
 
-    /// Whether a turn of the operator is out.
+    /// Returns whether a turn of the operator is out.
     pub(crate) fn is_leased(&self, query: u64, operator: usize) -> bool
         ensures { result ≡ is_leased (engine_in self.now) query operator }
     {
         self.leases.iter().any(|turn| turn.node.query == query && turn.node.operator == operator)
     }
 
-    /// The side and the instant of what the operator may take next, if it may take anything and no
-    /// turn of it is out.
+    /// Returns the side and the instant of what the operator may take next. There is none if it may
+    /// take nothing or a turn of it is out.
     #[inline(always)]
     pub(crate) fn next_for(&self, query: u64, operator: usize) -> Option<(Side, u64)>
         requires { HasOperatorAt (engine_in self.now) query operator }
@@ -103,7 +104,7 @@ impl State {
         self.running(query).ready(&self.streams, operator)
     }
 
-    /// The slot of the operator.
+    /// Returns the slot of the operator.
     pub(crate) fn slot(&self, query: u64, operator: usize) -> Slot
         requires { HasOperatorAt (engine_in self.now) query operator }
         ensures { (q : Registered) (p : PlainQuery) → query_at (engine_in self.now) query ≡ Some q
@@ -115,7 +116,7 @@ impl State {
     }
 }
 
-/// The slope of an operator of a registered query.
+/// Returns the slope of an operator of a registered query.
 fn slope_of(query: &Registration, operator: usize) -> Slope
     requires { operator < length (query_of query.now).nodes }
     ensures { result ≡ slope_at (query_of query.now) operator }

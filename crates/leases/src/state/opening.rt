@@ -1,4 +1,4 @@
-//! Copies of what a forgetting leaves.
+//! Copies what a forgetting leaves.
 ghost use Rattle.std.specs.Prelude.{◌≡◌, ℕ, Bool, IfOk, length, map};
 ghost use Rattle.values.specs.Window.{Element};
 ghost use Rattle.reference.specs.Opening.{with_kept};
@@ -21,9 +21,11 @@ use std::sync::Arc;
 use stream_store::{Stored, Streams};
 
 impl State {
-    /// Copies what `forget` would leave of streams and queries, at the cost of the rows that are
-    /// held times the windows over their streams, of the answers that wait, and of the queries. An
-    /// error says that memory was refused.
+    /// Copies what `forget` would leave of streams and queries. It costs the rows that are held
+    /// times the windows over their streams, plus the waiting answers, plus the queries.
+    ///
+    /// # Errors
+    /// `AllocError` when out of memory.
     pub(crate) fn opening(&self) -> Result<Opening, AllocError>
         requires { IsSound self.now }
         ensures { IfOk result (λ o. opening_in o ≡ (forgotten (engine_in self.now)).machine) }
@@ -36,7 +38,7 @@ impl State {
     }
 }
 
-/// Copies of the streams, by number, with the rows that are kept.
+/// Copies the streams, by number, with the rows that are kept.
 fn copies_of(alloc: Global, streams: &Streams, kept: &[KeptRows]) -> Result<Vec<Stored>, AllocError>
     requires { IsSaid kept.now streams.now }
     ensures { IfOk result (λ v. (keep : ℕ → Element → Bool) → Says keep kept.now streams.now
@@ -49,8 +51,8 @@ fn copies_of(alloc: Global, streams: &Streams, kept: &[KeptRows]) -> Result<Vec<
     Ok(copies)
 }
 
-/// Copies of the queries, each going on from the instant after its mark, behind the answers that
-/// wait.
+/// Copies the queries. Each goes on from the instant after its mark; what it answers then follows
+/// the waiting answers.
 fn restarted_copies(
     alloc: Global,
     registered: &[Registration],
@@ -67,7 +69,7 @@ fn restarted_copies(
     Ok(copies)
 }
 
-/// Copies of the queries without their earlier answers.
+/// Copies the queries without their earlier answers.
 fn bare_copies(alloc: Global, registered: &[Registration]) -> Result<Vec<Registration>, AllocError>
     ensures { IfOk result (λ v.
         map query_of v.items ≡ map without_earlier (map query_of registered.now)) }
@@ -79,7 +81,7 @@ fn bare_copies(alloc: Global, registered: &[Registration]) -> Result<Vec<Registr
     Ok(copies)
 }
 
-/// A copy of the query without its earlier answers.
+/// Copies the query without its earlier answers.
 fn bare_copy(alloc: Global, query: &Registration) -> Result<Registration, AllocError>
     ensures { IfOk result (λ copy. query_of copy ≡ without_earlier (query_of query.now)) }
 {
@@ -99,6 +101,7 @@ fn bare_copy(alloc: Global, query: &Registration) -> Result<Registration, AllocE
     })
 }
 
+/// Copies the slopes.
 fn copied_slopes(alloc: Global, slopes: &[Slope]) -> Result<Vec<Slope>, AllocError>
     ensures { IfOk result (λ v. v.items ≡ slopes.now) }
 {
@@ -107,6 +110,7 @@ fn copied_slopes(alloc: Global, slopes: &[Slope]) -> Result<Vec<Slope>, AllocErr
     Ok(copy)
 }
 
+/// Copies the sources.
 fn copied_places(alloc: Global, places: &[Place]) -> Result<Vec<Place>, AllocError>
     ensures { IfOk result (λ v. v.items ≡ places.now) }
 {

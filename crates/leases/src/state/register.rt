@@ -1,4 +1,4 @@
-//! Queries that are registered.
+//! Registers queries.
 ghost use Rattle.std.specs.Prelude.{◌≡◌, ◌<◌, ◌≤◌, ◌+◌, ◌++◌, ℕ, false, [], IfOk};
 ghost use Rattle.std.specs.Prelude.{IfSome, None, OnErr, OnOk, length, map};
 ghost use Rattle.std.specs.Option.{option_copied};
@@ -41,7 +41,7 @@ use std::sync::Arc;
 use stream_store::Streams;
 
 impl State {
-    /// Registers a query and answers its number.
+    /// Registers a query and returns its number.
     pub(crate) fn query(
         &mut self,
         name: &str,
@@ -70,7 +70,7 @@ impl State {
         }
     }
 
-    /// The first test before that of the text.
+    /// Returns the fault of the first test that fails, among those before the test of the text.
     fn register_fault(&self, name: &str) -> Option<Fault>
         requires { IsSound self.now }
         ensures first { result ≡ first_of (register_tests (engine_in self.now).machine name.now) }
@@ -82,7 +82,7 @@ impl State {
         register_fault(name, is_taken, undropped, self.registered.len())
     }
 
-    /// The plan of the text over the declared streams.
+    /// Finds the plan of the text over the declared streams.
     fn find(&self, text: &str, chart: Option<&Chart>) -> Result<Plan, Fault>
         ensures finds { Finds
             (found (engine_in self.now).machine text.now (given_by (option_copied chart.entry)))
@@ -95,7 +95,10 @@ impl State {
         find_plan(self.alloc, &catalog, text, chart)
     }
 
-    /// Adds the query of the plan and answers its number. On Err all is as it was.
+    /// Adds the query of the plan and returns its number.
+    ///
+    /// # Errors
+    /// `AllocError` when out of memory; then nothing has changed.
     fn register(&mut self, name: &str, plan: Plan) -> Result<u64, AllocError>
         requires sound { IsSound self.old }
         requires fresh { first_of (register_tests (engine_in self.old).machine name.now) ≡ None }
@@ -125,7 +128,7 @@ impl State {
         self.add(name, told, running)
     }
 
-    /// The number of the next query.
+    /// Returns the number of the next query.
     #[tactic(auto, using(crate::proofs::AddLemmas::many_told))]
     fn next_query(&self) -> u64
         ensures { result ≡ length (engine_in self.now).machine.queries }
@@ -133,7 +136,10 @@ impl State {
         self.registered.len() as u64
     }
 
-    /// Adds a query that runs and answers its number. On Err all is as it was.
+    /// Adds a query that runs and returns its number.
+    ///
+    /// # Errors
+    /// `AllocError` when out of memory; then nothing has changed.
     fn add(
         &mut self,
         name: &str,
@@ -174,7 +180,8 @@ impl State {
     }
 }
 
-/// The first instant of a query that is registered now over the streams of these numbers.
+/// Returns the first instant of a query that is being registered over the streams with these
+/// numbers.
 fn first_for(alloc: Global, streams: &Streams, numbers: &[usize]) -> Result<u64, AllocError>
     ensures { IfOk result (λ n. n
         ≡ first_for streams.now (map (place_at (machine_of streams.now)) numbers.now)) }
@@ -186,7 +193,7 @@ fn first_for(alloc: Global, streams: &Streams, numbers: &[usize]) -> Result<u64,
     Ok(first_instant(&opens))
 }
 
-/// The sources that are registered now.
+/// Makes the sources of a query that is being registered over the streams with these numbers.
 fn places_of(alloc: Global, streams: &Streams, numbers: &[usize]) -> Result<Vec<Place>, AllocError>
     ensures { IfOk result (λ v. map place_of v.items
         ≡ map (place_at (machine_of streams.now)) numbers.now) }
@@ -202,7 +209,7 @@ fn places_of(alloc: Global, streams: &Streams, numbers: &[usize]) -> Result<Vec<
     Ok(places)
 }
 
-/// The numbers of the sources' streams.
+/// Returns the numbers of the sources' streams.
 fn numbers_of(alloc: Global, places: &[Place]) -> Result<Vec<u64>, AllocError>
     ensures { IfOk result (λ v. v.items ≡ map (λ p. (place_of p).stream) places.now) }
 {
@@ -213,7 +220,7 @@ fn numbers_of(alloc: Global, places: &[Place]) -> Result<Vec<u64>, AllocError>
     Ok(numbers)
 }
 
-/// How long the sources' streams are.
+/// Returns how many rows had come to each source's stream.
 fn lengths_of(alloc: Global, places: &[Place]) -> Result<Vec<u64>, AllocError>
     ensures { IfOk result (λ v. v.items ≡ map (λ p. (place_of p).arrivals) places.now) }
 {
@@ -224,7 +231,7 @@ fn lengths_of(alloc: Global, places: &[Place]) -> Result<Vec<u64>, AllocError>
     Ok(lengths)
 }
 
-/// The query of the plan before anything has come.
+/// Makes the query of the plan as it is before anything has come.
 fn running_of(
     alloc: Global,
     plan: &Plan,
@@ -242,7 +249,7 @@ fn running_of(
     RunningQuery::new(alloc, plan, &numbers, &lengths, first)
 }
 
-/// The query of the plan as it was told.
+/// Makes the registration of the plan's query.
 fn registration(
     alloc: Global,
     name: &str,
@@ -281,7 +288,10 @@ fn registration(
     })
 }
 
-/// The slots of a new query come to theirs. On Err none of it is among them.
+/// Adds the slots of a new query.
+///
+/// # Errors
+/// `AllocError` when out of memory; then none of them is in the queue.
 fn put_slots(
     slots: &mut RunQueue,
     streams: &Streams,
@@ -304,7 +314,7 @@ fn put_slots(
     Ok(())
 }
 
-/// The slot of an operator of a new query.
+/// Makes the slot of an operator of a new query.
 fn new_slot(
     streams: &Streams,
     running: &RunningQuery,
@@ -320,7 +330,7 @@ fn new_slot(
     Slot::new(slopes[operator], next, number, operator)
 }
 
-/// The windows of a new query are listed as readers behind the others. There is room for them.
+/// Appends the windows of a new query to the readers. There is room for them.
 fn put_readers(readers: &mut Vec<Reader>, query: &Registration, number: u64)
     requires room { vec_len readers.old + length (query_of query.now).nodes
         ≤ vec_capacity readers.old }
@@ -337,7 +347,7 @@ fn put_readers(readers: &mut Vec<Reader>, query: &Registration, number: u64)
     }
 }
 
-/// The operator of a query of this number as a reader, if it is a window.
+/// Makes a reader of the operator of the query with this number, if it is a window.
 fn reader_of(query: &Registration, number: u64, operator: usize) -> Option<Reader>
     requires within { operator < length (query_of query.now).nodes }
     requires source { HasSource (query_of query.now) (node_at (query_of query.now) operator) }

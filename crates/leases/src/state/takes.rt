@@ -1,4 +1,4 @@
-//! Answers that are handed out, and what clients look at.
+//! Hands out answers, and shows what waits.
 ghost use Rattle.std.specs.Prelude.{ℕ, ◌≡◌, ◌+◌, ◌++◌, ◌<◌, ◌^◌, IfOk, IfSome, None, OnOk, Some};
 ghost use Rattle.std.specs.Prelude.{length, pos, true};
 ghost use Rattle.plan.specs.Views.{node_of, nodes_of};
@@ -29,7 +29,7 @@ use stream_store::Streams;
 use values::Row;
 
 impl State {
-    /// Hands out the first answers that wait.
+    /// Hands out the first answers that wait, at most `limit`.
     pub(crate) fn take(&mut self, query: u64, limit: i64) -> Result<Vec<(i64, Row)>, Fault>
         requires { IsSound self.old }
         ensures takes { Takes (λ v. handed_of v.items) (engine_in self.old) query limit result
@@ -42,7 +42,7 @@ impl State {
         self.take_out(query, limit as usize)
     }
 
-    /// Hands out the first answers that wait of a query that is there, at most `limit`.
+    /// Hands out the first waiting answers of a query that is there, at most `limit`.
     fn take_out(&mut self, query: u64, limit: usize) -> Result<Vec<(i64, Row)>, Fault>
         requires sound { IsSound self.old }
         requires accepted { first_fault (engine_in self.old).machine (Take query (pos limit))
@@ -56,7 +56,7 @@ impl State {
         Ok(rows)
     }
 
-    /// The first test that a take fails, but for that of a broken query.
+    /// Returns the fault of the first test that a take fails, except the test for a broken query.
     fn take_fault(&self, query: u64, limit: i64) -> Option<Fault>
         ensures first { result ≡ first_fault (engine_in self.now).machine (Take query limit) }
         ensures told { IfSome result IsTold }
@@ -67,7 +67,7 @@ impl State {
         take_fault(limit)
     }
 
-    /// How many answers of a query wait.
+    /// Returns how many answers of a query wait.
     pub(crate) fn waiting(&self, query: u64) -> Result<usize, Fault>
         requires { IsSound self.now }
         ensures { WaitsAt (engine_in self.now) query result }
@@ -78,7 +78,7 @@ impl State {
         }
     }
 
-    /// How many answers wait at the number of a query; none do where there is no query.
+    /// Returns how many answers wait for this query's number: none if there is no such query.
     fn answers_waiting(&self, query: u64) -> usize
         ensures { result ≡ length (answers_in (remains_at (engine_in self.now) query)) }
     {
@@ -88,7 +88,7 @@ impl State {
         }
     }
 
-    /// How much waits in each queue of a query.
+    /// Returns how much waits in each queue of a query.
     pub(crate) fn pending(&self, query: u64) -> Result<Vec<u128>, Fault>
         requires { IsSound self.now }
         ensures { IsPending (λ v. v.items) (engine_in self.now) query result }
@@ -99,8 +99,8 @@ impl State {
         }
     }
 
-    /// How much waits in each queue of a query that is there; in those of a broken one nothing
-    /// does.
+    /// Returns how much waits in each queue of a query that is there. Nothing waits in those of a
+    /// broken one.
     fn lengths(&self, query: u64) -> Result<Vec<u128>, AllocError>
         requires sound { IsSound self.now }
         requires accepted { first_fault (engine_in self.now).machine (Drop query) ≡ None }
@@ -122,7 +122,7 @@ impl State {
         }
     }
 
-    /// What each operator of a query does, and its slope.
+    /// Returns what each operator of a query does, and its slope.
     #[tactic(auto, unfolding(reference::specs::World::slopes_at))]
     pub(crate) fn slopes(&self, query: u64) -> Result<Vec<(Kind, Slope)>, Fault>
         ensures { Looks (λ v. v.items) (slopes_at (world_in self.now) query) result }
@@ -134,8 +134,10 @@ impl State {
     }
 }
 
-/// The first answers that wait, at most `limit`; of a broken query of which nothing waits that is
-/// said.
+/// Hands out the first answers that wait, at most `limit`.
+///
+/// # Errors
+/// `Broken` if the query is broken and none of its answers waits; `OutOfMemory` when out of memory.
 fn hand_out(alloc: Global, remains: &mut Remains, limit: usize) -> Result<Vec<(i64, Row)>, Fault>
     requires { are_signed (answers_in (remains_of remains.old)) ≡ true }
     ensures { HandsOut (λ v. handed_of v.items) (remains_of remains.old) limit result
@@ -153,7 +155,7 @@ fn hand_out(alloc: Global, remains: &mut Remains, limit: usize) -> Result<Vec<(i
     }
 }
 
-/// So many more of its answers were taken.
+/// Counts `count` more of its answers as taken.
 fn count_taken(registered: &mut Registration, count: usize)
     requires { registered.old.taken + count < 2 ^ 101 }
     ensures { query_of registered.new ≡ took count (query_of registered.old) }
@@ -161,7 +163,7 @@ fn count_taken(registered: &mut Registration, count: usize)
     registered.taken += count as u128;
 }
 
-/// What each operator of a query does, beside its slope.
+/// Returns what each operator of a query does, with its slope.
 #[tactic(auto, unfolding(reference::specs::World::operators_of))]
 fn operators(alloc: Global, query: &Registration) -> Result<Vec<(Kind, Slope)>, AllocError>
     ensures { IfOk result (λ v. v.items ≡ operators_of (query_of query.now)) }
@@ -169,7 +171,7 @@ fn operators(alloc: Global, query: &Registration) -> Result<Vec<(Kind, Slope)>, 
     paired(alloc, query.nodes(), &query.slopes)
 }
 
-/// How much waits in each queue of the operators of a running query.
+/// Returns how much waits in each queue of the operators of a running query.
 fn queues(
     alloc: Global,
     streams: &Streams,
@@ -188,7 +190,7 @@ fn queues(
     Ok(lengths)
 }
 
-/// A nought for each queue of the operators of a broken query.
+/// Returns a zero for each queue of the operators of a broken query.
 fn empty_queues(alloc: Global, nodes: &[Node]) -> Result<Vec<u128>, AllocError>
     ensures { IfOk result (λ v. v.items ≡ noughts_of (nodes_of nodes.now)) }
 {
@@ -199,7 +201,7 @@ fn empty_queues(alloc: Global, nodes: &[Node]) -> Result<Vec<u128>, AllocError>
     Ok(lengths)
 }
 
-/// The lengths of an operator's queues behind the others: a join has two.
+/// Appends the lengths of an operator's queues: a join has two.
 fn push_queues(
     lengths: &mut Vec<u128>,
     node: &Node,

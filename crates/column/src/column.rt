@@ -38,7 +38,6 @@ impl Column {
     /// Makes a column of no values, with room for `count`.
     ///
     /// # Errors
-    ///
     /// `AllocError` when out of memory.
     pub fn with_capacity(alloc: Global, count: usize) -> Result<Column, AllocError>
         ensures { IfOk result (λ c. c ≡ []) }
@@ -61,7 +60,6 @@ impl Column {
     /// Makes a column of these values.
     ///
     /// # Errors
-    ///
     /// `AllocError` when out of memory; then nothing has changed.
     pub fn from_values(alloc: Global, values: &[Value]) -> Result<Column, AllocError>
         requires { length values.now ≤ MAX_ROWS }
@@ -75,7 +73,6 @@ impl Column {
     /// them.
     ///
     /// # Errors
-    ///
     /// `AllocError` when out of memory.
     pub fn strided(
         alloc: Global,
@@ -104,7 +101,6 @@ impl Column {
     /// Appends a value.
     ///
     /// # Errors
-    ///
     /// `AllocError` when out of memory; then nothing has changed.
     pub fn push(&mut self, value: Value) -> Result<(), AllocError>
         requires { length self.old < MAX_ROWS }
@@ -148,7 +144,6 @@ impl Column {
     /// Copies the values from the place `from` to below the place `to`, as far as there are any.
     ///
     /// # Errors
-    ///
     /// `AllocError` when out of memory; then nothing has changed.
     pub fn part(&self, alloc: Global, from: usize, to: usize) -> Result<Column, AllocError>
         ensures { IfOk result (λ c. c ≡ slice_range self.now from to) }
@@ -163,7 +158,6 @@ impl Column {
     /// Copies the values at these places, in their order.
     ///
     /// # Errors
-    ///
     /// `AllocError` when out of memory; then nothing has changed.
     pub fn picked(&self, alloc: Global, places: &[usize]) -> Result<Column, AllocError>
         requires few { length places.now ≤ MAX_ROWS }

@@ -46,7 +46,6 @@ impl Mask {
     /// Makes a mask of no truths, with room for `count`.
     ///
     /// # Errors
-    ///
     /// `AllocError` when out of memory.
     pub fn with_capacity(alloc: Global, count: usize) -> Result<Mask, AllocError>
         ensures { IfOk result (λ m. m ≡ []) }
@@ -58,7 +57,6 @@ impl Mask {
     /// Makes a mask of the first `len` bits of these words.
     ///
     /// # Errors
-    ///
     /// `AllocError` when out of memory; then nothing has changed.
     pub fn from_words(alloc: Global, words: &[u64], len: usize) -> Result<Mask, AllocError>
         requires few { len ≤ MAX_ROWS }
@@ -72,7 +70,6 @@ impl Mask {
     /// Makes a mask of `count` truths, all of them this one.
     ///
     /// # Errors
-    ///
     /// `AllocError` when out of memory.
     pub fn filled(alloc: Global, truth: bool, count: usize) -> Result<Mask, AllocError>
         requires { count ≤ MAX_ROWS }
@@ -91,7 +88,6 @@ impl Mask {
     /// Appends the first `count` bits of a word, where the bits so far fill whole words.
     ///
     /// # Errors
-    ///
     /// `AllocError` when out of memory; then nothing has changed.
     pub(crate) fn push_word(&mut self, word: u64, count: usize) -> Result<(), AllocError>
         requires whole { length self.old % 64 ≡ 0 }
@@ -108,7 +104,6 @@ impl Mask {
     /// Appends a truth.
     ///
     /// # Errors
-    ///
     /// `AllocError` when out of memory; then nothing has changed.
     pub fn push(&mut self, truth: bool) -> Result<(), AllocError>
         requires { length self.old < MAX_ROWS }
@@ -146,7 +141,6 @@ impl Mask {
     /// Copies the truths from the place `from` to below the place `to`, as far as there are any.
     ///
     /// # Errors
-    ///
     /// `AllocError` when out of memory; then nothing has changed.
     pub fn part(&self, alloc: Global, from: usize, to: usize) -> Result<Mask, AllocError>
         ensures { IfOk result (λ m. m ≡ slice_range self.now from to) }
@@ -191,7 +185,6 @@ impl Mask {
     /// Copies the truths at these places, in their order.
     ///
     /// # Errors
-    ///
     /// `AllocError` when out of memory; then nothing has changed.
     pub fn picked(&self, alloc: Global, places: &[usize]) -> Result<Mask, AllocError>
         requires few { length places.now ≤ MAX_ROWS }
@@ -259,7 +252,6 @@ impl Mask {
     /// Returns the places that are true, in order.
     ///
     /// # Errors
-    ///
     /// `AllocError` when out of memory; then nothing has changed.
     pub fn places(&self, alloc: Global) -> Result<Vec<usize>, AllocError>
         ensures value { IfOk result (λ ps. ps.items ≡ true_places self.now) }
@@ -317,7 +309,6 @@ fn with_truth(word: u64, at: usize, truth: bool) -> u64
 /// Appends a bit to the first `at`.
 ///
 /// # Errors
-///
 /// `AllocError` when out of memory; then the words are unchanged.
 fn push_bit(words: &mut Words, at: usize, truth: bool) -> Result<(), AllocError>
     requires few { at < MAX_ROWS }
@@ -337,7 +328,6 @@ fn push_bit(words: &mut Words, at: usize, truth: bool) -> Result<(), AllocError>
 /// Adds a word for the bit `at`, where it has none.
 ///
 /// # Errors
-///
 /// `AllocError` when out of memory; then the words are unchanged.
 fn make_room(words: &mut Words, at: usize) -> Result<(), AllocError>
     requires { length words.old ≡ word_count at }

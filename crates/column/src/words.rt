@@ -40,7 +40,6 @@ impl Words {
     /// Makes a list of no words, with room for `count`.
     ///
     /// # Errors
-    ///
     /// `AllocError` when out of memory.
     pub(crate) fn with_capacity(alloc: Global, count: usize) -> Result<Words, AllocError>
         ensures { IfOk result (λ w. w ≡ []) }
@@ -59,7 +58,6 @@ impl Words {
     /// Copies these words.
     ///
     /// # Errors
-    ///
     /// `AllocError` when out of memory.
     pub(crate) fn from_slice(alloc: Global, words: &[u64]) -> Result<Words, AllocError>
         ensures { IfOk result (λ w. w ≡ words.now) }
@@ -103,7 +101,6 @@ impl Words {
     /// Appends a word.
     ///
     /// # Errors
-    ///
     /// `AllocError` when out of memory; then nothing has changed.
     pub(crate) fn push(&mut self, word: u64) -> Result<(), AllocError>
         ensures ok { OnOk result (self.new ≡ self.old ++ word ∷ []) }

@@ -132,7 +132,6 @@ impl Draft {
     /// Does what the mark says, between two tokens.
     ///
     /// # Errors
-    ///
     /// `AllocError` when out of memory.
     #[tactic(auto, unfolding(crate::specs::Grammar::did))]
     pub fn finish(&mut self, alloc: Global, mark: Mark) -> Result<(), AllocError>

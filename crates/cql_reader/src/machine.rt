@@ -121,7 +121,6 @@ fn is_of(kind: Kind, role: Role) -> bool
 /// Returns the next token, which has to be of this role where `depth` of `(` and `Not` are open.
 ///
 /// # Errors
-///
 /// `Unexpected` where the text ends or the token is of another kind. `NumberRange` where its number
 /// is outside the range. `TooDeep` where it opens one too many.
 fn expected(text: &[u8], next: Option<Token>, role: Role, depth: usize) -> Result<Token, ReadFault>
@@ -148,7 +147,6 @@ fn expected(text: &[u8], next: Option<Token>, role: Role, depth: usize) -> Resul
 /// Returns the draft of the query that a text names.
 ///
 /// # Errors
-///
 /// The first fault of the text, or `OutOfMemory`.
 fn parse(alloc: Global, text: &[u8]) -> Result<Draft, ReadFault>
     ensures { ReadsDraft (parsed (scan_from text.now 0)) result }
@@ -181,7 +179,6 @@ fn parse(alloc: Global, text: &[u8]) -> Result<Draft, ReadFault>
 /// is linear in the text.
 ///
 /// # Errors
-///
 /// `TextTooLong` for a text over `MAX_TEXT` bytes, and `NotAscii` for one with a byte above 127.
 /// Any other text is judged token by token from the left. `OutOfMemory` may come in place of any
 /// answer.

@@ -105,7 +105,6 @@ fn token_of(bytes: &[u8]) -> Option<(Kind, usize)>
 /// Returns the next token of a text from a place on, or none at its end.
 ///
 /// # Errors
-///
 /// `BadToken` where no token starts at the next byte that is no blank.
 pub fn next_token(text: &[u8], place: usize) -> Result<Option<Token>, ReadFault>
     requires { place ≤ length text.now }

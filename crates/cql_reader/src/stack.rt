@@ -48,7 +48,6 @@ impl Terms {
     /// Compares the last two operands.
     ///
     /// # Errors
-    ///
     /// `AllocError` when out of memory.
     pub fn compare(&mut self) -> Result<(), AllocError>
         ensures { OnOk result (terms_of self.new ≡ compared (terms_of self.old)) }
@@ -61,7 +60,6 @@ impl Terms {
     /// Negates the last condition.
     ///
     /// # Errors
-    ///
     /// `AllocError` when out of memory.
     pub fn negate(&mut self, alloc: Global) -> Result<(), AllocError>
         ensures { OnOk result (terms_of self.new ≡ standing_by negated (terms_of self.old)) }
@@ -72,7 +70,6 @@ impl Terms {
     /// Joins the last two conditions: both have to hold.
     ///
     /// # Errors
-    ///
     /// `AllocError` when out of memory.
     pub fn conjoin(&mut self, alloc: Global) -> Result<(), AllocError>
         ensures { OnOk result (terms_of self.new ≡ standing_by conjoined (terms_of self.old)) }
@@ -83,7 +80,6 @@ impl Terms {
     /// Joins the last two conditions: one of them has to hold.
     ///
     /// # Errors
-    ///
     /// `AllocError` when out of memory.
     pub fn disjoin(&mut self, alloc: Global) -> Result<(), AllocError>
         ensures { OnOk result (terms_of self.new ≡ standing_by disjoined (terms_of self.old)) }

@@ -19,7 +19,6 @@ use std::sync::ledger::{Blank, Ledger};
 /// An operator on several paths has a slope on each; Chain goes by the greatest, `max`.
 ///
 /// # Errors
-///
 /// `AllocError` when out of memory, and only then.
 pub fn slopes(alloc: Global, points: &[Point]) -> Result<Vec<Slope>, AllocError>
     requires { IsChart points.now }
@@ -33,7 +32,6 @@ pub fn slopes(alloc: Global, points: &[Point]) -> Result<Vec<Slope>, AllocError>
 /// There are at most two for each operator, also when out of memory.
 ///
 /// # Errors
-///
 /// `AllocError` when out of memory, and only then; `steps` has then risen by the comparisons made.
 pub fn slopes_counted<L: Ledger>(
     alloc: Global,
@@ -69,7 +67,6 @@ fn uncounted<L: Ledger>(
 /// Returns the descents of the segments above the steps, in one pass over points and segments.
 ///
 /// # Errors
-///
 /// `AllocError` when out of memory.
 fn read_off(alloc: Global, points: &[Point], envelope: &[Point]) -> Result<Vec<Slope>, AllocError>
     requires chart { IsChart points.now }

@@ -16,7 +16,6 @@ use std::sync::ledger::Ledger;
 /// operator are enough.
 ///
 /// # Errors
-///
 /// `AllocError` when out of memory.
 pub fn lower_envelope<L: Ledger>(
     alloc: Global,

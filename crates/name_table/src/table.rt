@@ -71,7 +71,6 @@ impl NameTable {
     /// Gives the next number to the name.
     ///
     /// # Errors
-    ///
     /// `AllocError` when out of memory; then nothing has changed.
     pub fn push(&mut self, name: &str) -> Result<(), AllocError>
         requires fresh { position (bears name.now) self.old ≡ None }

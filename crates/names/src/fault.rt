@@ -100,7 +100,6 @@ pub(crate) struct Tests {
 /// Refuses by the first test that is met.
 ///
 /// # Errors
-///
 /// The fault of that test.
 pub(crate) fn refuse(tests: Tests) -> Result<(), ResolveFault>
     ensures { Refuses result (spec.first_of (tests_of tests)) }

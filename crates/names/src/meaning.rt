@@ -52,7 +52,6 @@ pub struct Named {
 /// the query times the columns of its sources, and with the streams times the sources.
 ///
 /// # Errors
-///
 /// The first fault of the query, in the order of `ResolveFault`; each test is over the whole query.
 /// `OutOfMemory` when out of memory, which says nothing of the query.
 pub fn resolve(alloc: Global, query: &Query, catalog: &Catalog) -> Result<Named, ResolveError>
@@ -101,7 +100,6 @@ pub fn resolve(alloc: Global, query: &Query, catalog: &Catalog) -> Result<Named,
 /// condition are its own.
 ///
 /// # Errors
-///
 /// The first fault of the query.
 fn test(
     query: &Query,

@@ -59,7 +59,6 @@ impl Catalog {
     /// Adds a stream, whose number is how many there were before.
     ///
     /// # Errors
-    ///
     /// `AllocError` when out of memory; then nothing has changed.
     pub fn declare(&mut self, name: Name, columns: Vec<Name>) -> Result<(), AllocError>
         ensures ok { OnOk result (self.new

@@ -72,7 +72,6 @@ impl Cursor {
     /// and at most `MAX_ROWS`.
     ///
     /// # Errors
-    ///
     /// `AllocError` when out of memory; then nothing has changed.
     pub fn front_cut(&self, alloc: Global, log: &Log, count: usize) -> Result<Item, AllocError>
         requires waits { 0 < length (cursor_entries self.now log.now) }
@@ -95,7 +94,6 @@ impl Cursor {
     /// and at most `MAX_ROWS`.
     ///
     /// # Errors
-    ///
     /// `AllocError` when out of memory; then nothing has changed.
     pub fn take(&mut self, alloc: Global, log: &Log, count: usize) -> Result<Item, AllocError>
         requires waits { 0 < length (cursor_entries self.old log.now) }

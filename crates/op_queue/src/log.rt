@@ -55,7 +55,6 @@ impl Log {
     /// Makes a log of a stream with `width` columns, whose instants from `until` on are open.
     ///
     /// # Errors
-    ///
     /// `AllocError` when out of memory.
     pub fn new(alloc: Global, width: usize, until: u64) -> Result<Log, AllocError>
         requires { width ≤ MAX_COLUMNS }
@@ -80,7 +79,6 @@ impl Log {
     /// number in the order of arrival, and the rows' values, row after row.
     ///
     /// # Errors
-    ///
     /// `AllocError` when out of memory; then nothing has changed.
     pub fn close(
         &mut self,

@@ -103,7 +103,6 @@ impl Queue {
     /// Adds an item at the back.
     ///
     /// # Errors
-    ///
     /// `AllocError` when out of memory; then the queue is as it was, and the item is dropped.
     pub fn push(&mut self, item: Item) -> Result<(), AllocError>
         requires { IsForward (self.old.entries ++ entries_of item) }
@@ -126,7 +125,6 @@ impl Queue {
     /// Adds the ticks from the first to the last at the back, as a part of one piece.
     ///
     /// # Errors
-    ///
     /// `AllocError` when out of memory; then nothing has changed.
     pub fn push_ticks(&mut self, first: u64, last: u64) -> Result<(), AllocError>
         requires some { first ≤ last }
@@ -167,7 +165,6 @@ impl Queue {
     /// Copies the front: a tick, or what is left of a batch, at most `count` rows of it.
     ///
     /// # Errors
-    ///
     /// `AllocError` when out of memory; then nothing has changed.
     pub fn front_cut(&self, alloc: Global, count: usize) -> Result<Item, AllocError>
         requires waits { 0 < length self.now.entries }
@@ -185,7 +182,6 @@ impl Queue {
     /// that leaves whole is moved.
     ///
     /// # Errors
-    ///
     /// `AllocError` when out of memory; then the queue is as it was.
     pub fn take(&mut self, alloc: Global, count: usize) -> Result<Item, AllocError>
         requires waits { 0 < length self.old.entries }
@@ -253,7 +249,6 @@ impl Queue {
     /// Adds a piece at the back.
     ///
     /// # Errors
-    ///
     /// `AllocError` when out of memory; then the queue is as it was, and the piece is dropped.
     fn push_piece(&mut self, piece: Piece) -> Result<(), AllocError>
         requires forward { IsForward (self.old.entries ++ piece_entries piece) }

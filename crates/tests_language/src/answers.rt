@@ -1,4 +1,4 @@
-//! Answers of the definition that runs.
+//! Tests answers of the definition that runs.
 ghost use Rattle.std.specs.Prelude.{◌≡◌, All, length};
 ghost use Rattle.values.specs.Resolved.{CanSlide};
 ghost use Rattle.values.specs.Resolved.{FitsRows};
@@ -8,14 +8,14 @@ use std::alloc::{AllocError, Global};
 use std::test::Fail;
 use values::{Column, Resolved, Row, Shape, StreamOperator, Value, Window, copy_row};
 
-/// A row of one number.
+/// Returns a row of one number.
 pub(crate) fn row(number: i128) -> Row {
     let mut row = Row::new();
     row.push(Value::clamped(number));
     row
 }
 
-/// Whether these are rows of one number, each at its instant.
+/// Returns whether these are rows of one number, each at its instant.
 pub(crate) fn are(answers: &[(u64, Row)], wanted: &[(u64, i64)]) -> bool {
     for ((at, row), (instant, number)) in answers.iter().zip(wanted) {
         if at != instant || row.as_slice() != [Value::clamped(*number as i128)].as_slice() {
@@ -25,7 +25,7 @@ pub(crate) fn are(answers: &[(u64, Row)], wanted: &[(u64, i64)]) -> bool {
     answers.len() == wanted.len()
 }
 
-/// Whether these are the answers before an instant.
+/// Returns whether these are the answers before an instant.
 fn are_answers(
     alloc: Global,
     query: &Resolved,
@@ -41,7 +41,8 @@ fn are_answers(
     Ok(are(&answers, wanted))
 }
 
-/// Whether these are the answers of the query that lists the first column of its one source.
+/// Returns whether these are the answers of the query that lists the first column of its one
+/// source.
 fn listing_answers(
     alloc: Global,
     operator: StreamOperator,
@@ -84,7 +85,7 @@ fn rows_of_now_are_shown(alloc: Global) -> Result<bool, AllocError> {
     )
 }
 
-/// Whether the value is printed so, also to a programmer.
+/// Returns whether the value is printed so, also to a programmer.
 fn is_printed(alloc: Global, value: Value, wanted: &str) -> Result<bool, AllocError> {
     let text = format!(in alloc; "{value} {value:?}")?;
     Ok(text.as_str() == wanted)

@@ -1,3 +1,4 @@
+//! Tests calls that count the comparisons of their slopes.
 ghost use Rattle.std.specs.Prelude.{◌≡◌, ◌<◌};
 
 use envelope::{Point, Steps, is_chart, slopes_counted};
@@ -6,7 +7,7 @@ use std::marker::Brand;
 use std::sync::ledger::{Blank, Ledger};
 use std::test::Fail;
 
-/// The points of a path of operators with these costs and sizes.
+/// Returns the points of a path of operators with these costs and sizes.
 fn chart(alloc: Global, operators: &[(u64, u64)]) -> Result<Vec<Point>, AllocError> {
     let mut points = vec![in alloc; Point { t: 0, s: 1_000_000 }]?;
     let mut t = 0_u64;
@@ -17,7 +18,7 @@ fn chart(alloc: Global, operators: &[(u64, u64)]) -> Result<Vec<Point>, AllocErr
     Ok(points)
 }
 
-/// The number of slopes that a counted call answers.
+/// Returns the number of slopes that a counted call returns.
 fn counted<L: Ledger>(alloc: Global, points: &[Point], blank: Blank) -> Result<usize, AllocError>
     requires name { blank.name ≡ L.name }
     requires parts { blank.parts ≡ L.parts }
@@ -31,7 +32,7 @@ fn counted<L: Ledger>(alloc: Global, points: &[Point], blank: Blank) -> Result<u
     }
 }
 
-/// The number of slopes of a path of three operators.
+/// Returns the number of slopes of a path of three operators.
 fn counted_of_three(alloc: Global) -> Result<usize, AllocError> {
     let points = chart(alloc, &[(1, 900_000), (1, 100_000), (1, 0)])?;
     counted::<Brand>(alloc, points.as_slice(), Blank::new(1))

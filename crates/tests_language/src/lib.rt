@@ -1,8 +1,8 @@
-//! What rows of `tests_rows` and of `tests_examples` cannot tell of the query language, as tests:
-//! slopes that are counted, rows on their way into a stream, calls at limits that no script
-//! reaches, values as text, and answers by the definition that runs.
+//! Tests what rows of `tests_rows` and of `tests_examples` cannot show of the query language. These
+//! are slopes that are counted, rows on their way into a stream, and calls at limits that no script
+//! reaches. They are also values as text, and answers by the definition that runs.
 //!
-//! They stand in a crate of their own because a crate's tests are proved with all of the crate once
+//! The tests are a crate of their own because a crate's tests are proved with all of the crate once
 //! more.
 #![tactic(auto)]
 

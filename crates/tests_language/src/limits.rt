@@ -1,12 +1,12 @@
-//! Calls at the limits of an engine, by their first test that fails.
+//! Tests calls at the limits of an engine, by their first test that fails.
 ghost use Rattle.std.specs.Prelude.{◌≤◌};
 
 use reference::{Fault, NewRows, append_fault, declare_fault, register_fault};
 use std::alloc::{AllocError, Global};
 use std::test::Fail;
 
-/// The first test that fails of so many rows of one value at the instant 0, for a stream of one
-/// column to which so many rows came.
+/// Returns the first fault of `count` rows of one value at the instant 0, for a stream of one
+/// column to which `arrivals` rows came.
 fn fault_of_rows(
     alloc: Global,
     count: usize,
@@ -57,7 +57,7 @@ fn queries_and_registrations_are_counted(rt: HostRuntime) {
     assert_eq!(rt; reserved, Some(Fault::BadName));
 }
 
-/// The first test that fails of a stream `S(a)` from an instant on, beside so many streams.
+/// Returns the first fault of a stream `S(a)` from an instant on, if there are so many streams.
 fn fault_of_stream(alloc: Global, from: i64, streams: usize) -> Result<Option<Fault>, AllocError> {
     let mut columns = Vec::new(alloc);
     columns.push(String::from_str(alloc, "a")?)?;

@@ -1,10 +1,10 @@
-//! Rows on their way into a stream.
+//! Tests rows on their way into a stream.
 
 use reference::NewRows;
 use std::alloc::{AllocError, Global};
 use std::test::Fail;
 
-/// How many rows there are before and after one has come, and whether there are none.
+/// Returns how many rows there are before and after one has come, and whether there are none.
 fn counted(alloc: Global) -> Result<[(usize, bool); 2], AllocError> {
     let mut rows = NewRows::new(alloc);
     let before = (rows.len(), rows.is_empty());
@@ -18,7 +18,7 @@ fn rows_are_counted(rt: HostRuntime) -> Result<(), Fail> {
     Ok(())
 }
 
-/// The row 7, null of the instant 3, on its way.
+/// Returns the row 7, null of the instant 3, on its way.
 fn lent(alloc: Global) -> Result<NewRows, AllocError> {
     let mut rows = NewRows::new(alloc);
     rows.push_row(3, &[Some(7), None])?;

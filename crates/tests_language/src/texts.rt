@@ -1,4 +1,4 @@
-//! Answers of a text.
+//! Tests answers of a text.
 ghost use Rattle.cql_reader.specs.Views.{query_of};
 ghost use Rattle.cql_reader.specs.WellFormed.{IsWellFormed};
 
@@ -15,7 +15,7 @@ use std::alloc::{AllocError, Global};
 use std::test::Fail;
 use values::Row;
 
-/// The stream S(a).
+/// Returns the stream S(a).
 fn catalog(alloc: Global) -> Result<Catalog, AllocError> {
     let columns = vec![in alloc; Name::new(b"a")]?;
     let mut catalog = Catalog::new(alloc);
@@ -23,7 +23,7 @@ fn catalog(alloc: Global) -> Result<Catalog, AllocError> {
     Ok(catalog)
 }
 
-/// The rows 7, 5, 6 and 8 of S, each with its instant.
+/// Returns the rows 7, 5, 6 and 8 of S, each with its instant.
 fn inputs(alloc: Global) -> Result<Vec<Vec<(u64, Row)>>, AllocError> {
     let rows = vec![in alloc; (3, row(7)), (1, row(5)), (3, row(6)), (4, row(8))]?;
     let mut inputs = Vec::new(alloc);
@@ -31,7 +31,7 @@ fn inputs(alloc: Global) -> Result<Vec<Vec<(u64, Row)>>, AllocError> {
     Ok(inputs)
 }
 
-/// The answers above -1 up to 3 of a query of one stream.
+/// Returns the answers above -1 up to 3 of a query of one stream.
 fn answered(
     alloc: Global,
     query: &Query,
@@ -52,7 +52,7 @@ fn answered(
     }
 }
 
-/// Whether these are the answers of a query over S.
+/// Returns whether these are the answers of a query over S.
 fn answers_are(alloc: Global, query: &Query, wanted: &[(u64, i64)]) -> Result<bool, AllocError>
     requires { IsWellFormed (query_of query.now) }
 {

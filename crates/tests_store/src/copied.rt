@@ -1,4 +1,4 @@
-//! Copies of streams with the rows that stay.
+//! Tests copies of streams with the rows that stay.
 use crate::streams::{are_rows, six_rows};
 use reference::Fault;
 use std::alloc::{AllocError, Global};
@@ -9,8 +9,8 @@ use values::Value;
 // An instant, a number and a value.
 type Told = (u64, u64, i128);
 
-// A copy of the stream 0 with the closed rows that are marked and the open ones that have a reader;
-// none where there are not as many closed rows as marks.
+// Copies the stream 0 with the closed rows that are marked and the open ones that have a reader.
+// None if there are not as many closed rows as marks.
 fn copied(
     alloc: Global,
     streams: &Streams,
@@ -28,7 +28,7 @@ fn copied(
     }
 }
 
-// Whether these are the closed rows, of one column.
+// Returns whether these are the closed rows, of one column.
 fn has_closed(log: &Log, expected: &[Told]) -> bool {
     if log.width() != 1 {
         return false;
@@ -45,14 +45,14 @@ fn has_closed(log: &Log, expected: &[Told]) -> bool {
     true
 }
 
-// Whether these are the open rows up to the instant 9.
+// Returns whether these are the open rows up to the instant 9.
 fn has_open(stored: &Stored, expected: &[Told]) -> Result<bool, AllocError> {
     let rows = stored.open_rows_up_to(9)?;
     Ok(are_rows(&rows, expected))
 }
 
-// Whether a copy of the six rows has these closed and open ones, and how many rows it has, how many
-// came, and its first open instant; then how many rows the stream has.
+// Returns whether a copy of the six rows has these closed and open ones. Then how many rows it has,
+// how many came, its first open instant, and how many rows the stream has.
 fn copy_of(
     alloc: Global,
     kept: &[bool],
@@ -99,7 +99,7 @@ fn a_copy_leaves_out_a_late_instant(rt: HostRuntime) -> Result<(), Fail> {
     Ok(())
 }
 
-// The names of the stream's copy.
+// Returns whether the stream's copy has its names.
 fn has_names(alloc: Global) -> Result<bool, Fault> {
     let streams = six_rows(alloc)?;
     match copied(alloc, &streams, &[false, false], &[])? {

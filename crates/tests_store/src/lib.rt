@@ -1,6 +1,6 @@
-//! Worked rows of `name_table`, `stream_store` and `needed_rows`, as tests.
+//! Tests worked rows of `name_table`, `stream_store` and `needed_rows`.
 //!
-//! They stand in a crate of their own because a crate's tests are proved with all of the crate once
+//! The tests are a crate of their own because a crate's tests are proved with all of the crate once
 //! more.
 #![tactic(auto)]
 

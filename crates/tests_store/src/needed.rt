@@ -1,4 +1,4 @@
-//! The closed rows that the sources of queries need.
+//! Tests the closed rows that the sources of queries need.
 ghost use Rattle.std.specs.Prelude.{IsTrue};
 ghost use Rattle.needed_rows.specs.Needed.{AreInOrder};
 
@@ -10,7 +10,7 @@ use values::{Value, Window};
 // A window, and its query's place, first instant and the instant after its mark.
 type Asked = (Window, u64, u64, u64);
 
-// Whether the rows stand by instant, then by number.
+// Returns whether the rows are by instant, then by number.
 fn are_in_order(rows: &ClosedRows) -> bool
     ensures { IsTrue result → AreInOrder rows.now }
 {
@@ -30,7 +30,7 @@ fn are_in_order(rows: &ClosedRows) -> bool
     true
 }
 
-// The numbers of the rows that some reader needs.
+// Returns the numbers of the rows that some reader needs.
 fn kept_by(alloc: Global, rows: &ClosedRows, readers: &[Reader]) -> Result<Vec<u64>, AllocError> {
     let mut kept = Vec::new(alloc);
     if !are_in_order(rows) {
@@ -45,7 +45,7 @@ fn kept_by(alloc: Global, rows: &ClosedRows, readers: &[Reader]) -> Result<Vec<u
     Ok(kept)
 }
 
-// Whether one source keeps just the rows of these numbers.
+// Returns whether one source keeps exactly the rows of these numbers.
 fn keeps(
     alloc: Global,
     rows: &ClosedRows,
@@ -63,14 +63,14 @@ fn keeps(
     Ok(kept.as_slice() == numbers)
 }
 
-// A window of the last rows of each partition.
+// Returns a window of the last rows of each partition.
 fn last_rows(alloc: Global, columns: &[usize], count: u64) -> Result<Window, AllocError> {
     let mut chosen = Vec::new(alloc);
     chosen.extend_from_slice(columns)?;
     Ok(Window::LastRows(chosen, count))
 }
 
-// Ten rows of no column, one at each instant.
+// Returns ten rows of no column, one at each instant.
 fn ten_rows() -> ClosedRows<'static> {
     ClosedRows {
         instants: &[0, 1, 2, 3, 4, 5, 6, 7, 8, 9],
@@ -79,7 +79,8 @@ fn ten_rows() -> ClosedRows<'static> {
     }
 }
 
-// The last instants, with all done up to the instant 9: from a base or a place in the middle too.
+// Tries the last instants, with all done up to the instant 9: from a base or a place in the middle
+// too.
 fn last_instants_are_kept(alloc: Global) -> Result<[bool; 6], AllocError> {
     let rows = ten_rows();
     Ok([
@@ -92,8 +93,8 @@ fn last_instants_are_kept(alloc: Global) -> Result<[bool; 6], AllocError> {
     ])
 }
 
-// Where no tick is done all is above the mark; where nothing is closed above the base, nothing is
-// in the input.
+// Tries marks. If no tick is done, all is above the mark. If nothing is closed above the base,
+// nothing is in the input.
 fn marks_are_kept(alloc: Global) -> Result<[bool; 4], AllocError> {
     let rows = ten_rows();
     let all = [0, 1, 2, 3, 4, 5, 6, 7, 8, 9];
@@ -110,7 +111,7 @@ fn marks_are_kept(alloc: Global) -> Result<[bool; 4], AllocError> {
     ])
 }
 
-// At the instant 9 the window shows what it showed at 8, and then moves at 12.
+// Tries slides. At the instant 9 the window shows what it showed at 8, and then moves at 12.
 fn slides_are_kept(alloc: Global) -> Result<[bool; 5], AllocError> {
     let rows = ten_rows();
     Ok([
@@ -140,7 +141,7 @@ fn windows_of_instants_keep_what_they_still_show(rt: HostRuntime) -> Result<(), 
     Ok(())
 }
 
-// Rows that came out of order, of two columns with nulls, and what is kept of each window.
+// Tries rows that came out of order, of two columns with nulls, and what is kept of each window.
 fn last_rows_are_kept(alloc: Global) -> Result<[bool; 8], AllocError> {
     let first = numbers(alloc, &[1, 0, 1, 2, 0, 1, 2, 0, 1, 2])?;
     let second = numbers(alloc, &[5, 5, 0, 5, 0, 0, 5, 0, 0, 5])?;
@@ -170,7 +171,7 @@ fn last_rows_are_kept(alloc: Global) -> Result<[bool; 8], AllocError> {
     ])
 }
 
-// Values, null where the number is 0.
+// Returns values, null where the number is 0.
 fn numbers(alloc: Global, numbers: &[i64]) -> Result<Vec<Value>, AllocError> {
     let mut values = Vec::new(alloc);
     for number in numbers {
@@ -189,7 +190,7 @@ fn windows_of_last_rows_keep_those_of_each_partition(rt: HostRuntime) -> Result<
     Ok(())
 }
 
-// What two sources over one stream keep, and what each keeps.
+// Tries what two sources over one stream keep, and what each keeps.
 fn two_are_kept(alloc: Global) -> Result<[bool; 3], AllocError> {
     let rows = ten_rows();
     let (slide, range) = (Window::RangeSlide(1, 4), Window::Range(0));

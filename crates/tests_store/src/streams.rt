@@ -1,4 +1,4 @@
-//! Streams at work.
+//! Tests streams at work.
 use names::Catalog;
 use op_queue::Cursor;
 use reference::{Fault, MAX_STREAM_ROWS, NewRows};
@@ -7,10 +7,10 @@ use std::test::Fail;
 use stream_store::{Arrivals, Start, Streams};
 use values::Value;
 
-// As many rows as a stream may have, where no query limits it.
+// As many rows as a stream may have, if no query limits it.
 const MOST: u64 = MAX_STREAM_ROWS as u64;
 
-// Rows of one value, each with its instant.
+// Returns rows of one value, each with its instant.
 fn rows(alloc: Global, pairs: &[(i64, i64)]) -> Result<NewRows, AllocError> {
     let mut rows = NewRows::new(alloc);
     for (at, value) in pairs {
@@ -19,7 +19,7 @@ fn rows(alloc: Global, pairs: &[(i64, i64)]) -> Result<NewRows, AllocError> {
     Ok(rows)
 }
 
-// A column of this name.
+// Returns a column of this name.
 fn columns(alloc: Global, name: &str) -> Result<Vec<String>, AllocError> {
     let mut columns = Vec::new(alloc);
     columns.push(String::from_str(alloc, name)?)?;
@@ -38,7 +38,7 @@ fn declare(
     streams.declare(name, columns.as_slice(), first)
 }
 
-// Streams with a stream S(a) from 0, and its number.
+// Returns streams with a stream S(a) from 0, and its number.
 fn declared(alloc: Global) -> Result<(Streams, u64), Fault> {
     let mut streams = Streams::new(alloc);
     let number = declare(alloc, &mut streams, "S", "a", 0)?;
@@ -55,8 +55,8 @@ fn streams(alloc: Global) -> Result<Streams, Fault> {
     Ok(streams)
 }
 
-// How many rows and ticks of the stream 0 a query sees that was registered after `place` rows, from
-// the instant `start` on.
+// Counts the rows and ticks of the stream 0 that a query sees. The query was registered after
+// `place` rows, from the instant `start` on.
 fn seen(streams: &Streams, place: u64, start: u64) -> u128 {
     match streams.log(0) {
         Some(log) => Cursor::new(place, start).len(log),
@@ -64,7 +64,7 @@ fn seen(streams: &Streams, place: u64, start: u64) -> u128 {
     }
 }
 
-// Whether each declaration is refused by its fault.
+// Returns whether each declaration is refused by its fault.
 fn declarations_are_refused(alloc: Global, streams: &mut Streams) -> bool {
     for (name, column, first, fault) in [
         ("where", "1", -1, Fault::BadName),
@@ -79,7 +79,7 @@ fn declarations_are_refused(alloc: Global, streams: &mut Streams) -> bool {
     true
 }
 
-// The fault of an append.
+// Returns the fault of an append.
 fn refusal(
     alloc: Global,
     streams: &mut Streams,
@@ -90,7 +90,7 @@ fn refusal(
     Ok(streams.append(stream, &rows, MOST).err())
 }
 
-// Whether each append is refused by its fault.
+// Returns whether each append is refused by its fault.
 fn appends_are_refused(alloc: Global, streams: &mut Streams) -> Result<bool, AllocError> {
     for (at, value, fault) in [
         (-1, 1_099_511_627_776, Fault::ValueRange),
@@ -110,7 +110,7 @@ fn close(streams: &mut Streams, stream: u64, at: i64) -> Result<(), Fault> {
     Ok(streams.close(stream, at, &rows)?)
 }
 
-// Whether each heartbeat is refused by its fault.
+// Returns whether each heartbeat is refused by its fault.
 fn heartbeats_are_refused(streams: &Streams) -> bool {
     for (stream, at, fault) in [
         (1, -1, Fault::UnknownStream),
@@ -125,8 +125,8 @@ fn heartbeats_are_refused(streams: &Streams) -> bool {
     true
 }
 
-// Which of the three calls are refused by their faults, and how many rows and which first open
-// instant the stream then has.
+// Returns which of the three calls are refused by their faults. Then how many rows and which first
+// open instant the stream has.
 fn refused(alloc: Global) -> Result<([bool; 3], u64, u64), Fault> {
     let mut streams = streams(alloc)?;
     let first = declarations_are_refused(alloc, &mut streams);
@@ -147,7 +147,8 @@ fn faults_come_in_the_order_of_their_tests(rt: HostRuntime) -> Result<(), Fail> 
     Ok(())
 }
 
-// Appends the rows, once more where memory was refused; false where the refusal changed the stream.
+// Appends the rows, and once more if the first try ran out of memory. False if that try changed the
+// stream.
 fn append(alloc: Global, streams: &mut Streams, pairs: &[(i64, i64)]) -> Result<bool, Fault> {
     let rows = rows(alloc, pairs)?;
     let came = streams.arrivals(0);
@@ -160,8 +161,8 @@ fn append(alloc: Global, streams: &mut Streams, pairs: &[(i64, i64)]) -> Result<
     Ok(true)
 }
 
-// Closes the instants up to `at`, once more where memory was refused; false where the refusal
-// changed the stream.
+// Closes the instants up to `at`, and once more if the first try ran out of memory. False if that
+// try changed the stream.
 fn heartbeat(streams: &mut Streams, at: i64) -> Result<bool, Fault> {
     let start = streams.first_open(0);
     if close(streams, 0, at).is_err() {
@@ -173,7 +174,7 @@ fn heartbeat(streams: &mut Streams, at: i64) -> Result<bool, Fault> {
     Ok(true)
 }
 
-// Whether the rows 5, 7 and 6 are closed up to the instant 3, in this order.
+// Returns whether the rows 5, 7 and 6 are closed up to the instant 3, in this order.
 fn three_are_closing(streams: &Streams) -> bool {
     match streams.closing(0, 3) {
         Ok(closing) => are_rows(&closing, &[(1, 1, 5), (3, 0, 7), (3, 2, 6)]),
@@ -181,7 +182,7 @@ fn three_are_closing(streams: &Streams) -> bool {
     }
 }
 
-// Appends four rows and closes three of them, and appends one more; false where a call went wrong.
+// Appends four rows and closes three of them, and appends one more. False if a call went wrong.
 fn fill(alloc: Global, streams: &mut Streams) -> Result<bool, Fault> {
     let came = append(alloc, streams, &[(3, 7), (1, 5), (3, 6), (9, 1)])?;
     let are_closing = three_are_closing(streams);
@@ -190,8 +191,8 @@ fn fill(alloc: Global, streams: &mut Streams) -> Result<bool, Fault> {
     Ok(came && are_closing && closed && more)
 }
 
-// Whether queries see this of the filled stream: three rows and the ticks 0 to 3; two rows and the
-// ticks 2 and 3; the rows that came last and their ticks.
+// Returns whether queries see this of the filled stream: three rows and the ticks 0 to 3; two rows
+// and the ticks 2 and 3; the rows that came last and their ticks.
 fn three_see(streams: &Streams) -> bool {
     seen(streams, 0, 0) == 7 && seen(streams, 0, 2) == 4 && seen(streams, 3, 0) == 4
 }
@@ -202,7 +203,7 @@ fn filled_is_seen(alloc: Global) -> Result<bool, Fault> {
     Ok(is_filled && three_see(&streams))
 }
 
-// Whether queries see this of the filled stream once all is closed.
+// Returns whether queries see this of the filled stream once all is closed.
 fn two_see(streams: &Streams) -> bool {
     seen(streams, 0, 0) == 15 && seen(streams, 4, 4) == 7 && streams.arrivals(0) == 5
 }
@@ -221,7 +222,7 @@ fn rows_are_closed_by_instant_and_then_arrival(rt: HostRuntime) -> Result<(), Fa
     Ok(())
 }
 
-// Whether the rows are these, each an instant, a number and a value.
+// Returns whether the rows are these, each an instant, a number and a value.
 pub(crate) fn are_rows(rows: &Arrivals, expected: &[(u64, u64, i128)]) -> bool {
     if rows.values().len() != expected.len() {
         return false;
@@ -235,7 +236,7 @@ pub(crate) fn are_rows(rows: &Arrivals, expected: &[(u64, u64, i128)]) -> bool {
     true
 }
 
-// Whether these rows are closed up to the instant, in this order; then they are closed.
+// Returns whether these rows are closed up to the instant, in this order, and closes them.
 fn close_rows(
     streams: &mut Streams,
     at: i64,
@@ -249,7 +250,7 @@ fn close_rows(
     Ok(are_closing && is_closed)
 }
 
-// Rows in order, rows below the instant that they reached, and rows of one instant from both.
+// Tries rows in order, rows below the instant that they reached, and rows of one instant from both.
 fn first_rows_are_closed(alloc: Global, streams: &mut Streams) -> Result<bool, Fault> {
     let came = append(
         alloc,
@@ -272,7 +273,7 @@ fn first_rows_are_closed(alloc: Global, streams: &mut Streams) -> Result<bool, F
     Ok(came && are_closed)
 }
 
-// More of both between two closings.
+// Tries more of both between two closings.
 fn rows_between_are_closed(alloc: Global, streams: &mut Streams) -> Result<bool, Fault> {
     let came = append(alloc, streams, &[(5, 17), (6, 18), (4, 19)])?;
     let are_closed = close_rows(
@@ -283,7 +284,7 @@ fn rows_between_are_closed(alloc: Global, streams: &mut Streams) -> Result<bool,
     Ok(came && are_closed)
 }
 
-// The rest, and rows that come after all was closed.
+// Tries the rest, and rows that come after all was closed.
 fn last_rows_are_closed(alloc: Global, streams: &mut Streams) -> Result<bool, Fault> {
     let first = close_rows(streams, 9, &[(6, 5, 15), (6, 8, 18)])?;
     let came = append(alloc, streams, &[(12, 20), (11, 21), (12, 22)])?;
@@ -305,7 +306,7 @@ fn late_rows_are_closed_among_those_in_order(rt: HostRuntime) -> Result<(), Fail
     Ok(())
 }
 
-// Streams with rows at the instants 1 and 2, of which the first is closed.
+// Returns streams with rows at the instants 1 and 2. The instant 1 is closed.
 fn half_closed(alloc: Global) -> Result<Streams, Fault> {
     let rows = rows(alloc, &[(1, 5), (2, 6)])?;
     let mut streams = streams(alloc)?;
@@ -314,19 +315,19 @@ fn half_closed(alloc: Global) -> Result<Streams, Fault> {
     Ok(streams)
 }
 
-// The first open instant, what a query sees, and how many streams there are.
+// Returns the first open instant, what a query sees, and how many streams there are.
 fn sizes(alloc: Global) -> Result<(u64, u128, usize), Fault> {
     let streams = half_closed(alloc)?;
     Ok((streams.first_open(0), seen(&streams, 0, 0), streams.len()))
 }
 
-// The numbers of S and of s.
+// Returns the numbers of S and of s.
 fn named(alloc: Global) -> Result<[Option<u64>; 2], Fault> {
     let streams = half_closed(alloc)?;
     Ok([streams.named("S"), streams.named("s")])
 }
 
-// Whether the catalog has a stream S alone, of the column a.
+// Returns whether the catalog has only a stream S, of the column a.
 fn has_one_stream(catalog: &Catalog) -> bool {
     if catalog.number_of(b"S") != Some(0) || catalog.number_of(b"s").is_some() {
         return false;
@@ -351,8 +352,8 @@ fn a_heartbeat_comes_in_two_halves(rt: HostRuntime) -> Result<(), Fail> {
     Ok(())
 }
 
-// Of two rows, one row and no row that come where one may come in all, which are refused, and how
-// many came.
+// Appends two rows, one row and no row where one may come in all. Returns which are refused, and
+// how many came.
 fn limited(alloc: Global) -> Result<([Option<Fault>; 3], u64), Fault> {
     let mut streams = streams(alloc)?;
     let two = rows(alloc, &[(1, 5), (2, 6)])?;
@@ -375,7 +376,7 @@ fn rows_over_the_limit_are_refused(rt: HostRuntime) -> Result<(), Fail> {
     Ok(())
 }
 
-// Six rows, of which those up to the instant 2 are closed, one of them a late one; one of the open
+// Returns six rows. Those up to the instant 2 are closed, one of them a late one. One of the open
 // rows is late.
 pub(crate) fn six_rows(alloc: Global) -> Result<Streams, Fault> {
     let mut streams = streams(alloc)?;
@@ -388,8 +389,8 @@ pub(crate) fn six_rows(alloc: Global) -> Result<Streams, Fault> {
     Ok(streams)
 }
 
-// Keeps the closed rows that are marked, and the open ones that have a reader; false where there
-// are not as many closed rows as marks.
+// Keeps the closed rows that are marked, and the open ones that have a reader. False if there are
+// not as many closed rows as marks.
 fn keep(streams: &mut Streams, kept: &[bool], starts: &[Start]) -> bool {
     match streams.closed(0) {
         Some(closed) => {
@@ -403,8 +404,8 @@ fn keep(streams: &mut Streams, kept: &[bool], starts: &[Start]) -> bool {
     }
 }
 
-// What is left of the six rows: how many are closed and how many in all, the rows that are closed
-// up to the instant 9, how many came, and the first open instant.
+// Returns what is left of the six rows: how many are closed and how many there are in all. Then
+// whether these rows are closed up to the instant 9, how many came, and the first open instant.
 fn left(
     alloc: Global,
     kept: &[bool],
@@ -464,7 +465,7 @@ fn a_late_row_stays_for_one_of_two_readers(rt: HostRuntime) -> Result<(), Fail> 
     Ok(())
 }
 
-// Whether this is all that the list has.
+// Returns whether this is all that the list has.
 fn is_only(list: &[u64], expected: u64) -> bool {
     match list {
         [only] => *only == expected,
@@ -472,7 +473,7 @@ fn is_only(list: &[u64], expected: u64) -> bool {
     }
 }
 
-// Whether the row of the number 5, at the instant 2, is the only one that is closed.
+// Returns whether the row of the number 5, at the instant 2, is the only one that is closed.
 fn last_row_is_closed(streams: &Streams) -> bool {
     match streams.log(0) {
         Some(log) => is_only(log.instants(), 2) && is_only(log.numbers(), 5),
@@ -480,8 +481,8 @@ fn last_row_is_closed(streams: &Streams) -> bool {
     }
 }
 
-// What the log has of the six rows where the last one is kept, and how many rows and ticks a query
-// sees: that row and three ticks.
+// Returns what the log has of the six rows if the last one is kept, and how many rows and ticks a
+// query sees: that row and three ticks.
 fn last_is_kept(alloc: Global) -> Result<(bool, u128), Fault> {
     let mut streams = six_rows(alloc)?;
     if !keep(&mut streams, &[false, true], &[]) {
@@ -490,7 +491,7 @@ fn last_is_kept(alloc: Global) -> Result<(bool, u128), Fault> {
     Ok((last_row_is_closed(&streams), seen(&streams, 0, 0)))
 }
 
-// Which number the next row has where none was kept, and how many rows are kept with it.
+// Returns which number the next row has if none was kept, and how many rows are kept with it.
 fn next_is_numbered(alloc: Global) -> Result<(bool, Option<usize>, Option<usize>), Fault> {
     let mut streams = six_rows(alloc)?;
     if !keep(&mut streams, &[false, false], &[]) {

@@ -1,4 +1,4 @@
-//! A table of names at work.
+//! Tests a table of names at work.
 use name_table::NameTable;
 use std::alloc::{AllocError, Global};
 use std::test::Fail;
@@ -14,7 +14,7 @@ fn number_again(table: &mut NameTable, name: &str) -> Result<(), AllocError> {
     Ok(())
 }
 
-/// A table of a few names, where one was freed and given again.
+/// Returns a table of a few names, where one was freed and given again.
 fn filled(alloc: Global) -> Result<NameTable, AllocError> {
     let mut table = NameTable::new(alloc);
     for name in ["S", "T", "S", "s"] {
@@ -23,7 +23,7 @@ fn filled(alloc: Global) -> Result<NameTable, AllocError> {
     Ok(table)
 }
 
-/// Whether the names have these numbers.
+/// Returns whether the names have these numbers.
 fn are_numbered(table: &NameTable, names: &[(&str, Option<usize>)]) -> bool {
     for (name, number) in names {
         if table.number(name) != *number {

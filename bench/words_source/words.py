@@ -14,8 +14,8 @@ CODE = re.compile(r"`[^`]+`")
 # where a sentence ends: a stop, then a capital, a digit, code, a bracket or emphasis
 STOP = re.compile(r"(?<=[.!?])[*_)\"”]*\s+(?=[*_(\"“]*[A-Z0-9`\[§])")
 SHORT = re.compile(r"\b(e\.g|i\.e|etc|vs|cf|al|No|St)\.$")
-# a text of an example cannot be broken
-WIDE_TEXT = re.compile(r'"[^"]{90,}"')
+# a text of an example cannot be broken, and `rt fmt` joins an attribute
+WIDE_TEXT = re.compile(r'"[^"]{90,}"|^ *#\[tactic\(')
 STATEMENT = re.compile(r"≡|→ \(|^(pub )?(record|abbrev|unfoldable) |^pub fn .*\n\s+ensures", re.M)
 
 

@@ -1,5 +1,5 @@
 -- As a drain that goes on until nothing is ready; something has run where something was.
-use Rattle.std.proofs.Common.{◌≡◌, ◌≢◌, ◌<◌, ◌≤◌, IfErr, OnOk, arith, sym, subst}
+use Rattle.std.proofs.Common.{◌≡◌, ◌≢◌, ◌<◌, ◌≤◌, IfErr, OnOk, arith, subst}
 use Rattle.reference.specs.declared.fault.Fault.TheVariants.{BadLimit}
 use Rattle.laws_engine.proofs.IdleLemmas.{idle_waits}
 use Rattle.laws_engine.proofs.PromiseLemmas.{keeps_its_promises}

@@ -1,9 +1,14 @@
 //! Answers what workers call: turns go out and come back.
-ghost use Rattle.std.specs.Prelude.{◌≡◌, None, Ok, OnOk, []};
+ghost use Rattle.std.specs.Prelude.{◌≡◌, ◌≢◌, ◌+◌, ◌<◌, ◌≤◌, Err, IfErr, None, Ok, OnOk, false};
+ghost use Rattle.std.specs.Prelude.{true};
+ghost use Rattle.reference.specs.declared.fault.Fault.TheVariants.{BadLimit, OutOfMemory};
+ghost use Rattle.reference.specs.declared.fault.Fault.TheVariants.{TooManyLeases};
 ghost use Rattle.run_queue.specs.Slots.{first_of};
 ghost use Rattle.laws_engine.specs.Promises.{HasAllWaiting, KeepsItsPromises};
+ghost use Rattle.leases.specs.Drains.{LeavesOthers, RunsTurns, as_drained};
 ghost use Rattle.leases.specs.Shown.{engine_in};
-ghost use Rattle.leases.specs.Turns.{Abandons, Finishes, Leases};
+ghost use Rattle.leases.specs.Turns.{Abandons, Finishes, HasReady, Leases};
+ghost use Rattle.leases.specs.Whole.{HasNumbers, IsWhole};
 ghost use Rattle.leases.specs.declared.leased.Leased.TheVariants.{Idle};
 
 use crate::engine::Engine;
@@ -64,5 +69,42 @@ impl Engine {
         ensures promises { KeepsItsPromises (engine_in self.new) }
     {
         self.state.abandon(lease)
+    }
+
+    /// Runs at most `turns` turns in place, one after the other, as `drain` does. Returns whether
+    /// an operator may still take something: if so, all `turns` turns have run, each with one
+    /// number. `rows` limits the rows of each turn: 1 to 1,024.
+    ///
+    /// Call it until it answers `false`, and let others have the engine in between. With `turns` 0
+    /// it only looks. It costs as much as the turns that run.
+    ///
+    /// # Errors
+    /// `BadLimit` if `rows` is out of range; then nothing has changed. If an operator may take
+    /// something and fewer than `turns` turns have run: `TooManyLeases` if 64 turns are out or all
+    /// numbers of turns were given, `OutOfMemory` when out of memory. Then the turns before stay,
+    /// and the turn that needed the memory did nothing, or it broke its query.
+    pub fn drain_some(&mut self, rows: u32, turns: u64) -> Result<bool, Fault>
+        ensures runs { RunsTurns (engine_in self.old) rows (as_drained result)
+            (engine_in self.new) }
+        ensures most { (engine_in self.new).next ≤ (engine_in self.old).next + turns }
+        ensures some { turns ≢ 0 → HasReady (engine_in self.old)
+            → OnOk result ((engine_in self.old).next < (engine_in self.new).next) }
+        ensures more { result ≡ Ok true → HasReady (engine_in self.new) }
+        ensures last { result ≡ Ok true
+            → (engine_in self.new).next ≡ (engine_in self.old).next + turns }
+        ensures idle { result ≡ Ok false → first_of (engine_in self.new).slots ≡ None }
+        ensures all { result ≡ Ok false → HasAllWaiting (engine_in self.new) }
+        ensures fewer { result ≡ Err TooManyLeases
+            → (engine_in self.new).next < (engine_in self.old).next + turns }
+        ensures looks { turns ≡ 0 → (engine_in self.new ≡ engine_in self.old)
+            × IfErr result (λ fault. fault ≡ BadLimit) }
+        ensures others { LeavesOthers (engine_in self.old) (as_drained result)
+            (engine_in self.new) }
+        ensures machine { (engine_in self.new).machine ≡ (engine_in self.old).machine }
+        ensures stays_whole { IsWhole self.old → result ≢ Err OutOfMemory → IsWhole self.new }
+        ensures spent { HasNumbers self.new → HasNumbers self.old }
+        ensures promises { KeepsItsPromises (engine_in self.new) }
+    {
+        self.state.drain_some(rows, turns)
     }
 }

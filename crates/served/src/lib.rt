@@ -2,7 +2,9 @@
 #![tactic(auto)]
 
 mod answer;
+mod client;
 mod door;
+mod drains;
 mod lines;
 mod server;
 

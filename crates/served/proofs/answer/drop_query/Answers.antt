@@ -5,7 +5,7 @@ use Rattle.reference.specs.Replies as replies
 use Rattle.reference.specs.declared.fault.Fault.TheVariants.{UnknownQuery}
 use Rattle.wire.specs.Printed.{answer_of}
 use Rattle.served.proofs.Requests.{carried_named}
-use Rattle.served.proofs.answer.discard.Goals as goal
+use Rattle.served.proofs.answer.drop_query.Goals as goal
 
 pub returns-in-Some : goal.returns-in-Some
 returns-in-Some g c =

@@ -1,4 +1,4 @@
-//! The door of a server: its listener, and how many connections are still to serve.
+//! Keeps the door of a server: its listener, and how many connections are still to serve.
 ghost use Rattle.std.specs.Prelude.{◌≡◌, Some, false, true};
 ghost use Rattle.served.specs.Doors.{Admits};
 
@@ -13,9 +13,9 @@ pub(crate) struct Door {
     pub(crate) left: Option<u64>,
     /// After how many seconds a silent connection is closed, if it is at all.
     pub(crate) idle: Option<u32>,
-    /// A connection could not be accepted.
+    /// Says whether a connection could not be accepted.
     pub(crate) accept_failed: bool,
-    /// A thread could not be started.
+    /// Says whether a thread could not be started.
     pub(crate) thread_failed: bool,
 }
 

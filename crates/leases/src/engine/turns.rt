@@ -79,10 +79,10 @@ impl Engine {
     /// it only looks. It costs as much as the turns that run.
     ///
     /// # Errors
-    /// `BadLimit` if `rows` is out of range; then nothing has changed. If an operator may take
-    /// something and fewer than `turns` turns have run: `TooManyLeases` if 64 turns are out or all
-    /// numbers of turns were given, `OutOfMemory` when out of memory. Then the turns before stay,
-    /// and the turn that needed the memory did nothing, or it broke its query.
+    /// `BadLimit` if `rows` is out of range; then nothing has changed. `TooManyLeases` if 64 turns
+    /// are out or all numbers of turns were given. `OutOfMemory` when out of memory. Both come only
+    /// if an operator may take something and fewer than `turns` turns have run. The turns before
+    /// stay. The turn that needed the memory did nothing, or it broke its query.
     pub fn drain_some(&mut self, rows: u32, turns: u64) -> Result<bool, Fault>
         ensures runs { RunsTurns (engine_in self.old) rows (as_drained result)
             (engine_in self.new) }

@@ -223,9 +223,9 @@ impl State {
         }
     }
 
-    /// Returns whether the slot, with what its operator may take next, would come first again, and
-    /// a number below `until` is left for one more turn. `stays` says whether the operator above
-    /// has no greater slope.
+    /// Returns whether the slot would come first again, with what its operator may take next. A
+    /// number below `until` has to be left for one more turn. `stays` says whether the operator
+    /// above has no greater slope.
     fn goes_on(&self, slot: &Slot, next: Option<(Side, u64)>, stays: bool, until: u64) -> bool
         ensures { IsTrue result ↔ GoesOn self.now slot.now next stays until }
     {

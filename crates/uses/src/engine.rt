@@ -12,7 +12,7 @@ pub(crate) fn show_calls<R: Print>(rt: &R, alloc: Global) -> Result<(), Stop> {
     a_stream_opens_at_an_instant(rt, alloc)?;
     a_text_at_fault_is_refused(rt, alloc)?;
     a_chart_sets_the_slopes(rt, alloc)?;
-    an_append_is_accepted_whole_or_not_at_all(rt, alloc)?;
+    an_append_is_stored_whole_or_not_at_all(rt, alloc)?;
     a_heartbeat_closes_instants(rt, alloc)?;
     a_drain_answers_the_same_by_any_turns(rt, alloc)?;
     a_take_returns_the_first_answers(rt, alloc)?;
@@ -74,7 +74,7 @@ fn a_stream_opens_at_an_instant<R: Print>(rt: &R, alloc: Global) -> Result<(), S
     let stream = engine.stream("S", columns.as_slice(), 100)?;
     let below = engine.append(stream, &rows(alloc, &[(99, 1)])?);
     let first = engine.append(stream, &rows(alloc, &[(100, 1)])?);
-    println!(rt; "a_stream_opens_at_an_instant: {below:?} {first:?}")?;
+    println!(rt; "a_stream_opens_at_an_instant: 99 {below:?}, 100 {first:?}")?;
     Ok(())
 }
 
@@ -116,7 +116,7 @@ fn a_chart_sets_the_slopes<R: Print>(rt: &R, alloc: Global) -> Result<(), Stop> 
 ///
 /// The instant 0 is closed, so a row of 0 is late. The row 5 beside it is not stored either. The
 /// row 6 comes in an append of its own, and is the only answer.
-fn an_append_is_accepted_whole_or_not_at_all<R: Print>(rt: &R, alloc: Global) -> Result<(), Stop> {
+fn an_append_is_stored_whole_or_not_at_all<R: Print>(rt: &R, alloc: Global) -> Result<(), Stop> {
     let mut engine = engine_with(alloc, NOW)?;
     engine.heartbeat(0, 0)?;
     let refused = engine.append(0, &rows(alloc, &[(0, 9), (1, 5)])?);
@@ -125,7 +125,7 @@ fn an_append_is_accepted_whole_or_not_at_all<R: Print>(rt: &R, alloc: Global) ->
     engine.drain(256)?;
     let answers = engine.take(0, 100)?;
     println!(rt;
-        "an_append_is_accepted_whole_or_not_at_all: {refused:?} {accepted:?} {answers:?}"
+        "an_append_is_stored_whole_or_not_at_all: {refused:?}, {accepted:?}, {answers:?}"
     )?;
     Ok(())
 }
@@ -153,10 +153,10 @@ fn a_drain_answers_the_same_by_any_turns<R: Print>(rt: &R, alloc: Global) -> Res
         let mut engine = filled(alloc)?;
         engine.drain(size)?;
         let answers = engine.take(0, 100)?;
-        println!(rt; "a_drain_answers_the_same_by_any_turns: {size} {answers:?}")?;
+        println!(rt; "a_drain_answers_the_same_by_any_turns: of {size}, {answers:?}")?;
     }
     let none = filled(alloc)?.drain(0);
-    println!(rt; "a_drain_answers_the_same_by_any_turns: 0 {none:?}")?;
+    println!(rt; "a_drain_answers_the_same_by_any_turns: of 0, {none:?}")?;
     Ok(())
 }
 
@@ -185,7 +185,7 @@ fn a_dropped_query_is_gone<R: Print>(rt: &R, alloc: Global) -> Result<(), Stop> 
     engine.drop_query(0)?;
     let answers = engine.take(0, 100);
     let next = engine.query("q", NOW, None)?;
-    println!(rt; "a_dropped_query_is_gone: {answers:?} {next}")?;
+    println!(rt; "a_dropped_query_is_gone: {answers:?}, next query {next}")?;
     Ok(())
 }
 
@@ -197,7 +197,7 @@ fn a_name_leads_to_a_number<R: Print>(rt: &R, alloc: Global) -> Result<(), Stop>
     let s = engine.stream_named("S");
     let t = engine.stream_named("T");
     let q = engine.query_named("q");
-    println!(rt; "a_name_leads_to_a_number: {s:?} {t:?} {q:?}")?;
+    println!(rt; "a_name_leads_to_a_number: S {s:?}, T {t:?}, q {q:?}")?;
     Ok(())
 }
 
@@ -210,7 +210,7 @@ fn queues_hold_rows_and_ticks<R: Print>(rt: &R, alloc: Global) -> Result<(), Sto
     let before = engine.pending(0)?;
     engine.drain(256)?;
     let after = engine.pending(0)?;
-    println!(rt; "queues_hold_rows_and_ticks: {before:?} {after:?}")?;
+    println!(rt; "queues_hold_rows_and_ticks: {before:?}, after a drain {after:?}")?;
     Ok(())
 }
 
@@ -228,7 +228,7 @@ fn a_turn_goes_out_and_comes_back<R: Print>(rt: &R, alloc: Global) -> Result<(),
         }
         let left = engine.leases_out();
         let pending = engine.pending(0)?;
-        println!(rt; "a_turn_goes_out_and_comes_back: {out} out, then {left}, {pending:?}")?;
+        println!(rt; "a_turn_goes_out_and_comes_back: {out} out, {left} out, {pending:?}")?;
     }
     Ok(())
 }
@@ -267,9 +267,10 @@ fn turns_run_until_none_is_left<R: Print>(rt: &R, alloc: Global) -> Result<(), S
 fn a_turn_is_given_up<R: Print>(rt: &R, alloc: Global) -> Result<(), Stop> {
     let mut engine = filled(alloc)?;
     if let Leased::Turn(turn) = engine.lease(256)? {
-        engine.abandon(turn.lease)?;
-        let again = engine.abandon(turn.lease);
-        println!(rt; "a_turn_is_given_up: turn {}, then {again:?}", turn.lease)?;
+        let lease = turn.lease;
+        engine.abandon(lease)?;
+        let again = engine.abandon(lease);
+        println!(rt; "a_turn_is_given_up: turn {lease}, then {again:?}")?;
     }
     if let Leased::Turn(turn) = engine.lease(256)? {
         println!(rt; "a_turn_is_given_up: turn {}", turn.lease)?;
@@ -330,9 +331,9 @@ fn an_opening_shows_what_a_forget_leaves<R: Print>(rt: &R, alloc: Global) -> Res
     engine.drain(256)?;
     let opening = engine.opening()?;
     let (streams, queries) = (opening.streams().len(), opening.queries());
-    let next = opening.next(0);
-    let waiting = opening.waiting(0).map(|answers| answers.len());
-    let name = "an_opening_shows_what_a_forget_leaves";
-    println!(rt; "{name}: {streams} {queries} {next:?} {waiting:?}")?;
+    let (next, waiting) = (opening.next(0), opening.waiting(0));
+    let waiting = waiting.map(|answers| answers.len());
+    println!(rt; "an_opening_shows_what_a_forget_leaves: {streams} stream, {queries} query")?;
+    println!(rt; "an_opening_shows_what_a_forget_leaves: next {next:?}, waiting {waiting:?}")?;
     Ok(())
 }

@@ -97,10 +97,8 @@ fn a_hub_answers_two_seats<R: Print + Wait>(rt: &R, alloc: Global) -> Result<(),
     hub.heartbeat(rt, &mut zero, stream, 1)?;
     hub.drain(rt, 256)?;
     let (answers, receipt) = hub.take(rt, &mut one, query, 100)?;
-    println!(rt;
-        "a_hub_answers_two_seats: {answers:?}, entry {}",
-        receipt.number()
-    )?;
+    let entry = receipt.number();
+    println!(rt; "a_hub_answers_two_seats: {answers:?}, entry {entry}")?;
     Ok(())
 }
 
@@ -124,7 +122,7 @@ fn a_query_of_a_hub_is_dropped<R: Print + Wait>(rt: &R, alloc: Global) -> Result
     hub.drop_query(rt, &mut zero, 0)?;
     let q = hub.query_named(rt, "q");
     let waiting = hub.waiting(rt, 0);
-    println!(rt; "a_query_of_a_hub_is_dropped: {q:?} {waiting:?}")?;
+    println!(rt; "a_query_of_a_hub_is_dropped: q {q:?}, waiting {waiting:?}")?;
     Ok(())
 }
 
@@ -136,7 +134,7 @@ fn anyone_looks_without_a_seat<R: Print + Wait>(rt: &R, alloc: Global) -> Result
     let (hub, _, _) = filled(rt, alloc)?;
     let (s, q) = (hub.stream_named(rt, "S"), hub.query_named(rt, "q"));
     let (pending, waiting) = (hub.pending(rt, 0)?, hub.waiting(rt, 0)?);
-    println!(rt; "anyone_looks_without_a_seat: {s:?} {q:?} {pending:?} {waiting}")?;
+    println!(rt; "anyone_looks_without_a_seat: S {s:?}, q {q:?}, {pending:?}, {waiting} wait")?;
     for (kind, slope) in hub.slopes(rt, 0)? {
         println!(rt; "anyone_looks_without_a_seat: {kind} {slope}")?;
     }
@@ -166,12 +164,10 @@ fn a_worker_runs_a_turn<R: Print + Wait>(rt: &R, alloc: Global) -> Result<(), St
 fn a_worker_gives_a_turn_up<R: Print + Wait>(rt: &R, alloc: Global) -> Result<(), Stop> {
     let (hub, _, _) = filled(rt, alloc)?;
     if let Leased::Turn(turn) = hub.lease(rt, 256)? {
-        hub.abandon(rt, turn.lease)?;
-        let again = hub.abandon(rt, turn.lease);
-        println!(rt;
-            "a_worker_gives_a_turn_up: turn {}, then {again:?}",
-            turn.lease
-        )?;
+        let lease = turn.lease;
+        hub.abandon(rt, lease)?;
+        let again = hub.abandon(rt, lease);
+        println!(rt; "a_worker_gives_a_turn_up: turn {lease}, then {again:?}")?;
     }
     Ok(())
 }
@@ -270,10 +266,8 @@ fn a_seat_learns_of_another<R: Print + Wait>(rt: &R, alloc: Global) -> Result<()
     one.learn(&heartbeat);
     let reach = one.reach();
     let (_, take) = hub.take(rt, &mut one, 0, 100)?;
-    println!(rt;
-        "a_seat_learns_of_another: reach {reach}, entry {}",
-        take.number()
-    )?;
+    let entry = take.number();
+    println!(rt; "a_seat_learns_of_another: reach {reach}, entry {entry}")?;
     Ok(())
 }
 
@@ -289,7 +283,7 @@ fn a_close_wants_every_seat<R: Print + Wait>(rt: &R, alloc: Global) -> Result<()
         seats.reserve(1)?;
         seats.push_reserved(one);
         let entries = hub.close(seats).ok().map(|closed| closed.entries.len());
-        println!(rt; "a_close_wants_every_seat: {entries:?}")?;
+        println!(rt; "a_close_wants_every_seat: {entries:?} entries")?;
     }
     Ok(())
 }
@@ -311,7 +305,7 @@ fn a_closed_hub_shows_its_history<R: Print + Wait>(rt: &R, alloc: Global) -> Res
 /// Shows that a forget replaces the entries by an opening.
 ///
 /// The four entries are gone, but numbers go on: the take is entry 4. The opening replaces four
-/// entries, has one query, and goes on from the instant 2.
+/// entries. It has one query, which goes on from the instant 2.
 fn a_forget_restarts_the_history<R: Print + Wait>(rt: &R, alloc: Global) -> Result<(), Stop> {
     let (hub, mut zero, one) = filled(rt, alloc)?;
     hub.drain(rt, 256)?;
@@ -320,11 +314,9 @@ fn a_forget_restarts_the_history<R: Print + Wait>(rt: &R, alloc: Global) -> Resu
     if let Ok(closed) = hub.close(both(alloc, zero, one)?) {
         let (first, entries) = (closed.first, closed.entries.len());
         let (queries, next) = (closed.opening.queries(), closed.opening.next(0));
-        let name = "a_forget_restarts_the_history";
-        println!(rt;
-            "{name}: entry {}, {first} {entries} {queries} {next:?}",
-            take.number()
-        )?;
+        println!(rt; "a_forget_restarts_the_history: entry {}", take.number())?;
+        println!(rt; "a_forget_restarts_the_history: {first} replaced, {entries} left")?;
+        println!(rt; "a_forget_restarts_the_history: {queries} query, next {next:?}")?;
     }
     Ok(())
 }

@@ -56,7 +56,7 @@ fn answers_of<E: Answering>(alloc: Global, engine: &mut E) -> Result<Vec<(i64, R
 fn every_engine_answers_the_same<R: Print>(rt: &R, alloc: Global) -> Result<(), Stop> {
     let by_definition = answers_of(alloc, &mut Plain::new(alloc)?)?;
     let by_turns = answers_of(alloc, &mut Engine::new(alloc))?;
-    println!(rt; "every_engine_answers_the_same: {by_definition:?} {by_turns:?}")?;
+    println!(rt; "every_engine_answers_the_same: {by_definition:?}, {by_turns:?}")?;
     Ok(())
 }
 
@@ -81,7 +81,7 @@ fn the_plain_engine_forgets_nothing<R: Print>(rt: &R, alloc: Global) -> Result<(
 fn the_plain_engine_shows_names_and_slopes<R: Print>(rt: &R, alloc: Global) -> Result<(), Stop> {
     let plain = filled(alloc)?;
     let (s, q) = (plain.stream_named("S"), plain.query_named("q"));
-    println!(rt; "the_plain_engine_shows_names_and_slopes: {s:?} {q:?}")?;
+    println!(rt; "the_plain_engine_shows_names_and_slopes: S {s:?}, q {q:?}")?;
     for (kind, slope) in plain.slopes(0)? {
         println!(rt; "the_plain_engine_shows_names_and_slopes: {kind} {slope}")?;
     }
@@ -94,6 +94,6 @@ fn the_plain_engine_drops_a_query<R: Print>(rt: &R, alloc: Global) -> Result<(),
     plain.drop_query(0)?;
     let answers = plain.take(0, 100);
     let q = plain.query_named("q");
-    println!(rt; "the_plain_engine_drops_a_query: {answers:?} {q:?}")?;
+    println!(rt; "the_plain_engine_drops_a_query: {answers:?}, q {q:?}")?;
     Ok(())
 }

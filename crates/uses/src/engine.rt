@@ -15,6 +15,7 @@ pub(crate) fn show_calls<R: Print>(rt: &R, alloc: Global) -> Result<(), Stop> {
     an_append_is_stored_whole_or_not_at_all(rt, alloc)?;
     a_heartbeat_closes_instants(rt, alloc)?;
     a_drain_answers_the_same_by_any_turns(rt, alloc)?;
+    a_drain_stops_after_some_turns(rt, alloc)?;
     a_take_returns_the_first_answers(rt, alloc)?;
     a_dropped_query_is_gone(rt, alloc)?;
     a_name_leads_to_a_number(rt, alloc)
@@ -157,6 +158,21 @@ fn a_drain_answers_the_same_by_any_turns<R: Print>(rt: &R, alloc: Global) -> Res
     }
     let none = filled(alloc)?.drain(0);
     println!(rt; "a_drain_answers_the_same_by_any_turns: of 0, {none:?}")?;
+    Ok(())
+}
+
+/// Shows a drain of a few turns at a time.
+///
+/// A drain of no turns only looks: two rows wait at the Window. One turn leaves work to do. A
+/// thousand turns are enough for the rest, and then all answers wait.
+fn a_drain_stops_after_some_turns<R: Print>(rt: &R, alloc: Global) -> Result<(), Stop> {
+    let mut engine = filled(alloc)?;
+    for turns in [0, 1, 1_000] {
+        let more = engine.drain_some(256, turns)?;
+        println!(rt; "a_drain_stops_after_some_turns: after {turns}, more {more}")?;
+    }
+    let answers = engine.take(0, 100)?;
+    println!(rt; "a_drain_stops_after_some_turns: {answers:?}")?;
     Ok(())
 }
 

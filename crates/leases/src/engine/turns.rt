@@ -89,6 +89,8 @@ impl Engine {
     /// something and fewer than `turns` turns have run: `TooManyLeases` if 64 turns are out or all
     /// numbers of turns were given, `OutOfMemory` when out of memory. Then the turns before stay,
     /// and the turn that needed the memory did nothing, or it broke its query.
+    ///
+    /// Example: `a_drain_stops_after_some_turns` in crates/uses/src/engine.rt.
     pub fn drain_some(&mut self, rows: u32, turns: u64) -> Result<bool, Fault>
         ensures runs { RunsTurns (engine_in self.old) rows (as_drained result)
             (engine_in self.new) }

@@ -55,6 +55,8 @@ impl Seat {
     }
 
     /// Returns its number at the hub.
+    ///
+    /// Example: `a_seat_keeps_receipts` in crates/uses/src/hubs.rt.
     pub fn number(&self) -> u64
         ensures { result ≡ self.now.number }
     {
@@ -62,6 +64,8 @@ impl Seat {
     }
 
     /// Returns the receipts of its accepted calls, in the order of their numbers.
+    ///
+    /// Example: `a_seat_keeps_receipts` in crates/uses/src/hubs.rt.
     pub fn receipts(&self) -> &[Receipt]
         ensures receipts { result.now ≡ self.now.receipts }
         ensures rising { IsRisingFrom 0 self.now.receipts }
@@ -93,6 +97,8 @@ impl Seat {
     }
 
     /// Returns one more than the greatest number that it holds or has learnt.
+    ///
+    /// Example: `a_seat_keeps_receipts` in crates/uses/src/hubs.rt.
     pub fn reach(&self) -> u64
         ensures { result ≡ reach self.now }
     {
@@ -101,6 +107,8 @@ impl Seat {
 
     /// Notes a receipt of another seat: each later call of this one comes after it in the history.
     /// Takes neither memory nor a lock.
+    ///
+    /// Example: `a_seat_learns_of_another` in crates/uses/src/hubs.rt.
     pub fn learn(&mut self, receipt: &Receipt)
         ensures { self.new
             ≡ record self.old { learnt = max self.old.learnt (receipt.now.number + 1) } }

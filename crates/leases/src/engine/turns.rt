@@ -29,6 +29,8 @@ impl Engine {
     /// `BadLimit` if `rows` is out of range. If an operator may take something: `TooManyLeases` if
     /// 64 turns are out or all numbers of turns were given, `OutOfMemory` when out of memory. Then
     /// nothing has changed.
+    ///
+    /// Example: `turns_run_until_none_is_left` in crates/uses/src/engine.rt.
     #[tactic(auto, using(crate::proofs::MachineLemmas::leases_keep_the_machine))]
     pub fn lease(&mut self, rows: u32) -> Result<Leased, Fault>
         ensures leases { Leases (engine_in self.old) rows result (engine_in self.new) }
@@ -48,6 +50,8 @@ impl Engine {
     ///
     /// `OutOfMemory` when out of memory; then the turn's query is broken. All turns of that query
     /// end, and none of its operators is ready again. Its waiting answers can still be taken.
+    ///
+    /// Example: `a_turn_goes_out_and_comes_back` in crates/uses/src/engine.rt.
     #[tactic(auto, using(crate::proofs::MachineLemmas::finishes_keep_the_machine))]
     pub fn finish(&mut self, done: Done) -> Result<(), Fault>
         ensures finishes { Finishes (engine_in self.old) done result (engine_in self.new) }
@@ -62,6 +66,8 @@ impl Engine {
     ///
     /// # Errors
     /// `UnknownLease` if no turn of the number is out; then nothing has changed.
+    ///
+    /// Example: `a_turn_is_given_up` in crates/uses/src/engine.rt.
     #[tactic(auto, using(crate::proofs::MachineLemmas::abandons_keep_the_machine))]
     pub fn abandon(&mut self, lease: u64) -> Result<(), Fault>
         ensures abandons { Abandons (engine_in self.old) lease result (engine_in self.new) }
@@ -83,6 +89,8 @@ impl Engine {
     /// are out or all numbers of turns were given. `OutOfMemory` when out of memory. Both come only
     /// if an operator may take something and fewer than `turns` turns have run. The turns before
     /// stay. The turn that needed the memory did nothing, or it broke its query.
+    ///
+    /// Example: `a_drain_stops_after_some_turns` in crates/uses/src/engine.rt.
     pub fn drain_some(&mut self, rows: u32, turns: u64) -> Result<bool, Fault>
         ensures runs { RunsTurns (engine_in self.old) rows (as_drained result)
             (engine_in self.new) }

@@ -5,7 +5,7 @@ ghost use Rattle.reference.specs.CallViews.{texts_of, handed_of};
 ghost use Rattle.reference.specs.Commands.{Declare, Register, Append, Heartbeat, Take, Drop};
 ghost use Rattle.reference.specs.Replies as replies;
 ghost use Rattle.reference.specs.Replies.{Number, Rows};
-ghost use Rattle.hub.specs.Steps.{Spurned, Took};
+ghost use Rattle.hub.specs.Steps.{PlainLocked, Settles, Spurned, Took};
 
 use crate::hub::Hub;
 use crate::seat::Seat;
@@ -156,5 +156,18 @@ impl Hub {
             self.moved.notify_all();
         }
         answer
+    }
+
+    /// Compares the receipts that the seat holds with the history, by value, and lets them go.
+    /// Returns `false` if they differ; then nothing has changed. Takes no memory, and looks only at
+    /// the seat's own entries.
+    ///
+    /// Receipts of entries that an opening replaces are compared by their numbers.
+    pub fn settle<R: Wait>(&self, rt: &R, seat: &mut Seat) -> bool
+        ensures { (old : PlainLocked) × (new : PlainLocked)
+            × Settles old seat.old result new seat.new }
+    {
+        let mut locked = self.locked.lock(rt);
+        locked.settle(seat)
     }
 }
